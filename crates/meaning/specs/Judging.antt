@@ -1,0 +1,42 @@
+-- The judging call: its answer and the lent bytes afterwards, for every input.
+use Prim.Native.Nat.{ℕ}
+use mathlib.Core.Bool.{Bool}
+use mathlib.Core.List.{List}
+use lib.ListN.{length}
+use lib.Dec.{ltb, eqb}
+use Rattle.meaning.specs.declared.Answer.{Answer}
+use Rattle.meaning.specs.Tests.{pick}
+use Rattle.meaning.specs.Limits
+use Rattle.meaning.specs.Limits.{Limits}
+use Rattle.meaning.specs.Requests.{Request}
+use Rattle.meaning.specs.Reading.{Got, got, fault}
+use Rattle.meaning.specs.Refusals.{settled}
+use Rattle.meaning.specs.States.{State, first-state}
+use Rattle.meaning.specs.Walk.{End, fine, missed, stuck, Walked, walked}
+
+pub record Judgement : Type 0 where
+  pub answer : Answer
+  pub state : List ℕ
+
+-- The answer of a walk that ended so, within its budget.
+unfoldable pub ended : (lent : List ℕ) → (count : ℕ) → End State → Judgement
+ended lent c fine = record { answer = record { number = Limits.verified; input = Limits.neither-input; place = 0; count = c }; state = lent }
+ended lent c (missed p s) = record { answer = record { number = Limits.goal-missed; input = Limits.the-request; place = p; count = c }; state = s }
+ended lent c (stuck p s) = record { answer = record { number = Limits.not-executable; input = Limits.the-request; place = p; count = c }; state = s }
+
+-- Budget spent exactly when the walk's count is above it.
+unfoldable pub within : (lent : List ℕ) → (budget : ℕ) → Walked State → Judgement
+within lent budget w =
+    pick (ltb budget (w .count))
+    (λ _. record { answer = record { number = Limits.budget-spent; input = Limits.neither-input; place = 0; count = budget }; state = lent })
+    (λ _. ended lent (w .count) (w .end))
+
+unfoldable pub judge-settled : Limits → (lent : List ℕ) → (budget : ℕ) → Got Request → Judgement
+judge-settled lim lent budget (got r e) = within lent budget (walked r (first-state lim (r .table)))
+judge-settled lim lent budget (fault n p) = record { answer = record { number = n; input = Limits.the-request; place = p; count = 0 }; state = lent }
+
+unfoldable pub judge : Limits → (request lent : List ℕ) → (budget : ℕ) → Judgement
+judge lim request lent budget =
+    pick (eqb (length lent) (lim .state))
+    (λ _. judge-settled lim lent budget (settled lim request))
+    (λ _. record { answer = record { number = Limits.state-length; input = Limits.neither-input; place = 0; count = 0 }; state = lent })

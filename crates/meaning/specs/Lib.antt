@@ -1,0 +1,9 @@
+pub mod Tests
+pub mod Limits
+pub mod Literals
+pub mod Requests
+pub mod Reading
+pub mod Refusals
+pub mod States
+pub mod Walk
+pub mod Judging

@@ -1,0 +1,101 @@
+-- Every limit, refusal number, mark and input is named here and nowhere else.
+use Prim.Native.Nat.{ℕ}
+
+-- What a request may hold. The definitions take the limits as a parameter.
+pub record Limits : Type 0 where
+  pub fluents : ℕ
+  pub actions : ℕ
+  pub listed : ℕ
+  pub body : ℕ
+  pub branches : ℕ
+  pub nested : ℕ
+  pub items : ℕ
+  pub request : ℕ
+  pub state : ℕ
+
+-- The limits of the format.
+abbrev pub format : Limits
+format = record {
+  fluents = 64;
+  actions = 64;
+  listed = 64;
+  body = 16;
+  branches = 8;
+  nested = 8;
+  items = 1024;
+  request = 16384;
+  state = 64;
+}
+
+-- The byte that opens a branching.
+abbrev pub branching-byte : ℕ
+branching-byte = 255
+
+-- Answers.
+abbrev pub verified : ℕ
+verified = 0
+
+abbrev pub goal-missed : ℕ
+goal-missed = 1
+
+abbrev pub not-executable : ℕ
+not-executable = 2
+
+abbrev pub budget-spent : ℕ
+budget-spent = 3
+
+abbrev pub state-length : ℕ
+state-length = 9
+
+abbrev pub too-long : ℕ
+too-long = 10
+
+abbrev pub ends-too-soon : ℕ
+ends-too-soon = 11
+
+abbrev pub count-outside : ℕ
+count-outside = 12
+
+abbrev pub too-large : ℕ
+too-large = 13
+
+abbrev pub not-above : ℕ
+not-above = 14
+
+abbrev pub complement-beside : ℕ
+complement-beside = 15
+
+abbrev pub contradictory-effects : ℕ
+contradictory-effects = 16
+
+abbrev pub effect-and-knowledge : ℕ
+effect-and-knowledge = 17
+
+abbrev pub not-exclusive : ℕ
+not-exclusive = 18
+
+abbrev pub nested-too-deep : ℕ
+nested-too-deep = 19
+
+abbrev pub bytes-after : ℕ
+bytes-after = 20
+
+abbrev pub too-many-items : ℕ
+too-many-items = 21
+
+-- The input that a place is in.
+abbrev pub neither-input : ℕ
+neither-input = 0
+
+abbrev pub the-request : ℕ
+the-request = 1
+
+-- Marks of a partial state.
+abbrev pub unknown-mark : ℕ
+unknown-mark = 0
+
+abbrev pub true-mark : ℕ
+true-mark = 1
+
+abbrev pub false-mark : ℕ
+false-mark = 2

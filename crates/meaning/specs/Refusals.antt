@@ -1,0 +1,76 @@
+-- What is refused after reading: contradictory effects, actions that change and sense, conditions that are not exclusive.
+use Prim.Native.Nat.{ℕ}
+use mathlib.Core.Bool.{Bool, true, false}
+use mathlib.Core.List.{List, [], _∷_}
+use lib.Dec.{eqb}
+use Rattle.meaning.specs.Tests.{both, fails, pick, some-of, each-of}
+use Rattle.meaning.specs.Limits
+use Rattle.meaning.specs.Limits.{Limits}
+use Rattle.meaning.specs.Literals.{complement, exclusive}
+use Rattle.meaning.specs.Requests.{Effect, Knowledge, Table, Sequence, done, item, Item, act, branching, Branches, none, branch, Request}
+use Rattle.meaning.specs.Reading.{Got, got, fault, next, read-request}
+
+-- The place of the first thing sought, or none.
+pub data Found : Type 0 where
+  nowhere : Found
+  at : (place : ℕ) → Found
+
+unfoldable pub or-else : Found → (Unit {0} → Found) → Found
+or-else nowhere k = k tt
+or-else (at p) k = at p
+
+-- Two effects of one action whose literals are complements, and whose bodies do not exclude each other.
+unfoldable pub contradictory : Effect → Effect → Bool
+contradictory e g =
+    both (eqb (e .action) (g .action))
+    (both (eqb (g .literal) (complement (e .literal))) (fails (exclusive (e .body) (g .body))))
+
+-- The first effect that contradicts one before it.
+unfoldable pub contradiction-in : (before : List Effect) → List Effect → Found
+contradiction-in before [] = nowhere
+contradiction-in before (e ∷ es) =
+    pick (some-of (contradictory e) before) (λ _. at (e .place)) (λ _. contradiction-in (e ∷ before) es)
+
+-- The first knowledge line whose action has an effect too.
+unfoldable pub mixed-in : List Effect → List Knowledge → Found
+mixed-in effects [] = nowhere
+mixed-in effects (k ∷ ks) =
+    pick (some-of (λ (e : Effect). eqb (e .action) (k .action)) effects) (λ _. at (k .place)) (λ _. mixed-in effects ks)
+
+unfoldable pub conditions-of : Branches ℕ → List (List ℕ)
+conditions-of none = []
+conditions-of (branch c b bs) = c ∷ conditions-of bs
+
+-- Every two of the conditions are exclusive.
+unfoldable pub all-exclusive : List (List ℕ) → Bool
+all-exclusive [] = true
+all-exclusive (c ∷ cs) = both (each-of (exclusive c) cs) (all-exclusive cs)
+
+-- The first branching with two conditions that are not exclusive; an outer one stands before those inside it.
+unfoldable mutual
+  pub overlap-in : Sequence ℕ → Found
+  overlap-in done = nowhere
+  overlap-in (item i rest) = or-else (overlap-at i) (λ _. overlap-in rest)
+
+  pub overlap-at : Item ℕ → Found
+  overlap-at (act p a) = nowhere
+  overlap-at (branching p bs) = pick (all-exclusive (conditions-of bs)) (λ _. overlap-below bs) (λ _. at p)
+
+  pub overlap-below : Branches ℕ → Found
+  overlap-below none = nowhere
+  overlap-below (branch c b bs) = or-else (overlap-in b) (λ _. overlap-below bs)
+
+module _ {A : Type 0} where
+  -- Refuses with the number at the place found, or goes on.
+  unfoldable pub refuse : (number : ℕ) → Found → (Unit {0} → Got A) → Got A
+  refuse number nowhere k = k tt
+  refuse number (at p) k = fault number p
+
+-- A request settled: read without a fault, and past the three.
+unfoldable pub settled : Limits → List ℕ → Got Request
+settled lim s =
+    next (read-request lim s) λ r e.
+    refuse Limits.contradictory-effects (contradiction-in [] (r .table .effects)) λ _.
+    refuse Limits.effect-and-knowledge (mixed-in (r .table .effects) (r .table .knowledge)) λ _.
+    refuse Limits.not-exclusive (overlap-in (r .plan)) λ _.
+    got r e

@@ -1,0 +1,112 @@
+-- Partial states, when an action can be run in one, and what comes after it.
+use Prim.Native.Nat.{ℕ, zero, suc, _+_}
+use mathlib.Core.Bool.{Bool, true, false}
+use mathlib.Core.List.{List, [], _∷_}
+use lib.ListN.{getD, set, replicate}
+use lib.Dec.{eqb}
+use Rattle.meaning.specs.Tests.{both, either, fails, pick, some-of, each-of, those-of}
+use Rattle.meaning.specs.Limits
+use Rattle.meaning.specs.Limits.{Limits}
+use Rattle.meaning.specs.Literals.{says-true, says-false, fluent-of, positive, complement}
+use Rattle.meaning.specs.Requests.{Effect, Executability, Knowledge, Table}
+
+-- A mark for each fluent.
+abbrev pub State : Type 0
+State = List ℕ
+
+unfoldable pub mark-of : ℕ → ℕ
+mark-of l = pick (positive l) (λ _. Limits.true-mark) (λ _. Limits.false-mark)
+
+-- The literal is known true.
+unfoldable pub known : State → ℕ → Bool
+known s l = eqb (getD s (fluent-of l) Limits.unknown-mark) (mark-of l)
+
+-- The literal is not known false.
+unfoldable pub possible : State → ℕ → Bool
+possible s l = fails (known s (complement l))
+
+-- The fluent is known, true or false.
+unfoldable pub known-whether : State → ℕ → Bool
+known-whether s f = either (known s (says-true f)) (known s (says-false f))
+
+-- The state with the literal known true.
+unfoldable pub told : ℕ → State → State
+told l s = set s (fluent-of l) (mark-of l)
+
+unfoldable pub told-all : List ℕ → State → State
+told-all [] s = s
+told-all (l ∷ ls) s = told-all ls (told l s)
+
+-- The first state holds the initial facts and nothing else.
+unfoldable pub first-state : Limits → Table → State
+first-state lim t = told-all (t .facts) (replicate (lim .state) Limits.unknown-mark)
+
+-- The lines of an action.
+unfoldable pub effects-of : Table → ℕ → List Effect
+effects-of t a = those-of (λ (e : Effect). eqb (e .action) a) (t .effects)
+
+unfoldable pub executability-of : Table → ℕ → List Executability
+executability-of t a = those-of (λ (x : Executability). eqb (x .action) a) (t .executability)
+
+unfoldable pub knowledge-of : Table → ℕ → List Knowledge
+knowledge-of t a = those-of (λ (k : Knowledge). eqb (k .action) a) (t .knowledge)
+
+-- Some executability line has a body each of whose literals passes the test.
+unfoldable pub allowed : (ℕ → Bool) → List Executability → Bool
+allowed test = some-of (λ (x : Executability). each-of test (x .body))
+
+-- Some effect gives the literal by a body each of whose literals passes the test.
+unfoldable pub given : (ℕ → Bool) → List Effect → ℕ → Bool
+given test es l = some-of (λ (e : Effect). both (eqb (e .literal) l) (each-of test (e .body))) es
+
+unfoldable pub can-be-run : Table → ℕ → State → Bool
+can-be-run t a s = allowed (known s) (executability-of t a)
+
+-- The literal is known true afterwards: it was, or is given by a body known true, and no possible body gives its complement.
+unfoldable pub known-after : List Effect → State → ℕ → Bool
+known-after es s l = both (either (known s l) (given (known s) es l)) (fails (given (possible s) es (complement l)))
+
+unfoldable pub mark-after : List Effect → State → ℕ → ℕ
+mark-after es s f =
+    pick (known-after es s (says-true f)) (λ _. Limits.true-mark) λ _.
+    pick (known-after es s (says-false f)) (λ _. Limits.false-mark) λ _.
+    Limits.unknown-mark
+
+-- The marks of as many fluents as the last list has entries, from fluent f up.
+unfoldable pub marks-after : List Effect → State → (f : ℕ) → List ℕ → List ℕ
+marks-after es s f [] = []
+marks-after es s f (m ∷ ms) = mark-after es s f ∷ marks-after es s (f + 1) ms
+
+unfoldable pub state-after : Table → ℕ → State → State
+state-after t a s = marks-after (effects-of t a) s 0 s
+
+-- A sensing action has a knowledge line.
+unfoldable pub sensing : Table → ℕ → Bool
+sensing t a = some-of (λ (k : Knowledge). true) (knowledge-of t a)
+
+unfoldable pub senses : List Knowledge → ℕ → Bool
+senses ks f = some-of (λ (k : Knowledge). eqb (k .fluent) f) ks
+
+-- The sensed fluents that are unknown, ascending, from fluent f up, as many as the last list has entries.
+unfoldable pub unknown-from : List Knowledge → State → (f : ℕ) → List ℕ → List ℕ
+unknown-from ks s f [] = []
+unknown-from ks s f (m ∷ ms) =
+    pick (both (senses ks f) (fails (known-whether s f)))
+    (λ _. f ∷ unknown-from ks s (f + 1) ms)
+    (λ _. unknown-from ks s (f + 1) ms)
+
+unfoldable pub unknown-sensed : Table → ℕ → State → List ℕ
+unknown-sensed t a s = unknown-from (knowledge-of t a) s 0 s
+
+-- What an action leads to: one state, or two readings of a fluent, the first before the second, which waits.
+pub data Outcome (S : Type 0) : Type 0 where
+  single : S → Outcome S
+  fork : Outcome S → (Unit {0} → Outcome S) → Outcome S
+
+-- Each of the fluents is read, true before false; the second reading starts where the first did.
+unfoldable pub readings : List ℕ → State → Outcome State
+readings [] s = single s
+readings (f ∷ fs) s = fork (readings fs (told (says-true f) s)) (λ _. readings fs (told (says-false f) s))
+
+unfoldable pub outcome : Table → ℕ → State → Outcome State
+outcome t a s = pick (sensing t a) (λ _. readings (unknown-sensed t a s) s) (λ _. single (state-after t a s))

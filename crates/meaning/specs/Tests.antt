@@ -1,0 +1,37 @@
+-- Tests that compute, and the choice between two values by a test. Definitions only.
+use mathlib.Core.Bool.{Bool, true, false}
+use mathlib.Core.List.{List, [], _∷_}
+
+unfoldable pub both : Bool → Bool → Bool
+both true b = b
+both false b = false
+
+unfoldable pub either : Bool → Bool → Bool
+either true b = true
+either false b = b
+
+unfoldable pub fails : Bool → Bool
+fails true = false
+fails false = true
+
+module _ {A : Type 0} where
+  -- The value chosen by a test. Each waits under its λ, so that only the chosen one is computed.
+  unfoldable pub pick : Bool → (Unit {0} → A) → (Unit {0} → A) → A
+  pick true f g = f tt
+  pick false f g = g tt
+
+module _ {A : Type 0} where
+  -- Some entry of the list passes the test.
+  unfoldable pub some-of : (A → Bool) → List A → Bool
+  some-of p [] = false
+  some-of p (x ∷ xs) = either (p x) (some-of p xs)
+
+  -- Each entry of the list passes the test.
+  unfoldable pub each-of : (A → Bool) → List A → Bool
+  each-of p [] = true
+  each-of p (x ∷ xs) = both (p x) (each-of p xs)
+
+  -- The entries that pass the test, in their order.
+  unfoldable pub those-of : (A → Bool) → List A → List A
+  those-of p [] = []
+  those-of p (x ∷ xs) = pick (p x) (λ _. x ∷ those-of p xs) (λ _. those-of p xs)
