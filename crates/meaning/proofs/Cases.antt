@@ -1,5 +1,5 @@
 -- The cases of the format (FORMAT.md, section 13), computed by the definitions: one equation over one table. Assumes nothing.
-use Prim.Native.Nat.{ℕ, suc, _+_, _-_}
+use Prim.Native.Nat.{ℕ, zero, suc, _-_}
 use mathlib.Core.Path.{_≡_, refl}
 use mathlib.Core.List.{List, [], _∷_, _++_, map}
 use lib.ListN.{length, set, replicate, take}
@@ -34,11 +34,14 @@ usual = 100000
 abbrev verified : (request : List ℕ) → (count : ℕ) → Case
 verified request count = row request lent-64 usual 0 0 0 count lent-64
 
+abbrev marked : List ℕ → List ℕ
+marked marks = marks ++ replicate (64 - length marks) 0
+
 abbrev missed : (request : List ℕ) → (place count : ℕ) → (marks : List ℕ) → Case
-missed request place count marks = row request lent-64 usual 1 1 place count (marks ++ replicate (64 - length marks) 0)
+missed request place count marks = row request lent-64 usual 1 1 place count (marked marks)
 
 abbrev stuck : (request : List ℕ) → (place count : ℕ) → (marks : List ℕ) → Case
-stuck request place count marks = row request lent-64 usual 2 1 place count (marks ++ replicate (64 - length marks) 0)
+stuck request place count marks = row request lent-64 usual 2 1 place count (marked marks)
 
 abbrev refused : (request : List ℕ) → (number place : ℕ) → Case
 refused request number place = row request lent-64 usual number 1 place 0 lent-64
@@ -49,6 +52,18 @@ table-A = 4 ∷ 3 ∷ 3 ∷ 3 ∷ 5 ∷ 7 ∷ 3 ∷ 1 ∷ 2 ∷ 0 ∷ 1 ∷ 6 �
 
 pub file-A : List ℕ
 file-A = table-A ++ (0 ∷ 2 ∷ 0 ∷ 255 ∷ 2 ∷ 1 ∷ 1 ∷ 0 ∷ 2 ∷ 1 ∷ 2 ∷ 1 ∷ 0 ∷ 0 ∷ 0 ∷ 1 ∷ 7 ∷ 1 ∷ 2 ∷ [])
+
+-- One fluent, one action, no facts and no lines: the six bytes before the plan.
+no-lines : List ℕ
+no-lines = 1 ∷ 1 ∷ 0 ∷ 0 ∷ 0 ∷ 0 ∷ []
+
+-- A sequence of one branching with one branch and no condition, up to that branch's sequence.
+opening : List ℕ
+opening = 0 ∷ 1 ∷ 255 ∷ 1 ∷ 0 ∷ []
+
+copies : ℕ → List ℕ → List ℕ
+copies zero xs = []
+copies (suc k) xs = xs ++ copies k xs
 
 pub cases : List Case
 cases =
@@ -94,9 +109,49 @@ cases =
     row file-A (replicate 63 9) usual 9 0 0 0 (replicate 63 9) ∷
     row file-A (replicate 65 9) usual 9 0 0 0 (replicate 65 9) ∷
     refused (replicate 16385 0) 10 0 ∷
+    -- What a test in another order would say otherwise: an entry's size goes before the next one's order, and 20 before 16.
+    refused (set file-A 3 8) 13 3 ∷
+    refused (set file-A 11 3 ++ (0 ∷ [])) 20 48 ∷
+    -- The decisions D1 to D24 of DECISIONS.md, by number. D1
+    refused (set file-A 4 2) 14 4 ∷
+    -- D2
+    verified (table-A ++ (0 ∷ 0 ∷ 0 ∷ 2 ∷ 2 ∷ 3 ∷ [])) 1 ∷
+    -- D3
+    refused (table-A ++ (0 ∷ 1 ∷ 3 ∷ [])) 13 31 ∷
+    refused (table-A ++ (0 ∷ 1 ∷ 254 ∷ [])) 13 31 ∷
+    refused (table-A ++ (0 ∷ 0 ∷ 0 ∷ 1 ∷ 4 ∷ [])) 13 33 ∷
+    -- D4
+    refused (2 ∷ 1 ∷ 10 ∷ 0 ∷ 2 ∷ []) 11 5 ∷
+    -- D5
+    refused (2 ∷ 1 ∷ 65 ∷ []) 12 2 ∷
+    refused (no-lines ++ copies 8 opening ++ (0 ∷ 1 ∷ 255 ∷ [])) 19 48 ∷
+    -- D6, D7
+    refused (no-lines ++ (4 ∷ 1 ∷ []) ++ replicate 1024 0 ++ (255 ∷ [])) 21 1032 ∷
+    refused (no-lines ++ (4 ∷ 1 ∷ []) ++ replicate 1024 0) 11 1032 ∷
+    -- D9, D10
+    refused (take 30 file-A) 11 30 ∷
+    refused (table-A ++ (255 ∷ 255 ∷ [])) 11 31 ∷
+    -- D14
+    refused (2 ∷ 1 ∷ 0 ∷ 4 ∷ 0 ∷ 0 ∷ 0 ∷ 0 ∷ 2 ∷ 0 ∷ 0 ∷ 3 ∷ 0 ∷ 0 ∷ 1 ∷ 0 ∷ 0 ∷ 0 ∷ 0 ∷ 0 ∷ 0 ∷ 0 ∷ []) 16 10 ∷
+    -- D15
+    refused (2 ∷ 1 ∷ 0 ∷ 2 ∷ 0 ∷ 0 ∷ 0 ∷ 0 ∷ 1 ∷ 0 ∷ 0 ∷ 1 ∷ 0 ∷ 1 ∷ 0 ∷ 0 ∷ 0 ∷ 0 ∷ []) 16 7 ∷
+    -- D16
+    refused (2 ∷ 2 ∷ 0 ∷ 2 ∷ 0 ∷ 0 ∷ 0 ∷ 1 ∷ 0 ∷ 0 ∷ 0 ∷ 2 ∷ 1 ∷ 1 ∷ 0 ∷ 1 ∷ 0 ∷ 0 ∷ 0 ∷ 0 ∷ []) 17 12 ∷
+    -- D17
+    refused (2 ∷ 1 ∷ 0 ∷ 0 ∷ 0 ∷ 0 ∷ 0 ∷ 1 ∷ 255 ∷ 3 ∷ 1 ∷ 0 ∷ 0 ∷ 0 ∷ 1 ∷ 1 ∷ 0 ∷ 0 ∷ 2 ∷ 0 ∷ 2 ∷ 0 ∷ 0 ∷ 0 ∷ 0 ∷ []) 18 8 ∷
+    refused (2 ∷ 1 ∷ 0 ∷ 0 ∷ 0 ∷ 0 ∷ 0 ∷ 1 ∷ 255 ∷ 2 ∷ 0 ∷ 0 ∷ 0 ∷ 1 ∷ 0 ∷ 0 ∷ 0 ∷ 0 ∷ 0 ∷ []) 18 8 ∷
+    -- D18
+    row (table-A ++ (0 ∷ 1 ∷ 2 ∷ 0 ∷ 0 ∷ [])) lent-64 0 2 1 31 0 (marked (0 ∷ 2 ∷ 2 ∷ 2 ∷ [])) ∷
+    row (table-A ++ (0 ∷ 0 ∷ 0 ∷ 0 ∷ [])) lent-64 0 3 0 0 0 lent-64 ∷
+    -- D21
+    missed (2 ∷ 1 ∷ 0 ∷ 0 ∷ 1 ∷ 0 ∷ 0 ∷ 2 ∷ 0 ∷ 1 ∷ 0 ∷ 0 ∷ 0 ∷ 1 ∷ 0 ∷ 1 ∷ 2 ∷ 0 ∷ []) 16 5 (1 ∷ 2 ∷ []) ∷
+    -- D23
+    verified (1 ∷ 1 ∷ 0 ∷ 0 ∷ 1 ∷ 0 ∷ 0 ∷ 0 ∷ 0 ∷ 1 ∷ 0 ∷ 0 ∷ 0 ∷ []) 2 ∷
+    -- D24
+    verified (1 ∷ 1 ∷ 0 ∷ 0 ∷ 0 ∷ 0 ∷ 0 ∷ 1 ∷ 255 ∷ 1 ∷ 0 ∷ 0 ∷ 0 ∷ 0 ∷ 0 ∷ []) 1 ∷
     []
 
 -- Every case is judged as its row says.
 pub cases-hold : map (λ (c : Case). judge format (c .request) (c .lent) (c .budget)) cases ≡ map (λ (c : Case). c .gives) cases
-unfolding all-open table-A file-A cases
+unfolding all-open table-A file-A no-lines opening copies cases
 cases-hold = refl

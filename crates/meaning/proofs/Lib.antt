@@ -1,2 +1,3 @@
 pub mod Compute
 pub mod Cases
+pub mod TestLaws

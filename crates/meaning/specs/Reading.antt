@@ -81,8 +81,8 @@ module _ {A : Type 0} where
   repeated line zero p = got [] p
   repeated line (suc left) p =
       next (line p) λ x q.
-      next (repeated line left q) λ xs r.
-      got (x ∷ xs) r
+      next (repeated line left q) λ rest r.
+      got (x ∷ rest) r
 
   unfoldable pub section-at : (ℕ → Got A) → List ℕ → ℕ → Got (List A)
   section-at line s p =

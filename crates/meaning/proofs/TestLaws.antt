@@ -1,0 +1,141 @@
+-- The laws of the tests: what a test that came out true or false says of its parts. Assumes nothing.
+use mathlib.Core.Path.{_≡_, refl, sym, _∙_}
+use mathlib.Core.Bool.{Bool, true, false, false≢true}
+use mathlib.Core.List.{List, [], _∷_}
+use mathlib.Core.Logic.{_⊎_, inl, inr}
+use Rattle.meaning.specs.Tests.{both, either, fails, pick, some-of, each-of, those-of}
+
+-- By the two values of a test, with the equation in hand.
+pub by-test {ℓ} : {C : Type ℓ} (b : Bool) → (b ≡ true → C) → (b ≡ false → C) → C
+by-test true f g = f refl
+by-test false f g = g refl
+
+pub clash {ℓ} : {C : Type ℓ} {b : Bool} → b ≡ true → b ≡ false → C
+clash t f = absurd (false≢true (sym f ∙ t))
+
+-- Two tests that are true together are equal.
+pub same-test : (a b : Bool) → (a ≡ true → b ≡ true) → (b ≡ true → a ≡ true) → a ≡ b
+same-test true b f g = sym (f refl)
+same-test false true f g = g refl
+same-test false false f g = refl
+
+pub both-left : (a b : Bool) → both a b ≡ true → a ≡ true
+unfolding both
+both-left true b e = refl
+both-left false b e = e
+
+pub both-right : (a b : Bool) → both a b ≡ true → b ≡ true
+unfolding both
+both-right true b e = e
+both-right false b e = clash e refl
+
+pub both-true : (a b : Bool) → a ≡ true → b ≡ true → both a b ≡ true
+unfolding both
+both-true true b e f = f
+both-true false b e f = e
+
+pub either-left : (a b : Bool) → a ≡ true → either a b ≡ true
+unfolding either
+either-left true b e = refl
+either-left false b e = clash e refl
+
+pub either-right : (a b : Bool) → b ≡ true → either a b ≡ true
+unfolding either
+either-right true b e = refl
+either-right false b e = e
+
+pub either-split : (a b : Bool) → either a b ≡ true → (a ≡ true) ⊎ (b ≡ true)
+unfolding either
+either-split true b e = inl refl
+either-split false b e = inr e
+
+pub fails-true : (a : Bool) → fails a ≡ true → a ≡ false
+unfolding fails
+fails-true true e = sym e
+fails-true false e = refl
+
+pub fails-false : (a : Bool) → a ≡ false → fails a ≡ true
+unfolding fails
+fails-false true e = sym e
+fails-false false e = refl
+
+module _ {A : Type 0} where
+  pub pick-true : (b : Bool) (f g : Unit {0} → A) → b ≡ true → pick b f g ≡ f tt
+  unfolding pick
+  pick-true true f g e = refl
+  pick-true false f g e = clash e refl
+
+  pub pick-false : (b : Bool) (f g : Unit {0} → A) → b ≡ false → pick b f g ≡ g tt
+  unfolding pick
+  pick-false true f g e = clash refl e
+  pick-false false f g e = refl
+
+  pub pick-cases {ℓ} : {C : Type ℓ} {x : A} (b : Bool) (f g : Unit {0} → A) → pick b f g ≡ x → (b ≡ true → f tt ≡ x → C) → (b ≡ false → g tt ≡ x → C) → C
+  unfolding pick
+  pick-cases true f g e t u = t refl e
+  pick-cases false f g e t u = u refl e
+
+-- A function goes through a choice.
+module _ {A B : Type 0} where
+  pub pick-map : (h : A → B) (b : Bool) (f g : Unit {0} → A) → h (pick b f g) ≡ pick b (λ _. h (f tt)) (λ _. h (g tt))
+  unfolding pick
+  pick-map h true f g = refl
+  pick-map h false f g = refl
+
+-- Membership, as a type.
+module _ {A : Type 0} where
+  abbrev pub Has : List A → A → Type 0
+  Has [] x = ⊥
+  Has (y ∷ ys) x = (x ≡ y) ⊎ Has ys x
+
+module _ {A : Type 0} where
+  -- Some entry passes: here it is.
+  pub some-has : (p : A → Bool) (xs : List A) → some-of p xs ≡ true → (x : A) × Has xs x × (p x ≡ true)
+  unfolding some-of
+  some-has p [] e = clash e refl
+  some-has p (x ∷ xs) e = step (either-split _ _ e) (some-has p xs)
+    where
+      step : (p x ≡ true) ⊎ (some-of p xs ≡ true) → (some-of p xs ≡ true → (y : A) × Has xs y × (p y ≡ true)) → (y : A) × Has (x ∷ xs) y × (p y ≡ true)
+      step (inl here) ih = (x, inl refl, here)
+      step (inr later) ih = let t = ih later in (t .0, inr (t .1), t .2)
+
+  pub has-some : (p : A → Bool) (xs : List A) (x : A) → Has xs x → p x ≡ true → some-of p xs ≡ true
+  unfolding some-of
+  has-some p [] x h e = absurd h
+  has-some p (y ∷ ys) x h e = step h (has-some p ys x)
+    where
+      step : (x ≡ y) ⊎ Has ys x → (Has ys x → p x ≡ true → some-of p ys ≡ true) → either (p y) (some-of p ys) ≡ true
+      step (inl q) ih = either-left _ _ (rw q at e)
+      step (inr h′) ih = either-right _ _ (ih h′ e)
+
+  pub each-has : (p : A → Bool) (xs : List A) (x : A) → each-of p xs ≡ true → Has xs x → p x ≡ true
+  unfolding each-of
+  each-has p [] x e h = absurd h
+  each-has p (y ∷ ys) x e h = step h (each-has p ys x)
+    where
+      step : (x ≡ y) ⊎ Has ys x → (each-of p ys ≡ true → Has ys x → p x ≡ true) → p x ≡ true
+      step (inl q) ih = rw q (both-left _ _ e)
+      step (inr h′) ih = ih (both-right _ _ e) h′
+
+  pub has-each : (p : A → Bool) (xs : List A) → ((x : A) → Has xs x → p x ≡ true) → each-of p xs ≡ true
+  unfolding each-of
+  has-each p [] f = refl
+  has-each p (x ∷ xs) f = both-true _ _ (f x (inl refl)) (has-each p xs (λ y h. f y (inr h)))
+
+  -- A stronger test passes no more.
+  pub some-mono : (p q : A → Bool) → ((x : A) → p x ≡ true → q x ≡ true) → (xs : List A) → some-of p xs ≡ true → some-of q xs ≡ true
+  some-mono p q h xs e = let t = some-has p xs e in has-some q xs (t .0) (t .1) (h (t .0) (t .2))
+
+  pub each-mono : (p q : A → Bool) → ((x : A) → p x ≡ true → q x ≡ true) → (xs : List A) → each-of p xs ≡ true → each-of q xs ≡ true
+  each-mono p q h xs e = has-each q xs (λ x m. h x (each-has p xs x e m))
+
+  -- Some entry of those that pass p passes q.
+  pub some-those : (p q : A → Bool) (xs : List A) → some-of q (those-of p xs) ≡ some-of (λ (x : A). both (p x) (q x)) xs
+  unfolding some-of those-of both pick either
+  some-those p q [] = refl
+  some-those p q (x ∷ xs) = step (p x) (some-those p q xs)
+    where
+      step : (b : Bool) → some-of q (those-of p xs) ≡ some-of (λ (y : A). both (p y) (q y)) xs
+          → some-of q (pick b (λ _. x ∷ those-of p xs) (λ _. those-of p xs)) ≡ either (both b (q x)) (some-of (λ (y : A). both (p y) (q y)) xs)
+      step true ih = rw ih
+      step false ih = ih
