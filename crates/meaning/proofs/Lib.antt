@@ -1,3 +1,6 @@
 pub mod Compute
 pub mod Cases
 pub mod TestLaws
+pub mod WalkLaws
+pub mod RefusalLaws
+pub mod LineLaws

@@ -1,0 +1,266 @@
+-- The lines of sections 3 to 5: the walk reads no line of an action that is not in the plan; and a line said twice, or elsewhere among its
+-- like, changes no answer's number, count or state. Both hold because every test over lines asks whether some line passes. Assumes nothing.
+use Prim.Native.Nat.{ℕ, _+_, _-_, _/_, _%_, _*_}
+use native.Mathlib.Omega.{arith}
+use mathlib.Core.Path.{_≡_, refl, sym, _∙_, ap, fun-ext}
+use mathlib.Core.Bool.{Bool, true, false}
+use mathlib.Core.List.{List, [], _∷_, map}
+use mathlib.Core.Logic.{_⊎_, inl, inr, ⊎-elim}
+use lib.ListN.{replicate}
+use lib.Dec.{eqb, ltb}
+use Rattle.meaning.specs.Tests.{both, either, fails, pick, some-of, each-of, those-of}
+use Rattle.meaning.specs.Literals.{complement}
+use Rattle.meaning.specs.Limits
+use Rattle.meaning.specs.Limits.{Limits}
+use Rattle.meaning.specs.Requests.{Effect, Executability, Knowledge, Table, Sequence, Entry, Request}
+use Rattle.meaning.specs.Reading.{Got, got, fault, next, read-request}
+use Rattle.meaning.specs.Refusals.{Found, nowhere, at, or-else, contradictory, contradiction-in, mixed-in, overlap-in, refuse, settled}
+use Rattle.meaning.specs.States.{State, known, possible, known-whether, told-all, first-state, effects-of, executability-of, knowledge-of, allowed, given, can-be-run, known-after, mark-after, marks-after, state-after, sensing, senses, unknown-from, unknown-sensed, outcome}
+use Rattle.meaning.specs.Walk.{End, fine, missed, stuck, Walked, walk, table-step, first-missed, missed-in, end-of, judged, walked}
+use Rattle.meaning.specs.Judging.{Judgement, ended, within, judge-settled, judge}
+use Rattle.meaning.proofs.TestLaws.{by-test, clash, same-test, both-left, both-right, both-true, pick-map, Has, some-has, has-some, some-those}
+use Rattle.meaning.proofs.WalkLaws.{On-actions, on-actions, map-actions, Agree, walk-agrees, unplaced, unplaced-end, unplaced-walk, walk-unplaced}
+use Rattle.meaning.proofs.RefusalLaws.{at≢nowhere, past-16, by-16, unplaced-found, found-if, unplaced-or-else, unplaced-17, unplaced-18}
+
+-- THE LINES OF ANOTHER ACTION.
+-- Two tables have the same lines of an action.
+pub record Same-lines-of (t u : Table) (a : ℕ) : Type 0 where
+  pub effects : effects-of t a ≡ effects-of u a
+  pub executability : executability-of t a ≡ executability-of u a
+  pub knowledge : knowledge-of t a ≡ knowledge-of u a
+
+lines-agree : (t u : Table) (a : ℕ) → Same-lines-of t u a → Agree (table-step t) (table-step u) a
+unfolding table-step can-be-run outcome sensing unknown-sensed state-after
+lines-agree t u a same = record { runs = λ s. rw (same .executability); leads-to = λ s. rw (same .knowledge, same .effects) }
+
+-- The walk never reads a line of another action: tables that have the same lines of each of the plan's actions walk it alike.
+pub no-other-action's-line : (t u : Table) (p : Sequence ℕ) → On-actions (Same-lines-of t u) p → (k : State → Walked State) (s : State) → walk (table-step t) p k s ≡ walk (table-step u) p k s
+unfolding table-step
+no-other-action's-line t u p same = walk-agrees (table-step t) (table-step u) refl p (map-actions (lines-agree t u) p same)
+
+-- LINES SAID TWICE.
+-- What stands in the one list stands in the other, as far as R tells.
+module _ {A : Type 0} (R : A → A → Type 0) where
+  pub record Same-set (xs ys : List A) : Type 0 where
+    pub there : (x : A) → Has xs x → (y : A) × Has ys y × R x y
+    pub back : (y : A) → Has ys y → (x : A) × Has xs x × R x y
+
+module _ {A : Type 0} {R : A → A → Type 0} (p : A → Bool) (fair : (x y : A) → R x y → p x ≡ p y) where
+  -- A test that does not tell R's pairs apart passes in both lists or in neither.
+  some-same : (xs ys : List A) → Same-set R xs ys → some-of p xs ≡ some-of p ys
+  some-same xs ys same =
+      same-test (some-of p xs) (some-of p ys)
+      (λ e. let t = some-has p xs e in let u = same .there (t .0) (t .1) in has-some p ys (u .0) (u .1) (sym (fair (t .0) (u .0) (u .2)) ∙ t .2))
+      (λ e. let t = some-has p ys e in let u = same .back (t .0) (t .1) in has-some p xs (u .0) (u .1) (fair (u .0) (t .0) (u .2) ∙ t .2))
+
+-- Two lines that say the same, wherever they stand.
+pub record Same-effect (e g : Effect) : Type 0 where
+  pub action : e .action ≡ g .action
+  pub literal : e .literal ≡ g .literal
+  pub body : e .body ≡ g .body
+
+pub record Same-executability (x y : Executability) : Type 0 where
+  pub action : x .action ≡ y .action
+  pub body : x .body ≡ y .body
+
+pub record Same-knowledge (k j : Knowledge) : Type 0 where
+  pub action : k .action ≡ j .action
+  pub fluent : k .fluent ≡ j .fluent
+
+-- Two tables say the same, but for order and repetition.
+pub record Same-tables (t u : Table) : Type 0 where
+  pub facts : t .facts ≡ u .facts
+  pub effects : Same-set Same-effect (t .effects) (u .effects)
+  pub executability : Same-set Same-executability (t .executability) (u .executability)
+  pub knowledge : Same-set Same-knowledge (t .knowledge) (u .knowledge)
+
+module _ (t u : Table) (same : Same-tables t u) (a : ℕ) where
+  allowed-same : (test : ℕ → Bool) → allowed test (executability-of t a) ≡ allowed test (executability-of u a)
+  unfolding allowed executability-of
+  allowed-same test =
+      some-those _ _ (t .executability)
+      ∙ some-same _ (λ x y r. rw (r .action, r .body)) (t .executability) (u .executability) (same .executability)
+      ∙ sym (some-those _ _ (u .executability))
+
+  given-same : (test : ℕ → Bool) (l : ℕ) → given test (effects-of t a) l ≡ given test (effects-of u a) l
+  unfolding given effects-of
+  given-same test l =
+      some-those _ _ (t .effects)
+      ∙ some-same _ (λ x y r. rw (r .action, r .literal, r .body)) (t .effects) (u .effects) (same .effects)
+      ∙ sym (some-those _ _ (u .effects))
+
+  sensing-same : sensing t a ≡ sensing u a
+  unfolding sensing knowledge-of
+  sensing-same =
+      some-those _ _ (t .knowledge)
+      ∙ some-same _ (λ x y r. rw (r .action)) (t .knowledge) (u .knowledge) (same .knowledge)
+      ∙ sym (some-those _ _ (u .knowledge))
+
+  senses-same : (f : ℕ) → senses (knowledge-of t a) f ≡ senses (knowledge-of u a) f
+  unfolding senses knowledge-of
+  senses-same f =
+      some-those _ _ (t .knowledge)
+      ∙ some-same _ (λ x y r. rw (r .action, r .fluent)) (t .knowledge) (u .knowledge) (same .knowledge)
+      ∙ sym (some-those _ _ (u .knowledge))
+
+  marks-same : (s : State) (f : ℕ) (ms : List ℕ) → marks-after (effects-of t a) s f ms ≡ marks-after (effects-of u a) s f ms
+  unfolding marks-after mark-after known-after
+  marks-same s f [] = refl
+  marks-same s f (m ∷ ms) = simp (given-same, marks-same s (f + 1) ms)
+
+  unknown-same : (s : State) (f : ℕ) (ms : List ℕ) → unknown-from (knowledge-of t a) s f ms ≡ unknown-from (knowledge-of u a) s f ms
+  unfolding unknown-from
+  unknown-same s f [] = refl
+  unknown-same s f (m ∷ ms) = simp (senses-same, unknown-same s (f + 1) ms)
+
+  -- Tables that say the same step alike.
+  pub tables-agree : Agree (table-step t) (table-step u) a
+  unfolding table-step can-be-run outcome unknown-sensed state-after
+  tables-agree =
+      record {
+        runs = λ s. allowed-same (known s);
+        leads-to = λ s. rw (sensing-same, unknown-same s 0 s, marks-same s 0 s);
+      }
+
+-- 16 and 17 find something in both tables or in neither.
+module _ (t u : Table) (same : Same-tables t u) where
+  contradictory-same : (e g x y : Effect) → Same-effect e x → Same-effect g y → contradictory e g ≡ contradictory x y
+  unfolding contradictory
+  contradictory-same e g x y p q = rw (p .action, p .literal, p .body, q .action, q .literal, q .body)
+
+  contradiction-same : unplaced-found (contradiction-in [] (t .effects)) ≡ unplaced-found (contradiction-in [] (u .effects))
+  contradiction-same = go _ _ refl refl
+    where
+      go : (f g : Found) → contradiction-in [] (t .effects) ≡ f → contradiction-in [] (u .effects) ≡ g → unplaced-found f ≡ unplaced-found g
+      go nowhere nowhere p q = refl
+      go (at i) (at j) p q = refl
+      go (at i) nowhere p q =
+          let w = by-16 [] (t .effects) i p in
+          let x = same .effects .there (w .0) (w .2) in
+          let y = same .effects .there (w .1) (⊎-elim (λ h. h) absurd (w .3)) in
+          clash (sym (contradictory-same (w .0) (w .1) (x .0) (y .0) (x .2) (y .2)) ∙ w .4) (past-16 (u .effects) q (x .0) (y .0) (x .1) (y .1))
+      go nowhere (at j) p q =
+          let w = by-16 [] (u .effects) j q in
+          let x = same .effects .back (w .0) (w .2) in
+          let y = same .effects .back (w .1) (⊎-elim (λ h. h) absurd (w .3)) in
+          clash (contradictory-same (x .0) (y .0) (w .0) (w .1) (x .2) (y .2) ∙ w .4) (past-16 (t .effects) p (x .0) (y .0) (x .1) (y .1))
+
+  mixed-same : unplaced-found (mixed-in (t .effects) (t .knowledge)) ≡ unplaced-found (mixed-in (u .effects) (u .knowledge))
+  mixed-same =
+      unplaced-17 (t .effects) (t .knowledge)
+      ∙ ap found-if (some-same _ (λ x y r. rw (r .action)) (t .knowledge) (u .knowledge) (same .knowledge))
+      ∙ ap (λ (test : Knowledge → Bool). found-if (some-of test (u .knowledge)))
+      (fun-ext λ (k : Knowledge). some-same _ (λ x y r. rw (r .action)) (t .effects) (u .effects) (same .effects))
+      ∙ sym (unplaced-17 (u .effects) (u .knowledge))
+
+-- JUDGING. Two requests say the same, but for places and for the order and repetition of lines.
+abbrev values : List Entry → List ℕ
+values = map (λ (e : Entry). e .value)
+
+pub record Same-but-lines (r q : Request) : Type 0 where
+  pub tables : Same-tables (r .table) (q .table)
+  pub plan : unplaced (r .plan) ≡ unplaced (q .plan)
+  pub goals : values (r .goals) ≡ values (q .goals)
+  pub whether : values (r .whether) ≡ values (q .whether)
+
+-- What is left of a judgement without place and input.
+pub record Gist : Type 0 where
+  pub number : ℕ
+  pub count : ℕ
+  pub state : List ℕ
+
+abbrev pub gist : Judgement → Gist
+gist j = record { number = j .answer .number; count = j .answer .count; state = j .state }
+
+missed-values : (test : ℕ → Bool) (es : List Entry) → unplaced-found (first-missed test es) ≡ found-if (fails (each-of test (values es)))
+unfolding first-missed each-of pick fails both
+missed-values test [] = refl
+missed-values test (e ∷ es) = go (test (e .value)) (each-of test (values es)) (missed-values test es)
+  where
+    go : (here later : Bool) → unplaced-found (first-missed test es) ≡ found-if (fails later) → unplaced-found (pick here (λ _. first-missed test es) (λ _. at (e .place))) ≡ found-if (fails (both here later))
+    go true later ih = ih
+    go false later ih = refl
+
+unplaced-end-of : (f : Found) (s : State) → unplaced-end (end-of f s) ≡ end-of (unplaced-found f) s
+unfolding end-of
+unplaced-end-of nowhere s = refl
+unplaced-end-of (at p) s = refl
+
+module _ (r q : Request) (same : Same-but-lines r q) where
+  missed-same : (s : State) → unplaced-found (missed-in r s) ≡ unplaced-found (missed-in q s)
+  unfolding missed-in
+  missed-same s =
+      unplaced-or-else (first-missed (known s) (r .goals)) _
+      ∙ rw (
+        missed-values (known s) (r .goals),
+        missed-values (known-whether s) (r .whether),
+        same .goals,
+        same .whether,
+        ← missed-values (known s) (q .goals),
+        ← missed-values (known-whether s) (q .whether),
+      )
+      (sym (unplaced-or-else (first-missed (known s) (q .goals)) _))
+
+  judged-same : (s : State) → unplaced-walk (judged r s) ≡ unplaced-walk (judged q s)
+  unfolding judged
+  judged-same s =
+      ap (λ (e : End State). record { count = 1; end = e })
+      (unplaced-end-of (missed-in r s) s ∙ ap (λ (f : Found). end-of f s) (missed-same s) ∙ sym (unplaced-end-of (missed-in q s) s))
+
+  walked-same : (s : State) → unplaced-walk (walked r s) ≡ unplaced-walk (walked q s)
+  unfolding walked table-step
+  walked-same s =
+      walk-unplaced (table-step (r .table)) (r .plan) (judged r) s
+      ∙ walk-agrees (table-step (r .table)) (table-step (q .table)) refl (unplaced (r .plan)) (on-actions _ (tables-agree (r .table) (q .table) (same .tables)) (unplaced (r .plan))) _ s
+      ∙ ap (λ (p : Sequence ℕ). walk (table-step (q .table)) p (λ t. unplaced-walk (judged r t)) s) (same .plan)
+      ∙ ap (λ (k : State → Walked State). walk (table-step (q .table)) (unplaced (q .plan)) k s) (fun-ext judged-same)
+      ∙ sym (walk-unplaced (table-step (q .table)) (q .plan) (judged q) s)
+
+within-gist : (lent : List ℕ) (budget : ℕ) (w : Walked State) → gist (within lent budget w) ≡ gist (within lent budget (unplaced-walk w))
+unfolding within ended pick
+within-gist lent budget w = go (ltb budget (w .count)) (w .end)
+  where
+    spent : Judgement
+    spent = record { answer = record { number = Limits.budget-spent; input = Limits.neither-input; place = 0; count = budget }; state = lent }
+
+    go : (b : Bool) (e : End State) → gist (pick b (λ _. spent) (λ _. ended lent (w .count) e)) ≡ gist (pick b (λ _. spent) (λ _. ended lent (w .count) (unplaced-end e)))
+    go true e = refl
+    go false fine = refl
+    go false (missed p s) = refl
+    go false (stuck p s) = refl
+
+-- The same finding without its place refuses alike.
+module _ (lim : Limits) (lent : List ℕ) (budget : ℕ) where
+  after-refusal : Got Request → Gist
+  after-refusal x = gist (judge-settled lim lent budget x)
+
+  refuse-gist : (n : ℕ) (f g : Found) → unplaced-found f ≡ unplaced-found g → (j k : Unit {0} → Got Request) → after-refusal (j tt) ≡ after-refusal (k tt) → after-refusal (refuse n f j) ≡ after-refusal (refuse n g k)
+  unfolding after-refusal refuse judge-settled
+  refuse-gist n nowhere nowhere e j k h = h
+  refuse-gist n (at p) (at q) e j k h = refl
+  refuse-gist n (at p) nowhere e j k h = absurd (at≢nowhere e)
+  refuse-gist n nowhere (at q) e j k h = absurd (at≢nowhere (sym e))
+
+  walks-alike : (r q : Request) (e f : ℕ) → Same-but-lines r q → after-refusal (got r e) ≡ after-refusal (got q f)
+  unfolding after-refusal judge-settled first-state
+  walks-alike r q e f same =
+      within-gist lent budget _
+      ∙ ap (λ (w : Walked State). gist (within lent budget w)) (walked-same r q same (first-state lim (r .table)))
+      ∙ sym (within-gist lent budget _)
+      ∙ ap (λ (s : State). gist (within lent budget (walked q s))) (ap (λ (fs : List ℕ). told-all fs (replicate (lim .state) Limits.unknown-mark)) (same .tables .facts))
+
+  judged-alike : (b c : List ℕ) (r q : Request) (e f : ℕ) → read-request lim b ≡ got r e → read-request lim c ≡ got q f → Same-but-lines r q → after-refusal (settled lim b) ≡ after-refusal (settled lim c)
+  unfolding settled next
+  judged-alike b c r q e f rb rc same =
+      rw (rb, rc)
+      (refuse-gist _ _ _ (contradiction-same (r .table) (q .table) (same .tables)) _ _
+      (refuse-gist _ _ _ (mixed-same (r .table) (q .table) (same .tables)) _ _
+      (refuse-gist _ _ _ (unplaced-18 (r .plan) ∙ ap overlap-in (same .plan) ∙ sym (unplaced-18 (q .plan))) _ _ (walks-alike r q e f same))))
+
+-- Lines said twice, or elsewhere among their like, change no answer's number, count or state.
+pub lines-are-a-set : (lim : Limits) (b c : List ℕ) (r q : Request) (e f : ℕ)
+    → read-request lim b ≡ got r e → read-request lim c ≡ got q f → Same-but-lines r q
+    → (lent : List ℕ) (budget : ℕ) → gist (judge lim b lent budget) ≡ gist (judge lim c lent budget)
+unfolding judge after-refusal
+lines-are-a-set lim b c r q e f rb rc same lent budget =
+    pick-map gist _ _ _ ∙ rw (judged-alike lim lent budget b c r q e f rb rc same) (sym (pick-map gist _ _ _))

@@ -1,0 +1,146 @@
+-- Refusals 16, 17 and 18: what passing 16 says of every two effects, and what each of the three says with its place left out.
+-- Assumes nothing.
+use Prim.Native.Nat.{ℕ, _+_, _-_, _/_, _%_, _*_}
+use native.Mathlib.Omega.{arith}
+use mathlib.Core.Path.{_≡_, refl, sym, _∙_, ap, subst}
+use mathlib.Core.Bool.{Bool, true, false}
+use mathlib.Core.List.{List, [], _∷_}
+use mathlib.Core.Logic.{_⊎_, inl, inr, ⊎-elim}
+use lib.Dec.{eqb}
+use borrow.Author.Tests.{eqb-true, eqb-false, eq-eqb, ne-eqb}
+use Rattle.meaning.specs.Tests.{both, either, fails, pick, some-of, each-of}
+use Rattle.meaning.specs.Literals.{positive, complement, among, exclusive}
+use Rattle.meaning.specs.Requests.{Effect, Knowledge, Sequence, done, item, Item, act, branching, Branches, none, branch}
+use Rattle.meaning.specs.Refusals.{Found, nowhere, at, or-else, contradictory, contradiction-in, mixed-in, conditions-of, all-exclusive, overlap-in, overlap-at, overlap-below}
+use Rattle.meaning.proofs.TestLaws.{by-test, clash, same-test, both-left, both-right, both-true, fails-true, fails-false, pick-cases, pick-map, pick-true, pick-false, Has, some-has, has-some}
+use Rattle.meaning.proofs.WalkLaws.{unplaced, unplaced-item, unplaced-branches}
+
+-- COMPLEMENTS.
+pub complement-even : (l : ℕ) → l % 2 ≡ 0 → complement l ≡ l + 1
+unfolding complement positive
+complement-even l e = pick-true _ _ _ (eq-eqb (l % 2) 0 e)
+
+pub complement-odd : (l : ℕ) → (l % 2 ≡ 0 → ⊥) → complement l ≡ l - 1
+unfolding complement positive
+complement-odd l e = pick-false _ _ _ (ne-eqb (l % 2) 0 e)
+
+pub complement-twice : (l : ℕ) → complement (complement l) ≡ l
+complement-twice l =
+    by-test (eqb (l % 2) 0)
+    (λ t. let m : l % 2 ≡ 0 = eqb-true _ _ t in rw (complement-even l m) (complement-odd (l + 1) (λ (q : (l + 1) % 2 ≡ 0). omega arith) ∙ omega arith))
+    (λ u. let m : l % 2 ≡ 0 → ⊥ = eqb-false _ _ u in rw (complement-odd l m) (complement-even (l - 1) (omega arith) ∙ omega arith))
+
+pub complement-other : (l : ℕ) → complement l ≡ l → ⊥
+complement-other l e =
+    by-test (eqb (l % 2) 0)
+    (λ t. let q = complement-even l (eqb-true _ _ t) in omega arith)
+    (λ u. let m : l % 2 ≡ 0 → ⊥ = eqb-false _ _ u in let q = complement-odd l m in omega arith)
+
+-- EXCLUSIVE and CONTRADICTORY go both ways.
+exclusive-turns : (b c : List ℕ) → exclusive b c ≡ true → exclusive c b ≡ true
+unfolding exclusive among
+exclusive-turns b c e =
+    let t = some-has _ b e in
+    let u = some-has _ c (t .2) in
+    let q : complement (t .0) ≡ u .0 = eqb-true _ _ (u .2) in
+    has-some _ c (u .0) (u .1) (has-some _ b (t .0) (t .1) (eq-eqb _ _ (ap complement (sym q) ∙ complement-twice (t .0))))
+
+pub exclusive-sym : (b c : List ℕ) → exclusive b c ≡ exclusive c b
+exclusive-sym b c = same-test _ _ (exclusive-turns b c) (exclusive-turns c b)
+
+contradictory-turns : (e g : Effect) → contradictory e g ≡ true → contradictory g e ≡ true
+unfolding contradictory
+contradictory-turns e g h =
+    let a : e .action ≡ g .action = eqb-true _ _ (both-left _ _ h) in
+    let l : g .literal ≡ complement (e .literal) = eqb-true _ _ (both-left _ _ (both-right _ _ h)) in
+    both-true _ _ (eq-eqb _ _ (sym a))
+    (both-true _ _ (eq-eqb _ _ (sym (complement-twice (e .literal)) ∙ ap complement (sym l)))
+    (ap fails (exclusive-sym (g .body) (e .body)) ∙ both-right _ _ (both-right _ _ h)))
+
+pub contradictory-sym : (e g : Effect) → contradictory e g ≡ contradictory g e
+contradictory-sym e g = same-test _ _ (contradictory-turns e g) (contradictory-turns g e)
+
+pub contradicts-itself : (e : Effect) → contradictory e e ≡ false
+unfolding contradictory
+contradicts-itself e = by-test _ (λ t. absurd (complement-other (e .literal) (sym (eqb-true _ _ (both-left _ _ (both-right _ _ t)))))) (λ f. f)
+
+-- 16.
+pub at≢nowhere : {p : ℕ} → at p ≡ nowhere → ⊥
+at≢nowhere e = subst told e tt
+  where
+    told : Found → Type 0
+    told nowhere = ⊥
+    told (at p) = Unit {0}
+
+none-contradicts : (before es : List Effect) → contradiction-in before es ≡ nowhere → (e g : Effect) → Has es e → Has es g ⊎ Has before g → contradictory e g ≡ false
+unfolding contradiction-in
+none-contradicts before [] q e g he hg = absurd he
+none-contradicts before (x ∷ xs) q e g he hg =
+    pick-cases _ _ _ q (λ _ r. absurd (at≢nowhere r)) (λ free r. go free (none-contradicts (x ∷ before) xs r) he hg)
+  where
+    go : some-of (contradictory x) before ≡ false
+        → ((e g : Effect) → Has xs e → Has xs g ⊎ Has (x ∷ before) g → contradictory e g ≡ false)
+        → (e ≡ x) ⊎ Has xs e → ((g ≡ x) ⊎ Has xs g) ⊎ Has before g → contradictory e g ≡ false
+    go free ih (inl p) (inl (inl r)) = rw (p, r) (contradicts-itself x)
+    go free ih (inl p) (inl (inr h)) = rw p (contradictory-sym x g ∙ ih g x h (inr (inl refl)))
+    go free ih (inl p) (inr h) = rw p (by-test _ (λ t. clash (has-some _ before g h t) free) (λ f. f))
+    go free ih (inr h) (inl (inl r)) = ih e g h (inr (inl r))
+    go free ih (inr h) (inl (inr k)) = ih e g h (inl k)
+    go free ih (inr h) (inr k) = ih e g h (inr (inr k))
+
+-- Where 16 has passed, no two effects are contradictory.
+pub past-16 : (es : List Effect) → contradiction-in [] es ≡ nowhere → (e g : Effect) → Has es e → Has es g → contradictory e g ≡ false
+past-16 es q e g he hg = none-contradicts [] es q e g he (inl hg)
+
+-- Where 16 has not, two are.
+pub by-16 : (before es : List Effect) (p : ℕ) → contradiction-in before es ≡ at p → (e g : Effect) × Has es e × (Has es g ⊎ Has before g) × (contradictory e g ≡ true)
+unfolding contradiction-in
+by-16 before [] p q = absurd (at≢nowhere (sym q))
+by-16 before (x ∷ xs) p q =
+    pick-cases _ _ _ q
+    (λ t _. let w = some-has _ before t in (x, w .0, inl refl, inr (w .1), w .2))
+    (λ _ r. let w = by-16 (x ∷ before) xs p r in (w .0, w .1, inr (w .2), ⊎-elim (λ h. inl (inr h)) (λ h. ⊎-elim (λ z. inl (inl z)) inr h) (w .3), w .4))
+
+-- THE THREE WITHOUT THEIR PLACES.
+abbrev pub unplaced-found : Found → Found
+unplaced-found nowhere = nowhere
+unplaced-found (at p) = at 0
+
+abbrev pub found-if : Bool → Found
+found-if b = pick b (λ _. at 0) (λ _. nowhere)
+
+pub unplaced-or-else : (f : Found) (k : Unit {0} → Found) → unplaced-found (or-else f k) ≡ or-else (unplaced-found f) (λ _. unplaced-found (k tt))
+unfolding or-else
+unplaced-or-else nowhere k = refl
+unplaced-or-else (at p) k = refl
+
+pub unplaced-17 : (es : List Effect) (ks : List Knowledge) → unplaced-found (mixed-in es ks) ≡ found-if (some-of (λ (k : Knowledge). some-of (λ (e : Effect). eqb (e .action) (k .action)) es) ks)
+unfolding mixed-in some-of pick either
+unplaced-17 es [] = refl
+unplaced-17 es (k ∷ ks) =
+    go (some-of (λ (e : Effect). eqb (e .action) (k .action)) es) (some-of (λ (j : Knowledge). some-of (λ (e : Effect). eqb (e .action) (j .action)) es) ks) (unplaced-17 es ks)
+  where
+    go : (here later : Bool) → unplaced-found (mixed-in es ks) ≡ found-if later → unplaced-found (pick here (λ _. at (k .place)) (λ _. mixed-in es ks)) ≡ found-if (either here later)
+    go true later ih = refl
+    go false later ih = ih
+
+conditions-unplaced : (bs : Branches ℕ) → conditions-of (unplaced-branches bs) ≡ conditions-of bs
+unfolding conditions-of
+conditions-unplaced none = refl
+conditions-unplaced (branch c b bs) = ap {B = List (List ℕ)} (λ cs. c ∷ cs) (conditions-unplaced bs)
+
+mutual
+  unfolding overlap-in
+
+  pub unplaced-18 : (p : Sequence ℕ) → unplaced-found (overlap-in p) ≡ overlap-in (unplaced p)
+  unplaced-18 done = refl
+  unplaced-18 (item i rest) = unplaced-or-else (overlap-at i) _ ∙ rw (unplaced-18-item i, unplaced-18 rest)
+
+  unplaced-18-item : (i : Item ℕ) → unplaced-found (overlap-at i) ≡ overlap-at (unplaced-item i)
+  unplaced-18-item (act p a) = refl
+  unplaced-18-item (branching p bs) =
+      pick-map unplaced-found _ _ _ ∙ rw (unplaced-18-branches bs, conditions-unplaced bs)
+
+  unplaced-18-branches : (bs : Branches ℕ) → unplaced-found (overlap-below bs) ≡ overlap-below (unplaced-branches bs)
+  unplaced-18-branches none = refl
+  unplaced-18-branches (branch c b bs) = unplaced-or-else (overlap-in b) _ ∙ rw (unplaced-18 b, unplaced-18-branches bs)
