@@ -1,4 +1,5 @@
--- The cases of the format (FORMAT.md, section 13), computed by the definitions: one equation over one table. Assumes nothing.
+-- The cases of the format (FORMAT 13.17 to 13.39, 13.56 to 13.58) and one row or more for each decision that a row can show, computed by
+-- the definitions: one equation over one table. Assumes nothing.
 use Prim.Native.Nat.{ℕ, zero, suc, _-_}
 use mathlib.Core.Path.{_≡_, refl}
 use mathlib.Core.List.{List, [], _∷_, _++_, map}
@@ -67,36 +68,36 @@ copies (suc k) xs = xs ++ copies k xs
 
 pub cases : List Case
 cases =
-    -- 1
+    -- Case 1.
     verified file-A 5 ∷
-    -- 2
+    -- Case 2.
     missed (table-A ++ (0 ∷ 1 ∷ 1 ∷ 1 ∷ 7 ∷ 1 ∷ 2 ∷ [])) 33 2 (0 ∷ 1 ∷ 2 ∷ 0 ∷ []) ∷
-    -- 3
+    -- Case 3.
     stuck (table-A ++ (0 ∷ 1 ∷ 255 ∷ 2 ∷ 1 ∷ 1 ∷ 0 ∷ 2 ∷ 1 ∷ 2 ∷ 1 ∷ 0 ∷ 0 ∷ 0 ∷ 1 ∷ 7 ∷ 1 ∷ 2 ∷ [])) 31 0 (0 ∷ 2 ∷ 2 ∷ 2 ∷ []) ∷
-    -- 4
+    -- Case 4.
     row file-A lent-64 4 3 0 0 4 lent-64 ∷
     row file-A lent-64 5 0 0 0 5 lent-64 ∷
-    -- 5
+    -- Case 5.
     verified (table-A ++ (0 ∷ 0 ∷ 0 ∷ 0 ∷ [])) 1 ∷
-    -- 6
+    -- Case 6.
     missed (table-A ++ (0 ∷ 0 ∷ 1 ∷ 7 ∷ 1 ∷ 0 ∷ [])) 34 1 (0 ∷ 2 ∷ 2 ∷ 2 ∷ []) ∷
-    -- 7
+    -- Case 7.
     stuck (table-A ++ (0 ∷ 1 ∷ 2 ∷ 0 ∷ 0 ∷ [])) 31 0 (0 ∷ 2 ∷ 2 ∷ 2 ∷ []) ∷
-    -- 8
+    -- Case 8.
     verified (table-A ++ (0 ∷ 1 ∷ 0 ∷ 0 ∷ 1 ∷ 0 ∷ [])) 3 ∷
-    -- 9
+    -- Case 9.
     verified (table-A ++ (0 ∷ 2 ∷ 0 ∷ 0 ∷ 0 ∷ 0 ∷ [])) 5 ∷
-    -- 10
+    -- Case 10.
     missed (2 ∷ 1 ∷ 0 ∷ 2 ∷ 0 ∷ 0 ∷ 1 ∷ 2 ∷ 0 ∷ 0 ∷ 1 ∷ 3 ∷ 1 ∷ 0 ∷ 0 ∷ 0 ∷ 0 ∷ 1 ∷ 0 ∷ 1 ∷ 0 ∷ 0 ∷ []) 20 2 (0 ∷ 0 ∷ []) ∷
-    -- a goal missed in both readings: the first is named, the second still walked
+    -- A goal missed in both readings: the first is named, the second still walked.
     missed (table-A ++ (0 ∷ 1 ∷ 0 ∷ 1 ∷ 2 ∷ 0 ∷ [])) 33 3 (1 ∷ 2 ∷ 2 ∷ 2 ∷ []) ∷
-    -- a goal missed in the first reading, and an item that can't be run in the second
+    -- A goal missed in the first reading, and an item that can't be run in the second.
     stuck (table-A ++ (0 ∷ 2 ∷ 0 ∷ 255 ∷ 1 ∷ 1 ∷ 0 ∷ 0 ∷ 0 ∷ 1 ∷ 2 ∷ 0 ∷ [])) 32 2 (2 ∷ 2 ∷ 2 ∷ 2 ∷ []) ∷
-    -- 11
+    -- Case 11.
     refused [] 11 0 ∷
     refused (take 47 file-A) 11 47 ∷
     refused (file-A ++ (0 ∷ [])) 20 48 ∷
-    -- 12
+    -- Case 12.
     refused (set file-A 0 0) 12 0 ∷
     refused (set file-A 0 65) 12 0 ∷
     refused (set file-A 5 8) 13 5 ∷
@@ -105,14 +106,14 @@ cases =
     refused (set file-A 11 3) 16 10 ∷
     refused (set file-A 27 1) 17 27 ∷
     refused (set file-A 41 1) 18 32 ∷
-    -- 13
+    -- Case 13.
     row file-A (replicate 63 9) usual 9 0 0 0 (replicate 63 9) ∷
     row file-A (replicate 65 9) usual 9 0 0 0 (replicate 65 9) ∷
     refused (replicate 16385 0) 10 0 ∷
     -- What a test in another order would say otherwise: an entry's size goes before the next one's order, and 20 before 16.
     refused (set file-A 3 8) 13 3 ∷
     refused (set file-A 11 3 ++ (0 ∷ [])) 20 48 ∷
-    -- The decisions D1 to D24 of DECISIONS.md, by number. D1
+    -- The decisions of DECISIONS.md, by number. D1
     refused (set file-A 4 2) 14 4 ∷
     -- D2
     verified (table-A ++ (0 ∷ 0 ∷ 0 ∷ 2 ∷ 2 ∷ 3 ∷ [])) 1 ∷
@@ -149,6 +150,8 @@ cases =
     verified (1 ∷ 1 ∷ 0 ∷ 0 ∷ 1 ∷ 0 ∷ 0 ∷ 0 ∷ 0 ∷ 1 ∷ 0 ∷ 0 ∷ 0 ∷ []) 2 ∷
     -- D24
     verified (1 ∷ 1 ∷ 0 ∷ 0 ∷ 0 ∷ 0 ∷ 0 ∷ 1 ∷ 255 ∷ 1 ∷ 0 ∷ 0 ∷ 0 ∷ 0 ∷ 0 ∷ []) 1 ∷
+    -- File A with a line of each of the sections 3 to 5 said twice (FORMAT 2.35).
+    verified (4 ∷ 3 ∷ 3 ∷ 3 ∷ 5 ∷ 7 ∷ 4 ∷ 1 ∷ 2 ∷ 0 ∷ 1 ∷ 2 ∷ 0 ∷ 1 ∷ 6 ∷ 1 ∷ 0 ∷ 2 ∷ 4 ∷ 0 ∷ 4 ∷ 0 ∷ 0 ∷ 1 ∷ 1 ∷ 3 ∷ 2 ∷ 1 ∷ 2 ∷ 0 ∷ 0 ∷ 2 ∷ 0 ∷ 0 ∷ 0 ∷ 0 ∷ 0 ∷ 2 ∷ 0 ∷ 255 ∷ 2 ∷ 1 ∷ 1 ∷ 0 ∷ 2 ∷ 1 ∷ 2 ∷ 1 ∷ 0 ∷ 0 ∷ 0 ∷ 1 ∷ 7 ∷ 1 ∷ 2 ∷ []) 5 ∷
     []
 
 -- Every case is judged as its row says.

@@ -1,24 +1,22 @@
 -- The lines of sections 3 to 5: the walk reads no line of an action that is not in the plan; and a line said twice, or elsewhere among its
--- like, changes no answer's number, count or state. Both hold because every test over lines asks whether some line passes. Assumes nothing.
-use Prim.Native.Nat.{ℕ, _+_, _-_, _/_, _%_, _*_}
-use native.Mathlib.Omega.{arith}
+-- like, changes no answer's number, input, count or state. Both hold because every test over lines asks whether some line passes. Assumes nothing.
+use Prim.Native.Nat.{ℕ, _+_}
 use mathlib.Core.Path.{_≡_, refl, sym, _∙_, ap, fun-ext}
 use mathlib.Core.Bool.{Bool, true, false}
 use mathlib.Core.List.{List, [], _∷_, map}
-use mathlib.Core.Logic.{_⊎_, inl, inr, ⊎-elim}
+use mathlib.Core.Logic.{⊎-elim}
 use lib.ListN.{replicate}
-use lib.Dec.{eqb, ltb}
-use Rattle.meaning.specs.Tests.{both, either, fails, pick, some-of, each-of, those-of}
-use Rattle.meaning.specs.Literals.{complement}
+use lib.Dec.{ltb}
+use Rattle.meaning.specs.Tests.{both, fails, pick, some-of, each-of}
 use Rattle.meaning.specs.Limits
 use Rattle.meaning.specs.Limits.{Limits}
 use Rattle.meaning.specs.Requests.{Effect, Executability, Knowledge, Table, Sequence, Entry, Request}
-use Rattle.meaning.specs.Reading.{Got, got, fault, next, read-request}
-use Rattle.meaning.specs.Refusals.{Found, nowhere, at, or-else, contradictory, contradiction-in, mixed-in, overlap-in, refuse, settled}
-use Rattle.meaning.specs.States.{State, known, possible, known-whether, told-all, first-state, effects-of, executability-of, knowledge-of, allowed, given, can-be-run, known-after, mark-after, marks-after, state-after, sensing, senses, unknown-from, unknown-sensed, outcome}
+use Rattle.meaning.specs.Reading.{Got, got, next, read-request}
+use Rattle.meaning.specs.Refusals.{Found, nowhere, at, contradictory, contradiction-in, mixed-in, overlap-in, refuse, settled}
+use Rattle.meaning.specs.States.{State, known, known-whether, told-all, first-state, effects-of, executability-of, knowledge-of, allowed, given, can-be-run, known-after, mark-after, marks-after, state-after, sensing, senses, unknown-from, unknown-sensed, outcome}
 use Rattle.meaning.specs.Walk.{End, fine, missed, stuck, Walked, walk, table-step, first-missed, missed-in, end-of, judged, walked}
 use Rattle.meaning.specs.Judging.{Judgement, ended, within, judge-settled, judge}
-use Rattle.meaning.proofs.TestLaws.{by-test, clash, same-test, both-left, both-right, both-true, pick-map, Has, some-has, has-some, some-those}
+use Rattle.meaning.proofs.TestLaws.{clash, same-test, pick-map, Has, some-has, has-some, some-those}
 use Rattle.meaning.proofs.WalkLaws.{On-actions, on-actions, map-actions, Agree, walk-agrees, unplaced, unplaced-end, unplaced-walk, walk-unplaced}
 use Rattle.meaning.proofs.RefusalLaws.{at≢nowhere, past-16, by-16, unplaced-found, found-if, unplaced-or-else, unplaced-17, unplaced-18}
 
@@ -163,14 +161,15 @@ pub record Same-but-lines (r q : Request) : Type 0 where
   pub goals : values (r .goals) ≡ values (q .goals)
   pub whether : values (r .whether) ≡ values (q .whether)
 
--- What is left of a judgement without place and input.
+-- What is left of a judgement without its place.
 pub record Gist : Type 0 where
   pub number : ℕ
+  pub input : ℕ
   pub count : ℕ
   pub state : List ℕ
 
 abbrev pub gist : Judgement → Gist
-gist j = record { number = j .answer .number; count = j .answer .count; state = j .state }
+gist j = record { number = j .answer .number; input = j .answer .input; count = j .answer .count; state = j .state }
 
 missed-values : (test : ℕ → Bool) (es : List Entry) → unplaced-found (first-missed test es) ≡ found-if (fails (each-of test (values es)))
 unfolding first-missed each-of pick fails both
@@ -257,7 +256,7 @@ module _ (lim : Limits) (lent : List ℕ) (budget : ℕ) where
       (refuse-gist _ _ _ (mixed-same (r .table) (q .table) (same .tables)) _ _
       (refuse-gist _ _ _ (unplaced-18 (r .plan) ∙ ap overlap-in (same .plan) ∙ sym (unplaced-18 (q .plan))) _ _ (walks-alike r q e f same))))
 
--- Lines said twice, or elsewhere among their like, change no answer's number, count or state.
+-- Lines said twice, or elsewhere among their like, change no answer's number, input, count or state (FORMAT 2.36).
 pub lines-are-a-set : (lim : Limits) (b c : List ℕ) (r q : Request) (e f : ℕ)
     → read-request lim b ≡ got r e → read-request lim c ≡ got q f → Same-but-lines r q
     → (lent : List ℕ) (budget : ℕ) → gist (judge lim b lent budget) ≡ gist (judge lim c lent budget)

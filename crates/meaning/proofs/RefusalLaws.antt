@@ -1,6 +1,6 @@
 -- Refusals 16, 17 and 18: what passing 16 says of every two effects, and what each of the three says with its place left out.
 -- Assumes nothing.
-use Prim.Native.Nat.{ℕ, _+_, _-_, _/_, _%_, _*_}
+use Prim.Native.Nat.{ℕ, _+_, _-_, _%_}
 use native.Mathlib.Omega.{arith}
 use mathlib.Core.Path.{_≡_, refl, sym, _∙_, ap, subst}
 use mathlib.Core.Bool.{Bool, true, false}
@@ -8,11 +8,11 @@ use mathlib.Core.List.{List, [], _∷_}
 use mathlib.Core.Logic.{_⊎_, inl, inr, ⊎-elim}
 use lib.Dec.{eqb}
 use borrow.Author.Tests.{eqb-true, eqb-false, eq-eqb, ne-eqb}
-use Rattle.meaning.specs.Tests.{both, either, fails, pick, some-of, each-of}
+use Rattle.meaning.specs.Tests.{either, fails, pick, some-of}
 use Rattle.meaning.specs.Literals.{positive, complement, among, exclusive}
 use Rattle.meaning.specs.Requests.{Effect, Knowledge, Sequence, done, item, Item, act, branching, Branches, none, branch}
-use Rattle.meaning.specs.Refusals.{Found, nowhere, at, or-else, contradictory, contradiction-in, mixed-in, conditions-of, all-exclusive, overlap-in, overlap-at, overlap-below}
-use Rattle.meaning.proofs.TestLaws.{by-test, clash, same-test, both-left, both-right, both-true, fails-true, fails-false, pick-cases, pick-map, pick-true, pick-false, Has, some-has, has-some}
+use Rattle.meaning.specs.Refusals.{Found, nowhere, at, or-else, contradictory, contradiction-in, mixed-in, conditions-of, overlap-in, overlap-at, overlap-below}
+use Rattle.meaning.proofs.TestLaws.{by-test, clash, same-test, both-left, both-right, both-true, pick-cases, pick-map, pick-true, pick-false, Has, some-has, has-some}
 use Rattle.meaning.proofs.WalkLaws.{unplaced, unplaced-item, unplaced-branches}
 
 -- COMPLEMENTS.

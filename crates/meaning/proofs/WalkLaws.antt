@@ -1,9 +1,8 @@
 -- Laws of the walk over any step: it asks of a step only the plan's own actions; and places only
 -- show in the place of its end. Assumes nothing.
 use Prim.Native.Nat.{ℕ}
-use mathlib.Core.Path.{_≡_, refl, sym, _∙_, ap, fun-ext}
-use mathlib.Core.Bool.{Bool}
-use Rattle.meaning.specs.Tests.{pick, each-of}
+use mathlib.Core.Path.{_≡_, refl, _∙_, ap, fun-ext}
+use Rattle.meaning.specs.Tests.{each-of}
 use Rattle.meaning.specs.Requests.{Sequence, done, item, Item, act, branching, Branches, none, branch}
 use Rattle.meaning.specs.States.{Outcome, single, fork}
 use Rattle.meaning.specs.Walk.{End, fine, missed, stuck, Walked, stuck-at, counted, keep-miss, after-miss, after-end, and-then, each-reading, Steps, run-action, walk, walk-item, walk-branch}

@@ -1,6 +1,5 @@
--- The judging call: its answer and the lent bytes afterwards, for every input.
+-- The walk call: its answer and the lent bytes afterwards, for every input (FORMAT sections 4, 5 and 8).
 use Prim.Native.Nat.{ℕ}
-use mathlib.Core.Bool.{Bool}
 use mathlib.Core.List.{List}
 use lib.ListN.{length}
 use lib.Dec.{ltb, eqb}
@@ -18,23 +17,25 @@ pub record Judgement : Type 0 where
   pub answer : Answer
   pub state : List ℕ
 
--- The answer of a walk that ended so, within its budget.
+-- The answer of a walk that ended so, within its budget (FORMAT 4.42, 4.45 to 4.49, 8.16).
 unfoldable pub ended : (lent : List ℕ) → (count : ℕ) → End State → Judgement
 ended lent c fine = record { answer = record { number = Limits.verified; input = Limits.neither-input; place = 0; count = c }; state = lent }
 ended lent c (missed p s) = record { answer = record { number = Limits.goal-missed; input = Limits.the-request; place = p; count = c }; state = s }
 ended lent c (stuck p s) = record { answer = record { number = Limits.not-executable; input = Limits.the-request; place = p; count = c }; state = s }
 
--- Budget spent exactly when the walk's count is above it.
+-- Budget spent exactly when the walk's count is above it (FORMAT 4.43, 8.14).
 unfoldable pub within : (lent : List ℕ) → (budget : ℕ) → Walked State → Judgement
 within lent budget w =
     pick (ltb budget (w .count))
     (λ _. record { answer = record { number = Limits.budget-spent; input = Limits.neither-input; place = 0; count = budget }; state = lent })
     (λ _. ended lent (w .count) (w .end))
 
+-- A refusal names the request and counts 0 (FORMAT 4.27, 4.44); else the plan is walked from the first state (FORMAT 8.1).
 unfoldable pub judge-settled : Limits → (lent : List ℕ) → (budget : ℕ) → Got Request → Judgement
 judge-settled lim lent budget (got r e) = within lent budget (walked r (first-state lim (r .table)))
 judge-settled lim lent budget (fault n p) = record { answer = record { number = n; input = Limits.the-request; place = p; count = 0 }; state = lent }
 
+-- The lent state's length goes first (FORMAT 5.1).
 unfoldable pub judge : Limits → (request lent : List ℕ) → (budget : ℕ) → Judgement
 judge lim request lent budget =
     pick (eqb (length lent) (lim .state))

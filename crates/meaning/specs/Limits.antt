@@ -1,7 +1,7 @@
--- Every limit, refusal number, mark and input is named here and nowhere else.
+-- Every limit, answer, input and mark, named once (FORMAT sections 3 and 4).
 use Prim.Native.Nat.{ℕ}
 
--- What a request may hold. The definitions take the limits as a parameter.
+-- What the inputs may hold. The definitions take the limits as a parameter.
 pub record Limits : Type 0 where
   pub fluents : ℕ
   pub actions : ℕ
@@ -13,7 +13,7 @@ pub record Limits : Type 0 where
   pub request : ℕ
   pub state : ℕ
 
--- The limits of the format.
+-- The limits of the format (FORMAT 3.2 to 3.12).
 abbrev pub format : Limits
 format = record {
   fluents = 64;
@@ -27,11 +27,11 @@ format = record {
   state = 64;
 }
 
--- The byte that opens a branching.
+-- The byte that opens a branching (FORMAT 2.24).
 abbrev pub branching-byte : ℕ
 branching-byte = 255
 
--- Answers.
+-- Answers (FORMAT 4.3 to 4.19).
 abbrev pub verified : ℕ
 verified = 0
 
@@ -83,14 +83,14 @@ bytes-after = 20
 abbrev pub too-many-items : ℕ
 too-many-items = 21
 
--- The input that a place is in.
+-- The input that a place is in (FORMAT 4.26).
 abbrev pub neither-input : ℕ
 neither-input = 0
 
 abbrev pub the-request : ℕ
 the-request = 1
 
--- Marks of a partial state.
+-- Marks of a partial state (FORMAT 4.47, 7.1).
 abbrev pub unknown-mark : ℕ
 unknown-mark = 0
 

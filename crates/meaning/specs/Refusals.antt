@@ -1,13 +1,13 @@
--- What is refused after reading: contradictory effects, actions that change and sense, conditions that are not exclusive.
+-- What is refused after reading: 16, 17 and 18, each a pass over the whole request (FORMAT 5.16).
 use Prim.Native.Nat.{ℕ}
-use mathlib.Core.Bool.{Bool, true, false}
+use mathlib.Core.Bool.{Bool, true}
 use mathlib.Core.List.{List, [], _∷_}
 use lib.Dec.{eqb}
 use Rattle.meaning.specs.Tests.{both, fails, pick, some-of, each-of}
 use Rattle.meaning.specs.Limits
 use Rattle.meaning.specs.Limits.{Limits}
 use Rattle.meaning.specs.Literals.{complement, exclusive}
-use Rattle.meaning.specs.Requests.{Effect, Knowledge, Table, Sequence, done, item, Item, act, branching, Branches, none, branch, Request}
+use Rattle.meaning.specs.Requests.{Effect, Knowledge, Sequence, done, item, Item, act, branching, Branches, none, branch, Request}
 use Rattle.meaning.specs.Reading.{Got, got, fault, next, read-request}
 
 -- The place of the first thing sought, or none.
@@ -19,19 +19,19 @@ unfoldable pub or-else : Found → (Unit {0} → Found) → Found
 or-else nowhere k = k tt
 or-else (at p) k = at p
 
--- Two effects of one action whose literals are complements, and whose bodies do not exclude each other.
+-- Two effects of one action whose literals are complements, and whose bodies do not exclude each other (FORMAT 7.31).
 unfoldable pub contradictory : Effect → Effect → Bool
 contradictory e g =
     both (eqb (e .action) (g .action))
     (both (eqb (g .literal) (complement (e .literal))) (fails (exclusive (e .body) (g .body))))
 
--- The first effect that contradicts one before it.
+-- The first effect that contradicts one before it (FORMAT 4.37).
 unfoldable pub contradiction-in : (before : List Effect) → List Effect → Found
 contradiction-in before [] = nowhere
 contradiction-in before (e ∷ es) =
     pick (some-of (contradictory e) before) (λ _. at (e .place)) (λ _. contradiction-in (e ∷ before) es)
 
--- The first knowledge line whose action has an effect too.
+-- The first knowledge line whose action has an effect too (FORMAT 4.39).
 unfoldable pub mixed-in : List Effect → List Knowledge → Found
 mixed-in effects [] = nowhere
 mixed-in effects (k ∷ ks) =
@@ -41,12 +41,12 @@ unfoldable pub conditions-of : Branches ℕ → List (List ℕ)
 conditions-of none = []
 conditions-of (branch c b bs) = c ∷ conditions-of bs
 
--- Every two of the conditions are exclusive.
+-- Every two of the conditions are exclusive (FORMAT 5.18).
 unfoldable pub all-exclusive : List (List ℕ) → Bool
 all-exclusive [] = true
 all-exclusive (c ∷ cs) = both (each-of (exclusive c) cs) (all-exclusive cs)
 
--- The first branching with two conditions that are not exclusive; an outer one stands before those inside it.
+-- The first branching with two conditions that are not exclusive; an outer one stands before those inside it (FORMAT 4.40, 5.19).
 unfoldable mutual
   pub overlap-in : Sequence ℕ → Found
   overlap-in done = nowhere
@@ -66,7 +66,7 @@ module _ {A : Type 0} where
   refuse number nowhere k = k tt
   refuse number (at p) k = fault number p
 
--- A request settled: read without a fault, and past the three.
+-- A request settled: read without a fault, and past the three (FORMAT 5.1).
 unfoldable pub settled : Limits → List ℕ → Got Request
 settled lim s =
     next (read-request lim s) λ r e.

@@ -2,7 +2,7 @@
 use Prim.Native.Nat.{ℕ}
 use mathlib.Core.List.{List}
 
--- Fluents, literals and actions are numbers; a body is a list of literals.
+-- Fluents, literals and actions are numbers; a body is a list of literals. The lines of sections 3 to 5 (FORMAT 2.14 to 2.16).
 pub record Effect : Type 0 where
   pub place : ℕ
   pub action : ℕ
@@ -19,7 +19,7 @@ pub record Knowledge : Type 0 where
   pub action : ℕ
   pub fluent : ℕ
 
--- Sections 1 to 5.
+-- Sections 1 to 5 (FORMAT 2.12 to 2.16).
 pub record Table : Type 0 where
   pub fluents : ℕ
   pub actions : ℕ
@@ -28,7 +28,7 @@ pub record Table : Type 0 where
   pub executability : List Executability
   pub knowledge : List Knowledge
 
--- A plan is a sequence of items. A condition is a list of literals, of whatever type these are.
+-- A plan is a sequence of items (FORMAT 2.21 to 2.26). A condition is a list of literals, of whatever type these are.
 mutual
   pub data Sequence (L : Type 0) : Type 0 where
     done : Sequence L
@@ -42,11 +42,12 @@ mutual
     none : Branches L
     branch : (condition : List L) → Sequence L → Branches L → Branches L
 
--- An entry of the goals or of the whether list.
+-- An entry of the goals or of the whether list (FORMAT 2.18, 2.19).
 pub record Entry : Type 0 where
   pub place : ℕ
   pub value : ℕ
 
+-- All eight sections (FORMAT 2.11). The whether list keeps the place of its count too.
 pub record Request : Type 0 where
   pub table : Table
   pub plan : Sequence ℕ

@@ -1,6 +1,6 @@
--- Partial states, when an action can be run in one, and what comes after it.
-use Prim.Native.Nat.{ℕ, zero, suc, _+_}
-use mathlib.Core.Bool.{Bool, true, false}
+-- Partial states, when an action can be run in one, and what comes after it (FORMAT section 7).
+use Prim.Native.Nat.{ℕ, _+_}
+use mathlib.Core.Bool.{Bool, true}
 use mathlib.Core.List.{List, [], _∷_}
 use lib.ListN.{getD, set, replicate}
 use lib.Dec.{eqb}
@@ -10,18 +10,18 @@ use Rattle.meaning.specs.Limits.{Limits}
 use Rattle.meaning.specs.Literals.{says-true, says-false, fluent-of, positive, complement}
 use Rattle.meaning.specs.Requests.{Effect, Executability, Knowledge, Table}
 
--- A mark for each fluent.
+-- A mark for each fluent (FORMAT 7.1).
 abbrev pub State : Type 0
 State = List ℕ
 
 unfoldable pub mark-of : ℕ → ℕ
 mark-of l = pick (positive l) (λ _. Limits.true-mark) (λ _. Limits.false-mark)
 
--- The literal is known true.
+-- The literal is known true (FORMAT 7.2).
 unfoldable pub known : State → ℕ → Bool
 known s l = eqb (getD s (fluent-of l) Limits.unknown-mark) (mark-of l)
 
--- The literal is not known false.
+-- The literal is not known false (FORMAT 7.3, 7.4).
 unfoldable pub possible : State → ℕ → Bool
 possible s l = fails (known s (complement l))
 
@@ -37,7 +37,7 @@ unfoldable pub told-all : List ℕ → State → State
 told-all [] s = s
 told-all (l ∷ ls) s = told-all ls (told l s)
 
--- The first state holds the initial facts and nothing else.
+-- The first state holds the initial facts and nothing else (FORMAT 7.7).
 unfoldable pub first-state : Limits → Table → State
 first-state lim t = told-all (t .facts) (replicate (lim .state) Limits.unknown-mark)
 
@@ -59,13 +59,16 @@ allowed test = some-of (λ (x : Executability). each-of test (x .body))
 unfoldable pub given : (ℕ → Bool) → List Effect → ℕ → Bool
 given test es l = some-of (λ (e : Effect). both (eqb (e .literal) l) (each-of test (e .body))) es
 
+-- FORMAT 7.8, 7.9.
 unfoldable pub can-be-run : Table → ℕ → State → Bool
 can-be-run t a s = allowed (known s) (executability-of t a)
 
--- The literal is known true afterwards: it was, or is given by a body known true, and no possible body gives its complement.
+-- The literal is known true afterwards: it was, or is given by a body known true (e), and no possible body gives its complement (F)
+-- (FORMAT 7.17 to 7.21).
 unfoldable pub known-after : List Effect → State → ℕ → Bool
 known-after es s l = both (either (known s l) (given (known s) es l)) (fails (given (possible s) es (complement l)))
 
+-- FORMAT 7.20 to 7.22.
 unfoldable pub mark-after : List Effect → State → ℕ → ℕ
 mark-after es s f =
     pick (known-after es s (says-true f)) (λ _. Limits.true-mark) λ _.
@@ -80,14 +83,14 @@ marks-after es s f (m ∷ ms) = mark-after es s f ∷ marks-after es s (f + 1) m
 unfoldable pub state-after : Table → ℕ → State → State
 state-after t a s = marks-after (effects-of t a) s 0 s
 
--- A sensing action has a knowledge line.
+-- A sensing action has a knowledge line (FORMAT 7.10).
 unfoldable pub sensing : Table → ℕ → Bool
 sensing t a = some-of (λ (k : Knowledge). true) (knowledge-of t a)
 
 unfoldable pub senses : List Knowledge → ℕ → Bool
 senses ks f = some-of (λ (k : Knowledge). eqb (k .fluent) f) ks
 
--- The sensed fluents that are unknown, ascending, from fluent f up, as many as the last list has entries.
+-- The sensed fluents that are unknown, ascending (FORMAT 7.12, 7.13), from fluent f up, as many as the last list has entries.
 unfoldable pub unknown-from : List Knowledge → State → (f : ℕ) → List ℕ → List ℕ
 unknown-from ks s f [] = []
 unknown-from ks s f (m ∷ ms) =
@@ -103,7 +106,7 @@ pub data Outcome (S : Type 0) : Type 0 where
   single : S → Outcome S
   fork : Outcome S → (Unit {0} → Outcome S) → Outcome S
 
--- Each of the fluents is read, true before false; the second reading starts where the first did.
+-- Each of the fluents is read, true before false; the second reading starts where the first did (FORMAT 7.12, 7.15, 8.3).
 unfoldable pub readings : List ℕ → State → Outcome State
 readings [] s = single s
 readings (f ∷ fs) s = fork (readings fs (told (says-true f) s)) (λ _. readings fs (told (says-false f) s))

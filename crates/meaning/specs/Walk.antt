@@ -1,5 +1,5 @@
--- The walk of a plan over states: how often it counted, and how it ended. No budget here.
-use Prim.Native.Nat.{ℕ, suc, _+_}
+-- The walk of a plan over states: what it counted and how it ended (FORMAT section 8). There is no budget here.
+use Prim.Native.Nat.{ℕ, _+_}
 use mathlib.Core.Bool.{Bool}
 use mathlib.Core.List.{List, [], _∷_}
 use Rattle.meaning.specs.Tests.{pick, each-of}
@@ -7,7 +7,8 @@ use Rattle.meaning.specs.Requests.{Table, Sequence, done, item, Item, ac
 use Rattle.meaning.specs.Refusals.{Found, nowhere, at, or-else}
 use Rattle.meaning.specs.States.{State, known, known-whether, can-be-run, Outcome, single, fork, outcome}
 
--- How a walk ends: every end state has its goals; or the first goal missed, with the end state; or the item that can't be run, with its state.
+-- How a walk ends: nothing is missed; or the first entry missed, with the end state; or the item that can't be run, with its state
+-- (FORMAT 8.16).
 pub data End (S : Type 0) : Type 0 where
   fine : End S
   missed : (place : ℕ) → S → End S
@@ -18,13 +19,14 @@ pub record Walked (S : Type 0) : Type 0 where
   pub end : End S
 
 module _ {S : Type 0} where
+  -- An item that can't be run isn't counted (FORMAT 8.12).
   unfoldable pub stuck-at : ℕ → S → Walked S
   stuck-at p s = record { count = 0; end = stuck p s }
 
   unfoldable pub counted : ℕ → Walked S → Walked S
   counted c w = record { count = c + w .count; end = w .end }
 
-  -- The first miss is kept, unless a later path is stuck.
+  -- The first miss is kept, unless a later path is stuck (FORMAT 8.19, 8.20).
   unfoldable pub keep-miss : ℕ → S → End S → End S
   keep-miss p s fine = missed p s
   keep-miss p s (missed q t) = missed p s
@@ -38,11 +40,11 @@ module _ {S : Type 0} where
   after-end (missed p s) c more = counted c (after-miss p s (more tt))
   after-end (stuck p s) c more = record { count = c; end = stuck p s }
 
-  -- One walk after another: what is stuck ends both.
+  -- One walk after another: the walk goes on after a miss, and not after what is stuck (FORMAT 8.8, 8.12).
   unfoldable pub and-then : Walked S → (Unit {0} → Walked S) → Walked S
   and-then w more = after-end (w .end) (w .count) more
 
-  -- What follows an action, walked for each reading in order.
+  -- What follows an action, walked for each reading in order (FORMAT 8.2).
   unfoldable pub each-reading : Outcome S → (S → Walked S) → Walked S
   each-reading (single s) k = k s
   each-reading (fork o p) k = and-then (each-reading o k) (λ _. each-reading (p tt) k)
@@ -54,11 +56,11 @@ pub record Steps (S L : Type 0) : Type 0 where
   pub knows : S → L → Bool
 
 module _ {S L : Type 0} (step : Steps S L) where
-  -- An action and what follows it.
+  -- An action and what follows it (FORMAT 8.9, 8.10).
   unfoldable pub run-action : (place action : ℕ) → (S → Walked S) → S → Walked S
   run-action p a k s = pick (step .runs a s) (λ _. counted 1 (each-reading (step .leads-to a s) k)) (λ _. stuck-at p s)
 
-  -- `k` walks what follows.
+  -- k walks what follows.
   unfoldable mutual
     pub walk : Sequence L → (S → Walked S) → S → Walked S
     walk done k s = k s
@@ -68,7 +70,7 @@ module _ {S L : Type 0} (step : Steps S L) where
     walk-item (act p a) k s = run-action p a k s
     walk-item (branching p bs) k s = walk-branch bs p k s
 
-    -- The branch whose condition is known true.
+    -- The branch whose condition is known true, and then what follows the branching (FORMAT 7.25, 7.26, 8.4, 8.11).
     pub walk-branch : Branches L → ℕ → (S → Walked S) → S → Walked S
     walk-branch none p k s = stuck-at p s
     walk-branch (branch c b bs) p k s = pick (each-of (step .knows s) c) (λ _. walk b k s) (λ _. walk-branch bs p k s)
@@ -77,12 +79,12 @@ module _ {S L : Type 0} (step : Steps S L) where
 unfoldable pub table-step : Table → Steps State ℕ
 table-step t = record { runs = can-be-run t; leads-to = outcome t; knows = known }
 
--- The first entry that fails the test.
+-- The first entry that fails the test (FORMAT 4.36).
 unfoldable pub first-missed : (ℕ → Bool) → List Entry → Found
 first-missed test [] = nowhere
 first-missed test (e ∷ es) = pick (test (e .value)) (λ _. first-missed test es) (λ _. at (e .place))
 
--- An end state is judged: goals in order, then whether entries in order.
+-- An end state is judged: goals in order, then whether entries in order (FORMAT 4.36, 8.6, 8.7).
 unfoldable pub missed-in : Request → State → Found
 missed-in r s = or-else (first-missed (known s) (r .goals)) (λ _. first-missed (known-whether s) (r .whether))
 
@@ -90,6 +92,7 @@ unfoldable pub end-of : Found → State → End State
 end-of nowhere s = fine
 end-of (at p) s = missed p s
 
+-- FORMAT 8.5, 8.9.
 unfoldable pub judged : Request → State → Walked State
 judged r s = record { count = 1; end = end-of (missed-in r s) s }
 
