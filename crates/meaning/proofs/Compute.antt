@@ -3,7 +3,8 @@ use Rattle.meaning.specs.Tests.{both, either, fails, pick, some-of, each
 use Rattle.meaning.specs.Literals.{says-true, says-false, fluent-of, positive, complement, among, exclusive}
 use Rattle.meaning.specs.Reading.{next, byte-at, two-bytes-at, count-at, below-at, bound-of, have-complements, entry-at, entries-at, list-at, repeated, section-at, body-at, effect-at, executability-at, knowledge-at, item-at, items-at, sequence-at, branches-at, branching-at, plan-at, table-at, placed, request-at, read-request}
 use Rattle.meaning.specs.Refusals.{or-else, contradictory, contradiction-in, mixed-in, conditions-of, all-exclusive, overlap-in, refuse, settled}
-use Rattle.meaning.specs.States.{mark-of, known, possible, known-whether, told, told-all, first-state, effects-of, executability-of, knowledge-of, allowed, given, can-be-run, known-after, mark-after, marks-after, state-after, sensing, senses, unknown-from, unknown-sensed, readings, outcome}
+use Rattle.meaning.specs.Lines.{effects-of, executability-of, knowledge-of, allowed, given, sensing, senses}
+use Rattle.meaning.specs.States.{mark-of, known, possible, known-whether, told, told-all, first-state, can-be-run, known-after, mark-after, marks-after, state-after, unknown-from, unknown-sensed, readings, outcome}
 use Rattle.meaning.specs.Walk.{stuck-at, counted, keep-miss, after-miss, after-end, and-then, each-reading, run-action, walk, table-step, first-missed, missed-in, end-of, judged, walked}
 use Rattle.meaning.specs.Judging.{ended, within, judge-settled, judge}
 

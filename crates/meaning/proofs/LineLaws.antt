@@ -13,7 +13,8 @@ use Rattle.meaning.specs.Limits.{Limits}
 use Rattle.meaning.specs.Requests.{Effect, Executability, Knowledge, Table, Sequence, Entry, Request}
 use Rattle.meaning.specs.Reading.{Got, got, next, read-request}
 use Rattle.meaning.specs.Refusals.{Found, nowhere, at, contradictory, contradiction-in, mixed-in, overlap-in, refuse, settled}
-use Rattle.meaning.specs.States.{State, known, known-whether, told-all, first-state, effects-of, executability-of, knowledge-of, allowed, given, can-be-run, known-after, mark-after, marks-after, state-after, sensing, senses, unknown-from, unknown-sensed, outcome}
+use Rattle.meaning.specs.Lines.{effects-of, executability-of, knowledge-of, allowed, given, sensing, senses}
+use Rattle.meaning.specs.States.{State, known, known-whether, told-all, first-state, can-be-run, known-after, mark-after, marks-after, state-after, unknown-from, unknown-sensed, outcome}
 use Rattle.meaning.specs.Walk.{End, fine, missed, stuck, Walked, walk, table-step, first-missed, missed-in, end-of, judged, walked}
 use Rattle.meaning.specs.Judging.{Judgement, ended, within, judge-settled, judge}
 use Rattle.meaning.proofs.TestLaws.{clash, same-test, pick-map, Has, some-has, has-some, some-those}

@@ -4,6 +4,7 @@ pub mod Literals
 pub mod Requests
 pub mod Reading
 pub mod Refusals
+pub mod Lines
 pub mod States
 pub mod Walk
 pub mod Judging

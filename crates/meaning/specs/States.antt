@@ -1,14 +1,15 @@
 -- Partial states, when an action can be run in one, and what comes after it (FORMAT section 7).
 use Prim.Native.Nat.{ℕ, _+_}
-use mathlib.Core.Bool.{Bool, true}
+use mathlib.Core.Bool.{Bool}
 use mathlib.Core.List.{List, [], _∷_}
 use lib.ListN.{getD, set, replicate}
 use lib.Dec.{eqb}
-use Rattle.meaning.specs.Tests.{both, either, fails, pick, some-of, each-of, those-of}
+use Rattle.meaning.specs.Tests.{both, either, fails, pick}
 use Rattle.meaning.specs.Limits
 use Rattle.meaning.specs.Limits.{Limits}
 use Rattle.meaning.specs.Literals.{says-true, says-false, fluent-of, positive, complement}
-use Rattle.meaning.specs.Requests.{Effect, Executability, Knowledge, Table}
+use Rattle.meaning.specs.Requests.{Effect, Knowledge, Table}
+use Rattle.meaning.specs.Lines.{effects-of, executability-of, knowledge-of, allowed, given, sensing, senses}
 
 -- A mark for each fluent (FORMAT 7.1).
 abbrev pub State : Type 0
@@ -41,24 +42,6 @@ told-all (l ∷ ls) s = told-all ls (told l s)
 unfoldable pub first-state : Limits → Table → State
 first-state lim t = told-all (t .facts) (replicate (lim .state) Limits.unknown-mark)
 
--- The lines of an action.
-unfoldable pub effects-of : Table → ℕ → List Effect
-effects-of t a = those-of (λ (e : Effect). eqb (e .action) a) (t .effects)
-
-unfoldable pub executability-of : Table → ℕ → List Executability
-executability-of t a = those-of (λ (x : Executability). eqb (x .action) a) (t .executability)
-
-unfoldable pub knowledge-of : Table → ℕ → List Knowledge
-knowledge-of t a = those-of (λ (k : Knowledge). eqb (k .action) a) (t .knowledge)
-
--- Some executability line has a body each of whose literals passes the test.
-unfoldable pub allowed : (ℕ → Bool) → List Executability → Bool
-allowed test = some-of (λ (x : Executability). each-of test (x .body))
-
--- Some effect gives the literal by a body each of whose literals passes the test.
-unfoldable pub given : (ℕ → Bool) → List Effect → ℕ → Bool
-given test es l = some-of (λ (e : Effect). both (eqb (e .literal) l) (each-of test (e .body))) es
-
 -- FORMAT 7.8, 7.9.
 unfoldable pub can-be-run : Table → ℕ → State → Bool
 can-be-run t a s = allowed (known s) (executability-of t a)
@@ -82,13 +65,6 @@ marks-after es s f (m ∷ ms) = mark-after es s f ∷ marks-after es s (f + 1) m
 
 unfoldable pub state-after : Table → ℕ → State → State
 state-after t a s = marks-after (effects-of t a) s 0 s
-
--- A sensing action has a knowledge line (FORMAT 7.10).
-unfoldable pub sensing : Table → ℕ → Bool
-sensing t a = some-of (λ (k : Knowledge). true) (knowledge-of t a)
-
-unfoldable pub senses : List Knowledge → ℕ → Bool
-senses ks f = some-of (λ (k : Knowledge). eqb (k .fluent) f) ks
 
 -- The sensed fluents that are unknown, ascending (FORMAT 7.12, 7.13), from fluent f up, as many as the last list has entries.
 unfoldable pub unknown-from : List Knowledge → State → (f : ℕ) → List ℕ → List ℕ
