@@ -1,0 +1,224 @@
+//! Random calls: inputs, right or damaged, with all that a call takes.
+
+use crate::answer::Fault;
+use crate::damage::{add_whether, change_allowances, damage_derivation, damage_request, Damaged};
+use crate::encode::{encode_derivation, encode_request};
+use crate::generate::{any_request, forgetful, request, Shape, MIDDLE, SMALL, TINY};
+use crate::model::{Line, Request};
+use crate::prove::{free, many_readings, natural, pad};
+use crate::reader::{DERIVATION_LIMIT, LINE_LIMIT, REQUEST_LIMIT};
+use crate::rng::Rng;
+use crate::walk::{walk, Verdict};
+use crate::STATE_LENGTH;
+
+/// Counts above this aren't walked to their end.
+const COUNT_CAP: u32 = 20_000;
+
+/// What is certain about an answer before the call is made.
+#[derive(Clone, Copy, Debug, PartialEq, Eq)]
+pub enum Outlook {
+    /// Nothing.
+    Open,
+    /// The request can be read and settled, so the walk is reached.
+    Walked,
+    /// A derivation that is to be accepted.
+    Accepted,
+    /// A certain fault of the input named.
+    Refused(u8, Fault),
+}
+
+/// A judging call.
+#[derive(Clone, Debug)]
+pub struct JudgeCall {
+    pub request: Vec<u8>,
+    pub lent: Vec<u8>,
+    pub budget: u32,
+    pub outlook: Outlook,
+}
+
+/// A derivation call.
+#[derive(Clone, Debug)]
+pub struct CheckCall {
+    pub request: Vec<u8>,
+    pub derivation: Vec<u8>,
+    pub outlook: Outlook,
+}
+
+/// A judging call of any kind; about three of ten requests are damaged.
+pub fn judge_call(rng: &mut Rng) -> JudgeCall {
+    let draft = within_limit(rng, any_request);
+    let mut call = match rng.chance(30) {
+        true => damaged_judge_call(rng, &draft),
+        false => sound_judge_call(rng, &draft),
+    };
+    if rng.chance(1) {
+        lend_wrongly(rng, &mut call);
+    }
+    call
+}
+
+/// A call with an undamaged request.
+pub fn sound_judge_call(rng: &mut Rng, draft: &Request) -> JudgeCall {
+    let bytes = encode_request(draft).bytes;
+    let budget = budget(rng, draft);
+    JudgeCall {
+        request: bytes,
+        lent: lent_state(rng),
+        budget,
+        outlook: Outlook::Walked,
+    }
+}
+
+/// A call with a damaged request.
+pub fn damaged_judge_call(rng: &mut Rng, draft: &Request) -> JudgeCall {
+    let damaged = damage_request(rng, draft);
+    let budget = *rng.pick(&[0, 3, 20, 1_000, COUNT_CAP]);
+    let outlook = outlook(1, &damaged);
+    JudgeCall {
+        request: damaged.bytes,
+        lent: lent_state(rng),
+        budget,
+        outlook,
+    }
+}
+
+/// Gives a call a lent state of a wrong length.
+pub fn lend_wrongly(rng: &mut Rng, call: &mut JudgeCall) {
+    let length = *rng.pick(&[0, 1, 63, 65, 128]);
+    call.lent = vec![rng.byte(0, 255); length];
+    call.outlook = Outlook::Refused(0, Fault::new(9, 0));
+}
+
+fn outlook(input: u8, damaged: &Damaged) -> Outlook {
+    damaged
+        .expected
+        .map_or(Outlook::Open, |fault| Outlook::Refused(input, fault))
+}
+
+/// Requests of any shape are seldom too long; those that are, are left out.
+fn within_limit(rng: &mut Rng, source: fn(&mut Rng) -> Request) -> Request {
+    loop {
+        let draft = source(rng);
+        if encode_request(&draft).bytes.len() <= REQUEST_LIMIT {
+            return draft;
+        }
+    }
+}
+
+/// A lent state full of anything.
+fn lent_state(rng: &mut Rng) -> Vec<u8> {
+    (0..STATE_LENGTH).map(|_| rng.byte(0, 255)).collect()
+}
+
+/// A budget below, at, just above or far above the walk's count.
+fn budget(rng: &mut Rng, draft: &Request) -> u32 {
+    let count = match walk(draft, COUNT_CAP) {
+        Verdict::Over => return *rng.pick(&[0, 7, 1_000, COUNT_CAP]),
+        Verdict::Verified { count } => count as u32,
+        Verdict::Missed { count, .. } | Verdict::Stuck { count, .. } => count as u32,
+    };
+    match rng.below(100) {
+        0..=11 => count.saturating_sub(1),
+        12..=21 => rng.below(count as usize + 1) as u32,
+        22..=39 => count,
+        40..=49 => count + 1,
+        50..=52 => 0,
+        53..=55 => u32::MAX,
+        _ => 100_000,
+    }
+}
+
+/// A derivation call of any kind; about half of the inputs are damaged.
+pub fn check_call(rng: &mut Rng) -> CheckCall {
+    let shape = *rng.pick(&[TINY, TINY, SMALL, SMALL, SMALL, MIDDLE]);
+    let (draft, mut lines) = match rng.below(200) {
+        0 => many_readings(rng.byte(1, 40)),
+        1 => wide_sensing(rng),
+        _ => derivable(rng, &shape),
+    };
+    if rng.below(300) == 0 {
+        pad(&mut lines, LINE_LIMIT);
+    }
+    any_check_call(rng, &draft, &lines)
+}
+
+/// A call with a request and its derivation, either of them damaged or not.
+pub fn any_check_call(rng: &mut Rng, draft: &Request, lines: &[Line]) -> CheckCall {
+    let request = encode_request(draft).bytes;
+    let derivation = encode_derivation(lines).bytes;
+    if derivation.len() > DERIVATION_LIMIT {
+        let outlook = Outlook::Refused(2, Fault::new(10, 0));
+        return CheckCall {
+            request,
+            derivation,
+            outlook,
+        };
+    }
+    match rng.below(100) {
+        0..=44 => CheckCall {
+            request,
+            derivation,
+            outlook: Outlook::Accepted,
+        },
+        45..=84 => {
+            let damaged = damage_derivation(rng, draft, lines);
+            let outlook = outlook(2, &damaged);
+            CheckCall {
+                request,
+                derivation: damaged.bytes,
+                outlook,
+            }
+        }
+        85..=91 => {
+            let damaged = damage_request(rng, draft);
+            let outlook = outlook(1, &damaged);
+            CheckCall {
+                request: damaged.bytes,
+                derivation,
+                outlook,
+            }
+        }
+        _ => {
+            let mut other = draft.clone();
+            match rng.chance(50) {
+                true => add_whether(rng, &mut other),
+                false => change_allowances(rng, &mut other),
+            }
+            let request = encode_request(&other).bytes;
+            CheckCall {
+                request,
+                derivation,
+                outlook: Outlook::Open,
+            }
+        }
+    }
+}
+
+/// A request that senses up to six fluents at once, and a derivation of it.
+fn wide_sensing(rng: &mut Rng) -> (Request, Vec<Line>) {
+    loop {
+        let draft = forgetful(rng, 6, 1);
+        if let Some(lines) = natural(&draft).filter(|_| draft.whether.is_empty()) {
+            return (draft, lines);
+        }
+    }
+}
+
+/// A request without a whether list and a derivation of it.
+pub fn derivable(rng: &mut Rng, shape: &Shape) -> (Request, Vec<Line>) {
+    let shape = Shape {
+        careless: 0,
+        whether: false,
+        ..*shape
+    };
+    loop {
+        let draft = request(rng, &shape);
+        let lines = match rng.chance(40) {
+            true => natural(&draft),
+            false => free(rng, &draft),
+        };
+        if let Some(lines) = lines {
+            return (draft, lines);
+        }
+    }
+}

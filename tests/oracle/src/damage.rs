@@ -1,0 +1,548 @@
+//! Damage to either input: to its bytes, or to its structure before it is written.
+//!
+//! Where the damage is done to an input that was right before and its outcome is certain, the
+//! expected fault comes along.
+
+use crate::answer::Fault;
+use crate::encode::{encode_derivation, encode_request, Encoded, Kind, Mark};
+use crate::forge::forge;
+use crate::generate::{body, long_plan, nest};
+use crate::model::{is_positive, Allowance, Branch, Effect, Item, Knowledge, Line, Request};
+use crate::reader::{
+    BRANCH_LIMIT, DERIVATION_LIMIT, ITEM_LIMIT, LINE_LIMIT, NESTING_LIMIT, REQUEST_LIMIT,
+};
+use crate::rng::Rng;
+
+/// Bytes after damage, and the fault that must be found, where that is certain.
+#[derive(Clone, Debug)]
+pub struct Damaged {
+    pub bytes: Vec<u8>,
+    pub expected: Option<Fault>,
+}
+
+impl Damaged {
+    fn unsure(bytes: Vec<u8>) -> Damaged {
+        Damaged {
+            bytes,
+            expected: None,
+        }
+    }
+
+    fn sure(bytes: Vec<u8>, number: u8, place: usize) -> Damaged {
+        Damaged {
+            bytes,
+            expected: Some(Fault::new(number, place)),
+        }
+    }
+}
+
+/// The numbers of fluents and actions, and the longest input: what byte damage has to know.
+#[derive(Clone, Copy)]
+struct Bounds {
+    fluents: u8,
+    actions: u8,
+    longest: usize,
+}
+
+/// Damages a request that was right before.
+pub fn damage_request(rng: &mut Rng, request: &Request) -> Damaged {
+    let bounds = Bounds {
+        fluents: request.fluents,
+        actions: request.actions,
+        longest: REQUEST_LIMIT,
+    };
+    match rng.below(100) {
+        0..=59 => damage_bytes(rng, &encode_request(request), bounds),
+        60..=66 => {
+            let twice = damage_bytes(rng, &encode_request(request), bounds).bytes;
+            Damaged::unsure(flip(rng, twice))
+        }
+        67 => too_many_items(rng, request),
+        68..=71 => too_deep(rng, request),
+        _ => Damaged::unsure(encode_request(&misshape_request(rng, request)).bytes),
+    }
+}
+
+/// Damages a derivation that was right before. Line numbers and rules go wrong most often.
+pub fn damage_derivation(rng: &mut Rng, request: &Request, lines: &[Line]) -> Damaged {
+    let bounds = Bounds {
+        fluents: request.fluents,
+        actions: request.actions,
+        longest: DERIVATION_LIMIT,
+    };
+    match rng.below(100) {
+        0..=27 => damage_bytes(rng, &encode_derivation(lines), bounds),
+        28..=30 => wrong_line_count(rng, lines),
+        31..=64 => {
+            let mut wrong = lines.to_vec();
+            match forge(rng, request, &mut wrong) {
+                Some((number, index)) => {
+                    let place = encode_derivation(&wrong[..index]).bytes.len();
+                    Damaged::sure(encode_derivation(&wrong).bytes, number, place)
+                }
+                None => damage_bytes(rng, &encode_derivation(lines), bounds),
+            }
+        }
+        _ => {
+            let mut wrong = lines.to_vec();
+            for _ in 0..*rng.pick(&[1, 1, 1, 2]) {
+                misshape_lines(rng, request, &mut wrong);
+            }
+            Damaged::unsure(encode_derivation(&wrong).bytes)
+        }
+    }
+}
+
+/// Damage to bytes whose marks are known.
+fn damage_bytes(rng: &mut Rng, whole: &Encoded, bounds: Bounds) -> Damaged {
+    let bytes = whole.bytes.clone();
+    let length = bytes.len();
+    match rng.below(14) {
+        0 | 1 => Damaged::unsure(flip(rng, bytes)),
+        2 => {
+            let kept = rng.below(length);
+            Damaged::sure(bytes[..kept].to_vec(), 11, kept)
+        }
+        3 => extended(rng, bytes, bounds),
+        4 | 5 => aimed(rng, whole, |mark| mark.kind == Kind::Count, wrong_count),
+        6 => aimed(
+            rng,
+            whole,
+            |mark| mark.kind == Kind::ItemCount,
+            wrong_item_count,
+        ),
+        7 => aimed(rng, whole, |mark| mark.follows, swapped),
+        8 => aimed(rng, whole, |mark| mark.follows, repeated),
+        9 | 10 => aimed(
+            rng,
+            whole,
+            |mark| mark.follows && mark.kind == Kind::Literal,
+            turned,
+        ),
+        11 | 12 => too_large(rng, whole, bounds),
+        _ => match rng.below(12) {
+            0 => too_long(rng, bytes, bounds),
+            _ => Damaged::unsure(flip(rng, bytes)),
+        },
+    }
+}
+
+/// One bit flipped.
+fn flip(rng: &mut Rng, mut bytes: Vec<u8>) -> Vec<u8> {
+    if !bytes.is_empty() {
+        let place = rng.below(bytes.len());
+        bytes[place] ^= 1 << rng.below(8);
+    }
+    bytes
+}
+
+fn extended(rng: &mut Rng, mut bytes: Vec<u8>, bounds: Bounds) -> Damaged {
+    let length = bytes.len();
+    bytes.extend((0..rng.range(1, 4)).map(|_| rng.byte(0, 255)));
+    if bytes.len() > bounds.longest {
+        return Damaged::sure(bytes, 10, 0);
+    }
+    Damaged::sure(bytes, 20, length)
+}
+
+fn too_long(rng: &mut Rng, mut bytes: Vec<u8>, bounds: Bounds) -> Damaged {
+    let length = bounds.longest + rng.range(1, 40);
+    bytes.resize(length, 0);
+    Damaged::sure(bytes, 10, 0)
+}
+
+/// Damage at a mark of some kind; a flipped bit where there is none.
+fn aimed(
+    rng: &mut Rng,
+    whole: &Encoded,
+    wanted: fn(&Mark) -> bool,
+    strike: fn(&mut Rng, Vec<u8>, usize) -> Damaged,
+) -> Damaged {
+    let targets: Vec<usize> = whole
+        .marks
+        .iter()
+        .filter(|mark| wanted(mark))
+        .map(|mark| mark.place)
+        .collect();
+    if targets.is_empty() {
+        return Damaged::unsure(flip(rng, whole.bytes.clone()));
+    }
+    let target = *rng.pick(&targets);
+    strike(rng, whole.bytes.clone(), target)
+}
+
+/// A count off by one, or far out.
+fn wrong_count(rng: &mut Rng, mut bytes: Vec<u8>, place: usize) -> Damaged {
+    bytes[place] = match rng.below(4) {
+        0 | 1 => bytes[place].wrapping_add(1),
+        2 => bytes[place].wrapping_sub(1),
+        _ => *rng.pick(&[0, 9, 17, 65, 128, 255]),
+    };
+    Damaged::unsure(bytes)
+}
+
+/// An item count off by one, or any other up to 65,535.
+fn wrong_item_count(rng: &mut Rng, mut bytes: Vec<u8>, place: usize) -> Damaged {
+    let count = u16::from_be_bytes([bytes[place], bytes[place + 1]]);
+    let wrong = match rng.below(4) {
+        0 => count.wrapping_add(1),
+        1 => count.wrapping_sub(1),
+        2 => u16::MAX,
+        _ => rng.bits() as u16,
+    };
+    bytes[place..place + 2].copy_from_slice(&wrong.to_be_bytes());
+    Damaged::unsure(bytes)
+}
+
+/// Two neighbouring entries swapped: the second isn't above the first any more.
+fn swapped(_: &mut Rng, mut bytes: Vec<u8>, place: usize) -> Damaged {
+    bytes.swap(place - 1, place);
+    Damaged::sure(bytes, 14, place)
+}
+
+fn repeated(_: &mut Rng, mut bytes: Vec<u8>, place: usize) -> Damaged {
+    bytes[place] = bytes[place - 1];
+    Damaged::sure(bytes, 14, place)
+}
+
+/// A literal followed by its complement: 15 after a true one, 14 after a false one.
+fn turned(_: &mut Rng, mut bytes: Vec<u8>, place: usize) -> Damaged {
+    let before = bytes[place - 1];
+    bytes[place] = before ^ 1;
+    let number = if is_positive(before) { 15 } else { 14 };
+    Damaged::sure(bytes, number, place)
+}
+
+/// A fluent, literal or action that is too large.
+fn too_large(rng: &mut Rng, whole: &Encoded, bounds: Bounds) -> Damaged {
+    let bound = |kind| match kind {
+        Kind::Action => Some(bounds.actions),
+        Kind::Literal => Some(2 * bounds.fluents),
+        Kind::Fluent => Some(bounds.fluents),
+        _ => None,
+    };
+    let targets: Vec<(usize, u8)> = whole
+        .marks
+        .iter()
+        .filter_map(|mark| bound(mark.kind).map(|bound| (mark.place, bound)))
+        .collect();
+    let mut bytes = whole.bytes.clone();
+    if targets.is_empty() {
+        return Damaged::unsure(flip(rng, bytes));
+    }
+    let (place, bound) = *rng.pick(&targets);
+    bytes[place] = if rng.chance(50) {
+        bound
+    } else {
+        rng.byte(bound, 254)
+    };
+    Damaged::sure(bytes, 13, place)
+}
+
+/// A ninth branching inside eight.
+fn too_deep(rng: &mut Rng, request: &Request) -> Damaged {
+    let mut request = request.clone();
+    let depth = NESTING_LIMIT + rng.range(1, 2);
+    let deep = nest(rng, &request, depth);
+    if rng.chance(50) {
+        request.plan.truncate(4);
+        request.plan.extend(deep);
+    } else {
+        request.plan = deep;
+    }
+    Damaged::unsure(encode_request(&request).bytes)
+}
+
+/// Item 1,025 and some more.
+fn too_many_items(rng: &mut Rng, request: &Request) -> Damaged {
+    let mut request = request.clone();
+    let more = rng.range(1, 5);
+    let long = long_plan(rng, ITEM_LIMIT + more);
+    request.actions = request.actions.max(long.actions);
+    request.plan = long.plan;
+    Damaged::unsure(encode_request(&request).bytes)
+}
+
+/// Structures that can be read but not settled, or that a list's order forbids.
+fn misshape_request(rng: &mut Rng, request: &Request) -> Request {
+    let mut wrong = request.clone();
+    match rng.below(5) {
+        0 => contradict(rng, &mut wrong),
+        1 => mix(rng, &mut wrong),
+        2 | 3 => {
+            if !make_overlap(rng, &mut wrong.plan, wrong.fluents) {
+                contradict(rng, &mut wrong);
+            }
+        }
+        _ => {
+            contradict(rng, &mut wrong);
+            mix(rng, &mut wrong);
+            make_overlap(rng, &mut wrong.plan, wrong.fluents);
+        }
+    }
+    wrong
+}
+
+/// Adds a contradictory effect anywhere.
+fn contradict(rng: &mut Rng, request: &mut Request) {
+    if request.effects.len() > 250 {
+        request.effects.truncate(250);
+    }
+    let mut effect = match request.effects.is_empty() {
+        true => Effect {
+            place: 0,
+            action: 0,
+            literal: rng.byte(0, 1),
+            body: Vec::new(),
+        },
+        false => rng.pick(&request.effects).clone(),
+    };
+    if request.effects.is_empty() {
+        request.effects.push(effect.clone());
+    }
+    effect.literal ^= 1;
+    match rng.below(4) {
+        0 => effect.body.clear(),
+        1 => effect.body = body(rng, request.fluents, 2),
+        _ => {}
+    }
+    let place = rng.below(request.effects.len() + 1);
+    request.effects.insert(place, effect);
+}
+
+/// Gives an action with effects a knowledge line, and an action that senses an effect.
+fn mix(rng: &mut Rng, request: &mut Request) {
+    let fluent = rng.byte(0, request.fluents - 1);
+    if request.effects.is_empty() {
+        let action = request.knowledge.first().map_or(0, |line| line.action);
+        let effect = Effect {
+            place: 0,
+            action,
+            literal: 2 * fluent,
+            body: Vec::new(),
+        };
+        request.effects.push(effect);
+    }
+    request.knowledge.truncate(254);
+    let action = rng.pick(&request.effects).action;
+    let place = rng.below(request.knowledge.len() + 1);
+    request.knowledge.insert(
+        place,
+        Knowledge {
+            place: 0,
+            action,
+            fluent,
+        },
+    );
+}
+
+/// Makes two conditions of some branching overlap; adds a branching where there is none.
+fn make_overlap(rng: &mut Rng, sequence: &mut Vec<Item>, fluents: u8) -> bool {
+    for item in sequence.iter_mut() {
+        let Item::Branching { branches, .. } = item else {
+            continue;
+        };
+        let deeper = rng.chance(50)
+            && branches.iter_mut().any(|branch| {
+                nests(&branch.sequence) && make_overlap(rng, &mut branch.sequence, fluents)
+            });
+        if deeper {
+            return true;
+        }
+        if branches.len() < BRANCH_LIMIT {
+            let condition = match rng.chance(50) {
+                true => rng.pick(branches).condition.clone(),
+                false => body(rng, fluents, 1),
+            };
+            branches.push(Branch {
+                condition,
+                sequence: Vec::new(),
+            });
+        } else {
+            branches[0].condition.clear();
+        }
+        return true;
+    }
+    if sequence.len() >= 100 {
+        return false;
+    }
+    let empty = |length| Branch {
+        condition: body(rng, fluents, length),
+        sequence: Vec::new(),
+    };
+    sequence.push(Item::case([1, 1, 2].map(empty).to_vec()));
+    true
+}
+
+fn nests(sequence: &[Item]) -> bool {
+    sequence
+        .iter()
+        .any(|item| matches!(item, Item::Branching { .. }))
+}
+
+/// No line, or line 1,025.
+fn wrong_line_count(rng: &mut Rng, lines: &[Line]) -> Damaged {
+    let mut bytes = encode_derivation(lines).bytes;
+    let most = LINE_LIMIT as u16;
+    let wrong = match rng.below(6) {
+        0 => 0,
+        1 => most + 1,
+        2 => u16::MAX,
+        3 => rng.bits() as u16,
+        4 => lines.len() as u16 + 1,
+        _ => lines.len() as u16 - 1,
+    };
+    bytes[..2].copy_from_slice(&wrong.to_be_bytes());
+    match wrong == 0 || wrong > most {
+        true => Damaged::sure(bytes, 12, 0),
+        false => Damaged::unsure(bytes),
+    }
+}
+
+/// Lines that can be read, or nearly, but don't follow.
+fn misshape_lines(rng: &mut Rng, request: &Request, lines: &mut Vec<Line>) {
+    let index = rng.below(lines.len());
+    let fluents = request.fluents;
+    match rng.below(16) {
+        0 => lines[index].rule = *rng.pick(&[0, 7, 8, 255]),
+        1 => lines[index].rule = rng.byte(1, 6),
+        2 | 3 => wrong_citations(rng, &mut lines[index]),
+        4 | 5 => wrong_citation(rng, lines, index),
+        6 | 7 => turn_citations(rng, lines),
+        8 => drop_entry(rng, &mut lines[index].before),
+        9 => drop_entry(rng, &mut lines[index].after),
+        10 => lines[index].before = body(rng, fluents, 2),
+        11 => lines[index].after = body(rng, fluents, 2),
+        12 => wrong_sequence(rng, request, &mut lines[index].sequence),
+        13 if lines.len() > 1 => {
+            lines.pop();
+        }
+        14 => lines.push(lines[index].clone()),
+        _ => wrong_end(rng, request, lines),
+    }
+}
+
+/// Another number of citations.
+fn wrong_citations(rng: &mut Rng, line: &mut Line) {
+    match rng.below(3) {
+        0 => {
+            line.cites.pop();
+        }
+        1 if line.cites.len() < 64 => line.cites.push(line.cites.first().copied().unwrap_or(0)),
+        _ => {
+            let cited = line.cites.first().copied().unwrap_or(0);
+            line.cites = vec![cited; *rng.pick(&[0, 1, 2, 3, 4, 5, 6, 8, 63, 64])];
+        }
+    }
+}
+
+/// A citation of the line itself, a later line, one that doesn't exist, or another earlier one.
+fn wrong_citation(rng: &mut Rng, lines: &mut [Line], index: usize) {
+    let length = lines.len();
+    let cited = match rng.below(4) {
+        0 => index,
+        1 => rng.range(index, length - 1),
+        2 => length + rng.below(60_000),
+        _ => rng.below(index + 1),
+    };
+    let cites = &mut lines[index].cites;
+    if !cites.is_empty() {
+        let place = rng.below(cites.len());
+        cites[place] = cited as u16;
+    }
+}
+
+/// Rule 3 or 5 with its citations in another order, or with one of them for another.
+fn turn_citations(rng: &mut Rng, lines: &mut [Line]) {
+    let several = |line: &&mut Line| line.cites.len() > 1;
+    let mut citing: Vec<&mut Line> = lines.iter_mut().filter(several).collect();
+    if citing.is_empty() {
+        return;
+    }
+    let chosen = rng.below(citing.len());
+    let cites = &mut citing[chosen].cites;
+    if rng.chance(70) {
+        let place = rng.range(1, cites.len() - 1);
+        cites.swap(place - 1, place);
+    } else {
+        let place = rng.below(cites.len());
+        cites[place] = cites[0];
+    }
+}
+
+fn drop_entry(rng: &mut Rng, list: &mut Vec<u8>) {
+    if !list.is_empty() {
+        list.remove(rng.below(list.len()));
+    }
+}
+
+/// Another sequence: an item more, less or other, overlapping conditions, too deep, too long.
+fn wrong_sequence(rng: &mut Rng, request: &Request, sequence: &mut Vec<Item>) {
+    let action = rng.byte(0, request.actions - 1);
+    match rng.below(8) {
+        0 | 1 => {
+            make_overlap(rng, sequence, request.fluents);
+        }
+        2 => *sequence = nest(rng, request, NESTING_LIMIT + 1),
+        3 if rng.chance(20) => *sequence = vec![Item::act(action); ITEM_LIMIT + 1],
+        4 => {
+            sequence.pop();
+        }
+        5 => sequence.insert(0, Item::act(action)),
+        _ => sequence.push(Item::act(action)),
+    }
+}
+
+/// A last line that follows but isn't the question.
+fn wrong_end(rng: &mut Rng, request: &Request, lines: &mut Vec<Line>) {
+    let Some(last) = lines.last().cloned() else {
+        return;
+    };
+    if lines.len() == LINE_LIMIT {
+        return;
+    }
+    let mut other = Line {
+        rule: 6,
+        cites: vec![lines.len() as u16 - 1],
+        ..last
+    };
+    match rng.below(3) {
+        0 => drop_entry(rng, &mut other.after),
+        1 => {
+            let list = body(rng, request.fluents, 2);
+            other = Line {
+                before: list.clone(),
+                after: list,
+                sequence: Vec::new(),
+                ..other
+            };
+            other.rule = 1;
+            other.cites.clear();
+        }
+        _ => {
+            let free = |f: &u8| !other.before.iter().any(|literal| literal / 2 == *f);
+            let unknown: Vec<u8> = (0..request.fluents).filter(free).collect();
+            if !unknown.is_empty() {
+                other.before.push(2 * rng.pick(&unknown));
+                other.before.sort_unstable();
+            }
+        }
+    }
+    lines.push(other);
+}
+
+/// Gives a request a whether list that isn't empty.
+pub fn add_whether(rng: &mut Rng, request: &mut Request) {
+    request.whether = vec![rng.byte(0, request.fluents - 1)];
+}
+
+/// Takes all executability lines of an action away, or adds one with any body.
+pub fn change_allowances(rng: &mut Rng, request: &mut Request) {
+    let action = rng.byte(0, request.actions - 1);
+    if rng.chance(60) {
+        request.allowances.retain(|line| line.action != action);
+    } else if request.allowances.len() < 255 {
+        let body = body(rng, request.fluents, 2);
+        request.allowances.push(Allowance { action, body });
+    }
+}

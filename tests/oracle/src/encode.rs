@@ -1,0 +1,133 @@
+//! Writing requests and derivations as bytes, with a mark on each byte that damage may aim at.
+
+use crate::model::{Item, Line, Request};
+use crate::reader::BRANCHING;
+
+/// What a byte, or the first byte of two, stands for.
+#[derive(Clone, Copy, Debug, PartialEq, Eq)]
+pub enum Kind {
+    Count,
+    ItemCount,
+    LineCount,
+    Action,
+    Literal,
+    Fluent,
+    Branching,
+    Rule,
+    Citation,
+}
+
+/// A byte's place and kind, and whether it is an entry of a list with another one before it.
+#[derive(Clone, Copy, Debug)]
+pub struct Mark {
+    pub place: usize,
+    pub kind: Kind,
+    pub follows: bool,
+}
+
+/// Bytes and their marks.
+#[derive(Clone, Debug, Default)]
+pub struct Encoded {
+    pub bytes: Vec<u8>,
+    pub marks: Vec<Mark>,
+}
+
+/// Writes a request section by section. Nothing is looked at: what the structure holds, right
+/// or wrong, is written.
+pub fn encode_request(request: &Request) -> Encoded {
+    let mut out = Encoded::default();
+    out.byte(Kind::Count, request.fluents);
+    out.byte(Kind::Count, request.actions);
+    out.list(Kind::Literal, &request.facts);
+    out.count(request.effects.len());
+    for line in &request.effects {
+        out.byte(Kind::Action, line.action);
+        out.byte(Kind::Literal, line.literal);
+        out.list(Kind::Literal, &line.body);
+    }
+    out.count(request.allowances.len());
+    for line in &request.allowances {
+        out.byte(Kind::Action, line.action);
+        out.list(Kind::Literal, &line.body);
+    }
+    out.count(request.knowledge.len());
+    for line in &request.knowledge {
+        out.byte(Kind::Action, line.action);
+        out.byte(Kind::Fluent, line.fluent);
+    }
+    out.sequence(&request.plan);
+    out.list(Kind::Literal, &request.goals);
+    out.list(Kind::Fluent, &request.whether);
+    out
+}
+
+/// Writes a derivation.
+pub fn encode_derivation(lines: &[Line]) -> Encoded {
+    let mut out = Encoded::default();
+    out.wide(Kind::LineCount, lines.len());
+    for line in lines {
+        out.list(Kind::Literal, &line.before);
+        out.sequence(&line.sequence);
+        out.list(Kind::Literal, &line.after);
+        out.byte(Kind::Rule, line.rule);
+        out.count(line.cites.len());
+        for &cite in &line.cites {
+            out.wide(Kind::Citation, usize::from(cite));
+        }
+    }
+    out
+}
+
+impl Encoded {
+    fn entry(&mut self, kind: Kind, byte: u8, follows: bool) {
+        self.marks.push(Mark {
+            place: self.bytes.len(),
+            kind,
+            follows,
+        });
+        self.bytes.push(byte);
+    }
+
+    fn byte(&mut self, kind: Kind, byte: u8) {
+        self.entry(kind, byte, false);
+    }
+
+    fn count(&mut self, count: usize) {
+        self.byte(
+            Kind::Count,
+            u8::try_from(count).expect("a count of one byte"),
+        );
+    }
+
+    fn wide(&mut self, kind: Kind, number: usize) {
+        let [high, low] = u16::try_from(number)
+            .expect("a number of two bytes")
+            .to_be_bytes();
+        self.byte(kind, high);
+        self.bytes.push(low);
+    }
+
+    fn list(&mut self, kind: Kind, entries: &[u8]) {
+        self.count(entries.len());
+        for (index, &byte) in entries.iter().enumerate() {
+            self.entry(kind, byte, index > 0);
+        }
+    }
+
+    fn sequence(&mut self, items: &[Item]) {
+        self.wide(Kind::ItemCount, items.len());
+        for item in items {
+            match item {
+                Item::Action { action, .. } => self.byte(Kind::Action, *action),
+                Item::Branching { branches, .. } => {
+                    self.byte(Kind::Branching, BRANCHING);
+                    self.count(branches.len());
+                    for branch in branches {
+                        self.list(Kind::Literal, &branch.condition);
+                        self.sequence(&branch.sequence);
+                    }
+                }
+            }
+        }
+    }
+}

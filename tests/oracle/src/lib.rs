@@ -1,0 +1,125 @@
+//! An independent reference program for Glintstring's verifier of conditional plans.
+//!
+//! It is written from the format alone (docs/FORMAT.md) and shares no code with the library
+//! that it is compared with. See README.md for what it checks.
+
+pub mod answer;
+pub mod calls;
+pub mod damage;
+pub mod derive;
+pub mod encode;
+pub mod examples;
+pub mod forge;
+pub mod generate;
+pub mod model;
+pub mod paths;
+pub mod prove;
+pub mod reader;
+pub mod rng;
+pub mod rows;
+pub mod run;
+pub mod settle;
+pub mod table;
+pub mod text;
+pub mod walk;
+pub mod worlds;
+
+pub use answer::Answer;
+
+use answer::{Fault, DERIVATION, NEITHER, REQUEST};
+use model::Request;
+use table::Known;
+use walk::Verdict;
+
+/// The length of a lent state.
+pub const STATE_LENGTH: usize = 64;
+
+/// The judging call: 9, then the request's reading and settling, then the walk.
+///
+/// Answers 1 and 2 write the partial state concerned; otherwise the lent state stays as it is.
+pub fn judge(request: &[u8], lent: &mut [u8], budget: u32) -> Answer {
+    if lent.len() != STATE_LENGTH {
+        return Answer::neither(9, 0);
+    }
+    match open(request) {
+        Err(fault) => Answer::refusal(REQUEST, fault),
+        Ok(request) => tell(walk::walk(&request, budget), lent, budget),
+    }
+}
+
+/// The derivation call: the request first, then 30, then the derivation.
+pub fn check(request: &[u8], derivation: &[u8]) -> Answer {
+    let request = match open(request) {
+        Err(fault) => return Answer::refusal(REQUEST, fault),
+        Ok(request) => request,
+    };
+    if !request.whether.is_empty() {
+        return Answer::refusal(REQUEST, Fault::new(30, request.whether_place));
+    }
+    let checked = reader::read_derivation(derivation, &request)
+        .and_then(|lines| derive::check_lines(&request, &lines));
+    match checked {
+        Err(fault) => Answer::refusal(DERIVATION, fault),
+        Ok(()) => Answer::neither(0, 0),
+    }
+}
+
+/// The showing call: which input is shown, and from where on to its end.
+///
+/// An answer that names neither input shows an empty part at the request's start, which is
+/// returned as `(0, 0)`. A place beyond the end shows an empty part at that input's end.
+pub fn show(answer: Answer, request: &[u8], derivation: &[u8]) -> (u8, usize) {
+    let place = usize::try_from(answer.place).unwrap_or(usize::MAX);
+    match answer.input {
+        REQUEST => (REQUEST, place.min(request.len())),
+        DERIVATION => (DERIVATION, place.min(derivation.len())),
+        _ => (NEITHER, 0),
+    }
+}
+
+/// The bytes that the showing call shows.
+pub fn shown<'a>(answer: Answer, request: &'a [u8], derivation: &'a [u8]) -> &'a [u8] {
+    match show(answer, request, derivation) {
+        (REQUEST, start) => &request[start..],
+        (DERIVATION, start) => &derivation[start..],
+        _ => &request[..0],
+    }
+}
+
+/// Reads and settles a request: 10 to 21.
+pub fn open(request: &[u8]) -> Result<Request, Fault> {
+    let request = reader::read_request(request)?;
+    settle::settle(&request)?;
+    Ok(request)
+}
+
+/// Turns the end of a walk into the answer and writes the lent state for 1 and 2.
+fn tell(verdict: Verdict, lent: &mut [u8], budget: u32) -> Answer {
+    match verdict {
+        Verdict::Verified { count } => Answer::neither(0, answer::narrow_count(count)),
+        Verdict::Missed {
+            place,
+            count,
+            state,
+        } => {
+            write(state, lent);
+            Answer::of_walk(1, place, count)
+        }
+        Verdict::Stuck {
+            place,
+            count,
+            state,
+        } => {
+            write(state, lent);
+            Answer::of_walk(2, place, count)
+        }
+        Verdict::Over => Answer::neither(3, budget),
+    }
+}
+
+/// Byte f is 0 unknown, 1 true, 2 false, and 0 from the number of fluents up.
+fn write(state: Known, lent: &mut [u8]) {
+    for (fluent, byte) in lent.iter_mut().enumerate() {
+        *byte = state.mark(fluent);
+    }
+}

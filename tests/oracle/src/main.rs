@@ -1,0 +1,216 @@
+//! The command line of the reference program.
+
+use std::io::{self, Read, Write};
+use std::path::{Path, PathBuf};
+use std::process::ExitCode;
+use std::{env, fs};
+
+use oracle::examples::{self, DEFAULT_BUDGET};
+use oracle::text::{parse_bytes, state_line};
+use oracle::{check, judge, rows, run, Answer, STATE_LENGTH};
+
+const HELP: &str = "\
+oracle: an independent reference program for Glintstring's verifier of conditional plans
+
+usage:
+  oracle judge FILE [--budget N] [--text]
+      Judges a request and prints number, input, place and count; for answers 1 and 2 a second
+      line has one of ?+- for each fluent. The budget is 100,000 unless told otherwise.
+  oracle check REQUEST DERIVATION [--text]
+      Checks a derivation and prints number, input, place and count.
+  oracle run [--seed S] [--requests N] [--derivations M]
+      Makes random calls (seed 1, 100,000 requests and 20,000 derivations unless told
+      otherwise), checks every answer, and prints how often each occurred. The last line is
+      `oracle: ok`, or `oracle: FAILED` and why, with exit status 1.
+  oracle rows [--seed S] [--count N] [--derivations M]
+      Prints N judging calls and M derivation calls with their answers, one per line:
+        J REQUEST LENT BUDGET NUMBER INPUT PLACE COUNT STATE
+        D REQUEST DERIVATION NUMBER INPUT PLACE COUNT
+      Bytes are decimal with commas between; `-` is no byte; the three words REP BYTE N are N
+      times one byte. LENT is the length of the lent state; STATE is its 64 bytes after answers
+      1 and 2, and `-` where it stays as lent. (Seed 1, 300 and 0 unless told otherwise.)
+  oracle examples [FOLDER]
+      Runs the example files and prints a tally.
+  oracle --help
+
+A FILE of - is standard input. With --text, files hold decimal bytes with blanks, `,` or `|`
+between them and `#` comments.
+";
+
+fn main() -> ExitCode {
+    let words: Vec<String> = env::args().skip(1).collect();
+    match command(&words) {
+        Ok(status) => status,
+        Err(error) => {
+            eprintln!("oracle: {error}");
+            ExitCode::from(2)
+        }
+    }
+}
+
+fn command(words: &[String]) -> Result<ExitCode, String> {
+    let Some((name, rest)) = words.split_first() else {
+        print!("{HELP}");
+        return Ok(ExitCode::from(2));
+    };
+    match name.as_str() {
+        "judge" => judge_file(&Options::parse(rest, &["--budget"], 1, 1)?),
+        "check" => check_files(&Options::parse(rest, &[], 2, 2)?),
+        "run" => run_calls(&Options::parse(
+            rest,
+            &["--seed", "--requests", "--derivations"],
+            0,
+            0,
+        )?),
+        "rows" => print_rows(&Options::parse(
+            rest,
+            &["--seed", "--count", "--derivations"],
+            0,
+            0,
+        )?),
+        "examples" => run_examples(&Options::parse(rest, &[], 0, 1)?),
+        "--help" | "-h" | "help" => {
+            print!("{HELP}");
+            Ok(ExitCode::SUCCESS)
+        }
+        other => Err(format!("no such command: {other} (see --help)")),
+    }
+}
+
+/// The words after a command: files, and options with numbers.
+struct Options {
+    files: Vec<String>,
+    numbers: Vec<(String, u64)>,
+    text: bool,
+}
+
+impl Options {
+    fn parse(
+        words: &[String],
+        known: &[&str],
+        least: usize,
+        most: usize,
+    ) -> Result<Options, String> {
+        let mut options = Options {
+            files: Vec::new(),
+            numbers: Vec::new(),
+            text: false,
+        };
+        let mut words = words.iter();
+        while let Some(word) = words.next() {
+            if word == "--text" {
+                options.text = true;
+            } else if known.contains(&word.as_str()) {
+                let value = words.next().ok_or(format!("{word} needs a number"))?;
+                let value = value
+                    .parse()
+                    .map_err(|_| format!("not a number: {value}"))?;
+                options.numbers.push((word.clone(), value));
+            } else if word.starts_with("--") {
+                return Err(format!("no such option here: {word}"));
+            } else {
+                options.files.push(word.clone());
+            }
+        }
+        match (least..=most).contains(&options.files.len()) {
+            true => Ok(options),
+            false => Err("a wrong number of files (see --help)".to_string()),
+        }
+    }
+
+    fn number(&self, name: &str, otherwise: u64) -> u64 {
+        let given = self.numbers.iter().rev().find(|(word, _)| word == name);
+        given.map_or(otherwise, |(_, value)| *value)
+    }
+
+    fn bytes(&self, index: usize) -> Result<Vec<u8>, String> {
+        let name = &self.files[index];
+        let bytes = match name.as_str() {
+            "-" => {
+                let mut bytes = Vec::new();
+                io::stdin().read_to_end(&mut bytes).map(|_| bytes)
+            }
+            _ => fs::read(name),
+        };
+        let bytes = bytes.map_err(|error| format!("{name}: {error}"))?;
+        match self.text {
+            true => parse_bytes(&String::from_utf8_lossy(&bytes)),
+            false => Ok(bytes),
+        }
+    }
+}
+
+fn judge_file(options: &Options) -> Result<ExitCode, String> {
+    let request = options.bytes(0)?;
+    let budget = u32::try_from(options.number("--budget", u64::from(DEFAULT_BUDGET)))
+        .map_err(|_| "the budget is above 32 bits".to_string())?;
+    let mut lent = [0; STATE_LENGTH];
+    let answer: Answer = judge(&request, &mut lent, budget);
+    println!("{answer}");
+    if matches!(answer.number, 1 | 2) {
+        println!("{}", state_line(&lent, request[0]));
+    }
+    Ok(ExitCode::SUCCESS)
+}
+
+fn check_files(options: &Options) -> Result<ExitCode, String> {
+    println!("{}", check(&options.bytes(0)?, &options.bytes(1)?));
+    Ok(ExitCode::SUCCESS)
+}
+
+fn run_calls(options: &Options) -> Result<ExitCode, String> {
+    let seed = options.number("--seed", 1);
+    let requests = options.number("--requests", 100_000);
+    let derivations = options.number("--derivations", 20_000);
+    println!("seed: {seed}");
+    let tally = run::run(seed, requests, derivations);
+    print!("{}", tally.report());
+    Ok(conclude(tally.verdict()))
+}
+
+/// Prints the last line and gives the exit status.
+fn conclude(verdict: Result<(), String>) -> ExitCode {
+    match verdict {
+        Ok(()) => {
+            println!("oracle: ok");
+            ExitCode::SUCCESS
+        }
+        Err(reason) => {
+            println!("oracle: FAILED {reason}");
+            ExitCode::FAILURE
+        }
+    }
+}
+
+fn print_rows(options: &Options) -> Result<ExitCode, String> {
+    let seed = options.number("--seed", 1);
+    let judging = options.number("--count", 300);
+    let checking = options.number("--derivations", 0);
+    let mut out = io::BufWriter::new(io::stdout().lock());
+    for row in rows::rows(seed, judging, checking) {
+        writeln!(out, "{row}").map_err(|error| error.to_string())?;
+    }
+    out.flush().map_err(|error| error.to_string())?;
+    Ok(ExitCode::SUCCESS)
+}
+
+fn run_examples(options: &Options) -> Result<ExitCode, String> {
+    let folder = match options.files.first() {
+        Some(folder) => PathBuf::from(folder),
+        None => Path::new(env!("CARGO_MANIFEST_DIR")).join("examples"),
+    };
+    let mut failed = 0;
+    for example in examples::read_folder(&folder)? {
+        for query in &example.queries {
+            if let Err(difference) = query.run() {
+                failed += 1;
+                println!("{}: {}: {difference}", example.name, query.title);
+            }
+        }
+        println!("{}: {} queries", example.name, example.queries.len());
+    }
+    Ok(conclude(match failed {
+        0 => Ok(()),
+        _ => Err(format!("{failed} queries")),
+    }))
+}

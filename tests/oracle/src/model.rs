@@ -1,0 +1,140 @@
+//! Requests and derivations after reading, with the places answers may need.
+//!
+//! The generators build the same structures by hand; there the places are 0 and mean nothing.
+
+/// Literal byte 2f says that fluent f is true, 2f + 1 that it is false.
+pub fn is_positive(literal: u8) -> bool {
+    literal & 1 == 0
+}
+
+/// Whether two bodies are exclusive: one holds a complement of a literal of the other.
+pub fn exclusive(one: &[u8], other: &[u8]) -> bool {
+    one.iter().any(|literal| other.contains(&(literal ^ 1)))
+}
+
+/// An effect line of section 3.
+#[derive(Clone, Debug)]
+pub struct Effect {
+    pub place: usize,
+    pub action: u8,
+    pub literal: u8,
+    pub body: Vec<u8>,
+}
+
+/// An executability line of section 4.
+#[derive(Clone, Debug)]
+pub struct Allowance {
+    pub action: u8,
+    pub body: Vec<u8>,
+}
+
+/// A knowledge line of section 5.
+#[derive(Clone, Debug)]
+pub struct Knowledge {
+    pub place: usize,
+    pub action: u8,
+    pub fluent: u8,
+}
+
+/// An item of a sequence.
+#[derive(Clone, Debug)]
+pub enum Item {
+    Action { place: usize, action: u8 },
+    Branching { place: usize, branches: Vec<Branch> },
+}
+
+/// A branch: its condition and the sequence that it guards.
+#[derive(Clone, Debug, PartialEq)]
+pub struct Branch {
+    pub condition: Vec<u8>,
+    pub sequence: Vec<Item>,
+}
+
+/// Two items are equal when their bytes are; where they stand doesn't matter.
+impl PartialEq for Item {
+    fn eq(&self, other: &Item) -> bool {
+        match (self, other) {
+            (Item::Action { action: one, .. }, Item::Action { action: two, .. }) => one == two,
+            (Item::Branching { branches: one, .. }, Item::Branching { branches: two, .. }) => {
+                one == two
+            }
+            _ => false,
+        }
+    }
+}
+
+impl Item {
+    /// An action item that stands nowhere yet.
+    pub fn act(action: u8) -> Item {
+        Item::Action { place: 0, action }
+    }
+
+    /// A branching that stands nowhere yet.
+    pub fn case(branches: Vec<Branch>) -> Item {
+        Item::Branching { place: 0, branches }
+    }
+}
+
+/// The number of items of a sequence, nested ones counted.
+pub fn item_count(sequence: &[Item]) -> usize {
+    sequence.iter().map(items_of).sum()
+}
+
+fn items_of(item: &Item) -> usize {
+    match item {
+        Item::Action { .. } => 1,
+        Item::Branching { branches, .. } => {
+            1 + branches
+                .iter()
+                .map(|branch| item_count(&branch.sequence))
+                .sum::<usize>()
+        }
+    }
+}
+
+/// How many branchings of a sequence stand one inside another at most.
+pub fn nesting(sequence: &[Item]) -> usize {
+    sequence
+        .iter()
+        .map(|item| match item {
+            Item::Action { .. } => 0,
+            Item::Branching { branches, .. } => {
+                1 + branches
+                    .iter()
+                    .map(|branch| nesting(&branch.sequence))
+                    .max()
+                    .unwrap_or(0)
+            }
+        })
+        .max()
+        .unwrap_or(0)
+}
+
+/// A request, section by section.
+#[derive(Clone, Debug, Default)]
+pub struct Request {
+    pub fluents: u8,
+    pub actions: u8,
+    pub facts: Vec<u8>,
+    pub effects: Vec<Effect>,
+    pub allowances: Vec<Allowance>,
+    pub knowledge: Vec<Knowledge>,
+    pub plan: Vec<Item>,
+    /// Where the goals' count stands; goal `i` stands `i + 1` bytes later.
+    pub goals_place: usize,
+    pub goals: Vec<u8>,
+    /// Where the whether list's count stands.
+    pub whether_place: usize,
+    pub whether: Vec<u8>,
+}
+
+/// A line of a derivation: the list X, the sequence c, the list Y, its rule and citations.
+#[derive(Clone, Debug)]
+pub struct Line {
+    pub place: usize,
+    pub before: Vec<u8>,
+    pub sequence: Vec<Item>,
+    pub after: Vec<u8>,
+    pub rule: u8,
+    pub cites: Vec<u16>,
+}

@@ -1,0 +1,323 @@
+//! A second walk of another shape, as an inner check of the first.
+//!
+//! A list of paths is carried through the plan item by item, each path with the events on it
+//! and its state as a line of marks. An item turns each path into its successors, in their
+//! order, so that the list stays in the order of a depth-first walk. Answer, place, count and
+//! state are then read off the finished list.
+
+use crate::answer::narrow_count;
+use crate::model::{is_positive, Branch, Item, Request};
+use crate::Answer;
+
+const UNKNOWN: u8 = b'?';
+const TRUE: u8 = b'+';
+const FALSE: u8 = b'-';
+
+/// One mark for each fluent.
+type Marks = Vec<u8>;
+
+/// Most events that are noted before the second walk gives up.
+const EVENTS: usize = 1_000_000;
+
+/// The last event of a path: an action run or a reading, and the event before it. Paths share
+/// the events of their common start.
+#[derive(Clone, Copy, Debug)]
+struct Event {
+    ran: bool,
+    before: usize,
+    depth: usize,
+}
+
+#[derive(Clone, Debug)]
+struct Path {
+    event: usize,
+    marks: Marks,
+    /// The item that can't be run, if one has been met.
+    stuck: Option<usize>,
+}
+
+/// The answer of the judging call for a settled request with the marks of answers 1 and 2, or
+/// nothing where it can't be told from the first `most` paths.
+///
+/// Every path but one that is stuck counts at least one, so no more paths than the budget and
+/// one are ever needed.
+pub fn answer(request: &Request, budget: u32, most: usize) -> Option<(Answer, Option<Marks>)> {
+    let most = most.min(usize::try_from(budget).unwrap_or(most).saturating_add(1));
+    let root = Event {
+        ran: false,
+        before: 0,
+        depth: 0,
+    };
+    let mut list = List {
+        request,
+        most,
+        events: vec![root],
+        cut: false,
+    };
+    let paths = list.through(&request.plan, vec![first_path(request)]);
+    if list.events.len() > EVENTS {
+        return None;
+    }
+    let end = paths.iter().position(|path| path.stuck.is_some());
+    let walked = match end {
+        Some(index) => &paths[..=index],
+        None => &paths[..],
+    };
+    let count = list.count(walked);
+    if count > u64::from(budget) {
+        return Some((Answer::neither(3, budget), None));
+    }
+    if end.is_none() && list.cut {
+        return None;
+    }
+    Some(conclude(request, walked, count))
+}
+
+/// The first state holds the initial facts and nothing else.
+fn first_path(request: &Request) -> Path {
+    let mut marks = vec![UNKNOWN; usize::from(request.fluents)];
+    for &fact in &request.facts {
+        marks[usize::from(fact / 2)] = wanted(fact);
+    }
+    Path {
+        event: 0,
+        marks,
+        stuck: None,
+    }
+}
+
+/// Answers 0, 1 and 2 from the paths walked.
+fn conclude(request: &Request, walked: &[Path], count: u64) -> (Answer, Option<Marks>) {
+    if let Some(Path {
+        stuck: Some(place),
+        marks,
+        ..
+    }) = walked.last()
+    {
+        return (Answer::of_walk(2, *place, count), Some(marks.clone()));
+    }
+    let missed = walked.iter().find_map(|path| {
+        misses(request, &path.marks)
+            .first()
+            .map(|&place| (place, path))
+    });
+    match missed {
+        Some((place, path)) => (Answer::of_walk(1, place, count), Some(path.marks.clone())),
+        None => (Answer::neither(0, narrow_count(count)), None),
+    }
+}
+
+/// The places of all entries missed in an end state.
+fn misses(request: &Request, marks: &Marks) -> Vec<usize> {
+    let goals = (request.goals_place + 1..).zip(&request.goals);
+    let whether = (request.whether_place + 1..).zip(&request.whether);
+    goals
+        .filter(|(_, &goal)| !is_known(marks, goal))
+        .map(|(place, _)| place)
+        .chain(
+            whether
+                .filter(|(_, &fluent)| marks[usize::from(fluent)] == UNKNOWN)
+                .map(|(place, _)| place),
+        )
+        .collect()
+}
+
+struct List<'a> {
+    request: &'a Request,
+    most: usize,
+    events: Vec<Event>,
+    /// Whether paths were left out.
+    cut: bool,
+}
+
+impl List<'_> {
+    /// One for each action run and one for each end state judged: on each path the actions
+    /// that it doesn't share with the path before it, and its end.
+    fn count(&self, walked: &[Path]) -> u64 {
+        let mut count = 0;
+        let mut before = 0;
+        for path in walked {
+            count += self.own_runs(path.event, before);
+            count += u64::from(path.stuck.is_none());
+            before = path.event;
+        }
+        count
+    }
+
+    /// The actions run up to one event and not up to another.
+    fn own_runs(&self, mut event: usize, mut other: usize) -> u64 {
+        let mut runs = 0;
+        while event != other {
+            if self.events[event].depth >= self.events[other].depth {
+                runs += u64::from(self.events[event].ran);
+                event = self.events[event].before;
+            } else {
+                other = self.events[other].before;
+            }
+        }
+        runs
+    }
+
+    /// Notes an event after another one.
+    fn note(&mut self, ran: bool, before: usize) -> usize {
+        let depth = self.events[before].depth + 1;
+        self.events.push(Event { ran, before, depth });
+        self.events.len() - 1
+    }
+
+    /// Carries the paths through a sequence. Since each path has a successor, the first `most`
+    /// paths of the end come from the first `most` of each step, and no others are kept.
+    fn through(&mut self, sequence: &[Item], paths: Vec<Path>) -> Vec<Path> {
+        sequence.iter().fold(paths, |paths, item| {
+            let mut after = Vec::with_capacity(paths.len());
+            for path in paths {
+                if after.len() > self.most || self.events.len() > EVENTS {
+                    break;
+                }
+                after.extend(self.successors(item, path));
+            }
+            if after.len() > self.most {
+                after.truncate(self.most);
+                self.cut = true;
+            }
+            after
+        })
+    }
+
+    fn successors(&mut self, item: &Item, path: Path) -> Vec<Path> {
+        if path.stuck.is_some() {
+            return vec![path];
+        }
+        match item {
+            Item::Action { place, action } => self.run(*place, *action, path),
+            Item::Branching { place, branches } => self.choose(*place, branches, path),
+        }
+    }
+
+    fn run(&mut self, place: usize, action: u8, mut path: Path) -> Vec<Path> {
+        if !self.can_run(action, &path.marks) {
+            return stop(place, path);
+        }
+        path.event = self.note(true, path.event);
+        let sensed = self.sensed(action);
+        if sensed.is_empty() {
+            path.marks = self.after(action, &path.marks);
+            return vec![path];
+        }
+        self.sense(&sensed, path)
+    }
+
+    fn can_run(&self, action: u8, marks: &Marks) -> bool {
+        let mut lines = self
+            .request
+            .allowances
+            .iter()
+            .filter(|line| line.action == action);
+        lines.any(|line| line.body.iter().all(|&literal| is_known(marks, literal)))
+    }
+
+    /// The fluents of an action's knowledge lines, ascending, each once.
+    fn sensed(&self, action: u8) -> Vec<u8> {
+        let lines = self
+            .request
+            .knowledge
+            .iter()
+            .filter(|line| line.action == action);
+        let mut fluents: Vec<u8> = lines.map(|line| line.fluent).collect();
+        fluents.sort_unstable();
+        fluents.dedup();
+        fluents
+    }
+
+    /// Forks each unknown fluent, true before false; known ones stay.
+    fn sense(&mut self, fluents: &[u8], path: Path) -> Vec<Path> {
+        let mut paths = vec![path];
+        for &fluent in fluents {
+            let known = paths[0].marks[usize::from(fluent)] != UNKNOWN;
+            if known {
+                continue;
+            }
+            paths = paths
+                .iter()
+                .flat_map(|path| [(path, TRUE), (path, FALSE)])
+                .take(self.most.saturating_add(1))
+                .map(|(path, mark)| self.see(path, fluent, mark))
+                .collect();
+        }
+        paths
+    }
+
+    fn see(&mut self, path: &Path, fluent: u8, mark: u8) -> Path {
+        let mut seen = path.clone();
+        seen.event = self.note(false, path.event);
+        seen.marks[usize::from(fluent)] = mark;
+        seen
+    }
+
+    /// The marks after an action without knowledge lines, fluent by fluent.
+    fn after(&self, action: u8, marks: &Marks) -> Marks {
+        let lines: Vec<_> = self
+            .request
+            .effects
+            .iter()
+            .filter(|line| line.action == action)
+            .collect();
+        let made = |literal: u8, test: fn(&Marks, u8) -> bool| {
+            lines.iter().any(|line| {
+                line.literal == literal && line.body.iter().all(|&entry| test(marks, entry))
+            })
+        };
+        (0..self.request.fluents)
+            .map(|fluent| {
+                let mark = marks[usize::from(fluent)];
+                let (positive, negative) = (2 * fluent, 2 * fluent + 1);
+                if (mark == TRUE || made(positive, is_known)) && !made(negative, is_possible) {
+                    TRUE
+                } else if (mark == FALSE || made(negative, is_known))
+                    && !made(positive, is_possible)
+                {
+                    FALSE
+                } else {
+                    UNKNOWN
+                }
+            })
+            .collect()
+    }
+
+    /// Follows the branch whose condition is known true, and stops the path where none is.
+    fn choose(&mut self, place: usize, branches: &[Branch], path: Path) -> Vec<Path> {
+        let chosen = branches.iter().find(|branch| {
+            branch
+                .condition
+                .iter()
+                .all(|&entry| is_known(&path.marks, entry))
+        });
+        match chosen {
+            Some(branch) => self.through(&branch.sequence, vec![path]),
+            None => stop(place, path),
+        }
+    }
+}
+
+fn stop(place: usize, mut path: Path) -> Vec<Path> {
+    path.stuck = Some(place);
+    vec![path]
+}
+
+/// The mark that makes a literal true.
+fn wanted(literal: u8) -> u8 {
+    if is_positive(literal) {
+        TRUE
+    } else {
+        FALSE
+    }
+}
+
+fn is_known(marks: &Marks, literal: u8) -> bool {
+    marks[usize::from(literal / 2)] == wanted(literal)
+}
+
+/// A literal is possible unless it is known false.
+fn is_possible(marks: &Marks, literal: u8) -> bool {
+    marks[usize::from(literal / 2)] != wanted(literal ^ 1)
+}

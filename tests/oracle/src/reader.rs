@@ -1,0 +1,318 @@
+//! Reading of requests and derivations from the left; the first fault met is the answer.
+//!
+//! At one byte the order is 11, 21, 19, 12, 13, 14, 15; 20 is looked for when all is read.
+
+use crate::answer::Fault;
+use crate::model::{Allowance, Branch, Effect, Item, Knowledge, Line, Request};
+
+/// Longest request in bytes.
+pub const REQUEST_LIMIT: usize = 16_384;
+/// Longest derivation in bytes.
+pub const DERIVATION_LIMIT: usize = 32_768;
+/// Most fluents or actions, and most entries of a list outside of bodies.
+pub const LIST_LIMIT: usize = 64;
+/// Most literals of a body.
+pub const BODY_LIMIT: usize = 16;
+/// Most branches of a branching.
+pub const BRANCH_LIMIT: usize = 8;
+/// Most branchings one inside another.
+pub const NESTING_LIMIT: usize = 8;
+/// Most items of a plan, nested ones counted.
+pub const ITEM_LIMIT: usize = 1_024;
+/// Most lines of a derivation.
+pub const LINE_LIMIT: usize = 1_024;
+/// Most citations of a line.
+pub const CITATION_LIMIT: usize = 64;
+/// The first byte of a branching.
+pub const BRANCHING: u8 = 255;
+
+type Read<T> = Result<T, Fault>;
+
+/// Reads a whole request: 10, then 11 to 15, 19, 21 from the left, then 20.
+pub fn read_request(bytes: &[u8]) -> Read<Request> {
+    refuse_length(bytes, REQUEST_LIMIT)?;
+    let mut reader = Reader {
+        bytes,
+        at: 0,
+        fluents: 0,
+        actions: 0,
+    };
+    let request = reader.request()?;
+    reader.end()?;
+    Ok(request)
+}
+
+/// Reads a whole derivation by the same order, with the request's numbers of fluents and actions.
+pub fn read_derivation(bytes: &[u8], request: &Request) -> Read<Vec<Line>> {
+    refuse_length(bytes, DERIVATION_LIMIT)?;
+    let mut reader = Reader {
+        bytes,
+        at: 0,
+        fluents: request.fluents,
+        actions: request.actions,
+    };
+    let lines = reader.lines()?;
+    reader.end()?;
+    Ok(lines)
+}
+
+/// 10: the input is too long.
+fn refuse_length(bytes: &[u8], limit: usize) -> Read<()> {
+    if bytes.len() > limit {
+        return Err(Fault::new(10, 0));
+    }
+    Ok(())
+}
+
+/// The input, the position in it, and how many fluents and actions there are.
+struct Reader<'a> {
+    bytes: &'a [u8],
+    at: usize,
+    fluents: u8,
+    actions: u8,
+}
+
+impl Reader<'_> {
+    /// The next byte, which stays unread. 11 where there is none, placed at the length.
+    fn peek(&self) -> Read<u8> {
+        self.bytes
+            .get(self.at)
+            .copied()
+            .ok_or(Fault::new(11, self.bytes.len()))
+    }
+
+    /// The next byte, read.
+    fn byte(&mut self) -> Read<u8> {
+        let byte = self.peek()?;
+        self.at += 1;
+        Ok(byte)
+    }
+
+    /// 20: bytes are left after the last section or line.
+    fn end(&self) -> Read<()> {
+        if self.at < self.bytes.len() {
+            return Err(Fault::new(20, self.at));
+        }
+        Ok(())
+    }
+
+    /// A one-byte count between limits, 12 otherwise.
+    fn count(&mut self, least: usize, most: usize) -> Read<usize> {
+        let place = self.at;
+        let count = usize::from(self.byte()?);
+        if count < least || count > most {
+            return Err(Fault::new(12, place));
+        }
+        Ok(count)
+    }
+
+    /// A two-byte number, high byte first, judged by nobody here.
+    fn wide(&mut self) -> Read<u16> {
+        let high = self.byte()?;
+        let low = self.byte()?;
+        Ok(u16::from_be_bytes([high, low]))
+    }
+
+    /// A byte below a bound, 13 otherwise.
+    fn below(&mut self, bound: u8) -> Read<u8> {
+        let place = self.at;
+        let byte = self.byte()?;
+        if byte >= bound {
+            return Err(Fault::new(13, place));
+        }
+        Ok(byte)
+    }
+
+    fn fluent(&mut self) -> Read<u8> {
+        self.below(self.fluents)
+    }
+
+    fn literal(&mut self) -> Read<u8> {
+        self.below(2 * self.fluents)
+    }
+
+    fn action(&mut self) -> Read<u8> {
+        self.below(self.actions)
+    }
+
+    /// A list of literals: strictly ascending (14), and no complement after a literal (15).
+    fn literals(&mut self, most: usize) -> Read<Vec<u8>> {
+        let count = self.count(0, most)?;
+        let mut list: Vec<u8> = Vec::new();
+        for _ in 0..count {
+            let place = self.at;
+            let literal = self.literal()?;
+            if let Some(&before) = list.last() {
+                ascending(before, literal, place)?;
+                if literal == before ^ 1 {
+                    return Err(Fault::new(15, place));
+                }
+            }
+            list.push(literal);
+        }
+        Ok(list)
+    }
+
+    /// A list of fluents: strictly ascending (14). Fluents have no complements.
+    fn fluent_list(&mut self, most: usize) -> Read<Vec<u8>> {
+        let count = self.count(0, most)?;
+        let mut list: Vec<u8> = Vec::new();
+        for _ in 0..count {
+            let place = self.at;
+            let fluent = self.fluent()?;
+            if let Some(&before) = list.last() {
+                ascending(before, fluent, place)?;
+            }
+            list.push(fluent);
+        }
+        Ok(list)
+    }
+
+    fn body(&mut self) -> Read<Vec<u8>> {
+        self.literals(BODY_LIMIT)
+    }
+
+    fn request(&mut self) -> Read<Request> {
+        self.fluents = self.count(1, LIST_LIMIT)? as u8;
+        self.actions = self.count(1, LIST_LIMIT)? as u8;
+        let facts = self.literals(LIST_LIMIT)?;
+        let effects = self.section(Self::effect)?;
+        let allowances = self.section(Self::allowance)?;
+        let knowledge = self.section(Self::knowledge)?;
+        let plan = self.plan()?;
+        let goals_place = self.at;
+        let goals = self.literals(LIST_LIMIT)?;
+        let whether_place = self.at;
+        let whether = self.fluent_list(LIST_LIMIT)?;
+        Ok(Request {
+            fluents: self.fluents,
+            actions: self.actions,
+            facts,
+            effects,
+            allowances,
+            knowledge,
+            plan,
+            goals_place,
+            goals,
+            whether_place,
+            whether,
+        })
+    }
+
+    /// Sections 3 to 5: a count of 0 to 255, then that many lines in any order.
+    fn section<T>(&mut self, line: fn(&mut Self) -> Read<T>) -> Read<Vec<T>> {
+        let count = self.count(0, 255)?;
+        (0..count).map(|_| line(self)).collect()
+    }
+
+    fn effect(&mut self) -> Read<Effect> {
+        let place = self.at;
+        let action = self.action()?;
+        let literal = self.literal()?;
+        let body = self.body()?;
+        Ok(Effect {
+            place,
+            action,
+            literal,
+            body,
+        })
+    }
+
+    fn allowance(&mut self) -> Read<Allowance> {
+        let action = self.action()?;
+        let body = self.body()?;
+        Ok(Allowance { action, body })
+    }
+
+    fn knowledge(&mut self) -> Read<Knowledge> {
+        let place = self.at;
+        let action = self.action()?;
+        let fluent = self.fluent()?;
+        Ok(Knowledge {
+            place,
+            action,
+            fluent,
+        })
+    }
+
+    /// A plan of its own: items and nesting are counted anew.
+    fn plan(&mut self) -> Read<Vec<Item>> {
+        let mut items = 0;
+        self.sequence(&mut items, 0)
+    }
+
+    /// A two-byte item count, which is never refused itself, then the items.
+    fn sequence(&mut self, items: &mut usize, nesting: usize) -> Read<Vec<Item>> {
+        let count = self.wide()?;
+        (0..count).map(|_| self.item(items, nesting)).collect()
+    }
+
+    /// An item. At its first byte: 11, then 21, then 19, then 13.
+    fn item(&mut self, items: &mut usize, nesting: usize) -> Read<Item> {
+        let place = self.at;
+        let first = self.peek()?;
+        *items += 1;
+        if *items > ITEM_LIMIT {
+            return Err(Fault::new(21, place));
+        }
+        if first != BRANCHING {
+            let action = self.action()?;
+            return Ok(Item::Action { place, action });
+        }
+        if nesting == NESTING_LIMIT {
+            return Err(Fault::new(19, place));
+        }
+        self.at += 1;
+        let count = self.count(1, BRANCH_LIMIT)?;
+        let branches = (0..count)
+            .map(|_| self.branch(items, nesting + 1))
+            .collect::<Read<Vec<_>>>()?;
+        Ok(Item::Branching { place, branches })
+    }
+
+    fn branch(&mut self, items: &mut usize, nesting: usize) -> Read<Branch> {
+        let condition = self.body()?;
+        let sequence = self.sequence(items, nesting)?;
+        Ok(Branch {
+            condition,
+            sequence,
+        })
+    }
+
+    /// A derivation: a two-byte line count of 1 to 1,024, then the lines.
+    fn lines(&mut self) -> Read<Vec<Line>> {
+        let place = self.at;
+        let count = usize::from(self.wide()?);
+        if count == 0 || count > LINE_LIMIT {
+            return Err(Fault::new(12, place));
+        }
+        (0..count).map(|_| self.line()).collect()
+    }
+
+    /// A line. Reading refuses no rule byte and no line number.
+    fn line(&mut self) -> Read<Line> {
+        let place = self.at;
+        let before = self.literals(LIST_LIMIT)?;
+        let sequence = self.plan()?;
+        let after = self.literals(LIST_LIMIT)?;
+        let rule = self.byte()?;
+        let count = self.count(0, CITATION_LIMIT)?;
+        let cites = (0..count).map(|_| self.wide()).collect::<Read<Vec<_>>>()?;
+        Ok(Line {
+            place,
+            before,
+            sequence,
+            after,
+            rule,
+            cites,
+        })
+    }
+}
+
+/// 14: an entry is not above the one before.
+fn ascending(before: u8, entry: u8, place: usize) -> Read<()> {
+    if entry <= before {
+        return Err(Fault::new(14, place));
+    }
+    Ok(())
+}

@@ -1,0 +1,263 @@
+//! Small random calls with their answers as rows of text, for others to compute again.
+//!
+//! A judging call is one line
+//! `J REQUEST LENT BUDGET NUMBER INPUT PLACE COUNT STATE`,
+//! a derivation call is one line
+//! `D REQUEST DERIVATION NUMBER INPUT PLACE COUNT`.
+//!
+//! Bytes are decimal with commas between, and `-` is no byte at all. `REP BYTE N`, three words
+//! in place of one, stands for N times one byte. LENT is the length of the lent state. STATE is
+//! the 64 bytes of the lent state after answers 1 and 2, and `-` where it stays as lent.
+//!
+//! All answers of a call come round in 150 rows. Requests have at most 120 bytes, a few up to
+//! 300; derivations at most 200, a few up to 400; a walk that is reached counts at most 2,000.
+//! Only item 1,025 takes more bytes (two rows of judging and one of checking, in the first
+//! round), and an input too long (one row of each kind, there, written with `REP`).
+
+use crate::answer::{Answer, DERIVATION, NEITHER, REQUEST};
+use crate::calls::{
+    any_check_call, damaged_judge_call, derivable, lend_wrongly, sound_judge_call, CheckCall,
+    JudgeCall,
+};
+use crate::generate::{forgetful, request, Shape, MIDDLE, SMALL, TINY};
+use crate::model::Request;
+use crate::reader::{DERIVATION_LIMIT, REQUEST_LIMIT};
+use crate::rng::Rng;
+use crate::text::comma_separated;
+use crate::walk::{walk, Verdict};
+use crate::{check, judge, open};
+
+/// Most bytes of a request, and of the few that are longer.
+const BYTES: usize = 120;
+const MORE_BYTES: usize = 300;
+/// Most bytes of a derivation, and of the few that are longer.
+const DERIVATION_BYTES: usize = 200;
+const MORE_DERIVATION_BYTES: usize = 400;
+/// Most bytes of an input with item 1,025.
+const LONG_BYTES: usize = 1_200;
+/// Largest count of a walk.
+const COUNT: u32 = 2_000;
+/// Rows after which all answers have come round.
+const ROUND: u64 = 150;
+
+/// How often each answer comes in a round of judging calls.
+const JUDGING: [(u8, u64); 15] = [
+    (0, 25),
+    (1, 25),
+    (2, 20),
+    (3, 20),
+    (9, 2),
+    (11, 8),
+    (12, 10),
+    (13, 10),
+    (14, 8),
+    (15, 6),
+    (16, 4),
+    (17, 4),
+    (18, 4),
+    (19, 1),
+    (20, 3),
+];
+
+/// The answers that take long inputs, which stand in the first round only.
+const LONG_JUDGING: [u8; 3] = [10, 21, 21];
+
+/// How often each answer comes in a round of derivation calls.
+const CHECKING: [((u8, u8), u64); 25] = [
+    ((0, NEITHER), 46),
+    ((30, REQUEST), 5),
+    ((31, DERIVATION), 7),
+    ((32, DERIVATION), 10),
+    ((33, DERIVATION), 10),
+    ((34, DERIVATION), 27),
+    ((35, DERIVATION), 10),
+    ((11, DERIVATION), 4),
+    ((12, DERIVATION), 5),
+    ((13, DERIVATION), 4),
+    ((14, DERIVATION), 3),
+    ((15, DERIVATION), 3),
+    ((18, DERIVATION), 3),
+    ((19, DERIVATION), 1),
+    ((20, DERIVATION), 2),
+    ((11, REQUEST), 1),
+    ((12, REQUEST), 1),
+    ((13, REQUEST), 1),
+    ((14, REQUEST), 1),
+    ((15, REQUEST), 1),
+    ((16, REQUEST), 1),
+    ((17, REQUEST), 1),
+    ((18, REQUEST), 1),
+    ((19, REQUEST), 1),
+    ((20, REQUEST), 1),
+];
+
+/// The answers that take long inputs, which stand in the first round only.
+const LONG_CHECKING: [(u8, u8); 2] = [(10, DERIVATION), (21, DERIVATION)];
+
+/// So many rows of both kinds, one after the other.
+pub fn rows(seed: u64, judging: u64, checking: u64) -> impl Iterator<Item = String> {
+    let judged = rounds(seed, 3, judging, &JUDGING, &LONG_JUDGING)
+        .zip(0..)
+        .map(move |(wanted, index)| judging_row(&mut Rng::new(seed, 4, index), wanted));
+    let checked = rounds(seed, 5, checking, &CHECKING, &LONG_CHECKING)
+        .zip(0..)
+        .map(move |(wanted, index)| checking_row(&mut Rng::new(seed, 6, index), wanted));
+    judged.chain(checked)
+}
+
+/// The answers wanted, each round in an order of its own. In the first round those with long
+/// inputs take the place of some of the most frequent answer.
+fn rounds<T: Copy>(
+    seed: u64,
+    stream: u64,
+    rows: u64,
+    often: &'static [(T, u64)],
+    long: &'static [T],
+) -> impl Iterator<Item = T> {
+    (0..rows.div_ceil(ROUND))
+        .flat_map(move |round| {
+            let times = often
+                .iter()
+                .flat_map(|&(wanted, times)| (0..times).map(move |_| wanted));
+            let mut wanted: Vec<T> = times.collect();
+            if round == 0 {
+                wanted[..long.len()].copy_from_slice(long);
+            }
+            Rng::new(seed, stream, round).shuffle(&mut wanted);
+            wanted
+        })
+        .take(usize::try_from(rows).unwrap_or(usize::MAX))
+}
+
+/// A row with the answer wanted.
+fn judging_row(rng: &mut Rng, wanted: u8) -> String {
+    let call = match wanted {
+        10 => {
+            let mut call = judging_call(rng, 11, BYTES);
+            call.request = vec![rng.byte(0, 64); REQUEST_LIMIT + 1];
+            call
+        }
+        21 => judging_call(rng, 21, LONG_BYTES),
+        _ => {
+            let most = if rng.chance(4) { MORE_BYTES } else { BYTES };
+            judging_call(rng, wanted, most)
+        }
+    };
+    tell_judging(&call)
+}
+
+/// A call of the wanted answer with a small request.
+fn judging_call(rng: &mut Rng, wanted: u8, most: usize) -> JudgeCall {
+    loop {
+        let draft = small_request(rng, most);
+        let mut call = match wanted > 3 {
+            true => damaged_judge_call(rng, &draft),
+            false => sound_judge_call(rng, &draft),
+        };
+        if wanted == 9 {
+            lend_wrongly(rng, &mut call);
+        }
+        if call.request.len() <= most && judged(&call).0.number == wanted && is_light(&call) {
+            return call;
+        }
+    }
+}
+
+/// A request of a small shape, or of a larger one where it may be longer.
+fn small_request(rng: &mut Rng, most: usize) -> Request {
+    match rng.below(100) {
+        _ if most == MORE_BYTES => request(rng, &MIDDLE),
+        0..=4 => forgetful(rng, 3, 3),
+        _ => {
+            let shape = small_shape(rng);
+            request(rng, shape)
+        }
+    }
+}
+
+fn small_shape(rng: &mut Rng) -> &'static Shape {
+    match rng.chance(60) {
+        true => &TINY,
+        false => &SMALL,
+    }
+}
+
+/// The whole walk, if it is reached, counts little.
+fn is_light(call: &JudgeCall) -> bool {
+    match open(&call.request) {
+        Ok(request) => walk(&request, COUNT) != Verdict::Over,
+        Err(_) => true,
+    }
+}
+
+fn judged(call: &JudgeCall) -> (Answer, Vec<u8>) {
+    let mut lent = call.lent.clone();
+    let answer = judge(&call.request, &mut lent, call.budget);
+    (answer, lent)
+}
+
+fn tell_judging(call: &JudgeCall) -> String {
+    let (answer, lent) = judged(call);
+    let state = match answer.number {
+        1 | 2 => comma_separated(&lent),
+        _ => "-".to_string(),
+    };
+    let (request, length, budget) = (tell_bytes(&call.request), call.lent.len(), call.budget);
+    format!("J {request} {length} {budget} {answer} {state}")
+}
+
+/// A row with the answer wanted.
+fn checking_row(rng: &mut Rng, wanted: (u8, u8)) -> String {
+    let call = match wanted {
+        (10, _) => {
+            let mut call = checking_call(rng, (11, DERIVATION), DERIVATION_BYTES);
+            call.derivation = vec![rng.byte(0, 64); DERIVATION_LIMIT + 1];
+            call
+        }
+        (21, _) => checking_call(rng, wanted, LONG_BYTES),
+        _ => {
+            let most = if rng.chance(5) {
+                MORE_DERIVATION_BYTES
+            } else {
+                DERIVATION_BYTES
+            };
+            checking_call(rng, wanted, most)
+        }
+    };
+    tell_checking(&call)
+}
+
+/// A call of the wanted answer with small inputs.
+fn checking_call(rng: &mut Rng, wanted: (u8, u8), most: usize) -> CheckCall {
+    loop {
+        let shape = small_shape(rng);
+        let (draft, lines) = derivable(rng, shape);
+        let call = any_check_call(rng, &draft, &lines);
+        let small = call.request.len() <= BYTES && call.derivation.len() <= most;
+        if small && lines.len() > 1 {
+            let answer = check(&call.request, &call.derivation);
+            if (answer.number, answer.input) == wanted {
+                return call;
+            }
+        }
+    }
+}
+
+fn tell_checking(call: &CheckCall) -> String {
+    let answer = check(&call.request, &call.derivation);
+    format!(
+        "D {} {} {answer}",
+        tell_bytes(&call.request),
+        tell_bytes(&call.derivation)
+    )
+}
+
+/// Bytes with commas between, or `REP BYTE N` for many equal ones.
+fn tell_bytes(bytes: &[u8]) -> String {
+    match bytes.first() {
+        Some(first) if bytes.len() > REQUEST_LIMIT && bytes.iter().all(|byte| byte == first) => {
+            format!("REP {first} {}", bytes.len())
+        }
+        _ => comma_separated(bytes),
+    }
+}

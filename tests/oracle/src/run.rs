@@ -1,0 +1,400 @@
+//! A run: random calls, each answer checked in every way there is, and the tallies.
+
+use std::collections::BTreeMap;
+use std::fmt::Write;
+
+use crate::answer::{Answer, DERIVATION, NEITHER, REQUEST};
+use crate::calls::{check_call, judge_call, CheckCall, JudgeCall, Outlook};
+use crate::encode::{encode_derivation, encode_request};
+use crate::model::{Line, Request};
+use crate::reader::read_derivation;
+use crate::rng::Rng;
+use crate::text::comma_separated;
+use crate::walk::{walk, Verdict};
+use crate::{check, judge, open, paths, shown, worlds, STATE_LENGTH};
+
+/// Most paths that the second walk follows.
+const MOST_PATHS: usize = 3_000;
+/// The budget of the walk that an accepted derivation is compared with.
+const WALK_BUDGET: u32 = 50_000;
+/// Failures told in full.
+const TOLD: usize = 10;
+/// Least share of each of the answers 0 to 3, in per cent of all requests judged, damaged ones
+/// included.
+const LEAST_SHARE: u64 = 5;
+
+/// The answers that a run must meet at least once, by call and input named.
+const OF_JUDGING: [u8; 17] = [
+    0, 1, 2, 3, 9, 10, 11, 12, 13, 14, 15, 16, 17, 18, 19, 20, 21,
+];
+const OF_CHECKING: [(u8, u8); 17] = [
+    (0, NEITHER),
+    (30, REQUEST),
+    (10, DERIVATION),
+    (11, DERIVATION),
+    (12, DERIVATION),
+    (13, DERIVATION),
+    (14, DERIVATION),
+    (15, DERIVATION),
+    (18, DERIVATION),
+    (19, DERIVATION),
+    (20, DERIVATION),
+    (21, DERIVATION),
+    (31, DERIVATION),
+    (32, DERIVATION),
+    (33, DERIVATION),
+    (34, DERIVATION),
+    (35, DERIVATION),
+];
+
+/// How often each thing happened.
+#[derive(Clone, Debug, Default)]
+pub struct Tally {
+    requests: u64,
+    derivations: u64,
+    judged: BTreeMap<u8, u64>,
+    checked: BTreeMap<(u8, u8), u64>,
+    second_walks: u64,
+    second_walks_left: u64,
+    carried_out: u64,
+    true_worlds: u64,
+    not_enumerated: u64,
+    missed_though_reached: u64,
+    stuck_though_reached: u64,
+    accepted_carried_out: u64,
+    accepted_true_worlds: u64,
+    accepted_walked: u64,
+    accepted_beyond_walk: u64,
+    rules: BTreeMap<u8, u64>,
+    readings: BTreeMap<usize, u64>,
+    failed: u64,
+    failures: Vec<String>,
+}
+
+/// Makes so many calls of each kind from a seed.
+pub fn run(seed: u64, requests: u64, derivations: u64) -> Tally {
+    let mut tally = Tally::default();
+    for index in 0..requests {
+        let call = judge_call(&mut Rng::new(seed, 1, index));
+        if let Err(difference) = tally.judge(&call) {
+            tally.fail(format!(
+                "request {index}: {difference}: {}",
+                told(&call.request)
+            ));
+        }
+    }
+    for index in 0..derivations {
+        let call = check_call(&mut Rng::new(seed, 2, index));
+        if let Err(difference) = tally.check(&call) {
+            tally.fail(format!(
+                "derivation {index}: {difference}: {} {}",
+                told(&call.request),
+                told(&call.derivation)
+            ));
+        }
+    }
+    tally
+}
+
+fn told(bytes: &[u8]) -> String {
+    match bytes.len() {
+        0..=2_000 => comma_separated(bytes),
+        length => format!("({length} bytes)"),
+    }
+}
+
+impl Tally {
+    fn fail(&mut self, failure: String) {
+        self.failed += 1;
+        if self.failures.len() < TOLD {
+            self.failures.push(failure);
+        }
+    }
+
+    /// Makes a judging call and checks its answer.
+    fn judge(&mut self, call: &JudgeCall) -> Result<(), String> {
+        self.requests += 1;
+        let mut lent = call.lent.clone();
+        let answer = judge(&call.request, &mut lent, call.budget);
+        *self.judged.entry(answer.number).or_default() += 1;
+        expect_form(answer, &call.request, &[])?;
+        expect_outlook(answer, call.outlook)?;
+        let written = matches!(answer.number, 1 | 2);
+        if !written && lent != call.lent {
+            return Err(format!("answer {answer} changed the lent state"));
+        }
+        if answer.number > 3 {
+            return Ok(());
+        }
+        let request = open(&call.request).map_err(|_| format!("answer {answer} unread"))?;
+        expect_bytes(&encode_request(&request).bytes, &call.request)?;
+        self.compare_walks(&request, call.budget, answer, &lent)?;
+        self.compare_worlds(&request, answer)
+    }
+
+    /// Compares the answer and the state with the second walk's.
+    fn compare_walks(
+        &mut self,
+        request: &Request,
+        budget: u32,
+        answer: Answer,
+        lent: &[u8],
+    ) -> Result<(), String> {
+        let Some((other, marks)) = paths::answer(request, budget, MOST_PATHS) else {
+            self.second_walks_left += 1;
+            return Ok(());
+        };
+        self.second_walks += 1;
+        if other != answer {
+            return Err(format!("answer {answer}, the second walk's is {other}"));
+        }
+        let Some(marks) = marks else { return Ok(()) };
+        let mut state = [0; STATE_LENGTH];
+        for (byte, mark) in state.iter_mut().zip(marks) {
+            *byte = match mark {
+                b'+' => 1,
+                b'-' => 2,
+                _ => 0,
+            };
+        }
+        if lent != state {
+            return Err(format!(
+                "answer {answer}: the second walk's state is another"
+            ));
+        }
+        Ok(())
+    }
+
+    /// A verified plan works in every true world; where 1 or 2 is given it may all the same.
+    fn compare_worlds(&mut self, request: &Request, answer: Answer) -> Result<(), String> {
+        if answer.number == 3 {
+            return Ok(());
+        }
+        if request.fluents > worlds::FLUENT_LIMIT {
+            self.not_enumerated += u64::from(answer.number == 0);
+            return Ok(());
+        }
+        match (answer.number, worlds::carry_out(request)) {
+            (0, Ok(worlds)) => {
+                self.carried_out += 1;
+                self.true_worlds += worlds;
+            }
+            (0, Err(failure)) => return Err(format!("verified, but in worlds {failure:?}")),
+            (1, Ok(_)) => self.missed_though_reached += 1,
+            (_, Ok(_)) => self.stuck_though_reached += 1,
+            _ => {}
+        }
+        Ok(())
+    }
+
+    /// Makes a derivation call and checks its answer.
+    fn check(&mut self, call: &CheckCall) -> Result<(), String> {
+        self.derivations += 1;
+        let answer = check(&call.request, &call.derivation);
+        *self
+            .checked
+            .entry((answer.number, answer.input))
+            .or_default() += 1;
+        expect_form(answer, &call.request, &call.derivation)?;
+        expect_outlook(answer, call.outlook)?;
+        if answer.number != 0 {
+            return Ok(());
+        }
+        let request = open(&call.request).map_err(|_| "accepted unread".to_string())?;
+        let lines = read_derivation(&call.derivation, &request)
+            .map_err(|_| "accepted unread".to_string())?;
+        expect_bytes(&encode_derivation(&lines).bytes, &call.derivation)?;
+        self.note_rules(&lines);
+        self.compare_accepted(&request)
+    }
+
+    /// Notes the rules of accepted lines, and how many readings rule 3 took.
+    fn note_rules(&mut self, lines: &[Line]) {
+        for line in lines {
+            *self.rules.entry(line.rule).or_default() += 1;
+            if line.rule == 3 {
+                *self.readings.entry(line.cites.len()).or_default() += 1;
+            }
+        }
+    }
+
+    /// What a derivation says is so by the walk, budget aside, and in all worlds.
+    fn compare_accepted(&mut self, request: &Request) -> Result<(), String> {
+        match walk(request, WALK_BUDGET) {
+            Verdict::Verified { .. } => self.accepted_walked += 1,
+            Verdict::Over => self.accepted_beyond_walk += 1,
+            other => return Err(format!("accepted, but the walk says {other:?}")),
+        }
+        if request.fluents > worlds::FLUENT_LIMIT {
+            return Ok(());
+        }
+        let worlds = worlds::carry_out(request)
+            .map_err(|failure| format!("accepted, but in worlds {failure:?}"))?;
+        self.accepted_carried_out += 1;
+        self.accepted_true_worlds += worlds;
+        Ok(())
+    }
+
+    /// The differences found, as far as they are told.
+    pub fn differences(&self) -> &[String] {
+        &self.failures
+    }
+
+    /// What keeps the run from being right, in short.
+    pub fn verdict(&self) -> Result<(), String> {
+        if self.failed > 0 {
+            return Err(format!("{} differences", self.failed));
+        }
+        let never = self.never_met();
+        if !never.is_empty() {
+            return Err(format!("never met: {}", never.join(", ")));
+        }
+        let rare = self.rare();
+        if !rare.is_empty() {
+            return Err(format!("below {LEAST_SHARE} per cent: {}", rare.join(", ")));
+        }
+        Ok(())
+    }
+
+    fn never_met(&self) -> Vec<String> {
+        let judging = OF_JUDGING
+            .iter()
+            .filter(|number| !self.judged.contains_key(number))
+            .map(|number| format!("{number} in judging"));
+        let checking = OF_CHECKING
+            .iter()
+            .filter(|pair| !self.checked.contains_key(pair))
+            .map(|(number, input)| format!("{number} of input {input} in checking"));
+        judging.chain(checking).collect()
+    }
+
+    fn rare(&self) -> Vec<String> {
+        (0..=3)
+            .filter(|number| {
+                let times = self.judged.get(number).copied().unwrap_or(0);
+                times * 100 < self.requests * LEAST_SHARE
+            })
+            .map(|number| format!("answer {number}"))
+            .collect()
+    }
+
+    /// The tallies as text, one to a line.
+    pub fn report(&self) -> String {
+        let mut out = String::new();
+        for failure in &self.failures {
+            let _ = writeln!(out, "difference: {failure}");
+        }
+        let _ = writeln!(out, "requests judged: {}", self.requests);
+        for (number, times) in &self.judged {
+            let share = *times as f64 * 100.0 / self.requests as f64;
+            let _ = writeln!(out, "  answer {number}: {times} ({share:.2} per cent)");
+        }
+        let _ = writeln!(out, "derivations checked: {}", self.derivations);
+        for ((number, input), times) in &self.checked {
+            let _ = writeln!(out, "  answer {number}, input {input}: {times}");
+        }
+        for (rule, times) in &self.rules {
+            let _ = writeln!(out, "accepted lines by rule {rule}: {times}");
+        }
+        for (readings, times) in &self.readings {
+            let _ = writeln!(out, "  rule 3 over {readings} readings: {times}");
+        }
+        for (title, times) in self.titled() {
+            let _ = writeln!(out, "{title}: {times}");
+        }
+        out
+    }
+
+    fn titled(&self) -> [(&'static str, u64); 11] {
+        [
+            ("walks compared with the second walk", self.second_walks),
+            (
+                "walks too large for the second walk",
+                self.second_walks_left,
+            ),
+            (
+                "verified requests carried out in all worlds",
+                self.carried_out,
+            ),
+            ("true worlds of these", self.true_worlds),
+            (
+                "verified requests with more than ten fluents",
+                self.not_enumerated,
+            ),
+            (
+                "answer 1 though every world reaches the goal",
+                self.missed_though_reached,
+            ),
+            (
+                "answer 2 though every world reaches the goal",
+                self.stuck_though_reached,
+            ),
+            (
+                "accepted derivations whose plan the walk verifies",
+                self.accepted_walked,
+            ),
+            (
+                "accepted derivations beyond the walk's budget",
+                self.accepted_beyond_walk,
+            ),
+            (
+                "accepted derivations carried out in all worlds",
+                self.accepted_carried_out,
+            ),
+            (
+                "true worlds of these derivations",
+                self.accepted_true_worlds,
+            ),
+        ]
+    }
+}
+
+/// What every answer keeps to: its input, place and count, and what the showing call shows.
+fn expect_form(answer: Answer, request: &[u8], derivation: &[u8]) -> Result<(), String> {
+    let length = match answer.input {
+        NEITHER => 0,
+        REQUEST => request.len(),
+        DERIVATION => derivation.len(),
+        _ => return Err(format!("answer {answer} names no input")),
+    };
+    let place = answer.place as usize;
+    let neither = matches!(answer.number, 0 | 3 | 9);
+    let placed = match answer.number {
+        11 => place == length,
+        10 => place == 0,
+        _ if neither => place == 0,
+        _ => place < length,
+    };
+    let counted = answer.number <= 3 || answer.count == 0;
+    let rest = shown(answer, request, derivation).len();
+    let right = if neither {
+        rest == 0
+    } else {
+        rest == length - place
+    };
+    match neither == (answer.input == NEITHER) && placed && counted && right {
+        true => Ok(()),
+        false => Err(format!("answer {answer} is out of form")),
+    }
+}
+
+fn expect_outlook(answer: Answer, outlook: Outlook) -> Result<(), String> {
+    let right = match outlook {
+        Outlook::Open => true,
+        Outlook::Walked => answer.number <= 3,
+        Outlook::Accepted => answer == Answer::neither(0, 0),
+        Outlook::Refused(input, fault) => answer == Answer::refusal(input, fault),
+    };
+    match right {
+        true => Ok(()),
+        false => Err(format!("answer {answer}, expected {outlook:?}")),
+    }
+}
+
+/// There is one way to write what was read.
+fn expect_bytes(written: &[u8], read: &[u8]) -> Result<(), String> {
+    match written == read {
+        true => Ok(()),
+        false => Err("written again, the input differs".to_string()),
+    }
+}

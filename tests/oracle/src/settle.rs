@@ -1,0 +1,73 @@
+//! What is looked at over the whole input once it is read: 16, 17, 18, in this order.
+
+use crate::answer::Fault;
+use crate::model::{exclusive, Branch, Effect, Item, Request};
+
+/// 16, then 17, then 18, each a pass over the whole request.
+pub fn settle(request: &Request) -> Result<(), Fault> {
+    let passes = [
+        contradiction(request).map(|place| Fault::new(16, place)),
+        mixed_action(request).map(|place| Fault::new(17, place)),
+        overlap(&request.plan).map(|place| Fault::new(18, place)),
+    ];
+    match passes.into_iter().flatten().next() {
+        Some(fault) => Err(fault),
+        None => Ok(()),
+    }
+}
+
+/// Two effects of one action are contradictory when their literals are complements and neither
+/// body holds a complement of a literal of the other.
+pub fn contradictory(one: &Effect, other: &Effect) -> bool {
+    one.action == other.action
+        && one.literal == other.literal ^ 1
+        && !exclusive(&one.body, &other.body)
+}
+
+/// 16: the earliest effect that contradicts one before it.
+fn contradiction(request: &Request) -> Option<usize> {
+    let effects = &request.effects;
+    (0..effects.len())
+        .find(|&later| {
+            effects[..later]
+                .iter()
+                .any(|one| contradictory(one, &effects[later]))
+        })
+        .map(|later| effects[later].place)
+}
+
+/// 17: the first knowledge line of an action that has an effect line, too.
+fn mixed_action(request: &Request) -> Option<usize> {
+    request
+        .knowledge
+        .iter()
+        .find(|line| {
+            request
+                .effects
+                .iter()
+                .any(|effect| effect.action == line.action)
+        })
+        .map(|line| line.place)
+}
+
+/// 18: the earliest branching with two conditions that are not exclusive. An outer branching
+/// stands before those inside it, and these stand in the order of the branches.
+pub fn overlap(sequence: &[Item]) -> Option<usize> {
+    sequence.iter().find_map(|item| match item {
+        Item::Action { .. } => None,
+        Item::Branching { place, branches } => {
+            if some_overlap(branches) {
+                return Some(*place);
+            }
+            branches.iter().find_map(|branch| overlap(&branch.sequence))
+        }
+    })
+}
+
+fn some_overlap(branches: &[Branch]) -> bool {
+    branches.iter().enumerate().any(|(index, branch)| {
+        branches[..index]
+            .iter()
+            .any(|other| !exclusive(&branch.condition, &other.condition))
+    })
+}

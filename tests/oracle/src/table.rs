@@ -1,0 +1,177 @@
+//! Partial states as two masks, and the domain table in a form that runs on them.
+
+use crate::model::{is_positive, Request};
+
+/// A partial state: the fluents known true and those known false.
+#[derive(Clone, Copy, Debug, Default, PartialEq, Eq, PartialOrd, Ord, Hash)]
+pub struct Known {
+    pub yes: u64,
+    pub no: u64,
+}
+
+impl Known {
+    /// The state that holds these literals and nothing else. Also used for bodies.
+    pub fn of(literals: &[u8]) -> Known {
+        let mut known = Known::default();
+        for &literal in literals {
+            known.learn(literal);
+        }
+        known
+    }
+
+    /// Marks the fluent of a literal, which has been unknown.
+    pub fn learn(&mut self, literal: u8) {
+        let bit = 1u64 << (literal / 2);
+        if is_positive(literal) {
+            self.yes |= bit;
+        } else {
+            self.no |= bit;
+        }
+    }
+
+    /// The known literals, ascending.
+    pub fn literals(self) -> Vec<u8> {
+        (0..64u8)
+            .filter_map(|fluent| {
+                let bit = 1u64 << fluent;
+                if self.yes & bit != 0 {
+                    Some(2 * fluent)
+                } else if self.no & bit != 0 {
+                    Some(2 * fluent + 1)
+                } else {
+                    None
+                }
+            })
+            .collect()
+    }
+
+    /// The fluents that have a value.
+    pub fn marked(self) -> u64 {
+        self.yes | self.no
+    }
+
+    /// Each literal of the body is known true.
+    pub fn holds(self, body: Known) -> bool {
+        body.yes & !self.yes == 0 && body.no & !self.no == 0
+    }
+
+    /// No literal of the body is known false.
+    pub fn allows(self, body: Known) -> bool {
+        body.yes & self.no == 0 && body.no & self.yes == 0
+    }
+
+    /// The literals known in both.
+    pub fn common(self, other: Known) -> Known {
+        Known {
+            yes: self.yes & other.yes,
+            no: self.no & other.no,
+        }
+    }
+
+    /// The mark of a fluent as the lent state shows it: 0 unknown, 1 true, 2 false.
+    pub fn mark(self, fluent: usize) -> u8 {
+        let bit = 1u64 << fluent;
+        if self.yes & bit != 0 {
+            1
+        } else if self.no & bit != 0 {
+            2
+        } else {
+            0
+        }
+    }
+}
+
+/// The lines of one action.
+#[derive(Clone, Debug, Default)]
+struct Deed {
+    allowances: Vec<Known>,
+    effects: Vec<(Known, Known)>,
+    senses: u64,
+}
+
+/// The lines of all actions.
+#[derive(Clone, Debug)]
+pub struct Table {
+    deeds: Vec<Deed>,
+}
+
+impl Table {
+    pub fn new(request: &Request) -> Table {
+        let mut deeds = vec![Deed::default(); usize::from(request.actions)];
+        for line in &request.effects {
+            let effect = (Known::of(&[line.literal]), Known::of(&line.body));
+            deeds[usize::from(line.action)].effects.push(effect);
+        }
+        for line in &request.allowances {
+            deeds[usize::from(line.action)]
+                .allowances
+                .push(Known::of(&line.body));
+        }
+        for line in &request.knowledge {
+            deeds[usize::from(line.action)].senses |= 1 << line.fluent;
+        }
+        Table { deeds }
+    }
+
+    /// An action can be run where some executability line of it has its whole body known true.
+    pub fn runnable(&self, action: u8, state: Known) -> bool {
+        self.deed(action)
+            .allowances
+            .iter()
+            .any(|&body| state.holds(body))
+    }
+
+    /// The fluents that a sensing action senses; none for any other action.
+    pub fn senses(&self, action: u8) -> u64 {
+        self.deed(action).senses
+    }
+
+    /// The state after an action without knowledge lines.
+    ///
+    /// `sure` are the effects whose bodies are known true (e+ and e-), `may` those all of whose
+    /// body literals are possible (F+ and F-).
+    pub fn step(&self, action: u8, state: Known) -> Known {
+        let mut sure = Known::default();
+        let mut may = Known::default();
+        for &(literal, body) in &self.deed(action).effects {
+            if state.holds(body) {
+                sure.yes |= literal.yes;
+                sure.no |= literal.no;
+            }
+            if state.allows(body) {
+                may.yes |= literal.yes;
+                may.no |= literal.no;
+            }
+        }
+        Known {
+            yes: (state.yes | sure.yes) & !may.no,
+            no: (state.no | sure.no) & !may.yes,
+        }
+    }
+
+    fn deed(&self, action: u8) -> &Deed {
+        &self.deeds[usize::from(action)]
+    }
+}
+
+/// All readings of the given fluents over a state, in the walk's order: the smallest fluent
+/// turns slowest, true before false.
+pub fn readings(state: Known, fluents: u64) -> Vec<Known> {
+    let mut all = vec![state];
+    for fluent in 0..64u8 {
+        if fluents & (1 << fluent) != 0 {
+            all = all
+                .into_iter()
+                .flat_map(|known| both_readings(known, fluent))
+                .collect();
+        }
+    }
+    all
+}
+
+fn both_readings(known: Known, fluent: u8) -> [Known; 2] {
+    let (mut yes, mut no) = (known, known);
+    yes.learn(2 * fluent);
+    no.learn(2 * fluent + 1);
+    [yes, no]
+}

@@ -1,0 +1,191 @@
+//! Carrying a plan out in worlds, without partial states.
+//!
+//! For every true world with the initial facts the plan is carried out together with the set of
+//! possible worlds. True worlds that have given the same readings so far share one set, so they
+//! go together as a party: each member is a true world, and the worlds where the members now
+//! are make up the set of possible worlds of each of them.
+
+use crate::model::{is_positive, Item, Request};
+
+/// Most fluents for which worlds are enumerated.
+pub const FLUENT_LIMIT: u8 = 10;
+
+/// Why some true world doesn't carry the plan to its goals.
+#[derive(Clone, Copy, Debug, PartialEq, Eq)]
+pub enum Failure {
+    /// An action met may not be run in every possible world.
+    NotRunnable,
+    /// An action makes a fluent both true and false in one world.
+    TwoValues,
+    /// A branching met hasn't exactly one condition that holds in all possible worlds.
+    NoBranch,
+    /// A goal doesn't hold in all possible worlds.
+    Goal,
+    /// A whether fluent has two values across the possible worlds.
+    Whether,
+}
+
+/// A set of fluents that are true; the others are false.
+type World = u16;
+
+/// Where the members, all with the same readings so far, are now; one entry for each member.
+type Party = Vec<World>;
+
+/// Literals that have to hold: those fluents true, those false.
+#[derive(Clone, Copy)]
+struct Demand {
+    yes: World,
+    no: World,
+}
+
+impl Demand {
+    fn new(literals: &[u8]) -> Demand {
+        let mut demand = Demand { yes: 0, no: 0 };
+        for literal in literals {
+            let bit = 1 << (literal / 2);
+            match is_positive(*literal) {
+                true => demand.yes |= bit,
+                false => demand.no |= bit,
+            }
+        }
+        demand
+    }
+
+    fn holds(self, world: World) -> bool {
+        world & self.yes == self.yes && world & self.no == 0
+    }
+}
+
+/// Carries the plan of a settled request out in every true world; returns how many these are.
+///
+/// The request has at most ten fluents.
+pub fn carry_out(request: &Request) -> Result<u64, Failure> {
+    assert!(request.fluents <= FLUENT_LIMIT);
+    let facts = Demand::new(&request.facts);
+    let start: Party = (0..1u16 << request.fluents)
+        .filter(|&world| facts.holds(world))
+        .collect();
+    let worlds = start.len();
+    let carrier = Carrier::new(request);
+    let parties = carrier.through(&request.plan, vec![start])?;
+    assert_eq!(
+        parties.iter().map(Vec::len).sum::<usize>(),
+        worlds,
+        "a true world was lost"
+    );
+    for party in &parties {
+        judge(request, party)?;
+    }
+    Ok(worlds as u64)
+}
+
+/// At the end each goal holds in all possible worlds and each whether fluent has one value.
+fn judge(request: &Request, party: &Party) -> Result<(), Failure> {
+    let goals = Demand::new(&request.goals);
+    if !party.iter().all(|&world| goals.holds(world)) {
+        return Err(Failure::Goal);
+    }
+    let asked = request
+        .whether
+        .iter()
+        .fold(0, |bits, fluent| bits | 1 << fluent);
+    if party.iter().any(|&world| (world ^ party[0]) & asked != 0) {
+        return Err(Failure::Whether);
+    }
+    Ok(())
+}
+
+/// The table's lines by action.
+struct Carrier {
+    allowances: Vec<Vec<Demand>>,
+    effects: Vec<Vec<(Demand, Demand)>>,
+    sensed: Vec<Option<World>>,
+}
+
+impl Carrier {
+    fn new(request: &Request) -> Carrier {
+        let actions = usize::from(request.actions);
+        let mut carrier = Carrier {
+            allowances: vec![Vec::new(); actions],
+            effects: vec![Vec::new(); actions],
+            sensed: vec![None; actions],
+        };
+        for line in &request.allowances {
+            carrier.allowances[usize::from(line.action)].push(Demand::new(&line.body));
+        }
+        for line in &request.effects {
+            let change = (Demand::new(&[line.literal]), Demand::new(&line.body));
+            carrier.effects[usize::from(line.action)].push(change);
+        }
+        for line in &request.knowledge {
+            *carrier.sensed[usize::from(line.action)].get_or_insert(0) |= 1 << line.fluent;
+        }
+        carrier
+    }
+
+    fn through(&self, sequence: &[Item], parties: Vec<Party>) -> Result<Vec<Party>, Failure> {
+        sequence.iter().try_fold(parties, |parties, item| {
+            let mut after = Vec::with_capacity(parties.len());
+            for party in parties {
+                after.extend(self.item(item, party)?);
+            }
+            Ok(after)
+        })
+    }
+
+    fn item(&self, item: &Item, party: Party) -> Result<Vec<Party>, Failure> {
+        match item {
+            Item::Action { action, .. } => self.act(usize::from(*action), party),
+            Item::Branching { branches, .. } => {
+                let mut known = branches.iter().filter(|branch| {
+                    let condition = Demand::new(&branch.condition);
+                    party.iter().all(|&world| condition.holds(world))
+                });
+                match (known.next(), known.next()) {
+                    (Some(branch), None) => self.through(&branch.sequence, vec![party]),
+                    _ => Err(Failure::NoBranch),
+                }
+            }
+        }
+    }
+
+    /// Each action met may be run in every possible world.
+    fn act(&self, action: usize, party: Party) -> Result<Vec<Party>, Failure> {
+        let allowed = |world: World| self.allowances[action].iter().any(|body| body.holds(world));
+        if !party.iter().all(|&world| allowed(world)) {
+            return Err(Failure::NotRunnable);
+        }
+        match self.sensed[action] {
+            Some(fluents) => Ok(split(party, fluents)),
+            None => {
+                let moved = party.into_iter().map(|world| self.step(action, world));
+                Ok(vec![moved.collect::<Result<Party, Failure>>()?])
+            }
+        }
+    }
+
+    /// Moves a world by the effects whose bodies hold there.
+    fn step(&self, action: usize, world: World) -> Result<World, Failure> {
+        let (mut made_true, mut made_false) = (0, 0);
+        for (change, body) in &self.effects[action] {
+            if body.holds(world) {
+                made_true |= change.yes;
+                made_false |= change.no;
+            }
+        }
+        if made_true & made_false != 0 {
+            return Err(Failure::TwoValues);
+        }
+        Ok((world | made_true) & !made_false)
+    }
+}
+
+/// Splits a party by what its members' worlds say of the sensed fluents: for each true world
+/// the possible worlds kept are those that agree with it on all of them.
+fn split(mut party: Party, fluents: World) -> Vec<Party> {
+    party.sort_by_key(|world| world & fluents);
+    party
+        .chunk_by(|one, two| (one ^ two) & fluents == 0)
+        .map(<[World]>::to_vec)
+        .collect()
+}

@@ -1,0 +1,89 @@
+//! What the generators promise: small runs without differences, and rows of every answer.
+
+use std::collections::BTreeSet;
+
+use oracle::rows::rows;
+use oracle::run::run;
+use oracle::text::parse_bytes;
+use oracle::{check, judge};
+
+#[test]
+fn small_runs_show_no_difference() {
+    for seed in 1..=3 {
+        let tally = run(seed, 2_000, 400);
+        assert_eq!(tally.differences(), &[] as &[String]);
+    }
+}
+
+#[test]
+fn a_run_too_small_fails() {
+    let verdict = run(1, 10, 10).verdict();
+    assert!(verdict.is_err_and(|reason| reason.starts_with("never met")));
+}
+
+/// Takes the bytes of one field, which is one word or three, from the words of a row.
+fn take<'a>(words: &mut impl Iterator<Item = &'a str>) -> Vec<u8> {
+    match words.next().expect("a field") {
+        "-" => Vec::new(),
+        "REP" => {
+            let byte = words.next().expect("a byte").parse().expect("a byte");
+            let times = words.next().expect("a number").parse().expect("a number");
+            vec![byte; times]
+        }
+        word => parse_bytes(word).expect("bytes"),
+    }
+}
+
+fn number<'a>(words: &mut impl Iterator<Item = &'a str>) -> u32 {
+    words.next().expect("a field").parse().expect("a number")
+}
+
+#[test]
+fn rows_can_be_computed_again() {
+    let mut met = BTreeSet::new();
+    let mut long = 0;
+    for row in rows(5, 300, 300) {
+        let mut words = row.split(' ');
+        let kind = words.next().expect("a kind");
+        let request = take(&mut words);
+        let (answer, state) = match kind {
+            "J" => {
+                let mut lent = vec![77; number(&mut words) as usize];
+                let answer = judge(&request, &mut lent, number(&mut words));
+                (answer, matches!(answer.number, 1 | 2).then_some(lent))
+            }
+            "D" => (check(&request, &take(&mut words)), None),
+            _ => panic!("no such kind: {kind}"),
+        };
+        let told: Vec<u32> = (0..4).map(|_| number(&mut words)).collect();
+        let found = vec![
+            answer.number.into(),
+            answer.input.into(),
+            answer.place,
+            answer.count,
+        ];
+        assert_eq!(told, found, "{row}");
+        if kind == "J" {
+            assert_eq!(take(&mut words), state.unwrap_or_default(), "{row}");
+        }
+        assert_eq!(words.next(), None);
+        met.insert((kind.to_string(), answer.number));
+        long += u32::from(request.len() > 300);
+    }
+    let judging = (0..=3)
+        .chain(9..=21)
+        .map(|number| ("J".to_string(), number));
+    let checking = [0].into_iter().chain(10..=21).chain(30..=35);
+    let all: BTreeSet<_> = judging
+        .chain(checking.map(|number| ("D".to_string(), number)))
+        .collect();
+    assert_eq!(met, all);
+    assert!(long <= 3);
+}
+
+#[test]
+fn rows_come_from_the_seed_alone() {
+    let once: Vec<String> = rows(9, 40, 20).collect();
+    assert_eq!(once, rows(9, 40, 20).collect::<Vec<_>>());
+    assert_ne!(once, rows(10, 40, 20).collect::<Vec<_>>());
+}
