@@ -1,0 +1,171 @@
+-- Whatever a walk verifies is carried out as demand 3 says, for any states, worlds, literals and readings, from a record of what one step must
+-- satisfy. The induction keeps that every possible world agrees with the state and that the true world is among them. Assumes nothing.
+use Prim.Native.Nat.{ℕ, _+_}
+use mathlib.Core.Path.{_≡_, refl, sym, _∙_, ap, subst}
+use mathlib.Core.Bool.{Bool, true, false}
+use mathlib.Core.List.{List}
+use mathlib.Core.Logic.{_⊎_, inl, inr, ⊎-elim}
+use Rattle.meaning.specs.Tests.{pick, each-of}
+use Rattle.meaning.specs.Requests.{Sequence, done, item, Item, act, branching, Branches, none, branch}
+use Rattle.meaning.specs.States.{Outcome, single, fork}
+use Rattle.meaning.specs.Walk.{End, fine, missed, stuck, Walked, stuck-at, counted, keep-miss, after-miss, after-end, and-then, each-reading, Steps, run-action, walk, walk-item, walk-branch}
+use Rattle.meaning.specs.Worlds.{Domain, Worlds, Sure, Kept, Moved, Acted, None-sure, Carried, Carried-item, Chosen}
+use Rattle.meaning.proofs.TestLaws.{by-test, clash, pick-cases, each-mono}
+
+-- ENDS. A walk is verified where it ends fine.
+module _ {S : Type 0} where
+  missed≢fine : {p : ℕ} {s : S} → missed p s ≡ fine → ⊥
+  missed≢fine e = subst is-missed e tt
+    where
+      is-missed : End S → Type 0
+      is-missed fine = ⊥
+      is-missed (missed p s) = Unit {0}
+      is-missed (stuck p s) = ⊥
+
+  stuck≢fine : {p : ℕ} {s : S} → stuck p s ≡ fine → ⊥
+  stuck≢fine e = subst is-stuck e tt
+    where
+      is-stuck : End S → Type 0
+      is-stuck fine = ⊥
+      is-stuck (missed p s) = ⊥
+      is-stuck (stuck p s) = Unit {0}
+
+  abbrev pub Verified : Walked S → Type 0
+  Verified w = w .end ≡ fine
+
+  pub stuck-at-not-verified : (p : ℕ) (s : S) → Verified (stuck-at p s) → ⊥
+  unfolding stuck-at
+  stuck-at-not-verified p s e = stuck≢fine e
+
+  pub counted-verified : (c : ℕ) (w : Walked S) → Verified (counted c w) → Verified w
+  unfolding counted
+  counted-verified c w e = e
+
+  -- Two walks, one after the other, are verified where both are.
+  pub then-verified : (w : Walked S) (more : Unit {0} → Walked S) → Verified (and-then w more) → Verified w × Verified (more tt)
+  unfolding and-then after-end counted after-miss keep-miss
+  then-verified w more e = go (w .end) (more tt .end) refl refl e
+    where
+      kept : (p : ℕ) (s : S) (x : End S) → keep-miss p s x ≡ fine → ⊥
+      kept p s fine q = missed≢fine q
+      kept p s (missed i u) q = missed≢fine q
+      kept p s (stuck i u) q = stuck≢fine q
+
+      go : (x y : End S) → w .end ≡ x → more tt .end ≡ y → after-end x (w .count) more .end ≡ fine → (w .end ≡ fine) × (more tt .end ≡ fine)
+      go fine y p q r = (p, r)
+      go (missed i u) y p q r = absurd (kept i u (more tt .end) r)
+      go (stuck i u) y p q r = absurd (stuck≢fine r)
+
+  -- Something holds of one of the states that an action leads to.
+  abbrev pub Some-state : Outcome S → (S → Type 0) → Type 0
+  Some-state (single s) Q = Q s
+  Some-state (fork o p) Q = Some-state o Q ⊎ Some-state (p tt) Q
+
+  -- Where every reading is verified, so is the one that Q holds of.
+  pub reading-verified : (o : Outcome S) (k : S → Walked S) (Q : S → Type 0) → Verified (each-reading o k) → Some-state o Q → (s : S) × Q s × Verified (k s)
+  unfolding each-reading
+  reading-verified (single s) k Q e h = (s, h, e)
+  reading-verified (fork o p) k Q e h =
+      let b = then-verified (each-reading o k) (λ _. each-reading (p tt) k) e in
+      ⊎-elim (reading-verified o k Q (b .0)) (reading-verified (p tt) k Q (b .1)) h
+
+-- PLANS in which every two conditions of a branching are apart.
+module _ {L : Type 0} (Apart : List L → List L → Type 0) where
+  abbrev pub Apart-from : List L → Branches L → Type 0
+  Apart-from c none = Unit {0}
+  Apart-from c (branch e b bs) = Apart c e × Apart-from c bs
+
+  abbrev mutual
+    pub Fit : Sequence L → Type 0
+    Fit done = Unit {0}
+    Fit (item i rest) = Fit-item i × Fit rest
+
+    pub Fit-item : Item L → Type 0
+    Fit-item (act p a) = Unit {0}
+    Fit-item (branching p bs) = Fit-branches bs
+
+    pub Fit-branches : Branches L → Type 0
+    Fit-branches none = Unit {0}
+    Fit-branches (branch c b bs) = Apart-from c bs × Fit b × Fit-branches bs
+
+module _ {S W L R : Type 0} where
+  -- What a step must satisfy, where `Agrees w s` says that all that s knows is right in the world w.
+  pub record Sound-step (step : Steps S L) (d : Domain W L R) (Apart : List L → List L → Type 0) (Agrees : W → S → Type 0) : Type 0 where
+    -- runnable is sound
+    pub runs : (a : ℕ) (w : W) (s : S) → Agrees w s → step .runs a s ≡ true → d .may-be-run a w ≡ true
+    -- the state after is sound
+    pub moves : (a : ℕ) (s : S) → d .sensing a ≡ false → Some-state (step .leads-to a s) (λ u. (w : W) → Agrees w s → Agrees (d .moved a w) u)
+    -- a reading is sound: the one that the true world v gives
+    pub reads : (a : ℕ) (s : S) (v : W) → d .sensing a ≡ true → Agrees v s → Some-state (step .leads-to a s) (λ u. (w : W) → Agrees w s → d .shows a w ≡ d .shows a v → Agrees w u)
+    -- a branching is sound: what is known holds, and conditions that are apart don't hold together
+    pub knows : (l : L) (w : W) (s : S) → Agrees w s → step .knows s l ≡ true → d .holds w l ≡ true
+    pub apart : (c e : List L) (w : W) → Apart c e → each-of (d .holds w) c ≡ true → each-of (d .holds w) e ≡ true → ⊥
+
+module _ {S W L R : Type 0} (step : Steps S L) (d : Domain W L R) (Apart : List L → List L → Type 0) (Agrees : W → S → Type 0) (sound : Sound-step step d Apart Agrees) where
+  -- Every possible world agrees with the state, and the true one is among them.
+  pub record Known (v : W) (P : Worlds W) (s : S) : Type 0 where
+    pub agree : (w : W) → P w → Agrees w s
+    pub actual : P v
+
+  -- What is wanted after a plan follows from what the walk makes of it.
+  abbrev pub Follows : (S → Walked S) → (W → Worlds W → Type 0) → Type 1
+  Follows k K = (s : S) (v : W) (P : Worlds W) → Known v P s → Verified (k s) → K v P
+
+  sure : {v : W} {P : Worlds W} {s : S} (c : List L) → Known v P s → each-of (step .knows s) c ≡ true → Sure d c P
+  sure {s = s} c g e = λ w h. each-mono (step .knows s) (d .holds w) (λ l. sound .knows l w s (g .agree w h)) c e
+
+  -- The condition c holds in every possible world, so none that it is apart from does.
+  none-sure : {P : Worlds W} (v : W) (c : List L) (bs : Branches L) → P v → Sure d c P → Apart-from Apart c bs → None-sure d bs P
+  none-sure v c none h sc o = tt
+  none-sure v c (branch e b bs) h sc o = (λ se. sound .apart c e v (o .0) (sc v h) (se v h), none-sure v c bs h sc (o .1))
+
+  -- A later branch was followed, so c, apart from its condition, does not hold in every possible world.
+  not-sure : (k : S → Walked S) {v : W} {P : Worlds W} {s : S} (c : List L) (bs : Branches L) (p : ℕ) → Known v P s → Apart-from Apart c bs → Verified (walk-branch step bs p k s) → Sure d c P → ⊥
+  unfolding walk pick
+  not-sure k {s = s} c none p g o r sc = stuck-at-not-verified p s r
+  not-sure k {v} {s = s} c (branch e b bs) p g o r sc =
+      by-test (each-of (step .knows s) e)
+      (λ q. sound .apart c e v (o .0) (sc v (g .actual)) (sure e g q v (g .actual)))
+      (λ q. not-sure k c bs p g (o .1) (rw (q, pick) at r) sc)
+
+  run-sound : (p a : ℕ) (k : S → Walked S) (K : W → Worlds W → Type 0) → Follows k K → Follows (run-action step p a k) (Acted d a K)
+  unfolding run-action pick
+  run-sound p a k K then s v P g e =
+      by-test (step .runs a s) (λ run. acted run (rw (run, pick) at e)) (λ off. absurd (stuck-at-not-verified p s (rw (off, pick) at e)))
+    where
+      acted : step .runs a s ≡ true → Verified (counted 1 (each-reading (step .leads-to a s) k)) → Acted d a K v P
+      acted run fine-after =
+          let each = counted-verified 1 (each-reading (step .leads-to a s) k) fine-after in
+          record {
+            allowed = λ w h. sound .runs a w s (g .agree w h) run;
+            read = λ sens.
+                let t = reading-verified (step .leads-to a s) k _ each (sound .reads a s v sens (g .agree v (g .actual))) in
+                then (t .0) v (Kept d a v P) (record { agree = λ w h. t .1 w (g .agree w (h .0)) (h .1); actual = (g .actual, refl) }) (t .2);
+            done = λ off.
+                let t = reading-verified (step .leads-to a s) k _ each (sound .moves a s off) in
+                then (t .0) (d .moved a v) (Moved d a P)
+                (record { agree = λ w h. subst (λ (u : W). Agrees u (t .0)) (sym (h .2)) (t .1 (h .0) (g .agree (h .0) (h .1))); actual = (v, g .actual, refl) })
+                (t .2);
+          }
+
+  mutual
+    unfolding walk pick
+
+    -- DEMAND 3 from the record: where what follows is sound, so is the plan before it.
+    pub plan-sound : (p : Sequence L) → Fit Apart p → (k : S → Walked S) (K : W → Worlds W → Type 0) → Follows k K → Follows (walk step p k) (Carried d p K)
+    plan-sound done fit k K then s v P g e = then s v P g e
+    plan-sound (item i rest) fit k K then s v P g e =
+        item-sound i (fit .0) (walk step rest k) (Carried d rest K) (plan-sound rest (fit .1) k K then) s v P g e
+
+    item-sound : (i : Item L) → Fit-item Apart i → (k : S → Walked S) (K : W → Worlds W → Type 0) → Follows k K → Follows (walk-item step i k) (Carried-item d i K)
+    item-sound (act p a) fit k K then s v P g e = run-sound p a k K then s v P g e
+    item-sound (branching p bs) fit k K then s v P g e = branches-sound bs fit p k K then s v P g e
+
+    branches-sound : (bs : Branches L) → Fit-branches Apart bs → (p : ℕ) (k : S → Walked S) (K : W → Worlds W → Type 0) → Follows k K → Follows (walk-branch step bs p k) (Chosen d bs K)
+    branches-sound none fit p k K then s v P g e = stuck-at-not-verified p s e
+    branches-sound (branch c b bs) fit p k K then s v P g e =
+        by-test (each-of (step .knows s) c)
+        (λ q. inl (sure c g q, none-sure v c bs (g .actual) (sure c g q) (fit .0), plan-sound b (fit .1) k K then s v P g (rw (q, pick) at e)))
+        (λ q.
+        let later : Verified (walk-branch step bs p k s) = rw (q, pick) at e in
+        inr (not-sure k c bs p g (fit .0) later, branches-sound bs (fit .2) p k K then s v P g later))
