@@ -61,6 +61,10 @@ module _ {S : Type 0} where
   Some-state (single s) Q = Q s
   Some-state (fork o p) Q = Some-state o Q ⊎ Some-state (p tt) Q
 
+  pub some-state-map : {P Q : S → Type 0} → ((s : S) → P s → Q s) → (o : Outcome S) → Some-state o P → Some-state o Q
+  some-state-map h (single s) x = h s x
+  some-state-map h (fork o p) x = ⊎-elim (λ y. inl (some-state-map h o y)) (λ y. inr (some-state-map h (p tt) y)) x
+
   -- Where every reading is verified, so is the one that Q holds of.
   pub reading-verified : (o : Outcome S) (k : S → Walked S) (Q : S → Type 0) → Verified (each-reading o k) → Some-state o Q → (s : S) × Q s × Verified (k s)
   unfolding each-reading
