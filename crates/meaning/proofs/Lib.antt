@@ -4,5 +4,7 @@ pub mod TestLaws
 pub mod WalkLaws
 pub mod RefusalLaws
 pub mod LineLaws
+pub mod SettledLaws
 pub mod Sound
 pub mod TableSound
+pub mod AnswerLaws
