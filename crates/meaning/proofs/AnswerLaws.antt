@@ -4,18 +4,16 @@ use Prim.Native.Nat.{ℕ, zero, suc, _+_, _*_}
 use mathlib.Core.Path.{_≡_, refl}
 use mathlib.Core.Bool.{Bool, true, false}
 use mathlib.Core.List.{List, [], _∷_}
-use lib.ListN.{length}
-use lib.Dec.{eqb, ltb}
 use Rattle.meaning.specs.Tests.{either, pick, some-of}
 use Rattle.meaning.specs.Limits
 use Rattle.meaning.specs.Limits.{Limits}
 use Rattle.meaning.specs.Literals.{among}
-use Rattle.meaning.specs.Requests.{Table, Sequence, Item, Branches, Request}
+use Rattle.meaning.specs.Requests.{Table, Sequence, Item, Request}
 use Rattle.meaning.specs.Reading
-use Rattle.meaning.specs.Reading.{Got, got, fault, next, Met, Part}
+use Rattle.meaning.specs.Reading.{Got, got, fault, next, Part}
 use Rattle.meaning.specs.Refusals.{Found, nowhere, at, refuse, settled}
-use Rattle.meaning.specs.States.{State, first-state}
-use Rattle.meaning.specs.Walk.{End, fine, missed, stuck, Walked, walked}
+use Rattle.meaning.specs.States.{State}
+use Rattle.meaning.specs.Walk.{End, fine, missed, stuck}
 use Rattle.meaning.specs.Judging.{Judgement, ended, within, judge-settled, judge}
 use Rattle.meaning.proofs.TestLaws.{either-right}
 
@@ -185,11 +183,14 @@ unfolding pick
 picked-numbered true f g x y = x
 picked-numbered false f g x y = y
 
+refusal-numbered : (n : ℕ) → among n refusals ≡ true → among n answers ≡ true
+unfolding among answers some-of
+refusal-numbered n h = either-right _ _ (either-right _ _ (either-right _ _ (either-right _ _ (either-right _ _ h))))
+
 settled-answer-numbered : (lim : Limits) (lent : List ℕ) (budget : ℕ) (x : Got Request) → Numbered x → among (judge-settled lim lent budget x .answer .number) answers ≡ true
 unfolding judge-settled within among answers refusals some-of either
 settled-answer-numbered lim lent budget (got r e) h = picked-numbered _ _ _ refl (ended-numbered lent _ _)
-settled-answer-numbered lim lent budget (fault n p) h =
-    either-right _ _ (either-right _ _ (either-right _ _ (either-right _ _ (either-right _ _ h))))
+settled-answer-numbered lim lent budget (fault n p) h = refusal-numbered n h
 
 pub every-answer-numbered : (lim : Limits) (request lent : List ℕ) (budget : ℕ) → among (judge lim request lent budget .answer .number) answers ≡ true
 unfolding judge among answers refusals some-of either

@@ -1,8 +1,8 @@
 -- Whatever a walk verifies is carried out as demand 3 says, for any states, worlds, literals and readings, from a record of what one step must
 -- satisfy. The induction keeps that every possible world agrees with the state and that the true world is among them. Assumes nothing.
-use Prim.Native.Nat.{ℕ, _+_}
-use mathlib.Core.Path.{_≡_, refl, sym, _∙_, ap, subst}
-use mathlib.Core.Bool.{Bool, true, false}
+use Prim.Native.Nat.{ℕ}
+use mathlib.Core.Path.{_≡_, refl, sym, subst}
+use mathlib.Core.Bool.{true, false}
 use mathlib.Core.List.{List}
 use mathlib.Core.Logic.{_⊎_, inl, inr, ⊎-elim}
 use Rattle.meaning.specs.Tests.{pick, each-of}
@@ -10,7 +10,7 @@ use Rattle.meaning.specs.Requests.{Sequence, done, item, Item, act, bran
 use Rattle.meaning.specs.States.{Outcome, single, fork}
 use Rattle.meaning.specs.Walk.{End, fine, missed, stuck, Walked, stuck-at, counted, keep-miss, after-miss, after-end, and-then, each-reading, Steps, run-action, walk, walk-item, walk-branch}
 use Rattle.meaning.specs.Worlds.{Domain, Worlds, Sure, Kept, Moved, Acted, None-sure, Carried, Carried-item, Chosen}
-use Rattle.meaning.proofs.TestLaws.{by-test, clash, pick-cases, each-mono}
+use Rattle.meaning.proofs.TestLaws.{by-test, each-mono}
 
 -- ENDS. A walk is verified where it ends fine.
 module _ {S : Type 0} where

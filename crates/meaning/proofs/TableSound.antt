@@ -1,6 +1,6 @@
 -- The table's step over partial states satisfies the record, with "agrees" as: what is known holds. Known true is within holds in the world,
 -- which is within possible, and a move is given by the same lines under these three tests. Assumes nothing.
-use Prim.Native.Nat.{ℕ, zero, suc, _+_, _-_, _*_, _/_, _%_, _<_, _≤_}
+use Prim.Native.Nat.{ℕ, zero, suc, _+_, _*_, _%_, _<_, _≤_}
 use native.Mathlib.Omega.{arith}
 use native.Mathlib.Nat.{not-suc-le-zero, le-of-suc-le-suc}
 use native.Mathlib.Decide.{decLt, ℕ-discrete}
@@ -8,20 +8,20 @@ use mathlib.Core.Path.{_≡_, refl, sym, _∙_, ap, subst}
 use mathlib.Core.Bool.{Bool, true, false}
 use mathlib.Core.List.{List, [], _∷_, map}
 use mathlib.Core.Logic.{_⊎_, inl, inr, ⊎-elim}
-use lib.ListN.{length, getD, set, drop, replicate, getD-replicate, length-replicate}
+use lib.ListN.{length, getD, set, drop}
 use lib.Seq.{getD-set-same, getD-set-other, set-out}
 use lib.Dec.{eqb}
 use borrow.Author.Tests.{eqb-true, eqb-false, eq-eqb, ne-eqb}
-use Rattle.meaning.specs.Tests.{both, either, fails, pick, some-of, each-of}
+use Rattle.meaning.specs.Tests.{both, fails, pick, each-of}
 use Rattle.meaning.specs.Limits
 use Rattle.meaning.specs.Limits.{Limits}
 use Rattle.meaning.specs.Literals.{says-true, says-false, fluent-of, positive, complement, among, exclusive}
-use Rattle.meaning.specs.Requests.{Effect, Executability, Knowledge, Table, Request}
-use Rattle.meaning.specs.Lines.{effects-of, executability-of, knowledge-of, allowed, given, sensing, senses}
-use Rattle.meaning.specs.States.{State, Outcome, mark-of, known, possible, known-whether, told, told-all, first-state, can-be-run, known-after, mark-after, marks-after, state-after, unknown-from, unknown-sensed, readings, outcome}
+use Rattle.meaning.specs.Requests.{Effect, Executability, Knowledge, Table}
+use Rattle.meaning.specs.Lines.{effects-of, executability-of, knowledge-of, allowed, given, senses}
+use Rattle.meaning.specs.States.{State, Outcome, mark-of, known, possible, known-whether, told, can-be-run, known-after, mark-after, marks-after, state-after, unknown-from, unknown-sensed, readings, outcome}
 use Rattle.meaning.specs.Walk.{table-step}
 use Rattle.meaning.specs.Worlds.{World, holds, may-be-run, moved, shown, table-domain}
-use Rattle.meaning.proofs.TestLaws.{by-test, clash, both-left, both-right, both-true, either-left, either-right, either-split, fails-true, fails-false, pick-true, pick-false, pick-cases, Has, some-has, has-some, each-has, some-mono, each-mono}
+use Rattle.meaning.proofs.TestLaws.{by-test, clash, both-left, both-right, both-true, either-split, fails-true, fails-false, pick-true, pick-false, pick-cases, Has, some-has, each-has, some-mono, each-mono}
 use Rattle.meaning.proofs.RefusalLaws.{complement-even, complement-odd}
 use Rattle.meaning.proofs.Sound.{Some-state, some-state-map, Sound-step}
 
