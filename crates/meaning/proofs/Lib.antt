@@ -8,3 +8,4 @@ pub mod SettledLaws
 pub mod Sound
 pub mod TableSound
 pub mod AnswerLaws
+pub mod WalkSound

@@ -14,7 +14,7 @@ use Rattle.meaning.proofs.TestLaws.{by-test, each-mono}
 
 -- ENDS. A walk is verified where it ends fine.
 module _ {S : Type 0} where
-  missed≢fine : {p : ℕ} {s : S} → missed p s ≡ fine → ⊥
+  pub missed≢fine : {p : ℕ} {s : S} → missed p s ≡ fine → ⊥
   missed≢fine e = subst is-missed e tt
     where
       is-missed : End S → Type 0
@@ -22,7 +22,7 @@ module _ {S : Type 0} where
       is-missed (missed p s) = Unit {0}
       is-missed (stuck p s) = ⊥
 
-  stuck≢fine : {p : ℕ} {s : S} → stuck p s ≡ fine → ⊥
+  pub stuck≢fine : {p : ℕ} {s : S} → stuck p s ≡ fine → ⊥
   stuck≢fine e = subst is-stuck e tt
     where
       is-stuck : End S → Type 0
