@@ -18,12 +18,12 @@ use Rattle.meaning.specs.Judging.{Judgement, ended, within, judge-settle
 use Rattle.meaning.proofs.TestLaws.{either-right}
 
 -- The numbers of the refusals of a request, and all that the walk call answers.
-pub refusals : List ℕ
+unfoldable pub refusals : List ℕ
 refusals =
     Limits.too-long ∷ Limits.ends-too-soon ∷ Limits.count-outside ∷ Limits.too-large ∷ Limits.not-above ∷ Limits.complement-beside ∷
     Limits.contradictory-effects ∷ Limits.effect-and-knowledge ∷ Limits.not-exclusive ∷ Limits.nested-too-deep ∷ Limits.bytes-after ∷ Limits.too-many-items ∷ []
 
-pub answers : List ℕ
+unfoldable pub answers : List ℕ
 answers = Limits.verified ∷ Limits.goal-missed ∷ Limits.not-executable ∷ Limits.budget-spent ∷ Limits.state-length ∷ refusals
 
 -- A fault is one of the refusals.

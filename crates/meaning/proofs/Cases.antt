@@ -48,10 +48,10 @@ abbrev refused : (request : List ℕ) → (number place : ℕ) → Case
 refused request number place = row request lent-64 usual number 1 place 0 lent-64
 
 -- File A: its bytes 0 to 28, and those from 29 on.
-pub table-A : List ℕ
+unfoldable pub table-A : List ℕ
 table-A = 4 ∷ 3 ∷ 3 ∷ 3 ∷ 5 ∷ 7 ∷ 3 ∷ 1 ∷ 2 ∷ 0 ∷ 1 ∷ 6 ∷ 1 ∷ 0 ∷ 2 ∷ 4 ∷ 0 ∷ 3 ∷ 0 ∷ 0 ∷ 1 ∷ 1 ∷ 3 ∷ 2 ∷ 1 ∷ 2 ∷ 1 ∷ 0 ∷ 0 ∷ []
 
-pub file-A : List ℕ
+unfoldable pub file-A : List ℕ
 file-A = table-A ++ (0 ∷ 2 ∷ 0 ∷ 255 ∷ 2 ∷ 1 ∷ 1 ∷ 0 ∷ 2 ∷ 1 ∷ 2 ∷ 1 ∷ 0 ∷ 0 ∷ 0 ∷ 1 ∷ 7 ∷ 1 ∷ 2 ∷ [])
 
 -- One fluent, one action, no facts and no lines: the six bytes before the plan.

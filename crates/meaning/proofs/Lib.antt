@@ -9,3 +9,5 @@ pub mod Sound
 pub mod TableSound
 pub mod AnswerLaws
 pub mod WalkSound
+pub mod Demands
+pub mod NotEmpty

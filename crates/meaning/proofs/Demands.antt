@@ -1,0 +1,64 @@
+-- The demands on the walk call (FORMAT section 11), each by citing where its argument stands. Read this file first. Assumes nothing.
+use Prim.Native.Nat.{ℕ}
+use native.Mathlib.Omega.{arith}
+use mathlib.Core.Path.{_≡_, refl, ap}
+use mathlib.Core.Bool.{true}
+use mathlib.Core.List.{List}
+use lib.ListN.{length}
+use lib.Dec.{eqb, ltb}
+use Rattle.meaning.specs.Tests.{either, pick, some-of}
+use Rattle.meaning.specs.Limits
+use Rattle.meaning.specs.Limits.{Limits}
+use Rattle.meaning.specs.Literals.{among}
+use Rattle.meaning.specs.Requests.{Request}
+use Rattle.meaning.specs.Reading.{Got, got, fault}
+use Rattle.meaning.specs.Refusals.{settled}
+use Rattle.meaning.specs.States.{State, first-state}
+use Rattle.meaning.specs.Walk.{End, fine, missed, stuck, Walked, walked}
+use Rattle.meaning.specs.Judging.{ended, within, judge-settled, judge}
+use Rattle.meaning.specs.Worlds.{Carried-out}
+use Rattle.meaning.proofs.TestLaws.{by-test, clash}
+use Rattle.meaning.proofs.AnswerLaws
+use Rattle.meaning.proofs.AnswerLaws.{Numbered, refusals, answers, settled-numbered}
+use Rattle.meaning.proofs.Sound.{Verified}
+use Rattle.meaning.proofs.WalkSound.{walk-sound}
+
+-- Demand 1 (FORMAT 11.1): every input gets one of the numbered answers.
+pub numbered : (lim : Limits) (request lent : List ℕ) (budget : ℕ) → among (judge lim request lent budget .answer .number) answers ≡ true
+numbered = AnswerLaws.every-answer-numbered
+
+-- Answer 0 is given to a settled request whose walk is verified.
+module _ (lim : Limits) (lent : List ℕ) (budget : ℕ) where
+  verified-ends-fine : (c : ℕ) (e : End State) → ended lent c e .answer .number ≡ Limits.verified → e ≡ fine
+  unfolding ended
+  verified-ends-fine c fine q = refl
+  verified-ends-fine c (missed p s) q = absurd (omega arith)
+  verified-ends-fine c (stuck p s) q = absurd (omega arith)
+
+  verified-within : (w : Walked State) → within lent budget w .answer .number ≡ Limits.verified → Verified w
+  unfolding within pick
+  verified-within w q =
+      by-test (ltb budget (w .count))
+      (λ t. absurd (let three : _≡_ {A = ℕ} 3 0 = rw (t, pick) at q in omega arith))
+      (λ f. verified-ends-fine (w .count) (w .end) (rw (f, pick) at q))
+
+  verified-settled : (x : Got Request) → Numbered x → judge-settled lim lent budget x .answer .number ≡ Limits.verified
+      → (r : Request) × (e : ℕ) × (x ≡ got r e) × Verified (walked r (first-state lim (r .table)))
+  unfolding judge-settled among refusals some-of either
+  verified-settled (got r e) n q = (r, e, refl, verified-within _ q)
+  verified-settled (fault k p) n q = clash n (ap (λ (i : ℕ). among i refusals) q)
+
+pub verified-means : (lim : Limits) (request lent : List ℕ) (budget : ℕ) → judge lim request lent budget .answer .number ≡ Limits.verified
+    → (r : Request) × (e : ℕ) × (settled lim request ≡ got r e) × Verified (walked r (first-state lim (r .table)))
+unfolding judge pick
+verified-means lim request lent budget q =
+    by-test (eqb (length lent) (lim .state))
+    (λ t. verified-settled lim lent budget (settled lim request) (settled-numbered lim request) (rw (t, pick) at q))
+    (λ f. absurd (let nine : _≡_ {A = ℕ} 9 0 = rw (f, pick) at q in omega arith))
+
+-- Demand 3 (FORMAT 11.7 to 11.12): a verified plan is carried out in every world with the initial facts, at any budget.
+pub sound : (lim : Limits) (request lent : List ℕ) (budget : ℕ) → judge lim request lent budget .answer .number ≡ Limits.verified
+    → (r : Request) × (e : ℕ) × (settled lim request ≡ got r e) × Carried-out r
+sound lim request lent budget q =
+    let m = verified-means lim request lent budget q in
+    (m .0, m .1, m .2, walk-sound lim request (m .0) (m .1) (m .2) (m .3))
