@@ -1,5 +1,6 @@
 pub mod Compute
 pub mod Cases
+pub mod DerivationCases
 pub mod TestLaws
 pub mod WalkLaws
 pub mod RefusalLaws

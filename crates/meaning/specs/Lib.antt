@@ -11,3 +11,5 @@ pub mod Judging
 pub mod Worlds
 pub mod Approximation
 pub mod Paths
+pub mod Derivations
+pub mod Showing

@@ -11,9 +11,12 @@ pub record Limits : Type 0 where
   pub nested : ℕ
   pub items : ℕ
   pub request : ℕ
+  pub derivation : ℕ
   pub state : ℕ
+  pub lines : ℕ
+  pub citations : ℕ
 
--- The limits of the format (FORMAT 3.2 to 3.12).
+-- The limits of the format (FORMAT 3.2 to 3.15).
 abbrev pub format : Limits
 format = record {
   fluents = 64;
@@ -24,14 +27,17 @@ format = record {
   nested = 8;
   items = 1024;
   request = 16384;
+  derivation = 32768;
   state = 64;
+  lines = 1024;
+  citations = 64;
 }
 
 -- The byte that opens a branching (FORMAT 2.24).
 abbrev pub branching-byte : ℕ
 branching-byte = 255
 
--- Answers (FORMAT 4.3 to 4.19).
+-- Answers (FORMAT 4.3 to 4.25).
 abbrev pub verified : ℕ
 verified = 0
 
@@ -83,12 +89,52 @@ bytes-after = 20
 abbrev pub too-many-items : ℕ
 too-many-items = 21
 
+abbrev pub whether-asked : ℕ
+whether-asked = 30
+
+abbrev pub no-such-rule : ℕ
+no-such-rule = 31
+
+abbrev pub not-earlier : ℕ
+not-earlier = 32
+
+abbrev pub citations-not-taken : ℕ
+citations-not-taken = 33
+
+abbrev pub does-not-follow : ℕ
+does-not-follow = 34
+
+abbrev pub not-the-question : ℕ
+not-the-question = 35
+
+-- The rules of a derivation (FORMAT 10.12 to 10.17).
+abbrev pub empty-rule : ℕ
+empty-rule = 1
+
+abbrev pub action-rule : ℕ
+action-rule = 2
+
+abbrev pub sensing-rule : ℕ
+sensing-rule = 3
+
+abbrev pub branching-rule : ℕ
+branching-rule = 4
+
+abbrev pub composition-rule : ℕ
+composition-rule = 5
+
+abbrev pub consequence-rule : ℕ
+consequence-rule = 6
+
 -- The input that a place is in (FORMAT 4.26).
 abbrev pub neither-input : ℕ
 neither-input = 0
 
 abbrev pub the-request : ℕ
 the-request = 1
+
+abbrev pub the-derivation : ℕ
+the-derivation = 2
 
 -- Marks of a partial state (FORMAT 4.47, 7.1).
 abbrev pub unknown-mark : ℕ
