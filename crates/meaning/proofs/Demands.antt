@@ -19,7 +19,7 @@ use Rattle.meaning.specs.Judging.{ended, within, judge-settled, judge}
 use Rattle.meaning.specs.Worlds.{Carried-out}
 use Rattle.meaning.proofs.TestLaws.{by-test, clash}
 use Rattle.meaning.proofs.AnswerLaws
-use Rattle.meaning.proofs.AnswerLaws.{Numbered, refusals, answers, settled-numbered}
+use Rattle.meaning.proofs.AnswerLaws.{Numbered-in, refusals, answers, settled-numbered}
 use Rattle.meaning.proofs.Sound.{Verified}
 use Rattle.meaning.proofs.WalkSound.{walk-sound}
 
@@ -42,7 +42,7 @@ module _ (lim : Limits) (lent : List ℕ) (budget : ℕ) where
       (λ t. absurd (let three : _≡_ {A = ℕ} 3 0 = rw (t, pick) at q in omega arith))
       (λ f. verified-ends-fine (w .count) (w .end) (rw (f, pick) at q))
 
-  verified-settled : (x : Got Request) → Numbered x → judge-settled lim lent budget x .answer .number ≡ Limits.verified
+  verified-settled : (x : Got Request) → Numbered-in refusals x → judge-settled lim lent budget x .answer .number ≡ Limits.verified
       → (r : Request) × (e : ℕ) × (x ≡ got r e) × Verified (walked r (first-state lim (r .table)))
   unfolding judge-settled among refusals some-of either
   verified-settled (got r e) n q = (r, e, refl, verified-within _ q)
@@ -53,7 +53,7 @@ pub verified-means : (lim : Limits) (request lent : List ℕ) (budget : ℕ) →
 unfolding judge pick
 verified-means lim request lent budget q =
     by-test (eqb (length lent) (lim .state))
-    (λ t. verified-settled lim lent budget (settled lim request) (settled-numbered lim request) (rw (t, pick) at q))
+    (λ t. verified-settled lim lent budget (settled lim request) (settled-numbered refusals (λ n h. h) lim request) (rw (t, pick) at q))
     (λ f. absurd (let nine : _≡_ {A = ℕ} 9 0 = rw (f, pick) at q in omega arith))
 
 -- Demand 3 (FORMAT 11.7 to 11.12): a verified plan is carried out in every world with the initial facts, at any budget.
