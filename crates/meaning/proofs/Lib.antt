@@ -12,3 +12,4 @@ pub mod AnswerLaws
 pub mod WalkSound
 pub mod Demands
 pub mod NotEmpty
+pub mod Accepted

@@ -27,7 +27,7 @@ module _ {A : Type 0} where
       value (fault n i) = x
 
   -- A refusal that gives something has found nothing.
-  refuse-got : (n : ℕ) (f : Found) (k : Unit {0} → Got A) {x : A} {p : ℕ} → refuse n f k ≡ got x p → (f ≡ nowhere) × (k tt ≡ got x p)
+  pub refuse-got : (n : ℕ) (f : Found) (k : Unit {0} → Got A) {x : A} {p : ℕ} → refuse n f k ≡ got x p → (f ≡ nowhere) × (k tt ≡ got x p)
   unfolding refuse
   refuse-got n nowhere k e = (refl, e)
   refuse-got n (at q) k e = absurd (fault≢got e)

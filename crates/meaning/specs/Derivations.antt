@@ -1,5 +1,5 @@
 -- Derivations: reading one, the six rules, and the answer of the derivation call for every pair of inputs (FORMAT section 10).
-use Prim.Native.Nat.{ℕ, zero, suc, _+_, _^_}
+use Prim.Native.Nat.{ℕ, _+_, _^_}
 use mathlib.Core.Bool.{Bool, true, false}
 use mathlib.Core.List.{List, [], _∷_, _++_, map}
 use lib.ListN.{length, getD, replicate}
@@ -10,8 +10,8 @@ use Rattle.meaning.specs.Limits
 use Rattle.meaning.specs.Limits.{Limits}
 use Rattle.meaning.specs.Literals.{says-true, says-false, among}
 use Rattle.meaning.specs.Requests.{Table, Sequence, done, item, Item, act, branching, Branches, none, branch, Entry, Request, values}
-use Rattle.meaning.specs.Reading.{Got, got, fault, next, byte-at, two-bytes-at, count-at, Kind, literals, list-at, repeated, plan-at}
-use Rattle.meaning.specs.Refusals.{Found, nowhere, at, or-else, overlap-in, refuse, settled}
+use Rattle.meaning.specs.Reading.{Got, got, fault, next, byte-at, two-bytes-at, count-at, literals, list-at, repeated, plan-at}
+use Rattle.meaning.specs.Refusals.{Found, nowhere, or-else, overlap-in, refuse, settled}
 use Rattle.meaning.specs.Lines.{sensing}
 use Rattle.meaning.specs.States.{State, known, told-all, can-be-run, state-after, unknown-sensed, Outcome, single, fork, readings}
 
