@@ -1,12 +1,13 @@
 -- The derivation cases of the format (FORMAT 13.40 to 13.54), the derivation of example 3.1 of Zhao and Shen, and a row or more for each
 -- refusal and decision about derivations and about showing, computed by the definitions. Assumes nothing.
-use Prim.Native.Nat.{ℕ}
+use Prim.Native.Nat.{ℕ, zero, suc, _+_, _*_, _/_, _%_, _^_}
 use mathlib.Core.Path.{_≡_, refl}
 use mathlib.Core.List.{List, [], _∷_, _++_, map}
 use lib.ListN.{take, replicate}
 use Rattle.meaning.specs.declared.Answer.{Answer}
 use Rattle.meaning.specs.Limits.{format}
 use Rattle.meaning.specs.Derivations.{check}
+use Rattle.meaning.specs.Showing.{Part, show}
 use Rattle.meaning.proofs.Compute.{all-open}
 use Rattle.meaning.proofs.Cases.{table-A, file-A}
 
@@ -36,8 +37,29 @@ request-3-1 = 3 ∷ 3 ∷ 2 ∷ 3 ∷ 5 ∷ 4 ∷ 1 ∷ 2 ∷ 1 ∷ 0 ∷ 1 ∷ 
 derivation-3-1 : List ℕ
 derivation-3-1 = 0 ∷ 7 ∷ 3 ∷ 1 ∷ 3 ∷ 5 ∷ 0 ∷ 1 ∷ 2 ∷ 3 ∷ 0 ∷ 3 ∷ 5 ∷ 2 ∷ 0 ∷ 3 ∷ 1 ∷ 3 ∷ 5 ∷ 0 ∷ 1 ∷ 255 ∷ 2 ∷ 1 ∷ 1 ∷ 0 ∷ 1 ∷ 2 ∷ 1 ∷ 0 ∷ 0 ∷ 0 ∷ 3 ∷ 0 ∷ 3 ∷ 5 ∷ 4 ∷ 1 ∷ 0 ∷ 0 ∷ 3 ∷ 0 ∷ 3 ∷ 5 ∷ 0 ∷ 0 ∷ 3 ∷ 0 ∷ 3 ∷ 5 ∷ 1 ∷ 0 ∷ 3 ∷ 0 ∷ 3 ∷ 5 ∷ 0 ∷ 1 ∷ 255 ∷ 2 ∷ 1 ∷ 1 ∷ 0 ∷ 1 ∷ 2 ∷ 1 ∷ 0 ∷ 0 ∷ 0 ∷ 3 ∷ 0 ∷ 3 ∷ 5 ∷ 4 ∷ 1 ∷ 0 ∷ 2 ∷ 2 ∷ 3 ∷ 5 ∷ 0 ∷ 2 ∷ 0 ∷ 255 ∷ 2 ∷ 1 ∷ 1 ∷ 0 ∷ 1 ∷ 2 ∷ 1 ∷ 0 ∷ 0 ∷ 0 ∷ 3 ∷ 0 ∷ 3 ∷ 5 ∷ 3 ∷ 2 ∷ 0 ∷ 3 ∷ 0 ∷ 1 ∷ 3 ∷ 0 ∷ 3 ∷ 5 ∷ 0 ∷ 1 ∷ 1 ∷ 3 ∷ 0 ∷ 2 ∷ 5 ∷ 2 ∷ 0 ∷ 2 ∷ 3 ∷ 5 ∷ 0 ∷ 3 ∷ 0 ∷ 255 ∷ 2 ∷ 1 ∷ 1 ∷ 0 ∷ 1 ∷ 2 ∷ 1 ∷ 0 ∷ 0 ∷ 0 ∷ 1 ∷ 3 ∷ 0 ∷ 2 ∷ 5 ∷ 5 ∷ 2 ∷ 0 ∷ 4 ∷ 0 ∷ 5 ∷ []
 
-pub cases : List Case
-cases =
+-- One action that senses seven fluents, all unknown.
+sensing-seven : List ℕ
+sensing-seven = 7 ∷ 1 ∷ 0 ∷ 0 ∷ 1 ∷ 0 ∷ 0 ∷ 7 ∷ 0 ∷ 0 ∷ 0 ∷ 1 ∷ 0 ∷ 2 ∷ 0 ∷ 3 ∷ 0 ∷ 4 ∷ 0 ∷ 5 ∷ 0 ∷ 6 ∷ 0 ∷ 1 ∷ 0 ∷ 0 ∷ 0 ∷ []
+
+-- The literals of reading k, from fluent f on, and one line for each of so many readings, from k on: X the reading, nothing to do, nothing
+-- wanted, by rule 6 from line 0.
+reading : (left k f : ℕ) → List ℕ
+reading zero k f = []
+reading (suc left) k f = (2 * f + (k / 2 ^ left) % 2) ∷ reading left k (suc f)
+
+reading-lines : (left k : ℕ) → List ℕ
+reading-lines zero k = []
+reading-lines (suc left) k = 7 ∷ reading 7 k 0 ++ (0 ∷ 0 ∷ 0 ∷ 6 ∷ 1 ∷ 0 ∷ 0 ∷ []) ++ reading-lines left (suc k)
+
+cited-from : (left k : ℕ) → List ℕ
+cited-from zero k = []
+cited-from (suc left) k = 0 ∷ k ∷ cited-from left (suc k)
+
+seven-readings : List ℕ
+seven-readings = 0 ∷ 66 ∷ 0 ∷ 0 ∷ 0 ∷ 0 ∷ 1 ∷ 0 ∷ reading-lines 64 0 ++ (0 ∷ 0 ∷ 1 ∷ 0 ∷ 0 ∷ 3 ∷ 64 ∷ []) ++ cited-from 64 1
+
+pub derivations : List Case
+derivations =
     -- Case 14.
     row request-14 derivation-14 0 0 0 ∷
     row request-14 (lines-14 ++ (2 ∷ 0 ∷ 7 ∷ 0 ∷ 2 ∷ [])) 34 2 144 ∷
@@ -76,9 +98,53 @@ cases =
     row request-14 (0 ∷ 9 ∷ 4 ∷ 0 ∷ 3 ∷ 5 ∷ 7 ∷ 0 ∷ 0 ∷ 4 ∷ 0 ∷ 3 ∷ 5 ∷ 7 ∷ 1 ∷ 0 ∷ 4 ∷ 0 ∷ 3 ∷ 5 ∷ 7 ∷ 0 ∷ 0 ∷ 2 ∷ 2 ∷ 7 ∷ 6 ∷ 1 ∷ 0 ∷ 0 ∷ 4 ∷ 0 ∷ 3 ∷ 5 ∷ 7 ∷ 0 ∷ 1 ∷ 255 ∷ 2 ∷ 1 ∷ 1 ∷ 0 ∷ 2 ∷ 1 ∷ 2 ∷ 1 ∷ 0 ∷ 0 ∷ 0 ∷ 1 ∷ 7 ∷ 4 ∷ 1 ∷ 0 ∷ 1 ∷ 4 ∷ 1 ∷ 3 ∷ 5 ∷ 7 ∷ 0 ∷ 1 ∷ 1 ∷ 4 ∷ 1 ∷ 2 ∷ 5 ∷ 7 ∷ 2 ∷ 0 ∷ 4 ∷ 1 ∷ 2 ∷ 5 ∷ 7 ∷ 0 ∷ 1 ∷ 2 ∷ 4 ∷ 1 ∷ 2 ∷ 4 ∷ 7 ∷ 2 ∷ 0 ∷ 4 ∷ 1 ∷ 3 ∷ 5 ∷ 7 ∷ 0 ∷ 2 ∷ 1 ∷ 2 ∷ 4 ∷ 1 ∷ 2 ∷ 4 ∷ 7 ∷ 5 ∷ 2 ∷ 0 ∷ 3 ∷ 0 ∷ 4 ∷ 4 ∷ 1 ∷ 3 ∷ 5 ∷ 7 ∷ 0 ∷ 2 ∷ 1 ∷ 2 ∷ 1 ∷ 7 ∷ 6 ∷ 1 ∷ 0 ∷ 5 ∷ 4 ∷ 1 ∷ 3 ∷ 5 ∷ 7 ∷ 0 ∷ 1 ∷ 255 ∷ 2 ∷ 1 ∷ 1 ∷ 0 ∷ 2 ∷ 1 ∷ 2 ∷ 1 ∷ 0 ∷ 0 ∷ 0 ∷ 1 ∷ 7 ∷ 4 ∷ 1 ∷ 0 ∷ 6 ∷ 3 ∷ 3 ∷ 5 ∷ 7 ∷ 0 ∷ 2 ∷ 0 ∷ 255 ∷ 2 ∷ 1 ∷ 1 ∷ 0 ∷ 2 ∷ 1 ∷ 2 ∷ 1 ∷ 0 ∷ 0 ∷ 0 ∷ 1 ∷ 7 ∷ 3 ∷ 2 ∷ 0 ∷ 2 ∷ 0 ∷ 7 ∷ []) 34 2 16 ∷
     -- The last line is not the question.
     row request-14 (0 ∷ 8 ∷ 4 ∷ 0 ∷ 3 ∷ 5 ∷ 7 ∷ 0 ∷ 0 ∷ 4 ∷ 0 ∷ 3 ∷ 5 ∷ 7 ∷ 1 ∷ 0 ∷ 4 ∷ 0 ∷ 3 ∷ 5 ∷ 7 ∷ 0 ∷ 0 ∷ 1 ∷ 7 ∷ 6 ∷ 1 ∷ 0 ∷ 0 ∷ 4 ∷ 0 ∷ 3 ∷ 5 ∷ 7 ∷ 0 ∷ 1 ∷ 255 ∷ 2 ∷ 1 ∷ 1 ∷ 0 ∷ 2 ∷ 1 ∷ 2 ∷ 1 ∷ 0 ∷ 0 ∷ 0 ∷ 1 ∷ 7 ∷ 4 ∷ 1 ∷ 0 ∷ 1 ∷ 4 ∷ 1 ∷ 3 ∷ 5 ∷ 7 ∷ 0 ∷ 1 ∷ 1 ∷ 4 ∷ 1 ∷ 2 ∷ 5 ∷ 7 ∷ 2 ∷ 0 ∷ 4 ∷ 1 ∷ 2 ∷ 5 ∷ 7 ∷ 0 ∷ 1 ∷ 2 ∷ 4 ∷ 1 ∷ 2 ∷ 4 ∷ 7 ∷ 2 ∷ 0 ∷ 4 ∷ 1 ∷ 3 ∷ 5 ∷ 7 ∷ 0 ∷ 2 ∷ 1 ∷ 2 ∷ 4 ∷ 1 ∷ 2 ∷ 4 ∷ 7 ∷ 5 ∷ 2 ∷ 0 ∷ 3 ∷ 0 ∷ 4 ∷ 4 ∷ 1 ∷ 3 ∷ 5 ∷ 7 ∷ 0 ∷ 2 ∷ 1 ∷ 2 ∷ 1 ∷ 7 ∷ 6 ∷ 1 ∷ 0 ∷ 5 ∷ 4 ∷ 1 ∷ 3 ∷ 5 ∷ 7 ∷ 0 ∷ 1 ∷ 255 ∷ 2 ∷ 1 ∷ 1 ∷ 0 ∷ 2 ∷ 1 ∷ 2 ∷ 1 ∷ 0 ∷ 0 ∷ 0 ∷ 1 ∷ 7 ∷ 4 ∷ 1 ∷ 0 ∷ 6 ∷ []) 35 2 119 ∷
+    -- Rule 3 with the right line for the first reading only (D36).
+    row request-14 (lines-14 ++ (2 ∷ 0 ∷ 2 ∷ 0 ∷ 2 ∷ [])) 34 2 144 ∷
+    -- Rule 5 with a middle that is only contained (D38).
+    row request-14 (0 ∷ 3 ∷ 3 ∷ 3 ∷ 5 ∷ 7 ∷ 0 ∷ 0 ∷ 3 ∷ 3 ∷ 5 ∷ 7 ∷ 1 ∷ 0 ∷ 2 ∷ 3 ∷ 5 ∷ 0 ∷ 0 ∷ 2 ∷ 3 ∷ 5 ∷ 1 ∷ 0 ∷ 3 ∷ 3 ∷ 5 ∷ 7 ∷ 0 ∷ 0 ∷ 2 ∷ 3 ∷ 5 ∷ 5 ∷ 2 ∷ 0 ∷ 0 ∷ 0 ∷ 1 ∷ []) 34 2 24 ∷
+    -- Rule 4 with a condition that is possible and not within X (D37).
+    row request-14 (0 ∷ 3 ∷ 3 ∷ 3 ∷ 5 ∷ 7 ∷ 0 ∷ 0 ∷ 3 ∷ 3 ∷ 5 ∷ 7 ∷ 1 ∷ 0 ∷ 3 ∷ 3 ∷ 5 ∷ 7 ∷ 0 ∷ 0 ∷ 1 ∷ 7 ∷ 6 ∷ 1 ∷ 0 ∷ 0 ∷ 3 ∷ 3 ∷ 5 ∷ 7 ∷ 0 ∷ 1 ∷ 255 ∷ 2 ∷ 1 ∷ 1 ∷ 0 ∷ 2 ∷ 1 ∷ 2 ∷ 1 ∷ 0 ∷ 0 ∷ 0 ∷ 1 ∷ 7 ∷ 4 ∷ 1 ∷ 0 ∷ 1 ∷ []) 34 2 26 ∷
+    -- 34 goes before 35 (D30).
+    row request-14 (0 ∷ 1 ∷ 0 ∷ 0 ∷ 0 ∷ 1 ∷ 7 ∷ 1 ∷ 0 ∷ []) 34 2 2 ∷
+    -- A sensing step over seven unknown fluents, with the lines of the first 64 of its 128 readings (FORMAT 10.32).
+    row sensing-seven seven-readings 34 2 968 ∷
     []
 
+-- SHOWING: an answer, both inputs, and the part that is shown.
+pub record Shown : Type 0 where
+  pub answer : Answer
+  pub request : List ℕ
+  pub derivation : List ℕ
+  pub part : Part
+
+abbrev shows : (input place : ℕ) → (part-input start : ℕ) → (bytes : List ℕ) → Shown
+shows input place part-input start bytes = record {
+  answer = record { number = 34; input = input; place = place; count = 0 };
+  request = 5 ∷ 6 ∷ 7 ∷ [];
+  derivation = 1 ∷ 2 ∷ [];
+  part = record { input = part-input; start = start; bytes = bytes };
+}
+
+pub showings : List Shown
+showings =
+    shows 1 0 1 0 (5 ∷ 6 ∷ 7 ∷ []) ∷
+    shows 1 2 1 2 (7 ∷ []) ∷
+    shows 2 1 2 1 (2 ∷ []) ∷
+    -- At the end and beyond it (FORMAT 6.4, 6.5).
+    shows 1 3 1 3 [] ∷
+    shows 1 4 1 3 [] ∷
+    shows 2 9 2 2 [] ∷
+    -- Neither (FORMAT 6.2, 6.3).
+    shows 0 1 1 0 [] ∷
+    shows 3 1 1 0 [] ∷
+    shows 255 2 1 0 [] ∷
+    []
+
+pub showings-hold : map (λ (c : Shown). show (c .answer) (c .request) (c .derivation)) showings ≡ map (λ (c : Shown). c .part) showings
+unfolding all-open showings
+showings-hold = refl
+
 -- Every derivation is answered as its row says.
-pub cases-hold : map (λ (c : Case). check format (c .request) (c .derivation)) cases ≡ map (λ (c : Case). c .gives) cases
-unfolding all-open table-A file-A request-14 lines-14 derivation-14 request-3-1 derivation-3-1 cases
-cases-hold = refl
+pub derivations-hold : map (λ (c : Case). check format (c .request) (c .derivation)) derivations ≡ map (λ (c : Case). c .gives) derivations
+unfolding all-open table-A file-A request-14 lines-14 derivation-14 request-3-1 derivation-3-1 sensing-seven reading reading-lines cited-from seven-readings derivations
+derivations-hold = refl
