@@ -10,7 +10,7 @@ use lib.Dec.{ltb}
 use Rattle.meaning.specs.Tests.{both, fails, pick, some-of, each-of}
 use Rattle.meaning.specs.Limits
 use Rattle.meaning.specs.Limits.{Limits}
-use Rattle.meaning.specs.Requests.{Effect, Executability, Knowledge, Table, Sequence, Entry, Request}
+use Rattle.meaning.specs.Requests.{Effect, Executability, Knowledge, Table, Sequence, Entry, Request, values}
 use Rattle.meaning.specs.Reading.{Got, got, next, read-request}
 use Rattle.meaning.specs.Refusals.{Found, nowhere, at, contradictory, contradiction-in, mixed-in, overlap-in, refuse, settled}
 use Rattle.meaning.specs.Lines.{effects-of, executability-of, knowledge-of, allowed, given, sensing, senses}
@@ -153,9 +153,6 @@ module _ (t u : Table) (same : Same-tables t u) where
       ∙ sym (unplaced-17 (u .effects) (u .knowledge))
 
 -- JUDGING. Two requests say the same, but for places and for the order and repetition of lines.
-abbrev values : List Entry → List ℕ
-values = map (λ (e : Entry). e .value)
-
 pub record Same-but-lines (r q : Request) : Type 0 where
   pub tables : Same-tables (r .table) (q .table)
   pub plan : unplaced (r .plan) ≡ unplaced (q .plan)
@@ -173,7 +170,7 @@ abbrev pub gist : Judgement → Gist
 gist j = record { number = j .answer .number; input = j .answer .input; count = j .answer .count; state = j .state }
 
 missed-values : (test : ℕ → Bool) (es : List Entry) → unplaced-found (first-missed test es) ≡ found-if (fails (each-of test (values es)))
-unfolding first-missed each-of pick fails both
+unfolding first-missed each-of pick fails both values
 missed-values test [] = refl
 missed-values test (e ∷ es) = go (test (e .value)) (each-of test (values es)) (missed-values test es)
   where

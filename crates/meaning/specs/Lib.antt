@@ -8,3 +8,6 @@ pub mod Lines
 pub mod States
 pub mod Walk
 pub mod Judging
+pub mod Worlds
+pub mod Approximation
+pub mod Paths

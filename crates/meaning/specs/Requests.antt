@@ -1,6 +1,6 @@
 -- What a request says once it is read: its table, its plan as a tree, its goals. Every part that an answer may name keeps its place.
 use Prim.Native.Nat.{ℕ}
-use mathlib.Core.List.{List}
+use mathlib.Core.List.{List, map}
 
 -- Fluents, literals and actions are numbers; a body is a list of literals. The lines of sections 3 to 5 (FORMAT 2.14 to 2.16).
 pub record Effect : Type 0 where
@@ -54,3 +54,6 @@ pub record Request : Type 0 where
   pub goals : List Entry
   pub whether : List Entry
   pub whether-place : ℕ
+
+unfoldable pub values : List Entry → List ℕ
+values = map (λ (e : Entry). e .value)

@@ -1,0 +1,100 @@
+-- Worlds, and carrying a plan out in them (FORMAT section 9). Nothing here is taken from partial states.
+use Prim.Native.Nat.{ℕ}
+use mathlib.Core.Path.{_≡_}
+use mathlib.Core.Bool.{Bool, true, false}
+use mathlib.Core.List.{List, map}
+use mathlib.Core.Logic.{_⊎_}
+use Rattle.meaning.specs.Tests.{fails, pick, each-of}
+use Rattle.meaning.specs.Literals.{says-true, says-false, fluent-of, positive}
+use Rattle.meaning.specs.Requests.{Knowledge, Table, Sequence, done, item, Item, act, branching, Branches, none, branch, Request, values}
+use Rattle.meaning.specs.Lines.{effects-of, executability-of, knowledge-of, allowed, given, sensing}
+
+-- What carrying out asks of a domain with worlds W, literals L and readings R: where an action may be run, whether it senses, what it shows
+-- in a world, where it moves one, and which literals hold there.
+pub record Domain (W L R : Type 0) : Type 0 where
+  pub may-be-run : ℕ → W → Bool
+  pub sensing : ℕ → Bool
+  pub shows : ℕ → W → R
+  pub moved : ℕ → W → W
+  pub holds : W → L → Bool
+
+-- The worlds still possible.
+abbrev pub Worlds : Type 0 → Type 1
+Worlds W = W → Type 0
+
+module _ {W L R : Type 0} (d : Domain W L R) where
+  -- The condition holds in every possible world.
+  abbrev pub Sure : List L → Worlds W → Type 0
+  Sure c P = (w : W) → P w → each-of (d .holds w) c ≡ true
+
+  -- Those in which a sensing action shows what it shows in the true world v (FORMAT 9.8).
+  abbrev pub Kept : ℕ → W → Worlds W → Worlds W
+  Kept a v P w = P w × (d .shows a w ≡ d .shows a v)
+
+  -- Each one moved (FORMAT 9.5).
+  abbrev pub Moved : ℕ → Worlds W → Worlds W
+  Moved a P w = (u : W) × P u × (w ≡ d .moved a u)
+
+  -- An action is carried out where v is the true world and P are the possible ones: it may be run in each of them, and K is wanted of the
+  -- true world and the possible ones afterwards (FORMAT 9.4 to 9.9).
+  pub record Acted (a : ℕ) (K : W → Worlds W → Type 0) (v : W) (P : Worlds W) : Type 0 where
+    pub allowed : (w : W) → P w → d .may-be-run a w ≡ true
+    pub read : d .sensing a ≡ true → K v (Kept a v P)
+    pub done : d .sensing a ≡ false → K (d .moved a v) (Moved a P)
+
+  -- No condition holds in every possible world.
+  abbrev pub None-sure : Branches L → Worlds W → Type 0
+  None-sure none P = Unit {0}
+  None-sure (branch c b bs) P = (Sure c P → ⊥) × None-sure bs P
+
+  -- A plan is carried out, and K is wanted at its end. At a branching exactly one condition holds in every possible world, and its branch is
+  -- followed (FORMAT 9.10, 11.10).
+  abbrev mutual
+    pub Carried : Sequence L → (W → Worlds W → Type 0) → W → Worlds W → Type 0
+    Carried done K v P = K v P
+    Carried (item i rest) K v P = Carried-item i (Carried rest K) v P
+
+    pub Carried-item : Item L → (W → Worlds W → Type 0) → W → Worlds W → Type 0
+    Carried-item (act p a) K v P = Acted a K v P
+    Carried-item (branching p bs) K v P = Chosen bs K v P
+
+    pub Chosen : Branches L → (W → Worlds W → Type 0) → W → Worlds W → Type 0
+    Chosen none K v P = ⊥
+    Chosen (branch c b bs) K v P = (Sure c P × None-sure bs P × Carried b K v P) ⊎ ((Sure c P → ⊥) × Chosen bs K v P)
+
+-- A world gives every fluent a value (FORMAT 9.1).
+abbrev pub World : Type 0
+World = ℕ → Bool
+
+unfoldable pub holds : World → ℕ → Bool
+holds w l = pick (positive l) (λ _. w (fluent-of l)) (λ _. fails (w (fluent-of l)))
+
+unfoldable pub may-be-run : Table → ℕ → World → Bool
+may-be-run t a w = allowed (holds w) (executability-of t a)
+
+-- The effects whose bodies hold set their fluents; the others keep their values (FORMAT 9.5).
+unfoldable pub moved : Table → ℕ → World → World
+moved t a w f =
+    pick (given (holds w) (effects-of t a) (says-true f)) (λ _. true) λ _.
+    pick (given (holds w) (effects-of t a) (says-false f)) (λ _. false) λ _.
+    w f
+
+-- The values of the sensed fluents (FORMAT 9.8).
+unfoldable pub shown : Table → ℕ → World → List Bool
+shown t a w = map (λ (k : Knowledge). w (k .fluent)) (knowledge-of t a)
+
+unfoldable pub table-domain : Table → Domain World ℕ (List Bool)
+table-domain t = record { may-be-run = may-be-run t; sensing = sensing t; shows = shown t; moved = moved t; holds = holds }
+
+-- The worlds that have all the initial facts (FORMAT 9.2).
+abbrev pub Facts : Table → Worlds World
+Facts t w = each-of (holds w) (t .facts) ≡ true
+
+-- At the end each goal holds in every possible world, and each whether fluent has one value across them (FORMAT 11.11, 11.12).
+pub record Reached (r : Request) (v : World) (P : Worlds World) : Type 0 where
+  pub goals : (w : World) → P w → each-of (holds w) (values (r .goals)) ≡ true
+  pub whether : (w u : World) → P w → P u → map w (values (r .whether)) ≡ map u (values (r .whether))
+
+-- The plan carried out from any true world with the initial facts, knowing only these and the readings (FORMAT 11.7, 11.8).
+abbrev pub Carried-out : Request → Type 0
+Carried-out r = (v : World) → Facts (r .table) v → Carried (table-domain (r .table)) (r .plan) (Reached r) v (Facts (r .table))
