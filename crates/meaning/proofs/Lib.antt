@@ -4,3 +4,4 @@ pub mod TestLaws
 pub mod WalkLaws
 pub mod RefusalLaws
 pub mod LineLaws
+pub mod SettledLaws

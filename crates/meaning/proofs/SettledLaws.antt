@@ -1,0 +1,98 @@
+-- What a settled request has passed: it was read, and each of the three refusals found nothing; so every two conditions of a branching are
+-- exclusive. Each part of a reading or a refusal that gives something has gone on, and the parts are taken one by one. Assumes nothing.
+use Prim.Native.Nat.{ℕ}
+use mathlib.Core.Path.{_≡_, refl, _∙_, ap, subst}
+use mathlib.Core.Bool.{true}
+use mathlib.Core.List.{List, []}
+use Rattle.meaning.specs.Limits.{Limits}
+use Rattle.meaning.specs.Requests.{Sequence, done, item, Item, act, branching, Branches, none, branch, Request}
+use Rattle.meaning.specs.Reading.{Got, got, fault, next, read-request}
+use Rattle.meaning.specs.Refusals.{Found, nowhere, at, or-else, contradiction-in, mixed-in, conditions-of, all-exclusive, overlap-in, overlap-at, overlap-below, refuse, settled}
+use Rattle.meaning.proofs.TestLaws.{pick-cases}
+use Rattle.meaning.proofs.RefusalLaws.{at≢nowhere}
+
+module _ {A : Type 0} where
+  pub fault≢got : {n i p : ℕ} {x : A} → fault n i ≡ got x p → ⊥
+  fault≢got e = subst faulty e tt
+    where
+      faulty : Got A → Type 0
+      faulty (got x p) = ⊥
+      faulty (fault n i) = Unit {0}
+
+  pub got-same : {x y : A} {p q : ℕ} → got x p ≡ got y q → x ≡ y
+  got-same {x} e = ap value e
+    where
+      value : Got A → A
+      value (got y q) = y
+      value (fault n i) = x
+
+  -- A refusal that gives something has found nothing.
+  refuse-got : (n : ℕ) (f : Found) (k : Unit {0} → Got A) {x : A} {p : ℕ} → refuse n f k ≡ got x p → (f ≡ nowhere) × (k tt ≡ got x p)
+  unfolding refuse
+  refuse-got n nowhere k e = (refl, e)
+  refuse-got n (at q) k e = absurd (fault≢got e)
+
+module _ {A B : Type 0} where
+  -- What gives something after a first part has got that part.
+  pub next-got : (m : Got A) (k : A → ℕ → Got B) {x : B} {p : ℕ} → next m k ≡ got x p → (a : A) × (q : ℕ) × (m ≡ got a q) × (k a q ≡ got x p)
+  unfolding next
+  next-got (got a q) k e = (a, q, refl, e)
+  next-got (fault n i) k e = absurd (fault≢got e)
+
+-- What a settled request has passed.
+pub record Settled (lim : Limits) (b : List ℕ) (r : Request) (e : ℕ) : Type 0 where
+  pub reads : read-request lim b ≡ got r e
+  pub no-contradiction : contradiction-in [] (r .table .effects) ≡ nowhere
+  pub not-mixed : mixed-in (r .table .effects) (r .table .knowledge) ≡ nowhere
+  pub no-overlap : overlap-in (r .plan) ≡ nowhere
+
+pub settled-is : (lim : Limits) (b : List ℕ) (r : Request) (e : ℕ) → settled lim b ≡ got r e → Settled lim b r e
+unfolding settled
+settled-is lim b r e past =
+    let n = next-got (read-request lim b) _ past in
+    let u = refuse-got _ _ _ (n .3) in
+    let v = refuse-got _ _ _ (u .1) in
+    let w = refuse-got _ _ _ (v .1) in
+    let same : n .0 ≡ r = got-same (w .1) in
+    record {
+      reads = n .2 ∙ w .1;
+      no-contradiction = rw same at (u .0);
+      not-mixed = rw same at (v .0);
+      no-overlap = rw same at (w .0);
+    }
+
+-- In every branching of a plan every two conditions are exclusive.
+abbrev mutual
+  pub Fit : Sequence ℕ → Type 0
+  Fit done = Unit {0}
+  Fit (item i rest) = Fit-item i × Fit rest
+
+  pub Fit-item : Item ℕ → Type 0
+  Fit-item (act p a) = Unit {0}
+  Fit-item (branching p bs) = (all-exclusive (conditions-of bs) ≡ true) × Fit-branches bs
+
+  pub Fit-branches : Branches ℕ → Type 0
+  Fit-branches none = Unit {0}
+  Fit-branches (branch c b bs) = Fit b × Fit-branches bs
+
+or-else-nowhere : (f : Found) (k : Unit {0} → Found) → or-else f k ≡ nowhere → (f ≡ nowhere) × (k tt ≡ nowhere)
+unfolding or-else
+or-else-nowhere nowhere k e = (refl, e)
+or-else-nowhere (at p) k e = absurd (at≢nowhere e)
+
+mutual
+  unfolding overlap-in
+
+  -- Where 18 has found nothing, it is so.
+  pub fit : (p : Sequence ℕ) → overlap-in p ≡ nowhere → Fit p
+  fit done e = tt
+  fit (item i rest) e = let w = or-else-nowhere (overlap-at i) _ e in (fit-item i (w .0), fit rest (w .1))
+
+  fit-item : (i : Item ℕ) → overlap-at i ≡ nowhere → Fit-item i
+  fit-item (act p a) e = tt
+  fit-item (branching p bs) e =
+      pick-cases _ _ _ e (λ apart below. (apart, fit-branches bs below)) (λ _ r. absurd (at≢nowhere r))
+
+  fit-branches : (bs : Branches ℕ) → overlap-below bs ≡ nowhere → Fit-branches bs
+  fit-branches none e = tt
+  fit-branches (branch c b bs) e = let w = or-else-nowhere (overlap-in b) _ e in (fit b (w .0), fit-branches bs (w .1))
