@@ -5,3 +5,4 @@ pub mod WalkLaws
 pub mod RefusalLaws
 pub mod LineLaws
 pub mod SettledLaws
+pub mod PathLaws
