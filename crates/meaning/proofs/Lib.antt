@@ -6,3 +6,4 @@ pub mod RefusalLaws
 pub mod LineLaws
 pub mod SettledLaws
 pub mod PathLaws
+pub mod RangeLaws
