@@ -5,5 +5,9 @@ pub mod WalkLaws
 pub mod RefusalLaws
 pub mod LineLaws
 pub mod SettledLaws
+pub mod PickLaws
 pub mod PathLaws
 pub mod RangeLaws
+pub mod PairLaws
+pub mod ToldLaws
+pub mod EndLaws

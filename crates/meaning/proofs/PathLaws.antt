@@ -4,16 +4,16 @@
 use Prim.Native.Nat.{ℕ, _+_}
 use native.Mathlib.Omega.{arith}
 use mathlib.Core.Path.{_≡_, refl, sym, _∙_, ap, fun-ext}
-use mathlib.Core.Bool.{Bool, true, false}
 use mathlib.Core.List.{List, [], _∷_, _++_}
 use lib.ListN.{length, length-append}
-use Rattle.meaning.specs.Tests.{pick, each-of}
+use Rattle.meaning.specs.Tests.{each-of}
 use Rattle.meaning.specs.Requests.{Sequence, done, item, Item, act, branching, Branches, none, branch, Request}
 use Rattle.meaning.specs.Refusals.{Found, nowhere, at}
 use Rattle.meaning.specs.States.{State, Outcome, single, fork}
 use Rattle.meaning.specs.Walk.{End, fine, missed, stuck, Walked, stuck-at, counted, keep-miss, after-miss, after-end, and-then, each-reading, Steps, run-action, walk, walk-item, walk-branch, table-step, missed-in, end-of, judged, walked}
 use Rattle.meaning.specs.Paths.{Ending, arrives, stops, Path, first-ran, goes-on, go-on, arrivals, paths, paths-item, paths-branch, count-of, count-in, stop-of, first-stop, miss-of, first-miss, stop-or-miss, walked-along}
 use Rattle.meaning.proofs.TestLaws.{pick-map}
+use Rattle.meaning.proofs.PickLaws.{pick-has}
 
 module _ {S : Type 0} where
   -- WALKS ONE AFTER ANOTHER.
@@ -132,11 +132,6 @@ module _ {S : Type 0} where
   each-arrival k (fork o p) = each-appended k (arrivals o) (arrivals (p tt)) ∙ rw (each-arrival k o, each-arrival k (p tt))
 
   -- Each list of paths has one.
-  picked-inhabited : (b : Bool) (f g : Unit {0} → List (Path S)) → Inhabited (f tt) → Inhabited (g tt) → Inhabited (pick b f g)
-  unfolding pick
-  picked-inhabited true f g t u = t
-  picked-inhabited false f g t u = u
-
   appended-inhabited : (xs ys : List (Path S)) → Inhabited xs → Inhabited (xs ++ ys)
   appended-inhabited [] ys some = absurd some
   appended-inhabited (x ∷ xs) ys some = tt
@@ -170,13 +165,13 @@ module _ {S L : Type 0} (step : Steps S L) where
 
     item-inhabited : (i : Item L) (s : S) → Inhabited (paths-item step i s)
     item-inhabited (act p a) s =
-        picked-inhabited (step .runs a s) _ _ (ran-inhabited (a ∷ []) (arrivals (step .leads-to a s)) (arrivals-inhabited (step .leads-to a s))) tt
+        pick-has Inhabited (step .runs a s) _ _ (λ _. ran-inhabited (a ∷ []) (arrivals (step .leads-to a s)) (arrivals-inhabited (step .leads-to a s))) (λ _. tt)
     item-inhabited (branching p bs) s = branch-inhabited bs p s
 
     branch-inhabited : (bs : Branches L) (p : ℕ) (s : S) → Inhabited (paths-branch step bs p s)
     branch-inhabited none p s = tt
     branch-inhabited (branch c b bs) p s =
-        picked-inhabited (each-of (step .knows s) c) _ _ (paths-inhabited b s) (branch-inhabited bs p s)
+        pick-has Inhabited (each-of (step .knows s) c) _ _ (λ _. paths-inhabited b s) (λ _. branch-inhabited bs p s)
 
   run-each-path : (p a : ℕ) (k : S → Walked S) (s : S) → run-action step p a k s ≡ each-path k (paths-item step (act p a) s)
   unfolding run-action paths
