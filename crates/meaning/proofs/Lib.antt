@@ -11,3 +11,4 @@ pub mod RangeLaws
 pub mod PairLaws
 pub mod ToldLaws
 pub mod EndLaws
+pub mod SensingLaws

@@ -3,24 +3,22 @@
 use Prim.Native.Nat.{ℕ, zero, suc, _+_, _*_, _/_, _%_, _≤_, _<_}
 use native.Mathlib.Omega.{arith}
 use native.Mathlib.Nat.{not-suc-le-zero, le-of-suc-le-suc}
-use native.Mathlib.Decide.{decLt, ℕ-discrete}
+use native.Mathlib.Decide.{decLt}
 use mathlib.Core.Path.{_≡_, refl, sym, _∙_, ap, subst, fun-ext}
 use mathlib.Core.Bool.{Bool, true, false}
 use mathlib.Core.List.{List, [], _∷_}
-use mathlib.Core.Logic.{_⊎_, inl, inr, ⊎-elim}
-use lib.ListN.{length, getD, set, length-set, List·getD-eq-default}
-use lib.Seq.{getD-set-same, getD-set-other}
+use mathlib.Core.Logic.{⊎-elim}
+use lib.ListN.{length, getD, List·getD-eq-default}
 use lib.Dec.{eqb}
 use borrow.Author.Tests.{eqb-true, eqb-false, eq-eqb, ne-eqb}
-use Rattle.meaning.specs.Tests.{both, either, fails, pick, some-of, each-of}
-use Rattle.meaning.specs.Limits
-use Rattle.meaning.specs.Literals.{says-true, says-false, fluent-of, positive, complement, among}
-use Rattle.meaning.specs.Requests.{Effect, Executability, Knowledge, Table}
+use Rattle.meaning.specs.Tests.{both, either, fails, pick, some-of}
+use Rattle.meaning.specs.Literals.{says-true, says-false, fluent-of, positive, complement}
+use Rattle.meaning.specs.Requests.{Effect, Knowledge, Table}
 use Rattle.meaning.specs.Lines.{effects-of, executability-of, knowledge-of, allowed, given, sensing, senses}
-use Rattle.meaning.specs.States.{State, mark-of, known, possible, known-whether, told, told-all, can-be-run, known-after, mark-after, marks-after, state-after}
+use Rattle.meaning.specs.States.{State, mark-of, known, possible, can-be-run, known-after, mark-after, marks-after, state-after}
 use Rattle.meaning.specs.Approximation.{Pair, Disjoint, true-in, false-in, possibly-true, _≼_, executable, caused, e⁺, e⁻, F⁺, F⁻, K, sensing-action, Res}
-use Rattle.meaning.proofs.TestLaws.{by-test, clash, same-test, both-left, both-right, both-true, either-left, either-right, either-split, fails-true, fails-false, pick-true, pick-false, Has, some-has, has-some, some-mono, each-mono, some-those}
-use Rattle.meaning.proofs.RefusalLaws.{complement-even, complement-odd, complement-twice, complement-other}
+use Rattle.meaning.proofs.TestLaws.{by-test, clash, same-test, both-left, both-right, both-true, either-left, either-right, either-split, fails-true, fails-false, pick-true, pick-false, Has, some-has, some-mono, each-mono, some-those}
+use Rattle.meaning.proofs.RefusalLaws.{complement-even, complement-odd}
 
 -- THE TWO LITERALS OF A FLUENT.
 positive-true : (f : ℕ) → positive (says-true f) ≡ true

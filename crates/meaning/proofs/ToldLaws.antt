@@ -1,32 +1,29 @@
--- What a state knows once it is told literals: what it knew, and these. So the first state is the least initial a-state, and the readings of
--- a sensing action are the states told one literal of each sensed fluent that was unknown. Assumes nothing.
-use Prim.Native.Nat.{ℕ, zero, suc, _+_, _*_, _/_, _≤_, _<_}
+-- What a state knows once it is told literals: what it knew, and these, since one fluent has one mark and no literal is told beside its
+-- complement. So the first state, which is told the facts, is the least initial a-state. Assumes nothing.
+use Prim.Native.Nat.{ℕ, _≤_, _<_}
 use native.Mathlib.Omega.{arith}
-use native.Mathlib.Nat.{not-suc-le-zero, le-of-suc-le-suc}
 use native.Mathlib.Decide.{decLt, ℕ-discrete}
-use mathlib.Core.Path.{_≡_, refl, sym, _∙_, ap, subst, fun-ext}
+use mathlib.Core.Path.{_≡_, refl, sym, _∙_, ap, fun-ext}
 use mathlib.Core.Bool.{Bool, true, false}
-use mathlib.Core.List.{List, [], _∷_, map}
+use mathlib.Core.List.{List, [], _∷_}
 use mathlib.Core.Logic.{_⊎_, inl, inr, ⊎-elim}
-use lib.ListN.{length, getD, set, replicate, length-set, length-replicate, getD-replicate, List·getD-eq-default}
+use lib.ListN.{length, getD, replicate, length-set, length-replicate, getD-replicate, List·getD-eq-default}
 use lib.Seq.{getD-set-same, getD-set-other}
 use lib.Dec.{eqb}
-use borrow.Author.Tests.{eqb-true, eqb-false, eq-eqb, ne-eqb}
-use Rattle.meaning.specs.Tests.{both, either, fails, pick, some-of, each-of}
+use borrow.Author.Tests.{eq-eqb, ne-eqb}
+use Rattle.meaning.specs.Tests.{either, some-of}
 use Rattle.meaning.specs.Limits.{Limits}
 use Rattle.meaning.specs.Literals.{says-true, says-false, fluent-of, complement, among}
-use Rattle.meaning.specs.Requests.{Knowledge, Table}
-use Rattle.meaning.specs.Lines.{senses}
-use Rattle.meaning.specs.States.{State, mark-of, known, known-whether, told, told-all, first-state, unknown-from}
-use Rattle.meaning.specs.Approximation.{Pair, least}
-use Rattle.meaning.proofs.TestLaws.{by-test, clash, both-left, both-right, both-true, either-right, fails-true, fails-false, Has, has-some}
-use Rattle.meaning.proofs.PickLaws.{pick-has, has-picked}
+use Rattle.meaning.specs.Requests.{Table}
+use Rattle.meaning.specs.States.{State, mark-of, known, told, told-all, first-state}
+use Rattle.meaning.specs.Approximation.{least}
+use Rattle.meaning.proofs.TestLaws.{either-right, Has}
 use Rattle.meaning.proofs.RefusalLaws.{complement-other}
 use Rattle.meaning.proofs.RangeLaws.{Ranged}
 use Rattle.meaning.proofs.PairLaws.{fluent-true, fluent-false, complement-true, complement-false, by-literal, pair-of, mark-true, mark-false, known-true, known-false}
 
 -- COMPLEMENTS have one fluent and two marks.
-fluent-complement : (l : ℕ) → fluent-of (complement l) ≡ fluent-of l
+pub fluent-complement : (l : ℕ) → fluent-of (complement l) ≡ fluent-of l
 fluent-complement =
     by-literal (λ l. fluent-of (complement l) ≡ fluent-of l)
     (λ f. rw (complement-true f) (fluent-false f ∙ sym (fluent-true f)))
@@ -148,51 +145,3 @@ module _ (lim : Limits) (room : lim .fluents ≤ lim .state) (t : Table) (ranged
   pub first-least : pair-of (first-state lim t) ≡ least t
   unfolding pair-of least
   first-least = λ i. record { T = fun-ext (λ (f : ℕ). first-known (says-true f)) i; F = fun-ext (λ (f : ℕ). first-known (says-false f)) i }
-
--- READINGS.
-abbrev pub Distinct : List ℕ → Type 0
-Distinct [] = Unit {0}
-Distinct (f ∷ fs) = (Has fs f → ⊥) × Distinct fs
-
--- The fluents that an action reads in a state.
-record Unread (ks : List Knowledge) (s : State) (low high f : ℕ) : Type 0 where
-  above : low ≤ f
-  below : f < high
-  sensed : senses ks f ≡ true
-  unknown : known-whether s f ≡ false
-
-module _ (ks : List Knowledge) (s : State) where
-  unknown-has : (f : ℕ) (ms : List ℕ) (g : ℕ) → Has (unknown-from ks s f ms) g → Unread ks s f (f + length ms) g
-  unfolding unknown-from
-  unknown-has f [] g h = absurd h
-  unknown-has f (m ∷ ms) g h =
-      has-picked (λ xs. Has xs g) (both (senses ks f) (fails (known-whether s f))) _ _ h
-      (λ e there. ⊎-elim (here e) (λ later. further (unknown-has (f + 1) ms g later)) there)
-      (λ _ later. further (unknown-has (f + 1) ms g later))
-    where
-      here : both (senses ks f) (fails (known-whether s f)) ≡ true → g ≡ f → Unread ks s f (f + suc (length ms)) g
-      here e q = record { above = omega arith; below = omega arith; sensed = rw q (both-left _ _ e); unknown = rw q (fails-true _ (both-right _ _ e)) }
-
-      further : Unread ks s (f + 1) (f + 1 + length ms) g → Unread ks s f (f + suc (length ms)) g
-      further u = record { above = omega arith; below = omega arith; sensed = u .sensed; unknown = u .unknown }
-
-  has-unknown : (f : ℕ) (ms : List ℕ) (g : ℕ) → Unread ks s f (f + length ms) g → Has (unknown-from ks s f ms) g
-  unfolding unknown-from
-  has-unknown f [] g u = absurd (omega arith)
-  has-unknown f (m ∷ ms) g u =
-      elim (ℕ-discrete g f) [
-        | yes q ↦ pick-has (λ xs. Has xs g) _ _ _ (λ _. inl q) (λ e. clash (rw q at reads) e)
-        | no q ↦ pick-has (λ xs. Has xs g) _ _ _ (λ _. inr (has-unknown (f + 1) ms g (further q))) (λ _. has-unknown (f + 1) ms g (further q))
-      ]
-    where
-      reads : both (senses ks g) (fails (known-whether s g)) ≡ true
-      reads = both-true _ _ (u .sensed) (fails-false _ (u .unknown))
-
-      further : (g ≡ f → ⊥) → Unread ks s (f + 1) (f + 1 + length ms) g
-      further q = record { above = omega arith; below = omega arith; sensed = u .sensed; unknown = u .unknown }
-
-  unknown-distinct : (f : ℕ) (ms : List ℕ) → Distinct (unknown-from ks s f ms)
-  unfolding unknown-from
-  unknown-distinct f [] = tt
-  unknown-distinct f (m ∷ ms) =
-      pick-has Distinct _ _ _ (λ _. (λ h. let u = unknown-has (f + 1) ms f h .above in omega arith, unknown-distinct (f + 1) ms)) (λ _. unknown-distinct (f + 1) ms)
