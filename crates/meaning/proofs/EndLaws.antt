@@ -32,6 +32,10 @@ module _ {S : Type 0} where
       state (arrives v) = v
       state (stops p s) = u
 
+  -- A list of one path ends as that does.
+  pub ends-one : {e g : Ending S} → (e ≡ g) ⊎ ⊥ → e ≡ g
+  ends-one (inl q) = q
+
   -- APPENDED, AND GONE ON.
   pub ends-left : (xs ys : List (Path S)) (e : Ending S) → Ends xs e → Ends (xs ++ ys) e
   ends-left [] ys e h = absurd h
@@ -70,11 +74,14 @@ module _ {S : Type 0} where
         later (inl w) = inl (w .0, w .1, inr (w .2), w .3)
         later (inr w) = inr (w .0, inr (w .1), w .2)
 
-    pub stops-on : (xs : List (Path S)) (p : ℕ) (s : S) → Ends xs (stops p s) → Ends (go-on xs more) (stops p s)
+    stops-on : (xs : List (Path S)) (p : ℕ) (s : S) → Ends xs (stops p s) → Ends (go-on xs more) (stops p s)
     unfolding go-on goes-on
     stops-on [] p s h = absurd h
     stops-on (x ∷ xs) p s (inl q) = ends-left (goes-on (x .ran) (x .ending) more) (go-on xs more) (stops p s) (subst (λ (g : Ending S). Ends (goes-on (x .ran) g more) (stops p s)) q (inl refl))
     stops-on (x ∷ xs) p s (inr h) = ends-right (goes-on (x .ran) (x .ending) more) (go-on xs more) (stops p s) (stops-on xs p s h)
+
+    pub stop-goes-on : (xs : List (Path S)) → Stops xs → Stops (go-on xs more)
+    stop-goes-on xs w = (w .0, w .1, stops-on xs (w .0) (w .1) (w .2))
 
     pub arrives-on : (xs : List (Path S)) (u : S) (e : Ending S) → Ends xs (arrives u) → Ends (more u) e → Ends (go-on xs more) e
     unfolding go-on goes-on

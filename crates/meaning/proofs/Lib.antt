@@ -12,3 +12,4 @@ pub mod PairLaws
 pub mod ToldLaws
 pub mod EndLaws
 pub mod SensingLaws
+pub mod CoverLaws

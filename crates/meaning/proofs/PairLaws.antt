@@ -92,10 +92,10 @@ module _ (σ : Pair) where
       fails-false _ (by-test _ (λ u. absurd (not-both apart l t (sym (false-complement l) ∙ u))) (λ f. f))
 
 -- THE EXTENSION ORDER: the more is known, the more is true and the less is possible.
-≼-refl : (σ : Pair) → σ ≼ σ
+pub ≼-refl : (σ : Pair) → σ ≼ σ
 ≼-refl σ = record { T = λ f e. e; F = λ f e. e }
 
-≼-trans : {σ δ τ : Pair} → σ ≼ δ → δ ≼ τ → σ ≼ τ
+pub ≼-trans : {σ δ τ : Pair} → σ ≼ δ → δ ≼ τ → σ ≼ τ
 ≼-trans p q = record { T = λ f e. q .T f (p .T f e); F = λ f e. q .F f (p .F f e) }
 
 module _ {σ δ : Pair} (more : σ ≼ δ) where
@@ -174,7 +174,7 @@ module _ (s : State) where
   unfolding pair-of
   true-in-pair = by-literal (λ l. true-in (pair-of s) l ≡ known s l) (true-in-true (pair-of s)) (true-in-false (pair-of s))
 
-  true-test : true-in (pair-of s) ≡ known s
+  pub true-test : true-in (pair-of s) ≡ known s
   true-test = fun-ext true-in-pair
 
   possible-in-pair : (l : ℕ) → possibly-true (pair-of s) l ≡ possible s l
