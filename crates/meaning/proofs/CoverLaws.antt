@@ -2,8 +2,8 @@
 -- leads from a pair above, some path stops or ends below. More knowledge runs no fewer actions, keeps the order, and makes no second
 -- condition true of those that exclude each other. Assumes nothing.
 use Prim.Native.Nat.{ℕ, _*_, _<_}
-use mathlib.Core.Path.{_≡_, refl, sym, _∙_, ap, subst}
-use mathlib.Core.Bool.{Bool, true, false}
+use mathlib.Core.Path.{_≡_, refl, sym, _∙_}
+use mathlib.Core.Bool.{true, false}
 use mathlib.Core.List.{List, [], _∷_}
 use mathlib.Core.Logic.{_⊎_, inl, inr, ⊎-elim}
 use lib.ListN.{length}
@@ -13,15 +13,15 @@ use Rattle.meaning.specs.Literals.{complement, among, exclusive}
 use Rattle.meaning.specs.Requests.{Effect, Knowledge, Table, Sequence, done, item, Item, act, branching, Branches, none, branch}
 use Rattle.meaning.specs.Refusals.{conditions-of, all-exclusive}
 use Rattle.meaning.specs.Lines.{sensing}
-use Rattle.meaning.specs.States.{State, known, can-be-run, state-after, unknown-sensed, Outcome, readings, outcome}
-use Rattle.meaning.specs.Walk.{Steps, table-step}
+use Rattle.meaning.specs.States.{State, known, can-be-run, state-after, outcome}
+use Rattle.meaning.specs.Walk.{table-step}
 use Rattle.meaning.specs.Paths.{Ending, arrives, stops, Path, first-ran, go-on, arrivals, paths, paths-item, paths-branch}
-use Rattle.meaning.specs.Approximation.{Pair, Disjoint, true-in, _≼_, executable, K, sensing-action, Res, Result, failed, state, Sensed, Φ, Union, None-true, Φ̂, Φ̂-item, Φ̂-case}
+use Rattle.meaning.specs.Approximation.{Pair, Disjoint, true-in, _≼_, executable, sensing-action, Res, Result, failed, state, Sensed, Φ, None-true, Φ̂, Φ̂-item, Φ̂-case}
 use Rattle.meaning.proofs.TestLaws.{by-test, clash, both-left, both-right, either-right, Has, some-has, each-has, each-mono}
 use Rattle.meaning.proofs.PickLaws.{pick-has, has-picked}
 use Rattle.meaning.proofs.SettledLaws.{Fit, Fit-item, Fit-branches}
 use Rattle.meaning.proofs.EndLaws.{Ends, Stops, ends-one, ends-ran, went-on, stop-goes-on, arrives-on}
-use Rattle.meaning.proofs.PairLaws.{not-both, true-grows, executable-grows, Res-grows, Res-disjoint, ≼-trans, pair-of, true-test, pair-disjoint, sensing-pair, runs-pair, after-length, pair-after}
+use Rattle.meaning.proofs.PairLaws.{not-both, true-grows, executable-grows, Res-grows, Res-disjoint, ≼-trans, pair-of, true-test, sensing-pair, runs-pair, after-length, pair-after}
 use Rattle.meaning.proofs.SensingLaws.{reading-is, reading-follows}
 
 -- What an ending is in the 0-approximation.
@@ -30,7 +30,7 @@ result-of (arrives u) = state (pair-of u)
 result-of (stops p u) = failed
 
 -- Conditions true of a state's pair are those that it knows.
-knows-pair : (s : State) (c : List ℕ) → each-of (true-in (pair-of s)) c ≡ each-of (known s) c
+pub knows-pair : (s : State) (c : List ℕ) → each-of (true-in (pair-of s)) c ≡ each-of (known s) c
 knows-pair s c = rw (true-test s)
 
 -- BRANCHES. Bodies that exclude each other are not both true.
@@ -41,7 +41,7 @@ not-together δ apart c d e holds holds-too =
     let v = some-has _ d (w .2) in
     not-both δ apart (w .0) (each-has _ c (w .0) holds (w .1)) (rw (eqb-true (complement (w .0)) (v .0) (v .2)) (each-has _ d (v .0) holds-too (v .1)))
 
-knows-true : (s : State) (δ : Pair) → pair-of s ≼ δ → (c : List ℕ) → each-of (known s) c ≡ true → each-of (true-in δ) c ≡ true
+pub knows-true : (s : State) (δ : Pair) → pair-of s ≼ δ → (c : List ℕ) → each-of (known s) c ≡ true → each-of (true-in δ) c ≡ true
 knows-true s δ more c e = each-mono _ _ (true-grows more) c (knows-pair s c ∙ e)
 
 module _ (t : Table) where
@@ -98,7 +98,7 @@ module _ (t : Table) (size : ℕ) (effects-within : (e : Effect) → Has (t .eff
       has-picked (λ xs. Ends xs e) (can-be-run t a s) _ _ h
       (λ runs k. has-picked (λ o. Ends (arrivals o) e) (sensing t a) _ _ (ends-ran (a ∷ []) (arrivals (outcome t a s)) e .0 k)
       (λ senses j. let w = reading-is t a s (λ n m. rw sized (knowledge-within n m)) e j in
-        rw (w .1) ((runs-pair t a s ∙ runs, inr (sensing-pair t a ∙ senses, w .3)), w .2 ∙ sized))
+      rw (w .1) ((runs-pair t a s ∙ runs, inr (sensing-pair t a ∙ senses, w .3)), w .2 ∙ sized))
       (λ not j. rw (ends-one j) ((runs-pair t a s ∙ runs, inl (sensing-pair t a ∙ not, pair-after t a s (λ n m. rw sized (effects-within n m)))), after-length t a s ∙ sized)))
       (λ stuck k. rw (ends-one k) (runs-pair t a s ∙ stuck, tt))
 
@@ -112,8 +112,8 @@ module _ (t : Table) (size : ℕ) (effects-within : (e : Effect) → Has (t .eff
         ⊎-elim
         (λ w. rw (w .3) (inl (reaches-item i s sized (stops (w .0) (w .1)) (w .2) .0, refl), tt))
         (λ w. let here = reaches-item i s sized (arrives (w .0)) (w .1) in
-          let there = reaches rest (w .0) (here .1) e (w .2) in
-          (inr (pair-of (w .0), here .0, there .0), there .1))
+        let there = reaches rest (w .0) (here .1) e (w .2) in
+        (inr (pair-of (w .0), here .0, there .0), there .1))
         (went-on (paths (table-step t) rest) (paths-item (table-step t) i s) e h)
 
     reaches-item : (i : Item ℕ) (s : State) → length s ≡ size → (e : Ending State) → Ends (paths-item (table-step t) i s) e → Φ̂-item t i (pair-of s) (result-of e) × Sized size e
@@ -126,7 +126,7 @@ module _ (t : Table) (size : ℕ) (effects-within : (e : Effect) → Has (t .eff
         has-picked (λ xs. Ends xs e) (each-of (known s) c) _ _ h
         (λ k j. let w = reaches b s sized e j in (inl (inl (knows-pair s c ∙ k, w .0)), w .1))
         (λ k j. let w = reaches-branch bs p s sized e j in
-          (⊎-elim (λ x. inl (inr x)) (λ x. inr ((knows-pair s c ∙ k, x .0), x .1)) (w .0), w .1))
+        (⊎-elim (λ x. inl (inr x)) (λ x. inr ((knows-pair s c ∙ k, x .0), x .1)) (w .0), w .1))
 
   -- COVERING.
   covers-act : (p a : ℕ) (s : State) (δ : Pair) → Below size s δ → (x : Result) → Φ t a δ x → Covered size (paths-item (table-step t) (act p a) s) x
@@ -176,9 +176,9 @@ module _ (t : Table) (size : ℕ) (effects-within : (e : Effect) → Has (t .eff
         ⊎-elim
         (λ w. rw (w .1) (stop-goes-on more xs (covers-item i (fits .0) s δ below failed (w .0))))
         (λ w. ⊎-elim
-          (λ stop. stops-cover size _ (stop-goes-on more xs stop) x)
-          (λ u. covers-on size more xs (u .0) (u .1) x (covers rest (fits .1) (u .0) (w .0) (u .2) x (w .2)))
-          (covers-item i (fits .0) s δ below (state (w .0)) (w .1)))
+        (λ stop. stops-cover size _ (stop-goes-on more xs stop) x)
+        (λ u. covers-on size more xs (u .0) (u .1) x (covers rest (fits .1) (u .0) (w .0) (u .2) x (w .2)))
+        (covers-item i (fits .0) s δ below (state (w .0)) (w .1)))
         h
 
     covers-item : (i : Item ℕ) → Fit-item i → (s : State) (δ : Pair) → Below size s δ → (x : Result) → Φ̂-item t i δ x → Covered size (paths-item (table-step t) i s) x
@@ -190,14 +190,14 @@ module _ (t : Table) (size : ℕ) (effects-within : (e : Effect) → Has (t .eff
     covers-branch (branch c b bs) p apart fits s δ below x h =
         pick-has (λ xs. Covered size xs x) (each-of (known s) c) _ _
         (λ k. let holds = knows-true s δ (below .extends) c k in
-          ⊎-elim
-          (⊎-elim (λ w. covers b (fits .0) s δ below x (w .1)) (λ w. absurd (none-chosen t bs δ x (others holds) w)))
-          (λ w. clash holds (w .0 .0))
-          h)
+        ⊎-elim
+        (⊎-elim (λ w. covers b (fits .0) s δ below x (w .1)) (λ w. absurd (none-chosen t bs δ x (others holds) w)))
+        (λ w. clash holds (w .0 .0))
+        h)
         (λ _. ⊎-elim
-          (⊎-elim (λ w. stops-cover size _ (none-taken t bs p s δ (below .extends) (others (w .0))) x) (λ w. covers-branch bs p (both-right _ _ apart) (fits .1) s δ below x (inl w)))
-          (λ w. covers-branch bs p (both-right _ _ apart) (fits .1) s δ below x (inr (w .0 .1, w .1)))
-          h)
+        (⊎-elim (λ w. stops-cover size _ (none-taken t bs p s δ (below .extends) (others (w .0))) x) (λ w. covers-branch bs p (both-right _ _ apart) (fits .1) s δ below x (inl w)))
+        (λ w. covers-branch bs p (both-right _ _ apart) (fits .1) s δ below x (inr (w .0 .1, w .1)))
+        h)
       where
         others : each-of (true-in δ) c ≡ true → None-true t bs δ
         others holds = others-false t δ (below .disjoint) c holds bs (both-left _ _ apart)

@@ -13,3 +13,4 @@ pub mod ToldLaws
 pub mod EndLaws
 pub mod SensingLaws
 pub mod CoverLaws
+pub mod Exact

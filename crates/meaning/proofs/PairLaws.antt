@@ -72,7 +72,7 @@ module _ (σ : Pair) where
   false-in-false f = pick-false _ _ _ (positive-false f) ∙ ap (σ .T) (fluent-false f)
 
   -- What is false has a true complement.
-  pub false-complement : (l : ℕ) → false-in σ l ≡ true-in σ (complement l)
+  false-complement : (l : ℕ) → false-in σ l ≡ true-in σ (complement l)
   false-complement =
       by-literal (λ l. false-in σ l ≡ true-in σ (complement l))
       (λ f. rw (complement-true f) (false-in-true f ∙ sym (true-in-false f)))
@@ -92,9 +92,6 @@ module _ (σ : Pair) where
       fails-false _ (by-test _ (λ u. absurd (not-both apart l t (sym (false-complement l) ∙ u))) (λ f. f))
 
 -- THE EXTENSION ORDER: the more is known, the more is true and the less is possible.
-pub ≼-refl : (σ : Pair) → σ ≼ σ
-≼-refl σ = record { T = λ f e. e; F = λ f e. e }
-
 pub ≼-trans : {σ δ τ : Pair} → σ ≼ δ → δ ≼ τ → σ ≼ τ
 ≼-trans p q = record { T = λ f e. q .T f (p .T f e); F = λ f e. q .F f (p .F f e) }
 
@@ -248,7 +245,7 @@ unfolding state-after
 after-length t a s = marks-length (effects-of t a) s 0 s
 
 -- Nothing is known of a fluent past the state's end.
-pub unknown-far : (s : State) (f : ℕ) → length s ≤ f → (known s (says-true f) ≡ false) × (known s (says-false f) ≡ false)
+unknown-far : (s : State) (f : ℕ) → length s ≤ f → (known s (says-true f) ≡ false) × (known s (says-false f) ≡ false)
 unknown-far s f far = let none = List·getD-eq-default s 0 {n = f} far in (known-true s f ∙ rw none, known-false s f ∙ rw none)
 
 module _ (t : Table) (a : ℕ) (s : State) (within : (e : Effect) → Has (t .effects) e → e .literal < 2 * length s) where

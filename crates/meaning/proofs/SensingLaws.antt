@@ -25,7 +25,7 @@ use Rattle.meaning.proofs.EndLaws.{Ends, ends-left, ends-right, ends-sp
 use Rattle.meaning.proofs.PairLaws.{fluent-true, fluent-false, by-literal, pair-of, true-in-true, true-in-false, pair-disjoint, senses-pair}
 
 -- THE FLUENTS READ.
-abbrev pub Distinct : List ℕ → Type 0
+abbrev Distinct : List ℕ → Type 0
 Distinct [] = Unit {0}
 Distinct (f ∷ fs) = (Has fs f → ⊥) × Distinct fs
 

@@ -75,7 +75,7 @@ abbrev mutual
   Fit-branches none = Unit {0}
   Fit-branches (branch c b bs) = Fit b × Fit-branches bs
 
-or-else-nowhere : (f : Found) (k : Unit {0} → Found) → or-else f k ≡ nowhere → (f ≡ nowhere) × (k tt ≡ nowhere)
+pub or-else-nowhere : (f : Found) (k : Unit {0} → Found) → or-else f k ≡ nowhere → (f ≡ nowhere) × (k tt ≡ nowhere)
 unfolding or-else
 or-else-nowhere nowhere k e = (refl, e)
 or-else-nowhere (at p) k e = absurd (at≢nowhere e)

@@ -125,12 +125,12 @@ none-known n =
     (λ f. known-true (replicate n 0) f ∙ rw (unknown-mark n f))
     (λ f. known-false (replicate n 0) f ∙ rw (unknown-mark n f))
 
-module _ (lim : Limits) (room : lim .fluents ≤ lim .state) (t : Table) (ranged : Ranged lim t) where
-  pub first-length : length (first-state lim t) ≡ lim .state
-  unfolding first-state
-  first-length = told-all-length (t .facts) (replicate (lim .state) 0) ∙ length-replicate (lim .state) 0
+pub first-length : (lim : Limits) (t : Table) → length (first-state lim t) ≡ lim .state
+unfolding first-state
+first-length lim t = told-all-length (t .facts) (replicate (lim .state) 0) ∙ length-replicate (lim .state) 0
 
-  first-known : (k : ℕ) → known (first-state lim t) k ≡ among k (t .facts)
+module _ (lim : Limits) (room : lim .fluents ≤ lim .state) (t : Table) (ranged : Ranged lim t) where
+  pub first-known : (k : ℕ) → known (first-state lim t) k ≡ among k (t .facts)
   unfolding first-state either fluent-of
   first-known k = told-all-known (t .facts) (replicate (lim .state) 0) can k ∙ rw (none-known (lim .state) k)
     where
