@@ -13,7 +13,7 @@ use Rattle.meaning.specs.Literals.{complement, among, exclusive}
 use Rattle.meaning.specs.Requests.{Effect, Knowledge, Table, Sequence, done, item, Item, act, branching, Branches, none, branch}
 use Rattle.meaning.specs.Refusals.{conditions-of, all-exclusive}
 use Rattle.meaning.specs.Lines.{sensing}
-use Rattle.meaning.specs.States.{State, known, can-be-run, state-after, outcome}
+use Rattle.meaning.specs.States.{State, known, can-be-run, state-after, unknown-sensed, single, readings, outcome}
 use Rattle.meaning.specs.Walk.{table-step}
 use Rattle.meaning.specs.Paths.{Ending, arrives, stops, Path, first-ran, go-on, arrivals, paths, paths-item, paths-branch}
 use Rattle.meaning.specs.Approximation.{Pair, Disjoint, true-in, _≼_, executable, sensing-action, Res, Result, failed, state, Sensed, Φ, None-true, Φ̂, Φ̂-item, Φ̂-case}
@@ -89,18 +89,32 @@ module _ (size : ℕ) where
   covers-on more xs u h (state δ) (inl w) = inl (w .0, w .1, arrives-on more xs u _ h (w .2))
   covers-on more xs u h (state δ) (inr w) = inr (w .0, arrives-on more xs u _ h (w .1), w .2)
 
+  covers-then : (more : State → List (Path State)) (xs : List (Path State)) (σ : Pair) (x : Result) → Covered xs (state σ) → ((u : State) → Below u σ → Covered (more u) x) → Covered (go-on xs more) x
+  covers-then more xs σ x (inl stop) go = stops-cover _ (stop-goes-on more xs stop) x
+  covers-then more xs σ x (inr w) go = covers-on more xs (w .0) (w .1) x (go (w .0) (w .2))
+
 -- A table whose lines are within states of a size.
 module _ (t : Table) (size : ℕ) (effects-within : (e : Effect) → Has (t .effects) e → e .literal < 2 * size) (knowledge-within : (k : Knowledge) → Has (t .knowledge) k → k .fluent < size) where
   -- EXACT.
   reaches-act : (p a : ℕ) (s : State) → length s ≡ size → (e : Ending State) → Ends (paths-item (table-step t) (act p a) s) e → Φ t a (pair-of s) (result-of e) × Sized size e
   unfolding paths table-step outcome arrivals
   reaches-act p a s sized e h =
-      has-picked (λ xs. Ends xs e) (can-be-run t a s) _ _ h
-      (λ runs k. has-picked (λ o. Ends (arrivals o) e) (sensing t a) _ _ (ends-ran (a ∷ []) (arrivals (outcome t a s)) e .0 k)
-      (λ senses j. let w = reading-is t a s (λ n m. rw sized (knowledge-within n m)) e j in
-      rw (w .1) ((runs-pair t a s ∙ runs, inr (sensing-pair t a ∙ senses, w .3)), w .2 ∙ sized))
-      (λ not j. rw (ends-one j) ((runs-pair t a s ∙ runs, inl (sensing-pair t a ∙ not, pair-after t a s (λ n m. rw sized (effects-within n m)))), after-length t a s ∙ sized)))
-      (λ stuck k. rw (ends-one k) (runs-pair t a s ∙ stuck, tt))
+      has-picked (λ xs. Ends xs e) (can-be-run t a s) _ _ h ran (λ stuck k. rw (ends-one k) (runs-pair t a s ∙ stuck, tt))
+    where
+      read : executable t a (pair-of s) ≡ true → sensing t a ≡ true → Ends (arrivals (readings (unknown-sensed t a s) s)) e → Φ t a (pair-of s) (result-of e) × Sized size e
+      read runs senses k =
+          let w = reading-is t a s (λ n m. rw sized (knowledge-within n m)) e k in
+          rw (w .1) ((runs, inr (sensing-pair t a ∙ senses, w .3)), w .2 ∙ sized)
+
+      moved : executable t a (pair-of s) ≡ true → sensing t a ≡ false → Ends (arrivals (single (state-after t a s))) e → Φ t a (pair-of s) (result-of e) × Sized size e
+      moved runs no-sensing k =
+          rw (ends-one k)
+          ((runs, inl (sensing-pair t a ∙ no-sensing, pair-after t a s (λ n m. rw sized (effects-within n m)))), after-length t a s ∙ sized)
+
+      ran : can-be-run t a s ≡ true → Ends (first-ran (a ∷ []) (arrivals (outcome t a s))) e → Φ t a (pair-of s) (result-of e) × Sized size e
+      ran runs k =
+          let runs-too = runs-pair t a s ∙ runs in
+          has-picked (λ o. Ends (arrivals o) e) (sensing t a) _ _ (ends-ran (a ∷ []) (arrivals (outcome t a s)) e .0 k) (read runs-too) (moved runs-too)
 
   mutual
     unfolding paths table-step
@@ -111,7 +125,8 @@ module _ (t : Table) (size : ℕ) (effects-within : (e : Effect) → Has (t .eff
     reaches (item i rest) s sized e h =
         ⊎-elim
         (λ w. rw (w .3) (inl (reaches-item i s sized (stops (w .0) (w .1)) (w .2) .0, refl), tt))
-        (λ w. let here = reaches-item i s sized (arrives (w .0)) (w .1) in
+        (λ w.
+        let here = reaches-item i s sized (arrives (w .0)) (w .1) in
         let there = reaches rest (w .0) (here .1) e (w .2) in
         (inr (pair-of (w .0), here .0, there .0), there .1))
         (went-on (paths (table-step t) rest) (paths-item (table-step t) i s) e h)
@@ -120,13 +135,12 @@ module _ (t : Table) (size : ℕ) (effects-within : (e : Effect) → Has (t .eff
     reaches-item (act p a) s sized e h = reaches-act p a s sized e h
     reaches-item (branching p bs) s sized e h = reaches-branch bs p s sized e h
 
-    reaches-branch : (bs : Branches ℕ) (p : ℕ) (s : State) → length s ≡ size → (e : Ending State) → Ends (paths-branch (table-step t) bs p s) e → (Φ̂-case t bs (pair-of s) (result-of e) ⊎ (None-true t bs (pair-of s) × (result-of e ≡ failed))) × Sized size e
+    reaches-branch : (bs : Branches ℕ) (p : ℕ) (s : State) → length s ≡ size → (e : Ending State) → Ends (paths-branch (table-step t) bs p s) e → Φ̂-item t (branching p bs) (pair-of s) (result-of e) × Sized size e
     reaches-branch none p s sized e h = rw (ends-one h) (inr (tt, refl), tt)
     reaches-branch (branch c b bs) p s sized e h =
         has-picked (λ xs. Ends xs e) (each-of (known s) c) _ _ h
         (λ k j. let w = reaches b s sized e j in (inl (inl (knows-pair s c ∙ k, w .0)), w .1))
-        (λ k j. let w = reaches-branch bs p s sized e j in
-        (⊎-elim (λ x. inl (inr x)) (λ x. inr ((knows-pair s c ∙ k, x .0), x .1)) (w .0), w .1))
+        (λ k j. let w = reaches-branch bs p s sized e j in (⊎-elim (λ x. inl (inr x)) (λ x. inr ((knows-pair s c ∙ k, x .0), x .1)) (w .0), w .1))
 
   -- COVERING.
   covers-act : (p a : ℕ) (s : State) (δ : Pair) → Below size s δ → (x : Result) → Φ t a δ x → Covered size (paths-item (table-step t) (act p a) s) x
@@ -175,29 +189,31 @@ module _ (t : Table) (size : ℕ) (effects-within : (e : Effect) → Has (t .eff
         let xs = paths-item (table-step t) i s in
         ⊎-elim
         (λ w. rw (w .1) (stop-goes-on more xs (covers-item i (fits .0) s δ below failed (w .0))))
-        (λ w. ⊎-elim
-        (λ stop. stops-cover size _ (stop-goes-on more xs stop) x)
-        (λ u. covers-on size more xs (u .0) (u .1) x (covers rest (fits .1) (u .0) (w .0) (u .2) x (w .2)))
-        (covers-item i (fits .0) s δ below (state (w .0)) (w .1)))
+        (λ w. covers-then size more xs (w .0) x (covers-item i (fits .0) s δ below (state (w .0)) (w .1)) (λ u under. covers rest (fits .1) u (w .0) under x (w .2)))
         h
 
     covers-item : (i : Item ℕ) → Fit-item i → (s : State) (δ : Pair) → Below size s δ → (x : Result) → Φ̂-item t i δ x → Covered size (paths-item (table-step t) i s) x
     covers-item (act p a) fits s δ below x h = covers-act p a s δ below x h
     covers-item (branching p bs) fits s δ below x h = covers-branch bs p (fits .0) (fits .1) s δ below x h
 
-    covers-branch : (bs : Branches ℕ) (p : ℕ) → all-exclusive (conditions-of bs) ≡ true → Fit-branches bs → (s : State) (δ : Pair) → Below size s δ → (x : Result) → Φ̂-case t bs δ x ⊎ (None-true t bs δ × (x ≡ failed)) → Covered size (paths-branch (table-step t) bs p s) x
+    covers-branch : (bs : Branches ℕ) (p : ℕ) → all-exclusive (conditions-of bs) ≡ true → Fit-branches bs → (s : State) (δ : Pair) → Below size s δ → (x : Result) → Φ̂-item t (branching p bs) δ x → Covered size (paths-branch (table-step t) bs p s) x
     covers-branch none p apart fits s δ below x h = ⊎-elim absurd (λ w. rw (w .1) (p, s, inl refl)) h
     covers-branch (branch c b bs) p apart fits s δ below x h =
         pick-has (λ xs. Covered size xs x) (each-of (known s) c) _ _
-        (λ k. let holds = knows-true s δ (below .extends) c k in
-        ⊎-elim
-        (⊎-elim (λ w. covers b (fits .0) s δ below x (w .1)) (λ w. absurd (none-chosen t bs δ x (others holds) w)))
-        (λ w. clash holds (w .0 .0))
-        h)
-        (λ _. ⊎-elim
-        (⊎-elim (λ w. stops-cover size _ (none-taken t bs p s δ (below .extends) (others (w .0))) x) (λ w. covers-branch bs p (both-right _ _ apart) (fits .1) s δ below x (inl w)))
-        (λ w. covers-branch bs p (both-right _ _ apart) (fits .1) s δ below x (inr (w .0 .1, w .1)))
-        h)
+        (λ k. here (knows-true s δ (below .extends) c k) (λ w. covers b (fits .0) s δ below x w) h)
+        (λ _. later (λ w. covers-branch bs p (both-right _ _ apart) (fits .1) s δ below x w) h)
       where
         others : each-of (true-in δ) c ≡ true → None-true t bs δ
         others holds = others-false t δ (below .disjoint) c holds bs (both-left _ _ apart)
+
+        -- The condition is known in the state, so it is the one that is true.
+        here : each-of (true-in δ) c ≡ true → (Φ̂ t b δ x → Covered size (paths (table-step t) b s) x) → Φ̂-item t (branching p (branch c b bs)) δ x → Covered size (paths (table-step t) b s) x
+        here holds go (inl (inl w)) = go (w .1)
+        here holds go (inl (inr w)) = absurd (none-chosen t bs δ x (others holds) w)
+        here holds go (inr w) = clash holds (w .0 .0)
+
+        -- It is not; if it is true above, no other is known, and the path stops.
+        later : (Φ̂-item t (branching p bs) δ x → Covered size (paths-branch (table-step t) bs p s) x) → Φ̂-item t (branching p (branch c b bs)) δ x → Covered size (paths-branch (table-step t) bs p s) x
+        later go (inl (inl w)) = stops-cover size _ (none-taken t bs p s δ (below .extends) (others (w .0))) x
+        later go (inl (inr w)) = go (inl w)
+        later go (inr w) = go (inr (w .0 .1, w .1))

@@ -12,6 +12,7 @@ use lib.ListN.{length, getD, List·getD-eq-default}
 use lib.Dec.{eqb}
 use borrow.Author.Tests.{eqb-true, eqb-false, eq-eqb, ne-eqb}
 use Rattle.meaning.specs.Tests.{both, either, fails, pick, some-of}
+use Rattle.meaning.specs.Limits
 use Rattle.meaning.specs.Literals.{says-true, says-false, fluent-of, positive, complement}
 use Rattle.meaning.specs.Requests.{Effect, Knowledge, Table}
 use Rattle.meaning.specs.Lines.{effects-of, executability-of, knowledge-of, allowed, given, sensing, senses}
@@ -150,19 +151,19 @@ module _ (t : Table) (a : ℕ) where
 unfoldable pub pair-of : State → Pair
 pair-of s = record { T = λ f. known s (says-true f); F = λ f. known s (says-false f) }
 
-pub mark-true : (f : ℕ) → mark-of (says-true f) ≡ 1
+pub mark-true : (f : ℕ) → mark-of (says-true f) ≡ Limits.true-mark
 unfolding mark-of
 mark-true f = pick-true _ _ _ (positive-true f)
 
-pub mark-false : (f : ℕ) → mark-of (says-false f) ≡ 2
+pub mark-false : (f : ℕ) → mark-of (says-false f) ≡ Limits.false-mark
 unfolding mark-of
 mark-false f = pick-false _ _ _ (positive-false f)
 
-pub known-true : (s : State) (f : ℕ) → known s (says-true f) ≡ eqb (getD s f 0) 1
+pub known-true : (s : State) (f : ℕ) → known s (says-true f) ≡ eqb (getD s f Limits.unknown-mark) Limits.true-mark
 unfolding known
 known-true s f = rw (fluent-true f, mark-true f)
 
-pub known-false : (s : State) (f : ℕ) → known s (says-false f) ≡ eqb (getD s f 0) 2
+pub known-false : (s : State) (f : ℕ) → known s (says-false f) ≡ eqb (getD s f Limits.unknown-mark) Limits.false-mark
 unfolding known
 known-false s f = rw (fluent-false f, mark-false f)
 
@@ -183,9 +184,9 @@ module _ (s : State) where
 
   pub pair-disjoint : Disjoint (pair-of s)
   unfolding pair-of
-  pair-disjoint f = by-test _ (λ e. absurd (two-marks (getD s f 0) (eqb-true _ _ (sym (known-true s f) ∙ both-left _ _ e)) (eqb-true _ _ (sym (known-false s f) ∙ both-right _ _ e)))) (λ e. e)
+  pair-disjoint f = by-test _ (λ e. absurd (two-marks (getD s f Limits.unknown-mark) (eqb-true _ _ (sym (known-true s f) ∙ both-left _ _ e)) (eqb-true _ _ (sym (known-false s f) ∙ both-right _ _ e)))) (λ e. e)
     where
-      two-marks : (m : ℕ) → m ≡ 1 → m ≡ 2 → ⊥
+      two-marks : (m : ℕ) → m ≡ Limits.true-mark → m ≡ Limits.false-mark → ⊥
       two-marks m p q = omega arith
 
 -- The tests of lines.
@@ -222,19 +223,22 @@ unfolding marks-after
 marks-length es s f [] = refl
 marks-length es s f (m ∷ ms) = ap suc (marks-length es s (f + 1) ms)
 
-marks-at : (es : List Effect) (s : State) (f : ℕ) (ms : List ℕ) (k : ℕ) → k < length ms → getD (marks-after es s f ms) k 0 ≡ mark-after es s (f + k)
+marks-at : (es : List Effect) (s : State) (f : ℕ) (ms : List ℕ) (k : ℕ) → k < length ms → getD (marks-after es s f ms) k Limits.unknown-mark ≡ mark-after es s (f + k)
 unfolding marks-after
 marks-at es s f [] k h = absurd (not-suc-le-zero h)
 marks-at es s f (m ∷ ms) zero h = ap (mark-after es s) (omega arith)
 marks-at es s f (m ∷ ms) (suc k) h = marks-at es s (f + 1) ms k (le-of-suc-le-suc h) ∙ ap (mark-after es s) (omega arith)
 
-marked-true : (x y : Bool) → eqb (pick x (λ _. 1) (λ _. pick y (λ _. 2) (λ _. 0))) 1 ≡ x
+abbrev mark-by : Bool → Bool → ℕ
+mark-by x y = pick x (λ _. Limits.true-mark) (λ _. pick y (λ _. Limits.false-mark) (λ _. Limits.unknown-mark))
+
+marked-true : (x y : Bool) → eqb (mark-by x y) Limits.true-mark ≡ x
 unfolding pick
 marked-true true y = refl
 marked-true false true = refl
 marked-true false false = refl
 
-marked-false : (x y : Bool) → both x y ≡ false → eqb (pick x (λ _. 1) (λ _. pick y (λ _. 2) (λ _. 0))) 2 ≡ y
+marked-false : (x y : Bool) → both x y ≡ false → eqb (mark-by x y) Limits.false-mark ≡ y
 unfolding pick both
 marked-false true y e = sym e
 marked-false false true e = refl
@@ -244,35 +248,40 @@ pub after-length : (t : Table) (a : ℕ) (s : State) → length (state-after t a
 unfolding state-after
 after-length t a s = marks-length (effects-of t a) s 0 s
 
+after-mark : (t : Table) (a : ℕ) (s : State) (f : ℕ) → f < length s → getD (state-after t a s) f Limits.unknown-mark ≡ mark-after (effects-of t a) s f
+unfolding state-after
+after-mark t a s f near = marks-at (effects-of t a) s 0 s f near ∙ ap (mark-after (effects-of t a) s) (omega arith)
+
 -- Nothing is known of a fluent past the state's end.
 unknown-far : (s : State) (f : ℕ) → length s ≤ f → (known s (says-true f) ≡ false) × (known s (says-false f) ≡ false)
-unknown-far s f far = let none = List·getD-eq-default s 0 {n = f} far in (known-true s f ∙ rw none, known-false s f ∙ rw none)
+unknown-far s f far = let none = List·getD-eq-default s Limits.unknown-mark {n = f} far in (known-true s f ∙ rw none, known-false s f ∙ rw none)
 
 module _ (t : Table) (a : ℕ) (s : State) (within : (e : Effect) → Has (t .effects) e → e .literal < 2 * length s) where
   caused-within : (test : ℕ → Bool) (l : ℕ) → 2 * length s ≤ l → caused t a test l ≡ false
   unfolding caused
   caused-within test l far =
       by-test _
-      (λ e. let w = some-has _ (t .effects) e in
+      (λ e.
+      let w = some-has _ (t .effects) e in
       let same : w .0 .literal ≡ l = eqb-true _ _ (both-left _ _ (both-right _ _ (w .2))) in
-      let near = within (w .0) (w .1) in absurd (omega arith))
+      let near = within (w .0) (w .1) in
+      absurd (omega arith))
       (λ e. e)
 
-  mark-near : (f : ℕ) → f < length s → getD (state-after t a s) f 0 ≡ mark-after (effects-of t a) s f
-  unfolding state-after
-  mark-near f near = marks-at (effects-of t a) s 0 s f near ∙ ap (mark-after (effects-of t a) s) (omega arith)
+  abbrev Known-as-in-Res : ℕ → Type 0
+  Known-as-in-Res f = (known (state-after t a s) (says-true f) ≡ Res t a (pair-of s) .T f) × (known (state-after t a s) (says-false f) ≡ Res t a (pair-of s) .F f)
 
-  known-near : (f : ℕ) → f < length s → (known (state-after t a s) (says-true f) ≡ Res t a (pair-of s) .T f) × (known (state-after t a s) (says-false f) ≡ Res t a (pair-of s) .F f)
+  known-near : (f : ℕ) → f < length s → Known-as-in-Res f
   unfolding mark-after
   known-near f near = (
-    known-true (state-after t a s) f ∙ ap (λ (m : ℕ). eqb m 1) (mark-near f near) ∙ marked-true _ _ ∙ sym (after-true t a s f),
-    known-false (state-after t a s) f ∙ ap (λ (m : ℕ). eqb m 2) (mark-near f near) ∙ marked-false _ _ apart ∙ sym (after-false t a s f),
+    known-true (state-after t a s) f ∙ ap (λ (m : ℕ). eqb m Limits.true-mark) (after-mark t a s f near) ∙ marked-true _ _ ∙ sym (after-true t a s f),
+    known-false (state-after t a s) f ∙ ap (λ (m : ℕ). eqb m Limits.false-mark) (after-mark t a s f near) ∙ marked-false _ _ apart ∙ sym (after-false t a s f),
   )
     where
       apart : both (known-after (effects-of t a) s (says-true f)) (known-after (effects-of t a) s (says-false f)) ≡ false
       apart = rw (after-true t a s f, after-false t a s f) at (Res-disjoint t a (pair-of s) (pair-disjoint s) f)
 
-  known-far : (f : ℕ) → length s ≤ f → (known (state-after t a s) (says-true f) ≡ Res t a (pair-of s) .T f) × (known (state-after t a s) (says-false f) ≡ Res t a (pair-of s) .F f)
+  known-far : (f : ℕ) → length s ≤ f → Known-as-in-Res f
   unfolding Res e⁺ e⁻ pair-of says-true says-false either both
   known-far f far =
       let now = unknown-far s f far in
@@ -286,5 +295,5 @@ module _ (t : Table) (a : ℕ) (s : State) (within : (e : Effect) → Has (t .ef
   unfolding pair-of
   pair-after = λ i. record { T = fun-ext (λ (f : ℕ). at-each f .0) i; F = fun-ext (λ (f : ℕ). at-each f .1) i }
     where
-      at-each : (f : ℕ) → (known (state-after t a s) (says-true f) ≡ Res t a (pair-of s) .T f) × (known (state-after t a s) (says-false f) ≡ Res t a (pair-of s) .F f)
+      at-each : (f : ℕ) → Known-as-in-Res f
       at-each f = elim (decLt f (length s)) [ yes near ↦ known-near f near | no far ↦ known-far f (omega arith) ]

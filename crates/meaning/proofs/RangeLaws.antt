@@ -43,7 +43,7 @@ below-bound bound s p x q e =
     let u = not-refused _ _ _ _ e′ in
     subst (λ (y : ℕ). y < bound) (got-same (u .1)) (leb-false bound d (u .0))
 
--- LISTS OF LITERALS. An entry is above the one before, which the floor is one more than, and is not its complement.
+-- LISTS OF LITERALS. The floor is one more than the entry before: what follows is not below it, and is not that entry's complement.
 record Above (floor y : ℕ) : Type 0 where
   least : floor ≤ y
   apart : 0 < floor → y ≡ complement (floor - 1) → ⊥

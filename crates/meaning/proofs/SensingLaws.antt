@@ -1,5 +1,5 @@
--- A sensing action: the readings of a state are the states told one literal of each sensed fluent that was unknown. So each of them is one
--- of the action's a-states, and above whatever the state is below one of them is too. Assumes nothing.
+-- A sensing action: the readings of a state are the states told one literal of each sensed fluent that was unknown. So each is one of the
+-- action's a-states, and whatever extends the state and has the sensed fluents true or false extends one of them. Assumes nothing.
 use Prim.Native.Nat.{ℕ, suc, _+_, _≤_, _<_}
 use native.Mathlib.Omega.{arith}
 use native.Mathlib.Decide.{ℕ-discrete}
@@ -24,12 +24,12 @@ use Rattle.meaning.proofs.ToldLaws.{fluent-complement, Tellable, told-a
 use Rattle.meaning.proofs.EndLaws.{Ends, ends-left, ends-right, ends-split}
 use Rattle.meaning.proofs.PairLaws.{fluent-true, fluent-false, by-literal, pair-of, true-in-true, true-in-false, pair-disjoint, senses-pair}
 
--- THE FLUENTS READ.
+-- THE FLUENTS READ. No fluent stands twice.
 abbrev Distinct : List ℕ → Type 0
 Distinct [] = Unit {0}
 Distinct (f ∷ fs) = (Has fs f → ⊥) × Distinct fs
 
--- The fluents that an action reads in a state.
+-- A fluent, from low up to high, that is sensed and unknown.
 record Unread (ks : List Knowledge) (s : State) (low high f : ℕ) : Type 0 where
   above : low ≤ f
   below : f < high
@@ -111,15 +111,15 @@ readings-to (l ∷ ls) s =
     (λ f. rw (fluent-false f) (ends-right (arrivals (readings (map fluent-of ls) (told (says-true f) s))) _ _ (readings-to ls (told (says-false f) s))))
     l
 
--- A literal of each fluent can be told that a pair has true, if it has the fluents true or false.
+-- Of fluents that a pair has true or false, it has a literal of each true.
 followed : (δ : Pair) (fs : List ℕ) → ((f : ℕ) → Has fs f → either (δ .T f) (δ .F f) ≡ true) → (ls : List ℕ) × (map fluent-of ls ≡ fs) × ((l : ℕ) → Has ls l → true-in δ l ≡ true)
-followed δ [] known = ([], refl, λ l h. absurd h)
-followed δ (f ∷ fs) known =
-    let w = followed δ fs (λ g h. known g (inr h)) in
+followed δ [] valued = ([], refl, λ l h. absurd h)
+followed δ (f ∷ fs) valued =
+    let w = followed δ fs (λ g h. valued g (inr h)) in
     ⊎-elim
     (λ e. (says-true f ∷ w .0, rw (fluent-true f, w .1), λ l. ⊎-elim (λ q. rw q (true-in-true δ f ∙ e)) (w .2 l)))
     (λ e. (says-false f ∷ w .0, rw (fluent-false f, w .1), λ l. ⊎-elim (λ q. rw q (true-in-false δ f ∙ e)) (w .2 l)))
-    (either-split _ _ (known f (inl refl)))
+    (either-split _ _ (valued f (inl refl)))
 
 one-of-two : (l : ℕ) → (l ≡ says-true (fluent-of l)) ⊎ (l ≡ says-false (fluent-of l))
 one-of-two =
@@ -178,18 +178,22 @@ module _ (t : Table) (a : ℕ) (s : State) (within : (k : Knowledge) → Has (t 
     unfolding among
     known-told k h = told-all-known ls s can-be-told k ∙ either-right _ _ (has-some (eqb k) ls k h (eq-eqb k k refl))
 
-    domain-grows : (f : ℕ) → either (known (told-all ls s) (says-true f)) (known (told-all ls s) (says-false f)) ≡ either (either (known s (says-true f)) (known s (says-false f))) (K t a f)
+    -- The fluents known are those known before and those sensed.
+    domain-grows : (f : ℕ) → known-whether (told-all ls s) f ≡ either (known-whether s f) (K t a f)
     unfolding known-whether
-    domain-grows f = same-test _ _ (λ e. ⊎-elim (from _ (fluent-true f) (either-left _ _)) (from _ (fluent-false f) (either-right _ _)) (either-split _ _ e)) (λ e. ⊎-elim kept sensed (either-split _ _ e))
+    domain-grows f =
+        same-test _ _
+        (λ e. ⊎-elim (from _ (fluent-true f) (either-left _ _)) (from _ (fluent-false f) (either-right _ _)) (either-split _ _ e))
+        (λ e. ⊎-elim kept sensed (either-split _ _ e))
       where
-        from : (l : ℕ) → fluent-of l ≡ f → (known s l ≡ true → either (known s (says-true f)) (known s (says-false f)) ≡ true)
-            → known (told-all ls s) l ≡ true → either (either (known s (says-true f)) (known s (says-false f))) (K t a f) ≡ true
+        from : (l : ℕ) → fluent-of l ≡ f → (known s l ≡ true → known-whether s f ≡ true)
+            → known (told-all ls s) l ≡ true → either (known-whether s f) (K t a f) ≡ true
         from l q up e = ⊎-elim (λ k. either-left _ _ (up k)) (λ h. either-right _ _ (subst (λ (g : ℕ). K t a g ≡ true) q (told-read l h .1))) (known-split l e)
 
-        kept : either (known s (says-true f)) (known s (says-false f)) ≡ true → either (known (told-all ls s) (says-true f)) (known (told-all ls s) (says-false f)) ≡ true
+        kept : known-whether s f ≡ true → known-whether (told-all ls s) f ≡ true
         kept e = ⊎-elim (λ k. either-left _ _ (known-kept _ k)) (λ k. either-right _ _ (known-kept _ k)) (either-split _ _ e)
 
-        sensed : K t a f ≡ true → either (known (told-all ls s) (says-true f)) (known (told-all ls s) (says-false f)) ≡ true
+        sensed : K t a f ≡ true → known-whether (told-all ls s) f ≡ true
         sensed e =
             by-test _ kept λ unread.
             let w = map-has fluent-of ls f (subst (λ (fs : List ℕ). Has fs f) (sym one-each) (is-read f e unread)) in
@@ -200,7 +204,7 @@ module _ (t : Table) (a : ℕ) (s : State) (within : (k : Knowledge) → Has (t 
 
     -- It is one of the action's a-states.
     reading-sensed : Sensed t a (pair-of s) (pair-of (told-all ls s))
-    unfolding pair-of
+    unfolding pair-of known-whether
     reading-sensed = record {
       disjoint = pair-disjoint (told-all ls s);
       extends = record { T = λ f. known-kept (says-true f); F = λ f. known-kept (says-false f) };
@@ -223,6 +227,6 @@ module _ (t : Table) (a : ℕ) (s : State) (within : (k : Knowledge) → Has (t 
   -- Above the state, where the sensed fluents are known, there is a reading below.
   pub reading-follows : (δ : Pair) → pair-of s ≼ δ → ((f : ℕ) → K t a f ≡ true → either (δ .T f) (δ .F f) ≡ true)
       → (u : State) × Ends (arrivals (readings (unknown-sensed t a s) s)) (arrives u) × (length u ≡ length s) × (pair-of u ≼ δ)
-  reading-follows δ more settled =
-      let w = followed δ (unknown-sensed t a s) (λ f h. settled f (read-is f h .1)) in
+  reading-follows δ more valued =
+      let w = followed δ (unknown-sensed t a s) (λ f h. valued f (read-is f h .1)) in
       (told-all (w .0) s, subst (λ (fs : List ℕ). Ends (arrivals (readings fs s)) (arrives (told-all (w .0) s))) (w .1) (readings-to (w .0) s), told-all-length (w .0) s, reading-below (w .0) (w .1) δ more (w .2))

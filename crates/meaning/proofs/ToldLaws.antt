@@ -12,6 +12,7 @@ use lib.Seq.{getD-set-same, getD-set-other}
 use lib.Dec.{eqb}
 use borrow.Author.Tests.{eq-eqb, ne-eqb}
 use Rattle.meaning.specs.Tests.{either, some-of}
+use Rattle.meaning.specs.Limits
 use Rattle.meaning.specs.Limits.{Limits}
 use Rattle.meaning.specs.Literals.{says-true, says-false, fluent-of, complement, among}
 use Rattle.meaning.specs.Requests.{Table}
@@ -60,15 +61,15 @@ either-assoc false b c = refl
 module _ (l : ℕ) (s : State) (within : fluent-of l < length s) where
   told-here : known (told l s) l ≡ true
   unfolding known told
-  told-here = eq-eqb _ (mark-of l) (getD-set-same s (fluent-of l) (mark-of l) 0 within)
+  told-here = eq-eqb _ (mark-of l) (getD-set-same s (fluent-of l) (mark-of l) Limits.unknown-mark within)
 
   told-beside : known (told l s) (complement l) ≡ false
   unfolding known told
-  told-beside = ne-eqb _ (mark-of (complement l)) (rw (fluent-complement l, getD-set-same s (fluent-of l) (mark-of l) 0 within) (mark-complement l))
+  told-beside = ne-eqb _ (mark-of (complement l)) (rw (fluent-complement l, getD-set-same s (fluent-of l) (mark-of l) Limits.unknown-mark within) (mark-complement l))
 
   told-elsewhere : (k : ℕ) → (fluent-of k ≡ fluent-of l → ⊥) → known (told l s) k ≡ known s k
   unfolding known told
-  told-elsewhere k other = ap (λ (m : ℕ). eqb m (mark-of k)) (getD-set-other s (fluent-of l) (fluent-of k) (mark-of l) 0 other)
+  told-elsewhere k other = ap (λ (m : ℕ). eqb m (mark-of k)) (getD-set-other s (fluent-of l) (fluent-of k) (mark-of l) Limits.unknown-mark other)
 
   told-known : known s (complement l) ≡ false → (k : ℕ) → known (told l s) k ≡ either (known s k) (eqb k l)
   told-known free k = elim (ℕ-discrete (fluent-of k) (fluent-of l)) [ yes same ↦ ⊎-elim here beside (same-fluent k l same) | no other ↦ elsewhere other ]
@@ -112,31 +113,34 @@ told-all-known (l ∷ ls) s can k =
     ∙ rw (told-known l s (can .within l (inl refl)) (can .free l (inl refl)) k) (either-assoc (known s k) (eqb k l) (among k ls))
 
 -- THE FIRST STATE.
-unknown-mark : (n f : ℕ) → getD {A = ℕ} (replicate n 0) f 0 ≡ 0
+abbrev nothing-told : ℕ → State
+nothing-told n = replicate n Limits.unknown-mark
+
+unknown-mark : (n f : ℕ) → getD (nothing-told n) f Limits.unknown-mark ≡ Limits.unknown-mark
 unknown-mark n f =
     elim (decLt f n) [
-      | yes near ↦ getD-replicate n f 0 0 near
-      | no far ↦ List·getD-eq-default (replicate n 0) 0 {n = f} (rw (length-replicate {A = ℕ} n 0) (omega arith))
+      | yes near ↦ getD-replicate n f Limits.unknown-mark Limits.unknown-mark near
+      | no far ↦ List·getD-eq-default (nothing-told n) Limits.unknown-mark {n = f} (rw (length-replicate n Limits.unknown-mark) (omega arith))
     ]
 
-none-known : (n l : ℕ) → known (replicate n 0) l ≡ false
+none-known : (n l : ℕ) → known (nothing-told n) l ≡ false
 none-known n =
-    by-literal (λ l. known (replicate n 0) l ≡ false)
-    (λ f. known-true (replicate n 0) f ∙ rw (unknown-mark n f))
-    (λ f. known-false (replicate n 0) f ∙ rw (unknown-mark n f))
+    by-literal (λ l. known (nothing-told n) l ≡ false)
+    (λ f. known-true (nothing-told n) f ∙ rw (unknown-mark n f))
+    (λ f. known-false (nothing-told n) f ∙ rw (unknown-mark n f))
 
 pub first-length : (lim : Limits) (t : Table) → length (first-state lim t) ≡ lim .state
 unfolding first-state
-first-length lim t = told-all-length (t .facts) (replicate (lim .state) 0) ∙ length-replicate (lim .state) 0
+first-length lim t = told-all-length (t .facts) (nothing-told (lim .state)) ∙ length-replicate (lim .state) Limits.unknown-mark
 
 module _ (lim : Limits) (room : lim .fluents ≤ lim .state) (t : Table) (ranged : Ranged lim t) where
   pub first-known : (k : ℕ) → known (first-state lim t) k ≡ among k (t .facts)
   unfolding first-state either fluent-of
-  first-known k = told-all-known (t .facts) (replicate (lim .state) 0) can k ∙ rw (none-known (lim .state) k)
+  first-known k = told-all-known (t .facts) (nothing-told (lim .state)) can k ∙ rw (none-known (lim .state) k)
     where
-      can : Tellable (replicate (lim .state) 0) (t .facts)
+      can : Tellable (nothing-told (lim .state)) (t .facts)
       can = record {
-        within = λ l h. rw (length-replicate {A = ℕ} (lim .state) 0) (omega (arith, ranged .facts l h, ranged .fluents));
+        within = λ l h. rw (length-replicate (lim .state) Limits.unknown-mark) (omega (arith, ranged .facts l h, ranged .fluents));
         free = λ l h. none-known (lim .state) (complement l);
         consistent = ranged .consistent;
       }
