@@ -1,0 +1,149 @@
+-- Where the paths of a list end, and what the end of the walk along them says of it: the walk is stuck where a path stops, it misses where
+-- none stops and one misses, and else it is fine. By induction on the list. Assumes nothing.
+use Prim.Native.Nat.{ℕ}
+use mathlib.Core.Path.{_≡_, refl, sym, _∙_, ap, subst}
+use mathlib.Core.List.{List, [], _∷_, _++_}
+use mathlib.Core.Logic.{_⊎_, inl, inr, ⊎-elim, _↔_}
+use Rattle.meaning.specs.Refusals.{Found, nowhere, at}
+use Rattle.meaning.specs.Walk.{End, fine, missed, stuck}
+use Rattle.meaning.specs.Paths.{Ending, arrives, stops, Path, first-ran, goes-on, go-on, stop-of, first-stop, miss-of, first-miss, stop-or-miss, walked-along}
+use Rattle.meaning.proofs.PathLaws.{by-found, misses-not, misses-here}
+
+module _ {S : Type 0} where
+  -- Some path of the list ends so.
+  abbrev pub Ends : List (Path S) → Ending S → Type 0
+  Ends [] e = ⊥
+  Ends (x ∷ xs) e = (e ≡ x .ending) ⊎ Ends xs e
+
+  abbrev pub Stops : List (Path S) → Type 0
+  Stops xs = (p : ℕ) × (s : S) × Ends xs (stops p s)
+
+  arrives≢stops : {u s : S} {p : ℕ} → arrives u ≡ stops p s → ⊥
+  arrives≢stops q = subst arrived q tt
+    where
+      arrived : Ending S → Type 0
+      arrived (arrives u) = Unit {0}
+      arrived (stops p s) = ⊥
+
+  arrives-same : {u v : S} → arrives u ≡ arrives v → u ≡ v
+  arrives-same {u} q = ap state q
+    where
+      state : Ending S → S
+      state (arrives v) = v
+      state (stops p s) = u
+
+  -- A list of one path ends as that does.
+  pub ends-one : {e g : Ending S} → (e ≡ g) ⊎ ⊥ → e ≡ g
+  ends-one (inl q) = q
+
+  -- APPENDED, AND GONE ON.
+  pub ends-left : (xs ys : List (Path S)) (e : Ending S) → Ends xs e → Ends (xs ++ ys) e
+  ends-left [] ys e h = absurd h
+  ends-left (x ∷ xs) ys e (inl q) = inl q
+  ends-left (x ∷ xs) ys e (inr h) = inr (ends-left xs ys e h)
+
+  pub ends-right : (xs ys : List (Path S)) (e : Ending S) → Ends ys e → Ends (xs ++ ys) e
+  ends-right [] ys e h = h
+  ends-right (x ∷ xs) ys e h = inr (ends-right xs ys e h)
+
+  pub ends-split : (xs ys : List (Path S)) (e : Ending S) → Ends (xs ++ ys) e → Ends xs e ⊎ Ends ys e
+  ends-split [] ys e h = inr h
+  ends-split (x ∷ xs) ys e (inl q) = inl (inl q)
+  ends-split (x ∷ xs) ys e (inr h) = ⊎-elim (λ l. inl (inr l)) inr (ends-split xs ys e h)
+
+  pub ends-ran : (before : List ℕ) (xs : List (Path S)) (e : Ending S) → Ends (first-ran before xs) e ↔ Ends xs e
+  unfolding first-ran
+  ends-ran before [] e = (λ h. h, λ h. h)
+  ends-ran before (x ∷ xs) e = (λ h. h, λ h. h)
+
+  module _ (more : S → List (Path S)) where
+    -- A path stopped before, or went on from where one arrived.
+    abbrev pub Went-on : List (Path S) → Ending S → Type 0
+    Went-on xs e = ((p : ℕ) × (s : S) × Ends xs (stops p s) × (e ≡ stops p s)) ⊎ ((u : S) × Ends xs (arrives u) × Ends (more u) e)
+
+    pub went-on : (xs : List (Path S)) (e : Ending S) → Ends (go-on xs more) e → Went-on xs e
+    unfolding go-on goes-on
+    went-on [] e h = absurd h
+    went-on (x ∷ xs) e h = ⊎-elim (by-ending (x .ending) refl) (λ k. later (went-on xs e k)) (ends-split (goes-on (x .ran) (x .ending) more) (go-on xs more) e h)
+      where
+        by-ending : (g : Ending S) → g ≡ x .ending → Ends (goes-on (x .ran) g more) e → Went-on (x ∷ xs) e
+        by-ending (arrives u) q k = inr (u, inl q, ends-ran (x .ran) (more u) e .0 k)
+        by-ending (stops p s) q (inl k) = inl (p, s, inl q, k)
+
+        later : Went-on xs e → Went-on (x ∷ xs) e
+        later (inl w) = inl (w .0, w .1, inr (w .2), w .3)
+        later (inr w) = inr (w .0, inr (w .1), w .2)
+
+    stops-on : (xs : List (Path S)) (p : ℕ) (s : S) → Ends xs (stops p s) → Ends (go-on xs more) (stops p s)
+    unfolding go-on goes-on
+    stops-on [] p s h = absurd h
+    stops-on (x ∷ xs) p s (inl q) = ends-left (goes-on (x .ran) (x .ending) more) (go-on xs more) (stops p s) (subst (λ (g : Ending S). Ends (goes-on (x .ran) g more) (stops p s)) q (inl refl))
+    stops-on (x ∷ xs) p s (inr h) = ends-right (goes-on (x .ran) (x .ending) more) (go-on xs more) (stops p s) (stops-on xs p s h)
+
+    pub stop-goes-on : (xs : List (Path S)) → Stops xs → Stops (go-on xs more)
+    stop-goes-on xs w = (w .0, w .1, stops-on xs (w .0) (w .1) (w .2))
+
+    pub arrives-on : (xs : List (Path S)) (u : S) (e : Ending S) → Ends xs (arrives u) → Ends (more u) e → Ends (go-on xs more) e
+    unfolding go-on goes-on
+    arrives-on [] u e h k = absurd h
+    arrives-on (x ∷ xs) u e (inl q) k = ends-left (goes-on (x .ran) (x .ending) more) (go-on xs more) e (subst (λ (g : Ending S). Ends (goes-on (x .ran) g more) e) q (ends-ran (x .ran) (more u) e .1 k))
+    arrives-on (x ∷ xs) u e (inr h) k = ends-right (goes-on (x .ran) (x .ending) more) (go-on xs more) e (arrives-on xs u e h k)
+
+-- THE END OF THE WALK.
+module _ {S : Type 0} where
+  -- What the first stop says.
+  abbrev Stop-says : List (Path S) → End S → Type 0
+  Stop-says xs fine = Stops xs → ⊥
+  Stop-says xs (missed p s) = ⊥
+  Stop-says xs (stuck p s) = Ends xs (stops p s)
+
+  stop-says : (xs : List (Path S)) → Stop-says xs (first-stop xs)
+  unfolding first-stop stop-of
+  stop-says [] = λ h. h .2
+  stop-says (x ∷ xs) = by-ending (x .ending) refl (first-stop xs) (stop-says xs)
+    where
+      by-ending : (g : Ending S) → g ≡ x .ending → (w : End S) → Stop-says xs w → Stop-says (x ∷ xs) (stop-of g w)
+      by-ending (arrives u) q fine no-stop = λ h. ⊎-elim (λ r. arrives≢stops (q ∙ sym r)) (λ k. no-stop (h .0, h .1, k)) (h .2)
+      by-ending (arrives u) q (stuck p s) stop = inr stop
+      by-ending (arrives u) q (missed p s) none = none
+      by-ending (stops p s) q w stop = inl q
+
+module _ {S : Type 0} (miss : S → Found) where
+  abbrev Miss-says : List (Path S) → End S → Type 0
+  Miss-says xs fine = (u : S) → Ends xs (arrives u) → miss u ≡ nowhere
+  Miss-says xs (missed p s) = Ends xs (arrives s) × (miss s ≡ at p)
+  Miss-says xs (stuck p s) = ⊥
+
+  miss-says : (xs : List (Path S)) → Miss-says xs (first-miss miss xs)
+  unfolding first-miss
+  miss-says [] = λ u h. absurd h
+  miss-says (x ∷ xs) = by-ending (x .ending) refl (first-miss miss xs) (miss-says xs)
+    where
+      later : (w : End S) → Miss-says xs w → ((u : S) → arrives u ≡ x .ending → miss u ≡ nowhere) → Miss-says (x ∷ xs) w
+      later fine none here = λ u. ⊎-elim (here u) (none u)
+      later (missed p s) w here = (inr (w .0), w .1)
+      later (stuck p s) w here = w
+
+      by-ending : (g : Ending S) → g ≡ x .ending → (w : End S) → Miss-says xs w → Miss-says (x ∷ xs) (miss-of miss g w)
+      by-ending (arrives u) q w says =
+          by-found (miss u)
+          (λ r. rw (misses-not miss u w r) (later w says (λ v k. ap miss (arrives-same (k ∙ sym q)) ∙ r)))
+          (λ p r. rw (misses-here miss u w p r) (inl q, r))
+      by-ending (stops p s) q w says = unfold miss-of in later w says (λ v k. absurd (arrives≢stops (k ∙ sym q)))
+
+  -- What the end of the walk along a list says of it.
+  abbrev pub Says : List (Path S) → End S → Type 0
+  Says xs fine = (Stops xs → ⊥) × ((u : S) → Ends xs (arrives u) → miss u ≡ nowhere)
+  Says xs (missed p s) = (Stops xs → ⊥) × Ends xs (arrives s) × (miss s ≡ at p)
+  Says xs (stuck p s) = Ends xs (stops p s)
+
+  pub end-says : (xs : List (Path S)) → Says xs (walked-along miss xs .end)
+  unfolding walked-along stop-or-miss
+  end-says xs = by-both (first-stop xs) (first-miss miss xs) (stop-says xs) (miss-says xs)
+    where
+      by-both : (v w : End S) → Stop-says xs v → Miss-says xs w → Says xs (stop-or-miss v w)
+      by-both fine fine no-stop says = (no-stop, says)
+      by-both fine (missed p s) no-stop says = (no-stop, says .0, says .1)
+      by-both fine (stuck p s) no-stop says = absurd says
+      by-both (missed p s) w stop says = absurd stop
+      by-both (stuck p s) w stop says = stop

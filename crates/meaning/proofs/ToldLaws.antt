@@ -1,0 +1,151 @@
+-- What a state knows once it is told literals: what it knew, and these, since one fluent has one mark and no literal is told beside its
+-- complement. So the first state, which is told the facts, is the least initial a-state. Assumes nothing.
+use Prim.Native.Nat.{ℕ, _≤_, _<_}
+use native.Mathlib.Omega.{arith}
+use native.Mathlib.Decide.{decLt, ℕ-discrete}
+use mathlib.Core.Path.{_≡_, refl, sym, _∙_, ap, fun-ext}
+use mathlib.Core.Bool.{Bool, true, false}
+use mathlib.Core.List.{List, [], _∷_}
+use mathlib.Core.Logic.{_⊎_, inl, inr, ⊎-elim}
+use lib.ListN.{length, getD, replicate, length-set, length-replicate, getD-replicate, List·getD-eq-default}
+use lib.Seq.{getD-set-same, getD-set-other}
+use lib.Dec.{eqb}
+use borrow.Author.Tests.{eq-eqb, ne-eqb}
+use Rattle.meaning.specs.Tests.{either, some-of}
+use Rattle.meaning.specs.Limits
+use Rattle.meaning.specs.Limits.{Limits}
+use Rattle.meaning.specs.Literals.{says-true, says-false, fluent-of, complement, among}
+use Rattle.meaning.specs.Requests.{Table}
+use Rattle.meaning.specs.States.{State, mark-of, known, told, told-all, first-state}
+use Rattle.meaning.specs.Approximation.{least}
+use Rattle.meaning.proofs.TestLaws.{either-right, Has}
+use Rattle.meaning.proofs.RefusalLaws.{complement-other}
+use Rattle.meaning.proofs.RangeLaws.{Ranged}
+use Rattle.meaning.proofs.PairLaws.{fluent-true, fluent-false, complement-true, complement-false, by-literal, pair-of, mark-true, mark-false, known-true, known-false}
+
+-- COMPLEMENTS have one fluent and two marks.
+pub fluent-complement : (l : ℕ) → fluent-of (complement l) ≡ fluent-of l
+fluent-complement =
+    by-literal (λ l. fluent-of (complement l) ≡ fluent-of l)
+    (λ f. rw (complement-true f) (fluent-false f ∙ sym (fluent-true f)))
+    (λ f. rw (complement-false f) (fluent-true f ∙ sym (fluent-false f)))
+
+mark-complement : (l : ℕ) → mark-of l ≡ mark-of (complement l) → ⊥
+mark-complement =
+    by-literal (λ l. mark-of l ≡ mark-of (complement l) → ⊥)
+    (λ f. rw (complement-true f, mark-true f, mark-false f) (λ q. omega arith))
+    (λ f. rw (complement-false f, mark-true f, mark-false f) (λ q. omega arith))
+
+-- Two literals of one fluent are the same or complements.
+same-fluent : (k l : ℕ) → fluent-of k ≡ fluent-of l → (k ≡ l) ⊎ (k ≡ complement l)
+same-fluent =
+    by-literal (λ k. (l : ℕ) → fluent-of k ≡ fluent-of l → (k ≡ l) ⊎ (k ≡ complement l))
+    (λ f. by-literal (λ l. fluent-of (says-true f) ≡ fluent-of l → (says-true f ≡ l) ⊎ (says-true f ≡ complement l))
+    (λ g. rw (fluent-true f, fluent-true g) (λ q. inl (ap says-true q)))
+    (λ g. rw (fluent-true f, fluent-false g, complement-false g) (λ q. inr (ap says-true q))))
+    (λ f. by-literal (λ l. fluent-of (says-false f) ≡ fluent-of l → (says-false f ≡ l) ⊎ (says-false f ≡ complement l))
+    (λ g. rw (fluent-false f, fluent-true g, complement-true g) (λ q. inr (ap says-false q)))
+    (λ g. rw (fluent-false f, fluent-false g) (λ q. inl (ap says-false q))))
+
+-- ONE LITERAL TOLD, whose complement was not known.
+either-none : (b : Bool) → either b false ≡ b
+unfolding either
+either-none true = refl
+either-none false = refl
+
+either-assoc : (a b c : Bool) → either (either a b) c ≡ either a (either b c)
+unfolding either
+either-assoc true b c = refl
+either-assoc false b c = refl
+
+module _ (l : ℕ) (s : State) (within : fluent-of l < length s) where
+  told-here : known (told l s) l ≡ true
+  unfolding known told
+  told-here = eq-eqb _ (mark-of l) (getD-set-same s (fluent-of l) (mark-of l) Limits.unknown-mark within)
+
+  told-beside : known (told l s) (complement l) ≡ false
+  unfolding known told
+  told-beside = ne-eqb _ (mark-of (complement l)) (rw (fluent-complement l, getD-set-same s (fluent-of l) (mark-of l) Limits.unknown-mark within) (mark-complement l))
+
+  told-elsewhere : (k : ℕ) → (fluent-of k ≡ fluent-of l → ⊥) → known (told l s) k ≡ known s k
+  unfolding known told
+  told-elsewhere k other = ap (λ (m : ℕ). eqb m (mark-of k)) (getD-set-other s (fluent-of l) (fluent-of k) (mark-of l) Limits.unknown-mark other)
+
+  told-known : known s (complement l) ≡ false → (k : ℕ) → known (told l s) k ≡ either (known s k) (eqb k l)
+  told-known free k = elim (ℕ-discrete (fluent-of k) (fluent-of l)) [ yes same ↦ ⊎-elim here beside (same-fluent k l same) | no other ↦ elsewhere other ]
+    where
+      here : k ≡ l → known (told l s) k ≡ either (known s k) (eqb k l)
+      here q = rw q (told-here ∙ sym (either-right _ _ (eq-eqb l l refl)))
+
+      beside : k ≡ complement l → known (told l s) k ≡ either (known s k) (eqb k l)
+      beside q = rw q (told-beside ∙ sym (rw (ne-eqb (complement l) l (complement-other l), free) (either-none false)))
+
+      elsewhere : (fluent-of k ≡ fluent-of l → ⊥) → known (told l s) k ≡ either (known s k) (eqb k l)
+      elsewhere other = told-elsewhere k other ∙ sym (rw (ne-eqb k l (λ q. other (ap fluent-of q))) (either-none (known s k)))
+
+-- MANY TOLD: none has its complement known or among the others.
+pub record Tellable (s : State) (ls : List ℕ) : Type 0 where
+  pub within : (l : ℕ) → Has ls l → fluent-of l < length s
+  pub free : (l : ℕ) → Has ls l → known s (complement l) ≡ false
+  pub consistent : (l : ℕ) → Has ls l → Has ls (complement l) → ⊥
+
+tellable-after : (l : ℕ) (ls : List ℕ) (s : State) → Tellable s (l ∷ ls) → Tellable (told l s) ls
+unfolding told
+tellable-after l ls s can =
+    record {
+      within = λ k h. rw (length-set s (fluent-of l) (mark-of l)) (can .within k (inr h));
+      free = λ k h. told-known l s (can .within l (inl refl)) (can .free l (inl refl)) (complement k)
+          ∙ rw (can .free k (inr h), ne-eqb (complement k) l (λ q. can .consistent k (inr h) (inl q))) (either-none false);
+      consistent = λ k h c. can .consistent k (inr h) (inr c);
+    }
+
+pub told-all-length : (ls : List ℕ) (s : State) → length (told-all ls s) ≡ length s
+unfolding told-all told
+told-all-length [] s = refl
+told-all-length (l ∷ ls) s = told-all-length ls (told l s) ∙ length-set s (fluent-of l) (mark-of l)
+
+-- A state told some literals knows these and what it knew.
+pub told-all-known : (ls : List ℕ) (s : State) → Tellable s ls → (k : ℕ) → known (told-all ls s) k ≡ either (known s k) (among k ls)
+unfolding told-all among some-of
+told-all-known [] s can k = sym (either-none (known s k))
+told-all-known (l ∷ ls) s can k =
+    told-all-known ls (told l s) (tellable-after l ls s can) k
+    ∙ rw (told-known l s (can .within l (inl refl)) (can .free l (inl refl)) k) (either-assoc (known s k) (eqb k l) (among k ls))
+
+-- THE FIRST STATE.
+abbrev nothing-told : ℕ → State
+nothing-told n = replicate n Limits.unknown-mark
+
+unknown-mark : (n f : ℕ) → getD (nothing-told n) f Limits.unknown-mark ≡ Limits.unknown-mark
+unknown-mark n f =
+    elim (decLt f n) [
+      | yes near ↦ getD-replicate n f Limits.unknown-mark Limits.unknown-mark near
+      | no far ↦ List·getD-eq-default (nothing-told n) Limits.unknown-mark {n = f} (rw (length-replicate n Limits.unknown-mark) (omega arith))
+    ]
+
+none-known : (n l : ℕ) → known (nothing-told n) l ≡ false
+none-known n =
+    by-literal (λ l. known (nothing-told n) l ≡ false)
+    (λ f. known-true (nothing-told n) f ∙ rw (unknown-mark n f))
+    (λ f. known-false (nothing-told n) f ∙ rw (unknown-mark n f))
+
+pub first-length : (lim : Limits) (t : Table) → length (first-state lim t) ≡ lim .state
+unfolding first-state
+first-length lim t = told-all-length (t .facts) (nothing-told (lim .state)) ∙ length-replicate (lim .state) Limits.unknown-mark
+
+module _ (lim : Limits) (room : lim .fluents ≤ lim .state) (t : Table) (ranged : Ranged lim t) where
+  pub first-known : (k : ℕ) → known (first-state lim t) k ≡ among k (t .facts)
+  unfolding first-state either fluent-of
+  first-known k = told-all-known (t .facts) (nothing-told (lim .state)) can k ∙ rw (none-known (lim .state) k)
+    where
+      can : Tellable (nothing-told (lim .state)) (t .facts)
+      can = record {
+        within = λ l h. rw (length-replicate (lim .state) Limits.unknown-mark) (omega (arith, ranged .facts l h, ranged .fluents));
+        free = λ l h. none-known (lim .state) (complement l);
+        consistent = ranged .consistent;
+      }
+
+  -- The first state is the least initial a-state.
+  pub first-least : pair-of (first-state lim t) ≡ least t
+  unfolding pair-of least
+  first-least = λ i. record { T = fun-ext (λ (f : ℕ). first-known (says-true f)) i; F = fun-ext (λ (f : ℕ). first-known (says-false f)) i }
