@@ -21,8 +21,9 @@ use Rattle.meaning.proofs.TestLaws.{by-test, clash, both-left, both-rig
 use Rattle.meaning.proofs.PickLaws.{pick-has, has-picked}
 use Rattle.meaning.proofs.SettledLaws.{Fit, Fit-item, Fit-branches}
 use Rattle.meaning.proofs.EndLaws.{Ends, Stops, ends-one, ends-ran, went-on, stop-goes-on, arrives-on}
-use Rattle.meaning.proofs.PairLaws.{not-both, true-grows, executable-grows, Res-grows, Res-disjoint, ≼-trans, pair-of, true-test, sensing-pair, runs-pair, after-length, pair-after}
+use Rattle.meaning.proofs.PairLaws.{not-both, true-grows, executable-grows, Res-grows, Res-disjoint, ≼-trans, pair-of, true-test, sensing-pair, runs-pair, pair-after}
 use Rattle.meaning.proofs.SensingLaws.{reading-is, reading-follows}
+use Rattle.meaning.proofs.StateLaws.{after-length}
 
 -- What an ending is in the 0-approximation.
 abbrev pub result-of : Ending State → Result

@@ -2,6 +2,8 @@ pub mod Compute
 pub mod Cases
 pub mod DerivationCases
 pub mod TestLaws
+pub mod LiteralLaws
+pub mod StateLaws
 pub mod WalkLaws
 pub mod RefusalLaws
 pub mod LineLaws

@@ -1,58 +1,24 @@
 -- A partial state is an a-state, and the walk's tests and steps on the one are the 0-approximation's on the other. Both say of each literal
 -- whether it is known, and every literal is one of the two of its fluent. Assumes nothing.
-use Prim.Native.Nat.{ℕ, zero, suc, _+_, _*_, _/_, _%_, _≤_, _<_}
+use Prim.Native.Nat.{ℕ, _+_, _*_, _≤_, _<_}
 use native.Mathlib.Omega.{arith}
-use native.Mathlib.Nat.{not-suc-le-zero, le-of-suc-le-suc}
 use native.Mathlib.Decide.{decLt}
-use mathlib.Core.Path.{_≡_, refl, sym, _∙_, ap, subst, fun-ext}
+use mathlib.Core.Path.{_≡_, refl, sym, _∙_, ap, fun-ext}
 use mathlib.Core.Bool.{Bool, true, false}
-use mathlib.Core.List.{List, [], _∷_}
 use mathlib.Core.Logic.{⊎-elim}
-use lib.ListN.{length, getD, List·getD-eq-default}
+use lib.ListN.{length, getD}
 use lib.Dec.{eqb}
-use borrow.Author.Tests.{eqb-true, eqb-false, eq-eqb, ne-eqb}
+use borrow.Author.Tests.{eqb-true}
 use Rattle.meaning.specs.Tests.{both, either, fails, pick, some-of}
 use Rattle.meaning.specs.Limits
-use Rattle.meaning.specs.Literals.{says-true, says-false, fluent-of, positive, complement}
+use Rattle.meaning.specs.Literals.{says-true, says-false, complement}
 use Rattle.meaning.specs.Requests.{Effect, Knowledge, Table}
 use Rattle.meaning.specs.Lines.{effects-of, executability-of, knowledge-of, allowed, given, sensing, senses}
-use Rattle.meaning.specs.States.{State, mark-of, known, possible, can-be-run, known-after, mark-after, marks-after, state-after}
+use Rattle.meaning.specs.States.{State, known, possible, can-be-run, known-after, mark-after, state-after}
 use Rattle.meaning.specs.Approximation.{Pair, Disjoint, true-in, false-in, possibly-true, _≼_, executable, caused, e⁺, e⁻, F⁺, F⁻, K, sensing-action, Res}
 use Rattle.meaning.proofs.TestLaws.{by-test, clash, same-test, both-left, both-right, both-true, either-left, either-right, either-split, fails-true, fails-false, pick-true, pick-false, Has, some-has, some-mono, each-mono, some-those}
-use Rattle.meaning.proofs.RefusalLaws.{complement-even, complement-odd}
-
--- THE TWO LITERALS OF A FLUENT.
-positive-true : (f : ℕ) → positive (says-true f) ≡ true
-unfolding positive says-true
-positive-true f = eq-eqb (2 * f % 2) 0 (omega arith)
-
-positive-false : (f : ℕ) → positive (says-false f) ≡ false
-unfolding positive says-false
-positive-false f = ne-eqb ((2 * f + 1) % 2) 0 (λ (q : (2 * f + 1) % 2 ≡ 0). omega arith)
-
-pub fluent-true : (f : ℕ) → fluent-of (says-true f) ≡ f
-unfolding fluent-of says-true
-fluent-true f = omega arith
-
-pub fluent-false : (f : ℕ) → fluent-of (says-false f) ≡ f
-unfolding fluent-of says-false
-fluent-false f = omega arith
-
-pub complement-true : (f : ℕ) → complement (says-true f) ≡ says-false f
-unfolding says-true says-false
-complement-true f = complement-even (2 * f) (omega arith)
-
-pub complement-false : (f : ℕ) → complement (says-false f) ≡ says-true f
-unfolding says-true says-false
-complement-false f = complement-odd (2 * f + 1) (λ (q : (2 * f + 1) % 2 ≡ 0). omega arith) ∙ omega arith
-
--- Every literal is one of the two.
-pub by-literal {ℓ} : (P : ℕ → Type ℓ) → ((f : ℕ) → P (says-true f)) → ((f : ℕ) → P (says-false f)) → (l : ℕ) → P l
-unfolding says-true says-false
-by-literal P t u l =
-    by-test (eqb (l % 2) 0)
-    (λ e. let m : l % 2 ≡ 0 = eqb-true _ _ e in subst P (omega arith) (t (l / 2)))
-    (λ e. let m : l % 2 ≡ 0 → ⊥ = eqb-false _ _ e in subst P (omega arith) (u (l / 2)))
+use Rattle.meaning.proofs.LiteralLaws.{positive-true, positive-false, fluent-true, fluent-false, complement-true, complement-false, by-literal}
+use Rattle.meaning.proofs.StateLaws.{known-true, known-false, unknown-far, unknown-mark, marks-at, after-length}
 
 -- WHAT A PAIR SAYS OF THEM.
 module _ (σ : Pair) where
@@ -151,22 +117,6 @@ module _ (t : Table) (a : ℕ) where
 unfoldable pub pair-of : State → Pair
 pair-of s = record { T = λ f. known s (says-true f); F = λ f. known s (says-false f) }
 
-pub mark-true : (f : ℕ) → mark-of (says-true f) ≡ Limits.true-mark
-unfolding mark-of
-mark-true f = pick-true _ _ _ (positive-true f)
-
-pub mark-false : (f : ℕ) → mark-of (says-false f) ≡ Limits.false-mark
-unfolding mark-of
-mark-false f = pick-false _ _ _ (positive-false f)
-
-pub known-true : (s : State) (f : ℕ) → known s (says-true f) ≡ eqb (getD s f Limits.unknown-mark) Limits.true-mark
-unfolding known
-known-true s f = rw (fluent-true f, mark-true f)
-
-pub known-false : (s : State) (f : ℕ) → known s (says-false f) ≡ eqb (getD s f Limits.unknown-mark) Limits.false-mark
-unfolding known
-known-false s f = rw (fluent-false f, mark-false f)
-
 module _ (s : State) where
   pub true-in-pair : (l : ℕ) → true-in (pair-of s) l ≡ known s l
   unfolding pair-of
@@ -217,18 +167,6 @@ module _ (t : Table) (a : ℕ) where
   unfolding Res e⁻ F⁺ known-after pair-of
   after-false s f = rw (given-pair (true-in (pair-of s)) (says-false f), given-pair (possibly-true (pair-of s)) (says-true f), true-test s, possible-test s, complement-false f)
 
--- THE STEP. A mark after an action, and the length of the state, which it keeps.
-marks-length : (es : List Effect) (s : State) (f : ℕ) (ms : List ℕ) → length (marks-after es s f ms) ≡ length ms
-unfolding marks-after
-marks-length es s f [] = refl
-marks-length es s f (m ∷ ms) = ap suc (marks-length es s (f + 1) ms)
-
-marks-at : (es : List Effect) (s : State) (f : ℕ) (ms : List ℕ) (k : ℕ) → k < length ms → getD (marks-after es s f ms) k Limits.unknown-mark ≡ mark-after es s (f + k)
-unfolding marks-after
-marks-at es s f [] k h = absurd (not-suc-le-zero h)
-marks-at es s f (m ∷ ms) zero h = ap (mark-after es s) (omega arith)
-marks-at es s f (m ∷ ms) (suc k) h = marks-at es s (f + 1) ms k (le-of-suc-le-suc h) ∙ ap (mark-after es s) (omega arith)
-
 abbrev mark-by : Bool → Bool → ℕ
 mark-by x y = pick x (λ _. Limits.true-mark) (λ _. pick y (λ _. Limits.false-mark) (λ _. Limits.unknown-mark))
 
@@ -244,17 +182,9 @@ marked-false true y e = sym e
 marked-false false true e = refl
 marked-false false false e = refl
 
-pub after-length : (t : Table) (a : ℕ) (s : State) → length (state-after t a s) ≡ length s
-unfolding state-after
-after-length t a s = marks-length (effects-of t a) s 0 s
-
 after-mark : (t : Table) (a : ℕ) (s : State) (f : ℕ) → f < length s → getD (state-after t a s) f Limits.unknown-mark ≡ mark-after (effects-of t a) s f
 unfolding state-after
 after-mark t a s f near = marks-at (effects-of t a) s 0 s f near ∙ ap (mark-after (effects-of t a) s) (omega arith)
-
--- Nothing is known of a fluent past the state's end.
-unknown-far : (s : State) (f : ℕ) → length s ≤ f → (known s (says-true f) ≡ false) × (known s (says-false f) ≡ false)
-unknown-far s f far = let none = List·getD-eq-default s Limits.unknown-mark {n = f} far in (known-true s f ∙ rw none, known-false s f ∙ rw none)
 
 module _ (t : Table) (a : ℕ) (s : State) (within : (e : Effect) → Has (t .effects) e → e .literal < 2 * length s) where
   caused-within : (test : ℕ → Bool) (l : ℕ) → 2 * length s ≤ l → caused t a test l ≡ false

@@ -15,8 +15,8 @@ use Rattle.meaning.specs.Literals.{complement}
 use Rattle.meaning.specs.Requests.{Effect, Knowledge, Table, Request}
 use Rattle.meaning.specs.Reading.{Got, got, fault, next, byte-at, count-at, below-at, literals, fluents, bound-of, have-complements, entry-at, entries-at, list-at, repeated, section-at, body-at, effect-at, executability-at, knowledge-at, plan-at, table-at, request-at, read-request}
 use Rattle.meaning.proofs.TestLaws.{by-test, clash, both-true, either-right, pick-cases, Has}
-use Rattle.meaning.proofs.RefusalLaws.{complement-even, complement-odd, complement-twice, complement-other}
 use Rattle.meaning.proofs.SettledLaws.{fault≢got, got-same, next-got}
+use Rattle.meaning.proofs.LiteralLaws.{complement-even, complement-odd, complement-twice, complement-other}
 
 -- What gives something behind a refusal has not been refused.
 module _ {A : Type 0} where

@@ -1,40 +1,19 @@
 -- Refusals 16, 17 and 18: what passing 16 says of every two effects, and what each of the three says with its place left out.
 -- Assumes nothing.
-use Prim.Native.Nat.{ℕ, _+_, _-_, _%_}
-use native.Mathlib.Omega.{arith}
+use Prim.Native.Nat.{ℕ}
 use mathlib.Core.Path.{_≡_, refl, sym, _∙_, ap, subst}
 use mathlib.Core.Bool.{Bool, true, false}
 use mathlib.Core.List.{List, [], _∷_}
 use mathlib.Core.Logic.{_⊎_, inl, inr, ⊎-elim}
 use lib.Dec.{eqb}
-use borrow.Author.Tests.{eqb-true, eqb-false, eq-eqb, ne-eqb}
+use borrow.Author.Tests.{eqb-true, eq-eqb}
 use Rattle.meaning.specs.Tests.{either, fails, pick, some-of}
-use Rattle.meaning.specs.Literals.{positive, complement, among, exclusive}
+use Rattle.meaning.specs.Literals.{complement, among, exclusive}
 use Rattle.meaning.specs.Requests.{Effect, Knowledge, Sequence, done, item, Item, act, branching, Branches, none, branch}
 use Rattle.meaning.specs.Refusals.{Found, nowhere, at, or-else, contradictory, contradiction-in, mixed-in, conditions-of, overlap-in, overlap-at, overlap-below}
-use Rattle.meaning.proofs.TestLaws.{by-test, clash, same-test, both-left, both-right, both-true, pick-cases, pick-map, pick-true, pick-false, Has, some-has, has-some}
+use Rattle.meaning.proofs.TestLaws.{by-test, clash, same-test, both-left, both-right, both-true, pick-cases, pick-map, Has, some-has, has-some}
 use Rattle.meaning.proofs.WalkLaws.{unplaced, unplaced-item, unplaced-branches}
-
--- COMPLEMENTS.
-pub complement-even : (l : ℕ) → l % 2 ≡ 0 → complement l ≡ l + 1
-unfolding complement positive
-complement-even l e = pick-true _ _ _ (eq-eqb (l % 2) 0 e)
-
-pub complement-odd : (l : ℕ) → (l % 2 ≡ 0 → ⊥) → complement l ≡ l - 1
-unfolding complement positive
-complement-odd l e = pick-false _ _ _ (ne-eqb (l % 2) 0 e)
-
-pub complement-twice : (l : ℕ) → complement (complement l) ≡ l
-complement-twice l =
-    by-test (eqb (l % 2) 0)
-    (λ t. let m : l % 2 ≡ 0 = eqb-true _ _ t in rw (complement-even l m) (complement-odd (l + 1) (λ (q : (l + 1) % 2 ≡ 0). omega arith) ∙ omega arith))
-    (λ u. let m : l % 2 ≡ 0 → ⊥ = eqb-false _ _ u in rw (complement-odd l m) (complement-even (l - 1) (omega arith) ∙ omega arith))
-
-pub complement-other : (l : ℕ) → complement l ≡ l → ⊥
-complement-other l e =
-    by-test (eqb (l % 2) 0)
-    (λ t. let q = complement-even l (eqb-true _ _ t) in omega arith)
-    (λ u. let m : l % 2 ≡ 0 → ⊥ = eqb-false _ _ u in let q = complement-odd l m in omega arith)
+use Rattle.meaning.proofs.LiteralLaws.{complement-twice, complement-other}
 
 -- EXCLUSIVE and CONTRADICTORY go both ways.
 exclusive-turns : (b c : List ℕ) → exclusive b c ≡ true → exclusive c b ≡ true

@@ -19,10 +19,10 @@ use Rattle.meaning.specs.Paths.{Ending, arrives, arrivals}
 use Rattle.meaning.specs.Approximation.{Pair, true-in, _≼_, K, Sensed}
 use Rattle.meaning.proofs.TestLaws.{by-test, clash, same-test, both-left, both-right, both-true, either-left, either-right, either-split, fails-true, fails-false, Has, some-has, has-some}
 use Rattle.meaning.proofs.PickLaws.{pick-has, has-picked}
-use Rattle.meaning.proofs.RefusalLaws.{complement-other}
-use Rattle.meaning.proofs.ToldLaws.{fluent-complement, Tellable, told-all-length, told-all-known}
+use Rattle.meaning.proofs.ToldLaws.{Tellable, told-all-length, told-all-known}
 use Rattle.meaning.proofs.EndLaws.{Ends, ends-left, ends-right, ends-split}
-use Rattle.meaning.proofs.PairLaws.{fluent-true, fluent-false, by-literal, pair-of, true-in-true, true-in-false, pair-disjoint, senses-pair}
+use Rattle.meaning.proofs.PairLaws.{pair-of, true-in-true, true-in-false, pair-disjoint, senses-pair}
+use Rattle.meaning.proofs.LiteralLaws.{complement-other, fluent-true, fluent-false, by-literal, one-of-two, fluent-complement}
 
 -- THE FLUENTS READ. No fluent stands twice.
 abbrev Distinct : List ℕ → Type 0
@@ -120,12 +120,6 @@ followed δ (f ∷ fs) valued =
     (λ e. (says-true f ∷ w .0, rw (fluent-true f, w .1), λ l. ⊎-elim (λ q. rw q (true-in-true δ f ∙ e)) (w .2 l)))
     (λ e. (says-false f ∷ w .0, rw (fluent-false f, w .1), λ l. ⊎-elim (λ q. rw q (true-in-false δ f ∙ e)) (w .2 l)))
     (either-split _ _ (valued f (inl refl)))
-
-one-of-two : (l : ℕ) → (l ≡ says-true (fluent-of l)) ⊎ (l ≡ says-false (fluent-of l))
-one-of-two =
-    by-literal (λ l. (l ≡ says-true (fluent-of l)) ⊎ (l ≡ says-false (fluent-of l)))
-    (λ f. inl (ap says-true (sym (fluent-true f))))
-    (λ f. inr (ap says-false (sym (fluent-false f))))
 
 unknown-neither : (s : State) (l : ℕ) → known-whether s (fluent-of l) ≡ false → known s l ≡ false
 unfolding known-whether

@@ -22,8 +22,8 @@ use Rattle.meaning.specs.States.{State, Outcome, mark-of, known, possibl
 use Rattle.meaning.specs.Walk.{table-step}
 use Rattle.meaning.specs.Worlds.{World, holds, may-be-run, moved, shown, table-domain}
 use Rattle.meaning.proofs.TestLaws.{by-test, clash, both-left, both-right, both-true, either-split, fails-true, fails-false, pick-true, pick-false, pick-cases, Has, some-has, each-has, some-mono, each-mono}
-use Rattle.meaning.proofs.RefusalLaws.{complement-even, complement-odd}
 use Rattle.meaning.proofs.Sound.{Some-state, some-state-map, Sound-step}
+use Rattle.meaning.proofs.LiteralLaws.{complement-even, complement-odd}
 
 -- LITERALS. A literal is the positive one of its fluent or the negative one.
 pub literal-cases {ℓ} : {C : Type ℓ} (l : ℕ) → (positive l ≡ true → l ≡ says-true (fluent-of l) → complement l ≡ says-false (fluent-of l) → C)

@@ -2,12 +2,12 @@
 -- complement. So the first state, which is told the facts, is the least initial a-state. Assumes nothing.
 use Prim.Native.Nat.{ℕ, _≤_, _<_}
 use native.Mathlib.Omega.{arith}
-use native.Mathlib.Decide.{decLt, ℕ-discrete}
+use native.Mathlib.Decide.{ℕ-discrete}
 use mathlib.Core.Path.{_≡_, refl, sym, _∙_, ap, fun-ext}
 use mathlib.Core.Bool.{Bool, true, false}
 use mathlib.Core.List.{List, [], _∷_}
-use mathlib.Core.Logic.{_⊎_, inl, inr, ⊎-elim}
-use lib.ListN.{length, getD, replicate, length-set, length-replicate, getD-replicate, List·getD-eq-default}
+use mathlib.Core.Logic.{inl, inr, ⊎-elim}
+use lib.ListN.{length, length-set, length-replicate}
 use lib.Seq.{getD-set-same, getD-set-other}
 use lib.Dec.{eqb}
 use borrow.Author.Tests.{eq-eqb, ne-eqb}
@@ -19,33 +19,10 @@ use Rattle.meaning.specs.Requests.{Table}
 use Rattle.meaning.specs.States.{State, mark-of, known, told, told-all, first-state}
 use Rattle.meaning.specs.Approximation.{least}
 use Rattle.meaning.proofs.TestLaws.{either-right, Has}
-use Rattle.meaning.proofs.RefusalLaws.{complement-other}
 use Rattle.meaning.proofs.RangeLaws.{Ranged}
-use Rattle.meaning.proofs.PairLaws.{fluent-true, fluent-false, complement-true, complement-false, by-literal, pair-of, mark-true, mark-false, known-true, known-false}
-
--- COMPLEMENTS have one fluent and two marks.
-pub fluent-complement : (l : ℕ) → fluent-of (complement l) ≡ fluent-of l
-fluent-complement =
-    by-literal (λ l. fluent-of (complement l) ≡ fluent-of l)
-    (λ f. rw (complement-true f) (fluent-false f ∙ sym (fluent-true f)))
-    (λ f. rw (complement-false f) (fluent-true f ∙ sym (fluent-false f)))
-
-mark-complement : (l : ℕ) → mark-of l ≡ mark-of (complement l) → ⊥
-mark-complement =
-    by-literal (λ l. mark-of l ≡ mark-of (complement l) → ⊥)
-    (λ f. rw (complement-true f, mark-true f, mark-false f) (λ q. omega arith))
-    (λ f. rw (complement-false f, mark-true f, mark-false f) (λ q. omega arith))
-
--- Two literals of one fluent are the same or complements.
-same-fluent : (k l : ℕ) → fluent-of k ≡ fluent-of l → (k ≡ l) ⊎ (k ≡ complement l)
-same-fluent =
-    by-literal (λ k. (l : ℕ) → fluent-of k ≡ fluent-of l → (k ≡ l) ⊎ (k ≡ complement l))
-    (λ f. by-literal (λ l. fluent-of (says-true f) ≡ fluent-of l → (says-true f ≡ l) ⊎ (says-true f ≡ complement l))
-    (λ g. rw (fluent-true f, fluent-true g) (λ q. inl (ap says-true q)))
-    (λ g. rw (fluent-true f, fluent-false g, complement-false g) (λ q. inr (ap says-true q))))
-    (λ f. by-literal (λ l. fluent-of (says-false f) ≡ fluent-of l → (says-false f ≡ l) ⊎ (says-false f ≡ complement l))
-    (λ g. rw (fluent-false f, fluent-true g, complement-true g) (λ q. inr (ap says-false q)))
-    (λ g. rw (fluent-false f, fluent-false g) (λ q. inl (ap says-false q))))
+use Rattle.meaning.proofs.PairLaws.{pair-of}
+use Rattle.meaning.proofs.LiteralLaws.{complement-other, fluent-complement, same-fluent}
+use Rattle.meaning.proofs.StateLaws.{nothing-told, mark-complement, unknown-mark, none-known}
 
 -- ONE LITERAL TOLD, whose complement was not known.
 either-none : (b : Bool) → either b false ≡ b
@@ -113,22 +90,6 @@ told-all-known (l ∷ ls) s can k =
     ∙ rw (told-known l s (can .within l (inl refl)) (can .free l (inl refl)) k) (either-assoc (known s k) (eqb k l) (among k ls))
 
 -- THE FIRST STATE.
-abbrev nothing-told : ℕ → State
-nothing-told n = replicate n Limits.unknown-mark
-
-unknown-mark : (n f : ℕ) → getD (nothing-told n) f Limits.unknown-mark ≡ Limits.unknown-mark
-unknown-mark n f =
-    elim (decLt f n) [
-      | yes near ↦ getD-replicate n f Limits.unknown-mark Limits.unknown-mark near
-      | no far ↦ List·getD-eq-default (nothing-told n) Limits.unknown-mark {n = f} (rw (length-replicate n Limits.unknown-mark) (omega arith))
-    ]
-
-none-known : (n l : ℕ) → known (nothing-told n) l ≡ false
-none-known n =
-    by-literal (λ l. known (nothing-told n) l ≡ false)
-    (λ f. known-true (nothing-told n) f ∙ rw (unknown-mark n f))
-    (λ f. known-false (nothing-told n) f ∙ rw (unknown-mark n f))
-
 pub first-length : (lim : Limits) (t : Table) → length (first-state lim t) ≡ lim .state
 unfolding first-state
 first-length lim t = told-all-length (t .facts) (nothing-told (lim .state)) ∙ length-replicate (lim .state) Limits.unknown-mark
