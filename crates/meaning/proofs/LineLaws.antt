@@ -5,7 +5,6 @@ use mathlib.Core.Path.{_≡_, refl, sym, _∙_, ap, fun-ext}
 use mathlib.Core.Bool.{Bool, true, false}
 use mathlib.Core.List.{List, [], _∷_}
 use mathlib.Core.Logic.{⊎-elim}
-use lib.ListN.{replicate}
 use lib.Dec.{ltb}
 use Rattle.meaning.specs.Tests.{both, fails, pick, some-of, each-of}
 use Rattle.meaning.specs.Limits
@@ -14,7 +13,7 @@ use Rattle.meaning.specs.Requests.{Effect, Executability, Knowledge, Tab
 use Rattle.meaning.specs.Reading.{Got, got, next, read-request}
 use Rattle.meaning.specs.Refusals.{Found, nowhere, at, contradictory, contradiction-in, mixed-in, overlap-in, refuse, settled}
 use Rattle.meaning.specs.Lines.{effects-of, executability-of, knowledge-of, allowed, given, sensing, senses}
-use Rattle.meaning.specs.States.{State, known, known-whether, told-all, first-state, can-be-run, known-after, mark-after, marks-after, state-after, unknown-from, unknown-sensed, outcome}
+use Rattle.meaning.specs.States.{State, known, known-whether, state-of, first-state, can-be-run, known-after, mark-after, marks-after, state-after, unknown-from, unknown-sensed, outcome}
 use Rattle.meaning.specs.Walk.{End, fine, missed, stuck, Walked, walk, table-step, first-missed, missed-in, end-of, judged, walked}
 use Rattle.meaning.specs.Judging.{Judgement, ended, within, judge-settled, judge}
 use Rattle.meaning.proofs.TestLaws.{clash, same-test, pick-map, Has, some-has, has-some, some-those}
@@ -244,7 +243,7 @@ module _ (lim : Limits) (lent : List ℕ) (budget : ℕ) where
       within-gist lent budget _
       ∙ ap (λ (w : Walked State). gist (within lent budget w)) (walked-same r q same (first-state lim (r .table)))
       ∙ sym (within-gist lent budget _)
-      ∙ ap (λ (s : State). gist (within lent budget (walked q s))) (ap (λ (fs : List ℕ). told-all fs (replicate (lim .state) Limits.unknown-mark)) (same .tables .facts))
+      ∙ ap (λ (s : State). gist (within lent budget (walked q s))) (ap (state-of lim) (same .tables .facts))
 
   judged-alike : (b c : List ℕ) (r q : Request) (e f : ℕ) → read-request lim b ≡ got r e → read-request lim c ≡ got q f → Same-but-lines r q → after-refusal (settled lim b) ≡ after-refusal (settled lim c)
   unfolding settled next

@@ -7,9 +7,10 @@ use mathlib.Core.List.{List, []}
 use Rattle.meaning.specs.Limits.{Limits}
 use Rattle.meaning.specs.Requests.{Sequence, done, item, Item, act, branching, Branches, none, branch, Request}
 use Rattle.meaning.specs.Reading.{Got, got, fault, next, read-request}
-use Rattle.meaning.specs.Refusals.{Found, nowhere, at, or-else, contradiction-in, mixed-in, conditions-of, all-exclusive, overlap-in, overlap-at, overlap-below, refuse, settled}
+use Rattle.meaning.specs.Refusals.{Found, nowhere, at, or-else, contradiction-in, mixed-in, all-exclusive, overlap-in, overlap-at, overlap-below, refuse, settled}
 use Rattle.meaning.proofs.TestLaws.{pick-cases}
 use Rattle.meaning.proofs.RefusalLaws.{at≢nowhere}
+use Rattle.meaning.proofs.WalkLaws.{On-conditions, On-conditions-item, On-conditions-below}
 
 module _ {A : Type 0} where
   pub fault≢got : {n i p : ℕ} {x : A} → fault n i ≡ got x p → ⊥
@@ -62,18 +63,14 @@ settled-is lim b r e past =
     }
 
 -- In every branching of a plan every two conditions are exclusive.
-abbrev mutual
-  pub Fit : Sequence ℕ → Type 0
-  Fit done = Unit {0}
-  Fit (item i rest) = Fit-item i × Fit rest
+abbrev pub Fit : Sequence ℕ → Type 0
+Fit = On-conditions (λ cs. all-exclusive cs ≡ true)
 
-  pub Fit-item : Item ℕ → Type 0
-  Fit-item (act p a) = Unit {0}
-  Fit-item (branching p bs) = (all-exclusive (conditions-of bs) ≡ true) × Fit-branches bs
+abbrev pub Fit-item : Item ℕ → Type 0
+Fit-item = On-conditions-item (λ cs. all-exclusive cs ≡ true)
 
-  pub Fit-branches : Branches ℕ → Type 0
-  Fit-branches none = Unit {0}
-  Fit-branches (branch c b bs) = Fit b × Fit-branches bs
+abbrev pub Fit-branches : Branches ℕ → Type 0
+Fit-branches = On-conditions-below (λ cs. all-exclusive cs ≡ true)
 
 pub or-else-nowhere : (f : Found) (k : Unit {0} → Found) → or-else f k ≡ nowhere → (f ≡ nowhere) × (k tt ≡ nowhere)
 unfolding or-else

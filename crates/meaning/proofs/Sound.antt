@@ -3,14 +3,16 @@
 use Prim.Native.Nat.{ℕ}
 use mathlib.Core.Path.{_≡_, refl, sym, subst}
 use mathlib.Core.Bool.{true, false}
-use mathlib.Core.List.{List}
+use mathlib.Core.List.{List, _∷_}
 use mathlib.Core.Logic.{_⊎_, inl, inr, ⊎-elim}
 use Rattle.meaning.specs.Tests.{pick, each-of}
 use Rattle.meaning.specs.Requests.{Sequence, done, item, Item, act, branching, Branches, none, branch}
+use Rattle.meaning.specs.Refusals.{conditions-of}
 use Rattle.meaning.specs.States.{Outcome, single, fork}
 use Rattle.meaning.specs.Walk.{End, fine, missed, stuck, Walked, stuck-at, counted, keep-miss, after-miss, after-end, and-then, each-reading, Steps, run-action, walk, walk-item, walk-branch}
 use Rattle.meaning.specs.Worlds.{Domain, Worlds, Sure, Kept, Moved, Acted, None-sure, Carried, Carried-item, Chosen}
-use Rattle.meaning.proofs.TestLaws.{by-test, each-mono}
+use Rattle.meaning.proofs.TestLaws.{by-test, Has, each-mono}
+use Rattle.meaning.proofs.WalkLaws.{On-conditions, On-conditions-item, On-conditions-below}
 
 -- ENDS. A walk is verified where it ends fine.
 module _ {S : Type 0} where
@@ -73,28 +75,9 @@ module _ {S : Type 0} where
       let b = then-verified (each-reading o k) (λ _. each-reading (p tt) k) e in
       ⊎-elim (reading-verified o k Q (b .0)) (reading-verified (p tt) k Q (b .1)) h
 
--- PLANS in which every two conditions of a branching are apart.
-module _ {L : Type 0} (Apart : List L → List L → Type 0) where
-  abbrev pub Apart-from : List L → Branches L → Type 0
-  Apart-from c none = Unit {0}
-  Apart-from c (branch e b bs) = Apart c e × Apart-from c bs
-
-  abbrev mutual
-    pub Fit : Sequence L → Type 0
-    Fit done = Unit {0}
-    Fit (item i rest) = Fit-item i × Fit rest
-
-    pub Fit-item : Item L → Type 0
-    Fit-item (act p a) = Unit {0}
-    Fit-item (branching p bs) = Fit-branches bs
-
-    pub Fit-branches : Branches L → Type 0
-    Fit-branches none = Unit {0}
-    Fit-branches (branch c b bs) = Apart-from c bs × Fit b × Fit-branches bs
-
 module _ {S W L R : Type 0} where
   -- What a step must satisfy, where `Agrees w s` says that all that s knows is right in the world w.
-  pub record Sound-step (step : Steps S L) (d : Domain W L R) (Apart : List L → List L → Type 0) (Agrees : W → S → Type 0) : Type 0 where
+  pub record Sound-step (step : Steps S L) (d : Domain W L R) (Apart : List (List L) → Type 0) (Agrees : W → S → Type 0) : Type 0 where
     -- runnable is sound
     pub runs : (a : ℕ) (w : W) (s : S) → Agrees w s → step .runs a s ≡ true → d .may-be-run a w ≡ true
     -- the state after is sound
@@ -103,9 +86,10 @@ module _ {S W L R : Type 0} where
     pub reads : (a : ℕ) (s : S) (v : W) → d .sensing a ≡ true → Agrees v s → Some-state (step .leads-to a s) (λ u. (w : W) → Agrees w s → d .shows a w ≡ d .shows a v → Agrees w u)
     -- a branching is sound: what is known holds, and conditions that are apart don't hold together
     pub knows : (l : L) (w : W) (s : S) → Agrees w s → step .knows s l ≡ true → d .holds w l ≡ true
-    pub apart : (c e : List L) (w : W) → Apart c e → each-of (d .holds w) c ≡ true → each-of (d .holds w) e ≡ true → ⊥
+    pub apart : (c : List L) (cs : List (List L)) → Apart (c ∷ cs) → (w : W) → each-of (d .holds w) c ≡ true → (e : List L) → Has cs e → each-of (d .holds w) e ≡ true → ⊥
+    pub others : (c : List L) (cs : List (List L)) → Apart (c ∷ cs) → Apart cs
 
-module _ {S W L R : Type 0} (step : Steps S L) (d : Domain W L R) (Apart : List L → List L → Type 0) (Agrees : W → S → Type 0) (sound : Sound-step step d Apart Agrees) where
+module _ {S W L R : Type 0} (step : Steps S L) (d : Domain W L R) (Apart : List (List L) → Type 0) (Agrees : W → S → Type 0) (sound : Sound-step step d Apart Agrees) where
   -- Every possible world agrees with the state, and the true one is among them.
   pub record Known (v : W) (P : Worlds W) (s : S) : Type 0 where
     pub agree : (w : W) → P w → Agrees w s
@@ -118,19 +102,21 @@ module _ {S W L R : Type 0} (step : Steps S L) (d : Domain W L R) (Apart : List 
   sure : {v : W} {P : Worlds W} {s : S} (c : List L) → Known v P s → each-of (step .knows s) c ≡ true → Sure d c P
   sure {s = s} c g e = λ w h. each-mono (step .knows s) (d .holds w) (λ l. sound .knows l w s (g .agree w h)) c e
 
-  -- The condition c holds in every possible world, so none that it is apart from does.
-  none-sure : {P : Worlds W} (v : W) (c : List L) (bs : Branches L) → P v → Sure d c P → Apart-from Apart c bs → None-sure d bs P
-  none-sure v c none h sc o = tt
-  none-sure v c (branch e b bs) h sc o = (λ se. sound .apart c e v (o .0) (sc v h) (se v h), none-sure v c bs h sc (o .1))
+  -- None of the conditions holds in the true world, so none holds in every possible one.
+  none-sure : (P : Worlds W) (v : W) (bs : Branches L) → P v → ((e : List L) → Has (conditions-of bs) e → each-of (d .holds v) e ≡ true → ⊥) → None-sure d bs P
+  unfolding conditions-of
+  none-sure P v none h no-e = tt
+  none-sure P v (branch e b bs) h no-e = (λ se. no-e e (inl refl) (se v h), none-sure P v bs h (λ g m. no-e g (inr m)))
 
-  -- A later branch was followed, so c, apart from its condition, does not hold in every possible world.
-  not-sure : (k : S → Walked S) {v : W} {P : Worlds W} {s : S} (c : List L) (bs : Branches L) (p : ℕ) → Known v P s → Apart-from Apart c bs → Verified (walk-branch step bs p k s) → Sure d c P → ⊥
-  unfolding walk pick
-  not-sure k {s = s} c none p g o r sc = stuck-at-not-verified p s r
-  not-sure k {v} {s = s} c (branch e b bs) p g o r sc =
+  -- A branch was followed, so some condition holds in the true world.
+  none-followed : (k : S → Walked S) {v : W} {P : Worlds W} {s : S} (bs : Branches L) (p : ℕ) → Known v P s
+      → Verified (walk-branch step bs p k s) → ((e : List L) → Has (conditions-of bs) e → each-of (d .holds v) e ≡ true → ⊥) → ⊥
+  unfolding walk pick conditions-of
+  none-followed k {s = s} none p g r no-e = stuck-at-not-verified p s r
+  none-followed k {v} {s = s} (branch e b bs) p g r no-e =
       by-test (each-of (step .knows s) e)
-      (λ q. sound .apart c e v (o .0) (sc v (g .actual)) (sure e g q v (g .actual)))
-      (λ q. not-sure k c bs p g (o .1) (rw (q, pick) at r) sc)
+      (λ q. no-e e (inl refl) (sure e g q v (g .actual)))
+      (λ q. none-followed k bs p g (rw (q, pick) at r) (λ i m. no-e i (inr m)))
 
   run-sound : (p a : ℕ) (k : S → Walked S) (K : W → Worlds W → Type 0) → Follows k K → Follows (run-action step p a k) (Acted d a K)
   unfolding run-action pick
@@ -153,23 +139,29 @@ module _ {S W L R : Type 0} (step : Steps S L) (d : Domain W L R) (Apart : List 
           }
 
   mutual
-    unfolding walk pick
+    unfolding walk pick conditions-of
 
     -- DEMAND 3 from the record: where what follows is sound, so is the plan before it.
-    pub plan-sound : (p : Sequence L) → Fit Apart p → (k : S → Walked S) (K : W → Worlds W → Type 0) → Follows k K → Follows (walk step p k) (Carried d p K)
+    pub plan-sound : (p : Sequence L) → On-conditions Apart p → (k : S → Walked S) (K : W → Worlds W → Type 0) → Follows k K → Follows (walk step p k) (Carried d p K)
     plan-sound done fit k K then s v P g e = then s v P g e
     plan-sound (item i rest) fit k K then s v P g e =
         item-sound i (fit .0) (walk step rest k) (Carried d rest K) (plan-sound rest (fit .1) k K then) s v P g e
 
-    item-sound : (i : Item L) → Fit-item Apart i → (k : S → Walked S) (K : W → Worlds W → Type 0) → Follows k K → Follows (walk-item step i k) (Carried-item d i K)
+    item-sound : (i : Item L) → On-conditions-item Apart i → (k : S → Walked S) (K : W → Worlds W → Type 0) → Follows k K → Follows (walk-item step i k) (Carried-item d i K)
     item-sound (act p a) fit k K then s v P g e = run-sound p a k K then s v P g e
-    item-sound (branching p bs) fit k K then s v P g e = branches-sound bs fit p k K then s v P g e
+    item-sound (branching p bs) fit k K then s v P g e = branches-sound bs (fit .0) (fit .1) p k K then s v P g e
 
-    branches-sound : (bs : Branches L) → Fit-branches Apart bs → (p : ℕ) (k : S → Walked S) (K : W → Worlds W → Type 0) → Follows k K → Follows (walk-branch step bs p k) (Chosen d bs K)
-    branches-sound none fit p k K then s v P g e = stuck-at-not-verified p s e
-    branches-sound (branch c b bs) fit p k K then s v P g e =
+    branches-sound : (bs : Branches L) → Apart (conditions-of bs) → On-conditions-below Apart bs → (p : ℕ) (k : S → Walked S) (K : W → Worlds W → Type 0) → Follows k K
+        → Follows (walk-branch step bs p k) (Chosen d bs K)
+    branches-sound none apart fit p k K then s v P g e = stuck-at-not-verified p s e
+    branches-sound (branch c b bs) apart fit p k K then s v P g e =
         by-test (each-of (step .knows s) c)
-        (λ q. inl (sure c g q, none-sure v c bs (g .actual) (sure c g q) (fit .0), plan-sound b (fit .1) k K then s v P g (rw (q, pick) at e)))
+        (λ q.
+        let here = sure c g q in
+        inl (here, none-sure P v bs (g .actual) (sound .apart c (conditions-of bs) apart v (here v (g .actual))), plan-sound b (fit .0) k K then s v P g (rw (q, pick) at e)))
         (λ q.
         let later : Verified (walk-branch step bs p k s) = rw (q, pick) at e in
-        inr (not-sure k c bs p g (fit .0) later, branches-sound bs (fit .2) p k K then s v P g later))
+        inr (
+          λ sc. none-followed k bs p g later (sound .apart c (conditions-of bs) apart v (sc v (g .actual))),
+          branches-sound bs (sound .others c (conditions-of bs) apart) (fit .1) p k K then s v P g later,
+        ))

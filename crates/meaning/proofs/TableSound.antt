@@ -1,54 +1,29 @@
 -- The table's step over partial states satisfies the record, with "agrees" as: what is known holds. Known true is within holds in the world,
 -- which is within possible, and a move is given by the same lines under these three tests. Assumes nothing.
-use Prim.Native.Nat.{ℕ, zero, suc, _+_, _*_, _%_, _<_, _≤_}
+use Prim.Native.Nat.{ℕ, _+_, _<_}
 use native.Mathlib.Omega.{arith}
-use native.Mathlib.Nat.{not-suc-le-zero, le-of-suc-le-suc}
 use native.Mathlib.Decide.{decLt, ℕ-discrete}
 use mathlib.Core.Path.{_≡_, refl, sym, _∙_, ap, subst}
 use mathlib.Core.Bool.{Bool, true, false}
 use mathlib.Core.List.{List, [], _∷_, map}
 use mathlib.Core.Logic.{_⊎_, inl, inr, ⊎-elim}
-use lib.ListN.{length, getD, set, drop}
-use lib.Seq.{getD-set-same, getD-set-other, set-out}
-use lib.Dec.{eqb}
-use borrow.Author.Tests.{eqb-true, eqb-false, eq-eqb, ne-eqb}
+use lib.ListN.{length, getD, drop, List·getD-eq-default}
+use borrow.Author.Tests.{eqb-true}
 use Rattle.meaning.specs.Tests.{both, fails, pick, each-of}
 use Rattle.meaning.specs.Limits
 use Rattle.meaning.specs.Limits.{Limits}
-use Rattle.meaning.specs.Literals.{says-true, says-false, fluent-of, positive, complement, among, exclusive}
+use Rattle.meaning.specs.Literals.{says-true, says-false, fluent-of, complement, among, exclusive}
 use Rattle.meaning.specs.Requests.{Effect, Executability, Knowledge, Table}
+use Rattle.meaning.specs.Refusals.{all-exclusive}
 use Rattle.meaning.specs.Lines.{effects-of, executability-of, knowledge-of, allowed, given, senses}
-use Rattle.meaning.specs.States.{State, Outcome, mark-of, known, possible, known-whether, told, can-be-run, known-after, mark-after, marks-after, state-after, unknown-from, unknown-sensed, readings, outcome}
+use Rattle.meaning.specs.States.{State, Outcome, known, possible, known-whether, told, can-be-run, known-after, mark-after, marks-after, state-after, unknown-from, unknown-sensed, readings, outcome}
 use Rattle.meaning.specs.Walk.{table-step}
 use Rattle.meaning.specs.Worlds.{World, holds, may-be-run, moved, shown, table-domain}
 use Rattle.meaning.proofs.TestLaws.{by-test, clash, both-left, both-right, both-true, either-split, fails-true, fails-false, pick-true, pick-false, pick-cases, Has, some-has, each-has, some-mono, each-mono}
 use Rattle.meaning.proofs.Sound.{Some-state, some-state-map, Sound-step}
-use Rattle.meaning.proofs.LiteralLaws.{complement-even, complement-odd}
-
--- LITERALS. A literal is the positive one of its fluent or the negative one.
-pub literal-cases {ℓ} : {C : Type ℓ} (l : ℕ) → (positive l ≡ true → l ≡ says-true (fluent-of l) → complement l ≡ says-false (fluent-of l) → C)
-    → (positive l ≡ false → l ≡ says-false (fluent-of l) → complement l ≡ says-true (fluent-of l) → C) → C
-unfolding positive says-true says-false fluent-of
-literal-cases l f g =
-    by-test (eqb (l % 2) 0)
-    (λ t. let m : l % 2 ≡ 0 = eqb-true _ _ t in f t (omega arith) (complement-even l m ∙ omega arith))
-    (λ u. let m : l % 2 ≡ 0 → ⊥ = eqb-false _ _ u in g u (omega arith) (complement-odd l m ∙ omega arith))
-
-pub positive-true : (f : ℕ) → positive (says-true f) ≡ true
-unfolding positive says-true
-positive-true f = eq-eqb (2 * f % 2) 0 (omega arith)
-
-pub positive-false : (f : ℕ) → positive (says-false f) ≡ false
-unfolding positive says-false
-positive-false f = ne-eqb ((2 * f + 1) % 2) 0 (λ (q : (2 * f + 1) % 2 ≡ 0). omega arith)
-
-pub fluent-true : (f : ℕ) → fluent-of (says-true f) ≡ f
-unfolding fluent-of says-true
-fluent-true f = omega arith
-
-pub fluent-false : (f : ℕ) → fluent-of (says-false f) ≡ f
-unfolding fluent-of says-false
-fluent-false f = omega arith
+use Rattle.meaning.proofs.LiteralLaws.{positive-true, positive-false, fluent-true, fluent-false, complement-true, complement-false, by-literal, same-fluent}
+use Rattle.meaning.proofs.StateLaws.{known-true, known-false, marks-length, marks-at}
+use Rattle.meaning.proofs.ToldLaws.{told-beside, told-elsewhere, told-far}
 
 -- IN A WORLD a literal holds or its complement does.
 pub holds-true : (w : World) (f : ℕ) → holds w (says-true f) ≡ w f
@@ -65,10 +40,10 @@ fails-twice true = refl
 fails-twice false = refl
 
 pub holds-complement : (w : World) (l : ℕ) → holds w (complement l) ≡ fails (holds w l)
-holds-complement w l =
-    literal-cases l
-    (λ _ p c. rw c (holds-false w (fluent-of l) ∙ ap fails (sym (holds-true w (fluent-of l)) ∙ ap (holds w) (sym p))))
-    (λ _ p c. rw c (holds-true w (fluent-of l) ∙ sym (fails-twice (w (fluent-of l))) ∙ ap fails (sym (holds-false w (fluent-of l)) ∙ ap (holds w) (sym p))))
+holds-complement w =
+    by-literal (λ l. holds w (complement l) ≡ fails (holds w l))
+    (λ f. rw (complement-true f, holds-true w f) (holds-false w f))
+    (λ f. rw (complement-false f, holds-false w f) (holds-true w f ∙ sym (fails-twice (w f))))
 
 -- Exclusive conditions do not hold together.
 pub exclusive-apart : (c e : List ℕ) (w : World) → exclusive c e ≡ true → each-of (holds w) c ≡ true → each-of (holds w) e ≡ true → ⊥
@@ -96,28 +71,7 @@ pub given-mono : (p q : ℕ → Bool) → ((l : ℕ) → p l ≡ true → q l �
 unfolding given
 given-mono p q h es l = some-mono _ _ (λ e t. both-true _ _ (both-left _ _ t) (each-mono p q h (e .body) (both-right _ _ t))) es
 
--- MARKS.
-pub mark-true : (l : ℕ) → positive l ≡ true → mark-of l ≡ Limits.true-mark
-unfolding mark-of
-mark-true l e = pick-true _ _ _ e
-
-pub mark-false : (l : ℕ) → positive l ≡ false → mark-of l ≡ Limits.false-mark
-unfolding mark-of
-mark-false l e = pick-false _ _ _ e
-
--- The mark at a place of the marks after an action.
-pub marks-at : (es : List Effect) (s : State) (f : ℕ) (ms : List ℕ) (i : ℕ) → i < length ms → getD (marks-after es s f ms) i 0 ≡ mark-after es s (f + i)
-unfolding marks-after
-marks-at es s f [] i h = absurd (not-suc-le-zero h)
-marks-at es s f (m ∷ ms) zero h = ap (mark-after es s) (omega arith)
-marks-at es s f (m ∷ ms) (suc i) h = marks-at es s (f + 1) ms i (le-of-suc-le-suc h) ∙ ap (mark-after es s) (omega arith)
-
-pub marks-past : (es : List Effect) (s : State) (f : ℕ) (ms : List ℕ) (i : ℕ) → length ms ≤ i → getD (marks-after es s f ms) i 0 ≡ 0
-unfolding marks-after
-marks-past es s f [] i h = refl
-marks-past es s f (m ∷ ms) zero h = absurd (not-suc-le-zero h)
-marks-past es s f (m ∷ ms) (suc i) h = marks-past es s (f + 1) ms i (le-of-suc-le-suc h)
-
+-- WHAT IS KNOWN AFTER AN ACTION was found so.
 after-true : (es : List Effect) (s : State) (f : ℕ) → mark-after es s f ≡ Limits.true-mark → known-after es s (says-true f) ≡ true
 unfolding mark-after
 after-true es s f e = pick-cases _ _ _ e (λ t _. t) (λ _ r. pick-cases _ _ _ r (λ _ (q : _≡_ {A = ℕ} 2 1). absurd (omega arith)) (λ _ (q : _≡_ {A = ℕ} 0 1). absurd (omega arith)))
@@ -126,20 +80,18 @@ after-false : (es : List Effect) (s : State) (f : ℕ) → mark-after es s f ≡
 unfolding mark-after
 after-false es s f e = pick-cases _ _ _ e (λ _ (q : _≡_ {A = ℕ} 1 2). absurd (omega arith)) (λ _ r. pick-cases _ _ _ r (λ t _. t) (λ _ (q : _≡_ {A = ℕ} 0 2). absurd (omega arith)))
 
--- What is known after an action was found so.
+mark-there : (es : List Effect) (s : State) (f m : ℕ) → 0 < m → getD (marks-after es s 0 s) f Limits.unknown-mark ≡ m → mark-after es s f ≡ m
+mark-there es s f m pos q =
+    elim (decLt f (length s)) [
+      | yes h ↦ ap (mark-after es s) (omega arith) ∙ sym (marks-at es s 0 s f h) ∙ q
+      | no h ↦ absurd (omega (arith, q, List·getD-eq-default (marks-after es s 0 s) Limits.unknown-mark {n = f} (rw (marks-length es s 0 s) (omega arith))))
+    ]
+
 pub known-was-after : (es : List Effect) (s : State) (l : ℕ) → known (marks-after es s 0 s) l ≡ true → known-after es s l ≡ true
-unfolding known
-known-was-after es s l e =
-    literal-cases l
-    (λ pos is _. subst (λ (k : ℕ). known-after es s k ≡ true) (sym is) (after-true es s (fluent-of l) (mark-there Limits.true-mark (omega arith) (eqb-true _ _ e ∙ mark-true l pos))))
-    (λ neg is _. subst (λ (k : ℕ). known-after es s k ≡ true) (sym is) (after-false es s (fluent-of l) (mark-there Limits.false-mark (omega arith) (eqb-true _ _ e ∙ mark-false l neg))))
-  where
-    mark-there : (m : ℕ) → 0 < m → getD (marks-after es s 0 s) (fluent-of l) 0 ≡ m → mark-after es s (fluent-of l) ≡ m
-    mark-there m pos q =
-        elim (decLt (fluent-of l) (length s)) [
-          | yes h ↦ ap (mark-after es s) (omega arith) ∙ sym (marks-at es s 0 s (fluent-of l) h) ∙ q
-          | no h ↦ absurd (omega (arith, marks-past es s 0 s (fluent-of l) (omega arith)))
-        ]
+known-was-after es s =
+    by-literal (λ l. known (marks-after es s 0 s) l ≡ true → known-after es s l ≡ true)
+    (λ f e. after-true es s f (mark-there es s f Limits.true-mark (omega arith) (eqb-true _ _ (sym (known-true (marks-after es s 0 s) f) ∙ e))))
+    (λ f e. after-false es s f (mark-there es s f Limits.false-mark (omega arith) (eqb-true _ _ (sym (known-false (marks-after es s 0 s) f) ∙ e))))
 
 -- The value of a fluent in the moved world: `up` and `down` are whether some effect makes it true, false.
 set-true : (up down value : Bool) → down ≡ false → (up ≡ true) ⊎ (value ≡ true) → pick up (λ _. true) (λ _. pick down (λ _. false) (λ _. value)) ≡ true
@@ -169,10 +121,11 @@ module _ (t : Table) (a : ℕ) (w : World) where
   -- A literal holds in the moved world where an effect gives it or it held, and no effect gives its complement.
   pub moved-holds : (l : ℕ) → given (holds w) (effects-of t a) (complement l) ≡ false
       → (given (holds w) (effects-of t a) l ≡ true) ⊎ (holds w l ≡ true) → holds (moved t a w) l ≡ true
-  moved-holds l off on =
-      literal-cases l
-      (λ _ is other. rw is (moved-true (fluent-of l) (rw other at off) (rw is at on)))
-      (λ _ is other. rw is (moved-false (fluent-of l) (rw other at off) (rw is at on)))
+  moved-holds =
+      by-literal (λ l. given (holds w) (effects-of t a) (complement l) ≡ false
+      → (given (holds w) (effects-of t a) l ≡ true) ⊎ (holds w l ≡ true) → holds (moved t a w) l ≡ true)
+      (λ f. rw (complement-true f) (moved-true f))
+      (λ f. rw (complement-false f) (moved-false f))
 
 -- THE STATE AFTER IS SOUND.
 pub after-agrees : (t : Table) (a : ℕ) (s : State) (w : World) → Agrees w s → Agrees (moved t a w) (state-after t a s)
@@ -183,31 +136,15 @@ after-agrees t a s w g l e =
     (by-test _ (λ h. clash (given-mono (holds w) (possible s) (holds-possible w s g) (effects-of t a) (complement l) h) (fails-true _ (both-right _ _ k))) (λ f. f))
     (⊎-elim (λ h. inr (g l h)) (λ h. inl (given-mono (known s) (holds w) g (effects-of t a) l h)) (either-split _ _ (both-left _ _ k)))
 
--- A literal is given by its fluent and its mark.
-literal-is : (k l : ℕ) → fluent-of k ≡ fluent-of l → mark-of k ≡ mark-of l → k ≡ l
-literal-is k l f m =
-    literal-cases k
-    (λ p is _. literal-cases l
-    (λ _ at _. is ∙ ap says-true f ∙ sym at)
-    (λ q _ _. absurd (one≢two (sym (mark-true k p) ∙ m ∙ mark-false l q))))
-    (λ p is _. literal-cases l
-    (λ q _ _. absurd (one≢two (sym (sym (mark-false k p) ∙ m ∙ mark-true l q))))
-    (λ _ at _. is ∙ ap says-false f ∙ sym at))
-  where
-    one≢two : _≡_ {A = ℕ} 1 2 → ⊥
-    one≢two e = omega arith
-
 -- A READING IS SOUND. A literal told to a state that agrees, where it holds.
 pub told-agrees : (w : World) (s : State) (l : ℕ) → holds w l ≡ true → Agrees w s → Agrees w (told l s)
-unfolding told known
 told-agrees w s l h g k e =
-    elim (ℕ-discrete (fluent-of k) (fluent-of l)) [
-      | yes same ↦ elim (decLt (fluent-of l) (length s)) [
-        | yes lt ↦ subst (λ (i : ℕ). holds w i ≡ true)
-            (literal-is l k (sym same) (sym (getD-set-same s (fluent-of l) (mark-of l) 0 lt) ∙ ap (λ (i : ℕ). getD (set s (fluent-of l) (mark-of l)) i 0) (sym same) ∙ eqb-true _ _ e)) h
-        | no ge ↦ g k (rw (set-out s (fluent-of l) (mark-of l) (omega arith)) at e)
+    elim (decLt (fluent-of l) (length s)) [
+      | yes within ↦ elim (ℕ-discrete (fluent-of k) (fluent-of l)) [
+        | yes same ↦ ⊎-elim (λ q. rw q h) (λ q. clash (rw q at e) (told-beside l s within)) (same-fluent k l same)
+        | no other ↦ g k (sym (told-elsewhere l s within k other) ∙ e)
       ]
-      | no other ↦ g k (eq-eqb _ _ (sym (getD-set-other s (fluent-of l) (fluent-of k) (mark-of l) 0 other) ∙ eqb-true _ _ e))
+      | no far ↦ g k (subst (λ (u : State). known u k ≡ true) (told-far l s (omega arith)) e)
     ]
 
 -- The readings of fluents on which all the worlds in P have the value that v has: one of them agrees with all of P.
@@ -248,11 +185,11 @@ shown-same t a w v f e s =
     ap w (sym q) ∙ map-same (λ (j : Knowledge). w (j .fluent)) (λ (j : Knowledge). v (j .fluent)) (knowledge-of t a) (k .0) e (k .1) ∙ ap v q
 
 -- THE RECORD, for the table's step.
-abbrev pub Exclusive : List ℕ → List ℕ → Type 0
-Exclusive c e = exclusive c e ≡ true
+abbrev pub Exclusive : List (List ℕ) → Type 0
+Exclusive cs = all-exclusive cs ≡ true
 
 pub table-sound : (t : Table) → Sound-step (table-step t) (table-domain t) Exclusive Agrees
-unfolding table-step table-domain can-be-run may-be-run outcome unknown-sensed
+unfolding table-step table-domain can-be-run may-be-run outcome unknown-sensed all-exclusive
 table-sound t =
     record {
       runs = λ a w s g. allowed-mono (known s) (holds w) g (executability-of t a);
@@ -263,5 +200,6 @@ table-sound t =
           (readings-agree (unknown-sensed t a s) s v (λ w. Agrees w s × (shown t a w ≡ shown t a v)) (λ w p. p .0)
           (λ f m w p. shown-same t a w v f (p .1) (unknown-is-sensed (knowledge-of t a) s 0 s f m))));
       knows = λ l w s g. g l;
-      apart = exclusive-apart;
+      apart = λ c cs x w hc e m he. exclusive-apart c e w (each-has (exclusive c) cs e (both-left _ _ x) m) hc he;
+      others = λ c cs x. both-right _ _ x;
     }

@@ -1,6 +1,6 @@
 -- What a state knows once it is told literals: what it knew, and these, since one fluent has one mark and no literal is told beside its
 -- complement. So the first state, which is told the facts, is the least initial a-state. Assumes nothing.
-use Prim.Native.Nat.{ℕ, _≤_, _<_}
+use Prim.Native.Nat.{ℕ, _≤_, _<_, _*_}
 use native.Mathlib.Omega.{arith}
 use native.Mathlib.Decide.{ℕ-discrete}
 use mathlib.Core.Path.{_≡_, refl, sym, _∙_, ap, fun-ext}
@@ -8,7 +8,7 @@ use mathlib.Core.Bool.{Bool, true, false}
 use mathlib.Core.List.{List, [], _∷_}
 use mathlib.Core.Logic.{inl, inr, ⊎-elim}
 use lib.ListN.{length, length-set, length-replicate}
-use lib.Seq.{getD-set-same, getD-set-other}
+use lib.Seq.{getD-set-same, getD-set-other, set-out}
 use lib.Dec.{eqb}
 use borrow.Author.Tests.{eq-eqb, ne-eqb}
 use Rattle.meaning.specs.Tests.{either, some-of}
@@ -16,7 +16,7 @@ use Rattle.meaning.specs.Limits
 use Rattle.meaning.specs.Limits.{Limits}
 use Rattle.meaning.specs.Literals.{says-true, says-false, fluent-of, complement, among}
 use Rattle.meaning.specs.Requests.{Table}
-use Rattle.meaning.specs.States.{State, mark-of, known, told, told-all, first-state}
+use Rattle.meaning.specs.States.{State, mark-of, known, told, told-all, state-of, first-state}
 use Rattle.meaning.specs.Approximation.{least}
 use Rattle.meaning.proofs.TestLaws.{either-right, Has}
 use Rattle.meaning.proofs.RangeLaws.{Ranged}
@@ -35,16 +35,20 @@ unfolding either
 either-assoc true b c = refl
 either-assoc false b c = refl
 
+pub told-far : (l : ℕ) (s : State) → length s ≤ fluent-of l → told l s ≡ s
+unfolding told
+told-far l s far = set-out s (fluent-of l) (mark-of l) far
+
 module _ (l : ℕ) (s : State) (within : fluent-of l < length s) where
   told-here : known (told l s) l ≡ true
   unfolding known told
   told-here = eq-eqb _ (mark-of l) (getD-set-same s (fluent-of l) (mark-of l) Limits.unknown-mark within)
 
-  told-beside : known (told l s) (complement l) ≡ false
+  pub told-beside : known (told l s) (complement l) ≡ false
   unfolding known told
   told-beside = ne-eqb _ (mark-of (complement l)) (rw (fluent-complement l, getD-set-same s (fluent-of l) (mark-of l) Limits.unknown-mark within) (mark-complement l))
 
-  told-elsewhere : (k : ℕ) → (fluent-of k ≡ fluent-of l → ⊥) → known (told l s) k ≡ known s k
+  pub told-elsewhere : (k : ℕ) → (fluent-of k ≡ fluent-of l → ⊥) → known (told l s) k ≡ known s k
   unfolding known told
   told-elsewhere k other = ap (λ (m : ℕ). eqb m (mark-of k)) (getD-set-other s (fluent-of l) (fluent-of k) (mark-of l) Limits.unknown-mark other)
 
@@ -89,24 +93,36 @@ told-all-known (l ∷ ls) s can k =
     told-all-known ls (told l s) (tellable-after l ls s can) k
     ∙ rw (told-known l s (can .within l (inl refl)) (can .free l (inl refl)) k) (either-assoc (known s k) (eqb k l) (among k ls))
 
--- THE FIRST STATE.
+-- STATES OF LISTS. A list of literals of a state's fluents, none beside its complement, is just what its state knows.
+pub state-length : (lim : Limits) (ls : List ℕ) → length (state-of lim ls) ≡ lim .state
+unfolding state-of
+state-length lim ls = told-all-length ls (nothing-told (lim .state)) ∙ length-replicate (lim .state) Limits.unknown-mark
+
+pub record Clear (lim : Limits) (ls : List ℕ) : Type 0 where
+  pub within : (l : ℕ) → Has ls l → l < 2 * lim .state
+  pub consistent : (l : ℕ) → Has ls l → Has ls (complement l) → ⊥
+
+pub state-known : (lim : Limits) (ls : List ℕ) → Clear lim ls → (k : ℕ) → known (state-of lim ls) k ≡ among k ls
+unfolding state-of either fluent-of
+state-known lim ls clear k = told-all-known ls (nothing-told (lim .state)) can k ∙ rw (none-known (lim .state) k)
+  where
+    can : Tellable (nothing-told (lim .state)) ls
+    can = record {
+      within = λ l h. rw (length-replicate (lim .state) Limits.unknown-mark) (omega (arith, clear .within l h));
+      free = λ l h. none-known (lim .state) (complement l);
+      consistent = clear .consistent;
+    }
+
+-- THE FIRST STATE is the least initial a-state.
 pub first-length : (lim : Limits) (t : Table) → length (first-state lim t) ≡ lim .state
 unfolding first-state
-first-length lim t = told-all-length (t .facts) (nothing-told (lim .state)) ∙ length-replicate (lim .state) Limits.unknown-mark
+first-length lim t = state-length lim (t .facts)
 
 module _ (lim : Limits) (room : lim .fluents ≤ lim .state) (t : Table) (ranged : Ranged lim t) where
   pub first-known : (k : ℕ) → known (first-state lim t) k ≡ among k (t .facts)
-  unfolding first-state either fluent-of
-  first-known k = told-all-known (t .facts) (nothing-told (lim .state)) can k ∙ rw (none-known (lim .state) k)
-    where
-      can : Tellable (nothing-told (lim .state)) (t .facts)
-      can = record {
-        within = λ l h. rw (length-replicate (lim .state) Limits.unknown-mark) (omega (arith, ranged .facts l h, ranged .fluents));
-        free = λ l h. none-known (lim .state) (complement l);
-        consistent = ranged .consistent;
-      }
+  unfolding first-state
+  first-known = state-known lim (t .facts) (record { within = λ l h. omega (arith, ranged .facts l h, ranged .fluents); consistent = ranged .consistent })
 
-  -- The first state is the least initial a-state.
   pub first-least : pair-of (first-state lim t) ≡ least t
   unfolding pair-of least
   first-least = λ i. record { T = fun-ext (λ (f : ℕ). first-known (says-true f)) i; F = fun-ext (λ (f : ℕ). first-known (says-false f)) i }

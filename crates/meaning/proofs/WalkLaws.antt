@@ -2,8 +2,10 @@
 -- show in the place of its end. Assumes nothing.
 use Prim.Native.Nat.{ℕ}
 use mathlib.Core.Path.{_≡_, refl, _∙_, ap, fun-ext}
+use mathlib.Core.List.{List}
 use Rattle.meaning.specs.Tests.{each-of}
 use Rattle.meaning.specs.Requests.{Sequence, done, item, Item, act, branching, Branches, none, branch}
+use Rattle.meaning.specs.Refusals.{conditions-of}
 use Rattle.meaning.specs.States.{Outcome, single, fork}
 use Rattle.meaning.specs.Walk.{End, fine, missed, stuck, Walked, stuck-at, counted, keep-miss, after-miss, after-end, and-then, each-reading, Steps, run-action, walk, walk-item, walk-branch}
 use Rattle.meaning.proofs.TestLaws.{pick-map}
@@ -50,6 +52,21 @@ module _ {L : Type 0} {P Q : ℕ → Type 0} (h : (a : ℕ) → P a → Q a) whe
     map-branches : (bs : Branches L) → On-branches P bs → On-branches Q bs
     map-branches none o = tt
     map-branches (branch c b bs) o = (map-actions b (o .0), map-branches bs (o .1))
+
+-- Something holds of the conditions of each branching in a plan.
+module _ {L : Type 0} (Q : List (List L) → Type 0) where
+  abbrev mutual
+    pub On-conditions : Sequence L → Type 0
+    On-conditions done = Unit {0}
+    On-conditions (item i rest) = On-conditions-item i × On-conditions rest
+
+    pub On-conditions-item : Item L → Type 0
+    On-conditions-item (act p a) = Unit {0}
+    On-conditions-item (branching p bs) = Q (conditions-of bs) × On-conditions-below bs
+
+    pub On-conditions-below : Branches L → Type 0
+    On-conditions-below none = Unit {0}
+    On-conditions-below (branch c b bs) = On-conditions b × On-conditions-below bs
 
 -- Two steps agree on an action.
 pub record Agree {S L : Type 0} (step other : Steps S L) (a : ℕ) : Type 0 where

@@ -2,7 +2,7 @@
 use Prim.Native.Nat.{ℕ, _+_, _^_}
 use mathlib.Core.Bool.{Bool, true, false}
 use mathlib.Core.List.{List, [], _∷_, _++_, map}
-use lib.ListN.{length, getD, replicate}
+use lib.ListN.{length, getD}
 use lib.Dec.{leb, ltb, eqb}
 use Rattle.meaning.specs.declared.Answer.{Answer}
 use Rattle.meaning.specs.Tests.{both, either, fails, pick, some-of, each-of}
@@ -13,7 +13,7 @@ use Rattle.meaning.specs.Requests.{Table, Sequence, done, item, Item, ac
 use Rattle.meaning.specs.Reading.{Got, got, fault, next, byte-at, two-bytes-at, count-at, literals, list-at, repeated, plan-at}
 use Rattle.meaning.specs.Refusals.{Found, nowhere, or-else, overlap-in, refuse, settled}
 use Rattle.meaning.specs.Lines.{sensing}
-use Rattle.meaning.specs.States.{State, known, told-all, can-be-run, state-after, unknown-sensed, Outcome, single, fork, readings}
+use Rattle.meaning.specs.States.{State, known, state-of, can-be-run, state-after, unknown-sensed, Outcome, single, fork, readings}
 
 -- A line claims that c can be run wherever X is known, and that Y is known at each of its ends (FORMAT 10.3, 10.4).
 pub record Line : Type 0 where
@@ -87,10 +87,7 @@ module _ {L : Type 0} where
 unfoldable pub included : List ℕ → List ℕ → Bool
 included xs ys = each-of (λ (x : ℕ). among x ys) xs
 
--- X as a partial state, and what a state knows as a list (FORMAT 10.6).
-unfoldable pub state-of : Limits → List ℕ → State
-state-of lim X = told-all X (replicate (lim .state) Limits.unknown-mark)
-
+-- What a state knows, as a list; `state-of` goes the other way (FORMAT 10.6).
 unfoldable pub known-from : State → (f : ℕ) → List ℕ → List ℕ
 known-from s f [] = []
 known-from s f (m ∷ ms) =

@@ -37,9 +37,10 @@ mixed-in effects [] = nowhere
 mixed-in effects (k ∷ ks) =
     pick (some-of (λ (e : Effect). eqb (e .action) (k .action)) effects) (λ _. at (k .place)) (λ _. mixed-in effects ks)
 
-unfoldable pub conditions-of : Branches ℕ → List (List ℕ)
-conditions-of none = []
-conditions-of (branch c b bs) = c ∷ conditions-of bs
+module _ {L : Type 0} where
+  unfoldable pub conditions-of : Branches L → List (List L)
+  conditions-of none = []
+  conditions-of (branch c b bs) = c ∷ conditions-of bs
 
 -- Every two of the conditions are exclusive (FORMAT 5.18).
 unfoldable pub all-exclusive : List (List ℕ) → Bool

@@ -38,9 +38,13 @@ unfoldable pub told-all : List ℕ → State → State
 told-all [] s = s
 told-all (l ∷ ls) s = told-all ls (told l s)
 
+-- The state that holds these literals and nothing else.
+unfoldable pub state-of : Limits → List ℕ → State
+state-of lim ls = told-all ls (replicate (lim .state) Limits.unknown-mark)
+
 -- The first state holds the initial facts and nothing else (FORMAT 7.7).
 unfoldable pub first-state : Limits → Table → State
-first-state lim t = told-all (t .facts) (replicate (lim .state) Limits.unknown-mark)
+first-state lim t = state-of lim (t .facts)
 
 -- FORMAT 7.8, 7.9.
 unfoldable pub can-be-run : Table → ℕ → State → Bool
