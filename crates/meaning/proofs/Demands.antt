@@ -1,4 +1,4 @@
--- The demands on the walk call (FORMAT section 11), each by citing where its argument stands. Read this file first. Assumes nothing.
+-- The demands (FORMAT section 11), each by citing where its argument stands. Read this file first. Assumes nothing.
 use Prim.Native.Nat.{ℕ}
 use native.Mathlib.Omega.{arith}
 use mathlib.Core.Path.{_≡_, refl, ap}
@@ -22,6 +22,13 @@ use Rattle.meaning.proofs.AnswerLaws
 use Rattle.meaning.proofs.AnswerLaws.{Numbered-in, refusals, answers, settled-numbered}
 use Rattle.meaning.proofs.Sound.{Verified}
 use Rattle.meaning.proofs.WalkSound.{walk-sound}
+-- Demand 2, its first sentence (FORMAT 11.5): past the refusals and within the budget the answers are those of the 0-approximation, in the
+-- order of the paths.
+pub use Rattle.meaning.proofs.Exact.{spent-exactly, stuck-exactly, verified-exactly, missed-exactly, in-order}
+-- Demand 2, its second sentence (FORMAT 11.6), and demand 1 of the derivation call.
+pub use Rattle.meaning.proofs.Accepted.{accepted-exactly, every-check-numbered}
+-- A world's move is single-valued (FORMAT 9.6).
+pub use Rattle.meaning.proofs.WalkSound.{move-is-single-valued}
 
 -- Demand 1 (FORMAT 11.1): every input gets one of the numbered answers.
 pub numbered : (lim : Limits) (request lent : List ℕ) (budget : ℕ) → among (judge lim request lent budget .answer .number) answers ≡ true

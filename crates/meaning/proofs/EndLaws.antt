@@ -4,9 +4,14 @@ use Prim.Native.Nat.{ℕ}
 use mathlib.Core.Path.{_≡_, refl, sym, _∙_, ap, subst}
 use mathlib.Core.List.{List, [], _∷_, _++_}
 use mathlib.Core.Logic.{_⊎_, inl, inr, ⊎-elim, _↔_}
+use mathlib.Core.Bool.{Bool, true}
+use Rattle.meaning.specs.Tests.{each-of}
+use Rattle.meaning.specs.Requests.{Entry, values}
 use Rattle.meaning.specs.Refusals.{Found, nowhere, at}
-use Rattle.meaning.specs.Walk.{End, fine, missed, stuck}
+use Rattle.meaning.specs.Walk.{End, fine, missed, stuck, first-missed}
 use Rattle.meaning.specs.Paths.{Ending, arrives, stops, Path, first-ran, goes-on, go-on, stop-of, first-stop, miss-of, first-miss, stop-or-miss, walked-along}
+use Rattle.meaning.proofs.TestLaws.{both-left, both-right, both-true, pick-true, pick-cases}
+use Rattle.meaning.proofs.RefusalLaws.{at≢nowhere}
 use Rattle.meaning.proofs.PathLaws.{by-found, misses-not, misses-here}
 
 module _ {S : Type 0} where
@@ -147,3 +152,12 @@ module _ {S : Type 0} (miss : S → Found) where
       by-both fine (stuck p s) no-stop says = absurd says
       by-both (missed p s) w stop says = absurd stop
       by-both (stuck p s) w stop says = stop
+
+-- MISSES. Nothing in a list of entries is missed exactly where each of its values passes.
+pub none-missed : (test : ℕ → Bool) (es : List Entry) → (first-missed test es ≡ nowhere) ↔ (each-of test (values es) ≡ true)
+unfolding first-missed each-of values
+none-missed test [] = (λ _. refl, λ _. refl)
+none-missed test (e ∷ es) = (
+  λ q. pick-cases _ _ _ q (λ t k. both-true _ _ t (none-missed test es .0 k)) (λ _ k. absurd (at≢nowhere k)),
+  λ q. pick-true _ _ _ (both-left _ _ q) ∙ none-missed test es .1 (both-right _ _ q),
+)

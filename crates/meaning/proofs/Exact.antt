@@ -4,7 +4,7 @@ use Prim.Native.Nat.{ℕ, _*_, _≤_, _<_}
 use native.Mathlib.Omega.{arith}
 use mathlib.Core.Path.{_≡_, refl, sym, _∙_, ap, subst}
 use mathlib.Core.Bool.{Bool, true}
-use mathlib.Core.List.{List, [], _∷_}
+use mathlib.Core.List.{List}
 use mathlib.Core.Logic.{⊎-elim, _↔_}
 use lib.ListN.{length}
 use lib.Dec.{ltb, eqb}
@@ -13,7 +13,7 @@ use Rattle.meaning.specs.Tests.{either, pick, some-of, each-of}
 use Rattle.meaning.specs.Limits
 use Rattle.meaning.specs.Limits.{Limits, format}
 use Rattle.meaning.specs.Literals.{says-true, among}
-use Rattle.meaning.specs.Requests.{Effect, Knowledge, Table, Entry, Request, values}
+use Rattle.meaning.specs.Requests.{Effect, Knowledge, Table, Request, values}
 use Rattle.meaning.specs.Reading.{got}
 use Rattle.meaning.specs.Refusals.{nowhere, or-else, settled}
 use Rattle.meaning.specs.States.{State, known, known-whether, first-state}
@@ -21,12 +21,12 @@ use Rattle.meaning.specs.Walk.{End, fine, missed, stuck, Walked, table-s
 use Rattle.meaning.specs.Judging.{Judgement, ended, within, judge-settled, judge}
 use Rattle.meaning.specs.Approximation.{Pair, Disjoint, true-in, false-in, _≼_, Result, failed, state, Φ̂, least, Initial, Entails, Knows-after, Kwhether-after}
 use Rattle.meaning.specs.Paths.{Ending, arrives, stops, Path, paths, walked-along}
-use Rattle.meaning.proofs.TestLaws.{both-left, both-right, both-true, either-left, either-right, either-split, pick-true, pick-false, pick-cases, pick-map, Has, some-has, has-some, each-has, has-each}
+use Rattle.meaning.proofs.TestLaws.{either-left, either-right, either-split, pick-true, pick-false, pick-cases, pick-map, Has, some-has, has-some, each-has, has-each}
 use Rattle.meaning.proofs.RefusalLaws.{at≢nowhere}
 use Rattle.meaning.proofs.SettledLaws.{or-else-nowhere, Settled, settled-is, Fit, fit}
 use Rattle.meaning.proofs.PathLaws.{walked-in-order}
 use Rattle.meaning.proofs.RangeLaws.{Ranged, read-ranged}
-use Rattle.meaning.proofs.EndLaws.{Ends, Stops, Says, end-says}
+use Rattle.meaning.proofs.EndLaws.{Ends, Stops, Says, end-says, none-missed}
 use Rattle.meaning.proofs.PairLaws.{true-in-true, true-in-false, false-in-true, pair-of, true-in-pair, pair-disjoint}
 use Rattle.meaning.proofs.ToldLaws.{first-length, first-known, first-least}
 use Rattle.meaning.proofs.CoverLaws.{result-of, knows-pair, knows-true, reaches, Covered, covers}
@@ -79,14 +79,6 @@ the-third (missed p u) s v = refl
 the-third (stuck p u) s v = absurd (s refl)
 
 -- MISSES. An end state misses nothing exactly where every goal is known and every whether fluent is known whether.
-none-missed : (test : ℕ → Bool) (es : List Entry) → (first-missed test es ≡ nowhere) ↔ (each-of test (values es) ≡ true)
-unfolding first-missed each-of values
-none-missed test [] = (λ _. refl, λ _. refl)
-none-missed test (e ∷ es) = (
-  λ q. pick-cases _ _ _ q (λ t k. both-true _ _ t (none-missed test es .0 k)) (λ _ k. absurd (at≢nowhere k)),
-  λ q. pick-true _ _ _ (both-left _ _ q) ∙ none-missed test es .1 (both-right _ _ q),
-)
-
 met : (r : Request) (u : State) → (missed-in r u ≡ nowhere) ↔ ((each-of (known u) (values (r .goals)) ≡ true) × (each-of (known-whether u) (values (r .whether)) ≡ true))
 unfolding missed-in or-else
 met r u = (

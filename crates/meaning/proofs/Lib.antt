@@ -12,8 +12,6 @@ pub mod AnswerLaws
 pub mod Sound
 pub mod TableSound
 pub mod WalkSound
-pub mod Demands
-pub mod NotEmpty
 pub mod PickLaws
 pub mod PathLaws
 pub mod RangeLaws
@@ -24,3 +22,5 @@ pub mod SensingLaws
 pub mod CoverLaws
 pub mod Exact
 pub mod Accepted
+pub mod NotEmpty
+pub mod Demands

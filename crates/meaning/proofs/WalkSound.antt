@@ -10,16 +10,17 @@ use Rattle.meaning.specs.Tests.{each-of}
 use Rattle.meaning.specs.Limits
 use Rattle.meaning.specs.Limits.{Limits}
 use Rattle.meaning.specs.Literals.{complement, exclusive}
-use Rattle.meaning.specs.Requests.{Table, Entry, Request, values}
+use Rattle.meaning.specs.Requests.{Table, Request}
 use Rattle.meaning.specs.Reading.{got}
 use Rattle.meaning.specs.Refusals.{Found, nowhere, at, contradictory, contradiction-in, settled}
 use Rattle.meaning.specs.Lines.{effects-of, given}
 use Rattle.meaning.specs.States.{State, known, known-whether, told, told-all, state-of, first-state}
-use Rattle.meaning.specs.Walk.{fine, table-step, first-missed, missed-in, end-of, judged, walked}
+use Rattle.meaning.specs.Walk.{fine, table-step, missed-in, end-of, judged, walked}
 use Rattle.meaning.specs.Worlds.{World, holds, table-domain, Facts, Reached, Carried-out}
-use Rattle.meaning.proofs.TestLaws.{by-test, clash, both-left, both-right, both-true, fails-true, fails-false, pick-cases, either-split, some-has, each-mono, some-those}
-use Rattle.meaning.proofs.RefusalLaws.{at≢nowhere, past-16}
+use Rattle.meaning.proofs.TestLaws.{by-test, clash, both-left, both-right, both-true, fails-true, fails-false, either-split, some-has, each-mono, some-those}
+use Rattle.meaning.proofs.RefusalLaws.{past-16}
 use Rattle.meaning.proofs.SettledLaws.{settled-is, or-else-nowhere, fit}
+use Rattle.meaning.proofs.EndLaws.{none-missed}
 use Rattle.meaning.proofs.StateLaws.{nothing-told, none-known}
 use Rattle.meaning.proofs.Sound.{missed≢fine, Verified, Follows, plan-sound}
 use Rattle.meaning.proofs.TableSound.{Agrees, Exclusive, told-agrees, exclusive-apart, holds-true, holds-false, table-sound}
@@ -38,11 +39,6 @@ unfolding first-state state-of
 first-agrees lim t w h = told-all-agrees w (t .facts) _ h (unknown-agrees w (lim .state))
 
 -- THE LAST STATE.
-pub nothing-missed : (test : ℕ → Bool) (es : List Entry) → first-missed test es ≡ nowhere → each-of test (values es) ≡ true
-unfolding first-missed each-of values
-nothing-missed test [] e = refl
-nothing-missed test (x ∷ xs) e = pick-cases _ _ _ e (λ t r. both-true _ _ t (nothing-missed test xs r)) (λ _ r. absurd (at≢nowhere r))
-
 pub fine-nowhere : (f : Found) (s : State) → end-of f s ≡ fine → f ≡ nowhere
 unfolding end-of
 fine-nowhere nowhere s e = refl
@@ -68,8 +64,8 @@ module _ (r : Request) where
   last-reached s v P g e =
       let q = or-else-nowhere _ _ (fine-nowhere (missed-in r s) s e) in
       record {
-        goals = λ w h. each-mono (known s) (holds w) (g .agree w h) _ (nothing-missed (known s) (r .goals) (q .0));
-        whether = λ w u hw hu. known-values s w u (g .agree w hw) (g .agree u hu) _ (nothing-missed (known-whether s) (r .whether) (q .1));
+        goals = λ w h. each-mono (known s) (holds w) (g .agree w h) _ (none-missed (known s) (r .goals) .0 (q .0));
+        whether = λ w u hw hu. known-values s w u (g .agree w hw) (g .agree u hu) _ (none-missed (known-whether s) (r .whether) .0 (q .1));
       }
 
 -- THE WALK IS SOUND.
