@@ -24,6 +24,7 @@ use Rattle.meaning.proofs.EndLaws.{Ends, Stops, ends-one, ends-ran, wen
 use Rattle.meaning.proofs.PairLaws.{not-both, true-grows, executable-grows, Res-grows, Res-disjoint, ≼-trans, pair-of, true-test, sensing-pair, runs-pair, pair-after}
 use Rattle.meaning.proofs.SensingLaws.{reading-is, reading-follows}
 use Rattle.meaning.proofs.StateLaws.{after-length}
+use Rattle.meaning.proofs.RefusalLaws.{exclusive-clash}
 
 -- What an ending is in the 0-approximation.
 abbrev pub result-of : Ending State → Result
@@ -34,26 +35,19 @@ result-of (stops p u) = failed
 pub knows-pair : (s : State) (c : List ℕ) → each-of (true-in (pair-of s)) c ≡ each-of (known s) c
 knows-pair s c = rw (true-test s)
 
--- BRANCHES. Bodies that exclude each other are not both true.
-not-together : (δ : Pair) → Disjoint δ → (c d : List ℕ) → exclusive c d ≡ true → each-of (true-in δ) c ≡ true → each-of (true-in δ) d ≡ true → ⊥
-unfolding exclusive among
-not-together δ apart c d e holds holds-too =
-    let w = some-has _ c e in
-    let v = some-has _ d (w .2) in
-    not-both δ apart (w .0) (each-has _ c (w .0) holds (w .1)) (rw (eqb-true (complement (w .0)) (v .0) (v .2)) (each-has _ d (v .0) holds-too (v .1)))
-
+-- BRANCHES.
 pub knows-true : (s : State) (δ : Pair) → pair-of s ≼ δ → (c : List ℕ) → each-of (known s) c ≡ true → each-of (true-in δ) c ≡ true
 knows-true s δ more c e = each-mono _ _ (true-grows more) c (knows-pair s c ∙ e)
 
 module _ (t : Table) where
   -- Where one of the conditions is true, no other is.
-  others-false : (δ : Pair) → Disjoint δ → (c : List ℕ) → each-of (true-in δ) c ≡ true → (bs : Branches ℕ) → each-of (exclusive c) (conditions-of bs) ≡ true → None-true t bs δ
+  pub others-false : (δ : Pair) → Disjoint δ → (c : List ℕ) → each-of (true-in δ) c ≡ true → (bs : Branches ℕ) → each-of (exclusive c) (conditions-of bs) ≡ true → None-true t bs δ
   unfolding conditions-of each-of
   others-false δ apart c holds none e = tt
   others-false δ apart c holds (branch d b bs) e =
-      (by-test _ (λ too. absurd (not-together δ apart c d (both-left _ _ e) holds too)) (λ f. f), others-false δ apart c holds bs (both-right _ _ e))
+      (by-test _ (λ too. absurd (exclusive-clash (true-in δ) (not-both δ apart) c d (both-left _ _ e) holds too)) (λ f. f), others-false δ apart c holds bs (both-right _ _ e))
 
-  none-chosen : (bs : Branches ℕ) (δ : Pair) (x : Result) → None-true t bs δ → Φ̂-case t bs δ x → ⊥
+  pub none-chosen : (bs : Branches ℕ) (δ : Pair) (x : Result) → None-true t bs δ → Φ̂-case t bs δ x → ⊥
   none-chosen none δ x n h = h
   none-chosen (branch c b bs) δ x n (inl h) = clash (h .0) (n .0)
   none-chosen (branch c b bs) δ x n (inr h) = none-chosen bs δ x (n .1) h

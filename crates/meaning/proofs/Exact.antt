@@ -175,18 +175,8 @@ module _ (lim : Limits) (room : lim .fluents ≤ lim .state) (r : Request) (rang
       whether k = has-each _ _ (λ f h. sym (whether-pair u f) ∙ k .1 f h .true-after (least (r .table)) least-initial (pair-of u) led)
   end-entailed (stuck p u) says = (λ q. absurd (omega arith), λ k. absurd (k .0 .executable (least (r .table)) least-initial (leads (stops p u) says)))
 
--- THE THEOREMS.
-module _ (lim : Limits) (room : lim .fluents ≤ lim .state) (b lent : List ℕ) (budget : ℕ) (r : Request) (e : ℕ) (lent-length : length lent ≡ lim .state) (past : settled lim b ≡ got r e) where
-  judged-by-walk : judge lim b lent budget ≡ within lent budget (walked r (first-state lim (r .table)))
-  unfolding judge judge-settled
-  judged-by-walk = pick-true _ _ _ (eq-eqb _ _ lent-length) ∙ rw past
-
-  number-is : number lim b lent budget ≡ pick (ltb budget (count lim r)) (λ _. Limits.budget-spent) (λ _. answered (walk-end lim r))
-  number-is = ap (λ (j : Judgement). j .answer .number) judged-by-walk ∙ within-number lent budget (walked r (first-state lim (r .table)))
-
-  within-budget : count lim r ≤ budget → number lim b lent budget ≡ answered (walk-end lim r)
-  within-budget enough = number-is ∙ pick-false _ _ _ (le-ltb budget (count lim r) enough)
-
+-- A SETTLED REQUEST, whatever the budget.
+module _ (lim : Limits) (room : lim .fluents ≤ lim .state) (b : List ℕ) (r : Request) (e : ℕ) (past : settled lim b ≡ got r e) where
   is-settled : Settled lim b r e
   is-settled = settled-is lim b r e past
 
@@ -198,6 +188,33 @@ module _ (lim : Limits) (room : lim .fluents ≤ lim .state) (b lent : List ℕ)
 
   says : Says (missed-in r) (all-paths lim r) (walk-end lim r)
   says = subst (λ (w : Walked State). Says (missed-in r) (all-paths lim r) (w .end)) (sym (walked-in-order r (first-state lim (r .table)))) (end-says (missed-in r) (all-paths lim r))
+
+  failed-exactly : (answered (walk-end lim r) ≡ Limits.not-executable) ↔ Φ̂ (r .table) (r .plan) (least (r .table)) failed
+  failed-exactly = end-failed lim room r ranged fits (walk-end lim r) says
+
+  entailed-exactly : (answered (walk-end lim r) ≡ Limits.verified) ↔ Entailed r
+  entailed-exactly = end-entailed lim room r ranged fits (walk-end lim r) says
+
+  -- Where what is asked is entailed, the walk without a budget is verified.
+  pub entailed-fine : Entailed r → walked r (first-state lim (r .table)) .end ≡ fine
+  entailed-fine k = is-fine (walk-end lim r) (entailed-exactly .1 k)
+    where
+      is-fine : (n : End State) → answered n ≡ Limits.verified → n ≡ fine
+      is-fine fine q = refl
+      is-fine (missed p u) q = absurd (omega arith)
+      is-fine (stuck p u) q = absurd (omega arith)
+
+-- THE THEOREMS.
+module _ (lim : Limits) (room : lim .fluents ≤ lim .state) (b lent : List ℕ) (budget : ℕ) (r : Request) (e : ℕ) (lent-length : length lent ≡ lim .state) (past : settled lim b ≡ got r e) where
+  judged-by-walk : judge lim b lent budget ≡ within lent budget (walked r (first-state lim (r .table)))
+  unfolding judge judge-settled
+  judged-by-walk = pick-true _ _ _ (eq-eqb _ _ lent-length) ∙ rw past
+
+  number-is : number lim b lent budget ≡ pick (ltb budget (count lim r)) (λ _. Limits.budget-spent) (λ _. answered (walk-end lim r))
+  number-is = ap (λ (j : Judgement). j .answer .number) judged-by-walk ∙ within-number lent budget (walked r (first-state lim (r .table)))
+
+  within-budget : count lim r ≤ budget → number lim b lent budget ≡ answered (walk-end lim r)
+  within-budget enough = number-is ∙ pick-false _ _ _ (le-ltb budget (count lim r) enough)
 
   -- The judgement is what the list of paths says: the answer's count, place and state are those of the walk along it.
   pub in-order : judge lim b lent budget ≡ within lent budget (walked-along (missed-in r) (paths (table-step (r .table)) (r .plan) (first-state lim (r .table))))
@@ -212,11 +229,11 @@ module _ (lim : Limits) (room : lim .fluents ≤ lim .state) (b lent : List ℕ)
 
   -- Not executable, exactly where the plan fails from the least initial a-state.
   pub stuck-exactly : count lim r ≤ budget → (number lim b lent budget ≡ Limits.not-executable) ↔ Φ̂ (r .table) (r .plan) (least (r .table)) failed
-  stuck-exactly enough = rw (within-budget enough) (end-failed lim room r ranged fits (walk-end lim r) says)
+  stuck-exactly enough = rw (within-budget enough) (failed-exactly lim room b r e past)
 
   -- Verified, exactly where the goals and the whether fluents are entailed.
   pub verified-exactly : count lim r ≤ budget → (number lim b lent budget ≡ Limits.verified) ↔ Entailed r
-  verified-exactly enough = rw (within-budget enough) (end-entailed lim room r ranged fits (walk-end lim r) says)
+  verified-exactly enough = rw (within-budget enough) (entailed-exactly lim room b r e past)
 
   -- A goal is missed, exactly where neither is so.
   pub missed-exactly : count lim r ≤ budget → (number lim b lent budget ≡ Limits.goal-missed) ↔ ((Φ̂ (r .table) (r .plan) (least (r .table)) failed → ⊥) × (Entailed r → ⊥))

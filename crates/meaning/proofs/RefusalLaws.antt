@@ -7,11 +7,11 @@ use mathlib.Core.List.{List, [], _∷_}
 use mathlib.Core.Logic.{_⊎_, inl, inr, ⊎-elim}
 use lib.Dec.{eqb}
 use borrow.Author.Tests.{eqb-true, eq-eqb}
-use Rattle.meaning.specs.Tests.{either, fails, pick, some-of}
+use Rattle.meaning.specs.Tests.{either, fails, pick, some-of, each-of}
 use Rattle.meaning.specs.Literals.{complement, among, exclusive}
 use Rattle.meaning.specs.Requests.{Effect, Knowledge, Sequence, done, item, Item, act, branching, Branches, none, branch}
 use Rattle.meaning.specs.Refusals.{Found, nowhere, at, or-else, contradictory, contradiction-in, mixed-in, conditions-of, overlap-in, overlap-at, overlap-below}
-use Rattle.meaning.proofs.TestLaws.{by-test, clash, same-test, both-left, both-right, both-true, pick-cases, pick-map, Has, some-has, has-some}
+use Rattle.meaning.proofs.TestLaws.{by-test, clash, same-test, both-left, both-right, both-true, pick-cases, pick-map, Has, some-has, has-some, each-has}
 use Rattle.meaning.proofs.WalkLaws.{unplaced, unplaced-item, unplaced-branches}
 use Rattle.meaning.proofs.LiteralLaws.{complement-twice, complement-other}
 
@@ -26,6 +26,14 @@ exclusive-turns b c e =
 
 pub exclusive-sym : (b c : List ℕ) → exclusive b c ≡ exclusive c b
 exclusive-sym b c = same-test _ _ (exclusive-turns b c) (exclusive-turns c b)
+
+-- Bodies that exclude each other don't both pass a test that no literal passes together with its complement.
+pub exclusive-clash : (p : ℕ → Bool) → ((l : ℕ) → p l ≡ true → p (complement l) ≡ true → ⊥) → (b c : List ℕ) → exclusive b c ≡ true → each-of p b ≡ true → each-of p c ≡ true → ⊥
+unfolding exclusive among
+exclusive-clash p apart b c e hb hc =
+    let t = some-has _ b e in
+    let u = some-has _ c (t .2) in
+    apart (t .0) (each-has _ b (t .0) hb (t .1)) (rw (eqb-true (complement (t .0)) (u .0) (u .2)) (each-has _ c (u .0) hc (u .1)))
 
 contradictory-turns : (e g : Effect) → contradictory e g ≡ true → contradictory g e ≡ true
 unfolding contradictory

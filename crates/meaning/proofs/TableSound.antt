@@ -21,6 +21,7 @@ use Rattle.meaning.specs.Walk.{table-step}
 use Rattle.meaning.specs.Worlds.{World, holds, may-be-run, moved, shown, table-domain}
 use Rattle.meaning.proofs.TestLaws.{by-test, clash, both-left, both-right, both-true, either-split, fails-true, fails-false, pick-true, pick-false, pick-cases, Has, some-has, each-has, some-mono, each-mono}
 use Rattle.meaning.proofs.Sound.{Some-state, some-state-map, Sound-step}
+use Rattle.meaning.proofs.RefusalLaws.{exclusive-clash}
 use Rattle.meaning.proofs.LiteralLaws.{positive-true, positive-false, fluent-true, fluent-false, complement-true, complement-false, by-literal, same-fluent}
 use Rattle.meaning.proofs.StateLaws.{known-true, known-false, marks-length, marks-at}
 use Rattle.meaning.proofs.ToldLaws.{told-beside, told-elsewhere, told-far}
@@ -47,12 +48,7 @@ holds-complement w =
 
 -- Exclusive conditions do not hold together.
 pub exclusive-apart : (c e : List ℕ) (w : World) → exclusive c e ≡ true → each-of (holds w) c ≡ true → each-of (holds w) e ≡ true → ⊥
-unfolding exclusive among
-exclusive-apart c e w x hc he =
-    let t = some-has _ c x in
-    let u = some-has _ e (t .2) in
-    let q : complement (t .0) ≡ u .0 = eqb-true _ _ (u .2) in
-    clash (each-has _ c (t .0) hc (t .1)) (fails-true _ (sym (holds-complement w (t .0)) ∙ ap (holds w) q ∙ each-has _ e (u .0) he (u .1)))
+exclusive-apart c e w = exclusive-clash (holds w) (λ l h k. clash h (fails-true _ (sym (holds-complement w l) ∙ k))) c e
 
 -- All that a state knows holds in the world.
 abbrev pub Agrees : World → State → Type 0
