@@ -30,7 +30,7 @@ module _ {S : Type 0} where
       arrived (arrives u) = Unit {0}
       arrived (stops p s) = ⊥
 
-  arrives-same : {u v : S} → arrives u ≡ arrives v → u ≡ v
+  pub arrives-same : {u v : S} → arrives u ≡ arrives v → u ≡ v
   arrives-same {u} q = ap state q
     where
       state : Ending S → S

@@ -22,5 +22,6 @@ pub mod SensingLaws
 pub mod CoverLaws
 pub mod Exact
 pub mod Accepted
+pub mod DerivationSound
 pub mod NotEmpty
 pub mod Demands

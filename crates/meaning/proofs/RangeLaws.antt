@@ -20,12 +20,12 @@ use Rattle.meaning.proofs.LiteralLaws.{complement-even, complement-odd,
 
 -- What gives something behind a refusal has not been refused.
 module _ {A : Type 0} where
-  not-refused : (b : Bool) (n i : ℕ) (k : Unit {0} → Got A) {x : A} {p : ℕ} → pick b (λ _. fault n i) k ≡ got x p → (b ≡ false) × (k tt ≡ got x p)
+  pub not-refused : (b : Bool) (n i : ℕ) (k : Unit {0} → Got A) {x : A} {p : ℕ} → pick b (λ _. fault n i) k ≡ got x p → (b ≡ false) × (k tt ≡ got x p)
   not-refused b n i k e = pick-cases b _ _ e (λ _ r. absurd (fault≢got r)) (λ f r. (f, r))
 
 module _ {A B C : Type 0} where
   -- From what gives something after a first part, by that part.
-  after-got : (m : Got A) (k : A → ℕ → Got B) {x : B} {p : ℕ} → next m k ≡ got x p → ((a : A) (q : ℕ) → m ≡ got a q → k a q ≡ got x p → C) → C
+  pub after-got : (m : Got A) (k : A → ℕ → Got B) {x : B} {p : ℕ} → next m k ≡ got x p → ((a : A) (q : ℕ) → m ≡ got a q → k a q ≡ got x p → C) → C
   after-got m k e f = let w = next-got m k e in f (w .0) (w .1) (w .2) (w .3)
 
 -- NUMBERS.
@@ -101,9 +101,18 @@ module _ (n : ℕ) (s : List ℕ) where
       among-two x ys above ih (inr a) (inl b) = above l a .1 .apart (omega arith) (sym (complement-twice l) ∙ ap complement (omega arith))
       among-two x ys above ih (inr a) (inr b) = ih a b
 
+-- A list of literals that was read is within its fluents, and holds no literal beside its complement.
+pub list-within : (n most : ℕ) (s : List ℕ) (p : ℕ) (xs : List ℕ) (q : ℕ) → list-at literals n most s p ≡ got xs q → (l : ℕ) → Has xs l → l < 2 * n
+unfolding list-at
+list-within n most s p xs q e l h = after-got (count-at 0 most s p) _ e λ c i _ entries. entries-above n s c i 0 xs q entries l h .0
+
+pub list-consistent : (n most : ℕ) (s : List ℕ) (p : ℕ) (xs : List ℕ) (q : ℕ) → list-at literals n most s p ≡ got xs q → (l : ℕ) → Has xs l → Has xs (complement l) → ⊥
+unfolding list-at
+list-consistent n most s p xs q e = after-got (count-at 0 most s p) _ e λ c i _ entries. entries-consistent n s c i 0 xs q entries
+
 -- LINES. Each line was read somewhere.
 module _ {A : Type 0} (line : ℕ → Got A) where
-  line-read : (left p : ℕ) (xs : List A) (q : ℕ) → repeated line left p ≡ got xs q → (x : A) → Has xs x → (i j : ℕ) × (line i ≡ got x j)
+  pub line-read : (left p : ℕ) (xs : List A) (q : ℕ) → repeated line left p ≡ got xs q → (x : A) → Has xs x → (i j : ℕ) × (line i ≡ got x j)
   unfolding repeated
   line-read zero p xs q e x h = absurd (subst (λ (ys : List A). Has ys x) (sym (got-same e)) h)
   line-read (suc left) p xs q e x h =
@@ -140,7 +149,7 @@ pub record Ranged (lim : Limits) (t : Table) : Type 0 where
   pub knowledge : (k : Knowledge) → Has (t .knowledge) k → k .fluent < t .fluents
 
 table-ranged : (lim : Limits) (s : List ℕ) (p : ℕ) (t : Table) (q : ℕ) → table-at lim s p ≡ got t q → Ranged lim t
-unfolding table-at list-at
+unfolding table-at
 table-ranged lim s p t q e =
     after-got (count-at 1 (lim .fluents) s p) _ e λ n p₁ en e₁.
     after-got (count-at 1 (lim .actions) s p₁) _ e₁ λ m p₂ _ e₂.
@@ -148,12 +157,11 @@ table-ranged lim s p t q e =
     after-got (section-at (effect-at lim n m s) s p₃) _ e₃ λ effects p₄ ee e₄.
     after-got (section-at (executability-at lim n m s) s p₄) _ e₄ λ executability p₅ _ e₅.
     after-got (section-at (knowledge-at lim n m s) s p₅) _ e₅ λ knowledge p₆ ek same.
-    after-got (count-at 0 (lim .listed) s p₂) _ ef λ c p₇ _ entries.
     subst (Ranged lim) (got-same same)
     (record {
       fluents = count-within 1 (lim .fluents) s p n p₁ en;
-      facts = λ l h. entries-above n s c p₇ 0 facts p₃ entries l h .0;
-      consistent = entries-consistent n s c p₇ 0 facts p₃ entries;
+      facts = list-within n (lim .listed) s p₂ facts p₃ ef;
+      consistent = list-consistent n (lim .listed) s p₂ facts p₃ ef;
       effects = λ g h. let w = section-read (effect-at lim n m s) s p₃ effects p₄ ee g h in effect-within lim n m s (w .0) g (w .1) (w .2);
       knowledge = λ k h. let w = section-read (knowledge-at lim n m s) s p₅ knowledge p₆ ek k h in knowledge-within lim n m s (w .0) k (w .1) (w .2);
     })

@@ -17,7 +17,7 @@ use Rattle.meaning.specs.Lines.{knowledge-of, senses}
 use Rattle.meaning.specs.States.{State, known, known-whether, told, told-all, unknown-from, unknown-sensed, readings}
 use Rattle.meaning.specs.Paths.{Ending, arrives, arrivals}
 use Rattle.meaning.specs.Approximation.{Pair, true-in, _≼_, K, Sensed}
-use Rattle.meaning.proofs.TestLaws.{by-test, clash, same-test, both-left, both-right, both-true, either-left, either-right, either-split, fails-true, fails-false, Has, some-has, has-some}
+use Rattle.meaning.proofs.TestLaws.{by-test, clash, same-test, both-left, both-right, both-true, either-left, either-right, either-split, fails-true, fails-false, Has, some-has, has-some, has-map, map-has}
 use Rattle.meaning.proofs.PickLaws.{pick-has, has-picked}
 use Rattle.meaning.proofs.ToldLaws.{Tellable, told-all-length, told-all-known}
 use Rattle.meaning.proofs.EndLaws.{Ends, ends-left, ends-right, ends-split}
@@ -71,17 +71,6 @@ module _ (ks : List Knowledge) (s : State) where
   unknown-distinct f [] = tt
   unknown-distinct f (m ∷ ms) =
       pick-has Distinct _ _ _ (λ _. (λ h. let u = unknown-has (f + 1) ms f h .above in omega arith, unknown-distinct (f + 1) ms)) (λ _. unknown-distinct (f + 1) ms)
-
-module _ {A B : Type 0} (g : A → B) where
-  has-map : (xs : List A) (x : A) → Has xs x → Has (map g xs) (g x)
-  has-map [] x h = absurd h
-  has-map (y ∷ ys) x (inl q) = inl (ap g q)
-  has-map (y ∷ ys) x (inr h) = inr (has-map ys x h)
-
-  map-has : (xs : List A) (z : B) → Has (map g xs) z → (x : A) × Has xs x × (z ≡ g x)
-  map-has [] z h = absurd h
-  map-has (y ∷ ys) z (inl q) = (y, inl refl, q)
-  map-has (y ∷ ys) z (inr h) = let w = map-has ys z h in (w .0, inr (w .1), w .2)
 
 -- Literals of distinct fluents are consistent.
 distinct-consistent : (ls : List ℕ) → Distinct (map fluent-of ls) → (l : ℕ) → Has ls l → Has ls (complement l) → ⊥

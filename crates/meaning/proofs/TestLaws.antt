@@ -1,8 +1,8 @@
 -- The laws of the tests: what a test that came out true or false says of its parts. Assumes nothing.
-use mathlib.Core.Path.{_≡_, refl, sym, _∙_}
+use mathlib.Core.Path.{_≡_, refl, sym, _∙_, ap}
 use mathlib.Core.Bool.{Bool, true, false, false≢true}
-use mathlib.Core.List.{List, [], _∷_}
-use mathlib.Core.Logic.{_⊎_, inl, inr}
+use mathlib.Core.List.{List, [], _∷_, _++_, map}
+use mathlib.Core.Logic.{_⊎_, inl, inr, ⊎-elim}
 use Rattle.meaning.specs.Tests.{both, either, fails, pick, some-of, each-of, those-of}
 
 -- By the two values of a test, with the equation in hand.
@@ -122,6 +122,14 @@ module _ {A : Type 0} where
   has-each p [] f = refl
   has-each p (x ∷ xs) f = both-true _ _ (f x (inl refl)) (has-each p xs (λ y h. f y (inr h)))
 
+  pub has-left : (xs ys : List A) (x : A) → Has xs x → Has (xs ++ ys) x
+  has-left [] ys x h = absurd h
+  has-left (z ∷ zs) ys x h = ⊎-elim inl (λ m. inr (has-left zs ys x m)) h
+
+  pub has-right : (xs ys : List A) (x : A) → Has ys x → Has (xs ++ ys) x
+  has-right [] ys x h = h
+  has-right (z ∷ zs) ys x h = inr (has-right zs ys x h)
+
   -- A stronger test passes no more.
   pub some-mono : (p q : A → Bool) → ((x : A) → p x ≡ true → q x ≡ true) → (xs : List A) → some-of p xs ≡ true → some-of q xs ≡ true
   some-mono p q h xs e = let t = some-has p xs e in has-some q xs (t .0) (t .1) (h (t .0) (t .2))
@@ -139,3 +147,15 @@ module _ {A : Type 0} where
           → some-of q (pick b (λ _. x ∷ those-of p xs) (λ _. those-of p xs)) ≡ either (both b (q x)) (some-of (λ (y : A). both (p y) (q y)) xs)
       step true ih = rw ih
       step false ih = ih
+
+-- The entries of a list under a function.
+module _ {A B : Type 0} (g : A → B) where
+  pub has-map : (xs : List A) (x : A) → Has xs x → Has (map g xs) (g x)
+  has-map [] x h = absurd h
+  has-map (y ∷ ys) x (inl q) = inl (ap g q)
+  has-map (y ∷ ys) x (inr h) = inr (has-map ys x h)
+
+  pub map-has : (xs : List A) (z : B) → Has (map g xs) z → (x : A) × Has xs x × (z ≡ g x)
+  map-has [] z h = absurd h
+  map-has (y ∷ ys) z (inl q) = (y, inl refl, q)
+  map-has (y ∷ ys) z (inr h) = let w = map-has ys z h in (w .0, inr (w .1), w .2)

@@ -1,0 +1,441 @@
+-- Theorem 3.1 of Zhao and Shen: what an accepted derivation asks, the walk verifies without a budget. Each line holds of every a-state in which
+-- its X is true, by induction on the lines, a rule at a time; rules 5 and 6 rest on holding of every such a-state. Assumes nothing.
+use Prim.Native.Nat.{ℕ, zero, suc, _+_, _*_, _≤_, _<_}
+use native.Mathlib.Omega.{arith}
+use mathlib.Core.Path.{_≡_, refl, sym, _∙_, ap, ap₂, subst}
+use mathlib.Core.Bool.{Bool, true, false, false≢true}
+use mathlib.Core.List.{List, [], _∷_, _++_, map}
+use mathlib.Core.Logic.{_⊎_, inl, inr, ⊎-elim}
+use lib.ListN.{length, getD}
+use lib.Dec.{eqb, ltb}
+use borrow.Author.Tests.{eqb-true, ltb-true}
+use native.Mathlib.Decide.{decLt}
+use Rattle.meaning.specs.Tests.{both, either, fails, pick, some-of, each-of}
+use Rattle.meaning.specs.Limits
+use Rattle.meaning.specs.Limits.{Limits}
+use Rattle.meaning.specs.Literals.{says-true, says-false, complement, among, exclusive}
+use Rattle.meaning.specs.Requests.{Effect, Knowledge, Table, Sequence, done, item, Item, act, branching, Branches, none, branch, Entry, Request, values}
+use Rattle.meaning.specs.Reading.{got, byte-at, two-bytes-at, count-at, literals, list-at, repeated, plan-at}
+use Rattle.meaning.specs.Refusals.{nowhere, conditions-of, all-exclusive, overlap-in}
+use Rattle.meaning.specs.Lines.{sensing}
+use Rattle.meaning.specs.States.{State, known, state-of, first-state, can-be-run, state-after, unknown-sensed, Outcome, single, fork, readings}
+use Rattle.meaning.specs.Walk.{walked}
+use Rattle.meaning.specs.Approximation.{Pair, Disjoint, true-in, _≼_, executable, Res, Result, failed, state, Sensed, Φ, Union, None-true, Φ̂, Φ̂-item, Φ̂-case}
+use Rattle.meaning.specs.Derivations.{Line, line-at, read-derivation, overlap-in-lines, same-list, same-plan, same-item, same-branches, join, included, known-from, literals-of, says, states-of, of-one, of-two, rule-1, takes-branch, branches-first, rule-4, rule-5, rule-6, each-reads, acts, one-action, rule-2, reads, senses-first, rule-3, follows, cited-by, is-question}
+use Rattle.meaning.proofs.PairLaws.{pair-of, true-in-true, true-in-false, true-in-pair, pair-after, executable-grows, Res-grows, Res-disjoint, runs-pair, sensing-pair, ≼-trans, true-grows, not-both}
+use Rattle.meaning.specs.Paths.{arrives, arrivals}
+use Rattle.meaning.proofs.EndLaws.{Ends, arrives-same, ends-one, ends-split}
+use Rattle.meaning.proofs.SensingLaws.{reading-follows}
+use Rattle.meaning.proofs.SettledLaws.{got-same, settled-is, or-else-nowhere, Fit, fit}
+use Rattle.meaning.proofs.Accepted.{All-follow, Last-asks, Accepted}
+use Rattle.meaning.proofs.RangeLaws.{after-got, not-refused, list-within, list-consistent, line-read, Ranged, read-ranged}
+use Rattle.meaning.proofs.Sound.{Verified}
+use Rattle.meaning.proofs.Exact.{Entailed, entailed-fine}
+use Rattle.meaning.proofs.PickLaws.{has-picked}
+use Rattle.meaning.proofs.CoverLaws.{knows-true, others-false, none-chosen}
+use Rattle.meaning.proofs.ToldLaws.{state-length, Clear, state-known}
+use Rattle.meaning.proofs.TestLaws.{by-test, clash, both-left, both-right, both-true, either-right, either-split, fails-true, pick-cases, Has, has-left, has-right, has-some, some-has, each-has, has-each, map-has}
+
+-- EQUALITY of lists, and of plans up to places, as the transition function sees it.
+pub same-list-is : (xs ys : List ℕ) → same-list xs ys ≡ true → xs ≡ ys
+unfolding same-list
+same-list-is [] [] e = refl
+same-list-is [] (y ∷ ys) e = absurd (false≢true e)
+same-list-is (x ∷ xs) [] e = absurd (false≢true e)
+same-list-is (x ∷ xs) (y ∷ ys) e = ap₂ {C = List ℕ} (λ z zs. z ∷ zs) (eqb-true x y (both-left _ _ e)) (same-list-is xs ys (both-right _ _ e))
+
+state≢failed : {σ : Pair} → state σ ≡ failed → ⊥
+state≢failed e = subst is-state e tt
+  where
+    is-state : Result → Type 0
+    is-state failed = ⊥
+    is-state (state σ) = Unit {0}
+
+state-same : {σ δ : Pair} → state σ ≡ state δ → σ ≡ δ
+state-same {σ} e = ap pair e
+  where
+    pair : Result → Pair
+    pair failed = σ
+    pair (state δ) = δ
+
+module _ (t : Table) where
+  none-true-same : (bs cs : Branches ℕ) → same-branches bs cs ≡ true → (σ : Pair) → None-true t cs σ → None-true t bs σ
+  unfolding same-plan
+  none-true-same none none e σ n = tt
+  none-true-same none (branch d q cs) e σ n = tt
+  none-true-same (branch c p bs) none e σ n = absurd (false≢true e)
+  none-true-same (branch c p bs) (branch d q cs) e σ n =
+      (rw (same-list-is c d (both-left _ _ e)) (n .0), none-true-same bs cs (both-right _ _ (both-right _ _ e)) σ (n .1))
+
+  mutual
+    unfolding same-plan
+
+    -- Where the same plan leads, written elsewhere, this one leads.
+    same-leads : (p q : Sequence ℕ) → same-plan p q ≡ true → (σ : Pair) (x : Result) → Φ̂ t q σ x → Φ̂ t p σ x
+    same-leads done done e σ x h = h
+    same-leads done (item j q) e σ x h = absurd (false≢true e)
+    same-leads (item i p) done e σ x h = absurd (false≢true e)
+    same-leads (item i p) (item j q) e σ x h =
+        ⊎-elim (λ w. inl (same-item-leads i j (both-left _ _ e) σ failed (w .0), w .1))
+        (λ w. inr (w .0, same-item-leads i j (both-left _ _ e) σ (state (w .0)) (w .1), same-leads p q (both-right _ _ e) (w .0) x (w .2))) h
+
+    same-item-leads : (i j : Item ℕ) → same-item i j ≡ true → (σ : Pair) (x : Result) → Φ̂-item t j σ x → Φ̂-item t i σ x
+    same-item-leads (act p a) (act q b) e σ x h = rw (eqb-true a b e) h
+    same-item-leads (act p a) (branching q cs) e σ x h = absurd (false≢true e)
+    same-item-leads (branching p bs) (act q b) e σ x h = absurd (false≢true e)
+    same-item-leads (branching p bs) (branching q cs) e σ x h =
+        ⊎-elim (λ w. inl (same-case-leads bs cs e σ x w)) (λ w. inr (none-true-same bs cs e σ (w .0), w .1)) h
+
+    same-case-leads : (bs cs : Branches ℕ) → same-branches bs cs ≡ true → (σ : Pair) (x : Result) → Φ̂-case t cs σ x → Φ̂-case t bs σ x
+    same-case-leads none none e σ x h = h
+    same-case-leads none (branch d q cs) e σ x h = absurd (false≢true e)
+    same-case-leads (branch c p bs) none e σ x h = absurd (false≢true e)
+    same-case-leads (branch c p bs) (branch d q cs) e σ x h =
+        ⊎-elim
+        (λ w. inl (rw (same-list-is c d (both-left _ _ e)) (w .0), same-leads p q (both-left _ _ (both-right _ _ e)) σ x (w .1)))
+        (λ w. inr (same-case-leads bs cs (both-right _ _ (both-right _ _ e)) σ x w)) h
+
+  -- JOINED PLANS lead where the second leads from where the first leads.
+  join-leads : (p q : Sequence ℕ) (σ : Pair) (x : Result) → Φ̂ t (join p q) σ x → Union (Φ̂ t p σ) (Φ̂ t q) x
+  unfolding join
+  join-leads done q σ x h = inr (σ, refl, h)
+  join-leads (item i p) q σ x (inl w) = inl (inl (w .0, refl), w .1)
+  join-leads (item i p) q σ x (inr w) =
+      ⊎-elim (λ v. inl (inr (w .0, w .1, v .0), v .1)) (λ v. inr (v .0, inr (w .0, w .1, v .1), v .2)) (join-leads p q (w .0) x (w .2))
+
+  leads-joined : (p q : Sequence ℕ) (σ : Pair) (x : Result) → Union (Φ̂ t p σ) (Φ̂ t q) x → Φ̂ t (join p q) σ x
+  unfolding join
+  leads-joined done q σ x (inl w) = absurd (state≢failed (sym (w .0)))
+  leads-joined done q σ x (inr w) = subst (λ (ρ : Pair). Φ̂ t q ρ x) (state-same (w .1)) (w .2)
+  leads-joined (item i p) q σ x (inl w) = ⊎-elim (λ v. inl (v .0, w .1)) (λ v. inr (v .0, v .1, leads-joined p q (v .0) x (inl (v .2, w .1)))) (w .0)
+  leads-joined (item i p) q σ x (inr w) =
+      ⊎-elim (λ v. absurd (state≢failed (v .1))) (λ v. inr (v .0, v .1, leads-joined p q (v .0) x (inr (w .0, v .2, w .2)))) (w .1)
+
+-- A LINE HOLDS: from every a-state in which X is true the plan does not fail, and leads only to a-states in which Y is true.
+pub record Holds (t : Table) (X : List ℕ) (c : Sequence ℕ) (Y : List ℕ) : Type 0 where
+  pub runs : (σ : Pair) → Disjoint σ → each-of (true-in σ) X ≡ true → Φ̂ t c σ failed → ⊥
+  pub ends : (σ : Pair) → Disjoint σ → each-of (true-in σ) X ≡ true → (δ : Pair) → Φ̂ t c σ (state δ) → Disjoint δ × (each-of (true-in δ) Y ≡ true)
+
+relist : (t : Table) {X X′ Y Y′ : List ℕ} (c : Sequence ℕ) → X ≡ X′ → Y ≡ Y′ → Holds t X c Y → Holds t X′ c Y′
+relist t {X} {X′} {Y} {Y′} c x y h = subst (λ (Z : List ℕ). Holds t X′ c Z) y (subst (λ (Z : List ℕ). Holds t Z c Y) x h)
+
+-- What a state knows, as a list, is known.
+known-from-known : (s : State) (f : ℕ) (ms : List ℕ) (l : ℕ) → Has (known-from s f ms) l → known s l ≡ true
+unfolding known-from
+known-from-known s f [] l h = absurd h
+known-from-known s f (m ∷ ms) l h =
+    has-picked (λ xs. Has xs l) (known s (says-true f)) _ _ h
+    (λ t k. ⊎-elim (λ q. rw q t) (known-from-known s (f + 1) ms l) k)
+    (λ _ k. has-picked (λ xs. Has xs l) (known s (says-false f)) _ _ k
+    (λ t j. ⊎-elim (λ q. rw q t) (known-from-known s (f + 1) ms l) j)
+    (λ _ j. known-from-known s (f + 1) ms l j))
+
+literals-known : (s : State) → each-of (known s) (literals-of s) ≡ true
+unfolding literals-of
+literals-known s = has-each _ _ (known-from-known s 0 s)
+
+-- Where every literal of the one list is in the other, what is true of the other is true of it.
+included-true : (xs ys : List ℕ) → included xs ys ≡ true → (σ : Pair) → each-of (true-in σ) ys ≡ true → each-of (true-in σ) xs ≡ true
+unfolding included among
+included-true xs ys e σ h =
+    has-each _ xs (λ l m. let w = some-has _ ys (each-has _ xs l e m) in rw (eqb-true l (w .0) (w .2)) (each-has _ ys (w .0) h (w .1)))
+
+-- THE RULES that ask nothing of the table.
+-- A line that says X, c, Y and holds.
+said : (t : Table) (l : Line) (X : List ℕ) (c : Sequence ℕ) (Y : List ℕ) → says l X c Y ≡ true → Holds t (l .X) (l .c) (l .Y) → Holds t X c Y
+unfolding says
+said t l X c Y e good =
+    let x : l .X ≡ X = same-list-is (l .X) X (both-left _ _ e) in
+    let y : l .Y ≡ Y = same-list-is (l .Y) Y (both-right _ _ (both-right _ _ e)) in
+    let same = both-left _ _ (both-right _ _ e) in
+    record {
+      runs = λ σ apart h z. good .runs σ apart (rw x h) (same-leads t (l .c) c same σ failed z);
+      ends = λ σ apart h δ z. let m = good .ends σ apart (rw x h) δ (same-leads t (l .c) c same σ (state δ) z) in (m .0, rw (← y) (m .1));
+    }
+
+module _ (t : Table) where
+  rule-1-holds : (X : List ℕ) (c : Sequence ℕ) (Y : List ℕ) → same-plan c done ≡ true → same-list Y X ≡ true → Holds t X c Y
+  unfolding same-plan
+  rule-1-holds X done Y e q =
+      record {
+        runs = λ σ apart h z. state≢failed (sym z);
+        ends = λ σ apart h δ z. let same = state-same z in (subst Disjoint (sym same) apart, rw (same, same-list-is Y X q) h);
+      }
+  rule-1-holds X (item i rest) Y e q = absurd (false≢true e)
+
+  rule-5-holds : (X Z Y : List ℕ) (c d e : Sequence ℕ) → Holds t X d Z → Holds t Z e Y → same-plan (join d e) c ≡ true → Holds t X c Y
+  rule-5-holds X Z Y c d e first second same =
+      record {
+        runs = λ σ apart h z. fails-at σ apart h (joined σ failed z);
+        ends = λ σ apart h δ z. ends-at σ apart h δ (joined σ (state δ) z);
+      }
+    where
+      joined : (σ : Pair) (x : Result) → Φ̂ t c σ x → Union (Φ̂ t d σ) (Φ̂ t e) x
+      joined σ x z = join-leads t d e σ x (same-leads t (join d e) c same σ x z)
+
+      fails-at : (σ : Pair) → Disjoint σ → each-of (true-in σ) X ≡ true → Union (Φ̂ t d σ) (Φ̂ t e) failed → ⊥
+      fails-at σ apart h (inl w) = first .runs σ apart h (w .0)
+      fails-at σ apart h (inr w) = let m = first .ends σ apart h (w .0) (w .1) in second .runs (w .0) (m .0) (m .1) (w .2)
+
+      ends-at : (σ : Pair) → Disjoint σ → each-of (true-in σ) X ≡ true → (δ : Pair) → Union (Φ̂ t d σ) (Φ̂ t e) (state δ) → Disjoint δ × (each-of (true-in δ) Y ≡ true)
+      ends-at σ apart h δ (inl w) = absurd (state≢failed (w .1))
+      ends-at σ apart h δ (inr w) = let m = first .ends σ apart h (w .0) (w .1) in second .ends (w .0) (m .0) (m .1) δ (w .2)
+
+  rule-6-holds : (X X′ Y Y′ : List ℕ) (c d : Sequence ℕ) → Holds t X′ d Y′ → included X′ X ≡ true → same-plan d c ≡ true → included Y Y′ ≡ true → Holds t X c Y
+  rule-6-holds X X′ Y Y′ c d cited less same more =
+      record {
+        runs = λ σ apart h z. cited .runs σ apart (included-true X′ X less σ h) (same-leads t d c same σ failed z);
+        ends = λ σ apart h δ z.
+            let m = cited .ends σ apart (included-true X′ X less σ h) δ (same-leads t d c same σ (state δ) z) in
+            (m .0, included-true Y Y′ more δ (m .1));
+      }
+
+  -- Rule 4. The branch taken is the one whose condition is true.
+  abbrev Taken : List ℕ → Branches ℕ → Sequence ℕ → List ℕ → Line → Pair → Type 0
+  Taken X bs rest Y cited σ = (b : Sequence ℕ) × (says cited X (join b rest) Y ≡ true) × ((x : Result) → Φ̂-case t bs σ x → Φ̂ t b σ x) × (None-true t bs σ → ⊥)
+
+  taken : (X : List ℕ) (bs : Branches ℕ) (rest : Sequence ℕ) (Y : List ℕ) (cited : Line) → takes-branch X bs rest Y cited ≡ true → all-exclusive (conditions-of bs) ≡ true
+      → (σ : Pair) → Disjoint σ → each-of (true-in σ) X ≡ true → Taken X bs rest Y cited σ
+  unfolding takes-branch conditions-of all-exclusive
+  taken X none rest Y cited e apart σ d h = absurd (false≢true e)
+  taken X (branch c b bs) rest Y cited e apart σ d h =
+      ⊎-elim here (λ w. later (taken X bs rest Y cited w (both-right _ _ apart) σ d h)) (either-split _ _ e)
+    where
+      others : each-of (true-in σ) c ≡ true → None-true t bs σ
+      others holds = others-false t σ d c holds bs (both-left _ _ apart)
+
+      here : both (included c X) (says cited X (join b rest) Y) ≡ true → Taken X (branch c b bs) rest Y cited σ
+      here w =
+          let holds = included-true c X (both-left _ _ w) σ h in
+          (b, both-right _ _ w, λ x z. ⊎-elim (λ v. v .1) (λ v. absurd (none-chosen t bs σ x (others holds) v)) z, λ n. clash holds (n .0))
+
+      later : Taken X bs rest Y cited σ → Taken X (branch c b bs) rest Y cited σ
+      later m = (m .0, m .1, λ x z. ⊎-elim (λ v. absurd (m .3 (others (v .0)))) (m .2 x) z, λ n. m .3 (n .1))
+
+  rule-4-holds : (X : List ℕ) (p : ℕ) (bs : Branches ℕ) (rest : Sequence ℕ) (Y : List ℕ) (cited : Line) → Holds t (cited .X) (cited .c) (cited .Y)
+      → takes-branch X bs rest Y cited ≡ true → all-exclusive (conditions-of bs) ≡ true → Holds t X (item (branching p bs) rest) Y
+  unfolding says
+  rule-4-holds X p bs rest Y cited good e apart =
+      record { runs = λ σ d h z. go σ d h .runs σ d h (led σ d h failed z); ends = λ σ d h δ z. go σ d h .ends σ d h δ (led σ d h (state δ) z) }
+    where
+      at : (σ : Pair) → Disjoint σ → each-of (true-in σ) X ≡ true → Taken X bs rest Y cited σ
+      at = taken X bs rest Y cited e apart
+
+      go : (σ : Pair) (d : Disjoint σ) (h : each-of (true-in σ) X ≡ true) → Holds t X (join (at σ d h .0) rest) Y
+      go σ d h = said t cited X _ Y (at σ d h .1) good
+
+      led : (σ : Pair) (d : Disjoint σ) (h : each-of (true-in σ) X ≡ true) (x : Result) → Φ̂ t (item (branching p bs) rest) σ x → Φ̂ t (join (at σ d h .0) rest) σ x
+      led σ d h x z = leads-joined t (at σ d h .0) rest σ x (in-branch z)
+        where
+          in-branch : Union (λ y. Φ̂-item t (branching p bs) σ y) (Φ̂ t rest) x → Union (Φ̂ t (at σ d h .0) σ) (Φ̂ t rest) x
+          in-branch (inl w) = inl (⊎-elim (at σ d h .2 failed) (λ v. absurd (at σ d h .3 (v .0))) (w .0), w .1)
+          in-branch (inr w) = inr (w .0, ⊎-elim (at σ d h .2 (state (w .0))) (λ v. absurd (at σ d h .3 (v .0))) (w .1), w .2)
+
+module _ {A : Type 0} where
+  of-one-is : (test : A → Bool) (xs : List A) → of-one test xs ≡ true → (x : A) × Has xs x × (test x ≡ true)
+  unfolding of-one
+  of-one-is test [] e = absurd (false≢true e)
+  of-one-is test (x ∷ []) e = (x, inl refl, e)
+  of-one-is test (x ∷ (y ∷ ys)) e = absurd (false≢true e)
+
+  of-two-is : (test : A → A → Bool) (xs : List A) → of-two test xs ≡ true → (x y : A) × Has xs x × Has xs y × (test x y ≡ true)
+  unfolding of-two
+  of-two-is test [] e = absurd (false≢true e)
+  of-two-is test (x ∷ []) e = absurd (false≢true e)
+  of-two-is test (x ∷ (y ∷ [])) e = (x, y, inl refl, inr (inl refl), e)
+  of-two-is test (x ∷ (y ∷ (z ∷ zs))) e = absurd (false≢true e)
+
+-- THE RULES over the table, whose lines are within the states.
+-- The states that paths arrive in are those of the outcome.
+arrived : (o : Outcome State) (u : State) → Ends (arrivals o) (arrives u) → Has (states-of o) u
+unfolding arrivals states-of
+arrived (single s) u h = inl (arrives-same (ends-one h))
+arrived (fork o p) u h = ⊎-elim (λ k. has-left (states-of o) (states-of (p tt)) u (arrived o u k)) (λ k. has-right (states-of o) (states-of (p tt)) u (arrived (p tt) u k)) (ends-split (arrivals o) (arrivals (p tt)) (arrives u) h)
+
+-- Each reading has its line.
+reading-cited : (rest : Sequence ℕ) (Y : List ℕ) (ss : List State) (ls : List Line) → each-reads rest Y ss ls ≡ true → (u : State) → Has ss u → (l : Line) × Has ls l × (says l (literals-of u) rest Y ≡ true)
+unfolding each-reads
+reading-cited rest Y [] [] e u h = absurd h
+reading-cited rest Y [] (l ∷ ls) e u h = absurd h
+reading-cited rest Y (s ∷ ss) [] e u h = absurd (false≢true e)
+reading-cited rest Y (s ∷ ss) (l ∷ ls) e u h =
+    ⊎-elim (λ q. (l, inl refl, rw q (both-left _ _ e))) (λ m. let w = reading-cited rest Y ss ls (both-right _ _ e) u m in (w .0, inr (w .1), w .2)) h
+
+module _ (lim : Limits) (t : Table) (effects-within : (e : Effect) → Has (t .effects) e → e .literal < 2 * lim .state) (knowledge-within : (k : Knowledge) → Has (t .knowledge) k → k .fluent < lim .state) where
+  -- The state of X is below every a-state in which X is true.
+  below : (X : List ℕ) → Clear lim X → (σ : Pair) → each-of (true-in σ) X ≡ true → pair-of (state-of lim X) ≼ σ
+  unfolding pair-of among
+  below X clear σ h = record { T = λ f e. sym (true-in-true σ f) ∙ there (says-true f) e; F = λ f e. sym (true-in-false σ f) ∙ there (says-false f) e }
+    where
+      there : (l : ℕ) → known (state-of lim X) l ≡ true → true-in σ l ≡ true
+      there l e = let w = some-has (eqb l) X (sym (state-known lim X clear l) ∙ e) in rw (eqb-true l (w .0) (w .2)) (each-has _ X (w .0) h (w .1))
+
+  can-run : (X : List ℕ) → Clear lim X → (a : ℕ) → can-be-run t a (state-of lim X) ≡ true → (σ : Pair) → each-of (true-in σ) X ≡ true → executable t a σ ≡ true
+  can-run X clear a run σ h = executable-grows t a (below X clear σ h) (runs-pair t a (state-of lim X) ∙ run)
+
+  rule-2-holds : (X Y : List ℕ) → Clear lim X → (p a : ℕ) → sensing t a ≡ false → can-be-run t a (state-of lim X) ≡ true
+      → same-list Y (literals-of (state-after t a (state-of lim X))) ≡ true → Holds t X (item (act p a) done) Y
+  rule-2-holds X Y clear p a plain run same =
+      record {
+        runs = λ σ d h z. ⊎-elim (λ w. clash (can-run X clear a run σ h) (w .0)) (λ w. state≢failed (sym (w .2))) z;
+        ends = λ σ d h δ z. ⊎-elim (λ w. absurd (state≢failed (w .1))) (λ w. subst (λ (ρ : Pair). Disjoint ρ × (each-of (true-in ρ) Y ≡ true)) (sym (state-same (w .2))) (after σ d h (w .0) (w .1))) z;
+      }
+    where
+      u : State
+      u = state-after t a (state-of lim X)
+
+      after : (σ : Pair) → Disjoint σ → each-of (true-in σ) X ≡ true → (ρ : Pair) → Φ t a σ (state ρ) → Disjoint ρ × (each-of (true-in ρ) Y ≡ true)
+      after σ d h ρ z =
+          ⊎-elim
+          (λ w. rw (w .1) (Res-disjoint t a σ d, rw (same-list-is Y (literals-of u) same) (knows-true u (Res t a σ) (more σ h) (literals-of u) (literals-known u))))
+          (λ w. clash (sym (sensing-pair t a) ∙ w .0) plain)
+          (z .1)
+        where
+          more : (σ : Pair) → each-of (true-in σ) X ≡ true → pair-of u ≼ Res t a σ
+          more σ h = rw (pair-after t a (state-of lim X) (λ n m. rw (state-length lim X) (effects-within n m))) (Res-grows t a (below X clear σ h))
+
+  rule-3-holds : (X Y : List ℕ) → Clear lim X → (p a : ℕ) (rest : Sequence ℕ) (cited : List Line) → sensing t a ≡ true → can-be-run t a (state-of lim X) ≡ true
+      → each-reads rest Y (states-of (readings (unknown-sensed t a (state-of lim X)) (state-of lim X))) cited ≡ true
+      → ((l : Line) → Has cited l → Holds t (l .X) (l .c) (l .Y)) → Holds t X (item (act p a) rest) Y
+  rule-3-holds X Y clear p a rest cited senses run each good =
+      record {
+        runs = λ σ d h z. ⊎-elim (λ w. clash (can-run X clear a run σ h) (w .0)) (λ w. let m = after σ h (w .0) (w .1) in m .1 .runs (w .0) (m .2) (m .3) (w .2)) z;
+        ends = λ σ d h δ z. ⊎-elim (λ w. absurd (state≢failed (w .1))) (λ w. let m = after σ h (w .0) (w .1) in m .1 .ends (w .0) (m .2) (m .3) δ (w .2)) z;
+      }
+    where
+      s : State
+      s = state-of lim X
+
+      after : (σ : Pair) → each-of (true-in σ) X ≡ true → (ρ : Pair) → Φ t a σ (state ρ) → (u : State) × Holds t (literals-of u) rest Y × Disjoint ρ × (each-of (true-in ρ) (literals-of u) ≡ true)
+      after σ h ρ z = ⊎-elim (λ w. clash senses (sym (sensing-pair t a) ∙ w .0)) (λ w. read (w .1)) (z .1)
+        where
+          read : Sensed t a σ ρ → (u : State) × Holds t (literals-of u) rest Y × Disjoint ρ × (each-of (true-in ρ) (literals-of u) ≡ true)
+          read seen =
+              let v = reading-follows t a s (λ n m. rw (state-length lim X) (knowledge-within n m)) ρ (≼-trans (below X clear σ h) (seen .extends)) (λ f e. seen .domain f ∙ either-right _ _ e) in
+              let c = reading-cited rest Y _ cited each (v .0) (arrived (readings (unknown-sensed t a s) s) (v .0) (v .1)) in
+              (v .0, said t (c .0) (literals-of (v .0)) rest Y (c .2) (good (c .0) (c .1)), seen .disjoint, knows-true (v .0) ρ (v .3) (literals-of (v .0)) (literals-known (v .0)))
+
+  -- A line that follows from lines that hold, holds: its X is clear and its plan's conditions are exclusive.
+  module _ (cited : List Line) (good : (l : Line) → Has cited l → Holds t (l .X) (l .c) (l .Y)) where
+    acts-holds : (l : Line) → Clear lim (l .X) → (c : Sequence ℕ) → one-action lim t l c ≡ true → Holds t (l .X) c (l .Y)
+    unfolding one-action acts
+    acts-holds l clear done e = absurd (false≢true e)
+    acts-holds l clear (item (act p a) done) e =
+        rule-2-holds (l .X) (l .Y) clear p a (fails-true _ (both-left _ _ e)) (both-left _ _ (both-right _ _ e)) (both-right _ _ (both-right _ _ e))
+    acts-holds l clear (item (act p a) (item i rest)) e = absurd (false≢true e)
+    acts-holds l clear (item (branching p bs) rest) e = absurd (false≢true e)
+
+    senses-holds : (l : Line) → Clear lim (l .X) → (c : Sequence ℕ) → senses-first lim t cited l c ≡ true → Holds t (l .X) c (l .Y)
+    unfolding senses-first reads
+    senses-holds l clear done e = absurd (false≢true e)
+    senses-holds l clear (item (act p a) rest) e =
+        rule-3-holds (l .X) (l .Y) clear p a rest cited (both-left _ _ e) (both-left _ _ (both-right _ _ e))
+        (pick-cases _ _ _ (both-right _ _ (both-right _ _ e)) (λ _ r. r) (λ _ r. absurd (false≢true r))) good
+    senses-holds l clear (item (branching p bs) rest) e = absurd (false≢true e)
+
+    branches-hold : (l k : Line) → Holds t (k .X) (k .c) (k .Y) → (c : Sequence ℕ) → Fit c → branches-first k l c ≡ true → Holds t (l .X) c (l .Y)
+    unfolding branches-first
+    branches-hold l k h done fit e = absurd (false≢true e)
+    branches-hold l k h (item (act p a) rest) fit e = absurd (false≢true e)
+    branches-hold l k h (item (branching p bs) rest) fit e = rule-4-holds t (l .X) p bs rest (l .Y) k h e (fit .0 .0)
+
+    one-cited : (test : Line → Bool) → of-one test cited ≡ true → (l : Line) × Holds t (l .X) (l .c) (l .Y) × (test l ≡ true)
+    one-cited test e = let w = of-one-is test cited e in (w .0, good (w .0) (w .1), w .2)
+
+    two-cited : (test : Line → Line → Bool) → of-two test cited ≡ true → (l k : Line) × Holds t (l .X) (l .c) (l .Y) × Holds t (k .X) (k .c) (k .Y) × (test l k ≡ true)
+    two-cited test e = let w = of-two-is test cited e in (w .0, w .1, good (w .0) (w .2), good (w .1) (w .3), w .4)
+
+    line-holds : (l : Line) → Clear lim (l .X) → Fit (l .c) → follows lim t cited l ≡ true → Holds t (l .X) (l .c) (l .Y)
+    unfolding follows rule-1 rule-2 rule-3 rule-4 rule-5 rule-6
+    line-holds l clear fit e =
+        pick-cases _ _ _ e (λ _ r. rule-1-holds t (l .X) (l .c) (l .Y) (both-left _ _ r) (both-right _ _ r)) λ _ e₂.
+        pick-cases _ _ _ e₂ (λ _ r. acts-holds l clear (l .c) r) λ _ e₃.
+        pick-cases _ _ _ e₃ (λ _ r. senses-holds l clear (l .c) r) λ _ e₄.
+        pick-cases _ _ _ e₄ (λ _ r. let w = one-cited _ r in branches-hold l (w .0) (w .1) (l .c) fit (w .2)) λ _ e₅.
+        pick-cases _ _ _ e₅
+        (λ _ r.
+        let w = two-cited _ r in
+        let z : w .0 .Y ≡ w .1 .X = same-list-is _ _ (both-right _ _ (both-left _ _ (w .4))) in
+        rule-5-holds t (l .X) (w .1 .X) (l .Y) (l .c) (w .0 .c) (w .1 .c)
+        (relist t (w .0 .c) (same-list-is _ _ (both-left _ _ (both-left _ _ (w .4)))) z (w .2))
+        (relist t (w .1 .c) refl (same-list-is _ _ (both-left _ _ (both-right _ _ (w .4)))) (w .3))
+        (both-right _ _ (both-right _ _ (w .4)))) λ _ r.
+        let w = one-cited _ r in
+        rule-6-holds t (l .X) (w .0 .X) (l .Y) (w .0 .Y) (l .c) (w .0 .c) (w .1) (both-left _ _ (w .2)) (both-left _ _ (both-right _ _ (w .2))) (both-right _ _ (both-right _ _ (w .2)))
+
+  -- THE INDUCTION. `ls` are the lines from number i on; those before hold.
+  abbrev Good : Line → Type 0
+  Good l = Holds t (l .X) (l .c) (l .Y)
+
+  cited-good : (lines : List Line) (i : ℕ) → ((k : ℕ) → k < i → (d : Line) → Good (getD lines k d)) → (l : Line) → each-of (λ (k : ℕ). ltb k i) (l .cites) ≡ true → (x : Line) → Has (cited-by lines l) x → Good x
+  unfolding cited-by
+  cited-good lines i earlier l e x h =
+      let w = map-has (λ (k : ℕ). getD lines k l) (l .cites) x h in
+      subst Good (sym (w .2)) (earlier (w .0) (ltb-true (w .0) i (each-has _ (l .cites) (w .0) e (w .1))) l)
+
+  lines-hold : (lines : List Line) (i : ℕ) (ls : List Line) → ((k : ℕ) → k < length ls → (d : Line) → getD lines (i + k) d ≡ getD ls k d)
+      → ((k : ℕ) → k < i → (d : Line) → Good (getD lines k d))
+      → All-follow lim t lines i ls → ((l : Line) → Has ls l → Clear lim (l .X)) → ((l : Line) → Has ls l → Fit (l .c))
+      → (l : Line) → Has ls l → Good l
+  lines-hold lines i [] at earlier all clear fits l h = absurd h
+  lines-hold lines i (x ∷ xs) at earlier all clear fits l h =
+      ⊎-elim (λ q. rw q here)
+      (lines-hold lines (i + 1) xs (λ k lt d. ap (λ (j : ℕ). getD lines j d) (omega arith) ∙ at (suc k) (omega arith) d) before (all .1) (λ y m. clear y (inr m)) (λ y m. fits y (inr m)) l)
+      h
+    where
+      here : Good x
+      here = line-holds (cited-by lines x) (cited-good lines i earlier x (all .0 .earlier)) x (clear x (inl refl)) (fits x (inl refl)) (all .0 .gives)
+
+      before : (k : ℕ) → k < i + 1 → (d : Line) → Good (getD lines k d)
+      before k lt d = elim (decLt k i) [ yes less ↦ earlier k less d | no not-less ↦ subst Good (sym (ap (λ (j : ℕ). getD lines j d) (omega arith) ∙ at 0 (omega arith) d)) here ]
+
+-- WHAT WAS READ. The X of each line is clear, and its plan's conditions are exclusive.
+lines-clear : (lim : Limits) (n m : ℕ) → n ≤ lim .state → (s : List ℕ) (lines : List Line) (e : ℕ) → read-derivation lim n m s ≡ got lines e → (l : Line) → Has lines l → Clear lim (l .X)
+unfolding read-derivation line-at
+lines-clear lim n m room s lines e q l h =
+    after-got (two-bytes-at s 0) _ (not-refused _ _ _ _ q .1) λ c p _ q₁.
+    after-got (repeated (line-at lim n m s) c p) _ (not-refused _ _ _ _ q₁ .1) λ ls p₁ read q₂.
+    let w = line-read (line-at lim n m s) c p ls p₁ read l (subst (λ (xs : List Line). Has xs l) (sym (got-same (not-refused _ _ _ _ q₂ .1))) h) in
+    after-got (list-at literals n (lim .listed) s (w .0)) _ (w .2) λ X i x q₃.
+    after-got (plan-at lim n m s i) _ q₃ λ _ j _ q₄.
+    after-got (list-at literals n (lim .listed) s j) _ q₄ λ _ k _ q₅.
+    after-got (byte-at s k) _ q₅ λ _ v _ q₆.
+    after-got (count-at 0 (lim .citations) s v) _ q₆ λ d g _ q₇.
+    after-got (repeated (two-bytes-at s) d g) _ q₇ λ _ _ _ same.
+    subst (λ (z : Line). Clear lim (z .X)) (got-same same)
+    (record { within = λ y m. omega (arith, list-within n (lim .listed) s (w .0) X i x y m); consistent = list-consistent n (lim .listed) s (w .0) X i x })
+
+lines-fit : (lines : List Line) → overlap-in-lines lines ≡ nowhere → (l : Line) → Has lines l → Fit (l .c)
+unfolding overlap-in-lines
+lines-fit [] e l h = absurd h
+lines-fit (x ∷ xs) e l h = let w = or-else-nowhere (overlap-in (x .c)) _ e in ⊎-elim (λ q. rw q (fit (x .c) (w .0))) (lines-fit xs (w .1) l) h
+
+last-has : (r : Request) (lines : List Line) → Last-asks r lines → (l : Line) × Has lines l × (is-question r l ≡ true)
+last-has r [] h = absurd h
+last-has r (l ∷ []) h = (l, inl refl, h)
+last-has r (l ∷ (k ∷ ls)) h = let w = last-has r (k ∷ ls) h in (w .0, inr (w .1), w .2)
+
+-- THEOREM 3.1. What an accepted derivation asks is entailed, and the walk verifies it without a budget.
+module _ (lim : Limits) (room : lim .fluents ≤ lim .state) (request derivation : List ℕ) (a : Accepted lim request derivation) where
+  ranged : Ranged lim (a .asks .table)
+  ranged = read-ranged lim request (a .asks) (a .end) (settled-is lim request (a .asks) (a .end) (a .request-settled) .reads)
+
+  question-holds : Holds (a .asks .table) (a .asks .table .facts) (a .asks .plan) (values (a .asks .goals))
+  unfolding is-question
+  question-holds =
+      let last = last-has (a .asks) (a .lines) (a .last-asks) in
+      said (a .asks .table) (last .0) _ _ _ (last .2)
+      (lines-hold lim (a .asks .table) (λ e h. omega (arith, ranged .effects e h, ranged .fluents)) (λ k h. omega (arith, ranged .knowledge k h, ranged .fluents))
+      (a .lines) 0 (a .lines) (λ k lt d. ap (λ (j : ℕ). getD (a .lines) j d) (omega arith)) (λ k lt d. absurd (omega arith)) (a .all-follow)
+      (lines-clear lim _ _ (omega (arith, ranged .fluents)) derivation (a .lines) (a .derivation-end) (a .derivation-read)) (lines-fit (a .lines) (a .no-overlap))
+      (last .0) (last .1))
+
+  asked-entailed : Entailed (a .asks)
+  unfolding values
+  asked-entailed = (
+    record { executable = λ σ i z. question-holds .runs σ (i .disjoint) (i .facts) z; true-after = λ σ i δ z. question-holds .ends σ (i .disjoint) (i .facts) δ z .1 },
+    λ f h. absurd (subst (λ (es : List Entry). Has (values es) f) (a .no-whether) h),
+  )
+
+  pub accepted-verified : Verified (walked (a .asks) (first-state lim (a .asks .table)))
+  accepted-verified = entailed-fine lim room request (a .asks) (a .end) (a .request-settled) asked-entailed
