@@ -1,5 +1,5 @@
 -- The demands (FORMAT section 11), each by citing where its argument stands. Read this file first. Assumes nothing.
-use Prim.Native.Nat.{ℕ}
+use Prim.Native.Nat.{ℕ, _≤_}
 use native.Mathlib.Omega.{arith}
 use mathlib.Core.Path.{_≡_, refl, ap}
 use mathlib.Core.Bool.{true}
@@ -17,8 +17,10 @@ use Rattle.meaning.specs.States.{State, first-state}
 use Rattle.meaning.specs.Walk.{End, fine, missed, stuck, Walked, walked}
 use Rattle.meaning.specs.Judging.{ended, within, judge-settled, judge}
 use Rattle.meaning.specs.Worlds.{Carried-out}
+use Rattle.meaning.specs.Derivations.{check}
 use Rattle.meaning.proofs.TestLaws.{by-test, clash}
 use Rattle.meaning.proofs.AnswerLaws
+use Rattle.meaning.proofs.DerivationSound
 use Rattle.meaning.proofs.AnswerLaws.{Numbered-in, refusals, answers, settled-numbered}
 use Rattle.meaning.proofs.Sound.{Verified}
 use Rattle.meaning.proofs.WalkSound.{walk-sound}
@@ -68,4 +70,19 @@ pub sound : (lim : Limits) (request lent : List ℕ) (budget : ℕ) → judge li
     → (r : Request) × (e : ℕ) × (settled lim request ≡ got r e) × Carried-out r
 sound lim request lent budget q =
     let m = verified-means lim request lent budget q in
+    (m .0, m .1, m .2, walk-sound lim request (m .0) (m .1) (m .2) (m .3))
+
+-- Theorem 3.1 of Zhao and Shen: what an accepted derivation asks is verified by the walk without a budget. (With a budget it need not be:
+-- `DerivationCases.beyond-a-budget` has a derivation accepted where the walk's budget is spent.)
+pub accepted-verified : (lim : Limits) → lim .fluents ≤ lim .state → (request derivation : List ℕ) → check lim request derivation .number ≡ Limits.verified
+    → (r : Request) × (e : ℕ) × (settled lim request ≡ got r e) × Verified (walked r (first-state lim (r .table)))
+accepted-verified lim room request derivation q =
+    let a = accepted-exactly lim request derivation .0 q in
+    (a .asks, a .end, a .request-settled, DerivationSound.accepted-verified lim room request derivation a)
+
+-- Demand 3 for accepted derivations.
+pub sound-derivation : (lim : Limits) → lim .fluents ≤ lim .state → (request derivation : List ℕ) → check lim request derivation .number ≡ Limits.verified
+    → (r : Request) × (e : ℕ) × (settled lim request ≡ got r e) × Carried-out r
+sound-derivation lim room request derivation q =
+    let m = accepted-verified lim room request derivation q in
     (m .0, m .1, m .2, walk-sound lim request (m .0) (m .1) (m .2) (m .3))

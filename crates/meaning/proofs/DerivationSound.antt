@@ -1,19 +1,19 @@
 -- Theorem 3.1 of Zhao and Shen: what an accepted derivation asks, the walk verifies without a budget. Each line holds of every a-state in which
 -- its X is true, by induction on the lines, a rule at a time; rules 5 and 6 rest on holding of every such a-state. Assumes nothing.
-use Prim.Native.Nat.{ℕ, zero, suc, _+_, _*_, _≤_, _<_}
+use Prim.Native.Nat.{ℕ, suc, _+_, _*_, _≤_, _<_}
 use native.Mathlib.Omega.{arith}
 use mathlib.Core.Path.{_≡_, refl, sym, _∙_, ap, ap₂, subst}
 use mathlib.Core.Bool.{Bool, true, false, false≢true}
-use mathlib.Core.List.{List, [], _∷_, _++_, map}
-use mathlib.Core.Logic.{_⊎_, inl, inr, ⊎-elim}
+use mathlib.Core.List.{List, [], _∷_}
+use mathlib.Core.Logic.{inl, inr, ⊎-elim}
 use lib.ListN.{length, getD}
 use lib.Dec.{eqb, ltb}
 use borrow.Author.Tests.{eqb-true, ltb-true}
 use native.Mathlib.Decide.{decLt}
-use Rattle.meaning.specs.Tests.{both, either, fails, pick, some-of, each-of}
+use Rattle.meaning.specs.Tests.{both, each-of}
 use Rattle.meaning.specs.Limits
 use Rattle.meaning.specs.Limits.{Limits}
-use Rattle.meaning.specs.Literals.{says-true, says-false, complement, among, exclusive}
+use Rattle.meaning.specs.Literals.{says-true, says-false, among}
 use Rattle.meaning.specs.Requests.{Effect, Knowledge, Table, Sequence, done, item, Item, act, branching, Branches, none, branch, Entry, Request, values}
 use Rattle.meaning.specs.Reading.{got, byte-at, two-bytes-at, count-at, literals, list-at, repeated, plan-at}
 use Rattle.meaning.specs.Refusals.{nowhere, conditions-of, all-exclusive, overlap-in}
@@ -22,7 +22,7 @@ use Rattle.meaning.specs.States.{State, known, state-of, first-state, ca
 use Rattle.meaning.specs.Walk.{walked}
 use Rattle.meaning.specs.Approximation.{Pair, Disjoint, true-in, _≼_, executable, Res, Result, failed, state, Sensed, Φ, Union, None-true, Φ̂, Φ̂-item, Φ̂-case}
 use Rattle.meaning.specs.Derivations.{Line, line-at, read-derivation, overlap-in-lines, same-list, same-plan, same-item, same-branches, join, included, known-from, literals-of, says, states-of, of-one, of-two, rule-1, takes-branch, branches-first, rule-4, rule-5, rule-6, each-reads, acts, one-action, rule-2, reads, senses-first, rule-3, follows, cited-by, is-question}
-use Rattle.meaning.proofs.PairLaws.{pair-of, true-in-true, true-in-false, true-in-pair, pair-after, executable-grows, Res-grows, Res-disjoint, runs-pair, sensing-pair, ≼-trans, true-grows, not-both}
+use Rattle.meaning.proofs.PairLaws.{pair-of, true-in-true, true-in-false, pair-after, executable-grows, Res-grows, Res-disjoint, runs-pair, sensing-pair, ≼-trans}
 use Rattle.meaning.specs.Paths.{arrives, arrivals}
 use Rattle.meaning.proofs.EndLaws.{Ends, arrives-same, ends-one, ends-split}
 use Rattle.meaning.proofs.SensingLaws.{reading-follows}
@@ -34,7 +34,7 @@ use Rattle.meaning.proofs.Exact.{Entailed, entailed-fine}
 use Rattle.meaning.proofs.PickLaws.{has-picked}
 use Rattle.meaning.proofs.CoverLaws.{knows-true, others-false, none-chosen}
 use Rattle.meaning.proofs.ToldLaws.{state-length, Clear, state-known}
-use Rattle.meaning.proofs.TestLaws.{by-test, clash, both-left, both-right, both-true, either-right, either-split, fails-true, pick-cases, Has, has-left, has-right, has-some, some-has, each-has, has-each, map-has}
+use Rattle.meaning.proofs.TestLaws.{clash, both-left, both-right, either-right, either-split, fails-true, pick-cases, Has, has-left, has-right, some-has, each-has, has-each, map-has}
 
 -- EQUALITY of lists, and of plans up to places, as the transition function sees it.
 pub same-list-is : (xs ys : List ℕ) → same-list xs ys ≡ true → xs ≡ ys

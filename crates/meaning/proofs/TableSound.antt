@@ -12,7 +12,7 @@ use borrow.Author.Tests.{eqb-true}
 use Rattle.meaning.specs.Tests.{both, fails, pick, each-of}
 use Rattle.meaning.specs.Limits
 use Rattle.meaning.specs.Limits.{Limits}
-use Rattle.meaning.specs.Literals.{says-true, says-false, fluent-of, complement, among, exclusive}
+use Rattle.meaning.specs.Literals.{says-true, says-false, fluent-of, complement, exclusive}
 use Rattle.meaning.specs.Requests.{Effect, Executability, Knowledge, Table}
 use Rattle.meaning.specs.Refusals.{all-exclusive}
 use Rattle.meaning.specs.Lines.{effects-of, executability-of, knowledge-of, allowed, given, senses}
