@@ -23,5 +23,6 @@ pub mod CoverLaws
 pub mod Exact
 pub mod Accepted
 pub mod DerivationSound
+pub mod Table
 pub mod NotEmpty
 pub mod Demands
