@@ -1,0 +1,2 @@
+// Reading, from the left: what stands at a place, or the first fault met.
+pub mod bytes; // bytes, numbers and counts
