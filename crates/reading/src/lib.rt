@@ -1,2 +1,3 @@
 // Reading, from the left: what stands at a place, or the first fault met.
 pub mod bytes; // bytes, numbers and counts
+pub mod lists; // lists of literals and of fluents
