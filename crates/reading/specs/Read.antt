@@ -1,9 +1,11 @@
 -- What the readers answer, in the terms of the definitions.
-use Prim.Native.Nat.{ℕ, _-_}
+use Prim.Native.Nat.{ℕ, _+_, _-_, _*_}
 use mathlib.Core.Bool.{Bool}
+use mathlib.Core.List.{List}
 use lib.Dec.{ltb, eqb}
 use Rattle.meaning.specs.Tests.{both}
 use Rattle.meaning.specs.Literals.{complement}
+use Rattle.meaning.specs.Requests.{Effect, Executability, Knowledge}
 use Rattle.meaning.specs.Reading
 use Rattle.meaning.specs.Reading.{Got, got, fault, have-complements}
 use Rattle.reading.specs.declared.bytes.Read.{Read}
@@ -30,3 +32,21 @@ kind-of k = elim k [ Literals ↦ Reading.Kind.literals | Fluents ↦ Reading.Ki
 -- The entry is the complement of the one before it (FORMAT 4.13).
 unfoldable pub beside-floor : Reading.Kind → (floor x : ℕ) → Bool
 beside-floor kind floor x = both (have-complements kind) (both (ltb 0 floor) (eqb x (complement (floor - 1))))
+
+-- The action of a line that was read, and the place after it.
+unfoldable pub action-before : ℕ → Got (List ℕ) → Read
+action-before a (got b p) = Value a p
+action-before a (fault n p) = Fault n p
+
+unfoldable pub effect-read : Got Effect → Read
+effect-read (got e p) = Value (e .action) p
+effect-read (fault n p) = Fault n p
+
+unfoldable pub executability-read : Got Executability → Read
+executability-read (got x p) = Value (x .action) p
+executability-read (fault n p) = Fault n p
+
+-- The action and the fluent of a knowledge line, as one number, and the place after it.
+unfoldable pub knowledge-read : Got Knowledge → Read
+knowledge-read (got k p) = Value (64 * k .action + k .fluent) p
+knowledge-read (fault n p) = Fault n p
