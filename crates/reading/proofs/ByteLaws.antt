@@ -1,5 +1,6 @@
 -- Bytes, numbers and counts: a law for each way that a reader returns. Assumes nothing.
 use Prim.Native.Nat.{ℕ, _+_, _*_, _≤_, _<_}
+use native.Mathlib.Omega.{arith}
 use mathlib.Core.Path.{_≡_, refl, sym, _∙_, ap}
 use mathlib.Core.Bool.{true, false}
 use mathlib.Core.List.{List}
@@ -50,9 +51,10 @@ pub two-bytes-none : (s : List ℕ) (p : ℕ) → length s ≤ p → Fault 11 (l
 unfolding two-bytes-at next number-read
 two-bytes-none s p h = rw (byte-none s p h)
 
-pub two-bytes-half : (s : List ℕ) (p : ℕ) → p < length s → length s ≤ p + 1 → Fault 11 (length s) ≡ number-read (two-bytes-at s p)
+-- The second byte is missing just at the end.
+pub two-bytes-half : (s : List ℕ) (p : ℕ) → p < length s → length s ≤ p + 1 → Fault 11 (p + 1) ≡ number-read (two-bytes-at s p)
 unfolding two-bytes-at next number-read
-two-bytes-half s p h k = rw (byte-is s p h, byte-none s (p + 1) k)
+two-bytes-half s p h k = let end : p + 1 ≡ length s = omega arith in rw (byte-is s p h, byte-none s (p + 1) k, end)
 
 pub two-bytes-there : (s : List ℕ) (p x : ℕ) → p < length s → p + 1 < length s → x ≡ getD s p 0 * 256 + getD s (p + 1) 0 → Value x (p + 1 + 1) ≡ number-read (two-bytes-at s p)
 unfolding two-bytes-at next number-read

@@ -21,7 +21,8 @@ pub fn byte_at(s: &[u8], p: usize) -> Read
     if s.len() <= p {
         return Read::Fault(11, s.len());
     }
-    Read::Value(wide(s[p]), p + 1)
+    let after = p + 1;
+    Read::Value(wide(s[p]), after)
 }
 
 fn two(high: u8, low: u8) -> usize
@@ -39,9 +40,10 @@ pub fn two_bytes_at(s: &[u8], p: usize) -> Read
     }
     let q = p + 1;
     if s.len() <= q {
-        return Read::Fault(11, s.len());
+        return Read::Fault(11, q);
     }
-    Read::Value(two(s[p], s[q]), q + 1)
+    let after = q + 1;
+    Read::Value(two(s[p], s[q]), after)
 }
 
 // A count from `least` to `most`.

@@ -6,35 +6,35 @@ use Rattle.reading.proofs.bytes.two_bytes_at.Reads as reads
 use Rattle.reading.proofs.bytes.two_bytes_at.Lts as lts
 use Rattle.reading.proofs.bytes.two.Reads as two-reads
 
--- src/bytes.rt:38:9
+-- src/bytes.rt:39:9
 returns : tie.Need-returns
 returns c = search two-bytes-none
 
--- src/bytes.rt:40:13
+-- src/bytes.rt:41:13
 add-q : tie.Need-add-q
 add-q c = search needs
 
--- src/bytes.rt:42:9
+-- src/bytes.rt:43:9
 returns-2 : tie.Need-returns-2
 returns-2 c = search two-bytes-half
 
--- src/bytes.rt:44:21
+-- src/bytes.rt:45:17
+add-after : tie.Need-add-after
+add-after c = search needs
+
+-- src/bytes.rt:46:21
 shared-slice-read-two : tie.Need-shared-slice-read-two
 shared-slice-read-two c = search needs
 
--- src/bytes.rt:44:27
+-- src/bytes.rt:46:27
 shared-slice-read-two-2 : tie.Need-shared-slice-read-two-2
 shared-slice-read-two-2 c = search needs
 
--- src/bytes.rt:44:17
+-- src/bytes.rt:46:17
 two-requires : tie.Need-two-requires
 two-requires c κs = search needs
 
--- src/bytes.rt:44:34
-add-t12 : tie.Need-add-t12
-add-t12 c = search needs
-
--- src/bytes.rt:34:1
+-- src/bytes.rt:35:1
 returns-3 : tie.Need-returns-3
 returns-3 c = search two-bytes-there
 
@@ -45,8 +45,8 @@ two-bytes-at-spec =
     returns
     add-q
     returns-2
+    add-after
     shared-slice-read-two
     shared-slice-read-two-2
     two-requires
-    add-t12
     returns-3)
