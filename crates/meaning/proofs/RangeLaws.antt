@@ -29,14 +29,14 @@ module _ {A B C : Type 0} where
   after-got m k e f = let w = next-got m k e in f (w .0) (w .1) (w .2) (w .3)
 
 -- NUMBERS.
-count-within : (least most : ℕ) (s : List ℕ) (p c q : ℕ) → count-at least most s p ≡ got c q → c ≤ most
+pub count-within : (least most : ℕ) (s : List ℕ) (p c q : ℕ) → count-at least most s p ≡ got c q → c ≤ most
 unfolding count-at
 count-within least most s p c q e =
     after-got (byte-at s p) _ e λ d _ _ e′.
     let u = not-refused _ _ _ _ e′ in
     subst (λ (x : ℕ). x ≤ most) (got-same (u .1)) (ltb-false most d (by-test _ (λ t. clash (either-right _ _ t) (u .0)) (λ f. f)))
 
-below-bound : (bound : ℕ) (s : List ℕ) (p x q : ℕ) → below-at bound s p ≡ got x q → x < bound
+pub below-bound : (bound : ℕ) (s : List ℕ) (p x q : ℕ) → below-at bound s p ≡ got x q → x < bound
 unfolding below-at
 below-bound bound s p x q e =
     after-got (byte-at s p) _ e λ d _ _ e′.
@@ -120,7 +120,7 @@ module _ {A : Type 0} (line : ℕ → Got A) where
       after-got (repeated line left i) _ e′ λ ys j eys e″.
       ⊎-elim (λ here. (p, i, rw here ey)) (line-read left i ys j eys x) (subst (λ (zs : List A). Has zs x) (sym (got-same e″)) h)
 
-  section-read : (s : List ℕ) (p : ℕ) (xs : List A) (q : ℕ) → section-at line s p ≡ got xs q → (x : A) → Has xs x → (i j : ℕ) × (line i ≡ got x j)
+  pub section-read : (s : List ℕ) (p : ℕ) (xs : List A) (q : ℕ) → section-at line s p ≡ got xs q → (x : A) → Has xs x → (i j : ℕ) × (line i ≡ got x j)
   unfolding section-at
   section-read s p xs q e = after-got (byte-at s p) _ e λ c i _ e′. line-read c i xs q e′
 

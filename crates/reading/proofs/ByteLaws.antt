@@ -13,11 +13,11 @@ use Rattle.reading.specs.declared.bytes.Read.{Read}
 use Rattle.reading.specs.declared.bytes.Read.the-variants.{Value, Fault}
 use Rattle.reading.specs.Read.{number-read}
 
-byte-none : (s : List ℕ) (p : ℕ) → length s ≤ p → byte-at s p ≡ fault 11 (length s)
+pub byte-none : (s : List ℕ) (p : ℕ) → length s ≤ p → byte-at s p ≡ fault 11 (length s)
 unfolding byte-at
 byte-none s p h = pick-true _ _ _ (le-leb (length s) p h)
 
-byte-is : (s : List ℕ) (p : ℕ) → p < length s → byte-at s p ≡ got (getD s p 0) (p + 1)
+pub byte-is : (s : List ℕ) (p : ℕ) → p < length s → byte-at s p ≡ got (getD s p 0) (p + 1)
 unfolding byte-at
 byte-is s p h = pick-false _ _ _ (lt-leb (length s) p h)
 

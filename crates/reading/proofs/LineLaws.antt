@@ -70,3 +70,18 @@ module _ (n m : ℕ) (s : List ℕ) (p : ℕ) (action : Read) (read : action ≡
   pub executability-whole : (a q : ℕ) (line : Read) → action ≡ Value a q → line ≡ action-before a (body-at format n s q) → line ≡ executability-read (executability-at format n m s p)
   unfolding executability-at next
   executability-whole a q line is e = rw (read-value (below-at m s p) action a q read is) (e ∙ sym (executability-body a p (body-at format n s q)))
+
+-- KNOWLEDGE.
+module _ (n m : ℕ) (s : List ℕ) (p : ℕ) (action : Read) (read : action ≡ number-read (below-at m s p)) where
+  pub knowledge-action-fault : (k q : ℕ) → action ≡ Fault k q → Fault k q ≡ knowledge-read (knowledge-at format n m s p)
+  unfolding knowledge-at next knowledge-read
+  knowledge-action-fault k q is = rw (read-fault (below-at m s p) action k q read is)
+
+  module _ (a q : ℕ) (fluent : Read) (is : action ≡ Value a q) (read-too : fluent ≡ number-read (below-at n s q)) where
+    pub knowledge-fluent-fault : (k e : ℕ) → fluent ≡ Fault k e → Fault k e ≡ knowledge-read (knowledge-at format n m s p)
+    unfolding knowledge-at next knowledge-read
+    knowledge-fluent-fault k e f = rw (read-value (below-at m s p) action a q read is, read-fault (below-at n s q) fluent k e read-too f)
+
+    pub knowledge-whole : (f e : ℕ) → fluent ≡ Value f e → Value a e ≡ knowledge-read (knowledge-at format n m s p)
+    unfolding knowledge-at next knowledge-read
+    knowledge-whole f e v = rw (read-value (below-at m s p) action a q read is, read-value (below-at n s q) fluent f e read-too v)

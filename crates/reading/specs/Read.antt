@@ -33,7 +33,7 @@ kind-of k = elim k [ Literals ↦ Reading.Kind.literals | Fluents ↦ Reading.Ki
 unfoldable pub beside-floor : Reading.Kind → (floor x : ℕ) → Bool
 beside-floor kind floor x = both (have-complements kind) (both (ltb 0 floor) (eqb x (complement (floor - 1))))
 
--- The action of a line that was read, and the place after it.
+-- The action of a line, and the place after its body.
 unfoldable pub action-before : ℕ → Got (List ℕ) → Read
 action-before a (got b p) = Value a p
 action-before a (fault n p) = Fault n p
@@ -46,7 +46,6 @@ unfoldable pub executability-read : Got Executability → Read
 executability-read (got x p) = Value (x .action) p
 executability-read (fault n p) = Fault n p
 
--- The action and the fluent of a knowledge line, as one number, and the place after it.
 unfoldable pub knowledge-read : Got Knowledge → Read
-knowledge-read (got k p) = Value (64 * k .action + k .fluent) p
+knowledge-read (got l p) = Value (l .action) p
 knowledge-read (fault n p) = Fault n p

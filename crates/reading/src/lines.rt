@@ -52,3 +52,16 @@ pub fn executability_at(n: usize, m: usize, s: &[u8], p: usize) -> Read
         Read::Fault(k, q) => Read::Fault(k, q),
     }
 }
+
+// A knowledge line: its action.
+pub fn knowledge_at(n: usize, m: usize, s: &[u8], p: usize) -> Read
+    ensures { λ r. ⌜ r ≡ knowledge-read (knowledge-at format n m (now (s .entry)) p) ⌝ }
+{
+    match below_at(m, s, p) {
+        Read::Value(a, q) => match below_at(n, s, q) {
+            Read::Value(_, e) => Read::Value(a, e),
+            Read::Fault(k, e) => Read::Fault(k, e),
+        },
+        Read::Fault(k, q) => Read::Fault(k, q),
+    }
+}

@@ -1,0 +1,134 @@
+-- Marks of literals, and the loops over a list's entries. Assumes nothing.
+use Prim.Native.Nat.{ℕ, zero, suc, _+_, _-_, _*_, _/_, _%_, _≤_, _<_}
+use native.Mathlib.Omega.{arith}
+use native.Mathlib.Numerals.{add-one}
+use mathlib.Core.Path.{_≡_, refl, sym, _∙_, ap, subst}
+use mathlib.Core.Bool.{Bool, true, false}
+use mathlib.Core.List.{List, [], _∷_}
+use lib.ListN.{length, getD, set, replicate}
+use lib.Dec.{eqb}
+use mir.Syntax.{w64}
+use mir.Val.{Fits}
+use borrow.Author.Tests.{eqb-true, eqb-false, eq-eqb, ne-eqb}
+use Rattle.meaning.specs.Tests.{both, fails, pick, each-of}
+use Rattle.meaning.specs.Limits.{Limits, format}
+use Rattle.meaning.specs.Literals.{positive, complement, fluent-of}
+use Rattle.meaning.specs.States.{State, mark-of, known, possible, told, told-all, state-of}
+use Rattle.meaning.proofs.TestLaws.{by-test, pick-true, pick-false}
+use Rattle.meaning.proofs.LiteralLaws.{by-literal, complement-true, complement-false, fluent-complement}
+use Rattle.meaning.proofs.StateLaws.{mark-true, mark-false}
+use Rattle.reading.specs.declared.marks.Test.{Test}
+use Rattle.reading.specs.declared.marks.Test.the-variants.{Known, Possible}
+use Rattle.reading.specs.Listed.{bytes-from, listed, List-here, holds-as}
+
+pub mark-even : (l : ℕ) → l % 2 ≡ 0 → 1 ≡ mark-of l
+unfolding mark-of positive
+mark-even l e = sym (pick-true _ _ _ (eq-eqb _ _ e))
+
+pub mark-odd : (l : ℕ) → (l % 2 ≡ 0 → ⊥) → 2 ≡ mark-of l
+unfolding mark-of positive
+mark-odd l h = sym (pick-false _ _ _ (ne-eqb _ _ h))
+
+mark-other : (l : ℕ) → mark-of (complement l) ≡ 3 - mark-of l
+mark-other =
+    by-literal (λ (l : ℕ). mark-of (complement l) ≡ 3 - mark-of l)
+    (λ f. rw (complement-true f, mark-true f, mark-false f))
+    (λ f. rw (complement-false f, mark-true f, mark-false f))
+
+mark-most : (l : ℕ) → mark-of l ≤ 2
+mark-most = by-literal (λ (l : ℕ). mark-of l ≤ 2) (λ f. rw (mark-true f) (omega arith)) (λ f. rw (mark-false f) (omega arith))
+
+module _ (test : Test) (marks : State) (l mark : ℕ) (is : mark ≡ mark-of l) where
+  pub mark-within : mark ≤ 3
+  mark-within = let most = mark-most l in omega arith
+
+  pub holds-known : test ≡ Known → eqb (getD marks (l / 2) 0) mark ≡ holds-as test marks l
+  unfolding holds-as known fluent-of
+  holds-known e = rw (e, is)
+
+  possible-is : possible marks l ≡ fails (eqb (getD marks (l / 2) 0) (3 - mark))
+  unfolding possible known fluent-of
+  possible-is = ap fails (rw (fluent-complement l, mark-other l, is))
+
+  pub holds-not : test ≡ Possible → getD marks (l / 2) 0 ≡ 3 - mark → false ≡ holds-as test marks l
+  unfolding holds-as fails
+  holds-not e same = rw e (sym (possible-is ∙ ap fails (eq-eqb _ _ same)))
+
+  pub holds-possible : test ≡ Possible → (getD marks (l / 2) 0 ≡ 3 - mark → ⊥) → true ≡ holds-as test marks l
+  unfolding holds-as fails
+  holds-possible e other = rw e (sym (possible-is ∙ ap fails (ne-eqb _ _ other)))
+
+-- A LIST at p, read to its end.
+module _ (s : List ℕ) (p : ℕ) (here : List-here 128 s p) where
+  pub count-there : p < length s
+  count-there = let ends = here .ends in omega arith
+
+  pub list-fits : (x : ℕ) → x ≡ getD s p 0 → Fits w64 (length s) → Fits w64 (p + x)
+  list-fits x byte room = let ends = here .ends in let most = room .fits in record { fits = omega arith }
+
+  module _ (x end : ℕ) (byte : x ≡ getD s p 0) (is : end ≡ p + x) where
+    ends-at : end ≡ p + getD s p 0
+    ends-at = is ∙ ap (λ (y : ℕ). p + y) byte
+
+    list-starts : bytes-from s (p + 1) (end - p) ≡ listed s p
+    unfolding listed
+    list-starts = let e = ends-at in let left : end - p ≡ getD s p 0 = omega arith in rw left
+
+    pub each-starts : (test : ℕ → Bool) → each-of test (listed s p) ≡ each-of test (bytes-from s (p + 1) (end - p))
+    each-starts test = ap (each-of test) (sym list-starts)
+
+    pub state-starts : state-of format (listed s p) ≡ told-all (bytes-from s (p + 1) (end - p)) (replicate 64 0)
+    unfolding state-of
+    state-starts = ap (λ (ls : List ℕ). told-all ls (replicate 64 0)) (sym list-starts)
+
+    module _ (i : ℕ) (from : p ≤ i) (more : i < end) where
+      pub entry-there : i + 1 < length s
+      entry-there = let ends = here .ends in let e = ends-at in omega arith
+
+      pub entry-fits : Fits w64 (length s) → Fits w64 (i + 1)
+      entry-fits room = let there = entry-there in let most = room .fits in record { fits = omega arith }
+
+      pub entry-below : (l : ℕ) → l ≡ getD s (i + 1) 0 → l < 128
+      entry-below l e =
+          let ends = ends-at in
+          let same : p + 1 + (i - p) ≡ i + 1 = omega arith in
+          subst (λ (y : ℕ). y < 128) (ap (λ (j : ℕ). getD s j 0) same ∙ sym e) (here .below (i - p) (omega arith))
+
+      pub fluent-below : (l : ℕ) → l ≡ getD s (i + 1) 0 → l / 2 < 64
+      fluent-below l e = let below = entry-below l e in omega arith
+
+module _ (s : List ℕ) (end i : ℕ) (more : i < end) where
+  bytes-next : bytes-from s (i + 1) (end - i) ≡ getD s (i + 1) 0 ∷ bytes-from s (i + 1 + 1) (end - (i + 1))
+  unfolding bytes-from
+  bytes-next = let left : end - i ≡ suc (end - (i + 1)) = omega arith in rw left
+
+bytes-done : (s : List ℕ) (end i : ℕ) → end ≤ i → bytes-from s (i + 1) (end - i) ≡ []
+unfolding bytes-from
+bytes-done s end i h = let none : end - i ≡ zero = omega arith in rw none
+
+module _ (whole : Bool) (k : Test) (marks : State) (s : List ℕ) (end i : ℕ) (so-far : whole ≡ each-of (holds-as k marks) (bytes-from s (i + 1) (end - i))) where
+  module _ (b : Bool) (l : ℕ) (more : i < end) (entry : l ≡ getD s (i + 1) 0) (tested : b ≡ holds-as k marks l) where
+    first-is : each-of (holds-as k marks) (bytes-from s (i + 1) (end - i)) ≡ both b (each-of (holds-as k marks) (bytes-from s (i + 1 + 1) (end - (i + 1))))
+    unfolding each-of
+    first-is = rw (bytes-next s end i more, tested, entry)
+
+    pub each-fails : b ≡ false → false ≡ whole
+    unfolding both
+    each-fails f = sym (so-far ∙ first-is ∙ rw f)
+
+    pub each-next : b ≡ true → whole ≡ each-of (holds-as k marks) (bytes-from s (i + 1 + 1) (end - (i + 1)))
+    unfolding both
+    each-next t = so-far ∙ first-is ∙ rw t
+
+  pub each-done : end ≤ i → true ≡ whole
+  unfolding each-of
+  each-done h = sym (so-far ∙ rw (bytes-done s end i h))
+
+module _ (whole : State) (s : List ℕ) (end i : ℕ) (marks : State) (so-far : whole ≡ told-all (bytes-from s (i + 1) (end - i)) marks) where
+  pub state-next : (l mark : ℕ) → i < end → l ≡ getD s (i + 1) 0 → mark ≡ mark-of l → whole ≡ told-all (bytes-from s (i + 1 + 1) (end - (i + 1))) (set marks (l / 2) mark)
+  unfolding told-all told fluent-of
+  state-next l mark h entry is = so-far ∙ rw (bytes-next s end i h, is, entry)
+
+  pub state-done : end ≤ i → marks ≡ whole
+  unfolding told-all
+  state-done h = sym (so-far ∙ rw (bytes-done s end i h))

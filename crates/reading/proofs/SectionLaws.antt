@@ -1,0 +1,344 @@
+-- Sections 3 to 5: what stands where a line was read, and how the loop over a section's lines goes on. Assumes nothing.
+use Prim.Native.Nat.{ℕ, zero, suc, _+_, _-_, _*_, _≤_, _<_}
+use native.Mathlib.Omega.{arith}
+use native.Mathlib.Numerals.{add-one}
+use mathlib.Core.Path.{_≡_, refl, sym, _∙_, ap, subst}
+use mathlib.Core.List.{List, [], _∷_}
+use mathlib.Core.Logic.{_⊎_, inl, inr, ⊎-elim}
+use lib.ListN.{length, getD, set}
+use mir.Syntax.{w64}
+use mir.Val.{Fits}
+use borrow.Author.Tests.{leb-false}
+use Rattle.meaning.specs.Limits.{Limits, format}
+use Rattle.meaning.specs.Requests.{Effect, Executability, Knowledge}
+use Rattle.meaning.specs.Reading
+use Rattle.meaning.specs.Reading.{Got, got, fault, next, byte-at, count-at, below-at, list-at, body-at, effect-at, executability-at, knowledge-at, repeated, section-at}
+use Rattle.meaning.proofs.SettledLaws.{got-same, next-got, fault≢got}
+use Rattle.meaning.proofs.RangeLaws.{not-refused, after-got}
+use Rattle.reading.specs.declared.bytes.Read.{Read}
+use Rattle.reading.specs.declared.bytes.Read.the-variants.{Value, Fault}
+use Rattle.reading.specs.declared.lists.Passed.{Passed}
+use Rattle.reading.specs.declared.lists.Passed.the-variants.{To, Fault as Stop}
+use Rattle.reading.specs.declared.sections.Section as Code
+use Rattle.reading.specs.declared.sections.Section.the-variants.{Effects, Executability as Runs, Knowledge as Senses}
+use Rattle.reading.specs.Read.{number-read, effect-read, executability-read, knowledge-read}
+use Rattle.reading.proofs.ByteLaws.{byte-none, byte-is}
+use Rattle.reading.specs.Noted.{Section, effects, executability, knowledge, section-of, Line, line-at, line-read, line-noted, note-line, lines-noted, count-slot, section-noted, three-sections, noting, outcome, effect-noted, run-noted, pair-noted}
+
+-- ONE OF THE THREE SECTIONS.
+module _ (c : Code.Section) (n m : ℕ) (s : List ℕ) (p : ℕ) (r : Read) where
+  pub line-effect : c ≡ Effects → r ≡ effect-read (effect-at format n m s p) → r ≡ line-read (section-of c) (line-at (section-of c) n m s p)
+  unfolding line-read line-at section-of
+  line-effect e h = rw e h
+
+  pub line-executability : c ≡ Runs → r ≡ executability-read (executability-at format n m s p) → r ≡ line-read (section-of c) (line-at (section-of c) n m s p)
+  unfolding line-read line-at section-of
+  line-executability e h = rw e h
+
+  pub line-knowledge : c ≡ Senses → r ≡ knowledge-read (knowledge-at format n m s p) → r ≡ line-read (section-of c) (line-at (section-of c) n m s p)
+  unfolding line-read line-at section-of
+  line-knowledge e h = rw e h
+
+module _ (c : Code.Section) (k p a f : ℕ) (t u : List ℕ) where
+  pub noted-effect : c ≡ Effects → u ≡ effect-noted k p a t → u ≡ line-noted (section-of c) k p a f t
+  unfolding line-noted section-of
+  noted-effect e h = rw e h
+
+  pub noted-executability : c ≡ Runs → u ≡ run-noted k p a t → u ≡ line-noted (section-of c) k p a f t
+  unfolding line-noted section-of
+  noted-executability e h = rw e h
+
+  pub noted-knowledge : c ≡ Senses → u ≡ pair-noted a f t → u ≡ line-noted (section-of c) k p a f t
+  unfolding line-noted section-of
+  noted-knowledge e h = rw e h
+
+pub knowledge-fits : (c : Code.Section) (f : ℕ) → c ≡ Senses → (section-of c ≡ knowledge → f < 64) → f < 64
+unfolding section-of
+knowledge-fits c f e h = h (rw e)
+
+-- WHAT STANDS where something was read.
+module _ {A : Type 0} where
+  pub got-place : {x y : A} {p q : ℕ} → got x p ≡ got y q → p ≡ q
+  got-place {x = x} e = ap place e
+    where
+      place : Got A → ℕ
+      place (got y q) = q
+      place (fault n i) = i
+
+pub byte-got : (s : List ℕ) (p x q : ℕ) → byte-at s p ≡ got x q → (p < length s) × (getD s p 0 ≡ x) × (p + 1 ≡ q)
+unfolding byte-at
+byte-got s p x q e = let u = not-refused _ _ _ _ e in (leb-false (length s) p (u .0), got-same (u .1), got-place (u .1))
+
+pub number-got : (bound : ℕ) (s : List ℕ) (p x q : ℕ) → below-at bound s p ≡ got x q → (p < length s) × (getD s p 0 ≡ x) × (p + 1 ≡ q) × (x < bound)
+unfolding below-at
+number-got bound s p x q e =
+    after-got (byte-at s p) _ e λ d i ed e′.
+    let u = not-refused _ _ _ _ e′ in
+    let w = byte-got s p d i ed in
+    (w .0, w .1 ∙ got-same (u .1), w .2 ∙ got-place (u .1), subst (λ (y : ℕ). y < bound) (got-same (u .1)) (leb-false bound d (u .0)))
+
+-- What a reader answered of something with a number.
+number-of : Read → ℕ
+number-of r = elim r [ Value x p ↦ x | Fault n p ↦ 0 ]
+
+place-of : Read → ℕ
+place-of r = elim r [ Value x p ↦ p | Fault n p ↦ p ]
+
+fault-of : Read → ℕ
+fault-of r = elim r [ Value x p ↦ 0 | Fault n p ↦ n + 1 ]
+
+module _ {A : Type 0} (number : A → ℕ) (read : Got A → Read) (of-got : (x : A) (p : ℕ) → read (got x p) ≡ Value (number x) p) (of-fault : (n p : ℕ) → read (fault n p) ≡ Fault n p) where
+  got-by : (g : Got A) (a q : ℕ) → read g ≡ Value a q → (x : A) × (g ≡ got x q) × (number x ≡ a)
+  unfolding number-of place-of fault-of
+  got-by (got x p) a q e = let same = sym (of-got x p) ∙ e in (x, ap (got x) (ap place-of same), ap number-of same)
+  got-by (fault n p) a q e = let no : n + 1 ≡ 0 = ap fault-of (sym (of-fault n p) ∙ e) in absurd (omega arith)
+
+  fault-by : (g : Got A) (n q : ℕ) → read g ≡ Fault n q → g ≡ fault n q
+  unfolding place-of fault-of
+  fault-by (got x p) n q e = let no : 0 ≡ n + 1 = ap fault-of (sym (of-got x p) ∙ e) in absurd (omega arith)
+  fault-by (fault i p) n q e =
+      let same = sym (of-fault i p) ∙ e in
+      let number : i + 1 ≡ n + 1 = ap fault-of same in
+      let is : i ≡ n = omega arith in
+      rw (is, ap place-of same)
+
+-- A line of action a at place p, as what the table notes of it.
+record Stands (c : Section) (n m : ℕ) (s : List ℕ) (p a : ℕ) (l : Line c) : Type 0 where
+  second : p + 1 < length s
+  acts : a < m
+  senses : c ≡ knowledge → getD s (p + 1) 0 < n
+  notes : (k : ℕ) (t : List ℕ) → note-line c k l t ≡ line-noted c k p a (getD s (p + 1) 0) t
+
+senses-not : {c : Section} {X : Type 0} → (c ≡ effects) ⊎ (c ≡ executability) → c ≡ knowledge → X
+senses-not {X = X} h e = ⊎-elim (λ f. absurd (subst Other (sym e ∙ f) tt)) (λ f. absurd (subst Other (sym e ∙ f) tt)) h
+  where
+    Other : Section → Type 0
+    Other effects = ⊥
+    Other executability = ⊥
+    Other knowledge = Unit {0}
+
+module _ (n m : ℕ) (s : List ℕ) where
+  effect-stands : (p a q : ℕ) (x : Effect) → effect-at format n m s p ≡ got x q → x .action ≡ a → Stands effects n m s p a x
+  unfolding effect-at note-line line-noted
+  effect-stands p a q x e same =
+      after-got (below-at m s p) _ e λ b i eb e′.
+      after-got (below-at (2 * n) s i) _ e′ λ l j el e″.
+      after-got (body-at format n s j) _ e″ λ bs r _ e‴.
+      let is : record { place = p; action = b; literal = l; body = bs } ≡ x = got-same e‴ in
+      let first = number-got m s p b i eb in
+      let then = number-got (2 * n) s i l j el in
+      let acts : b ≡ a = ap (λ (y : Effect). y .action) is ∙ same in
+      record {
+        second = subst (λ (y : ℕ). y < length s) (sym (first .2)) (then .0);
+        acts = subst (λ (y : ℕ). y < m) acts (first .3);
+        senses = senses-not (inl refl);
+        notes = λ k t. rw (sym (ap (λ (y : Effect). y .place) is), same);
+      }
+
+  executability-stands : (p a q : ℕ) (x : Executability) → executability-at format n m s p ≡ got x q → x .action ≡ a → Stands executability n m s p a x
+  unfolding executability-at note-line line-noted body-at list-at count-at
+  executability-stands p a q x e same =
+      after-got (below-at m s p) _ e λ b i eb e′.
+      after-got (body-at format n s i) _ e′ λ bs r ebs e″.
+      after-got (count-at 0 (format .body) s i) _ ebs λ d j ed _.
+      after-got (byte-at s i) _ ed λ d′ j′ ed′ _.
+      let is : record { place = p; action = b; body = bs } ≡ x = got-same e″ in
+      let first = number-got m s p b i eb in
+      let acts : b ≡ a = ap (λ (y : Executability). y .action) is ∙ same in
+      record {
+        second = subst (λ (y : ℕ). y < length s) (sym (first .2)) (byte-got s i d′ j′ ed′ .0);
+        acts = subst (λ (y : ℕ). y < m) acts (first .3);
+        senses = senses-not (inr refl);
+        notes = λ k t. rw (sym (ap (λ (y : Executability). y .place) is), same);
+      }
+
+  knowledge-stands : (p a q : ℕ) (x : Knowledge) → knowledge-at format n m s p ≡ got x q → x .action ≡ a → Stands knowledge n m s p a x
+  unfolding knowledge-at note-line line-noted
+  knowledge-stands p a q x e same =
+      after-got (below-at m s p) _ e λ b i eb e′.
+      after-got (below-at n s i) _ e′ λ f j ef e″.
+      let is : record { place = p; action = b; fluent = f } ≡ x = got-same e″ in
+      let first = number-got m s p b i eb in
+      let then = number-got n s i f j ef in
+      let acts : b ≡ a = ap (λ (y : Knowledge). y .action) is ∙ same in
+      let senses : getD s (p + 1) 0 ≡ f = ap (λ (y : ℕ). getD s y 0) (first .2) ∙ then .1 in
+      record {
+        second = subst (λ (y : ℕ). y < length s) (sym (first .2)) (then .0);
+        acts = subst (λ (y : ℕ). y < m) acts (first .3);
+        senses = λ _. subst (λ (y : ℕ). y < n) (sym senses) (then .3);
+        notes = λ k t. rw (sym (ap (λ (y : Knowledge). y .fluent) is), same, senses);
+      }
+
+  stands : (c : Section) (p a q : ℕ) → line-read c (line-at c n m s p) ≡ Value a q → (l : Line c) × (line-at c n m s p ≡ got l q) × Stands c n m s p a l
+  unfolding line-read line-at effect-read executability-read knowledge-read
+  stands effects p a q e =
+      let w = got-by (λ (x : Effect). x .action) effect-read (λ x i. refl) (λ k i. refl) (effect-at format n m s p) a q e in
+      (w .0, w .1, effect-stands p a q (w .0) (w .1) (w .2))
+  stands executability p a q e =
+      let w = got-by (λ (x : Executability). x .action) executability-read (λ x i. refl) (λ k i. refl) (executability-at format n m s p) a q e in
+      (w .0, w .1, executability-stands p a q (w .0) (w .1) (w .2))
+  stands knowledge p a q e =
+      let w = got-by (λ (x : Knowledge). x .action) knowledge-read (λ x i. refl) (λ k i. refl) (knowledge-at format n m s p) a q e in
+      (w .0, w .1, knowledge-stands p a q (w .0) (w .1) (w .2))
+
+  stops : (c : Section) (p k q : ℕ) → line-read c (line-at c n m s p) ≡ Fault k q → line-at c n m s p ≡ fault k q
+  unfolding line-read line-at effect-read executability-read knowledge-read
+  stops effects p k q e = fault-by (λ (x : Effect). x .action) effect-read (λ x i. refl) (λ k i. refl) (effect-at format n m s p) k q e
+  stops executability p k q e = fault-by (λ (x : Executability). x .action) executability-read (λ x i. refl) (λ k i. refl) (executability-at format n m s p) k q e
+  stops knowledge p k q e = fault-by (λ (x : Knowledge). x .action) knowledge-read (λ x i. refl) (λ k i. refl) (knowledge-at format n m s p) k q e
+
+-- As many lines as the count says.
+pub repeated-length : {A : Type 0} (line : ℕ → Got A) (left p : ℕ) (xs : List A) (q : ℕ) → repeated line left p ≡ got xs q → length xs ≡ left
+unfolding repeated
+repeated-length line zero p xs q e = ap length (sym (got-same e))
+repeated-length line (suc left) p xs q e =
+    after-got (line p) _ e λ x i _ e′.
+    after-got (repeated line left i) _ e′ λ ys j eys e″.
+    ap length (sym (got-same e″)) ∙ ap suc (repeated-length line left i ys j eys)
+
+-- THE LOOP. What is noted of so many lines from place p on, the first of which has number k + 1.
+module _ {A : Type 0} (note : ℕ → A → List ℕ → List ℕ) where
+  one-more : (k : ℕ) (x : A) (g : Got (List A)) (t : List ℕ) → noting (lines-noted note k) (next g (λ rest r. got (x ∷ rest) r)) t ≡ noting (lines-noted note (k + 1)) g (note (k + 1) x t)
+  unfolding noting next lines-noted
+  one-more k x (got xs p) t = refl
+  one-more k x (fault n p) t = refl
+
+module _ (c : Section) (n m : ℕ) (s : List ℕ) where
+  -- What the table notes of so many lines from place p on, when k are noted.
+  abbrev From : (left p k : ℕ) → List ℕ → Got (List ℕ)
+  From left p k t = noting (lines-noted (note-line c) k) (repeated (line-at c n m s) left p) t
+
+  pub lines-start : (count end p : ℕ) (t : List ℕ) → end ≡ count → From count p 0 t ≡ From (end - 0) p 0 t
+  lines-start count end p t e = let same : end - 0 ≡ count = omega arith in rw same
+
+  module _ (whole : Got (List ℕ)) (count p k : ℕ) (t : List ℕ) (so-far : whole ≡ From (count - k) p k t) where
+    pub lines-done : count ≤ k → outcome (To p) t ≡ whole
+    unfolding outcome noting next repeated lines-noted
+    lines-done h = let none : count - k ≡ zero = omega arith in sym (so-far ∙ rw none)
+
+    module _ (r : Read) (k<count : k < count) (read : r ≡ line-read c (line-at c n m s p)) where
+      left-is : count - k ≡ suc (count - (k + 1))
+      left-is = omega arith
+
+      pub lines-fault : (j q : ℕ) → r ≡ Fault j q → outcome (Stop j q) t ≡ whole
+      unfolding outcome noting next repeated
+      lines-fault j q is = sym (so-far ∙ rw (left-is, stops n m s c p j q (sym read ∙ is)))
+
+      module _ (a e : ℕ) (is : r ≡ Value a e) where
+        stood : (l : Line c) × (line-at c n m s p ≡ got l e) × Stands c n m s p a l
+        stood = stands n m s c p a e (sym read ∙ is)
+
+        pub lines-next : (f : ℕ) (u : List ℕ) → f ≡ getD s (p + 1) 0 → u ≡ line-noted c (k + 1) p a f t → whole ≡ From (count - (k + 1)) e (k + 1) u
+        unfolding repeated next
+        lines-next f u ef eu =
+            so-far ∙ rw (left-is, stood .1) (
+            one-more (note-line c) k (stood .0) (repeated (line-at c n m s) (count - (k + 1)) e) t
+            ∙ ap (From (count - (k + 1)) e (k + 1)) (stood .2 .notes (k + 1) t ∙ ap (λ (g : ℕ). line-noted c (k + 1) p a g t) (sym ef) ∙ sym eu)
+            )
+
+  -- Room for what is noted of a line.
+  module _ (p a e : ℕ) (r : Read) (read : r ≡ line-read c (line-at c n m s p)) (is : r ≡ Value a e) where
+    here : Stands c n m s p a (stands n m s c p a e (sym read ∙ is) .0)
+    here = stands n m s c p a e (sym read ∙ is) .2
+
+    pub second-there : p + 1 < length s
+    second-there = here .second
+
+    pub second-fits : length s ≤ 16384 → Fits w64 (p + 1)
+    second-fits h = let there = second-there in omega arith
+
+    pub place-fits : length s ≤ 16384 → p < 65535
+    place-fits h = let there = second-there in omega arith
+
+    pub action-fits : m ≤ 64 → a < 64
+    action-fits h = let there = here .acts in omega arith
+
+    pub fluent-fits : (f : ℕ) → n ≤ 64 → f ≡ getD s (p + 1) 0 → c ≡ knowledge → f < 64
+    fluent-fits f h ef ec = let there = here .senses ec in omega arith
+
+  -- THE COUNT BYTE.
+  counted : (left p : ℕ) (t : List ℕ) (slot : ℕ) (g : Got (List (Line c))) → repeated (line-at c n m s) left p ≡ g
+      → noting (lines-noted (note-line c) 0) g (set t slot left) ≡ noting (λ (xs : List (Line c)) (u : List ℕ). lines-noted (note-line c) 0 xs (set u slot (length xs))) g t
+  unfolding noting next
+  counted left p t slot (got xs q) e = rw (repeated-length (line-at c n m s) left p xs q e)
+  counted left p t slot (fault k q) e = refl
+
+  pub section-none : (p : ℕ) (t u : List ℕ) → length s ≤ p → outcome (Stop 11 (length s)) u ≡ noting (section-noted c) (section-at (line-at c n m s) s p) t
+  unfolding section-at outcome noting next
+  section-none p t u h = rw (byte-none s p h)
+
+  pub section-there : (p : ℕ) (t u v : List ℕ) (r : Passed) → p < length s → u ≡ set t (count-slot c) (getD s p 0)
+      → outcome r v ≡ From (getD s p 0) (p + 1) 0 u → outcome r v ≡ noting (section-noted c) (section-at (line-at c n m s) s p) t
+  unfolding section-at section-noted next
+  section-there p t u v r h put e =
+      rw (byte-is s p h) (e ∙ ap (From (getD s p 0) (p + 1) 0) put ∙ counted (getD s p 0) (p + 1) t (count-slot c) _ refl)
+
+pub slot-effects : (c : Code.Section) → c ≡ Effects → 5378 ≡ count-slot (section-of c)
+unfolding count-slot section-of
+slot-effects c e = rw e
+
+pub slot-executability : (c : Code.Section) → c ≡ Runs → 5379 ≡ count-slot (section-of c)
+unfolding count-slot section-of
+slot-executability c e = rw e
+
+pub slot-knowledge : (c : Code.Section) → c ≡ Senses → 5380 ≡ count-slot (section-of c)
+unfolding count-slot section-of
+slot-knowledge c e = rw e
+
+pub count-noted : (c : Code.Section) (count x slot : ℕ) (t u : List ℕ) → slot ≡ count-slot (section-of c) → x ≡ count → u ≡ set t slot x → u ≡ set t (count-slot (section-of c)) count
+count-noted c count x slot t u at-slot is e = e ∙ rw (at-slot, is)
+
+slot-most : (c : Section) → count-slot c < 9480
+unfolding count-slot
+slot-most effects = omega arith
+slot-most executability = omega arith
+slot-most knowledge = omega arith
+
+pub slot-fits : (c : Code.Section) (slot : ℕ) → slot ≡ count-slot (section-of c) → slot < 9480
+slot-fits c slot e = rw e (slot-most (section-of c))
+
+module _ {A : Type 0} where
+  fault-before : (note : A → List ℕ → List ℕ) (g : Got A) (t : List ℕ) (k q : ℕ) → noting note g t ≡ fault k q → g ≡ fault k q
+  unfolding noting next
+  fault-before note (got x p) t k q e = absurd (fault≢got (sym e))
+  fault-before note (fault i p) t k q e = rw (ap number e, ap place e)
+    where
+      number : Got (List ℕ) → ℕ
+      number (got x p) = 0
+      number (fault n p) = n
+
+      place : Got (List ℕ) → ℕ
+      place (got x p) = p
+      place (fault n p) = p
+
+-- WHAT WAS READ WITH THE TABLE, from what the reader answered.
+module _ {A : Type 0} (note : A → List ℕ → List ℕ) (g : Got A) (r : Passed) (t u : List ℕ) (read : outcome r u ≡ noting note g t) where
+  pub noting-got : (q : ℕ) → r ≡ To q → (x : A) × (g ≡ got x q) × (u ≡ note x t)
+  unfolding noting outcome
+  noting-got q is = let whole : noting note g t ≡ got u q = sym read ∙ rw is in let w = next-got g _ whole in (w .0, w .2 ∙ ap (got (w .0)) (got-place (w .3)), sym (got-same (w .3)))
+
+  pub noting-fault : (k q : ℕ) → r ≡ Stop k q → g ≡ fault k q
+  unfolding outcome
+  noting-fault k q is = fault-before note g t k q (sym read ∙ rw is)
+
+-- The three sections, one after another.
+module _ (n m : ℕ) (s : List ℕ) (p : ℕ) (t u : List ℕ) (first : Passed) (read : outcome first u ≡ noting (section-noted (section-of Effects)) (section-at (line-at (section-of Effects) n m s) s p) t) where
+  pub three-first : (k q : ℕ) (v : List ℕ) → first ≡ Stop k q → outcome (Stop k q) v ≡ three-sections n m s p t
+  unfolding three-sections next section-of outcome
+  three-first k q v is = rw (noting-fault (section-noted effects) (section-at (line-at effects n m s) s p) first t u read k q is)
+
+  module _ (q : ℕ) (is : first ≡ To q) (then : Passed) (v : List ℕ) (read-too : outcome then v ≡ noting (section-noted (section-of Runs)) (section-at (line-at (section-of Runs) n m s) s q) u) where
+    first-got : (es : List Effect) × (section-at (line-at effects n m s) s p ≡ got es q) × (u ≡ section-noted effects es t)
+    unfolding section-of
+    first-got = noting-got (section-noted effects) (section-at (line-at effects n m s) s p) first t u read q is
+
+    pub three-second : (k r : ℕ) (w : List ℕ) → then ≡ Stop k r → outcome (Stop k r) w ≡ three-sections n m s p t
+    unfolding three-sections next section-of outcome
+    three-second k r w e = rw (first-got .1, noting-fault (section-noted executability) (section-at (line-at executability n m s) s q) then u v read-too k r e)
+
+    pub three-whole : (r : ℕ) (last : Passed) (w : List ℕ) → then ≡ To r → outcome last w ≡ noting (section-noted (section-of Senses)) (section-at (line-at (section-of Senses) n m s) s r) v → outcome last w ≡ three-sections n m s p t
+    unfolding three-sections next section-of noting
+    three-whole r last w e read-last =
+        let g = first-got in
+        let h = noting-got (section-noted executability) (section-at (line-at executability n m s) s q) then u v read-too r e in
+        rw (g .1, h .1) (read-last ∙ ap (noting (section-noted knowledge) (section-at (line-at knowledge n m s) s r)) (h .2 ∙ ap (section-noted executability (h .0)) (g .2)))

@@ -1,0 +1,16 @@
+use Rattle.reading.proofs.NotingLaws.{after-last, after-other}
+use Rattle.reading.proofs.plan.after.Statement.{statement}
+use Rattle.reading.proofs.plan.after.Tie as tie
+use Rattle.reading.proofs.plan.after.Reads as reads
+use Rattle.reading.proofs.plan.after.Lts as lts
+
+-- src/plan.rt:23:9
+returns : tie.Need-returns
+returns c = search after-last
+
+-- src/plan.rt:19:1
+returns-2 : tie.Need-returns-2
+returns-2 c = search after-other
+
+pub after-spec : {M : Type 1} → statement M
+after-spec = tie.close (tie.spec returns returns-2)

@@ -1,0 +1,59 @@
+use Rattle.reading.proofs.SectionLaws.{knowledge-fits, noted-effect, noted-executability, noted-knowledge}
+use borrow.Author.Needs.{needs}
+use Rattle.reading.proofs.sections.note_line.Statement.{statement}
+use Rattle.reading.proofs.sections.note_line.Tie as tie
+use Rattle.reading.proofs.sections.note_line.Reads as reads
+use Rattle.reading.proofs.sections.note_line.Lts as lts
+use Rattle.reading.proofs.table.note_effect.Reads as note-effect-reads
+use Rattle.reading.proofs.table.note_executability.Reads as note-executability-reads
+use Rattle.reading.proofs.table.note_pair.Reads as note-pair-reads
+
+-- src/sections.rt:46:41
+enum-told : tie.Need-enum-told
+enum-told c = search needs
+
+-- src/sections.rt:46:29
+note-effect-requires : tie.Need-note-effect-requires
+note-effect-requires c κs = search needs
+
+-- src/sections.rt:47:54
+enum-told-2 : tie.Need-enum-told-2
+enum-told-2 c = search needs
+
+-- src/sections.rt:47:35
+note-executability-requires : tie.Need-note-executability-requires
+note-executability-requires c κs = search needs
+
+-- src/sections.rt:48:41
+enum-told-3 : tie.Need-enum-told-3
+enum-told-3 c = search needs
+
+-- src/sections.rt:48:31
+note-pair-requires : tie.Need-note-pair-requires
+note-pair-requires c κs = search knowledge-fits
+
+-- src/sections.rt:38:1
+returns : tie.Need-returns
+returns c = search noted-effect
+
+-- src/sections.rt:38:1
+returns-2 : tie.Need-returns-2
+returns-2 c = search noted-executability
+
+-- src/sections.rt:38:1
+returns-3 : tie.Need-returns-3
+returns-3 c = search noted-knowledge
+
+pub note-line-spec : {M : Type 1} → statement M
+note-line-spec =
+    tie.close
+    (tie.spec
+    enum-told
+    note-effect-requires
+    enum-told-2
+    note-executability-requires
+    enum-told-3
+    note-pair-requires
+    returns
+    returns-2
+    returns-3)

@@ -1,0 +1,27 @@
+use Rattle.reading.proofs.TableLaws.{raise-set, raise-not}
+use borrow.Author.Needs.{needs}
+use Rattle.reading.proofs.table.raise.Statement.{statement}
+use Rattle.reading.proofs.table.raise.Tie as tie
+use Rattle.reading.proofs.table.raise.Reads as reads
+use Rattle.reading.proofs.table.raise.Lts as lts
+use Rattle.reading.proofs.table.get.Reads as get-reads
+use Rattle.reading.proofs.table.put.Reads as put-reads
+
+-- src/table.rt:96:8
+get-requires : tie.Need-get-requires
+get-requires c κs = search needs
+
+-- src/table.rt:97:9
+put-requires : tie.Need-put-requires
+put-requires c κs = search needs
+
+-- src/table.rt:91:1
+returns : tie.Need-returns
+returns c = search raise-set
+
+-- src/table.rt:91:1
+returns-2 : tie.Need-returns-2
+returns-2 c = search raise-not
+
+pub raise-spec : {M : Type 1} → statement M
+raise-spec = tie.close (tie.spec get-requires put-requires returns returns-2)

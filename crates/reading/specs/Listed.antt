@@ -1,0 +1,26 @@
+-- What stands at a place of the input once it is read, with nothing left to judge.
+use Prim.Native.Nat.{ℕ, zero, suc, _+_, _<_}
+use mathlib.Core.Bool.{Bool}
+use mathlib.Core.List.{List, [], _∷_}
+use lib.ListN.{length, getD}
+use Rattle.meaning.specs.States.{State, known, possible}
+use Rattle.reading.specs.declared.marks.Test.{Test}
+use Rattle.reading.specs.declared.marks.Test.the-variants.{Known, Possible}
+
+-- So many bytes from place p on.
+unfoldable pub bytes-from : List ℕ → ℕ → ℕ → List ℕ
+bytes-from s p zero = []
+bytes-from s p (suc k) = getD s p 0 ∷ bytes-from s (p + 1) k
+
+-- The entries of the list whose count byte stands at p.
+unfoldable pub listed : List ℕ → ℕ → List ℕ
+listed s p = bytes-from s (p + 1) (getD s p 0)
+
+-- A list stands at p, of numbers below the bound.
+pub record List-here (bound : ℕ) (s : List ℕ) (p : ℕ) : Type 0 where
+  pub ends : p + getD s p 0 < length s
+  pub below : (i : ℕ) → i < getD s p 0 → getD s (p + 1 + i) 0 < bound
+
+-- A literal is known true, or is possible.
+unfoldable pub holds-as : Test → State → ℕ → Bool
+holds-as k = elim k [ Known ↦ known | Possible ↦ possible ]

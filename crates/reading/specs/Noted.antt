@@ -1,0 +1,172 @@
+-- What reading leaves in its one table, as a function of what the definitions read. Lines are numbered from 1 in file order, so that 0 is no line; items from 0.
+use Prim.Native.Nat.{ℕ, _+_, _-_, _*_}
+use mathlib.Core.List.{List, [], _∷_}
+use lib.ListN.{length, getD, set}
+use lib.Dec.{ltb}
+use Rattle.meaning.specs.Tests.{pick}
+use Rattle.meaning.specs.Limits.{Limits, format}
+use Rattle.meaning.specs.Requests.{Effect, Executability, Knowledge, Table}
+use Rattle.meaning.specs.Reading.{Got, got, fault, next, literals, count-at, list-at, effect-at, executability-at, knowledge-at, section-at}
+use Rattle.reading.specs.declared.bytes.Read.{Read}
+use Rattle.reading.specs.Read.{effect-read, executability-read, knowledge-read}
+use Rattle.reading.specs.declared.sections.Section as Code
+use Rattle.reading.specs.declared.sections.Section.the-variants.{Effects, Executability as Runs, Knowledge as Senses}
+use Rattle.reading.specs.declared.lists.Passed.{Passed}
+use Rattle.reading.specs.declared.lists.Passed.the-variants.{To, Fault as Stop}
+
+-- THE SLOTS.
+-- Item i: the place of its first byte.
+abbrev pub item-place : ℕ
+item-place = 0
+
+-- Item i: the item after it in its sequence; after the last one 1024, or 1025 and the number of the branching around it.
+abbrev pub item-next : ℕ
+item-next = 1024
+
+-- Item i that opens a branch: the place after the branch, and how many items are met up to there.
+abbrev pub branch-place : ℕ
+branch-place = 2048
+
+abbrev pub branch-item : ℕ
+branch-item = 3072
+
+-- Effect k: the place of its line; the last effect before it with the same action.
+abbrev pub effect-place : ℕ
+effect-place = 4096
+
+abbrev pub effect-before : ℕ
+effect-before = 4352
+
+-- Executability line k: the place of its body; the last one before it with the same action.
+abbrev pub run-place : ℕ
+run-place = 4608
+
+abbrev pub run-before : ℕ
+run-before = 4864
+
+-- Action a: its last effect, its last executability line.
+abbrev pub effect-last : ℕ
+effect-last = 5120
+
+abbrev pub run-last : ℕ
+run-last = 5184
+
+abbrev pub sensed-from : ℕ
+sensed-from = 5248
+
+abbrev pub sensed-to : ℕ
+sensed-to = 5312
+
+-- The place of the plan, how many items it has, and the place of the goals.
+abbrev pub plan-slot : ℕ
+plan-slot = 5376
+
+abbrev pub items-slot : ℕ
+items-slot = 5377
+
+abbrev pub goals-slot : ℕ
+goals-slot = 5381
+
+-- Action a and fluent f, at 64 times a and f: 1 where a knowledge line has both.
+abbrev pub sensed : ℕ
+sensed = 5384
+
+-- READING WITH THE TABLE. What was read and the table afterwards; at a fault the table is of no use.
+module _ {A : Type 0} where
+  unfoldable pub noting : (A → List ℕ → List ℕ) → Got A → List ℕ → Got (List ℕ)
+  noting note g t = next g λ x p. got (note x t) p
+
+unfoldable pub outcome : Passed → List ℕ → Got (List ℕ)
+outcome r t = elim r [ To p ↦ got t p | Stop n p ↦ fault n p ]
+
+-- LINES. Line k goes in front of the chain that starts at `last` and goes on at `before` and the line's number.
+unfoldable pub link : (last before k : ℕ) → List ℕ → List ℕ
+link last before k t = set (set t (before + k) (getD t last 0)) last k
+
+unfoldable pub effect-noted : (k place action : ℕ) → List ℕ → List ℕ
+effect-noted k p a t = link (effect-last + a) effect-before k (set t (effect-place + k) p)
+
+unfoldable pub run-noted : (k place action : ℕ) → List ℕ → List ℕ
+run-noted k p a t = link (run-last + a) run-before k (set t (run-place + k) (p + 1))
+
+-- The pair is 64 times the action and the fluent. From the smallest fluent that the action senses (as 64 less it) to the largest (as one more).
+unfoldable pub raised : (slot value : ℕ) → List ℕ → List ℕ
+raised slot v t = pick (ltb (getD t slot 0) v) (λ _. set t slot v) (λ _. t)
+
+unfoldable pub pair-noted : (action fluent : ℕ) → List ℕ → List ℕ
+pair-noted a f t = raised (sensed-to + a) (f + 1) (raised (sensed-from + a) (64 - f) (set t (sensed + (64 * a + f)) 1))
+
+-- A section of lines, what a line of it is, and what the table notes of line k.
+pub data Section : Type 0 where
+  effects executability knowledge : Section
+
+unfoldable pub section-of : Code.Section → Section
+section-of c = elim c [ Effects ↦ effects | Runs ↦ executability | Senses ↦ knowledge ]
+
+abbrev pub Line : Section → Type 0
+Line effects = Effect
+Line executability = Executability
+Line knowledge = Knowledge
+
+unfoldable pub line-at : (c : Section) (n m : ℕ) → List ℕ → ℕ → Got (Line c)
+line-at effects n m s = effect-at format n m s
+line-at executability n m s = executability-at format n m s
+line-at knowledge n m s = knowledge-at format n m s
+
+unfoldable pub note-line : (c : Section) → ℕ → Line c → List ℕ → List ℕ
+note-line effects k e = effect-noted k (e .place) (e .action)
+note-line executability k x = run-noted k (x .place) (x .action)
+note-line knowledge k l = pair-noted (l .action) (l .fluent)
+
+-- The action of a line that was read, and the place after it.
+unfoldable pub line-read : (c : Section) → Got (Line c) → Read
+line-read effects = effect-read
+line-read executability = executability-read
+line-read knowledge = knowledge-read
+
+-- What the table notes of line k, of action a, at place p; f is the byte after the action.
+unfoldable pub line-noted : Section → (k p a f : ℕ) → List ℕ → List ℕ
+line-noted effects k p a f = effect-noted k p a
+line-noted executability k p a f = run-noted k p a
+line-noted knowledge k p a f = pair-noted a f
+
+-- Lines from number k + 1 on.
+module _ {A : Type 0} (note : ℕ → A → List ℕ → List ℕ) where
+  unfoldable pub lines-noted : (k : ℕ) → List A → List ℕ → List ℕ
+  lines-noted k [] t = t
+  lines-noted k (x ∷ xs) t = lines-noted (k + 1) xs (note (k + 1) x t)
+
+-- How many lines each section has.
+unfoldable pub count-slot : Section → ℕ
+count-slot effects = 5378
+count-slot executability = 5379
+count-slot knowledge = 5380
+
+unfoldable pub section-noted : (c : Section) → List (Line c) → List ℕ → List ℕ
+section-noted c xs t = lines-noted (note-line c) 0 xs (set t (count-slot c) (length xs))
+
+-- Sections 1 to 5. The counts stand at places 0 and 1, and the facts from 2 on.
+unfoldable pub table-noted : Table → List ℕ → List ℕ
+table-noted x t =
+    section-noted knowledge (x .knowledge)
+    (section-noted executability (x .executability)
+    (section-noted effects (x .effects) t))
+
+-- The three sections, read one after another.
+unfoldable pub three-sections : (n m : ℕ) → List ℕ → ℕ → List ℕ → Got (List ℕ)
+three-sections n m s p t =
+    next (section-at (line-at effects n m s) s p) λ es q.
+    next (section-at (line-at executability n m s) s q) λ xs r.
+    next (section-at (line-at knowledge n m s) s r) λ ks e.
+    got (section-noted knowledge ks (section-noted executability xs (section-noted effects es t))) e
+
+-- Sections 2 to 5, and the actions' count before them.
+unfoldable pub facts-first : (n m : ℕ) → List ℕ → ℕ → List ℕ → Got (List ℕ)
+facts-first n m s p t =
+    next (list-at literals n (format .listed) s p) λ facts q.
+    three-sections n m s q t
+
+unfoldable pub actions-first : (n : ℕ) → List ℕ → ℕ → List ℕ → Got (List ℕ)
+actions-first n s p t =
+    next (count-at 1 (format .actions) s p) λ m q.
+    facts-first n m s q t

@@ -1,0 +1,194 @@
+ghost use mathlib.Core.Path.{_≡_};
+ghost use Prim.Native.Nat.{_+_, _≤_, _<_};
+ghost use lib.ListN.{length, set};
+ghost use Rattle.meaning.specs.Limits.{format};
+ghost use Rattle.meaning.specs.Reading.{item-at, sequence-at, branching-at, plan-at};
+ghost use Rattle.reading.specs.Noted.{item-next};
+ghost use Rattle.reading.specs.Planned.{number-after, branch-noted, item-noted, inside-noted, sequence-noted, plan-noted, noting-met, outcome-met, branch-noting};
+use super::bytes::Read;
+use super::bytes::byte_at;
+use super::bytes::count_at;
+use super::bytes::two_bytes_at;
+use super::lines::body_at;
+use super::lists::Passed;
+use super::table;
+use super::table::Table;
+use super::table::put;
+
+// What follows an item: the item met next, or where it is the last of its sequence what stands around the sequence.
+fn after(left: usize, met: usize, up: usize) -> usize
+    ensures { λ r. ⌜ r ≡ number-after left met up ⌝ }
+{
+    if left == 1 {
+        return up;
+    }
+    met
+}
+
+// The item with `met` items before it, and `more` up to its end.
+fn note_next(left: usize, met: usize, more: usize, up: usize, t: &mut Table)
+    requires { ⌜ met < 1024 ⌝ }
+    requires { ⌜ more ≤ 1024 ⌝ }
+    requires { ⌜ up ≤ 2048 ⌝ }
+    ensures { λ _. ⌜ now (t .exit) ≡ set (now (t .entry)) (item-next + met) (number-after left more up) ⌝ }
+{
+    put(t, table::ITEM_NEXT + met, after(left, more, up));
+}
+
+// A sequence of a branch is passed over by way of its first item.
+fn note_branch(first: usize, met: usize, p: usize, t: &mut Table)
+    requires { ⌜ met ≤ 1024 ⌝ }
+    requires { ⌜ p ≤ 32768 ⌝ }
+    ensures { λ _. ⌜ now (t .exit) ≡ branch-noted first met p (now (t .entry)) ⌝ }
+{
+    if met <= first {
+        return;
+    }
+    put(t, table::BRANCH_PLACE + first, p);
+    put(t, table::BRANCH_ITEM + first, met);
+}
+
+// A sequence with `before` items before it, in which `deep` branchings may stand one inside another: the items met up to its end.
+fn sequence_at(
+    n: usize,
+    m: usize,
+    deep: usize,
+    s: &[u8],
+    start: usize,
+    before: usize,
+    up: usize,
+    t: &mut Table,
+) -> Read
+    requires { ⌜ n ≤ 64 ⌝ }
+    requires { ⌜ before ≤ 1024 ⌝ }
+    requires { ⌜ up ≤ 2048 ⌝ }
+    requires { ⌜ length (now s) ≤ 32768 ⌝ }
+    ensures { λ r. ⌜ outcome-met r (now (t .exit)) ≡ noting-met (sequence-noted up before start (now (t .entry))) (sequence-at format n m (now (s .entry)) (branching-at format n m (now (s .entry)) deep) start before) ⌝ }
+{
+    match two_bytes_at(s, start) {
+        Read::Value(c, q) => {
+            let mut left = c;
+            let mut p = q;
+            let mut met = before;
+            while 0 < left {
+                match item_at(n, m, deep, s, p, met, t) {
+                    Read::Value(more, e) => {
+                        note_next(left, met, more, up, t);
+                        p = e;
+                        met = more;
+                        left -= 1;
+                    }
+                    Read::Fault(k, e) => {
+                        return Read::Fault(k, e);
+                    }
+                }
+            }
+            note_branch(before, met, p, t);
+            Read::Value(met, p)
+        }
+        Read::Fault(k, q) => Read::Fault(k, q),
+    }
+}
+
+// One item: the items met up to its end.
+fn item_at(n: usize, m: usize, deep: usize, s: &[u8], p: usize, met: usize, t: &mut Table) -> Read
+    requires { ⌜ n ≤ 64 ⌝ }
+    requires { ⌜ length (now s) ≤ 32768 ⌝ }
+    ensures { λ r. ⌜ outcome-met r (now (t .exit)) ≡ noting-met (item-noted met (now (t .entry))) (item-at format n m (now (s .entry)) (branching-at format n m (now (s .entry)) deep) p met) ⌝ }
+{
+    match byte_at(s, p) {
+        Read::Value(x, q) => {
+            if 1024 <= met {
+                return Read::Fault(21, p);
+            }
+            if x == 255 {
+                put(t, table::ITEM_PLACE + met, p);
+                return branching_at(n, m, deep, s, p, met, t);
+            }
+            if m <= x {
+                return Read::Fault(13, p);
+            }
+            put(t, table::ITEM_PLACE + met, p);
+            let more = met + 1;
+            Read::Value(more, q)
+        }
+        Read::Fault(k, q) => Read::Fault(k, q),
+    }
+}
+
+// The branching that is item i and whose byte 255 stands at `start`.
+fn branching_at(
+    n: usize,
+    m: usize,
+    deep: usize,
+    s: &[u8],
+    start: usize,
+    i: usize,
+    t: &mut Table,
+) -> Read
+    requires { ⌜ n ≤ 64 ⌝ }
+    requires { ⌜ length (now s) ≤ 32768 ⌝ }
+    requires { ⌜ start < length (now s) ⌝ }
+    requires { ⌜ i < 1024 ⌝ }
+    ensures { λ r. ⌜ outcome-met r (now (t .exit)) ≡ noting-met (inside-noted i (now (t .entry))) (branching-at format n m (now (s .entry)) deep start (i + 1)) ⌝ }
+{
+    if deep == 0 {
+        return Read::Fault(19, start);
+    }
+    let inner = deep - 1;
+    let count = start + 1;
+    let up = 1025 + i;
+    match count_at(1, 8, s, count) {
+        Read::Value(c, q) => {
+            let mut left = c;
+            let mut p = q;
+            let mut met = i + 1;
+            while 0 < left {
+                match branch_at(n, m, inner, s, p, met, up, t) {
+                    Read::Value(more, e) => {
+                        p = e;
+                        met = more;
+                        left -= 1;
+                    }
+                    Read::Fault(k, e) => {
+                        return Read::Fault(k, e);
+                    }
+                }
+            }
+            Read::Value(met, p)
+        }
+        Read::Fault(k, q) => Read::Fault(k, q),
+    }
+}
+
+// A branch: its condition and its sequence.
+fn branch_at(
+    n: usize,
+    m: usize,
+    deep: usize,
+    s: &[u8],
+    p: usize,
+    met: usize,
+    up: usize,
+    t: &mut Table,
+) -> Read
+    requires { ⌜ n ≤ 64 ⌝ }
+    requires { ⌜ met ≤ 1024 ⌝ }
+    requires { ⌜ up ≤ 2048 ⌝ }
+    requires { ⌜ length (now s) ≤ 32768 ⌝ }
+    ensures { λ r. ⌜ outcome-met r (now (t .exit)) ≡ branch-noting n m deep up (now (s .entry)) p met (now (t .entry)) ⌝ }
+{
+    match body_at(n, s, p) {
+        Passed::To(q) => sequence_at(n, m, deep, s, q, met, up, t),
+        Passed::Fault(k, q) => Read::Fault(k, q),
+    }
+}
+
+// The plan: how many items it has.
+pub fn plan_at(n: usize, m: usize, s: &[u8], start: usize, t: &mut Table) -> Read
+    requires { ⌜ n ≤ 64 ⌝ }
+    requires { ⌜ length (now s) ≤ 32768 ⌝ }
+    ensures { λ r. ⌜ outcome-met r (now (t .exit)) ≡ noting-met (plan-noted start (now (t .entry))) (plan-at format n m (now (s .entry)) start) ⌝ }
+{
+    sequence_at(n, m, 8, s, start, 0, 1024, t)
+}

@@ -1,0 +1,118 @@
+ghost use mathlib.Core.Path.{_≡_};
+ghost use Prim.Native.Nat.{_≤_, _<_};
+ghost use lib.ListN.{length};
+ghost use Rattle.meaning.specs.Limits.{format};
+ghost use Rattle.meaning.specs.Reading.{table-at, read-request};
+ghost use Rattle.reading.specs.Noted.{facts-first, actions-first, table-noted, noting, outcome};
+ghost use Rattle.reading.specs.Requested.{goals-first, plan-first, request-noted, sections-read};
+use super::bytes::Read;
+use super::bytes::count_at;
+use super::bytes::wide;
+use super::lists::Kind;
+use super::lists::Passed;
+use super::lists::list_at;
+use super::plan::plan_at;
+use super::sections::three_sections;
+use super::table;
+use super::table::Table;
+use super::table::put;
+
+// Sections 2 to 5, over n fluents and m actions.
+fn facts_at(n: usize, m: usize, s: &[u8], p: usize, t: &mut Table) -> Passed
+    requires { ⌜ n ≤ 64 ⌝ }
+    requires { ⌜ m ≤ 64 ⌝ }
+    requires { ⌜ length (now s) ≤ 16384 ⌝ }
+    ensures { λ r. ⌜ outcome r (now (t .exit)) ≡ facts-first n m (now (s .entry)) p (now (t .entry)) ⌝ }
+{
+    match list_at(Kind::Literals, n, 64, s, p) {
+        Passed::To(q) => three_sections(n, m, s, q, t),
+        Passed::Fault(k, q) => Passed::Fault(k, q),
+    }
+}
+
+// Sections 1 to 5 after the fluents' count.
+fn actions_at(n: usize, s: &[u8], p: usize, t: &mut Table) -> Passed
+    requires { ⌜ n ≤ 64 ⌝ }
+    requires { ⌜ length (now s) ≤ 16384 ⌝ }
+    ensures { λ r. ⌜ outcome r (now (t .exit)) ≡ actions-first n (now (s .entry)) p (now (t .entry)) ⌝ }
+{
+    match count_at(1, 64, s, p) {
+        Read::Value(m, q) => facts_at(n, m, s, q, t),
+        Read::Fault(k, q) => Passed::Fault(k, q),
+    }
+}
+
+// Sections 1 to 5.
+pub fn table_at(s: &[u8], p: usize, t: &mut Table) -> Passed
+    requires { ⌜ length (now s) ≤ 16384 ⌝ }
+    ensures { λ r. ⌜ outcome r (now (t .exit)) ≡ noting table-noted (table-at format (now (s .entry)) p) (now (t .entry)) ⌝ }
+{
+    match count_at(1, 64, s, p) {
+        Read::Value(n, q) => actions_at(n, s, q, t),
+        Read::Fault(k, q) => Passed::Fault(k, q),
+    }
+}
+
+// Sections 7 and 8, after a plan of so many items whose count stands at `plan`.
+fn goals_at(n: usize, s: &[u8], plan: usize, items: usize, p: usize, t: &mut Table) -> Passed
+    requires { ⌜ n ≤ 64 ⌝ }
+    requires { ⌜ plan < 65536 ⌝ }
+    requires { ⌜ items < 65536 ⌝ }
+    requires { ⌜ p < 65536 ⌝ }
+    ensures { λ r. ⌜ outcome r (now (t .exit)) ≡ goals-first n (now (s .entry)) plan items p (now (t .entry)) ⌝ }
+{
+    match list_at(Kind::Literals, n, 64, s, p) {
+        Passed::To(q) => {
+            put(t, table::PLAN, plan);
+            put(t, table::ITEMS, items);
+            put(t, table::GOALS, p);
+            list_at(Kind::Fluents, n, 64, s, q)
+        }
+        Passed::Fault(k, q) => Passed::Fault(k, q),
+    }
+}
+
+// Sections 6 to 8, over n fluents and m actions.
+fn request_at(n: usize, m: usize, s: &[u8], p: usize, t: &mut Table) -> Passed
+    requires { ⌜ n ≤ 64 ⌝ }
+    requires { ⌜ length (now s) ≤ 16384 ⌝ }
+    ensures { λ r. ⌜ outcome r (now (t .exit)) ≡ plan-first n m (now (s .entry)) p (now (t .entry)) ⌝ }
+{
+    match plan_at(n, m, s, p, t) {
+        Read::Value(items, q) => goals_at(n, s, p, items, q, t),
+        Read::Fault(k, q) => Passed::Fault(k, q),
+    }
+}
+
+// All eight sections.
+fn sections_at(s: &[u8], t: &mut Table) -> Passed
+    requires { ⌜ length (now s) ≤ 16384 ⌝ }
+    ensures { λ r. ⌜ outcome r (now (t .exit)) ≡ noting request-noted (sections-read (now (s .entry))) (now (t .entry)) ⌝ }
+{
+    match table_at(s, 0, t) {
+        Passed::To(p) => {
+            let n = wide(s[0]);
+            let m = wide(s[1]);
+            request_at(n, m, s, p, t)
+        }
+        Passed::Fault(k, q) => Passed::Fault(k, q),
+    }
+}
+
+// A request: at most the limit, all eight sections, and nothing after them.
+pub fn read_request(s: &[u8], t: &mut Table) -> Passed
+    ensures { λ r. ⌜ outcome r (now (t .exit)) ≡ noting request-noted (read-request format (now (s .entry))) (now (t .entry)) ⌝ }
+{
+    if 16384 < s.len() {
+        return Passed::Fault(10, 0);
+    }
+    match sections_at(s, t) {
+        Passed::To(e) => {
+            if e < s.len() {
+                return Passed::Fault(20, e);
+            }
+            Passed::To(e)
+        }
+        Passed::Fault(k, q) => Passed::Fault(k, q),
+    }
+}

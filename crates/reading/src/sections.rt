@@ -1,0 +1,135 @@
+ghost use mathlib.Core.Path.{_≡_};
+ghost use Prim.Native.Nat.{_≤_, _<_};
+ghost use lib.ListN.{length, set};
+ghost use Rattle.meaning.specs.Reading.{repeated, section-at};
+ghost use Rattle.reading.specs.Noted;
+ghost use Rattle.reading.specs.Noted.{section-of, line-at, line-read, line-noted, note-line, lines-noted, count-slot, section-noted, three-sections, noting, outcome};
+use super::bytes::Read;
+use super::bytes::wide;
+use super::lines::effect_at;
+use super::lines::executability_at;
+use super::lines::knowledge_at;
+use super::lists::Passed;
+use super::table;
+use super::table::Table;
+use super::table::note_effect;
+use super::table::note_executability;
+use super::table::note_pair;
+use super::table::put;
+
+// Sections 3, 4 and 5.
+pub enum Section {
+    Effects,
+    Executability,
+    Knowledge,
+}
+
+// A line: its action.
+fn line_at(c: Section, n: usize, m: usize, s: &[u8], p: usize) -> Read
+    requires { ⌜ n ≤ 64 ⌝ }
+    ensures { λ r. ⌜ r ≡ line-read (section-of c) (line-at (section-of c) n m (now (s .entry)) p) ⌝ }
+{
+    match c {
+        Section::Effects => effect_at(n, m, s, p),
+        Section::Executability => executability_at(n, m, s, p),
+        Section::Knowledge => knowledge_at(n, m, s, p),
+    }
+}
+
+// Line k, of action a, stands at p; f is the byte after the action.
+fn note_line(c: Section, k: usize, p: usize, a: usize, f: usize, t: &mut Table)
+    requires { ⌜ k < 256 ⌝ }
+    requires { ⌜ p < 65535 ⌝ }
+    requires { ⌜ a < 64 ⌝ }
+    requires { ⌜ (section-of c ≡ Noted.Section.knowledge → f < 64) ⌝ }
+    ensures { λ _. ⌜ now (t .exit) ≡ line-noted (section-of c) k p a f (now (t .entry)) ⌝ }
+{
+    match c {
+        Section::Effects => note_effect(t, k, p, a),
+        Section::Executability => note_executability(t, k, p, a),
+        Section::Knowledge => note_pair(t, a, f),
+    }
+}
+
+// So many lines from a place on.
+fn lines_from(
+    c: Section,
+    n: usize,
+    m: usize,
+    s: &[u8],
+    count: u8,
+    start: usize,
+    t: &mut Table,
+) -> Passed
+    requires { ⌜ n ≤ 64 ⌝ }
+    requires { ⌜ m ≤ 64 ⌝ }
+    requires { ⌜ length (now s) ≤ 16384 ⌝ }
+    ensures { λ r. ⌜ outcome r (now (t .exit)) ≡ noting (lines-noted (note-line (section-of c)) 0) (repeated (line-at (section-of c) n m (now (s .entry))) count start) (now (t .entry)) ⌝ }
+{
+    let end = wide(count);
+    let mut k = 0;
+    let mut p = start;
+    while k < end {
+        match line_at(c, n, m, s, p) {
+            Read::Value(a, e) => {
+                let q = p + 1;
+                let f = wide(s[q]);
+                k += 1;
+                note_line(c, k, p, a, f, t);
+                p = e;
+            }
+            Read::Fault(number, at) => {
+                return Passed::Fault(number, at);
+            }
+        }
+    }
+    Passed::To(p)
+}
+
+fn count_slot(c: Section) -> usize
+    ensures { λ r. ⌜ r ≡ count-slot (section-of c) ⌝ }
+{
+    match c {
+        Section::Effects => table::COUNT_OF_EFFECTS,
+        Section::Executability => table::COUNT_OF_EXECUTABILITY,
+        Section::Knowledge => table::COUNT_OF_KNOWLEDGE,
+    }
+}
+
+fn note_count(c: Section, count: u8, t: &mut Table)
+    ensures { λ _. ⌜ now (t .exit) ≡ set (now (t .entry)) (count-slot (section-of c)) count ⌝ }
+{
+    let slot = count_slot(c);
+    put(t, slot, wide(count));
+}
+
+// A section: a count byte, then as many lines.
+pub fn section_at(c: Section, n: usize, m: usize, s: &[u8], p: usize, t: &mut Table) -> Passed
+    requires { ⌜ n ≤ 64 ⌝ }
+    requires { ⌜ m ≤ 64 ⌝ }
+    requires { ⌜ length (now s) ≤ 16384 ⌝ }
+    ensures { λ r. ⌜ outcome r (now (t .exit)) ≡ noting (section-noted (section-of c)) (section-at (line-at (section-of c) n m (now (s .entry))) (now (s .entry)) p) (now (t .entry)) ⌝ }
+{
+    if s.len() <= p {
+        return Passed::Fault(11, s.len());
+    }
+    let q = p + 1;
+    note_count(c, s[p], t);
+    lines_from(c, n, m, s, s[p], q, t)
+}
+
+// Sections 3 to 5.
+pub fn three_sections(n: usize, m: usize, s: &[u8], p: usize, t: &mut Table) -> Passed
+    requires { ⌜ n ≤ 64 ⌝ }
+    requires { ⌜ m ≤ 64 ⌝ }
+    requires { ⌜ length (now s) ≤ 16384 ⌝ }
+    ensures { λ r. ⌜ outcome r (now (t .exit)) ≡ three-sections n m (now (s .entry)) p (now (t .entry)) ⌝ }
+{
+    match section_at(Section::Effects, n, m, s, p, t) {
+        Passed::To(q) => match section_at(Section::Executability, n, m, s, q, t) {
+            Passed::To(r) => section_at(Section::Knowledge, n, m, s, r, t),
+            Passed::Fault(k, r) => Passed::Fault(k, r),
+        },
+        Passed::Fault(k, q) => Passed::Fault(k, q),
+    }
+}
