@@ -16,7 +16,7 @@ use super::table::Table;
 use super::table::get;
 
 // Where a branch's count of items stands, after its condition at p.
-fn sequence_of(s: &[u8], p: usize) -> usize
+pub fn sequence_of(s: &[u8], p: usize) -> usize
     requires { ⌜ List-here 128 (now s) p ⌝ }
     ensures { λ r. ⌜ r ≡ sequence-place (now (s .entry)) p ⌝ }
 {
@@ -25,7 +25,7 @@ fn sequence_of(s: &[u8], p: usize) -> usize
 }
 
 // The two-byte count at q is 0.
-fn empty(s: &[u8], q: usize) -> bool
+pub fn empty(s: &[u8], q: usize) -> bool
     requires { ⌜ q + 1 < length (now s) ⌝ }
     ensures { λ r. ⌜ r ≡ no-item (now (s .entry)) q ⌝ }
 {
@@ -37,7 +37,7 @@ fn empty(s: &[u8], q: usize) -> bool
 }
 
 // The branch after the one at p, which has i items before it.
-fn next_place(s: &[u8], t: &Table, p: usize, i: usize) -> usize
+pub fn next_place(s: &[u8], t: &Table, p: usize, i: usize) -> usize
     requires { ⌜ Branch-here (now s) p i ⌝ }
     ensures { λ r. ⌜ r ≡ place-after (now (s .entry)) (now (t .entry)) p i ⌝ }
 {
@@ -50,7 +50,7 @@ fn next_place(s: &[u8], t: &Table, p: usize, i: usize) -> usize
 }
 
 // How many items are before that one.
-fn next_item(s: &[u8], t: &Table, p: usize, i: usize) -> usize
+pub fn next_item(s: &[u8], t: &Table, p: usize, i: usize) -> usize
     requires { ⌜ Branch-here (now s) p i ⌝ }
     ensures { λ r. ⌜ r ≡ item-after (now (s .entry)) (now (t .entry)) p i ⌝ }
 {

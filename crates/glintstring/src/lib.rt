@@ -1,0 +1,2 @@
+// The calls of the verifier.
+pub mod judging; // the walk call

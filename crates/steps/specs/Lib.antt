@@ -1,0 +1,5 @@
+pub mod AtHand
+pub mod Lines
+pub mod Rests
+pub mod Steps
+pub mod After

@@ -1,0 +1,78 @@
+-- What is left of a plan from one of its items on: the rest of the item's own sequence, and then what follows the branchings around it.
+use Prim.Native.Nat.{ℕ, _+_, _-_, _≤_, _<_}
+use mathlib.Core.Path.{_≡_}
+use mathlib.Core.List.{List}
+use lib.ListN.{length, getD}
+use lib.Dec.{leb, ltb}
+use Rattle.meaning.specs.Tests.{pick}
+use Rattle.meaning.specs.Requests.{Sequence, done, item, Item, act, branching, Branches, none, branch}
+use Rattle.meaning.specs.Derivations.{join}
+use Rattle.reading.specs.Noted.{item-place, item-next}
+use Rattle.reading.specs.Planned.{items-of, items-in, bytes-of, place-of}
+use Rattle.reading.specs.Plans.{Item-written, Branch-kept}
+
+-- From item i on, in a part with `met` items before it and `after` behind it.
+unfoldable mutual
+  pub rest-in : Sequence ℕ → (met i : ℕ) → Sequence ℕ → Sequence ℕ
+  rest-in done met i after = after
+  rest-in (item x b) met i after =
+      pick (leb i met) (λ _. item x (join b after)) λ _.
+      pick (ltb i (met + items-in x)) (λ _. rest-within x (met + 1) i (join b after)) λ _.
+      rest-in b (met + items-in x) i after
+
+  pub rest-within : Item ℕ → (met i : ℕ) → Sequence ℕ → Sequence ℕ
+  rest-within (act p a) met i after = after
+  rest-within (branching p bs) met i after = rest-under bs met i after
+
+  pub rest-under : Branches ℕ → (met i : ℕ) → Sequence ℕ → Sequence ℕ
+  rest-under none met i after = after
+  rest-under (branch c b bs) met i after =
+      pick (ltb i (met + items-of b)) (λ _. rest-in b met i after) (λ _. rest-under bs (met + items-of b) i after)
+
+-- Of the whole plan; there is nothing left from 1024 on.
+unfoldable pub rest-at : Sequence ℕ → ℕ → Sequence ℕ
+rest-at b i = rest-in b 0 i done
+
+unfoldable pub after-first : Sequence ℕ → Sequence ℕ
+after-first done = done
+after-first (item x b) = b
+
+-- By what the table has as an item's next: an item, 1024, or 1025 and the number of a branching (see the table's slots).
+unfoldable pub onward : Sequence ℕ → ℕ → Sequence ℕ
+onward b c = pick (leb c 1024) (λ _. rest-at b c) (λ _. after-first (rest-at b (c - 1025)))
+
+-- An item of the plan, or the plan's end.
+pub record Position (b : Sequence ℕ) (at : ℕ) : Type 0 where
+  pub most : at ≤ 1024
+  pub there : (at ≡ 1024 → ⊥) → at < items-of b
+
+-- WHAT STANDS THERE of item i of the plan b.
+pub record Next (t : List ℕ) (b : Sequence ℕ) (i : ℕ) (after : Sequence ℕ) : Type 0 where
+  pub later : getD t (item-next + i) 0 ≤ 1024 → i < getD t (item-next + i) 0
+  pub at : getD t (item-next + i) 0 ≤ 1024 → Position b (getD t (item-next + i) 0)
+  pub around : 1024 < getD t (item-next + i) 0 → getD t (item-next + i) 0 < 1025 + i
+  pub rest : onward b (getD t (item-next + i) 0) ≡ after
+
+-- One branch with `met` items before it, whose sequence is d and which ends at p.
+pub record Branch-laid (t : List ℕ) (b : Sequence ℕ) (met p : ℕ) (d after : Sequence ℕ) : Type 0 where
+  pub kept : Branch-kept t met p d
+  pub there : 0 < items-of d → met < items-of b
+  pub rest : 0 < items-of d → rest-at b met ≡ join d after
+
+unfoldable pub Branches-laid : (t : List ℕ) (b : Sequence ℕ) (met p : ℕ) (after : Sequence ℕ) → Branches ℕ → Type 0
+Branches-laid t b met p after none = Unit {0}
+Branches-laid t b met p after (branch c d bs) =
+    Branch-laid t b met (p + (1 + length c) + (2 + bytes-of d)) d after × Branches-laid t b (met + items-of d) (p + (1 + length c) + (2 + bytes-of d)) after bs
+
+unfoldable pub Inside-laid : (t : List ℕ) (b : Sequence ℕ) (i : ℕ) (after : Sequence ℕ) → Item ℕ → Type 0
+Inside-laid t b i after (act p a) = a < 64
+Inside-laid t b i after (branching p bs) = Branches-laid t b (i + 1) (p + 2) after bs
+
+pub record Item-laid (s t : List ℕ) (b : Sequence ℕ) (i : ℕ) : Type 0 where
+  pub this : Item ℕ
+  pub after : Sequence ℕ
+  pub rest : rest-at b i ≡ item this after
+  pub place : getD t (item-place + i) 0 ≡ place-of this
+  pub written : Item-written s this
+  pub inside : Inside-laid t b i after this
+  pub next : Next t b i after

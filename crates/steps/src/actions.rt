@@ -1,0 +1,99 @@
+ghost use mathlib.Core.Path.{_≡_};
+ghost use Prim.Native.Nat.{_<_};
+ghost use Rattle.meaning.specs.States.{can-be-run, state-after};
+ghost use Rattle.steps.specs.AtHand.{request-in, At-hand, Marked};
+ghost use Rattle.steps.specs.After.{Told, Left};
+use reading::bytes::wide;
+use reading::marks::Test;
+use reading::marks::each_holds;
+use reading::marks::mark_of;
+use reading::table;
+use reading::table::Table;
+use reading::table::get;
+
+// Some executability line of the action has its whole body known true.
+pub fn can_be_run(s: &[u8], t: &Table, a: usize, marks: &[u8; 64]) -> bool
+    requires { ⌜ At-hand (now s) (now t) ⌝ }
+    requires { ⌜ a < 64 ⌝ }
+    ensures { λ r. ⌜ r ≡ can-be-run (request-in (now (s .entry)) .table) a (now (marks .entry)) ⌝ }
+{
+    let last = table::RUN_LAST + a;
+    let mut k = get(t, last);
+    while 0 < k {
+        let slot = table::RUN_PLACE + k;
+        let body = get(t, slot);
+        let known = each_holds(Test::Known, marks, s, body);
+        if known {
+            return true;
+        }
+        let before = table::RUN_BEFORE + k;
+        k = get(t, before);
+    }
+    false
+}
+
+// The state with what the action's effects give by bodies known true.
+fn told(s: &[u8], t: &Table, a: usize, marks: [u8; 64]) -> [u8; 64]
+    requires { ⌜ At-hand (now s) (now t) ⌝ }
+    requires { ⌜ a < 64 ⌝ }
+    ensures { λ r. ⌜ Told (now (s .entry)) (now (t .entry)) a marks r ⌝ }
+{
+    let mut next = marks;
+    let last = table::EFFECT_LAST + a;
+    let mut k = get(t, last);
+    while 0 < k {
+        let slot = table::EFFECT_PLACE + k;
+        let p = get(t, slot);
+        let body = p + 2;
+        let known = each_holds(Test::Known, &marks, s, body);
+        if known {
+            let one = p + 1;
+            let l = wide(s[one]);
+            let f = l / 2;
+            next[f] = mark_of(l);
+        }
+        let before = table::EFFECT_BEFORE + k;
+        k = get(t, before);
+    }
+    next
+}
+
+// Less what its effects may undo by bodies that are possible.
+fn left(s: &[u8], t: &Table, a: usize, marks: &[u8; 64], start: [u8; 64]) -> [u8; 64]
+    requires { ⌜ At-hand (now s) (now t) ⌝ }
+    requires { ⌜ a < 64 ⌝ }
+    ensures { λ r. ⌜ Left (now (s .entry)) (now (t .entry)) a (now (marks .entry)) start r ⌝ }
+{
+    let mut next = start;
+    let last = table::EFFECT_LAST + a;
+    let mut k = get(t, last);
+    while 0 < k {
+        let slot = table::EFFECT_PLACE + k;
+        let p = get(t, slot);
+        let body = p + 2;
+        let possible = each_holds(Test::Possible, marks, s, body);
+        if possible {
+            let one = p + 1;
+            let l = wide(s[one]);
+            let f = l / 2;
+            let other = 3 - mark_of(l);
+            if next[f] == other {
+                next[f] = 0;
+            }
+        }
+        let before = table::EFFECT_BEFORE + k;
+        k = get(t, before);
+    }
+    next
+}
+
+// The state after an action that is not a sensing one.
+pub fn state_after(s: &[u8], t: &Table, a: usize, marks: [u8; 64]) -> [u8; 64]
+    requires { ⌜ At-hand (now s) (now t) ⌝ }
+    requires { ⌜ a < 64 ⌝ }
+    requires { ⌜ Marked marks ⌝ }
+    ensures { λ r. ⌜ r ≡ state-after (request-in (now (s .entry)) .table) a marks ⌝ }
+{
+    let next = told(s, t, a, marks);
+    left(s, t, a, &marks, next)
+}

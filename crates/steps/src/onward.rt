@@ -1,0 +1,76 @@
+ghost use mathlib.Core.Path.{_≡_};
+ghost use Prim.Native.Nat.{_+_, _<_};
+ghost use lib.ListN.{getD};
+ghost use Rattle.reading.specs.Branchings.{Branch-here};
+ghost use Rattle.reading.specs.Planned.{items-of};
+ghost use Rattle.steps.specs.AtHand.{request-in, At-hand};
+ghost use Rattle.steps.specs.Steps.{Followed, Into, Chosen};
+use reading::bytes::wide;
+use reading::marks::Test;
+use reading::marks::each_holds;
+use reading::overlaps::empty;
+use reading::overlaps::next_item;
+use reading::overlaps::next_place;
+use reading::overlaps::sequence_of;
+use reading::refusals::Found;
+use reading::table;
+use reading::table::Table;
+use reading::table::get;
+
+// The position after item i: the next item of its sequence, or else what follows the branchings that end with it.
+pub fn follow(s: &[u8], t: &Table, i: usize) -> usize
+    requires { ⌜ At-hand (now s) (now t) ⌝ }
+    requires { ⌜ i < items-of (request-in (now s) .plan) ⌝ }
+    ensures { λ r. ⌜ Followed (now (s .entry)) i r ⌝ }
+{
+    let slot = table::ITEM_NEXT + i;
+    let mut at = get(t, slot);
+    while 1024 < at {
+        let around = at - 1025;
+        let next = table::ITEM_NEXT + around;
+        at = get(t, next);
+    }
+    at
+}
+
+// Where the branch begins that has its condition at p and `item` items before it; with no item of its own, after branching i.
+fn into(s: &[u8], t: &Table, i: usize, p: usize, item: usize) -> usize
+    requires { ⌜ At-hand (now s) (now t) ⌝ }
+    requires { ⌜ i < items-of (request-in (now s) .plan) ⌝ }
+    requires { ⌜ Branch-here (now s) p item ⌝ }
+    ensures { λ r. ⌜ Into (now (s .entry)) i p item r ⌝ }
+{
+    let q = sequence_of(s, p);
+    let none = empty(s, q);
+    if none {
+        return follow(s, t, i);
+    }
+    item
+}
+
+// Where the walk goes on from the branching that is item i: in the branch whose condition is known true.
+pub fn chosen(s: &[u8], t: &Table, i: usize, marks: &[u8; 64]) -> Found
+    requires { ⌜ At-hand (now s) (now t) ⌝ }
+    requires { ⌜ i < items-of (request-in (now s) .plan) ⌝ }
+    requires { ⌜ getD (now s) (getD (now t) (0 + i) 0) 0 ≡ 255 ⌝ }
+    ensures { λ r. ⌜ Chosen (now (s .entry)) (now (t .entry)) i (now (marks .entry)) r ⌝ }
+{
+    let slot = table::ITEM_PLACE + i;
+    let start = get(t, slot);
+    let second = start + 1;
+    let mut left = wide(s[second]);
+    let mut p = start + 2;
+    let mut item = i + 1;
+    while 0 < left {
+        let known = each_holds(Test::Known, marks, s, p);
+        if known {
+            return Found::At(into(s, t, i, p, item));
+        }
+        let q = next_place(s, t, p, item);
+        let j = next_item(s, t, p, item);
+        p = q;
+        item = j;
+        left -= 1;
+    }
+    Found::Nowhere
+}

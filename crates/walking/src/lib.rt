@@ -1,0 +1,3 @@
+// The walk of a plan over partial states.
+pub mod tally; // what the walk has counted, and how it stands
+pub mod walk; // the walk
