@@ -1,2 +1,3 @@
+pub mod ChainLaws
 pub mod Served
 pub mod Laid
