@@ -176,9 +176,15 @@ module _ {A : Type 0} (action stands : A → ℕ) where
               subst (λ (i : ℕ). Chain (note (k + 1) x t) place before i acc) (sym back) after,
             )
 
+chain-few : (t : List ℕ) (place before j : ℕ) (ps : List ℕ) → Chain t place before j ps → j < 256
+unfolding Chain
+chain-few t place before j [] c = omega arith
+chain-few t place before j (p ∷ ps) c = c .0 .few
+
 -- A table that agrees on all the slots of a chain.
-pub chain-kept : (place before last a : ℕ) (t u : List ℕ) (ps : List ℕ) → getD t (last + a) 0 < 256
+pub chain-kept : (place before last a : ℕ) (t u : List ℕ) (ps : List ℕ)
     → ((i : ℕ) → i < 256 → (getD u (place + i) 0 ≡ getD t (place + i) 0) × (getD u (before + i) 0 ≡ getD t (before + i) 0)) → getD u (last + a) 0 ≡ getD t (last + a) 0
     → Chain t place before (getD t (last + a) 0) ps → Chain u place before (getD u (last + a) 0) ps
-chain-kept place before last a t u ps few same top c =
+chain-kept place before last a t u ps same top c =
+    let few = chain-few t place before (getD t (last + a) 0) ps c in
     rw top (chain-same place before t u 255 (λ i _ h. same i h .0) (λ i _ h. same i h .1) (getD t (last + a) 0) ps (omega arith) c)

@@ -1,3 +1,4 @@
 pub mod ChainLaws
+pub mod SlotLaws
 pub mod Served
 pub mod Laid
