@@ -5,7 +5,7 @@ use native.Mathlib.Omega.{arith}
 use mathlib.Core.Path.{_≡_, refl, sym, _∙_, ap, subst}
 use mathlib.Core.Bool.{Bool, true, false}
 use mathlib.Core.List.{List, [], _∷_}
-use mathlib.Core.Logic.{_⊎_, inl, inr, ⊎-elim}
+use mathlib.Core.Logic.{_⊎_, inl, inr}
 use lib.ListN.{length, getD, set, length-set}
 use lib.Seq.{getD-set-same}
 use lib.Dec.{eqb}
@@ -14,7 +14,7 @@ use Rattle.meaning.specs.Tests.{both, either, pick, some-of, those-of}
 use Rattle.meaning.proofs.TestLaws.{by-test, pick-true, pick-false, some-those, Has}
 use Rattle.reading.specs.Noted.{link, lines-noted}
 use Rattle.reading.proofs.KeptLaws.{kept, link-kept}
-use Rattle.steps.specs.Lines.{Linked, Chain}
+use Rattle.steps.specs.Lines.{Chain}
 
 -- A table that agrees on the slots of the numbers up to `most` has the same chain.
 module _ (place before : ℕ) (t u : List ℕ) (most : ℕ) (places : (i : ℕ) → i ≤ most → i < 256 → getD u (place + i) 0 ≡ getD t (place + i) 0)
