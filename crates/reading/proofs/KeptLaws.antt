@@ -27,7 +27,7 @@ module _ (j : ℕ) where
   unfolding link
   link-kept last before k t h g = kept (set t (before + k) (getD t last 0)) last j k h ∙ kept t (before + k) j (getD t last 0) g
 
-  raised-kept : (slot v : ℕ) (t : List ℕ) → (j ≡ slot → ⊥) → getD (raised slot v t) j 0 ≡ getD t j 0
+  pub raised-kept : (slot v : ℕ) (t : List ℕ) → (j ≡ slot → ⊥) → getD (raised slot v t) j 0 ≡ getD t j 0
   unfolding raised
   raised-kept slot v t h =
       by-test (ltb (getD t slot 0) v)
@@ -64,7 +64,7 @@ link-long : (last before k : ℕ) (t : List ℕ) → length (link last before k 
 unfolding link
 link-long last before k t = length-set (set t (before + k) (getD t last 0)) last k ∙ length-set t (before + k) (getD t last 0)
 
-raised-long : (slot v : ℕ) (t : List ℕ) → length (raised slot v t) ≡ length t
+pub raised-long : (slot v : ℕ) (t : List ℕ) → length (raised slot v t) ≡ length t
 unfolding raised
 raised-long slot v t =
     by-test (ltb (getD t slot 0) v)

@@ -160,7 +160,7 @@ acts : (s : List ℕ) (e : Effect) → effect-from s (e .place) ≡ e → getD s
 unfolding effect-from
 acts s e is = ap (λ (y : Effect). y .action) is
 
-section-long : (c : Section) (xs : List (Line c)) (t : List ℕ) → length (section-noted c xs t) ≡ length t
+pub section-long : (c : Section) (xs : List (Line c)) (t : List ℕ) → length (section-noted c xs t) ≡ length t
 unfolding section-noted
 section-long c xs t = lines-long (note-line c) (note-long c) 0 xs (set t (count-slot c) (length xs)) ∙ length-set t (count-slot c) (length xs)
 
@@ -176,7 +176,7 @@ module _ (s : List ℕ) (bytes : (i : ℕ) → getD s i 0 < 256) (x : Request) (
   pub effects-few : length (x .table .effects) < 256
   effects-few = rw (section-length (effect-at format (x .table .fluents) (x .table .actions) s) s (whole .of-table .effects-at) (x .table .effects) (whole .of-table .effects-end) (whole .of-table .effects-read)) (bytes (whole .of-table .effects-at))
 
-  runs-few : length (x .table .executability) < 256
+  pub runs-few : length (x .table .executability) < 256
   runs-few = rw (section-length (executability-at format (x .table .fluents) (x .table .actions) s) s (whole .of-table .effects-end) (x .table .executability) (whole .of-table .runs-end) (whole .of-table .runs-read)) (bytes (whole .of-table .effects-end))
 
   pub knowledge-few : length (x .table .knowledge) < 256
@@ -197,7 +197,7 @@ module _ (s : List ℕ) (bytes : (i : ℕ) → getD s i 0 < 256) (x : Request) (
       ∙ section-long effects (x .table .effects) t
       ∙ sized
 
-  planned-long : {n : ℕ} → length t ≡ n → length (plan-noted (plan-place x) (table-noted (x .table) t) (x .plan)) ≡ n
+  pub planned-long : {n : ℕ} → length t ≡ n → length (plan-noted (plan-place x) (table-noted (x .table) t) (x .plan)) ≡ n
   planned-long sized = plan-long (plan-place x) (table-noted (x .table) t) (x .plan) ∙ tabled-long sized
 
   with-effects : List ℕ

@@ -52,11 +52,11 @@ module _ (f : Refusals.Found) (r : Found) (is : r ≡ found f) where
   found-at p e = sym (back-found f) ∙ ap back (sym is ∙ e)
 
 -- A TABLE that held nothing.
-blank-long : length blank ≡ 9480
+pub blank-long : length blank ≡ 9480
 unfolding blank
 blank-long = let none : ℕ = 0 in length-replicate 9480 none
 
-blank-slot : (i : ℕ) → i < 9480 → getD blank i 0 ≡ 0
+pub blank-slot : (i : ℕ) → i < 9480 → getD blank i 0 ≡ 0
 unfolding blank
 blank-slot i h = let none : ℕ = 0 in getD-replicate 9480 i none none h
 

@@ -1,0 +1,178 @@
+-- What an action senses after the knowledge lines are noted one by one: the slot of a pair, and the smallest and the largest fluent of the
+-- action. Noting a line touches the slots of its own pair and action alone, and the bounds only grow. Assumes nothing.
+use Prim.Native.Nat.{ℕ, _+_, _-_, _*_, _≤_, _<_, max}
+use native.Mathlib.Omega.{arith}
+use mathlib.Core.Path.{_≡_, refl, sym, _∙_, ap, subst}
+use mathlib.Core.Bool.{Bool, true}
+use mathlib.Core.List.{List, [], _∷_}
+use mathlib.Core.Logic.{inl, inr, ⊎-elim}
+use lib.ListN.{length, getD, set, length-set}
+use lib.Seq.{getD-set-same}
+use lib.Dec.{eqb, ltb}
+use borrow.Author.Tests.{eqb-true, eqb-false, eq-eqb, ltb-true, ltb-false, lt-ltb}
+use Rattle.meaning.specs.Tests.{both, either, some-of}
+use Rattle.meaning.specs.Requests.{Knowledge}
+use Rattle.meaning.proofs.TestLaws.{by-test, clash, same-test, both-left, both-right, both-true, either-left, either-right, either-split, pick-true, pick-false, Has}
+use Rattle.reading.specs.Noted.{knowledge, raised, pair-noted, note-line, lines-noted}
+use Rattle.reading.proofs.KeptLaws.{kept, raised-kept, raised-long, note-long}
+
+raised-same : (slot v : ℕ) (t : List ℕ) → slot < length t → getD (raised slot v t) slot 0 ≡ max (getD t slot 0) v
+unfolding raised
+raised-same slot v t inside =
+    by-test (ltb (getD t slot 0) v)
+    (λ e.
+    let less = ltb-true (getD t slot 0) v e in
+    rw (pick-true (ltb (getD t slot 0) v) (λ _. set t slot v) (λ _. t) e) (getD-set-same t slot v 0 inside ∙ omega arith))
+    (λ e.
+    let most = ltb-false (getD t slot 0) v e in
+    rw (pick-false (ltb (getD t slot 0) v) (λ _. set t slot v) (λ _. t) e) (omega arith))
+
+-- ONE LINE of action b and fluent g.
+module _ (b g : ℕ) (acts : b < 64) (fits : g < 64) (t : List ℕ) (sized : length t ≡ 9480) where
+  one : List ℕ
+  one = set t (5384 + (64 * b + g)) 1
+
+  one-long : length one ≡ 9480
+  unfolding one
+  one-long = length-set t (5384 + (64 * b + g)) 1 ∙ sized
+
+  two-long : length (raised (5248 + b) (64 - g) one) ≡ 9480
+  two-long = raised-long (5248 + b) (64 - g) one ∙ one-long
+
+  pair-slot : (j : ℕ) → 5384 ≤ j → getD (pair-noted b g t) j 0 ≡ getD one j 0
+  unfolding pair-noted one
+  pair-slot j far = raised-kept j (5312 + b) (g + 1) (raised (5248 + b) (64 - g) one) (λ e. omega arith) ∙ raised-kept j (5248 + b) (64 - g) one (λ e. omega arith)
+
+  pair-same : getD (pair-noted b g t) (5384 + (64 * b + g)) 0 ≡ 1
+  unfolding one
+  pair-same = pair-slot (5384 + (64 * b + g)) (omega arith) ∙ getD-set-same t (5384 + (64 * b + g)) 1 0 (omega arith)
+
+  pair-other : (a f : ℕ) → a < 64 → f < 64 → (b ≡ a → g ≡ f → ⊥) → getD (pair-noted b g t) (5384 + (64 * a + f)) 0 ≡ getD t (5384 + (64 * a + f)) 0
+  unfolding one
+  pair-other a f small low other =
+      pair-slot (5384 + (64 * a + f)) (omega arith)
+      ∙ kept t (5384 + (64 * b + g)) (5384 + (64 * a + f)) 1 (λ e. other (omega arith) (omega arith))
+
+  from-slot : (a : ℕ) → a < 64 → getD (pair-noted b g t) (5248 + a) 0 ≡ getD (raised (5248 + b) (64 - g) one) (5248 + a) 0
+  unfolding pair-noted one
+  from-slot a small = raised-kept (5248 + a) (5312 + b) (g + 1) (raised (5248 + b) (64 - g) one) (λ e. omega arith)
+
+  from-same : getD (pair-noted b g t) (5248 + b) 0 ≡ max (getD t (5248 + b) 0) (64 - g)
+  unfolding one
+  from-same =
+      from-slot b acts
+      ∙ raised-same (5248 + b) (64 - g) one (omega (arith, one-long))
+      ∙ ap (λ (v : ℕ). max v (64 - g)) (kept t (5384 + (64 * b + g)) (5248 + b) 1 (λ e. omega arith))
+
+  from-other : (a : ℕ) → a < 64 → (b ≡ a → ⊥) → getD (pair-noted b g t) (5248 + a) 0 ≡ getD t (5248 + a) 0
+  unfolding one
+  from-other a small other =
+      from-slot a small
+      ∙ raised-kept (5248 + a) (5248 + b) (64 - g) one (λ e. other (omega arith))
+      ∙ kept t (5384 + (64 * b + g)) (5248 + a) 1 (λ e. omega arith)
+
+  to-below : (a : ℕ) → a < 64 → getD (raised (5248 + b) (64 - g) one) (5312 + a) 0 ≡ getD t (5312 + a) 0
+  unfolding one
+  to-below a small = raised-kept (5312 + a) (5248 + b) (64 - g) one (λ e. omega arith) ∙ kept t (5384 + (64 * b + g)) (5312 + a) 1 (λ e. omega arith)
+
+  to-same : getD (pair-noted b g t) (5312 + b) 0 ≡ max (getD t (5312 + b) 0) (g + 1)
+  unfolding pair-noted one
+  to-same =
+      raised-same (5312 + b) (g + 1) (raised (5248 + b) (64 - g) one) (omega (arith, two-long))
+      ∙ ap (λ (v : ℕ). max v (g + 1)) (to-below b acts)
+
+  to-other : (a : ℕ) → a < 64 → (b ≡ a → ⊥) → getD (pair-noted b g t) (5312 + a) 0 ≡ getD t (5312 + a) 0
+  unfolding pair-noted one
+  to-other a small other = raised-kept (5312 + a) (5312 + b) (g + 1) (raised (5248 + b) (64 - g) one) (λ e. other (omega arith)) ∙ to-below a small
+
+-- WHAT THE TABLE SAYS of an action that senses just the fluents of `seen`.
+pub record Sensed (t : List ℕ) (a : ℕ) (seen : ℕ → Bool) : Type 0 where
+  pub slot : (f : ℕ) → f < 64 → ltb 0 (getD t (5384 + (64 * a + f)) 0) ≡ seen f
+  pub most : getD t (5248 + a) 0 ≤ 64
+  pub from : (f : ℕ) → seen f ≡ true → 64 - getD t (5248 + a) 0 ≤ f
+  pub to : (f : ℕ) → seen f ≡ true → f < getD t (5312 + a) 0
+  pub last : getD t (5312 + a) 0 ≤ 64
+  pub some : 0 < getD t (5312 + a) 0 → (f : ℕ) × (seen f ≡ true)
+
+module _ (a : ℕ) where
+  -- A line says that the action senses the fluent.
+  unfoldable pub says : Knowledge → ℕ → Bool
+  says l f = both (eqb (l .action) a) (eqb (l .fluent) f)
+
+  unfoldable pub seen-after : (ℕ → Bool) → List Knowledge → ℕ → Bool
+  seen-after seen [] = seen
+  seen-after seen (l ∷ ls) = seen-after (λ f. either (seen f) (says l f)) ls
+
+  pub seen-some : (seen : ℕ → Bool) (ls : List Knowledge) (f : ℕ) → seen-after seen ls f ≡ either (seen f) (some-of (λ (l : Knowledge). says l f) ls)
+  unfolding seen-after some-of either
+  seen-some seen [] f = by-test (seen f) (λ e. rw e) (λ e. rw e)
+  seen-some seen (l ∷ ls) f = seen-some (λ g. either (seen g) (says l g)) ls f ∙ by-test (seen f) (λ e. rw e) (λ e. rw e)
+
+  module _ (small : a < 64) (l : Knowledge) (acts : l .action < 64) (fits : l .fluent < 64) (t : List ℕ) (sized : length t ≡ 9480) (seen : ℕ → Bool) (before : Sensed t a seen) where
+    -- Of another action: the slots of action a stay.
+    other-noted : (l .action ≡ a → ⊥) → Sensed (pair-noted (l .action) (l .fluent) t) a (λ f. either (seen f) (says l f))
+    unfolding says
+    other-noted other =
+        let from-is = from-other (l .action) (l .fluent) acts fits t sized a small other in
+        let to-is = to-other (l .action) (l .fluent) acts fits t sized a small other in
+        let was : (f : ℕ) → either (seen f) (both (eqb (l .action) a) (eqb (l .fluent) f)) ≡ true → seen f ≡ true = λ f e. ⊎-elim (λ h. h) (λ h. absurd (other (eqb-true _ _ (both-left _ _ h)))) (either-split _ _ e) in
+        let most = before .most in let last = before .last in
+        record {
+          slot = λ f low.
+              ap (ltb 0) (pair-other (l .action) (l .fluent) acts fits t sized a f small low (λ e _. other e))
+              ∙ before .slot f low
+              ∙ same-test (seen f) (either (seen f) (both (eqb (l .action) a) (eqb (l .fluent) f))) (either-left (seen f) (both (eqb (l .action) a) (eqb (l .fluent) f))) (was f);
+          most = omega arith;
+          from = λ f e. let h = before .from f (was f e) in rw from-is h;
+          to = λ f e. let h = before .to f (was f e) in rw to-is h;
+          last = omega arith;
+          some = λ h. let w = before .some (omega arith) in (w .0, either-left _ _ (w .1));
+        }
+
+    -- Of action a itself.
+    own-noted : l .action ≡ a → Sensed (pair-noted (l .action) (l .fluent) t) a (λ f. either (seen f) (says l f))
+    unfolding says
+    own-noted is =
+        let from-is : getD (pair-noted (l .action) (l .fluent) t) (5248 + a) 0 ≡ max (getD t (5248 + a) 0) (64 - l .fluent) = subst (λ (b : ℕ). getD (pair-noted (l .action) (l .fluent) t) (5248 + b) 0 ≡ max (getD t (5248 + b) 0) (64 - l .fluent)) is (from-same (l .action) (l .fluent) acts fits t sized) in
+        let to-is : getD (pair-noted (l .action) (l .fluent) t) (5312 + a) 0 ≡ max (getD t (5312 + a) 0) (l .fluent + 1) = subst (λ (b : ℕ). getD (pair-noted (l .action) (l .fluent) t) (5312 + b) 0 ≡ max (getD t (5312 + b) 0) (l .fluent + 1)) is (to-same (l .action) (l .fluent) acts fits t sized) in
+        let most = before .most in let last = before .last in
+        record {
+          slot = λ f low.
+              by-test (eqb (l .fluent) f)
+              (λ e.
+              ap (ltb 0) (subst (λ (b : ℕ). getD (pair-noted (l .action) (l .fluent) t) (5384 + (64 * b + f)) 0 ≡ 1) is
+              (subst (λ (g : ℕ). getD (pair-noted (l .action) (l .fluent) t) (5384 + (64 * l .action + g)) 0 ≡ 1) (eqb-true _ _ e) (pair-same (l .action) (l .fluent) acts fits t sized)))
+              ∙ lt-ltb 0 1 (omega arith)
+              ∙ sym (either-right _ _ (both-true _ _ (eq-eqb _ _ is) e)))
+              (λ e.
+              ap (ltb 0) (pair-other (l .action) (l .fluent) acts fits t sized a f small low (λ _ h. eqb-false _ _ e h))
+              ∙ before .slot f low
+              ∙ same-test (seen f) (either (seen f) (both (eqb (l .action) a) (eqb (l .fluent) f))) (either-left (seen f) (both (eqb (l .action) a) (eqb (l .fluent) f)))
+              (λ h. ⊎-elim (λ i. i) (λ i. clash (both-right _ _ i) e) (either-split _ _ h)));
+          most = omega arith;
+          from = λ f e.
+              ⊎-elim
+              (λ h. let i = before .from f h in omega arith)
+              (λ h. let i : l .fluent ≡ f = eqb-true _ _ (both-right _ _ h) in omega arith)
+              (either-split _ _ e);
+          to = λ f e.
+              ⊎-elim
+              (λ h. let i = before .to f h in omega arith)
+              (λ h. let i : l .fluent ≡ f = eqb-true _ _ (both-right _ _ h) in omega arith)
+              (either-split _ _ e);
+          last = omega arith;
+          some = λ _. (l .fluent, either-right _ _ (both-true _ _ (eq-eqb _ _ is) (eq-eqb (l .fluent) (l .fluent) refl)));
+        }
+
+    line-sensed : Sensed (pair-noted (l .action) (l .fluent) t) a (λ f. either (seen f) (says l f))
+    line-sensed = by-test (eqb (l .action) a) (λ e. own-noted (eqb-true _ _ e)) (λ e. other-noted (eqb-false _ _ e))
+
+  -- ALL LINES.
+  pub lines-sensed : a < 64 → (k : ℕ) (ls : List Knowledge) (t : List ℕ) (seen : ℕ → Bool) → length t ≡ 9480 → ((l : Knowledge) → Has ls l → (l .action < 64) × (l .fluent < 64)) → Sensed t a seen
+      → Sensed (lines-noted (note-line knowledge) k ls t) a (seen-after seen ls)
+  unfolding lines-noted seen-after note-line
+  lines-sensed small k [] t seen sized good before = before
+  lines-sensed small k (l ∷ ls) t seen sized good before =
+      let here = good l (inl refl) in
+      lines-sensed small (k + 1) ls (note-line knowledge (k + 1) l t) (λ f. either (seen f) (says l f)) (note-long knowledge (k + 1) l t ∙ sized) (λ m has. good m (inr has))
+      (line-sensed small l (here .0) (here .1) t sized seen before)

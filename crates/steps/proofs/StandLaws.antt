@@ -1,0 +1,101 @@
+-- What the lines, the goals and the whether entries say, by the bytes where they stand: each was read there, and reading keeps its place.
+-- Assumes nothing.
+use Prim.Native.Nat.{ℕ, zero, suc, _+_, _-_, _<_}
+use native.Mathlib.Omega.{arith}
+use mathlib.Core.Path.{_≡_, refl, sym, _∙_, ap, subst}
+use mathlib.Core.List.{List}
+use lib.ListN.{length, getD}
+use Rattle.meaning.specs.Limits.{format}
+use Rattle.meaning.specs.Requests.{Executability, Knowledge, Table, Request}
+use Rattle.meaning.specs.Reading
+use Rattle.meaning.specs.Reading.{Got, got, fault, literals, bound-of, below-at, list-at, body-at, executability-at, knowledge-at, placed, plan-at, table-at, request-at, read-request}
+use Rattle.meaning.proofs.TestLaws.{Has}
+use Rattle.meaning.proofs.SettledLaws.{got-same}
+use Rattle.meaning.proofs.RangeLaws.{not-refused, after-got, section-read}
+use Rattle.reading.specs.Requested.{goals-place}
+use Rattle.reading.specs.Listed.{bytes-from, listed, List-here}
+use Rattle.reading.proofs.SectionLaws.{number-got}
+use Rattle.reading.proofs.PlanSizes.{list-through}
+use Rattle.reading.proofs.RequestLaws.{placed-length}
+use Rattle.reading.proofs.HereLaws.{list-here}
+use Rattle.reading.proofs.ReadLaws.{Table-parts}
+
+module _ (s : List ℕ) (t : Table) (p : ℕ) (whole : Table-parts s t p) where
+  pub run-stands : (r : Executability) → Has (t .executability) r → (listed s (r .place + 1) ≡ r .body) × List-here 128 s (r .place + 1)
+  unfolding executability-at body-at bound-of
+  run-stands r has =
+      let w = section-read (executability-at format (t .fluents) (t .actions) s) s (whole .effects-end) (t .executability) (whole .runs-end) (whole .runs-read) r has in
+      after-got (below-at (t .actions) s (w .0)) _ (w .2) λ a i ea e₁.
+      after-got (body-at format (t .fluents) s i) _ e₁ λ b j eb e₂.
+      let after : w .0 + 1 ≡ i = number-got (t .actions) s (w .0) a i ea .2 in
+      let body = list-here literals (t .fluents) s 16 i b j eb in
+      let few = whole .few in
+      let is : record { place = w .0; action = a; body = b } ≡ r = got-same e₂ in
+      subst (λ (y : Executability). (listed s (y .place + 1) ≡ y .body) × List-here 128 s (y .place + 1)) is
+      (rw after (body .0, body .1 128 (omega arith)))
+
+  pub knowledge-small : (k : Knowledge) → Has (t .knowledge) k → k .fluent < 64
+  unfolding knowledge-at
+  knowledge-small k has =
+      let w = section-read (knowledge-at format (t .fluents) (t .actions) s) s (whole .runs-end) (t .knowledge) p (whole .knowledge-read) k has in
+      after-got (below-at (t .actions) s (w .0)) _ (w .2) λ a i ea e₁.
+      after-got (below-at (t .fluents) s i) _ e₁ λ f j ef e₂.
+      let small = number-got (t .fluents) s i f j ef .3 in
+      let few = whole .few in
+      let is : f ≡ k .fluent = ap (λ (y : Knowledge). y .fluent) (got-same e₂) in
+      omega arith
+
+-- THE GOALS AND THE WHETHER ENTRIES of a request that was read.
+pub record Ends-read (s : List ℕ) (x : Request) : Type 0 where
+  pub goals : List ℕ
+  pub whether : List ℕ
+  pub whether-at : ℕ
+  pub end : ℕ
+  pub goals-read : list-at literals (x .table .fluents) 64 s (goals-place x) ≡ got goals whether-at
+  pub whether-read : list-at Reading.fluents (x .table .fluents) 64 s whether-at ≡ got whether end
+  pub goals-are : x .goals ≡ placed (goals-place x + 1) goals
+  pub whether-are : x .whether ≡ placed (whether-at + 1) whether
+
+request-ends : (s : List ℕ) (t : Table) (p : ℕ) (y : Request) (q : ℕ) → request-at format s t p ≡ got y q → Ends-read s y
+unfolding request-at goals-place
+request-ends s t p y q e =
+    after-got (plan-at format (t .fluents) (t .actions) s p) _ e λ plan q₁ _ v₁.
+    after-got (list-at literals (t .fluents) 64 s q₁) _ v₁ λ goals q₂ egoals v₂.
+    after-got (list-at Reading.fluents (t .fluents) 64 s q₂) _ v₂ λ whether q₃ ewhether v₃.
+    let ends = list-through s literals (t .fluents) 64 q₁ .holds goals q₂ egoals .after in
+    let sized = placed-length (q₁ + 1) goals in
+    let at : q₂ - (1 + length (placed (q₁ + 1) goals)) ≡ q₁ = omega arith in
+    subst on v₃ (record {
+      goals = goals;
+      whether = whether;
+      whether-at = q₂;
+      end = q₃;
+      goals-read = rw at egoals;
+      whether-read = ewhether;
+      goals-are = ap (λ (i : ℕ). placed (i + 1) goals) (sym at);
+      whether-are = refl;
+    })
+  where
+    on : Got Request → Type 0
+    on (got x i) = Ends-read s x
+    on (fault n i) = Unit {0}
+
+pub ends-read : (s : List ℕ) (x : Request) (e : ℕ) → read-request format s ≡ got x e → Ends-read s x
+unfolding read-request
+ends-read s x e read =
+    after-got (table-at format s 0) _ (not-refused _ _ _ _ read .1) λ t p et e₁.
+    after-got (request-at format s t p) _ e₁ λ y q ey e₂.
+    subst (Ends-read s) (got-same (not-refused _ _ _ _ e₂ .1)) (request-ends s t p y q ey)
+
+-- A list that was read, and the place after it.
+bytes-length : (s : List ℕ) (p k : ℕ) → length (bytes-from s p k) ≡ k
+unfolding bytes-from
+bytes-length s p zero = refl
+bytes-length s p (suc k) = ap suc (bytes-length s (p + 1) k)
+
+pub list-after : (kind : Reading.Kind) (n most : ℕ) (s : List ℕ) (p : ℕ) (xs : List ℕ) (q : ℕ) → list-at kind n most s p ≡ got xs q → q ≡ p + 1 + getD s p 0
+unfolding listed
+list-after kind n most s p xs q e =
+    let ends = list-through s kind n most p .holds xs q e .after in
+    let sized : length xs ≡ getD s p 0 = ap length (sym (list-here kind n s most p xs q e .0)) ∙ bytes-length s (p + 1) (getD s p 0) in
+    omega arith
