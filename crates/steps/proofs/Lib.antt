@@ -1,2 +1,4 @@
 pub mod Served
+pub mod NextSlots
+pub mod SmallActions
 pub mod Laid
