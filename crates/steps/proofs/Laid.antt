@@ -4,7 +4,7 @@ use Prim.Native.Nat.{ℕ, _+_, _-_, _≤_, _<_}
 use native.Mathlib.Omega.{arith}
 use mathlib.Core.Path.{_≡_, refl, sym, _∙_, ap, subst}
 use mathlib.Core.List.{List}
-use lib.ListN.{length, getD, set, replicate, length-replicate}
+use lib.ListN.{length, getD, set, length-replicate}
 use lib.Dec.{leb, ltb}
 use borrow.Author.Tests.{ltb-true, ltb-false, leb-true, leb-false, le-leb, lt-leb}
 use Rattle.meaning.specs.Requests.{Sequence, done, item, Item, act, branching, Branches, none, branch, Request}
@@ -12,14 +12,14 @@ use Rattle.meaning.specs.Derivations.{join}
 use Rattle.meaning.proofs.TestLaws.{by-test, pick-true, pick-false}
 use Rattle.reading.specs.Noted.{table-noted}
 use Rattle.reading.specs.Planned.{items-of, items-in, items-under, bytes-of, place-of, following, plan-noted}
-use Rattle.reading.specs.Plans.{Written, Item-written, Branches-written, Kept, Item-kept, Branches-kept, Plan-held}
+use Rattle.reading.specs.Plans.{Written, Item-written, Branches-written, Kept, Item-kept, Branches-kept}
 use Rattle.reading.specs.Requested.{goals-place, plan-place, places-noted, request-noted}
 use Rattle.reading.specs.Settled.{blank}
 use Rattle.reading.proofs.KeptLaws.{kept}
 use Rattle.reading.proofs.PlanOverlaps.{some-item}
 use Rattle.reading.proofs.ReadLaws.{Parts, parts, tabled-long, request-held}
 use Rattle.steps.specs.AtHand.{request-of, request-in, At-hand}
-use Rattle.steps.specs.Rests.{rest-in, rest-within, rest-under, rest-at, after-first, onward, Position, Next, Branch-laid, Branches-laid, Inside-laid, Item-laid}
+use Rattle.steps.specs.Rests.{rest-in, rest-within, rest-under, rest-at, after-first, span, onward, Next, Branches-laid, Inside-laid, Item-laid}
 use Rattle.steps.proofs.NextSlots.{Nexts, Inside-nexts, Under-nexts, nexts-agree, plan-nexts}
 use Rattle.steps.proofs.SmallActions.{Small, Small-item, Small-under, plan-small}
 use Rattle.steps.proofs.RestLaws.{rest-first, rest-inner, rest-later, under-here, under-later, rest-start, rest-past}
@@ -33,6 +33,7 @@ module _ (s t : List ℕ) (plan : Sequence ℕ) (most : items-of plan ≤ 1024) 
   record Around (up met hi : ℕ) (after : Sequence ℕ) : Type 0 where
     top : up ≤ 1024 → up ≡ 1024
     around : 1024 < up → up < 1025 + met
+    within : 1024 < up → hi ≤ up - 1025 + span (rest-at plan (up - 1025))
     rest : onward plan up ≡ after
 
   around-part : (up met hi met′ hi′ : ℕ) (after : Sequence ℕ) → met ≤ met′ → hi′ ≤ hi → Around up met hi after → Around up met′ hi′ after
@@ -40,17 +41,19 @@ module _ (s t : List ℕ) (plan : Sequence ℕ) (most : items-of plan ≤ 1024) 
       record {
         top = r .top;
         around = λ h. let c = r .around h in omega (arith, a, c);
+        within = λ h. let c = r .within h in omega (arith, b, c);
         rest = r .rest;
       }
 
   -- The items inside a branching have it around them.
   around-inside : (p : ℕ) (bs : Branches ℕ) (met : ℕ) (after : Sequence ℕ) → rest-at plan met ≡ item (branching p bs) after → Around (1025 + met) (met + 1) (met + 1 + items-under bs) after
-  unfolding onward after-first items-in
+  unfolding onward after-first span items-in
   around-inside p bs met after this =
       let back : 1025 + met - 1025 ≡ met = omega arith in
       record {
         top = λ h. absurd (omega (arith, h));
         around = λ h. omega arith;
+        within = λ h. rw (back, this) (omega arith);
         rest = pick-false _ _ _ (lt-leb (1025 + met) 1024 (omega arith)) ∙ rw (back, this);
       }
 
@@ -61,24 +64,26 @@ module _ (s t : List ℕ) (plan : Sequence ℕ) (most : items-of plan ≤ 1024) 
       → rest-at plan met ≡ item x (join b after)
       → Left (met + items-in x) (met + items-in x + items-of b) (λ i. rest-in b (met + items-in x) i after)
       → Next t plan met (join b after)
-  unfolding following join items-of onward
+  unfolding following join items-of span onward
   next-laid x done up met after room slot r this left =
-      let own = some-item x in
+      let own : span (rest-at plan met) ≡ items-in x = ap span this in
       record {
         later = λ h. let end = r .top (omega (arith, h, slot)) in omega (arith, own, slot, end, room, most);
         at = λ h.
             let end = r .top (omega (arith, h, slot)) in
             rw slot (record { most = omega (arith, end); there = λ other. absurd (other end) });
         around = λ h. let low = r .around (omega (arith, h, slot)) in omega (arith, low, slot);
+        within = λ h. let end = r .within (omega (arith, h, slot)) in rw slot (omega (arith, own, end));
         rest = rw slot (r .rest);
       }
   next-laid x (item y b) up met after room slot r this left =
-      let own = some-item x in
+      let own : span (rest-at plan met) ≡ items-in x = ap span this in
       let some = some-item y in
       record {
         later = λ h. omega (arith, own, slot);
         at = λ h. rw slot (record { most = omega (arith, room, most); there = λ _. omega (arith, room, some) });
         around = λ h. absurd (omega (arith, h, slot, room, most));
+        within = λ h. absurd (omega (arith, h, slot, room, most));
         rest = rw slot (
             pick-true _ _ _ (le-leb (met + items-in x) 1024 (omega (arith, room, most)))
             ∙ left (met + items-in x) (omega arith) (omega (arith, some))
@@ -192,6 +197,7 @@ module _ (s t : List ℕ) (plan : Sequence ℕ) (most : items-of plan ≤ 1024) 
       (record {
         top = λ h. refl;
         around = λ h. absurd (omega (arith, h));
+        within = λ h. absurd (omega (arith, h));
         rest = pick-true _ _ _ (le-leb 1024 1024 (omega arith)) ∙ rest-past plan 0 1024 done (omega (arith, most));
       })
       (λ j lo hi. refl)

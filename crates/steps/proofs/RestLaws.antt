@@ -5,10 +5,10 @@ use native.Mathlib.Omega.{arith}
 use mathlib.Core.Path.{_≡_, refl, _∙_}
 use mathlib.Core.List.{List}
 use borrow.Author.Tests.{lt-ltb, le-ltb, le-leb, lt-leb}
-use Rattle.meaning.specs.Requests.{Sequence, done, item, Item, act, branching, Branches, none, branch}
+use Rattle.meaning.specs.Requests.{Sequence, done, item, Item, Branches, branch}
 use Rattle.meaning.specs.Derivations.{join}
 use Rattle.meaning.proofs.TestLaws.{pick-true, pick-false}
-use Rattle.reading.specs.Planned.{items-of, items-in, items-under}
+use Rattle.reading.specs.Planned.{items-of, items-in}
 use Rattle.reading.proofs.PlanOverlaps.{some-item}
 use Rattle.steps.specs.Rests.{rest-in, rest-within, rest-under}
 
