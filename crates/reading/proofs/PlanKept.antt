@@ -43,7 +43,7 @@ mutual
       ∙ inside-length i met (set t (0 + met) (place-of i))
       ∙ length-set t (0 + met) (place-of i)
 
-  inside-length : (i : Item ℕ) (met : ℕ) (t : List ℕ) → length (inside-noted met t i) ≡ length t
+  pub inside-length : (i : Item ℕ) (met : ℕ) (t : List ℕ) → length (inside-noted met t i) ≡ length t
   inside-length (act p a) met t = refl
   inside-length (branching p bs) met t = branches-length bs (1025 + met) (met + 1) (p + 2) t
 
@@ -87,7 +87,7 @@ mutual
   inside-other (act p a) met t x few apart = refl
   inside-other (branching p bs) met t x few apart = branches-other bs (1025 + met) (met + 1) (p + 2) t x (omega (arith, few)) (λ a d e. apart a (omega (arith, d)) (omega (arith, e)))
 
-  branches-other : (bs : Branches ℕ) (up met p : ℕ) (t : List ℕ) (x : ℕ) → met + items-under bs ≤ 1024 → Off met (met + items-under bs) x → getD (branches-noted up met p t bs) x 0 ≡ getD t x 0
+  pub branches-other : (bs : Branches ℕ) (up met p : ℕ) (t : List ℕ) (x : ℕ) → met + items-under bs ≤ 1024 → Off met (met + items-under bs) x → getD (branches-noted up met p t bs) x 0 ≡ getD t x 0
   branches-other none up met p t x few apart = refl
   branches-other (branch c b rest) up met p t x few apart =
       branches-other rest up (met + items-of b) (p + (1 + length c) + (2 + bytes-of b)) (rest-noted up met met (p + (1 + length c) + 2) t b) x (omega (arith, few)) (λ a d e. apart a (omega (arith, d)) (omega (arith, e)))

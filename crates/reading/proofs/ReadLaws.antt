@@ -189,7 +189,7 @@ module _ (s : List ℕ) (bytes : (i : ℕ) → getD s i 0 < 256) (x : Request) (
       let a = sized .counted in let b = sized .most in
       (omega arith, omega arith)
 
-  tabled-long : {n : ℕ} → length t ≡ n → length (table-noted (x .table) t) ≡ n
+  pub tabled-long : {n : ℕ} → length t ≡ n → length (table-noted (x .table) t) ≡ n
   unfolding table-noted
   tabled-long sized =
       section-long knowledge (x .table .knowledge) (section-noted executability (x .table .executability) (section-noted effects (x .table .effects) t))

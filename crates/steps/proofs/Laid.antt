@@ -1,10 +1,243 @@
--- The table that reading left leads through the plan. Assumes nothing.
-use Prim.Native.Nat.{ℕ, _<_}
+-- The table that reading left leads through the plan: by induction on the plan's tree, where a part is given what is left of the whole plan
+-- from each of its items on, and what stands around and behind it. Assumes nothing.
+use Prim.Native.Nat.{ℕ, _+_, _-_, _≤_, _<_}
+use native.Mathlib.Omega.{arith}
+use mathlib.Core.Path.{_≡_, refl, sym, _∙_, ap, subst}
 use mathlib.Core.List.{List}
-use Rattle.reading.specs.Planned.{items-of}
-use Rattle.steps.specs.AtHand.{request-in, At-hand}
-use Rattle.steps.specs.Rests.{Item-laid}
+use lib.ListN.{length, getD, set, length-replicate}
+use lib.Dec.{leb, ltb}
+use borrow.Author.Tests.{ltb-true, ltb-false, leb-true, leb-false, le-leb, lt-leb}
+use Rattle.meaning.specs.Requests.{Sequence, done, item, Item, act, branching, Branches, none, branch, Request}
+use Rattle.meaning.specs.Derivations.{join}
+use Rattle.meaning.proofs.TestLaws.{by-test, pick-true, pick-false}
+use Rattle.reading.specs.Noted.{table-noted}
+use Rattle.reading.specs.Planned.{items-of, items-in, items-under, bytes-of, place-of, following, plan-noted}
+use Rattle.reading.specs.Plans.{Written, Item-written, Branches-written, Kept, Item-kept, Branches-kept}
+use Rattle.reading.specs.Requested.{goals-place, plan-place, places-noted, request-noted}
+use Rattle.reading.specs.Settled.{blank}
+use Rattle.reading.proofs.KeptLaws.{kept}
+use Rattle.reading.proofs.PlanOverlaps.{some-item}
+use Rattle.reading.proofs.ReadLaws.{Parts, parts, tabled-long, request-held}
+use Rattle.steps.specs.AtHand.{request-of, request-in, At-hand}
+use Rattle.steps.specs.Rests.{rest-in, rest-within, rest-under, rest-at, after-first, span, onward, Next, Branches-laid, Inside-laid, Item-laid}
+use Rattle.steps.proofs.NextSlots.{Nexts, Inside-nexts, Under-nexts, nexts-agree, plan-nexts}
+use Rattle.steps.proofs.SmallActions.{Small, Small-item, Small-under, plan-small}
+use Rattle.steps.proofs.RestLaws.{rest-first, rest-inner, rest-later, under-here, under-later, rest-start, rest-past}
+
+module _ (s t : List ℕ) (plan : Sequence ℕ) (most : items-of plan ≤ 1024) where
+  -- What is left of the plan from each item from lo up to hi.
+  abbrev Left : (lo hi : ℕ) → (ℕ → Sequence ℕ) → Type 0
+  Left lo hi f = (i : ℕ) → lo ≤ i → i < hi → rest-at plan i ≡ f i
+
+  -- What stands around a sequence with `met` items before it, which ends before item hi, and what is behind it.
+  record Around (up met hi : ℕ) (after : Sequence ℕ) : Type 0 where
+    top : up ≤ 1024 → up ≡ 1024
+    around : 1024 < up → up < 1025 + met
+    within : 1024 < up → hi ≤ up - 1025 + span (rest-at plan (up - 1025))
+    rest : onward plan up ≡ after
+
+  around-part : (up met hi met′ hi′ : ℕ) (after : Sequence ℕ) → met ≤ met′ → hi′ ≤ hi → Around up met hi after → Around up met′ hi′ after
+  around-part up met hi met′ hi′ after a b r =
+      record {
+        top = r .top;
+        around = λ h. let c = r .around h in omega (arith, a, c);
+        within = λ h. let c = r .within h in omega (arith, b, c);
+        rest = r .rest;
+      }
+
+  -- The items inside a branching have it around them.
+  around-inside : (p : ℕ) (bs : Branches ℕ) (met : ℕ) (after : Sequence ℕ) → rest-at plan met ≡ item (branching p bs) after → Around (1025 + met) (met + 1) (met + 1 + items-under bs) after
+  unfolding onward after-first span items-in
+  around-inside p bs met after this =
+      let back : 1025 + met - 1025 ≡ met = omega arith in
+      record {
+        top = λ h. absurd (omega (arith, h));
+        around = λ h. omega arith;
+        within = λ h. rw (back, this) (omega arith);
+        rest = pick-false _ _ _ (lt-leb (1025 + met) 1024 (omega arith)) ∙ rw (back, this);
+      }
+
+  -- WHAT IS NEXT.
+  next-laid : (x : Item ℕ) (b : Sequence ℕ) (up met : ℕ) (after : Sequence ℕ) → met + (items-in x + items-of b) ≤ items-of plan
+      → getD t (1024 + met) 0 ≡ following up (met + items-in x) b
+      → Around up met (met + (items-in x + items-of b)) after
+      → rest-at plan met ≡ item x (join b after)
+      → Left (met + items-in x) (met + items-in x + items-of b) (λ i. rest-in b (met + items-in x) i after)
+      → Next t plan met (join b after)
+  unfolding following join items-of span onward
+  next-laid x done up met after room slot r this left =
+      let own : span (rest-at plan met) ≡ items-in x = ap span this in
+      record {
+        later = λ h. let end = r .top (omega (arith, h, slot)) in omega (arith, own, slot, end, room, most);
+        at = λ h.
+            let end = r .top (omega (arith, h, slot)) in
+            rw slot (record { most = omega (arith, end); there = λ other. absurd (other end) });
+        around = λ h. let low = r .around (omega (arith, h, slot)) in omega (arith, low, slot);
+        within = λ h. let end = r .within (omega (arith, h, slot)) in rw slot (omega (arith, own, end));
+        rest = rw slot (r .rest);
+      }
+  next-laid x (item y b) up met after room slot r this left =
+      let own : span (rest-at plan met) ≡ items-in x = ap span this in
+      let some = some-item y in
+      record {
+        later = λ h. omega (arith, own, slot);
+        at = λ h. rw slot (record { most = omega (arith, room, most); there = λ _. omega (arith, room, some) });
+        around = λ h. absurd (omega (arith, h, slot, room, most));
+        within = λ h. absurd (omega (arith, h, slot, room, most));
+        rest = rw slot (
+            pick-true _ _ _ (le-leb (met + items-in x) 1024 (omega (arith, room, most)))
+            ∙ left (met + items-in x) (omega arith) (omega (arith, some))
+            ∙ rest-first y b (met + items-in x) after
+            );
+      }
+
+  -- WHAT STANDS INSIDE.
+  branches-laid : (bs : Branches ℕ) (met p : ℕ) (after : Sequence ℕ) → met + items-under bs ≤ items-of plan → Branches-kept t met p bs
+      → Left met (met + items-under bs) (λ i. rest-under bs met i after)
+      → Branches-laid t plan met p after bs
+  unfolding Branches-laid Branches-kept items-under
+  branches-laid none met p after room k left = tt
+  branches-laid (branch c b bs) met p after room k left = (
+    record {
+      kept = k .0;
+      there = λ some. omega (arith, some, room);
+      rest = λ some. left met (omega arith) (omega (arith, some)) ∙ under-here c b bs met after met (omega (arith, some)) ∙ rest-start b met after some;
+    },
+    branches-laid bs (met + items-of b) (p + (1 + length c) + (2 + bytes-of b)) after (omega (arith, room)) (k .2)
+        (λ i from to. left i (omega (arith, from)) (omega (arith, to)) ∙ under-later c b bs met after i from),
+  )
+
+  inside-laid : (x : Item ℕ) (met : ℕ) (after : Sequence ℕ) → met + items-in x ≤ items-of plan → Item-kept t met x → Small-item x
+      → Left (met + 1) (met + items-in x) (λ i. rest-within x (met + 1) i after)
+      → Inside-laid t plan met after x
+  unfolding Inside-laid Item-kept Small-item items-in rest-within
+  inside-laid (act p a) met after room k small left = small
+  inside-laid (branching p bs) met after room k small left =
+      branches-laid bs (met + 1) (p + 2) after (omega (arith, room)) (k .1) (λ i from to. left i from (omega (arith, to)))
+
+  placed : (x : Item ℕ) (met : ℕ) → Item-kept t met x → getD t (0 + met) 0 ≡ place-of x
+  unfolding Item-kept place-of
+  placed (act p a) met k = k
+  placed (branching p bs) met k = k .0
+
+  -- EACH ITEM.
+  mutual
+    unfolding items-of items-in items-under Written Item-written Branches-written Kept Item-kept Branches-kept Nexts Inside-nexts Under-nexts Small Small-item Small-under rest-within
+
+    laid-in : (b : Sequence ℕ) (up met : ℕ) (after : Sequence ℕ) → met + items-of b ≤ items-of plan
+        → Written s b → Kept t met b → Nexts t up met b → Small b
+        → Around up met (met + items-of b) after
+        → Left met (met + items-of b) (λ i. rest-in b met i after)
+        → (i : ℕ) → met ≤ i → i < met + items-of b → Item-laid s t plan i
+    laid-in done up met after room w k n small r left i from to = absurd (omega (arith, from, to))
+    laid-in (item x b) up met after room w k n small r left i from to =
+        by-test (leb i met)
+        (λ e.
+        let here : met ≡ i = let below = leb-true i met e in omega (arith, below, from) in
+        subst (Item-laid s t plan) here (record {
+          this = x;
+          after = join b after;
+          rest = this;
+          place = placed x met (k .0);
+          written = w .0;
+          inside = inside-laid x met (join b after) (omega (arith, room)) (k .0) (small .0) inner;
+          next = next-laid x b up met after room (n .0) r this later;
+        }))
+        (λ e.
+        let above = leb-false i met e in
+        by-test (ltb i (met + items-in x))
+        (λ f. laid-within x met (join b after) (omega (arith, room)) (w .0) (k .0) (n .1) (small .0) this inner i above (ltb-true i (met + items-in x) f))
+        (λ f. laid-in b up (met + items-in x) after (omega (arith, room)) (w .1) (k .1) (n .2) (small .1)
+        (around-part up met (met + (items-in x + items-of b)) (met + items-in x) (met + items-in x + items-of b) after (omega arith) (omega arith) r)
+        later i (ltb-false i (met + items-in x) f) (omega (arith, to))))
+      where
+        this : rest-at plan met ≡ item x (join b after)
+        this = let some = some-item x in left met (omega arith) (omega (arith, some)) ∙ rest-first x b met after
+
+        inner : Left (met + 1) (met + items-in x) (λ j. rest-within x (met + 1) j (join b after))
+        inner j lo hi = left j (omega (arith, lo)) (omega (arith, hi)) ∙ rest-inner x b met after j (omega (arith, lo)) hi
+
+        later : Left (met + items-in x) (met + items-in x + items-of b) (λ j. rest-in b (met + items-in x) j after)
+        later j lo hi = left j (omega (arith, lo)) (omega (arith, hi)) ∙ rest-later x b met after j lo
+
+    laid-within : (x : Item ℕ) (met : ℕ) (after : Sequence ℕ) → met + items-in x ≤ items-of plan
+        → Item-written s x → Item-kept t met x → Inside-nexts t met x → Small-item x
+        → rest-at plan met ≡ item x after
+        → Left (met + 1) (met + items-in x) (λ i. rest-within x (met + 1) i after)
+        → (i : ℕ) → met < i → i < met + items-in x → Item-laid s t plan i
+    laid-within (act p a) met after room w k n small this left i from to = absurd (omega (arith, from, to))
+    laid-within (branching p bs) met after room w k n small this left i from to =
+        laid-under bs (1025 + met) (met + 1) (p + 2) after (omega (arith, room)) (w .1) (k .1) n small
+        (around-inside p bs met after this)
+        (λ j lo hi. left j lo (omega (arith, hi)))
+        i (omega (arith, from)) (omega (arith, to))
+
+    laid-under : (bs : Branches ℕ) (up met p : ℕ) (after : Sequence ℕ) → met + items-under bs ≤ items-of plan
+        → Branches-written s p bs → Branches-kept t met p bs → Under-nexts t up met bs → Small-under bs
+        → Around up met (met + items-under bs) after
+        → Left met (met + items-under bs) (λ i. rest-under bs met i after)
+        → (i : ℕ) → met ≤ i → i < met + items-under bs → Item-laid s t plan i
+    laid-under none up met p after room w k n small r left i from to = absurd (omega (arith, from, to))
+    laid-under (branch c b bs) up met p after room w k n small r left i from to =
+        by-test (ltb i (met + items-of b))
+        (λ e. laid-in b up met after (omega (arith, room)) (w .1) (k .1) (n .0) (small .0)
+        (around-part up met (met + (items-of b + items-under bs)) met (met + items-of b) after (omega arith) (omega arith) r)
+        (λ j lo hi. left j lo (omega (arith, hi)) ∙ under-here c b bs met after j hi)
+        i from (ltb-true i (met + items-of b) e))
+        (λ e. laid-under bs up (met + items-of b) (p + (1 + length c) + (2 + bytes-of b)) after (omega (arith, room)) (w .2) (k .2) (n .1) (small .1)
+        (around-part up met (met + (items-of b + items-under bs)) (met + items-of b) (met + items-of b + items-under bs) after (omega arith) (omega arith) r)
+        (λ j lo hi. left j (omega (arith, lo)) (omega (arith, hi)) ∙ under-later c b bs met after j lo)
+        i (ltb-false i (met + items-of b) e) (omega (arith, to)))
+
+  -- The whole plan has nothing behind it.
+  plan-laid : Written s plan → Kept t 0 plan → Nexts t 1024 0 plan → Small plan → (i : ℕ) → i < items-of plan → Item-laid s t plan i
+  unfolding rest-at onward
+  plan-laid w k n small i less =
+      laid-in plan 1024 0 done (omega arith) w k n small
+      (record {
+        top = λ h. refl;
+        around = λ h. absurd (omega (arith, h));
+        within = λ h. absurd (omega (arith, h));
+        rest = pick-true _ _ _ (le-leb 1024 1024 (omega arith)) ∙ rest-past plan 0 1024 done (omega (arith, most));
+      })
+      (λ j lo hi. refl)
+      i (omega arith) (omega (arith, less))
+
+-- THE TABLE that reading left.
+blank-long : length blank ≡ 9480
+unfolding blank
+blank-long = let none : ℕ = 0 in length-replicate 9480 none
+
+module _ (s : List ℕ) (bytes : (i : ℕ) → getD s i 0 < 256) (x : Request) (whole : Parts s x) where
+  request-nexts : items-of (x .plan) ≤ 1024 → Nexts (request-noted x blank) 1024 0 (x .plan)
+  unfolding request-noted places-noted
+  request-nexts few =
+      let noted : List ℕ = table-noted (x .table) blank in
+      let planned : List ℕ = plan-noted (plan-place x) noted (x .plan) in
+      let long : length noted ≡ 9480 = tabled-long s bytes x whole blank blank-long in
+      nexts-agree (x .plan) 1024 0 planned (request-noted x blank)
+      (record {
+        slot = λ j _ less.
+            kept (set (set planned 5376 (plan-place x)) 5377 (items-of (x .plan))) 5381 (1024 + j) (goals-place x) (λ e. omega (arith, e, less, few))
+            ∙ kept (set planned 5376 (plan-place x)) 5377 (1024 + j) (items-of (x .plan)) (λ e. omega (arith, e, less, few))
+            ∙ kept planned 5376 (1024 + j) (plan-place x) (λ e. omega (arith, e, less, few));
+      })
+      (plan-nexts (plan-place x) noted (x .plan) few (omega (arith, long)))
+
+  request-laid : (i : ℕ) → i < items-of (x .plan) → Item-laid s (request-noted x blank) (x .plan) i
+  request-laid =
+      let held = request-held s bytes x whole blank blank-long in
+      plan-laid s (request-noted x blank) (x .plan) (held .few) (held .written) (held .kept) (request-nexts (held .few))
+      (plan-small (x .table .fluents) (x .table .actions) s (whole .of-table .less) (whole .place) (record { value = x .plan; items = whole .items }) (whole .plan-end) (whole .plan-read))
 
 module _ (s t : List ℕ) (here : At-hand s t) where
+  read-is : request-in s ≡ here .read .request
+  unfolding request-in request-of
+  read-is = ap request-of (here .read .reads)
+
   pub item-laid : (i : ℕ) → i < items-of (request-in s .plan) → Item-laid s t (request-in s .plan) i
-  item-laid i less = ?
+  item-laid =
+      let x = here .read .request in
+      subst (λ (y : Request). (i : ℕ) → i < items-of (y .plan) → Item-laid s t (y .plan) i) (sym read-is)
+      (subst (λ (u : List ℕ). (i : ℕ) → i < items-of (x .plan) → Item-laid s u (x .plan) i) (sym (here .read .noted))
+      (request-laid s (here .bytes) x (parts s x (here .end) (here .read .reads))))

@@ -3,4 +3,7 @@ pub mod SlotLaws
 pub mod StandLaws
 pub mod SensedLaws
 pub mod Served
+pub mod NextSlots
+pub mod SmallActions
+pub mod RestLaws
 pub mod Laid
