@@ -37,6 +37,11 @@ unfoldable pub after-first : Sequence ℕ → Sequence ℕ
 after-first done = done
 after-first (item x b) = b
 
+-- How many items the first item of what is left has, with those inside it.
+unfoldable pub span : Sequence ℕ → ℕ
+span done = 0
+span (item x b) = items-in x
+
 -- By what the table has as an item's next: an item, 1024, or 1025 and the number of a branching (see the table's slots).
 unfoldable pub onward : Sequence ℕ → ℕ → Sequence ℕ
 onward b c = pick (leb c 1024) (λ _. rest-at b c) (λ _. after-first (rest-at b (c - 1025)))
@@ -46,11 +51,12 @@ pub record Position (b : Sequence ℕ) (at : ℕ) : Type 0 where
   pub most : at ≤ 1024
   pub there : (at ≡ 1024 → ⊥) → at < items-of b
 
--- WHAT STANDS THERE of item i of the plan b.
+-- WHAT STANDS THERE of item i of the plan b. What follows it is past all that is inside it, and so is the end of the branching around it.
 pub record Next (t : List ℕ) (b : Sequence ℕ) (i : ℕ) (after : Sequence ℕ) : Type 0 where
-  pub later : getD t (item-next + i) 0 ≤ 1024 → i < getD t (item-next + i) 0
+  pub later : getD t (item-next + i) 0 ≤ 1024 → i + span (rest-at b i) ≤ getD t (item-next + i) 0
   pub at : getD t (item-next + i) 0 ≤ 1024 → Position b (getD t (item-next + i) 0)
   pub around : 1024 < getD t (item-next + i) 0 → getD t (item-next + i) 0 < 1025 + i
+  pub within : 1024 < getD t (item-next + i) 0 → i + span (rest-at b i) ≤ getD t (item-next + i) 0 - 1025 + span (rest-at b (getD t (item-next + i) 0 - 1025))
   pub rest : onward b (getD t (item-next + i) 0) ≡ after
 
 -- One branch with `met` items before it, whose sequence is d and which ends at p.
