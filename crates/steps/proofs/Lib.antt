@@ -1,3 +1,4 @@
 pub mod Served
 pub mod Laid
 pub mod EndLaws
+pub mod OnwardLaws
