@@ -8,7 +8,7 @@ use lib.ListN.{length, getD}
 use lib.Dec.{eqb, ltb}
 use mir.Syntax.{w64}
 use mir.Val.{Fits}
-use borrow.Author.Tests.{eq-eqb, ne-eqb, lt-ltb, le-ltb, ltb-true, ltb-false, eqb-true, eqb-false}
+use borrow.Author.Tests.{lt-ltb, le-ltb, eqb-true, eqb-false}
 use Rattle.meaning.specs.Tests.{either, pick}
 use Rattle.meaning.specs.Requests.{Entry}
 use Rattle.meaning.specs.Refusals
@@ -27,7 +27,7 @@ use Rattle.reading.proofs.MarkLaws.{bytes-next, bytes-done}
 use Rattle.steps.specs.declared.goals.Asked.{Asked}
 use Rattle.steps.specs.declared.goals.Asked.the-variants.{Goal, Whether}
 use Rattle.steps.specs.AtHand.{request-in, At-hand, Marked}
-use Rattle.steps.specs.Lines.{goals-in, whether-in, Ends}
+use Rattle.steps.specs.Lines.{goals-in, whether-in}
 use Rattle.steps.specs.Steps.{bound-as, met-as}
 use Rattle.steps.proofs.Served.{ends-at-hand}
 
@@ -53,9 +53,9 @@ module _ (asked : Asked) (marks : State) (x : ℕ) where
       by-test (eqb m 1)
       (λ t. let one = eqb-true m 1 t in rw t (lt-ltb 0 m (omega arith)))
       (λ f. rw f (
-        by-test (eqb m 2)
-        (λ t. let two = eqb-true m 2 t in rw t (lt-ltb 0 m (omega arith)))
-        (λ g. let other = eqb-false m 1 f in let another = eqb-false m 2 g in rw g (le-ltb 0 m (omega (arith, most, other, another))))))
+      by-test (eqb m 2)
+      (λ t. let two = eqb-true m 2 t in rw t (lt-ltb 0 m (omega arith)))
+      (λ g. let other = eqb-false m 1 f in let another = eqb-false m 2 g in rw g (le-ltb 0 m (omega (arith, most, other, another))))))
 
   pub whether-met : asked ≡ Whether → Marked marks → ltb 0 (getD marks x 0) ≡ met-as asked marks x
   unfolding met-as known-whether

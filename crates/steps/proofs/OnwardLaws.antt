@@ -1,6 +1,6 @@
 -- Where the walk goes on: after an item, into a branch, and what a walk from there gives. The plan is held in the input and the table, item by item.
 -- Assumes nothing.
-use Prim.Native.Nat.{ℕ, zero, suc, _+_, _-_, _*_, _≤_, _<_}
+use Prim.Native.Nat.{ℕ, _+_, _-_, _≤_, _<_}
 use native.Mathlib.Omega.{arith}
 use mathlib.Core.Path.{_≡_, refl, sym, _∙_, ap, subst, fun-ext}
 use mathlib.Core.Bool.{Bool, true, false, false≢true}
@@ -10,26 +10,25 @@ use mir.Syntax.{w64}
 use mir.Val.{Fits}
 use lib.Dec.{leb}
 use borrow.Author.Tests.{le-leb, lt-leb, le-ltb, leb-true, leb-false}
-use Rattle.meaning.specs.Tests.{pick, each-of}
-use Rattle.meaning.specs.Limits.{format}
+use Rattle.meaning.specs.Tests.{each-of}
 use Rattle.meaning.specs.Requests.{Sequence, done, item, Item, act, branching, Branches, none, branch, Request}
 use Rattle.meaning.specs.Derivations.{join}
 use Rattle.meaning.specs.States.{State, known}
-use Rattle.meaning.specs.Walk.{Walked, stuck-at, Steps, run-action, walk, walk-item, walk-branch, table-step, judged}
+use Rattle.meaning.specs.Walk.{Walked, Steps, run-action, walk, walk-item, walk-branch, table-step, judged}
 use Rattle.meaning.proofs.TestLaws.{by-test, clash, pick-true, pick-false}
 use Rattle.reading.specs.Listed.{listed, holds-as}
 use Rattle.reading.specs.declared.marks.Test.the-variants.{Known}
 use Rattle.reading.specs.declared.refusals.Found as Code
 use Rattle.reading.specs.declared.refusals.Found.the-variants.{Nowhere, At}
 use Rattle.reading.specs.Planned.{items-of, items-in, bytes-of, place-of}
-use Rattle.reading.specs.Plans.{own-items, branches-in, Act-written, Opened, Branch-written, Item-written, Branches-written, Branch-kept, Plan-held}
-use Rattle.reading.specs.Branchings.{sequence-place, no-item, place-after, item-after, Branch-here, Branches-here, Item-here}
+use Rattle.reading.specs.Plans.{own-items, branches-in, Item-written, Branches-written, Plan-held}
+use Rattle.reading.specs.Branchings.{sequence-place, no-item, place-after, item-after, Branches-here, Item-here}
 use Rattle.reading.specs.Settled.{blank}
 use Rattle.reading.proofs.ReadLaws.{parts, request-held}
 use Rattle.reading.proofs.OverlapLaws.{branch-first, branches-next}
 use Rattle.reading.proofs.PlanOverlaps.{count-zero, count-some, some-item, place-is, item-is, plan-here}
 use Rattle.steps.specs.AtHand.{request-of, request-in, At-hand}
-use Rattle.steps.specs.Rests.{rest-in, rest-at, after-first, span, onward, Position, Branch-laid, Branches-laid, Inside-laid, Item-laid}
+use Rattle.steps.specs.Rests.{rest-in, rest-at, after-first, span, onward, Position, Branches-laid, Inside-laid, Item-laid}
 use Rattle.steps.specs.Steps.{walk-from, Followed, Into, going-on, Chosen}
 use Rattle.steps.proofs.Laid.{item-laid}
 
@@ -157,7 +156,12 @@ module _ (s : List ℕ) (i p met q : ℕ) (at : q ≡ sequence-place s p) (empty
   pub into-item : empty ≡ false → Into s i p met met
   into-item e = record { empty = λ bare. clash bare (tested-there ∙ e); other = λ _. refl }
 
--- WHERE A BRANCHING GOES ON. None of the branches before p has a condition known true; those from there on are `branches`.
+-- WHERE A BRANCHING GOES ON. Its walk is the walk by these branches, and then by what is after it.
+abbrev pub Walks-by : (s t : List ℕ) (i : ℕ) → State → Sequence ℕ → Branches ℕ → Type 0
+Walks-by s t i marks after branches =
+    walk-from s i marks ≡ walk-branch (table-step (request-in s .table)) branches (getD t (0 + i) 0) (walk (table-step (request-in s .table)) after (judged (request-in s))) marks
+
+-- None of the branches before p has a condition known true; those from there on are `branches`.
 pub record Choosing (s t : List ℕ) (i : ℕ) (marks : State) (left p met : ℕ) : Type 0 where
   pub branches : Branches ℕ
   pub after : Sequence ℕ
@@ -167,7 +171,7 @@ pub record Choosing (s t : List ℕ) (i : ℕ) (marks : State) (left p met : ℕ
   pub laid : Branches-laid t (request-in s .plan) met p after branches
   pub beyond : i < met
   pub follows : after-first (rest-at (request-in s .plan) i) ≡ after
-  pub goes : walk-from s i marks ≡ walk-branch (table-step (request-in s .table)) branches (getD t (0 + i) 0) (walk (table-step (request-in s .table)) after (judged (request-in s))) marks
+  pub goes : Walks-by s t i marks after branches
 
 module _ (s t : List ℕ) (here : At-hand s t) (i : ℕ) (less : i < items-of (request-in s .plan)) where
   pub place-fits : Fits w64 (0 + i)
@@ -246,7 +250,7 @@ module _ (s t : List ℕ) (i : ℕ) (marks : State) where
       choosing-next fails q j placed counted = step (choosing .branches) (choosing .count) (choosing .written) (choosing .laid) (choosing .goes)
         where
           step : (bs : Branches ℕ) → left ≡ branches-in bs → Branches-written s p bs → Branches-laid t (request-in s .plan) met p (choosing .after) bs
-              → walk-from s i marks ≡ walk-branch (table-step (request-in s .table)) bs (getD t (0 + i) 0) (walk (table-step (request-in s .table)) (choosing .after) (judged (request-in s))) marks
+              → Walks-by s t i marks (choosing .after) bs
               → Choosing s t i marks (left - 1) q j
           step none count w l goes = absurd (omega (arith, more, count))
           step (branch c d bs) count w l goes =
@@ -270,7 +274,7 @@ module _ (s t : List ℕ) (i : ℕ) (marks : State) where
       chosen-at holds r into = by-branch (choosing .branches) (choosing .count) (choosing .written) (choosing .laid) (choosing .goes)
         where
           by-branch : (bs : Branches ℕ) → left ≡ branches-in bs → Branches-written s p bs → Branches-laid t (request-in s .plan) met p (choosing .after) bs
-              → walk-from s i marks ≡ walk-branch (table-step (request-in s .table)) bs (getD t (0 + i) 0) (walk (table-step (request-in s .table)) (choosing .after) (judged (request-in s))) marks
+              → Walks-by s t i marks (choosing .after) bs
               → Chosen s t i marks (At r)
           by-branch none count w l goes = absurd (omega (arith, more, count))
           by-branch (branch c done bs) count w l goes =
@@ -286,9 +290,9 @@ module _ (s t : List ℕ) (i : ℕ) (marks : State) where
               rw first
               (chosen-there met
               (goes
-                ∙ pick-true _ _ _ (condition-is c (w .0 .condition) ∙ holds)
-                ∙ sym (walk-join (table-step (request-in s .table)) (item x d) (choosing .after) (judged (request-in s)) marks)
-                ∙ rw (l .0 .rest some))
+              ∙ pick-true _ _ _ (condition-is c (w .0 .condition) ∙ holds)
+              ∙ sym (walk-join (table-step (request-in s .table)) (item x d) (choosing .after) (judged (request-in s)) marks)
+              ∙ rw (l .0 .rest some))
               beyond
               (record { most = branch-first s t left p met more (choosing .here) .few; there = λ _. l .0 .there some }))
 
@@ -297,7 +301,7 @@ module _ (s t : List ℕ) (i : ℕ) (marks : State) where
     chosen-none over = record { goes = by-branch (choosing .branches) (choosing .count) (choosing .goes); later = λ at e. absurd (Nowhere≢At at e); at = λ at e. absurd (Nowhere≢At at e) }
       where
         by-branch : (bs : Branches ℕ) → left ≡ branches-in bs
-            → walk-from s i marks ≡ walk-branch (table-step (request-in s .table)) bs (getD t (0 + i) 0) (walk (table-step (request-in s .table)) (choosing .after) (judged (request-in s))) marks
+            → Walks-by s t i marks (choosing .after) bs
             → walk-from s i marks ≡ going-on s (getD t (0 + i) 0) marks Nowhere
         by-branch none count goes = goes
         by-branch (branch c d bs) count goes = absurd (omega (arith, over, count))
@@ -337,10 +341,11 @@ module _ (s t : List ℕ) (here : At-hand s t) where
       the-act : An-act
       the-act = let l = laid s t here i less in an-act (l .this) (l .after) (l .rest) (l .place) (l .written) (l .inside)
 
-      pub action-small : getD s p 0 < 64
-      unfolding An-act
-      action-small = the-act .2
+      module _ (a : ℕ) (byte : a ≡ getD s p 0) where
+        pub action-small : a < 64
+        unfolding An-act
+        action-small = rw byte (the-act .2)
 
-      pub action-walked : (r : ℕ) → Followed s i r → (marks : State) → walk-from s i marks ≡ run-action (table-step (request-in s .table)) p (getD s p 0) (λ (m : State). walk-from s r m) marks
-      unfolding An-act walk-from walk after-first
-      action-walked r follows marks = rw (follows .rest, the-act .1)
+        pub action-walked : (r : ℕ) → Followed s i r → (marks : State) → walk-from s i marks ≡ run-action (table-step (request-in s .table)) p a (λ (m : State). walk-from s r m) marks
+        unfolding An-act walk-from walk after-first
+        action-walked r follows marks = rw (follows .rest, the-act .1, byte)
