@@ -98,11 +98,11 @@ module _ (s : List ℕ) (p : ℕ) (here : List-here 128 s p) where
       fluent-below l e = let below = entry-below l e in omega arith
 
 module _ (s : List ℕ) (end i : ℕ) (more : i < end) where
-  bytes-next : bytes-from s (i + 1) (end - i) ≡ getD s (i + 1) 0 ∷ bytes-from s (i + 1 + 1) (end - (i + 1))
+  pub bytes-next : bytes-from s (i + 1) (end - i) ≡ getD s (i + 1) 0 ∷ bytes-from s (i + 1 + 1) (end - (i + 1))
   unfolding bytes-from
   bytes-next = let left : end - i ≡ suc (end - (i + 1)) = omega arith in rw left
 
-bytes-done : (s : List ℕ) (end i : ℕ) → end ≤ i → bytes-from s (i + 1) (end - i) ≡ []
+pub bytes-done : (s : List ℕ) (end i : ℕ) → end ≤ i → bytes-from s (i + 1) (end - i) ≡ []
 unfolding bytes-from
 bytes-done s end i h = let none : end - i ≡ zero = omega arith in rw none
 

@@ -92,11 +92,11 @@ conditions-clear s p (branch d b rest) w c (inl e) = rw e (written-clear s p d b
 conditions-clear s p (branch d b rest) w c (inr h) = conditions-clear s (p + (1 + length d) + (2 + bytes-of b)) rest (w .2) c h
 
 -- THE COUNT of a sequence.
-count-zero : (s : List ℕ) (q : ℕ) → getD s q 0 * 256 + getD s (q + 1) 0 ≡ 0 → no-item s q ≡ true
+pub count-zero : (s : List ℕ) (q : ℕ) → getD s q 0 * 256 + getD s (q + 1) 0 ≡ 0 → no-item s q ≡ true
 unfolding no-item both
 count-zero s q e = let high : getD s q 0 ≡ 0 = omega arith in let low : getD s (q + 1) 0 ≡ 0 = omega arith in rw (eq-eqb _ _ high) (eq-eqb _ _ low)
 
-count-some : (s : List ℕ) (q k : ℕ) → getD s q 0 * 256 + getD s (q + 1) 0 ≡ suc k → no-item s q ≡ false
+pub count-some : (s : List ℕ) (q k : ℕ) → getD s q 0 * 256 + getD s (q + 1) 0 ≡ suc k → no-item s q ≡ false
 unfolding no-item
 count-some s q k e =
     by-test (no-item s q)
@@ -116,12 +116,12 @@ module _ (s t : List ℕ) (met p : ℕ) (c : List ℕ) where
       let size : getD s p 0 ≡ length c = sym (listed-length s p) ∙ ap length (w .condition) in
       omega arith
 
-  place-is : (b : Sequence ℕ) → Branch-written s p c b → Branch-kept t met (p + (1 + length c) + (2 + bytes-of b)) b → place-after s t p met ≡ p + (1 + length c) + (2 + bytes-of b)
+  pub place-is : (b : Sequence ℕ) → Branch-written s p c b → Branch-kept t met (p + (1 + length c) + (2 + bytes-of b)) b → place-after s t p met ≡ p + (1 + length c) + (2 + bytes-of b)
   unfolding place-after own-items bytes-of items-of
   place-is done w k = pick-true _ _ _ (count-zero s (sequence-place s p) (w .count)) ∙ rw (sequence-is done w)
   place-is (item i rest) w k = pick-false _ _ _ (count-some s (sequence-place s p) (own-items rest) (w .count)) ∙ k .place (let some = some-item i in omega arith)
 
-  item-is : (b : Sequence ℕ) → Branch-written s p c b → Branch-kept t met (p + (1 + length c) + (2 + bytes-of b)) b → item-after s t p met ≡ met + items-of b
+  pub item-is : (b : Sequence ℕ) → Branch-written s p c b → Branch-kept t met (p + (1 + length c) + (2 + bytes-of b)) b → item-after s t p met ≡ met + items-of b
   unfolding item-after own-items items-of
   item-is done w k = pick-true _ _ _ (count-zero s (sequence-place s p) (w .count)) ∙ omega arith
   item-is (item i rest) w k = pick-false _ _ _ (count-some s (sequence-place s p) (own-items rest) (w .count)) ∙ k .count (let some = some-item i in omega arith)

@@ -7,3 +7,5 @@ pub mod NextSlots
 pub mod SmallActions
 pub mod RestLaws
 pub mod Laid
+pub mod EndLaws
+pub mod OnwardLaws

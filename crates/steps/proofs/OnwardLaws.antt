@@ -1,0 +1,351 @@
+-- Where the walk goes on: after an item, into a branch, and what a walk from there gives. The plan is held in the input and the table, item by item.
+-- Assumes nothing.
+use Prim.Native.Nat.{ℕ, _+_, _-_, _≤_, _<_}
+use native.Mathlib.Omega.{arith}
+use mathlib.Core.Path.{_≡_, refl, sym, _∙_, ap, subst, fun-ext}
+use mathlib.Core.Bool.{Bool, true, false, false≢true}
+use mathlib.Core.List.{List}
+use lib.ListN.{length, getD, length-replicate}
+use mir.Syntax.{w64}
+use mir.Val.{Fits}
+use lib.Dec.{leb}
+use borrow.Author.Tests.{le-leb, lt-leb, le-ltb, leb-true, leb-false}
+use Rattle.meaning.specs.Tests.{each-of}
+use Rattle.meaning.specs.Requests.{Sequence, done, item, Item, act, branching, Branches, none, branch, Request}
+use Rattle.meaning.specs.Derivations.{join}
+use Rattle.meaning.specs.States.{State, known}
+use Rattle.meaning.specs.Walk.{Walked, Steps, run-action, walk, walk-item, walk-branch, table-step, judged}
+use Rattle.meaning.proofs.TestLaws.{by-test, clash, pick-true, pick-false}
+use Rattle.reading.specs.Listed.{listed, holds-as}
+use Rattle.reading.specs.declared.marks.Test.the-variants.{Known}
+use Rattle.reading.specs.declared.refusals.Found as Code
+use Rattle.reading.specs.declared.refusals.Found.the-variants.{Nowhere, At}
+use Rattle.reading.specs.Planned.{items-of, items-in, bytes-of, place-of}
+use Rattle.reading.specs.Plans.{own-items, branches-in, Item-written, Branches-written, Plan-held}
+use Rattle.reading.specs.Branchings.{sequence-place, no-item, place-after, item-after, Branches-here, Item-here}
+use Rattle.reading.specs.Settled.{blank}
+use Rattle.reading.proofs.ReadLaws.{parts, request-held}
+use Rattle.reading.proofs.OverlapLaws.{branch-first, branches-next}
+use Rattle.reading.proofs.PlanOverlaps.{count-zero, count-some, some-item, place-is, item-is, plan-here}
+use Rattle.steps.specs.AtHand.{request-of, request-in, At-hand}
+use Rattle.steps.specs.Rests.{rest-in, rest-at, after-first, span, onward, Position, Branches-laid, Inside-laid, Item-laid}
+use Rattle.steps.specs.Steps.{walk-from, Followed, Into, going-on, Chosen}
+use Rattle.steps.proofs.Laid.{item-laid}
+
+-- THE WALK of one sequence after another.
+module _ {S L : Type 0} (step : Steps S L) where
+  pub walk-join : (p q : Sequence L) (k : S → Walked S) (s : S) → walk step (join p q) k s ≡ walk step p (walk step q k) s
+  unfolding walk join
+  walk-join done q k s = refl
+  walk-join (item x p) q k s = ap (λ (j : S → Walked S). walk-item step x j s) (fun-ext (walk-join p q k))
+
+-- THE PLAN is held.
+module _ (s t : List ℕ) (here : At-hand s t) where
+  request-is : request-in s ≡ here .read .request
+  unfolding request-in request-of
+  request-is = ap request-of (here .read .reads)
+
+  blank-long : length blank ≡ 9480
+  unfolding blank
+  blank-long = let none : ℕ = 0 in length-replicate 9480 none
+
+  held : Plan-held s t (request-in s .plan)
+  held =
+      let x : Request = here .read .request in
+      rw request-is
+      (subst (λ (u : List ℕ). Plan-held s u (x .plan)) (sym (here .read .noted)) (request-held s (here .bytes) x (parts s x (here .end) (here .read .reads)) blank blank-long))
+
+  pub few-items : items-of (request-in s .plan) ≤ 1024
+  few-items = held .few
+
+  -- AN ITEM of it.
+  module _ (i : ℕ) (less : i < items-of (request-in s .plan)) where
+    pub item-there : Item-here s t i (getD t (0 + i) 0)
+    item-there = plan-here s t (request-in s .plan) (items-of (request-in s .plan)) held refl .each i less
+
+    laid : Item-laid s t (request-in s .plan) i
+    laid = item-laid s t here i less
+
+    after-is : after-first (rest-at (request-in s .plan) i) ≡ laid .after
+    unfolding after-first
+    after-is = rw (laid .rest)
+
+    span-some : 0 < span (rest-at (request-in s .plan) i)
+    unfolding span
+    span-some = rw (laid .rest) (some-item (laid .this))
+
+-- AFTER AN ITEM. What the table has leads on to what is left after item i.
+module _ (b : Sequence ℕ) (at : ℕ) where
+  onward-item : at ≤ 1024 → onward b at ≡ rest-at b at
+  unfolding onward
+  onward-item h = pick-true _ _ _ (le-leb at 1024 h)
+
+  onward-around : 1024 < at → onward b at ≡ after-first (rest-at b (at - 1025))
+  unfolding onward
+  onward-around h = pick-false _ _ _ (lt-leb at 1024 h)
+
+pub record Going (s : List ℕ) (i at : ℕ) : Type 0 where
+  pub later : at ≤ 1024 → i < at
+  pub position : at ≤ 1024 → Position (request-in s .plan) at
+  pub inside : 1024 < at → at - 1025 < items-of (request-in s .plan)
+  pub within : 1024 < at → i < at - 1025 + span (rest-at (request-in s .plan) (at - 1025))
+  pub rest : onward (request-in s .plan) at ≡ after-first (rest-at (request-in s .plan) i)
+
+module _ (s t : List ℕ) (here : At-hand s t) (i : ℕ) where
+  module _ (less : i < items-of (request-in s .plan)) where
+    pub slot-fits : Fits w64 (1024 + i)
+    slot-fits = let few = few-items s t here in record { fits = omega (arith, less, few) }
+
+    pub slot-there : 1024 + i < 9480
+    slot-there = let few = few-items s t here in omega (arith, less, few)
+
+    pub going-starts : (at : ℕ) → at ≡ getD t (1024 + i) 0 → Going s i at
+    going-starts at is =
+        let some = span-some s t here i less in
+        let on = laid s t here i less .next in
+        rw is
+        (record {
+          later = λ h. let past = on .later h in omega (arith, past, some);
+          position = on .at;
+          inside = λ h. let around = on .around h in omega (arith, less, around, h);
+          within = λ h. let past = on .within h in omega (arith, past, some);
+          rest = on .rest ∙ sym (after-is s t here i less);
+        })
+
+  module _ (at : ℕ) (going : Going s i at) where
+    pub goes-there : at ≤ 1024 → Followed s i at
+    goes-there h = record { later = going .later h; at = going .position h; rest = sym (onward-item (request-in s .plan) at h) ∙ going .rest }
+
+    module _ (more : 1024 < at) where
+      pub around-fits : Fits w64 (1024 + (at - 1025))
+      around-fits = let few = few-items s t here in let inside = going .inside more in record { fits = omega (arith, inside, few) }
+
+      pub around-there : 1024 + (at - 1025) < 9480
+      around-there = let few = few-items s t here in let inside = going .inside more in omega (arith, inside, few)
+
+      module _ (next : ℕ) (is : next ≡ getD t (1024 + (at - 1025)) 0) where
+        pub going-less : next < at
+        going-less =
+            let on = laid s t here (at - 1025) (going .inside more) .next in
+            by-test (leb next 1024)
+            (λ u. let small = leb-true next 1024 u in omega (arith, small, more))
+            (λ u. let large = leb-false next 1024 u in let around = on .around (subst (λ (n : ℕ). 1024 < n) is large) in omega (arith, around, is, more))
+
+        pub going-on-around : Going s i next
+        going-on-around =
+            let inside = going .inside more in
+            let within = going .within more in
+            let on = laid s t here (at - 1025) inside .next in
+            rw is
+            (record {
+              later = λ h. let past = on .later h in omega (arith, past, within);
+              position = on .at;
+              inside = λ h. let around = on .around h in omega (arith, inside, around, h);
+              within = λ h. let past = on .within h in omega (arith, past, within);
+              rest = on .rest ∙ sym (after-is s t here (at - 1025) inside) ∙ sym (onward-around (request-in s .plan) at more) ∙ going .rest;
+            })
+
+-- INTO A BRANCH whose sequence has an item, or none.
+module _ (s : List ℕ) (i p met q : ℕ) (at : q ≡ sequence-place s p) (empty : Bool) (tested : empty ≡ no-item s q) where
+  tested-there : no-item s (sequence-place s p) ≡ empty
+  tested-there = sym (tested ∙ ap (no-item s) at)
+
+  pub into-empty : empty ≡ true → (r : ℕ) → Followed s i r → Into s i p met r
+  into-empty e r follows = record { empty = λ _. follows; other = λ some. clash (tested-there ∙ e) some }
+
+  pub into-item : empty ≡ false → Into s i p met met
+  into-item e = record { empty = λ bare. clash bare (tested-there ∙ e); other = λ _. refl }
+
+-- WHERE A BRANCHING GOES ON. Its walk is the walk by these branches, and then by what is after it.
+abbrev pub Walks-by : (s t : List ℕ) (i : ℕ) → State → Sequence ℕ → Branches ℕ → Type 0
+Walks-by s t i marks after branches =
+    walk-from s i marks ≡ walk-branch (table-step (request-in s .table)) branches (getD t (0 + i) 0) (walk (table-step (request-in s .table)) after (judged (request-in s))) marks
+
+-- None of the branches before p has a condition known true; those from there on are `branches`.
+pub record Choosing (s t : List ℕ) (i : ℕ) (marks : State) (left p met : ℕ) : Type 0 where
+  pub branches : Branches ℕ
+  pub after : Sequence ℕ
+  pub here : Branches-here s t left p met
+  pub count : left ≡ branches-in branches
+  pub written : Branches-written s p branches
+  pub laid : Branches-laid t (request-in s .plan) met p after branches
+  pub beyond : i < met
+  pub follows : after-first (rest-at (request-in s .plan) i) ≡ after
+  pub goes : Walks-by s t i marks after branches
+
+module _ (s t : List ℕ) (here : At-hand s t) (i : ℕ) (less : i < items-of (request-in s .plan)) where
+  pub place-fits : Fits w64 (0 + i)
+  place-fits = let few = few-items s t here in record { fits = omega (arith, less, few) }
+
+  pub place-there : 0 + i < 9480
+  place-there = let few = few-items s t here in omega (arith, less, few)
+
+  pub first-item-fits : Fits w64 (i + 1)
+  first-item-fits = let few = few-items s t here in record { fits = omega (arith, less, few) }
+
+  module _ (is : getD s (getD t (0 + i) 0) 0 ≡ 255) where
+    counted-there : getD t (0 + i) 0 + 1 < length s
+    counted-there = item-there s t here i less .branches is .counted
+
+    module _ (start : ℕ) (starts : start ≡ getD t (0 + i) 0) where
+      pub second-there : start + 1 < length s
+      second-there = rw starts counted-there
+
+      pub second-fits : Fits w64 (length s) → Fits w64 (start + 1)
+      second-fits room = let there = second-there in let most = room .fits in record { fits = omega arith }
+
+      pub first-fits : Fits w64 (length s) → Fits w64 (start + 2)
+      first-fits room = let there = second-there in let most = room .fits in record { fits = omega arith }
+
+    module _ (marks : State) where
+      opened : (this : Item ℕ) (after : Sequence ℕ) → rest-at (request-in s .plan) i ≡ item this after → getD t (0 + i) 0 ≡ place-of this → Item-written s this → Inside-laid t (request-in s .plan) i after this
+          → Choosing s t i marks (getD s (getD t (0 + i) 0 + 1) 0) (getD t (0 + i) 0 + 2) (i + 1)
+      unfolding place-of Item-written Inside-laid after-first walk walk-from
+      opened (act p a) after rest place w inside =
+          let byte = w .byte in let below = w .below in
+          let there : getD s p 0 ≡ 255 = subst (λ (n : ℕ). getD s n 0 ≡ 255) place is in
+          absurd (omega (arith, there, byte, below))
+      opened (branching p bs) after rest place w inside =
+          record {
+            branches = bs;
+            after = after;
+            here = item-there s t here i less .branches is .branches;
+            count = rw place (w .0 .count);
+            written = rw place (w .1);
+            laid = rw place inside;
+            beyond = omega arith;
+            follows = rw rest;
+            goes = rw (rest, place);
+          }
+
+      pub choosing-starts : (start x : ℕ) → start ≡ getD t (0 + i) 0 → x ≡ getD s (start + 1) 0 → Choosing s t i marks x (start + 2) (i + 1)
+      choosing-starts start x starts counted =
+          let l = laid s t here i less in
+          rw (counted, starts) (opened (l .this) (l .after) (l .rest) (l .place) (l .written) (l .inside))
+
+At-same : (a b : ℕ) → At a ≡ At b → a ≡ b
+At-same a b e = ap (λ (r : Code.Found). elim r [ Nowhere ↦ 0 | At p ↦ p ]) e
+
+Nowhere≢At : (a : ℕ) → Nowhere ≡ At a → ⊥
+Nowhere≢At a e = false≢true (ap (λ (r : Code.Found). elim r [ Nowhere ↦ false | At p ↦ true ]) e)
+
+module _ (s t : List ℕ) (i : ℕ) (marks : State) where
+  chosen-there : (r : ℕ) → walk-from s i marks ≡ walk-from s r marks → i < r → Position (request-in s .plan) r → Chosen s t i marks (At r)
+  unfolding going-on
+  chosen-there r goes later position =
+      record {
+        goes = goes;
+        later = λ at e. subst (λ (n : ℕ). i < n) (At-same r at e) later;
+        at = λ at e. subst (Position (request-in s .plan)) (At-same r at e) position;
+      }
+
+  module _ (left p met : ℕ) (choosing : Choosing s t i marks left p met) where
+    module _ (more : 0 < left) (known-here : Bool) (tested : known-here ≡ each-of (holds-as Known marks) (listed s p)) where
+      condition-is : (c : List ℕ) → listed s p ≡ c → each-of (known marks) c ≡ known-here
+      unfolding holds-as
+      condition-is c e = rw (tested, sym e)
+
+      pub choosing-next : known-here ≡ false → (q j : ℕ) → q ≡ place-after s t p met → j ≡ item-after s t p met → Choosing s t i marks (left - 1) q j
+      unfolding branches-in Branches-written Branches-laid walk-branch table-step
+      choosing-next fails q j placed counted = step (choosing .branches) (choosing .count) (choosing .written) (choosing .laid) (choosing .goes)
+        where
+          step : (bs : Branches ℕ) → left ≡ branches-in bs → Branches-written s p bs → Branches-laid t (request-in s .plan) met p (choosing .after) bs
+              → Walks-by s t i marks (choosing .after) bs
+              → Choosing s t i marks (left - 1) q j
+          step none count w l goes = absurd (omega (arith, more, count))
+          step (branch c d bs) count w l goes =
+              let there : q ≡ p + (1 + length c) + (2 + bytes-of d) = placed ∙ place-is s t met p c d (w .0) (l .0 .kept) in
+              let items : j ≡ met + items-of d = counted ∙ item-is s t met p c d (w .0) (l .0 .kept) in
+              let beyond = choosing .beyond in
+              record {
+                branches = bs;
+                after = choosing .after;
+                here = branches-next s t left p met more (choosing .here) q j placed counted;
+                count = omega (arith, count);
+                written = rw there (w .2);
+                laid = rw (there, items) (l .1);
+                beyond = omega (arith, items, beyond);
+                follows = choosing .follows;
+                goes = goes ∙ pick-false _ _ _ (condition-is c (w .0 .condition) ∙ fails);
+              }
+
+      pub chosen-at : known-here ≡ true → (r : ℕ) → Into s i p met r → Chosen s t i marks (At r)
+      unfolding branches-in Branches-written Branches-laid walk-branch table-step walk-from own-items items-of
+      chosen-at holds r into = by-branch (choosing .branches) (choosing .count) (choosing .written) (choosing .laid) (choosing .goes)
+        where
+          by-branch : (bs : Branches ℕ) → left ≡ branches-in bs → Branches-written s p bs → Branches-laid t (request-in s .plan) met p (choosing .after) bs
+              → Walks-by s t i marks (choosing .after) bs
+              → Chosen s t i marks (At r)
+          by-branch none count w l goes = absurd (omega (arith, more, count))
+          by-branch (branch c done bs) count w l goes =
+              let follows = into .empty (count-zero s (sequence-place s p) (w .0 .count)) in
+              chosen-there r
+              (goes ∙ pick-true _ _ _ (condition-is c (w .0 .condition) ∙ holds) ∙ rw (follows .rest, choosing .follows))
+              (follows .later)
+              (follows .at)
+          by-branch (branch c (item x d) bs) count w l goes =
+              let first : r ≡ met = into .other (count-some s (sequence-place s p) (own-items d) (w .0 .count)) in
+              let some : 0 < items-of (item x d) = let one = some-item x in omega (arith, one) in
+              let beyond = choosing .beyond in
+              rw first
+              (chosen-there met
+              (goes
+              ∙ pick-true _ _ _ (condition-is c (w .0 .condition) ∙ holds)
+              ∙ sym (walk-join (table-step (request-in s .table)) (item x d) (choosing .after) (judged (request-in s)) marks)
+              ∙ rw (l .0 .rest some))
+              beyond
+              (record { most = branch-first s t left p met more (choosing .here) .few; there = λ _. l .0 .there some }))
+
+    pub chosen-none : left ≤ 0 → Chosen s t i marks Nowhere
+    unfolding branches-in walk-branch going-on
+    chosen-none over = record { goes = by-branch (choosing .branches) (choosing .count) (choosing .goes); later = λ at e. absurd (Nowhere≢At at e); at = λ at e. absurd (Nowhere≢At at e) }
+      where
+        by-branch : (bs : Branches ℕ) → left ≡ branches-in bs
+            → Walks-by s t i marks (choosing .after) bs
+            → walk-from s i marks ≡ going-on s (getD t (0 + i) 0) marks Nowhere
+        by-branch none count goes = goes
+        by-branch (branch c d bs) count goes = absurd (omega (arith, over, count))
+
+-- FROM A POSITION. Nothing is left from the plan's end on.
+rest-none : (b : Sequence ℕ) (met i : ℕ) (after : Sequence ℕ) → met + items-of b ≤ i → rest-in b met i after ≡ after
+unfolding rest-in items-of
+rest-none done met i after over = refl
+rest-none (item x b) met i after over =
+    let some = some-item x in
+    pick-false _ _ _ (lt-leb i met (omega (arith, over, some)))
+    ∙ pick-false _ _ _ (le-ltb i (met + items-in x) (omega (arith, over)))
+    ∙ rest-none b (met + items-in x) i after (omega (arith, over))
+
+module _ (s t : List ℕ) (here : At-hand s t) where
+  pub end-judged : (marks : State) → walk-from s 1024 marks ≡ judged (request-in s) marks
+  unfolding walk-from rest-at walk
+  end-judged marks = let few = few-items s t here in rw (rest-none (request-in s .plan) 0 1024 done (omega (arith, few)))
+
+  module _ (i : ℕ) (less : i < items-of (request-in s .plan)) (p : ℕ) (is : p ≡ getD t (0 + i) 0) where
+    pub item-inside : p < length s
+    item-inside = rw is (item-there s t here i less .there)
+
+    module _ (other : getD s p 0 ≡ 255 → ⊥) where
+      An-act : Type 0
+      An-act = (after : Sequence ℕ) × (rest-at (request-in s .plan) i ≡ item (act p (getD s p 0)) after) × (getD s p 0 < 64)
+
+      an-act : (this : Item ℕ) (after : Sequence ℕ) → rest-at (request-in s .plan) i ≡ item this after → getD t (0 + i) 0 ≡ place-of this → Item-written s this → Inside-laid t (request-in s .plan) i after this → An-act
+      unfolding place-of Item-written Inside-laid An-act
+      an-act (act q a) after rest place w inside =
+          let at : p ≡ q = is ∙ place in
+          let byte : getD s p 0 ≡ a = ap (λ (n : ℕ). getD s n 0) at ∙ w .byte in
+          (after, rest ∙ rw (byte, at), rw byte inside)
+      an-act (branching q bs) after rest place w inside =
+          absurd (other (ap (λ (n : ℕ). getD s n 0) (is ∙ place) ∙ w .0 .byte))
+
+      the-act : An-act
+      the-act = let l = laid s t here i less in an-act (l .this) (l .after) (l .rest) (l .place) (l .written) (l .inside)
+
+      module _ (a : ℕ) (byte : a ≡ getD s p 0) where
+        pub action-small : a < 64
+        unfolding An-act
+        action-small = rw byte (the-act .2)
+
+        pub action-walked : (r : ℕ) → Followed s i r → (marks : State) → walk-from s i marks ≡ run-action (table-step (request-in s .table)) p a (λ (m : State). walk-from s r m) marks
+        unfolding An-act walk-from walk after-first
+        action-walked r follows marks = rw (follows .rest, the-act .1, byte)
