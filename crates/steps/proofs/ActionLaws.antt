@@ -1,6 +1,5 @@
--- The loops along the chains of an action's lines: what all its lines give is what those from line k on give. Assumes nothing but what is at
--- hand of the table.
-use Prim.Native.Nat.{ℕ, zero, suc, _+_, _-_, _/_, _≤_, _<_}
+-- The loops along the chains of an action's lines: what all its lines give is what those from line k on give. Assumes nothing.
+use Prim.Native.Nat.{ℕ, _+_, _-_, _/_, _≤_, _<_}
 use native.Mathlib.Omega.{arith}
 use mathlib.Core.Path.{_≡_, refl, sym, _∙_, ap, subst}
 use mathlib.Core.Bool.{Bool, true, false}
@@ -13,16 +12,16 @@ use mir.Val.{Fits}
 use borrow.Author.Tests.{eq-eqb, ne-eqb}
 use Rattle.meaning.specs.Tests.{either, pick, some-of, each-of}
 use Rattle.meaning.specs.Literals.{fluent-of, complement}
-use Rattle.meaning.specs.States.{State, mark-of, known, possible, told, can-be-run}
+use Rattle.meaning.specs.States.{State, mark-of, known, told, can-be-run}
 use Rattle.meaning.proofs.TestLaws.{Has, pick-true, pick-false}
 use Rattle.meaning.proofs.LiteralLaws.{fluent-complement}
-use Rattle.reading.specs.Noted.{effect-place, effect-before, effect-last, run-place, run-before, run-last}
+use Rattle.reading.specs.Noted.{effect-place, effect-before, effect-last, run-place, run-before}
 use Rattle.reading.specs.Listed.{listed, List-here, holds-as}
 use Rattle.reading.specs.InTable.{Effect-here}
 use Rattle.reading.specs.declared.marks.Test.the-variants.{Known, Possible}
 use Rattle.reading.proofs.MarkLaws.{mark-other, mark-most}
 use Rattle.steps.specs.AtHand.{request-in, At-hand}
-use Rattle.steps.specs.Lines.{Linked, Chain, allowed-at, Runs, Effects}
+use Rattle.steps.specs.Lines.{Linked, Chain, allowed-at, Effects}
 use Rattle.steps.specs.After.{told-at, undone, left-at, Effects-chained, Told, Left}
 use Rattle.steps.proofs.Served.{runs-at-hand, effects-at-hand}
 

@@ -1,34 +1,34 @@
 -- The two passes over an action's effects give the state that the definition gives. A literal is known after the first pass if it was or is
 -- given by a body known true, except where such a body gives its complement too; the second pass forgets just what a possible body gives the
 -- complement of, and so all of those. Assumes nothing.
-use Prim.Native.Nat.{ℕ, zero, suc, _+_, _≤_, _<_}
+use Prim.Native.Nat.{ℕ, _+_, _≤_, _<_}
 use native.Mathlib.Omega.{arith}
-use native.Mathlib.Decide.{ℕ-discrete, decLt}
-use mathlib.Core.Path.{_≡_, refl, sym, _∙_, ap, subst}
+use native.Mathlib.Decide.{ℕ-discrete}
+use mathlib.Core.Path.{_≡_, refl, sym, _∙_, ap}
 use mathlib.Core.Bool.{Bool, true, false}
 use mathlib.Core.List.{List, [], _∷_}
 use mathlib.Core.Logic.{inl, inr, ⊎-elim}
-use lib.ListN.{length, getD, set, length-set, List·getD-eq-default}
+use lib.ListN.{length, getD, set}
 use lib.Seq.{getD-set-same, getD-set-other, ext-getD}
 use lib.Dec.{eqb}
 use borrow.Author.Tests.{eqb-true, eqb-false, eq-eqb, ne-eqb}
 use Rattle.meaning.specs.Tests.{both, either, fails, pick, some-of, each-of}
 use Rattle.meaning.specs.Limits
 use Rattle.meaning.specs.Literals.{says-true, says-false, fluent-of, complement}
-use Rattle.meaning.specs.Requests.{Effect, Table}
+use Rattle.meaning.specs.Requests.{Table}
 use Rattle.meaning.specs.Lines.{effects-of, given}
 use Rattle.meaning.specs.States.{State, mark-of, known, possible, told, known-after, mark-after, state-after}
-use Rattle.meaning.proofs.TestLaws.{by-test, clash, same-test, both-left, both-right, both-true, either-left, either-right, either-split, fails-true, fails-false, pick-true, pick-false, Has, some-mono, each-mono}
+use Rattle.meaning.proofs.TestLaws.{by-test, clash, both-left, both-right, both-true, either-right, fails-false, pick-true, pick-false, Has, some-mono, each-mono}
 use Rattle.meaning.proofs.PickLaws.{pick-has}
-use Rattle.meaning.proofs.LiteralLaws.{complement-twice, complement-other, fluent-complement, same-fluent, by-literal}
+use Rattle.meaning.proofs.LiteralLaws.{complement-twice, fluent-complement, same-fluent, by-literal}
 use Rattle.meaning.proofs.StateLaws.{mark-true, mark-false, mark-complement, known-true, known-false, after-length}
-use Rattle.meaning.proofs.ToldLaws.{either-none, either-assoc, told-here, told-beside, told-elsewhere}
+use Rattle.meaning.proofs.ToldLaws.{either-none, either-assoc, told-here, told-elsewhere}
 use Rattle.meaning.proofs.PairLaws.{after-mark}
 use Rattle.reading.specs.Listed.{listed}
 use Rattle.reading.specs.InTable.{Effect-here}
 use Rattle.reading.proofs.MarkLaws.{mark-most}
 use Rattle.steps.specs.AtHand.{request-in, At-hand, Marked}
-use Rattle.steps.specs.Lines.{Effects, given-at}
+use Rattle.steps.specs.Lines.{given-at}
 use Rattle.steps.specs.After.{told-at, undone, left-at, Effects-chained, Told, Left}
 use Rattle.steps.proofs.Served.{effects-at-hand}
 use Rattle.steps.proofs.SensingLaws.{marked-set}
@@ -107,7 +107,7 @@ module _ (x l : ℕ) (next : State) (within : fluent-of x < length next) where
       (λ e. undone-other (eqb-false _ _ e) ∙ sym (rw e (both-all (known next l))))
 
 -- ONE EFFECT, whose body passes the test or not.
-module _ (s : List ℕ) (marks : State) (p : ℕ) (line : Effect-here s p) (next : State) (marked : Marked next) where
+module _ (s : List ℕ) (p : ℕ) (line : Effect-here s p) (next : State) (marked : Marked next) where
   abbrev gives : ℕ
   gives = getD s (p + 1) 0
 
@@ -167,13 +167,13 @@ module _ (s : List ℕ) (marks : State) where
   unfolding told-at told-step
   told-at-marked [] lines next marked = marked
   told-at-marked (p ∷ ps) lines next marked =
-      told-at-marked ps (λ q h. lines q (inr h)) _ (told-marked s marks p (lines p (inl refl)) next marked (each-of (known marks) (listed s (p + 2))))
+      told-at-marked ps (λ q h. lines q (inr h)) _ (told-marked s p (lines p (inl refl)) next marked (each-of (known marks) (listed s (p + 2))))
 
   left-at-marked : (ps : List ℕ) → ((p : ℕ) → Has ps p → Effect-here s p) → (next : State) → Marked next → Marked (left-at s marks ps next)
   unfolding left-at undone-step
   left-at-marked [] lines next marked = marked
   left-at-marked (p ∷ ps) lines next marked =
-      left-at-marked ps (λ q h. lines q (inr h)) _ (undone-marked s marks p (lines p (inl refl)) next marked (each-of (possible marks) (listed s (p + 2))))
+      left-at-marked ps (λ q h. lines q (inr h)) _ (undone-marked s p (lines p (inl refl)) next marked (each-of (possible marks) (listed s (p + 2))))
 
   told-at-known : (ps : List ℕ) → ((p : ℕ) → Has ps p → Effect-here s p) → (next : State) → Marked next → (l : ℕ)
       → given-at s (known marks) ps (complement l) ≡ false → known (told-at s marks ps next) l ≡ either (known next l) (given-at s (known marks) ps l)
@@ -183,8 +183,8 @@ module _ (s : List ℕ) (marks : State) where
       let b = each-of (known marks) (listed s (p + 2)) in
       let line = lines p (inl refl) in
       let apart = either-neither _ _ free in
-      told-at-known ps (λ q h. lines q (inr h)) _ (told-marked s marks p line next marked b) l (apart .1)
-      ∙ ap (λ (c : Bool). either c (given-at s (known marks) ps l)) (told-stepped s marks p line next marked b l (apart .0))
+      told-at-known ps (λ q h. lines q (inr h)) _ (told-marked s p line next marked b) l (apart .1)
+      ∙ ap (λ (c : Bool). either c (given-at s (known marks) ps l)) (told-stepped s p line next marked b l (apart .0))
       ∙ either-assoc (known next l) (both (eqb (getD s (p + 1) 0) l) b) (given-at s (known marks) ps l)
 
   left-at-known : (ps : List ℕ) → ((p : ℕ) → Has ps p → Effect-here s p) → (next : State) → Marked next → (l : ℕ)
@@ -194,8 +194,8 @@ module _ (s : List ℕ) (marks : State) where
   left-at-known (p ∷ ps) lines next marked l =
       let b = each-of (possible marks) (listed s (p + 2)) in
       let line = lines p (inl refl) in
-      left-at-known ps (λ q h. lines q (inr h)) _ (undone-marked s marks p line next marked b) l
-      ∙ ap (λ (c : Bool). both c (fails (given-at s (possible marks) ps (complement l)))) (undone-stepped s marks p line next marked b l)
+      left-at-known ps (λ q h. lines q (inr h)) _ (undone-marked s p line next marked b) l
+      ∙ ap (λ (c : Bool). both c (fails (given-at s (possible marks) ps (complement l)))) (undone-stepped s p line next marked b l)
       ∙ less-either (known next l) (both (eqb (getD s (p + 1) 0) (complement l)) b) (given-at s (possible marks) ps (complement l))
 
   -- What a body known true gives, a possible one gives.

@@ -1,5 +1,4 @@
--- Marks that are set, and the sensed fluents that are unknown: what the whole gives is what those from fluent f up give. Assumes nothing but
--- what is at hand of the table.
+-- Marks that are set, and the sensed fluents that are unknown: what the whole gives is what those from fluent f up give. Assumes nothing.
 use Prim.Native.Nat.{ℕ, zero, suc, _+_, _-_, _*_, _≤_, _<_}
 use native.Mathlib.Omega.{arith}
 use native.Mathlib.Decide.{ℕ-discrete, decLt}
@@ -18,8 +17,8 @@ use Rattle.meaning.specs.Limits
 use Rattle.meaning.specs.Literals.{says-true, says-false}
 use Rattle.meaning.specs.Requests.{Knowledge, Table}
 use Rattle.meaning.specs.Lines.{knowledge-of, sensing, senses}
-use Rattle.meaning.specs.States.{State, mark-of, known, known-whether, told, mark-after, state-after, unknown-from, unknown-sensed}
-use Rattle.meaning.proofs.TestLaws.{by-test, clash, both-left, both-right, both-true, either-left, either-right, either-split, fails-true, fails-false, pick-true, pick-false}
+use Rattle.meaning.specs.States.{State, known-whether, told, mark-after, state-after, unknown-from, unknown-sensed}
+use Rattle.meaning.proofs.TestLaws.{by-test, clash, both-right, both-true, either-left, either-right, fails-true, fails-false, pick-true, pick-false}
 use Rattle.meaning.proofs.PickLaws.{pick-has}
 use Rattle.meaning.proofs.LiteralLaws.{fluent-true, fluent-false}
 use Rattle.meaning.proofs.StateLaws.{mark-true, mark-false, known-true, known-false, after-length}
@@ -48,6 +47,9 @@ marked-after t a marks marked = record {
     | no far ↦ rw (List·getD-eq-default (state-after t a marks) 0 {n = f} (rw (after-length t a marks) (omega arith))) (omega arith)
   ];
 }
+
+pub after-marked : (t : Table) (a : ℕ) (marks r : State) → Marked marks → r ≡ state-after t a marks → Marked r
+after-marked t a marks r marked e = subst Marked (sym e) (marked-after t a marks marked)
 
 pub told-true : (f : ℕ) (marks : State) → told (says-true f) marks ≡ set marks f 1
 unfolding told

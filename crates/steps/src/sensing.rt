@@ -1,5 +1,5 @@
 ghost use mathlib.Core.Path.{_≡_};
-ghost use Prim.Native.Nat.{_≤_, _<_};
+ghost use Prim.Native.Nat.{_<_};
 ghost use Rattle.meaning.specs.Lines.{sensing};
 ghost use Rattle.meaning.specs.States.{unknown-sensed};
 ghost use Rattle.steps.specs.AtHand.{request-in, At-hand, Marked};
