@@ -182,7 +182,7 @@ marked-false true y e = sym e
 marked-false false true e = refl
 marked-false false false e = refl
 
-after-mark : (t : Table) (a : ℕ) (s : State) (f : ℕ) → f < length s → getD (state-after t a s) f Limits.unknown-mark ≡ mark-after (effects-of t a) s f
+pub after-mark : (t : Table) (a : ℕ) (s : State) (f : ℕ) → f < length s → getD (state-after t a s) f Limits.unknown-mark ≡ mark-after (effects-of t a) s f
 unfolding state-after
 after-mark t a s f near = marks-at (effects-of t a) s 0 s f near ∙ ap (mark-after (effects-of t a) s) (omega arith)
 

@@ -25,12 +25,12 @@ use Rattle.meaning.proofs.LiteralLaws.{complement-other, fluent-complem
 use Rattle.meaning.proofs.StateLaws.{nothing-told, mark-complement, unknown-mark, none-known}
 
 -- ONE LITERAL TOLD, whose complement was not known.
-either-none : (b : Bool) → either b false ≡ b
+pub either-none : (b : Bool) → either b false ≡ b
 unfolding either
 either-none true = refl
 either-none false = refl
 
-either-assoc : (a b c : Bool) → either (either a b) c ≡ either a (either b c)
+pub either-assoc : (a b c : Bool) → either (either a b) c ≡ either a (either b c)
 unfolding either
 either-assoc true b c = refl
 either-assoc false b c = refl
@@ -40,7 +40,7 @@ unfolding told
 told-far l s far = set-out s (fluent-of l) (mark-of l) far
 
 module _ (l : ℕ) (s : State) (within : fluent-of l < length s) where
-  told-here : known (told l s) l ≡ true
+  pub told-here : known (told l s) l ≡ true
   unfolding known told
   told-here = eq-eqb _ (mark-of l) (getD-set-same s (fluent-of l) (mark-of l) Limits.unknown-mark within)
 

@@ -29,13 +29,13 @@ pub mark-odd : (l : ℕ) → (l % 2 ≡ 0 → ⊥) → 2 ≡ mark-of l
 unfolding mark-of positive
 mark-odd l h = sym (pick-false _ _ _ (ne-eqb _ _ h))
 
-mark-other : (l : ℕ) → mark-of (complement l) ≡ 3 - mark-of l
+pub mark-other : (l : ℕ) → mark-of (complement l) ≡ 3 - mark-of l
 mark-other =
     by-literal (λ (l : ℕ). mark-of (complement l) ≡ 3 - mark-of l)
     (λ f. rw (complement-true f, mark-true f, mark-false f))
     (λ f. rw (complement-false f, mark-true f, mark-false f))
 
-mark-most : (l : ℕ) → mark-of l ≤ 2
+pub mark-most : (l : ℕ) → mark-of l ≤ 2
 mark-most = by-literal (λ (l : ℕ). mark-of l ≤ 2) (λ f. rw (mark-true f) (omega arith)) (λ f. rw (mark-false f) (omega arith))
 
 module _ (test : Test) (marks : State) (l mark : ℕ) (is : mark ≡ mark-of l) where

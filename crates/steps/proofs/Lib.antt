@@ -9,3 +9,6 @@ pub mod RestLaws
 pub mod Laid
 pub mod EndLaws
 pub mod OnwardLaws
+pub mod ActionLaws
+pub mod SensingLaws
+pub mod AfterLaws

@@ -44,6 +44,8 @@ fn told(s: &[u8], t: &Table, a: usize, marks: [u8; 64]) -> [u8; 64]
     while 0 < k {
         let slot = table::EFFECT_PLACE + k;
         let p = get(t, slot);
+        let before = table::EFFECT_BEFORE + k;
+        k = get(t, before);
         let body = p + 2;
         let known = each_holds(Test::Known, &marks, s, body);
         if known {
@@ -52,8 +54,6 @@ fn told(s: &[u8], t: &Table, a: usize, marks: [u8; 64]) -> [u8; 64]
             let f = l / 2;
             next[f] = mark_of(l);
         }
-        let before = table::EFFECT_BEFORE + k;
-        k = get(t, before);
     }
     next
 }
@@ -70,6 +70,8 @@ fn left(s: &[u8], t: &Table, a: usize, marks: &[u8; 64], start: [u8; 64]) -> [u8
     while 0 < k {
         let slot = table::EFFECT_PLACE + k;
         let p = get(t, slot);
+        let before = table::EFFECT_BEFORE + k;
+        k = get(t, before);
         let body = p + 2;
         let possible = each_holds(Test::Possible, marks, s, body);
         if possible {
@@ -81,8 +83,6 @@ fn left(s: &[u8], t: &Table, a: usize, marks: &[u8; 64], start: [u8; 64]) -> [u8
                 next[f] = 0;
             }
         }
-        let before = table::EFFECT_BEFORE + k;
-        k = get(t, before);
     }
     next
 }

@@ -1,5 +1,5 @@
 ghost use mathlib.Core.Path.{_≡_};
-ghost use Prim.Native.Nat.{_≤_, _<_};
+ghost use Prim.Native.Nat.{_<_};
 ghost use Rattle.meaning.specs.Lines.{sensing};
 ghost use Rattle.meaning.specs.States.{unknown-sensed};
 ghost use Rattle.steps.specs.AtHand.{request-in, At-hand, Marked};
@@ -31,15 +31,16 @@ pub fn next_unknown(s: &[u8], t: &Table, a: usize, from: usize, marks: &[u8; 64]
     let row = 64 * a;
     let mut f = from;
     while f < end {
-        if marks[f] == 0 {
-            let pair = row + f;
+        let here = f;
+        f += 1;
+        if marks[here] == 0 {
+            let pair = row + here;
             let slot = table::SENSED + pair;
             let sensed = get(t, slot);
             if 0 < sensed {
-                return f;
+                return here;
             }
         }
-        f += 1;
     }
     64
 }

@@ -1,0 +1,140 @@
+-- A turn undoes what the first effect of what is left of the action's chain may undo; what is left then gives what the whole gives, and
+-- effect numbers fall along the chain.
+use Rattle.steps.proofs.ActionLaws.{Leaving, leaving-starts, leave-done, effect-slot-fits, effect-slot-there, effect-before-fits, effect-before-there, effect-less, effect-body, effect-body-fits, effect-one-fits, effect-one-there, effect-fluent, leave-other, leave-undone, leave-kept, mark-within}
+use borrow.Author.Needs.{needs}
+use Rattle.steps.proofs.actions.left.Statement.{statement}
+use Rattle.steps.proofs.actions.left.Tie as tie
+use Rattle.steps.proofs.actions.left.Reads as reads
+use Rattle.steps.proofs.actions.left.Lts as lts
+use Rattle.reading.proofs.bytes.wide.Reads as wide-reads
+use Rattle.reading.proofs.marks.each_holds.Reads as each-holds-reads
+use Rattle.reading.proofs.marks.mark_of.Reads as mark-of-reads
+use Rattle.reading.proofs.table.get.Reads as get-reads
+
+abbrev Inv-loop : tie.InvT-loop
+Inv-loop s t a marks next₀ last k₀ next k = Leaving s t a marks next₀ next k
+
+abbrev μ-loop : tie.MeasureT-loop
+μ-loop s t a marks next₀ last k₀ next k = k
+
+-- src/actions.rt:68:16
+add-last : tie.Need-add-last Inv-loop μ-loop
+add-last c = search needs
+
+-- src/actions.rt:69:9
+get-requires : tie.Need-get-requires Inv-loop μ-loop
+get-requires c κs = search needs
+
+-- src/actions.rt:70:5
+loop-holds : tie.Need-loop-holds Inv-loop μ-loop
+loop-holds c = search leaving-starts
+
+-- src/actions.rt:71:20
+add-slot : tie.Need-add-slot Inv-loop μ-loop
+add-slot c = search effect-slot-fits
+
+-- src/actions.rt:72:13
+get-requires-2 : tie.Need-get-requires-2 Inv-loop μ-loop
+get-requires-2 c κs = search (needs, effect-slot-there)
+
+-- src/actions.rt:73:22
+add-before : tie.Need-add-before Inv-loop μ-loop
+add-before c = search effect-before-fits
+
+-- src/actions.rt:74:9
+get-requires-3 : tie.Need-get-requires-3 Inv-loop μ-loop
+get-requires-3 c κs = search (needs, effect-before-there)
+
+-- src/actions.rt:75:20
+add-body : tie.Need-add-body Inv-loop μ-loop
+add-body c = search effect-body-fits
+
+-- src/actions.rt:76:13
+each-holds-requires : tie.Need-each-holds-requires Inv-loop μ-loop
+each-holds-requires c κs = search (needs, effect-body)
+
+-- src/actions.rt:78:23
+add-one : tie.Need-add-one Inv-loop μ-loop
+add-one c = search effect-one-fits
+
+-- src/actions.rt:79:26
+shared-slice-read-wide : tie.Need-shared-slice-read-wide Inv-loop μ-loop
+shared-slice-read-wide c = search effect-one-there
+
+-- src/actions.rt:79:17
+wide-requires : tie.Need-wide-requires Inv-loop μ-loop
+wide-requires c κs = search needs
+
+-- src/actions.rt:81:29
+mark-of-requires : tie.Need-mark-of-requires Inv-loop μ-loop
+mark-of-requires c κs = search needs
+
+-- src/actions.rt:81:25
+sub-other : tie.Need-sub-other Inv-loop μ-loop
+sub-other c = search mark-within
+
+-- src/actions.rt:82:16
+array-read-if2 : tie.Need-array-read-if2 Inv-loop μ-loop
+array-read-if2 c = search effect-fluent
+
+-- src/actions.rt:83:17
+array-write-next : tie.Need-array-write-next Inv-loop μ-loop
+array-write-next c = search effect-fluent
+
+-- src/actions.rt:70:5
+loop-less : tie.Need-loop-less Inv-loop μ-loop
+loop-less c = search effect-less
+
+-- src/actions.rt:70:5
+loop-again : tie.Need-loop-again Inv-loop μ-loop
+loop-again c = search leave-undone
+
+-- src/actions.rt:70:5
+loop-less-2 : tie.Need-loop-less-2 Inv-loop μ-loop
+loop-less-2 c = search effect-less
+
+-- src/actions.rt:70:5
+loop-again-2 : tie.Need-loop-again-2 Inv-loop μ-loop
+loop-again-2 c = search leave-kept
+
+-- src/actions.rt:70:5
+loop-less-3 : tie.Need-loop-less-3 Inv-loop μ-loop
+loop-less-3 c = search effect-less
+
+-- src/actions.rt:70:5
+loop-again-3 : tie.Need-loop-again-3 Inv-loop μ-loop
+loop-again-3 c = search leave-other
+
+-- src/actions.rt:62:1
+returns : tie.Need-returns Inv-loop μ-loop
+returns c = search leave-done
+
+pub left-spec : {M : Type 1} → statement M
+left-spec =
+    tie.close
+    (tie.spec
+    Inv-loop
+    μ-loop
+    add-last
+    get-requires
+    loop-holds
+    add-slot
+    get-requires-2
+    add-before
+    get-requires-3
+    add-body
+    each-holds-requires
+    add-one
+    shared-slice-read-wide
+    wide-requires
+    mark-of-requires
+    sub-other
+    array-read-if2
+    array-write-next
+    loop-less
+    loop-again
+    loop-less-2
+    loop-again-2
+    loop-less-3
+    loop-again-3
+    returns)
