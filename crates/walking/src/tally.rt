@@ -1,21 +1,37 @@
-// How a walk stands: its number (0, 1, 2, or 3 once the budget is spent), the place that goes with it, the budget left,
-// and the 64 marks of the state concerned.
+ghost use mathlib.Core.Path.{_≡_};
+ghost use mathlib.Core.Logic.{_⊎_};
+ghost use Prim.Native.Nat.{_+_, _≤_, _<_};
+ghost use lib.ListN.{length, getD};
+ghost use lib.Dec.{ltb};
+ghost use Rattle.meaning.specs.Walk.{fine};
+ghost use Rattle.walking.specs.Standing.{so-far, add, one, standing, Going, end-by, Held};
+
+// How a walk stands: the answer's number so far (0, 1 or 2, and 3 once the budget is spent), the place that goes with it,
+// the budget left, and from slot 3 on the 64 marks of the state concerned.
 pub type Tally = [u32; 67];
 
-// Nothing is missed or stuck yet.
-pub fn opened(budget: u32) -> Tally {
+// Nothing is walked yet.
+pub fn opened(budget: u32) -> Tally
+    ensures stands { λ r. ⌜ standing r ≡ so-far budget fine ⌝ }
+    ensures going { λ r. ⌜ Going r ⌝ }
+{
     let mut tally = [0u32; 67];
     tally[2] = budget;
     tally
 }
 
-// The walk goes on: it is neither stuck nor spent.
-pub fn goes_on(tally: &Tally) -> bool {
+// The walk is neither stuck nor spent.
+pub fn goes_on(tally: &Tally) -> bool
+    ensures { λ r. ⌜ r ≡ ltb (getD (now (tally .entry)) 0 0) 2 ⌝ }
+{
     tally[0] < 2
 }
 
-// Counts one.
-pub fn count_one(tally: &mut Tally) {
+// One more is counted, or the budget is spent.
+pub fn count_one(tally: &mut Tally)
+    requires { ⌜ Going (now tally) ⌝ }
+    ensures { λ _. ⌜ standing (now (tally .exit)) ≡ add (standing (now (tally .entry))) one ⌝ }
+{
     if tally[2] == 0 {
         tally[0] = 3;
         return;
@@ -23,13 +39,37 @@ pub fn count_one(tally: &mut Tally) {
     tally[2] -= 1;
 }
 
-pub fn note(tally: &mut Tally, number: u32, place: usize, marks: &[u8; 64]) {
-    tally[0] = number;
-    tally[1] = place as u32;
+fn widened(x: u8) -> u32
+    ensures { λ r. ⌜ r ≡ x ⌝ }
+{
+    x as u32
+}
+
+// The state concerned, and the place that goes with it.
+fn hold(tally: &mut Tally, place: usize, marks: &[u8; 64])
+    requires { ⌜ length (now tally) ≡ 67 ⌝ }
+    requires { ⌜ length (now marks) ≡ 64 ⌝ }
+    requires { ⌜ place < 65536 ⌝ }
+    ensures { λ _. ⌜ Held (now (tally .entry)) place (now (marks .entry)) (now (tally .exit)) ⌝ }
+{
     let mut f = 0;
     while f < 64 {
         let slot = 3 + f;
-        tally[slot] = marks[f] as u32;
+        tally[slot] = widened(marks[f]);
         f += 1;
     }
+    tally[1] = place as u32;
+}
+
+// A miss (1), or an item that can't be run (2).
+pub fn note(tally: &mut Tally, number: u32, place: usize, marks: &[u8; 64])
+    requires { ⌜ Going (now tally) ⌝ }
+    requires { ⌜ length (now marks) ≡ 64 ⌝ }
+    requires { ⌜ 1 ≤ number ⌝ }
+    requires { ⌜ number ≤ 2 ⌝ }
+    requires { ⌜ place < 65536 ⌝ }
+    ensures { λ _. ⌜ standing (now (tally .exit)) ≡ so-far (getD (now (tally .entry)) 2 0) (end-by number place (now (marks .entry))) ⌝ }
+{
+    tally[0] = number;
+    hold(tally, place, marks);
 }

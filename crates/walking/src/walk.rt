@@ -1,3 +1,13 @@
+ghost use mathlib.Core.Path.{_≡_};
+ghost use Prim.Native.Nat.{_+_, _<_};
+ghost use lib.ListN.{getD};
+ghost use Rattle.meaning.specs.Walk.{judged};
+ghost use Rattle.reading.specs.Planned.{items-of};
+ghost use Rattle.steps.specs.AtHand.{request-in, At-hand, Marked};
+ghost use Rattle.steps.specs.Rests.{Position};
+ghost use Rattle.steps.specs.Steps.{walk-from};
+ghost use Rattle.walking.specs.Standing.{add, standing, Going};
+ghost use Rattle.walking.specs.Walks.{action-at, fork-from};
 use reading::bytes::wide;
 use reading::refusals::Found;
 use reading::table;
@@ -17,27 +27,39 @@ use super::tally::goes_on;
 use super::tally::note;
 
 // An end state is judged.
-fn judge_end(s: &[u8], t: &Table, marks: &[u8; 64], tally: &mut Tally) {
+fn judge_end(s: &[u8], t: &Table, marks: &[u8; 64], tally: &mut Tally)
+    requires { ⌜ At-hand (now s) (now t) ⌝ }
+    requires { ⌜ Marked (now marks) ⌝ }
+    requires { ⌜ Going (now tally) ⌝ }
+    ensures { λ _. ⌜ standing (now (tally .exit)) ≡ add (standing (now (tally .entry))) (judged (request-in (now (s .entry))) (now (marks .entry))) ⌝ }
+{
     count_one(tally);
-    let first = tally[0];
-    if first == 0 {
+    if tally[0] == 0 {
         match missed(s, t, marks) {
-            Found::At(p) => note(tally, 1, p, marks),
-            Found::Nowhere => {}
+            Found::At(p) => {
+                note(tally, 1, p, marks);
+                return;
+            }
+            Found::Nowhere => {
+                return;
+            }
         }
     }
 }
 
-// The plan from item `at` on.
-pub fn walk(s: &[u8], t: &Table, at: usize, marks: [u8; 64], tally: &mut Tally) {
+// The plan from a position on.
+pub fn walk(s: &[u8], t: &Table, at: usize, marks: [u8; 64], tally: &mut Tally)
+    requires { ⌜ At-hand (now s) (now t) ⌝ }
+    requires { ⌜ Position (request-in (now s) .plan) at ⌝ }
+    requires { ⌜ Marked marks ⌝ }
+    requires { ⌜ Going (now tally) ⌝ }
+    ensures { λ _. ⌜ standing (now (tally .exit)) ≡ add (standing (now (tally .entry))) (walk-from (now (s .entry)) at marks) ⌝ }
+{
     let mut i = at;
     let mut state = marks;
-    loop {
-        if i == 1024 {
-            judge_end(s, t, &state, tally);
-            return;
-        }
-        let p = get(t, table::ITEM_PLACE + i);
+    while i < 1024 {
+        let slot = table::ITEM_PLACE + i;
+        let p = get(t, slot);
         if s[p] == 255 {
             walk_branching(s, t, i, state, tally);
             return;
@@ -55,9 +77,10 @@ pub fn walk(s: &[u8], t: &Table, at: usize, marks: [u8; 64], tally: &mut Tally) 
                         fork(s, t, i, f, state, tally);
                         return;
                     }
-                } else {
-                    state = state_after(s, t, a, state);
+                    i = follow(s, t, i);
+                    continue;
                 }
+                state = state_after(s, t, a, state);
                 i = follow(s, t, i);
                 continue;
             }
@@ -66,38 +89,65 @@ pub fn walk(s: &[u8], t: &Table, at: usize, marks: [u8; 64], tally: &mut Tally) 
         note(tally, 2, p, &state);
         return;
     }
+    judge_end(s, t, &state, tally);
 }
 
 // The branching that is item i.
-fn walk_branching(s: &[u8], t: &Table, i: usize, marks: [u8; 64], tally: &mut Tally) {
+fn walk_branching(s: &[u8], t: &Table, i: usize, marks: [u8; 64], tally: &mut Tally)
+    requires { ⌜ At-hand (now s) (now t) ⌝ }
+    requires { ⌜ i < items-of (request-in (now s) .plan) ⌝ }
+    requires { ⌜ action-at (now s) (now t) i ≡ 255 ⌝ }
+    requires { ⌜ Marked marks ⌝ }
+    requires { ⌜ Going (now tally) ⌝ }
+    ensures { λ _. ⌜ standing (now (tally .exit)) ≡ add (standing (now (tally .entry))) (walk-from (now (s .entry)) i marks) ⌝ }
+{
     match chosen(s, t, i, &marks) {
-        Found::At(at) => walk(s, t, at, marks, tally),
+        Found::At(at) => {
+            walk(s, t, at, marks, tally);
+            return;
+        }
         Found::Nowhere => {
-            let p = get(t, table::ITEM_PLACE + i);
+            let slot = table::ITEM_PLACE + i;
+            let p = get(t, slot);
             note(tally, 2, p, &marks);
+            return;
         }
     }
 }
 
-// The readings of fluent f, which is unknown, and of those above it, by the sensing action that is item i.
-fn fork(s: &[u8], t: &Table, i: usize, f: usize, marks: [u8; 64], tally: &mut Tally) {
-    let p = get(t, table::ITEM_PLACE + i);
+// The readings of fluent f and of the unknown ones above it that the action senses, which is item i; then what follows it.
+fn fork(s: &[u8], t: &Table, i: usize, f: usize, marks: [u8; 64], tally: &mut Tally)
+    requires { ⌜ At-hand (now s) (now t) ⌝ }
+    requires { ⌜ i < items-of (request-in (now s) .plan) ⌝ }
+    requires { ⌜ action-at (now s) (now t) i < 64 ⌝ }
+    requires { ⌜ f < 64 ⌝ }
+    requires { ⌜ Marked marks ⌝ }
+    requires { ⌜ Going (now tally) ⌝ }
+    ensures { λ _. ⌜ standing (now (tally .exit)) ≡ add (standing (now (tally .entry))) (fork-from (now (s .entry)) (now (t .entry)) i f marks) ⌝ }
+{
+    let slot = table::ITEM_PLACE + i;
+    let p = get(t, slot);
     let a = wide(s[p]);
+    let above = f + 1;
     let mut state = marks;
     state[f] = 1;
-    let g = next_unknown(s, t, a, f + 1, &state);
+    let g = next_unknown(s, t, a, above, &state);
     if g < 64 {
         fork(s, t, i, g, state, tally);
-    } else {
-        walk(s, t, follow(s, t, i), state, tally);
-    }
-    let on = goes_on(tally);
-    if on {
-        state[f] = 2;
-        if g < 64 {
+        let on = goes_on(tally);
+        if on {
+            state[f] = 2;
             fork(s, t, i, g, state, tally);
             return;
         }
-        walk(s, t, follow(s, t, i), state, tally);
+        return;
+    }
+    let at = follow(s, t, i);
+    walk(s, t, at, state, tally);
+    let on = goes_on(tally);
+    if on {
+        state[f] = 2;
+        walk(s, t, at, state, tally);
+        return;
     }
 }

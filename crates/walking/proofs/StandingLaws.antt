@@ -1,0 +1,232 @@
+-- What a walk adds to a standing: one walk after another adds first the one and then the other, so a count that is above the budget is
+-- above it wherever the code finds out. Assumes nothing.
+use Prim.Native.Nat.{ℕ, _+_, _-_, _≤_, _<_}
+use native.Mathlib.Omega.{arith}
+use mathlib.Core.Path.{_≡_, refl, sym, _∙_, ap, subst}
+use mathlib.Core.Bool.{Bool, true, false}
+use mathlib.Core.List.{List}
+use lib.ListN.{length, getD, set, drop, replicate, length-set, length-replicate, getD-replicate}
+use lib.Seq.{getD-set-same, getD-set-other, drop-set-lt}
+use lib.Dec.{eqb, ltb}
+use borrow.Author.Tests.{ltb-true, ltb-false, eqb-true, eqb-false, lt-ltb, le-ltb, eq-eqb, ne-eqb}
+use Rattle.meaning.specs.Tests.{pick}
+use Rattle.meaning.specs.Limits
+use Rattle.meaning.specs.States.{State}
+use Rattle.meaning.specs.Walk.{End, fine, missed, stuck, Walked, stuck-at, counted, keep-miss, after-miss, after-end, and-then}
+use Rattle.meaning.proofs.TestLaws.{by-test, clash, pick-true, pick-false}
+use Rattle.walking.specs.Standing.{Standing, nothing, spent, so-far, spend, add, one, end-in, standing, Going, end-by, Held}
+
+-- SPENDING. A walk within what is left, or above it.
+spend-within : (left : ℕ) (then : End State → End State) (w : Walked State) → w .count ≤ left → spend left then w ≡ so-far (left - w .count) (then (w .end))
+unfolding spend
+spend-within left then w h = pick-false _ _ _ (le-ltb left (w .count) h)
+
+spend-above : (left : ℕ) (then : End State → End State) (w : Walked State) → left < w .count → spend left then w ≡ spent
+unfolding spend
+spend-above left then w h = pick-true _ _ _ (lt-ltb left (w .count) h)
+
+-- A walk that counts nothing.
+spend-none : (left : ℕ) (then : End State → End State) (e : End State) → spend left then (record { count = 0; end = e }) ≡ so-far left (then e)
+spend-none left then e = let same : left - 0 ≡ left = omega arith in spend-within left then (record { count = 0; end = e }) (omega arith) ∙ ap (λ (x : ℕ). so-far x (then e)) same
+
+-- Two walks whose counts add up, the first within what is left.
+spend-two : (left c : ℕ) (f g : End State → End State) (u v : Walked State) → u .count ≡ c + v .count → f (u .end) ≡ g (v .end) → c ≤ left → spend left f u ≡ spend (left - c) g v
+spend-two left c f g u v counts ends h =
+    by-test (ltb (left - c) (v .count))
+    (λ above.
+    let a = ltb-true _ _ above in
+    spend-above left f u (omega arith) ∙ sym (spend-above (left - c) g v a))
+    (λ within.
+    let a = ltb-false _ _ within in
+    let same : left - u .count ≡ left - c - v .count = omega arith in
+    spend-within left f u (omega arith)
+    ∙ ap (λ (x : ℕ). so-far x (f (u .end))) same
+    ∙ ap (so-far (left - c - v .count)) ends
+    ∙ sym (spend-within (left - c) g v a))
+
+-- ADDING one walk after another.
+keep-keep : (p q : ℕ) (s t : State) (e : End State) → keep-miss p s (keep-miss q t e) ≡ keep-miss p s e
+unfolding keep-miss
+keep-keep p q s t fine = refl
+keep-keep p q s t (missed r u) = refl
+keep-keep p q s t (stuck r u) = refl
+
+module _ (left c : ℕ) (more : Unit {0} → Walked State) where
+  -- Above what is left with the first walk.
+  spent-first : (then : End State → End State) (e : End State) → left < c → spend left then (after-end e c more) ≡ spent
+  unfolding after-end counted after-miss
+  spent-first then fine h = spend-above left then (counted c (more tt)) (omega arith)
+  spent-first then (missed p s) h = spend-above left then (counted c (after-miss p s (more tt))) (omega arith)
+  spent-first then (stuck p s) h = spend-above left then (record { count = c; end = stuck p s }) h
+
+  fine-then : (e : End State) → c ≤ left → spend left (λ x. x) (after-end e c more) ≡ add (so-far (left - c) e) (more tt)
+  unfolding after-end counted after-miss add
+  fine-then fine h = spend-two left c (λ x. x) (λ x. x) (counted c (more tt)) (more tt) refl refl h
+  fine-then (missed p s) h = spend-two left c (λ x. x) (keep-miss p s) (counted c (after-miss p s (more tt))) (more tt) refl refl h
+  fine-then (stuck p s) h = spend-within left (λ x. x) (record { count = c; end = stuck p s }) h
+
+  missed-then : (q : ℕ) (u : State) (e : End State) → c ≤ left → spend left (keep-miss q u) (after-end e c more) ≡ add (so-far (left - c) (keep-miss q u e)) (more tt)
+  unfolding after-end counted after-miss add keep-miss
+  missed-then q u fine h = spend-two left c (keep-miss q u) (keep-miss q u) (counted c (more tt)) (more tt) refl refl h
+  missed-then q u (missed p s) h = spend-two left c (keep-miss q u) (keep-miss q u) (counted c (after-miss p s (more tt))) (more tt) refl (keep-keep q p u s (more tt .end)) h
+  missed-then q u (stuck p s) h = spend-within left (keep-miss q u) (record { count = c; end = stuck p s }) h
+
+pub add-then : (a : Standing) (w : Walked State) (more : Unit {0} → Walked State) → add a (and-then w more) ≡ add (add a w) (more tt)
+unfolding add and-then
+add-then nothing w more = refl
+add-then spent w more = refl
+add-then (so-far left (stuck p s)) w more = refl
+add-then (so-far left fine) w more =
+    by-test (ltb left (w .count))
+    (λ above. let h = ltb-true _ _ above in spent-first left (w .count) more (λ x. x) (w .end) h ∙ ap (λ (x : Standing). add x (more tt)) (sym (spend-above left (λ x. x) w h)))
+    (λ within. let h = ltb-false _ _ within in fine-then left (w .count) more (w .end) h ∙ ap (λ (x : Standing). add x (more tt)) (sym (spend-within left (λ x. x) w h)))
+add-then (so-far left (missed q u)) w more =
+    by-test (ltb left (w .count))
+    (λ above. let h = ltb-true _ _ above in spent-first left (w .count) more (keep-miss q u) (w .end) h ∙ ap (λ (x : Standing). add x (more tt)) (sym (spend-above left (keep-miss q u) w h)))
+    (λ within. let h = ltb-false _ _ within in missed-then left (w .count) more q u (w .end) h ∙ ap (λ (x : Standing). add x (more tt)) (sym (spend-within left (keep-miss q u) w h)))
+
+-- One is counted, and then the rest is walked.
+pub add-counted : (a : Standing) (w : Walked State) → add a (counted 1 w) ≡ add (add a one) w
+unfolding and-then after-end one
+add-counted a w = add-then a one (λ _. w)
+
+-- THE TALLY.
+unsized : (tally : List ℕ) → (length tally ≡ 67 → ⊥) → standing tally ≡ nothing
+unfolding standing
+unsized tally h = pick-false _ _ _ (ne-eqb _ _ h)
+
+module _ (tally : List ℕ) (sized : length tally ≡ 67) where
+  stands-open : (getD tally 0 0 ≡ 3 → ⊥) → standing tally ≡ so-far (getD tally 2 0) (end-in tally)
+  unfolding standing
+  stands-open h = pick-true _ _ _ (eq-eqb _ _ sized) ∙ pick-false _ _ _ (ne-eqb _ _ h)
+
+  pub stands-spent : getD tally 0 0 ≡ 3 → standing tally ≡ spent
+  unfolding standing
+  stands-spent h = pick-true _ _ _ (eq-eqb _ _ sized) ∙ pick-true _ _ _ (eq-eqb _ _ h)
+
+  end-fine : getD tally 0 0 ≡ 0 → end-in tally ≡ fine
+  unfolding end-in
+  end-fine h = pick-true _ _ _ (eq-eqb _ _ h)
+
+  end-missed : getD tally 0 0 ≡ 1 → end-in tally ≡ missed (getD tally 1 0) (drop 3 tally)
+  unfolding end-in
+  end-missed h = pick-false (eqb (getD tally 0 0) 0) _ _ (ne-eqb (getD tally 0 0) 0 (λ e. omega arith)) ∙ pick-true (eqb (getD tally 0 0) 1) _ _ (eq-eqb _ _ h)
+
+  end-stuck : (getD tally 0 0 ≡ 0 → ⊥) → (getD tally 0 0 ≡ 1 → ⊥) → end-in tally ≡ stuck (getD tally 1 0) (drop 3 tally)
+  unfolding end-in
+  end-stuck h g = pick-false (eqb (getD tally 0 0) 0) _ _ (ne-eqb _ _ h) ∙ pick-false (eqb (getD tally 0 0) 1) _ _ (ne-eqb _ _ g)
+
+  pub stands-fine : getD tally 0 0 ≡ 0 → standing tally ≡ so-far (getD tally 2 0) fine
+  stands-fine h = stands-open (λ e. omega arith) ∙ ap (so-far (getD tally 2 0)) (end-fine h)
+
+  pub stands-missed : getD tally 0 0 ≡ 1 → standing tally ≡ so-far (getD tally 2 0) (missed (getD tally 1 0) (drop 3 tally))
+  stands-missed h = stands-open (λ e. omega arith) ∙ ap (so-far (getD tally 2 0)) (end-missed h)
+
+  pub stands-stuck : getD tally 0 0 ≡ 2 → standing tally ≡ so-far (getD tally 2 0) (stuck (getD tally 1 0) (drop 3 tally))
+  stands-stuck h = stands-open (λ e. omega arith) ∙ ap (so-far (getD tally 2 0)) (end-stuck (λ e. omega arith) (λ e. omega arith))
+
+-- It says something.
+abbrev Says : Standing → Type 0
+Says nothing = ⊥
+Says spent = Unit {0}
+Says (so-far l e) = Unit {0}
+
+spend-says : (left : ℕ) (then : End State → End State) (w : Walked State) → Says (spend left then w)
+unfolding spend
+spend-says left then w = by-test (ltb left (w .count)) (λ t. subst Says (sym (pick-true _ _ _ t)) tt) (λ f. subst Says (sym (pick-false _ _ _ f)) tt)
+
+-- Where the walk does not go on, nothing is added.
+pub add-over : (tally : List ℕ) → (getD tally 0 0 < 2 → ⊥) → (w : Walked State) → standing tally ≡ add (standing tally) w
+unfolding add
+add-over tally h w =
+    by-test (eqb (length tally) 67)
+    (λ s. let sized = eqb-true _ _ s in
+    by-test (eqb (getD tally 0 0) 3)
+    (λ t. let is = stands-spent tally sized (eqb-true _ _ t) in is ∙ ap (λ (a : Standing). add a w) (sym is))
+    (λ f. let is = stands-open tally sized (eqb-false _ _ f) ∙ ap (so-far (getD tally 2 0)) (end-stuck tally sized (λ e. h (omega arith)) (λ e. h (omega arith))) in is ∙ ap (λ (a : Standing). add a w) (sym is)))
+    (λ f. let is = unsized tally (eqb-false _ _ f) in is ∙ ap (λ (a : Standing). add a w) (sym is))
+
+-- WHERE IT GOES ON, it stands so far, with nothing stuck.
+module _ (tally : List ℕ) (going : Going tally) where
+  by-going : (C : End State → Type 0) → C fine → ((p : ℕ) (s : State) → C (missed p s)) → (standing tally ≡ so-far (getD tally 2 0) (end-in tally)) × C (end-in tally)
+  by-going C f g =
+      let on = going .on in (
+        stands-open tally (going .sized) (λ e. omega arith),
+        by-test (eqb (getD tally 0 0) 0)
+        (λ t. subst C (sym (end-fine tally (going .sized) (eqb-true _ _ t))) f)
+        (λ n. subst C (sym (end-missed tally (going .sized) (few (getD tally 0 0) (eqb-false _ _ n) on))) (g (getD tally 1 0) (drop 3 tally))),
+      )
+    where
+      few : (n : ℕ) → (n ≡ 0 → ⊥) → n < 2 → n ≡ 1
+      few n a b = by-test (eqb n 1) (λ t. eqb-true _ _ t) (λ f. let c = eqb-false n 1 f in absurd (a (omega (arith, c))))
+
+  -- An item that can't be run.
+  pub add-stuck : (p : ℕ) (s : State) → so-far (getD tally 2 0) (stuck p s) ≡ add (standing tally) (stuck-at p s)
+  unfolding add stuck-at keep-miss
+  add-stuck p s =
+      let how = by-going (λ e. so-far (getD tally 2 0) (stuck p s) ≡ add (so-far (getD tally 2 0) e) (stuck-at p s))
+      (sym (spend-none (getD tally 2 0) (λ x. x) (stuck p s)))
+      (λ q u. sym (spend-none (getD tally 2 0) (keep-miss q u) (stuck p s))) in
+      how .1 ∙ ap (λ (a : Standing). add a (stuck-at p s)) (sym (how .0))
+
+  -- The tally keeps its size, whatever is walked.
+  pub sized-after : (w : Walked State) (after : List ℕ) → standing after ≡ add (standing tally) w → length after ≡ 67
+  unfolding add
+  sized-after w after is =
+      let how = by-going (λ e. Says (add (so-far (getD tally 2 0) e) w))
+      (spend-says (getD tally 2 0) (λ x. x) w)
+      (λ q u. spend-says (getD tally 2 0) (keep-miss q u) w) in
+      by-test (eqb (length after) 67)
+      (λ t. eqb-true _ _ t)
+      (λ f. absurd (subst Says (ap (λ (a : Standing). add a w) (sym (how .0)) ∙ sym is ∙ unsized after (eqb-false _ _ f)) (how .1)))
+
+-- ONE COUNTED, or the budget spent.
+module _ (tally : List ℕ) (going : Going tally) where
+  pub count-spent : getD tally 2 0 ≡ 0 → standing (set tally 0 3) ≡ add (standing tally) one
+  unfolding add one
+  count-spent none =
+      let how = by-going tally going (λ e. add (so-far (getD tally 2 0) e) one ≡ spent)
+      (spend-above (getD tally 2 0) (λ x. x) one (omega arith))
+      (λ q u. spend-above (getD tally 2 0) (keep-miss q u) one (omega arith)) in
+      let sized = going .sized in
+      stands-spent (set tally 0 3) (length-set tally 0 3 ∙ sized) (getD-set-same tally 0 3 0 (omega arith)) ∙ sym (how .1) ∙ ap (λ (a : Standing). add a one) (sym (how .0))
+
+  pub count-left : (getD tally 2 0 ≡ 0 → ⊥) → standing (set tally 2 (getD tally 2 0 - 1)) ≡ add (standing tally) one
+  unfolding end-in add one keep-miss
+  count-left some =
+      let left = getD tally 2 0 in
+      let sized = going .sized in
+      let how = by-going tally going (λ e. add (so-far left e) one ≡ so-far (left - 1) e)
+      (spend-within left (λ x. x) one (omega arith))
+      (λ q u. spend-within left (keep-miss q u) one (omega arith)) in
+      let next = set tally 2 (left - 1) in
+      let number : getD next 0 0 ≡ getD tally 0 0 = getD-set-other tally 2 0 (left - 1) 0 (λ e. omega arith) in
+      let place : getD next 1 0 ≡ getD tally 1 0 = getD-set-other tally 2 1 (left - 1) 0 (λ e. omega arith) in
+      let fewer : getD next 2 0 ≡ left - 1 = getD-set-same tally 2 (left - 1) 0 (omega arith) in
+      let marks : drop 3 next ≡ drop 3 tally = drop-set-lt 3 tally 2 (left - 1) (omega arith) in
+      let same : end-in next ≡ end-in tally = rw (number, place, marks) in
+      let on = going .on in
+      stands-open next (length-set tally 2 (left - 1) ∙ sized) (λ e. omega arith) ∙ rw (fewer, same) (sym (how .1) ∙ ap (λ (a : Standing). add a one) (sym (how .0)))
+
+-- NOTED.
+pub noted : (tally : List ℕ) → Going tally → (number place : ℕ) → 1 ≤ number → number ≤ 2 → (marks after : List ℕ) → Held (set tally 0 number) place marks after → standing after ≡ so-far (getD tally 2 0) (end-by number place marks)
+unfolding end-by pick
+noted tally going number place least most marks after held =
+    let sized = going .sized in
+    let is : getD after 0 0 ≡ number = held .number ∙ getD-set-same tally 0 number 0 (omega arith) in
+    let left : getD after 2 0 ≡ getD tally 2 0 = held .left ∙ getD-set-other tally 0 2 number 0 (λ e. omega arith) in
+    let long : length after ≡ 67 = held .sized ∙ length-set tally 0 number ∙ sized in
+    by-test (eqb number 1)
+    (λ t. let one-is = eqb-true _ _ t in stands-missed after long (is ∙ one-is) ∙ rw (left, held .placed, held .marked, t))
+    (λ f. let n = eqb-false _ _ f in let two : number ≡ 2 = two-is number n least most in stands-stuck after long (is ∙ two) ∙ rw (left, held .placed, held .marked, f))
+  where
+    two-is : (n : ℕ) → (n ≡ 1 → ⊥) → 1 ≤ n → n ≤ 2 → n ≡ 2
+    two-is n h a b = by-test (eqb n 2) (λ t. eqb-true _ _ t) (λ f. absurd (eqb-false n 2 f (omega arith)))
+
+-- OPENED.
+pub opens : (budget : ℕ) → standing (set (replicate 67 0) 2 budget) ≡ so-far budget fine
+unfolding standing end-in pick
+opens budget = refl
+
+pub opens-going : (budget : ℕ) → Going (set (replicate 67 0) 2 budget)
+opens-going budget = record { sized = refl; on = omega arith }

@@ -1,0 +1,62 @@
+-- How a walk stands within its budget, and what the walk of a part adds to that. The defined walk knows no budget; this ties the two.
+use Prim.Native.Nat.{ℕ, _+_, _-_, _<_}
+use mathlib.Core.Path.{_≡_}
+use mathlib.Core.List.{List}
+use lib.ListN.{length, getD, drop}
+use lib.Dec.{eqb, ltb}
+use Rattle.meaning.specs.Tests.{pick}
+use Rattle.meaning.specs.Limits
+use Rattle.meaning.specs.States.{State}
+use Rattle.meaning.specs.Walk.{End, fine, missed, stuck, Walked, keep-miss}
+
+-- The budget is spent; or so much is left, and the walk so far ended so. A tally of another size says nothing.
+pub data Standing : Type 0 where
+  nothing : Standing
+  spent : Standing
+  so-far : (left : ℕ) → End State → Standing
+
+-- A part is walked with so much left: its count may be above that; `then` says how its end goes with what was before.
+unfoldable pub spend : (left : ℕ) → (then : End State → End State) → Walked State → Standing
+spend left then w = pick (ltb left (w .count)) (λ _. spent) (λ _. so-far (left - w .count) (then (w .end)))
+
+-- Nothing is walked after what is stuck or spent; a first miss is kept (FORMAT 8.8, 8.12, 8.14, 8.19).
+unfoldable pub add : Standing → Walked State → Standing
+add nothing w = nothing
+add spent w = spent
+add (so-far left fine) w = spend left (λ e. e) w
+add (so-far left (missed p s)) w = spend left (keep-miss p s) w
+add (so-far left (stuck p s)) w = so-far left (stuck p s)
+
+-- One counted, with nothing missed.
+unfoldable pub one : Walked State
+one = record { count = 1; end = fine }
+
+-- THE TALLY holds it: the answer's number so far, the place that goes with it, the budget left, and the marks of the state concerned.
+unfoldable pub end-in : List ℕ → End State
+end-in tally =
+    pick (eqb (getD tally 0 0) Limits.verified) (λ _. fine) λ _.
+    pick (eqb (getD tally 0 0) Limits.goal-missed) (λ _. missed (getD tally 1 0) (drop 3 tally)) λ _.
+    stuck (getD tally 1 0) (drop 3 tally)
+
+unfoldable pub standing : List ℕ → Standing
+standing tally =
+    pick (eqb (length tally) 67)
+    (λ _. pick (eqb (getD tally 0 0) Limits.budget-spent) (λ _. spent) (λ _. so-far (getD tally 2 0) (end-in tally)))
+    (λ _. nothing)
+
+-- Neither stuck nor spent.
+pub record Going (tally : List ℕ) : Type 0 where
+  pub sized : length tally ≡ 67
+  pub on : getD tally 0 0 < 2
+
+-- What is noted at a miss, and where an item can't be run.
+unfoldable pub end-by : (number place : ℕ) → State → End State
+end-by number p s = pick (eqb number Limits.goal-missed) (λ _. missed p s) (λ _. stuck p s)
+
+-- A tally that holds the place and the marks, and is otherwise as before.
+pub record Held (before : List ℕ) (place : ℕ) (marks after : List ℕ) : Type 0 where
+  pub sized : length after ≡ length before
+  pub number : getD after 0 0 ≡ getD before 0 0
+  pub placed : getD after 1 0 ≡ place
+  pub left : getD after 2 0 ≡ getD before 2 0
+  pub marked : drop 3 after ≡ marks
