@@ -1,0 +1,2 @@
+pub mod TellingLaws
+pub mod JudgingLaws
