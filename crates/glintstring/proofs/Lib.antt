@@ -1,2 +1,4 @@
 pub mod TellingLaws
+pub mod MarkedLaws
+pub mod FirstLaws
 pub mod JudgingLaws

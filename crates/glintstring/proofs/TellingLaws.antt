@@ -1,19 +1,19 @@
 -- What the tally says: its marks go over the lent bytes one by one, and each number has its answer. Assumes nothing.
 use Prim.Native.Nat.{ℕ, _+_, _-_, _≤_, _<_}
 use native.Mathlib.Omega.{arith}
-use mathlib.Core.Path.{_≡_, refl, sym, _∙_, ap}
+use mathlib.Core.Path.{_≡_, sym, _∙_, ap}
 use mathlib.Core.List.{List}
 use lib.ListN.{length, getD, set, drop, length-set, length-drop}
 use lib.Seq.{getD-set-same, getD-set-other, getD-drop, ext-getD}
 use lib.Dec.{eqb}
-use borrow.Author.Tests.{eqb-true, eqb-false, eq-eqb, ne-eqb}
-use Rattle.meaning.specs.Walk.{End, fine, missed, stuck}
+use borrow.Author.Tests.{eqb-true, eqb-false}
+use Rattle.meaning.specs.Walk.{stuck}
 use Rattle.meaning.specs.Judging.{ended}
-use Rattle.meaning.proofs.TestLaws.{by-test, pick-true, pick-false}
+use Rattle.meaning.proofs.TestLaws.{by-test}
 use Rattle.steps.specs.AtHand.{Marked}
-use Rattle.walking.specs.Standing.{Standing, spent, so-far, end-in, standing}
-use Rattle.walking.proofs.StandingLaws.{stands-spent, stands-fine, stands-missed}
-use Rattle.glintstring.specs.Judged.{judgement, told, Tallied}
+use Rattle.walking.specs.Standing.{so-far, standing}
+use Rattle.walking.proofs.StandingLaws.{stands-open, stands-spent, end-stuck, stands-fine, stands-missed}
+use Rattle.glintstring.specs.Judged.{told, Tallied}
 
 -- HANDED OVER below fluent f.
 pub record Handing (tally state : List ℕ) (f : ℕ) : Type 0 where
@@ -48,7 +48,7 @@ module _ (tally state : List ℕ) (f : ℕ) (handing : Handing tally state f) wh
 
 -- TOLD.
 module _ (tally lent : List ℕ) (budget : ℕ) (tallied : Tallied tally budget) where
-  pub tell-spent : getD tally 0 0 ≡ 3 → judgement (record { number = 3; input = 0; place = 0; count = budget }) lent ≡ told lent budget (standing tally)
+  pub tell-spent : getD tally 0 0 ≡ 3 → record { answer = record { number = 3; input = 0; place = 0; count = budget }; state = lent } ≡ told lent budget (standing tally)
   unfolding told
   tell-spent h = sym (ap (told lent budget) (stands-spent tally (tallied .sized) h))
 
@@ -56,8 +56,8 @@ module _ (tally lent : List ℕ) (budget : ℕ) (tallied : Tallied tally budget)
     pub left-within : getD tally 2 0 ≤ budget
     left-within = tallied .fewer going
 
-    pub tell-fine : getD tally 0 0 ≡ 0 → judgement (record { number = 0; input = 0; place = 0; count = budget - getD tally 2 0 }) lent ≡ told lent budget (standing tally)
-    unfolding told ended judgement
+    pub tell-fine : getD tally 0 0 ≡ 0 → record { answer = record { number = 0; input = 0; place = 0; count = budget - getD tally 2 0 }; state = lent } ≡ told lent budget (standing tally)
+    unfolding told ended
     tell-fine h = sym (ap (told lent budget) (stands-fine tally (tallied .sized) h))
 
     module _ (some : getD tally 0 0 ≡ 0 → ⊥) where
@@ -65,17 +65,13 @@ module _ (tally lent : List ℕ) (budget : ℕ) (tallied : Tallied tally budget)
       state-marked = tallied .marked going some
 
       module _ (place : ℕ) (state : List ℕ) (at : place ≡ getD tally 1 0) (over : state ≡ drop 3 tally) where
-        pub tell-missed : getD tally 0 0 ≡ 1 → judgement (record { number = 1; input = 1; place = place; count = budget - getD tally 2 0 }) state ≡ told lent budget (standing tally)
-        unfolding told ended judgement
+        pub tell-missed : getD tally 0 0 ≡ 1 → record { answer = record { number = 1; input = 1; place = place; count = budget - getD tally 2 0 }; state = state } ≡ told lent budget (standing tally)
+        unfolding told ended
         tell-missed h = sym (ap (told lent budget) (stands-missed tally (tallied .sized) h) ∙ rw (at, over))
 
         stands-other : (getD tally 0 0 ≡ 1 → ⊥) → standing tally ≡ so-far (getD tally 2 0) (stuck (getD tally 1 0) (drop 3 tally))
-        unfolding standing end-in
-        stands-other h =
-            pick-true _ _ _ (eq-eqb _ _ (tallied .sized))
-            ∙ pick-false _ _ _ (ne-eqb _ _ going)
-            ∙ ap (so-far (getD tally 2 0)) (pick-false (eqb (getD tally 0 0) 0) _ _ (ne-eqb _ _ some) ∙ pick-false (eqb (getD tally 0 0) 1) _ _ (ne-eqb _ _ h))
+        stands-other h = stands-open tally (tallied .sized) going ∙ ap (so-far (getD tally 2 0)) (end-stuck tally (tallied .sized) some h)
 
-        pub tell-stuck : (getD tally 0 0 ≡ 1 → ⊥) → judgement (record { number = 2; input = 1; place = place; count = budget - getD tally 2 0 }) state ≡ told lent budget (standing tally)
-        unfolding told ended judgement
+        pub tell-stuck : (getD tally 0 0 ≡ 1 → ⊥) → record { answer = record { number = 2; input = 1; place = place; count = budget - getD tally 2 0 }; state = state } ≡ told lent budget (standing tally)
+        unfolding told ended
         tell-stuck h = sym (ap (told lent budget) (stands-other h) ∙ rw (at, over))

@@ -4,16 +4,11 @@ use mathlib.Core.Path.{_≡_}
 use mathlib.Core.List.{List}
 use lib.ListN.{length, getD, drop}
 use lib.Dec.{eqb}
-use Rattle.meaning.specs.declared.Answer.{Answer}
 use Rattle.meaning.specs.Tests.{pick}
 use Rattle.meaning.specs.Limits
 use Rattle.meaning.specs.Judging.{Judgement, ended}
 use Rattle.steps.specs.AtHand.{Marked}
 use Rattle.walking.specs.Standing.{Standing, nothing, spent, so-far}
-
--- An answer, and the lent bytes after it.
-unfoldable pub judgement : Answer → List ℕ → Judgement
-judgement answer left = record { answer = answer; state = left }
 
 -- The walk starts at the first item; a plan without items is at its end.
 unfoldable pub start : (items : ℕ) → ℕ
@@ -21,8 +16,8 @@ start items = pick (eqb items 0) (λ _. 1024) (λ _. 0)
 
 -- How the walk stands once it is over, of a budget: what is not left was counted.
 unfoldable pub told : (lent : List ℕ) → (budget : ℕ) → Standing → Judgement
-told lent budget nothing = judgement (record { number = Limits.budget-spent; input = Limits.neither-input; place = 0; count = budget }) lent
-told lent budget spent = judgement (record { number = Limits.budget-spent; input = Limits.neither-input; place = 0; count = budget }) lent
+told lent budget nothing = record { answer = record { number = Limits.budget-spent; input = Limits.neither-input; place = 0; count = budget }; state = lent }
+told lent budget spent = record { answer = record { number = Limits.budget-spent; input = Limits.neither-input; place = 0; count = budget }; state = lent }
 told lent budget (so-far left end) = ended lent (budget - left) end
 
 -- A tally that can be told: no more is left than the budget, and the state concerned is one.

@@ -5,7 +5,7 @@ ghost use Rattle.meaning.specs.States.{first-state};
 ghost use Rattle.meaning.specs.Walk.{walked};
 ghost use Rattle.meaning.specs.Judging.{within, judge};
 ghost use Rattle.steps.specs.AtHand.{request-in, At-hand};
-ghost use Rattle.glintstring.specs.Judged.{start, judgement};
+ghost use Rattle.glintstring.specs.Judged.{start};
 use meaning::Answer;
 use reading::lists::Passed;
 use reading::marks::state_of;
@@ -27,7 +27,7 @@ fn start_of(items: usize) -> usize
 fn walk_plan(request: &[u8], t: &Table, state: &mut [u8], budget: u32) -> Answer
     requires { ⌜ At-hand (now request) (now t) ⌝ }
     requires { ⌜ length (now state) ≡ 64 ⌝ }
-    ensures { λ r. ⌜ judgement r (now (state .exit)) ≡ within (now (state .entry)) budget (walked (request-in (now (request .entry))) (first-state format (request-in (now (request .entry)) .table))) ⌝ }
+    ensures { λ r. ⌜ record { answer = r; state = now (state .exit) } ≡ within (now (state .entry)) budget (walked (request-in (now (request .entry))) (first-state format (request-in (now (request .entry)) .table))) ⌝ }
 {
     let marks = state_of(request, 2);
     let items = get(t, table::ITEMS);

@@ -3,7 +3,7 @@ ghost use Prim.Native.Nat.{_<_};
 ghost use lib.ListN.{length, drop};
 ghost use Rattle.steps.specs.AtHand.{Marked};
 ghost use Rattle.walking.specs.Standing.{standing};
-ghost use Rattle.glintstring.specs.Judged.{judgement, told, Tallied};
+ghost use Rattle.glintstring.specs.Judged.{told, Tallied};
 use meaning::Answer;
 use walking::tally::Tally;
 
@@ -40,7 +40,7 @@ fn hand_over(tally: &Tally, state: &mut [u8])
 pub fn tell(tally: &Tally, state: &mut [u8], budget: u32) -> Answer
     requires { ⌜ length (now state) ≡ 64 ⌝ }
     requires { ⌜ Tallied (now tally) budget ⌝ }
-    ensures { λ r. ⌜ judgement r (now (state .exit)) ≡ told (now (state .entry)) budget (standing (now (tally .entry))) ⌝ }
+    ensures { λ r. ⌜ record { answer = r; state = now (state .exit) } ≡ told (now (state .entry)) budget (standing (now (tally .entry))) ⌝ }
 {
     let number = tally[0];
     if number == 3 {

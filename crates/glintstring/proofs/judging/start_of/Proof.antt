@@ -1,5 +1,5 @@
 -- Each arm is one of the two that the definition picks.
-use Rattle.glintstring.proofs.JudgingLaws.{start-end, start-first}
+use Rattle.glintstring.proofs.FirstLaws.{start-end, start-first}
 use Rattle.glintstring.proofs.judging.start_of.Statement.{statement}
 use Rattle.glintstring.proofs.judging.start_of.Tie as tie
 use Rattle.glintstring.proofs.judging.start_of.Reads as reads
