@@ -2,3 +2,4 @@ pub mod TellingLaws
 pub mod MarkedLaws
 pub mod FirstLaws
 pub mod JudgingLaws
+pub mod Promises
