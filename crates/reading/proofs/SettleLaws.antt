@@ -43,11 +43,11 @@ back-found nowhere = refl
 back-found (at p) = refl
 
 module _ (f : Refusals.Found) (r : Found) (is : r ≡ found f) where
-  found-none : r ≡ Nowhere → f ≡ nowhere
+  pub found-none : r ≡ Nowhere → f ≡ nowhere
   unfolding back
   found-none e = sym (back-found f) ∙ ap back (sym is ∙ e)
 
-  found-at : (p : ℕ) → r ≡ At p → f ≡ at p
+  pub found-at : (p : ℕ) → r ≡ At p → f ≡ at p
   unfolding back
   found-at p e = sym (back-found f) ∙ ap back (sym is ∙ e)
 

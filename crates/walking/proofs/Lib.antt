@@ -1,2 +1,5 @@
 pub mod StandingLaws
 pub mod TallyLaws
+pub mod PlaceLaws
+pub mod WalkLaws
+pub mod ForkLaws
