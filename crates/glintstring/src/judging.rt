@@ -25,23 +25,48 @@ fn walked(request: &[u8], t: &Table, lent: &mut [u8], budget: u32) -> Answer {
     walk(request, t, at, state_of(request, 2), &mut tally);
     let number = tally[0];
     if number == 3 {
-        return Answer { number: 3, input: 0, place: 0, count: budget };
+        return Answer {
+            number: 3,
+            input: 0,
+            place: 0,
+            count: budget,
+        };
     }
     let count = budget - tally[2];
     if number == 0 {
-        return Answer { number: 0, input: 0, place: 0, count: count };
+        return Answer {
+            number: 0,
+            input: 0,
+            place: 0,
+            count: count,
+        };
     }
     hand_over(&tally, lent);
-    Answer { number: (number % 256) as u8, input: 1, place: tally[1] as usize, count: count }
+    Answer {
+        number: (number % 256) as u8,
+        input: 1,
+        place: tally[1] as usize,
+        count: count,
+    }
 }
 
 pub fn judge(request: &[u8], lent: &mut [u8], budget: u32) -> Answer {
     if lent.len() != 64 {
-        return Answer { number: 9, input: 0, place: 0, count: 0 };
+        return Answer {
+            number: 9,
+            input: 0,
+            place: 0,
+            count: 0,
+        };
     }
     let mut t: Table = [0u16; 9480];
     match settle(request, &mut t) {
         Passed::To(e) => walked(request, &t, lent, budget),
-        Passed::Fault(k, p) => Answer { number: k, input: 1, place: p, count: 0 },
+        Passed::Fault(k, p) => Answer {
+            number: k,
+            input: 1,
+            place: p,
+            count: 0,
+        },
     }
 }

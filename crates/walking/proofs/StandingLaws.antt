@@ -155,8 +155,8 @@ module _ (tally : List ℕ) (going : Going tally) where
       let on = going .on in (
         stands-open tally (going .sized) (λ e. omega arith),
         by-test (eqb (getD tally 0 0) 0)
-        (λ t. subst C (sym (end-fine tally (going .sized) (eqb-true _ _ t))) f)
-        (λ n. subst C (sym (end-missed tally (going .sized) (few (getD tally 0 0) (eqb-false _ _ n) on))) (g (getD tally 1 0) (drop 3 tally))),
+            (λ t. subst C (sym (end-fine tally (going .sized) (eqb-true _ _ t))) f)
+            (λ n. subst C (sym (end-missed tally (going .sized) (few (getD tally 0 0) (eqb-false _ _ n) on))) (g (getD tally 1 0) (drop 3 tally))),
       )
     where
       few : (n : ℕ) → (n ≡ 0 → ⊥) → n < 2 → n ≡ 1

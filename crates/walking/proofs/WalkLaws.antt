@@ -25,15 +25,25 @@ use Rattle.reading.proofs.SettleLaws.{found-none, found-at}
 use Rattle.steps.specs.AtHand.{request-in, At-hand, Marked}
 use Rattle.steps.specs.Rests.{Position}
 use Rattle.steps.specs.Steps.{walk-from, walk-after, first-of, unknown-above, Followed, Chosen, going-on}
-use Rattle.steps.proofs.OnwardLaws.{end-judged, action-walked, followed-walks}
+use Rattle.steps.proofs.OnwardLaws.{end-judged, action-small, action-walked, followed-walks}
 use Rattle.steps.proofs.SensingLaws.{sensed-first, sensed-no-first}
 use Rattle.walking.specs.Standing.{Standing, so-far, add, one, standing, Going, end-by}
 use Rattle.walking.specs.Walks.{action-at, read-on, fork-from}
+use Rattle.walking.proofs.FallLaws.{action-there}
 use Rattle.walking.proofs.StandingLaws.{add-then, add-counted, add-over, add-stuck, sized-after, stands-fine, add-fine, add-kept}
 
 -- GOING ON after a part, where the tally says so.
-pub going-again : (tally after : List ℕ) (w : Walked State) → Going tally → standing after ≡ add (standing tally) w → (on : Bool) → on ≡ ltb (getD after 0 0) 2 → on ≡ true → Going after
+going-again : (tally after : List ℕ) (w : Walked State) → Going tally → standing after ≡ add (standing tally) w → (on : Bool) → on ≡ ltb (getD after 0 0) 2 → on ≡ true → Going after
 going-again tally after w going is on says yes-on = record { sized = sized-after tally going w after is; on = ltb-true _ _ (sym says ∙ yes-on) }
+
+pub going-after-fork : (s t : List ℕ) (i f : ℕ) (marks : State) (tally after : List ℕ) → length tally ≡ 67 → getD tally 0 0 < 2 → standing after ≡ add (standing tally) (fork-from s t i f marks) → (on : Bool) → on ≡ ltb (getD after 0 0) 2 → on ≡ true → Going after
+going-after-fork s t i f marks tally after sized first = going-again tally after (fork-from s t i f marks) (record { sized = sized; on = first })
+
+pub going-after-walk : (s : List ℕ) (q : ℕ) (marks : State) (tally after : List ℕ) → length tally ≡ 67 → getD tally 0 0 < 2 → standing after ≡ add (standing tally) (walk-from s q marks) → (on : Bool) → on ≡ ltb (getD after 0 0) 2 → on ≡ true → Going after
+going-after-walk s q marks tally after sized first = going-again tally after (walk-from s q marks) (record { sized = sized; on = first })
+
+pub going-after-one : (tally counts : List ℕ) → Going tally → standing counts ≡ add (standing tally) one → (on : Bool) → on ≡ ltb (getD counts 0 0) 2 → on ≡ true → Going counts
+going-after-one tally counts = going-again tally counts one
 
 -- And where it doesn't, nothing more is added.
 pub over : (after : List ℕ) (on : Bool) → on ≡ ltb (getD after 0 0) 2 → on ≡ false → (w : Walked State) → standing after ≡ add (standing after) w
@@ -126,6 +136,11 @@ module _ (s t : List ℕ) (here : At-hand s t) (i : ℕ) (less : i < items-of (r
             ∙ ap (λ (fs : List ℕ). add (standing counts) (read-on s i fs state)) (sensed-no-first (request-in s .table) a state marked f first none)
             ∙ ap (add (standing counts)) (followed-walks s i r follows state)
 
+-- Its number is small.
+pub action-low : (s t : List ℕ) → At-hand s t → (i : ℕ) → i < items-of (request-in s .plan) → (p : ℕ) → p ≡ getD t (0 + i) 0 → (getD s p 0 ≡ 255 → ⊥) → action-at s t i < 64
+unfolding action-at
+action-low s t here i less p place other = action-there s t i p (getD s p 0) place refl (action-small s t here i less p place other (getD s p 0) refl)
+
 -- A BRANCHING that is item i.
 module _ (s t : List ℕ) (i : ℕ) (marks : State) (f : Found) (chosen : Chosen s t i marks f) (tally : List ℕ) where
   pub branch-taken : (q : ℕ) → f ≡ At q → (after : List ℕ) → standing after ≡ add (standing tally) (walk-from s q marks) → standing after ≡ add (standing tally) (walk-from s i marks)
@@ -162,6 +177,9 @@ module _ (s : List ℕ) (start : ℕ) (marks : State) (tally₀ tally : List ℕ
 
   pub walking-going : Going tally
   walking-going = now .going
+
+  pub walking-counted : (counts : List ℕ) → standing counts ≡ add (standing tally) one → (on : Bool) → on ≡ ltb (getD counts 0 0) 2 → on ≡ true → Going counts
+  walking-counted counts = going-again tally counts one (now .going)
 
   pub walking-later : start ≤ i
   walking-later = now .later
