@@ -113,7 +113,7 @@ module _ (n m : ℕ) (s : List ℕ) (p : ℕ) (list : Passed) (read : list ≡ p
   line-whole q r is e = e ∙ sym (line-parts n m s p ∙ rw (passed-to (list-at literals n 64 s p) q (sym read ∙ is) .1))
 
 -- LINES. One that was read stands where it was read.
-line-place : (n m : ℕ) (s : List ℕ) (p : ℕ) (l : Line) (e : ℕ) → line-at format n m s p ≡ got l e → l .place ≡ p
+pub line-place : (n m : ℕ) (s : List ℕ) (p : ℕ) (l : Line) (e : ℕ) → line-at format n m s p ≡ got l e → l .place ≡ p
 unfolding line-at
 line-place n m s p l e is =
     after-got (list-at literals n 64 s p) _ is λ X q _ is1.

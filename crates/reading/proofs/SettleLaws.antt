@@ -28,10 +28,11 @@ use Rattle.reading.proofs.ReadLaws.{Parts, parts, effects-counted, effe
 use Rattle.reading.specs.Plans.{Plan-held, Some-plan, Overlap-found}
 
 -- The table is the same at every answer.
-outcome-same : (g : Got Request) (u t : List ℕ) → ((y : Request) (q : ℕ) → g ≡ got y q → u ≡ request-noted y t) → outcome (passed g) u ≡ noting request-noted g t
-unfolding outcome passed noting next
-outcome-same (got y q) u t h = ap (λ (v : List ℕ). got v q) (h y q refl)
-outcome-same (fault n q) u t h = refl
+module _ {A : Type 0} (note : A → List ℕ → List ℕ) where
+  pub outcome-same : (g : Got A) (u t : List ℕ) → ((y : A) (q : ℕ) → g ≡ got y q → u ≡ note y t) → outcome (passed g) u ≡ noting note g t
+  unfolding outcome passed noting next
+  outcome-same (got y q) u t h = ap (λ (v : List ℕ). got v q) (h y q refl)
+  outcome-same (fault n q) u t h = refl
 
 -- What was found, by the definition.
 back : Found → Refusals.Found
@@ -43,11 +44,11 @@ back-found nowhere = refl
 back-found (at p) = refl
 
 module _ (f : Refusals.Found) (r : Found) (is : r ≡ found f) where
-  found-none : r ≡ Nowhere → f ≡ nowhere
+  pub found-none : r ≡ Nowhere → f ≡ nowhere
   unfolding back
   found-none e = sym (back-found f) ∙ ap back (sym is ∙ e)
 
-  found-at : (p : ℕ) → r ≡ At p → f ≡ at p
+  pub found-at : (p : ℕ) → r ≡ At p → f ≡ at p
   unfolding back
   found-at p e = sym (back-found f) ∙ ap back (sym is ∙ e)
 
@@ -178,7 +179,7 @@ module _ (s t u : List ℕ) (empty : t ≡ blank) (all : Passed) (read : outcome
     settle-there r h = ap (λ (y : Passed). outcome y u) h ∙ same-outcome (settled format s) (λ y q g. same-request y q g)
       where
         same-outcome : (g : Got Request) → ((y : Request) (q : ℕ) → g ≡ got y q → u ≡ request-noted y t) → outcome (passed g) u ≡ noting request-noted g t
-        same-outcome g h = outcome-same g u t h
+        same-outcome g h = outcome-same request-noted g u t h
 
         same-request : (y : Request) (q : ℕ) → settled format s ≡ got y q → u ≡ request-noted y t
         same-request y q g =

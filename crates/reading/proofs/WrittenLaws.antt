@@ -40,10 +40,10 @@ record Byte-got (s : List ℕ) (p x q : ℕ) : Type 0 where
   after : q ≡ p + 1
   there : p < length s
 
-record Two-got (s : List ℕ) (p c q : ℕ) : Type 0 where
-  is : getD s p 0 * 256 + getD s (p + 1) 0 ≡ c
-  after : q ≡ p + 2
-  there : p + 1 < length s
+pub record Two-got (s : List ℕ) (p c q : ℕ) : Type 0 where
+  pub is : getD s p 0 * 256 + getD s (p + 1) 0 ≡ c
+  pub after : q ≡ p + 2
+  pub there : p + 1 < length s
 
 record Entries-got (n : ℕ) (s : List ℕ) (left p : ℕ) (xs : List ℕ) : Type 0 where
   is : bytes-from s p left ≡ xs
@@ -60,7 +60,7 @@ module _ (s : List ℕ) where
   unfolding byte-at
   byte-is p = pick-on _ _ _ (λ _. fault-on _ _) (λ u. got-on _ _ (record { is = refl; after = refl; there = leb-false (length s) p u }))
 
-  two-is : (p : ℕ) → On (two-bytes-at s p) (λ c q. Two-got s p c q)
+  pub two-is : (p : ℕ) → On (two-bytes-at s p) (λ c q. Two-got s p c q)
   unfolding two-bytes-at
   two-is p =
       next-on (byte-at s p) _ (byte-is p) λ x q one.

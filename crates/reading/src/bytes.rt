@@ -25,7 +25,7 @@ pub fn byte_at(s: &[u8], p: usize) -> Read
     Read::Value(wide(s[p]), after)
 }
 
-fn two(high: u8, low: u8) -> usize
+pub fn two(high: u8, low: u8) -> usize
     ensures { λ r. ⌜ r ≡ high * 256 + low ⌝ }
 {
     (high as usize) * 256 + (low as usize)

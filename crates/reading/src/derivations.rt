@@ -20,6 +20,13 @@ use super::table::Table;
 // Slot k holds the place of line k.
 pub type Places = [u16; 1024];
 
+// A place for each line, which a reference to them does not tell of itself.
+pub fn sized(places: &Places)
+    ensures { λ _. ⌜ length (now (places .entry)) ≡ 1024 ⌝ }
+{
+    let slots: &[u16] = places;
+}
+
 // So many citations from `start` on.
 fn citations_from(s: &[u8], count: usize, start: usize) -> Passed
     ensures { λ r. ⌜ r ≡ passed (repeated (two-bytes-at (now (s .entry))) count start) ⌝ }

@@ -11,3 +11,4 @@ pub mod refusals; // refusals 16 and 17
 pub mod derivations; // derivations
 pub mod settled; // requests past all refusals
 pub mod overlaps; // refusal 18
+pub mod derived; // derivations past refusal 18

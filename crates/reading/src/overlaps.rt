@@ -15,8 +15,8 @@ use super::table;
 use super::table::Table;
 use super::table::get;
 
-// Where a branch's count of items stands, after its condition at p.
-fn sequence_of(s: &[u8], p: usize) -> usize
+// Where a sequence's count of items stands, after the list at p: a branch's condition, or a line's X.
+pub fn sequence_of(s: &[u8], p: usize) -> usize
     requires { ⌜ List-here 128 (now s) p ⌝ }
     ensures { λ r. ⌜ r ≡ sequence-place (now (s .entry)) p ⌝ }
 {
