@@ -222,8 +222,12 @@ module _ (n m : ℕ) (s : List ℕ) where
     whole : Parts (here .lines) e
     whole = parts (here .lines) e (here .reads)
 
-    pub derivation-there : 1 < length s
-    derivation-there = whole .there
+    -- Both bytes of the count are there.
+    pub count-first : 0 < length s
+    count-first = let there = whole .there in omega arith
+
+    pub count-second : 1 < length s
+    count-second = whole .there
 
     pub derivation-short : length s ≤ 32768
     derivation-short = whole .short

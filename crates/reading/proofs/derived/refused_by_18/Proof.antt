@@ -1,3 +1,4 @@
+use Rattle.reading.proofs.DerivedLaws.{count-first, count-second, derivation-short, lines-few, lines-stand, lines-past-18, lines-at-18}
 use borrow.Author.Needs.{needs}
 use Rattle.reading.proofs.derived.refused_by_18.Statement.{statement}
 use Rattle.reading.proofs.derived.refused_by_18.Tie as tie
@@ -8,11 +9,11 @@ use Rattle.reading.proofs.derived.overlap_in_lines.Reads as overlap-in-
 
 -- src/derived.rt:85:21
 shared-slice-read-two : tie.Need-shared-slice-read-two
-shared-slice-read-two c = ?
+shared-slice-read-two c = search count-first
 
 -- src/derived.rt:85:27
 shared-slice-read-two-2 : tie.Need-shared-slice-read-two-2
-shared-slice-read-two-2 c = ?
+shared-slice-read-two-2 c = search count-second
 
 -- src/derived.rt:85:9
 two-requires : tie.Need-two-requires
@@ -20,7 +21,7 @@ two-requires c κs = search needs
 
 -- src/derived.rt:86:11
 overlap-in-lines-requires : tie.Need-overlap-in-lines-requires
-overlap-in-lines-requires c κs = ?
+overlap-in-lines-requires c κs = (search needs, (search needs, (search derivation-short, (search lines-few, search lines-stand))))
 
 -- src/derived.rt:87:27
 enum-told : tie.Need-enum-told
@@ -32,11 +33,11 @@ enum-known-p c = search needs
 
 -- src/derived.rt:79:1
 returns : tie.Need-returns
-returns c = ?
+returns c = search lines-past-18
 
 -- src/derived.rt:79:1
 returns-2 : tie.Need-returns-2
-returns-2 c = ?
+returns-2 c = search lines-at-18
 
 pub refused-by-18-spec : {M : Type 1} → statement M
 refused-by-18-spec =

@@ -1,3 +1,4 @@
+use Rattle.reading.proofs.DerivedLaws.{derived-here, derived-there, derived-fault}
 use borrow.Author.Needs.{needs}
 use Rattle.reading.proofs.derived.settle_derivation.Statement.{statement}
 use Rattle.reading.proofs.derived.settle_derivation.Tie as tie
@@ -21,7 +22,7 @@ enum-known-e c = search needs
 
 -- src/derived.rt:100:26
 refused-by-18-requires : tie.Need-refused-by-18-requires
-refused-by-18-requires c κs = ?
+refused-by-18-requires c κs = (search needs, (search needs, search derived-here))
 
 -- src/derived.rt:101:23
 enum-known-k : tie.Need-enum-known-k
@@ -29,11 +30,11 @@ enum-known-k c = search needs
 
 -- src/derived.rt:93:1
 returns : tie.Need-returns
-returns c = ?
+returns c = search derived-there
 
 -- src/derived.rt:93:1
 returns-2 : tie.Need-returns-2
-returns-2 c = ?
+returns-2 c = search derived-fault
 
 pub settle-derivation-spec : {M : Type 1} → statement M
 settle-derivation-spec =
