@@ -71,29 +71,31 @@ module _ (n m : ℕ) (s : List ℕ) where
         is = ap (λ (x : Line). x .c) (got-same is6);
       }
 
-  module _ (few : n ≤ 64) (less : m ≤ 64) (p plan : ℕ) (t u : List ℕ) (r : Read) (after : plan ≡ sequence-place s p) (read : outcome-met r u ≡ noting-met (plan-noted plan t) (plan-at format n m s plan)) where
-    module _ (count e : ℕ) (room : length t ≡ 9480) (is : r ≡ Value count e) where
-      pub line-held : Some-plan s u count
-      line-held = plan-left n m s few less plan t u r count e (omega arith) read is
+  module _ (few : n ≤ 64) (less : m ≤ 64) (plan : ℕ) (t u : List ℕ) (r : Read) (read : outcome-met r u ≡ noting-met (plan-noted plan t) (plan-at format n m s plan)) where
+    pub line-held : (count e : ℕ) → length t ≡ 9480 → r ≡ Value count e → Some-plan s u count
+    line-held count e room is = plan-left n m s few less plan t u r count e (omega arith) read is
 
-      pub line-sought : (f : Found) → Overlap-found s u count f → Line-found n m s p f
-      line-sought f all =
+    module _ (p : ℕ) (after : plan ≡ sequence-place s p) where
+      there : (l : Line) → (w : Line-plan p l) → plan-at format n m s plan ≡ got (w .plan) (w .end)
+      there l w = ap (plan-at format n m s) after ∙ w .reads
+
+      pub line-sought : (count e : ℕ) (f : Found) → length t ≡ 9480 → r ≡ Value count e → Overlap-found s u count f → Line-found n m s p f
+      line-sought count e f room is all =
           record {
             holds = λ l here.
                 let w = line-plan few p l here in
-                overlap-left n m s few less plan t u r count e (omega arith) read is f all (w .plan) (w .end) (subst (λ (j : ℕ). plan-at format n m s j ≡ got (w .plan) (w .end)) (sym after) (w .reads))
+                overlap-left n m s few less plan t u r count e (omega arith) read is f all (w .plan) (w .end) (there l w)
                 ∙ ap (λ (b : Sequence ℕ). found (overlap-in b)) (w .is);
           }
 
-    -- A plan that stands there is read without a fault.
-    pub line-read : (k e : ℕ) → r ≡ Fault k e → Line-found n m s p Nowhere
-    line-read k e is =
-        record {
-          holds = λ l here.
-              let w = line-plan few p l here in
-              let no : plan-at format n m s plan ≡ fault k e = fault-met (plan-noted plan t) (plan-at format n m s plan) k e (met-fault (plan-noted plan t) (plan-at format n m s plan) r u k e read is) in
-              absurd (fault≢got (sym no ∙ ap (plan-at format n m s) after ∙ w .reads));
-        }
+      -- A plan that stands there is read without a fault.
+      pub line-read : (k e : ℕ) → r ≡ Fault k e → Line-found n m s p Nowhere
+      line-read k e is =
+          record {
+            holds = λ l here.
+                let no : plan-at format n m s plan ≡ fault k e = fault-met (plan-noted plan t) (plan-at format n m s plan) k e (met-fault (plan-noted plan t) (plan-at format n m s plan) r u k e read is) in
+                absurd (fault≢got (sym no ∙ there l (line-plan few p l here)));
+          }
 
   -- THE LOOP. Of whatever lines stand there, those from number k on hold the first overlap.
   pub record Rest (places : List ℕ) (count k : ℕ) (ls : List Line) : Type 0 where

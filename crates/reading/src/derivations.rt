@@ -20,7 +20,7 @@ use super::table::Table;
 // Slot k holds the place of line k.
 pub type Places = [u16; 1024];
 
-// A place for each line, which a reference to them does not tell of itself.
+// There is a place for each line, as for the table's slots.
 pub fn sized(places: &Places)
     ensures { λ _. ⌜ length (now (places .entry)) ≡ 1024 ⌝ }
 {

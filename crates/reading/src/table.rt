@@ -51,7 +51,7 @@ pub fn widened(x: u16) -> usize
     x as usize
 }
 
-// A table has all its slots, which a reference to it does not tell of itself.
+// A table has all its slots. A reference to it does not tell so, but a slice does.
 pub fn sized(t: &Table)
     ensures { λ _. ⌜ length (now (t .entry)) ≡ 9480 ⌝ }
 {
