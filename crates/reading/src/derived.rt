@@ -11,6 +11,7 @@ use super::bytes::two;
 use super::derivations;
 use super::derivations::Places;
 use super::derivations::read_derivation;
+use super::limits;
 use super::lists::Passed;
 use super::overlaps::overlap;
 use super::overlaps::sequence_of;
@@ -85,7 +86,7 @@ fn refused_by_18(n: usize, m: usize, s: &[u8], t: &mut Table, places: &Places, e
     let count = two(s[0], s[1]);
     match overlap_in_lines(n, m, s, t, places, count) {
         Found::Nowhere => Passed::To(e),
-        Found::At(p) => Passed::Fault(18, p),
+        Found::At(p) => Passed::Fault(limits::NOT_EXCLUSIVE, p),
     }
 }
 
