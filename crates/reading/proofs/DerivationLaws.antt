@@ -26,11 +26,10 @@ use Rattle.reading.specs.Noted.{noting, outcome}
 use Rattle.reading.specs.Planned.{plan-noted, noting-met, outcome-met}
 use Rattle.reading.specs.DerivationRead.{places-noted, citing, ending, planned}
 use Rattle.reading.proofs.ByteLaws.{read-value, read-fault}
-use Rattle.reading.proofs.ListLaws.{passed-same}
+use Rattle.reading.proofs.ListLaws.{passed-same, passed-to, passed-stop}
 use Rattle.reading.proofs.PlanSizes.{count-through}
 use Rattle.reading.proofs.NotingLaws.{with-items, met-value, met-fault, fault-met}
 use Rattle.reading.proofs.SectionLaws.{noting-got, noting-fault}
-use Rattle.reading.proofs.RequestLaws.{passed-to, passed-stop}
 
 -- CITATIONS: what the whole gives is what is left of it.
 module _ (s : List ℕ) (p : ℕ) (whole : Passed) where
