@@ -25,6 +25,7 @@ use Rattle.reading.specs.InTable.{found}
 use Rattle.reading.specs.Branchings.{sequence-place, no-item, place-after, item-after, conditions-from, rules-out, all-apart, item-apart, first-overlap, Branch-here, Branches-here, Branching-here, Item-here, Items-here}
 use Rattle.reading.specs.Plans.{own-items, branches-in, Act-written, Opened, Branch-written, Written, Item-written, Branches-written, Branch-kept, Kept, Item-kept, Branches-kept, Plan-held, Some-plan, Overlap-found}
 use Rattle.reading.specs.declared.refusals.Found as Code
+use Rattle.reading.proofs.HereLaws.{bytes-length}
 use Rattle.reading.proofs.OverlapLaws.{overlap-first, item-other}
 
 -- CONDITIONS that are clear: a state of one rules out what the condition excludes.
@@ -52,11 +53,6 @@ apart-is (c ∷ cs) clear =
 
 -- A LIST at a place.
 module _ (s : List ℕ) where
-  bytes-length : (k p : ℕ) → length (bytes-from s p k) ≡ k
-  unfolding bytes-from
-  bytes-length zero p = refl
-  bytes-length (suc k) p = ap suc (bytes-length k (p + 1))
-
   bytes-below : (bound k p l : ℕ) → ((i : ℕ) → i < k → getD s (p + i) 0 < bound) → Has (bytes-from s p k) l → l < bound
   unfolding bytes-from
   bytes-below bound zero p l below h = absurd h
@@ -68,7 +64,7 @@ module _ (s : List ℕ) where
 
   pub listed-length : (p : ℕ) → length (listed s p) ≡ getD s p 0
   unfolding listed
-  listed-length p = bytes-length (getD s p 0) (p + 1)
+  listed-length p = bytes-length s (getD s p 0) (p + 1)
 
   listed-below : (p : ℕ) → List-here 128 s p → (l : ℕ) → Has (listed s p) l → l < 128
   unfolding listed

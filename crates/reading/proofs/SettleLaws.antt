@@ -176,15 +176,6 @@ module _ (s t u : List ℕ) (empty : t ≡ blank) (all : Passed) (read : outcome
     settle-here = record { request = read-got .0; reads = read-got .1; noted = read-got .2 ∙ ap (request-noted (read-got .0)) empty }
 
     pub settle-there : (r : Passed) → r ≡ passed (settled format s) → outcome r u ≡ noting request-noted (settled format s) t
-    settle-there r h = ap (λ (y : Passed). outcome y u) h ∙ same-outcome (settled format s) (λ y q g. same-request y q g)
-      where
-        same-outcome : (g : Got Request) → ((y : Request) (q : ℕ) → g ≡ got y q → u ≡ request-noted y t) → outcome (passed g) u ≡ noting request-noted g t
-        same-outcome g h = outcome-same request-noted g u t h
-
-        same-request : (y : Request) (q : ℕ) → settled format s ≡ got y q → u ≡ request-noted y t
-        same-request y q g =
-            let there = settled-reads y q g in
-            read-got .2 ∙ ap (λ (z : Request). request-noted z t) (got-same (sym (read-got .1) ∙ there))
-          where
-            settled-reads : (y : Request) (q : ℕ) → settled format s ≡ got y q → read-request format s ≡ got y q
-            settled-reads y q g = settled-is format s y q g .reads
+    settle-there r h =
+        ap (λ (y : Passed). outcome y u) h
+        ∙ outcome-same request-noted (settled format s) u t (λ y q g. read-got .2 ∙ ap (λ (z : Request). request-noted z t) (got-same (sym (read-got .1) ∙ settled-is format s y q g .reads)))
