@@ -3,7 +3,7 @@ use Prim.Native.Nat.{ℕ, zero, suc, _+_, _-_, _≤_, _<_}
 use native.Mathlib.Omega.{arith}
 use native.Mathlib.Numerals.{sub-one}
 use mathlib.Core.Path.{_≡_, refl, sym, _∙_, ap}
-use mathlib.Core.List.{List, [], _∷_}
+use mathlib.Core.List.{List, _∷_}
 use lib.ListN.{length, set}
 use lib.Dec.{ltb}
 use borrow.Author.Tests.{lt-ltb, le-ltb}
@@ -28,7 +28,7 @@ use Rattle.reading.specs.DerivationRead.{places-noted, citing, ending, p
 use Rattle.reading.proofs.ByteLaws.{read-value, read-fault}
 use Rattle.reading.proofs.ListLaws.{passed-same, passed-to, passed-stop}
 use Rattle.reading.proofs.PlanSizes.{count-through}
-use Rattle.reading.proofs.NotingLaws.{with-items, met-value, met-fault, fault-met}
+use Rattle.reading.proofs.NotingLaws.{met-value, met-fault, fault-met}
 use Rattle.reading.proofs.SectionLaws.{noting-got, noting-fault}
 
 -- CITATIONS: what the whole gives is what is left of it.

@@ -7,7 +7,6 @@ use mathlib.Core.List.{List, [], _∷_}
 use lib.ListN.{length, getD, set, length-set}
 use lib.Seq.{getD-set-same}
 use borrow.Author.Tests.{ltb-false}
-use Rattle.meaning.specs.Tests.{either, pick}
 use Rattle.meaning.specs.Limits.{Limits, format}
 use Rattle.meaning.specs.Requests.{Sequence}
 use Rattle.meaning.specs.Reading.{Got, got, fault, next, Met, literals, byte-at, two-bytes-at, count-at, bound-of, list-at, repeated, plan-at}
@@ -24,7 +23,7 @@ use Rattle.reading.specs.declared.refusals.Found.{Found}
 use Rattle.reading.specs.declared.refusals.Found.the-variants.{Nowhere, At}
 use Rattle.reading.specs.Read.{passed}
 use Rattle.reading.specs.Noted.{noting, outcome}
-use Rattle.reading.specs.Listed.{listed, List-here}
+use Rattle.reading.specs.Listed.{List-here}
 use Rattle.reading.specs.Planned.{plan-noted, noting-met, outcome-met}
 use Rattle.reading.specs.InTable.{found}
 use Rattle.reading.specs.Branchings.{sequence-place}
@@ -32,7 +31,7 @@ use Rattle.reading.specs.Plans.{Some-plan, Overlap-found}
 use Rattle.reading.specs.DerivationRead.{places-noted, settled-derivation}
 use Rattle.reading.specs.Derived.{Line-here, Lines-here, Some-lines, Derivation-here, Line-found, Lines-found}
 use Rattle.reading.proofs.SectionLaws.{got-place, repeated-length, noting-got, noting-fault}
-use Rattle.reading.proofs.PlanSizes.{On, Through, list-through, two-bytes-through}
+use Rattle.reading.proofs.PlanSizes.{On, Through, list-through}
 use Rattle.reading.proofs.NotingLaws.{met-fault, fault-met}
 use Rattle.reading.proofs.HereLaws.{list-here}
 use Rattle.reading.proofs.KeptLaws.{kept}

@@ -1,24 +1,22 @@
 -- What was read stands in the input where it was read. Assumes nothing.
 use Prim.Native.Nat.{ℕ, zero, suc, _+_, _-_, _*_, _≤_, _<_}
 use native.Mathlib.Omega.{arith}
-use native.Mathlib.Numerals.{add-one}
 use mathlib.Core.Path.{_≡_, refl, sym, _∙_, ap, subst}
-use mathlib.Core.Bool.{Bool, true, false}
-use mathlib.Core.List.{List, [], _∷_}
+use mathlib.Core.Bool.{Bool, false}
+use mathlib.Core.List.{List}
 use lib.ListN.{length, getD}
 use lib.Dec.{eqb}
 use borrow.Author.Tests.{eqb-true}
-use Rattle.meaning.specs.Tests.{some-of}
 use Rattle.meaning.specs.Limits.{Limits, format}
 use Rattle.meaning.specs.Literals.{complement, among, exclusive}
 use Rattle.meaning.specs.Requests.{Effect, Knowledge}
 use Rattle.meaning.specs.Reading
-use Rattle.meaning.specs.Reading.{Got, got, fault, next, byte-at, count-at, below-at, bound-of, literals, entry-at, entries-at, list-at, body-at, effect-at, knowledge-at}
-use Rattle.meaning.proofs.TestLaws.{by-test, clash, some-has, Has}
+use Rattle.meaning.specs.Reading.{Got, got, count-at, below-at, bound-of, literals, entry-at, entries-at, list-at, body-at, effect-at}
+use Rattle.meaning.proofs.TestLaws.{by-test, some-has, Has}
 use Rattle.meaning.proofs.SettledLaws.{got-same}
 use Rattle.meaning.proofs.RangeLaws.{not-refused, after-got, list-consistent}
 use Rattle.reading.specs.Listed.{bytes-from, listed, List-here}
-use Rattle.reading.specs.InTable.{effect-from, Effect-here, knowledge-from}
+use Rattle.reading.specs.InTable.{effect-from, Effect-here}
 use Rattle.reading.proofs.SectionLaws.{got-place, number-got, count-got}
 use Rattle.reading.proofs.PlanSizes.{On, Through, list-through}
 

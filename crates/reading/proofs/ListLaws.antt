@@ -1,20 +1,19 @@
 -- Lists: a law for each way that a reader returns, and how its loop goes on. Assumes nothing.
-use Prim.Native.Nat.{ℕ, zero, suc, _+_, _-_, _*_, _%_, _^_, _≤_, _<_}
+use Prim.Native.Nat.{ℕ, zero, suc, _+_, _-_, _*_, _%_, _≤_, _<_}
 use native.Mathlib.Omega.{arith}
 use native.Mathlib.Numerals.{sub-one}
 use mir.Syntax.{w64}
 use mir.Val.{Fits}
 use mathlib.Core.Path.{_≡_, refl, sym, _∙_, ap, subst}
 use mathlib.Core.Bool.{Bool, true, false}
-use mathlib.Core.List.{List, [], _∷_}
-use lib.ListN.{length, getD}
+use mathlib.Core.List.{List, _∷_}
 use lib.Dec.{eqb, ltb}
-use borrow.Author.Tests.{eqb-true, eqb-false, eq-eqb, ne-eqb, le-leb, lt-leb, lt-ltb, le-ltb, leb-false, ltb-true}
-use Rattle.meaning.specs.Tests.{both, either, pick}
+use borrow.Author.Tests.{ne-eqb, lt-ltb, le-ltb, ltb-true}
+use Rattle.meaning.specs.Tests.{both, pick}
 use Rattle.meaning.specs.Literals.{complement}
 use Rattle.meaning.specs.Reading
-use Rattle.meaning.specs.Reading.{Got, got, fault, next, byte-at, count-at, below-at, bound-of, have-complements, entry-at, entries-at, list-at}
-use Rattle.meaning.proofs.TestLaws.{by-test, clash, both-true, both-left, both-right, pick-true, pick-false, pick-cases}
+use Rattle.meaning.specs.Reading.{Got, got, fault, next, count-at, below-at, bound-of, have-complements, entry-at, entries-at, list-at}
+use Rattle.meaning.proofs.TestLaws.{by-test, pick-true, pick-false, pick-cases}
 use Rattle.meaning.proofs.SettledLaws.{next-got, got-same, fault≢got}
 use Rattle.meaning.proofs.RangeLaws.{below-bound}
 use Rattle.meaning.proofs.LiteralLaws.{complement-even, complement-odd}

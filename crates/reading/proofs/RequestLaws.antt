@@ -2,7 +2,6 @@
 use Prim.Native.Nat.{ℕ, suc, _+_, _-_, _≤_, _<_}
 use native.Mathlib.Omega.{arith}
 use mathlib.Core.Path.{_≡_, refl, sym, _∙_, ap, subst}
-use mathlib.Core.Bool.{true, false}
 use mathlib.Core.List.{List, [], _∷_}
 use lib.ListN.{length, getD, set}
 use lib.Dec.{ltb}
@@ -13,15 +12,15 @@ use Rattle.meaning.proofs.SettledLaws.{got-same}
 use Rattle.meaning.specs.Limits.{Limits, format}
 use Rattle.meaning.specs.Requests.{Table, Sequence, Request}
 use Rattle.meaning.specs.Reading
-use Rattle.meaning.specs.Reading.{Got, got, fault, next, literals, fluents, plan-at, count-at, list-at, section-at, effect-at, executability-at, knowledge-at, byte-at, table-at, request-at, read-request, placed, Met}
-use Rattle.meaning.proofs.RangeLaws.{count-within, not-refused, after-got}
+use Rattle.meaning.specs.Reading.{Got, got, fault, next, literals, fluents, plan-at, count-at, list-at, section-at, effect-at, executability-at, knowledge-at, table-at, request-at, read-request, placed, Met}
+use Rattle.meaning.proofs.RangeLaws.{count-within, after-got}
 use Rattle.reading.specs.declared.bytes.Read.{Read}
 use Rattle.reading.specs.declared.bytes.Read.the-variants.{Value, Fault}
 use Rattle.reading.specs.declared.lists.Kind.the-variants.{Literals, Fluents}
 use Rattle.reading.specs.declared.lists.Passed.{Passed}
 use Rattle.reading.specs.declared.lists.Passed.the-variants.{To, Fault as Stop}
 use Rattle.reading.specs.Read.{number-read, passed, kind-of}
-use Rattle.reading.specs.Noted.{effects, executability, knowledge, line-at, section-noted, table-noted, three-sections, facts-first, actions-first, noting, outcome}
+use Rattle.reading.specs.Noted.{effects, executability, knowledge, line-at, table-noted, three-sections, facts-first, actions-first, noting, outcome}
 use Rattle.reading.specs.Noted.{plan-slot, items-slot, goals-slot}
 use Rattle.reading.specs.Planned.{items-of, bytes-of, plan-noted, noting-met, outcome-met}
 use Rattle.reading.specs.Requested.{goals-first, plan-first, places-noted, goals-place, plan-place, request-noted, sections-read}
@@ -29,7 +28,7 @@ use Rattle.reading.proofs.ByteLaws.{read-value, read-fault}
 use Rattle.reading.proofs.ListLaws.{passed-to, passed-stop}
 use Rattle.reading.proofs.NotingLaws.{with-items, met-value, met-fault, fault-met}
 use Rattle.reading.proofs.PlanSizes.{On, Through, Counted, sequence-read, list-through}
-use Rattle.reading.proofs.SectionLaws.{got-place, byte-got, count-got, noting-got, noting-fault}
+use Rattle.reading.proofs.SectionLaws.{count-got, noting-got, noting-fault}
 
 -- One part after another.
 module _ {A B C : Type 0} where

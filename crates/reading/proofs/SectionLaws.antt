@@ -1,9 +1,8 @@
 -- Sections 3 to 5: what stands where a line was read, and how the loop over a section's lines goes on. Assumes nothing.
 use Prim.Native.Nat.{ℕ, zero, suc, _+_, _-_, _*_, _≤_, _<_}
 use native.Mathlib.Omega.{arith}
-use native.Mathlib.Numerals.{add-one}
 use mathlib.Core.Path.{_≡_, refl, sym, _∙_, ap, subst}
-use mathlib.Core.List.{List, [], _∷_}
+use mathlib.Core.List.{List, _∷_}
 use mathlib.Core.Logic.{_⊎_, inl, inr, ⊎-elim}
 use lib.ListN.{length, getD, set}
 use mir.Syntax.{w64}
@@ -21,7 +20,7 @@ use Rattle.reading.specs.declared.lists.Passed.{Passed}
 use Rattle.reading.specs.declared.lists.Passed.the-variants.{To, Fault as Stop}
 use Rattle.reading.specs.declared.sections.Section as Code
 use Rattle.reading.specs.declared.sections.Section.the-variants.{Effects, Executability as Runs, Knowledge as Senses}
-use Rattle.reading.specs.Read.{number-read, effect-read, executability-read, knowledge-read}
+use Rattle.reading.specs.Read.{effect-read, executability-read, knowledge-read}
 use Rattle.reading.proofs.ByteLaws.{byte-none, byte-is}
 use Rattle.reading.specs.Noted.{Section, effects, executability, knowledge, section-of, Line, line-at, line-read, line-noted, note-line, lines-noted, count-slot, section-noted, three-sections, noting, outcome, effect-noted, run-noted, pair-noted}
 

@@ -2,20 +2,18 @@
 use Prim.Native.Nat.{ℕ, zero, suc, _+_, _-_, _*_, _≤_, _<_}
 use native.Mathlib.Omega.{arith}
 use mathlib.Core.Path.{_≡_, refl, sym, _∙_, ap, subst}
-use mathlib.Core.Bool.{true, false}
-use mathlib.Core.List.{List, [], _∷_}
+use mathlib.Core.Bool.{false}
+use mathlib.Core.List.{List}
 use lib.ListN.{length, getD}
-use lib.Dec.{eqb}
-use borrow.Author.Tests.{leb-false, eqb-true, eqb-false}
+use borrow.Author.Tests.{leb-false, eqb-true}
 use Rattle.meaning.specs.Limits.{format}
-use Rattle.meaning.specs.Literals.{complement, among, exclusive}
+use Rattle.meaning.specs.Literals.{exclusive}
 use Rattle.meaning.specs.Refusals.{overlap-in}
 use Rattle.meaning.specs.Requests.{Sequence, Item, Branches}
-use Rattle.meaning.specs.Reading.{Got, got, Met, Part, byte-at, two-bytes-at, count-at, below-at, literals, bound-of, entry-at, entries-at, list-at, body-at, item-at, items-at, sequence-at, branches-at, branching-at, plan-at}
-use Rattle.meaning.proofs.TestLaws.{by-test, Has, some-has}
+use Rattle.meaning.specs.Reading.{Got, got, Met, Part, byte-at, two-bytes-at, count-at, literals, bound-of, body-at, item-at, items-at, sequence-at, branches-at, branching-at, plan-at}
+use Rattle.meaning.proofs.TestLaws.{Has}
 use Rattle.meaning.proofs.SettledLaws.{got-same}
-use Rattle.meaning.proofs.RangeLaws.{after-got, list-consistent}
-use Rattle.reading.specs.Listed.{bytes-from, listed, List-here}
+use Rattle.reading.specs.Listed.{listed, List-here}
 use Rattle.reading.specs.Planned.{items-of, bytes-of, plan-noted, noting-met, outcome-met}
 use Rattle.reading.specs.InTable.{found}
 use Rattle.reading.specs.Branchings.{sequence-place}
