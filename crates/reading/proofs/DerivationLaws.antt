@@ -8,10 +8,8 @@ use lib.ListN.{length, set}
 use lib.Dec.{ltb}
 use borrow.Author.Tests.{lt-ltb, le-ltb}
 use Rattle.meaning.specs.Tests.{either, pick}
-use Rattle.meaning.specs.Limits.{Limits, format}
-use Rattle.meaning.specs.Requests.{Sequence}
-use Rattle.meaning.specs.Reading
-use Rattle.meaning.specs.Reading.{Got, got, fault, next, Met, literals, byte-at, two-bytes-at, count-at, list-at, repeated, plan-at}
+use Rattle.meaning.specs.Limits.{format}
+use Rattle.meaning.specs.Reading.{Got, got, fault, next, literals, byte-at, two-bytes-at, count-at, list-at, repeated, plan-at}
 use Rattle.meaning.specs.Derivations.{Line, line-at, read-derivation}
 use Rattle.meaning.proofs.TestLaws.{pick-true, pick-false, either-left, either-right}
 use Rattle.meaning.proofs.SettledLaws.{got-same}

@@ -7,9 +7,9 @@ use mathlib.Core.List.{List, [], _∷_}
 use lib.ListN.{length, getD, set, length-set}
 use lib.Seq.{getD-set-same}
 use borrow.Author.Tests.{ltb-false}
-use Rattle.meaning.specs.Limits.{Limits, format}
+use Rattle.meaning.specs.Limits.{format}
 use Rattle.meaning.specs.Requests.{Sequence}
-use Rattle.meaning.specs.Reading.{Got, got, fault, next, Met, literals, byte-at, two-bytes-at, count-at, bound-of, list-at, repeated, plan-at}
+use Rattle.meaning.specs.Reading.{got, fault, next, Met, literals, byte-at, two-bytes-at, count-at, bound-of, list-at, repeated, plan-at}
 use Rattle.meaning.specs.Refusals.{nowhere, at, or-else, overlap-in, refuse}
 use Rattle.meaning.specs.Derivations.{Line, line-at, read-derivation, overlap-in-lines}
 use Rattle.meaning.proofs.TestLaws.{by-test, clash, either-right}
@@ -31,13 +31,13 @@ use Rattle.reading.specs.Plans.{Some-plan, Overlap-found}
 use Rattle.reading.specs.DerivationRead.{places-noted, settled-derivation}
 use Rattle.reading.specs.Derived.{Line-here, Lines-here, Some-lines, Derivation-here, Line-found, Lines-found}
 use Rattle.reading.proofs.SectionLaws.{got-place, repeated-length, noting-got, noting-fault}
-use Rattle.reading.proofs.PlanSizes.{On, Through, list-through}
+use Rattle.reading.proofs.PlanSizes.{list-through}
 use Rattle.reading.proofs.NotingLaws.{met-fault, fault-met}
 use Rattle.reading.proofs.HereLaws.{list-here}
 use Rattle.reading.proofs.KeptLaws.{kept}
 use Rattle.reading.proofs.PlanOverlaps.{listed-length}
 use Rattle.reading.proofs.DerivationLaws.{line-place}
-use Rattle.reading.proofs.WrittenLaws.{Two-got, two-is, plan-left, overlap-left}
+use Rattle.reading.proofs.WrittenLaws.{two-is, plan-left, overlap-left}
 use Rattle.reading.proofs.SettleLaws.{outcome-same, found-none, found-at}
 
 module _ (n m : ℕ) (s : List ℕ) where

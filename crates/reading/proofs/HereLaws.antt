@@ -2,23 +2,23 @@
 use Prim.Native.Nat.{ℕ, zero, suc, _+_, _-_, _*_, _≤_, _<_}
 use native.Mathlib.Omega.{arith}
 use mathlib.Core.Path.{_≡_, refl, sym, _∙_, ap, subst}
-use mathlib.Core.Bool.{Bool, false}
+use mathlib.Core.Bool.{false}
 use mathlib.Core.List.{List}
 use lib.ListN.{length, getD}
 use lib.Dec.{eqb}
 use borrow.Author.Tests.{eqb-true}
-use Rattle.meaning.specs.Limits.{Limits, format}
+use Rattle.meaning.specs.Limits.{format}
 use Rattle.meaning.specs.Literals.{complement, among, exclusive}
-use Rattle.meaning.specs.Requests.{Effect, Knowledge}
+use Rattle.meaning.specs.Requests.{Effect}
 use Rattle.meaning.specs.Reading
-use Rattle.meaning.specs.Reading.{Got, got, count-at, below-at, bound-of, literals, entry-at, entries-at, list-at, body-at, effect-at}
+use Rattle.meaning.specs.Reading.{got, count-at, below-at, bound-of, literals, entry-at, entries-at, list-at, body-at, effect-at}
 use Rattle.meaning.proofs.TestLaws.{by-test, some-has, Has}
 use Rattle.meaning.proofs.SettledLaws.{got-same}
 use Rattle.meaning.proofs.RangeLaws.{not-refused, after-got, list-consistent}
 use Rattle.reading.specs.Listed.{bytes-from, listed, List-here}
 use Rattle.reading.specs.InTable.{effect-from, Effect-here}
 use Rattle.reading.proofs.SectionLaws.{got-place, number-got, count-got}
-use Rattle.reading.proofs.PlanSizes.{On, Through, list-through}
+use Rattle.reading.proofs.PlanSizes.{list-through}
 
 -- LISTS.
 pub bytes-length : (s : List ℕ) (k p : ℕ) → length (bytes-from s p k) ≡ k

@@ -2,13 +2,12 @@
 use Prim.Native.Nat.{ℕ, _+_, _-_, _*_, _≤_, _<_}
 use native.Mathlib.Omega.{arith}
 use mathlib.Core.Path.{_≡_, refl, _∙_}
-use mathlib.Core.Bool.{Bool}
 use mathlib.Core.List.{List, [], _∷_}
 use mathlib.Core.Logic.{inl, inr}
 use lib.ListN.{length, getD, set, length-set}
 use lib.Seq.{getD-set-other}
 use lib.Dec.{ltb}
-use Rattle.meaning.specs.Requests.{Effect, Executability, Knowledge, Sequence, Item, Branches}
+use Rattle.meaning.specs.Requests.{Sequence}
 use Rattle.meaning.proofs.TestLaws.{by-test, pick-true, pick-false, Has}
 use Rattle.reading.specs.Noted.{Section, effects, executability, knowledge, Line, link, effect-noted, run-noted, raised, pair-noted, note-line, lines-noted}
 use Rattle.reading.specs.Planned.{items-of, plan-noted, sequence-noted}

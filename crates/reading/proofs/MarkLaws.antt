@@ -10,7 +10,7 @@ use mir.Syntax.{w64}
 use mir.Val.{Fits}
 use borrow.Author.Tests.{eq-eqb, ne-eqb}
 use Rattle.meaning.specs.Tests.{both, fails, each-of}
-use Rattle.meaning.specs.Limits.{Limits, format}
+use Rattle.meaning.specs.Limits.{format}
 use Rattle.meaning.specs.Literals.{positive, complement, fluent-of}
 use Rattle.meaning.specs.States.{State, mark-of, known, possible, told, told-all, state-of}
 use Rattle.meaning.proofs.TestLaws.{pick-true, pick-false}

@@ -22,7 +22,7 @@ use Rattle.reading.specs.declared.marks.Test.the-variants.{Possible}
 use Rattle.reading.specs.Listed.{bytes-from, listed, List-here, holds-as}
 use Rattle.reading.specs.Planned.{items-of, items-in, items-under, bytes-of}
 use Rattle.reading.specs.InTable.{found}
-use Rattle.reading.specs.Branchings.{sequence-place, no-item, place-after, item-after, conditions-from, rules-out, all-apart, item-apart, first-overlap, Branch-here, Branches-here, Branching-here, Item-here, Items-here}
+use Rattle.reading.specs.Branchings.{sequence-place, no-item, place-after, item-after, conditions-from, rules-out, all-apart, item-apart, first-overlap, Branches-here, Item-here, Items-here}
 use Rattle.reading.specs.Plans.{own-items, branches-in, Act-written, Opened, Branch-written, Written, Item-written, Branches-written, Branch-kept, Kept, Item-kept, Branches-kept, Plan-held, Some-plan, Overlap-found}
 use Rattle.reading.specs.declared.refusals.Found as Code
 use Rattle.reading.proofs.HereLaws.{bytes-length}

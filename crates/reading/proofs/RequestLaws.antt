@@ -9,9 +9,8 @@ use borrow.Author.Tests.{lt-ltb, le-ltb}
 use Rattle.meaning.specs.Tests.{pick}
 use Rattle.meaning.proofs.TestLaws.{pick-true, pick-false}
 use Rattle.meaning.proofs.SettledLaws.{got-same}
-use Rattle.meaning.specs.Limits.{Limits, format}
+use Rattle.meaning.specs.Limits.{format}
 use Rattle.meaning.specs.Requests.{Table, Sequence, Request}
-use Rattle.meaning.specs.Reading
 use Rattle.meaning.specs.Reading.{Got, got, fault, next, literals, fluents, plan-at, count-at, list-at, section-at, effect-at, executability-at, knowledge-at, table-at, request-at, read-request, placed, Met}
 use Rattle.meaning.proofs.RangeLaws.{count-within, after-got}
 use Rattle.reading.specs.declared.bytes.Read.{Read}
@@ -27,7 +26,7 @@ use Rattle.reading.specs.Requested.{goals-first, plan-first, places-note
 use Rattle.reading.proofs.ByteLaws.{read-value, read-fault}
 use Rattle.reading.proofs.ListLaws.{passed-to, passed-stop}
 use Rattle.reading.proofs.NotingLaws.{with-items, met-value, met-fault, fault-met}
-use Rattle.reading.proofs.PlanSizes.{On, Through, Counted, sequence-read, list-through}
+use Rattle.reading.proofs.PlanSizes.{Counted, sequence-read, list-through}
 use Rattle.reading.proofs.SectionLaws.{count-got, noting-got, noting-fault}
 
 -- One part after another.

@@ -6,13 +6,12 @@ use mathlib.Core.List.{List, []}
 use lib.ListN.{length, getD, length-replicate, getD-replicate}
 use mir.Syntax.{w8, w64}
 use mir.Val.{Fits}
-use Rattle.meaning.specs.Limits
-use Rattle.meaning.specs.Limits.{Limits, format}
+use Rattle.meaning.specs.Limits.{format}
 use Rattle.meaning.specs.Requests.{Effect, Knowledge, Request}
 use Rattle.meaning.specs.Reading.{Got, got, fault, next, read-request}
 use Rattle.meaning.specs.Refusals
 use Rattle.meaning.specs.Refusals.{nowhere, at, contradiction-in, mixed-in, overlap-in, refuse, settled}
-use Rattle.meaning.proofs.SettledLaws.{got-same, Settled, settled-is}
+use Rattle.meaning.proofs.SettledLaws.{got-same, settled-is}
 use Rattle.reading.specs.declared.lists.Passed.{Passed}
 use Rattle.reading.specs.declared.lists.Passed.the-variants.{To, Fault as Stop}
 use Rattle.reading.specs.declared.refusals.Found.{Found}

@@ -9,9 +9,8 @@ use borrow.Author.Tests.{leb-false, eqb-true}
 use Rattle.meaning.specs.Limits.{format}
 use Rattle.meaning.specs.Literals.{exclusive}
 use Rattle.meaning.specs.Refusals.{overlap-in}
-use Rattle.meaning.specs.Requests.{Sequence, Item, Branches}
+use Rattle.meaning.specs.Requests.{Sequence, Item}
 use Rattle.meaning.specs.Reading.{Got, got, Met, Part, byte-at, two-bytes-at, count-at, literals, bound-of, body-at, item-at, items-at, sequence-at, branches-at, branching-at, plan-at}
-use Rattle.meaning.proofs.TestLaws.{Has}
 use Rattle.meaning.proofs.SettledLaws.{got-same}
 use Rattle.reading.specs.Listed.{listed, List-here}
 use Rattle.reading.specs.Planned.{items-of, bytes-of, plan-noted, noting-met, outcome-met}

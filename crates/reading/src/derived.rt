@@ -29,7 +29,7 @@ fn place_of(places: &Places, k: usize) -> usize
     widened(places[k])
 }
 
-// 18 in the plan of the line at p, which is read again, into a table that is of no use afterwards.
+// 18 in the plan of the line at p. The plan is read again, without a fault, into a table that is of no use afterwards.
 fn overlap_in_line(n: usize, m: usize, s: &[u8], p: usize, t: &mut Table) -> Found
     requires { ⌜ n ≤ 64 ⌝ }
     requires { ⌜ m ≤ 64 ⌝ }

@@ -1,3 +1,5 @@
+-- X is a list, so the plan's count stands after it. The plan is read there into the table, which then holds it, and the search over the table
+-- finds the first overlap of just that plan. A plan that was read before is read again without a fault.
 use Rattle.reading.proofs.DerivedLaws.{line-held, line-sought, line-read}
 use borrow.Author.Needs.{needs}
 use Rattle.reading.proofs.derived.overlap_in_line.Statement.{statement}

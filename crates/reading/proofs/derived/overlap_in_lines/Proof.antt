@@ -1,3 +1,5 @@
+-- Whatever lines stand where the places say, the first overlap in all of them is the first in those from line k on: those before line k have
+-- none.
 use Prim.Native.Nat.{_-_}
 use Rattle.reading.proofs.DerivedLaws.{Sought, sought-start, sought-done, sought-next, sought-at, line-list}
 use borrow.Author.Needs.{needs}

@@ -1,3 +1,4 @@
+-- The number of lines stands in the first two bytes, and is within its limit, since the derivation was read.
 use Rattle.reading.proofs.DerivedLaws.{count-first, count-second, derivation-short, lines-few, lines-stand, lines-past-18, lines-at-18}
 use borrow.Author.Needs.{needs}
 use Rattle.reading.proofs.derived.refused_by_18.Statement.{statement}

@@ -1,3 +1,4 @@
+-- Reading left the place of line k in slot k, so the lines that were read are those that are searched. The places are not written again.
 use Rattle.reading.proofs.DerivedLaws.{derived-here, derived-there, derived-fault}
 use borrow.Author.Needs.{needs}
 use Rattle.reading.proofs.derived.settle_derivation.Statement.{statement}
