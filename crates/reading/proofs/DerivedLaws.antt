@@ -8,10 +8,11 @@ use lib.ListN.{length, getD, set, length-set}
 use lib.Seq.{getD-set-same}
 use borrow.Author.Tests.{ltb-false}
 use Rattle.meaning.specs.Limits.{format}
-use Rattle.meaning.specs.Requests.{Sequence}
-use Rattle.meaning.specs.Reading.{got, fault, next, Met, literals, byte-at, two-bytes-at, count-at, bound-of, list-at, repeated, plan-at}
+use Rattle.meaning.specs.Requests.{Sequence, Request}
+use Rattle.meaning.specs.Reading.{Got, got, fault, next, Met, literals, byte-at, two-bytes-at, count-at, bound-of, list-at, repeated, plan-at}
+use Rattle.meaning.specs.Refusals
 use Rattle.meaning.specs.Refusals.{nowhere, at, or-else, overlap-in, refuse}
-use Rattle.meaning.specs.Derivations.{Line, line-at, read-derivation, overlap-in-lines}
+use Rattle.meaning.specs.Derivations.{Line, line-at, read-derivation, overlap-in-lines, check-lines, check-last, check-derivation}
 use Rattle.meaning.proofs.TestLaws.{by-test, clash, either-right}
 use Rattle.meaning.proofs.SettledLaws.{fault≢got, got-same, refuse-got}
 use Rattle.meaning.proofs.RangeLaws.{not-refused, after-got}
@@ -32,6 +33,7 @@ use Rattle.reading.specs.DerivationRead.{places-noted, settled-derivatio
 use Rattle.reading.specs.Derived.{Line-here, Lines-here, Some-lines, Derivation-here, Line-found, Lines-found}
 use Rattle.reading.proofs.SectionLaws.{got-place, repeated-length, noting-got, noting-fault}
 use Rattle.reading.proofs.PlanSizes.{list-through}
+use Rattle.reading.proofs.RequestLaws.{next-next, next-same}
 use Rattle.reading.proofs.NotingLaws.{met-fault, fault-met}
 use Rattle.reading.proofs.HereLaws.{list-here}
 use Rattle.reading.proofs.KeptLaws.{kept}
@@ -283,3 +285,16 @@ module _ (n m : ℕ) (s : List ℕ) where
         where
           was-read : (ls : List Line) (q : ℕ) → settled-derivation n m s ≡ got ls q → read-derivation format n m s ≡ got ls q
           was-read ls q g = after-got (read-derivation format n m s) _ g λ xs i reads is1. reads ∙ refuse-got _ _ _ is1 .1
+
+-- CHECKING a derivation begins so, and goes on with the lines that were settled.
+refuse-next : {A B : Type 0} (number : ℕ) (f : Refusals.Found) (x : A) (e : ℕ) (k : A → ℕ → Got B) → refuse number f (λ _. k x e) ≡ next (refuse number f (λ _. got x e)) k
+unfolding refuse next
+refuse-next number nowhere x e k = refl
+refuse-next number (at p) x e k = refl
+
+pub check-begins : (r : Request) (s : List ℕ)
+    → check-derivation format r s ≡ next (settled-derivation (r .table .fluents) (r .table .actions) s) (λ lines _. next (check-lines format (r .table) lines 0 lines) (λ _ _. check-last r lines))
+unfolding check-derivation settled-derivation
+check-begins r s =
+    next-same (read-derivation format (r .table .fluents) (r .table .actions) s) (λ lines e. refuse-next 18 (overlap-in-lines lines) lines e (λ ls _. next (check-lines format (r .table) ls 0 ls) (λ _ _. check-last r ls)))
+    ∙ sym (next-next (read-derivation format (r .table .fluents) (r .table .actions) s) _ _)

@@ -31,13 +31,13 @@ use Rattle.reading.proofs.SectionLaws.{count-got, noting-got, noting-fa
 
 -- One part after another.
 module _ {A B C : Type 0} where
-  next-next : (g : Got A) (k : A → ℕ → Got B) (h : B → ℕ → Got C) → next (next g k) h ≡ next g (λ x p. next (k x p) h)
+  pub next-next : (g : Got A) (k : A → ℕ → Got B) (h : B → ℕ → Got C) → next (next g k) h ≡ next g (λ x p. next (k x p) h)
   unfolding next
   next-next (got x p) k h = refl
   next-next (fault n p) k h = refl
 
 module _ {A B : Type 0} where
-  next-same : (g : Got A) {k h : A → ℕ → Got B} → ((x : A) (p : ℕ) → k x p ≡ h x p) → next g k ≡ next g h
+  pub next-same : (g : Got A) {k h : A → ℕ → Got B} → ((x : A) (p : ℕ) → k x p ≡ h x p) → next g k ≡ next g h
   unfolding next
   next-same (got x p) e = e x p
   next-same (fault n p) e = refl
