@@ -8,35 +8,35 @@ use Rattle.reading.proofs.derived.refused_by_18.Lts as lts
 use Rattle.reading.proofs.bytes.two.Reads as two-reads
 use Rattle.reading.proofs.derived.overlap_in_lines.Reads as overlap-in-lines-reads
 
--- src/derived.rt:85:21
+-- src/derived.rt:86:21
 shared-slice-read-two : tie.Need-shared-slice-read-two
 shared-slice-read-two c = search count-first
 
--- src/derived.rt:85:27
+-- src/derived.rt:86:27
 shared-slice-read-two-2 : tie.Need-shared-slice-read-two-2
 shared-slice-read-two-2 c = search count-second
 
--- src/derived.rt:85:9
+-- src/derived.rt:86:9
 two-requires : tie.Need-two-requires
 two-requires c κs = search needs
 
--- src/derived.rt:86:11
+-- src/derived.rt:87:11
 overlap-in-lines-requires : tie.Need-overlap-in-lines-requires
 overlap-in-lines-requires c κs = (search needs, (search needs, (search derivation-short, (search lines-few, search lines-stand))))
 
--- src/derived.rt:87:27
+-- src/derived.rt:88:27
 enum-told : tie.Need-enum-told
 enum-told c = search needs
 
--- src/derived.rt:88:19
+-- src/derived.rt:89:19
 enum-known-p : tie.Need-enum-known-p
 enum-known-p c = search needs
 
--- src/derived.rt:79:1
+-- src/derived.rt:80:1
 returns : tie.Need-returns
 returns c = search lines-past-18
 
--- src/derived.rt:79:1
+-- src/derived.rt:80:1
 returns-2 : tie.Need-returns-2
 returns-2 c = search lines-at-18
 

@@ -9,31 +9,31 @@ use Rattle.reading.proofs.derivations.read_derivation.Reads as read-der
 use Rattle.reading.proofs.derivations.sized.Reads as sized-reads
 use Rattle.reading.proofs.derived.refused_by_18.Reads as refused-by-18-reads
 
--- src/derived.rt:98:5
+-- src/derived.rt:99:5
 sized-requires : tie.Need-sized-requires
 sized-requires c κs = search needs
 
--- src/derived.rt:99:11
+-- src/derived.rt:100:11
 read-derivation-requires : tie.Need-read-derivation-requires
 read-derivation-requires c κs = search needs
 
--- src/derived.rt:100:20
+-- src/derived.rt:101:20
 enum-known-e : tie.Need-enum-known-e
 enum-known-e c = search needs
 
--- src/derived.rt:100:26
+-- src/derived.rt:101:26
 refused-by-18-requires : tie.Need-refused-by-18-requires
 refused-by-18-requires c κs = (search needs, (search needs, search derived-here))
 
--- src/derived.rt:101:23
+-- src/derived.rt:102:23
 enum-known-k : tie.Need-enum-known-k
 enum-known-k c = search needs
 
--- src/derived.rt:93:1
+-- src/derived.rt:94:1
 returns : tie.Need-returns
 returns c = search derived-there
 
--- src/derived.rt:93:1
+-- src/derived.rt:94:1
 returns-2 : tie.Need-returns-2
 returns-2 c = search derived-fault
 
