@@ -1,19 +1,33 @@
-//! Times of the proved reader and of the independent one on the same bytes, within one run.
+//! Times of the proved reader and of the independent one on the same bytes, within one run; then of whole judgements.
 #![allow(dead_code)]
 
 #[path = "../oracle/src/answer.rs"]
 mod answer;
+mod judging;
 #[path = "../oracle/src/model.rs"]
 mod model;
 #[path = "../oracle/src/reader.rs"]
 mod reader;
+#[path = "../oracle/src/settle.rs"]
+mod settle;
+#[path = "../oracle/src/table.rs"]
+mod table;
+#[path = "../oracle/src/walk.rs"]
+mod walk;
 
 use std::hint::black_box;
+use std::thread;
 use std::time::Instant;
 
-/// How often each reader is timed, in turns, and for how many nanoseconds about: few, so that other work seldom falls within.
-const ROUNDS: usize = 1001;
+/// How often each call is timed, in turns, and for how many nanoseconds about: few, so that other work seldom falls within.
+const ROUNDS: u128 = 1001;
 const SPAN: u128 = 400_000;
+/// Calls that take longer than that are timed less often: for about so many nanoseconds in all, and so often at least.
+const LONGEST: u128 = 1_500_000_000;
+const FEWEST: u128 = 21;
+
+/// The stack for the walk: see docs/STACK.md.
+const STACK: usize = 64 << 20;
 
 /// The table that the proved reader fills, and two of its slots.
 type Table = [u16; 9480];
@@ -121,24 +135,36 @@ fn median(mut times: Vec<u128>) -> u128 {
     times[times.len() / 2]
 }
 
-/// The median times of both readers; each call of the proved one has a new table of zeros.
-fn times(bytes: &[u8]) -> (u128, u128) {
-    let one = || _ = black_box(proved(black_box(bytes), black_box(&mut [0; 9480])));
-    let other = || _ = black_box(reader::read_request(black_box(bytes)));
-    let in_span = |call: &dyn Fn()| SPAN / median((0..99).map(|_| mean(9, call)).collect()) + 1;
-    let (ones, others) = (in_span(&one), in_span(&other));
-    let turns = (0..ROUNDS).map(|_| (mean(ones, one), mean(others, other)));
-    let (one, other) = turns.unzip();
-    (median(one), median(other))
+/// The median times of some calls.
+fn times<const N: usize>(calls: [&dyn Fn(); N]) -> [u128; N] {
+    let in_span = |call: &dyn Fn()| match mean(1, call) {
+        once if once < SPAN => SPAN / median((0..99).map(|_| mean(9, call)).collect()) + 1,
+        _ => 1,
+    };
+    let repeats = calls.map(in_span);
+    let turn = || std::array::from_fn(|i| mean(repeats[i], calls[i]));
+    let rounds = (LONGEST / mean(1, || _ = black_box::<[u128; N]>(turn()))).clamp(FEWEST, ROUNDS);
+    let turns: Vec<[u128; N]> = (0..rounds).map(|_| turn()).collect();
+    std::array::from_fn(|i| median(turns.iter().map(|turn| turn[i]).collect()))
 }
 
-fn main() {
+/// The times of both readers; each call of the proved one has a new table of zeros.
+fn readers() {
     println!("| request | bytes | effects | items | proved reader, ns | independent reader, ns | ratio |\n|---|---|---|---|---|---|---|");
     let (a, b, c, d) = (largest(), effects(), items(), FILE_A.to_vec());
     for (name, bytes) in [("the largest", a), ("255 effects of one action", b), ("1,024 items, 8 deep", c), ("File A", d)] {
         let (effects, items) = agreed(name, &bytes);
-        let (one, other) = times(&bytes);
+        let one = || _ = black_box(proved(black_box(&bytes), black_box(&mut [0; 9480])));
+        let other = || _ = black_box(reader::read_request(black_box(&bytes)));
+        let [one, other] = times([&one, &other]);
         let ratio = one as f64 / other as f64;
         println!("| {name} | {} | {effects} | {items} | {one} | {other} | {ratio:.2} |", bytes.len());
     }
+}
+
+fn main() {
+    readers();
+    println!();
+    let judgements = thread::Builder::new().stack_size(STACK).spawn(judging::judgements);
+    judgements.expect("a thread").join().expect("judgements");
 }

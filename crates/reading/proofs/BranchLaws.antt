@@ -2,7 +2,7 @@
 use Prim.Native.Nat.{ℕ, zero, suc, _+_, _-_, _≤_, _<_}
 use native.Mathlib.Omega.{arith}
 use native.Mathlib.Numerals.{sub-one}
-use mathlib.Core.Path.{_≡_, refl, sym, _∙_, ap, subst}
+use mathlib.Core.Path.{_≡_, refl, sym, _∙_, ap}
 use mathlib.Core.List.{List}
 use lib.ListN.{length}
 use Rattle.meaning.specs.Limits.{format}
@@ -16,41 +16,21 @@ use Rattle.reading.specs.declared.lists.Passed.the-variants.{To, Fault a
 use Rattle.reading.specs.Read.{number-read, passed}
 use Rattle.reading.specs.Planned.{items-of, bytes-of, inside-noted, branches-noted, sequence-noted, noting-met, outcome-met, branch-noting}
 use Rattle.reading.proofs.ByteLaws.{read-value, read-fault}
+use Rattle.reading.proofs.ListLaws.{passed-to, passed-stop}
 use Rattle.reading.proofs.PlanSizes.{count-through, body-through, sequence-read}
-use Rattle.reading.proofs.NotingLaws.{Going, fault-met, fault-turned, met-value, noting-built, with-items}
+use Rattle.reading.proofs.NotingLaws.{Going, fault-met, met-value, noting-built, with-items}
+use Rattle.reading.proofs.SectionLaws.{fault-turned}
 
 -- BRANCHES.
-passed-to : (g : Got (List ℕ)) (body : Passed) (q : ℕ) → body ≡ passed g → body ≡ To q → (c : List ℕ) × (g ≡ got c q)
-unfolding passed
-passed-to (got c r) body q e is = (c, ap (λ (z : Passed). got c (place z)) (sym e ∙ is))
-  where
-    place : Passed → ℕ
-    place z = elim z [ To p ↦ p | Stop n p ↦ p ]
-passed-to (fault n i) body q e is = absurd (subst stops (sym e ∙ is) tt)
-  where
-    stops : Passed → Type 0
-    stops z = elim z [ To p ↦ ⊥ | Stop n p ↦ Unit {0} ]
-
-passed-stop : (g : Got (List ℕ)) (body : Passed) (k q : ℕ) → body ≡ passed g → body ≡ Stop k q → g ≡ fault k q
-unfolding passed
-passed-stop (got c r) body k q e is = absurd (subst goes (sym e ∙ is) tt)
-  where
-    goes : Passed → Type 0
-    goes z = elim z [ To p ↦ Unit {0} | Stop n p ↦ ⊥ ]
-passed-stop (fault n i) body k q e is = ap turned (sym e ∙ is)
-  where
-    turned : Passed → Got (List ℕ)
-    turned z = elim z [ To p ↦ fault 0 0 | Stop n p ↦ fault n p ]
-
 module _ (n m deep up : ℕ) (s : List ℕ) (p met : ℕ) (t : List ℕ) (body : Passed) (read : body ≡ passed (body-at format n s p)) where
   pub branch-fault : (k q : ℕ) (u : List ℕ) → body ≡ Stop k q → outcome-met (Fault k q) u ≡ branch-noting n m deep up s p met t
   unfolding branch-noting next outcome-met
-  branch-fault k q u is = rw (passed-stop (body-at format n s p) body k q read is)
+  branch-fault k q u is = rw (passed-stop (body-at format n s p) k q (sym read ∙ is))
 
   pub branch-whole : (q : ℕ) (r : Read) (u : List ℕ) → body ≡ To q
       → outcome-met r u ≡ noting-met (sequence-noted up met q t) (sequence-at format n m s (branching-at format n m s deep) q met) → outcome-met r u ≡ branch-noting n m deep up s p met t
   unfolding branch-noting next
-  branch-whole q r u is e = rw (passed-to (body-at format n s p) body q read is .1) e
+  branch-whole q r u is e = rw (passed-to (body-at format n s p) q (sym read ∙ is) .1) e
 
 -- BRANCHINGS.
 pub branching-none : (n m deep : ℕ) (s : List ℕ) (start i : ℕ) (t u : List ℕ) → deep ≡ 0

@@ -3,15 +3,13 @@ use Prim.Native.Nat.{ℕ, zero, suc, _+_, _-_, _≤_, _<_}
 use native.Mathlib.Omega.{arith}
 use native.Mathlib.Numerals.{sub-one}
 use mathlib.Core.Path.{_≡_, refl, sym, _∙_, ap}
-use mathlib.Core.List.{List, [], _∷_}
+use mathlib.Core.List.{List, _∷_}
 use lib.ListN.{length, set}
 use lib.Dec.{ltb}
 use borrow.Author.Tests.{lt-ltb, le-ltb}
 use Rattle.meaning.specs.Tests.{either, pick}
-use Rattle.meaning.specs.Limits.{Limits, format}
-use Rattle.meaning.specs.Requests.{Sequence}
-use Rattle.meaning.specs.Reading
-use Rattle.meaning.specs.Reading.{Got, got, fault, next, Met, literals, byte-at, two-bytes-at, count-at, list-at, repeated, plan-at}
+use Rattle.meaning.specs.Limits.{format}
+use Rattle.meaning.specs.Reading.{Got, got, fault, next, literals, byte-at, two-bytes-at, count-at, list-at, repeated, plan-at}
 use Rattle.meaning.specs.Derivations.{Line, line-at, read-derivation}
 use Rattle.meaning.proofs.TestLaws.{pick-true, pick-false, either-left, either-right}
 use Rattle.meaning.proofs.SettledLaws.{got-same}
@@ -26,11 +24,10 @@ use Rattle.reading.specs.Noted.{noting, outcome}
 use Rattle.reading.specs.Planned.{plan-noted, noting-met, outcome-met}
 use Rattle.reading.specs.DerivationRead.{places-noted, citing, ending, planned}
 use Rattle.reading.proofs.ByteLaws.{read-value, read-fault}
-use Rattle.reading.proofs.ListLaws.{passed-same}
+use Rattle.reading.proofs.ListLaws.{passed-same, passed-to, passed-stop}
 use Rattle.reading.proofs.PlanSizes.{count-through}
-use Rattle.reading.proofs.NotingLaws.{with-items, met-value, met-fault, fault-met}
+use Rattle.reading.proofs.NotingLaws.{met-value, met-fault, fault-met}
 use Rattle.reading.proofs.SectionLaws.{noting-got, noting-fault}
-use Rattle.reading.proofs.RequestLaws.{passed-to, passed-stop}
 
 -- CITATIONS: what the whole gives is what is left of it.
 module _ (s : List ℕ) (p : ℕ) (whole : Passed) where
@@ -113,7 +110,7 @@ module _ (n m : ℕ) (s : List ℕ) (p : ℕ) (list : Passed) (read : list ≡ p
   line-whole q r is e = e ∙ sym (line-parts n m s p ∙ rw (passed-to (list-at literals n 64 s p) q (sym read ∙ is) .1))
 
 -- LINES. One that was read stands where it was read.
-line-place : (n m : ℕ) (s : List ℕ) (p : ℕ) (l : Line) (e : ℕ) → line-at format n m s p ≡ got l e → l .place ≡ p
+pub line-place : (n m : ℕ) (s : List ℕ) (p : ℕ) (l : Line) (e : ℕ) → line-at format n m s p ≡ got l e → l .place ≡ p
 unfolding line-at
 line-place n m s p l e is =
     after-got (list-at literals n 64 s p) _ is λ X q _ is1.

@@ -1,28 +1,31 @@
 -- What was read stands in the input where it was read. Assumes nothing.
 use Prim.Native.Nat.{ℕ, zero, suc, _+_, _-_, _*_, _≤_, _<_}
 use native.Mathlib.Omega.{arith}
-use native.Mathlib.Numerals.{add-one}
 use mathlib.Core.Path.{_≡_, refl, sym, _∙_, ap, subst}
-use mathlib.Core.Bool.{Bool, true, false}
-use mathlib.Core.List.{List, [], _∷_}
+use mathlib.Core.Bool.{false}
+use mathlib.Core.List.{List}
 use lib.ListN.{length, getD}
 use lib.Dec.{eqb}
 use borrow.Author.Tests.{eqb-true}
-use Rattle.meaning.specs.Tests.{some-of}
-use Rattle.meaning.specs.Limits.{Limits, format}
+use Rattle.meaning.specs.Limits.{format}
 use Rattle.meaning.specs.Literals.{complement, among, exclusive}
-use Rattle.meaning.specs.Requests.{Effect, Knowledge}
+use Rattle.meaning.specs.Requests.{Effect}
 use Rattle.meaning.specs.Reading
-use Rattle.meaning.specs.Reading.{Got, got, fault, next, byte-at, count-at, below-at, bound-of, literals, entry-at, entries-at, list-at, body-at, effect-at, knowledge-at}
-use Rattle.meaning.proofs.TestLaws.{by-test, clash, some-has, Has}
+use Rattle.meaning.specs.Reading.{got, count-at, below-at, bound-of, literals, entry-at, entries-at, list-at, body-at, effect-at}
+use Rattle.meaning.proofs.TestLaws.{by-test, some-has, Has}
 use Rattle.meaning.proofs.SettledLaws.{got-same}
 use Rattle.meaning.proofs.RangeLaws.{not-refused, after-got, list-consistent}
 use Rattle.reading.specs.Listed.{bytes-from, listed, List-here}
-use Rattle.reading.specs.InTable.{effect-from, Effect-here, knowledge-from}
-use Rattle.reading.proofs.SectionLaws.{got-place, byte-got, number-got}
-use Rattle.reading.proofs.PlanSizes.{On, Through, list-through}
+use Rattle.reading.specs.InTable.{effect-from, Effect-here}
+use Rattle.reading.proofs.SectionLaws.{got-place, number-got, count-got}
+use Rattle.reading.proofs.PlanSizes.{list-through}
 
 -- LISTS.
+pub bytes-length : (s : List ℕ) (k p : ℕ) → length (bytes-from s p k) ≡ k
+unfolding bytes-from
+bytes-length s zero p = refl
+bytes-length s (suc k) p = ap suc (bytes-length s k (p + 1))
+
 module _ (kind : Reading.Kind) (n : ℕ) (s : List ℕ) where
   entry-here : (p floor x q : ℕ) → entry-at kind n s p floor ≡ got x q → (getD s p 0 ≡ x) × (p + 1 ≡ q) × (x < bound-of kind n)
   unfolding entry-at
@@ -52,17 +55,14 @@ module _ (kind : Reading.Kind) (n : ℕ) (s : List ℕ) where
           subst (λ (j : ℕ). getD s j 0 < bound-of kind n) same (later k (omega arith))
 
   pub list-here : (most p : ℕ) (xs : List ℕ) (q : ℕ) → list-at kind n most s p ≡ got xs q → (listed s p ≡ xs) × ((bound : ℕ) → bound-of kind n ≤ bound → List-here bound s p)
-  unfolding list-at listed count-at bytes-from
+  unfolding list-at listed
   list-here most p xs q e =
       after-got (count-at 0 most s p) _ e λ c i ec e′.
-      after-got (byte-at s p) _ ec λ d j ed e″.
-      let byte = byte-got s p d j ed in
-      let counted : d ≡ c = got-same (not-refused _ _ _ _ e″ .1) in
-      let after : p + 1 ≡ i = byte .2 ∙ got-place (not-refused _ _ _ _ e″ .1) in
-      let count : getD s p 0 ≡ c = byte .1 ∙ counted in
+      let counted = count-got 0 most s p c i ec in
+      let count = counted .1 in let after = counted .2 in
       let entries = entries-here c i 0 xs q e′ in
       let through = list-through s kind n most p .holds xs q e in
-      let sized : length xs ≡ c = ap length (sym (entries .0)) ∙ bytes-length s i c in
+      let sized : length xs ≡ c = ap length (sym (entries .0)) ∙ bytes-length s c i in
       let ends = through .after in let inside = through .inside in (
         rw (count, after) (entries .0),
         λ bound h. record {
@@ -70,10 +70,6 @@ module _ (kind : Reading.Kind) (n : ℕ) (s : List ℕ) where
           below = λ k less. let small : getD s (i + k) 0 < bound-of kind n = entries .1 k (omega arith) in let there : getD s (p + 1 + k) 0 ≡ getD s (i + k) 0 = ap (λ (z : ℕ). getD s (z + k) 0) after in omega arith;
         },
       )
-    where
-      bytes-length : (s : List ℕ) (p k : ℕ) → length (bytes-from s p k) ≡ k
-      bytes-length s p zero = refl
-      bytes-length s p (suc k) = ap suc (bytes-length s (p + 1) k)
 
 -- No literal stands beside its complement.
 pub list-apart : (n most : ℕ) (s : List ℕ) (p : ℕ) (xs : List ℕ) (q : ℕ) → list-at literals n most s p ≡ got xs q → exclusive xs xs ≡ false

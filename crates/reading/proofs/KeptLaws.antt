@@ -1,19 +1,15 @@
 -- Noting one part leaves the slots of the others as they are. Assumes nothing.
-use Prim.Native.Nat.{ℕ, zero, suc, _+_, _-_, _*_, _≤_, _<_}
+use Prim.Native.Nat.{ℕ, _+_, _-_, _*_, _≤_, _<_}
 use native.Mathlib.Omega.{arith}
-use native.Mathlib.Numerals.{add-one}
-use mathlib.Core.Path.{_≡_, refl, sym, _∙_, ap, subst}
-use mathlib.Core.Bool.{Bool, true, false}
+use mathlib.Core.Path.{_≡_, refl, _∙_}
 use mathlib.Core.List.{List, [], _∷_}
-use mathlib.Core.Logic.{_⊎_, inl, inr, ⊎-elim}
+use mathlib.Core.Logic.{inl, inr}
 use lib.ListN.{length, getD, set, length-set}
-use lib.Seq.{getD-set-same, getD-set-other}
-use lib.Dec.{eqb, ltb}
-use borrow.Author.Tests.{ltb-true}
-use Rattle.meaning.specs.Tests.{pick}
-use Rattle.meaning.specs.Requests.{Effect, Executability, Knowledge, Sequence, done, item, Item, act, branching, Branches, none, branch}
+use lib.Seq.{getD-set-other}
+use lib.Dec.{ltb}
+use Rattle.meaning.specs.Requests.{Sequence}
 use Rattle.meaning.proofs.TestLaws.{by-test, pick-true, pick-false, Has}
-use Rattle.reading.specs.Noted.{Section, effects, executability, knowledge, Line, link, effect-noted, run-noted, raised, pair-noted, note-line, lines-noted, count-slot, section-noted}
+use Rattle.reading.specs.Noted.{Section, effects, executability, knowledge, Line, link, effect-noted, run-noted, raised, pair-noted, note-line, lines-noted}
 use Rattle.reading.specs.Planned.{items-of, plan-noted, sequence-noted}
 use Rattle.reading.proofs.PlanKept.{rest-length, rest-other}
 

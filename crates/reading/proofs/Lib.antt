@@ -21,3 +21,4 @@ pub mod PlanOverlaps
 pub mod WrittenLaws
 pub mod ReadLaws
 pub mod SettleLaws
+pub mod DerivedLaws

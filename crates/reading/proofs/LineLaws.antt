@@ -2,8 +2,7 @@
 use Prim.Native.Nat.{ℕ, _*_}
 use mathlib.Core.Path.{_≡_, refl, sym, _∙_, ap}
 use mathlib.Core.List.{List}
-use Rattle.meaning.specs.Limits.{Limits, format}
-use Rattle.meaning.specs.Reading
+use Rattle.meaning.specs.Limits.{format}
 use Rattle.meaning.specs.Reading.{Got, got, fault, next, below-at, list-at, body-at, effect-at, executability-at, knowledge-at}
 use Rattle.reading.specs.declared.bytes.Read.{Read}
 use Rattle.reading.specs.declared.bytes.Read.the-variants.{Value, Fault}

@@ -1,21 +1,21 @@
 -- Lists: a law for each way that a reader returns, and how its loop goes on. Assumes nothing.
-use Prim.Native.Nat.{ℕ, zero, suc, _+_, _-_, _*_, _%_, _^_, _≤_, _<_}
+use Prim.Native.Nat.{ℕ, zero, suc, _+_, _-_, _*_, _%_, _≤_, _<_}
 use native.Mathlib.Omega.{arith}
 use native.Mathlib.Numerals.{sub-one}
 use mir.Syntax.{w64}
 use mir.Val.{Fits}
 use mathlib.Core.Path.{_≡_, refl, sym, _∙_, ap, subst}
 use mathlib.Core.Bool.{Bool, true, false}
-use mathlib.Core.List.{List, [], _∷_}
-use lib.ListN.{length, getD}
+use mathlib.Core.List.{List, _∷_}
 use lib.Dec.{eqb, ltb}
-use borrow.Author.Tests.{eqb-true, eqb-false, eq-eqb, ne-eqb, le-leb, lt-leb, lt-ltb, le-ltb, leb-false, ltb-true}
-use Rattle.meaning.specs.Tests.{both, either, pick}
+use borrow.Author.Tests.{ne-eqb, lt-ltb, le-ltb, ltb-true}
+use Rattle.meaning.specs.Tests.{both, pick}
 use Rattle.meaning.specs.Literals.{complement}
 use Rattle.meaning.specs.Reading
-use Rattle.meaning.specs.Reading.{Got, got, fault, next, byte-at, count-at, below-at, bound-of, have-complements, entry-at, entries-at, list-at}
-use Rattle.meaning.proofs.TestLaws.{by-test, clash, both-true, both-left, both-right, pick-true, pick-false, pick-cases}
+use Rattle.meaning.specs.Reading.{Got, got, fault, next, count-at, below-at, bound-of, have-complements, entry-at, entries-at, list-at}
+use Rattle.meaning.proofs.TestLaws.{by-test, pick-true, pick-false, pick-cases}
 use Rattle.meaning.proofs.SettledLaws.{next-got, got-same, fault≢got}
+use Rattle.meaning.proofs.RangeLaws.{below-bound}
 use Rattle.meaning.proofs.LiteralLaws.{complement-even, complement-odd}
 use Rattle.reading.specs.declared.bytes.Read.{Read}
 use Rattle.reading.specs.declared.bytes.Read.the-variants.{Value, Fault}
@@ -86,6 +86,27 @@ module _ {A B : Type 0} where
   passed-same (got x p) f = refl
   passed-same (fault n p) f = refl
 
+-- WHAT A READER PASSED OVER, from what it answered.
+passed-end : Passed → ℕ
+passed-end r = elim r [ To p ↦ p | Stop n p ↦ p ]
+
+passed-fault : Passed → ℕ
+passed-fault r = elim r [ To p ↦ 0 | Stop n p ↦ n + 1 ]
+
+module _ {A : Type 0} where
+  pub passed-to : (g : Got A) (q : ℕ) → passed g ≡ To q → (x : A) × (g ≡ got x q)
+  unfolding passed passed-end passed-fault
+  passed-to (got x p) q e = (x, ap (got x) (ap passed-end e))
+  passed-to (fault n p) q e = let no : n + 1 ≡ 0 = ap passed-fault e in absurd (omega arith)
+
+  pub passed-stop : (g : Got A) (k q : ℕ) → passed g ≡ Stop k q → g ≡ fault k q
+  unfolding passed passed-end passed-fault
+  passed-stop (got x p) k q e = let no : 0 ≡ k + 1 = ap passed-fault e in absurd (omega arith)
+  passed-stop (fault n p) k q e =
+      let number : n + 1 ≡ k + 1 = ap passed-fault e in
+      let is : n ≡ k = omega arith in
+      rw (is, ap passed-end e)
+
 -- THE LOOP over the entries: what the whole gives is what is left of it.
 module _ (k : Kind) (n : ℕ) (s : List ℕ) (p floor : ℕ) (whole : Passed) where
   pub entries-done : (left : ℕ) → whole ≡ passed (entries-at (kind-of k) n s left p floor) → left ≤ 0 → To p ≡ whole
@@ -107,19 +128,13 @@ module _ (k : Kind) (n : ℕ) (s : List ℕ) (p floor : ℕ) (whole : Passed) wh
       w ∙ rw (read-value (entry-at (kind-of k) n s p floor) number x q read is, sub-one) (passed-same (entries-at (kind-of k) n s left q (x + 1)) (λ xs. x ∷ xs))
 
 -- An entry is below its bound, so one more than it fits.
-below-is-below : (bound : ℕ) (s : List ℕ) (p x q : ℕ) → below-at bound s p ≡ got x q → x < bound
-unfolding below-at
-below-is-below bound s p x q e =
-    let w = next-got (byte-at s p) _ e in
-    pick-cases _ _ _ (w .3) (λ _ f. absurd (fault≢got f)) (λ u g. subst (λ (y : ℕ). y < bound) (got-same g) (leb-false bound (w .0) u))
-
 entry-below : (kind : Reading.Kind) (n : ℕ) (s : List ℕ) (p floor x q : ℕ) → entry-at kind n s p floor ≡ got x q → x < bound-of kind n
 unfolding entry-at
 entry-below kind n s p floor x q e =
     let w = next-got (below-at (bound-of kind n) s p) _ e in
     pick-cases _ _ _ (w .3) (λ _ f. absurd (fault≢got f)) λ _ g.
     pick-cases _ _ _ g (λ _ f. absurd (fault≢got f)) λ _ i.
-    subst (λ (y : ℕ). y < bound-of kind n) (got-same i) (below-is-below (bound-of kind n) s p (w .0) (w .1) (w .2))
+    subst (λ (y : ℕ). y < bound-of kind n) (got-same i) (below-bound (bound-of kind n) s p (w .0) (w .1) (w .2))
 
 bound-most : (kind : Reading.Kind) (n : ℕ) → n ≤ 64 → bound-of kind n ≤ 128
 unfolding bound-of

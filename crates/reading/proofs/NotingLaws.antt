@@ -12,7 +12,7 @@ use Rattle.meaning.proofs.TestLaws.{by-test, pick-true, pick-false}
 use Rattle.meaning.proofs.SettledLaws.{fault≢got, got-same}
 use Rattle.reading.specs.declared.bytes.Read.{Read}
 use Rattle.reading.specs.declared.bytes.Read.the-variants.{Value, Fault}
-use Rattle.reading.proofs.SectionLaws.{got-place}
+use Rattle.reading.proofs.SectionLaws.{got-place, fault-first}
 use Rattle.reading.specs.Planned.{number-after, branch-noted, noting-met, outcome-met}
 
 -- WHAT FOLLOWS AN ITEM.
@@ -48,14 +48,6 @@ module _ {A : Type 0} where
   abbrev pub with-items : A → ℕ → Met A
   with-items x k = record { value = x; items = k }
 
-module _ {A B : Type 0} where
-  pub fault-turned : {n i k q : ℕ} → _≡_ {A = Got A} (fault n i) (fault k q) → _≡_ {A = Got B} (fault n i) (fault k q)
-  fault-turned e = ap turned e
-    where
-      turned : Got A → Got B
-      turned (got x p) = fault 0 0
-      turned (fault j p) = fault j p
-
 module _ {A : Type 0} (note : A → List ℕ) where
   pub met-value : (g : Got (Met A)) (r : Read) (t : List ℕ) (more e : ℕ) → outcome-met r t ≡ noting-met note g → r ≡ Value more e
       → (x : A) × (g ≡ got (with-items x more) e) × (t ≡ note x)
@@ -74,9 +66,8 @@ module _ {A : Type 0} (note : A → List ℕ) where
   met-fault g r t k e is v = rw v at (sym is)
 
   pub fault-met : (g : Got (Met A)) (k e : ℕ) → noting-met note g ≡ fault k e → g ≡ fault k e
-  unfolding noting-met next
-  fault-met (got x q) k e is = absurd (fault≢got (sym is))
-  fault-met (fault n i) k e is = fault-turned is
+  unfolding noting-met
+  fault-met g k e is = fault-first g (λ x. with-items (note (x .value)) (x .items)) k e is
 
 -- NOTING goes through a reading.
 module _ {A : Type 0} where

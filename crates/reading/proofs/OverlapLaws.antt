@@ -17,7 +17,7 @@ use Rattle.reading.specs.declared.marks.Test.the-variants.{Possible}
 use Rattle.reading.specs.declared.refusals.Found.{Found}
 use Rattle.reading.specs.declared.refusals.Found.the-variants.{Nowhere, At}
 use Rattle.reading.specs.InTable.{found}
-use Rattle.reading.specs.Branchings.{sequence-place, no-item, place-after, item-after, conditions-from, rules-out, all-apart, item-apart, first-overlap, Branch-here, Branches-here, Branching-here, Item-here, Items-here}
+use Rattle.reading.specs.Branchings.{sequence-place, no-item, place-after, item-after, conditions-from, rules-out, all-apart, item-apart, first-overlap, Branch-here, Branches-here, Item-here, Items-here}
 
 -- ONE BRANCH.
 pub sequence-is : (s : List ℕ) (p x : ℕ) → x ≡ getD s p 0 → p + 1 + x ≡ sequence-place s p

@@ -2,7 +2,7 @@
 -- that no later part changes. Assumes nothing.
 use Prim.Native.Nat.{ℕ, _+_, _*_, _%_, _≤_, _<_}
 use native.Mathlib.Omega.{arith}
-use mathlib.Core.Path.{_≡_, refl, sym, _∙_, ap}
+use mathlib.Core.Path.{_≡_, refl, sym, _∙_}
 use mathlib.Core.List.{List}
 use lib.ListN.{length, getD, set, length-set}
 use lib.Seq.{getD-set-same, getD-set-other}
@@ -11,7 +11,7 @@ use borrow.Author.Tests.{ltb-true, ltb-false}
 use Rattle.meaning.specs.Requests.{Sequence, done, item, Item, act, branching, Branches, none, branch}
 use Rattle.meaning.proofs.TestLaws.{by-test}
 use Rattle.reading.specs.Planned.{items-of, items-in, items-under, bytes-of, bytes-in, place-of, following, branch-noted, rest-noted, inside-noted, branches-noted, sequence-noted, plan-noted}
-use Rattle.reading.specs.Plans.{Branch-kept, Kept, Item-kept, Branches-kept}
+use Rattle.reading.specs.Plans.{Kept, Item-kept, Branches-kept}
 use Rattle.reading.proofs.NotingLaws.{branch-empty, branch-ended}
 use Rattle.reading.proofs.PlanOverlaps.{some-item}
 

@@ -8,13 +8,13 @@ use mathlib.Core.List.{List, [], _∷_}
 use mathlib.Core.Logic.{inl, inr}
 use lib.ListN.{length, getD}
 use lib.Dec.{eqb, ltb}
-use borrow.Author.Tests.{eq-eqb, ne-eqb, eqb-true, eqb-false, ltb-true, ltb-false}
+use borrow.Author.Tests.{eq-eqb, eqb-true, eqb-false, ltb-true, ltb-false}
 use Rattle.meaning.specs.Tests.{both, either, fails, pick, some-of, each-of}
 use Rattle.meaning.specs.Limits.{format}
 use Rattle.meaning.specs.Literals.{complement, among, exclusive}
 use Rattle.meaning.specs.Requests.{Sequence, done, item, Item, act, branching, Branches, none, branch}
 use Rattle.meaning.specs.Refusals.{Found, nowhere, at, or-else, conditions-of, all-exclusive, overlap-in, overlap-at, overlap-below}
-use Rattle.meaning.specs.States.{state-of, known, possible}
+use Rattle.meaning.specs.States.{state-of, possible}
 use Rattle.meaning.proofs.TestLaws.{by-test, clash, both-left, both-right, pick-true, pick-false, Has, has-some}
 use Rattle.meaning.proofs.RefusalLaws.{exclusive-sym}
 use Rattle.meaning.proofs.ToldLaws.{Clear, state-known}
@@ -22,9 +22,10 @@ use Rattle.reading.specs.declared.marks.Test.the-variants.{Possible}
 use Rattle.reading.specs.Listed.{bytes-from, listed, List-here, holds-as}
 use Rattle.reading.specs.Planned.{items-of, items-in, items-under, bytes-of}
 use Rattle.reading.specs.InTable.{found}
-use Rattle.reading.specs.Branchings.{sequence-place, no-item, place-after, item-after, conditions-from, rules-out, all-apart, item-apart, first-overlap, Branch-here, Branches-here, Branching-here, Item-here, Items-here}
+use Rattle.reading.specs.Branchings.{sequence-place, no-item, place-after, item-after, conditions-from, rules-out, all-apart, item-apart, first-overlap, Branches-here, Item-here, Items-here}
 use Rattle.reading.specs.Plans.{own-items, branches-in, Act-written, Opened, Branch-written, Written, Item-written, Branches-written, Branch-kept, Kept, Item-kept, Branches-kept, Plan-held, Some-plan, Overlap-found}
 use Rattle.reading.specs.declared.refusals.Found as Code
+use Rattle.reading.proofs.HereLaws.{bytes-length}
 use Rattle.reading.proofs.OverlapLaws.{overlap-first, item-other}
 
 -- CONDITIONS that are clear: a state of one rules out what the condition excludes.
@@ -52,11 +53,6 @@ apart-is (c ∷ cs) clear =
 
 -- A LIST at a place.
 module _ (s : List ℕ) where
-  bytes-length : (k p : ℕ) → length (bytes-from s p k) ≡ k
-  unfolding bytes-from
-  bytes-length zero p = refl
-  bytes-length (suc k) p = ap suc (bytes-length k (p + 1))
-
   bytes-below : (bound k p l : ℕ) → ((i : ℕ) → i < k → getD s (p + i) 0 < bound) → Has (bytes-from s p k) l → l < bound
   unfolding bytes-from
   bytes-below bound zero p l below h = absurd h
@@ -68,7 +64,7 @@ module _ (s : List ℕ) where
 
   pub listed-length : (p : ℕ) → length (listed s p) ≡ getD s p 0
   unfolding listed
-  listed-length p = bytes-length (getD s p 0) (p + 1)
+  listed-length p = bytes-length s (getD s p 0) (p + 1)
 
   listed-below : (p : ℕ) → List-here 128 s p → (l : ℕ) → Has (listed s p) l → l < 128
   unfolding listed

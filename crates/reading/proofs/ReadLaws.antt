@@ -2,31 +2,29 @@
 use Prim.Native.Nat.{ℕ, zero, suc, _+_, _-_, _*_, _≤_, _<_}
 use native.Mathlib.Omega.{arith}
 use mathlib.Core.Path.{_≡_, refl, sym, _∙_, ap, subst}
-use mathlib.Core.Bool.{Bool, true, false}
-use mathlib.Core.List.{List, [], _∷_}
-use mathlib.Core.Logic.{_⊎_, inl, inr, ⊎-elim}
-use lib.ListN.{length, getD, set, replicate, length-set}
+use mathlib.Core.List.{List, _∷_}
+use lib.ListN.{length, getD, set, length-set}
 use lib.Seq.{getD-set-same}
 use lib.Dec.{eqb, ltb}
 use Rattle.meaning.specs.Tests.{either, some-of}
-use Rattle.meaning.specs.Limits.{Limits, format}
-use Rattle.meaning.specs.Requests.{Effect, Executability, Knowledge, Table, Sequence, Request}
+use Rattle.meaning.specs.Limits.{format}
+use Rattle.meaning.specs.Requests.{Effect, Executability, Knowledge, Table, Request}
 use Rattle.meaning.specs.Reading
-use Rattle.meaning.specs.Reading.{Got, got, fault, next, literals, byte-at, count-at, below-at, list-at, body-at, effect-at, executability-at, knowledge-at, repeated, section-at, plan-at, table-at, request-at, read-request, Met}
-use Rattle.meaning.proofs.TestLaws.{by-test, Has}
+use Rattle.meaning.specs.Reading.{Got, got, fault, literals, byte-at, count-at, below-at, list-at, body-at, effect-at, executability-at, knowledge-at, repeated, section-at, plan-at, table-at, request-at, read-request}
+use Rattle.meaning.proofs.TestLaws.{Has}
 use Rattle.meaning.proofs.SettledLaws.{got-same}
 use Rattle.meaning.proofs.RangeLaws.{not-refused, after-got, count-within, section-read}
-use Rattle.reading.specs.Noted.{Section, effects, executability, knowledge, Line, effect-noted, note-line, lines-noted, count-slot, section-noted, table-noted}
+use Rattle.reading.specs.Noted.{Section, effects, executability, knowledge, Line, effect-noted, note-line, count-slot, section-noted, table-noted}
 use Rattle.reading.specs.Planned.{items-of, bytes-of, plan-noted}
 use Rattle.reading.specs.Requested.{goals-place, plan-place, places-noted, request-noted}
 use Rattle.reading.specs.InTable.{effect-from, Effect-here, place-in, effects-in, Effects-here, knowledge-from, knowledge-in, Knowledge-here, Acting}
 use Rattle.reading.proofs.SectionLaws.{got-place, byte-got, number-got, repeated-length}
-use Rattle.reading.proofs.PlanSizes.{On, Through, Counted, sequence-read, list-through}
+use Rattle.reading.proofs.PlanSizes.{sequence-read, list-through}
 use Rattle.reading.proofs.RequestLaws.{placed-length}
 use Rattle.reading.proofs.HereLaws.{effect-here}
 use Rattle.reading.proofs.KeptLaws.{kept, link-kept, run-kept, pair-kept, lines-kept, lines-long, note-long, plan-kept, plan-long}
 use Rattle.reading.specs.Plans.{Kept, Plan-held}
-use Rattle.reading.proofs.PlanKept.{Agree, kept-agree}
+use Rattle.reading.proofs.PlanKept.{kept-agree}
 use Rattle.reading.proofs.WrittenLaws.{plan-held}
 use Rattle.reading.proofs.HoldsLaws.{Placed-in, effects-placed, placed-same, effects-found, effects-fit, last-noted}
 

@@ -2,7 +2,6 @@
 use Prim.Native.Nat.{ℕ, suc, _+_, _-_, _≤_, _<_}
 use native.Mathlib.Omega.{arith}
 use mathlib.Core.Path.{_≡_, refl, sym, _∙_, ap, subst}
-use mathlib.Core.Bool.{true, false}
 use mathlib.Core.List.{List, [], _∷_}
 use lib.ListN.{length, getD, set}
 use lib.Dec.{ltb}
@@ -10,56 +9,35 @@ use borrow.Author.Tests.{lt-ltb, le-ltb}
 use Rattle.meaning.specs.Tests.{pick}
 use Rattle.meaning.proofs.TestLaws.{pick-true, pick-false}
 use Rattle.meaning.proofs.SettledLaws.{got-same}
-use Rattle.meaning.specs.Limits.{Limits, format}
+use Rattle.meaning.specs.Limits.{format}
 use Rattle.meaning.specs.Requests.{Table, Sequence, Request}
-use Rattle.meaning.specs.Reading
-use Rattle.meaning.specs.Reading.{Got, got, fault, next, literals, fluents, plan-at, count-at, list-at, section-at, effect-at, executability-at, knowledge-at, byte-at, table-at, request-at, read-request, placed, Met}
-use Rattle.meaning.proofs.RangeLaws.{count-within, not-refused, after-got}
+use Rattle.meaning.specs.Reading.{Got, got, fault, next, literals, fluents, plan-at, count-at, list-at, section-at, effect-at, executability-at, knowledge-at, table-at, request-at, read-request, placed, Met}
+use Rattle.meaning.proofs.RangeLaws.{count-within, after-got}
 use Rattle.reading.specs.declared.bytes.Read.{Read}
 use Rattle.reading.specs.declared.bytes.Read.the-variants.{Value, Fault}
 use Rattle.reading.specs.declared.lists.Kind.the-variants.{Literals, Fluents}
 use Rattle.reading.specs.declared.lists.Passed.{Passed}
 use Rattle.reading.specs.declared.lists.Passed.the-variants.{To, Fault as Stop}
 use Rattle.reading.specs.Read.{number-read, passed, kind-of}
-use Rattle.reading.specs.Noted.{effects, executability, knowledge, line-at, section-noted, table-noted, three-sections, facts-first, actions-first, noting, outcome}
+use Rattle.reading.specs.Noted.{effects, executability, knowledge, line-at, table-noted, three-sections, facts-first, actions-first, noting, outcome}
 use Rattle.reading.specs.Noted.{plan-slot, items-slot, goals-slot}
 use Rattle.reading.specs.Planned.{items-of, bytes-of, plan-noted, noting-met, outcome-met}
 use Rattle.reading.specs.Requested.{goals-first, plan-first, places-noted, goals-place, plan-place, request-noted, sections-read}
 use Rattle.reading.proofs.ByteLaws.{read-value, read-fault}
+use Rattle.reading.proofs.ListLaws.{passed-to, passed-stop}
 use Rattle.reading.proofs.NotingLaws.{with-items, met-value, met-fault, fault-met}
-use Rattle.reading.proofs.PlanSizes.{On, Through, Counted, sequence-read, list-through}
-use Rattle.reading.proofs.SectionLaws.{got-place, byte-got, noting-got, noting-fault}
-
--- What a reader passed over, from what it answered.
-passed-end : Passed → ℕ
-passed-end r = elim r [ To p ↦ p | Stop n p ↦ p ]
-
-passed-fault : Passed → ℕ
-passed-fault r = elim r [ To p ↦ 0 | Stop n p ↦ n + 1 ]
-
-module _ {A : Type 0} where
-  pub passed-to : (g : Got A) (q : ℕ) → passed g ≡ To q → (x : A) × (g ≡ got x q)
-  unfolding passed passed-end passed-fault
-  passed-to (got x p) q e = (x, ap (got x) (ap passed-end e))
-  passed-to (fault n p) q e = let no : n + 1 ≡ 0 = ap passed-fault e in absurd (omega arith)
-
-  pub passed-stop : (g : Got A) (k q : ℕ) → passed g ≡ Stop k q → g ≡ fault k q
-  unfolding passed passed-end passed-fault
-  passed-stop (got x p) k q e = let no : 0 ≡ k + 1 = ap passed-fault e in absurd (omega arith)
-  passed-stop (fault n p) k q e =
-      let number : n + 1 ≡ k + 1 = ap passed-fault e in
-      let is : n ≡ k = omega arith in
-      rw (is, ap passed-end e)
+use Rattle.reading.proofs.PlanSizes.{Counted, sequence-read, list-through}
+use Rattle.reading.proofs.SectionLaws.{count-got, noting-got, noting-fault}
 
 -- One part after another.
 module _ {A B C : Type 0} where
-  next-next : (g : Got A) (k : A → ℕ → Got B) (h : B → ℕ → Got C) → next (next g k) h ≡ next g (λ x p. next (k x p) h)
+  pub next-next : (g : Got A) (k : A → ℕ → Got B) (h : B → ℕ → Got C) → next (next g k) h ≡ next g (λ x p. next (k x p) h)
   unfolding next
   next-next (got x p) k h = refl
   next-next (fault n p) k h = refl
 
 module _ {A B : Type 0} where
-  next-same : (g : Got A) {k h : A → ℕ → Got B} → ((x : A) (p : ℕ) → k x p ≡ h x p) → next g k ≡ next g h
+  pub next-same : (g : Got A) {k h : A → ℕ → Got B} → ((x : A) (p : ℕ) → k x p ≡ h x p) → next g k ≡ next g h
   unfolding next
   next-same (got x p) e = e x p
   next-same (fault n p) e = refl
@@ -211,14 +189,6 @@ record Front (s : List ℕ) (x : Table) : Type 0 where
   actions-are : getD s 1 0 ≡ x .actions
   most : x .fluents ≤ 64
 
-count-is : (s : List ℕ) (p c q : ℕ) → count-at 1 64 s p ≡ got c q → (p < length s) × (getD s p 0 ≡ c) × (p + 1 ≡ q)
-unfolding count-at
-count-is s p c q e =
-    after-got (byte-at s p) _ e λ d i ed e′.
-    let u = not-refused _ _ _ _ e′ in
-    let w = byte-got s p d i ed in
-    (w .0, w .1 ∙ got-same (u .1), w .2 ∙ got-place (u .1))
-
 front : (s : List ℕ) (x : Table) (q : ℕ) → table-at format s 0 ≡ got x q → Front s x
 unfolding table-at
 front s x q e =
@@ -229,8 +199,8 @@ front s x q e =
     after-got (section-at (executability-at format n m s) s j) _ e₄ λ xs k _ e₅.
     after-got (section-at (knowledge-at format n m s) s k) _ e₅ λ ks l _ e₆.
     let is = got-same e₆ in
-    let first = count-is s 0 n p en in
-    let then = count-is s p m r em in
+    let first = count-got 1 64 s 0 n p en in
+    let then = count-got 1 64 s p m r em in
     let at-one : p ≡ 1 = sym (first .2) in
     record {
       second = subst (λ (y : ℕ). y < length s) at-one (then .0);

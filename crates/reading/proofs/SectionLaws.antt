@@ -1,17 +1,15 @@
 -- Sections 3 to 5: what stands where a line was read, and how the loop over a section's lines goes on. Assumes nothing.
 use Prim.Native.Nat.{ℕ, zero, suc, _+_, _-_, _*_, _≤_, _<_}
 use native.Mathlib.Omega.{arith}
-use native.Mathlib.Numerals.{add-one}
 use mathlib.Core.Path.{_≡_, refl, sym, _∙_, ap, subst}
-use mathlib.Core.List.{List, [], _∷_}
+use mathlib.Core.List.{List, _∷_}
 use mathlib.Core.Logic.{_⊎_, inl, inr, ⊎-elim}
 use lib.ListN.{length, getD, set}
 use mir.Syntax.{w64}
 use mir.Val.{Fits}
 use borrow.Author.Tests.{leb-false}
-use Rattle.meaning.specs.Limits.{Limits, format}
+use Rattle.meaning.specs.Limits.{format}
 use Rattle.meaning.specs.Requests.{Effect, Executability, Knowledge}
-use Rattle.meaning.specs.Reading
 use Rattle.meaning.specs.Reading.{Got, got, fault, next, byte-at, count-at, below-at, list-at, body-at, effect-at, executability-at, knowledge-at, repeated, section-at}
 use Rattle.meaning.proofs.SettledLaws.{got-same, next-got, fault≢got}
 use Rattle.meaning.proofs.RangeLaws.{not-refused, after-got}
@@ -21,7 +19,7 @@ use Rattle.reading.specs.declared.lists.Passed.{Passed}
 use Rattle.reading.specs.declared.lists.Passed.the-variants.{To, Fault as Stop}
 use Rattle.reading.specs.declared.sections.Section as Code
 use Rattle.reading.specs.declared.sections.Section.the-variants.{Effects, Executability as Runs, Knowledge as Senses}
-use Rattle.reading.specs.Read.{number-read, effect-read, executability-read, knowledge-read}
+use Rattle.reading.specs.Read.{effect-read, executability-read, knowledge-read}
 use Rattle.reading.proofs.ByteLaws.{byte-none, byte-is}
 use Rattle.reading.specs.Noted.{Section, effects, executability, knowledge, section-of, Line, line-at, line-read, line-noted, note-line, lines-noted, count-slot, section-noted, three-sections, noting, outcome, effect-noted, run-noted, pair-noted}
 
@@ -76,6 +74,14 @@ number-got bound s p x q e =
     let u = not-refused _ _ _ _ e′ in
     let w = byte-got s p d i ed in
     (w .0, w .1 ∙ got-same (u .1), w .2 ∙ got-place (u .1), subst (λ (y : ℕ). y < bound) (got-same (u .1)) (leb-false bound d (u .0)))
+
+pub count-got : (least most : ℕ) (s : List ℕ) (p c q : ℕ) → count-at least most s p ≡ got c q → (p < length s) × (getD s p 0 ≡ c) × (p + 1 ≡ q)
+unfolding count-at
+count-got least most s p c q e =
+    after-got (byte-at s p) _ e λ d i ed e′.
+    let u = not-refused _ _ _ _ e′ in
+    let w = byte-got s p d i ed in
+    (w .0, w .1 ∙ got-same (u .1), w .2 ∙ got-place (u .1))
 
 -- What a reader answered of something with a number.
 number-of : Read → ℕ
@@ -297,19 +303,20 @@ slot-most knowledge = omega arith
 pub slot-fits : (c : Code.Section) (slot : ℕ) → slot ≡ count-slot (section-of c) → slot < 9480
 slot-fits c slot e = rw e (slot-most (section-of c))
 
-module _ {A : Type 0} where
-  fault-before : (note : A → List ℕ → List ℕ) (g : Got A) (t : List ℕ) (k q : ℕ) → noting note g t ≡ fault k q → g ≡ fault k q
-  unfolding noting next
-  fault-before note (got x p) t k q e = absurd (fault≢got (sym e))
-  fault-before note (fault i p) t k q e = rw (ap number e, ap place e)
+-- A fault before anything was built.
+module _ {A B : Type 0} where
+  pub fault-turned : {n i k q : ℕ} → _≡_ {A = Got A} (fault n i) (fault k q) → _≡_ {A = Got B} (fault n i) (fault k q)
+  fault-turned e = ap turned e
     where
-      number : Got (List ℕ) → ℕ
-      number (got x p) = 0
-      number (fault n p) = n
+      turned : Got A → Got B
+      turned (got x p) = fault 0 0
+      turned (fault j p) = fault j p
 
-      place : Got (List ℕ) → ℕ
-      place (got x p) = p
-      place (fault n p) = p
+module _ {A B : Type 0} where
+  pub fault-first : (g : Got A) (build : A → B) (k q : ℕ) → next g (λ x p. got (build x) p) ≡ fault k q → g ≡ fault k q
+  unfolding next
+  fault-first (got x p) build k q e = absurd (fault≢got (sym e))
+  fault-first (fault i p) build k q e = fault-turned e
 
 -- WHAT WAS READ WITH THE TABLE, from what the reader answered.
 module _ {A : Type 0} (note : A → List ℕ → List ℕ) (g : Got A) (r : Passed) (t u : List ℕ) (read : outcome r u ≡ noting note g t) where
@@ -318,8 +325,8 @@ module _ {A : Type 0} (note : A → List ℕ → List ℕ) (g : Got A) (r : Pass
   noting-got q is = let whole : noting note g t ≡ got u q = sym read ∙ rw is in let w = next-got g _ whole in (w .0, w .2 ∙ ap (got (w .0)) (got-place (w .3)), sym (got-same (w .3)))
 
   pub noting-fault : (k q : ℕ) → r ≡ Stop k q → g ≡ fault k q
-  unfolding outcome
-  noting-fault k q is = fault-before note g t k q (sym read ∙ rw is)
+  unfolding noting outcome
+  noting-fault k q is = fault-first g (λ x. note x t) k q (sym read ∙ rw is)
 
 -- The three sections, one after another.
 module _ (n m : ℕ) (s : List ℕ) (p : ℕ) (t u : List ℕ) (first : Passed) (read : outcome first u ≡ noting (section-noted (section-of Effects)) (section-at (line-at (section-of Effects) n m s) s p) t) where

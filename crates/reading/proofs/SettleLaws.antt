@@ -3,16 +3,15 @@ use Prim.Native.Nat.{ℕ, _+_, _-_, _*_, _≤_, _<_}
 use native.Mathlib.Omega.{arith}
 use mathlib.Core.Path.{_≡_, refl, sym, _∙_, ap, subst}
 use mathlib.Core.List.{List, []}
-use lib.ListN.{length, getD, replicate, length-replicate, getD-replicate}
+use lib.ListN.{length, getD, length-replicate, getD-replicate}
 use mir.Syntax.{w8, w64}
 use mir.Val.{Fits}
-use Rattle.meaning.specs.Limits
-use Rattle.meaning.specs.Limits.{Limits, format}
+use Rattle.meaning.specs.Limits.{format}
 use Rattle.meaning.specs.Requests.{Effect, Knowledge, Request}
 use Rattle.meaning.specs.Reading.{Got, got, fault, next, read-request}
 use Rattle.meaning.specs.Refusals
 use Rattle.meaning.specs.Refusals.{nowhere, at, contradiction-in, mixed-in, overlap-in, refuse, settled}
-use Rattle.meaning.proofs.SettledLaws.{got-same, Settled, settled-is}
+use Rattle.meaning.proofs.SettledLaws.{got-same, settled-is}
 use Rattle.reading.specs.declared.lists.Passed.{Passed}
 use Rattle.reading.specs.declared.lists.Passed.the-variants.{To, Fault as Stop}
 use Rattle.reading.specs.declared.refusals.Found.{Found}
@@ -28,10 +27,11 @@ use Rattle.reading.proofs.ReadLaws.{Parts, parts, effects-counted, effe
 use Rattle.reading.specs.Plans.{Plan-held, Some-plan, Overlap-found}
 
 -- The table is the same at every answer.
-outcome-same : (g : Got Request) (u t : List ℕ) → ((y : Request) (q : ℕ) → g ≡ got y q → u ≡ request-noted y t) → outcome (passed g) u ≡ noting request-noted g t
-unfolding outcome passed noting next
-outcome-same (got y q) u t h = ap (λ (v : List ℕ). got v q) (h y q refl)
-outcome-same (fault n q) u t h = refl
+module _ {A : Type 0} (note : A → List ℕ → List ℕ) where
+  pub outcome-same : (g : Got A) (u t : List ℕ) → ((y : A) (q : ℕ) → g ≡ got y q → u ≡ note y t) → outcome (passed g) u ≡ noting note g t
+  unfolding outcome passed noting next
+  outcome-same (got y q) u t h = ap (λ (v : List ℕ). got v q) (h y q refl)
+  outcome-same (fault n q) u t h = refl
 
 -- What was found, by the definition.
 back : Found → Refusals.Found
@@ -43,11 +43,11 @@ back-found nowhere = refl
 back-found (at p) = refl
 
 module _ (f : Refusals.Found) (r : Found) (is : r ≡ found f) where
-  found-none : r ≡ Nowhere → f ≡ nowhere
+  pub found-none : r ≡ Nowhere → f ≡ nowhere
   unfolding back
   found-none e = sym (back-found f) ∙ ap back (sym is ∙ e)
 
-  found-at : (p : ℕ) → r ≡ At p → f ≡ at p
+  pub found-at : (p : ℕ) → r ≡ At p → f ≡ at p
   unfolding back
   found-at p e = sym (back-found f) ∙ ap back (sym is ∙ e)
 
@@ -175,15 +175,6 @@ module _ (s t u : List ℕ) (empty : t ≡ blank) (all : Passed) (read : outcome
     settle-here = record { request = read-got .0; reads = read-got .1; noted = read-got .2 ∙ ap (request-noted (read-got .0)) empty }
 
     pub settle-there : (r : Passed) → r ≡ passed (settled format s) → outcome r u ≡ noting request-noted (settled format s) t
-    settle-there r h = ap (λ (y : Passed). outcome y u) h ∙ same-outcome (settled format s) (λ y q g. same-request y q g)
-      where
-        same-outcome : (g : Got Request) → ((y : Request) (q : ℕ) → g ≡ got y q → u ≡ request-noted y t) → outcome (passed g) u ≡ noting request-noted g t
-        same-outcome g h = outcome-same g u t h
-
-        same-request : (y : Request) (q : ℕ) → settled format s ≡ got y q → u ≡ request-noted y t
-        same-request y q g =
-            let there = settled-reads y q g in
-            read-got .2 ∙ ap (λ (z : Request). request-noted z t) (got-same (sym (read-got .1) ∙ there))
-          where
-            settled-reads : (y : Request) (q : ℕ) → settled format s ≡ got y q → read-request format s ≡ got y q
-            settled-reads y q g = settled-is format s y q g .reads
+    settle-there r h =
+        ap (λ (y : Passed). outcome y u) h
+        ∙ outcome-same request-noted (settled format s) u t (λ y q g. read-got .2 ∙ ap (λ (z : Request). request-noted z t) (got-same (sym (read-got .1) ∙ settled-is format s y q g .reads)))

@@ -2,20 +2,17 @@
 use Prim.Native.Nat.{ℕ, zero, suc, _+_, _-_, _*_, _≤_, _<_}
 use native.Mathlib.Omega.{arith}
 use mathlib.Core.Path.{_≡_, refl, sym, _∙_, ap, subst}
-use mathlib.Core.Bool.{true, false}
-use mathlib.Core.List.{List, [], _∷_}
+use mathlib.Core.Bool.{false}
+use mathlib.Core.List.{List}
 use lib.ListN.{length, getD}
-use lib.Dec.{eqb}
-use borrow.Author.Tests.{leb-false, eqb-true, eqb-false}
+use borrow.Author.Tests.{leb-false, eqb-true}
 use Rattle.meaning.specs.Limits.{format}
-use Rattle.meaning.specs.Literals.{complement, among, exclusive}
+use Rattle.meaning.specs.Literals.{exclusive}
 use Rattle.meaning.specs.Refusals.{overlap-in}
-use Rattle.meaning.specs.Requests.{Sequence, Item, Branches}
-use Rattle.meaning.specs.Reading.{Got, got, Met, Part, byte-at, two-bytes-at, count-at, below-at, literals, bound-of, entry-at, entries-at, list-at, body-at, item-at, items-at, sequence-at, branches-at, branching-at, plan-at}
-use Rattle.meaning.proofs.TestLaws.{by-test, Has, some-has}
+use Rattle.meaning.specs.Requests.{Sequence, Item}
+use Rattle.meaning.specs.Reading.{Got, got, Met, Part, byte-at, two-bytes-at, count-at, literals, bound-of, body-at, item-at, items-at, sequence-at, branches-at, branching-at, plan-at}
 use Rattle.meaning.proofs.SettledLaws.{got-same}
-use Rattle.meaning.proofs.RangeLaws.{after-got, list-consistent}
-use Rattle.reading.specs.Listed.{bytes-from, listed, List-here}
+use Rattle.reading.specs.Listed.{listed, List-here}
 use Rattle.reading.specs.Planned.{items-of, bytes-of, plan-noted, noting-met, outcome-met}
 use Rattle.reading.specs.InTable.{found}
 use Rattle.reading.specs.Branchings.{sequence-place}
@@ -23,6 +20,8 @@ use Rattle.reading.specs.Plans.{own-items, branches-in, Written, Item-wr
 use Rattle.reading.specs.declared.bytes.Read.{Read}
 use Rattle.reading.specs.declared.bytes.Read.the-variants.{Value}
 use Rattle.reading.specs.declared.refusals.Found as Code
+use Rattle.reading.proofs.SectionLaws.{byte-got, count-got}
+use Rattle.reading.proofs.HereLaws.{list-here, list-apart}
 use Rattle.reading.proofs.PlanSizes.{On, got-on, fault-on, pick-on, next-on, body-through, sequence-read}
 use Rattle.reading.proofs.NotingLaws.{with-items, met-value}
 use Rattle.reading.proofs.PlanOverlaps.{listed-length}
@@ -40,14 +39,10 @@ record Byte-got (s : List ℕ) (p x q : ℕ) : Type 0 where
   after : q ≡ p + 1
   there : p < length s
 
-record Two-got (s : List ℕ) (p c q : ℕ) : Type 0 where
-  is : getD s p 0 * 256 + getD s (p + 1) 0 ≡ c
-  after : q ≡ p + 2
-  there : p + 1 < length s
-
-record Entries-got (n : ℕ) (s : List ℕ) (left p : ℕ) (xs : List ℕ) : Type 0 where
-  is : bytes-from s p left ≡ xs
-  below : (i : ℕ) → i < left → getD s (p + i) 0 < 2 * n
+pub record Two-got (s : List ℕ) (p c q : ℕ) : Type 0 where
+  pub is : getD s p 0 * 256 + getD s (p + 1) 0 ≡ c
+  pub after : q ≡ p + 2
+  pub there : p + 1 < length s
 
 record Body-got (s : List ℕ) (p : ℕ) (c : List ℕ) (q : ℕ) : Type 0 where
   here : List-here 128 s p
@@ -57,10 +52,9 @@ record Body-got (s : List ℕ) (p : ℕ) (c : List ℕ) (q : ℕ) : Type 0 where
 
 module _ (s : List ℕ) where
   byte-is : (p : ℕ) → On (byte-at s p) (λ x q. Byte-got s p x q)
-  unfolding byte-at
-  byte-is p = pick-on _ _ _ (λ _. fault-on _ _) (λ u. got-on _ _ (record { is = refl; after = refl; there = leb-false (length s) p u }))
+  byte-is p = record { holds = λ x q e. let w = byte-got s p x q e in record { is = w .1; after = sym (w .2); there = w .0 } }
 
-  two-is : (p : ℕ) → On (two-bytes-at s p) (λ c q. Two-got s p c q)
+  pub two-is : (p : ℕ) → On (two-bytes-at s p) (λ c q. Two-got s p c q)
   unfolding two-bytes-at
   two-is p =
       next-on (byte-at s p) _ (byte-is p) λ x q one.
@@ -70,84 +64,19 @@ module _ (s : List ℕ) where
       got-on _ _ (record { is = omega arith; after = omega arith; there = omega arith })
 
   count-is : (least most p : ℕ) → On (count-at least most s p) (λ c q. Byte-got s p c q)
-  unfolding count-at
-  count-is least most p =
-      next-on (byte-at s p) _ (byte-is p) λ _ q h.
-      pick-on _ _ _ (λ _. fault-on _ _) (λ _. got-on _ _ h)
-
-  below-is : (bound p : ℕ) → On (below-at bound s p) (λ x q. Byte-got s p x q × (x < bound))
-  unfolding below-at
-  below-is bound p =
-      next-on (byte-at s p) _ (byte-is p) λ x q h.
-      pick-on _ _ _ (λ _. fault-on _ _) (λ u. got-on _ _ (h, leb-false bound x u))
-
-  entry-is : (n p floor : ℕ) → On (entry-at literals n s p floor) (λ x q. Byte-got s p x q × (x < 2 * n))
-  unfolding entry-at bound-of
-  entry-is n p floor =
-      next-on _ _ (below-is (2 * n) p) λ x q h.
-      pick-on _ _ _ (λ _. fault-on _ _) λ _.
-      pick-on _ _ _ (λ _. fault-on _ _) (λ _. got-on _ _ h)
-
-  entries-is : (n left p floor : ℕ) → On (entries-at literals n s left p floor) (λ xs q. Entries-got n s left p xs)
-  unfolding entries-at bytes-from
-  entries-is n zero p floor = got-on _ _ (record { is = refl; below = λ i h. absurd (omega (arith, h)) })
-  entries-is n (suc left) p floor =
-      next-on _ _ (entry-is n p floor) λ x q one.
-      next-on _ _ (entries-is n left q (x + 1)) λ xs r rest.
-      let on = one .0 .after in
-      got-on _ _
-      (record {
-        is = ap (λ (y : ℕ). y ∷ bytes-from s (p + 1) left) (one .0 .is) ∙ ap (λ (ys : List ℕ). x ∷ ys) (ap (λ (j : ℕ). bytes-from s j left) (sym on) ∙ rest .is);
-        below = λ i h.
-            by-test (eqb i 0)
-            (λ t.
-            let first : p ≡ p + i = let e = eqb-true i 0 t in omega arith in
-            subst (λ (j : ℕ). getD s j 0 < 2 * n) first (rw (one .0 .is) (one .1)))
-            (λ u.
-            let some = eqb-false i 0 u in
-            let later : q + (i - 1) ≡ p + i = omega arith in
-            subst (λ (j : ℕ). getD s j 0 < 2 * n) later (rest .below (i - 1) (omega (arith, h, some))));
-      })
-
-  listed-from : (p k i : ℕ) (c : List ℕ) → getD s p 0 ≡ k → i ≡ p + 1 → bytes-from s i k ≡ c → listed s p ≡ c
-  unfolding listed
-  listed-from p k i c a b d = rw (a, sym b) d
-
-  apart : (n p : ℕ) (c : List ℕ) (q : ℕ) → list-at literals n 16 s p ≡ got c q → exclusive c c ≡ false
-  unfolding exclusive among
-  apart n p c q e =
-      by-test (exclusive c c)
-      (λ t.
-      let one = some-has (λ (l : ℕ). among (complement l) c) c t in
-      let other = some-has (eqb (complement (one .0))) c (one .2) in
-      absurd (list-consistent n 16 s p c q e (one .0) (one .1) (rw (eqb-true (complement (one .0)) (other .0) (other .2)) (other .1))))
-      (λ f. f)
+  count-is least most p = record { holds = λ c q e. let w = count-got least most s p c q e in record { is = w .1; after = sym (w .2); there = w .0 } }
 
   body-is : (n p : ℕ) → n ≤ 64 → On (body-at format n s p) (λ c q. Body-got s p c q)
-  unfolding body-at list-at
+  unfolding body-at bound-of
   body-is n p small =
       record {
         holds = λ c q e.
-            after-got (count-at 0 16 s p) _ e λ k i counted entries.
-            let count = count-is 0 16 p .holds k i counted in
-            let on = count .after in
-            let rest = entries-is n k i 0 .holds c q entries in
-            let through = body-through s n p .holds c q e in
-            let end = through .after in let inside = through .inside in
-            let same : listed s p ≡ c = listed-from p k i c (count .is) on (rest .is) in
-            let size : getD s p 0 ≡ length c = sym (listed-length s p) ∙ ap length same in
+            let list = list-here literals n s 16 p c q e in
             record {
-              here = record {
-                ends = omega arith;
-                below = λ j h.
-                    let less = rest .below j (subst (λ (x : ℕ). j < x) (count .is) h) in
-                    let place : i + j ≡ p + 1 + j = omega arith in
-                    let least = subst (λ (x : ℕ). getD s x 0 < 2 * n) place less in
-                    omega (arith, least, small);
-              };
-              is = same;
-              clear = apart n p c q e;
-              after = end;
+              here = list .1 128 (omega (arith, small));
+              is = list .0;
+              clear = list-apart n 16 s p c q e;
+              after = body-through s n p .holds c q e .after;
             };
       }
 

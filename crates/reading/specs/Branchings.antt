@@ -12,8 +12,6 @@ use Rattle.meaning.specs.Refusals.{Found, nowhere, at}
 use Rattle.reading.specs.Noted.{item-place, branch-place, branch-item}
 use Rattle.reading.specs.Listed.{listed, List-here, holds-as}
 use Rattle.reading.specs.declared.marks.Test.the-variants.{Possible}
-use Rattle.reading.specs.declared.refusals.Found as Code
-use Rattle.reading.specs.declared.refusals.Found.the-variants.{Nowhere, At}
 
 -- A BRANCH whose condition stands at p, with i items met before it. Where its sequence's count stands.
 unfoldable pub sequence-place : List ℕ → ℕ → ℕ

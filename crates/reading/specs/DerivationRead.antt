@@ -2,9 +2,11 @@
 use Prim.Native.Nat.{ℕ, _+_}
 use mathlib.Core.List.{List, [], _∷_}
 use lib.ListN.{set}
-use Rattle.meaning.specs.Limits.{format}
-use Rattle.meaning.specs.Reading.{Got, next, byte-at, two-bytes-at, count-at, literals, list-at, repeated, plan-at}
-use Rattle.meaning.specs.Derivations.{Line}
+use Rattle.meaning.specs.Limits
+use Rattle.meaning.specs.Limits.{Limits, format}
+use Rattle.meaning.specs.Reading.{Got, got, next, byte-at, two-bytes-at, count-at, literals, list-at, repeated, plan-at}
+use Rattle.meaning.specs.Refusals.{refuse}
+use Rattle.meaning.specs.Derivations.{Line, read-derivation, overlap-in-lines}
 
 -- The place of each line, in the slot of its number; lines are numbered from 0, and these are those from number k on (FORMAT 10.2).
 unfoldable pub places-noted : (k : ℕ) → List Line → List ℕ → List ℕ
@@ -29,3 +31,10 @@ unfoldable pub planned : (n m : ℕ) → List ℕ → ℕ → Got (List ℕ)
 planned n m s p =
     next (plan-at format n m s p) λ plan q.
     ending n s q
+
+-- A derivation settled: read without a fault, and past 18 over the plans of all lines (FORMAT 5.22 to 5.25).
+unfoldable pub settled-derivation : (n m : ℕ) → List ℕ → Got (List Line)
+settled-derivation n m s =
+    next (read-derivation format n m s) λ lines e.
+    refuse Limits.not-exclusive (overlap-in-lines lines) λ _.
+    got lines e

@@ -8,3 +8,4 @@ pub mod DerivationRead
 pub mod Settled
 pub mod Branchings
 pub mod Plans
+pub mod Derived

@@ -4,7 +4,7 @@ use mathlib.Core.List.{List, [], _∷_}
 use lib.ListN.{length, getD, set}
 use lib.Dec.{ltb}
 use Rattle.meaning.specs.Tests.{pick}
-use Rattle.meaning.specs.Limits.{Limits, format}
+use Rattle.meaning.specs.Limits.{format}
 use Rattle.meaning.specs.Requests.{Effect, Executability, Knowledge, Table}
 use Rattle.meaning.specs.Reading.{Got, got, fault, next, literals, count-at, list-at, effect-at, executability-at, knowledge-at, section-at}
 use Rattle.reading.specs.declared.bytes.Read.{Read}

@@ -9,7 +9,7 @@ use Rattle.meaning.specs.Refusals.{overlap-in}
 use Rattle.meaning.specs.Requests.{Sequence, done, item, Item, act, branching, Branches, none, branch}
 use Rattle.reading.specs.Noted.{item-place, branch-place, branch-item}
 use Rattle.reading.specs.Listed.{listed, List-here}
-use Rattle.reading.specs.Planned.{items-of, items-in, items-under, bytes-of}
+use Rattle.reading.specs.Planned.{items-of, items-in, bytes-of}
 use Rattle.reading.specs.InTable.{found}
 use Rattle.reading.specs.Branchings.{sequence-place}
 use Rattle.reading.specs.declared.refusals.Found as Code

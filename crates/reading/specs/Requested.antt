@@ -2,9 +2,9 @@
 use Prim.Native.Nat.{ℕ, _+_, _-_}
 use mathlib.Core.List.{List}
 use lib.ListN.{length, set}
-use Rattle.meaning.specs.Limits.{Limits, format}
+use Rattle.meaning.specs.Limits.{format}
 use Rattle.meaning.specs.Requests.{Request}
-use Rattle.meaning.specs.Reading.{Got, got, fault, next, literals, fluents, list-at, plan-at, table-at, request-at}
+use Rattle.meaning.specs.Reading.{Got, got, next, literals, fluents, list-at, plan-at, table-at, request-at}
 use Rattle.reading.specs.Noted.{plan-slot, items-slot, goals-slot, table-noted}
 use Rattle.reading.specs.Planned.{items-of, bytes-of, plan-noted}
 

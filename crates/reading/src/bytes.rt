@@ -2,6 +2,7 @@ ghost use mathlib.Core.Path.{_≡_};
 ghost use Prim.Native.Nat.{_+_, _*_};
 ghost use Rattle.meaning.specs.Reading.{byte-at, two-bytes-at, count-at, below-at};
 ghost use Rattle.reading.specs.Read.{number-read};
+use super::limits;
 
 // A number and the place after what was read; or the fault met, its number and its place.
 pub enum Read {
@@ -19,13 +20,13 @@ pub fn byte_at(s: &[u8], p: usize) -> Read
     ensures { λ r. ⌜ r ≡ number-read (byte-at (now (s .entry)) p) ⌝ }
 {
     if s.len() <= p {
-        return Read::Fault(11, s.len());
+        return Read::Fault(limits::ENDS_TOO_SOON, s.len());
     }
     let after = p + 1;
     Read::Value(wide(s[p]), after)
 }
 
-fn two(high: u8, low: u8) -> usize
+pub fn two(high: u8, low: u8) -> usize
     ensures { λ r. ⌜ r ≡ high * 256 + low ⌝ }
 {
     (high as usize) * 256 + (low as usize)
@@ -36,11 +37,11 @@ pub fn two_bytes_at(s: &[u8], p: usize) -> Read
     ensures { λ r. ⌜ r ≡ number-read (two-bytes-at (now (s .entry)) p) ⌝ }
 {
     if s.len() <= p {
-        return Read::Fault(11, s.len());
+        return Read::Fault(limits::ENDS_TOO_SOON, s.len());
     }
     let q = p + 1;
     if s.len() <= q {
-        return Read::Fault(11, q);
+        return Read::Fault(limits::ENDS_TOO_SOON, q);
     }
     let after = q + 1;
     Read::Value(two(s[p], s[q]), after)
@@ -53,10 +54,10 @@ pub fn count_at(least: usize, most: usize, s: &[u8], p: usize) -> Read
     match byte_at(s, p) {
         Read::Value(c, q) => {
             if c < least {
-                return Read::Fault(12, p);
+                return Read::Fault(limits::COUNT_OUTSIDE, p);
             }
             if most < c {
-                return Read::Fault(12, p);
+                return Read::Fault(limits::COUNT_OUTSIDE, p);
             }
             Read::Value(c, q)
         }
@@ -71,7 +72,7 @@ pub fn below_at(bound: usize, s: &[u8], p: usize) -> Read
     match byte_at(s, p) {
         Read::Value(x, q) => {
             if bound <= x {
-                return Read::Fault(13, p);
+                return Read::Fault(limits::TOO_LARGE, p);
             }
             Read::Value(x, q)
         }

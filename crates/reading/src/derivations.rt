@@ -11,6 +11,7 @@ use super::bytes::Read;
 use super::bytes::byte_at;
 use super::bytes::count_at;
 use super::bytes::two_bytes_at;
+use super::limits;
 use super::lists::Kind;
 use super::lists::Passed;
 use super::lists::list_at;
@@ -19,6 +20,13 @@ use super::table::Table;
 
 // Slot k holds the place of line k.
 pub type Places = [u16; 1024];
+
+// There is a place for each line, as for the table's slots.
+pub fn sized(places: &Places)
+    ensures { λ _. ⌜ length (now (places .entry)) ≡ 1024 ⌝ }
+{
+    let slots: &[u16] = places;
+}
 
 // So many citations from `start` on.
 fn citations_from(s: &[u8], count: usize, start: usize) -> Passed
@@ -45,7 +53,7 @@ fn cites_at(s: &[u8], p: usize) -> Passed
     ensures { λ r. ⌜ r ≡ passed (citing (now (s .entry)) p) ⌝ }
 {
     match byte_at(s, p) {
-        Read::Value(rule, q) => match count_at(0, 64, s, q) {
+        Read::Value(rule, q) => match count_at(0, limits::CITATIONS, s, q) {
             Read::Value(c, r) => citations_from(s, c, r),
             Read::Fault(k, r) => Passed::Fault(k, r),
         },
@@ -58,7 +66,7 @@ fn end_at(n: usize, s: &[u8], p: usize) -> Passed
     requires { ⌜ n ≤ 64 ⌝ }
     ensures { λ r. ⌜ r ≡ passed (ending n (now (s .entry)) p) ⌝ }
 {
-    match list_at(Kind::Literals, n, 64, s, p) {
+    match list_at(Kind::Literals, n, limits::LISTED, s, p) {
         Passed::To(q) => cites_at(s, q),
         Passed::Fault(k, q) => Passed::Fault(k, q),
     }
@@ -82,7 +90,7 @@ pub fn line_at(n: usize, m: usize, s: &[u8], p: usize, t: &mut Table) -> Passed
     requires { ⌜ length (now s) ≤ 32768 ⌝ }
     ensures { λ r. ⌜ r ≡ passed (line-at format n m (now (s .entry)) p) ⌝ }
 {
-    match list_at(Kind::Literals, n, 64, s, p) {
+    match list_at(Kind::Literals, n, limits::LISTED, s, p) {
         Passed::To(q) => plan_first(n, m, s, q, t),
         Passed::Fault(k, q) => Passed::Fault(k, q),
     }
@@ -133,21 +141,21 @@ pub fn read_derivation(n: usize, m: usize, s: &[u8], t: &mut Table, places: &mut
     requires { ⌜ n ≤ 64 ⌝ }
     ensures { λ r. ⌜ outcome r (now (places .exit)) ≡ noting (places-noted 0) (read-derivation format n m (now (s .entry))) (now (places .entry)) ⌝ }
 {
-    if 32768 < s.len() {
-        return Passed::Fault(10, 0);
+    if limits::DERIVATION < s.len() {
+        return Passed::Fault(limits::TOO_LONG, 0);
     }
     match two_bytes_at(s, 0) {
         Read::Value(c, p) => {
             if c < 1 {
-                return Passed::Fault(12, 0);
+                return Passed::Fault(limits::COUNT_OUTSIDE, 0);
             }
-            if 1024 < c {
-                return Passed::Fault(12, 0);
+            if limits::LINES < c {
+                return Passed::Fault(limits::COUNT_OUTSIDE, 0);
             }
             match lines_from(n, m, s, c, p, t, places) {
                 Passed::To(e) => {
                     if e < s.len() {
-                        return Passed::Fault(20, e);
+                        return Passed::Fault(limits::BYTES_AFTER, e);
                     }
                     Passed::To(e)
                 }

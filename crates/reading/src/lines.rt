@@ -5,6 +5,7 @@ ghost use Rattle.meaning.specs.Reading.{body-at, effect-at, executability-at, k
 ghost use Rattle.reading.specs.Read.{passed, action-before, effect-read, executability-read, knowledge-read};
 use super::bytes::Read;
 use super::bytes::below_at;
+use super::limits;
 use super::lists::Kind;
 use super::lists::Passed;
 use super::lists::list_at;
@@ -14,7 +15,7 @@ pub fn body_at(n: usize, s: &[u8], p: usize) -> Passed
     requires { ⌜ n ≤ 64 ⌝ }
     ensures { λ r. ⌜ r ≡ passed (body-at format n (now (s .entry)) p) ⌝ }
 {
-    list_at(Kind::Literals, n, 16, s, p)
+    list_at(Kind::Literals, n, limits::BODY, s, p)
 }
 
 // The body after what a line says of action a.

@@ -5,6 +5,7 @@ ghost use Rattle.reading.specs.Read.{number-read, passed, kind-of, besid
 use super::bytes::Read;
 use super::bytes::below_at;
 use super::bytes::count_at;
+use super::limits;
 
 // What a list holds.
 pub enum Kind {
@@ -53,10 +54,10 @@ fn entry_at(kind: Kind, n: usize, s: &[u8], p: usize, floor: usize) -> Read
     match below_at(first_too_large(kind, n), s, p) {
         Read::Value(x, q) => {
             if x < floor {
-                return Read::Fault(14, p);
+                return Read::Fault(limits::NOT_ABOVE, p);
             }
             if beside(kind, floor, x) {
-                return Read::Fault(15, p);
+                return Read::Fault(limits::COMPLEMENT_BESIDE, p);
             }
             Read::Value(x, q)
         }

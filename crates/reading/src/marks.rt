@@ -5,6 +5,7 @@ ghost use Rattle.meaning.specs.Limits.{format};
 ghost use Rattle.meaning.specs.States.{mark-of, state-of};
 ghost use Rattle.reading.specs.Listed.{listed, List-here, holds-as};
 use super::bytes::wide;
+use super::limits;
 
 // What is asked of a literal in a partial state: that it is known true, or that it is not known false.
 pub enum Test {
@@ -15,7 +16,11 @@ pub enum Test {
 pub fn mark_of(l: usize) -> u8
     ensures { λ r. ⌜ r ≡ mark-of l ⌝ }
 {
-    if l % 2 == 0 { 1 } else { 2 }
+    if l % 2 == 0 {
+        limits::TRUE_MARK
+    } else {
+        limits::FALSE_MARK
+    }
 }
 
 pub fn holds(test: Test, marks: &[u8; 64], l: usize) -> bool
@@ -60,7 +65,7 @@ pub fn state_of(s: &[u8], p: usize) -> [u8; 64]
     requires { ⌜ List-here 128 (now s) p ⌝ }
     ensures { λ r. ⌜ r ≡ state-of format (listed (now (s .entry)) p) ⌝ }
 {
-    let mut marks = [0u8; 64];
+    let mut marks = [limits::UNKNOWN_MARK; 64];
     let end = p + wide(s[p]);
     let mut i = p;
     while i < end {

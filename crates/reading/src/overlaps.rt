@@ -7,6 +7,7 @@ ghost use Rattle.reading.specs.Plans.{Some-plan, Overlap-found};
 ghost use Rattle.reading.specs.InTable.{found};
 ghost use Rattle.reading.specs.Branchings.{sequence-place, no-item, place-after, item-after, conditions-from, rules-out, all-apart, item-apart, first-overlap, Branch-here, Branches-here, Item-here, Items-here};
 use super::bytes::wide;
+use super::limits;
 use super::marks::Test;
 use super::marks::each_holds;
 use super::marks::state_of;
@@ -15,7 +16,7 @@ use super::table;
 use super::table::Table;
 use super::table::get;
 
-// Where a branch's count of items stands, after its condition at p.
+// Where a sequence's count of items stands, after the list at p: a branch's condition, or a line's X.
 pub fn sequence_of(s: &[u8], p: usize) -> usize
     requires { ⌜ List-here 128 (now s) p ⌝ }
     ensures { λ r. ⌜ r ≡ sequence-place (now (s .entry)) p ⌝ }
@@ -114,7 +115,7 @@ fn apart(s: &[u8], t: &Table, i: usize, p: usize) -> bool
     requires { ⌜ Item-here (now s) (now t) i p ⌝ }
     ensures { λ r. ⌜ r ≡ item-apart (now (s .entry)) (now (t .entry)) i p ⌝ }
 {
-    if s[p] == 255 {
+    if s[p] == limits::BRANCHING_BYTE {
         let second = p + 1;
         let count = wide(s[second]);
         let first = p + 2;

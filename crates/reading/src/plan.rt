@@ -9,6 +9,7 @@ use super::bytes::Read;
 use super::bytes::byte_at;
 use super::bytes::count_at;
 use super::bytes::two_bytes_at;
+use super::limits;
 use super::lines::body_at;
 use super::lists::Passed;
 use super::table;
@@ -98,15 +99,15 @@ fn item_at(n: usize, m: usize, deep: usize, s: &[u8], p: usize, met: usize, t: &
 {
     match byte_at(s, p) {
         Read::Value(x, q) => {
-            if 1024 <= met {
-                return Read::Fault(21, p);
+            if limits::ITEMS <= met {
+                return Read::Fault(limits::TOO_MANY_ITEMS, p);
             }
-            if x == 255 {
+            if x == limits::BRANCHING_BYTE as usize {
                 put(t, table::ITEM_PLACE + met, p);
                 return branching_at(n, m, deep, s, p, met, t);
             }
             if m <= x {
-                return Read::Fault(13, p);
+                return Read::Fault(limits::TOO_LARGE, p);
             }
             put(t, table::ITEM_PLACE + met, p);
             let more = met + 1;
@@ -133,12 +134,12 @@ fn branching_at(
     ensures { λ r. ⌜ outcome-met r (now (t .exit)) ≡ noting-met (inside-noted i (now (t .entry))) (branching-at format n m (now (s .entry)) deep start (i + 1)) ⌝ }
 {
     if deep == 0 {
-        return Read::Fault(19, start);
+        return Read::Fault(limits::NESTED_TOO_DEEP, start);
     }
     let inner = deep - 1;
     let count = start + 1;
     let up = 1025 + i;
-    match count_at(1, 8, s, count) {
+    match count_at(1, limits::BRANCHES, s, count) {
         Read::Value(c, q) => {
             let mut left = c;
             let mut p = q;
@@ -190,5 +191,5 @@ pub fn plan_at(n: usize, m: usize, s: &[u8], start: usize, t: &mut Table) -> Rea
     requires { ⌜ length (now s) ≤ 32768 ⌝ }
     ensures { λ r. ⌜ outcome-met r (now (t .exit)) ≡ noting-met (plan-noted start (now (t .entry))) (plan-at format n m (now (s .entry)) start) ⌝ }
 {
-    sequence_at(n, m, 8, s, start, 0, 1024, t)
+    sequence_at(n, m, limits::NESTED, s, start, 0, 1024, t)
 }

@@ -8,6 +8,7 @@ ghost use Rattle.reading.specs.Requested.{goals-first, plan-first, reque
 use super::bytes::Read;
 use super::bytes::count_at;
 use super::bytes::wide;
+use super::limits;
 use super::lists::Kind;
 use super::lists::Passed;
 use super::lists::list_at;
@@ -24,7 +25,7 @@ fn facts_at(n: usize, m: usize, s: &[u8], p: usize, t: &mut Table) -> Passed
     requires { ⌜ length (now s) ≤ 16384 ⌝ }
     ensures { λ r. ⌜ outcome r (now (t .exit)) ≡ facts-first n m (now (s .entry)) p (now (t .entry)) ⌝ }
 {
-    match list_at(Kind::Literals, n, 64, s, p) {
+    match list_at(Kind::Literals, n, limits::LISTED, s, p) {
         Passed::To(q) => three_sections(n, m, s, q, t),
         Passed::Fault(k, q) => Passed::Fault(k, q),
     }
@@ -36,7 +37,7 @@ fn actions_at(n: usize, s: &[u8], p: usize, t: &mut Table) -> Passed
     requires { ⌜ length (now s) ≤ 16384 ⌝ }
     ensures { λ r. ⌜ outcome r (now (t .exit)) ≡ actions-first n (now (s .entry)) p (now (t .entry)) ⌝ }
 {
-    match count_at(1, 64, s, p) {
+    match count_at(1, limits::ACTIONS, s, p) {
         Read::Value(m, q) => facts_at(n, m, s, q, t),
         Read::Fault(k, q) => Passed::Fault(k, q),
     }
@@ -47,7 +48,7 @@ pub fn table_at(s: &[u8], p: usize, t: &mut Table) -> Passed
     requires { ⌜ length (now s) ≤ 16384 ⌝ }
     ensures { λ r. ⌜ outcome r (now (t .exit)) ≡ noting table-noted (table-at format (now (s .entry)) p) (now (t .entry)) ⌝ }
 {
-    match count_at(1, 64, s, p) {
+    match count_at(1, limits::FLUENTS, s, p) {
         Read::Value(n, q) => actions_at(n, s, q, t),
         Read::Fault(k, q) => Passed::Fault(k, q),
     }
@@ -61,12 +62,12 @@ fn goals_at(n: usize, s: &[u8], plan: usize, items: usize, p: usize, t: &mut Tab
     requires { ⌜ p < 65536 ⌝ }
     ensures { λ r. ⌜ outcome r (now (t .exit)) ≡ goals-first n (now (s .entry)) plan items p (now (t .entry)) ⌝ }
 {
-    match list_at(Kind::Literals, n, 64, s, p) {
+    match list_at(Kind::Literals, n, limits::LISTED, s, p) {
         Passed::To(q) => {
             put(t, table::PLAN, plan);
             put(t, table::ITEMS, items);
             put(t, table::GOALS, p);
-            list_at(Kind::Fluents, n, 64, s, q)
+            list_at(Kind::Fluents, n, limits::LISTED, s, q)
         }
         Passed::Fault(k, q) => Passed::Fault(k, q),
     }
@@ -103,13 +104,13 @@ fn sections_at(s: &[u8], t: &mut Table) -> Passed
 pub fn read_request(s: &[u8], t: &mut Table) -> Passed
     ensures { λ r. ⌜ outcome r (now (t .exit)) ≡ noting request-noted (read-request format (now (s .entry))) (now (t .entry)) ⌝ }
 {
-    if 16384 < s.len() {
-        return Passed::Fault(10, 0);
+    if limits::REQUEST < s.len() {
+        return Passed::Fault(limits::TOO_LONG, 0);
     }
     match sections_at(s, t) {
         Passed::To(e) => {
             if e < s.len() {
-                return Passed::Fault(20, e);
+                return Passed::Fault(limits::BYTES_AFTER, e);
             }
             Passed::To(e)
         }

@@ -6,6 +6,7 @@ ghost use Rattle.reading.specs.Noted;
 ghost use Rattle.reading.specs.Noted.{section-of, line-at, line-read, line-noted, note-line, lines-noted, count-slot, section-noted, three-sections, noting, outcome};
 use super::bytes::Read;
 use super::bytes::wide;
+use super::limits;
 use super::lines::effect_at;
 use super::lines::executability_at;
 use super::lines::knowledge_at;
@@ -111,7 +112,7 @@ pub fn section_at(c: Section, n: usize, m: usize, s: &[u8], p: usize, t: &mut Ta
     ensures { λ r. ⌜ outcome r (now (t .exit)) ≡ noting (section-noted (section-of c)) (section-at (line-at (section-of c) n m (now (s .entry))) (now (s .entry)) p) (now (t .entry)) ⌝ }
 {
     if s.len() <= p {
-        return Passed::Fault(11, s.len());
+        return Passed::Fault(limits::ENDS_TOO_SOON, s.len());
     }
     let q = p + 1;
     note_count(c, s[p], t);

@@ -5,6 +5,7 @@ ghost use Rattle.reading.specs.Read.{passed};
 ghost use Rattle.reading.specs.Noted.{noting, outcome};
 ghost use Rattle.reading.specs.Requested.{request-noted};
 ghost use Rattle.reading.specs.Settled.{blank, Read-here, past-17, past-18};
+use super::limits;
 use super::lists::Passed;
 use super::overlaps::overlap;
 use super::refusals::Found;
@@ -23,7 +24,7 @@ fn refused_from_18(s: &[u8], t: &Table, e: usize) -> Passed
     let count = get(t, table::ITEMS);
     match overlap(s, t, count) {
         Found::Nowhere => Passed::To(e),
-        Found::At(p) => Passed::Fault(18, p),
+        Found::At(p) => Passed::Fault(limits::NOT_EXCLUSIVE, p),
     }
 }
 
@@ -38,7 +39,7 @@ fn refused_from_17(s: &[u8], t: &Table, e: usize) -> Passed
     let start = plan - bytes;
     match mixed(s, t, start, count) {
         Found::Nowhere => refused_from_18(s, t, e),
-        Found::At(p) => Passed::Fault(17, p),
+        Found::At(p) => Passed::Fault(limits::EFFECT_AND_KNOWLEDGE, p),
     }
 }
 
@@ -50,7 +51,7 @@ fn refused_from_16(s: &[u8], t: &Table, e: usize) -> Passed
     let count = get(t, table::COUNT_OF_EFFECTS);
     match contradiction(s, t, count) {
         Found::Nowhere => refused_from_17(s, t, e),
-        Found::At(p) => Passed::Fault(16, p),
+        Found::At(p) => Passed::Fault(limits::CONTRADICTORY_EFFECTS, p),
     }
 }
 

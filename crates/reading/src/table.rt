@@ -1,6 +1,6 @@
 ghost use mathlib.Core.Path.{_≡_};
 ghost use Prim.Native.Nat.{_+_, _<_};
-ghost use lib.ListN.{getD, set};
+ghost use lib.ListN.{length, getD, set};
 ghost use Rattle.reading.specs.Noted;
 ghost use Rattle.reading.specs.Noted.{effect-noted, run-noted, pair-noted, raised};
 
@@ -45,10 +45,17 @@ pub const SENSED: usize = 5384;
 
 pub type Table = [u16; 9480];
 
-fn widened(x: u16) -> usize
+pub fn widened(x: u16) -> usize
     ensures { λ r. ⌜ r ≡ x ⌝ }
 {
     x as usize
+}
+
+// A table has all its slots. A reference to it does not tell so, but a slice does.
+pub fn sized(t: &Table)
+    ensures { λ _. ⌜ length (now (t .entry)) ≡ 9480 ⌝ }
+{
+    let slots: &[u16] = t;
 }
 
 pub fn get(t: &Table, slot: usize) -> usize

@@ -29,7 +29,7 @@ use Rattle.reading.proofs.OverlapLaws.{branch-first, branches-next}
 use Rattle.reading.proofs.PlanOverlaps.{count-zero, count-some, some-item, place-is, item-is, plan-here}
 use Rattle.steps.specs.AtHand.{request-of, request-in, At-hand}
 use Rattle.steps.specs.Rests.{rest-in, rest-at, after-first, span, onward, Position, Branches-laid, Inside-laid, Item-laid}
-use Rattle.steps.specs.Steps.{walk-from, Followed, Into, going-on, Chosen}
+use Rattle.steps.specs.Steps.{walk-from, walk-after, Followed, Into, going-on, Chosen}
 use Rattle.steps.proofs.Laid.{item-laid}
 
 -- THE WALK of one sequence after another.
@@ -346,6 +346,11 @@ module _ (s t : List ℕ) (here : At-hand s t) where
         unfolding An-act
         action-small = rw byte (the-act .2)
 
-        pub action-walked : (r : ℕ) → Followed s i r → (marks : State) → walk-from s i marks ≡ run-action (table-step (request-in s .table)) p a (λ (m : State). walk-from s r m) marks
-        unfolding An-act walk-from walk after-first
-        action-walked r follows marks = rw (follows .rest, the-act .1, byte)
+        pub action-walked : (marks : State) → walk-from s i marks ≡ run-action (table-step (request-in s .table)) p a (walk-after s i) marks
+        unfolding An-act walk-from walk-after walk after-first
+        action-walked marks = rw (the-act .1, byte)
+
+-- From the position after an item on, what follows the item is walked.
+pub followed-walks : (s : List ℕ) (i r : ℕ) → Followed s i r → (marks : State) → walk-after s i marks ≡ walk-from s r marks
+unfolding walk-from walk-after
+followed-walks s i r follows marks = rw (follows .rest)

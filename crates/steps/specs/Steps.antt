@@ -38,6 +38,10 @@ met-as asked = elim asked [ Goal ↦ known | Whether ↦ known-whether ]
 unfoldable pub walk-from : List ℕ → (at : ℕ) → State → Walked State
 walk-from s at = walk (table-step (request-in s .table)) (rest-at (request-in s .plan) at) (judged (request-in s))
 
+-- What follows item i.
+unfoldable pub walk-after : List ℕ → (i : ℕ) → State → Walked State
+walk-after s i = walk (table-step (request-in s .table)) (after-first (rest-at (request-in s .plan) i)) (judged (request-in s))
+
 -- The position after item i.
 pub record Followed (s : List ℕ) (i r : ℕ) : Type 0 where
   pub later : i < r

@@ -1,2 +1,6 @@
 pub mod StandingLaws
 pub mod TallyLaws
+pub mod PlaceLaws
+pub mod FallLaws
+pub mod WalkLaws
+pub mod ForkLaws

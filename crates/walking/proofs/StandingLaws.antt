@@ -11,8 +11,10 @@ use lib.Dec.{eqb, ltb}
 use borrow.Author.Tests.{ltb-true, ltb-false, eqb-true, eqb-false, lt-ltb, le-ltb, eq-eqb, ne-eqb}
 use Rattle.meaning.specs.Tests.{pick}
 use Rattle.meaning.specs.Limits
+use Rattle.meaning.specs.Refusals
+use Rattle.meaning.specs.Refusals.{nowhere, at}
 use Rattle.meaning.specs.States.{State}
-use Rattle.meaning.specs.Walk.{End, fine, missed, stuck, Walked, stuck-at, counted, keep-miss, after-miss, after-end, and-then}
+use Rattle.meaning.specs.Walk.{End, fine, missed, stuck, Walked, stuck-at, counted, keep-miss, after-miss, after-end, and-then, end-of}
 use Rattle.meaning.proofs.TestLaws.{by-test, clash, pick-true, pick-false}
 use Rattle.walking.specs.Standing.{Standing, nothing, spent, so-far, spend, add, one, end-in, standing, Going, end-by, Held}
 
@@ -153,8 +155,8 @@ module _ (tally : List ℕ) (going : Going tally) where
       let on = going .on in (
         stands-open tally (going .sized) (λ e. omega arith),
         by-test (eqb (getD tally 0 0) 0)
-        (λ t. subst C (sym (end-fine tally (going .sized) (eqb-true _ _ t))) f)
-        (λ n. subst C (sym (end-missed tally (going .sized) (few (getD tally 0 0) (eqb-false _ _ n) on))) (g (getD tally 1 0) (drop 3 tally))),
+            (λ t. subst C (sym (end-fine tally (going .sized) (eqb-true _ _ t))) f)
+            (λ n. subst C (sym (end-missed tally (going .sized) (few (getD tally 0 0) (eqb-false _ _ n) on))) (g (getD tally 1 0) (drop 3 tally))),
       )
     where
       few : (n : ℕ) → (n ≡ 0 → ⊥) → n < 2 → n ≡ 1
@@ -179,6 +181,24 @@ module _ (tally : List ℕ) (going : Going tally) where
       by-test (eqb (length after) 67)
       (λ t. eqb-true _ _ t)
       (λ f. absurd (subst Says (ap (λ (a : Standing). add a w) (sym (how .0)) ∙ sym is ∙ unsized after (eqb-false _ _ f)) (how .1)))
+
+-- What an end state adds once it is counted: where nothing was missed before, its end; else nothing.
+pub add-fine : (tally : List ℕ) → length tally ≡ 67 → getD tally 0 0 ≡ 0 → (e : End State) → add (standing tally) (record { count = 0; end = e }) ≡ so-far (getD tally 2 0) e
+unfolding add
+add-fine tally sized none e = ap (λ (a : Standing). add a (record { count = 0; end = e })) (stands-fine tally sized none) ∙ spend-none (getD tally 2 0) (λ x. x) e
+
+pub add-kept : (tally : List ℕ) → length tally ≡ 67 → (getD tally 0 0 ≡ 0 → ⊥) → (f : Refusals.Found) (s : State) → standing tally ≡ add (standing tally) (record { count = 0; end = end-of f s })
+unfolding add end-of keep-miss
+add-kept tally sized some f s =
+    by-test (eqb (getD tally 0 0) 1)
+    (λ t.
+    let is = stands-missed tally sized (eqb-true _ _ t) in
+    is ∙ sym (keeps f) ∙ ap (λ (a : Standing). add a (record { count = 0; end = end-of f s })) (sym is))
+    (λ n. let other = eqb-false (getD tally 0 0) 1 n in add-over tally (λ h. some (omega (arith, other))) (record { count = 0; end = end-of f s }))
+  where
+    keeps : (f : Refusals.Found) → spend (getD tally 2 0) (keep-miss (getD tally 1 0) (drop 3 tally)) (record { count = 0; end = end-of f s }) ≡ so-far (getD tally 2 0) (missed (getD tally 1 0) (drop 3 tally))
+    keeps nowhere = spend-none (getD tally 2 0) (keep-miss (getD tally 1 0) (drop 3 tally)) fine
+    keeps (at q) = spend-none (getD tally 2 0) (keep-miss (getD tally 1 0) (drop 3 tally)) (missed q s)
 
 -- ONE COUNTED, or the budget spent.
 module _ (tally : List ℕ) (going : Going tally) where

@@ -3,19 +3,14 @@ use Prim.Native.Nat.{ℕ, _+_}
 use mathlib.Core.List.{List, _∷_}
 use lib.ListN.{getD}
 use Rattle.meaning.specs.States.{State, readings}
-use Rattle.meaning.specs.Walk.{Walked, each-reading, walk, table-step, judged}
+use Rattle.meaning.specs.Walk.{Walked, each-reading}
 use Rattle.reading.specs.Noted.{item-place}
 use Rattle.steps.specs.AtHand.{request-in}
-use Rattle.steps.specs.Rests.{rest-at, after-first}
-use Rattle.steps.specs.Steps.{unknown-above}
+use Rattle.steps.specs.Steps.{unknown-above, walk-after}
 
 -- The action that is item i.
 unfoldable pub action-at : (s t : List ℕ) → ℕ → ℕ
 action-at s t i = getD s (getD t (item-place + i) 0) 0
-
--- What follows item i.
-unfoldable pub walk-after : List ℕ → ℕ → State → Walked State
-walk-after s i = walk (table-step (request-in s .table)) (after-first (rest-at (request-in s .plan) i)) (judged (request-in s))
 
 -- The readings of these fluents, each followed by what follows the sensing action that is item i.
 unfoldable pub read-on : List ℕ → (i : ℕ) → List ℕ → State → Walked State

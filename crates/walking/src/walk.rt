@@ -8,6 +8,10 @@ ghost use Rattle.steps.specs.Rests.{Position};
 ghost use Rattle.steps.specs.Steps.{walk-from};
 ghost use Rattle.walking.specs.Standing.{add, standing, Going};
 ghost use Rattle.walking.specs.Walks.{action-at, fork-from};
+use super::tally::Tally;
+use super::tally::count_one;
+use super::tally::goes_on;
+use super::tally::note;
 use reading::bytes::wide;
 use reading::refusals::Found;
 use reading::table;
@@ -21,10 +25,6 @@ use steps::onward::follow;
 use steps::sensing::first_unknown;
 use steps::sensing::is_sensing;
 use steps::sensing::next_unknown;
-use super::tally::Tally;
-use super::tally::count_one;
-use super::tally::goes_on;
-use super::tally::note;
 
 // An end state is judged.
 fn judge_end(s: &[u8], t: &Table, marks: &[u8; 64], tally: &mut Tally)

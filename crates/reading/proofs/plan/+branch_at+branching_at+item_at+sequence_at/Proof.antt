@@ -331,6 +331,17 @@ item-at-returns : (t : ℕ) → item-at-lts.Need-returns (
 item-at-returns t c = search item-many
 
 -- src/plan.rt:104:24
+item-at-cast-if2 : (t : ℕ) → item-at-lts.Need-cast-if2 (
+  byte-at-reads.Asked,
+  byte-at-reads.Learnt,
+  put-reads.Asked,
+  put-reads.Learnt,
+  branching-at-below t,
+  branching-at.Post,
+) (item-at-at t) item-at.Post
+item-at-cast-if2 t c = search needs
+
+-- src/plan.rt:104:24
 item-at-add-put : (t : ℕ) → item-at-lts.Need-add-put (
   byte-at-reads.Asked,
   byte-at-reads.Learnt,
@@ -709,6 +720,7 @@ pub +branch-at+branching-at+item-at+sequence-at-spec : {M : Type 1} → statemen
     (item-at-byte-at-requires t)
     (item-at-enum-known-x t)
     (item-at-returns t)
+    (item-at-cast-if2 t)
     (item-at-add-put t)
     (item-at-put-requires t)
     (item-at-branching-at-requires t)

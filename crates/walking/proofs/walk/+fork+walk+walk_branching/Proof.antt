@@ -1,4 +1,11 @@
-use Prim.Native.Nat.{ℕ, _<_}
+use Rattle.steps.proofs.SensingLaws.{after-marked}
+use Rattle.walking.proofs.FallLaws.{fork-falls, fork-walk-falls, walk-branching-falls, walk-fork-falls, branching-walk-falls, follow-falls, followed-position, chosen-position, marked-sized, opens-branching, is-branching, action-here}
+use Rattle.walking.proofs.WalkLaws.{going-after-fork, going-after-walk, going-after-one, walking-counted, action-low, item-stuck, run-spent, run-moves, run-forks, run-sees, branch-taken, none-taken, Walking, walking-starts, walking-there, walking-marked, walking-sized, walking-going, walking-later, walking-ends, walking-judged, walking-on}
+use Rattle.walking.proofs.ForkLaws.{first-marked, second-marked, fork-rises, fork-stops, fork-forks, last-stops, last-walks}
+use Rattle.walking.proofs.PlaceLaws.{item-fits}
+use Rattle.steps.proofs.OnwardLaws.{item-inside, action-small, place-fits, place-there}
+use borrow.Author.Needs.{needs}
+use Prim.Native.Nat.{ℕ, _+_, _-_, _*_, _<_}
 use borrow.Fn.Kinds.{In}
 use borrow.Fn.PlainCycle.{Measures, is, falls, and}
 use Rattle.walking.proofs.walk.fork.Reads as fork
@@ -27,13 +34,13 @@ use Rattle.walking.proofs.walk.+fork+walk+walk_branching.{statement}
 use Rattle.walking.proofs.walk.+fork+walk+walk_branching.Tie.{close}
 
 abbrev μ-fork : Measures 3 fork-kinds.ps ℕ
-μ-fork κs a = ?
+μ-fork κs a = (1024 - a .1 .1 .0) * 65 + (64 - a .1 .1 .1 .0)
 
 abbrev μ-walk : Measures 3 walk-kinds.ps ℕ
-μ-walk κs a = ?
+μ-walk κs a = (1025 - a .1 .1 .0) * 65
 
 abbrev μ-walk-branching : Measures 3 walk-branching-kinds.ps ℕ
-μ-walk-branching κs a = ?
+μ-walk-branching κs a = (1024 - a .1 .1 .0) * 65 + 64
 
 abbrev fork-at : ℕ → In 3 fork-kinds.ps
 fork-at t = and 3 fork-kinds.ps (is 3 fork-kinds.ps μ-fork t) fork.Pre
@@ -80,7 +87,7 @@ fork-add-slot : (t : ℕ) → fork-lts.Need-add-slot (
   walk-below t,
   walk.Post,
 ) (fork-at t) fork.Post
-fork-add-slot t c = ?
+fork-add-slot t c = search place-fits
 
 -- src/walk.rt:129:9
 fork-get-requires : (t : ℕ) → fork-lts.Need-get-requires (
@@ -99,7 +106,7 @@ fork-get-requires : (t : ℕ) → fork-lts.Need-get-requires (
   walk-below t,
   walk.Post,
 ) (fork-at t) fork.Post
-fork-get-requires t c κs = ?
+fork-get-requires t c κs = search place-there
 
 -- src/walk.rt:130:18
 fork-shared-slice-read-wide : (t : ℕ) → fork-lts.Need-shared-slice-read-wide (
@@ -118,7 +125,7 @@ fork-shared-slice-read-wide : (t : ℕ) → fork-lts.Need-shared-slice-read-wide
   walk-below t,
   walk.Post,
 ) (fork-at t) fork.Post
-fork-shared-slice-read-wide t c = ?
+fork-shared-slice-read-wide t c = search item-inside
 
 -- src/walk.rt:130:9
 fork-wide-requires : (t : ℕ) → fork-lts.Need-wide-requires (
@@ -137,7 +144,7 @@ fork-wide-requires : (t : ℕ) → fork-lts.Need-wide-requires (
   walk-below t,
   walk.Post,
 ) (fork-at t) fork.Post
-fork-wide-requires t c κs = ?
+fork-wide-requires t c κs = search needs
 
 -- src/walk.rt:131:17
 fork-add-above : (t : ℕ) → fork-lts.Need-add-above (
@@ -156,7 +163,7 @@ fork-add-above : (t : ℕ) → fork-lts.Need-add-above (
   walk-below t,
   walk.Post,
 ) (fork-at t) fork.Post
-fork-add-above t c = ?
+fork-add-above t c = search needs
 
 -- src/walk.rt:133:5
 fork-array-write-state : (t : ℕ) → fork-lts.Need-array-write-state (
@@ -175,7 +182,7 @@ fork-array-write-state : (t : ℕ) → fork-lts.Need-array-write-state (
   walk-below t,
   walk.Post,
 ) (fork-at t) fork.Post
-fork-array-write-state t c = ?
+fork-array-write-state t c = search needs
 
 -- src/walk.rt:134:9
 fork-next-unknown-requires : (t : ℕ) → fork-lts.Need-next-unknown-requires (
@@ -194,7 +201,7 @@ fork-next-unknown-requires : (t : ℕ) → fork-lts.Need-next-unknown-requires (
   walk-below t,
   walk.Post,
 ) (fork-at t) fork.Post
-fork-next-unknown-requires t c κs = ?
+fork-next-unknown-requires t c κs = (search needs, (search action-here, search first-marked))
 
 -- src/walk.rt:136:9
 fork-fork-requires : (t : ℕ) → fork-lts.Need-fork-requires (
@@ -213,7 +220,7 @@ fork-fork-requires : (t : ℕ) → fork-lts.Need-fork-requires (
   walk-below t,
   walk.Post,
 ) (fork-at t) fork.Post
-fork-fork-requires t c κs = ?
+fork-fork-requires t c κs = (search (fork-falls, fork-rises), (search needs, (search needs, (search needs, (search needs, (search first-marked, search needs))))))
 
 -- src/walk.rt:137:13
 fork-goes-on-requires : (t : ℕ) → fork-lts.Need-goes-on-requires (
@@ -232,7 +239,7 @@ fork-goes-on-requires : (t : ℕ) → fork-lts.Need-goes-on-requires (
   walk-below t,
   walk.Post,
 ) (fork-at t) fork.Post
-fork-goes-on-requires t c κs = ?
+fork-goes-on-requires t c κs = search needs
 
 -- src/walk.rt:139:13
 fork-array-write-state-2 : (t : ℕ) → fork-lts.Need-array-write-state-2 (
@@ -251,7 +258,7 @@ fork-array-write-state-2 : (t : ℕ) → fork-lts.Need-array-write-state-2 (
   walk-below t,
   walk.Post,
 ) (fork-at t) fork.Post
-fork-array-write-state-2 t c = ?
+fork-array-write-state-2 t c = search needs
 
 -- src/walk.rt:140:13
 fork-fork-requires-2 : (t : ℕ) → fork-lts.Need-fork-requires-2 (
@@ -270,7 +277,7 @@ fork-fork-requires-2 : (t : ℕ) → fork-lts.Need-fork-requires-2 (
   walk-below t,
   walk.Post,
 ) (fork-at t) fork.Post
-fork-fork-requires-2 t c κs = ?
+fork-fork-requires-2 t c κs = (search (fork-falls, fork-rises), (search needs, (search needs, (search needs, (search needs, (search second-marked, going-after-fork _ _ _ _ _ _ _ (search needs) (search needs) (c .before .before .before .before .fork .ensures) _ (c .before .before .goes-on .ensures) (c .before .if2 .taken)))))))
 
 -- src/walk.rt:141:13
 fork-returns : (t : ℕ) → fork-lts.Need-returns (
@@ -289,7 +296,7 @@ fork-returns : (t : ℕ) → fork-lts.Need-returns (
   walk-below t,
   walk.Post,
 ) (fork-at t) fork.Post
-fork-returns t c = ?
+fork-returns t c = search fork-forks
 
 -- src/walk.rt:143:9
 fork-returns-2 : (t : ℕ) → fork-lts.Need-returns-2 (
@@ -308,7 +315,7 @@ fork-returns-2 : (t : ℕ) → fork-lts.Need-returns-2 (
   walk-below t,
   walk.Post,
 ) (fork-at t) fork.Post
-fork-returns-2 t c = ?
+fork-returns-2 t c = search fork-stops
 
 -- src/walk.rt:145:9
 fork-follow-requires : (t : ℕ) → fork-lts.Need-follow-requires (
@@ -327,7 +334,7 @@ fork-follow-requires : (t : ℕ) → fork-lts.Need-follow-requires (
   walk-below t,
   walk.Post,
 ) (fork-at t) fork.Post
-fork-follow-requires t c κs = ?
+fork-follow-requires t c κs = search needs
 
 -- src/walk.rt:146:5
 fork-walk-requires : (t : ℕ) → fork-lts.Need-walk-requires (
@@ -346,7 +353,7 @@ fork-walk-requires : (t : ℕ) → fork-lts.Need-walk-requires (
   walk-below t,
   walk.Post,
 ) (fork-at t) fork.Post
-fork-walk-requires t c κs = ?
+fork-walk-requires t c κs = (search fork-walk-falls, (search needs, (search followed-position, (search first-marked, search needs))))
 
 -- src/walk.rt:147:9
 fork-goes-on-requires-2 : (t : ℕ) → fork-lts.Need-goes-on-requires-2 (
@@ -365,7 +372,7 @@ fork-goes-on-requires-2 : (t : ℕ) → fork-lts.Need-goes-on-requires-2 (
   walk-below t,
   walk.Post,
 ) (fork-at t) fork.Post
-fork-goes-on-requires-2 t c κs = ?
+fork-goes-on-requires-2 t c κs = search needs
 
 -- src/walk.rt:149:9
 fork-array-write-state-3 : (t : ℕ) → fork-lts.Need-array-write-state-3 (
@@ -384,7 +391,7 @@ fork-array-write-state-3 : (t : ℕ) → fork-lts.Need-array-write-state-3 (
   walk-below t,
   walk.Post,
 ) (fork-at t) fork.Post
-fork-array-write-state-3 t c = ?
+fork-array-write-state-3 t c = search needs
 
 -- src/walk.rt:150:9
 fork-walk-requires-2 : (t : ℕ) → fork-lts.Need-walk-requires-2 (
@@ -403,7 +410,7 @@ fork-walk-requires-2 : (t : ℕ) → fork-lts.Need-walk-requires-2 (
   walk-below t,
   walk.Post,
 ) (fork-at t) fork.Post
-fork-walk-requires-2 t c κs = ?
+fork-walk-requires-2 t c κs = (search fork-walk-falls, (search needs, (search followed-position, (search second-marked, going-after-walk _ _ _ _ _ (search needs) (search needs) (c .before .before .before .before .walk .ensures) _ (c .before .before .goes-on2 .ensures) (c .before .if3 .taken)))))
 
 -- src/walk.rt:151:9
 fork-returns-3 : (t : ℕ) → fork-lts.Need-returns-3 (
@@ -422,7 +429,7 @@ fork-returns-3 : (t : ℕ) → fork-lts.Need-returns-3 (
   walk-below t,
   walk.Post,
 ) (fork-at t) fork.Post
-fork-returns-3 t c = ?
+fork-returns-3 t c = search last-walks
 
 -- src/walk.rt:119:1
 fork-returns-4 : (t : ℕ) → fork-lts.Need-returns-4 (
@@ -441,13 +448,13 @@ fork-returns-4 : (t : ℕ) → fork-lts.Need-returns-4 (
   walk-below t,
   walk.Post,
 ) (fork-at t) fork.Post
-fork-returns-4 t c = ?
+fork-returns-4 t c = search last-stops
 
 abbrev walk-Inv-loop : walk-lts.InvT-loop
-walk-Inv-loop s t at tally₀ i₀ state₀ tally i state = ?
+walk-Inv-loop s t at tally₀ i₀ state₀ tally i state = Walking s at state₀ tally₀ tally i state
 
 abbrev walk-μ-loop : walk-lts.MeasureT-loop
-walk-μ-loop s t at tally₀ i₀ state₀ tally i state = ?
+walk-μ-loop s t at tally₀ i₀ state₀ tally i state = 1024 - i
 
 -- src/walk.rt:60:5
 walk-loop-holds : (t : ℕ) → walk-lts.Need-loop-holds (
@@ -478,7 +485,7 @@ walk-loop-holds : (t : ℕ) → walk-lts.Need-loop-holds (
   judge-end-reads.Asked,
   judge-end-reads.Learnt,
 ) (walk-at t) walk.Post walk-Inv-loop walk-μ-loop
-walk-loop-holds t c = ?
+walk-loop-holds t c = search walking-starts
 
 -- src/walk.rt:61:20
 walk-add-slot : (t : ℕ) → walk-lts.Need-add-slot (
@@ -509,7 +516,7 @@ walk-add-slot : (t : ℕ) → walk-lts.Need-add-slot (
   judge-end-reads.Asked,
   judge-end-reads.Learnt,
 ) (walk-at t) walk.Post walk-Inv-loop walk-μ-loop
-walk-add-slot t c = ?
+walk-add-slot t c = search (place-fits, walking-there)
 
 -- src/walk.rt:62:13
 walk-get-requires : (t : ℕ) → walk-lts.Need-get-requires (
@@ -540,7 +547,7 @@ walk-get-requires : (t : ℕ) → walk-lts.Need-get-requires (
   judge-end-reads.Asked,
   judge-end-reads.Learnt,
 ) (walk-at t) walk.Post walk-Inv-loop walk-μ-loop
-walk-get-requires t c κs = ?
+walk-get-requires t c κs = search (place-there, walking-there)
 
 -- src/walk.rt:63:12
 walk-shared-slice-read-if1 : (t : ℕ) → walk-lts.Need-shared-slice-read-if1 (
@@ -571,7 +578,7 @@ walk-shared-slice-read-if1 : (t : ℕ) → walk-lts.Need-shared-slice-read-if1 (
   judge-end-reads.Asked,
   judge-end-reads.Learnt,
 ) (walk-at t) walk.Post walk-Inv-loop walk-μ-loop
-walk-shared-slice-read-if1 t c = ?
+walk-shared-slice-read-if1 t c = search (item-inside, walking-there)
 
 -- src/walk.rt:64:13
 walk-walk-branching-requires : (t : ℕ) → walk-lts.Need-walk-branching-requires (
@@ -602,7 +609,7 @@ walk-walk-branching-requires : (t : ℕ) → walk-lts.Need-walk-branching-requir
   judge-end-reads.Asked,
   judge-end-reads.Learnt,
 ) (walk-at t) walk.Post walk-Inv-loop walk-μ-loop
-walk-walk-branching-requires t c κs = ?
+walk-walk-branching-requires t c κs = (search (walk-branching-falls, walking-later), (search needs, (search walking-there, (search is-branching, (search walking-marked, search walking-going)))))
 
 -- src/walk.rt:65:13
 walk-returns : (t : ℕ) → walk-lts.Need-returns (
@@ -633,7 +640,7 @@ walk-returns : (t : ℕ) → walk-lts.Need-returns (
   judge-end-reads.Asked,
   judge-end-reads.Learnt,
 ) (walk-at t) walk.Post walk-Inv-loop walk-μ-loop
-walk-returns t c = ?
+walk-returns t c = search (branch-taken, walking-ends)
 
 -- src/walk.rt:67:22
 walk-shared-slice-read-wide : (t : ℕ) → walk-lts.Need-shared-slice-read-wide (
@@ -664,7 +671,7 @@ walk-shared-slice-read-wide : (t : ℕ) → walk-lts.Need-shared-slice-read-wide
   judge-end-reads.Asked,
   judge-end-reads.Learnt,
 ) (walk-at t) walk.Post walk-Inv-loop walk-μ-loop
-walk-shared-slice-read-wide t c = ?
+walk-shared-slice-read-wide t c = search (item-inside, walking-there)
 
 -- src/walk.rt:67:13
 walk-wide-requires : (t : ℕ) → walk-lts.Need-wide-requires (
@@ -695,7 +702,7 @@ walk-wide-requires : (t : ℕ) → walk-lts.Need-wide-requires (
   judge-end-reads.Asked,
   judge-end-reads.Learnt,
 ) (walk-at t) walk.Post walk-Inv-loop walk-μ-loop
-walk-wide-requires t c κs = ?
+walk-wide-requires t c κs = search needs
 
 -- src/walk.rt:68:13
 walk-can-be-run-requires : (t : ℕ) → walk-lts.Need-can-be-run-requires (
@@ -726,7 +733,7 @@ walk-can-be-run-requires : (t : ℕ) → walk-lts.Need-can-be-run-requires (
   judge-end-reads.Asked,
   judge-end-reads.Learnt,
 ) (walk-at t) walk.Post walk-Inv-loop walk-μ-loop
-walk-can-be-run-requires t c κs = ?
+walk-can-be-run-requires t c κs = (search needs, search (action-small, walking-there))
 
 -- src/walk.rt:70:13
 walk-count-one-requires : (t : ℕ) → walk-lts.Need-count-one-requires (
@@ -757,7 +764,7 @@ walk-count-one-requires : (t : ℕ) → walk-lts.Need-count-one-requires (
   judge-end-reads.Asked,
   judge-end-reads.Learnt,
 ) (walk-at t) walk.Post walk-Inv-loop walk-μ-loop
-walk-count-one-requires t c κs = ?
+walk-count-one-requires t c κs = search walking-going
 
 -- src/walk.rt:71:17
 walk-goes-on-requires : (t : ℕ) → walk-lts.Need-goes-on-requires (
@@ -788,7 +795,7 @@ walk-goes-on-requires : (t : ℕ) → walk-lts.Need-goes-on-requires (
   judge-end-reads.Asked,
   judge-end-reads.Learnt,
 ) (walk-at t) walk.Post walk-Inv-loop walk-μ-loop
-walk-goes-on-requires t c κs = ?
+walk-goes-on-requires t c κs = search needs
 
 -- src/walk.rt:73:21
 walk-is-sensing-requires : (t : ℕ) → walk-lts.Need-is-sensing-requires (
@@ -819,7 +826,7 @@ walk-is-sensing-requires : (t : ℕ) → walk-lts.Need-is-sensing-requires (
   judge-end-reads.Asked,
   judge-end-reads.Learnt,
 ) (walk-at t) walk.Post walk-Inv-loop walk-μ-loop
-walk-is-sensing-requires t c κs = ?
+walk-is-sensing-requires t c κs = (search needs, search (action-small, walking-there))
 
 -- src/walk.rt:75:25
 walk-first-unknown-requires : (t : ℕ) → walk-lts.Need-first-unknown-requires (
@@ -850,7 +857,7 @@ walk-first-unknown-requires : (t : ℕ) → walk-lts.Need-first-unknown-requires
   judge-end-reads.Asked,
   judge-end-reads.Learnt,
 ) (walk-at t) walk.Post walk-Inv-loop walk-μ-loop
-walk-first-unknown-requires t c κs = ?
+walk-first-unknown-requires t c κs = (search needs, (search (action-small, walking-there), search walking-marked))
 
 -- src/walk.rt:77:25
 walk-fork-requires : (t : ℕ) → walk-lts.Need-fork-requires (
@@ -881,7 +888,7 @@ walk-fork-requires : (t : ℕ) → walk-lts.Need-fork-requires (
   judge-end-reads.Asked,
   judge-end-reads.Learnt,
 ) (walk-at t) walk.Post walk-Inv-loop walk-μ-loop
-walk-fork-requires t c κs = ?
+walk-fork-requires t c κs = (search (walk-fork-falls, walking-later), (search needs, (search walking-there, (action-low _ _ (search needs) _ (search walking-there) _ (c .before .before .before .before .before .before .before .before .before .before .before .before .before .before .before .before .before .before .get .ensures) (c .before .before .before .before .before .before .before .before .before .before .before .before .before .before .before .before .if1 .left), (search needs, (search walking-marked, going-after-one _ _ (search walking-going) (c .before .before .before .before .before .before .before .before .before .count-one .ensures) _ (c .before .before .before .before .before .before .before .goes-on .ensures) (c .before .before .before .before .before .before .if3 .taken)))))))
 
 -- src/walk.rt:78:25
 walk-returns-2 : (t : ℕ) → walk-lts.Need-returns-2 (
@@ -912,7 +919,7 @@ walk-returns-2 : (t : ℕ) → walk-lts.Need-returns-2 (
   judge-end-reads.Asked,
   judge-end-reads.Learnt,
 ) (walk-at t) walk.Post walk-Inv-loop walk-μ-loop
-walk-returns-2 t c = ?
+walk-returns-2 t c = search (walking-ends, run-forks, walking-there, walking-going, walking-marked)
 
 -- src/walk.rt:80:21
 walk-follow-requires : (t : ℕ) → walk-lts.Need-follow-requires (
@@ -943,7 +950,7 @@ walk-follow-requires : (t : ℕ) → walk-lts.Need-follow-requires (
   judge-end-reads.Asked,
   judge-end-reads.Learnt,
 ) (walk-at t) walk.Post walk-Inv-loop walk-μ-loop
-walk-follow-requires t c κs = ?
+walk-follow-requires t c κs = (search needs, search walking-there)
 
 -- src/walk.rt:60:5
 walk-loop-less : (t : ℕ) → walk-lts.Need-loop-less (
@@ -974,7 +981,7 @@ walk-loop-less : (t : ℕ) → walk-lts.Need-loop-less (
   judge-end-reads.Asked,
   judge-end-reads.Learnt,
 ) (walk-at t) walk.Post walk-Inv-loop walk-μ-loop
-walk-loop-less t c = ?
+walk-loop-less t c = search follow-falls
 
 -- src/walk.rt:60:5
 walk-loop-again : (t : ℕ) → walk-lts.Need-loop-again (
@@ -1005,7 +1012,7 @@ walk-loop-again : (t : ℕ) → walk-lts.Need-loop-again (
   judge-end-reads.Asked,
   judge-end-reads.Learnt,
 ) (walk-at t) walk.Post walk-Inv-loop walk-μ-loop
-walk-loop-again t c = ?
+walk-loop-again t c = search (walking-on, walking-counted, walking-marked, run-sees, walking-there, walking-going)
 
 -- src/walk.rt:83:25
 walk-state-after-requires : (t : ℕ) → walk-lts.Need-state-after-requires (
@@ -1036,7 +1043,7 @@ walk-state-after-requires : (t : ℕ) → walk-lts.Need-state-after-requires (
   judge-end-reads.Asked,
   judge-end-reads.Learnt,
 ) (walk-at t) walk.Post walk-Inv-loop walk-μ-loop
-walk-state-after-requires t c κs = ?
+walk-state-after-requires t c κs = (search needs, (search (action-small, walking-there), search walking-marked))
 
 -- src/walk.rt:84:17
 walk-follow-requires-2 : (t : ℕ) → walk-lts.Need-follow-requires-2 (
@@ -1067,7 +1074,7 @@ walk-follow-requires-2 : (t : ℕ) → walk-lts.Need-follow-requires-2 (
   judge-end-reads.Asked,
   judge-end-reads.Learnt,
 ) (walk-at t) walk.Post walk-Inv-loop walk-μ-loop
-walk-follow-requires-2 t c κs = ?
+walk-follow-requires-2 t c κs = (search needs, search walking-there)
 
 -- src/walk.rt:60:5
 walk-loop-less-2 : (t : ℕ) → walk-lts.Need-loop-less-2 (
@@ -1098,7 +1105,7 @@ walk-loop-less-2 : (t : ℕ) → walk-lts.Need-loop-less-2 (
   judge-end-reads.Asked,
   judge-end-reads.Learnt,
 ) (walk-at t) walk.Post walk-Inv-loop walk-μ-loop
-walk-loop-less-2 t c = ?
+walk-loop-less-2 t c = search follow-falls
 
 -- src/walk.rt:60:5
 walk-loop-again-2 : (t : ℕ) → walk-lts.Need-loop-again-2 (
@@ -1129,7 +1136,7 @@ walk-loop-again-2 : (t : ℕ) → walk-lts.Need-loop-again-2 (
   judge-end-reads.Asked,
   judge-end-reads.Learnt,
 ) (walk-at t) walk.Post walk-Inv-loop walk-μ-loop
-walk-loop-again-2 t c = ?
+walk-loop-again-2 t c = search (walking-on, walking-counted, after-marked, walking-marked, run-moves, walking-there, walking-going)
 
 -- src/walk.rt:87:13
 walk-returns-3 : (t : ℕ) → walk-lts.Need-returns-3 (
@@ -1160,7 +1167,7 @@ walk-returns-3 : (t : ℕ) → walk-lts.Need-returns-3 (
   judge-end-reads.Asked,
   judge-end-reads.Learnt,
 ) (walk-at t) walk.Post walk-Inv-loop walk-μ-loop
-walk-returns-3 t c = ?
+walk-returns-3 t c = search (walking-ends, run-spent, walking-there, walking-going)
 
 -- src/walk.rt:89:9
 walk-note-requires : (t : ℕ) → walk-lts.Need-note-requires (
@@ -1191,7 +1198,7 @@ walk-note-requires : (t : ℕ) → walk-lts.Need-note-requires (
   judge-end-reads.Asked,
   judge-end-reads.Learnt,
 ) (walk-at t) walk.Post walk-Inv-loop walk-μ-loop
-walk-note-requires t c κs = ?
+walk-note-requires t c κs = (search walking-going, (search walking-sized, (search needs, (search needs, search (item-fits, walking-there)))))
 
 -- src/walk.rt:90:9
 walk-returns-4 : (t : ℕ) → walk-lts.Need-returns-4 (
@@ -1222,7 +1229,7 @@ walk-returns-4 : (t : ℕ) → walk-lts.Need-returns-4 (
   judge-end-reads.Asked,
   judge-end-reads.Learnt,
 ) (walk-at t) walk.Post walk-Inv-loop walk-μ-loop
-walk-returns-4 t c = ?
+walk-returns-4 t c = search (walking-ends, item-stuck, walking-there, walking-going)
 
 -- src/walk.rt:92:5
 walk-judge-end-requires : (t : ℕ) → walk-lts.Need-judge-end-requires (
@@ -1253,7 +1260,7 @@ walk-judge-end-requires : (t : ℕ) → walk-lts.Need-judge-end-requires (
   judge-end-reads.Asked,
   judge-end-reads.Learnt,
 ) (walk-at t) walk.Post walk-Inv-loop walk-μ-loop
-walk-judge-end-requires t c κs = ?
+walk-judge-end-requires t c κs = (search needs, (search walking-marked, search walking-going))
 
 -- src/walk.rt:51:1
 walk-returns-5 : (t : ℕ) → walk-lts.Need-returns-5 (
@@ -1284,7 +1291,7 @@ walk-returns-5 : (t : ℕ) → walk-lts.Need-returns-5 (
   judge-end-reads.Asked,
   judge-end-reads.Learnt,
 ) (walk-at t) walk.Post walk-Inv-loop walk-μ-loop
-walk-returns-5 t c = ?
+walk-returns-5 t c = search walking-judged
 
 -- src/walk.rt:104:11
 walk-branching-chosen-requires : (t : ℕ) → walk-branching-lts.Need-chosen-requires (
@@ -1297,7 +1304,7 @@ walk-branching-chosen-requires : (t : ℕ) → walk-branching-lts.Need-chosen-re
   note-reads.Asked,
   note-reads.Learnt,
 ) (walk-branching-at t) walk-branching.Post
-walk-branching-chosen-requires t c κs = ?
+walk-branching-chosen-requires t c κs = (search needs, (search needs, search opens-branching))
 
 -- src/walk.rt:105:19
 walk-branching-enum-known-at : (t : ℕ) → walk-branching-lts.Need-enum-known-at (
@@ -1310,7 +1317,7 @@ walk-branching-enum-known-at : (t : ℕ) → walk-branching-lts.Need-enum-known-
   note-reads.Asked,
   note-reads.Learnt,
 ) (walk-branching-at t) walk-branching.Post
-walk-branching-enum-known-at t c = ?
+walk-branching-enum-known-at t c = search needs
 
 -- src/walk.rt:106:13
 walk-branching-walk-requires : (t : ℕ) → walk-branching-lts.Need-walk-requires (
@@ -1323,7 +1330,7 @@ walk-branching-walk-requires : (t : ℕ) → walk-branching-lts.Need-walk-requir
   note-reads.Asked,
   note-reads.Learnt,
 ) (walk-branching-at t) walk-branching.Post
-walk-branching-walk-requires t c κs = ?
+walk-branching-walk-requires t c κs = (search branching-walk-falls, (search needs, (search chosen-position, (search needs, search needs))))
 
 -- src/walk.rt:107:13
 walk-branching-returns : (t : ℕ) → walk-branching-lts.Need-returns (
@@ -1336,7 +1343,7 @@ walk-branching-returns : (t : ℕ) → walk-branching-lts.Need-returns (
   note-reads.Asked,
   note-reads.Learnt,
 ) (walk-branching-at t) walk-branching.Post
-walk-branching-returns t c = ?
+walk-branching-returns t c = search branch-taken
 
 -- src/walk.rt:110:24
 walk-branching-enum-told : (t : ℕ) → walk-branching-lts.Need-enum-told (
@@ -1349,7 +1356,7 @@ walk-branching-enum-told : (t : ℕ) → walk-branching-lts.Need-enum-told (
   note-reads.Asked,
   note-reads.Learnt,
 ) (walk-branching-at t) walk-branching.Post
-walk-branching-enum-told t c = ?
+walk-branching-enum-told t c = search needs
 
 -- src/walk.rt:110:24
 walk-branching-add-slot : (t : ℕ) → walk-branching-lts.Need-add-slot (
@@ -1362,7 +1369,7 @@ walk-branching-add-slot : (t : ℕ) → walk-branching-lts.Need-add-slot (
   note-reads.Asked,
   note-reads.Learnt,
 ) (walk-branching-at t) walk-branching.Post
-walk-branching-add-slot t c = ?
+walk-branching-add-slot t c = search place-fits
 
 -- src/walk.rt:111:17
 walk-branching-get-requires : (t : ℕ) → walk-branching-lts.Need-get-requires (
@@ -1375,7 +1382,7 @@ walk-branching-get-requires : (t : ℕ) → walk-branching-lts.Need-get-requires
   note-reads.Asked,
   note-reads.Learnt,
 ) (walk-branching-at t) walk-branching.Post
-walk-branching-get-requires t c κs = ?
+walk-branching-get-requires t c κs = search place-there
 
 -- src/walk.rt:112:13
 walk-branching-note-requires : (t : ℕ) → walk-branching-lts.Need-note-requires (
@@ -1388,7 +1395,7 @@ walk-branching-note-requires : (t : ℕ) → walk-branching-lts.Need-note-requir
   note-reads.Asked,
   note-reads.Learnt,
 ) (walk-branching-at t) walk-branching.Post
-walk-branching-note-requires t c κs = ?
+walk-branching-note-requires t c κs = (search needs, (search marked-sized, (search needs, (search needs, search item-fits))))
 
 -- src/walk.rt:113:13
 walk-branching-returns-2 : (t : ℕ) → walk-branching-lts.Need-returns-2 (
@@ -1401,7 +1408,7 @@ walk-branching-returns-2 : (t : ℕ) → walk-branching-lts.Need-returns-2 (
   note-reads.Asked,
   note-reads.Learnt,
 ) (walk-branching-at t) walk-branching.Post
-walk-branching-returns-2 t c = ?
+walk-branching-returns-2 t c = search none-taken
 
 pub +fork+walk+walk-branching-spec : {M : Type 1} → statement M
 +fork+walk+walk-branching-spec = close μ-fork μ-walk μ-walk-branching (λ t. fork-lts.spec (

@@ -1,3 +1,5 @@
+use Rattle.walking.proofs.WalkLaws.{counts-going, judged-missed, judged-fine, judged-before}
+use Rattle.walking.proofs.PlaceLaws.{missed-fits}
 use borrow.Author.Needs.{needs}
 use Rattle.walking.proofs.walk.judge_end.Statement.{statement}
 use Rattle.walking.proofs.walk.judge_end.Tie as tie
@@ -17,7 +19,7 @@ element-copy-out-if1 c = search needs
 
 -- src/walk.rt:38:15
 missed-requires : tie.Need-missed-requires
-missed-requires c κs = ?
+missed-requires c κs = search needs
 
 -- src/walk.rt:39:23
 enum-known-p : tie.Need-enum-known-p
@@ -25,11 +27,11 @@ enum-known-p c = search needs
 
 -- src/walk.rt:40:17
 note-requires : tie.Need-note-requires
-note-requires c κs = ?
+note-requires c κs = (search counts-going, (search needs, (search needs, (search needs, search missed-fits))))
 
 -- src/walk.rt:41:17
 returns : tie.Need-returns
-returns c = ?
+returns c = search judged-missed
 
 -- src/walk.rt:44:17
 enum-told : tie.Need-enum-told
@@ -37,11 +39,11 @@ enum-told c = search needs
 
 -- src/walk.rt:44:17
 returns-2 : tie.Need-returns-2
-returns-2 c = ?
+returns-2 c = search judged-fine
 
 -- src/walk.rt:30:1
 returns-3 : tie.Need-returns-3
-returns-3 c = ?
+returns-3 c = search judged-before
 
 pub judge-end-spec : {M : Type 1} → statement M
 judge-end-spec =

@@ -1,0 +1,129 @@
+// Makes one judging call on a stack of its own, and tells how many bytes of it were used.
+//   driver BUDGET <REQUEST      prints number, input, place, count and the bytes of stack
+// x86-64 Linux, and no library: so it can be linked on any machine.
+
+typedef unsigned char byte;
+typedef unsigned int u32;
+typedef unsigned long u64;
+
+// A slice as compiled Rattle takes it: where it starts, and its length.
+struct slice {
+    byte *at;
+    u64 length;
+};
+
+// number + 2^8 * input + 2^16 * place + 2^32 * count
+u64 proved_judge(const struct slice *request, const struct slice *lent, u32 budget);
+
+enum { READ = 0, WRITE = 1, MMAP = 9, MPROTECT = 10, EXIT = 60 };
+
+static long call(long number, long a, long b, long c, long d, long e, long f) {
+    register long r10 __asm__("r10") = d;
+    register long r8 __asm__("r8") = e;
+    register long r9 __asm__("r9") = f;
+    long result;
+    __asm__ volatile("syscall" : "=a"(result) : "a"(number), "D"(a), "S"(b), "d"(c), "r"(r10), "r"(r8), "r"(r9) : "rcx", "r11", "memory");
+    return result;
+}
+
+static _Noreturn void leave(int status) {
+    for (;;) call(EXIT, status, 0, 0, 0, 0, 0);
+}
+
+static _Noreturn void fail(const char *why) {
+    u64 length = 0;
+    while (why[length]) length++;
+    call(WRITE, 2, (long)why, length, 0, 0, 0);
+    leave(2);
+}
+
+// What the compiler may call. Bytes are moved by instructions, so that it cannot turn these loops into calls of themselves.
+void *memset(void *to, int value, u64 length) {
+    void *at = to;
+    __asm__ volatile("rep stosb" : "+D"(at), "+c"(length) : "a"(value) : "memory");
+    return to;
+}
+
+void *memcpy(void *to, const void *from, u64 length) {
+    void *at = to;
+    __asm__ volatile("rep movsb" : "+D"(at), "+S"(from), "+c"(length) : : "memory");
+    return to;
+}
+
+void *memmove(void *to, const void *from, u64 length) {
+    if ((u64)to - (u64)from >= length) return memcpy(to, from, length);
+    byte *at = (byte *)to + length - 1;
+    const byte *source = (const byte *)from + length - 1;
+    __asm__ volatile("std; rep movsb; cld" : "+D"(at), "+S"(source), "+c"(length) : : "memory");
+    return to;
+}
+
+// The stack lent to the call, in words of eight bytes: far larger than any that passes, with a page below it that cannot be touched.
+#define WORDS (1UL << 23)
+#define PAGE 512UL
+
+// What a word holds that was not written: no small number, no address, and another at each place.
+static u64 untouched(u64 place) {
+    return ~place * 0x9e3779b97f4a7c15UL;
+}
+
+// The call, with the stack pointer at `top`; what it pushes itself, the place to return to, counts as used.
+static u64 call_at(u64 *top, const struct slice *request, const struct slice *lent, u32 budget) {
+    u64 result;
+    __asm__ volatile("movq %%rsp, %%rbx\n\tmovq %[top], %%rsp\n\tcallq proved_judge\n\tmovq %%rbx, %%rsp"
+                     : "=a"(result), "+D"(request), "+S"(lent), "+d"(budget)
+                     : [top] "r"(top)
+                     : "rbx", "rcx", "r8", "r9", "r10", "r11", "xmm0", "xmm1", "xmm2", "xmm3", "xmm4", "xmm5", "xmm6", "xmm7", "xmm8", "xmm9",
+                       "xmm10", "xmm11", "xmm12", "xmm13", "xmm14", "xmm15", "memory", "cc");
+    return result;
+}
+
+static void print(u64 number, char after) {
+    char text[24];
+    int at = sizeof text;
+    text[--at] = after;
+    do text[--at] = '0' + number % 10;
+    while (number /= 10);
+    call(WRITE, 1, (long)(text + at), sizeof text - at, 0, 0, 0);
+}
+
+static byte bytes[1 << 16];
+static byte state[64];
+
+_Noreturn __attribute__((used)) static void begin(long *arguments) {
+    if (arguments[0] != 2) fail("driver: one argument, the budget\n");
+    u64 budget = 0;
+    for (const char *digit = (const char *)arguments[2]; *digit; digit++) {
+        if (*digit < '0' || '9' < *digit) fail("driver: the budget is not a number\n");
+        budget = 10 * budget + (*digit - '0');
+        if (budget >> 32) fail("driver: the budget is above 32 bits\n");
+    }
+
+    struct slice request = {bytes, 0}, lent = {state, sizeof state};
+    for (;;) {
+        long got = call(READ, 0, (long)(bytes + request.length), sizeof bytes - request.length, 0, 0, 0);
+        if (got < 0) fail("driver: the request cannot be read\n");
+        if (got == 0) break;
+        request.length += got;
+    }
+
+    // Readable and writable, private, anonymous.
+    long mapped = call(MMAP, 0, 8 * WORDS, 3, 0x22, -1, 0);
+    if (mapped < 0 && mapped > -4096) fail("driver: no memory for a stack\n");
+    if (call(MPROTECT, mapped, 8 * PAGE, 0, 0, 0, 0) != 0) fail("driver: the page below the stack cannot be closed\n");
+    u64 *stack = (u64 *)mapped;
+    for (u64 place = PAGE; place < WORDS; place++) stack[place] = untouched(place);
+
+    u64 answer = call_at(stack + WORDS, &request, &lent, budget);
+
+    u64 lowest = PAGE;
+    while (lowest < WORDS && stack[lowest] == untouched(lowest)) lowest++;
+    print(answer & 255, ' ');
+    print(answer >> 8 & 255, ' ');
+    print(answer >> 16 & 65535, ' ');
+    print(answer >> 32, ' ');
+    print(8 * (WORDS - lowest), '\n');
+    leave(0);
+}
+
+__asm__(".globl _start\n_start:\n\tmovq %rsp, %rdi\n\tandq $-16, %rsp\n\tcallq begin\n");

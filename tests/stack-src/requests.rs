@@ -1,0 +1,139 @@
+//! The requests on which the walk goes deepest, and some beside them: writes each into the folder given, and prints a line for each, with
+//! the file's name, the budget, the number of items and what the request is.
+
+use std::{env, fs};
+
+/// All have 64 fluents, no initial facts, and these actions.
+const LOOK: u8 = 0; // senses all but the last
+const FORGET: u8 = 1; // makes these unknown again, by effects with the unknown last one in their bodies
+const LOOK_AT_ALL: u8 = 2; // senses all 64
+const LOOK_AT_HALF: u8 = 3; // senses 32
+const LOOK_AT_ONE: u8 = 4; // senses one
+const WORK: u8 = 5; // makes each but the last false if the next is true
+const NEVER: u8 = 6; // can't be run
+const ACTIONS: u8 = 7;
+const LAST: u8 = 63;
+
+/// A budget with which the end of the first path is reached and not much more.
+const SOON: u32 = 5_000;
+
+/// An item of the plan, and how many items it is.
+#[derive(Clone)]
+struct Item(Vec<u8>, usize);
+
+fn act(action: u8) -> Item {
+    Item(vec![action], 1)
+}
+
+/// A count byte and that many entries or lines.
+fn section<Line: AsRef<[u8]>>(lines: impl IntoIterator<Item = Line>) -> Vec<u8> {
+    let lines: Vec<Line> = lines.into_iter().collect();
+    let count = u8::try_from(lines.len()).expect("lines of a section");
+    lines.iter().fold(vec![count], |bytes, line| [&bytes, line.as_ref()].concat())
+}
+
+/// A two-byte item count and that many items.
+fn sequence(items: &[Item]) -> Vec<u8> {
+    let count = (items.len() as u16).to_be_bytes().to_vec();
+    items.iter().fold(count, |bytes, item| [&bytes[..], &item.0].concat())
+}
+
+fn size(items: &[Item]) -> usize {
+    items.iter().map(|item| item.1).sum()
+}
+
+/// A branching of so many branches, each with its condition.
+fn branching(branches: &[(&[u8], &[Item])]) -> Item {
+    let lines = branches.iter().map(|(condition, items)| [section(condition.chunks(1)), sequence(items)].concat());
+    let inside: usize = branches.iter().map(|branch| size(branch.1)).sum();
+    Item([vec![255], section(lines)].concat(), 1 + inside)
+}
+
+/// A branching with one branch, which is always followed.
+fn within(items: &[Item]) -> Item {
+    branching(&[(&[], items)])
+}
+
+/// So many branchings, one inside another.
+fn nested(depth: usize, items: Vec<Item>) -> Vec<Item> {
+    (0..depth).fold(items, |items, _| vec![within(&items)])
+}
+
+/// What is forgotten: what is known true, which is all on the first path, or whatever is known.
+#[derive(Clone, Copy)]
+enum Forgets {
+    True,
+    Known,
+}
+
+/// What is wanted at the end: nothing, or that each fluent is true, and known.
+#[derive(Clone, Copy)]
+enum Goals {
+    None,
+    All,
+}
+
+/// The whole request.
+fn request(forgets: Forgets, goals: Goals, plan: &[Item]) -> Vec<u8> {
+    let made_false = (0..LAST).map(|f| vec![FORGET, 2 * f + 1, 1, 2 * LAST]);
+    let made_true = (0..LAST).map(|f| vec![FORGET, 2 * f, 1, 2 * LAST + 1]);
+    let work = (0..LAST).map(|f| vec![WORK, 2 * f + 1, 1, 2 * f + 2]);
+    let effects = match forgets {
+        Forgets::True => section(made_false.chain(work)),
+        Forgets::Known => section(made_false.chain(made_true).chain(work)),
+    };
+    let runs = section((0..ACTIONS).filter(|&action| action != NEVER).map(|action| [action, 0]));
+    let sensed = |action, count| (0..count).map(move |f| [action, f]);
+    let many = sensed(LOOK, 63).chain(sensed(LOOK_AT_ALL, 64));
+    let knowledge = section(many.chain(sensed(LOOK_AT_HALF, 32)).chain(sensed(LOOK_AT_ONE, 1)));
+    let wanted = match goals {
+        Goals::None => vec![0, 0],
+        Goals::All => [section((0..64).map(|f| [2 * f])), section((0..64).map(|f| [f]))].concat(),
+    };
+    let bytes = [vec![64, ACTIONS, 0], effects, runs, knowledge, sequence(plan), wanted].concat();
+    assert!(size(plan) <= 1024 && bytes.len() <= 16384, "beyond the limits");
+    bytes
+}
+
+/// The same items over and over, as often as they fit into so many.
+fn over_and_over(items: &[Item], most: usize) -> Vec<Item> {
+    items.iter().cloned().cycle().take(items.len() * (most / size(items))).collect()
+}
+
+fn main() {
+    let folder = env::args().nth(1).expect("a folder");
+    let steps = |look, most| over_and_over(&[act(look), act(FORGET)], most);
+    let with_end = |end: &[Item]| [&steps(LOOK, 1022), end].concat();
+    let all_at_last = with_end(&[within(&[act(LOOK_AT_ALL)])]);
+    let cannot_at_last = with_end(&[act(LOOK), act(NEVER)]);
+    let second_reading = [act(LOOK_AT_ONE), branching(&[(&[0], &[]), (&[1], &steps(LOOK, 1022))])];
+    let looks_within = over_and_over(&[within(&[act(LOOK)]), act(FORGET)], 1024);
+    let looks_nested = over_and_over(&[nested(8, vec![act(LOOK)]), vec![act(FORGET)]].concat(), 1024);
+    let steps_within = over_and_over(&[within(&[act(LOOK)]), within(&[act(FORGET)])], 1024);
+    let steps_nested = nested(8, steps(LOOK, 1016));
+    let branchings = over_and_over(&[within(&[])], 1024);
+    let towers = over_and_over(&nested(8, vec![]), 1024);
+    let requests = [
+        ("63 looked at, forgotten", SOON, Forgets::True, Goals::None, steps(LOOK, 1024)),
+        ("63, false ones forgotten too", 100_000, Forgets::Known, Goals::None, steps(LOOK, 1024)),
+        ("63, at last 64 in a branching", SOON, Forgets::True, Goals::None, all_at_last.clone()),
+        ("63, at last 64, all goals", SOON, Forgets::True, Goals::All, all_at_last),
+        ("63, at last what cannot be run", SOON, Forgets::True, Goals::None, cannot_at_last),
+        ("63, after a second reading", SOON, Forgets::Known, Goals::None, second_reading.to_vec()),
+        ("63, each look in a branching", SOON, Forgets::True, Goals::None, looks_within),
+        ("63, each look in eight branchings", SOON, Forgets::True, Goals::None, looks_nested),
+        ("63, each step in a branching", SOON, Forgets::True, Goals::None, steps_within),
+        ("63, all steps in eight branchings", SOON, Forgets::True, Goals::None, steps_nested),
+        ("32 looked at, forgotten", SOON, Forgets::True, Goals::None, steps(LOOK_AT_HALF, 1024)),
+        ("one looked at, forgotten", SOON, Forgets::True, Goals::None, steps(LOOK_AT_ONE, 1024)),
+        ("1,024 branchings in a row", SOON, Forgets::True, Goals::None, branchings),
+        ("towers of eight branchings", SOON, Forgets::True, Goals::None, towers),
+        ("1,024 actions", SOON, Forgets::Known, Goals::All, vec![act(WORK); 1024]),
+        ("no item", SOON, Forgets::Known, Goals::All, vec![]),
+    ];
+    for (number, (name, budget, forgets, goals, plan)) in requests.into_iter().enumerate() {
+        let file = format!("{number}.request");
+        fs::write(format!("{folder}/{file}"), request(forgets, goals, &plan)).expect("a file written");
+        println!("{file} {budget} {} {name}", size(&plan));
+    }
+}
