@@ -3,7 +3,8 @@ ghost use Prim.Native.Nat.{_<_};
 ghost use lib.ListN.{length, drop};
 ghost use Rattle.steps.specs.AtHand.{Marked};
 ghost use Rattle.walking.specs.Standing.{standing};
-ghost use Rattle.glintstring.specs.Judged.{told, Tallied};
+ghost use Rattle.glintstring.specs.Telling.{told, Tallied};
+use super::answers;
 use meaning::Answer;
 use walking::tally::Tally;
 
@@ -44,16 +45,36 @@ pub fn tell(tally: &Tally, state: &mut [u8], budget: u32) -> Answer
 {
     let number = tally[0];
     if number == 3 {
-        return Answer { number: 3, input: 0, place: 0, count: budget };
+        return Answer {
+            number: answers::BUDGET_SPENT,
+            input: answers::NEITHER_INPUT,
+            place: 0,
+            count: budget,
+        };
     }
     let count = budget - tally[2];
     if number == 0 {
-        return Answer { number: 0, input: 0, place: 0, count: count };
+        return Answer {
+            number: answers::VERIFIED,
+            input: answers::NEITHER_INPUT,
+            place: 0,
+            count: count,
+        };
     }
     let place = widened(tally[1]);
     hand_over(tally, state);
     if number == 1 {
-        return Answer { number: 1, input: 1, place: place, count: count };
+        return Answer {
+            number: answers::GOAL_MISSED,
+            input: answers::THE_REQUEST,
+            place: place,
+            count: count,
+        };
     }
-    Answer { number: 2, input: 1, place: place, count: count }
+    Answer {
+        number: answers::NOT_EXECUTABLE,
+        input: answers::THE_REQUEST,
+        place: place,
+        count: count,
+    }
 }
