@@ -1,3 +1,11 @@
+ghost use mathlib.Core.Path.{_≡_};
+ghost use lib.ListN.{length};
+ghost use Rattle.meaning.specs.Limits.{format};
+ghost use Rattle.meaning.specs.States.{first-state};
+ghost use Rattle.meaning.specs.Walk.{walked};
+ghost use Rattle.meaning.specs.Judging.{within, judge};
+ghost use Rattle.steps.specs.AtHand.{request-in, At-hand};
+ghost use Rattle.glintstring.specs.Judged.{start};
 use meaning::Answer;
 use reading::lists::Passed;
 use reading::marks::state_of;
@@ -5,68 +13,40 @@ use reading::settled::settle;
 use reading::table;
 use reading::table::Table;
 use reading::table::get;
-use walking::tally::Tally;
 use walking::tally::opened;
 use walking::walk::walk;
+use super::telling::tell;
 
-fn hand_over(tally: &Tally, lent: &mut [u8]) {
-    let mut f = 0;
-    while f < 64 {
-        let slot = 3 + f;
-        lent[f] = (tally[slot] % 256) as u8;
-        f += 1;
-    }
+fn start_of(items: usize) -> usize
+    ensures { λ r. ⌜ r ≡ start items ⌝ }
+{
+    if items == 0 { 1024 } else { 0 }
 }
 
-fn walked(request: &[u8], t: &Table, lent: &mut [u8], budget: u32) -> Answer {
-    let mut tally = opened(budget);
+// The walk of a settled request.
+fn walk_plan(request: &[u8], t: &Table, state: &mut [u8], budget: u32) -> Answer
+    requires { ⌜ At-hand (now request) (now t) ⌝ }
+    requires { ⌜ length (now state) ≡ 64 ⌝ }
+    ensures { λ r. ⌜ record { answer = r; state = now (state .exit) } ≡ within (now (state .entry)) budget (walked (request-in (now (request .entry))) (first-state format (request-in (now (request .entry)) .table))) ⌝ }
+{
+    let marks = state_of(request, 2);
     let items = get(t, table::ITEMS);
-    let at = if items == 0 { 1024 } else { 0 };
-    walk(request, t, at, state_of(request, 2), &mut tally);
-    let number = tally[0];
-    if number == 3 {
-        return Answer {
-            number: 3,
-            input: 0,
-            place: 0,
-            count: budget,
-        };
-    }
-    let count = budget - tally[2];
-    if number == 0 {
-        return Answer {
-            number: 0,
-            input: 0,
-            place: 0,
-            count: count,
-        };
-    }
-    hand_over(&tally, lent);
-    Answer {
-        number: (number % 256) as u8,
-        input: 1,
-        place: tally[1] as usize,
-        count: count,
-    }
+    let at = start_of(items);
+    let mut tally = opened(budget);
+    walk(request, t, at, marks, &mut tally);
+    tell(&tally, state, budget)
 }
 
-pub fn judge(request: &[u8], lent: &mut [u8], budget: u32) -> Answer {
-    if lent.len() != 64 {
-        return Answer {
-            number: 9,
-            input: 0,
-            place: 0,
-            count: 0,
-        };
+// The judging call. Answers 1 and 2 leave the state concerned in the lent bytes; every other leaves these as they are.
+pub fn judge(request: &[u8], state: &mut [u8], budget: u32) -> Answer
+    ensures { λ r. ⌜ record { answer = r; state = now (state .exit) } ≡ judge format (now (request .entry)) (now (state .entry)) budget ⌝ }
+{
+    if state.len() != 64 {
+        return Answer { number: 9, input: 0, place: 0, count: 0 };
     }
     let mut t: Table = [0u16; 9480];
     match settle(request, &mut t) {
-        Passed::To(e) => walked(request, &t, lent, budget),
-        Passed::Fault(k, p) => Answer {
-            number: k,
-            input: 1,
-            place: p,
-            count: 0,
-        },
+        Passed::To(_) => walk_plan(request, &t, state, budget),
+        Passed::Fault(k, p) => Answer { number: k, input: 1, place: p, count: 0 },
     }
 }

@@ -1,2 +1,3 @@
 // The calls of the verifier.
 pub mod judging; // the walk call
+pub mod telling; // what a walk's tally says

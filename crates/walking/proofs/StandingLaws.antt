@@ -98,7 +98,7 @@ unfolding standing
 unsized tally h = pick-false _ _ _ (ne-eqb _ _ h)
 
 module _ (tally : List ℕ) (sized : length tally ≡ 67) where
-  stands-open : (getD tally 0 0 ≡ 3 → ⊥) → standing tally ≡ so-far (getD tally 2 0) (end-in tally)
+  pub stands-open : (getD tally 0 0 ≡ 3 → ⊥) → standing tally ≡ so-far (getD tally 2 0) (end-in tally)
   unfolding standing
   stands-open h = pick-true _ _ _ (eq-eqb _ _ sized) ∙ pick-false _ _ _ (ne-eqb _ _ h)
 
@@ -110,11 +110,11 @@ module _ (tally : List ℕ) (sized : length tally ≡ 67) where
   unfolding end-in
   end-fine h = pick-true _ _ _ (eq-eqb _ _ h)
 
-  end-missed : getD tally 0 0 ≡ 1 → end-in tally ≡ missed (getD tally 1 0) (drop 3 tally)
+  pub end-missed : getD tally 0 0 ≡ 1 → end-in tally ≡ missed (getD tally 1 0) (drop 3 tally)
   unfolding end-in
   end-missed h = pick-false (eqb (getD tally 0 0) 0) _ _ (ne-eqb (getD tally 0 0) 0 (λ e. omega arith)) ∙ pick-true (eqb (getD tally 0 0) 1) _ _ (eq-eqb _ _ h)
 
-  end-stuck : (getD tally 0 0 ≡ 0 → ⊥) → (getD tally 0 0 ≡ 1 → ⊥) → end-in tally ≡ stuck (getD tally 1 0) (drop 3 tally)
+  pub end-stuck : (getD tally 0 0 ≡ 0 → ⊥) → (getD tally 0 0 ≡ 1 → ⊥) → end-in tally ≡ stuck (getD tally 1 0) (drop 3 tally)
   unfolding end-in
   end-stuck h g = pick-false (eqb (getD tally 0 0) 0) _ _ (ne-eqb _ _ h) ∙ pick-false (eqb (getD tally 0 0) 1) _ _ (ne-eqb _ _ g)
 

@@ -1,0 +1,5 @@
+pub mod TellingLaws
+pub mod MarkedLaws
+pub mod FirstLaws
+pub mod JudgingLaws
+pub mod Promises

@@ -1,0 +1,95 @@
+-- What the judging call promises: each theorem is of a result that meets the call's own contract. Read this file first in this crate.
+-- Assumes nothing.
+use Prim.Native.Nat.{ℕ, _≤_, _<_}
+use mathlib.Core.Path.{_≡_, sym, _∙_, ap, subst}
+use mathlib.Core.Bool.{true}
+use mathlib.Core.List.{List}
+use mathlib.Core.Logic.{_↔_}
+use lib.ListN.{length}
+use contract.Lifetimes.{Lfts}
+use borrow.Fn.Kinds.{Dens, endedOf}
+use denote.Ref.{now}
+use denote.Triple.Clauses.{AtExit}
+use Rattle.meaning.specs.declared.Answer.{Answer}
+use Rattle.meaning.specs.Limits
+use Rattle.meaning.specs.Limits.{format}
+use Rattle.meaning.specs.Literals.{among}
+use Rattle.meaning.specs.Requests.{Request}
+use Rattle.meaning.specs.Reading.{got}
+use Rattle.meaning.specs.Refusals.{settled}
+use Rattle.meaning.specs.States.{first-state}
+use Rattle.meaning.specs.Walk.{table-step, missed-in}
+use Rattle.meaning.specs.Judging.{Judgement, within, judge}
+use Rattle.meaning.specs.Approximation.{failed, Φ̂, least}
+use Rattle.meaning.specs.Paths.{paths, walked-along}
+use Rattle.meaning.specs.Worlds.{Carried-out}
+use Rattle.meaning.proofs.AnswerLaws.{answers}
+use Rattle.meaning.proofs.Exact.{count, Entailed, format-room}
+use Rattle.meaning.proofs.Demands
+use Rattle.glintstring.proofs.judging.judge.Kinds.{ps, r}
+use Rattle.glintstring.proofs.judging.judge.Reads.{Pre, Post}
+
+-- WHAT THE CALL IS GIVEN, by the values of its three parameters.
+module _ (κs : Lfts 2) (given : Dens κs ps) where
+  abbrev pub request : List ℕ
+  request = now (given .0)
+
+  abbrev pub lent : List ℕ
+  lent = now (given .1 .0)
+
+  abbrev pub budget : ℕ
+  budget = given .1 .1 .0
+
+  -- What it leaves in the lent bytes.
+  abbrev pub left : AtExit (endedOf 2 ps r) κs → List ℕ
+  left exit = now (exit .1 .0)
+
+  -- THE CONTRACT, as the source has it.
+  pub as-written : (answer : Answer) (exit : AtExit (endedOf 2 ps r) κs) → Post κs given answer exit → record { answer = answer; state = left exit } ≡ judge format request lent budget
+  as-written answer exit meets = meets
+
+  -- Two results that meet the contract on the same input are equal: it says everything.
+  pub determined : (answer answer′ : Answer) (exit exit′ : AtExit (endedOf 2 ps r) κs) → Post κs given answer exit → Post κs given answer′ exit′ → (answer ≡ answer′) × (left exit ≡ left exit′)
+  determined answer answer′ exit exit′ meets meets′ =
+      let same : _≡_ {A = Judgement} (record { answer = answer; state = left exit }) (record { answer = answer′; state = left exit′ }) = meets ∙ sym meets′ in
+      (ap (λ (j : Judgement). j .answer) same, ap (λ (j : Judgement). j .state) same)
+
+  -- It may be called with anything.
+  pub asks-nothing : Pre κs given
+  asks-nothing = tt
+
+  -- A RESULT that meets the contract.
+  module _ (answer : Answer) (exit : AtExit (endedOf 2 ps r) κs) (meets : Post κs given answer exit) where
+    number-is : judge format request lent budget .answer .number ≡ answer .number
+    number-is = ap (λ (j : Judgement). j .answer .number) (sym meets)
+
+    -- Demand 1 (FORMAT 11.1): it is one of the numbered answers.
+    pub numbered : among (answer .number) answers ≡ true
+    numbered = subst (λ (n : ℕ). among n answers ≡ true) number-is (Demands.numbered format request lent budget)
+
+    -- Demand 3 (FORMAT 11.7 to 11.12): a verified plan is carried out in every world with the initial facts, at any budget.
+    pub sound : answer .number ≡ Limits.verified → (x : Request) × (e : ℕ) × (settled format request ≡ got x e) × Carried-out x
+    sound is = Demands.sound format request lent budget (number-is ∙ is)
+
+    -- Demand 2 (FORMAT 11.5), of a settled request with 64 lent bytes.
+    module _ (x : Request) (e : ℕ) (lent-length : length lent ≡ 64) (past : settled format request ≡ got x e) where
+      -- The answer and the lent bytes are what the list of paths says, in its order.
+      pub in-order : record { answer = answer; state = left exit } ≡ within lent budget (walked-along (missed-in x) (paths (table-step (x .table)) (x .plan) (first-state format (x .table))))
+      in-order = meets ∙ Demands.in-order format format-room request lent budget x e lent-length past
+
+      -- The budget is spent exactly where the walk counts more.
+      pub spent-exactly : (answer .number ≡ Limits.budget-spent) ↔ (budget < count format x)
+      spent-exactly = rw (sym number-is) (Demands.spent-exactly format format-room request lent budget x e lent-length past)
+
+      module _ (enough : count format x ≤ budget) where
+        -- Not executable, exactly where the plan fails from the least initial a-state.
+        pub stuck-exactly : (answer .number ≡ Limits.not-executable) ↔ Φ̂ (x .table) (x .plan) (least (x .table)) failed
+        stuck-exactly = rw (sym number-is) (Demands.stuck-exactly format format-room request lent budget x e lent-length past enough)
+
+        -- Verified, exactly where the goals and the whether fluents are entailed.
+        pub verified-exactly : (answer .number ≡ Limits.verified) ↔ Entailed x
+        verified-exactly = rw (sym number-is) (Demands.verified-exactly format format-room request lent budget x e lent-length past enough)
+
+        -- A goal is missed, exactly where neither is so.
+        pub missed-exactly : (answer .number ≡ Limits.goal-missed) ↔ ((Φ̂ (x .table) (x .plan) (least (x .table)) failed → ⊥) × (Entailed x → ⊥))
+        missed-exactly = rw (sym number-is) (Demands.missed-exactly format format-room request lent budget x e lent-length past enough)

@@ -1,0 +1,60 @@
+-- The walk starts in the first state at the first item, and adds its whole to a tally that nothing was walked for; so what the tally tells is the
+-- walk within the budget.
+use borrow.Author.Needs.{needs}
+use Rattle.glintstring.proofs.FirstLaws.{facts-here, first-marked, starts-there}
+use Rattle.glintstring.proofs.JudgingLaws.{plan-tallied, plan-judged}
+use Rattle.glintstring.proofs.judging.walk_plan.Statement.{statement}
+use Rattle.glintstring.proofs.judging.walk_plan.Tie as tie
+use Rattle.glintstring.proofs.judging.walk_plan.Reads as reads
+use Rattle.glintstring.proofs.judging.walk_plan.Lts as lts
+use Rattle.glintstring.proofs.judging.start_of.Reads as start-of-reads
+use Rattle.glintstring.proofs.telling.tell.Reads as tell-reads
+use Rattle.reading.proofs.marks.state_of.Reads as state-of-reads
+use Rattle.reading.proofs.table.get.Reads as get-reads
+use Rattle.walking.proofs.tally.opened.Reads as opened-reads
+use Rattle.walking.proofs.walk.walk.Reads as walk-reads
+
+-- src/judging.rt:32:9
+state-of-requires : tie.Need-state-of-requires
+state-of-requires c κs = search facts-here
+
+-- src/judging.rt:33:9
+get-requires : tie.Need-get-requires
+get-requires c κs = search needs
+
+-- src/judging.rt:34:9
+start-of-requires : tie.Need-start-of-requires
+start-of-requires c κs = search needs
+
+-- src/judging.rt:35:21
+opened-requires : tie.Need-opened-requires
+opened-requires c κs = search needs
+
+-- src/judging.rt:36:5
+walk-requires : tie.Need-walk-requires
+walk-requires c κs = (search needs, (search starts-there, (search first-marked, search needs)))
+
+-- src/judging.rt:37:5
+tell-requires : tie.Need-tell-requires
+tell-requires c κs = (search needs, search plan-tallied)
+
+-- src/judging.rt:27:1
+same-length : tie.Need-same-length
+same-length c = search needs
+
+-- src/judging.rt:27:1
+returns : tie.Need-returns
+returns c = search plan-judged
+
+pub walk-plan-spec : {M : Type 1} → statement M
+walk-plan-spec =
+    tie.close
+    (tie.spec
+    state-of-requires
+    get-requires
+    start-of-requires
+    opened-requires
+    walk-requires
+    tell-requires
+    same-length
+    returns)

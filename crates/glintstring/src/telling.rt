@@ -1,0 +1,59 @@
+ghost use mathlib.Core.Path.{_≡_};
+ghost use Prim.Native.Nat.{_<_};
+ghost use lib.ListN.{length, drop};
+ghost use Rattle.steps.specs.AtHand.{Marked};
+ghost use Rattle.walking.specs.Standing.{standing};
+ghost use Rattle.glintstring.specs.Judged.{told, Tallied};
+use meaning::Answer;
+use walking::tally::Tally;
+
+fn widened(x: u32) -> usize
+    ensures { λ r. ⌜ r ≡ x ⌝ }
+{
+    x as usize
+}
+
+// A mark is 0, 1 or 2.
+fn byte_of(mark: u32) -> u8
+    requires { ⌜ mark < 256 ⌝ }
+    ensures { λ r. ⌜ r ≡ mark ⌝ }
+{
+    mark as u8
+}
+
+// The tally's state goes over the lent one.
+fn hand_over(tally: &Tally, state: &mut [u8])
+    requires { ⌜ length (now state) ≡ 64 ⌝ }
+    requires { ⌜ length (now tally) ≡ 67 ⌝ }
+    requires { ⌜ Marked (drop 3 (now tally)) ⌝ }
+    ensures { λ _. ⌜ now (state .exit) ≡ drop 3 (now (tally .entry)) ⌝ }
+{
+    let mut f = 0;
+    while f < 64 {
+        let slot = 3 + f;
+        state[f] = byte_of(tally[slot]);
+        f += 1;
+    }
+}
+
+// What the tally says once the walk is over.
+pub fn tell(tally: &Tally, state: &mut [u8], budget: u32) -> Answer
+    requires { ⌜ length (now state) ≡ 64 ⌝ }
+    requires { ⌜ Tallied (now tally) budget ⌝ }
+    ensures { λ r. ⌜ record { answer = r; state = now (state .exit) } ≡ told (now (state .entry)) budget (standing (now (tally .entry))) ⌝ }
+{
+    let number = tally[0];
+    if number == 3 {
+        return Answer { number: 3, input: 0, place: 0, count: budget };
+    }
+    let count = budget - tally[2];
+    if number == 0 {
+        return Answer { number: 0, input: 0, place: 0, count: count };
+    }
+    let place = widened(tally[1]);
+    hand_over(tally, state);
+    if number == 1 {
+        return Answer { number: 1, input: 1, place: place, count: count };
+    }
+    Answer { number: 2, input: 1, place: place, count: count }
+}
