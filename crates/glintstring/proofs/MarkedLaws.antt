@@ -25,9 +25,9 @@ told-marked l s marked = record {
   sized = length-set s (fluent-of l) (mark-of l) ∙ marked .sized;
   small = λ g. elim (ℕ-discrete g (fluent-of l)) [
     | yes e ↦ rw e (elim (decLt (fluent-of l) (length s)) [
-        | yes near ↦ rw (getD-set-same s (fluent-of l) (mark-of l) 0 near) (mark-most l)
-        | no far ↦ rw (List·getD-eq-default (set s (fluent-of l) (mark-of l)) 0 {n = fluent-of l} (rw (length-set s (fluent-of l) (mark-of l)) (omega arith))) (omega arith)
-      ])
+      | yes near ↦ rw (getD-set-same s (fluent-of l) (mark-of l) 0 near) (mark-most l)
+      | no far ↦ rw (List·getD-eq-default (set s (fluent-of l) (mark-of l)) 0 {n = fluent-of l} (rw (length-set s (fluent-of l) (mark-of l)) (omega arith))) (omega arith)
+    ])
     | no d ↦ rw (getD-set-other s (fluent-of l) g (mark-of l) 0 d) (marked .small g)
   ];
 }

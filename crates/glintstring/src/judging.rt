@@ -6,6 +6,7 @@ ghost use Rattle.meaning.specs.Walk.{walked};
 ghost use Rattle.meaning.specs.Judging.{within, judge};
 ghost use Rattle.steps.specs.AtHand.{request-in, At-hand};
 ghost use Rattle.glintstring.specs.Judged.{start};
+use super::telling::tell;
 use meaning::Answer;
 use reading::lists::Passed;
 use reading::marks::state_of;
@@ -15,7 +16,6 @@ use reading::table::Table;
 use reading::table::get;
 use walking::tally::opened;
 use walking::walk::walk;
-use super::telling::tell;
 
 fn start_of(items: usize) -> usize
     ensures { λ r. ⌜ r ≡ start items ⌝ }
@@ -42,11 +42,21 @@ pub fn judge(request: &[u8], state: &mut [u8], budget: u32) -> Answer
     ensures { λ r. ⌜ record { answer = r; state = now (state .exit) } ≡ judge format (now (request .entry)) (now (state .entry)) budget ⌝ }
 {
     if state.len() != 64 {
-        return Answer { number: 9, input: 0, place: 0, count: 0 };
+        return Answer {
+            number: 9,
+            input: 0,
+            place: 0,
+            count: 0,
+        };
     }
     let mut t: Table = [0u16; 9480];
     match settle(request, &mut t) {
         Passed::To(_) => walk_plan(request, &t, state, budget),
-        Passed::Fault(k, p) => Answer { number: k, input: 1, place: p, count: 0 },
+        Passed::Fault(k, p) => Answer {
+            number: k,
+            input: 1,
+            place: p,
+            count: 0,
+        },
     }
 }

@@ -44,16 +44,36 @@ pub fn tell(tally: &Tally, state: &mut [u8], budget: u32) -> Answer
 {
     let number = tally[0];
     if number == 3 {
-        return Answer { number: 3, input: 0, place: 0, count: budget };
+        return Answer {
+            number: 3,
+            input: 0,
+            place: 0,
+            count: budget,
+        };
     }
     let count = budget - tally[2];
     if number == 0 {
-        return Answer { number: 0, input: 0, place: 0, count: count };
+        return Answer {
+            number: 0,
+            input: 0,
+            place: 0,
+            count: count,
+        };
     }
     let place = widened(tally[1]);
     hand_over(tally, state);
     if number == 1 {
-        return Answer { number: 1, input: 1, place: place, count: count };
+        return Answer {
+            number: 1,
+            input: 1,
+            place: place,
+            count: count,
+        };
     }
-    Answer { number: 2, input: 1, place: place, count: count }
+    Answer {
+        number: 2,
+        input: 1,
+        place: place,
+        count: count,
+    }
 }
