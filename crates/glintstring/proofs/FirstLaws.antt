@@ -29,7 +29,7 @@ use Rattle.steps.specs.AtHand.{request-of, request-in, At-hand, Marked}
 use Rattle.steps.specs.Rests.{rest-in, rest-at, Position}
 use Rattle.steps.specs.Steps.{walk-from}
 use Rattle.steps.proofs.OnwardLaws.{few-items}
-use Rattle.glintstring.specs.Judged.{start}
+use Rattle.glintstring.specs.Telling.{start}
 use Rattle.glintstring.proofs.MarkedLaws.{state-marked}
 
 -- THE FACTS.

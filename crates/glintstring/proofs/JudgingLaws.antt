@@ -1,4 +1,4 @@
--- What the judging call answers. A settled request is at hand for the walk; the tally that the walk leaves stands as a walk from the whole
+-- What the walk call answers. A settled request is at hand for the walk; the tally that the walk leaves stands as a walk from the whole
 -- budget does, so what is told of it is what the definition says of the walk within the budget. Assumes nothing.
 use Prim.Native.Nat.{ℕ, _+_, _-_, _≤_, _<_}
 use native.Mathlib.Omega.{arith}
@@ -32,7 +32,7 @@ use Rattle.steps.specs.AtHand.{request-of, request-in, At-hand, Marked}
 use Rattle.steps.specs.Steps.{walk-from}
 use Rattle.walking.specs.Standing.{Standing, nothing, spent, so-far, spend, add, end-in, standing, Going}
 use Rattle.walking.proofs.StandingLaws.{stands-open, end-missed, end-stuck, sized-after}
-use Rattle.glintstring.specs.Judged.{start, told, Tallied}
+use Rattle.glintstring.specs.Telling.{start, told, Tallied}
 use Rattle.glintstring.proofs.MarkedLaws.{End-marked, state-marked, walked-marked}
 use Rattle.glintstring.proofs.FirstLaws.{walks-first}
 
