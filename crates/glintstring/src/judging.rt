@@ -5,12 +5,8 @@ ghost use Rattle.meaning.specs.States.{first-state};
 ghost use Rattle.meaning.specs.Walk.{walked};
 ghost use Rattle.meaning.specs.Judging.{within, judge};
 ghost use Rattle.steps.specs.AtHand.{request-in, At-hand};
-<<<<<<< HEAD
-ghost use Rattle.glintstring.specs.Judged.{start};
-=======
 ghost use Rattle.glintstring.specs.Telling.{start};
 use super::answers;
->>>>>>> hf
 use super::telling::tell;
 use meaning::Answer;
 use reading::lists::Passed;
@@ -48,13 +44,8 @@ pub fn judge(request: &[u8], state: &mut [u8], budget: u32) -> Answer
 {
     if state.len() != 64 {
         return Answer {
-<<<<<<< HEAD
-            number: 9,
-            input: 0,
-=======
             number: answers::STATE_LENGTH,
             input: answers::NEITHER_INPUT,
->>>>>>> hf
             place: 0,
             count: 0,
         };
@@ -64,11 +55,7 @@ pub fn judge(request: &[u8], state: &mut [u8], budget: u32) -> Answer
         Passed::To(_) => walk_plan(request, &t, state, budget),
         Passed::Fault(k, p) => Answer {
             number: k,
-<<<<<<< HEAD
-            input: 1,
-=======
             input: answers::THE_REQUEST,
->>>>>>> hf
             place: p,
             count: 0,
         },

@@ -46,13 +46,8 @@ pub fn tell(tally: &Tally, state: &mut [u8], budget: u32) -> Answer
     let number = tally[0];
     if number == 3 {
         return Answer {
-<<<<<<< HEAD
-            number: 3,
-            input: 0,
-=======
             number: answers::BUDGET_SPENT,
             input: answers::NEITHER_INPUT,
->>>>>>> hf
             place: 0,
             count: budget,
         };
@@ -60,13 +55,8 @@ pub fn tell(tally: &Tally, state: &mut [u8], budget: u32) -> Answer
     let count = budget - tally[2];
     if number == 0 {
         return Answer {
-<<<<<<< HEAD
-            number: 0,
-            input: 0,
-=======
             number: answers::VERIFIED,
             input: answers::NEITHER_INPUT,
->>>>>>> hf
             place: 0,
             count: count,
         };
@@ -75,25 +65,15 @@ pub fn tell(tally: &Tally, state: &mut [u8], budget: u32) -> Answer
     hand_over(tally, state);
     if number == 1 {
         return Answer {
-<<<<<<< HEAD
-            number: 1,
-            input: 1,
-=======
             number: answers::GOAL_MISSED,
             input: answers::THE_REQUEST,
->>>>>>> hf
             place: place,
             count: count,
         };
     }
     Answer {
-<<<<<<< HEAD
-        number: 2,
-        input: 1,
-=======
         number: answers::NOT_EXECUTABLE,
         input: answers::THE_REQUEST,
->>>>>>> hf
         place: place,
         count: count,
     }
