@@ -6,9 +6,15 @@ ghost use lib.Dec.{ltb};
 ghost use Rattle.meaning.specs.Walk.{fine};
 ghost use Rattle.walking.specs.Standing.{so-far, add, one, standing, Going, end-by, Held};
 
-// How a walk stands: the answer's number so far (0, 1 or 2, and 3 once the budget is spent), the place that goes with it,
-// the budget left, and from slot 3 on the 64 marks of the state concerned.
+// How a walk stands: the answer's number so far (3 once the budget is spent), the place that goes with it, the budget left,
+// and from slot 3 on the 64 marks of the state concerned.
 pub type Tally = [u32; 67];
+
+pub const MISSED: u32 = 1;
+
+pub const STUCK: u32 = 2;
+
+pub const SPENT: u32 = 3;
 
 // Nothing is walked yet.
 pub fn opened(budget: u32) -> Tally
@@ -24,7 +30,7 @@ pub fn opened(budget: u32) -> Tally
 pub fn goes_on(tally: &Tally) -> bool
     ensures { λ r. ⌜ r ≡ ltb (getD (now (tally .entry)) 0 0) 2 ⌝ }
 {
-    tally[0] < 2
+    tally[0] < STUCK
 }
 
 // One more is counted, or the budget is spent.
@@ -33,7 +39,7 @@ pub fn count_one(tally: &mut Tally)
     ensures { λ _. ⌜ standing (now (tally .exit)) ≡ add (standing (now (tally .entry))) one ⌝ }
 {
     if tally[2] == 0 {
-        tally[0] = 3;
+        tally[0] = SPENT;
         return;
     }
     tally[2] -= 1;
@@ -61,7 +67,7 @@ fn hold(tally: &mut Tally, place: usize, marks: &[u8; 64])
     tally[1] = place as u32;
 }
 
-// A miss (1), or an item that can't be run (2).
+// A miss, or an item that can't be run.
 pub fn note(tally: &mut Tally, number: u32, place: usize, marks: &[u8; 64])
     requires { ⌜ Going (now tally) ⌝ }
     requires { ⌜ length (now marks) ≡ 64 ⌝ }

@@ -8,11 +8,13 @@ ghost use Rattle.steps.specs.Rests.{Position};
 ghost use Rattle.steps.specs.Steps.{walk-from};
 ghost use Rattle.walking.specs.Standing.{add, standing, Going};
 ghost use Rattle.walking.specs.Walks.{action-at, fork-from};
+use super::tally;
 use super::tally::Tally;
 use super::tally::count_one;
 use super::tally::goes_on;
 use super::tally::note;
 use reading::bytes::wide;
+use reading::limits;
 use reading::refusals::Found;
 use reading::table;
 use reading::table::Table;
@@ -37,7 +39,7 @@ fn judge_end(s: &[u8], t: &Table, marks: &[u8; 64], tally: &mut Tally)
     if tally[0] == 0 {
         match missed(s, t, marks) {
             Found::At(p) => {
-                note(tally, 1, p, marks);
+                note(tally, tally::MISSED, p, marks);
                 return;
             }
             Found::Nowhere => {
@@ -57,10 +59,10 @@ pub fn walk(s: &[u8], t: &Table, at: usize, marks: [u8; 64], tally: &mut Tally)
 {
     let mut i = at;
     let mut state = marks;
-    while i < 1024 {
+    while i < limits::ITEMS {
         let slot = table::ITEM_PLACE + i;
         let p = get(t, slot);
-        if s[p] == 255 {
+        if s[p] == limits::BRANCHING_BYTE {
             walk_branching(s, t, i, state, tally);
             return;
         }
@@ -73,7 +75,7 @@ pub fn walk(s: &[u8], t: &Table, at: usize, marks: [u8; 64], tally: &mut Tally)
                 let sensing = is_sensing(s, t, a);
                 if sensing {
                     let f = first_unknown(s, t, a, &state);
-                    if f < 64 {
+                    if f < limits::FLUENTS {
                         fork(s, t, i, f, state, tally);
                         return;
                     }
@@ -86,7 +88,7 @@ pub fn walk(s: &[u8], t: &Table, at: usize, marks: [u8; 64], tally: &mut Tally)
             }
             return;
         }
-        note(tally, 2, p, &state);
+        note(tally, tally::STUCK, p, &state);
         return;
     }
     judge_end(s, t, &state, tally);
@@ -109,7 +111,7 @@ fn walk_branching(s: &[u8], t: &Table, i: usize, marks: [u8; 64], tally: &mut Ta
         Found::Nowhere => {
             let slot = table::ITEM_PLACE + i;
             let p = get(t, slot);
-            note(tally, 2, p, &marks);
+            note(tally, tally::STUCK, p, &marks);
             return;
         }
     }
@@ -129,14 +131,15 @@ fn fork(s: &[u8], t: &Table, i: usize, f: usize, marks: [u8; 64], tally: &mut Ta
     let p = get(t, slot);
     let a = wide(s[p]);
     let above = f + 1;
+    let second = limits::FALSE_MARK;
     let mut state = marks;
-    state[f] = 1;
+    state[f] = limits::TRUE_MARK;
     let g = next_unknown(s, t, a, above, &state);
-    if g < 64 {
+    if g < limits::FLUENTS {
         fork(s, t, i, g, state, tally);
         let on = goes_on(tally);
         if on {
-            state[f] = 2;
+            state[f] = second;
             fork(s, t, i, g, state, tally);
             return;
         }
@@ -146,7 +149,7 @@ fn fork(s: &[u8], t: &Table, i: usize, f: usize, marks: [u8; 64], tally: &mut Ta
     walk(s, t, at, state, tally);
     let on = goes_on(tally);
     if on {
-        state[f] = 2;
+        state[f] = second;
         walk(s, t, at, state, tally);
         return;
     }
