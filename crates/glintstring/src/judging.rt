@@ -1,10 +1,10 @@
+use bytes::lists::Passed;
 use meaning::Answer;
-use reading::lists::Passed;
 use reading::marks::state_of;
-use reading::settled::settle;
 use reading::table;
 use reading::table::Table;
 use reading::table::get;
+use refusing::settled::settle;
 use walking::tally::Tally;
 use walking::tally::opened;
 use walking::walk::walk;
