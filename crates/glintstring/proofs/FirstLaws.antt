@@ -18,12 +18,12 @@ use Rattle.meaning.proofs.SettledLaws.{got-same}
 use Rattle.meaning.proofs.RangeLaws.{not-refused, after-got, count-within}
 use Rattle.reading.specs.Listed.{listed, List-here}
 use Rattle.reading.specs.Planned.{items-of}
-use Rattle.reading.specs.Settled.{blank}
+use Rattle.refusing.specs.Settled.{blank}
 use Rattle.reading.proofs.PlanSizes.{count-through}
-use Rattle.reading.proofs.PlanOverlaps.{some-item}
-use Rattle.reading.proofs.HereLaws.{list-here}
-use Rattle.reading.proofs.ReadLaws.{request-parts, parts, items-noted}
-use Rattle.reading.proofs.SettleLaws.{blank-long}
+use Rattle.refusing.proofs.PlanOverlaps.{some-item}
+use Rattle.refusing.proofs.HereLaws.{list-here}
+use Rattle.refusing.proofs.ReadLaws.{request-parts, parts, items-noted}
+use Rattle.refusing.proofs.SettleLaws.{blank-long}
 use Rattle.steps.specs.AtHand.{request-of, request-in, At-hand, Marked}
 use Rattle.steps.specs.Rests.{rest-in, rest-at, Position}
 use Rattle.steps.specs.Steps.{walk-from}

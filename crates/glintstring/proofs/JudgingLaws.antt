@@ -20,12 +20,12 @@ use Rattle.meaning.specs.Walk.{End, fine, Walked, walked}
 use Rattle.meaning.specs.Judging.{ended, within, judge-settled, judge}
 use Rattle.meaning.proofs.TestLaws.{by-test, pick-true, pick-false}
 use Rattle.meaning.proofs.SettledLaws.{settled-is}
-use Rattle.reading.specs.declared.lists.Passed.{Passed}
-use Rattle.reading.specs.declared.lists.Passed.the-variants.{To, Fault as Stop}
+use Rattle.bytes.specs.declared.lists.Passed.{Passed}
+use Rattle.bytes.specs.declared.lists.Passed.the-variants.{To, Fault as Stop}
 use Rattle.reading.specs.Noted.{noting, outcome}
 use Rattle.reading.specs.Listed.{listed}
 use Rattle.reading.specs.Requested.{request-noted}
-use Rattle.reading.specs.Settled.{blank}
+use Rattle.refusing.specs.Settled.{blank}
 use Rattle.reading.proofs.SectionLaws.{noting-got, noting-fault}
 use Rattle.steps.specs.AtHand.{request-of, request-in, At-hand, Marked}
 use Rattle.steps.specs.Steps.{walk-from}

@@ -8,13 +8,13 @@ ghost use Rattle.steps.specs.AtHand.{request-in, At-hand};
 ghost use Rattle.glintstring.specs.Telling.{start};
 use super::answers;
 use super::telling::tell;
+use bytes::lists::Passed;
 use meaning::Answer;
-use reading::lists::Passed;
 use reading::marks::state_of;
-use reading::settled::settle;
 use reading::table;
 use reading::table::Table;
 use reading::table::get;
+use refusing::settled::settle;
 use walking::tally::opened;
 use walking::walk::walk;
 
