@@ -31,24 +31,24 @@ extern "C" {
 #define GLINTSTRING_REQUEST 1
 
 /* The numbers of answers (FORMAT 4.3 to 4.19), each with what its place is. */
-#define GLINTSTRING_VERIFIED 0             /* the walk verifies the plan; place 0 */
-#define GLINTSTRING_GOAL_MISSED 1          /* all paths can be run to their ends, and an end state misses a goal or a whether
-                                              entry; the first entry missed in the first such state */
-#define GLINTSTRING_NOT_EXECUTABLE 2       /* a path comes to an item that cannot be run; that item */
-#define GLINTSTRING_BUDGET_SPENT 3         /* the walk counts to more than the budget; place 0 */
-#define GLINTSTRING_STATE_LENGTH_WRONG 9   /* the lent state has another length than 64 bytes; place 0 */
-#define GLINTSTRING_TOO_LONG 10            /* the request has more than 16,384 bytes; place 0 */
-#define GLINTSTRING_INPUT_ENDS 11          /* the request ends where a byte is due; its length */
-#define GLINTSTRING_COUNT 12               /* a count is not within its limits; the count */
-#define GLINTSTRING_TOO_LARGE 13           /* a byte is too large for its fluent, literal or action; that byte */
-#define GLINTSTRING_NOT_LARGER 14          /* a list's entry is not larger than its predecessor; that byte */
-#define GLINTSTRING_COMPLEMENT 15          /* a literal is its predecessor's complement; that byte */
-#define GLINTSTRING_CONTRADICTORY 16       /* two effects are contradictory; the later, and of all such the earliest */
-#define GLINTSTRING_EFFECTS_AND_KNOWLEDGE 17 /* an action has effect lines and knowledge lines; its first knowledge line */
-#define GLINTSTRING_NOT_EXCLUSIVE 18       /* a branching has two conditions that are not exclusive; its byte 255 */
-#define GLINTSTRING_TOO_DEEP 19            /* a branching stands inside eight others; its byte 255 */
-#define GLINTSTRING_BYTES_LEFT_OVER 20     /* bytes are left over after the last section; the first of them */
-#define GLINTSTRING_TOO_MANY_ITEMS 21      /* the plan goes on to a 1,025th item; its first byte */
+#define GLINTSTRING_VERIFIED 0                  /* the walk verifies the plan; place 0 */
+#define GLINTSTRING_GOAL_MISSED 1               /* all paths can be run to their ends, and an end state misses a goal or a whether
+                                                   entry; the first entry missed in the first such state */
+#define GLINTSTRING_NOT_EXECUTABLE 2            /* a path comes to an item that cannot be run; that item */
+#define GLINTSTRING_BUDGET_SPENT 3              /* the walk counts to more than the budget; place 0 */
+#define GLINTSTRING_STATE_LENGTH_WRONG 9        /* the lent state has another length than 64 bytes; place 0 */
+#define GLINTSTRING_TOO_LONG 10                 /* the request has more than 16,384 bytes; place 0 */
+#define GLINTSTRING_INPUT_ENDS 11               /* the request ends where a byte is due; its length */
+#define GLINTSTRING_COUNT_NOT_WITHIN_LIMITS 12  /* a count is not within its limits; the count */
+#define GLINTSTRING_TOO_LARGE 13                /* a byte is too large for its fluent, literal or action; that byte */
+#define GLINTSTRING_NOT_LARGER 14               /* a list's entry is not larger than its predecessor; that byte */
+#define GLINTSTRING_COMPLEMENT 15               /* a literal is its predecessor's complement; that byte */
+#define GLINTSTRING_CONTRADICTORY 16            /* two effects are contradictory; the later, and of all such the earliest */
+#define GLINTSTRING_EFFECTS_AND_KNOWLEDGE 17    /* an action has effect lines and knowledge lines; the first such knowledge line */
+#define GLINTSTRING_NOT_EXCLUSIVE 18            /* a branching has two conditions that are not exclusive; byte 255 of the first such */
+#define GLINTSTRING_TOO_DEEP 19                 /* a branching stands inside eight others; its byte 255 */
+#define GLINTSTRING_BYTES_LEFT_OVER 20          /* bytes are left over after the last section; the first of them */
+#define GLINTSTRING_TOO_MANY_ITEMS 21           /* the plan goes on to a 1,025th item; its first byte */
 
 /*
  * An answer comes packed into one number: number + 2^8 * input + 2^16 * place + 2^32 * count. These take it apart.
@@ -68,7 +68,7 @@ static inline uint32_t glintstring_count(uint64_t answer) { return (uint32_t)(an
  * those of the format, each to the last number and byte. Any bytes may be given, of any length; a caller need not have tested
  * anything. The answer is verified (0), goal missed (1), not executable (2) or budget spent (3) exactly where the
  * 0-approximation semantics of Son and Baral gives it, walked in the format's order and within the budget; where it is 0, the
- * plan reaches its goals in every world that has the initial facts.
+ * plan can be carried out, and reaches its goals, from every world that has the initial facts.
  *
  * The lent state is written by answers 1 and 2 and by no other. Byte f is then 0 where fluent f is unknown, 1 where it is true
  * and 2 where it is false: for 1 in the end state that the place is about, for 2 in the state in which the item could not be
