@@ -44,8 +44,8 @@ extern "C" {
 #define GLINTSTRING_NOT_LARGER 14               /* a list's entry is not larger than its predecessor; that byte */
 #define GLINTSTRING_COMPLEMENT 15               /* a literal is its predecessor's complement; that byte */
 #define GLINTSTRING_CONTRADICTORY 16            /* two effects are contradictory; the later, and of all such the earliest */
-#define GLINTSTRING_EFFECTS_AND_KNOWLEDGE 17    /* an action has effect lines and knowledge lines; the first such knowledge line */
-#define GLINTSTRING_NOT_EXCLUSIVE 18            /* a branching has two conditions that are not exclusive; byte 255 of the first such */
+#define GLINTSTRING_EFFECTS_AND_KNOWLEDGE 17    /* an action has effect lines and knowledge lines; the first such of the latter */
+#define GLINTSTRING_NOT_EXCLUSIVE 18            /* a branching has two conditions that are not exclusive; its byte 255 */
 #define GLINTSTRING_TOO_DEEP 19                 /* a branching stands inside eight others; its byte 255 */
 #define GLINTSTRING_BYTES_LEFT_OVER 20          /* bytes are left over after the last section; the first of them */
 #define GLINTSTRING_TOO_MANY_ITEMS 21           /* the plan goes on to a 1,025th item; its first byte */
