@@ -26,10 +26,10 @@ abbrev tail-of : List ℕ → List ℕ
 tail-of [] = []
 tail-of (x ∷ xs) = xs
 
-heads : (x y : ℕ) (xs ys : List ℕ) → x ∷ xs ≡ y ∷ ys → x ≡ y
+pub heads : (x y : ℕ) (xs ys : List ℕ) → x ∷ xs ≡ y ∷ ys → x ≡ y
 heads x y xs ys e = ap head-of e
 
-tails : (x y : ℕ) (xs ys : List ℕ) → x ∷ xs ≡ y ∷ ys → xs ≡ ys
+pub tails : (x y : ℕ) (xs ys : List ℕ) → x ∷ xs ≡ y ∷ ys → xs ≡ ys
 tails x y xs ys e = ap tail-of e
 
 -- Lists of the same length, each with something behind it.
