@@ -4,12 +4,16 @@ use mathlib.Core.Path.{_≡_}
 use mathlib.Core.Bool.{false}
 use mathlib.Core.List.{List, [], _∷_}
 use lib.ListN.{length, getD}
+use Rattle.meaning.specs.Limits.{format}
 use Rattle.meaning.specs.Literals.{exclusive}
 use Rattle.meaning.specs.Requests.{Sequence}
-use Rattle.meaning.specs.Derivations.{Line}
+use Rattle.meaning.specs.Reading.{got}
+use Rattle.meaning.specs.Refusals.{nowhere}
+use Rattle.meaning.specs.Derivations.{Line, read-derivation, overlap-in-lines}
 use Rattle.reading.specs.Listed.{bytes-from, listed, List-here}
 use Rattle.reading.specs.Planned.{bytes-of}
 use Rattle.reading.specs.Plans.{own-items}
+use Rattle.reading.specs.DerivationRead.{settled-derivation}
 use Rattle.reading.specs.Derived.{Lines-here}
 use Rattle.checking.specs.Coded.{coded, Tellable}
 
@@ -64,3 +68,15 @@ pub record Lines-stand (d places ends : List ℕ) (lines : List Line) : Type 0 w
   pub long : length d ≤ 32768
   pub few : length lines ≤ 1024
   pub each : (k : ℕ) → k < length lines → (other : Line) → Stands d (getD places k 0) (getD ends k 0) (getD lines k other)
+
+-- A derivation of these lines was read up to e and is past 18, and the lines stand where the places say.
+pub record Derived (n m : ℕ) (d places : List ℕ) (lines : List Line) (e : ℕ) : Type 0 where
+  pub settles : settled-derivation n m d ≡ got lines e
+  pub reads : read-derivation format n m d ≡ got lines e
+  pub clear : overlap-in-lines lines ≡ nowhere
+  pub here : Lines-here n m d places 0 lines
+  pub there : 1 < length d
+  pub count : getD d 0 0 * 256 + getD d 1 0 ≡ length lines
+  pub some : 1 ≤ length lines
+  pub few : length lines ≤ 1024
+  pub long : length d ≤ 32768
