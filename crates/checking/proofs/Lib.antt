@@ -1,2 +1,3 @@
 pub mod CodedLaws
 pub mod CodedReads
+pub mod CodedPlaces
