@@ -225,17 +225,17 @@ pub record Branches-first (b : Sequence ℕ) : Type 0 where
   pub told : Tellable-branches branches
   pub tellable : Tellable rest
 
-pub acts-first : (b : Sequence ℕ) → 0 < own-items b → Tellable b → (getD (coded b) 0 0 ≡ 255 → ⊥) → Acts-first b
+pub first-acts : (b : Sequence ℕ) → 0 < own-items b → Tellable b → (getD (coded b) 0 0 ≡ 255 → ⊥) → Acts-first b
 unfolding own-items coded Tellable
-acts-first done h t other = absurd (omega arith)
-acts-first (item (act p a) rest) h t other = record { place = p; rest = rest; is = refl; more = refl; own = refl; below = t .0; tellable = t .1 }
-acts-first (item (branching p bs) rest) h t other = absurd (other refl)
+first-acts done h t other = absurd (omega arith)
+first-acts (item (act p a) rest) h t other = record { place = p; rest = rest; is = refl; more = refl; own = refl; below = t .0; tellable = t .1 }
+first-acts (item (branching p bs) rest) h t other = absurd (other refl)
 
-pub branches-first : (b : Sequence ℕ) → 0 < own-items b → Tellable b → getD (coded b) 0 0 ≡ 255 → Branches-first b
+pub first-branches : (b : Sequence ℕ) → 0 < own-items b → Tellable b → getD (coded b) 0 0 ≡ 255 → Branches-first b
 unfolding own-items coded Tellable
-branches-first done h t is = absurd (omega arith)
-branches-first (item (act p a) rest) h t is = let below = t .0 in absurd (omega arith)
-branches-first (item (branching p bs) rest) h t is = record { place = p; branches = bs; rest = rest; is = refl; more = refl; own = refl; told = t .0; tellable = t .1 }
+first-branches done h t is = absurd (omega arith)
+first-branches (item (act p a) rest) h t is = let below = t .0 in absurd (omega arith)
+first-branches (item (branching p bs) rest) h t is = record { place = p; branches = bs; rest = rest; is = refl; more = refl; own = refl; told = t .0; tellable = t .1 }
 
 pub none-done : (b : Sequence ℕ) → own-items b ≡ 0 → b ≡ done
 unfolding own-items
