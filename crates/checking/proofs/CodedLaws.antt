@@ -1,10 +1,10 @@
 -- A plan is told by how many items it has and by their bytes, wherever it stands: each part says its length before it, so that what follows a
 -- part is where it is. Joined plans have the bytes of both, and the first byte says what the first item is. Assumes nothing.
-use Prim.Native.Nat.{ℕ, zero, suc, _+_, _*_, _/_, _%_, _≤_, _<_}
+use Prim.Native.Nat.{ℕ, suc, _+_, _/_, _%_, _≤_, _<_}
 use native.Mathlib.Omega.{arith}
 use mathlib.Core.Path.{_≡_, refl, sym, _∙_, ap, ap₂}
-use mathlib.Core.Bool.{Bool, true, false, false≢true}
-use mathlib.Core.List.{List, [], _∷_, _++_, append-nil, append-assoc}
+use mathlib.Core.Bool.{true, false≢true}
+use mathlib.Core.List.{List, [], _∷_, _++_, append-assoc}
 use lib.ListN.{length, length-append, getD}
 use lib.Dec.{eqb}
 use borrow.Author.Tests.{eqb-true, eq-eqb, ne-eqb}
@@ -14,7 +14,7 @@ use Rattle.meaning.specs.Derivations.{same-list, same-plan, same-item, same-bra
 use Rattle.meaning.proofs.TestLaws.{same-test, both-left, both-right, both-true}
 use Rattle.meaning.proofs.DerivationSound.{same-list-is}
 use Rattle.reading.specs.Plans.{own-items, branches-in}
-use Rattle.reading.specs.Planned.{items-of, items-in, items-under, bytes-of, bytes-in, bytes-under}
+use Rattle.reading.specs.Planned.{items-of, bytes-of, bytes-in, bytes-under}
 use Rattle.checking.specs.Coded.{coded, coded-item, coded-branches, Tellable, Tellable-item, Tellable-branches}
 
 -- LISTS of numbers.
@@ -48,6 +48,16 @@ same-list-self (x ∷ xs) = both-true _ _ (eq-eqb x x refl) (same-list-self xs)
 
 pub is-same-list : (xs ys : List ℕ) → xs ≡ ys → same-list xs ys ≡ true
 is-same-list xs ys e = rw e (same-list-self ys)
+
+pub same-list-length : (xs ys : List ℕ) → same-list xs ys ≡ true → length xs ≡ length ys
+same-list-length xs ys e = ap length (same-list-is xs ys e)
+
+-- Part by part, where the first parts have the same length.
+pub same-list-parted : (c d r q : List ℕ) → length c ≡ length d → same-list (c ++ r) (d ++ q) ≡ both (same-list c d) (same-list r q)
+same-list-parted c d r q h =
+    same-test (same-list (c ++ r) (d ++ q)) (both (same-list c d) (same-list r q))
+    (λ e. let w = parted c d r q h (same-list-is (c ++ r) (d ++ q) e) in both-true _ _ (is-same-list c d (w .0)) (is-same-list r q (w .1)))
+    (λ e. is-same-list (c ++ r) (d ++ q) (ap₂ {C = List ℕ} (λ x y. x ++ y) (same-list-is c d (both-left _ _ e)) (same-list-is r q (both-right _ _ e))))
 
 -- FROM THE BYTES, with anything behind them.
 branch-apart : (c b rest r : List ℕ) → c ++ b ++ rest ++ r ≡ c ++ (b ++ (rest ++ r))
@@ -85,8 +95,7 @@ mutual
   told-branches (branch c x bs) (branch d y cs) h t u r q e =
       let left : List ℕ = own-items x / 256 ∷ own-items x % 256 ∷ coded x in
       let right : List ℕ = own-items y / 256 ∷ own-items y % 256 ∷ coded y in
-      let after : c ++ (left ++ (coded-branches bs ++ r)) ≡ d ++ (right ++ (coded-branches cs ++ q)) =
-          sym (branch-apart c left (coded-branches bs) r) ∙ ap tail-of e ∙ branch-apart d right (coded-branches cs) q in
+      let after = sym (branch-apart c left (coded-branches bs) r) ∙ ap tail-of e ∙ branch-apart d right (coded-branches cs) q in
       let size : length c ≡ length d = ap head-of e in
       let first = parted c d (left ++ (coded-branches bs ++ r)) (right ++ (coded-branches cs ++ q)) size after in
       let high : own-items x / 256 ≡ own-items y / 256 = ap head-of (first .1) in
@@ -157,6 +166,15 @@ unfolding Tellable join
 tellable-join done q t u = u
 tellable-join (item i p) q t u = (t .0, tellable-join p q (t .1) u)
 
+-- A joined plan against another.
+pub same-joined : (p q d : Sequence ℕ) → Tellable p → Tellable q → Tellable d
+    → same-plan (join p q) d ≡ both (eqb (own-items p + own-items q) (own-items d)) (same-list (coded p ++ coded q) (coded d))
+same-joined p q d t u v = rw (sym (coded-join p q), sym (own-join p q)) (same-coded (join p q) d (tellable-join p q t u) v)
+
+pub same-to-joined : (d p q : Sequence ℕ) → Tellable d → Tellable p → Tellable q
+    → same-plan d (join p q) ≡ both (eqb (own-items d) (own-items p + own-items q)) (same-list (coded d) (coded p ++ coded q))
+same-to-joined d p q t u v = rw (sym (coded-join p q), sym (own-join p q)) (same-coded d (join p q) t (tellable-join p q u v))
+
 -- SIZES. The bytes are as many as were counted.
 mutual
   unfolding coded bytes-of
@@ -207,17 +225,17 @@ pub record Branches-first (b : Sequence ℕ) : Type 0 where
   pub told : Tellable-branches branches
   pub tellable : Tellable rest
 
-pub acts-first : (b : Sequence ℕ) → 0 < own-items b → Tellable b → (getD (coded b) 0 0 ≡ 255 → ⊥) → Acts-first b
+pub first-acts : (b : Sequence ℕ) → 0 < own-items b → Tellable b → (getD (coded b) 0 0 ≡ 255 → ⊥) → Acts-first b
 unfolding own-items coded Tellable
-acts-first done h t other = absurd (omega arith)
-acts-first (item (act p a) rest) h t other = record { place = p; rest = rest; is = refl; more = refl; own = refl; below = t .0; tellable = t .1 }
-acts-first (item (branching p bs) rest) h t other = absurd (other refl)
+first-acts done h t other = absurd (omega arith)
+first-acts (item (act p a) rest) h t other = record { place = p; rest = rest; is = refl; more = refl; own = refl; below = t .0; tellable = t .1 }
+first-acts (item (branching p bs) rest) h t other = absurd (other refl)
 
-pub branches-first : (b : Sequence ℕ) → 0 < own-items b → Tellable b → getD (coded b) 0 0 ≡ 255 → Branches-first b
+pub first-branches : (b : Sequence ℕ) → 0 < own-items b → Tellable b → getD (coded b) 0 0 ≡ 255 → Branches-first b
 unfolding own-items coded Tellable
-branches-first done h t is = absurd (omega arith)
-branches-first (item (act p a) rest) h t is = let below = t .0 in absurd (omega arith)
-branches-first (item (branching p bs) rest) h t is = record { place = p; branches = bs; rest = rest; is = refl; more = refl; own = refl; told = t .0; tellable = t .1 }
+first-branches done h t is = absurd (omega arith)
+first-branches (item (act p a) rest) h t is = let below = t .0 in absurd (omega arith)
+first-branches (item (branching p bs) rest) h t is = record { place = p; branches = bs; rest = rest; is = refl; more = refl; own = refl; told = t .0; tellable = t .1 }
 
 pub none-done : (b : Sequence ℕ) → own-items b ≡ 0 → b ≡ done
 unfolding own-items

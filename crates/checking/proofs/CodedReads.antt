@@ -8,7 +8,7 @@ use lib.ListN.{length, getD}
 use borrow.Author.Tests.{leb-false, eqb-true}
 use Rattle.meaning.specs.Limits.{format}
 use Rattle.meaning.specs.Requests.{Sequence, Item, Branches}
-use Rattle.meaning.specs.Reading.{Got, got, Met, Part, byte-at, two-bytes-at, count-at, literals, body-at, item-at, items-at, sequence-at, branches-at, branching-at, plan-at}
+use Rattle.meaning.specs.Reading.{got, Met, byte-at, count-at, literals, body-at, item-at, items-at, sequence-at, branches-at, branching-at, plan-at}
 use Rattle.reading.specs.Listed.{bytes-from, listed}
 use Rattle.reading.specs.Planned.{bytes-of}
 use Rattle.reading.specs.Plans.{own-items, branches-in}
@@ -148,13 +148,9 @@ module _ (n m : ℕ) (s : List ℕ) (bytes : (i : ℕ) → getD s i 0 < 256) (fe
       next-on _ _ (branches-spelt deep inner left r (b .items)) λ rest e more.
       let count = one .count in let high = bytes q in let low = bytes (q + 1) in
       let code : List ℕ = own-items (b .value) / 256 ∷ own-items (b .value) % 256 ∷ coded (b .value) in
-      got-on _ _ (
-        record {
-          spelt = both-spelt s p ((length c ∷ c) ++ code) r (coded-branches (rest .value)) e (both-spelt s p (length c ∷ c) q code r condition (counted-spelt q (b .value) r one)) (more .spelt);
-          told = (omega arith, one .told, more .told);
-          own = ap suc (more .own);
-        }
-      )
+      let first : Spelt s p ((length c ∷ c) ++ code) r = both-spelt s p (length c ∷ c) q code r condition (counted-spelt q (b .value) r one) in
+      let all = both-spelt s p ((length c ∷ c) ++ code) r (coded-branches (rest .value)) e first (more .spelt) in
+      got-on _ _ (record { spelt = all; told = (omega arith, one .told, more .told); own = ap suc (more .own) })
 
   branching-spelt : (deep : ℕ) → Inner deep
   unfolding branching-at coded-item Tellable-item
@@ -162,13 +158,10 @@ module _ (n m : ℕ) (s : List ℕ) (bytes : (i : ℕ) → getD s i 0 < 256) (fe
   branching-spelt (suc deep) p met is =
       next-on (count-at 1 8 s (p + 1)) _ (record { holds = λ c q e. count-got 1 8 s (p + 1) c q e }) λ c q count.
       next-on _ _ (branches-spelt deep (branching-spelt deep) c q (met + 1)) λ bs r rest.
-      got-on _ _ (
-        record {
-          spelt = byte-spelt s p 255 r (branches-in (bs .value) ∷ coded-branches (bs .value)) is
-              (byte-spelt s (p + 1) (branches-in (bs .value)) r (coded-branches (bs .value)) (count .1 ∙ sym (rest .own)) (subst (λ (o : ℕ). Spelt s o (coded-branches (bs .value)) r) (sym (count .2)) (rest .spelt)));
-          told = rest .told;
-        }
-      )
+      let code = coded-branches (bs .value) in
+      let all : Spelt s (p + 1 + 1) code r = subst (λ (o : ℕ). Spelt s o code r) (sym (count .2)) (rest .spelt) in
+      let more = byte-spelt s (p + 1) (branches-in (bs .value)) r code (count .1 ∙ sym (rest .own)) all in
+      got-on _ _ (record { spelt = byte-spelt s p 255 r (branches-in (bs .value) ∷ code) is more; told = rest .told })
 
 -- THE PLAN, its count at p and the place after it.
 pub record Plan-coded (s : List ℕ) (p : ℕ) (b : Sequence ℕ) (e : ℕ) : Type 0 where

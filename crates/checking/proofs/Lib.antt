@@ -1,3 +1,4 @@
 pub mod CodedLaws
 pub mod CodedReads
 pub mod StandLaws
+pub mod CodedPlaces
