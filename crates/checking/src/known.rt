@@ -31,18 +31,19 @@ pub fn lists_known(marks: &[u8; 64], s: &[u8], p: usize) -> bool
     let mut f = 0;
     while f < 64 {
         let mark = wide(marks[f]);
-        if 0 < mark {
-            if end <= i {
-                return false;
-            }
-            i += 1;
-            let twice = 2 * f;
-            let l = twice + mark - 1;
-            if wide(s[i]) != l {
-                return false;
-            }
-        }
+        let twice = 2 * f;
         f += 1;
+        if mark == 0 {
+            continue;
+        }
+        if end <= i {
+            return false;
+        }
+        i += 1;
+        let l = twice + mark - 1;
+        if wide(s[i]) != l {
+            return false;
+        }
     }
     i == end
 }
