@@ -6,7 +6,7 @@ use mathlib.Core.Path.{_≡_, refl, sym, _∙_, ap}
 use mathlib.Core.Bool.{Bool, true, false}
 use mathlib.Core.List.{List, [], _∷_, _++_}
 use lib.ListN.{length, getD, take, drop, take-append-drop, drop-of-length-le, length-drop, length-append}
-use lib.Seq.{drop-cons, take-append-seam, length-take-le, slice, slice-empty, slice-cons, length-slice}
+use lib.Seq.{drop-cons, take-append-seam, take-length, length-take-le}
 use lib.Dec.{eqb}
 use borrow.Author.Tests.{eq-eqb, ne-eqb}
 use Rattle.meaning.specs.Tests.{both}
@@ -14,6 +14,7 @@ use Rattle.meaning.specs.Derivations.{same-list}
 use Rattle.meaning.proofs.TestLaws.{by-test, clash, both-true}
 use Rattle.meaning.proofs.DerivationSound.{same-list-is}
 use Rattle.reading.specs.Listed.{bytes-from, listed, List-here}
+use Rattle.reading.proofs.HereLaws.{bytes-length}
 
 -- EQUAL LISTS pass, and lists that differ do not.
 pub same-list-self : (xs : List ℕ) → same-list xs xs ≡ true
@@ -61,9 +62,16 @@ unfolding same-list both
 joined-same [] one other = refl
 joined-same (x ∷ xs) one other = rw (eq-eqb x x refl) (joined-same xs one other)
 
+-- The part `&s[a..]`.
+pub rest-part : (s : List ℕ) (a : ℕ) → take (length s - a) (drop a s) ≡ drop a s
+rest-part s a = rw (sym (length-drop a s)) (take-length (drop a s))
+
 module _ (whole first rest : List ℕ) where
   pub joined-longer : length whole < length first → false ≡ same-list whole (first ++ rest)
   joined-longer short = same-list-other whole (first ++ rest) (λ e. let sum = ap length e ∙ length-append first rest in omega (arith, sum, short))
+
+  pub joined-fits : length first ≤ length whole → length first ≡ length (take (length first) whole)
+  joined-fits room = sym (length-take-le (length first) whole room)
 
   module _ (begins : Bool) (tested : begins ≡ same-list (take (length first) whole) first) where
     pub joined-not : begins ≡ false → false ≡ same-list whole (first ++ rest)
@@ -71,26 +79,41 @@ module _ (whole first rest : List ℕ) where
         same-list-other whole (first ++ rest)
         (λ e. clash (same-list-equal _ _ (ap (take (length first)) e ∙ take-append-seam first rest)) (sym tested ∙ f))
 
-    pub joined-rest : begins ≡ true → (r : Bool) → r ≡ same-list (drop (length first) whole) rest → r ≡ same-list whole (first ++ rest)
+    pub joined-rest : begins ≡ true → (r : Bool) → r ≡ same-list (take (length whole - length first) (drop (length first) whole)) rest → r ≡ same-list whole (first ++ rest)
     joined-rest t r is =
         let front = same-list-is (take (length first) whole) first (sym tested ∙ t) in
         let all : whole ≡ first ++ drop (length first) whole = sym (take-append-drop (length first) whole) ∙ ap (λ (xs : List ℕ). xs ++ drop (length first) whole) front in
-        is ∙ sym (joined-same first (drop (length first) whole) rest) ∙ ap (λ (xs : List ℕ). same-list xs (first ++ rest)) (sym all)
+        is
+        ∙ ap (λ (xs : List ℕ). same-list xs rest) (rest-part whole (length first))
+        ∙ sym (joined-same first (drop (length first) whole) rest)
+        ∙ ap (λ (xs : List ℕ). same-list xs (first ++ rest)) (sym all)
 
--- THE PART of k bytes from place p on.
-pub bytes-slice : (s : List ℕ) (k p : ℕ) → p + k ≤ length s → bytes-from s p k ≡ slice p (p + k) s
-unfolding bytes-from
-bytes-slice s zero p within = let none : p + zero ≡ p = omega arith in rw none (sym (slice-empty p s))
-bytes-slice s (suc k) p within =
-    let on : p + suc k ≡ p + 1 + k = omega arith in
-    let up : suc p ≡ p + 1 = omega arith in
-    ap (λ (xs : List ℕ). getD s p 0 ∷ xs) (bytes-slice s k (p + 1) (omega (arith, within)))
-    ∙ sym (slice-cons p (p + suc k) s 0 (omega arith) within ∙ rw (up, on))
-
+-- A PART `&s[a..b]` holds `take (b - a) (drop a s)`: the bytes from place a on, and that many.
 pub bytes-take : (s : List ℕ) (k p : ℕ) → p + k ≤ length s → bytes-from s p k ≡ take k (drop p s)
 unfolding bytes-from
 bytes-take s zero p within = refl
 bytes-take s (suc k) p within =
-    let up : suc p ≡ p + 1 = omega arith in
     ap (λ (xs : List ℕ). getD s p 0 ∷ xs) (bytes-take s k (p + 1) (omega (arith, within)))
-    ∙ sym (rw (drop-cons s p 0 (omega (arith, within)), up))
+    ∙ ap (take (suc k)) (sym (drop-next s p (omega (arith, within))))
+
+pub part-bytes : (s : List ℕ) (a b : ℕ) → a ≤ b → b ≤ length s → take (b - a) (drop a s) ≡ bytes-from s a (b - a)
+part-bytes s a b up within = sym (bytes-take s (b - a) a (omega (arith, up, within)))
+
+pub part-length : (s : List ℕ) (a b : ℕ) → a ≤ b → b ≤ length s → length (take (b - a) (drop a s)) ≡ b - a
+part-length s a b up within = rw (part-bytes s a b up within) (bytes-length s (b - a) a)
+
+module _ (s : List ℕ) (p k : ℕ) (within : p + k ≤ length s) where
+  pub part-is : take (p + k - p) (drop p s) ≡ bytes-from s p k
+  part-is = let size : p + k - p ≡ k = omega arith in rw size (sym (bytes-take s k p within))
+
+  pub part-size : length (take (p + k - p) (drop p s)) ≡ k
+  part-size = rw part-is (bytes-length s k p)
+
+-- The part after the count of a list that stands at p.
+pub part-listed : (bound : ℕ) (s : List ℕ) (p x : ℕ) → List-here bound s p → x ≡ getD s p 0 → take (p + 1 + x - (p + 1)) (drop (p + 1) s) ≡ listed s p
+unfolding listed
+part-listed bound s p x here byte = let ends = here .ends in part-is s (p + 1) x (omega (arith, ends, byte)) ∙ ap (bytes-from s (p + 1)) byte
+
+pub lists-same : (s : List ℕ) (p : ℕ) (u : List ℕ) (q x y : ℕ) (r : Bool) → List-here 128 s p → List-here 128 u q → x ≡ getD s p 0 → y ≡ getD u q 0
+    → r ≡ same-list (take (p + 1 + x - (p + 1)) (drop (p + 1) s)) (take (q + 1 + y - (q + 1)) (drop (q + 1) u)) → r ≡ same-list (listed s p) (listed u q)
+lists-same s p u q x y r here there first second is = is ∙ rw (part-listed 128 s p x here first, part-listed 128 u q y there second)

@@ -1,3 +1,6 @@
+-- Where the part begins with the first of the two, what is left of it is compared with the other; and where it does not, or is shorter,
+-- it is not the two.
+use Rattle.checking.proofs.PartLaws.{joined-longer, joined-fits, joined-not, joined-rest}
 use borrow.Author.Needs.{needs}
 use Rattle.checking.proofs.parts.same_joined.Statement.{statement}
 use Rattle.checking.proofs.parts.same_joined.Tie as tie
@@ -7,11 +10,11 @@ use Rattle.checking.proofs.parts.same_part.Reads as same-part-reads
 
 -- src/parts.rt:30:9
 returns : tie.Need-returns
-returns c = ?
+returns c = search joined-longer
 
 -- src/parts.rt:32:28
 slice-aggregate-same-part : tie.Need-slice-aggregate-same-part
-slice-aggregate-same-part c = ?
+slice-aggregate-same-part c = search joined-fits
 
 -- src/parts.rt:32:9
 same-part-requires : tie.Need-same-part-requires
@@ -35,11 +38,11 @@ same-part-requires-2 c κs = search needs
 
 -- src/parts.rt:34:9
 returns-2 : tie.Need-returns-2
-returns-2 c = ?
+returns-2 c = search joined-rest
 
 -- src/parts.rt:25:1
 returns-3 : tie.Need-returns-3
-returns-3 c = ?
+returns-3 c = search joined-not
 
 pub same-joined-spec : {M : Type 1} → statement M
 same-joined-spec =

@@ -1,3 +1,5 @@
+-- What stands after each count, up to the list's end, is the list.
+use Rattle.checking.proofs.PartLaws.{lists-same}
 use borrow.Author.Needs.{needs}
 use Rattle.checking.proofs.parts.same_lists.Statement.{statement}
 use Rattle.checking.proofs.parts.same_lists.Tie as tie
@@ -68,7 +70,7 @@ same-part-requires c κs = search needs
 
 -- src/parts.rt:40:1
 returns : tie.Need-returns
-returns c = ?
+returns c = search lists-same
 
 pub same-lists-spec : {M : Type 1} → statement M
 same-lists-spec =
