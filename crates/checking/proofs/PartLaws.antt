@@ -31,7 +31,7 @@ same-list-other xs ys other = by-test (same-list xs ys) (λ t. absurd (other (sa
 pub lengths-differ : (xs ys : List ℕ) → (length xs ≡ length ys → ⊥) → false ≡ same-list xs ys
 lengths-differ xs ys other = same-list-other xs ys (λ e. other (ap length e))
 
-drop-next : (xs : List ℕ) (i : ℕ) → i < length xs → drop i xs ≡ getD xs i 0 ∷ drop (i + 1) xs
+pub drop-next : (xs : List ℕ) (i : ℕ) → i < length xs → drop i xs ≡ getD xs i 0 ∷ drop (i + 1) xs
 drop-next xs i more = let up : suc i ≡ i + 1 = omega arith in drop-cons xs i 0 more ∙ ap (λ (k : ℕ). getD xs i 0 ∷ drop k xs) up
 
 -- TWO PARTS, compared up to entry i.

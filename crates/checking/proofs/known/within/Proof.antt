@@ -1,3 +1,5 @@
+-- The state of the second list knows just the list's literals, since none of them stands beside its complement.
+use Rattle.checking.proofs.KnownLaws.{within-is}
 use borrow.Author.Needs.{needs}
 use Rattle.checking.proofs.known.within.Statement.{statement}
 use Rattle.checking.proofs.known.within.Tie as tie
@@ -16,7 +18,7 @@ each-holds-requires c κs = search needs
 
 -- src/known.rt:13:1
 returns : tie.Need-returns
-returns c = ?
+returns c = search within-is
 
 pub within-spec : {M : Type 1} → statement M
 within-spec = tie.close (tie.spec state-of-requires each-holds-requires returns)
