@@ -2,3 +2,5 @@ pub mod CodedLaws
 pub mod CodedReads
 pub mod StandLaws
 pub mod CodedPlaces
+pub mod PartLaws
+pub mod KnownLaws
