@@ -9,6 +9,8 @@ use Rattle.meaning.specs.Derivations.{Line, same-plan, join}
 use Rattle.reading.specs.Listed.{bytes-from}
 use Rattle.reading.specs.Planned.{bytes-of}
 use Rattle.reading.specs.Plans.{own-items}
+use Rattle.reading.specs.Derived.{Line-here}
+use Rattle.steps.proofs.SmallActions.{Small}
 use Rattle.checking.specs.Coded.{coded, Tellable}
 use Rattle.checking.specs.Stands.{Plan-stands, Stands, Lines-stand}
 
@@ -38,11 +40,12 @@ pub record Same-plans (d : List ℕ) (q e : ℕ) (u : List ℕ) (r f : ℕ) (ans
 pub record Joined-plans (d : List ℕ) (q e a b count g h more : ℕ) (answer : Bool) : Type 0 where
   pub holds : (c first rest : Sequence ℕ) → Plan-stands d q e c → Items-stand d a b count first → Items-stand d g h more rest → answer ≡ same-plan c (join first rest)
 
--- LINES. One stands at p, with its list Y at y.
+-- LINES. One stands at p, with its list Y at y; its actions are below 64.
 pub record Some-line (d : List ℕ) (p y : ℕ) : Type 0 where
   pub long : length d ≤ 32768
   pub line : Line
   pub stands : Stands d p y line
+  pub small : Small (line .c)
 
 pub record Ruled (d : List ℕ) (p y : ℕ) (rule : Line → Bool) (answer : Bool) : Type 0 where
   pub holds : (l : Line) → Stands d p y l → answer ≡ rule l
@@ -50,6 +53,16 @@ pub record Ruled (d : List ℕ) (p y : ℕ) (rule : Line → Bool) (answer : Boo
 -- By a line that it cites.
 pub record Ruled-by (d : List ℕ) (pc yc p y : ℕ) (rule : Line → Line → Bool) (answer : Bool) : Type 0 where
   pub holds : (c l : Line) → Stands d pc yc c → Stands d p y l → answer ≡ rule c l
+
+-- Where the line itself is read again, with n fluents and m actions.
+pub record Some-read (n m : ℕ) (d : List ℕ) (p y : ℕ) : Type 0 where
+  pub long : length d ≤ 32768
+  pub line : Line
+  pub here : Line-here n m d p line
+  pub stands : Stands d p y line
+
+pub record Read-by (n m : ℕ) (d : List ℕ) (pc yc p y : ℕ) (rule : Line → Line → Bool) (answer : Bool) : Type 0 where
+  pub holds : (c l : Line) → Stands d pc yc c → Line-here n m d p l → Stands d p y l → answer ≡ rule c l
 
 -- By two.
 pub record Ruled-by-two (d : List ℕ) (p₁ y₁ p₂ y₂ p y : ℕ) (rule : Line → Line → Line → Bool) (answer : Bool) : Type 0 where

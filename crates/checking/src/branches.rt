@@ -1,6 +1,6 @@
 ghost use Prim.Native.Nat.{_≤_};
 ghost use Rattle.meaning.specs.Derivations.{rule-4};
-ghost use Rattle.checking.specs.Rules.{Some-line, Ruled-by};
+ghost use Rattle.checking.specs.Rules.{Some-line, Some-read, Read-by};
 use reading::bytes::Read;
 use reading::bytes::wide;
 use reading::limits;
@@ -75,8 +75,8 @@ pub fn rule_4(n: usize, m: usize, d: &[u8], t: &mut Table, pc: usize, yc: usize,
     requires { ⌜ n ≤ 64 ⌝ }
     requires { ⌜ m ≤ 64 ⌝ }
     requires { ⌜ Some-line (now d) pc yc ⌝ }
-    requires { ⌜ Some-line (now d) p y ⌝ }
-    ensures { λ r. ⌜ Ruled-by (now (d .entry)) pc yc p y rule-4 r ⌝ }
+    requires { ⌜ Some-read n m (now d) p y ⌝ }
+    ensures { λ r. ⌜ Read-by n m (now (d .entry)) pc yc p y rule-4 r ⌝ }
 {
     let starts = same_lists(d, pc, d, p);
     if starts {
