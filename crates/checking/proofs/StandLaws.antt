@@ -12,7 +12,7 @@ use lib.Dec.{eqb}
 use borrow.Author.Tests.{ltb-false, eqb-true, eqb-false}
 use Rattle.meaning.specs.Limits.{format}
 use Rattle.meaning.specs.Requests.{Sequence, done}
-use Rattle.meaning.specs.Reading.{Got, got, fault, next, Met, literals, byte-at, two-bytes-at, count-at, bound-of, list-at, repeated, plan-at}
+use Rattle.meaning.specs.Reading.{got, fault, next, Met, literals, byte-at, two-bytes-at, count-at, bound-of, list-at, repeated, plan-at}
 use Rattle.meaning.specs.Refusals.{nowhere}
 use Rattle.meaning.specs.Derivations.{Line, line-at, read-derivation, overlap-in-lines}
 use Rattle.meaning.proofs.TestLaws.{by-test, clash, either-left, either-right}
