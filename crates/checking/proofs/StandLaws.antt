@@ -12,7 +12,7 @@ use lib.Dec.{eqb}
 use borrow.Author.Tests.{ltb-false, eqb-true, eqb-false}
 use Rattle.meaning.specs.Limits.{format}
 use Rattle.meaning.specs.Requests.{Sequence, done}
-use Rattle.meaning.specs.Reading.{Got, got, fault, next, Met, literals, byte-at, two-bytes-at, count-at, bound-of, list-at, repeated, plan-at}
+use Rattle.meaning.specs.Reading.{got, fault, next, Met, literals, byte-at, two-bytes-at, count-at, bound-of, list-at, repeated, plan-at}
 use Rattle.meaning.specs.Refusals.{nowhere}
 use Rattle.meaning.specs.Derivations.{Line, line-at, read-derivation, overlap-in-lines}
 use Rattle.meaning.proofs.TestLaws.{by-test, clash, either-left, either-right}
@@ -36,7 +36,7 @@ use Rattle.reading.proofs.PlanOverlaps.{listed-length}
 use Rattle.reading.proofs.NotingLaws.{with-items, met-value, met-fault, fault-met}
 use Rattle.reading.proofs.WrittenLaws.{two-is}
 use Rattle.reading.proofs.DerivedLaws.{derived-here}
-use Rattle.checking.specs.Stands.{after-list, List-stands, Plan-stands, Numbers-stand, Stands, Y-place, Ends-noted, Lines-stand, Derived}
+use Rattle.checking.specs.Stands.{after-list, List-stands, Plan-stands, Numbers-stand, Stands, Y-place, Ends-noted, Lines-stand, Derived, Some-derived}
 use Rattle.checking.proofs.CodedReads.{plan-coded}
 
 module _ (n m : ℕ) (d : List ℕ) where
@@ -109,18 +109,17 @@ module _ (n m : ℕ) (d : List ℕ) where
       after-got (byte-at d t) _ is3 λ rule u byte is4.
       after-got (count-at 0 64 d u) _ is4 λ k v count is5.
       after-got (repeated (two-bytes-at d) k v) _ is5 λ cites i numbers is6.
-      subst (Line-parts p) (got-same is6) (
-        record {
-          place = refl;
-          X = list-stands few p X q first;
-          plan = plan;
-          end = r;
-          reads = subst (λ (j : ℕ). plan-at format n m d j ≡ got plan r) (list-after few p X q first) reads;
-          is = refl;
-          Y = list-stands few r Y t second;
-          rest = subst (λ (j : ℕ). Cites-stand j rule cites) (list-after few r Y t second) (cites-stand t rule u k v cites i byte count numbers);
-        }
-      )
+      subst (Line-parts p) (got-same is6)
+      (record {
+        place = refl;
+        X = list-stands few p X q first;
+        plan = plan;
+        end = r;
+        reads = subst (λ (j : ℕ). plan-at format n m d j ≡ got plan r) (list-after few p X q first) reads;
+        is = refl;
+        Y = list-stands few r Y t second;
+        rest = subst (λ (j : ℕ). Cites-stand j rule cites) (list-after few r Y t second) (cites-stand t rule u k v cites i byte count numbers);
+      })
 
   -- Where the plan ends, and within the input.
   plan-ends : (q : ℕ) (x : Met (Sequence ℕ)) (e : ℕ) → plan-at format n m d q ≡ got x e → (e ≡ q + (2 + bytes-of (x .value))) × (e ≤ length d)
@@ -156,19 +155,18 @@ module _ (n m : ℕ) (d : List ℕ) where
     line-stands p l here =
         let w = line-parts few p l here in
         let rest = w .rest in
-        subst (λ (y : ℕ). Stands d p y l) (line-ends p l w) (
-          record {
-            place = w .place;
-            X = w .X;
-            plan = subst (Plan-stands d (after-list d p) (w .end)) (w .is) (plan-stands (after-list d p) (w .plan) (w .end) (w .reads));
-            Y = w .Y;
-            ruled = rest .ruled;
-            rule = rest .rule;
-            cited = rest .cited;
-            most = rest .most;
-            cites = rest .cites;
-          }
-        )
+        subst (λ (y : ℕ). Stands d p y l) (line-ends p l w)
+        (record {
+          place = w .place;
+          X = w .X;
+          plan = subst (Plan-stands d (after-list d p) (w .end)) (w .is) (plan-stands (after-list d p) (w .plan) (w .end) (w .reads));
+          Y = w .Y;
+          ruled = rest .ruled;
+          rule = rest .rule;
+          cited = rest .cited;
+          most = rest .most;
+          cites = rest .cites;
+        })
 
   -- LINES. Line k stands where slot k says.
   line-from : (places : List ℕ) (k : ℕ) (ls : List Line) → Lines-here n m d places k ls → (i : ℕ) → i < length ls → (other : Line) → Line-here n m d (getD places (k + i) 0) (getD ls i other)
@@ -238,8 +236,8 @@ module _ (n m : ℕ) (d : List ℕ) where
                 holds = λ ls here size i h less other.
                     ap (λ (v : List ℕ). getD v i 0) put
                     ∙ by-test (eqb i k)
-                      (λ same. let at : i ≡ k = eqb-true i k same in rw at (here-is ls here size other))
-                      (λ apart. kept ends k i e (λ f. eqb-false i k apart f) ∙ so-far .holds ls here size i (omega (arith, h, eqb-false i k apart)) less other);
+                    (λ same. let at : i ≡ k = eqb-true i k same in rw at (here-is ls here size other))
+                    (λ apart. kept ends k i e (λ f. eqb-false i k apart f) ∙ so-far .holds ls here size i (omega (arith, h, eqb-false i k apart)) less other);
               }
             where
               here-is : (ls : List Line) → Lines-here n m d places 0 ls → length ls ≡ count → (other : Line) → getD (set ends k e) k 0 ≡ Y-place (getD ls k other)
@@ -303,8 +301,7 @@ module _ (n m : ℕ) (d : List ℕ) where
       let same : ls ≡ w .0 = got-same (clear .1) in
       let whole : read-derivation format n m d ≡ got (w .0) e = reads ∙ clear .1 in
       let size = counted (w .0) e whole in
-      let here = derived-here n m d t places r (read-as t places (w .0) e whole (w .2) r is) e is long in
-      (
+      let here = derived-here n m d t places r (read-as t places (w .0) e whole (w .2) r is) e is long in (
         w .0,
         record {
           settles = w .1;
@@ -319,17 +316,40 @@ module _ (n m : ℕ) (d : List ℕ) where
         },
       )
 
-  -- What the derivation's first two bytes say.
+  pub derived-whole : (t places : List ℕ) (r : Passed) → outcome r places ≡ noting (places-noted 0) (settled-derivation n m d) t → (e : ℕ) → r ≡ To e → length t ≡ 1024 → Some-derived n m d places e
+  derived-whole t places r read e is long = let w = derived-lines t places r read e is long in record { lines = w .0; derived = w .1 }
+
   module _ (places : List ℕ) (lines : List Line) (e : ℕ) (here : Derived n m d places lines e) (count : ℕ) (is : count ≡ getD d 0 0 * 256 + getD d 1 0) where
     pub derived-count : length lines ≡ count
     derived-count = sym (is ∙ here .count)
 
-    pub derived-few : count ≤ 1024
-    derived-few = let few = here .few in let same = derived-count in omega arith
-
-    pub derived-some : Some-lines n m d places count
-    derived-some = record { lines = lines; here = here .here; size = derived-count }
-
     pub derived-stand : (bytes : (i : ℕ) → Fits w8 (getD d i 0)) → n ≤ 64 → m ≤ 64 → (ends : List ℕ) → Ends-noted n m d places count ends → Lines-stand d places ends lines
     derived-stand bytes few less ends noted =
         lines-stand bytes few less places lines (here .here) (here .long) (here .few) ends (subst (λ (k : ℕ). Ends-noted n m d places k ends) (sym derived-count) noted)
+
+  -- Whatever lines these are, the first two bytes are there and say how many.
+  module _ (places : List ℕ) (e : ℕ) (some : Some-derived n m d places e) where
+    here : Derived n m d places (some .lines) e
+    here = some .derived
+
+    pub count-first : 0 < length d
+    count-first = let there = here .there in omega arith
+
+    pub count-second : 1 < length d
+    count-second = here .there
+
+    pub derived-long : length d ≤ 32768
+    derived-long = here .long
+
+    module _ (count : ℕ) (is : count ≡ getD d 0 0 * 256 + getD d 1 0) where
+      same : length (some .lines) ≡ count
+      same = derived-count places (some .lines) e here count is
+
+      pub derived-least : 1 ≤ count
+      derived-least = let least = here .some in let size = same in omega arith
+
+      pub derived-few : count ≤ 1024
+      derived-few = let few = here .few in let size = same in omega arith
+
+      pub derived-some : Some-lines n m d places count
+      derived-some = record { lines = some .lines; here = here .here; size = same }

@@ -80,3 +80,8 @@ pub record Derived (n m : ℕ) (d places : List ℕ) (lines : List Line) (e : �
   pub some : 1 ≤ length lines
   pub few : length lines ≤ 1024
   pub long : length d ≤ 32768
+
+-- Whatever lines these are.
+pub record Some-derived (n m : ℕ) (d places : List ℕ) (e : ℕ) : Type 0 where
+  pub lines : List Line
+  pub derived : Derived n m d places lines e
