@@ -99,7 +99,7 @@ known-starts marks s p x end byte is =
     ap (λ (k : ℕ). same-list (bytes-from s (p + 1) k) (known-from marks 0 marks)) left
 
 module _ (marks : State) (marked : Marked marks) (f mark : ℕ) (at : mark ≡ getD marks f 0) where
-  pub mark-small : mark ≤ 2
+  mark-small : mark ≤ 2
   mark-small = let most = marked .small f in omega (arith, at, most)
 
   pub literal-fits : f < 64 → Fits w64 (2 * f + mark)

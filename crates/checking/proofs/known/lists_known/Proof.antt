@@ -96,7 +96,10 @@ loop-less-2 c = search needs
 
 -- src/known.rt:32:5
 loop-again-2 : tie.Need-loop-again-2 Inv-loop μ-loop
-loop-again-2 c = (search needs, search needs, known-same _ (search needs) _ _ (c .before .before .before .before .before .wide2 .ensures) (search needs) _ _ _ _ (search needs) (search needs) (search needs) _ (c .before .wide3 .ensures) (search needs))
+loop-again-2 c =
+    let mark = c .before .before .before .before .before .wide2 .ensures in
+    let entry = c .before .wide3 .ensures in
+    (search needs, search needs, known-same _ (search needs) _ _ mark (search needs) _ _ _ _ (search needs) (search needs) (search needs) _ entry (search needs))
 
 -- src/known.rt:24:1
 returns-3 : tie.Need-returns-3 Inv-loop μ-loop
