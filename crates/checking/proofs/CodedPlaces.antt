@@ -10,9 +10,9 @@ use Rattle.meaning.specs.Tests.{both}
 use Rattle.meaning.specs.Requests.{Sequence, done, item, act, branching, Branches, branch}
 use Rattle.meaning.specs.Derivations.{same-list, same-plan}
 use Rattle.reading.specs.Listed.{bytes-from, listed}
-use Rattle.reading.specs.Branchings.{sequence-place}
+use Rattle.refusing.specs.Branchings.{sequence-place}
 use Rattle.reading.specs.Planned.{bytes-of, bytes-under}
-use Rattle.reading.specs.Plans.{own-items, branches-in}
+use Rattle.refusing.specs.Plans.{own-items, branches-in}
 use Rattle.checking.specs.Coded.{coded, coded-branches, Tellable, Tellable-branches}
 use Rattle.checking.proofs.CodedLaws.{heads, tails, same-coded, coded-length, branches-length}
 use Rattle.checking.proofs.CodedReads.{Plan-coded}

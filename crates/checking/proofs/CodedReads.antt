@@ -11,12 +11,12 @@ use Rattle.meaning.specs.Requests.{Sequence, Item, Branches}
 use Rattle.meaning.specs.Reading.{got, Met, byte-at, count-at, literals, body-at, item-at, items-at, sequence-at, branches-at, branching-at, plan-at}
 use Rattle.reading.specs.Listed.{bytes-from, listed}
 use Rattle.reading.specs.Planned.{bytes-of}
-use Rattle.reading.specs.Plans.{own-items, branches-in}
+use Rattle.refusing.specs.Plans.{own-items, branches-in}
 use Rattle.reading.proofs.SectionLaws.{byte-got, count-got}
-use Rattle.reading.proofs.HereLaws.{list-here}
-use Rattle.reading.proofs.PlanOverlaps.{listed-length}
+use Rattle.refusing.proofs.HereLaws.{list-here}
+use Rattle.refusing.proofs.PlanOverlaps.{listed-length}
 use Rattle.reading.proofs.PlanSizes.{On, got-on, fault-on, pick-on, next-on, body-through, sequence-read}
-use Rattle.reading.proofs.WrittenLaws.{two-is}
+use Rattle.refusing.proofs.WrittenLaws.{two-is}
 use Rattle.checking.specs.Coded.{coded, coded-item, coded-branches, Tellable, Tellable-item, Tellable-branches}
 use Rattle.checking.proofs.CodedLaws.{heads, tails, coded-length, own-most}
 

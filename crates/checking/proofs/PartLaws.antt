@@ -14,7 +14,7 @@ use Rattle.meaning.specs.Derivations.{same-list}
 use Rattle.meaning.proofs.TestLaws.{by-test, clash, both-true}
 use Rattle.meaning.proofs.DerivationSound.{same-list-is}
 use Rattle.reading.specs.Listed.{bytes-from, listed, List-here}
-use Rattle.reading.proofs.HereLaws.{bytes-length}
+use Rattle.refusing.proofs.HereLaws.{bytes-length}
 
 -- EQUAL LISTS pass, and lists that differ do not.
 pub same-list-self : (xs : List ℕ) → same-list xs xs ≡ true

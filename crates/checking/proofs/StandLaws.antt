@@ -18,24 +18,24 @@ use Rattle.meaning.specs.Derivations.{Line, line-at, read-derivation, overlap-i
 use Rattle.meaning.proofs.TestLaws.{by-test, clash, either-left, either-right}
 use Rattle.meaning.proofs.SettledLaws.{fault≢got, got-same, refuse-got}
 use Rattle.meaning.proofs.RangeLaws.{not-refused, after-got, count-within}
-use Rattle.reading.specs.declared.bytes.Read.{Read}
-use Rattle.reading.specs.declared.bytes.Read.the-variants.{Value, Fault}
-use Rattle.reading.specs.declared.lists.Passed.{Passed}
-use Rattle.reading.specs.declared.lists.Passed.the-variants.{To}
+use Rattle.bytes.specs.declared.bytes.Read.{Read}
+use Rattle.bytes.specs.declared.bytes.Read.the-variants.{Value, Fault}
+use Rattle.bytes.specs.declared.lists.Passed.{Passed}
+use Rattle.bytes.specs.declared.lists.Passed.the-variants.{To}
 use Rattle.reading.specs.Noted.{noting, outcome}
 use Rattle.reading.specs.Listed.{List-here}
 use Rattle.reading.specs.Planned.{bytes-of, plan-noted, noting-met, outcome-met}
-use Rattle.reading.specs.Branchings.{sequence-place}
-use Rattle.reading.specs.DerivationRead.{places-noted, settled-derivation}
-use Rattle.reading.specs.Derived.{Line-here, Lines-here, Some-lines}
+use Rattle.refusing.specs.Branchings.{sequence-place}
+use Rattle.deriving.specs.DerivationRead.{places-noted, settled-derivation}
+use Rattle.deriving.specs.Derived.{Line-here, Lines-here, Some-lines}
 use Rattle.reading.proofs.SectionLaws.{got-place, byte-got, count-got, repeated-length, noting-got}
-use Rattle.reading.proofs.HereLaws.{list-here, list-apart}
-use Rattle.reading.proofs.KeptLaws.{kept}
+use Rattle.refusing.proofs.HereLaws.{list-here, list-apart}
+use Rattle.refusing.proofs.KeptLaws.{kept}
 use Rattle.reading.proofs.PlanSizes.{list-through, sequence-read}
-use Rattle.reading.proofs.PlanOverlaps.{listed-length}
+use Rattle.refusing.proofs.PlanOverlaps.{listed-length}
 use Rattle.reading.proofs.NotingLaws.{with-items, met-value, met-fault, fault-met}
-use Rattle.reading.proofs.WrittenLaws.{two-is}
-use Rattle.reading.proofs.DerivedLaws.{derived-here}
+use Rattle.refusing.proofs.WrittenLaws.{two-is}
+use Rattle.deriving.proofs.DerivedLaws.{derived-here}
 use Rattle.checking.specs.Stands.{after-list, List-stands, Plan-stands, Numbers-stand, Stands, Y-place, Ends-noted, Lines-stand, Derived, Some-derived}
 use Rattle.checking.proofs.CodedReads.{plan-coded}
 

@@ -8,8 +8,8 @@ use Rattle.meaning.specs.Requests.{Sequence}
 use Rattle.meaning.specs.Derivations.{Line, same-plan, join}
 use Rattle.reading.specs.Listed.{bytes-from}
 use Rattle.reading.specs.Planned.{bytes-of}
-use Rattle.reading.specs.Plans.{own-items}
-use Rattle.reading.specs.Derived.{Line-here}
+use Rattle.refusing.specs.Plans.{own-items}
+use Rattle.deriving.specs.Derived.{Line-here}
 use Rattle.steps.proofs.SmallActions.{Small}
 use Rattle.checking.specs.Coded.{coded, Tellable}
 use Rattle.checking.specs.Stands.{Plan-stands, Stands, Lines-stand}

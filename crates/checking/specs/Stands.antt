@@ -12,9 +12,9 @@ use Rattle.meaning.specs.Refusals.{nowhere}
 use Rattle.meaning.specs.Derivations.{Line, read-derivation, overlap-in-lines}
 use Rattle.reading.specs.Listed.{bytes-from, listed, List-here}
 use Rattle.reading.specs.Planned.{bytes-of}
-use Rattle.reading.specs.Plans.{own-items}
-use Rattle.reading.specs.DerivationRead.{settled-derivation}
-use Rattle.reading.specs.Derived.{Lines-here}
+use Rattle.refusing.specs.Plans.{own-items}
+use Rattle.deriving.specs.DerivationRead.{settled-derivation}
+use Rattle.deriving.specs.Derived.{Lines-here}
 use Rattle.checking.specs.Coded.{coded, Tellable}
 
 -- The place after the list at p.

@@ -1,16 +1,16 @@
 ghost use mathlib.Core.Path.{_≡_};
 ghost use Prim.Native.Nat.{_≤_};
 ghost use lib.ListN.{length};
-ghost use Rattle.reading.specs.Derived.{Some-lines};
+ghost use Rattle.deriving.specs.Derived.{Some-lines};
 ghost use Rattle.checking.specs.Stands.{Ends-noted};
-use reading::bytes::Read;
-use reading::derivations;
-use reading::derivations::Places;
-use reading::derivations::note_place;
-use reading::derived::place_of;
-use reading::overlaps::sequence_of;
+use bytes::bytes::Read;
+use deriving::derivations;
+use deriving::derivations::Places;
+use deriving::derivations::note_place;
+use deriving::derived::place_of;
 use reading::plan::plan_at;
 use reading::table::Table;
+use refusing::overlaps::sequence_of;
 
 // Where the list Y stands of each of so many lines. A plan is read again, without a fault, into a table that is of no use
 // afterwards.

@@ -4,7 +4,7 @@ ghost use Rattle.meaning.specs.Literals.{exclusive};
 ghost use Rattle.meaning.specs.Derivations.{same-list, included, literals-of};
 ghost use Rattle.reading.specs.Listed.{listed, List-here};
 ghost use Rattle.steps.specs.AtHand.{Marked};
-use reading::bytes::wide;
+use bytes::bytes::wide;
 use reading::marks::Test;
 use reading::marks::each_holds;
 use reading::marks::state_of;

@@ -2,7 +2,7 @@ ghost use mathlib.Core.Path.{_≡_};
 ghost use mathlib.Core.List.{_++_};
 ghost use Rattle.meaning.specs.Derivations.{same-list};
 ghost use Rattle.reading.specs.Listed.{listed, List-here};
-use reading::bytes::wide;
+use bytes::bytes::wide;
 
 // Two parts hold the same bytes.
 pub fn same_part(one: &[u8], other: &[u8]) -> bool

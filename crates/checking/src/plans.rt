@@ -2,7 +2,7 @@ ghost use mathlib.Core.Path.{_≡_};
 ghost use Prim.Native.Nat.{_+_, _*_, _≤_, _<_};
 ghost use lib.ListN.{length, getD};
 ghost use Rattle.checking.specs.Rules.{Some-plan, Some-items, Same-plans, Joined-plans};
-use reading::bytes::two;
+use bytes::bytes::two;
 use super::parts::same_joined;
 use super::parts::same_part;
 

@@ -1,11 +1,11 @@
 -- Where the walk starts: the facts stand at place 2 of a request, so the state of the list there is the first state; and what is left from
 -- the first item on is the plan. Assumes nothing.
-use Prim.Native.Nat.{ℕ, _+_, _*_, _≤_, _<_}
+use Prim.Native.Nat.{ℕ}
 use native.Mathlib.Omega.{arith}
 use mathlib.Core.Path.{_≡_, refl, sym, _∙_, ap, subst}
 use mathlib.Core.List.{List}
-use lib.ListN.{length, getD}
-use lib.Dec.{eqb, leb}
+use lib.ListN.{getD}
+use lib.Dec.{eqb}
 use borrow.Author.Tests.{eqb-true, eqb-false, eq-eqb, ne-eqb, le-leb}
 use Rattle.meaning.specs.Limits.{format}
 use Rattle.meaning.specs.Requests.{Table, Sequence, done, item, Request}
@@ -18,18 +18,17 @@ use Rattle.meaning.proofs.SettledLaws.{got-same}
 use Rattle.meaning.proofs.RangeLaws.{not-refused, after-got, count-within}
 use Rattle.reading.specs.Listed.{listed, List-here}
 use Rattle.reading.specs.Planned.{items-of}
-use Rattle.reading.specs.Settled.{blank}
-use Rattle.reading.specs.Requested.{request-noted}
+use Rattle.refusing.specs.Settled.{blank}
 use Rattle.reading.proofs.PlanSizes.{count-through}
-use Rattle.reading.proofs.PlanOverlaps.{some-item}
-use Rattle.reading.proofs.HereLaws.{list-here}
-use Rattle.reading.proofs.ReadLaws.{request-parts, parts, items-noted}
-use Rattle.reading.proofs.SettleLaws.{blank-long}
+use Rattle.refusing.proofs.PlanOverlaps.{some-item}
+use Rattle.refusing.proofs.HereLaws.{list-here}
+use Rattle.refusing.proofs.ReadLaws.{request-parts, parts, items-noted}
+use Rattle.refusing.proofs.SettleLaws.{blank-long}
 use Rattle.steps.specs.AtHand.{request-of, request-in, At-hand, Marked}
 use Rattle.steps.specs.Rests.{rest-in, rest-at, Position}
 use Rattle.steps.specs.Steps.{walk-from}
 use Rattle.steps.proofs.OnwardLaws.{few-items}
-use Rattle.glintstring.specs.Judged.{start}
+use Rattle.glintstring.specs.Telling.{start}
 use Rattle.glintstring.proofs.MarkedLaws.{state-marked}
 
 -- THE FACTS.

@@ -1,6 +1,6 @@
--- What the judging call answers. A settled request is at hand for the walk; the tally that the walk leaves stands as a walk from the whole
+-- What the walk call answers. A settled request is at hand for the walk; the tally that the walk leaves stands as a walk from the whole
 -- budget does, so what is told of it is what the definition says of the walk within the budget. Assumes nothing.
-use Prim.Native.Nat.{ℕ, _+_, _-_, _≤_, _<_}
+use Prim.Native.Nat.{ℕ, _-_, _≤_}
 use native.Mathlib.Omega.{arith}
 use mathlib.Core.Path.{_≡_, refl, sym, _∙_, ap, subst}
 use mathlib.Core.Bool.{true, false}
@@ -11,28 +11,27 @@ use mir.Syntax.{w8}
 use mir.Val.{Fits}
 use borrow.Author.Tests.{eqb-true, eqb-false, eq-eqb, ne-eqb, ltb-false}
 use Rattle.meaning.specs.declared.Answer.{Answer}
-use Rattle.meaning.specs.Tests.{pick}
 use Rattle.meaning.specs.Limits.{format}
 use Rattle.meaning.specs.Requests.{Request}
-use Rattle.meaning.specs.Reading.{Got, got, fault}
+use Rattle.meaning.specs.Reading.{got}
 use Rattle.meaning.specs.Refusals.{settled}
 use Rattle.meaning.specs.States.{State, state-of, first-state}
-use Rattle.meaning.specs.Walk.{End, fine, missed, stuck, Walked, walked}
-use Rattle.meaning.specs.Judging.{Judgement, ended, within, judge-settled, judge}
+use Rattle.meaning.specs.Walk.{End, fine, Walked, walked}
+use Rattle.meaning.specs.Judging.{ended, within, judge-settled, judge}
 use Rattle.meaning.proofs.TestLaws.{by-test, pick-true, pick-false}
 use Rattle.meaning.proofs.SettledLaws.{settled-is}
-use Rattle.reading.specs.declared.lists.Passed.{Passed}
-use Rattle.reading.specs.declared.lists.Passed.the-variants.{To, Fault as Stop}
+use Rattle.bytes.specs.declared.lists.Passed.{Passed}
+use Rattle.bytes.specs.declared.lists.Passed.the-variants.{To, Fault as Stop}
 use Rattle.reading.specs.Noted.{noting, outcome}
 use Rattle.reading.specs.Listed.{listed}
 use Rattle.reading.specs.Requested.{request-noted}
-use Rattle.reading.specs.Settled.{blank}
+use Rattle.refusing.specs.Settled.{blank}
 use Rattle.reading.proofs.SectionLaws.{noting-got, noting-fault}
 use Rattle.steps.specs.AtHand.{request-of, request-in, At-hand, Marked}
 use Rattle.steps.specs.Steps.{walk-from}
 use Rattle.walking.specs.Standing.{Standing, nothing, spent, so-far, spend, add, end-in, standing, Going}
 use Rattle.walking.proofs.StandingLaws.{stands-open, end-missed, end-stuck, sized-after}
-use Rattle.glintstring.specs.Judged.{start, told, Tallied}
+use Rattle.glintstring.specs.Telling.{start, told, Tallied}
 use Rattle.glintstring.proofs.MarkedLaws.{End-marked, state-marked, walked-marked}
 use Rattle.glintstring.proofs.FirstLaws.{walks-first}
 

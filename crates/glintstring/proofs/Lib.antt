@@ -2,4 +2,5 @@ pub mod TellingLaws
 pub mod MarkedLaws
 pub mod FirstLaws
 pub mod JudgingLaws
+pub mod LentLaws
 pub mod Promises

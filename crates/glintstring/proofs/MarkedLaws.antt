@@ -1,17 +1,17 @@
 -- A walk from a state of marks 0, 1 and 2 ends in such a state, wherever it misses or is stuck: what sets a mark sets one of the three, and
 -- the walk goes by what its steps lead to. Assumes nothing.
-use Prim.Native.Nat.{ℕ, _+_, _≤_, _<_}
+use Prim.Native.Nat.{ℕ}
 use native.Mathlib.Omega.{arith}
 use native.Mathlib.Decide.{ℕ-discrete, decLt}
-use mathlib.Core.Path.{_≡_, refl, sym, _∙_, ap}
+use mathlib.Core.Path.{_∙_}
 use mathlib.Core.List.{List, [], _∷_}
-use lib.ListN.{length, getD, set, replicate, length-set, length-replicate, getD-replicate, List·getD-eq-default}
+use lib.ListN.{length, set, replicate, length-set, length-replicate, getD-replicate, List·getD-eq-default}
 use lib.Seq.{getD-set-same, getD-set-other}
 use Rattle.meaning.specs.Limits.{format}
 use Rattle.meaning.specs.Literals.{says-true, says-false, fluent-of}
 use Rattle.meaning.specs.Requests.{Table, Sequence, done, item, Item, act, branching, Branches, none, branch, Request}
 use Rattle.meaning.specs.Refusals.{Found, nowhere, at}
-use Rattle.meaning.specs.States.{State, mark-of, told, told-all, state-of, first-state, Outcome, single, fork, readings, outcome}
+use Rattle.meaning.specs.States.{State, mark-of, told, told-all, state-of, Outcome, single, fork, readings, outcome}
 use Rattle.meaning.specs.Walk.{End, fine, missed, stuck, Walked, stuck-at, counted, keep-miss, after-miss, after-end, and-then, each-reading, run-action, walk, walk-item, walk-branch, table-step, missed-in, end-of, judged, walked}
 use Rattle.meaning.proofs.PickLaws.{pick-has}
 use Rattle.reading.proofs.MarkLaws.{mark-most}

@@ -1,5 +1,5 @@
--- What the judging call promises: each theorem is of a result that meets the call's own contract. Read this file first in this crate.
--- Assumes nothing.
+-- What the walk call promises: each theorem is of an answer and of lent bytes that meet the call's own contract. Read this file first in
+-- this crate. Assumes nothing.
 use Prim.Native.Nat.{ℕ, _≤_, _<_}
 use mathlib.Core.Path.{_≡_, sym, _∙_, ap, subst}
 use mathlib.Core.Bool.{true}
@@ -26,6 +26,7 @@ use Rattle.meaning.specs.Worlds.{Carried-out}
 use Rattle.meaning.proofs.AnswerLaws.{answers}
 use Rattle.meaning.proofs.Exact.{count, Entailed, format-room}
 use Rattle.meaning.proofs.Demands
+use Rattle.glintstring.proofs.LentLaws.{judge-kept}
 use Rattle.glintstring.proofs.judging.judge.Kinds.{ps, r}
 use Rattle.glintstring.proofs.judging.judge.Reads.{Pre, Post}
 
@@ -66,6 +67,10 @@ module _ (κs : Lfts 2) (given : Dens κs ps) where
     -- Demand 1 (FORMAT 11.1): it is one of the numbered answers.
     pub numbered : among (answer .number) answers ≡ true
     numbered = subst (λ (n : ℕ). among n answers ≡ true) number-is (Demands.numbered format request lent budget)
+
+    -- The lent bytes are written by answers 1 and 2 and by no other (FORMAT 4.45, 4.49).
+    pub kept : (answer .number ≡ Limits.goal-missed → ⊥) → (answer .number ≡ Limits.not-executable → ⊥) → left exit ≡ lent
+    kept one two = ap (λ (j : Judgement). j .state) meets ∙ judge-kept format lent budget request (λ e. one (sym number-is ∙ e)) (λ e. two (sym number-is ∙ e))
 
     -- Demand 3 (FORMAT 11.7 to 11.12): a verified plan is carried out in every world with the initial facts, at any budget.
     pub sound : answer .number ≡ Limits.verified → (x : Request) × (e : ℕ) × (settled format request ≡ got x e) × Carried-out x

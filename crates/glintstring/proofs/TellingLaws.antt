@@ -13,7 +13,7 @@ use Rattle.meaning.proofs.TestLaws.{by-test}
 use Rattle.steps.specs.AtHand.{Marked}
 use Rattle.walking.specs.Standing.{so-far, standing}
 use Rattle.walking.proofs.StandingLaws.{stands-open, stands-spent, end-stuck, stands-fine, stands-missed}
-use Rattle.glintstring.specs.Judged.{told, Tallied}
+use Rattle.glintstring.specs.Telling.{told, Tallied}
 
 -- HANDED OVER below fluent f.
 pub record Handing (tally state : List ℕ) (f : ℕ) : Type 0 where

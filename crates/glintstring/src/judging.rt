@@ -5,15 +5,16 @@ ghost use Rattle.meaning.specs.States.{first-state};
 ghost use Rattle.meaning.specs.Walk.{walked};
 ghost use Rattle.meaning.specs.Judging.{within, judge};
 ghost use Rattle.steps.specs.AtHand.{request-in, At-hand};
-ghost use Rattle.glintstring.specs.Judged.{start};
+ghost use Rattle.glintstring.specs.Telling.{start};
+use super::answers;
 use super::telling::tell;
+use bytes::lists::Passed;
 use meaning::Answer;
-use reading::lists::Passed;
 use reading::marks::state_of;
-use reading::settled::settle;
 use reading::table;
 use reading::table::Table;
 use reading::table::get;
+use refusing::settled::settle;
 use walking::tally::opened;
 use walking::walk::walk;
 
@@ -37,14 +38,14 @@ fn walk_plan(request: &[u8], t: &Table, state: &mut [u8], budget: u32) -> Answer
     tell(&tally, state, budget)
 }
 
-// The judging call. Answers 1 and 2 leave the state concerned in the lent bytes; every other leaves these as they are.
+// The walk call (FORMAT 1.15). Answers 1 and 2 leave the state concerned in the lent bytes; every other leaves these as they are.
 pub fn judge(request: &[u8], state: &mut [u8], budget: u32) -> Answer
     ensures { λ r. ⌜ record { answer = r; state = now (state .exit) } ≡ judge format (now (request .entry)) (now (state .entry)) budget ⌝ }
 {
     if state.len() != 64 {
         return Answer {
-            number: 9,
-            input: 0,
+            number: answers::STATE_LENGTH,
+            input: answers::NEITHER_INPUT,
             place: 0,
             count: 0,
         };
@@ -54,7 +55,7 @@ pub fn judge(request: &[u8], state: &mut [u8], budget: u32) -> Answer
         Passed::To(_) => walk_plan(request, &t, state, budget),
         Passed::Fault(k, p) => Answer {
             number: k,
-            input: 1,
+            input: answers::THE_REQUEST,
             place: p,
             count: 0,
         },

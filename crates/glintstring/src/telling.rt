@@ -3,7 +3,8 @@ ghost use Prim.Native.Nat.{_<_};
 ghost use lib.ListN.{length, drop};
 ghost use Rattle.steps.specs.AtHand.{Marked};
 ghost use Rattle.walking.specs.Standing.{standing};
-ghost use Rattle.glintstring.specs.Judged.{told, Tallied};
+ghost use Rattle.glintstring.specs.Telling.{told, Tallied};
+use super::answers;
 use meaning::Answer;
 use walking::tally::Tally;
 
@@ -45,8 +46,8 @@ pub fn tell(tally: &Tally, state: &mut [u8], budget: u32) -> Answer
     let number = tally[0];
     if number == 3 {
         return Answer {
-            number: 3,
-            input: 0,
+            number: answers::BUDGET_SPENT,
+            input: answers::NEITHER_INPUT,
             place: 0,
             count: budget,
         };
@@ -54,8 +55,8 @@ pub fn tell(tally: &Tally, state: &mut [u8], budget: u32) -> Answer
     let count = budget - tally[2];
     if number == 0 {
         return Answer {
-            number: 0,
-            input: 0,
+            number: answers::VERIFIED,
+            input: answers::NEITHER_INPUT,
             place: 0,
             count: count,
         };
@@ -64,15 +65,15 @@ pub fn tell(tally: &Tally, state: &mut [u8], budget: u32) -> Answer
     hand_over(tally, state);
     if number == 1 {
         return Answer {
-            number: 1,
-            input: 1,
+            number: answers::GOAL_MISSED,
+            input: answers::THE_REQUEST,
             place: place,
             count: count,
         };
     }
     Answer {
-        number: 2,
-        input: 1,
+        number: answers::NOT_EXECUTABLE,
+        input: answers::THE_REQUEST,
         place: place,
         count: count,
     }

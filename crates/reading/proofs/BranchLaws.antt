@@ -9,14 +9,14 @@ use Rattle.meaning.specs.Limits.{format}
 use Rattle.meaning.specs.Requests.{Sequence, branching, Branches, branch}
 use Rattle.meaning.specs.Reading.{Got, got, fault, next, Met, Part, count-at, body-at, sequence-at, branches-at, branching-at}
 use Rattle.meaning.proofs.SettledLaws.{next-got}
-use Rattle.reading.specs.declared.bytes.Read.{Read}
-use Rattle.reading.specs.declared.bytes.Read.the-variants.{Value, Fault}
-use Rattle.reading.specs.declared.lists.Passed.{Passed}
-use Rattle.reading.specs.declared.lists.Passed.the-variants.{To, Fault as Stop}
-use Rattle.reading.specs.Read.{number-read, passed}
+use Rattle.bytes.specs.declared.bytes.Read.{Read}
+use Rattle.bytes.specs.declared.bytes.Read.the-variants.{Value, Fault}
+use Rattle.bytes.specs.declared.lists.Passed.{Passed}
+use Rattle.bytes.specs.declared.lists.Passed.the-variants.{To, Fault as Stop}
+use Rattle.bytes.specs.Read.{number-read, passed}
 use Rattle.reading.specs.Planned.{items-of, bytes-of, inside-noted, branches-noted, sequence-noted, noting-met, outcome-met, branch-noting}
-use Rattle.reading.proofs.ByteLaws.{read-value, read-fault}
-use Rattle.reading.proofs.ListLaws.{passed-to, passed-stop}
+use Rattle.bytes.proofs.ByteLaws.{read-value, read-fault}
+use Rattle.bytes.proofs.ListLaws.{passed-to, passed-stop}
 use Rattle.reading.proofs.PlanSizes.{count-through, body-through, sequence-read}
 use Rattle.reading.proofs.NotingLaws.{Going, fault-met, met-value, noting-built, with-items}
 use Rattle.reading.proofs.SectionLaws.{fault-turned}

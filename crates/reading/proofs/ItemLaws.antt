@@ -11,12 +11,12 @@ use Rattle.meaning.specs.Limits.{format}
 use Rattle.meaning.specs.Requests.{Item, act}
 use Rattle.meaning.specs.Reading.{Got, got, fault, next, Met, byte-at, item-at, branching-at}
 use Rattle.meaning.proofs.TestLaws.{pick-true, pick-false}
-use Rattle.reading.specs.declared.bytes.Read.{Read}
-use Rattle.reading.specs.declared.bytes.Read.the-variants.{Value, Fault}
-use Rattle.reading.specs.Read.{number-read}
+use Rattle.bytes.specs.declared.bytes.Read.{Read}
+use Rattle.bytes.specs.declared.bytes.Read.the-variants.{Value, Fault}
+use Rattle.bytes.specs.Read.{number-read}
 use Rattle.reading.specs.Noted.{item-place}
 use Rattle.reading.specs.Planned.{place-of, inside-noted, item-noted, noting-met, outcome-met}
-use Rattle.reading.proofs.ByteLaws.{read-value, read-fault}
+use Rattle.bytes.proofs.ByteLaws.{read-value, read-fault}
 use Rattle.reading.proofs.PlanSizes.{byte-through, branching-read}
 use Rattle.reading.proofs.NotingLaws.{noting-same, with-items}
 

@@ -1,6 +1,3 @@
-pub mod ByteLaws
-pub mod ListLaws
-pub mod LineLaws
 pub mod TableLaws
 pub mod SectionLaws
 pub mod MarkLaws
@@ -10,15 +7,3 @@ pub mod ItemLaws
 pub mod BranchLaws
 pub mod SequenceLaws
 pub mod RequestLaws
-pub mod RefusalLaws
-pub mod HereLaws
-pub mod PlanKept
-pub mod KeptLaws
-pub mod HoldsLaws
-pub mod DerivationLaws
-pub mod OverlapLaws
-pub mod PlanOverlaps
-pub mod WrittenLaws
-pub mod ReadLaws
-pub mod SettleLaws
-pub mod DerivedLaws

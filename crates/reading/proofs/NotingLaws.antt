@@ -10,8 +10,8 @@ use Rattle.meaning.specs.Requests.{item}
 use Rattle.meaning.specs.Reading.{Got, got, fault, next, Met}
 use Rattle.meaning.proofs.TestLaws.{by-test, pick-true, pick-false}
 use Rattle.meaning.proofs.SettledLaws.{fault≢got, got-same}
-use Rattle.reading.specs.declared.bytes.Read.{Read}
-use Rattle.reading.specs.declared.bytes.Read.the-variants.{Value, Fault}
+use Rattle.bytes.specs.declared.bytes.Read.{Read}
+use Rattle.bytes.specs.declared.bytes.Read.the-variants.{Value, Fault}
 use Rattle.reading.proofs.SectionLaws.{got-place, fault-first}
 use Rattle.reading.specs.Planned.{number-after, branch-noted, noting-met, outcome-met}
 

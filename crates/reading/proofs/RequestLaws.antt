@@ -13,18 +13,18 @@ use Rattle.meaning.specs.Limits.{format}
 use Rattle.meaning.specs.Requests.{Table, Sequence, Request}
 use Rattle.meaning.specs.Reading.{Got, got, fault, next, literals, fluents, plan-at, count-at, list-at, section-at, effect-at, executability-at, knowledge-at, table-at, request-at, read-request, placed, Met}
 use Rattle.meaning.proofs.RangeLaws.{count-within, after-got}
-use Rattle.reading.specs.declared.bytes.Read.{Read}
-use Rattle.reading.specs.declared.bytes.Read.the-variants.{Value, Fault}
-use Rattle.reading.specs.declared.lists.Kind.the-variants.{Literals, Fluents}
-use Rattle.reading.specs.declared.lists.Passed.{Passed}
-use Rattle.reading.specs.declared.lists.Passed.the-variants.{To, Fault as Stop}
-use Rattle.reading.specs.Read.{number-read, passed, kind-of}
+use Rattle.bytes.specs.declared.bytes.Read.{Read}
+use Rattle.bytes.specs.declared.bytes.Read.the-variants.{Value, Fault}
+use Rattle.bytes.specs.declared.lists.Kind.the-variants.{Literals, Fluents}
+use Rattle.bytes.specs.declared.lists.Passed.{Passed}
+use Rattle.bytes.specs.declared.lists.Passed.the-variants.{To, Fault as Stop}
+use Rattle.bytes.specs.Read.{number-read, passed, kind-of}
 use Rattle.reading.specs.Noted.{effects, executability, knowledge, line-at, table-noted, three-sections, facts-first, actions-first, noting, outcome}
 use Rattle.reading.specs.Noted.{plan-slot, items-slot, goals-slot}
 use Rattle.reading.specs.Planned.{items-of, bytes-of, plan-noted, noting-met, outcome-met}
 use Rattle.reading.specs.Requested.{goals-first, plan-first, places-noted, goals-place, plan-place, request-noted, sections-read}
-use Rattle.reading.proofs.ByteLaws.{read-value, read-fault}
-use Rattle.reading.proofs.ListLaws.{passed-to, passed-stop}
+use Rattle.bytes.proofs.ByteLaws.{read-value, read-fault}
+use Rattle.bytes.proofs.ListLaws.{passed-to, passed-stop}
 use Rattle.reading.proofs.NotingLaws.{with-items, met-value, met-fault, fault-met}
 use Rattle.reading.proofs.PlanSizes.{Counted, sequence-read, list-through}
 use Rattle.reading.proofs.SectionLaws.{count-got, noting-got, noting-fault}

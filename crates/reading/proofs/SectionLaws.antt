@@ -13,14 +13,14 @@ use Rattle.meaning.specs.Requests.{Effect, Executability, Knowledge}
 use Rattle.meaning.specs.Reading.{Got, got, fault, next, byte-at, count-at, below-at, list-at, body-at, effect-at, executability-at, knowledge-at, repeated, section-at}
 use Rattle.meaning.proofs.SettledLaws.{got-same, next-got, fault≢got}
 use Rattle.meaning.proofs.RangeLaws.{not-refused, after-got}
-use Rattle.reading.specs.declared.bytes.Read.{Read}
-use Rattle.reading.specs.declared.bytes.Read.the-variants.{Value, Fault}
-use Rattle.reading.specs.declared.lists.Passed.{Passed}
-use Rattle.reading.specs.declared.lists.Passed.the-variants.{To, Fault as Stop}
+use Rattle.bytes.specs.declared.bytes.Read.{Read}
+use Rattle.bytes.specs.declared.bytes.Read.the-variants.{Value, Fault}
+use Rattle.bytes.specs.declared.lists.Passed.{Passed}
+use Rattle.bytes.specs.declared.lists.Passed.the-variants.{To, Fault as Stop}
 use Rattle.reading.specs.declared.sections.Section as Code
 use Rattle.reading.specs.declared.sections.Section.the-variants.{Effects, Executability as Runs, Knowledge as Senses}
-use Rattle.reading.specs.Read.{effect-read, executability-read, knowledge-read}
-use Rattle.reading.proofs.ByteLaws.{byte-none, byte-is}
+use Rattle.bytes.specs.Read.{effect-read, executability-read, knowledge-read}
+use Rattle.bytes.proofs.ByteLaws.{byte-none, byte-is}
 use Rattle.reading.specs.Noted.{Section, effects, executability, knowledge, section-of, Line, line-at, line-read, line-noted, note-line, lines-noted, count-slot, section-noted, three-sections, noting, outcome, effect-noted, run-noted, pair-noted}
 
 -- ONE OF THE THREE SECTIONS.

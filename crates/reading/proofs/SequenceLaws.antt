@@ -10,12 +10,12 @@ use Rattle.meaning.specs.Requests.{Sequence, item, Item}
 use Rattle.meaning.specs.Reading.{Got, got, fault, next, Met, Part, two-bytes-at, item-at, items-at, sequence-at, branching-at, plan-at}
 use Rattle.meaning.proofs.SettledLaws.{got-same}
 use Rattle.meaning.proofs.RangeLaws.{after-got}
-use Rattle.reading.specs.declared.bytes.Read.{Read}
-use Rattle.reading.specs.declared.bytes.Read.the-variants.{Value, Fault}
-use Rattle.reading.specs.Read.{number-read}
+use Rattle.bytes.specs.declared.bytes.Read.{Read}
+use Rattle.bytes.specs.declared.bytes.Read.the-variants.{Value, Fault}
+use Rattle.bytes.specs.Read.{number-read}
 use Rattle.reading.specs.Noted.{item-next}
 use Rattle.reading.specs.Planned.{items-in, bytes-in, following, number-after, branch-noted, rest-noted, item-noted, sequence-noted, plan-noted, noting-met, outcome-met}
-use Rattle.reading.proofs.ByteLaws.{read-value, read-fault}
+use Rattle.bytes.proofs.ByteLaws.{read-value, read-fault}
 use Rattle.reading.proofs.PlanSizes.{ItemRead, two-bytes-through, item-read}
 use Rattle.reading.proofs.NotingLaws.{Going, after-last, after-other, fault-met, met-fault, met-value, noting-built, noting-same, with-items}
 

@@ -1,11 +1,4 @@
-pub mod Read
 pub mod Noted
 pub mod Listed
 pub mod Planned
 pub mod Requested
-pub mod InTable
-pub mod DerivationRead
-pub mod Settled
-pub mod Branchings
-pub mod Plans
-pub mod Derived

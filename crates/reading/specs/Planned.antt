@@ -8,8 +8,8 @@ use Rattle.meaning.specs.Limits.{format}
 use Rattle.meaning.specs.Requests.{Sequence, done, item, Item, act, branching, Branches, none, branch}
 use Rattle.meaning.specs.Reading.{Got, got, fault, next, Met, body-at, sequence-at, branching-at}
 use Rattle.reading.specs.Noted.{item-place, item-next, branch-place, branch-item}
-use Rattle.reading.specs.declared.bytes.Read.{Read}
-use Rattle.reading.specs.declared.bytes.Read.the-variants.{Value, Fault}
+use Rattle.bytes.specs.declared.bytes.Read.{Read}
+use Rattle.bytes.specs.declared.bytes.Read.the-variants.{Value, Fault}
 
 -- How many items a part has (FORMAT 2.30).
 unfoldable mutual

@@ -4,8 +4,8 @@ ghost use Rattle.meaning.specs.Tests.{each-of};
 ghost use Rattle.meaning.specs.Limits.{format};
 ghost use Rattle.meaning.specs.States.{mark-of, state-of};
 ghost use Rattle.reading.specs.Listed.{listed, List-here, holds-as};
-use super::bytes::wide;
-use super::limits;
+use bytes::bytes::wide;
+use bytes::limits;
 
 // What is asked of a literal in a partial state: that it is known true, or that it is not known false.
 pub enum Test {

@@ -5,16 +5,16 @@ ghost use Rattle.meaning.specs.Limits.{format};
 ghost use Rattle.meaning.specs.Reading.{item-at, sequence-at, branching-at, plan-at};
 ghost use Rattle.reading.specs.Noted.{item-next};
 ghost use Rattle.reading.specs.Planned.{number-after, branch-noted, item-noted, inside-noted, sequence-noted, plan-noted, noting-met, outcome-met, branch-noting};
-use super::bytes::Read;
-use super::bytes::byte_at;
-use super::bytes::count_at;
-use super::bytes::two_bytes_at;
-use super::limits;
-use super::lines::body_at;
-use super::lists::Passed;
 use super::table;
 use super::table::Table;
 use super::table::put;
+use bytes::bytes::Read;
+use bytes::bytes::byte_at;
+use bytes::bytes::count_at;
+use bytes::bytes::two_bytes_at;
+use bytes::limits;
+use bytes::lines::body_at;
+use bytes::lists::Passed;
 
 // What follows an item: the item met next, or where it is the last of its sequence what stands around the sequence.
 fn after(left: usize, met: usize, up: usize) -> usize

@@ -5,18 +5,18 @@ ghost use Rattle.meaning.specs.Limits.{format};
 ghost use Rattle.meaning.specs.Reading.{table-at, read-request};
 ghost use Rattle.reading.specs.Noted.{facts-first, actions-first, table-noted, noting, outcome};
 ghost use Rattle.reading.specs.Requested.{goals-first, plan-first, request-noted, sections-read};
-use super::bytes::Read;
-use super::bytes::count_at;
-use super::bytes::wide;
-use super::limits;
-use super::lists::Kind;
-use super::lists::Passed;
-use super::lists::list_at;
 use super::plan::plan_at;
 use super::sections::three_sections;
 use super::table;
 use super::table::Table;
 use super::table::put;
+use bytes::bytes::Read;
+use bytes::bytes::count_at;
+use bytes::bytes::wide;
+use bytes::limits;
+use bytes::lists::Kind;
+use bytes::lists::Passed;
+use bytes::lists::list_at;
 
 // Sections 2 to 5, over n fluents and m actions.
 fn facts_at(n: usize, m: usize, s: &[u8], p: usize, t: &mut Table) -> Passed

@@ -4,19 +4,19 @@ ghost use lib.ListN.{length, set};
 ghost use Rattle.meaning.specs.Reading.{repeated, section-at};
 ghost use Rattle.reading.specs.Noted;
 ghost use Rattle.reading.specs.Noted.{section-of, line-at, line-read, line-noted, note-line, lines-noted, count-slot, section-noted, three-sections, noting, outcome};
-use super::bytes::Read;
-use super::bytes::wide;
-use super::limits;
-use super::lines::effect_at;
-use super::lines::executability_at;
-use super::lines::knowledge_at;
-use super::lists::Passed;
 use super::table;
 use super::table::Table;
 use super::table::note_effect;
 use super::table::note_executability;
 use super::table::note_pair;
 use super::table::put;
+use bytes::bytes::Read;
+use bytes::bytes::wide;
+use bytes::limits;
+use bytes::lines::effect_at;
+use bytes::lines::executability_at;
+use bytes::lines::knowledge_at;
+use bytes::lists::Passed;
 
 // Sections 3, 4 and 5.
 pub enum Section {

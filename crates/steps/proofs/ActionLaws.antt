@@ -17,7 +17,7 @@ use Rattle.meaning.proofs.TestLaws.{Has, pick-true, pick-false}
 use Rattle.meaning.proofs.LiteralLaws.{fluent-complement}
 use Rattle.reading.specs.Noted.{effect-place, effect-before, effect-last, run-place, run-before}
 use Rattle.reading.specs.Listed.{listed, List-here, holds-as}
-use Rattle.reading.specs.InTable.{Effect-here}
+use Rattle.refusing.specs.InTable.{Effect-here}
 use Rattle.reading.specs.declared.marks.Test.the-variants.{Known, Possible}
 use Rattle.reading.proofs.MarkLaws.{mark-other, mark-most}
 use Rattle.steps.specs.AtHand.{request-in, At-hand}

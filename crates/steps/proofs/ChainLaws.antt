@@ -13,7 +13,7 @@ use borrow.Author.Tests.{eqb-true, eqb-false}
 use Rattle.meaning.specs.Tests.{both, either, pick, some-of, those-of}
 use Rattle.meaning.proofs.TestLaws.{by-test, pick-true, pick-false, some-those, Has}
 use Rattle.reading.specs.Noted.{link, lines-noted}
-use Rattle.reading.proofs.KeptLaws.{kept, link-kept}
+use Rattle.refusing.proofs.KeptLaws.{kept, link-kept}
 use Rattle.steps.specs.Lines.{Chain}
 
 -- A table that agrees on the slots of the numbers up to `most` has the same chain.

@@ -19,9 +19,9 @@ use Rattle.meaning.specs.Walk.{first-missed, missed-in}
 use Rattle.meaning.proofs.TestLaws.{by-test, pick-true, pick-false}
 use Rattle.meaning.proofs.StateLaws.{known-true, known-false}
 use Rattle.reading.specs.declared.marks.Test.the-variants.{Known}
-use Rattle.reading.specs.declared.refusals.Found as Code
-use Rattle.reading.specs.declared.refusals.Found.the-variants.{Nowhere, At}
-use Rattle.reading.specs.InTable.{found}
+use Rattle.refusing.specs.declared.refusals.Found as Code
+use Rattle.refusing.specs.declared.refusals.Found.the-variants.{Nowhere, At}
+use Rattle.refusing.specs.InTable.{found}
 use Rattle.reading.specs.Listed.{bytes-from, listed, List-here, holds-as}
 use Rattle.reading.proofs.MarkLaws.{bytes-next, bytes-done}
 use Rattle.steps.specs.declared.goals.Asked.{Asked}

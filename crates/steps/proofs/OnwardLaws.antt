@@ -18,15 +18,15 @@ use Rattle.meaning.specs.Walk.{Walked, Steps, run-action, walk, walk-item, walk
 use Rattle.meaning.proofs.TestLaws.{by-test, clash, pick-true, pick-false}
 use Rattle.reading.specs.Listed.{listed, holds-as}
 use Rattle.reading.specs.declared.marks.Test.the-variants.{Known}
-use Rattle.reading.specs.declared.refusals.Found as Code
-use Rattle.reading.specs.declared.refusals.Found.the-variants.{Nowhere, At}
+use Rattle.refusing.specs.declared.refusals.Found as Code
+use Rattle.refusing.specs.declared.refusals.Found.the-variants.{Nowhere, At}
 use Rattle.reading.specs.Planned.{items-of, items-in, bytes-of, place-of}
-use Rattle.reading.specs.Plans.{own-items, branches-in, Item-written, Branches-written, Plan-held}
-use Rattle.reading.specs.Branchings.{sequence-place, no-item, place-after, item-after, Branches-here, Item-here}
-use Rattle.reading.specs.Settled.{blank}
-use Rattle.reading.proofs.ReadLaws.{parts, request-held}
-use Rattle.reading.proofs.OverlapLaws.{branch-first, branches-next}
-use Rattle.reading.proofs.PlanOverlaps.{count-zero, count-some, some-item, place-is, item-is, plan-here}
+use Rattle.refusing.specs.Plans.{own-items, branches-in, Item-written, Branches-written, Plan-held}
+use Rattle.refusing.specs.Branchings.{sequence-place, no-item, place-after, item-after, Branches-here, Item-here}
+use Rattle.refusing.specs.Settled.{blank}
+use Rattle.refusing.proofs.ReadLaws.{parts, request-held}
+use Rattle.refusing.proofs.OverlapLaws.{branch-first, branches-next}
+use Rattle.refusing.proofs.PlanOverlaps.{count-zero, count-some, some-item, place-is, item-is, plan-here}
 use Rattle.steps.specs.AtHand.{request-of, request-in, At-hand}
 use Rattle.steps.specs.Rests.{rest-in, rest-at, after-first, span, onward, Position, Branches-laid, Inside-laid, Item-laid}
 use Rattle.steps.specs.Steps.{walk-from, walk-after, Followed, Into, going-on, Chosen}

@@ -19,11 +19,11 @@ use Rattle.meaning.proofs.TestLaws.{same-test, some-has, has-some, some-those}
 use Rattle.reading.specs.Noted.{count-slot, section-noted}
 use Rattle.reading.specs.Requested.{goals-place, request-noted}
 use Rattle.reading.specs.Listed.{listed, List-here}
-use Rattle.reading.specs.InTable.{effect-from}
-use Rattle.reading.specs.Settled.{blank}
-use Rattle.reading.proofs.KeptLaws.{kept}
-use Rattle.reading.proofs.HereLaws.{list-here}
-use Rattle.reading.proofs.ReadLaws.{Parts, parts, effect-good, knowledge-good}
+use Rattle.refusing.specs.InTable.{effect-from}
+use Rattle.refusing.specs.Settled.{blank}
+use Rattle.refusing.proofs.KeptLaws.{kept}
+use Rattle.refusing.proofs.HereLaws.{list-here}
+use Rattle.refusing.proofs.ReadLaws.{Parts, parts, effect-good, knowledge-good}
 use Rattle.steps.specs.AtHand.{request-of, request-in, At-hand}
 use Rattle.steps.specs.Lines.{allowed-at, given-at, Runs, Effects, Senses, goals-in, whether-in, Ends}
 use Rattle.steps.proofs.ChainLaws.{latest, latest-has, latest-those}

@@ -11,11 +11,11 @@ use Rattle.meaning.proofs.TestLaws.{Has}
 use Rattle.reading.specs.Noted.{Section, effects, executability, knowledge, Line, link, effect-noted, run-noted, note-line, count-slot, section-noted, table-noted}
 use Rattle.reading.specs.Planned.{items-of, plan-noted}
 use Rattle.reading.specs.Requested.{goals-place, plan-place, places-noted, request-noted}
-use Rattle.reading.specs.InTable.{effect-from}
-use Rattle.reading.specs.Settled.{blank}
-use Rattle.reading.proofs.KeptLaws.{kept, link-kept, run-kept, pair-kept, lines-kept, note-long, plan-kept}
-use Rattle.reading.proofs.ReadLaws.{Parts, effect-good, run-good, knowledge-good, effects-few, runs-few, knowledge-few, items-most, planned-long, section-long}
-use Rattle.reading.proofs.SettleLaws.{blank-long, blank-slot}
+use Rattle.refusing.specs.InTable.{effect-from}
+use Rattle.refusing.specs.Settled.{blank}
+use Rattle.refusing.proofs.KeptLaws.{kept, link-kept, run-kept, pair-kept, lines-kept, note-long, plan-kept}
+use Rattle.refusing.proofs.ReadLaws.{Parts, effect-good, run-good, knowledge-good, effects-few, runs-few, knowledge-few, items-most, planned-long, section-long}
+use Rattle.refusing.proofs.SettleLaws.{blank-long, blank-slot}
 use Rattle.steps.specs.Lines.{Chain}
 use Rattle.steps.proofs.ChainLaws.{Bases, latest, chain-noted, chain-kept}
 

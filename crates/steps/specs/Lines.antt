@@ -11,7 +11,7 @@ use Rattle.meaning.specs.Lines.{effects-of, executability-of, knowledge-of, all
 use Rattle.meaning.proofs.TestLaws.{Has}
 use Rattle.reading.specs.Noted.{effect-place, effect-before, run-place, run-before, effect-last, run-last, sensed-from, sensed-to, sensed, goals-slot}
 use Rattle.reading.specs.Listed.{listed, List-here}
-use Rattle.reading.specs.InTable.{Effect-here}
+use Rattle.refusing.specs.InTable.{Effect-here}
 use Rattle.steps.specs.AtHand.{request-in}
 
 -- One line of a chain: its number is j, it stands at p, and the line before it has a smaller number.

@@ -3,7 +3,7 @@ ghost use Prim.Native.Nat.{_<_};
 ghost use Rattle.meaning.specs.States.{can-be-run, state-after};
 ghost use Rattle.steps.specs.AtHand.{request-in, At-hand, Marked};
 ghost use Rattle.steps.specs.After.{Told, Left};
-use reading::bytes::wide;
+use bytes::bytes::wide;
 use reading::marks::Test;
 use reading::marks::each_holds;
 use reading::marks::mark_of;

@@ -18,11 +18,11 @@ use Rattle.meaning.proofs.TestLaws.{pick-cases}
 use Rattle.meaning.proofs.RangeLaws.{not-refused}
 use Rattle.reading.specs.Listed.{listed, List-here}
 use Rattle.reading.specs.Planned.{items-of}
-use Rattle.reading.specs.InTable.{found}
-use Rattle.reading.specs.declared.refusals.Found.{Found}
-use Rattle.reading.specs.declared.refusals.Found.the-variants.{At}
-use Rattle.reading.proofs.SettleLaws.{found-at}
-use Rattle.reading.proofs.PlanOverlaps.{listed-length}
+use Rattle.refusing.specs.InTable.{found}
+use Rattle.refusing.specs.declared.refusals.Found.{Found}
+use Rattle.refusing.specs.declared.refusals.Found.the-variants.{At}
+use Rattle.refusing.proofs.SettleLaws.{found-at}
+use Rattle.refusing.proofs.PlanOverlaps.{listed-length}
 use Rattle.steps.specs.AtHand.{request-in, At-hand}
 use Rattle.steps.specs.Lines.{Ends, goals-in, whether-in}
 use Rattle.steps.proofs.Served.{ends-at-hand}

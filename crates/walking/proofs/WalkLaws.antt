@@ -18,10 +18,10 @@ use Rattle.meaning.specs.States.{State, can-be-run, state-after, unknown-sensed
 use Rattle.meaning.specs.Walk.{End, fine, missed, stuck, Walked, stuck-at, counted, and-then, after-end, each-reading, run-action, table-step, first-missed, missed-in, end-of, judged, keep-miss}
 use Rattle.meaning.proofs.TestLaws.{by-test, pick-true, pick-false}
 use Rattle.reading.specs.Planned.{items-of}
-use Rattle.reading.specs.InTable.{found}
-use Rattle.reading.specs.declared.refusals.Found.{Found}
-use Rattle.reading.specs.declared.refusals.Found.the-variants.{Nowhere, At}
-use Rattle.reading.proofs.SettleLaws.{found-none, found-at}
+use Rattle.refusing.specs.InTable.{found}
+use Rattle.refusing.specs.declared.refusals.Found.{Found}
+use Rattle.refusing.specs.declared.refusals.Found.the-variants.{Nowhere, At}
+use Rattle.refusing.proofs.SettleLaws.{found-none, found-at}
 use Rattle.steps.specs.AtHand.{request-in, At-hand, Marked}
 use Rattle.steps.specs.Rests.{Position}
 use Rattle.steps.specs.Steps.{walk-from, walk-after, first-of, unknown-above, Followed, Chosen, going-on}

@@ -7,10 +7,10 @@ use Rattle.checking.proofs.ends.note_ends.Statement.{statement}
 use Rattle.checking.proofs.ends.note_ends.Tie as tie
 use Rattle.checking.proofs.ends.note_ends.Reads as reads
 use Rattle.checking.proofs.ends.note_ends.Lts as lts
-use Rattle.reading.proofs.derivations.note_place.Reads as note-place-reads
-use Rattle.reading.proofs.derivations.sized.Reads as sized-reads
-use Rattle.reading.proofs.derived.place_of.Reads as place-of-reads
-use Rattle.reading.proofs.overlaps.sequence_of.Reads as sequence-of-reads
+use Rattle.deriving.proofs.derivations.note_place.Reads as note-place-reads
+use Rattle.deriving.proofs.derivations.sized.Reads as sized-reads
+use Rattle.deriving.proofs.derived.place_of.Reads as place-of-reads
+use Rattle.refusing.proofs.overlaps.sequence_of.Reads as sequence-of-reads
 use Rattle.reading.proofs.plan.plan_at.Reads as plan-at-reads
 
 abbrev Inv-loop : tie.InvT-loop

@@ -11,7 +11,7 @@ use Rattle.checking.proofs.known.lists_known.Statement.{statement}
 use Rattle.checking.proofs.known.lists_known.Tie as tie
 use Rattle.checking.proofs.known.lists_known.Reads as reads
 use Rattle.checking.proofs.known.lists_known.Lts as lts
-use Rattle.reading.proofs.bytes.wide.Reads as wide-reads
+use Rattle.bytes.proofs.bytes.wide.Reads as wide-reads
 
 abbrev Inv-loop : tie.InvT-loop
 Inv-loop marks s p end i₀ f₀ i f =

@@ -6,7 +6,7 @@ use Rattle.checking.proofs.parts.same_lists.Tie as tie
 use Rattle.checking.proofs.parts.same_lists.Reads as reads
 use Rattle.checking.proofs.parts.same_lists.Lts as lts
 use Rattle.checking.proofs.parts.same_part.Reads as same-part-reads
-use Rattle.reading.proofs.bytes.wide.Reads as wide-reads
+use Rattle.bytes.proofs.bytes.wide.Reads as wide-reads
 
 -- src/parts.rt:45:15
 add-one : tie.Need-add-one

@@ -6,7 +6,7 @@ use Rattle.glintstring.proofs.judging.judge.Tie as tie
 use Rattle.glintstring.proofs.judging.judge.Reads as reads
 use Rattle.glintstring.proofs.judging.judge.Lts as lts
 use Rattle.glintstring.proofs.judging.walk_plan.Reads as walk-plan-reads
-use Rattle.reading.proofs.settled.settle.Reads as settle-reads
+use Rattle.refusing.proofs.settled.settle.Reads as settle-reads
 
 -- src/judging.rt:45:9
 returns : tie.Need-returns

@@ -8,7 +8,7 @@ use Rattle.reading.proofs.marks.each_holds.Statement.{statement}
 use Rattle.reading.proofs.marks.each_holds.Tie as tie
 use Rattle.reading.proofs.marks.each_holds.Reads as reads
 use Rattle.reading.proofs.marks.each_holds.Lts as lts
-use Rattle.reading.proofs.bytes.wide.Reads as wide-reads
+use Rattle.bytes.proofs.bytes.wide.Reads as wide-reads
 use Rattle.reading.proofs.marks.holds.Reads as holds-reads
 
 abbrev Inv-loop : tie.InvT-loop

@@ -9,7 +9,7 @@ use Rattle.reading.proofs.marks.state_of.Statement.{statement}
 use Rattle.reading.proofs.marks.state_of.Tie as tie
 use Rattle.reading.proofs.marks.state_of.Reads as reads
 use Rattle.reading.proofs.marks.state_of.Lts as lts
-use Rattle.reading.proofs.bytes.wide.Reads as wide-reads
+use Rattle.bytes.proofs.bytes.wide.Reads as wide-reads
 use Rattle.reading.proofs.marks.mark_of.Reads as mark-of-reads
 
 abbrev Inv-loop : tie.InvT-loop

@@ -20,10 +20,10 @@ use Rattle.reading.proofs.plan.+branch_at+branching_at+item_at+sequence
 use Rattle.reading.proofs.plan.sequence_at.Reads as sequence-at
 use Rattle.reading.proofs.plan.sequence_at.Kinds as sequence-at-kinds
 use Rattle.reading.proofs.plan.+branch_at+branching_at+item_at+sequence_at.Lts-sequence_at as sequence-at-lts
-use Rattle.reading.proofs.bytes.byte_at.Reads as byte-at-reads
-use Rattle.reading.proofs.bytes.count_at.Reads as count-at-reads
-use Rattle.reading.proofs.bytes.two_bytes_at.Reads as two-bytes-at-reads
-use Rattle.reading.proofs.lines.body_at.Reads as body-at-reads
+use Rattle.bytes.proofs.bytes.byte_at.Reads as byte-at-reads
+use Rattle.bytes.proofs.bytes.count_at.Reads as count-at-reads
+use Rattle.bytes.proofs.bytes.two_bytes_at.Reads as two-bytes-at-reads
+use Rattle.bytes.proofs.lines.body_at.Reads as body-at-reads
 use Rattle.reading.proofs.plan.note_branch.Reads as note-branch-reads
 use Rattle.reading.proofs.plan.note_next.Reads as note-next-reads
 use Rattle.reading.proofs.table.put.Reads as put-reads

@@ -4,7 +4,7 @@ use Rattle.reading.proofs.requests.facts_at.Statement.{statement}
 use Rattle.reading.proofs.requests.facts_at.Tie as tie
 use Rattle.reading.proofs.requests.facts_at.Reads as reads
 use Rattle.reading.proofs.requests.facts_at.Lts as lts
-use Rattle.reading.proofs.lists.list_at.Reads as list-at-reads
+use Rattle.bytes.proofs.lists.list_at.Reads as list-at-reads
 use Rattle.reading.proofs.sections.three_sections.Reads as three-sections-reads
 
 -- src/requests.rt:26:11

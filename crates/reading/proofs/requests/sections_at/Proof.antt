@@ -4,7 +4,7 @@ use Rattle.reading.proofs.requests.sections_at.Statement.{statement}
 use Rattle.reading.proofs.requests.sections_at.Tie as tie
 use Rattle.reading.proofs.requests.sections_at.Reads as reads
 use Rattle.reading.proofs.requests.sections_at.Lts as lts
-use Rattle.reading.proofs.bytes.wide.Reads as wide-reads
+use Rattle.bytes.proofs.bytes.wide.Reads as wide-reads
 use Rattle.reading.proofs.requests.request_at.Reads as request-at-reads
 use Rattle.reading.proofs.requests.table_at.Reads as table-at-reads
 

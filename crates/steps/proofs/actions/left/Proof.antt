@@ -6,7 +6,7 @@ use Rattle.steps.proofs.actions.left.Statement.{statement}
 use Rattle.steps.proofs.actions.left.Tie as tie
 use Rattle.steps.proofs.actions.left.Reads as reads
 use Rattle.steps.proofs.actions.left.Lts as lts
-use Rattle.reading.proofs.bytes.wide.Reads as wide-reads
+use Rattle.bytes.proofs.bytes.wide.Reads as wide-reads
 use Rattle.reading.proofs.marks.each_holds.Reads as each-holds-reads
 use Rattle.reading.proofs.marks.mark_of.Reads as mark-of-reads
 use Rattle.reading.proofs.table.get.Reads as get-reads

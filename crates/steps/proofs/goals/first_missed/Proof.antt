@@ -3,7 +3,7 @@ use Prim.Native.Nat.{_+_, _-_, _≤_}
 use mathlib.Core.Path.{_≡_}
 use Rattle.meaning.specs.Reading.{placed}
 use Rattle.meaning.specs.Walk.{first-missed}
-use Rattle.reading.specs.InTable.{found}
+use Rattle.refusing.specs.InTable.{found}
 use Rattle.reading.specs.Listed.{bytes-from, listed}
 use Rattle.steps.specs.Steps.{met-as}
 use Rattle.steps.proofs.EndLaws.{list-there, list-fits, missed-starts, entry-there, entry-fits, entry-below, missed-here, missed-next, missed-done}
@@ -12,7 +12,7 @@ use Rattle.steps.proofs.goals.first_missed.Statement.{statement}
 use Rattle.steps.proofs.goals.first_missed.Tie as tie
 use Rattle.steps.proofs.goals.first_missed.Reads as reads
 use Rattle.steps.proofs.goals.first_missed.Lts as lts
-use Rattle.reading.proofs.bytes.wide.Reads as wide-reads
+use Rattle.bytes.proofs.bytes.wide.Reads as wide-reads
 use Rattle.steps.proofs.goals.met.Reads as met-reads
 
 abbrev Inv-loop : tie.InvT-loop

@@ -5,7 +5,7 @@ use Rattle.steps.proofs.goals.missed.Statement.{statement}
 use Rattle.steps.proofs.goals.missed.Tie as tie
 use Rattle.steps.proofs.goals.missed.Reads as reads
 use Rattle.steps.proofs.goals.missed.Lts as lts
-use Rattle.reading.proofs.bytes.wide.Reads as wide-reads
+use Rattle.bytes.proofs.bytes.wide.Reads as wide-reads
 use Rattle.reading.proofs.table.get.Reads as get-reads
 use Rattle.steps.proofs.goals.first_missed.Reads as first-missed-reads
 

@@ -17,7 +17,7 @@ use Rattle.walking.proofs.walk.+fork+walk+walk_branching.Lts-walk as wa
 use Rattle.walking.proofs.walk.walk_branching.Reads as walk-branching
 use Rattle.walking.proofs.walk.walk_branching.Kinds as walk-branching-kinds
 use Rattle.walking.proofs.walk.+fork+walk+walk_branching.Lts-walk_branching as walk-branching-lts
-use Rattle.reading.proofs.bytes.wide.Reads as wide-reads
+use Rattle.bytes.proofs.bytes.wide.Reads as wide-reads
 use Rattle.reading.proofs.table.get.Reads as get-reads
 use Rattle.steps.proofs.actions.can_be_run.Reads as can-be-run-reads
 use Rattle.steps.proofs.actions.state_after.Reads as state-after-reads

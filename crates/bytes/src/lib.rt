@@ -1,0 +1,5 @@
+// Readers of bytes, numbers, lists and lines, each equal to one definition: from the left, what stands at a place, or the first fault met.
+pub mod limits; // every limit, refusal and mark
+pub mod bytes; // bytes, numbers and counts
+pub mod lists; // lists of literals and of fluents
+pub mod lines; // the lines of sections 3 to 5

@@ -1,0 +1,2 @@
+pub mod DerivationLaws
+pub mod DerivedLaws

@@ -1,0 +1,2 @@
+pub mod DerivationRead
+pub mod Derived

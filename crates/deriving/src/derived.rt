@@ -1,0 +1,104 @@
+ghost use mathlib.Core.Path.{_≡_};
+ghost use Prim.Native.Nat.{_≤_, _<_};
+ghost use lib.ListN.{length, getD};
+ghost use Rattle.bytes.specs.Read.{passed};
+ghost use Rattle.reading.specs.Noted.{noting, outcome};
+ghost use Rattle.reading.specs.Listed.{List-here};
+ghost use Rattle.deriving.specs.DerivationRead.{places-noted, settled-derivation};
+ghost use Rattle.deriving.specs.Derived.{Some-lines, Derivation-here, Line-found, Lines-found};
+use super::derivations;
+use super::derivations::Places;
+use super::derivations::read_derivation;
+use bytes::bytes::Read;
+use bytes::bytes::two;
+use bytes::limits;
+use bytes::lists::Passed;
+use reading::plan::plan_at;
+use reading::table;
+use reading::table::Table;
+use reading::table::widened;
+use refusing::overlaps::overlap;
+use refusing::overlaps::sequence_of;
+use refusing::refusals::Found;
+
+// The place of line k.
+pub fn place_of(places: &Places, k: usize) -> usize
+    requires { ⌜ k < 1024 ⌝ }
+    ensures { λ r. ⌜ r ≡ getD (now (places .entry)) k 0 ⌝ }
+{
+    widened(places[k])
+}
+
+// 18 in the plan of the line at p. The plan is read again, without a fault, into a table that is of no use afterwards.
+fn overlap_in_line(n: usize, m: usize, s: &[u8], p: usize, t: &mut Table) -> Found
+    requires { ⌜ n ≤ 64 ⌝ }
+    requires { ⌜ m ≤ 64 ⌝ }
+    requires { ⌜ length (now s) ≤ 32768 ⌝ }
+    requires { ⌜ List-here 128 (now s) p ⌝ }
+    ensures { λ r. ⌜ Line-found n m (now (s .entry)) p r ⌝ }
+{
+    let plan = sequence_of(s, p);
+    table::sized(t);
+    match plan_at(n, m, s, plan, t) {
+        Read::Value(count, e) => overlap(s, t, count),
+        Read::Fault(k, e) => Found::Nowhere,
+    }
+}
+
+// 18: the first branching with two conditions that are not exclusive, over so many lines in order.
+fn overlap_in_lines(
+    n: usize,
+    m: usize,
+    s: &[u8],
+    t: &mut Table,
+    places: &Places,
+    count: usize,
+) -> Found
+    requires { ⌜ n ≤ 64 ⌝ }
+    requires { ⌜ m ≤ 64 ⌝ }
+    requires { ⌜ length (now s) ≤ 32768 ⌝ }
+    requires { ⌜ count ≤ 1024 ⌝ }
+    requires { ⌜ Some-lines n m (now s) (now places) count ⌝ }
+    ensures { λ r. ⌜ Lines-found n m (now (s .entry)) (now (places .entry)) count r ⌝ }
+{
+    let mut k = 0;
+    while k < count {
+        let p = place_of(places, k);
+        match overlap_in_line(n, m, s, p, t) {
+            Found::Nowhere => {
+                k += 1;
+            }
+            Found::At(q) => {
+                return Found::At(q);
+            }
+        }
+    }
+    Found::Nowhere
+}
+
+// 18, of a derivation that was read up to e.
+fn refused_by_18(n: usize, m: usize, s: &[u8], t: &mut Table, places: &Places, e: usize) -> Passed
+    requires { ⌜ n ≤ 64 ⌝ }
+    requires { ⌜ m ≤ 64 ⌝ }
+    requires { ⌜ Derivation-here n m (now s) (now places) e ⌝ }
+    ensures { λ r. ⌜ r ≡ passed (settled-derivation n m (now (s .entry))) ⌝ }
+{
+    let count = two(s[0], s[1]);
+    match overlap_in_lines(n, m, s, t, places, count) {
+        Found::Nowhere => Passed::To(e),
+        Found::At(p) => Passed::Fault(limits::NOT_EXCLUSIVE, p),
+    }
+}
+
+// A derivation settled, for a request with n fluents and m actions: read without a fault, and past 18.
+pub fn settle_derivation(n: usize, m: usize, s: &[u8], t: &mut Table, places: &mut Places) -> Passed
+    requires { ⌜ n ≤ 64 ⌝ }
+    requires { ⌜ m ≤ 64 ⌝ }
+    ensures { λ r. ⌜ outcome r (now (places .exit)) ≡ noting (places-noted 0) (settled-derivation n m (now (s .entry))) (now (places .entry)) ⌝ }
+{
+    derivations::sized(places);
+    match read_derivation(n, m, s, t, places) {
+        Passed::To(e) => refused_by_18(n, m, s, t, places, e),
+        Passed::Fault(k, q) => Passed::Fault(k, q),
+    }
+}

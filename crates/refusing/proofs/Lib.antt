@@ -1,0 +1,10 @@
+pub mod RefusalLaws
+pub mod HereLaws
+pub mod PlanKept
+pub mod KeptLaws
+pub mod HoldsLaws
+pub mod OverlapLaws
+pub mod PlanOverlaps
+pub mod WrittenLaws
+pub mod ReadLaws
+pub mod SettleLaws

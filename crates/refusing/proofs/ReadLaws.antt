@@ -1,0 +1,390 @@
+-- What a request that was read leaves in the table, for what is refused after reading. Assumes nothing.
+use Prim.Native.Nat.{ℕ, zero, suc, _+_, _-_, _*_, _≤_, _<_}
+use native.Mathlib.Omega.{arith}
+use mathlib.Core.Path.{_≡_, refl, sym, _∙_, ap, subst}
+use mathlib.Core.List.{List, _∷_}
+use lib.ListN.{length, getD, set, length-set}
+use lib.Seq.{getD-set-same}
+use lib.Dec.{eqb, ltb}
+use Rattle.meaning.specs.Tests.{either, some-of}
+use Rattle.meaning.specs.Limits.{format}
+use Rattle.meaning.specs.Requests.{Effect, Executability, Knowledge, Table, Request}
+use Rattle.meaning.specs.Reading
+use Rattle.meaning.specs.Reading.{Got, got, fault, literals, byte-at, count-at, below-at, list-at, body-at, effect-at, executability-at, knowledge-at, repeated, section-at, plan-at, table-at, request-at, read-request}
+use Rattle.meaning.proofs.TestLaws.{Has}
+use Rattle.meaning.proofs.SettledLaws.{got-same}
+use Rattle.meaning.proofs.RangeLaws.{not-refused, after-got, count-within, section-read}
+use Rattle.reading.specs.Noted.{Section, effects, executability, knowledge, Line, effect-noted, note-line, count-slot, section-noted, table-noted}
+use Rattle.reading.specs.Planned.{items-of, bytes-of, plan-noted}
+use Rattle.reading.specs.Requested.{goals-place, plan-place, places-noted, request-noted}
+use Rattle.refusing.specs.InTable.{effect-from, Effect-here, place-in, effects-in, Effects-here, knowledge-from, knowledge-in, Knowledge-here, Acting}
+use Rattle.reading.proofs.SectionLaws.{got-place, byte-got, number-got, repeated-length}
+use Rattle.reading.proofs.PlanSizes.{sequence-read, list-through}
+use Rattle.reading.proofs.RequestLaws.{placed-length}
+use Rattle.refusing.proofs.HereLaws.{effect-here}
+use Rattle.refusing.proofs.KeptLaws.{kept, link-kept, run-kept, pair-kept, lines-kept, lines-long, note-long, plan-kept, plan-long}
+use Rattle.refusing.specs.Plans.{Kept, Plan-held}
+use Rattle.refusing.proofs.PlanKept.{kept-agree}
+use Rattle.refusing.proofs.WrittenLaws.{plan-held}
+use Rattle.refusing.proofs.HoldsLaws.{Placed-in, effects-placed, placed-same, effects-found, effects-fit, last-noted}
+
+-- THE PARTS of a table that was read up to p, and of a request with that table.
+pub record Table-parts (s : List ℕ) (t : Table) (p : ℕ) : Type 0 where
+  pub few : t .fluents ≤ 64
+  pub less : t .actions ≤ 64
+  pub effects-at : ℕ
+  pub effects-end : ℕ
+  pub effects-read : section-at (effect-at format (t .fluents) (t .actions) s) s effects-at ≡ got (t .effects) effects-end
+  pub runs-end : ℕ
+  pub runs-read : section-at (executability-at format (t .fluents) (t .actions) s) s effects-end ≡ got (t .executability) runs-end
+  pub knowledge-read : section-at (knowledge-at format (t .fluents) (t .actions) s) s runs-end ≡ got (t .knowledge) p
+
+pub table-parts : (s : List ℕ) (t : Table) (p : ℕ) → table-at format s 0 ≡ got t p → Table-parts s t p
+unfolding table-at
+table-parts s t p e =
+    after-got (count-at 1 64 s 0) _ e λ n p₁ en u₁.
+    after-got (count-at 1 64 s p₁) _ u₁ λ m p₂ em u₂.
+    after-got (list-at literals n 64 s p₂) _ u₂ λ facts p₃ _ u₃.
+    after-got (section-at (effect-at format n m s) s p₃) _ u₃ λ es p₄ ees u₄.
+    after-got (section-at (executability-at format n m s) s p₄) _ u₄ λ xs p₅ exs u₅.
+    after-got (section-at (knowledge-at format n m s) s p₅) _ u₅ λ ks p₆ eks u₆.
+    subst on u₆ (record {
+      few = count-within 1 64 s 0 n p₁ en;
+      less = count-within 1 64 s p₁ m p₂ em;
+      effects-at = p₃;
+      effects-end = p₄;
+      effects-read = ees;
+      runs-end = p₅;
+      runs-read = exs;
+      knowledge-read = eks;
+    })
+  where
+    on : Got Table → Type 0
+    on (got y q) = Table-parts s y q
+    on (fault n q) = Unit {0}
+
+pub record Request-parts (s : List ℕ) (t : Table) (p : ℕ) (y : Request) : Type 0 where
+  pub table : y .table ≡ t
+  pub items : ℕ
+  pub plan-end : ℕ
+  pub plan-read : plan-at format (t .fluents) (t .actions) s p ≡ got (record { value = y .plan; items = items }) plan-end
+  pub placed : plan-place y ≡ p
+
+pub request-parts : (s : List ℕ) (t : Table) (p : ℕ) (y : Request) (q : ℕ) → request-at format s t p ≡ got y q → Request-parts s t p y
+unfolding request-at plan-place goals-place plan-at
+request-parts s t p y q e =
+    after-got (plan-at format (t .fluents) (t .actions) s p) _ e λ plan q₁ eplan v₁.
+    after-got (list-at literals (t .fluents) 64 s q₁) _ v₁ λ goals q₂ egoals v₂.
+    after-got (list-at Reading.fluents (t .fluents) 64 s q₂) _ v₂ λ whether q₃ _ v₃.
+    let sized = sequence-read (t .fluents) (t .actions) s 8 p 0 (omega arith) .holds plan q₁ eplan in
+    let through = list-through s literals (t .fluents) 64 q₁ .holds goals q₂ egoals in
+    let after = sized .through .after in
+    let ends = through .after in
+    let goals-at : q₂ - (1 + length goals) ≡ q₁ = omega arith in
+    let plan-stands : q₁ - (2 + bytes-of (plan .value)) ≡ p = omega arith in
+    subst on v₃ (record {
+      table = refl;
+      items = plan .items;
+      plan-end = q₁;
+      plan-read = eplan;
+      placed = rw (placed-length (q₁ + 1) goals, goals-at) plan-stands;
+    })
+  where
+    on : Got Request → Type 0
+    on (got x i) = Request-parts s t p x
+    on (fault n i) = Unit {0}
+
+-- A request that was read.
+pub record Parts (s : List ℕ) (x : Request) : Type 0 where
+  pub place : ℕ
+  pub of-table : Table-parts s (x .table) place
+  pub items : ℕ
+  pub plan-end : ℕ
+  pub plan-read : plan-at format (x .table .fluents) (x .table .actions) s place ≡ got (record { value = x .plan; items = items }) plan-end
+  pub placed : plan-place x ≡ place
+
+pub parts : (s : List ℕ) (x : Request) (e : ℕ) → read-request format s ≡ got x e → Parts s x
+unfolding read-request
+parts s x e read =
+    after-got (table-at format s 0) _ (not-refused _ _ _ _ read .1) λ t p et e₁.
+    after-got (request-at format s t p) _ e₁ λ y q ey e₂.
+    let of-request = request-parts s t p y q ey in
+    subst (Parts s) (got-same (not-refused _ _ _ _ e₂ .1)) (record {
+      place = p;
+      of-table = subst (λ (z : Table). Table-parts s z p) (sym (of-request .table)) (table-parts s t p et);
+      items = of-request .items;
+      plan-end = of-request .plan-end;
+      plan-read = subst (λ (z : Table). plan-at format (z .fluents) (z .actions) s p ≡ got (record { value = y .plan; items = of-request .items }) (of-request .plan-end)) (sym (of-request .table)) (of-request .plan-read);
+      placed = of-request .placed;
+    })
+
+-- How many lines a section has.
+pub section-length : {A : Type 0} (line : ℕ → Got A) (s : List ℕ) (p : ℕ) (xs : List A) (q : ℕ) → section-at line s p ≡ got xs q → length xs ≡ getD s p 0
+unfolding section-at
+section-length line s p xs q e =
+    after-got (byte-at s p) _ e λ c i ec e′.
+    repeated-length line c i xs q e′ ∙ sym (byte-got s p c i ec .1)
+
+-- WHAT THE LINES SAY: actions below 64, and where each stands.
+module _ (s : List ℕ) (t : Table) (p : ℕ) (whole : Table-parts s t p) where
+  pub effect-good : (e : Effect) → Has (t .effects) e → (effect-from s (e .place) ≡ e) × Effect-here s (e .place)
+  effect-good e has =
+      let w = section-read (effect-at format (t .fluents) (t .actions) s) s (whole .effects-at) (t .effects) (whole .effects-end) (whole .effects-read) e has in
+      effect-here (t .fluents) (t .actions) s (whole .few) (whole .less) (w .0) e (w .1) (w .2)
+
+  pub run-good : (r : Executability) → Has (t .executability) r → r .action < 64
+  unfolding executability-at
+  run-good r has =
+      let w = section-read (executability-at format (t .fluents) (t .actions) s) s (whole .effects-end) (t .executability) (whole .runs-end) (whole .runs-read) r has in
+      after-got (below-at (t .actions) s (w .0)) _ (w .2) λ a i ea e₁.
+      after-got (body-at format (t .fluents) s i) _ e₁ λ b j _ e₂.
+      let small = number-got (t .actions) s (w .0) a i ea .3 in
+      let most = whole .less in
+      let is : a ≡ r .action = ap (λ (y : Executability). y .action) (got-same e₂) in
+      omega arith
+
+  pub knowledge-good : (k : Knowledge) → Has (t .knowledge) k → k .action < 64
+  unfolding knowledge-at
+  knowledge-good k has =
+      let w = section-read (knowledge-at format (t .fluents) (t .actions) s) s (whole .runs-end) (t .knowledge) p (whole .knowledge-read) k has in
+      after-got (below-at (t .actions) s (w .0)) _ (w .2) λ a i ea e₁.
+      after-got (below-at (t .fluents) s i) _ e₁ λ f j _ e₂.
+      let small = number-got (t .actions) s (w .0) a i ea .3 in
+      let most = whole .less in
+      let is : a ≡ k .action = ap (λ (y : Knowledge). y .action) (got-same e₂) in
+      omega arith
+
+acts : (s : List ℕ) (e : Effect) → effect-from s (e .place) ≡ e → getD s (e .place) 0 ≡ e .action
+unfolding effect-from
+acts s e is = ap (λ (y : Effect). y .action) is
+
+pub section-long : (c : Section) (xs : List (Line c)) (t : List ℕ) → length (section-noted c xs t) ≡ length t
+unfolding section-noted
+section-long c xs t = lines-long (note-line c) (note-long c) 0 xs (set t (count-slot c) (length xs)) ∙ length-set t (count-slot c) (length xs)
+
+-- THE SLOTS that nothing noted after the effects touches.
+pub record Apart (j : ℕ) : Type 0 where
+  pub plan : 4096 ≤ j
+  pub run : (k : ℕ) → k < 256 → (j ≡ 4608 + k → ⊥) × (j ≡ 4864 + k → ⊥)
+  pub action : (a : ℕ) → a < 64 → (j ≡ 5184 + a → ⊥) × (j ≡ 5248 + a → ⊥) × (j ≡ 5312 + a → ⊥)
+  pub sensed : j < 5384
+  pub other : (j ≡ 5379 → ⊥) × (j ≡ 5380 → ⊥) × (j ≡ 5376 → ⊥) × (j ≡ 5377 → ⊥) × (j ≡ 5381 → ⊥)
+
+module _ (s : List ℕ) (bytes : (i : ℕ) → getD s i 0 < 256) (x : Request) (whole : Parts s x) (t : List ℕ) where
+  pub effects-few : length (x .table .effects) < 256
+  effects-few = rw (section-length (effect-at format (x .table .fluents) (x .table .actions) s) s (whole .of-table .effects-at) (x .table .effects) (whole .of-table .effects-end) (whole .of-table .effects-read)) (bytes (whole .of-table .effects-at))
+
+  pub runs-few : length (x .table .executability) < 256
+  runs-few = rw (section-length (executability-at format (x .table .fluents) (x .table .actions) s) s (whole .of-table .effects-end) (x .table .executability) (whole .of-table .runs-end) (whole .of-table .runs-read)) (bytes (whole .of-table .effects-end))
+
+  pub knowledge-few : length (x .table .knowledge) < 256
+  knowledge-few = rw (section-length (knowledge-at format (x .table .fluents) (x .table .actions) s) s (whole .of-table .runs-end) (x .table .knowledge) (whole .place) (whole .of-table .knowledge-read)) (bytes (whole .of-table .runs-end))
+
+  pub items-most : (whole .items ≡ items-of (x .plan)) × (items-of (x .plan) ≤ 1024)
+  unfolding plan-at
+  items-most =
+      let sized = sequence-read (x .table .fluents) (x .table .actions) s 8 (whole .place) 0 (omega arith) .holds (record { value = x .plan; items = whole .items }) (whole .plan-end) (whole .plan-read) in
+      let a = sized .counted in let b = sized .most in
+      (omega arith, omega arith)
+
+  pub tabled-long : {n : ℕ} → length t ≡ n → length (table-noted (x .table) t) ≡ n
+  unfolding table-noted
+  tabled-long sized =
+      section-long knowledge (x .table .knowledge) (section-noted executability (x .table .executability) (section-noted effects (x .table .effects) t))
+      ∙ section-long executability (x .table .executability) (section-noted effects (x .table .effects) t)
+      ∙ section-long effects (x .table .effects) t
+      ∙ sized
+
+  pub planned-long : {n : ℕ} → length t ≡ n → length (plan-noted (plan-place x) (table-noted (x .table) t) (x .plan)) ≡ n
+  planned-long sized = plan-long (plan-place x) (table-noted (x .table) t) (x .plan) ∙ tabled-long sized
+
+  with-effects : List ℕ
+  with-effects = section-noted effects (x .table .effects) t
+
+  with-runs : List ℕ
+  with-runs = section-noted executability (x .table .executability) with-effects
+
+  with-knowledge : List ℕ
+  with-knowledge = section-noted knowledge (x .table .knowledge) with-runs
+
+  -- The plan and the places leave a slot as the table's sections left it.
+  after-sections : (j : ℕ) → 4096 ≤ j → (j ≡ 5376 → ⊥) → (j ≡ 5377 → ⊥) → (j ≡ 5381 → ⊥) → getD (request-noted x t) j 0 ≡ getD with-knowledge j 0
+  unfolding request-noted places-noted table-noted with-knowledge with-runs with-effects
+  after-sections j far a b c =
+      let planned : List ℕ = plan-noted (plan-place x) (table-noted (x .table) t) (x .plan) in
+      kept (set (set planned 5376 (plan-place x)) 5377 (items-of (x .plan))) 5381 j (goals-place x) c
+      ∙ kept (set planned 5376 (plan-place x)) 5377 j (items-of (x .plan)) b
+      ∙ kept planned 5376 j (plan-place x) a
+      ∙ plan-kept j far (plan-place x) (table-noted (x .table) t) (x .plan) (items-most .1)
+
+  after-effects : (j : ℕ) → Apart j → getD (request-noted x t) j 0 ≡ getD with-effects j 0
+  unfolding with-knowledge with-runs section-noted note-line count-slot
+  after-effects j apart =
+      after-sections j (apart .plan) (apart .other .2) (apart .other .3) (apart .other .4)
+      ∙ lines-kept (note-line knowledge) j (λ (k : Knowledge). k .action < 64)
+      (λ k l u small _. pair-kept j (l .action) (l .fluent) u (apart .sensed) (apart .action (l .action) small .1) (apart .action (l .action) small .2))
+      0 (x .table .knowledge) (set with-runs 5380 (length (x .table .knowledge))) (knowledge-good s (x .table) (whole .place) (whole .of-table)) (omega (arith, knowledge-few))
+      ∙ kept with-runs 5380 j (length (x .table .knowledge)) (apart .other .1)
+      ∙ lines-kept (note-line executability) j (λ (r : Executability). r .action < 64)
+      (λ k r u small less. run-kept j k (r .place) (r .action) u (apart .run k less .0) (apart .run k less .1) (apart .action (r .action) small .0))
+      0 (x .table .executability) (set with-effects 5379 (length (x .table .executability))) (run-good s (x .table) (whole .place) (whole .of-table)) (omega (arith, runs-few))
+      ∙ kept with-effects 5379 j (length (x .table .executability)) (apart .other .0)
+
+  module _ (sized : length t ≡ 9480) where
+    pub knowledge-counted : getD (request-noted x t) 5380 0 ≡ length (x .table .knowledge)
+    unfolding with-knowledge with-runs with-effects section-noted note-line count-slot
+    knowledge-counted =
+        after-sections 5380 (omega arith) (λ e. omega arith) (λ e. omega arith) (λ e. omega arith)
+        ∙ lines-kept (note-line knowledge) 5380 (λ (k : Knowledge). k .action < 64)
+        (λ k l u small _. pair-kept 5380 (l .action) (l .fluent) u (omega arith) (λ e. omega arith) (λ e. omega arith))
+        0 (x .table .knowledge) (set with-runs 5380 (length (x .table .knowledge))) (knowledge-good s (x .table) (whole .place) (whole .of-table)) (omega (arith, knowledge-few))
+        ∙ getD-set-same with-runs 5380 (length (x .table .knowledge)) 0 (omega (arith, section-long executability (x .table .executability) with-effects, section-long effects (x .table .effects) t))
+
+    pub effects-counted : getD (request-noted x t) 5378 0 ≡ length (x .table .effects)
+    unfolding with-effects section-noted count-slot note-line effect-noted
+    effects-counted =
+        after-effects 5378 (record {
+          plan = omega arith;
+          run = λ k h. (λ e. omega arith, λ e. omega arith);
+          action = λ a h. (λ e. omega arith, λ e. omega arith, λ e. omega arith);
+          sensed = omega arith;
+          other = (λ e. omega arith, λ e. omega arith, λ e. omega arith, λ e. omega arith, λ e. omega arith);
+        })
+        ∙ lines-kept (note-line effects) 5378 (λ (e : Effect). e .action < 64)
+        (λ k e u small less. link-kept 5378 (5120 + e .action) 4352 k (set u (4096 + k) (e .place)) (λ q. omega arith) (λ q. omega arith) ∙ kept u (4096 + k) 5378 (e .place) (λ q. omega arith))
+        0 (x .table .effects) (set t 5378 (length (x .table .effects))) effect-small (omega (arith, effects-few))
+        ∙ getD-set-same t 5378 (length (x .table .effects)) 0 (omega arith)
+      where
+        effect-small : (e : Effect) → Has (x .table .effects) e → e .action < 64
+        effect-small e has =
+            let good = effect-good s (x .table) (whole .place) (whole .of-table) e has in
+            let is : getD s (e .place) 0 ≡ e .action = acts s e (good .0) in
+            let small = good .1 .action in
+            omega arith
+
+    pub items-noted : getD (request-noted x t) 5377 0 ≡ items-of (x .plan)
+    unfolding request-noted places-noted
+    items-noted =
+        let planned : List ℕ = plan-noted (plan-place x) (table-noted (x .table) t) (x .plan) in
+        kept (set (set planned 5376 (plan-place x)) 5377 (items-of (x .plan))) 5381 5377 (goals-place x) (λ e. omega arith)
+        ∙ getD-set-same (set planned 5376 (plan-place x)) 5377 (items-of (x .plan)) 0 (omega (arith, length-set planned 5376 (plan-place x), planned-long sized))
+
+    pub plan-noted-at : getD (request-noted x t) 5376 0 ≡ whole .place
+    unfolding request-noted places-noted
+    plan-noted-at =
+        let planned : List ℕ = plan-noted (plan-place x) (table-noted (x .table) t) (x .plan) in
+        kept (set (set planned 5376 (plan-place x)) 5377 (items-of (x .plan))) 5381 5376 (goals-place x) (λ e. omega arith)
+        ∙ kept (set planned 5376 (plan-place x)) 5377 5376 (items-of (x .plan)) (λ e. omega arith)
+        ∙ getD-set-same planned 5376 (plan-place x) 0 (omega (arith, planned-long sized))
+        ∙ whole .placed
+
+    -- 18 finds the plan.
+    pub request-held : Plan-held s (request-noted x t) (x .plan)
+    unfolding request-noted places-noted
+    request-held =
+        let noted : List ℕ = table-noted (x .table) t in
+        let planned : List ℕ = plan-noted (plan-place x) noted (x .plan) in
+        let held = plan-held (x .table .fluents) (x .table .actions) s (whole .of-table .few) (whole .of-table .less) (whole .place) noted (record { value = x .plan; items = whole .items }) (whole .plan-end) (omega (arith, table-long)) (whole .plan-read) in
+        let same : (j : ℕ) → j < 4096 → getD (request-noted x t) j 0 ≡ getD planned j 0 = λ j near.
+        kept (set (set planned 5376 (plan-place x)) 5377 (items-of (x .plan))) 5381 j (goals-place x) (λ e. omega arith)
+        ∙ kept (set planned 5376 (plan-place x)) 5377 j (items-of (x .plan)) (λ e. omega arith)
+        ∙ kept planned 5376 j (plan-place x) (λ e. omega arith) in
+        let few = held .few in
+        record {
+          few = few;
+          written = held .written;
+          kept = kept-agree (x .plan) 0 planned (request-noted x t)
+              (record {
+                places = λ j _ less. same (0 + j) (omega arith);
+                ends = λ j _ less. same (2048 + j) (omega arith);
+                counts = λ j _ less. same (3072 + j) (omega arith);
+              })
+              (subst (λ (p : ℕ). Kept (plan-noted p noted (x .plan)) 0 (x .plan)) (sym (whole .placed)) (held .kept));
+        }
+      where
+        table-long : length (table-noted (x .table) t) ≡ 9480
+        table-long = tabled-long sized
+
+    -- 16 finds the effects.
+    placed-effects : Placed-in (request-noted x t) 0 (x .table .effects)
+    unfolding with-effects section-noted count-slot place-in
+    placed-effects =
+        placed-same with-effects (request-noted x t) 0 (x .table .effects)
+        (λ i less. after-effects (4096 + i) (record {
+          plan = omega arith;
+          run = λ k h. (λ e. omega (arith, effects-few), λ e. omega (arith, effects-few));
+          action = λ a h. (λ e. omega (arith, effects-few), λ e. omega (arith, effects-few), λ e. omega (arith, effects-few));
+          sensed = omega (arith, effects-few);
+          other = (λ e. omega (arith, effects-few), λ e. omega (arith, effects-few), λ e. omega (arith, effects-few), λ e. omega (arith, effects-few), λ e. omega (arith, effects-few));
+        }))
+        (effects-placed 0 (x .table .effects) (set t 5378 (length (x .table .effects))) (length-set t 5378 (length (x .table .effects)) ∙ sized) (omega (arith, effects-few)))
+
+    pub effects-are : effects-in s (request-noted x t) 0 (length (x .table .effects)) ≡ x .table .effects
+    effects-are = effects-found s (request-noted x t) 0 (x .table .effects) placed-effects (λ e has. effect-good s (x .table) (whole .place) (whole .of-table) e has .0)
+
+    pub effects-stand : Effects-here s (request-noted x t) (length (x .table .effects))
+    effects-stand = record {
+      line = λ i less.
+          let same : 0 + i + 1 ≡ i + 1 = omega arith in
+          subst (λ (j : ℕ). Effect-here s (place-in (request-noted x t) j)) same
+          (effects-fit s (request-noted x t) 0 (x .table .effects) placed-effects (λ e has. effect-good s (x .table) (whole .place) (whole .of-table) e has .1) i less);
+    }
+
+    -- 17 finds the actions that have an effect.
+    pub acting : ((a : ℕ) → a < 64 → getD t (5120 + a) 0 ≡ 0) → Acting (request-noted x t) (x .table .effects)
+    unfolding with-effects section-noted count-slot either
+    acting blank = record {
+      slot = λ a small.
+          ap (ltb 0) (after-effects (5120 + a) (record {
+            plan = omega arith;
+            run = λ k h. (λ e. omega arith, λ e. omega arith);
+            action = λ b h. (λ e. omega arith, λ e. omega arith, λ e. omega arith);
+            sensed = omega arith;
+            other = (λ e. omega arith, λ e. omega arith, λ e. omega arith, λ e. omega arith, λ e. omega arith);
+          }))
+          ∙ last-noted a small 0 (x .table .effects) (set t 5378 (length (x .table .effects))) (length-set t 5378 (length (x .table .effects)) ∙ sized) (omega (arith, effects-few))
+          ∙ ap (λ (v : ℕ). either (ltb 0 v) (some-of (λ (e : Effect). eqb (e .action) a) (x .table .effects))) (kept t 5378 (5120 + a) (length (x .table .effects)) (λ e. omega arith) ∙ blank a small);
+    }
+
+-- KNOWLEDGE LINES stand one after another, two bytes each.
+module _ (n m : ℕ) (s : List ℕ) (less : m ≤ 64) where
+  lines-here : (left p : ℕ) (ks : List Knowledge) (q : ℕ) → repeated (knowledge-at format n m s) left p ≡ got ks q → (start k : ℕ) → start + 2 * k ≡ p → p ≤ length s
+      → (knowledge-in s start k left ≡ ks) × (q ≡ p + 2 * left) × (q ≤ length s) × ((i : ℕ) → i < left → getD s (p + 2 * i) 0 < 64)
+  unfolding repeated knowledge-in knowledge-at knowledge-from
+  lines-here zero p ks q e start k at room = let ends = got-place e in (got-same e, omega arith, omega arith, λ i h. absurd (omega arith))
+  lines-here (suc left) p ks q e start k at room =
+      after-got (knowledge-at format n m s p) _ e λ l i el e′.
+      after-got (repeated (knowledge-at format n m s) left i) _ e′ λ ls j els e″.
+      after-got (below-at m s p) _ el λ a i₁ ea u₁.
+      after-got (below-at n s i₁) _ u₁ λ f i₂ ef u₂.
+      let first = number-got m s p a i₁ ea in
+      let then = number-got n s i₁ f i₂ ef in
+      let is : record { place = p; action = a; fluent = f } ≡ l = got-same u₂ in
+      let ends : i₂ ≡ i = got-place u₂ in
+      let second : i₁ ≡ p + 1 = sym (first .2) in
+      let third : p + 2 ≡ i = omega (arith, first .2, then .2) in
+      let inside : i ≤ length s = omega (arith, then .0, then .2) in
+      let rest = lines-here left i ls j els start (k + 1) (omega arith) inside in
+      let here : knowledge-from s (start + 2 * k) ≡ l = rw (at, first .1, sym second, then .1) is in
+      let after : j ≡ q = got-place e″ in (
+        ap (λ (y : Knowledge). y ∷ knowledge-in s start (k + 1) left) here ∙ ap (λ (ys : List Knowledge). l ∷ ys) (rest .0) ∙ got-same e″,
+        omega (arith, rest .1),
+        omega (arith, rest .2),
+        small p a i (first .1) (omega (arith, first .3)) third (rest .3),
+      )
+    where
+      small : (p a i : ℕ) → getD s p 0 ≡ a → a < 64 → p + 2 ≡ i → ((h : ℕ) → h < left → getD s (i + 2 * h) 0 < 64) → (h : ℕ) → h < suc left → getD s (p + 2 * h) 0 < 64
+      small p a i is few after later zero h = let same : p + 2 * zero ≡ p = omega arith in rw (same, is) few
+      small p a i is few after later (suc g) h = let same : i + 2 * g ≡ p + 2 * suc g = omega arith in subst (λ (z : ℕ). getD s z 0 < 64) same (later g (omega arith))
+
+  pub knowledge-stands : (p : ℕ) (ks : List Knowledge) (q : ℕ) → section-at (knowledge-at format n m s) s p ≡ got ks q
+      → (knowledge-in s (q - 2 * length ks) 0 (length ks) ≡ ks) × Knowledge-here s (q - 2 * length ks) (length ks) × (2 * length ks ≤ q)
+  unfolding section-at
+  knowledge-stands p ks q e =
+      after-got (byte-at s p) _ e λ c i ec e′.
+      let counted : length ks ≡ c = repeated-length (knowledge-at format n m s) c i ks q e′ in
+      let byte = byte-got s p c i ec in
+      let lines = lines-here c i ks q e′ i 0 (omega arith) (omega (arith, byte .0, byte .2)) in
+      let ends = lines .1 in
+      let start : q - 2 * length ks ≡ i = omega arith in
+      rw (start, counted) (lines .0, record { ends = omega (arith, lines .2); acts = lines .3 }, omega arith)

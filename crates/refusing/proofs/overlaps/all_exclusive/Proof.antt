@@ -1,0 +1,78 @@
+use Prim.Native.Nat.{_+_, _-_}
+use mathlib.Core.Path.{_≡_}
+use Rattle.meaning.specs.Tests.{each-of}
+use Rattle.refusing.specs.InTable.{found}
+use Rattle.refusing.specs.Branchings.{conditions-from, rules-out, all-apart, first-overlap, Branches-here}
+use Rattle.refusing.proofs.OverlapLaws.{branch-first, condition-first, branches-next, apart-not, apart-next, apart-done}
+use borrow.Author.Needs.{needs}
+use Rattle.refusing.proofs.overlaps.all_exclusive.Statement.{statement}
+use Rattle.refusing.proofs.overlaps.all_exclusive.Tie as tie
+use Rattle.refusing.proofs.overlaps.all_exclusive.Reads as reads
+use Rattle.refusing.proofs.overlaps.all_exclusive.Lts as lts
+use Rattle.reading.proofs.marks.state_of.Reads as state-of-reads
+use Rattle.refusing.proofs.overlaps.excludes.Reads as excludes-reads
+use Rattle.refusing.proofs.overlaps.next_item.Reads as next-item-reads
+use Rattle.refusing.proofs.overlaps.next_place.Reads as next-place-reads
+
+abbrev Inv-loop : tie.InvT-loop
+Inv-loop s t count place item left₀ p₀ i₀ left p i = (Branches-here s t left p i) × (all-apart (conditions-from s t count place item) ≡ all-apart (conditions-from s t left p i))
+
+abbrev μ-loop : tie.MeasureT-loop
+μ-loop s t count place item left₀ p₀ i₀ left p i = left
+
+-- src/overlaps.rt:105:5
+loop-holds : tie.Need-loop-holds Inv-loop μ-loop
+loop-holds c = search needs
+
+-- src/overlaps.rt:106:20
+state-of-requires : tie.Need-state-of-requires Inv-loop μ-loop
+state-of-requires c κs = search (needs, condition-first)
+
+-- src/overlaps.rt:107:13
+next-place-requires : tie.Need-next-place-requires Inv-loop μ-loop
+next-place-requires c κs = search (needs, branch-first)
+
+-- src/overlaps.rt:108:13
+next-item-requires : tie.Need-next-item-requires Inv-loop μ-loop
+next-item-requires c κs = search (needs, branch-first)
+
+-- src/overlaps.rt:109:22
+sub-others : tie.Need-sub-others Inv-loop μ-loop
+sub-others c = search needs
+
+-- src/overlaps.rt:110:13
+excludes-requires : tie.Need-excludes-requires Inv-loop μ-loop
+excludes-requires c κs = search (needs, branches-next)
+
+-- src/overlaps.rt:105:5
+loop-less : tie.Need-loop-less Inv-loop μ-loop
+loop-less c = search needs
+
+-- src/overlaps.rt:105:5
+loop-again : tie.Need-loop-again Inv-loop μ-loop
+loop-again c = search (needs, branches-next, apart-next)
+
+-- src/overlaps.rt:117:9
+returns : tie.Need-returns Inv-loop μ-loop
+returns c = search apart-not
+
+-- src/overlaps.rt:98:1
+returns-2 : tie.Need-returns-2 Inv-loop μ-loop
+returns-2 c = search apart-done
+
+pub all-exclusive-spec : {M : Type 1} → statement M
+all-exclusive-spec =
+    tie.close
+    (tie.spec
+    Inv-loop
+    μ-loop
+    loop-holds
+    state-of-requires
+    next-place-requires
+    next-item-requires
+    sub-others
+    excludes-requires
+    loop-less
+    loop-again
+    returns
+    returns-2)

@@ -1,0 +1,70 @@
+use Prim.Native.Nat.{_+_, _-_}
+use mathlib.Core.Path.{_≡_}
+use Rattle.refusing.specs.InTable.{found}
+use Rattle.refusing.specs.Branchings.{first-overlap}
+use Rattle.refusing.proofs.OverlapLaws.{item-there, overlap-starts, overlap-here, overlap-next, overlap-done}
+use borrow.Author.Needs.{needs}
+use Rattle.refusing.proofs.overlaps.first_overlap.Statement.{statement}
+use Rattle.refusing.proofs.overlaps.first_overlap.Tie as tie
+use Rattle.refusing.proofs.overlaps.first_overlap.Reads as reads
+use Rattle.refusing.proofs.overlaps.first_overlap.Lts as lts
+use Rattle.refusing.proofs.overlaps.apart.Reads as apart-reads
+use Rattle.reading.proofs.table.get.Reads as get-reads
+
+abbrev Inv-loop : tie.InvT-loop
+Inv-loop s t count i₀ i = found (first-overlap s t count 0) ≡ found (first-overlap s t (count - i) i)
+
+abbrev μ-loop : tie.MeasureT-loop
+μ-loop s t count i₀ i = count - i
+
+-- src/overlaps.rt:143:5
+loop-holds : tie.Need-loop-holds Inv-loop μ-loop
+loop-holds c = search (needs, overlap-starts)
+
+-- src/overlaps.rt:144:24
+add-get : tie.Need-add-get Inv-loop μ-loop
+add-get c = search needs
+
+-- src/overlaps.rt:144:13
+get-requires : tie.Need-get-requires Inv-loop μ-loop
+get-requires c κs = search needs
+
+-- src/overlaps.rt:145:13
+apart-requires : tie.Need-apart-requires Inv-loop μ-loop
+apart-requires c κs = search (needs, item-there)
+
+-- src/overlaps.rt:146:9
+add-i : tie.Need-add-i Inv-loop μ-loop
+add-i c = search needs
+
+-- src/overlaps.rt:143:5
+loop-less : tie.Need-loop-less Inv-loop μ-loop
+loop-less c = search needs
+
+-- src/overlaps.rt:143:5
+loop-again : tie.Need-loop-again Inv-loop μ-loop
+loop-again c = search (needs, overlap-next)
+
+-- src/overlaps.rt:150:9
+returns : tie.Need-returns Inv-loop μ-loop
+returns c = search overlap-here
+
+-- src/overlaps.rt:138:1
+returns-2 : tie.Need-returns-2 Inv-loop μ-loop
+returns-2 c = search overlap-done
+
+pub first-overlap-spec : {M : Type 1} → statement M
+first-overlap-spec =
+    tie.close
+    (tie.spec
+    Inv-loop
+    μ-loop
+    loop-holds
+    add-get
+    get-requires
+    apart-requires
+    add-i
+    loop-less
+    loop-again
+    returns
+    returns-2)

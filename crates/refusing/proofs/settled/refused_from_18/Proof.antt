@@ -1,0 +1,36 @@
+use Rattle.refusing.proofs.SettleLaws.{stand-18, none-18, at-18}
+use borrow.Author.Needs.{needs}
+use Rattle.refusing.proofs.settled.refused_from_18.Statement.{statement}
+use Rattle.refusing.proofs.settled.refused_from_18.Tie as tie
+use Rattle.refusing.proofs.settled.refused_from_18.Reads as reads
+use Rattle.refusing.proofs.settled.refused_from_18.Lts as lts
+use Rattle.refusing.proofs.overlaps.overlap.Reads as overlap-reads
+use Rattle.reading.proofs.table.get.Reads as get-reads
+
+-- src/settled.rt:23:9
+get-requires : tie.Need-get-requires
+get-requires c κs = search needs
+
+-- src/settled.rt:24:11
+overlap-requires : tie.Need-overlap-requires
+overlap-requires c κs = search (stand-18, c .before .shared-slice-known .given)
+
+-- src/settled.rt:25:27
+enum-told : tie.Need-enum-told
+enum-told c = search needs
+
+-- src/settled.rt:26:19
+enum-known-p : tie.Need-enum-known-p
+enum-known-p c = search needs
+
+-- src/settled.rt:19:1
+returns : tie.Need-returns
+returns c = search (none-18, c .before .before .before .before .shared-slice-known .given)
+
+-- src/settled.rt:19:1
+returns-2 : tie.Need-returns-2
+returns-2 c = search (at-18, c .before .before .before .before .before .shared-slice-known .given)
+
+pub refused-from-18-spec : {M : Type 1} → statement M
+refused-from-18-spec =
+    tie.close (tie.spec get-requires overlap-requires enum-told enum-known-p returns returns-2)

@@ -1,0 +1,43 @@
+use Rattle.refusing.proofs.SettleLaws.{settle-here, settle-there, settle-fault}
+use borrow.Author.Needs.{needs}
+use Rattle.refusing.proofs.settled.settle.Statement.{statement}
+use Rattle.refusing.proofs.settled.settle.Tie as tie
+use Rattle.refusing.proofs.settled.settle.Reads as reads
+use Rattle.refusing.proofs.settled.settle.Lts as lts
+use Rattle.reading.proofs.requests.read_request.Reads as read-request-reads
+use Rattle.refusing.proofs.settled.refused_from_16.Reads as refused-from-16-reads
+
+-- src/settled.rt:62:11
+read-request-requires : tie.Need-read-request-requires
+read-request-requires c κs = search needs
+
+-- src/settled.rt:63:20
+enum-known-e : tie.Need-enum-known-e
+enum-known-e c = search needs
+
+-- src/settled.rt:63:26
+refused-from-16-requires : tie.Need-refused-from-16-requires
+refused-from-16-requires c κs = search settle-here
+
+-- src/settled.rt:64:23
+enum-known-k : tie.Need-enum-known-k
+enum-known-k c = search needs
+
+-- src/settled.rt:58:1
+returns : tie.Need-returns
+returns c = search settle-there
+
+-- src/settled.rt:58:1
+returns-2 : tie.Need-returns-2
+returns-2 c = search settle-fault
+
+pub settle-spec : {M : Type 1} → statement M
+settle-spec =
+    tie.close
+    (tie.spec
+    read-request-requires
+    enum-known-e
+    refused-from-16-requires
+    enum-known-k
+    returns
+    returns-2)

@@ -1,0 +1,4 @@
+pub mod InTable
+pub mod Settled
+pub mod Branchings
+pub mod Plans

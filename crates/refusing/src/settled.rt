@@ -1,0 +1,67 @@
+ghost use mathlib.Core.Path.{_≡_};
+ghost use Rattle.meaning.specs.Limits.{format};
+ghost use Rattle.meaning.specs.Refusals.{settled};
+ghost use Rattle.bytes.specs.Read.{passed};
+ghost use Rattle.reading.specs.Noted.{noting, outcome};
+ghost use Rattle.reading.specs.Requested.{request-noted};
+ghost use Rattle.refusing.specs.Settled.{blank, Read-here, past-17, past-18};
+use super::overlaps::overlap;
+use super::refusals::Found;
+use super::refusals::contradiction;
+use super::refusals::mixed;
+use bytes::limits;
+use bytes::lists::Passed;
+use reading::requests::read_request;
+use reading::table;
+use reading::table::Table;
+use reading::table::get;
+
+// 18, of a request that was read up to e.
+fn refused_from_18(s: &[u8], t: &Table, e: usize) -> Passed
+    requires { ⌜ Read-here (now s) (now t) e ⌝ }
+    ensures { λ r. ⌜ r ≡ passed (past-18 (now (s .entry))) ⌝ }
+{
+    let count = get(t, table::ITEMS);
+    match overlap(s, t, count) {
+        Found::Nowhere => Passed::To(e),
+        Found::At(p) => Passed::Fault(limits::NOT_EXCLUSIVE, p),
+    }
+}
+
+// 17 and 18, of a request that was read up to e.
+fn refused_from_17(s: &[u8], t: &Table, e: usize) -> Passed
+    requires { ⌜ Read-here (now s) (now t) e ⌝ }
+    ensures { λ r. ⌜ r ≡ passed (past-17 (now (s .entry))) ⌝ }
+{
+    let count = get(t, table::COUNT_OF_KNOWLEDGE);
+    let plan = get(t, table::PLAN);
+    let bytes = 2 * count;
+    let start = plan - bytes;
+    match mixed(s, t, start, count) {
+        Found::Nowhere => refused_from_18(s, t, e),
+        Found::At(p) => Passed::Fault(limits::EFFECT_AND_KNOWLEDGE, p),
+    }
+}
+
+// 16 to 18, of a request that was read up to e.
+fn refused_from_16(s: &[u8], t: &Table, e: usize) -> Passed
+    requires { ⌜ Read-here (now s) (now t) e ⌝ }
+    ensures { λ r. ⌜ r ≡ passed (settled format (now (s .entry))) ⌝ }
+{
+    let count = get(t, table::COUNT_OF_EFFECTS);
+    match contradiction(s, t, count) {
+        Found::Nowhere => refused_from_17(s, t, e),
+        Found::At(p) => Passed::Fault(limits::CONTRADICTORY_EFFECTS, p),
+    }
+}
+
+// A request settled: read without a fault, and past 16, 17 and 18. The table holds nothing before.
+pub fn settle(s: &[u8], t: &mut Table) -> Passed
+    requires { ⌜ now t ≡ blank ⌝ }
+    ensures { λ r. ⌜ outcome r (now (t .exit)) ≡ noting request-noted (settled format (now (s .entry))) (now (t .entry)) ⌝ }
+{
+    match read_request(s, t) {
+        Passed::To(e) => refused_from_16(s, t, e),
+        Passed::Fault(k, q) => Passed::Fault(k, q),
+    }
+}
