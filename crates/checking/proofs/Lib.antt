@@ -5,3 +5,4 @@ pub mod CodedPlaces
 pub mod PartLaws
 pub mod KnownLaws
 pub mod PlanLaws
+pub mod RuleLaws
