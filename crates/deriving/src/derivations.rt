@@ -96,7 +96,7 @@ pub fn line_at(n: usize, m: usize, s: &[u8], p: usize, t: &mut Table) -> Passed
     }
 }
 
-fn note_place(k: usize, p: usize, places: &mut Places)
+pub fn note_place(k: usize, p: usize, places: &mut Places)
     requires { ⌜ k < 1024 ⌝ }
     requires { ⌜ p < 65536 ⌝ }
     ensures { λ _. ⌜ now (places .exit) ≡ set (now (places .entry)) k p ⌝ }

@@ -22,7 +22,7 @@ use refusing::overlaps::sequence_of;
 use refusing::refusals::Found;
 
 // The place of line k.
-fn place_of(places: &Places, k: usize) -> usize
+pub fn place_of(places: &Places, k: usize) -> usize
     requires { ⌜ k < 1024 ⌝ }
     ensures { λ r. ⌜ r ≡ getD (now (places .entry)) k 0 ⌝ }
 {
