@@ -4,3 +4,4 @@ pub mod FirstLaws
 pub mod JudgingLaws
 pub mod LentLaws
 pub mod Promises
+pub mod ShowingLaws

@@ -12,3 +12,5 @@ pub const STATE_LENGTH: u8 = 9;
 pub const NEITHER_INPUT: u8 = 0;
 
 pub const THE_REQUEST: u8 = 1;
+
+pub const THE_DERIVATION: u8 = 2;

@@ -2,3 +2,4 @@
 pub mod answers; // their numbers
 pub mod judging; // the walk call
 pub mod telling; // what a walk's tally says
+pub mod showing; // the showing call
