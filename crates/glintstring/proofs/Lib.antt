@@ -4,3 +4,6 @@ pub mod FirstLaws
 pub mod JudgingLaws
 pub mod LentLaws
 pub mod Promises
+pub mod PlaceLaws
+pub mod PackingLaws
+pub mod ExportedPromises
