@@ -54,7 +54,7 @@ module _ (a : Answer) (small : Small a) where
 
 -- THE WALK CALL'S ANSWERS. Each number is one of a few.
 number-small : (n : ℕ) → among n answers ≡ true → n < 256
-unfolding among answers refusals some-of either eqb ltb each-of both
+unfolding among answers refusals some-of either each-of both
 number-small n is =
     let one = some-has (eqb n) answers is in
     let same : n ≡ one .0 = eqb-true _ _ (one .2) in

@@ -226,13 +226,15 @@ module _ (most : ℕ) where
       request-held t start table here =
           by-next _ _ (plan-at lim (t .fluents) (t .actions) s start) _ (plan-held lim (t .fluents) (t .actions) start here) λ b p _ plan.
           by-next _ _ (list-at literals (t .fluents) (lim .listed) s p) _ (list-held literals (t .fluents) (lim .listed) p) λ gs q fits goals.
-          by-next _ _ (list-at fluents (t .fluents) (lim .listed) s q) _ (list-held fluents (t .fluents) (lim .listed) q) λ ws e fits₂ whether.
-          (fits₂, record {
-            table = table;
-            plan = plan;
-            goals = placed-within (p + 1) gs (omega (arith, fits, goals));
-            whether = placed-within (q + 1) ws (omega (arith, fits₂, whether));
-          })
+          by-next _ _ (list-at fluents (t .fluents) (lim .listed) s q) _ (list-held fluents (t .fluents) (lim .listed) q) λ ws e fits₂ whether. (
+            fits₂,
+            record {
+              table = table;
+              plan = plan;
+              goals = placed-within (p + 1) gs (omega (arith, fits, goals));
+              whether = placed-within (q + 1) ws (omega (arith, fits₂, whether));
+            },
+          )
 
   -- THE LATER REFUSALS.
   or-within : (f : Found) (k : Unit {0} → Found) → At-most f → At-most (k tt) → At-most (or-else f k)

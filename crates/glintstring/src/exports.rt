@@ -12,7 +12,10 @@ fn pack(a: Answer) -> u64
     requires { ⌜ a .place < 65536 ⌝ }
     ensures { λ r. ⌜ r ≡ packed a ⌝ }
 {
-    a.number as u64 + 256 * (a.input as u64) + 65536 * (a.place as u64) + 4294967296 * (a.count as u64)
+    a.number as u64
+        + 256 * (a.input as u64)
+        + 65536 * (a.place as u64)
+        + 4294967296 * (a.count as u64)
 }
 
 // The walk call (FORMAT 1.15), with its answer in one number. It may be called with anything.
