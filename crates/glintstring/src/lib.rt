@@ -1,5 +1,6 @@
 // The calls of the verifier.
 pub mod answers; // their numbers
+pub mod exports; // the calls as other languages link them
 pub mod judging; // the walk call
 pub mod telling; // what a walk's tally says
 pub mod showing; // the showing call
