@@ -2,7 +2,7 @@
 -- of them the rest. What the whole branching gives is what the branches that are left give. Assumes nothing.
 use Prim.Native.Nat.{ℕ, zero, suc, _+_, _-_, _*_, _≤_, _<_}
 use native.Mathlib.Omega.{arith}
-use mathlib.Core.Path.{_≡_, refl, sym, _∙_, ap, subst, fun-ext}
+use mathlib.Core.Path.{_≡_, refl, sym, _∙_, ap, ap₂, subst, fun-ext}
 use mathlib.Core.Bool.{Bool, true, false}
 use mathlib.Core.List.{List}
 use lib.ListN.{length, getD}
@@ -27,6 +27,7 @@ use Rattle.reading.proofs.PlanSizes.{On, got-on, next-on, two-bytes-through, it
 use Rattle.reading.proofs.NotingLaws.{with-items, met-value, met-fault, fault-met}
 use Rattle.refusing.specs.Branchings.{sequence-place, place-after, item-after, Branch-here, Branches-here}
 use Rattle.refusing.specs.Plans.{own-items, branches-in, Written, Branches-written, Kept, Branches-kept, Plan-held}
+use Rattle.refusing.proofs.OverlapLaws.{branch-first}
 use Rattle.refusing.proofs.PlanOverlaps.{place-is, item-is}
 use Rattle.refusing.proofs.WrittenLaws.{plan-held}
 use Rattle.deriving.specs.Derived.{Line-here}
@@ -63,8 +64,9 @@ module _ (d t : List ℕ) where
   unfolding branches-end branches-in Branches-written Branches-kept bytes-under
   end-is none p i w k = omega arith
   end-is (branch c b rest) p i w k =
-      rw (place-is d t i p c b (w .0) (k .0), item-is d t i p c b (w .0) (k .0))
-      (end-is rest (p + (1 + length c) + (2 + bytes-of b)) (i + items-of b) (w .2) (k .2) ∙ omega arith)
+      ap₂ {C = ℕ} (λ q j. branches-end d t (branches-in rest) q j) (place-is d t i p c b (w .0) (k .0)) (item-is d t i p c b (w .0) (k .0))
+      ∙ end-is rest (p + (1 + length c) + (2 + bytes-of b)) (i + items-of b) (w .2) (k .2)
+      ∙ omega arith
 
   held-here : (bs : Branches ℕ) (p i : ℕ) → i + items-under bs ≤ 1024 → Branches-written d p bs → Branches-kept t i p bs → Branches-here d t (branches-in bs) p i
   unfolding Branches-here branches-in Branches-written Branches-kept items-under
@@ -152,8 +154,14 @@ module _ (d t : List ℕ) where
         pub rest-there : Some-branched d t first y more → Some-items d rest y more
         rest-there some = record { items = some .rest; stand = rest-items (some .branches) (some .rest) (some .branched) }
 
+-- Where the items of a branch at p begin.
+pub items-fit : (d t : List ℕ) (left p i sequence : ℕ) → 0 < left → Branches-here d t left p i → sequence ≡ sequence-place d p → Fits w64 (length d) → Fits w64 (sequence + 2)
+items-fit d t left p i sequence more here at room =
+    let there = branch-first d t left p i more here .counted in let most = room .fits in
+    record { fits = omega (arith, there, most, at) }
+
 -- THE LOOP. Of whatever branching stands there, the branches from p on give what all of them give.
-record Left (d t : List ℕ) (held : State) (left p i : ℕ) (bs : Branches ℕ) (rest c : Sequence ℕ) : Type 0 where
+pub record Left (d t : List ℕ) (held : State) (left p i : ℕ) (bs : Branches ℕ) (rest c : Sequence ℕ) : Type 0 where
   branches : Branches ℕ
   count : left ≡ branches-in branches
   here : Branches-held d t p i branches

@@ -1,0 +1,117 @@
+use borrow.Author.Needs.{needs}
+use Rattle.checking.proofs.branches.rule_4.Statement.{statement}
+use Rattle.checking.proofs.branches.rule_4.Tie as tie
+use Rattle.checking.proofs.branches.rule_4.Reads as reads
+use Rattle.checking.proofs.branches.rule_4.Lts as lts
+use Rattle.checking.proofs.branches.some_branch.Reads as some-branch-reads
+use Rattle.checking.proofs.parts.same_lists.Reads as same-lists-reads
+use Rattle.checking.proofs.plans.count_of.Reads as count-of-reads
+use Rattle.reading.proofs.marks.state_of.Reads as state-of-reads
+use Rattle.reading.proofs.plan.plan_at.Reads as plan-at-reads
+use Rattle.reading.proofs.table.sized.Reads as sized-reads
+use Rattle.refusing.proofs.overlaps.sequence_of.Reads as sequence-of-reads
+
+-- src/branches.rt:92:9
+same-lists-requires : tie.Need-same-lists-requires
+same-lists-requires c κs = search needs
+
+-- src/branches.rt:94:13
+same-lists-requires-2 : tie.Need-same-lists-requires-2
+same-lists-requires-2 c κs = search needs
+
+-- src/branches.rt:96:17
+sequence-of-requires : tie.Need-sequence-of-requires
+sequence-of-requires c κs = search needs
+
+-- src/branches.rt:97:17
+count-of-requires : tie.Need-count-of-requires
+count-of-requires c κs = ?
+
+-- src/branches.rt:99:17
+returns : tie.Need-returns
+returns c = ?
+
+-- src/branches.rt:101:25
+add-first : tie.Need-add-first
+add-first c = ?
+
+-- src/branches.rt:102:16
+shared-slice-read-if4 : tie.Need-shared-slice-read-if4
+shared-slice-read-if4 c = ?
+
+-- src/branches.rt:103:17
+sized-requires : tie.Need-sized-requires
+sized-requires c κs = search needs
+
+-- src/branches.rt:104:23
+plan-at-requires : tie.Need-plan-at-requires
+plan-at-requires c κs = search needs
+
+-- src/branches.rt:106:36
+enum-told : tie.Need-enum-told
+enum-told c = search needs
+
+-- src/branches.rt:106:36
+state-of-requires : tie.Need-state-of-requires
+state-of-requires c κs = search needs
+
+-- src/branches.rt:107:29
+sequence-of-requires-2 : tie.Need-sequence-of-requires-2
+sequence-of-requires-2 c κs = ?
+
+-- src/branches.rt:108:36
+sub-more : tie.Need-sub-more
+sub-more c = search needs
+
+-- src/branches.rt:109:25
+some-branch-requires : tie.Need-some-branch-requires
+some-branch-requires c κs = ?
+
+-- src/branches.rt:109:25
+returns-2 : tie.Need-returns-2
+returns-2 c = ?
+
+-- src/branches.rt:112:25
+enum-told-2 : tie.Need-enum-told-2
+enum-told-2 c = search needs
+
+-- src/branches.rt:112:25
+returns-3 : tie.Need-returns-3
+returns-3 c = ?
+
+-- src/branches.rt:116:13
+returns-4 : tie.Need-returns-4
+returns-4 c = ?
+
+-- src/branches.rt:118:9
+returns-5 : tie.Need-returns-5
+returns-5 c = ?
+
+-- src/branches.rt:85:1
+returns-6 : tie.Need-returns-6
+returns-6 c = ?
+
+pub rule-4-spec : {M : Type 1} → statement M
+rule-4-spec =
+    tie.close
+    (tie.spec
+    same-lists-requires
+    same-lists-requires-2
+    sequence-of-requires
+    count-of-requires
+    returns
+    add-first
+    shared-slice-read-if4
+    sized-requires
+    plan-at-requires
+    enum-told
+    state-of-requires
+    sequence-of-requires-2
+    sub-more
+    some-branch-requires
+    returns-2
+    enum-told-2
+    returns-3
+    returns-4
+    returns-5
+    returns-6)
