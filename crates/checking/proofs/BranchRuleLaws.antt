@@ -10,7 +10,7 @@ use mir.Syntax.{w64}
 use mir.Val.{Fits}
 use Rattle.meaning.specs.Tests.{both, either, each-of}
 use Rattle.meaning.specs.Limits.{format}
-use Rattle.meaning.specs.Literals.{among}
+use Rattle.meaning.specs.Literals.{among, exclusive}
 use Rattle.meaning.specs.Requests.{Sequence, done, item, Item, act, branching, Branches, none, branch}
 use Rattle.meaning.specs.Reading.{got, fault, Met, Part, item-at, items-at, sequence-at, branching-at, plan-at}
 use Rattle.meaning.specs.States.{State, known, state-of}
@@ -26,7 +26,7 @@ use Rattle.reading.specs.Planned.{items-of, items-in, items-under, bytes-of, by
 use Rattle.reading.proofs.PlanSizes.{On, got-on, next-on, two-bytes-through, item-read}
 use Rattle.reading.proofs.NotingLaws.{with-items, met-value, met-fault, fault-met}
 use Rattle.refusing.specs.Branchings.{sequence-place, place-after, item-after, Branch-here, Branches-here}
-use Rattle.refusing.specs.Plans.{own-items, branches-in, Written, Branches-written, Kept, Branches-kept, Plan-held}
+use Rattle.refusing.specs.Plans.{own-items, branches-in, Written, Item-written, Branches-written, Kept, Item-kept, Branches-kept, Plan-held}
 use Rattle.refusing.proofs.OverlapLaws.{branch-first}
 use Rattle.refusing.proofs.PlanOverlaps.{place-is, item-is}
 use Rattle.refusing.proofs.WrittenLaws.{plan-held}
@@ -36,7 +36,7 @@ use Rattle.checking.specs.Stands.{after-list, List-stands, Plan-stands, 
 use Rattle.checking.specs.Rules.{Some-plan, Items-stand, Some-items, Joined-plans, Some-line, Some-read, Read-by}
 use Rattle.checking.specs.Branched.{branches-end, Branches-held, Branched, Some-branched, takes-known, Branch-taken}
 use Rattle.checking.proofs.CodedLaws.{coded-length, own-most, none-done}
-use Rattle.checking.proofs.CodedPlaces.{branch-coded, act-there, branching-there, Branching-there}
+use Rattle.checking.proofs.CodedPlaces.{branch-coded, act-there, Branching-coded, branching-there}
 use Rattle.checking.proofs.KnownLaws.{listed-clear}
 use Rattle.checking.proofs.StandLaws.{Line-parts, line-parts}
 
@@ -154,11 +154,13 @@ module _ (d t : List ℕ) where
         pub rest-there : Some-branched d t first y more → Some-items d rest y more
         rest-there some = record { items = some .rest; stand = rest-items (some .branches) (some .rest) (some .branched) }
 
--- Where the items of a branch at p begin.
-pub items-fit : (d t : List ℕ) (left p i sequence : ℕ) → 0 < left → Branches-here d t left p i → sequence ≡ sequence-place d p → Fits w64 (length d) → Fits w64 (sequence + 2)
-items-fit d t left p i sequence more here at room =
-    let there = branch-first d t left p i more here .counted in let most = room .fits in
-    record { fits = omega (arith, there, most, at) }
+-- The count of a branch's items, and where these begin.
+module _ (d t : List ℕ) (left p i sequence : ℕ) (more : 0 < left) (here : Branches-here d t left p i) (at : sequence ≡ sequence-place d p) where
+  pub count-there : sequence + 1 < length d
+  count-there = rw at (branch-first d t left p i more here .counted)
+
+  pub items-fit : Fits w64 (length d) → Fits w64 (sequence + 2)
+  items-fit room = let there = count-there in let most = room .fits in record { fits = omega arith }
 
 -- THE LOOP. Of whatever branching stands there, the branches from p on give what all of them give.
 pub record Left (d t : List ℕ) (held : State) (left p i : ℕ) (bs : Branches ℕ) (rest c : Sequence ℕ) : Type 0 where
@@ -296,3 +298,203 @@ module _ (cited l : Line) where
     takes-same clear (branch c b bs) rest =
         let asked : known (state-of format (l .X)) ≡ (λ (x : ℕ). among x (l .X)) = fun-ext (state-known format (l .X) clear) in
         rw (says-is (join b rest), takes-same clear bs rest) (ap (λ (test : ℕ → Bool). either (both (each-of test c) (same-plan (cited .c) (join b rest))) (takes-branch (l .X) bs rest (l .Y) cited)) asked)
+
+-- A sequence with an item has a byte.
+own-bytes : (b : Sequence ℕ) → 0 < own-items b → 0 < bytes-of b
+unfolding own-items bytes-of bytes-in
+own-bytes done h = absurd (omega (arith, h))
+own-bytes (item (act p a) rest) h = omega arith
+own-bytes (item (branching p bs) rest) h = omega arith
+
+-- THE FIRST ITEM of a plan that was read stands after the plan's count.
+abbrev First-at : ℕ → Sequence ℕ → Type 0
+First-at p done = Unit {0}
+First-at p (item i rest) = place-of i ≡ p
+
+module _ (n m : ℕ) (s : List ℕ) where
+  items-first : (deep left p met : ℕ) → On (items-at format n m s (item-at format n m s (branching-at format n m s deep)) left p met) (λ x q. First-at p (x .value))
+  unfolding items-at
+  items-first deep zero p met = got-on _ _ tt
+  items-first deep (suc left) p met =
+      next-on _ _ (item-read n m s deep p met) λ i q one.
+      next-on _ _ (items-first deep left q (i .items)) λ rest r _.
+      got-on _ _ (one .place)
+
+  sequence-first : (deep p met : ℕ) → On (sequence-at format n m s (branching-at format n m s deep) p met) (λ x q. First-at (p + 2) (x .value))
+  unfolding sequence-at
+  sequence-first deep p met =
+      next-on _ _ (two-bytes-through s p) λ c q two.
+      record { holds = λ x r e. subst (λ (j : ℕ). First-at j (x .value)) (two .after) (items-first deep c q met .holds x r e) }
+
+  plan-first : (p : ℕ) (x : Met (Sequence ℕ)) (e : ℕ) → plan-at format n m s p ≡ got x e → First-at (p + 2) (x .value)
+  unfolding plan-at
+  plan-first p x e read = sequence-first 8 p 0 .holds x e read
+
+-- A LINE whose plan begins with a branching at `first`, and so many items after it up to y.
+record Begins (d u : List ℕ) (first y more : ℕ) (l : Line) : Type 0 where
+  place : ℕ
+  branches : Branches ℕ
+  rest : Sequence ℕ
+  is : l .c ≡ item (branching place branches) rest
+  branched : Branched d u first y more branches rest
+
+module _ (d u : List ℕ) (plan y : ℕ) where
+  opened : (o : ℕ) (bs : Branches ℕ) (rest : Sequence ℕ) → o ≡ plan + 2 → Plan-stands d plan y (item (branching o bs) rest) → Plan-held d u (item (branching o bs) rest) → Branching-coded d (plan + 2) bs rest
+      → Tellable-branches bs → Tellable rest → (more : ℕ) → more ≡ own-items rest → Branched d u (plan + 2) y more bs rest
+  unfolding Written Item-written Kept Item-kept items-of items-in bytes-of bytes-in own-items
+  opened o bs rest place stands held code told tells more counted =
+      let few = held .few in let most = stands .few in let inside = stands .inside in let ends = stands .ends in
+      let w = held .written .0 in let k = held .kept .0 in
+      record {
+        there = subst (λ (j : ℕ). j + 1 < length d) place (w .0 .there);
+        count = code .count;
+        held = record {
+          few = omega (arith, few);
+          inside = omega (arith, inside, ends);
+          written = subst (λ (j : ℕ). Branches-written d (j + 2) bs) place (w .1);
+          kept = subst (λ (j : ℕ). Branches-kept u 1 (j + 2) bs) place (k .1);
+          bytes = code .branches-there;
+          tellable = told;
+        };
+        rest-stands = record {
+          counted = counted;
+          few = omega (arith, counted, most);
+          ends = omega (arith, ends);
+          inside = inside;
+          sized = coded-length rest;
+          bytes = code .rest-there;
+          tellable = tells;
+        };
+      }
+
+module _ (n m : ℕ) (d : List ℕ) (pc yc p y : ℕ) where
+  -- WHERE X OR Y DIFFERS.
+  X-same : (c l : Line) → Stands d pc yc c → Stands d p y l → same-list (c .X) (l .X) ≡ same-list (listed d pc) (listed d p)
+  X-same c l sc sl = rw (sc .X .same, sl .X .same)
+
+  Y-same : (c l : Line) → Stands d pc yc c → Stands d p y l → same-list (c .Y) (l .Y) ≡ same-list (listed d yc) (listed d y)
+  Y-same c l sc sl = rw (sc .Y .same, sl .Y .same)
+
+  pub starts-other : (r : Bool) → r ≡ same-list (listed d pc) (listed d p) → r ≡ false → Read-by n m d pc yc p y rule-4 false
+  starts-other r tested not = record { holds = λ c l sc _ sl. sym (X-differs c l (X-same c l sc sl ∙ sym tested ∙ not)) }
+
+  pub ends-other : (r : Bool) → r ≡ same-list (listed d yc) (listed d y) → r ≡ false → Read-by n m d pc yc p y rule-4 false
+  ends-other r tested not = record { holds = λ c l sc _ sl. sym (Y-differs c l (Y-same c l sc sl ∙ sym tested ∙ not)) }
+
+  -- THE CITED LINE.
+  pub cited-list : Some-line d pc yc → List-here 128 d pc
+  cited-list some = some .stands .X .here
+
+  cited-stands : (cited : ℕ) → cited ≡ sequence-place d pc → (c : Line) → Stands d pc yc c → Plan-stands d cited yc (c .c)
+  unfolding sequence-place after-list
+  cited-stands cited at c sc = rw at (sc .plan)
+
+  pub cited-plan : (cited : ℕ) → cited ≡ sequence-place d pc → Some-line d pc yc → Some-plan d cited yc
+  cited-plan cited at some = record { plan = some .line .c; stands = cited-stands cited at (some .line) (some .stands) }
+
+  -- THE PLAN of the line, with its count there.
+  module _ (plan : ℕ) (at : plan ≡ sequence-place d p) where
+    plan-there : (l : Line) → Stands d p y l → Plan-stands d plan y (l .c)
+    unfolding sequence-place after-list
+    plan-there l sl = rw at (sl .plan)
+
+    pub plan-counted : Some-read n m d p y → plan + 1 < length d
+    plan-counted some = plan-there (some .line) (some .stands) .counted
+
+    pub first-fits : Some-read n m d p y → Fits w64 (length d) → Fits w64 (plan + 2)
+    first-fits some room = let there = plan-counted some in let most = room .fits in record { fits = omega arith }
+
+    module _ (count : ℕ) (counted : count ≡ getD d plan 0 * 256 + getD d (plan + 1) 0) where
+      own-is : (l : Line) → Stands d p y l → count ≡ own-items (l .c)
+      own-is l sl = counted ∙ plan-there l sl .count
+
+      pub count-none : count ≡ 0 → Read-by n m d pc yc p y rule-4 false
+      unfolding rule-4 branches-first
+      count-none zero-items = record { holds = λ c l sc _ sl. sym (ap (branches-first c l) (none-done (l .c) (sym (own-is l sl) ∙ zero-items))) }
+
+      module _ (some-items : count ≡ 0 → ⊥) where
+        own-some : (l : Line) → Stands d p y l → 0 < own-items (l .c)
+        own-some l sl = let own = own-is l sl in omega (arith, own, some-items)
+
+        pub first-there : Some-read n m d p y → plan + 2 < length d
+        first-there some =
+            let sl = some .stands in
+            let ends = plan-there (some .line) sl .ends in let inside = plan-there (some .line) sl .inside in
+            let bytes = own-bytes (some .line .c) (own-some (some .line) sl) in
+            omega arith
+
+        -- No branching first.
+        pub other-first : (getD d (plan + 2) 0 ≡ 255 → ⊥) → Read-by n m d pc yc p y rule-4 false
+        unfolding rule-4 branches-first
+        other-first other =
+            record {
+              holds = λ c l sc _ sl.
+                  let there = plan-there l sl in
+                  sym (ap (branches-first c l) (act-there d (plan + 2) (l .c) (own-some l sl) (there .tellable) (there .bytes) other .is));
+            }
+
+        -- THE PLAN READ AGAIN, which leaves it in the table.
+        module _ (byte : getD d (plan + 2) 0 ≡ 255) (few : n ≤ 64) (less : m ≤ 64) (t u : List ℕ) (r : Read) (read : outcome-met r u ≡ noting-met (plan-noted plan t) (plan-at format n m d plan)) where
+          again : (l : Line) (w : Line-parts n m d p l) → plan-at format n m d plan ≡ got (w .plan) (w .end)
+          unfolding sequence-place after-list
+          again l w = ap (plan-at format n m d) at ∙ w .reads
+
+          module _ (long : length t ≡ 9480) (items e : ℕ) (is : r ≡ Value items e) where
+            begins : (l : Line) → Line-here n m d p l → Stands d p y l → Begins d u (plan + 2) y (count - 1) l
+            unfolding place-of
+            begins l here sl =
+                let w = line-parts n m d few p l here in
+                let v = met-value (plan-noted plan t) (plan-at format n m d plan) r u items e read is in
+                let same : with-items (v .0) items ≡ w .plan = got-same (sym (v .1) ∙ again l w) in
+                let tree : v .0 ≡ l .c = ap (λ (x : Met (Sequence ℕ)). x .value) same ∙ w .is in
+                let there = plan-there l sl in
+                let b = branching-there d (plan + 2) (l .c) (own-some l sl) (there .tellable) (there .bytes) byte in
+                let whole : v .0 ≡ item (branching (b .place) (b .branches)) (b .rest) = tree ∙ b .is in
+                let read-there = plan-held n m d few less plan t (with-items (v .0) items) e (omega (arith, long)) (v .1) in
+                let held : Plan-held d u (v .0) = subst (λ (x : List ℕ). Plan-held d x (v .0)) (sym (v .2)) read-there in
+                let own = own-is l sl in let one = b .own in
+                record {
+                  place = b .place;
+                  branches = b .branches;
+                  rest = b .rest;
+                  is = b .is;
+                  branched = opened d u plan y (b .place) (b .branches) (b .rest)
+                      (subst (First-at (plan + 2)) whole (plan-first n m d plan (with-items (v .0) items) e (v .1)))
+                      (subst (Plan-stands d plan y) (b .is) there)
+                      (subst (Plan-held d u) whole held)
+                      (b .there)
+                      (b .branches-told)
+                      (b .rest-told)
+                      (count - 1)
+                      (omega (arith, own, one));
+                }
+
+            pub branching-first : Some-read n m d p y → Some-branched d u (plan + 2) y (count - 1)
+            branching-first some =
+                let g = begins (some .line) (some .here) (some .stands) in
+                record { branches = g .branches; rest = g .rest; branched = g .branched }
+
+            module _ (one other : Bool) (starts : one ≡ same-list (listed d pc) (listed d p)) (yes : one ≡ true) (ends : other ≡ same-list (listed d yc) (listed d y)) (also : other ≡ true) where
+              pub rule-by-branch : (held : State) → held ≡ state-of format (listed d p) → (cited : ℕ) → cited ≡ sequence-place d pc → (answer : Bool) → Branch-taken d u held (plan + 2) cited yc y (count - 1) answer
+                  → Read-by n m d pc yc p y rule-4 answer
+              unfolding rule-4 branches-first
+              rule-by-branch held told cited place answer taken =
+                  record {
+                    holds = λ c l sc here sl.
+                        let g = begins l here sl in
+                        let apart = subst (λ (xs : List ℕ). exclusive xs xs ≡ false) (sym (sl .X .same)) (sl .X .clear) in
+                        let clear : Clear format (l .X) = subst (Clear format) (sl .X .same) (listed-clear d p (sl .X .here) apart) in
+                        taken .holds (g .branches) (g .rest) (c .c) (g .branched) (cited-stands cited place c sc)
+                        ∙ ap (λ (s : State). takes-known s (g .branches) (g .rest) (c .c)) (told ∙ ap (state-of format) (sl .X .same))
+                        ∙ takes-same c l (X-same c l sc sl ∙ sym starts ∙ yes) (Y-same c l sc sl ∙ sym ends ∙ also) clear (g .branches) (g .rest)
+                        ∙ sym (ap (branches-first c l) (g .is));
+                  }
+
+          -- A plan that stands there is read without a fault.
+          pub read-again : (k e : ℕ) → r ≡ Fault k e → Read-by n m d pc yc p y rule-4 false
+          read-again k e is =
+              record {
+                holds = λ c l sc here sl.
+                    let no : plan-at format n m d plan ≡ fault k e = fault-met (plan-noted plan t) (plan-at format n m d plan) k e (met-fault (plan-noted plan t) (plan-at format n m d plan) r u k e read is) in
+                    absurd (fault≢got (sym no ∙ again l (line-parts n m d few p l here)));
+              }

@@ -1,3 +1,6 @@
+-- X and Y are compared first, so that the plans are left. The line's plan, which was read before, is read again without a fault, and the table then
+-- holds its branching. No other plan has a branching first.
+use Rattle.checking.proofs.BranchRuleLaws.{starts-other, ends-other, cited-list, cited-plan, plan-counted, first-fits, count-none, first-there, other-first, branching-first, rule-by-branch, read-again}
 use borrow.Author.Needs.{needs}
 use Rattle.checking.proofs.branches.rule_4.Statement.{statement}
 use Rattle.checking.proofs.branches.rule_4.Tie as tie
@@ -25,19 +28,19 @@ sequence-of-requires c κs = search needs
 
 -- src/branches.rt:97:17
 count-of-requires : tie.Need-count-of-requires
-count-of-requires c κs = ?
+count-of-requires c κs = search plan-counted
 
 -- src/branches.rt:99:17
 returns : tie.Need-returns
-returns c = ?
+returns c = search count-none
 
 -- src/branches.rt:101:25
 add-first : tie.Need-add-first
-add-first c = ?
+add-first c = search first-fits
 
 -- src/branches.rt:102:16
 shared-slice-read-if4 : tie.Need-shared-slice-read-if4
-shared-slice-read-if4 c = ?
+shared-slice-read-if4 c = search first-there
 
 -- src/branches.rt:103:17
 sized-requires : tie.Need-sized-requires
@@ -57,7 +60,7 @@ state-of-requires c κs = search needs
 
 -- src/branches.rt:107:29
 sequence-of-requires-2 : tie.Need-sequence-of-requires-2
-sequence-of-requires-2 c κs = ?
+sequence-of-requires-2 c κs = search cited-list
 
 -- src/branches.rt:108:36
 sub-more : tie.Need-sub-more
@@ -77,19 +80,19 @@ enum-told-2 c = search needs
 
 -- src/branches.rt:112:25
 returns-3 : tie.Need-returns-3
-returns-3 c = ?
+returns-3 c = search read-again
 
 -- src/branches.rt:116:13
 returns-4 : tie.Need-returns-4
-returns-4 c = ?
+returns-4 c = search other-first
 
 -- src/branches.rt:118:9
 returns-5 : tie.Need-returns-5
-returns-5 c = ?
+returns-5 c = search ends-other
 
 -- src/branches.rt:85:1
 returns-6 : tie.Need-returns-6
-returns-6 c = ?
+returns-6 c = search starts-other
 
 pub rule-4-spec : {M : Type 1} → statement M
 rule-4-spec =

@@ -1,8 +1,8 @@
 -- None of the branches before the one that is looked at is taken, so what all of them give is what those that are left give. The branch's items end
 -- where the next branch begins, and the rest begins after the last branch.
 use Rattle.refusing.specs.Branchings.{Branches-here}
-use Rattle.refusing.proofs.OverlapLaws.{branch-first, condition-first, branches-next, count-here}
-use Rattle.checking.proofs.BranchRuleLaws.{Trying, second-there, second-fits, start-fits, branches-start, rest-there, trying-starts, trying-unknown, trying-other, branch-there, items-fit, taken-here, taken-none}
+use Rattle.refusing.proofs.OverlapLaws.{branch-first, condition-first, branches-next}
+use Rattle.checking.proofs.BranchRuleLaws.{Trying, second-there, second-fits, start-fits, branches-start, rest-there, trying-starts, trying-unknown, trying-other, branch-there, count-there, items-fit, taken-here, taken-none}
 use borrow.Author.Needs.{needs}
 use Rattle.checking.proofs.branches.some_branch.Statement.{statement}
 use Rattle.checking.proofs.branches.some_branch.Tie as tie
@@ -69,7 +69,7 @@ sub-left c = search needs
 
 -- src/branches.rt:72:17
 count-of-requires : tie.Need-count-of-requires Inv-loop μ-loop
-count-of-requires c κs = search (needs, branch-first, count-here)
+count-of-requires c κs = search count-there
 
 -- src/branches.rt:73:21
 add-a : tie.Need-add-a Inv-loop μ-loop
