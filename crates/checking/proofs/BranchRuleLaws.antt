@@ -367,32 +367,37 @@ module _ (d u : List ℕ) (plan y : ℕ) where
         };
       }
 
-module _ (n m : ℕ) (d : List ℕ) (pc yc p y : ℕ) where
-  -- WHERE X OR Y DIFFERS.
-  X-same : (c l : Line) → Stands d pc yc c → Stands d p y l → same-list (c .X) (l .X) ≡ same-list (listed d pc) (listed d p)
-  X-same c l sc sl = rw (sc .X .same, sl .X .same)
-
-  Y-same : (c l : Line) → Stands d pc yc c → Stands d p y l → same-list (c .Y) (l .Y) ≡ same-list (listed d yc) (listed d y)
-  Y-same c l sc sl = rw (sc .Y .same, sl .Y .same)
-
-  pub starts-other : (r : Bool) → r ≡ same-list (listed d pc) (listed d p) → r ≡ false → Read-by n m d pc yc p y rule-4 false
-  starts-other r tested not = record { holds = λ c l sc _ sl. sym (X-differs c l (X-same c l sc sl ∙ sym tested ∙ not)) }
-
-  pub ends-other : (r : Bool) → r ≡ same-list (listed d yc) (listed d y) → r ≡ false → Read-by n m d pc yc p y rule-4 false
-  ends-other r tested not = record { holds = λ c l sc _ sl. sym (Y-differs c l (Y-same c l sc sl ∙ sym tested ∙ not)) }
-
-  -- THE CITED LINE.
+-- THE CITED LINE.
+module _ (d : List ℕ) (pc yc : ℕ) where
   pub cited-list : Some-line d pc yc → List-here 128 d pc
   cited-list some = some .stands .X .here
 
-  cited-stands : (cited : ℕ) → cited ≡ sequence-place d pc → (c : Line) → Stands d pc yc c → Plan-stands d cited yc (c .c)
-  unfolding sequence-place after-list
-  cited-stands cited at c sc = rw at (sc .plan)
+  module _ (cited : ℕ) (at : cited ≡ sequence-place d pc) where
+    cited-stands : (c : Line) → Stands d pc yc c → Plan-stands d cited yc (c .c)
+    unfolding sequence-place after-list
+    cited-stands c sc = rw at (sc .plan)
 
-  pub cited-plan : (cited : ℕ) → cited ≡ sequence-place d pc → Some-line d pc yc → Some-plan d cited yc
-  cited-plan cited at some = record { plan = some .line .c; stands = cited-stands cited at (some .line) (some .stands) }
+    pub cited-plan : Some-line d pc yc → Some-plan d cited yc
+    cited-plan some = record { plan = some .line .c; stands = cited-stands (some .line) (some .stands) }
 
-  -- THE PLAN of the line, with its count there.
+  -- Where X or Y differs.
+  module _ (p y : ℕ) where
+    X-same : (c l : Line) → Stands d pc yc c → Stands d p y l → same-list (c .X) (l .X) ≡ same-list (listed d pc) (listed d p)
+    X-same c l sc sl = rw (sc .X .same, sl .X .same)
+
+    Y-same : (c l : Line) → Stands d pc yc c → Stands d p y l → same-list (c .Y) (l .Y) ≡ same-list (listed d yc) (listed d y)
+    Y-same c l sc sl = rw (sc .Y .same, sl .Y .same)
+
+    module _ (n m : ℕ) (r : Bool) where
+      pub starts-other : r ≡ same-list (listed d pc) (listed d p) → r ≡ false → Read-by n m d pc yc p y rule-4 false
+      starts-other tested not = record { holds = λ c l sc _ sl. sym (X-differs c l (X-same c l sc sl ∙ sym tested ∙ not)) }
+
+      pub ends-other : r ≡ same-list (listed d yc) (listed d y) → r ≡ false → Read-by n m d pc yc p y rule-4 false
+      ends-other tested not = record { holds = λ c l sc _ sl. sym (Y-differs c l (Y-same c l sc sl ∙ sym tested ∙ not)) }
+
+-- THE LINE.
+module _ (n m : ℕ) (d : List ℕ) (p y : ℕ) where
+  -- Its plan, with the count there.
   module _ (plan : ℕ) (at : plan ≡ sequence-place d p) where
     plan-there : (l : Line) → Stands d p y l → Plan-stands d plan y (l .c)
     unfolding sequence-place after-list
@@ -408,9 +413,9 @@ module _ (n m : ℕ) (d : List ℕ) (pc yc p y : ℕ) where
       own-is : (l : Line) → Stands d p y l → count ≡ own-items (l .c)
       own-is l sl = counted ∙ plan-there l sl .count
 
-      pub count-none : count ≡ 0 → Read-by n m d pc yc p y rule-4 false
+      pub count-none : (pc yc : ℕ) → count ≡ 0 → Read-by n m d pc yc p y rule-4 false
       unfolding rule-4 branches-first
-      count-none zero-items = record { holds = λ c l sc _ sl. sym (ap (branches-first c l) (none-done (l .c) (sym (own-is l sl) ∙ zero-items))) }
+      count-none pc yc zero-items = record { holds = λ c l sc _ sl. sym (ap (branches-first c l) (none-done (l .c) (sym (own-is l sl) ∙ zero-items))) }
 
       module _ (some-items : count ≡ 0 → ⊥) where
         own-some : (l : Line) → Stands d p y l → 0 < own-items (l .c)
@@ -424,9 +429,9 @@ module _ (n m : ℕ) (d : List ℕ) (pc yc p y : ℕ) where
             omega arith
 
         -- No branching first.
-        pub other-first : (getD d (plan + 2) 0 ≡ 255 → ⊥) → Read-by n m d pc yc p y rule-4 false
+        pub other-first : (pc yc : ℕ) → (getD d (plan + 2) 0 ≡ 255 → ⊥) → Read-by n m d pc yc p y rule-4 false
         unfolding rule-4 branches-first
-        other-first other =
+        other-first pc yc other =
             record {
               holds = λ c l sc _ sl.
                   let there = plan-there l sl in
@@ -474,7 +479,7 @@ module _ (n m : ℕ) (d : List ℕ) (pc yc p y : ℕ) where
                 let g = begins (some .line) (some .here) (some .stands) in
                 record { branches = g .branches; rest = g .rest; branched = g .branched }
 
-            module _ (one other : Bool) (starts : one ≡ same-list (listed d pc) (listed d p)) (yes : one ≡ true) (ends : other ≡ same-list (listed d yc) (listed d y)) (also : other ≡ true) where
+            module _ (pc yc : ℕ) (one other : Bool) (starts : one ≡ same-list (listed d pc) (listed d p)) (yes : one ≡ true) (ends : other ≡ same-list (listed d yc) (listed d y)) (also : other ≡ true) where
               pub rule-by-branch : (held : State) → held ≡ state-of format (listed d p) → (cited : ℕ) → cited ≡ sequence-place d pc → (answer : Bool) → Branch-taken d u held (plan + 2) cited yc y (count - 1) answer
                   → Read-by n m d pc yc p y rule-4 answer
               unfolding rule-4 branches-first
@@ -484,15 +489,15 @@ module _ (n m : ℕ) (d : List ℕ) (pc yc p y : ℕ) where
                         let g = begins l here sl in
                         let apart = subst (λ (xs : List ℕ). exclusive xs xs ≡ false) (sym (sl .X .same)) (sl .X .clear) in
                         let clear : Clear format (l .X) = subst (Clear format) (sl .X .same) (listed-clear d p (sl .X .here) apart) in
-                        taken .holds (g .branches) (g .rest) (c .c) (g .branched) (cited-stands cited place c sc)
+                        taken .holds (g .branches) (g .rest) (c .c) (g .branched) (cited-stands d pc yc cited place c sc)
                         ∙ ap (λ (s : State). takes-known s (g .branches) (g .rest) (c .c)) (told ∙ ap (state-of format) (sl .X .same))
-                        ∙ takes-same c l (X-same c l sc sl ∙ sym starts ∙ yes) (Y-same c l sc sl ∙ sym ends ∙ also) clear (g .branches) (g .rest)
+                        ∙ takes-same c l (X-same d pc yc p y c l sc sl ∙ sym starts ∙ yes) (Y-same d pc yc p y c l sc sl ∙ sym ends ∙ also) clear (g .branches) (g .rest)
                         ∙ sym (ap (branches-first c l) (g .is));
                   }
 
           -- A plan that stands there is read without a fault.
-          pub read-again : (k e : ℕ) → r ≡ Fault k e → Read-by n m d pc yc p y rule-4 false
-          read-again k e is =
+          pub read-again : (pc yc k e : ℕ) → r ≡ Fault k e → Read-by n m d pc yc p y rule-4 false
+          read-again pc yc k e is =
               record {
                 holds = λ c l sc here sl.
                     let no : plan-at format n m d plan ≡ fault k e = fault-met (plan-noted plan t) (plan-at format n m d plan) k e (met-fault (plan-noted plan t) (plan-at format n m d plan) r u k e read is) in

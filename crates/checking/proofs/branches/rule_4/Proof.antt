@@ -68,11 +68,47 @@ sub-more c = search needs
 
 -- src/branches.rt:109:25
 some-branch-requires : tie.Need-some-branch-requires
-some-branch-requires c κs = ?
+some-branch-requires c κs =
+    let matched = c .before .before .before .before in
+    let value = matched .enum-told .given .1 in
+    let again = matched .before .before in
+    let tested = again .before .before .before .before in
+    let counted = tested .before .before .before in
+    let at = counted .before .sequence-of .ensures in
+    let count = counted .count-of .ensures in
+    let some = tested .before .before .if3 .left in
+    let byte = tested .if4 .taken in
+    let long = again .before .before .sized .ensures in
+    let read = again .plan-at .ensures in
+    let pre = counted .before .before .before .before .before .before .before .pre in
+    let place = c .before .before .sequence-of2 .ensures in
+    (branching-first _ _ _ _ _ _ at _ count some byte (pre .0) (pre .1 .0) _ _ _ read long _ _ value (pre .1 .1 .1), cited-plan _ _ _ _ place (pre .1 .1 .0))
 
 -- src/branches.rt:109:25
 returns-2 : tie.Need-returns-2
-returns-2 c = ?
+returns-2 c =
+    let stated = c .before .before .before in
+    let matched = stated .before .before in
+    let value = matched .enum-told .given .1 in
+    let again = matched .before .before in
+    let tested = again .before .before .before .before in
+    let counted = tested .before .before .before in
+    let at = counted .before .sequence-of .ensures in
+    let count = counted .count-of .ensures in
+    let some = tested .before .before .if3 .left in
+    let byte = tested .if4 .taken in
+    let long = again .before .before .sized .ensures in
+    let read = again .plan-at .ensures in
+    let same = counted .before .before in
+    let ends = same .before .same-lists2 .ensures in
+    let also = same .if2 .taken in
+    let starts = same .before .before .before .same-lists .ensures in
+    let yes = same .before .before .if1 .taken in
+    let told = stated .before .state-of .ensures in
+    let place = stated .sequence-of2 .ensures in
+    let taken = c .some-branch .ensures in
+    let pre = same .before .before .before .before .before .pre in
+    rule-by-branch _ _ _ _ _ _ at _ count some byte (pre .0) (pre .1 .0) _ _ _ read long _ _ value _ _ _ _ starts yes ends also _ told _ place _ taken
 
 -- src/branches.rt:112:25
 enum-told-2 : tie.Need-enum-told-2
