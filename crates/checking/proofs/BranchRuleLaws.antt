@@ -11,8 +11,8 @@ use mir.Val.{Fits}
 use Rattle.meaning.specs.Tests.{both, either, each-of}
 use Rattle.meaning.specs.Limits.{format}
 use Rattle.meaning.specs.Literals.{among, exclusive}
-use Rattle.meaning.specs.Requests.{Sequence, done, item, Item, act, branching, Branches, none, branch}
-use Rattle.meaning.specs.Reading.{got, fault, Met, Part, item-at, items-at, sequence-at, branching-at, plan-at}
+use Rattle.meaning.specs.Requests.{Sequence, done, item, act, branching, Branches, none, branch}
+use Rattle.meaning.specs.Reading.{got, fault, Met, item-at, items-at, sequence-at, branching-at, plan-at}
 use Rattle.meaning.specs.States.{State, known, state-of}
 use Rattle.meaning.specs.Derivations.{Line, same-list, same-plan, join, included, says, takes-branch, branches-first, rule-4}
 use Rattle.meaning.proofs.TestLaws.{by-test}
@@ -21,18 +21,18 @@ use Rattle.meaning.proofs.SettledLaws.{fault≢got, got-same}
 use Rattle.bytes.specs.declared.bytes.Read.{Read}
 use Rattle.bytes.specs.declared.bytes.Read.the-variants.{Value, Fault}
 use Rattle.reading.specs.declared.marks.Test.the-variants.{Known}
-use Rattle.reading.specs.Listed.{bytes-from, listed, List-here, holds-as}
+use Rattle.reading.specs.Listed.{listed, List-here, holds-as}
 use Rattle.reading.specs.Planned.{items-of, items-in, items-under, bytes-of, bytes-in, bytes-under, place-of, plan-noted, noting-met, outcome-met}
 use Rattle.reading.proofs.PlanSizes.{On, got-on, next-on, two-bytes-through, item-read}
 use Rattle.reading.proofs.NotingLaws.{with-items, met-value, met-fault, fault-met}
-use Rattle.refusing.specs.Branchings.{sequence-place, place-after, item-after, Branch-here, Branches-here}
+use Rattle.refusing.specs.Branchings.{sequence-place, place-after, item-after, Branches-here}
 use Rattle.refusing.specs.Plans.{own-items, branches-in, Written, Item-written, Branches-written, Kept, Item-kept, Branches-kept, Plan-held}
 use Rattle.refusing.proofs.OverlapLaws.{branch-first}
 use Rattle.refusing.proofs.PlanOverlaps.{place-is, item-is}
 use Rattle.refusing.proofs.WrittenLaws.{plan-held}
 use Rattle.deriving.specs.Derived.{Line-here}
-use Rattle.checking.specs.Coded.{coded, coded-branches, Tellable, Tellable-branches}
-use Rattle.checking.specs.Stands.{after-list, List-stands, Plan-stands, Stands}
+use Rattle.checking.specs.Coded.{Tellable, Tellable-branches}
+use Rattle.checking.specs.Stands.{after-list, Plan-stands, Stands}
 use Rattle.checking.specs.Rules.{Some-plan, Items-stand, Some-items, Joined-plans, Some-line, Some-read, Read-by}
 use Rattle.checking.specs.Branched.{branches-end, Branches-held, Branched, Some-branched, takes-known, Branch-taken}
 use Rattle.checking.proofs.CodedLaws.{coded-length, own-most, none-done}

@@ -4,21 +4,21 @@ ghost use Rattle.meaning.specs.Derivations.{rule-4};
 ghost use Rattle.refusing.specs.Branchings.{Branches-here};
 ghost use Rattle.checking.specs.Rules.{Some-plan, Some-line, Some-read, Read-by};
 ghost use Rattle.checking.specs.Branched.{branches-end, Some-branched, Branch-taken};
+use super::parts::same_lists;
+use super::plans::count_of;
+use super::plans::joined_plans;
 use bytes::bytes::Read;
 use bytes::bytes::wide;
 use bytes::limits;
 use reading::marks::Test;
 use reading::marks::each_holds;
 use reading::marks::state_of;
-use refusing::overlaps::next_item;
-use refusing::overlaps::next_place;
-use refusing::overlaps::sequence_of;
 use reading::plan::plan_at;
 use reading::table;
 use reading::table::Table;
-use super::parts::same_lists;
-use super::plans::count_of;
-use super::plans::joined_plans;
+use refusing::overlaps::next_item;
+use refusing::overlaps::next_place;
+use refusing::overlaps::sequence_of;
 
 // The place after so many branches, the first of which stands at `place` with `item` items before it.
 fn after_branches(d: &[u8], t: &Table, count: usize, place: usize, item: usize) -> usize
@@ -82,7 +82,16 @@ fn some_branch(
 }
 
 // Rule 4: a branching first, some condition of it within X; X, that branch joined with the rest, Y by the line at pc.
-pub fn rule_4(n: usize, m: usize, d: &[u8], t: &mut Table, pc: usize, yc: usize, p: usize, y: usize) -> bool
+pub fn rule_4(
+    n: usize,
+    m: usize,
+    d: &[u8],
+    t: &mut Table,
+    pc: usize,
+    yc: usize,
+    p: usize,
+    y: usize,
+) -> bool
     requires { ⌜ n ≤ 64 ⌝ }
     requires { ⌜ m ≤ 64 ⌝ }
     requires { ⌜ Some-line (now d) pc yc ⌝ }

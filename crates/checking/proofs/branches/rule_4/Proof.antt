@@ -14,59 +14,59 @@ use Rattle.reading.proofs.plan.plan_at.Reads as plan-at-reads
 use Rattle.reading.proofs.table.sized.Reads as sized-reads
 use Rattle.refusing.proofs.overlaps.sequence_of.Reads as sequence-of-reads
 
--- src/branches.rt:92:9
+-- src/branches.rt:101:9
 same-lists-requires : tie.Need-same-lists-requires
 same-lists-requires c κs = search needs
 
--- src/branches.rt:94:13
+-- src/branches.rt:103:13
 same-lists-requires-2 : tie.Need-same-lists-requires-2
 same-lists-requires-2 c κs = search needs
 
--- src/branches.rt:96:17
+-- src/branches.rt:105:17
 sequence-of-requires : tie.Need-sequence-of-requires
 sequence-of-requires c κs = search needs
 
--- src/branches.rt:97:17
+-- src/branches.rt:106:17
 count-of-requires : tie.Need-count-of-requires
 count-of-requires c κs = search plan-counted
 
--- src/branches.rt:99:17
+-- src/branches.rt:108:17
 returns : tie.Need-returns
 returns c = search count-none
 
--- src/branches.rt:101:25
+-- src/branches.rt:110:25
 add-first : tie.Need-add-first
 add-first c = search first-fits
 
--- src/branches.rt:102:16
+-- src/branches.rt:111:16
 shared-slice-read-if4 : tie.Need-shared-slice-read-if4
 shared-slice-read-if4 c = search first-there
 
--- src/branches.rt:103:17
+-- src/branches.rt:112:17
 sized-requires : tie.Need-sized-requires
 sized-requires c κs = search needs
 
--- src/branches.rt:104:23
+-- src/branches.rt:113:23
 plan-at-requires : tie.Need-plan-at-requires
 plan-at-requires c κs = search needs
 
--- src/branches.rt:106:36
+-- src/branches.rt:115:36
 enum-told : tie.Need-enum-told
 enum-told c = search needs
 
--- src/branches.rt:106:36
+-- src/branches.rt:115:36
 state-of-requires : tie.Need-state-of-requires
 state-of-requires c κs = search needs
 
--- src/branches.rt:107:29
+-- src/branches.rt:116:29
 sequence-of-requires-2 : tie.Need-sequence-of-requires-2
 sequence-of-requires-2 c κs = search cited-list
 
--- src/branches.rt:108:36
+-- src/branches.rt:117:36
 sub-more : tie.Need-sub-more
 sub-more c = search needs
 
--- src/branches.rt:109:25
+-- src/branches.rt:118:25
 some-branch-requires : tie.Need-some-branch-requires
 some-branch-requires c κs =
     let matched = c .before .before .before .before in
@@ -84,7 +84,7 @@ some-branch-requires c κs =
     let place = c .before .before .sequence-of2 .ensures in
     (branching-first _ _ _ _ _ _ at _ count some byte (pre .0) (pre .1 .0) _ _ _ read long _ _ value (pre .1 .1 .1), cited-plan _ _ _ _ place (pre .1 .1 .0))
 
--- src/branches.rt:109:25
+-- src/branches.rt:118:25
 returns-2 : tie.Need-returns-2
 returns-2 c =
     let stated = c .before .before .before in
@@ -110,19 +110,19 @@ returns-2 c =
     let pre = same .before .before .before .before .before .pre in
     rule-by-branch _ _ _ _ _ _ at _ count some byte (pre .0) (pre .1 .0) _ _ _ read long _ _ value _ _ _ _ starts yes ends also _ told _ place _ taken
 
--- src/branches.rt:112:25
+-- src/branches.rt:121:25
 enum-told-2 : tie.Need-enum-told-2
 enum-told-2 c = search needs
 
--- src/branches.rt:112:25
+-- src/branches.rt:121:25
 returns-3 : tie.Need-returns-3
 returns-3 c = search read-again
 
--- src/branches.rt:116:13
+-- src/branches.rt:125:13
 returns-4 : tie.Need-returns-4
 returns-4 c = search other-first
 
--- src/branches.rt:118:9
+-- src/branches.rt:127:9
 returns-5 : tie.Need-returns-5
 returns-5 c = search ends-other
 
