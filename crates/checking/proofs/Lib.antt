@@ -6,3 +6,4 @@ pub mod PartLaws
 pub mod KnownLaws
 pub mod PlanLaws
 pub mod RuleLaws
+pub mod BranchRuleLaws
