@@ -90,7 +90,7 @@ fn put_state(state: &[u8; 64], fluents: u8) -> bool {
     put(&line[..end])
 }
 
-// The answer, and for 1 and 2 the state.
+// The answer, and for 1 and 2 the state. The first byte of a request that gets one of these is its fluent count.
 fn answer_to(request: &[u8]) -> bool {
     let mut state = [0u8; 64];
     let answer = judge(request, &mut state, BUDGET);
