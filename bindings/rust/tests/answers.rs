@@ -1,0 +1,93 @@
+//! Answers taken apart, and the call where it needs much stack.
+
+use glintstring::{judge, judge_on_thread, judge_packed, Answer, Mark, Packed, State};
+
+const FILE_A: [u8; 48] = [
+    4, 3, 3, 3, 5, 7, 3, 1, 2, 0, 1, 6, 1, 0, 2, 4, 0, 3, 0, 0, 1, 1, 3, 2, 1, 2, 1, 0, 0, 0, 2, 0, 255, 2, 1, 1, 0, 2, 1, 2, 1, 0, 0, 0,
+    1, 7, 1, 2,
+];
+
+/// Bytes 0 to 28 of File A, followed by these.
+fn from_29(rest: &[u8]) -> Vec<u8> {
+    [&FILE_A[..29], rest].concat()
+}
+
+/// Looks at 63 fluents and makes them unknown again, over and over: a walk that goes as deep as any, to within a few bytes.
+fn deep() -> Vec<u8> {
+    let effects = (0..126).flat_map(|literal| [1, literal, 1, 127 - literal % 2]);
+    let knowledge = (0..63).flat_map(|fluent| [0, fluent]);
+    let table = [64, 2, 0, 126].into_iter().chain(effects).chain([2, 0, 0, 1, 0, 63]).chain(knowledge);
+    table.chain([4, 0]).chain([0, 1].repeat(512)).chain([0, 0]).collect()
+}
+
+#[test]
+fn a_missed_goal_has_its_state() {
+    let mut lent = [9; 64];
+    let answer = judge(&from_29(&[0, 1, 1, 1, 7, 1, 2]), &mut lent, 100_000);
+    let Answer::GoalMissed { place, count, state } = answer else { panic!("{answer}") };
+    assert_eq!((place, count), (33, 2));
+    assert_eq!(state.line(4), "?+-?");
+    assert_eq!(state.marks()[..4], [Mark::Unknown, Mark::True, Mark::False, Mark::Unknown]);
+    assert_eq!(state.bytes(), lent);
+    assert_eq!(answer.state(), State::from_bytes(&lent).as_ref());
+    assert_eq!(answer.to_string(), "goal missed (1, place 33, count 2)");
+}
+
+#[test]
+fn other_answers_leave_the_lent_bytes() {
+    for length in [0, 1, 63, 65, 200] {
+        let mut lent = vec![9; length];
+        assert_eq!(judge(&FILE_A, &mut lent, 100_000), Answer::StateLength);
+        assert_eq!(lent, vec![9; length]);
+    }
+    let mut lent = [9; 64];
+    assert_eq!(judge(&vec![1; 16_385], &mut lent, 0), Answer::TooLong);
+    assert_eq!(judge(&from_29(&[0, 0, 0, 0]), &mut lent, 0), Answer::BudgetSpent { budget: 0 });
+    assert_eq!(lent, [9; 64]);
+}
+
+#[test]
+fn a_deep_walk_on_a_thread() {
+    let answer = judge_on_thread(&deep(), &mut [0; 64], 100_000).expect("a thread");
+    assert_eq!(answer, Answer::BudgetSpent { budget: 100_000 });
+}
+
+#[test]
+fn each_number_is_packed_as_it_came() {
+    for number in (0..=3).chain(9..=21) {
+        let input = u64::from(!matches!(number, 0 | 3 | 9));
+        let place = if input == 1 && number != 10 { 16_383 } else { 0 };
+        let count = if number <= 3 { u64::from(u32::MAX) } else { 0 };
+        let packed = Packed(number + (input << 8) + (place << 16) + (count << 32));
+        let answer = Answer::unpack(packed, &[0; 64]);
+        assert_eq!(answer.packed(), packed);
+        assert_eq!(u64::from(answer.number()), number);
+        assert_eq!(answer.state().is_some(), matches!(number, 1 | 2));
+    }
+}
+
+/// What no library may give: numbers that the walk call does not have, an input, a place or a count that does not go with its number, and a
+/// state that is none.
+#[test]
+fn what_is_no_answer_is_refused() {
+    let refused = |packed: u64, lent: &[u8]| std::panic::catch_unwind(|| Answer::unpack(Packed(packed), lent)).is_err();
+    for number in (4..=8).chain(22..=255) {
+        assert!(refused(number, &[0; 64]), "number {number}");
+    }
+    assert!(refused(1 << 8, &[0; 64]), "verified, in the request");
+    assert!(refused(1 << 16, &[0; 64]), "verified, at a place");
+    assert!(refused(11 + (1 << 8) + (1 << 32), &[0; 64]), "a refusal with a count");
+    assert!(refused(11, &[0; 64]), "a refusal of neither input");
+    assert!(refused(1 + (1 << 8), &[3; 64]), "a mark 3");
+    assert!(refused(1 + (1 << 8), &[0; 63]), "a state of 63 bytes");
+}
+
+#[test]
+fn packed_and_named_are_the_same_call() {
+    for end in 0..=FILE_A.len() {
+        let (mut one, mut other) = ([9; 64], [9; 64]);
+        let packed = judge_packed(&FILE_A[..end], &mut one, 7);
+        let answer = judge(&FILE_A[..end], &mut other, 7);
+        assert_eq!((answer.packed(), other), (packed, one));
+    }
+}

@@ -1,0 +1,92 @@
+/*
+ * Glintstring: a proved verifier of conditional upgrade plans.
+ *
+ * A request has a domain table, a plan and goals in its bytes; docs/FORMAT.md is the format, and numbers such as FORMAT 4.3
+ * are those of its sentences. docs/STATEMENTS.md says what is proved of each call. Link libglintstring.a, which
+ * `rt staticlib glintstring` writes for x86-64 Linux. C99 or later, or C++.
+ */
+#ifndef GLINTSTRING_H
+#define GLINTSTRING_H
+
+#include <stddef.h>
+#include <stdint.h>
+
+#ifdef __cplusplus
+extern "C" {
+#endif
+
+/* The length of the state that the walk call is lent. */
+#define GLINTSTRING_STATE_LENGTH 64
+
+/* Bytes of free stack that a call may need: 6 MiB (docs/STACK.md). */
+#define GLINTSTRING_STACK_NEEDED 6291456
+
+/* The marks of a fluent in a state. */
+#define GLINTSTRING_UNKNOWN 0
+#define GLINTSTRING_TRUE 1
+#define GLINTSTRING_FALSE 2
+
+/* The input that an answer's place is in. */
+#define GLINTSTRING_NEITHER 0
+#define GLINTSTRING_REQUEST 1
+
+/* The numbers of answers (FORMAT 4.3 to 4.19), each with what its place is. */
+#define GLINTSTRING_VERIFIED 0                  /* the walk verifies the plan; place 0 */
+#define GLINTSTRING_GOAL_MISSED 1               /* all paths can be run to their ends, and an end state misses a goal or a whether
+                                                   entry; the first entry missed in the first such state */
+#define GLINTSTRING_NOT_EXECUTABLE 2            /* a path comes to an item that cannot be run; that item */
+#define GLINTSTRING_BUDGET_SPENT 3              /* the walk counts to more than the budget; place 0 */
+#define GLINTSTRING_STATE_LENGTH_WRONG 9        /* the lent state has another length than 64 bytes; place 0 */
+#define GLINTSTRING_TOO_LONG 10                 /* the request has more than 16,384 bytes; place 0 */
+#define GLINTSTRING_INPUT_ENDS 11               /* the request ends where a byte is due; its length */
+#define GLINTSTRING_COUNT_NOT_WITHIN_LIMITS 12  /* a count is not within its limits; the count */
+#define GLINTSTRING_TOO_LARGE 13                /* a byte is too large for its fluent, literal or action; that byte */
+#define GLINTSTRING_NOT_LARGER 14               /* a list's entry is not larger than its predecessor; that byte */
+#define GLINTSTRING_COMPLEMENT 15               /* a literal is its predecessor's complement; that byte */
+#define GLINTSTRING_CONTRADICTORY 16            /* two effects are contradictory; the later, and of all such the earliest */
+#define GLINTSTRING_EFFECTS_AND_KNOWLEDGE 17    /* an action has effect lines and knowledge lines; the first such of the latter */
+#define GLINTSTRING_NOT_EXCLUSIVE 18            /* a branching has two conditions that are not exclusive; its byte 255 */
+#define GLINTSTRING_TOO_DEEP 19                 /* a branching stands inside eight others; its byte 255 */
+#define GLINTSTRING_BYTES_LEFT_OVER 20          /* bytes are left over after the last section; the first of them */
+#define GLINTSTRING_TOO_MANY_ITEMS 21           /* the plan goes on to a 1,025th item; its first byte */
+
+/*
+ * An answer comes packed into one number: number + 2^8 * input + 2^16 * place + 2^32 * count. These take it apart.
+ *
+ * The place is the number of bytes that stand before it in its input. The count is that of the walk (actions run and end
+ * states judged) for answers 0, 1 and 2, the budget for 3, and 0 for all others.
+ */
+static inline uint8_t glintstring_number(uint64_t answer) { return (uint8_t)(answer & 255u); }
+static inline uint8_t glintstring_input(uint64_t answer) { return (uint8_t)((answer >> 8) & 255u); }
+static inline uint16_t glintstring_place(uint64_t answer) { return (uint16_t)((answer >> 16) & 65535u); }
+static inline uint32_t glintstring_count(uint64_t answer) { return (uint32_t)(answer >> 32); }
+
+/*
+ * The walk call: walks the plan of a request over partial states and judges its goals, counting to `budget` at the most.
+ *
+ * Promise (proved): for every request, lent state and budget the call ends, and its answer and the lent bytes afterwards are
+ * those of the format, each to the last number and byte. Any bytes may be given, of any length; a caller need not have tested
+ * anything. The answer is verified (0), goal missed (1), not executable (2) or budget spent (3) exactly where the
+ * 0-approximation semantics of Son and Baral gives it, walked in the format's order and within the budget; where it is 0, the
+ * plan can be carried out, and reaches its goals, from every world that has the initial facts.
+ *
+ * The lent state is written by answers 1 and 2 and by no other. Byte f is then 0 where fluent f is unknown, 1 where it is true
+ * and 2 where it is false: for 1 in the end state that the place is about, for 2 in the state in which the item could not be
+ * run. Bytes from the request's number of fluents up to 63 are then 0. After every other answer the state has the bytes that it
+ * had before; where state_length is not 64 the answer is 9.
+ *
+ * The caller sees to this:
+ *   - `request` may be read for request_length bytes, `state` read and written for state_length bytes, and the two do not
+ *     overlap. With length 0 any pointer will do, null too: it is not followed.
+ *   - there are GLINTSTRING_STACK_NEEDED bytes of free stack. The request decides how many are needed. A call that has too few
+ *     is ended by the system, and the process with it. The first thread of a process on Linux has 8 MiB as a rule; other
+ *     threads often have less, and need to be given their size (pthread_attr_setstacksize).
+ * The call keeps no pointer, takes nothing from the heap and has no memory of its own, so threads may call it at one time.
+ */
+uint64_t glintstring_judge(const uint8_t *request, size_t request_length, uint8_t *state, size_t state_length, uint32_t budget);
+
+#ifdef __cplusplus
+}
+#endif
+
+#endif

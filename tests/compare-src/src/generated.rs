@@ -1,0 +1,105 @@
+//! Generated and damaged requests, with various budgets and lent states.
+
+use std::collections::BTreeMap;
+
+use oracle::calls::judge_call;
+use oracle::damage::damage_request;
+use oracle::encode::encode_request;
+use oracle::rng::Rng;
+
+use crate::calls::{agreed, Call};
+use crate::crowded::crowded;
+
+/// The numbers of the walk call.
+const NUMBERS: [u64; 17] = [0, 1, 2, 3, 9, 10, 11, 12, 13, 14, 15, 16, 17, 18, 19, 20, 21];
+/// From so many calls on, each number has to occur.
+const ENOUGH: u64 = 100_000;
+/// The largest budget for a request whose walk nobody has counted before.
+const MOST: u32 = 20_000;
+/// Streams of random numbers: of the calls, and of what stands around the lent bytes.
+const CALLS: u64 = 3;
+const FENCES: u64 = 4;
+
+/// Makes so many calls from a seed; in words how often each number occurred, or the first difference.
+pub fn compare(seed: u64, count: u64) -> Result<String, String> {
+    let mut seen: BTreeMap<u64, u64> = BTreeMap::new();
+    let mut longest = 0;
+    for index in 0..count {
+        let call = any_call(&mut Rng::new(seed, CALLS, index));
+        let left = agreed(&mut Rng::new(seed, FENCES, index), &call);
+        let left = left.map_err(|why| format!("seed {seed}, call {index}: {why}; {call}"))?;
+        *seen.entry(left.answer[0]).or_default() += 1;
+        longest = longest.max(call.request.len());
+    }
+    for (number, times) in &seen {
+        println!("  answer {number}: {times}");
+    }
+    let missing: Vec<String> = NUMBERS.iter().filter(|number| !seen.contains_key(number)).map(u64::to_string).collect();
+    if count >= ENOUGH && !missing.is_empty() {
+        return Err(format!("seed {seed}: answers {} never occurred in {count} calls", missing.join(", ")));
+    }
+    Ok(format!("{count} calls of seed {seed} agree; the longest request has {longest} bytes"))
+}
+
+/// A call of the independent program's own generators, which make about three of ten requests wrong in some way; of some calls the request is
+/// made wrong once more or is one of another kind, or the budget or the lent state is another.
+fn any_call(rng: &mut Rng) -> Call {
+    let drawn = judge_call(rng);
+    let mut call = Call { request: drawn.request, lent: drawn.lent, budget: drawn.budget };
+    match rng.below(100) {
+        0..=4 => {
+            for _ in 0..rng.range(1, 3) {
+                change(rng, &mut call.request);
+            }
+            call.budget = call.budget.min(MOST);
+        }
+        5..=6 => {
+            let other = judge_call(rng).request;
+            cross(rng, &mut call.request, &other);
+            call.budget = call.budget.min(MOST);
+        }
+        7 => {
+            let most = *rng.pick(&[3, 5, 8, 255]);
+            call.request = (0..rng.below(60)).map(|_| rng.byte(0, most)).collect();
+            call.budget = rng.below(1_000) as u32;
+        }
+        8..=17 => call.budget = rng.below(80) as u32,
+        18..=20 => {
+            let draft = crowded(rng);
+            call.request = match rng.chance(40) {
+                true => damage_request(rng, &draft).bytes,
+                false => encode_request(&draft).bytes,
+            };
+            call.budget = *rng.pick(&[0, 3, 20, 1_000, MOST]);
+        }
+        21 => call.lent = (0..rng.below(200)).map(|_| rng.byte(0, 255)).collect(),
+        _ => {}
+    }
+    call
+}
+
+/// One byte is another, is there once more, or is not there.
+fn change(rng: &mut Rng, request: &mut Vec<u8>) {
+    if request.is_empty() {
+        return request.push(rng.byte(0, 255));
+    }
+    let place = rng.below(request.len());
+    match rng.below(6) {
+        0 => request[place] = rng.byte(0, 255),
+        1 => request[place] = request[place].wrapping_add(1),
+        2 => request[place] = request[place].wrapping_sub(1),
+        3 => request.insert(place, request[place]),
+        4 => request.insert(place, rng.byte(0, 9)),
+        _ => _ = request.remove(place),
+    }
+}
+
+/// The start of one request and the end of another.
+fn cross(rng: &mut Rng, request: &mut Vec<u8>, other: &[u8]) {
+    request.truncate(rng.below(request.len() + 1));
+    let from = match other.len() {
+        length if rng.chance(50) => request.len().min(length),
+        length => rng.below(length + 1),
+    };
+    request.extend(&other[from..]);
+}

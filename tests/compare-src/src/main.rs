@@ -1,0 +1,45 @@
+//! The exported walk call against the independent program: on the format's cases, on the deepest requests, and on generated and damaged
+//! ones. The exit status is 0 where all agree and 1 at the first difference; what is told of it is enough to make the call again.
+
+mod calls;
+mod cases;
+mod crowded;
+mod deepest;
+mod fence;
+mod generated;
+
+use std::process::ExitCode;
+use std::{env, thread};
+
+/// The stack on which calls are made, apart from the deepest ones, which have a thread with less: that of a process's first thread.
+const STACK: usize = 8 << 20;
+
+const HELP: &str = "usage: compare cases | compare deepest FOLDER | compare generated SEED COUNT";
+
+fn main() -> ExitCode {
+    let work = thread::Builder::new().stack_size(STACK).spawn(|| {
+        let words: Vec<String> = env::args().skip(1).collect();
+        let words: Vec<&str> = words.iter().map(String::as_str).collect();
+        let number = |word: &str| word.parse::<u64>().map_err(|_| format!("not a number: {word}"));
+        match words[..] {
+            ["cases"] => Ok(cases::compare()),
+            ["deepest", folder] => Ok(deepest::compare(folder)),
+            ["generated", seed, count] => Ok(generated::compare(number(seed)?, number(count)?)),
+            _ => Err(HELP.to_string()),
+        }
+    });
+    match work.expect("a thread").join().expect("a comparison") {
+        Ok(Ok(agreed)) => {
+            println!("compare: {agreed}");
+            ExitCode::SUCCESS
+        }
+        Ok(Err(difference)) => {
+            println!("compare: DIFFERENCE: {difference}");
+            ExitCode::from(1)
+        }
+        Err(usage) => {
+            eprintln!("compare: {usage}");
+            ExitCode::from(2)
+        }
+    }
+}
