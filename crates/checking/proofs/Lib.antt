@@ -4,3 +4,4 @@ pub mod StandLaws
 pub mod CodedPlaces
 pub mod PartLaws
 pub mod KnownLaws
+pub mod ReadingRuleLaws

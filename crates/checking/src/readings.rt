@@ -1,8 +1,10 @@
-ghost use Prim.Native.Nat.{_≤_};
+ghost use Prim.Native.Nat.{_<_};
+ghost use mathlib.Core.List.{[], _∷_};
 ghost use Rattle.meaning.specs.Derivations.{rule-3};
 ghost use Rattle.meaning.specs.Limits.{format};
-ghost use Rattle.steps.specs.AtHand.{request-in, At-hand};
-ghost use Rattle.checking.specs.Rules.{Some-line, Some-lines, Ruled-by-all};
+ghost use Rattle.steps.specs.AtHand.{request-in, At-hand, Marked};
+ghost use Rattle.checking.specs.Rules.{Some-line, Some-lines, Cited-below, Ruled-by-all};
+ghost use Rattle.checking.specs.Readings.{states-from, Stands-some, Some-follows, Says-reading, Some-rest, Uses};
 use bytes::bytes::two;
 use bytes::bytes::wide;
 use bytes::limits;
@@ -36,7 +38,12 @@ pub struct Rest {
 }
 
 // The line at pc says what the state knows, the rest, and the list Y at y.
-fn says_reading(d: &[u8], marks: &[u8; 64], rest: Rest, pc: usize, yc: usize) -> bool {
+fn says_reading(d: &[u8], marks: &[u8; 64], rest: Rest, pc: usize, yc: usize) -> bool
+    requires { ⌜ Marked (now marks) ⌝ }
+    requires { ⌜ Stands-some (now d) pc yc ⌝ }
+    requires { ⌜ Some-follows (now d) rest ⌝ }
+    ensures { λ r. ⌜ Says-reading (now (d .entry)) (now (marks .entry)) rest pc yc r ⌝ }
+{
     let starts = lists_known(marks, d, pc);
     if starts {
         let plan = sequence_of(d, pc);
@@ -57,7 +64,11 @@ fn says_reading(d: &[u8], marks: &[u8; 64], rest: Rest, pc: usize, yc: usize) ->
 }
 
 // Citation k says the reading that the state has.
-fn one_reading(d: &[u8], places: &Places, ends: &Places, marks: &[u8; 64], rest: Rest, k: usize) -> Used {
+fn one_reading(d: &[u8], places: &Places, ends: &Places, marks: &[u8; 64], rest: Rest, k: usize) -> Used
+    requires { ⌜ Marked (now marks) ⌝ }
+    requires { ⌜ Some-rest (now d) (now places) (now ends) rest ⌝ }
+    ensures { λ r. ⌜ Uses (now (d .entry)) (now (places .entry)) (now (ends .entry)) rest (now (marks .entry) ∷ []) k r ⌝ }
+{
     if rest.count <= k {
         return Used::Fails;
     }
@@ -87,7 +98,13 @@ fn each_reading(
     marks: [u8; 64],
     rest: Rest,
     k: usize,
-) -> Used {
+) -> Used
+    requires { ⌜ At-hand (now s) (now t) ⌝ }
+    requires { ⌜ a < 64 ⌝ }
+    requires { ⌜ Marked marks ⌝ }
+    requires { ⌜ Some-rest (now d) (now places) (now ends) rest ⌝ }
+    ensures { λ r. ⌜ Uses (now (d .entry)) (now (places .entry)) (now (ends .entry)) rest (states-from (request-in (now (s .entry)) .table) a marks f) k r ⌝ }
+{
     if f < limits::FLUENTS {
         let above = f + 1;
         let mut state = marks;
@@ -111,6 +128,7 @@ pub fn rule_3(s: &[u8], t: &Table, d: &[u8], places: &Places, ends: &Places, lin
     requires { ⌜ At-hand (now s) (now t) ⌝ }
     requires { ⌜ Some-line (now d) p y ⌝ }
     requires { ⌜ Some-lines (now d) (now places) (now ends) lines ⌝ }
+    requires { ⌜ Cited-below (now d) p y lines ⌝ }
     ensures { λ r. ⌜ Ruled-by-all (now (d .entry)) (now (places .entry)) (now (ends .entry)) p y (rule-3 format (request-in (now (s .entry)) .table)) r ⌝ }
 {
     let plan = sequence_of(d, p);
