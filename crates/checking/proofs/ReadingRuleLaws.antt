@@ -312,11 +312,11 @@ module _ (t : Table) (a : ℕ) (marks : State) (marked : Marked marks) (f : ℕ)
         ap (λ (fs : List ℕ). states-of (readings fs marks)) all
         ∙ rw (one, two, told-true f marks, told-false f marks, set-set marks f 1 2)
 
-    pub next-falls : 64 - g < 64 - f
-    next-falls =
+    pub next-falls : (μ : ℕ) → 64 - f ≡ μ → 64 - g < μ
+    next-falls μ is =
         elim (decLt g 64) [
-          | yes near ↦ let h = unknown-first-above t a (set marks f 1) (first-marked small) (f + 1) g next near in omega (arith, h, near)
-          | no far ↦ omega (arith, far, small)
+          | yes near ↦ let h = unknown-first-above t a (set marks f 1) (first-marked small) (f + 1) g next near in omega (arith, h, near, is)
+          | no far ↦ omega (arith, far, small, is)
         ]
 
     module _ (d places ends : List ℕ) (r : Rest) (k : ℕ) (answer : Used) (first : Uses d places ends r (states-from t a (set marks f 1) g) k answer) where
@@ -347,3 +347,303 @@ pub read-whole : (t : Table) (a : ℕ) (marks : State) (f : ℕ) → 64 ≤ f �
 unfolding states-from fluents-from readings states-of
 read-whole t a marks f far d places ends r k answer uses =
     subst (λ (fs : List ℕ). Uses d places ends r (states-of (readings fs marks)) k answer) (sym (pick-false _ _ _ (le-ltb f 64 far))) uses
+
+-- USED UP: each line says its reading just where the citations used are all.
+abbrev all-used : ℕ → Used → Bool
+all-used n u = elim u [ To j ↦ eqb j n | Fails ↦ false ]
+
+module _ (rest : Sequence ℕ) (Y : List ℕ) where
+  module _ (cited : List Line) (other : Line) where
+    line-next : (k : ℕ) → k < length cited → drop k cited ≡ getD cited k other ∷ drop (k + 1) cited
+    line-next k less = let up : suc k ≡ k + 1 = omega arith in drop-cons cited k other less ∙ ap (λ (j : ℕ). getD cited k other ∷ drop j cited) up
+
+    reads-near : (s : State) (k : ℕ) → k < length cited → reads-at rest Y cited other s k ≡ says (getD cited k other) (literals-of s) rest Y
+    unfolding reads-at
+    reads-near s k less = yes-left _ _ (lt-ltb k (length cited) less)
+
+    reads-far : (s : State) (k : ℕ) → length cited ≤ k → reads-at rest Y cited other s k ≡ false
+    unfolding reads-at
+    reads-far s k far = sym (no-left _ _ (le-ltb k (length cited) far))
+
+    each-used : (ss : List State) (k : ℕ) → k ≤ length cited → each-reads rest Y ss (drop k cited) ≡ all-used (length cited) (used rest Y cited other ss k)
+    unfolding each-reads used
+    each-used [] k most =
+        elim (decLt k (length cited)) [
+          | yes less ↦ ap (each-reads rest Y []) (line-next k less) ∙ sym (ne-eqb k (length cited) (λ e. omega (arith, e, less)))
+          | no far ↦ ap (each-reads rest Y []) (drop-of-length-le cited {i = k} (omega (arith, far))) ∙ sym (eq-eqb k (length cited) (omega (arith, far, most)))
+        ]
+    each-used (s ∷ ss) k most =
+        elim (decLt k (length cited)) [
+          | yes less ↦ by-test (says (getD cited k other) (literals-of s) rest Y)
+              (λ t.
+              ap (each-reads rest Y (s ∷ ss)) (line-next k less)
+              ∙ yes-left _ _ t
+              ∙ each-used ss (k + 1) (omega (arith, less))
+              ∙ ap (all-used (length cited)) (sym (pick-true _ _ _ (reads-near s k less ∙ t))))
+              (λ f.
+              ap (each-reads rest Y (s ∷ ss)) (line-next k less)
+              ∙ sym (no-left _ _ f)
+              ∙ ap (all-used (length cited)) (sym (pick-false (reads-at rest Y cited other s k) (λ _. used rest Y cited other ss (k + 1)) (λ _. Fails) (reads-near s k less ∙ f))))
+          | no far ↦ ap (each-reads rest Y (s ∷ ss)) (drop-of-length-le cited {i = k} (omega (arith, far)))
+              ∙ ap (all-used (length cited)) (sym (pick-false (reads-at rest Y cited other s k) (λ _. used rest Y cited other ss (k + 1)) (λ _. Fails) (reads-far s k (omega (arith, far)))))
+        ]
+
+  each-length : (ss : List State) (ls : List Line) → each-reads rest Y ss ls ≡ true → length ss ≡ length ls
+  unfolding each-reads
+  each-length [] [] e = refl
+  each-length [] (l ∷ ls) e = clash e refl
+  each-length (s ∷ ss) [] e = clash e refl
+  each-length (s ∷ ss) (l ∷ ls) e = ap suc (each-length ss ls (both-right _ _ e))
+
+-- As many states as readings.
+states-count : (fs : List ℕ) (s : State) → length (states-of (readings fs s)) ≡ 2 ^ length fs
+unfolding states-of readings
+states-count [] s = refl
+states-count (f ∷ fs) s =
+    let one = states-count fs (told (says-true f) s) in
+    let two = states-count fs (told (says-false f) s) in
+    let up = pow-suc 2 (length fs) in
+    length-append (states-of (readings fs (told (says-true f) s))) (states-of (readings fs (told (says-false f) s))) ∙ omega (arith, one, two, up)
+
+count-settled : (rest : Sequence ℕ) (Y : List ℕ) (fs : List ℕ) (s : State) (cited : List Line)
+    → pick (eqb (2 ^ length fs) (length cited)) (λ _. each-reads rest Y (states-of (readings fs s)) cited) (λ _. false) ≡ each-reads rest Y (states-of (readings fs s)) cited
+count-settled rest Y fs s cited =
+    by-test (eqb (2 ^ length fs) (length cited))
+    (λ t. pick-true _ _ _ t)
+    (λ f.
+    pick-false _ _ _ f
+    ∙ by-test (each-reads rest Y (states-of (readings fs s)) cited)
+    (λ t. absurd (eqb-false (2 ^ length fs) (length cited) f (sym (states-count fs s) ∙ each-length rest Y (states-of (readings fs s)) cited t)))
+    sym)
+
+-- THE STATE of a list: a literal that is told sets one of the three marks, or none beyond the last.
+told-marked : (l : ℕ) (s : State) → Marked s → Marked (told l s)
+unfolding told
+told-marked l s marked = record {
+  sized = length-set s (fluent-of l) (mark-of l) ∙ marked .sized;
+  small = λ g. elim (ℕ-discrete g (fluent-of l)) [
+    | yes e ↦ rw e (elim (decLt (fluent-of l) (length s)) [
+      | yes near ↦ rw (getD-set-same s (fluent-of l) (mark-of l) 0 near) (mark-most l)
+      | no far ↦ rw (List·getD-eq-default (set s (fluent-of l) (mark-of l)) 0 {n = fluent-of l} (rw (length-set s (fluent-of l) (mark-of l)) (omega arith))) (omega arith)
+    ])
+    | no d ↦ rw (getD-set-other s (fluent-of l) g (mark-of l) 0 d) (marked .small g)
+  ];
+}
+
+told-all-marked : (ls : List ℕ) (s : State) → Marked s → Marked (told-all ls s)
+unfolding told-all
+told-all-marked [] s marked = marked
+told-all-marked (l ∷ ls) s marked = told-all-marked ls (told l s) (told-marked l s marked)
+
+unknown-marked : Marked (replicate 64 0)
+unknown-marked = record {
+  sized = let none : ℕ = 0 in length-replicate 64 none;
+  small = λ f. let none : ℕ = 0 in elim (decLt f 64) [
+    | yes near ↦ rw (getD-replicate 64 f none none near) (omega arith)
+    | no far ↦ rw (List·getD-eq-default (replicate 64 none) 0 {n = f} (rw (length-replicate 64 none) (omega arith))) (omega arith)
+  ];
+}
+
+pub X-marked : (d : List ℕ) (p : ℕ) (marks : State) → marks ≡ state-of format (listed d p) → Marked marks
+unfolding state-of
+X-marked d p marks told = rw told (told-all-marked (listed d p) _ unknown-marked)
+
+-- The states by the first unknown fluent are all.
+sensed-states : (t : Table) (a : ℕ) (marks : State) → Marked marks → (f : ℕ) → f ≡ first-of (unknown-sensed t a marks) → states-from t a marks f ≡ states-of (readings (unknown-sensed t a marks) marks)
+unfolding states-from fluents-from
+sensed-states t a marks marked f first =
+    ap (λ (fs : List ℕ). states-of (readings fs marks))
+    (elim (decLt f 64) [
+      | yes near ↦ pick-true _ _ _ (lt-ltb f 64 near) ∙ sym (sensed-first t a marks marked f first near)
+      | no far ↦ pick-false _ _ _ (le-ltb f 64 (omega arith)) ∙ sym (sensed-no-first t a marks marked f first (omega arith))
+    ])
+
+-- THE LINE of rule 3, at p, whose plan's count stands at q.
+own-bytes : (c : Sequence ℕ) → 0 < own-items c → 0 < bytes-of c
+unfolding own-items bytes-of
+own-bytes done h = absurd (omega (arith, h))
+own-bytes (item (act p a) rest) h = omega arith
+own-bytes (item (branching p bs) rest) h = omega arith
+
+act-bytes : (o a : ℕ) (rest : Sequence ℕ) → bytes-of (item (act o a) rest) ≡ 1 + bytes-of rest
+unfolding bytes-of
+act-bytes o a rest = refl
+
+module _ (d : List ℕ) (p y : ℕ) (some : Some-line d p y) where
+  pub Y-there : List-here 128 d y
+  Y-there = some .stands .Y .here
+
+  module _ (q : ℕ) (after : q ≡ sequence-place d p) where
+    pub plan-counted : q + 1 < length d
+    plan-counted = cited-plan d p y q after (some .line) (some .stands) .counted
+
+    pub items-fit : Fits w64 (q + 2)
+    items-fit = let there = plan-counted in let long = some .long in record { fits = omega (arith, there, long) }
+
+    pub rest-fits : Fits w64 (q + 3)
+    rest-fits = let there = plan-counted in let long = some .long in record { fits = omega (arith, there, long) }
+
+  module _ (rule : ℕ) (at : rule ≡ sequence-place d y) where
+    pub counted-inside : rule + 1 < length d
+    unfolding sequence-place after-list
+    counted-inside = rw at (some .stands .ruled)
+
+    pub counted-fits : Fits w64 (rule + 1)
+    counted-fits = let there = counted-inside in let long = some .long in record { fits = omega (arith, there, long) }
+
+    pub cites-fit : Fits w64 (rule + 2)
+    cites-fit = let there = counted-inside in let long = some .long in record { fits = omega (arith, there, long) }
+
+-- Its first item.
+module _ (d : List ℕ) (p y q count : ℕ) (after : q ≡ sequence-place d p) (read : count ≡ getD d q 0 * 256 + getD d (q + 1) 0) where
+  own-count : (l : Line) → Stands d p y l → count ≡ own-items (l .c)
+  own-count l w = read ∙ cited-plan d p y q after l w .count
+
+  module _ (t : Table) (places ends : List ℕ) where
+    pub none-first : count ≡ 0 → Ruled-by-all d places ends p y (rule-3 format t) false
+    unfolding rule-3 senses-first
+    none-first none =
+        record {
+          holds = λ lines l stand w below.
+              let cited = cited-by lines l in
+              sym (ap (senses-first format t cited l) (none-done (l .c) (sym (own-count l w) ∙ none)));
+        }
+
+  module _ (more : count ≡ 0 → ⊥) where
+    own-some : (l : Line) → Stands d p y l → 0 < own-items (l .c)
+    own-some l w = let same = own-count l w in omega (arith, more, same)
+
+    pub item-there : Some-line d p y → q + 2 < length d
+    item-there some =
+        let plan = cited-plan d p y q after (some .line) (some .stands) in
+        let size = own-bytes (some .line .c) (own-some (some .line) (some .stands)) in
+        let to = plan .ends in let inside = plan .inside in
+        omega (arith, size, to, inside)
+
+    pub branching-first : (t : Table) (places ends : List ℕ) → getD d (q + 2) 0 ≡ 255 → Ruled-by-all d places ends p y (rule-3 format t) false
+    unfolding rule-3 senses-first
+    branching-first t places ends is =
+        record {
+          holds = λ lines l stand w below.
+              let cited = cited-by lines l in
+              let plan = cited-plan d p y q after l w in
+              sym (ap (senses-first format t cited l) (branching-there d (q + 2) (l .c) (own-some l w) (plan .tellable) (plan .bytes) is .is));
+        }
+
+    module _ (other : getD d (q + 2) 0 ≡ 255 → ⊥) where
+      first-act : (l : Line) → Stands d p y l → Act-there d (q + 2) (l .c)
+      first-act l w = let plan = cited-plan d p y q after l w in act-there d (q + 2) (l .c) (own-some l w) (plan .tellable) (plan .bytes) other
+
+      rest-items : (l : Line) (w : Stands d p y l) → Items-stand d (q + 3) y (count - 1) (first-act l w .rest)
+      rest-items l w =
+          let first = first-act l w in
+          let plan = cited-plan d p y q after l w in
+          let own = first .own in let same = own-count l w in let few = plan .few in
+          let bytes : bytes-of (l .c) ≡ 1 + bytes-of (first .rest) = ap bytes-of (first .is) ∙ act-bytes _ _ _ in
+          let to = plan .ends in
+          let up : q + 2 + 1 ≡ q + 3 = omega arith in
+          record {
+            counted = omega (arith, own, same);
+            few = omega (arith, own, same, few);
+            ends = omega (arith, bytes, to);
+            inside = plan .inside;
+            sized = coded-length (first .rest);
+            bytes = subst (λ (j : ℕ). bytes-from d j (bytes-of (first .rest)) ≡ coded (first .rest)) up (first .rest-there);
+            tellable = first .rest-told;
+          }
+
+      module _ (a : ℕ) (byte : a ≡ getD d (q + 2) 0) where
+        pub action-small : Some-line d p y → a < 64
+        unfolding Small
+        action-small some = rw byte (subst Small (first-act (some .line) (some .stands) .is) (some .small) .0)
+
+        -- The rule is what its readings are.
+        module _ (t : Table) where
+          rule-reads : (lines : List Line) (l : Line) (w : Stands d p y l) → rule-3 format t (cited-by lines l) l ≡ reads format t (cited-by lines l) l a (first-act l w .rest) (state-of format (listed d p))
+          unfolding rule-3 senses-first
+          rule-reads lines l w =
+              let cited = cited-by lines l in
+              let first = first-act l w in
+              ap (senses-first format t cited l) (first .is)
+              ∙ ap₂ {C = Bool} (λ (b : ℕ) (xs : List ℕ). reads format t cited l b (first .rest) (state-of format xs)) (sym byte) (sym (w .X .same))
+
+          module _ (senses : Bool) (tested : senses ≡ sensing t a) where
+            pub not-sensing : (places ends : List ℕ) → senses ≡ false → Ruled-by-all d places ends p y (rule-3 format t) false
+            unfolding reads
+            not-sensing places ends f = record { holds = λ lines l stand w below. no-left (sensing t a) _ (sym tested ∙ f) ∙ sym (rule-reads lines l w) }
+
+            module _ (marks : State) (held : marks ≡ state-of format (listed d p)) (runs : Bool) (asked : runs ≡ can-be-run t a marks) where
+              pub not-run : (places ends : List ℕ) → runs ≡ false → Ruled-by-all d places ends p y (rule-3 format t) false
+              unfolding reads
+              not-run places ends f =
+                  record {
+                    holds = λ lines l stand w below.
+                        no-right (sensing t a) _ (sym (no-left (can-be-run t a (state-of format (listed d p))) _ (ap (can-be-run t a) (sym held) ∙ sym asked ∙ f)))
+                        ∙ sym (rule-reads lines l w);
+                  }
+
+              module _ (yes : senses ≡ true) (can : runs ≡ true) where
+                rule-each : (lines : List Line) (l : Line) (w : Stands d p y l)
+                    → rule-3 format t (cited-by lines l) l ≡ each-reads (first-act l w .rest) (l .Y) (states-of (readings (unknown-sensed t a marks) marks)) (cited-by lines l)
+                unfolding reads
+                rule-each lines l w =
+                    rule-reads lines l w
+                    ∙ ap (reads format t (cited-by lines l) l a (first-act l w .rest)) (sym held)
+                    ∙ yes-left (sensing t a) _ (sym tested ∙ yes)
+                    ∙ yes-left (can-be-run t a marks) _ (sym asked ∙ can)
+                    ∙ count-settled (first-act l w .rest) (l .Y) (unknown-sensed t a marks) marks (cited-by lines l)
+
+      -- What follows it, and the citations.
+      abbrev rest-of : (rule cited : ℕ) → Rest
+      rest-of rule cited = record { first = q + 3; items = count - 1; y = y; cites = rule + 2; count = cited }
+
+      module _ (rule cited : ℕ) (at : rule ≡ sequence-place d y) (size : cited ≡ getD d (rule + 1) 0) (places ends : List ℕ) where
+        cited-size : (l : Line) → Stands d p y l → cited ≡ length (l .cites)
+        unfolding sequence-place after-list
+        cited-size l w = size ∙ ap (λ (j : ℕ). getD d (j + 1) 0) at ∙ w .cited
+
+        rest-stands : (lines : List Line) (l : Line) → Lines-stand d places ends lines → (w : Stands d p y l) → each-of (λ (k : ℕ). ltb k (length lines)) (l .cites) ≡ true
+            → Rest-stands d places ends (rest-of rule cited) lines (first-act l w .rest) (l .Y) (l .cites)
+        unfolding sequence-place after-list
+        rest-stands lines l stand w below =
+            record {
+              stand = stand;
+              follows = record { items = rest-items l w; list = w .Y };
+              counted = cited-size l w;
+              most = w .most;
+              numbers = subst (λ (j : ℕ). Numbers-stand d (j + 2) (l .cites)) (sym at) (w .cites);
+              below = below;
+            }
+
+        pub some-rest : (lines : ℕ) → Some-line d p y → Some-lines d places ends lines → Cited-below d p y lines → Some-rest d places ends (rest-of rule cited)
+        some-rest count some all below =
+            record {
+              lines = all .lines;
+              rest = first-act (some .line) (some .stands) .rest;
+              Y = some .line .Y;
+              cites = some .line .cites;
+              stands = rest-stands (all .lines) (some .line) (all .stand) (some .stands)
+                  (subst (λ (n : ℕ). each-of (λ (k : ℕ). ltb k n) (some .line .cites) ≡ true) (sym (all .size)) (below .holds (some .line) (some .stands)));
+            }
+
+        module _ (a : ℕ) (byte : a ≡ getD d (q + 2) 0) (t : Table) (senses : Bool) (tested : senses ≡ sensing t a) (marks : State) (held : marks ≡ state-of format (listed d p)) (runs : Bool) (asked : runs ≡ can-be-run t a marks) (yes : senses ≡ true) (can : runs ≡ true) (f : ℕ) (first : f ≡ first-of (unknown-sensed t a marks)) (answer : Used) (uses : Uses d places ends (rest-of rule cited) (states-from t a marks f) 0 answer) where
+          rule-used : (lines : List Line) (l : Line) → Lines-stand d places ends lines → Stands d p y l → each-of (λ (k : ℕ). ltb k (length lines)) (l .cites) ≡ true
+              → rule-3 format t (cited-by lines l) l ≡ all-used cited answer
+          unfolding cited-by lines-at
+          rule-used lines l stand w below =
+              let rest = first-act l w .rest in
+              let lines-cited = cited-by lines l in
+              let states = states-of (readings (unknown-sensed t a marks) marks) in
+              let same : answer ≡ used rest (l .Y) lines-cited l states 0 =
+                  uses .holds lines rest (l .Y) (l .cites) l (rest-stands lines l stand w below)
+                  ∙ ap (λ (ss : List State). used rest (l .Y) lines-cited l ss 0) (sensed-states t a marks (X-marked d p marks held) f first) in
+              let long : length lines-cited ≡ cited = lines-length lines l (l .cites) ∙ sym (cited-size l w) in
+              rule-each a byte t senses tested marks held runs asked yes can lines l w
+              ∙ each-used rest (l .Y) lines-cited l states 0 (omega arith)
+              ∙ ap₂ {C = Bool} all-used long (sym same)
+
+          pub all-read : (k : ℕ) → answer ≡ To k → Ruled-by-all d places ends p y (rule-3 format t) (eqb k cited)
+          all-read k is = record { holds = λ lines l stand w below. sym (rule-used lines l stand w below ∙ ap (all-used cited) is) }
+
+          pub not-read : answer ≡ Fails → Ruled-by-all d places ends p y (rule-3 format t) false
+          not-read is = record { holds = λ lines l stand w below. sym (rule-used lines l stand w below ∙ ap (all-used cited) is) }
