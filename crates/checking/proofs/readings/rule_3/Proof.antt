@@ -93,7 +93,9 @@ sub-items c = search needs
 
 -- src/readings.rt:157:19
 each-reading-requires : tie.Need-each-reading-requires
-each-reading-requires c κs = (search needs, (search action-small, (search X-marked, search some-rest)))
+each-reading-requires c κs =
+    let held = c .before .before .before .before .before .before .before .before .before .before .before .before .before .before .before .before .before .before .before .before .pre in
+    (search needs, (search (action-small, held .1 .0), (search X-marked, search (some-rest, held .1 .0, held .1 .1 .0, held .1 .1 .1))))
 
 -- src/readings.rt:158:26
 enum-known-k : tie.Need-enum-known-k
