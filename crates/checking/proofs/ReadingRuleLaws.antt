@@ -7,35 +7,35 @@ use native.Mathlib.Nat.{pow-suc}
 use native.Mathlib.Decide.{ℕ-discrete, decLt}
 use mathlib.Core.Path.{_≡_, refl, sym, _∙_, ap, ap₂, subst}
 use mathlib.Core.Bool.{Bool, true, false}
-use mathlib.Core.List.{List, [], _∷_, _++_, map}
+use mathlib.Core.List.{List, [], _∷_, _++_}
 use lib.ListN.{length, getD, set, take, drop, replicate, length-set, length-replicate, length-map, length-append, getD-replicate, List·getD-eq-default, drop-of-length-le}
 use lib.Seq.{getD-set-same, getD-set-other, drop-cons, set-set}
 use lib.Dec.{eqb, ltb}
 use mir.Syntax.{w64}
 use mir.Val.{Fits}
-use borrow.Author.Tests.{eqb-true, eqb-false, eq-eqb, ne-eqb, ltb-true, lt-ltb, le-ltb}
+use borrow.Author.Tests.{eqb-false, eq-eqb, ne-eqb, ltb-true, lt-ltb, le-ltb}
 use Rattle.meaning.specs.Tests.{both, pick, each-of}
 use Rattle.meaning.specs.Limits.{format}
 use Rattle.meaning.specs.Literals.{says-true, says-false, fluent-of}
-use Rattle.meaning.specs.Requests.{Table, Sequence, done, item, Item, act, branching}
+use Rattle.meaning.specs.Requests.{Table, Sequence, done, item, act, branching}
 use Rattle.meaning.specs.Lines.{sensing}
 use Rattle.meaning.specs.States.{State, mark-of, told, told-all, state-of, can-be-run, unknown-sensed, readings}
 use Rattle.meaning.specs.Derivations.{Line, same-list, same-plan, literals-of, says, states-of, each-reads, reads, senses-first, rule-3, cited-by}
-use Rattle.meaning.proofs.TestLaws.{by-test, clash, both-left, both-right, both-true, pick-true, pick-false}
+use Rattle.meaning.proofs.TestLaws.{by-test, clash, both-left, both-right, pick-true, pick-false}
 use Rattle.reading.specs.Listed.{bytes-from, listed, List-here}
 use Rattle.reading.specs.Planned.{bytes-of}
 use Rattle.reading.proofs.MarkLaws.{mark-most}
 use Rattle.refusing.specs.Branchings.{sequence-place}
 use Rattle.refusing.specs.Plans.{own-items}
-use Rattle.steps.specs.AtHand.{request-in, Marked}
+use Rattle.steps.specs.AtHand.{Marked}
 use Rattle.steps.specs.Steps.{unknown-above, first-of}
 use Rattle.steps.proofs.SmallActions.{Small}
 use Rattle.steps.proofs.SensingLaws.{marked-set, told-true, told-false, unknown-after-set, unknown-first, unknown-first-above, unknown-no-first, sensed-first, sensed-no-first}
 use Rattle.checking.specs.declared.readings.Used.{Used}
 use Rattle.checking.specs.declared.readings.Used.the-variants.{To, Fails}
 use Rattle.checking.specs.declared.readings.Rest.{Rest}
-use Rattle.checking.specs.Coded.{coded, Tellable}
-use Rattle.checking.specs.Stands.{after-list, List-stands, Plan-stands, Numbers-stand, Stands, Lines-stand}
+use Rattle.checking.specs.Coded.{coded}
+use Rattle.checking.specs.Stands.{after-list, Plan-stands, Numbers-stand, Stands, Lines-stand}
 use Rattle.checking.specs.Rules.{Items-stand, Some-line, Some-lines, Cited-below, Ruled-by-all}
 use Rattle.checking.specs.Readings.{lines-at, reads-at, used, fluents-from, states-from, Stands-some, Follows, Some-follows, Says-reading, Rest-stands, Some-rest, Uses}
 use Rattle.checking.proofs.CodedLaws.{same-own, same-coded, none-done, coded-length}
@@ -85,19 +85,6 @@ module _ (d : List ℕ) (pc yc q : ℕ) (after : q ≡ sequence-place d pc) wher
 
     pub cited-ends : q + 2 ≤ yc
     cited-ends = let ends = cited-some .ends in omega (arith, ends)
-
-    pub cited-inside : yc ≤ length d
-    cited-inside = cited-some .inside
-
-module _ (d : List ℕ) (r : Rest) (some : Some-follows d r) where
-  pub rest-ends : r .first ≤ r .y
-  rest-ends = let ends = some .follows .items .ends in omega (arith, ends)
-
-  pub rest-inside : r .y ≤ length d
-  rest-inside = some .follows .items .inside
-
-  pub rest-list : List-here 128 d (r .y)
-  rest-list = some .follows .list .here
 
 module _ (d : List ℕ) (marks : State) (r : Rest) (pc yc : ℕ) (starts : Bool) (first : starts ≡ same-list (listed d pc) (literals-of marks)) where
   starts-is : (c : Line) → Stands d pc yc c → starts ≡ same-list (c .X) (literals-of marks)
@@ -189,11 +176,8 @@ module _ (d places ends : List ℕ) (r : Rest) (k : ℕ) where
     near : k < length (some .cites)
     near = let counted = some .stands .counted in omega (arith, less, counted)
 
-    second-inside : r .cites + 2 * k + 1 < length d
+    pub second-inside : r .cites + 2 * k + 1 < length d
     second-inside = number-stands d (some .cites) (r .cites) k (some .stands .numbers) near .0
-
-    pub number-inside : r .cites + 2 * k + 1 < length d
-    number-inside = second-inside
 
     pub first-inside : r .cites + 2 * k < length d
     first-inside = let there = second-inside in omega (arith, there)
@@ -203,12 +187,6 @@ module _ (d places ends : List ℕ) (r : Rest) (k : ℕ) where
 
     pub second-fits : Fits w64 (r .cites + 2 * k + 1)
     second-fits = let there = second-inside in let long = some .stands .stand .long in record { fits = omega (arith, there, long) }
-
-    pub twice-fits : Fits w64 (2 * k)
-    twice-fits = let there = second-inside in let long = some .stands .stand .long in record { fits = omega (arith, there, long) }
-
-    pub next-fits : Fits w64 (k + 1)
-    next-fits = let there = second-inside in let long = some .stands .stand .long in record { fits = omega (arith, there, long) }
 
   -- Its line stands where the slots say.
   module _ (less : k < r .count) (number : ℕ) (read : number ≡ getD d (r .cites + 2 * k) 0 * 256 + getD d (r .cites + 2 * k + 1) 0) where
@@ -307,7 +285,7 @@ module _ (t : Table) (a : ℕ) (marks : State) (marked : Marked marks) (f : ℕ)
         let above : List ℕ = unknown-above t a marks (f + 1) in
         let one : fluents-from t a (set marks f 1) g ≡ above = fluents-next (set marks f 1) (first-marked small) g next ∙ unknown-after-set t a marks f 1 in
         let two : fluents-from t a (set (set marks f 1) f 2) g ≡ above =
-            fluents-next (set (set marks f 1) f 2) (second-marked small) g second-next ∙ unknown-after-set t a (set marks f 1) f 2 ∙ unknown-after-set t a marks f 1 in
+        fluents-next (set (set marks f 1) f 2) (second-marked small) g second-next ∙ unknown-after-set t a (set marks f 1) f 2 ∙ unknown-after-set t a marks f 1 in
         let all : fluents-from t a marks f ≡ f ∷ above = pick-true _ _ _ (lt-ltb f 64 small) in
         ap (λ (fs : List ℕ). states-of (readings fs marks)) all
         ∙ rw (one, two, told-true f marks, told-false f marks, set-set marks f 1 2)
@@ -635,8 +613,8 @@ module _ (d : List ℕ) (p y q count : ℕ) (after : q ≡ sequence-place d p) (
               let lines-cited = cited-by lines l in
               let states = states-of (readings (unknown-sensed t a marks) marks) in
               let same : answer ≡ used rest (l .Y) lines-cited l states 0 =
-                  uses .holds lines rest (l .Y) (l .cites) l (rest-stands lines l stand w below)
-                  ∙ ap (λ (ss : List State). used rest (l .Y) lines-cited l ss 0) (sensed-states t a marks (X-marked d p marks held) f first) in
+              uses .holds lines rest (l .Y) (l .cites) l (rest-stands lines l stand w below)
+              ∙ ap (λ (ss : List State). used rest (l .Y) lines-cited l ss 0) (sensed-states t a marks (X-marked d p marks held) f first) in
               let long : length lines-cited ≡ cited = lines-length lines l (l .cites) ∙ sym (cited-size l w) in
               rule-each a byte t senses tested marks held runs asked yes can lines l w
               ∙ each-used rest (l .Y) lines-cited l states 0 (omega arith)

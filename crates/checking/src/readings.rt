@@ -5,6 +5,10 @@ ghost use Rattle.meaning.specs.Limits.{format};
 ghost use Rattle.steps.specs.AtHand.{request-in, At-hand, Marked};
 ghost use Rattle.checking.specs.Rules.{Some-line, Some-lines, Cited-below, Ruled-by-all};
 ghost use Rattle.checking.specs.Readings.{states-from, Stands-some, Some-follows, Says-reading, Some-rest, Uses};
+use super::known::lists_known;
+use super::parts::same_lists;
+use super::parts::same_part;
+use super::plans::count_of;
 use bytes::bytes::two;
 use bytes::bytes::wide;
 use bytes::limits;
@@ -17,10 +21,6 @@ use steps::actions::can_be_run;
 use steps::sensing::first_unknown;
 use steps::sensing::is_sensing;
 use steps::sensing::next_unknown;
-use super::known::lists_known;
-use super::parts::same_lists;
-use super::parts::same_part;
-use super::plans::count_of;
 
 // So many citations are used; or a cited line is not what its reading asks, or there is none left.
 pub enum Used {
@@ -64,7 +64,14 @@ fn says_reading(d: &[u8], marks: &[u8; 64], rest: Rest, pc: usize, yc: usize) ->
 }
 
 // Citation k says the reading that the state has.
-fn one_reading(d: &[u8], places: &Places, ends: &Places, marks: &[u8; 64], rest: Rest, k: usize) -> Used
+fn one_reading(
+    d: &[u8],
+    places: &Places,
+    ends: &Places,
+    marks: &[u8; 64],
+    rest: Rest,
+    k: usize,
+) -> Used
     requires { ⌜ Marked (now marks) ⌝ }
     requires { ⌜ Some-rest (now d) (now places) (now ends) rest ⌝ }
     ensures { λ r. ⌜ Uses (now (d .entry)) (now (places .entry)) (now (ends .entry)) rest (now (marks .entry) ∷ []) k r ⌝ }
@@ -124,7 +131,16 @@ fn each_reading(
 }
 
 // Rule 3: a sensing action first that can be run in X; one line for each reading in the walk's order: X with the reading, the rest, Y.
-pub fn rule_3(s: &[u8], t: &Table, d: &[u8], places: &Places, ends: &Places, lines: usize, p: usize, y: usize) -> bool
+pub fn rule_3(
+    s: &[u8],
+    t: &Table,
+    d: &[u8],
+    places: &Places,
+    ends: &Places,
+    lines: usize,
+    p: usize,
+    y: usize,
+) -> bool
     requires { ⌜ At-hand (now s) (now t) ⌝ }
     requires { ⌜ Some-line (now d) p y ⌝ }
     requires { ⌜ Some-lines (now d) (now places) (now ends) lines ⌝ }
@@ -153,7 +169,13 @@ pub fn rule_3(s: &[u8], t: &Table, d: &[u8], places: &Places, ends: &Places, lin
             let cites = rule + 2;
             let from = plan + 3;
             let items = count - 1;
-            let rest = Rest { first: from, items: items, y: y, cites: cites, count: cited };
+            let rest = Rest {
+                first: from,
+                items: items,
+                y: y,
+                cites: cites,
+                count: cited,
+            };
             match each_reading(s, t, d, places, ends, a, f, marks, rest, 0) {
                 Used::To(k) => {
                     return k == cited;

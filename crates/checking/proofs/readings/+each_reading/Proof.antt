@@ -28,7 +28,7 @@ each-reading-below t =
     (falls 5 each-reading-kinds.ps _<_ μ-each-reading t)
     each-reading.Pre
 
--- src/readings.rt:109:21
+-- src/readings.rt:116:21
 each-reading-add-above : (t : ℕ) → each-reading-lts.Need-add-above (
   next-unknown-reads.Asked,
   next-unknown-reads.Learnt,
@@ -39,7 +39,7 @@ each-reading-add-above : (t : ℕ) → each-reading-lts.Need-add-above (
 ) (each-reading-at t) each-reading.Post
 each-reading-add-above t c = search needs
 
--- src/readings.rt:111:9
+-- src/readings.rt:118:9
 each-reading-array-write-state : (t : ℕ) → each-reading-lts.Need-array-write-state (
   next-unknown-reads.Asked,
   next-unknown-reads.Learnt,
@@ -50,7 +50,7 @@ each-reading-array-write-state : (t : ℕ) → each-reading-lts.Need-array-write
 ) (each-reading-at t) each-reading.Post
 each-reading-array-write-state t c = search needs
 
--- src/readings.rt:112:13
+-- src/readings.rt:119:13
 each-reading-next-unknown-requires : (t : ℕ) → each-reading-lts.Need-next-unknown-requires (
   next-unknown-reads.Asked,
   next-unknown-reads.Learnt,
@@ -61,7 +61,7 @@ each-reading-next-unknown-requires : (t : ℕ) → each-reading-lts.Need-next-un
 ) (each-reading-at t) each-reading.Post
 each-reading-next-unknown-requires t c κs = (search needs, (search needs, search first-marked))
 
--- src/readings.rt:113:15
+-- src/readings.rt:120:15
 each-reading-each-reading-requires : (t : ℕ) → each-reading-lts.Need-each-reading-requires (
   next-unknown-reads.Asked,
   next-unknown-reads.Learnt,
@@ -72,7 +72,7 @@ each-reading-each-reading-requires : (t : ℕ) → each-reading-lts.Need-each-re
 ) (each-reading-at t) each-reading.Post
 each-reading-each-reading-requires t c κs = (search next-falls, (search needs, (search needs, (search first-marked, search needs))))
 
--- src/readings.rt:114:22
+-- src/readings.rt:121:22
 each-reading-enum-known-j : (t : ℕ) → each-reading-lts.Need-enum-known-j (
   next-unknown-reads.Asked,
   next-unknown-reads.Learnt,
@@ -83,7 +83,7 @@ each-reading-enum-known-j : (t : ℕ) → each-reading-lts.Need-enum-known-j (
 ) (each-reading-at t) each-reading.Post
 each-reading-enum-known-j t c = search needs
 
--- src/readings.rt:115:17
+-- src/readings.rt:122:17
 each-reading-array-write-state-2 : (t : ℕ) → each-reading-lts.Need-array-write-state-2 (
   next-unknown-reads.Asked,
   next-unknown-reads.Learnt,
@@ -94,7 +94,7 @@ each-reading-array-write-state-2 : (t : ℕ) → each-reading-lts.Need-array-wri
 ) (each-reading-at t) each-reading.Post
 each-reading-array-write-state-2 t c = search needs
 
--- src/readings.rt:116:17
+-- src/readings.rt:123:17
 each-reading-each-reading-requires-2 : (t : ℕ) → each-reading-lts.Need-each-reading-requires-2 (
   next-unknown-reads.Asked,
   next-unknown-reads.Learnt,
@@ -105,7 +105,7 @@ each-reading-each-reading-requires-2 : (t : ℕ) → each-reading-lts.Need-each-
 ) (each-reading-at t) each-reading.Post
 each-reading-each-reading-requires-2 t c κs = (search next-falls, (search needs, (search needs, (search second-marked, search needs))))
 
--- src/readings.rt:116:17
+-- src/readings.rt:123:17
 each-reading-returns : (t : ℕ) → each-reading-lts.Need-returns (
   next-unknown-reads.Asked,
   next-unknown-reads.Learnt,
@@ -116,7 +116,7 @@ each-reading-returns : (t : ℕ) → each-reading-lts.Need-returns (
 ) (each-reading-at t) each-reading.Post
 each-reading-returns t c = search both-read
 
--- src/readings.rt:119:17
+-- src/readings.rt:126:17
 each-reading-enum-told : (t : ℕ) → each-reading-lts.Need-enum-told (
   next-unknown-reads.Asked,
   next-unknown-reads.Learnt,
@@ -127,7 +127,7 @@ each-reading-enum-told : (t : ℕ) → each-reading-lts.Need-enum-told (
 ) (each-reading-at t) each-reading.Post
 each-reading-enum-told t c = search needs
 
--- src/readings.rt:119:17
+-- src/readings.rt:126:17
 each-reading-returns-2 : (t : ℕ) → each-reading-lts.Need-returns-2 (
   next-unknown-reads.Asked,
   next-unknown-reads.Learnt,
@@ -138,7 +138,7 @@ each-reading-returns-2 : (t : ℕ) → each-reading-lts.Need-returns-2 (
 ) (each-reading-at t) each-reading.Post
 each-reading-returns-2 t c = search first-fails
 
--- src/readings.rt:123:5
+-- src/readings.rt:130:5
 each-reading-one-reading-requires : (t : ℕ) → each-reading-lts.Need-one-reading-requires (
   next-unknown-reads.Asked,
   next-unknown-reads.Learnt,
@@ -149,7 +149,7 @@ each-reading-one-reading-requires : (t : ℕ) → each-reading-lts.Need-one-read
 ) (each-reading-at t) each-reading.Post
 each-reading-one-reading-requires t c κs = search needs
 
--- src/readings.rt:90:1
+-- src/readings.rt:97:1
 each-reading-returns-3 : (t : ℕ) → each-reading-lts.Need-returns-3 (
   next-unknown-reads.Asked,
   next-unknown-reads.Learnt,

@@ -15,109 +15,109 @@ use Rattle.steps.proofs.actions.can_be_run.Reads as can-be-run-reads
 use Rattle.steps.proofs.sensing.first_unknown.Reads as first-unknown-reads
 use Rattle.steps.proofs.sensing.is_sensing.Reads as is-sensing-reads
 
--- src/readings.rt:134:9
+-- src/readings.rt:150:9
 sequence-of-requires : tie.Need-sequence-of-requires
 sequence-of-requires c κs = search needs
 
--- src/readings.rt:135:9
+-- src/readings.rt:151:9
 count-of-requires : tie.Need-count-of-requires
 count-of-requires c κs = search plan-counted
 
--- src/readings.rt:137:9
+-- src/readings.rt:153:9
 returns : tie.Need-returns
 returns c = search none-first
 
--- src/readings.rt:139:17
+-- src/readings.rt:155:17
 add-first : tie.Need-add-first
 add-first c = search items-fit
 
--- src/readings.rt:140:8
+-- src/readings.rt:156:8
 shared-slice-read-if2 : tie.Need-shared-slice-read-if2
 shared-slice-read-if2 c = search item-there
 
--- src/readings.rt:141:9
+-- src/readings.rt:157:9
 returns-2 : tie.Need-returns-2
 returns-2 c = search branching-first
 
--- src/readings.rt:143:18
+-- src/readings.rt:159:18
 shared-slice-read-wide : tie.Need-shared-slice-read-wide
 shared-slice-read-wide c = search item-there
 
--- src/readings.rt:143:9
+-- src/readings.rt:159:9
 wide-requires : tie.Need-wide-requires
 wide-requires c κs = search needs
 
--- src/readings.rt:144:9
+-- src/readings.rt:160:9
 is-sensing-requires : tie.Need-is-sensing-requires
 is-sensing-requires c κs = (search needs, search action-small)
 
--- src/readings.rt:146:21
+-- src/readings.rt:162:21
 state-of-requires : tie.Need-state-of-requires
 state-of-requires c κs = search needs
 
--- src/readings.rt:147:13
+-- src/readings.rt:163:13
 can-be-run-requires : tie.Need-can-be-run-requires
 can-be-run-requires c κs = (search needs, search action-small)
 
--- src/readings.rt:149:17
+-- src/readings.rt:165:17
 first-unknown-requires : tie.Need-first-unknown-requires
 first-unknown-requires c κs = (search needs, (search action-small, search X-marked))
 
--- src/readings.rt:150:17
+-- src/readings.rt:166:17
 sequence-of-requires-2 : tie.Need-sequence-of-requires-2
 sequence-of-requires-2 c κs = search Y-there
 
--- src/readings.rt:151:27
+-- src/readings.rt:167:27
 add-counted : tie.Need-add-counted
 add-counted c = search counted-fits
 
--- src/readings.rt:152:30
+-- src/readings.rt:168:30
 shared-slice-read-wide-2 : tie.Need-shared-slice-read-wide-2
 shared-slice-read-wide-2 c = search counted-inside
 
--- src/readings.rt:152:17
+-- src/readings.rt:168:17
 wide-requires-2 : tie.Need-wide-requires-2
 wide-requires-2 c κs = search needs
 
--- src/readings.rt:153:25
+-- src/readings.rt:169:25
 add-cites : tie.Need-add-cites
 add-cites c = search cites-fit
 
--- src/readings.rt:154:24
+-- src/readings.rt:170:24
 add-from : tie.Need-add-from
 add-from c = search rest-fits
 
--- src/readings.rt:155:25
+-- src/readings.rt:171:25
 sub-items : tie.Need-sub-items
 sub-items c = search needs
 
--- src/readings.rt:157:19
+-- src/readings.rt:179:19
 each-reading-requires : tie.Need-each-reading-requires
 each-reading-requires c κs =
     let held = c .before .before .before .before .before .before .before .before .before .before .before .before .before .before .before .before .before .before .before .before .pre in
     (search needs, (search (action-small, held .1 .0), (search X-marked, search (some-rest, held .1 .0, held .1 .1 .0, held .1 .1 .1))))
 
--- src/readings.rt:158:26
+-- src/readings.rt:180:26
 enum-known-k : tie.Need-enum-known-k
 enum-known-k c = search needs
 
--- src/readings.rt:159:21
+-- src/readings.rt:181:21
 returns-3 : tie.Need-returns-3
 returns-3 c = search all-read
 
--- src/readings.rt:162:21
+-- src/readings.rt:184:21
 enum-told : tie.Need-enum-told
 enum-told c = search needs
 
--- src/readings.rt:162:21
+-- src/readings.rt:184:21
 returns-4 : tie.Need-returns-4
 returns-4 c = search not-read
 
--- src/readings.rt:166:9
+-- src/readings.rt:188:9
 returns-5 : tie.Need-returns-5
 returns-5 c = search not-run
 
--- src/readings.rt:127:1
+-- src/readings.rt:134:1
 returns-6 : tie.Need-returns-6
 returns-6 c = search not-sensing
 
