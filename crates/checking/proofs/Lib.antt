@@ -7,3 +7,4 @@ pub mod KnownLaws
 pub mod PlanLaws
 pub mod RuleLaws
 pub mod BranchRuleLaws
+pub mod ReadingRuleLaws
