@@ -23,11 +23,26 @@ fn check_at_hand(request: &[u8], t: &Table, derivation: &[u8]) -> Answer
     let whether = after + wide(request[goals]);
     let asked = wide(request[whether]);
     if 0 < asked {
-        return Answer { number: answers::WHETHER_ASKED, input: answers::THE_REQUEST, place: whether, count: 0 };
+        return Answer {
+            number: answers::WHETHER_ASKED,
+            input: answers::THE_REQUEST,
+            place: whether,
+            count: 0,
+        };
     }
     match check_derivation(request, t, derivation) {
-        Passed::To(_) => Answer { number: answers::VERIFIED, input: answers::NEITHER_INPUT, place: 0, count: 0 },
-        Passed::Fault(k, p) => Answer { number: k, input: answers::THE_DERIVATION, place: p, count: 0 },
+        Passed::To(_) => Answer {
+            number: answers::VERIFIED,
+            input: answers::NEITHER_INPUT,
+            place: 0,
+            count: 0,
+        },
+        Passed::Fault(k, p) => Answer {
+            number: k,
+            input: answers::THE_DERIVATION,
+            place: p,
+            count: 0,
+        },
     }
 }
 
@@ -38,6 +53,11 @@ pub fn check(request: &[u8], derivation: &[u8]) -> Answer
     let mut t: Table = [0u16; 9480];
     match settle(request, &mut t) {
         Passed::To(_) => check_at_hand(request, &t, derivation),
-        Passed::Fault(k, p) => Answer { number: k, input: answers::THE_REQUEST, place: p, count: 0 },
+        Passed::Fault(k, p) => Answer {
+            number: k,
+            input: answers::THE_REQUEST,
+            place: p,
+            count: 0,
+        },
     }
 }
