@@ -55,7 +55,7 @@ module _ (κs : Lfts 2) (given : Dens κs ps) where
     pub numbered : among (answer .number) check-answers ≡ true
     numbered = subst (λ (n : ℕ). among n check-answers ≡ true) number-is (Demands.every-check-numbered format request derivation)
 
-    -- Demand 2 (FORMAT 11.6): accepted, exactly where the request is settled and asks no whether, each line follows from those that it
+    -- Demand 2 (FORMAT 11.6): accepted, exactly where neither input is refused, no whether is asked, each line follows from those that it
     -- cites, and the last line is the question.
     pub accepted-exactly : (answer .number ≡ Limits.verified) ↔ Accepted format request derivation
     accepted-exactly = rw (sym number-is) (Demands.accepted-exactly format request derivation)
