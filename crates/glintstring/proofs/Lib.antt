@@ -8,3 +8,8 @@ pub mod ShowingLaws
 pub mod PlaceLaws
 pub mod PackingLaws
 pub mod ExportedPromises
+pub mod DerivationLaws
+pub mod DerivationPromises
+pub mod ShowingPromises
+pub mod ExportedDerivationPromises
+pub mod ExportedShowingPromises
