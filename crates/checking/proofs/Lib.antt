@@ -4,3 +4,5 @@ pub mod StandLaws
 pub mod CodedPlaces
 pub mod PartLaws
 pub mod KnownLaws
+pub mod PlanLaws
+pub mod RuleLaws
