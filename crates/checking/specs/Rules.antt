@@ -5,7 +5,10 @@ use mathlib.Core.Bool.{Bool}
 use mathlib.Core.List.{List, [], _∷_}
 use lib.ListN.{length, getD}
 use Rattle.meaning.specs.Requests.{Sequence}
-use Rattle.meaning.specs.Derivations.{Line, same-plan, join}
+use lib.Dec.{ltb}
+use mathlib.Core.Bool.{true}
+use Rattle.meaning.specs.Tests.{each-of}
+use Rattle.meaning.specs.Derivations.{Line, same-plan, join, cited-by}
 use Rattle.reading.specs.Listed.{bytes-from}
 use Rattle.reading.specs.Planned.{bytes-of}
 use Rattle.refusing.specs.Plans.{own-items}
@@ -73,3 +76,7 @@ pub record Some-lines (d places ends : List ℕ) (count : ℕ) : Type 0 where
   pub lines : List Line
   pub stand : Lines-stand d places ends lines
   pub size : length lines ≡ count
+
+-- By the lines that it cites, each of which is one of the lines.
+pub record Ruled-by-all (d places ends : List ℕ) (p y : ℕ) (rule : List Line → Line → Bool) (answer : Bool) : Type 0 where
+  pub holds : (lines : List Line) (l : Line) → Lines-stand d places ends lines → Stands d p y l → each-of (λ (k : ℕ). ltb k (length lines)) (l .cites) ≡ true → answer ≡ rule (cited-by lines l) l

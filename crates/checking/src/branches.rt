@@ -1,0 +1,110 @@
+ghost use Prim.Native.Nat.{_≤_};
+ghost use Rattle.meaning.specs.Derivations.{rule-4};
+ghost use Rattle.checking.specs.Rules.{Some-line, Some-read, Read-by};
+use bytes::bytes::Read;
+use bytes::bytes::wide;
+use bytes::limits;
+use reading::marks::Test;
+use reading::marks::each_holds;
+use reading::marks::state_of;
+use refusing::overlaps::next_item;
+use refusing::overlaps::next_place;
+use refusing::overlaps::sequence_of;
+use reading::plan::plan_at;
+use reading::table;
+use reading::table::Table;
+use super::parts::same_lists;
+use super::plans::count_of;
+use super::plans::joined_plans;
+
+// The place after so many branches, the first of which stands at `place` with `item` items before it.
+fn after_branches(d: &[u8], t: &Table, count: usize, place: usize, item: usize) -> usize {
+    let mut left = count;
+    let mut p = place;
+    let mut i = item;
+    while 0 < left {
+        let q = next_place(d, t, p, i);
+        let j = next_item(d, t, p, i);
+        p = q;
+        i = j;
+        left -= 1;
+    }
+    p
+}
+
+// Some branch has its condition within the list at x, and joined with the rest is the plan with its count at cited.
+fn some_branch(
+    d: &[u8],
+    t: &Table,
+    held: &[u8; 64],
+    first: usize,
+    cited: usize,
+    yc: usize,
+    y: usize,
+    more: usize,
+) -> bool {
+    let second = first + 1;
+    let count = wide(d[second]);
+    let start = first + 2;
+    let rest = after_branches(d, t, count, start, 1);
+    let mut left = count;
+    let mut p = start;
+    let mut i = 1;
+    while 0 < left {
+        let q = next_place(d, t, p, i);
+        let j = next_item(d, t, p, i);
+        let known = each_holds(Test::Known, held, d, p);
+        if known {
+            let sequence = sequence_of(d, p);
+            let items = count_of(d, sequence);
+            let a = sequence + 2;
+            let same = joined_plans(d, cited, yc, a, q, items, rest, y, more);
+            if same {
+                return true;
+            }
+        }
+        p = q;
+        i = j;
+        left -= 1;
+    }
+    false
+}
+
+// Rule 4: a branching first, some condition of it within X; X, that branch joined with the rest, Y by the line at pc.
+pub fn rule_4(n: usize, m: usize, d: &[u8], t: &mut Table, pc: usize, yc: usize, p: usize, y: usize) -> bool
+    requires { ⌜ n ≤ 64 ⌝ }
+    requires { ⌜ m ≤ 64 ⌝ }
+    requires { ⌜ Some-line (now d) pc yc ⌝ }
+    requires { ⌜ Some-read n m (now d) p y ⌝ }
+    ensures { λ r. ⌜ Read-by n m (now (d .entry)) pc yc p y rule-4 r ⌝ }
+{
+    let starts = same_lists(d, pc, d, p);
+    if starts {
+        let ends = same_lists(d, yc, d, y);
+        if ends {
+            let plan = sequence_of(d, p);
+            let count = count_of(d, plan);
+            if count == 0 {
+                return false;
+            }
+            let first = plan + 2;
+            if d[first] == limits::BRANCHING_BYTE {
+                table::sized(t);
+                match plan_at(n, m, d, plan, t) {
+                    Read::Value(_, _) => {
+                        let held = state_of(d, p);
+                        let cited = sequence_of(d, pc);
+                        let more = count - 1;
+                        return some_branch(d, t, &held, first, cited, yc, y, more);
+                    }
+                    Read::Fault(_, _) => {
+                        return false;
+                    }
+                }
+            }
+            return false;
+        }
+        return false;
+    }
+    false
+}
