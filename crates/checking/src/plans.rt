@@ -2,9 +2,9 @@ ghost use mathlib.Core.Path.{_≡_};
 ghost use Prim.Native.Nat.{_+_, _*_, _≤_, _<_};
 ghost use lib.ListN.{length, getD};
 ghost use Rattle.checking.specs.Rules.{Some-plan, Some-items, Same-plans, Joined-plans};
-use bytes::bytes::two;
 use super::parts::same_joined;
 use super::parts::same_part;
+use bytes::bytes::two;
 
 // The two-byte count at q.
 pub fn count_of(d: &[u8], q: usize) -> usize

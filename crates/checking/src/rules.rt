@@ -2,21 +2,21 @@ ghost use Rattle.meaning.specs.Derivations.{rule-1, rule-2, rule-5, rule-6};
 ghost use Rattle.meaning.specs.Limits.{format};
 ghost use Rattle.steps.specs.AtHand.{request-in, At-hand};
 ghost use Rattle.checking.specs.Rules.{Some-line, Ruled, Ruled-by, Ruled-by-two};
-use bytes::bytes::wide;
-use bytes::limits;
-use reading::marks::state_of;
-use refusing::overlaps::empty;
-use refusing::overlaps::sequence_of;
-use reading::table::Table;
-use steps::actions::can_be_run;
-use steps::actions::state_after;
-use steps::sensing::is_sensing;
 use super::known::lists_known;
 use super::known::within;
 use super::parts::same_lists;
 use super::plans::count_of;
 use super::plans::joined_plans;
 use super::plans::same_plans;
+use bytes::bytes::wide;
+use bytes::limits;
+use reading::marks::state_of;
+use reading::table::Table;
+use refusing::overlaps::empty;
+use refusing::overlaps::sequence_of;
+use steps::actions::can_be_run;
+use steps::actions::state_after;
+use steps::sensing::is_sensing;
 
 // In what follows a line is told by its place and the place of its list Y. Rule 1: the empty plan, and Y = X.
 pub fn rule_1(d: &[u8], p: usize, y: usize) -> bool
@@ -61,15 +61,7 @@ pub fn rule_2(s: &[u8], t: &Table, d: &[u8], p: usize, y: usize) -> bool
 }
 
 // Rule 5: X c' Z and then Z c'' Y, by the lines at p1 and p2.
-pub fn rule_5(
-    d: &[u8],
-    p1: usize,
-    y1: usize,
-    p2: usize,
-    y2: usize,
-    p: usize,
-    y: usize,
-) -> bool
+pub fn rule_5(d: &[u8], p1: usize, y1: usize, p2: usize, y2: usize, p: usize, y: usize) -> bool
     requires { ⌜ Some-line (now d) p1 y1 ⌝ }
     requires { ⌜ Some-line (now d) p2 y2 ⌝ }
     requires { ⌜ Some-line (now d) p y ⌝ }

@@ -10,59 +10,59 @@ use Rattle.checking.proofs.plans.count_of.Reads as count-of-reads
 use Rattle.checking.proofs.plans.joined_plans.Reads as joined-plans-reads
 use Rattle.refusing.proofs.overlaps.sequence_of.Reads as sequence-of-reads
 
--- src/rules.rt:78:9
+-- src/rules.rt:70:9
 same-lists-requires : tie.Need-same-lists-requires
 same-lists-requires c κs = search needs
 
--- src/rules.rt:80:13
+-- src/rules.rt:72:13
 same-lists-requires-2 : tie.Need-same-lists-requires-2
 same-lists-requires-2 c κs = search needs
 
--- src/rules.rt:82:17
+-- src/rules.rt:74:17
 same-lists-requires-3 : tie.Need-same-lists-requires-3
 same-lists-requires-3 c κs = search needs
 
--- src/rules.rt:84:21
+-- src/rules.rt:76:21
 sequence-of-requires : tie.Need-sequence-of-requires
 sequence-of-requires c κs = search needs
 
--- src/rules.rt:85:21
+-- src/rules.rt:77:21
 sequence-of-requires-2 : tie.Need-sequence-of-requires-2
 sequence-of-requires-2 c κs = search needs
 
--- src/rules.rt:86:21
+-- src/rules.rt:78:21
 sequence-of-requires-3 : tie.Need-sequence-of-requires-3
 sequence-of-requires-3 c κs = search needs
 
--- src/rules.rt:87:21
+-- src/rules.rt:79:21
 count-of-requires : tie.Need-count-of-requires
 count-of-requires c κs = search plan-counted
 
--- src/rules.rt:88:21
+-- src/rules.rt:80:21
 count-of-requires-2 : tie.Need-count-of-requires-2
 count-of-requires-2 c κs = search plan-counted
 
--- src/rules.rt:89:25
+-- src/rules.rt:81:25
 add-a : tie.Need-add-a
 add-a c = search items-fit
 
--- src/rules.rt:90:25
+-- src/rules.rt:82:25
 add-g : tie.Need-add-g
 add-g c = search items-fit
 
--- src/rules.rt:91:17
+-- src/rules.rt:83:17
 joined-plans-requires : tie.Need-joined-plans-requires
 joined-plans-requires c κs = (search some-plan, (search some-items, search some-items))
 
--- src/rules.rt:91:17
+-- src/rules.rt:83:17
 returns : tie.Need-returns
 returns c = search composed
 
--- src/rules.rt:93:13
+-- src/rules.rt:85:13
 returns-2 : tie.Need-returns-2
 returns-2 c = search ends-apart
 
--- src/rules.rt:95:9
+-- src/rules.rt:87:9
 returns-3 : tie.Need-returns-3
 returns-3 c = search meets-apart
 

@@ -9,35 +9,35 @@ use Rattle.checking.proofs.known.within.Reads as within-reads
 use Rattle.checking.proofs.plans.same_plans.Reads as same-plans-reads
 use Rattle.refusing.proofs.overlaps.sequence_of.Reads as sequence-of-reads
 
--- src/rules.rt:106:9
+-- src/rules.rt:98:9
 within-requires : tie.Need-within-requires
 within-requires c κs = (search needs, (search needs, search X-clear))
 
--- src/rules.rt:108:13
+-- src/rules.rt:100:13
 sequence-of-requires : tie.Need-sequence-of-requires
 sequence-of-requires c κs = search needs
 
--- src/rules.rt:109:13
+-- src/rules.rt:101:13
 sequence-of-requires-2 : tie.Need-sequence-of-requires-2
 sequence-of-requires-2 c κs = search needs
 
--- src/rules.rt:110:13
+-- src/rules.rt:102:13
 same-plans-requires : tie.Need-same-plans-requires
 same-plans-requires c κs = (search some-plan, search some-plan)
 
--- src/rules.rt:112:13
+-- src/rules.rt:104:13
 within-requires-2 : tie.Need-within-requires-2
 within-requires-2 c κs = (search needs, (search needs, search Y-clear))
 
--- src/rules.rt:112:13
+-- src/rules.rt:104:13
 returns : tie.Need-returns
 returns c = search ends-within
 
--- src/rules.rt:114:9
+-- src/rules.rt:106:9
 returns-2 : tie.Need-returns-2
 returns-2 c = search other-plan
 
--- src/rules.rt:101:1
+-- src/rules.rt:93:1
 returns-3 : tie.Need-returns-3
 returns-3 c = search not-within
 
