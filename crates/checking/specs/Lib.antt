@@ -1,3 +1,4 @@
 pub mod Coded
 pub mod Stands
 pub mod Rules
+pub mod Checked

@@ -80,3 +80,7 @@ pub record Some-lines (d places ends : List ℕ) (count : ℕ) : Type 0 where
 -- By the lines that it cites, each of which is one of the lines.
 pub record Ruled-by-all (d places ends : List ℕ) (p y : ℕ) (rule : List Line → Line → Bool) (answer : Bool) : Type 0 where
   pub holds : (lines : List Line) (l : Line) → Lines-stand d places ends lines → Stands d p y l → each-of (λ (k : ℕ). ltb k (length lines)) (l .cites) ≡ true → answer ≡ rule (cited-by lines l) l
+
+-- Each number that the line at p cites is that of one of so many lines.
+pub record Cited-below (d : List ℕ) (p y count : ℕ) : Type 0 where
+  pub holds : (l : Line) → Stands d p y l → each-of (λ (k : ℕ). ltb k count) (l .cites) ≡ true

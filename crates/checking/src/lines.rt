@@ -1,3 +1,25 @@
+ghost use mathlib.Core.Path.{_≡_};
+ghost use mathlib.Core.List.{List, [], _∷_};
+ghost use Prim.Native.Nat.{ℕ, _+_, _*_, _≤_};
+ghost use lib.ListN.{length};
+ghost use lib.Dec.{ltb};
+ghost use Rattle.meaning.specs.Tests.{each-of};
+ghost use Rattle.meaning.specs.Limits.{format};
+ghost use Rattle.meaning.specs.Literals.{among};
+ghost use Rattle.meaning.specs.Derivations.{citations-of, cited-by, follows, is-question};
+ghost use Rattle.bytes.specs.Read.{passed};
+ghost use Rattle.steps.specs.AtHand.{request-in, At-hand};
+ghost use Rattle.checking.specs.Rules.{Some-line, Ruled};
+ghost use Rattle.checking.specs.Checked.{lines-in, line-in, All-stand, Numbered, Cites-earlier, numbers-from, refused-by, all-checked};
+use super::branches::rule_4;
+use super::numbers;
+use super::parts::same_lists;
+use super::plans::same_plans;
+use super::readings::rule_3;
+use super::rules::rule_1;
+use super::rules::rule_2;
+use super::rules::rule_5;
+use super::rules::rule_6;
 use bytes::bytes::two;
 use bytes::bytes::wide;
 use bytes::lists::Passed;
@@ -7,54 +29,71 @@ use reading::table;
 use reading::table::Table;
 use reading::table::get;
 use refusing::overlaps::sequence_of;
-use super::branches::rule_4;
-use super::parts::same_lists;
-use super::plans::same_plans;
-use super::readings::rule_3;
-use super::rules::rule_1;
-use super::rules::rule_2;
-use super::rules::rule_5;
-use super::rules::rule_6;
+
+// One for each reading of some fluents, six at the most.
+fn readings(count: usize) -> bool
+    ensures { λ r. ⌜ r ≡ among count (1 ∷ 2 ∷ 4 ∷ 8 ∷ 16 ∷ 32 ∷ 64 ∷ []) ⌝ }
+{
+    if count == 1 {
+        return true;
+    }
+    if count == 2 {
+        return true;
+    }
+    if count == 4 {
+        return true;
+    }
+    if count == 8 {
+        return true;
+    }
+    if count == 16 {
+        return true;
+    }
+    if count == 32 {
+        return true;
+    }
+    count == 64
+}
 
 // The rule takes so many citations.
-fn takes(rule: usize, count: usize) -> bool {
-    if rule < 3 {
+fn takes(rule: usize, count: usize) -> bool
+    ensures { λ r. ⌜ r ≡ among count (citations-of rule) ⌝ }
+{
+    if rule == numbers::EMPTY_RULE {
         return count == 0;
     }
-    if rule == 3 {
+    if rule == numbers::ACTION_RULE {
+        return count == 0;
+    }
+    if rule == numbers::SENSING_RULE {
         return readings(count);
     }
-    if rule == 5 {
+    if rule == numbers::COMPOSITION_RULE {
         return count == 2;
     }
     count == 1
 }
 
-// One for each reading of some fluents, six at the most.
-fn readings(count: usize) -> bool {
-    match count {
-        1 | 2 | 4 | 8 | 16 | 32 | 64 => true,
-        _ => false,
-    }
-}
-
 // Each of so many numbers from `cites` on is below i.
-fn all_earlier(d: &[u8], cites: usize, count: usize, i: usize) -> bool {
-    let mut k = 0;
+fn all_earlier(d: &[u8], cites: usize, count: usize, i: usize) -> bool
+    requires { ⌜ cites + 2 * count ≤ length (now d) ⌝ }
+    ensures { λ r. ⌜ r ≡ each-of (λ (k : ℕ). ltb k i) (numbers-from (now (d .entry)) cites count) ⌝ }
+{
+    let mut left = count;
     let mut at = cites;
-    while k < count {
+    while 0 < left {
         let second = at + 1;
         let number = two(d[at], d[second]);
         if i <= number {
             return false;
         }
         at += 2;
-        k += 1;
+        left -= 1;
     }
     true
 }
 
-// Line i, at p, is what its rule gives.
+// Line i is what its rule gives.
 fn follows(
     n: usize,
     m: usize,
@@ -65,18 +104,24 @@ fn follows(
     places: &Places,
     ends: &Places,
     lines: usize,
-    p: usize,
-    y: usize,
-) -> bool {
+    i: usize,
+) -> bool
+    requires { ⌜ At-hand (now s) (now t) ⌝ }
+    requires { ⌜ Numbered n m (now d) (now places) (now ends) lines i ⌝ }
+    requires { ⌜ Cites-earlier n m (now d) i ⌝ }
+    ensures { λ r. ⌜ r ≡ follows format (request-in (now (s .entry)) .table) (cited-by (lines-in n m (now (d .entry))) (line-in n m (now (d .entry)) i)) (line-in n m (now (d .entry)) i) ⌝ }
+{
+    let p = place_of(places, i);
+    let y = place_of(ends, i);
     let at = sequence_of(d, y);
     let rule = wide(d[at]);
-    if rule == 1 {
+    if rule == numbers::EMPTY_RULE {
         return rule_1(d, p, y);
     }
-    if rule == 2 {
+    if rule == numbers::ACTION_RULE {
         return rule_2(s, t, d, p, y);
     }
-    if rule == 3 {
+    if rule == numbers::SENSING_RULE {
         return rule_3(s, t, d, places, ends, lines, p, y);
     }
     let high = at + 2;
@@ -84,21 +129,21 @@ fn follows(
     let one = two(d[high], d[low]);
     let pc = place_of(places, one);
     let yc = place_of(ends, one);
-    if rule == 4 {
+    if rule == numbers::BRANCHING_RULE {
         return rule_4(n, m, d, u, pc, yc, p, y);
     }
-    if rule == 5 {
+    if rule == numbers::COMPOSITION_RULE {
         let next = at + 4;
         let last = at + 5;
-        let two_more = two(d[next], d[last]);
-        let p2 = place_of(places, two_more);
-        let y2 = place_of(ends, two_more);
+        let other = two(d[next], d[last]);
+        let p2 = place_of(places, other);
+        let y2 = place_of(ends, other);
         return rule_5(d, pc, yc, p2, y2, p, y);
     }
     rule_6(d, pc, yc, p, y)
 }
 
-// Line i, at p: 31, 33, 32 or 34; 0 where it follows.
+// Line i: 31, 33, 32 or 34; 0 where it follows.
 fn line_refused(
     n: usize,
     m: usize,
@@ -110,16 +155,19 @@ fn line_refused(
     ends: &Places,
     lines: usize,
     i: usize,
-    p: usize,
-    y: usize,
-) -> u8 {
+) -> u8
+    requires { ⌜ At-hand (now s) (now t) ⌝ }
+    requires { ⌜ Numbered n m (now d) (now places) (now ends) lines i ⌝ }
+    ensures { λ r. ⌜ r ≡ refused-by (request-in (now (s .entry)) .table) (lines-in n m (now (d .entry))) i (line-in n m (now (d .entry)) i) ⌝ }
+{
+    let y = place_of(ends, i);
     let at = sequence_of(d, y);
     let rule = wide(d[at]);
-    if rule < 1 {
-        return 31;
+    if rule < numbers::EMPTY_RULE {
+        return numbers::NO_SUCH_RULE;
     }
-    if 6 < rule {
-        return 31;
+    if numbers::CONSEQUENCE_RULE < rule {
+        return numbers::NO_SUCH_RULE;
     }
     let second = at + 1;
     let count = wide(d[second]);
@@ -128,19 +176,23 @@ fn line_refused(
         let cites = at + 2;
         let earlier = all_earlier(d, cites, count, i);
         if earlier {
-            let good = follows(n, m, s, t, d, u, places, ends, lines, p, y);
+            let good = follows(n, m, s, t, d, u, places, ends, lines, i);
             if good {
                 return 0;
             }
-            return 34;
+            return numbers::DOES_NOT_FOLLOW;
         }
-        return 32;
+        return numbers::NOT_EARLIER;
     }
-    33
+    numbers::CITATIONS_NOT_TAKEN
 }
 
 // The line is the question: the initial facts, the plan, the goals of the request.
-fn is_question(s: &[u8], t: &Table, d: &[u8], p: usize, y: usize) -> bool {
+fn is_question(s: &[u8], t: &Table, d: &[u8], p: usize, y: usize) -> bool
+    requires { ⌜ At-hand (now s) (now t) ⌝ }
+    requires { ⌜ Some-line (now d) p y ⌝ }
+    ensures { λ r. ⌜ Ruled (now (d .entry)) p y (is-question (request-in (now (s .entry)))) r ⌝ }
+{
     let starts = same_lists(d, p, s, 2);
     if starts {
         let goals = get(t, table::GOALS);
@@ -166,13 +218,16 @@ pub fn check_lines(
     places: &Places,
     ends: &Places,
     lines: usize,
-) -> Passed {
+) -> Passed
+    requires { ⌜ At-hand (now s) (now t) ⌝ }
+    requires { ⌜ All-stand n m (now d) (now places) (now ends) lines ⌝ }
+    ensures { λ r. ⌜ r ≡ passed (all-checked (request-in (now (s .entry))) (lines-in n m (now (d .entry)))) ⌝ }
+{
     let mut i = 0;
     while i < lines {
-        let p = place_of(places, i);
-        let y = place_of(ends, i);
-        let number = line_refused(n, m, s, t, d, u, places, ends, lines, i, p, y);
+        let number = line_refused(n, m, s, t, d, u, places, ends, lines, i);
         if 0 < number {
+            let p = place_of(places, i);
             return Passed::Fault(number, p);
         }
         i += 1;
@@ -184,5 +239,5 @@ pub fn check_lines(
     if asked {
         return Passed::To(0);
     }
-    Passed::Fault(35, p)
+    Passed::Fault(numbers::NOT_THE_QUESTION, p)
 }
