@@ -6,3 +6,5 @@ pub mod PartLaws
 pub mod KnownLaws
 pub mod PlanLaws
 pub mod RuleLaws
+pub mod LineLaws
+pub mod OrderLaws

@@ -1,7 +1,7 @@
 -- What the checking of a derivation says of the lines that were read.
 use Prim.Native.Nat.{ℕ, zero, suc, _+_, _*_, _≤_, _<_}
 use mathlib.Core.Path.{_≡_}
-use mathlib.Core.Bool.{true}
+use mathlib.Core.Bool.{Bool, true}
 use mathlib.Core.List.{List, [], _∷_}
 use lib.ListN.{length, getD}
 use lib.Dec.{ltb}
@@ -48,6 +48,10 @@ pub record Numbered (n m : ℕ) (d places ends : List ℕ) (count i : ℕ) : Typ
 pub record Cites-earlier (n m : ℕ) (d : List ℕ) (i : ℕ) : Type 0 where
   pub taken : among (length (line-in n m d i .cites)) (citations-of (line-in n m d i .rule)) ≡ true
   pub earlier : each-of (λ (k : ℕ). ltb k i) (line-in n m d i .cites) ≡ true
+
+-- Each of the numbers is below i.
+unfoldable pub all-below : ℕ → List ℕ → Bool
+all-below i ks = each-of (λ (k : ℕ). ltb k i) ks
 
 -- So many two-byte numbers from p on.
 unfoldable pub numbers-from : List ℕ → ℕ → ℕ → List ℕ

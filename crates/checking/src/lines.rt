@@ -1,16 +1,14 @@
 ghost use mathlib.Core.Path.{_≡_};
-ghost use mathlib.Core.List.{List, [], _∷_};
-ghost use Prim.Native.Nat.{ℕ, _+_, _*_, _≤_};
+ghost use mathlib.Core.List.{[], _∷_};
+ghost use Prim.Native.Nat.{_+_, _*_, _≤_};
 ghost use lib.ListN.{length};
-ghost use lib.Dec.{ltb};
-ghost use Rattle.meaning.specs.Tests.{each-of};
 ghost use Rattle.meaning.specs.Limits.{format};
 ghost use Rattle.meaning.specs.Literals.{among};
 ghost use Rattle.meaning.specs.Derivations.{citations-of, cited-by, follows, is-question};
 ghost use Rattle.bytes.specs.Read.{passed};
 ghost use Rattle.steps.specs.AtHand.{request-in, At-hand};
 ghost use Rattle.checking.specs.Rules.{Some-line, Ruled};
-ghost use Rattle.checking.specs.Checked.{lines-in, line-in, All-stand, Numbered, Cites-earlier, numbers-from, refused-by, all-checked};
+ghost use Rattle.checking.specs.Checked.{lines-in, line-in, All-stand, Numbered, Cites-earlier, all-below, numbers-from, refused-by, all-checked};
 use super::branches::rule_4;
 use super::numbers;
 use super::parts::same_lists;
@@ -77,7 +75,7 @@ fn takes(rule: usize, count: usize) -> bool
 // Each of so many numbers from `cites` on is below i.
 fn all_earlier(d: &[u8], cites: usize, count: usize, i: usize) -> bool
     requires { ⌜ cites + 2 * count ≤ length (now d) ⌝ }
-    ensures { λ r. ⌜ r ≡ each-of (λ (k : ℕ). ltb k i) (numbers-from (now (d .entry)) cites count) ⌝ }
+    ensures { λ r. ⌜ r ≡ all-below i (numbers-from (now (d .entry)) cites count) ⌝ }
 {
     let mut left = count;
     let mut at = cites;
