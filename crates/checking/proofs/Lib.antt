@@ -8,3 +8,4 @@ pub mod PlanLaws
 pub mod RuleLaws
 pub mod LineLaws
 pub mod OrderLaws
+pub mod ReadingRuleLaws

@@ -2,3 +2,4 @@ pub mod Coded
 pub mod Stands
 pub mod Rules
 pub mod Checked
+pub mod Readings

@@ -1,8 +1,14 @@
-ghost use Prim.Native.Nat.{_≤_};
+ghost use Prim.Native.Nat.{_<_};
+ghost use mathlib.Core.List.{[], _∷_};
 ghost use Rattle.meaning.specs.Derivations.{rule-3};
 ghost use Rattle.meaning.specs.Limits.{format};
-ghost use Rattle.steps.specs.AtHand.{request-in, At-hand};
-ghost use Rattle.checking.specs.Rules.{Some-line, Some-lines, Ruled-by-all};
+ghost use Rattle.steps.specs.AtHand.{request-in, At-hand, Marked};
+ghost use Rattle.checking.specs.Rules.{Some-line, Some-lines, Cited-below, Ruled-by-all};
+ghost use Rattle.checking.specs.Readings.{states-from, Stands-some, Some-follows, Says-reading, Some-rest, Uses};
+use super::known::lists_known;
+use super::parts::same_lists;
+use super::parts::same_part;
+use super::plans::count_of;
 use bytes::bytes::two;
 use bytes::bytes::wide;
 use bytes::limits;
@@ -15,10 +21,6 @@ use steps::actions::can_be_run;
 use steps::sensing::first_unknown;
 use steps::sensing::is_sensing;
 use steps::sensing::next_unknown;
-use super::known::lists_known;
-use super::parts::same_lists;
-use super::parts::same_part;
-use super::plans::count_of;
 
 // So many citations are used; or a cited line is not what its reading asks, or there is none left.
 pub enum Used {
@@ -36,7 +38,12 @@ pub struct Rest {
 }
 
 // The line at pc says what the state knows, the rest, and the list Y at y.
-fn says_reading(d: &[u8], marks: &[u8; 64], rest: Rest, pc: usize, yc: usize) -> bool {
+fn says_reading(d: &[u8], marks: &[u8; 64], rest: Rest, pc: usize, yc: usize) -> bool
+    requires { ⌜ Marked (now marks) ⌝ }
+    requires { ⌜ Stands-some (now d) pc yc ⌝ }
+    requires { ⌜ Some-follows (now d) rest ⌝ }
+    ensures { λ r. ⌜ Says-reading (now (d .entry)) (now (marks .entry)) rest pc yc r ⌝ }
+{
     let starts = lists_known(marks, d, pc);
     if starts {
         let plan = sequence_of(d, pc);
@@ -57,7 +64,18 @@ fn says_reading(d: &[u8], marks: &[u8; 64], rest: Rest, pc: usize, yc: usize) ->
 }
 
 // Citation k says the reading that the state has.
-fn one_reading(d: &[u8], places: &Places, ends: &Places, marks: &[u8; 64], rest: Rest, k: usize) -> Used {
+fn one_reading(
+    d: &[u8],
+    places: &Places,
+    ends: &Places,
+    marks: &[u8; 64],
+    rest: Rest,
+    k: usize,
+) -> Used
+    requires { ⌜ Marked (now marks) ⌝ }
+    requires { ⌜ Some-rest (now d) (now places) (now ends) rest ⌝ }
+    ensures { λ r. ⌜ Uses (now (d .entry)) (now (places .entry)) (now (ends .entry)) rest (now (marks .entry) ∷ []) k r ⌝ }
+{
     if rest.count <= k {
         return Used::Fails;
     }
@@ -87,7 +105,13 @@ fn each_reading(
     marks: [u8; 64],
     rest: Rest,
     k: usize,
-) -> Used {
+) -> Used
+    requires { ⌜ At-hand (now s) (now t) ⌝ }
+    requires { ⌜ a < 64 ⌝ }
+    requires { ⌜ Marked marks ⌝ }
+    requires { ⌜ Some-rest (now d) (now places) (now ends) rest ⌝ }
+    ensures { λ r. ⌜ Uses (now (d .entry)) (now (places .entry)) (now (ends .entry)) rest (states-from (request-in (now (s .entry)) .table) a marks f) k r ⌝ }
+{
     if f < limits::FLUENTS {
         let above = f + 1;
         let mut state = marks;
@@ -107,10 +131,20 @@ fn each_reading(
 }
 
 // Rule 3: a sensing action first that can be run in X; one line for each reading in the walk's order: X with the reading, the rest, Y.
-pub fn rule_3(s: &[u8], t: &Table, d: &[u8], places: &Places, ends: &Places, lines: usize, p: usize, y: usize) -> bool
+pub fn rule_3(
+    s: &[u8],
+    t: &Table,
+    d: &[u8],
+    places: &Places,
+    ends: &Places,
+    lines: usize,
+    p: usize,
+    y: usize,
+) -> bool
     requires { ⌜ At-hand (now s) (now t) ⌝ }
     requires { ⌜ Some-line (now d) p y ⌝ }
     requires { ⌜ Some-lines (now d) (now places) (now ends) lines ⌝ }
+    requires { ⌜ Cited-below (now d) p y lines ⌝ }
     ensures { λ r. ⌜ Ruled-by-all (now (d .entry)) (now (places .entry)) (now (ends .entry)) p y (rule-3 format (request-in (now (s .entry)) .table)) r ⌝ }
 {
     let plan = sequence_of(d, p);
@@ -135,7 +169,13 @@ pub fn rule_3(s: &[u8], t: &Table, d: &[u8], places: &Places, ends: &Places, lin
             let cites = rule + 2;
             let from = plan + 3;
             let items = count - 1;
-            let rest = Rest { first: from, items: items, y: y, cites: cites, count: cited };
+            let rest = Rest {
+                first: from,
+                items: items,
+                y: y,
+                cites: cites,
+                count: cited,
+            };
             match each_reading(s, t, d, places, ends, a, f, marks, rest, 0) {
                 Used::To(k) => {
                     return k == cited;
