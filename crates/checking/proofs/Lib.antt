@@ -9,3 +9,4 @@ pub mod RuleLaws
 pub mod LineLaws
 pub mod OrderLaws
 pub mod ReadingRuleLaws
+pub mod BranchRuleLaws

@@ -90,17 +90,17 @@ module _ (n m : ℕ) (d : List ℕ) where
         cites = subst (λ (j : ℕ). Numbers-stand d j cites) on (numbers-stand k v cites e third);
       }
 
-  record Line-parts (p : ℕ) (l : Line) : Type 0 where
+  pub record Line-parts (p : ℕ) (l : Line) : Type 0 where
     place : l .place ≡ p
     X : List-stands d p (l .X)
-    plan : Met (Sequence ℕ)
-    end : ℕ
-    reads : plan-at format n m d (after-list d p) ≡ got plan end
-    is : plan .value ≡ l .c
+    pub plan : Met (Sequence ℕ)
+    pub end : ℕ
+    pub reads : plan-at format n m d (after-list d p) ≡ got plan end
+    pub is : plan .value ≡ l .c
     Y : List-stands d end (l .Y)
     rest : Cites-stand (after-list d end) (l .rule) (l .cites)
 
-  line-parts : n ≤ 64 → (p : ℕ) (l : Line) → Line-here n m d p l → Line-parts p l
+  pub line-parts : n ≤ 64 → (p : ℕ) (l : Line) → Line-here n m d p l → Line-parts p l
   unfolding line-at
   line-parts few p l here =
       after-got (list-at literals n 64 d p) _ (here .reads) λ X q first is1.

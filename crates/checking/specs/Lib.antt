@@ -3,3 +3,4 @@ pub mod Stands
 pub mod Rules
 pub mod Checked
 pub mod Readings
+pub mod Branched

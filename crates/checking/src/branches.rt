@@ -1,24 +1,30 @@
+ghost use mathlib.Core.Path.{_≡_};
 ghost use Prim.Native.Nat.{_≤_};
 ghost use Rattle.meaning.specs.Derivations.{rule-4};
-ghost use Rattle.checking.specs.Rules.{Some-line, Some-read, Read-by};
+ghost use Rattle.refusing.specs.Branchings.{Branches-here};
+ghost use Rattle.checking.specs.Rules.{Some-plan, Some-line, Some-read, Read-by};
+ghost use Rattle.checking.specs.Branched.{branches-end, Some-branched, Branch-taken};
+use super::parts::same_lists;
+use super::plans::count_of;
+use super::plans::joined_plans;
 use bytes::bytes::Read;
 use bytes::bytes::wide;
 use bytes::limits;
 use reading::marks::Test;
 use reading::marks::each_holds;
 use reading::marks::state_of;
-use refusing::overlaps::next_item;
-use refusing::overlaps::next_place;
-use refusing::overlaps::sequence_of;
 use reading::plan::plan_at;
 use reading::table;
 use reading::table::Table;
-use super::parts::same_lists;
-use super::plans::count_of;
-use super::plans::joined_plans;
+use refusing::overlaps::next_item;
+use refusing::overlaps::next_place;
+use refusing::overlaps::sequence_of;
 
 // The place after so many branches, the first of which stands at `place` with `item` items before it.
-fn after_branches(d: &[u8], t: &Table, count: usize, place: usize, item: usize) -> usize {
+fn after_branches(d: &[u8], t: &Table, count: usize, place: usize, item: usize) -> usize
+    requires { ⌜ Branches-here (now d) (now t) count place item ⌝ }
+    ensures { λ r. ⌜ r ≡ branches-end (now (d .entry)) (now (t .entry)) count place item ⌝ }
+{
     let mut left = count;
     let mut p = place;
     let mut i = item;
@@ -32,7 +38,7 @@ fn after_branches(d: &[u8], t: &Table, count: usize, place: usize, item: usize) 
     p
 }
 
-// Some branch has its condition within the list at x, and joined with the rest is the plan with its count at cited.
+// Some branch of the branching at first has its condition known, and joined with the rest, up to y, is the plan with its count at cited.
 fn some_branch(
     d: &[u8],
     t: &Table,
@@ -42,7 +48,11 @@ fn some_branch(
     yc: usize,
     y: usize,
     more: usize,
-) -> bool {
+) -> bool
+    requires { ⌜ Some-branched (now d) (now t) first y more ⌝ }
+    requires { ⌜ Some-plan (now d) cited yc ⌝ }
+    ensures { λ r. ⌜ Branch-taken (now (d .entry)) (now (t .entry)) (now (held .entry)) first cited yc y more r ⌝ }
+{
     let second = first + 1;
     let count = wide(d[second]);
     let start = first + 2;
@@ -54,24 +64,34 @@ fn some_branch(
         let q = next_place(d, t, p, i);
         let j = next_item(d, t, p, i);
         let known = each_holds(Test::Known, held, d, p);
+        let sequence = sequence_of(d, p);
+        p = q;
+        i = j;
+        left -= 1;
         if known {
-            let sequence = sequence_of(d, p);
             let items = count_of(d, sequence);
             let a = sequence + 2;
             let same = joined_plans(d, cited, yc, a, q, items, rest, y, more);
             if same {
                 return true;
             }
+            continue;
         }
-        p = q;
-        i = j;
-        left -= 1;
     }
     false
 }
 
 // Rule 4: a branching first, some condition of it within X; X, that branch joined with the rest, Y by the line at pc.
-pub fn rule_4(n: usize, m: usize, d: &[u8], t: &mut Table, pc: usize, yc: usize, p: usize, y: usize) -> bool
+pub fn rule_4(
+    n: usize,
+    m: usize,
+    d: &[u8],
+    t: &mut Table,
+    pc: usize,
+    yc: usize,
+    p: usize,
+    y: usize,
+) -> bool
     requires { ⌜ n ≤ 64 ⌝ }
     requires { ⌜ m ≤ 64 ⌝ }
     requires { ⌜ Some-line (now d) pc yc ⌝ }
