@@ -10,3 +10,4 @@ pub mod LineLaws
 pub mod OrderLaws
 pub mod ReadingRuleLaws
 pub mod BranchRuleLaws
+pub mod QuestionLaws

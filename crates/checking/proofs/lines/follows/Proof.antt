@@ -55,7 +55,7 @@ returns-2 c = search by-action
 
 -- src/lines.rt:125:9
 rule-3-requires : tie.Need-rule-3-requires
-rule-3-requires c κs = (?, (search needs, (search own-some, (search lines-some, search cited-below))))
+rule-3-requires c κs = (search needs, (search own-some, (search lines-some, search cited-below)))
 
 -- src/lines.rt:125:9
 returns-3 : tie.Need-returns-3
@@ -91,7 +91,7 @@ place-of-requires-4 c κs = search one-few
 
 -- src/lines.rt:133:9
 rule-4-requires : tie.Need-rule-4-requires
-rule-4-requires c κs = (?, (search few-fluents, (search few-actions, (some-at _ _ _ _ _ _ _ (c .before .before .before .before .before .before .before .before .before .before .before .before .before .before .before .before .before .pre .1 .0) _ (one-below _ _ _ _ _ _ _ (c .before .before .before .before .before .before .before .before .before .before .before .before .before .before .before .before .before .pre .1 .0) _ (c .before .before .before .before .before .before .before .before .before .before .before .before .before .place-of2 .ensures) _ (c .before .before .before .before .before .before .before .before .before .before .before .before .sequence-of .ensures) _ (c .before .before .before .before .before .before .before .before .before .before .wide .ensures) (c .before .before .before .before .before .before .before .before .before .before .before .before .before .before .before .before .before .pre .1 .1) (c .before .before .before .before .before .before .before .before .before .if1 .left) (c .before .before .before .before .before .before .before .before .if2 .left) (c .before .before .before .before .before .before .before .if3 .left) _ (c .before .before .before .before .two .ensures)) _ _ (c .before .before .before .place-of3 .ensures) (c .before .before .place-of4 .ensures), search own-read))))
+rule-4-requires c κs = (search few-fluents, (search few-actions, (some-at _ _ _ _ _ _ _ (c .before .before .before .before .before .before .before .before .before .before .before .before .before .before .before .before .before .pre .1 .0) _ (one-below _ _ _ _ _ _ _ (c .before .before .before .before .before .before .before .before .before .before .before .before .before .before .before .before .before .pre .1 .0) _ (c .before .before .before .before .before .before .before .before .before .before .before .before .before .place-of2 .ensures) _ (c .before .before .before .before .before .before .before .before .before .before .before .before .sequence-of .ensures) _ (c .before .before .before .before .before .before .before .before .before .before .wide .ensures) (c .before .before .before .before .before .before .before .before .before .before .before .before .before .before .before .before .before .pre .1 .1) (c .before .before .before .before .before .before .before .before .before .if1 .left) (c .before .before .before .before .before .before .before .before .if2 .left) (c .before .before .before .before .before .before .before .if3 .left) _ (c .before .before .before .before .two .ensures)) _ _ (c .before .before .before .place-of3 .ensures) (c .before .before .place-of4 .ensures), search own-read)))
 
 -- src/lines.rt:133:9
 returns-4 : tie.Need-returns-4
