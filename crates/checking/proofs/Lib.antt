@@ -6,5 +6,8 @@ pub mod PartLaws
 pub mod KnownLaws
 pub mod PlanLaws
 pub mod RuleLaws
-pub mod BranchRuleLaws
+pub mod LineLaws
+pub mod OrderLaws
 pub mod ReadingRuleLaws
+pub mod BranchRuleLaws
+pub mod QuestionLaws

@@ -36,14 +36,14 @@ use Rattle.checking.proofs.CodedLaws.{same-own, same-bytes, coded-same,
 use Rattle.checking.proofs.CodedPlaces.{act-there, branching-there}
 
 -- TESTS that are put together.
-no-left : (a b : Bool) → a ≡ false → false ≡ both a b
+pub no-left : (a b : Bool) → a ≡ false → false ≡ both a b
 unfolding both
 no-left a b e = rw e refl
 
-no-right : (a b : Bool) → b ≡ false → false ≡ both a b
+pub no-right : (a b : Bool) → b ≡ false → false ≡ both a b
 no-right a b e = by-test (both a b) (λ t. clash (both-right a b t) e) sym
 
-yes-left : (a b : Bool) → a ≡ true → both a b ≡ b
+pub yes-left : (a b : Bool) → a ≡ true → both a b ≡ b
 unfolding both
 yes-left a b e = rw e refl
 

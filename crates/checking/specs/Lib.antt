@@ -1,5 +1,6 @@
 pub mod Coded
 pub mod Stands
 pub mod Rules
-pub mod Branched
+pub mod Checked
 pub mod Readings
+pub mod Branched

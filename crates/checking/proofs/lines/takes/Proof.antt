@@ -1,0 +1,35 @@
+-- Rules 1 and 2 take none, rule 3 one for each reading, rule 5 two, and what is left takes one.
+use Rattle.checking.proofs.LineLaws.{takes-empty, takes-action, takes-sensing, takes-composition, takes-one}
+use borrow.Author.Needs.{needs}
+use Rattle.checking.proofs.lines.takes.Statement.{statement}
+use Rattle.checking.proofs.lines.takes.Tie as tie
+use Rattle.checking.proofs.lines.takes.Reads as reads
+use Rattle.checking.proofs.lines.takes.Lts as lts
+use Rattle.checking.proofs.lines.readings.Reads as readings-reads
+
+-- src/lines.rt:63:9
+returns : tie.Need-returns
+returns c = search takes-empty
+
+-- src/lines.rt:66:9
+returns-2 : tie.Need-returns-2
+returns-2 c = search takes-action
+
+-- src/lines.rt:69:9
+readings-requires : tie.Need-readings-requires
+readings-requires c κs = search needs
+
+-- src/lines.rt:69:9
+returns-3 : tie.Need-returns-3
+returns-3 c = search takes-sensing
+
+-- src/lines.rt:72:9
+returns-4 : tie.Need-returns-4
+returns-4 c = search takes-composition
+
+-- src/lines.rt:59:1
+returns-5 : tie.Need-returns-5
+returns-5 c = search takes-one
+
+pub takes-spec : {M : Type 1} → statement M
+takes-spec = tie.close (tie.spec returns returns-2 readings-requires returns-3 returns-4 returns-5)
