@@ -11,3 +11,4 @@ pub mod OrderLaws
 pub mod ReadingRuleLaws
 pub mod BranchRuleLaws
 pub mod QuestionLaws
+pub mod CheckLaws
