@@ -16,7 +16,6 @@ use Rattle.meaning.specs.Requests.{Table, Request}
 use Rattle.meaning.specs.Reading.{Got, got, fault, next}
 use Rattle.meaning.specs.Derivations.{Line, follows, citations-of, a-rule, cited-by, check-lines, check-last, is-question}
 use Rattle.meaning.proofs.TestLaws.{pick-true, pick-false}
-use Rattle.bytes.specs.declared.lists.Passed.{Passed}
 use Rattle.bytes.specs.declared.lists.Passed.the-variants.{To, Fault as Stop}
 use Rattle.bytes.specs.Read.{passed}
 use Rattle.checking.specs.Stands.{Stands}

@@ -16,7 +16,7 @@ use Rattle.meaning.proofs.SettledLaws.{got-same}
 use Rattle.meaning.proofs.RangeLaws.{not-refused, after-got, count-within}
 use Rattle.reading.specs.Listed.{listed, List-here}
 use Rattle.reading.specs.Planned.{bytes-of}
-use Rattle.reading.specs.Requested.{goals-place, plan-place, request-noted}
+use Rattle.reading.specs.Requested.{goals-place, plan-place}
 use Rattle.reading.proofs.SectionLaws.{count-got}
 use Rattle.reading.proofs.PlanSizes.{sequence-read, list-through}
 use Rattle.reading.proofs.RequestLaws.{placed-length}

@@ -1,6 +1,6 @@
 -- The rule and the numbers cited stand after the list Y; the lines with these numbers stand where their slots say, and each rule says what it
 -- gives of the lines that stand there.
-use Rattle.checking.proofs.LineLaws.{own-few, own-some, own-read, few-fluents, few-actions, lines-some, Y-here, rule-there, cites-fit, cites-fit-3, cites-fit-4, cites-fit-5, by-empty, by-action, cited-below, by-sensing, some-at, one-below, first-high, first-low, one-few, by-branching, by-consequence, second-high, second-low, other-below, other-few, by-composition}
+use Rattle.checking.proofs.LineLaws.{own-some, own-read, few-fluents, few-actions, lines-some, Y-here, rule-there, cites-fit, cites-fit-3, cites-fit-4, cites-fit-5, by-empty, by-action, cited-below, by-sensing, some-at, one-below, first-high, first-low, one-few, by-branching, by-consequence, second-high, second-low, other-below, other-few, by-composition}
 use borrow.Author.Needs.{needs}
 use Rattle.checking.proofs.lines.follows.Statement.{statement}
 use Rattle.checking.proofs.lines.follows.Tie as tie
@@ -91,7 +91,18 @@ place-of-requires-4 c κs = search one-few
 
 -- src/lines.rt:133:9
 rule-4-requires : tie.Need-rule-4-requires
-rule-4-requires c κs = (search few-fluents, (search few-actions, (some-at _ _ _ _ _ _ _ (c .before .before .before .before .before .before .before .before .before .before .before .before .before .before .before .before .before .pre .1 .0) _ (one-below _ _ _ _ _ _ _ (c .before .before .before .before .before .before .before .before .before .before .before .before .before .before .before .before .before .pre .1 .0) _ (c .before .before .before .before .before .before .before .before .before .before .before .before .before .place-of2 .ensures) _ (c .before .before .before .before .before .before .before .before .before .before .before .before .sequence-of .ensures) _ (c .before .before .before .before .before .before .before .before .before .before .wide .ensures) (c .before .before .before .before .before .before .before .before .before .before .before .before .before .before .before .before .before .pre .1 .1) (c .before .before .before .before .before .before .before .before .before .if1 .left) (c .before .before .before .before .before .before .before .before .if2 .left) (c .before .before .before .before .before .before .before .if3 .left) _ (c .before .before .before .before .two .ensures)) _ _ (c .before .before .before .place-of3 .ensures) (c .before .before .place-of4 .ensures), search own-read)))
+rule-4-requires c κs =
+    let list = c .before .before in
+    let place = list .before in
+    let number = place .before in
+    let third = number .before .before .before in
+    let second = third .before in
+    let first = second .before in
+    let read = first .before in
+    let after = read .before .before in
+    let end = after .before in
+    let pre = end .before .before .before .before .pre in
+    (search few-fluents, (search few-actions, (some-at _ _ _ _ _ _ _ (pre .1 .0) _ (one-below _ _ _ _ _ _ _ (pre .1 .0) _ (end .place-of2 .ensures) _ (after .sequence-of .ensures) _ (read .wide .ensures) (pre .1 .1) (first .if1 .left) (second .if2 .left) (third .if3 .left) _ (number .two .ensures)) _ _ (place .place-of3 .ensures) (list .place-of4 .ensures), search own-read)))
 
 -- src/lines.rt:133:9
 returns-4 : tie.Need-returns-4
@@ -107,11 +118,29 @@ add-last c = search cites-fit-5
 
 -- src/lines.rt:138:25
 shared-slice-read-two-3 : tie.Need-shared-slice-read-two-3
-shared-slice-read-two-3 c = second-high _ _ _ _ _ _ _ (c .before .before .before .before .before .before .before .before .before .before .before .before .before .before .before .before .before .before .pre .1 .0) _ (c .before .before .before .before .before .before .before .before .before .before .before .before .before .before .place-of2 .ensures) _ (c .before .before .before .before .before .before .before .before .before .before .before .before .before .sequence-of .ensures) _ (c .before .before .before .before .before .before .before .before .before .before .before .wide .ensures) (c .before .before .before .before .before .before .before .before .before .before .before .before .before .before .before .before .before .before .pre .1 .1) (c .before .before .before .before .before .before .before .before .before .before .if1 .left) (c .before .before .before .before .before .before .before .before .before .if2 .left) (c .before .before .before .before .before .before .before .before .if3 .left) (c .before .if5 .taken)
+shared-slice-read-two-3 c =
+    let fifth = c .before in
+    let third = fifth .before .before .before .before .before .before .before in
+    let second = third .before in
+    let first = second .before in
+    let read = first .before in
+    let after = read .before .before in
+    let end = after .before in
+    let pre = end .before .before .before .before .pre in
+    second-high _ _ _ _ _ _ _ (pre .1 .0) _ (end .place-of2 .ensures) _ (after .sequence-of .ensures) _ (read .wide .ensures) (pre .1 .1) (first .if1 .left) (second .if2 .left) (third .if3 .left) (fifth .if5 .taken)
 
 -- src/lines.rt:138:34
 shared-slice-read-two-4 : tie.Need-shared-slice-read-two-4
-shared-slice-read-two-4 c = second-low _ _ _ _ _ _ _ (c .before .before .before .before .before .before .before .before .before .before .before .before .before .before .before .before .before .before .before .pre .1 .0) _ (c .before .before .before .before .before .before .before .before .before .before .before .before .before .before .before .place-of2 .ensures) _ (c .before .before .before .before .before .before .before .before .before .before .before .before .before .before .sequence-of .ensures) _ (c .before .before .before .before .before .before .before .before .before .before .before .before .wide .ensures) (c .before .before .before .before .before .before .before .before .before .before .before .before .before .before .before .before .before .before .before .pre .1 .1) (c .before .before .before .before .before .before .before .before .before .before .before .if1 .left) (c .before .before .before .before .before .before .before .before .before .before .if2 .left) (c .before .before .before .before .before .before .before .before .before .if3 .left) (c .before .before .if5 .taken)
+shared-slice-read-two-4 c =
+    let fifth = c .before .before in
+    let third = fifth .before .before .before .before .before .before .before in
+    let second = third .before in
+    let first = second .before in
+    let read = first .before in
+    let after = read .before .before in
+    let end = after .before in
+    let pre = end .before .before .before .before .pre in
+    second-low _ _ _ _ _ _ _ (pre .1 .0) _ (end .place-of2 .ensures) _ (after .sequence-of .ensures) _ (read .wide .ensures) (pre .1 .1) (first .if1 .left) (second .if2 .left) (third .if3 .left) (fifth .if5 .taken)
 
 -- src/lines.rt:138:13
 two-requires-2 : tie.Need-two-requires-2
@@ -127,7 +156,21 @@ place-of-requires-6 c κs = search other-few
 
 -- src/lines.rt:141:9
 rule-5-requires : tie.Need-rule-5-requires
-rule-5-requires c κs = (some-at _ _ _ _ _ _ _ (c .before .before .before .before .before .before .before .before .before .before .before .before .before .before .before .before .before .before .before .before .before .before .pre .1 .0) _ (one-below _ _ _ _ _ _ _ (c .before .before .before .before .before .before .before .before .before .before .before .before .before .before .before .before .before .before .before .before .before .before .pre .1 .0) _ (c .before .before .before .before .before .before .before .before .before .before .before .before .before .before .before .before .before .before .place-of2 .ensures) _ (c .before .before .before .before .before .before .before .before .before .before .before .before .before .before .before .before .before .sequence-of .ensures) _ (c .before .before .before .before .before .before .before .before .before .before .before .before .before .before .before .wide .ensures) (c .before .before .before .before .before .before .before .before .before .before .before .before .before .before .before .before .before .before .before .before .before .before .pre .1 .1) (c .before .before .before .before .before .before .before .before .before .before .before .before .before .before .if1 .left) (c .before .before .before .before .before .before .before .before .before .before .before .before .before .if2 .left) (c .before .before .before .before .before .before .before .before .before .before .before .before .if3 .left) _ (c .before .before .before .before .before .before .before .before .before .two .ensures)) _ _ (c .before .before .before .before .before .before .before .before .place-of3 .ensures) (c .before .before .before .before .before .before .before .place-of4 .ensures), (some-at _ _ _ _ _ _ _ (c .before .before .before .before .before .before .before .before .before .before .before .before .before .before .before .before .before .before .before .before .before .before .pre .1 .0) _ (other-below _ _ _ _ _ _ _ (c .before .before .before .before .before .before .before .before .before .before .before .before .before .before .before .before .before .before .before .before .before .before .pre .1 .0) _ (c .before .before .before .before .before .before .before .before .before .before .before .before .before .before .before .before .before .before .place-of2 .ensures) _ (c .before .before .before .before .before .before .before .before .before .before .before .before .before .before .before .before .before .sequence-of .ensures) _ (c .before .before .before .before .before .before .before .before .before .before .before .before .before .before .before .wide .ensures) (c .before .before .before .before .before .before .before .before .before .before .before .before .before .before .before .before .before .before .before .before .before .before .pre .1 .1) (c .before .before .before .before .before .before .before .before .before .before .before .before .before .before .if1 .left) (c .before .before .before .before .before .before .before .before .before .before .before .before .before .if2 .left) (c .before .before .before .before .before .before .before .before .before .before .before .before .if3 .left) (c .before .before .before .before .before .if5 .taken) _ (c .before .before .two2 .ensures)) _ _ (c .before .place-of5 .ensures) (c .place-of6 .ensures), search own-some))
+rule-5-requires c κs =
+    let other = c .before .before in
+    let fifth = other .before .before .before in
+    let list = fifth .before .before in
+    let place = list .before in
+    let number = place .before in
+    let third = number .before .before .before in
+    let second = third .before in
+    let first = second .before in
+    let read = first .before in
+    let after = read .before .before in
+    let end = after .before in
+    let pre = end .before .before .before .before .pre in
+    let own = own-some _ _ _ _ _ _ _ (pre .1 .0) _ _ (end .before .place-of .ensures) (end .place-of2 .ensures) in
+    (some-at _ _ _ _ _ _ _ (pre .1 .0) _ (one-below _ _ _ _ _ _ _ (pre .1 .0) _ (end .place-of2 .ensures) _ (after .sequence-of .ensures) _ (read .wide .ensures) (pre .1 .1) (first .if1 .left) (second .if2 .left) (third .if3 .left) _ (number .two .ensures)) _ _ (place .place-of3 .ensures) (list .place-of4 .ensures), (some-at _ _ _ _ _ _ _ (pre .1 .0) _ (other-below _ _ _ _ _ _ _ (pre .1 .0) _ (end .place-of2 .ensures) _ (after .sequence-of .ensures) _ (read .wide .ensures) (pre .1 .1) (first .if1 .left) (second .if2 .left) (third .if3 .left) (fifth .if5 .taken) _ (other .two2 .ensures)) _ _ (c .before .place-of5 .ensures) (c .place-of6 .ensures), own))
 
 -- src/lines.rt:141:9
 returns-5 : tie.Need-returns-5
