@@ -72,8 +72,8 @@ module _ (n m : ℕ) (d places ends : List ℕ) (count : ℕ) (all : All-stand n
   pub index-few : (i : ℕ) → i < count → i < 1024
   index-few i h = own-few n m d places ends count i (line-numbered i h)
 
-  pub lines-some : 1 ≤ count
-  lines-some = all .some
+  pub least-one : 1 ≤ count
+  least-one = all .some
 
   pub last-few : count - 1 < 1024
   last-few = let some = all .some in index-few (count - 1) (omega (arith, some))

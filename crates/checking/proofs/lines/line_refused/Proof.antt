@@ -75,9 +75,9 @@ follows-requires c κs =
     let end = after .before in
     let pre = end .before .before .before .pre in
     let citing =
-        cites-earlier _ _ _ _ _ _ _ (pre .1) _ (end .place-of .ensures) _ (after .sequence-of .ensures) _ (read .wide .ensures) (first .if1 .left) (second .if2 .left) _ (count .wide2 .ensures) _ (taken .takes .ensures)
-        (third .if3 .taken) _ (earlier .all-earlier .ensures) (fourth .if4 .taken)
-        in
+    cites-earlier _ _ _ _ _ _ _ (pre .1) _ (end .place-of .ensures) _ (after .sequence-of .ensures) _ (read .wide .ensures) (first .if1 .left) (second .if2 .left) _ (count .wide2 .ensures) _ (taken .takes .ensures)
+    (third .if3 .taken) _ (earlier .all-earlier .ensures) (fourth .if4 .taken)
+    in
     (pre .0, (pre .1, citing))
 
 -- src/lines.rt:179:17
