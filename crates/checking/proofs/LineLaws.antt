@@ -5,31 +5,27 @@ use native.Mathlib.Omega.{arith}
 use mathlib.Core.Path.{_≡_, refl, sym, _∙_, ap, ap₂, subst}
 use mathlib.Core.Bool.{Bool, true, false}
 use mathlib.Core.List.{List, [], _∷_, map}
-use lib.ListN.{length, getD, drop, drop-of-length-le}
-use lib.Seq.{drop-cons}
-use lib.Dec.{leb, ltb, eqb}
+use lib.ListN.{length, getD}
+use lib.Dec.{ltb, eqb}
 use mir.Syntax.{w64}
 use mir.Val.{Fits}
-use borrow.Author.Tests.{ltb-true, ltb-false, eqb-true, lt-ltb, le-ltb, le-leb, lt-leb, eq-eqb, ne-eqb}
+use borrow.Author.Tests.{ltb-true, eqb-true, lt-ltb, le-ltb, le-leb, lt-leb, eq-eqb, ne-eqb}
 use Rattle.meaning.specs.Tests.{both, either, fails, pick, some-of, each-of}
 use Rattle.meaning.specs.Limits.{format}
 use Rattle.meaning.specs.Literals.{among}
-use Rattle.meaning.specs.Requests.{Table, Sequence, Request}
-use Rattle.meaning.specs.Reading.{Got, got, fault, next, literals, byte-at, two-bytes-at, count-at, list-at, repeated, plan-at}
-use Rattle.meaning.specs.Derivations.{Line, line-at, follows, rule-1, rule-2, rule-3, rule-4, rule-5, rule-6, of-one, of-two, citations-of, a-rule, cited-by, check-lines, check-last, is-question}
-use Rattle.meaning.proofs.TestLaws.{by-test, clash, both-left, both-right, fails-true, fails-false, pick-true, pick-false, each-mono}
+use Rattle.meaning.specs.Requests.{Table}
+use Rattle.meaning.specs.Reading.{literals, byte-at, two-bytes-at, count-at, list-at, repeated, plan-at}
+use Rattle.meaning.specs.Derivations.{Line, line-at, follows, rule-1, rule-2, rule-3, rule-4, rule-5, rule-6, of-one, of-two, citations-of, a-rule, cited-by}
+use Rattle.meaning.proofs.TestLaws.{by-test, clash, both-left, both-right, fails-false, pick-true, pick-false, each-mono}
 use Rattle.meaning.proofs.SettledLaws.{got-same}
 use Rattle.meaning.proofs.RangeLaws.{after-got}
-use Rattle.bytes.specs.declared.lists.Passed.{Passed}
-use Rattle.bytes.specs.declared.lists.Passed.the-variants.{To, Fault as Stop}
-use Rattle.bytes.specs.Read.{passed}
 use Rattle.reading.specs.Listed.{List-here}
 use Rattle.refusing.specs.Branchings.{sequence-place}
 use Rattle.deriving.specs.Derived.{Line-here}
 use Rattle.steps.proofs.SmallActions.{Small, plan-small}
-use Rattle.checking.specs.Stands.{after-list, Numbers-stand, Stands, Lines-stand}
+use Rattle.checking.specs.Stands.{after-list, Numbers-stand, Stands}
 use Rattle.checking.specs.Rules.{Some-line, Some-read, Some-lines, Ruled, Ruled-by, Ruled-by-two, Ruled-by-all, Read-by, Cited-below}
-use Rattle.checking.specs.Checked.{lines-in, no-line, line-in, All-stand, Numbered, Cites-earlier, all-below, numbers-from, refused-by, all-checked}
+use Rattle.checking.specs.Checked.{lines-in, no-line, line-in, Numbered, Cites-earlier, all-below, numbers-from, refused-by}
 use Rattle.checking.proofs.StandLaws.{line-number}
 
 -- WHICH BYTES are rules.

@@ -16,7 +16,6 @@ use Rattle.meaning.specs.Requests.{Table, Request}
 use Rattle.meaning.specs.Reading.{Got, got, fault, next}
 use Rattle.meaning.specs.Derivations.{Line, follows, citations-of, a-rule, cited-by, check-lines, check-last, is-question}
 use Rattle.meaning.proofs.TestLaws.{pick-true, pick-false}
-use Rattle.bytes.specs.declared.lists.Passed.{Passed}
 use Rattle.bytes.specs.declared.lists.Passed.the-variants.{To, Fault as Stop}
 use Rattle.bytes.specs.Read.{passed}
 use Rattle.checking.specs.Stands.{Stands}
@@ -73,8 +72,8 @@ module _ (n m : ℕ) (d places ends : List ℕ) (count : ℕ) (all : All-stand n
   pub index-few : (i : ℕ) → i < count → i < 1024
   index-few i h = own-few n m d places ends count i (line-numbered i h)
 
-  pub lines-some : 1 ≤ count
-  lines-some = all .some
+  pub least-one : 1 ≤ count
+  least-one = all .some
 
   pub last-few : count - 1 < 1024
   last-few = let some = all .some in index-few (count - 1) (omega (arith, some))

@@ -16,7 +16,7 @@ use Rattle.meaning.proofs.SettledLaws.{got-same}
 use Rattle.meaning.proofs.RangeLaws.{not-refused, after-got, count-within}
 use Rattle.reading.specs.Listed.{listed, List-here}
 use Rattle.reading.specs.Planned.{bytes-of}
-use Rattle.reading.specs.Requested.{goals-place, plan-place, request-noted}
+use Rattle.reading.specs.Requested.{goals-place, plan-place}
 use Rattle.reading.proofs.SectionLaws.{count-got}
 use Rattle.reading.proofs.PlanSizes.{sequence-read, list-through}
 use Rattle.reading.proofs.RequestLaws.{placed-length}
@@ -30,9 +30,9 @@ use Rattle.steps.specs.Lines.{goals-in}
 use Rattle.steps.proofs.SlotLaws.{goals-noted}
 use Rattle.steps.proofs.Served.{ends-at-hand}
 use Rattle.checking.specs.Stands.{after-list, Plan-stands, Stands}
-use Rattle.checking.specs.Rules.{Some-plan, Same-plans, Some-line, Ruled}
+use Rattle.checking.specs.Rules.{Some-plan, Same-plans, Ruled}
 use Rattle.checking.proofs.StandLaws.{plan-stands}
-use Rattle.checking.proofs.RuleLaws.{no-left, no-right, yes-left, some-plan}
+use Rattle.checking.proofs.RuleLaws.{no-left, no-right, yes-left}
 
 yes-right : (a b : Bool) → b ≡ true → both a b ≡ a
 unfolding both
@@ -123,9 +123,6 @@ unfolding values placed
 placed-values p [] = refl
 placed-values p (x ∷ xs) = ap (λ (ys : List ℕ). x ∷ ys) (placed-values (p + 1) xs)
 
-pub line-plan : (d : List ℕ) (p y q : ℕ) → q ≡ sequence-place d p → Some-line d p y → Some-plan d q y
-line-plan d p y q after some = some-plan d p y q after some
-
 -- A REQUEST at hand.
 module _ (s t : List ℕ) (here : At-hand s t) where
   x : Request
@@ -178,8 +175,8 @@ module _ (s t : List ℕ) (here : At-hand s t) where
           let whole : Parts s x = parts s x (here .end) (here .read .reads) in
           let w = planned s x (here .end) (here .read .reads) in
           let plan-is : asked ≡ plan-place x =
-              at-plan ∙ ap (λ (u : List ℕ). getD u 5376 0) (here .read .noted) ∙ plan-noted-at s (here .bytes) x whole blank blank-long ∙ sym (whole .placed)
-              in
+          at-plan ∙ ap (λ (u : List ℕ). getD u 5376 0) (here .read .noted) ∙ plan-noted-at s (here .bytes) x whole blank blank-long ∙ sym (whole .placed)
+          in
           let goals-are : goals ≡ goals-place x = at-goals ∙ ap (λ (u : List ℕ). getD u 5381 0) (here .read .noted) ∙ goals-noted s (here .bytes) x whole in
           let stands = plan-stands (x .table .fluents) (x .table .actions) s (here .bytes) (whole .of-table .few) (whole .of-table .less) (plan-place x) (w .plan) (goals-place x) (w .reads) in
           rw (plan-is, goals-are, request-is) (subst (Plan-stands s (plan-place x) (goals-place x)) (w .value) stands)

@@ -9,7 +9,7 @@ use Rattle.meaning.specs.Tests.{fails, pick, each-of}
 use Rattle.meaning.specs.Limits
 use Rattle.meaning.specs.Limits.{format}
 use Rattle.meaning.specs.Literals.{among}
-use Rattle.meaning.specs.Requests.{Table, Sequence, done, Request}
+use Rattle.meaning.specs.Requests.{Table, done, Request}
 use Rattle.meaning.specs.Reading.{Got, got, fault, next}
 use Rattle.meaning.specs.Derivations.{Line, read-derivation, follows, citations-of, a-rule, cited-by, check-lines, check-last}
 use Rattle.deriving.specs.Derived.{Lines-here}

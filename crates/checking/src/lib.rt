@@ -1,4 +1,4 @@
-// The rules of derivations.
+// Derivations checked: the rules, the lines in order, the whole.
 pub mod parts; // parts of an input, compared
 pub mod known; // lists against what is known
 pub mod plans; // plans, compared by their bytes

@@ -2,7 +2,7 @@
 use Prim.Native.Nat.{_-_}
 use Rattle.steps.specs.AtHand.{request-in}
 use Rattle.checking.specs.Checked.{lines-in}
-use Rattle.checking.proofs.OrderLaws.{Checking, checking-start, line-numbered, index-few, lines-some, last-few, checking-next, line-stops, asked-yes, asked-no, last-some}
+use Rattle.checking.proofs.OrderLaws.{Checking, checking-start, line-numbered, index-few, least-one, last-few, checking-next, line-stops, asked-yes, asked-no, last-some}
 use borrow.Author.Needs.{needs}
 use Rattle.checking.proofs.lines.check_lines.Statement.{statement}
 use Rattle.checking.proofs.lines.check_lines.Tie as tie
@@ -48,7 +48,7 @@ loop-again c = search checking-next
 
 -- src/lines.rt:233:16
 sub-last : tie.Need-sub-last Inv-loop μ-loop
-sub-last c = search lines-some
+sub-last c = search least-one
 
 -- src/lines.rt:234:9
 place-of-requires-2 : tie.Need-place-of-requires-2 Inv-loop μ-loop

@@ -1,5 +1,6 @@
 -- The facts stand at place 2 of the request, and its plan and its goals where the table says.
-use Rattle.checking.proofs.QuestionLaws.{facts-here, goals-here, line-plan, asked-some, other-facts, other-goals, question}
+use Rattle.checking.proofs.RuleLaws.{some-plan}
+use Rattle.checking.proofs.QuestionLaws.{facts-here, goals-here, asked-some, other-facts, other-goals, question}
 use borrow.Author.Needs.{needs}
 use Rattle.checking.proofs.lines.is_question.Statement.{statement}
 use Rattle.checking.proofs.lines.is_question.Tie as tie
@@ -10,39 +11,39 @@ use Rattle.checking.proofs.plans.same_plans.Reads as same-plans-reads
 use Rattle.reading.proofs.table.get.Reads as get-reads
 use Rattle.refusing.proofs.overlaps.sequence_of.Reads as sequence-of-reads
 
--- src/lines.rt:196:9
+-- src/lines.rt:194:9
 same-lists-requires : tie.Need-same-lists-requires
 same-lists-requires c κs = (search needs, search facts-here)
 
--- src/lines.rt:198:13
+-- src/lines.rt:196:13
 get-requires : tie.Need-get-requires
 get-requires c κs = search needs
 
--- src/lines.rt:199:13
+-- src/lines.rt:197:13
 same-lists-requires-2 : tie.Need-same-lists-requires-2
 same-lists-requires-2 c κs = (search needs, search goals-here)
 
--- src/lines.rt:201:17
+-- src/lines.rt:199:17
 sequence-of-requires : tie.Need-sequence-of-requires
 sequence-of-requires c κs = search needs
 
--- src/lines.rt:202:17
+-- src/lines.rt:200:17
 get-requires-2 : tie.Need-get-requires-2
 get-requires-2 c κs = search needs
 
--- src/lines.rt:203:13
+-- src/lines.rt:201:13
 same-plans-requires : tie.Need-same-plans-requires
-same-plans-requires c κs = (search line-plan, search asked-some)
+same-plans-requires c κs = (search some-plan, search asked-some)
 
--- src/lines.rt:203:13
+-- src/lines.rt:201:13
 returns : tie.Need-returns
 returns c = search question
 
--- src/lines.rt:205:9
+-- src/lines.rt:203:9
 returns-2 : tie.Need-returns-2
 returns-2 c = search other-goals
 
--- src/lines.rt:191:1
+-- src/lines.rt:189:1
 returns-3 : tie.Need-returns-3
 returns-3 c = search other-facts
 

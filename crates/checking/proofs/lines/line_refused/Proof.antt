@@ -62,7 +62,23 @@ all-earlier-requires c κs = search cites-room
 
 -- src/lines.rt:177:17
 follows-requires : tie.Need-follows-requires
-follows-requires c κs = (search needs, (search needs, cites-earlier _ _ _ _ _ _ _ (c .before .before .before .before .before .before .before .before .before .before .before .before .before .before .before .pre .1) _ (c .before .before .before .before .before .before .before .before .before .before .before .before .place-of .ensures) _ (c .before .before .before .before .before .before .before .before .before .before .before .sequence-of .ensures) _ (c .before .before .before .before .before .before .before .before .before .wide .ensures) (c .before .before .before .before .before .before .before .before .if1 .left) (c .before .before .before .before .before .before .before .if2 .left) _ (c .before .before .before .before .before .wide2 .ensures) _ (c .before .before .before .before .takes .ensures) (c .before .before .before .if3 .taken) _ (c .before .before .all-earlier .ensures) (c .before .if4 .taken)))
+follows-requires c κs =
+    let fourth = c .before in
+    let earlier = fourth .before in
+    let third = earlier .before in
+    let taken = third .before in
+    let count = taken .before in
+    let second = count .before .before in
+    let first = second .before in
+    let read = first .before in
+    let after = read .before .before in
+    let end = after .before in
+    let pre = end .before .before .before .pre in
+    let citing =
+    cites-earlier _ _ _ _ _ _ _ (pre .1) _ (end .place-of .ensures) _ (after .sequence-of .ensures) _ (read .wide .ensures) (first .if1 .left) (second .if2 .left) _ (count .wide2 .ensures) _ (taken .takes .ensures)
+    (third .if3 .taken) _ (earlier .all-earlier .ensures) (fourth .if4 .taken)
+    in
+    (pre .0, (pre .1, citing))
 
 -- src/lines.rt:179:17
 returns-3 : tie.Need-returns-3

@@ -7,27 +7,27 @@ use Rattle.checking.proofs.lines.takes.Reads as reads
 use Rattle.checking.proofs.lines.takes.Lts as lts
 use Rattle.checking.proofs.lines.readings.Reads as readings-reads
 
--- src/lines.rt:63:9
+-- src/lines.rt:61:9
 returns : tie.Need-returns
 returns c = search takes-empty
 
--- src/lines.rt:66:9
+-- src/lines.rt:64:9
 returns-2 : tie.Need-returns-2
 returns-2 c = search takes-action
 
--- src/lines.rt:69:9
+-- src/lines.rt:67:9
 readings-requires : tie.Need-readings-requires
 readings-requires c κs = search needs
 
--- src/lines.rt:69:9
+-- src/lines.rt:67:9
 returns-3 : tie.Need-returns-3
 returns-3 c = search takes-sensing
 
--- src/lines.rt:72:9
+-- src/lines.rt:70:9
 returns-4 : tie.Need-returns-4
 returns-4 c = search takes-composition
 
--- src/lines.rt:59:1
+-- src/lines.rt:57:1
 returns-5 : tie.Need-returns-5
 returns-5 c = search takes-one
 
