@@ -8,3 +8,4 @@ pub mod ShowingLaws
 pub mod PlaceLaws
 pub mod PackingLaws
 pub mod ExportedPromises
+pub mod DerivationLaws

@@ -1,5 +1,5 @@
 -- An answer in one number and back: each part is smaller than the room that it has, so division and remainder give it back. Every answer
--- of the walk call is such an answer. Assumes nothing.
+-- of the walk call and of the derivation call is such an answer. Assumes nothing.
 use Prim.Native.Nat.{ℕ, _+_, _*_, _/_, _%_, _<_}
 use native.Mathlib.Omega.{arith}
 use mathlib.Core.Path.{_≡_, refl, sym, _∙_, ap, subst}
@@ -17,11 +17,13 @@ use Rattle.meaning.specs.Refusals.{settled}
 use Rattle.meaning.specs.States.{State}
 use Rattle.meaning.specs.Walk.{End, fine, missed, stuck}
 use Rattle.meaning.specs.Judging.{Judgement, ended, within, judge-settled, judge}
+use Rattle.meaning.specs.Derivations.{check-derivation, answer, accepted-if, check-settled, check}
 use Rattle.meaning.proofs.TestLaws.{some-has, each-has}
 use Rattle.meaning.proofs.PickLaws.{pick-has}
 use Rattle.meaning.proofs.AnswerLaws.{refusals, answers, every-answer-numbered}
-use Rattle.glintstring.specs.Packing.{packed}
-use Rattle.glintstring.proofs.PlaceLaws.{place-small}
+use Rattle.meaning.proofs.Accepted.{faults, check-answers, every-check-numbered}
+use Rattle.glintstring.specs.Packing.{packed, unpacked}
+use Rattle.glintstring.proofs.PlaceLaws.{place-small, check-place-small}
 
 -- PACKED.
 pub packs : (a : Answer) → a .number + 256 * a .input + 65536 * a .place + 4294967296 * a .count ≡ packed a
@@ -51,6 +53,14 @@ module _ (a : Answer) (small : Small a) where
   pub count-back : packed a / 4294967296 ≡ a .count
   unfolding packed
   count-back = let n = small .number in let i = small .input in let p = small .place in omega (arith, n, i, p)
+
+  pub unpacks : unpacked (packed a) ≡ a
+  unfolding unpacked
+  unpacks =
+      ap (λ (n : ℕ). record { number = n; input = packed a / 256 % 256; place = packed a / 65536 % 65536; count = packed a / 4294967296 }) number-back
+      ∙ ap (λ (i : ℕ). record { number = a .number; input = i; place = packed a / 65536 % 65536; count = packed a / 4294967296 }) input-back
+      ∙ ap (λ (p : ℕ). record { number = a .number; input = a .input; place = p; count = packed a / 4294967296 }) place-back
+      ∙ ap (λ (c : ℕ). record { number = a .number; input = a .input; place = a .place; count = c }) count-back
 
 -- THE WALK CALL'S ANSWERS. Each number is one of a few.
 number-small : (n : ℕ) → among n answers ≡ true → n < 256
@@ -95,3 +105,43 @@ module _ (s lent : List ℕ) (budget : ℕ) (a : Answer) (left : List ℕ) (judg
 
   pub judged-left : left ≡ judge format s lent budget .state
   judged-left = ap (λ (j : Judgement). j .state) judges
+
+-- THE DERIVATION CALL'S ANSWERS.
+check-number-small : (n : ℕ) → among n check-answers ≡ true → n < 256
+unfolding among check-answers faults refusals some-of either each-of both
+check-number-small n is =
+    let one = some-has (eqb n) check-answers is in
+    let same : n ≡ one .0 = eqb-true _ _ (one .2) in
+    subst (λ (m : ℕ). m < 256) (sym same) (ltb-true _ _ (each-has (λ (m : ℕ). ltb m 256) check-answers (one .0) refl (one .1)))
+
+abbrev Named-small : Answer → Type 0
+Named-small a = a .input < 256
+
+accepted-named : (x : Got (Unit {0})) → Named-small (accepted-if x)
+unfolding accepted-if answer
+accepted-named (got x e) = omega arith
+accepted-named (fault n p) = omega arith
+
+check-settled-named : (d : List ℕ) (x : Got Request) → Named-small (check-settled format d x)
+unfolding check-settled answer
+check-settled-named d (got r e) = pick-has Named-small _ _ _ (λ _. omega arith) (λ _. accepted-named (check-derivation format r d))
+check-settled-named d (fault n p) = omega arith
+
+check-named : (s d : List ℕ) → Named-small (check format s d)
+unfolding check
+check-named s d = check-settled-named d (settled format s)
+
+pub check-small : (s d : List ℕ) → Small (check format s d)
+check-small s d = record {
+  number = check-number-small _ (every-check-numbered format s d);
+  input = check-named s d;
+  place = check-place-small s d;
+}
+
+-- What the exported call returns, where the derivation call has given an answer.
+module _ (s d : List ℕ) (a : Answer) (checks : a ≡ check format s d) where
+  pub checked-small : a .place < 65536
+  checked-small = subst (λ (z : Answer). z .place < 65536) (sym checks) (check-place-small s d)
+
+  pub checked-packed : (r : ℕ) → r ≡ packed a → r ≡ packed (check format s d)
+  checked-packed r is = is ∙ ap packed checks

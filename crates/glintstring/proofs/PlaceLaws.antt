@@ -1,6 +1,6 @@
 -- Every place that the walk call answers lies within the request or at its end, so it is at most the request limit: each reader goes on
 -- from where the one before it stopped and stops within the input, what is read keeps the places at which it was read, and the later
--- refusals and the walk name those places only. Assumes nothing.
+-- refusals and the walk name those places only. So it is with the derivation call, of the derivation too. Assumes nothing.
 use Prim.Native.Nat.{ℕ, zero, suc, _+_, _*_, _≤_, _<_}
 use native.Mathlib.Omega.{arith}
 use mathlib.Core.Path.{_≡_, refl}
@@ -8,6 +8,7 @@ use mathlib.Core.Bool.{Bool}
 use mathlib.Core.List.{List, [], _∷_}
 use lib.ListN.{length}
 use borrow.Author.Tests.{leb-false, ltb-false}
+use Rattle.meaning.specs.declared.Answer.{Answer}
 use Rattle.meaning.specs.Limits.{Limits, format}
 use Rattle.meaning.specs.Requests.{Effect, Executability, Knowledge, Table, Sequence, done, item, Item, act, branching, Branches, none, branch, Entry, Request}
 use Rattle.meaning.specs.Reading.{Got, got, fault, next, byte-at, two-bytes-at, count-at, below-at, Kind, literals, fluents, bound-of, entry-at, entries-at, list-at, repeated, section-at, body-at, effect-at, executability-at, knowledge-at, Met, Part, item-at, items-at, sequence-at, branches-at, branching-at, plan-at, table-at, placed, request-at, read-request}
@@ -15,6 +16,7 @@ use Rattle.meaning.specs.Refusals.{Found, nowhere, at, or-else, contradiction-i
 use Rattle.meaning.specs.States.{State, Outcome, single, fork, outcome, first-state}
 use Rattle.meaning.specs.Walk.{End, fine, missed, stuck, Walked, stuck-at, counted, keep-miss, after-miss, after-end, and-then, each-reading, run-action, walk, walk-item, walk-branch, table-step, first-missed, missed-in, end-of, judged, walked}
 use Rattle.meaning.specs.Judging.{Judgement, ended, within, judge-settled, judge}
+use Rattle.meaning.specs.Derivations.{Line, line-at, read-derivation, overlap-in-lines, check-lines, check-last, check-derivation, answer, accepted-if, check-settled, check}
 use Rattle.meaning.proofs.PickLaws.{pick-has}
 
 -- The places that are at most `most`.
@@ -23,10 +25,14 @@ module _ (most : ℕ) where
   At-most nowhere = Unit {0}
   At-most (at p) = p ≤ most
 
+  module _ {A : Type 0} (so : A → Type 0) where
+    abbrev Each : List A → Type 0
+    Each [] = Unit {0}
+    Each (x ∷ xs) = so x × Each xs
+
   module _ {A : Type 0} (place : A → ℕ) where
     abbrev Each-within : List A → Type 0
-    Each-within [] = Unit {0}
-    Each-within (x ∷ xs) = (place x ≤ most) × Each-within xs
+    Each-within xs = Each (λ (x : A). place x ≤ most) xs
 
   abbrev mutual
     Plan-within : Sequence ℕ → Type 0
@@ -50,6 +56,11 @@ module _ (most : ℕ) where
     plan : Plan-within (r .plan)
     goals : Each-within (λ (e : Entry). e .place) (r .goals)
     whether : Each-within (λ (e : Entry). e .place) (r .whether)
+    whether-place : r .whether-place ≤ most
+
+  record Line-within (l : Line) : Type 0 where
+    here : l .place ≤ most
+    plan : Plan-within (l .c)
 
   -- What a reader gives stops within the limit and is as said of it and of where it stops; and a fault is placed there.
   module _ {A : Type 0} where
@@ -119,16 +130,16 @@ module _ (most : ℕ) where
         by-next (One p) _ (count-at 0 limit s p) _ (count-held 0 limit p) λ c q fits is.
         rw is (entries-held kind n c (p + 1) 0 (omega (arith, fits, is)))
 
-    module _ {A : Type 0} (place : A → ℕ) (line : ℕ → Got A) (held : (p : ℕ) → Held (λ (x : A) (q : ℕ). place x ≤ most) (line p)) where
-      repeated-held : (left p : ℕ) → p ≤ most → Held (λ (xs : List A) (q : ℕ). Each-within place xs) (repeated line left p)
+    module _ {A : Type 0} (so : A → Type 0) (line : ℕ → Got A) (held : (p : ℕ) → Held (λ (x : A) (q : ℕ). so x) (line p)) where
+      repeated-held : (left p : ℕ) → p ≤ most → Held (λ (xs : List A) (q : ℕ). Each so xs) (repeated line left p)
       unfolding repeated
       repeated-held zero p fits = (fits, tt)
       repeated-held (suc left) p fits =
-          by-next (λ (x : A) (q : ℕ). place x ≤ most) _ (line p) _ (held p) λ x q fits₁ here.
-          by-next (λ (xs : List A) (q : ℕ). Each-within place xs) _ (repeated line left q) _ (repeated-held left q fits₁) λ xs r fits₂ rest.
+          by-next (λ (x : A) (q : ℕ). so x) _ (line p) _ (held p) λ x q fits₁ here.
+          by-next (λ (xs : List A) (q : ℕ). Each so xs) _ (repeated line left q) _ (repeated-held left q fits₁) λ xs r fits₂ rest.
           (fits₂, (here, rest))
 
-      section-held : (p : ℕ) → Held (λ (xs : List A) (q : ℕ). Each-within place xs) (section-at line s p)
+      section-held : (p : ℕ) → Held (λ (xs : List A) (q : ℕ). Each so xs) (section-at line s p)
       unfolding section-at
       section-held p = by-next (One p) _ (byte-at s p) _ (byte-held p) λ c q fits _. repeated-held c q fits
 
@@ -203,6 +214,18 @@ module _ (most : ℕ) where
       unfolding plan-at
       plan-held p here = sequence-held _ (branching-held (lim .nested)) p 0 here
 
+      -- A line of a derivation.
+      line-held : (p : ℕ) → Held (λ (l : Line) (q : ℕ). Line-within l) (line-at lim n m s p)
+      unfolding line-at
+      line-held p =
+          by-next (Long (p + 1)) _ (list-at literals n (lim .listed) s p) _ (list-held literals n (lim .listed) p) λ X q fits long.
+          by-next _ _ (plan-at lim n m s q) _ (plan-held q fits) λ plan r _ inside.
+          by-next (Long (r + 1)) _ (list-at literals n (lim .listed) s r) _ (list-held literals n (lim .listed) r) λ Y t _ _.
+          by-next (One t) _ (byte-at s t) _ (byte-held t) λ rule u _ _.
+          by-next (One u) _ (count-at 0 (lim .citations) s u) _ (count-held 0 (lim .citations) u) λ k v fits₂ _.
+          by-next _ _ (repeated (two-bytes-at s) k v) _ (repeated-held (λ (x : ℕ). Unit {0}) (two-bytes-at s) two-bytes-held k v fits₂) λ cites e fits₃ _.
+          (fits₃, record { here = omega (arith, fits, long); plan = inside })
+
     -- The table, and the rest after it.
     placed-within : (p : ℕ) (xs : List ℕ) → p + length xs ≤ most → Each-within (λ (e : Entry). e .place) (placed p xs)
     unfolding placed
@@ -216,9 +239,9 @@ module _ (most : ℕ) where
           by-next _ _ (count-at 1 (lim .fluents) s start) _ (count-held 1 (lim .fluents) start) λ n p _ _.
           by-next _ _ (count-at 1 (lim .actions) s p) _ (count-held 1 (lim .actions) p) λ m q _ _.
           by-next _ _ (list-at literals n (lim .listed) s q) _ (list-held literals n (lim .listed) q) λ facts r _ _.
-          by-next _ _ (section-at (effect-at lim n m s) s r) _ (section-held (λ (e : Effect). e .place) _ (effect-held lim n m) r) λ es t _ effects.
-          by-next _ _ (section-at (executability-at lim n m s) s t) _ (section-held (λ (e : Executability). e .place) _ (executability-held lim n m) t) λ xs u _ _.
-          by-next _ _ (section-at (knowledge-at lim n m s) s u) _ (section-held (λ (k : Knowledge). k .place) _ (knowledge-held lim n m) u) λ ks e fits knowledge.
+          by-next _ _ (section-at (effect-at lim n m s) s r) _ (section-held (λ (e : Effect). e .place ≤ most) _ (effect-held lim n m) r) λ es t _ effects.
+          by-next _ _ (section-at (executability-at lim n m s) s t) _ (section-held (λ (e : Executability). e .place ≤ most) _ (executability-held lim n m) t) λ xs u _ _.
+          by-next _ _ (section-at (knowledge-at lim n m s) s u) _ (section-held (λ (k : Knowledge). k .place ≤ most) _ (knowledge-held lim n m) u) λ ks e fits knowledge.
           (fits, record { effects = effects; knowledge = knowledge })
 
       request-held : (t : Table) (p : ℕ) → Table-within t → p ≤ most → Held (λ (r : Request) (q : ℕ). Request-within r) (request-at lim s t p)
@@ -233,6 +256,7 @@ module _ (most : ℕ) where
               plan = plan;
               goals = placed-within (p + 1) gs (omega (arith, fits, goals));
               whether = placed-within (q + 1) ws (omega (arith, fits₂, whether));
+              whether-place = fits;
             },
           )
 
@@ -351,6 +375,31 @@ module _ (most : ℕ) where
   settled-within lim lent budget (got r e) h = pick-has Answer-within _ _ _ (λ _. omega arith) (λ _. ended-within lent _ _ (walked-within r (h .1) (first-state lim (r .table))))
   settled-within lim lent budget (fault n p) h = h
 
+  -- A DERIVATION.
+  overlap-lines-within : (ls : List Line) → Each Line-within ls → At-most (overlap-in-lines ls)
+  unfolding overlap-in-lines
+  overlap-lines-within [] h = tt
+  overlap-lines-within (l ∷ ls) h = or-within (overlap-in (l .c)) _ (overlap-within (l .c) (h .0 .plan)) (overlap-lines-within ls (h .1))
+
+  abbrev Checked : Got (Unit {0}) → Type 0
+  Checked = Held (λ (x : Unit {0}) (q : ℕ). Unit {0})
+
+  lines-checked : (lim : Limits) (t : Table) (lines : List Line) (i : ℕ) (ls : List Line) → Each Line-within ls → Checked (check-lines lim t lines i ls)
+  unfolding check-lines
+  lines-checked lim t lines i [] h = (omega arith, tt)
+  lines-checked lim t lines i (l ∷ ls) h =
+      pick-has Checked _ _ _ (λ _. h .0 .here) λ _.
+      pick-has Checked _ _ _ (λ _. h .0 .here) λ _.
+      pick-has Checked _ _ _ (λ _. h .0 .here) λ _.
+      pick-has Checked _ _ _ (λ _. h .0 .here) λ _.
+      lines-checked lim t lines (i + 1) ls (h .1)
+
+  last-checked : (r : Request) (ls : List Line) → Each Line-within ls → Checked (check-last r ls)
+  unfolding check-last
+  last-checked r [] h = (omega arith, tt)
+  last-checked r (l ∷ []) h = pick-has Checked _ _ _ (λ _. (omega arith, tt)) (λ _. h .0 .here)
+  last-checked r (l ∷ (k ∷ ls)) h = last-checked r (k ∷ ls) (h .1)
+
 module _ (lim : Limits) (s : List ℕ) where
   abbrev Read-within : Request → ℕ → Type 0
   Read-within r q = Request-within (lim .request) r
@@ -381,3 +430,50 @@ module _ (lim : Limits) (s : List ℕ) where
 -- So it takes 16 bits.
 pub place-small : (s lent : List ℕ) (budget : ℕ) → judge format s lent budget .answer .place < 65536
 place-small s lent budget = let most = place-within format s lent budget in omega (arith, most)
+
+-- THE DERIVATION CALL.
+module _ (lim : Limits) (r : Request) (d : List ℕ) where
+  abbrev Lines-within : List Line → ℕ → Type 0
+  Lines-within ls q = Each (lim .derivation) (Line-within (lim .derivation)) ls
+
+  derivation-held : (n m : ℕ) → Held (lim .derivation) Lines-within (read-derivation lim n m d)
+  unfolding read-derivation
+  derivation-held n m =
+      pick-has (Held (lim .derivation) Lines-within) _ _ _ (λ _. omega arith) λ f.
+      let short = ltb-false (lim .derivation) (length d) f in
+      by-next (lim .derivation) (λ (x q : ℕ). Unit {0}) _ (two-bytes-at d 0) _ (two-bytes-held (lim .derivation) d short 0) λ c p fits _.
+      pick-has (Held (lim .derivation) Lines-within) _ _ _ (λ _. omega arith) λ _.
+      by-next (lim .derivation) Lines-within _ (repeated (line-at lim n m d) c p) _
+      (repeated-held (lim .derivation) d short (Line-within (lim .derivation)) (line-at lim n m d) (line-held (lim .derivation) d short lim n m) c p fits) λ ls e fits₂ so.
+      pick-has (Held (lim .derivation) Lines-within) _ _ _ (λ _. fits₂) (λ _. (fits₂, so))
+
+  derivation-checked : Checked (lim .derivation) (check-derivation lim r d)
+  unfolding check-derivation
+  derivation-checked =
+      by-next (lim .derivation) Lines-within _ (read-derivation lim (r .table .fluents) (r .table .actions) d) _ (derivation-held (r .table .fluents) (r .table .actions)) λ ls e _ so.
+      by-refuse (lim .derivation) (λ (x : Unit {0}) (q : ℕ). Unit {0}) _ _ _ (overlap-lines-within (lim .derivation) ls so)
+      (by-next (lim .derivation) (λ (x : Unit {0}) (q : ℕ). Unit {0}) _ (check-lines lim (r .table) ls 0 ls) _ (lines-checked (lim .derivation) lim (r .table) ls 0 ls so) λ _ _ _ _.
+      last-checked (lim .derivation) r ls so)
+
+-- Whatever the request and the derivation, the place is at most the one limit or the other.
+module _ (lim : Limits) (most : ℕ) (request : lim .request ≤ most) (derivation : lim .derivation ≤ most) where
+  abbrev Place-within : Answer → Type 0
+  Place-within a = a .place ≤ most
+
+  accepted-within : (x : Got (Unit {0})) → Checked (lim .derivation) x → Place-within (accepted-if x)
+  unfolding accepted-if answer
+  accepted-within (got x e) h = omega arith
+  accepted-within (fault n p) h = omega (arith, h, derivation)
+
+  check-settled-within : (d : List ℕ) (x : Got Request) → Held (lim .request) (λ (r : Request) (q : ℕ). Request-within (lim .request) r) x → Place-within (check-settled lim d x)
+  unfolding check-settled answer
+  check-settled-within d (got r e) h =
+      pick-has Place-within _ _ _ (λ _. let here = h .1 .whether-place in omega (arith, here, request)) (λ _. accepted-within (check-derivation lim r d) (derivation-checked lim r d))
+  check-settled-within d (fault n p) h = omega (arith, h, request)
+
+  pub check-place-within : (s d : List ℕ) → check lim s d .place ≤ most
+  unfolding check
+  check-place-within s d = check-settled-within d (settled lim s) (settled-held lim s)
+
+pub check-place-small : (s d : List ℕ) → check format s d .place < 65536
+check-place-small s d = let most = check-place-within format 32768 (omega arith) (omega arith) s d in omega (arith, most)

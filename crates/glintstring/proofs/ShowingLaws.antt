@@ -1,5 +1,5 @@
 -- A part from a place on has what is left there, and beyond the end nothing, at the end. Assumes nothing.
-use Prim.Native.Nat.{ℕ, _+_, _-_, _≤_, _<_, min}
+use Prim.Native.Nat.{ℕ, _+_, _-_, _/_, _%_, _≤_, _<_, min}
 use native.Mathlib.Omega.{arith}
 use mathlib.Core.Path.{_≡_, refl, sym, _∙_, ap}
 use mathlib.Core.Bool.{true, false}
@@ -13,6 +13,7 @@ use Rattle.meaning.specs.Tests.{pick}
 use Rattle.meaning.specs.Limits
 use Rattle.meaning.specs.Showing.{Part, part-from, show}
 use Rattle.meaning.proofs.TestLaws.{pick-true, pick-false}
+use Rattle.glintstring.specs.Packing.{unpacked}
 use Rattle.glintstring.specs.Showing.{chosen}
 
 -- What is left from a place on, as the code takes it.
@@ -84,3 +85,17 @@ module _ (a : Answer) (request derivation : List ℕ) where
       let none : show a request derivation .start ≡ 0 = ap (λ (p : Part). p .start) (named-neither one two) in
       let same : x ≡ chosen a x y = chosen-request x y two in
       omega arith
+
+-- AN ANSWER IN ONE NUMBER.
+module _ (n : ℕ) (request derivation : List ℕ) where
+  pub starts-in-request : n / 256 % 256 ≡ 1 → (r : ℕ) → r ≡ min (n / 65536 % 65536) (length request) → r ≡ show (unpacked n) request derivation .start
+  unfolding unpacked part-from
+  starts-in-request is r e = e ∙ sym (ap (λ (p : Part). p .start) (named-request (unpacked n) request derivation is))
+
+  pub starts-in-derivation : n / 256 % 256 ≡ 2 → (r : ℕ) → r ≡ min (n / 65536 % 65536) (length derivation) → r ≡ show (unpacked n) request derivation .start
+  unfolding unpacked part-from
+  starts-in-derivation is r e = e ∙ sym (ap (λ (p : Part). p .start) (named-derivation (unpacked n) request derivation is))
+
+  pub starts-in-neither : (n / 256 % 256 ≡ 1 → ⊥) → (n / 256 % 256 ≡ 2 → ⊥) → 0 ≡ show (unpacked n) request derivation .start
+  unfolding unpacked
+  starts-in-neither one two = sym (ap (λ (p : Part). p .start) (named-neither (unpacked n) request derivation one two))

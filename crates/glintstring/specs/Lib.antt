@@ -1,3 +1,4 @@
 pub mod Telling
 pub mod Showing
 pub mod Packing
+pub mod Derivations

@@ -14,3 +14,5 @@ pub const NEITHER_INPUT: u8 = 0;
 pub const THE_REQUEST: u8 = 1;
 
 pub const THE_DERIVATION: u8 = 2;
+
+pub const WHETHER_ASKED: u8 = 30;

@@ -1,9 +1,13 @@
 // The calls under the names by which other languages link them.
 ghost use mathlib.Core.Path.{_≡_};
-ghost use Prim.Native.Nat.{_<_};
+ghost use Prim.Native.Nat.{_<_, min};
 ghost use Rattle.meaning.specs.Limits.{format};
 ghost use Rattle.meaning.specs.Judging.{judge};
-ghost use Rattle.glintstring.specs.Packing.{packed};
+ghost use Rattle.meaning.specs.Derivations.{check};
+ghost use Rattle.meaning.specs.Showing.{show};
+ghost use Rattle.glintstring.specs.Packing.{packed, unpacked};
+use super::answers;
+use super::derivations::check;
 use super::judging::judge;
 use meaning::Answer;
 
@@ -25,4 +29,36 @@ pub extern "C" fn glintstring_judge(request: &[u8], state: &mut [u8], budget: u3
     ensures { λ _. ⌜ now (state .exit) ≡ judge format (now (request .entry)) (now (state .entry)) budget .state ⌝ }
 {
     pack(judge(request, state, budget))
+}
+
+// The derivation call, with its answer in one number. It may be called with anything.
+#[no_mangle]
+pub extern "C" fn glintstring_check(request: &[u8], derivation: &[u8]) -> u64
+    ensures { λ r. ⌜ r ≡ packed (check format (now (request .entry)) (now (derivation .entry))) ⌝ }
+{
+    pack(check(request, derivation))
+}
+
+// The smaller of two numbers.
+fn smaller(a: u64, b: u64) -> u64
+    ensures { λ r. ⌜ r ≡ min a b ⌝ }
+{
+    if b < a { b } else { a }
+}
+
+// The showing call, of an answer in one number: where, in the input that it names, the part starts. The part goes on to that input's end;
+// an answer that names neither shows the empty part at the start. It may be called with anything.
+#[no_mangle]
+pub extern "C" fn glintstring_show(answer: u64, request: &[u8], derivation: &[u8]) -> u64
+    ensures { λ r. ⌜ r ≡ show (unpacked answer) (now (request .entry)) (now (derivation .entry)) .start ⌝ }
+{
+    let input = answer / 256 % 256;
+    let place = answer / 65536 % 65536;
+    if input == answers::THE_REQUEST as u64 {
+        return smaller(place, request.len() as u64);
+    }
+    if input == answers::THE_DERIVATION as u64 {
+        return smaller(place, derivation.len() as u64);
+    }
+    0
 }

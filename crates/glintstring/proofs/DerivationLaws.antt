@@ -1,0 +1,169 @@
+-- The derivation call, a law for each way that it returns: the whether list stands behind the goals, and is asked by its count. Assumes nothing.
+use Prim.Native.Nat.{ℕ, _+_, _-_, _≤_, _<_}
+use native.Mathlib.Omega.{arith}
+use mathlib.Core.Path.{_≡_, refl, sym, _∙_, ap, subst}
+use mathlib.Core.Bool.{true, false}
+use mathlib.Core.List.{List, [], _∷_}
+use lib.ListN.{length, getD}
+use mir.Syntax.{w64}
+use mir.Val.{Fits}
+use Rattle.meaning.specs.declared.Answer.{Answer}
+use Rattle.meaning.specs.Tests.{pick, some-of, either}
+use Rattle.meaning.specs.Limits
+use Rattle.meaning.specs.Limits.{format}
+use Rattle.meaning.specs.Requests.{Table, Entry, Request}
+use Rattle.meaning.specs.Reading
+use Rattle.meaning.specs.Reading.{Got, got, fault, literals, list-at, placed, plan-at, table-at, request-at, read-request}
+use Rattle.meaning.specs.Refusals.{settled}
+use Rattle.meaning.specs.Derivations.{check-derivation, answer, accepted-if, check-settled, check}
+use Rattle.meaning.proofs.TestLaws.{pick-true, pick-false}
+use Rattle.meaning.proofs.SettledLaws.{got-same, settled-is}
+use Rattle.meaning.proofs.RangeLaws.{not-refused, after-got}
+use Rattle.bytes.specs.declared.lists.Passed.{Passed}
+use Rattle.bytes.specs.declared.lists.Passed.the-variants.{To, Fault as Stop}
+use Rattle.bytes.specs.Read.{passed}
+use Rattle.bytes.proofs.ListLaws.{passed-to, passed-stop}
+use Rattle.reading.specs.Noted.{noting, outcome}
+use Rattle.reading.specs.Listed.{listed}
+use Rattle.reading.specs.Requested.{goals-place, request-noted}
+use Rattle.reading.proofs.SectionLaws.{noting-got, noting-fault}
+use Rattle.reading.proofs.PlanSizes.{list-through}
+use Rattle.reading.proofs.RequestLaws.{placed-length}
+use Rattle.refusing.specs.Settled.{blank}
+use Rattle.refusing.proofs.PlanOverlaps.{listed-length}
+use Rattle.refusing.proofs.SettleLaws.{blank-long}
+use Rattle.steps.specs.AtHand.{request-of, request-in, At-hand}
+use Rattle.steps.specs.Lines.{Ends, goals-in, whether-in}
+use Rattle.steps.proofs.Served.{ends-at-hand}
+use Rattle.steps.proofs.SlotLaws.{goals-noted}
+use Rattle.refusing.proofs.ReadLaws.{parts}
+use Rattle.glintstring.specs.Derivations.{check-at-hand}
+
+-- THE WHETHER LIST stands behind the goals.
+request-room : (s : List ℕ) (t : Table) (p : ℕ) (y : Request) (q : ℕ) → request-at format s t p ≡ got y q → 1 + length (y .goals) ≤ y .whether-place
+unfolding request-at
+request-room s t p y q e =
+    after-got (plan-at format (t .fluents) (t .actions) s p) _ e λ plan q₁ _ v₁.
+    after-got (list-at literals (t .fluents) 64 s q₁) _ v₁ λ goals q₂ egoals v₂.
+    after-got (list-at Reading.fluents (t .fluents) 64 s q₂) _ v₂ λ whether q₃ _ v₃.
+    let ends = list-through s literals (t .fluents) 64 q₁ .holds goals q₂ egoals .after in
+    let sized = placed-length (q₁ + 1) goals in
+    subst on v₃ (omega arith)
+  where
+    on : Got Request → Type 0
+    on (got x i) = 1 + length (x .goals) ≤ x .whether-place
+    on (fault n i) = Unit {0}
+
+whether-room : (s : List ℕ) (x : Request) (e : ℕ) → read-request format s ≡ got x e → 1 + length (x .goals) ≤ x .whether-place
+unfolding read-request
+whether-room s x e read =
+    after-got (table-at format s 0) _ (not-refused _ _ _ _ read .1) λ t p et e₁.
+    after-got (request-at format s t p) _ e₁ λ y q ey e₂.
+    subst (λ (z : Request). 1 + length (z .goals) ≤ z .whether-place) (got-same (not-refused _ _ _ _ e₂ .1)) (request-room s t p y q ey)
+
+module _ (s t : List ℕ) (here : At-hand s t) where
+  -- The request at hand is the one that was read.
+  request-is : request-in s ≡ here .read .request
+  unfolding request-in request-of
+  request-is = ap request-of (here .read .reads)
+
+  goals-there : goals-in t ≡ goals-place (request-in s)
+  unfolding goals-in
+  goals-there =
+      ap (λ (u : List ℕ). getD u 5381 0) (here .read .noted)
+      ∙ goals-noted s (here .bytes) (here .read .request) (parts s (here .read .request) (here .end) (here .read .reads))
+      ∙ ap goals-place (sym request-is)
+
+  goals-long : length (request-in s .goals) ≡ getD s (goals-in t) 0
+  goals-long =
+      ap length (sym (ends-at-hand s t here .goals-same))
+      ∙ placed-length (goals-in t + 1) (listed s (goals-in t))
+      ∙ listed-length s (goals-in t)
+
+  whether-there : whether-in s t ≡ request-in s .whether-place
+  unfolding whether-in goals-place
+  whether-there =
+      let room = subst (λ (z : Request). 1 + length (z .goals) ≤ z .whether-place) (sym request-is) (whether-room s (here .read .request) (here .end) (here .read .reads)) in
+      let at = goals-there in
+      let long = goals-long in
+      omega arith
+
+  -- THE READS of the code.
+  module _ (goals : ℕ) (slot : goals ≡ getD t 5381 0) where
+    is-goals : goals ≡ goals-in t
+    unfolding goals-in
+    is-goals = slot
+
+    pub goals-inside : goals < length s
+    goals-inside = let ends = ends-at-hand s t here .goals-here .ends in let is = is-goals in omega arith
+
+    pub after-fits : Fits w64 (length s) → Fits w64 (goals + 1)
+    after-fits long = let most = long .fits in let inside = goals-inside in record { fits = omega arith }
+
+    module _ (x : ℕ) (count : x ≡ getD s goals 0) where
+      is-whether : goals + 1 + x ≡ whether-in s t
+      unfolding whether-in
+      is-whether = rw (count, is-goals)
+
+      pub whether-inside : goals + 1 + x < length s
+      whether-inside = let ends = ends-at-hand s t here .whether-here .ends in let is = is-whether in omega arith
+
+      pub whether-fits : Fits w64 (length s) → Fits w64 (goals + 1 + x)
+      whether-fits long = let most = long .fits in let inside = whether-inside in record { fits = omega arith }
+
+-- A list is asked where it has an entry.
+some-asked : (ws : List Entry) → 0 < length ws → some-of (λ (w : Entry). true) ws ≡ true
+unfolding some-of either
+some-asked [] h = absurd (omega arith)
+some-asked (w ∷ ws) h = refl
+
+none-asked : (ws : List Entry) → length ws ≤ 0 → some-of (λ (w : Entry). true) ws ≡ false
+unfolding some-of
+none-asked [] h = refl
+none-asked (w ∷ ws) h = absurd (omega arith)
+
+module _ (s t : List ℕ) (here : At-hand s t) (d : List ℕ) (goals : ℕ) (slot : goals ≡ getD t 5381 0) (x : ℕ) (count : x ≡ getD s goals 0) (asked : ℕ) (whether : asked ≡ getD s (goals + 1 + x) 0) where
+  asked-long : length (request-in s .whether) ≡ asked
+  asked-long =
+      ap length (sym (ends-at-hand s t here .whether-same))
+      ∙ placed-length (whether-in s t + 1) (listed s (whether-in s t))
+      ∙ listed-length s (whether-in s t)
+      ∙ ap (λ (p : ℕ). getD s p 0) (sym (is-whether s t here goals slot x count))
+      ∙ sym whether
+
+  -- 30.
+  pub check-30 : 0 < asked → record { number = 30; input = 1; place = goals + 1 + x; count = 0 } ≡ check-at-hand (request-in s) d
+  unfolding check-at-hand check-settled answer
+  check-30 some =
+      let place : goals + 1 + x ≡ request-in s .whether-place = is-whether s t here goals slot x count ∙ whether-there s t here in
+      let long = asked-long in
+      ap (λ (p : ℕ). answer 30 1 p) place ∙ sym (pick-true _ _ _ (some-asked (request-in s .whether) (omega arith)))
+
+  module _ (none : asked ≤ 0) where
+    check-goes : check-at-hand (request-in s) d ≡ accepted-if (check-derivation format (request-in s) d)
+    unfolding check-at-hand check-settled
+    check-goes = let long = asked-long in pick-false _ _ _ (none-asked (request-in s .whether) (omega arith))
+
+    module _ (r : Passed) (is : r ≡ passed (check-derivation format (request-in s) d)) where
+      -- Accepted.
+      pub check-accepts : (e : ℕ) → r ≡ To e → record { number = 0; input = 0; place = 0; count = 0 } ≡ check-at-hand (request-in s) d
+      unfolding accepted-if answer
+      check-accepts e passes = sym (check-goes ∙ ap accepted-if (passed-to (check-derivation format (request-in s) d) e (sym is ∙ passes) .1))
+
+      -- Refused.
+      pub check-refuses : (k p : ℕ) → r ≡ Stop k p → record { number = k; input = 2; place = p; count = 0 } ≡ check-at-hand (request-in s) d
+      unfolding accepted-if answer
+      check-refuses k p stops = sym (check-goes ∙ ap accepted-if (passed-stop (check-derivation format (request-in s) d) k p (sym is ∙ stops)))
+
+-- THE CALL.
+module _ (s d t u : List ℕ) (r : Passed) (settles : outcome r u ≡ noting request-noted (settled format s) t) where
+  pub check-settled-first : (k p : ℕ) → r ≡ Stop k p → record { number = k; input = 1; place = p; count = 0 } ≡ check format s d
+  unfolding check check-settled answer
+  check-settled-first k p stops = sym (ap (check-settled format d) (noting-fault request-noted (settled format s) r t u settles k p stops))
+
+  pub check-then : (e : ℕ) → r ≡ To e → (a : Answer) → a ≡ check-at-hand (request-in s) d → a ≡ check format s d
+  unfolding check check-at-hand check-settled request-in request-of
+  check-then e passes a is =
+      let all = noting-got request-noted (settled format s) r t u settles e passes in
+      let reads = settled-is format s (all .0) e (all .1) .reads in
+      is ∙ ap (λ (z : Request). check-settled format d (got z 0)) (ap request-of reads) ∙ sym (ap (check-settled format d) (all .1))
