@@ -1,9 +1,9 @@
 /*
  * Glintstring: a proved verifier of conditional upgrade plans.
  *
- * A request has a domain table, a plan and goals in its bytes, a derivation has lines that show that the plan reaches them;
- * docs/FORMAT.md is the format, and numbers such as FORMAT 4.3 are those of its sentences. docs/STATEMENTS.md says what is proved of each call. Link libglintstring.a, which
- * `rt staticlib glintstring` writes for x86-64 Linux. C99 or later, or C++.
+ * A request has a domain table, a plan and goals in its bytes, and a derivation has lines by which the plan reaches them;
+ * docs/FORMAT.md is the format, and numbers such as FORMAT 4.3 are those of its sentences. docs/STATEMENTS.md says what is
+ * proved of each call. Link libglintstring.a, which `rt staticlib glintstring` writes for x86-64 Linux. C99 or later, or C++.
  */
 #ifndef GLINTSTRING_H
 #define GLINTSTRING_H
