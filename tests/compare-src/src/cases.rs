@@ -123,7 +123,7 @@ const DERIVATION_ROWS: [DerivationRow; 20] = [
     ("4.20", "14, with the whether entry", true, Nine("2 0 2 0 7"), [30, 1, 46]),
     ("5.21", "30 before the derivation's length", true, Zeros(32_769), [30, 1, 46]),
     ("5.22", "too long", false, Zeros(32_769), [10, 2, 0]),
-    ("3.10", "32,768 zeros, which are read", false, Zeros(32_768), [12, 2, 0]),
+    ("3.11", "32,768 zeros, which are read", false, Zeros(32_768), [12, 2, 0]),
     ("4.9", "no byte", false, These(""), [11, 2, 0]),
     ("5.13", "one byte of the line count", false, These("5"), [11, 2, 1]),
     ("4.35", "no line", false, These("0 0"), [12, 2, 0]),

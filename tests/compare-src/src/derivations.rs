@@ -5,7 +5,7 @@ use std::collections::BTreeMap;
 use oracle::calls::{any_check_call, check_call, derivable, CheckCall};
 use oracle::encode::{encode_derivation, encode_request};
 use oracle::generate::{any_request, SMALL};
-use oracle::model::{Item, Request};
+use oracle::model::{Item, Line, Request};
 use oracle::prove::{free, many_readings, natural, pad};
 use oracle::reader::{DERIVATION_LIMIT, ITEM_LIMIT, LINE_LIMIT, REQUEST_LIMIT};
 use oracle::rng::Rng;
@@ -94,6 +94,11 @@ fn any_check(rng: &mut Rng) -> Check {
             lines[index].sequence = vec![Item::act(0); rng.range(ITEM_LIMIT - 2, ITEM_LIMIT + 2)];
             check = Check { request: encode_request(&draft).bytes, derivation: encode_derivation(&lines).bytes };
         }
+        22..=26 => {
+            let (draft, mut lines) = derivable(rng, &SMALL);
+            nearly(rng, draft.fluents, &mut lines);
+            check = Check { request: encode_request(&draft).bytes, derivation: encode_derivation(&lines).bytes };
+        }
         _ => {}
     }
     check
@@ -120,4 +125,50 @@ fn of_any(rng: &mut Rng, source: fn(&mut Rng) -> Request) -> Check {
             return plain(any_check_call(rng, &draft, &lines));
         }
     }
+}
+
+/// Adds lines that follow, or nearly, and the question once more: a line joined with the empty plan at its start or its end, where the lists in
+/// the middle are the same or one has an entry more than the other; or a line that cites each of its lines twice.
+fn nearly(rng: &mut Rng, fluents: u8, lines: &mut Vec<Line>) {
+    let index = rng.below(lines.len());
+    let (cited, number) = (lines[index].clone(), lines.len() as u16);
+    if number as usize + 3 > LINE_LIMIT {
+        return;
+    }
+    let empty = |list: &[u8]| Line { before: list.to_vec(), after: list.to_vec(), sequence: Vec::new(), rule: 1, cites: Vec::new(), ..cited };
+    let question = Line { rule: 6, cites: vec![number - 1], ..lines[number as usize - 1].clone() };
+    let turns = rng.below(3);
+    match rng.below(5) {
+        0 | 1 => {
+            let middle = other(rng, fluents, &cited.before, turns);
+            lines.push(empty(&middle));
+            lines.push(Line { before: middle, rule: 5, cites: vec![number, index as u16], ..cited });
+        }
+        2 | 3 => {
+            let middle = other(rng, fluents, &cited.after, turns);
+            lines.push(empty(&middle));
+            lines.push(Line { after: middle, rule: 5, cites: vec![index as u16, number], ..cited });
+        }
+        _ => {
+            if let Some(line) = lines.iter().find(|line| line.rule == 3 && line.cites.len() <= 32) {
+                lines.push(Line { cites: line.cites.repeat(2), ..line.clone() });
+            }
+        }
+    }
+    lines.push(question);
+}
+
+/// The list itself, or one with an entry more, or one with an entry less.
+fn other(rng: &mut Rng, fluents: u8, list: &[u8], turns: usize) -> Vec<u8> {
+    let mut list = list.to_vec();
+    let unsaid: Vec<u8> = (0..fluents).filter(|fluent| list.iter().all(|literal| literal / 2 != *fluent)).collect();
+    match turns {
+        1 if !unsaid.is_empty() => {
+            list.push(2 * rng.pick(&unsaid) + rng.byte(0, 1));
+            list.sort_unstable();
+        }
+        2 if !list.is_empty() => _ = list.remove(rng.below(list.len())),
+        _ => {}
+    }
+    list
 }
