@@ -1,9 +1,9 @@
 /*
  * Glintstring: a proved verifier of conditional upgrade plans.
  *
- * A request has a domain table, a plan and goals in its bytes; docs/FORMAT.md is the format, and numbers such as FORMAT 4.3
- * are those of its sentences. docs/STATEMENTS.md says what is proved of each call. Link libglintstring.a, which
- * `rt staticlib glintstring` writes for x86-64 Linux. C99 or later, or C++.
+ * A request has a domain table, a plan and goals in its bytes, and a derivation has lines by which the plan reaches them;
+ * docs/FORMAT.md is the format, and numbers such as FORMAT 4.3 are those of its sentences. docs/STATEMENTS.md says what is
+ * proved of each call. Link libglintstring.a, which `rt staticlib glintstring` writes for x86-64 Linux. C99 or later, or C++.
  */
 #ifndef GLINTSTRING_H
 #define GLINTSTRING_H
@@ -18,7 +18,7 @@ extern "C" {
 /* The length of the state that the walk call is lent. */
 #define GLINTSTRING_STATE_LENGTH 64
 
-/* Bytes of free stack that a call may need: 6 MiB (docs/STACK.md). */
+/* Bytes of free stack that a call may need: 6 MiB (docs/STACK.md, for the walk call; the others need less). */
 #define GLINTSTRING_STACK_NEEDED 6291456
 
 /* The marks of a fluent in a state. */
@@ -29,16 +29,23 @@ extern "C" {
 /* The input that an answer's place is in. */
 #define GLINTSTRING_NEITHER 0
 #define GLINTSTRING_REQUEST 1
+#define GLINTSTRING_DERIVATION 2
 
-/* The numbers of answers (FORMAT 4.3 to 4.19), each with what its place is. */
+/*
+ * The numbers of answers (FORMAT 4.3 to 4.25), each with what its place is. The walk call gives 0 to 3 and 9 to 21, the
+ * derivation call 0, 10 to 21 and 30 to 35. Of a derivation's faults 10 to 15 and 18 to 21 are told by the same numbers as a
+ * request's: the answer names the input.
+ */
 #define GLINTSTRING_VERIFIED 0                  /* the walk verifies the plan; place 0 */
+#define GLINTSTRING_ACCEPTED 0                  /* the derivation call: the derivation is accepted; place 0 */
 #define GLINTSTRING_GOAL_MISSED 1               /* all paths can be run to their ends, and an end state misses a goal or a whether
                                                    entry; the first entry missed in the first such state */
 #define GLINTSTRING_NOT_EXECUTABLE 2            /* a path comes to an item that cannot be run; that item */
 #define GLINTSTRING_BUDGET_SPENT 3              /* the walk counts to more than the budget; place 0 */
 #define GLINTSTRING_STATE_LENGTH_WRONG 9        /* the lent state has another length than 64 bytes; place 0 */
-#define GLINTSTRING_TOO_LONG 10                 /* the request has more than 16,384 bytes; place 0 */
-#define GLINTSTRING_INPUT_ENDS 11               /* the request ends where a byte is due; its length */
+#define GLINTSTRING_TOO_LONG 10                 /* the request has more than 16,384 bytes, or the derivation more than
+                                                   32,768; place 0 */
+#define GLINTSTRING_INPUT_ENDS 11               /* the input ends where a byte is due; its length */
 #define GLINTSTRING_COUNT_NOT_WITHIN_LIMITS 12  /* a count is not within its limits; the count */
 #define GLINTSTRING_TOO_LARGE 13                /* a byte is too large for its fluent, literal or action; that byte */
 #define GLINTSTRING_NOT_LARGER 14               /* a list's entry is not larger than its predecessor; that byte */
@@ -47,14 +54,21 @@ extern "C" {
 #define GLINTSTRING_EFFECTS_AND_KNOWLEDGE 17    /* an action has effect lines and knowledge lines; the first such of the latter */
 #define GLINTSTRING_NOT_EXCLUSIVE 18            /* a branching has two conditions that are not exclusive; its byte 255 */
 #define GLINTSTRING_TOO_DEEP 19                 /* a branching stands inside eight others; its byte 255 */
-#define GLINTSTRING_BYTES_LEFT_OVER 20          /* bytes are left over after the last section; the first of them */
-#define GLINTSTRING_TOO_MANY_ITEMS 21           /* the plan goes on to a 1,025th item; its first byte */
+#define GLINTSTRING_BYTES_LEFT_OVER 20          /* bytes are left over after the last section or line; the first */
+#define GLINTSTRING_TOO_MANY_ITEMS 21           /* a plan goes on to a 1,025th item; its first byte */
+#define GLINTSTRING_WHETHER_ASKED 30            /* the request has whether entries; the count byte of their list */
+#define GLINTSTRING_NO_RULE 31                  /* a line's rule byte is none of 1 to 6; the line */
+#define GLINTSTRING_CITES_NO_EARLIER_LINE 32    /* a line cites something that is not a line before it; the citing line */
+#define GLINTSTRING_CITATIONS_WRONG 33          /* a line has a number of citations that its rule does not take; the line */
+#define GLINTSTRING_DOES_NOT_FOLLOW 34          /* a line does not follow by its rule; the line */
+#define GLINTSTRING_NOT_THE_QUESTION 35         /* the last line differs from the question; the last line */
 
 /*
  * An answer comes packed into one number: number + 2^8 * input + 2^16 * place + 2^32 * count. These take it apart.
  *
  * The place is the number of bytes that stand before it in its input. The count is that of the walk (actions run and end
- * states judged) for answers 0, 1 and 2, the budget for 3, and 0 for all others.
+ * states judged) for answers 0, 1 and 2 of the walk call, the budget for 3, and 0 for all others, which an accepted
+ * derivation's 0 is among.
  */
 static inline uint8_t glintstring_number(uint64_t answer) { return (uint8_t)(answer & 255u); }
 static inline uint8_t glintstring_input(uint64_t answer) { return (uint8_t)((answer >> 8) & 255u); }
@@ -84,6 +98,43 @@ static inline uint32_t glintstring_count(uint64_t answer) { return (uint32_t)(an
  * The call keeps no pointer, takes nothing from the heap and has no memory of its own, so threads may call it at one time.
  */
 uint64_t glintstring_judge(const uint8_t *request, size_t request_length, uint8_t *state, size_t state_length, uint32_t budget);
+
+/*
+ * The derivation call: checks a derivation, line by line, of what a request asks.
+ *
+ * Promise (proved): for every request and derivation the call ends, and its answer is that of the format, to the last number.
+ * Any bytes may be given, of any length; a caller need not have tested anything. The answer is accepted (0) exactly where
+ * neither input is refused by 10 to 21, the request has no whether entry, each line follows by its rule from lines before it,
+ * and the last line is the question: the initial facts, the plan and the goals. Where it is accepted, the walk of the plan,
+ * without a budget, is verified, and the plan can be carried out, and reaches its goals, from every world that has the initial
+ * facts.
+ *
+ * The request is tested first, then that it asks no whether entry (30), then the derivation. There is no budget: a derivation
+ * can be short where the walk is too long to be walked.
+ *
+ * The caller sees to this:
+ *   - `request` may be read for request_length bytes and `derivation` for derivation_length bytes; nothing is written, and the
+ *     two may overlap. With length 0 any pointer will do, null too: it is not followed.
+ *   - there is free stack: GLINTSTRING_STACK_NEEDED bytes are enough by far, since the call goes no deeper than the 64 fluents
+ *     of a reading and eight branchings, however long the derivation is.
+ * The call keeps no pointer, takes nothing from the heap and has no memory of its own, so threads may call it at one time.
+ */
+uint64_t glintstring_check(const uint8_t *request, size_t request_length, const uint8_t *derivation, size_t derivation_length);
+
+/*
+ * The showing call: where the part starts that a packed answer is about, in the input that it names. The part goes on to that
+ * input's end.
+ *
+ * Promise (proved): for every answer, of either call or made by hand, and every two inputs, the call ends and gives that start
+ * as the format has it. Where glintstring_input(answer) is GLINTSTRING_REQUEST or GLINTSTRING_DERIVATION it is a place of the
+ * request or of the derivation: the answer's own, or the input's length where the answer's place is beyond its end. For every
+ * other answer it is 0, and the part is the empty one at the request's start. The start is never larger than the length of the
+ * input concerned. The number and the count are not looked at.
+ *
+ * The same goes for the pointers as for the derivation call; no byte of either input is read.
+ */
+uint64_t glintstring_show(uint64_t answer, const uint8_t *request, size_t request_length, const uint8_t *derivation,
+                          size_t derivation_length);
 
 #ifdef __cplusplus
 }

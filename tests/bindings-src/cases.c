@@ -6,6 +6,18 @@
 static const uint8_t file_a[48] = {4, 3, 3, 3, 5, 7, 3, 1, 2, 0, 1, 6, 1, 0, 2,   4, 0, 3, 0, 0, 1, 1, 3, 2,
                                    1, 2, 1, 0, 0, 0, 2, 0, 255, 2, 1, 1, 0, 2, 1, 2, 1, 0, 0, 0, 1, 7, 1, 2};
 
+/* The derivation of case 14, of nine lines. */
+static const uint8_t nine_lines[171] = {
+    0, 9, 4, 0, 3, 5, 7, 0, 0, 4, 0, 3, 5, 7, 1, 0,
+    4, 0, 3, 5, 7, 0, 0, 1, 7, 6, 1, 0, 0,
+    4, 0, 3, 5, 7, 0, 1, 255, 2, 1, 1, 0, 2, 1, 2, 1, 0, 0, 0, 1, 7, 4, 1, 0, 1,
+    4, 1, 3, 5, 7, 0, 1, 1, 4, 1, 2, 5, 7, 2, 0,
+    4, 1, 2, 5, 7, 0, 1, 2, 4, 1, 2, 4, 7, 2, 0,
+    4, 1, 3, 5, 7, 0, 2, 1, 2, 4, 1, 2, 4, 7, 5, 2, 0, 3, 0, 4,
+    4, 1, 3, 5, 7, 0, 2, 1, 2, 1, 7, 6, 1, 0, 5,
+    4, 1, 3, 5, 7, 0, 1, 255, 2, 1, 1, 0, 2, 1, 2, 1, 0, 0, 0, 1, 7, 4, 1, 0, 6,
+    3, 3, 5, 7, 0, 2, 0, 255, 2, 1, 1, 0, 2, 1, 2, 1, 0, 0, 0, 1, 7, 3, 2, 0, 2, 0, 7};
+
 static uint8_t state[GLINTSTRING_STATE_LENGTH];
 
 static int is(uint64_t answer, unsigned number, unsigned input, unsigned place, unsigned count) {
@@ -31,6 +43,8 @@ static int marked(uint8_t m0, uint8_t m1, uint8_t m2, uint8_t m3) {
 
 int main(void) {
     uint8_t other[64];
+    uint8_t turned[171];
+    uint64_t answer;
     memset(state, 9, sizeof state);
 
     if (!is(glintstring_judge(file_a, sizeof file_a, state, sizeof state, 100000), GLINTSTRING_VERIFIED, GLINTSTRING_NEITHER, 0, 5) || !untouched())
@@ -51,6 +65,29 @@ int main(void) {
         !marked(GLINTSTRING_UNKNOWN, GLINTSTRING_TRUE, GLINTSTRING_FALSE, GLINTSTRING_UNKNOWN))
         return puts("bindings: 6"), 1;
 
-    puts("bindings: 6 calls as the format says");
+    /* Case 14: File A without its whether entry, and its derivation. */
+    memcpy(other, file_a, 46);
+    other[46] = 0;
+    answer = glintstring_check(other, 47, nine_lines, sizeof nine_lines);
+    if (!is(answer, GLINTSTRING_ACCEPTED, GLINTSTRING_NEITHER, 0, 0) || glintstring_show(answer, other, 47, nine_lines, sizeof nine_lines) != 0)
+        return puts("bindings: 7"), 1;
+    answer = glintstring_check(file_a, sizeof file_a, nine_lines, sizeof nine_lines);
+    if (!is(answer, GLINTSTRING_WHETHER_ASKED, GLINTSTRING_REQUEST, 46, 0) ||
+        glintstring_show(answer, file_a, sizeof file_a, nine_lines, sizeof nine_lines) != 46)
+        return puts("bindings: 8"), 1;
+
+    /* The last line cites the two in the other order. */
+    memcpy(turned, nine_lines, sizeof turned);
+    turned[168] = 7;
+    turned[170] = 2;
+    answer = glintstring_check(other, 47, turned, sizeof turned);
+    if (!is(answer, GLINTSTRING_DOES_NOT_FOLLOW, GLINTSTRING_DERIVATION, 144, 0) ||
+        glintstring_show(answer, other, 47, turned, sizeof turned) != 144 || glintstring_show(answer, other, 47, turned, 100) != 100)
+        return puts("bindings: 9"), 1;
+    answer = glintstring_check(other, 47, NULL, 0);
+    if (!is(answer, GLINTSTRING_INPUT_ENDS, GLINTSTRING_DERIVATION, 0, 0) || glintstring_show(answer, NULL, 0, NULL, 0) != 0)
+        return puts("bindings: 10"), 1;
+
+    puts("bindings: 10 calls as the format says, and what is shown of their answers");
     return 0;
 }

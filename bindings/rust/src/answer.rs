@@ -14,7 +14,7 @@ impl Packed {
         self.0 as u8
     }
 
-    /// The input that the place is in: 1 the request, 0 neither.
+    /// The input that the place is in: 1 the request, 2 the derivation, 0 neither. An answer made by hand may have another number here.
     pub fn input(self) -> u8 {
         (self.0 >> 8) as u8
     }
@@ -28,6 +28,15 @@ impl Packed {
     pub fn count(self) -> u32 {
         (self.0 >> 32) as u32
     }
+}
+
+/// The input that a place is in.
+#[derive(Clone, Copy, Debug, PartialEq, Eq, Hash)]
+pub enum Input {
+    /// The request, 1.
+    Request,
+    /// The derivation, 2.
+    Derivation,
 }
 
 /// What is known of a fluent in a partial state.
@@ -88,14 +97,17 @@ impl State {
     }
 }
 
-/// An answer of the walk call. A place is a place of the request: the number of bytes that stand before it.
+/// An answer of the walk call or of the derivation call. A place is the number of bytes that stand before it in its input: the derivation for
+/// 31 to 35, the request or the derivation where the answer says which, and the request for all others.
 #[derive(Clone, Copy, Debug, PartialEq, Eq, Hash)]
 pub enum Answer {
-    /// 0: the walk verifies the plan.
+    /// 0 of the walk call: the walk verifies the plan.
     Verified {
         /// Actions run and end states judged.
         count: u32,
     },
+    /// 0 of the derivation call: the derivation is accepted.
+    Accepted,
     /// 1: all paths can be run to their ends, and at least one end state misses a goal or a whether entry.
     GoalMissed {
         /// The first entry missed in the first end state that misses any.
@@ -121,30 +133,43 @@ pub enum Answer {
     },
     /// 9: the lent state has another length than 64 bytes.
     StateLength,
-    /// 10: the request has more than 16,384 bytes.
-    TooLong,
-    /// 11: the request ends where a byte is due.
+    /// 10: the request has more than 16,384 bytes, or the derivation more than 32,768.
+    TooLong {
+        /// The one that is too long.
+        input: Input,
+    },
+    /// 11: the input ends where a byte is due.
     InputEnds {
-        /// The request's length.
+        /// The one that ends.
+        input: Input,
+        /// Its length.
         place: usize,
     },
     /// 12: a count is not within its limits.
     CountNotWithinLimits {
+        /// The one that has it.
+        input: Input,
         /// The count's byte.
         place: usize,
     },
     /// 13: a byte is too large for the fluent, literal or action it stands for.
     TooLarge {
+        /// The one that has it.
+        input: Input,
         /// That byte.
         place: usize,
     },
     /// 14: a list's entry is not larger than its predecessor.
     NotLarger {
+        /// The one that has it.
+        input: Input,
         /// That byte.
         place: usize,
     },
     /// 15: an entry of a list of literals is its predecessor's complement.
     Complement {
+        /// The one that has it.
+        input: Input,
         /// That byte.
         place: usize,
     },
@@ -160,28 +185,66 @@ pub enum Answer {
     },
     /// 18: a branching has two conditions that are not exclusive.
     NotExclusive {
+        /// The one that has it.
+        input: Input,
         /// Byte 255 of the earliest such branching.
         place: usize,
     },
     /// 19: a branching stands inside eight others.
     TooDeep {
+        /// The one that has it.
+        input: Input,
         /// Its byte 255.
         place: usize,
     },
-    /// 20: bytes are left over when the request's last section is read.
+    /// 20: bytes are left over when the request's last section or the derivation's last line is read.
     BytesLeftOver {
+        /// The one that has it.
+        input: Input,
         /// The first byte left over.
         place: usize,
     },
-    /// 21: the plan goes on to a 1,025th item.
+    /// 21: a plan goes on to a 1,025th item.
     TooManyItems {
+        /// The one that has it.
+        input: Input,
         /// That item's first byte.
+        place: usize,
+    },
+    /// 30: a derivation is offered for a request with whether entries.
+    WhetherAsked {
+        /// The count byte of the whether list, in the request.
+        place: usize,
+    },
+    /// 31: a line's rule byte is none of 1 to 6.
+    NoRule {
+        /// The line.
+        place: usize,
+    },
+    /// 32: a line cites something that is not a line before it.
+    CitesNoEarlierLine {
+        /// The citing line.
+        place: usize,
+    },
+    /// 33: a line has a number of citations that its rule does not take.
+    CitationsWrong {
+        /// The line.
+        place: usize,
+    },
+    /// 34: a line does not follow by its rule.
+    DoesNotFollow {
+        /// The line.
+        place: usize,
+    },
+    /// 35: the last line differs from the question.
+    NotTheQuestion {
+        /// The last line.
         place: usize,
     },
 }
 
 impl Answer {
-    /// Takes an answer apart; `state` is what the lent bytes are after the call.
+    /// Takes an answer of the walk call apart; `state` is what the lent bytes are after the call.
     ///
     /// # Panics
     ///
@@ -196,24 +259,58 @@ impl Answer {
             2 => Answer::NotExecutable { place, count, state: written() },
             3 => Answer::BudgetSpent { budget: count },
             9 => Answer::StateLength,
-            10 => Answer::TooLong,
-            11 => Answer::InputEnds { place },
-            12 => Answer::CountNotWithinLimits { place },
-            13 => Answer::TooLarge { place },
-            14 => Answer::NotLarger { place },
-            15 => Answer::Complement { place },
+            number => Answer::refusal(number, Input::Request, place).unwrap_or_else(|| strange(packed)),
+        };
+        answer.if_packed(packed)
+    }
+
+    /// Takes an answer of the derivation call apart.
+    ///
+    /// # Panics
+    ///
+    /// Where the number is none of the derivation call's, or where input, place and count do not go with it. The proved library gives no
+    /// such answer.
+    pub fn unpack_checked(packed: Packed) -> Answer {
+        let place = packed.place();
+        let input = if packed.input() == 2 { Input::Derivation } else { Input::Request };
+        let answer = match packed.number() {
+            0 => Some(Answer::Accepted),
+            30 => Some(Answer::WhetherAsked { place }),
+            31 => Some(Answer::NoRule { place }),
+            32 => Some(Answer::CitesNoEarlierLine { place }),
+            33 => Some(Answer::CitationsWrong { place }),
+            34 => Some(Answer::DoesNotFollow { place }),
+            35 => Some(Answer::NotTheQuestion { place }),
+            number => Answer::refusal(number, input, place),
+        };
+        answer.unwrap_or_else(|| strange(packed)).if_packed(packed)
+    }
+
+    /// The answers 10 to 21, which say that an input is not of the format.
+    fn refusal(number: u8, input: Input, place: usize) -> Option<Answer> {
+        Some(match number {
+            10 => Answer::TooLong { input },
+            11 => Answer::InputEnds { input, place },
+            12 => Answer::CountNotWithinLimits { input, place },
+            13 => Answer::TooLarge { input, place },
+            14 => Answer::NotLarger { input, place },
+            15 => Answer::Complement { input, place },
             16 => Answer::Contradictory { place },
             17 => Answer::EffectsAndKnowledge { place },
-            18 => Answer::NotExclusive { place },
-            19 => Answer::TooDeep { place },
-            20 => Answer::BytesLeftOver { place },
-            21 => Answer::TooManyItems { place },
-            _ => strange(packed),
-        };
-        if answer.packed() != packed {
+            18 => Answer::NotExclusive { input, place },
+            19 => Answer::TooDeep { input, place },
+            20 => Answer::BytesLeftOver { input, place },
+            21 => Answer::TooManyItems { input, place },
+            _ => return None,
+        })
+    }
+
+    /// The answer, where it is just what was packed.
+    fn if_packed(self, packed: Packed) -> Answer {
+        if self.packed() != packed {
             strange(packed);
         }
-        answer
+        self
     }
 
     /// The answer as the exported call packs it.
@@ -225,12 +322,12 @@ impl Answer {
     /// The answer's number.
     pub fn number(&self) -> u8 {
         match self {
-            Answer::Verified { .. } => 0,
+            Answer::Verified { .. } | Answer::Accepted => 0,
             Answer::GoalMissed { .. } => 1,
             Answer::NotExecutable { .. } => 2,
             Answer::BudgetSpent { .. } => 3,
             Answer::StateLength => 9,
-            Answer::TooLong => 10,
+            Answer::TooLong { .. } => 10,
             Answer::InputEnds { .. } => 11,
             Answer::CountNotWithinLimits { .. } => 12,
             Answer::TooLarge { .. } => 13,
@@ -242,37 +339,78 @@ impl Answer {
             Answer::TooDeep { .. } => 19,
             Answer::BytesLeftOver { .. } => 20,
             Answer::TooManyItems { .. } => 21,
+            Answer::WhetherAsked { .. } => 30,
+            Answer::NoRule { .. } => 31,
+            Answer::CitesNoEarlierLine { .. } => 32,
+            Answer::CitationsWrong { .. } => 33,
+            Answer::DoesNotFollow { .. } => 34,
+            Answer::NotTheQuestion { .. } => 35,
         }
     }
 
-    /// The input that the answer names: 1 the request, 0 neither.
+    /// The input that the answer names: 1 the request, 2 the derivation, 0 neither.
     pub fn input(&self) -> u8 {
-        match self {
-            Answer::Verified { .. } | Answer::BudgetSpent { .. } | Answer::StateLength => 0,
-            _ => 1,
+        match self.named() {
+            None => 0,
+            Some(Input::Request) => 1,
+            Some(Input::Derivation) => 2,
+        }
+    }
+
+    /// The same by its name; none where the answer names neither.
+    pub fn named(&self) -> Option<Input> {
+        match *self {
+            Answer::Verified { .. } | Answer::Accepted | Answer::BudgetSpent { .. } | Answer::StateLength => None,
+            Answer::TooLong { input }
+            | Answer::InputEnds { input, .. }
+            | Answer::CountNotWithinLimits { input, .. }
+            | Answer::TooLarge { input, .. }
+            | Answer::NotLarger { input, .. }
+            | Answer::Complement { input, .. }
+            | Answer::NotExclusive { input, .. }
+            | Answer::TooDeep { input, .. }
+            | Answer::BytesLeftOver { input, .. }
+            | Answer::TooManyItems { input, .. } => Some(input),
+            Answer::GoalMissed { .. }
+            | Answer::NotExecutable { .. }
+            | Answer::Contradictory { .. }
+            | Answer::EffectsAndKnowledge { .. }
+            | Answer::WhetherAsked { .. } => Some(Input::Request),
+            Answer::NoRule { .. }
+            | Answer::CitesNoEarlierLine { .. }
+            | Answer::CitationsWrong { .. }
+            | Answer::DoesNotFollow { .. }
+            | Answer::NotTheQuestion { .. } => Some(Input::Derivation),
         }
     }
 
     /// The place, which is 0 for the answers that have none.
     pub fn place(&self) -> usize {
         match *self {
-            Answer::Verified { .. } | Answer::BudgetSpent { .. } | Answer::StateLength | Answer::TooLong => 0,
-            Answer::GoalMissed { place, .. } | Answer::NotExecutable { place, .. } => place,
-            Answer::InputEnds { place }
-            | Answer::CountNotWithinLimits { place }
-            | Answer::TooLarge { place }
-            | Answer::NotLarger { place }
-            | Answer::Complement { place }
+            Answer::Verified { .. } | Answer::Accepted | Answer::BudgetSpent { .. } | Answer::StateLength | Answer::TooLong { .. } => 0,
+            Answer::GoalMissed { place, .. }
+            | Answer::NotExecutable { place, .. }
+            | Answer::InputEnds { place, .. }
+            | Answer::CountNotWithinLimits { place, .. }
+            | Answer::TooLarge { place, .. }
+            | Answer::NotLarger { place, .. }
+            | Answer::Complement { place, .. }
             | Answer::Contradictory { place }
             | Answer::EffectsAndKnowledge { place }
-            | Answer::NotExclusive { place }
-            | Answer::TooDeep { place }
-            | Answer::BytesLeftOver { place }
-            | Answer::TooManyItems { place } => place,
+            | Answer::NotExclusive { place, .. }
+            | Answer::TooDeep { place, .. }
+            | Answer::BytesLeftOver { place, .. }
+            | Answer::TooManyItems { place, .. }
+            | Answer::WhetherAsked { place }
+            | Answer::NoRule { place }
+            | Answer::CitesNoEarlierLine { place }
+            | Answer::CitationsWrong { place }
+            | Answer::DoesNotFollow { place }
+            | Answer::NotTheQuestion { place } => place,
         }
     }
 
-    /// The count: the walk's, or the budget where it is spent, and 0 for refusals.
+    /// The count: the walk's, or the budget where it is spent, and 0 for refusals and for an accepted derivation.
     pub fn count(&self) -> u32 {
         match *self {
             Answer::Verified { count } => count,
@@ -291,16 +429,23 @@ impl Answer {
     }
 }
 
+impl From<Answer> for Packed {
+    fn from(answer: Answer) -> Packed {
+        answer.packed()
+    }
+}
+
 impl fmt::Display for Answer {
     fn fmt(&self, out: &mut fmt::Formatter<'_>) -> fmt::Result {
         let what = match self {
             Answer::Verified { .. } => "verified",
+            Answer::Accepted => "accepted",
             Answer::GoalMissed { .. } => "goal missed",
             Answer::NotExecutable { .. } => "not executable",
             Answer::BudgetSpent { .. } => "budget spent",
             Answer::StateLength => "the lent state has another length than 64 bytes",
-            Answer::TooLong => "the request is too long",
-            Answer::InputEnds { .. } => "the request ends where a byte is due",
+            Answer::TooLong { .. } => "too long",
+            Answer::InputEnds { .. } => "the input ends where a byte is due",
             Answer::CountNotWithinLimits { .. } => "a count is not within its limits",
             Answer::TooLarge { .. } => "a fluent, literal or action is too large",
             Answer::NotLarger { .. } => "an entry is not larger than its predecessor",
@@ -310,13 +455,23 @@ impl fmt::Display for Answer {
             Answer::NotExclusive { .. } => "two conditions are not exclusive",
             Answer::TooDeep { .. } => "a branching stands inside eight others",
             Answer::BytesLeftOver { .. } => "bytes are left over",
-            Answer::TooManyItems { .. } => "the plan has too many items",
+            Answer::TooManyItems { .. } => "a plan has too many items",
+            Answer::WhetherAsked { .. } => "a derivation for a request with whether entries",
+            Answer::NoRule { .. } => "a line has no rule",
+            Answer::CitesNoEarlierLine { .. } => "a line cites what is no line before it",
+            Answer::CitationsWrong { .. } => "a line has a number of citations that its rule does not take",
+            Answer::DoesNotFollow { .. } => "a line does not follow by its rule",
+            Answer::NotTheQuestion { .. } => "the last line differs from the question",
         };
-        write!(out, "{what} ({}, place {}, count {})", self.number(), self.place(), self.count())
+        let whose = match self.named() {
+            Some(Input::Derivation) => " of the derivation",
+            _ => "",
+        };
+        write!(out, "{what} ({}, place {}{whose}, count {})", self.number(), self.place(), self.count())
     }
 }
 
 fn strange(packed: Packed) -> ! {
     let (number, input, place, count) = (packed.number(), packed.input(), packed.place(), packed.count());
-    panic!("the library linked is not the proved one: number {number}, input {input}, place {place}, count {count} and the lent state are no answer")
+    panic!("the library linked is not the proved one: number {number}, input {input}, place {place}, count {count} and any lent state are no answer")
 }

@@ -2,10 +2,11 @@
 //!
 //! A request has a domain table, a plan and goals in its bytes (docs/FORMAT.md). [`judge`] walks the plan over partial states and
 //! answers; that its answer and the lent bytes are those of the definition is proved, for every request, lent state and budget
-//! (docs/STATEMENTS.md). This crate adds names to the numbers and proves nothing.
+//! (docs/STATEMENTS.md). [`check`] checks a derivation, lines by which the plan reaches its goals, and [`show`] gives the part of an input
+//! that an answer is about; of both the same is proved. This crate adds names to the numbers and proves nothing.
 //!
 //! ```
-//! use glintstring::{judge, Answer, STATE_LENGTH};
+//! use glintstring::{judge, Answer, Input, STATE_LENGTH};
 //!
 //! // File A of the format: look at a bit, and convert the volume only where that is safe.
 //! let file_a = [
@@ -15,19 +16,20 @@
 //! let mut state = [0; STATE_LENGTH];
 //! assert_eq!(judge(&file_a, &mut state, 100_000), Answer::Verified { count: 5 });
 //! assert_eq!(judge(&file_a, &mut state, 4), Answer::BudgetSpent { budget: 4 });
-//! assert_eq!(judge(&file_a[..47], &mut state, 100_000), Answer::InputEnds { place: 47 });
+//! assert_eq!(judge(&file_a[..47], &mut state, 100_000), Answer::InputEnds { input: Input::Request, place: 47 });
 //! ```
 //!
 //! # Stack
 //!
 //! A judgement may need as much as [`STACK_NEEDED`] bytes of stack, more than the 2 MiB that a thread in Rust gets; the request decides
-//! how much. A call that has too little is ended by the system, and the process with it. [`judge_on_thread`] has enough.
+//! how much. A call that has too little is ended by the system, and the process with it. [`judge_on_thread`] has enough. [`check`] and
+//! [`show`] need far less, whatever their inputs, and a thread's 2 MiB will do.
 
 #![deny(missing_docs)]
 
 mod answer;
 
-pub use answer::{Answer, Mark, Packed, State};
+pub use answer::{Answer, Input, Mark, Packed, State};
 
 use std::{io, thread};
 
@@ -41,8 +43,10 @@ pub const STACK_NEEDED: usize = 6 << 20;
 const STACK: usize = STACK_NEEDED + (1 << 20);
 
 extern "C" {
-    /// As include/glintstring.h has it.
+    // As include/glintstring.h has them.
     fn glintstring_judge(request: *const u8, request_length: usize, state: *mut u8, state_length: usize, budget: u32) -> u64;
+    fn glintstring_check(request: *const u8, request_length: usize, derivation: *const u8, derivation_length: usize) -> u64;
+    fn glintstring_show(answer: u64, request: *const u8, request_length: usize, derivation: *const u8, derivation_length: usize) -> u64;
 }
 
 /// The walk call: judges a request by walking its plan, with a count of at most `budget`.
@@ -101,4 +105,103 @@ pub fn judge_on_thread(request: &[u8], state: &mut [u8], budget: u32) -> io::Res
         let judging = thread::Builder::new().stack_size(STACK).spawn_scoped(scope, || judge(request, state, budget))?;
         Ok(judging.join().unwrap_or_else(|panic| std::panic::resume_unwind(panic)))
     })
+}
+
+/// The derivation call: checks a derivation of what a request asks.
+///
+/// Any bytes may be given, of any length. The answer is [`Answer::Accepted`] exactly where both can be read and settled, the request has no
+/// whether entry, each line follows by its rule from lines before it, and the last line is the question. Then the walk of the plan, without a
+/// budget, is verified.
+///
+/// ```
+/// use glintstring::{check, show, Answer, Input};
+///
+/// // Case 14 of the format: File A with an empty whether list, and nine lines that derive its question.
+/// let request = [
+///     4, 3, 3, 3, 5, 7, 3, 1, 2, 0, 1, 6, 1, 0, 2, 4, 0, 3, 0, 0, 1, 1, 3, 2, 1, 2, 1, 0, 0, 0, 2, 0, 255, 2, 1, 1, 0, 2, 1, 2,
+///     1, 0, 0, 0, 1, 7, 0,
+/// ];
+/// let mut derivation = [
+///     0, 9, // nine lines, each with X, its plan, Y, its rule and its citations
+///     4, 0, 3, 5, 7, 0, 0, 4, 0, 3, 5, 7, 1, 0,
+///     4, 0, 3, 5, 7, 0, 0, 1, 7, 6, 1, 0, 0,
+///     4, 0, 3, 5, 7, 0, 1, 255, 2, 1, 1, 0, 2, 1, 2, 1, 0, 0, 0, 1, 7, 4, 1, 0, 1,
+///     4, 1, 3, 5, 7, 0, 1, 1, 4, 1, 2, 5, 7, 2, 0,
+///     4, 1, 2, 5, 7, 0, 1, 2, 4, 1, 2, 4, 7, 2, 0,
+///     4, 1, 3, 5, 7, 0, 2, 1, 2, 4, 1, 2, 4, 7, 5, 2, 0, 3, 0, 4,
+///     4, 1, 3, 5, 7, 0, 2, 1, 2, 1, 7, 6, 1, 0, 5,
+///     4, 1, 3, 5, 7, 0, 1, 255, 2, 1, 1, 0, 2, 1, 2, 1, 0, 0, 0, 1, 7, 4, 1, 0, 6,
+///     3, 3, 5, 7, 0, 2, 0, 255, 2, 1, 1, 0, 2, 1, 2, 1, 0, 0, 0, 1, 7, 3, 2, 0, 2, 0, 7,
+/// ];
+/// assert_eq!(check(&request, &derivation), Answer::Accepted);
+/// assert_eq!(check(&request, &derivation[..170]), Answer::InputEnds { input: Input::Derivation, place: 170 });
+///
+/// // The last line cites its two readings in the other order.
+/// derivation[168] = 7;
+/// derivation[170] = 2;
+/// let answer = check(&request, &derivation);
+/// assert_eq!(answer, Answer::DoesNotFollow { place: 144 });
+/// assert_eq!(show(answer, &request, &derivation)[..4], [3, 3, 5, 7]);
+/// ```
+///
+/// # Panics
+///
+/// Where the library linked gives an answer that the format does not have, which the proved one does not.
+pub fn check(request: &[u8], derivation: &[u8]) -> Answer {
+    Answer::unpack_checked(check_packed(request, derivation))
+}
+
+/// The derivation call as it is exported: the same as [`check`], with the answer packed into one number.
+///
+/// ```
+/// // One fluent, one action and an empty plan, whether the fluent is true or false.
+/// let packed = glintstring::check_packed(&[1, 1, 0, 0, 0, 0, 0, 0, 0, 1, 0], &[]);
+/// assert_eq!((packed.number(), packed.input(), packed.place(), packed.count()), (30, 1, 9, 0));
+/// ```
+pub fn check_packed(request: &[u8], derivation: &[u8]) -> Packed {
+    // Each pointer is valid for its length, and the call writes nothing and keeps neither.
+    Packed(unsafe { glintstring_check(request.as_ptr(), request.len(), derivation.as_ptr(), derivation.len()) })
+}
+
+/// The showing call: the part of an input that an answer is about, from its place to that input's end.
+///
+/// Any answer may be given, of either call or made by hand, with any two inputs. For one that names neither, it is the empty part at the
+/// request's start; for a place beyond an input's end, the empty part at that end.
+///
+/// ```
+/// use glintstring::{judge, show, Answer, Packed};
+///
+/// // One fluent, nothing known of it, one action without lines; the plan is that action, and the goal that the fluent is true.
+/// let request = [1, 1, 0, 0, 0, 0, 0, 1, 0, 1, 0, 0];
+/// let answer = judge(&request, &mut [0; 64], 10);
+/// assert_eq!(show(answer, &request, &[]), [0, 1, 0, 0]);
+/// assert_eq!(show(Answer::Accepted, &request, &[]), []);
+/// assert_eq!(show(Packed((2 << 8) + (1 << 16)), &request, &[7, 8, 9]), [8, 9]);
+/// ```
+///
+/// # Panics
+///
+/// Where the library linked gives a start beyond the input's end, which the proved one does not.
+pub fn show<'a>(answer: impl Into<Packed>, request: &'a [u8], derivation: &'a [u8]) -> &'a [u8] {
+    let answer = answer.into();
+    let start = usize::try_from(show_start(answer, request, derivation)).expect("a place of an input");
+    match answer.input() {
+        1 => &request[start..],
+        2 => &derivation[start..],
+        _ => &request[start..start],
+    }
+}
+
+/// The showing call as it is exported: where the part starts in the input that the answer names, and 0 where it names neither.
+///
+/// ```
+/// use glintstring::{show_start, Packed};
+///
+/// let in_derivation = |place: u64| Packed((2 << 8) + (place << 16));
+/// assert_eq!(show_start(in_derivation(2), &[], &[7, 8, 9]), 2);
+/// assert_eq!(show_start(in_derivation(65_535), &[], &[7, 8, 9]), 3);
+/// ```
+pub fn show_start(answer: Packed, request: &[u8], derivation: &[u8]) -> u64 {
+    // Each pointer is valid for its length, and the call writes nothing and keeps neither.
+    unsafe { glintstring_show(answer.0, request.as_ptr(), request.len(), derivation.as_ptr(), derivation.len()) }
 }

@@ -1,6 +1,6 @@
 //! Answers taken apart, and the call where it needs much stack.
 
-use glintstring::{judge, judge_on_thread, judge_packed, Answer, Mark, Packed, State};
+use glintstring::{check, check_packed, judge, judge_on_thread, judge_packed, show, show_start, Answer, Input, Mark, Packed, State};
 
 const FILE_A: [u8; 48] = [
     4, 3, 3, 3, 5, 7, 3, 1, 2, 0, 1, 6, 1, 0, 2, 4, 0, 3, 0, 0, 1, 1, 3, 2, 1, 2, 1, 0, 0, 0, 2, 0, 255, 2, 1, 1, 0, 2, 1, 2, 1, 0, 0, 0,
@@ -41,7 +41,7 @@ fn other_answers_leave_the_lent_bytes() {
         assert_eq!(lent, vec![9; length]);
     }
     let mut lent = [9; 64];
-    assert_eq!(judge(&vec![1; 16_385], &mut lent, 0), Answer::TooLong);
+    assert_eq!(judge(&vec![1; 16_385], &mut lent, 0), Answer::TooLong { input: Input::Request });
     assert_eq!(judge(&from_29(&[0, 0, 0, 0]), &mut lent, 0), Answer::BudgetSpent { budget: 0 });
     assert_eq!(lent, [9; 64]);
 }
@@ -90,4 +90,88 @@ fn packed_and_named_are_the_same_call() {
         let answer = judge(&FILE_A[..end], &mut other, 7);
         assert_eq!((answer.packed(), other), (packed, one));
     }
+}
+
+#[test]
+fn each_number_of_the_derivation_call_is_packed_as_it_came() {
+    let mut tried = 0;
+    for number in [0].into_iter().chain(10..=21).chain(30..=35) {
+        for input in 0..=2 {
+            let fits = match number {
+                0 => input == 0,
+                16 | 17 | 30 => input == 1,
+                10..=21 => input != 0,
+                _ => input == 2,
+            };
+            let place = if matches!(number, 0 | 10) { 0 } else { 32_767 };
+            let packed = Packed(number + (input << 8) + (place << 16));
+            let answer = std::panic::catch_unwind(|| Answer::unpack_checked(packed));
+            assert_eq!(answer.is_ok(), fits, "number {number}, input {input}");
+            if let Ok(answer) = answer {
+                assert_eq!((answer.packed(), u64::from(answer.number()), u64::from(answer.input())), (packed, number, input));
+                tried += 1;
+            }
+        }
+    }
+    assert_eq!(tried, 1 + 3 + 20 + 5);
+}
+
+#[test]
+fn what_is_no_answer_of_the_derivation_call_is_refused() {
+    let refused = |packed: u64| std::panic::catch_unwind(|| Answer::unpack_checked(Packed(packed))).is_err();
+    for number in (1..=9).chain(22..=29).chain(36..=255) {
+        for input in 0..=3 {
+            assert!(refused(number + (input << 8)), "number {number}, input {input}");
+        }
+    }
+    assert!(refused(1 << 16), "accepted, at a place");
+    assert!(refused(1 << 32), "accepted, with a count");
+    assert!(refused(34 + (2 << 8) + (1 << 32)), "a refusal with a count");
+    assert!(refused(10 + (2 << 8) + (1 << 16)), "too long, at a place");
+}
+
+/// File A asks whether; without that entry its derivation is looked at.
+#[test]
+fn derivations_are_refused_in_their_input() {
+    assert_eq!(check(&FILE_A, &[]), Answer::WhetherAsked { place: 46 });
+    let request = [&FILE_A[..46], &[0]].concat();
+    assert_eq!(check(&request, &[]), Answer::InputEnds { input: Input::Derivation, place: 0 });
+    assert_eq!(check(&request, &[5]), Answer::InputEnds { input: Input::Derivation, place: 1 });
+    assert_eq!(check(&request, &[0, 0]), Answer::CountNotWithinLimits { input: Input::Derivation, place: 0 });
+    assert_eq!(check(&request, &[0; 32_769]), Answer::TooLong { input: Input::Derivation });
+    assert_eq!(check(&[0; 16_385], &[0; 32_769]), Answer::TooLong { input: Input::Request });
+    assert_eq!(check(&request[..46], &[]), Answer::InputEnds { input: Input::Request, place: 46 });
+    // One line: the empty plan, with nothing known, by rules 0, 1, 6 and 6 of itself.
+    assert_eq!(check(&request, &[0, 1, 0, 0, 0, 0, 0, 0]), Answer::NoRule { place: 2 });
+    assert_eq!(check(&request, &[0, 1, 0, 0, 0, 0, 1, 0]), Answer::NotTheQuestion { place: 2 });
+    assert_eq!(check(&request, &[0, 1, 0, 0, 0, 0, 6, 0]), Answer::CitationsWrong { place: 2 });
+    assert_eq!(check(&request, &[0, 1, 0, 0, 0, 0, 6, 1, 0, 0]), Answer::CitesNoEarlierLine { place: 2 });
+    let answer = check(&request, &[0, 1, 0, 0, 0, 0, 2, 0]);
+    assert_eq!(answer, Answer::DoesNotFollow { place: 2 });
+    assert_eq!(answer.to_string(), "a line does not follow by its rule (34, place 2 of the derivation, count 0)");
+    assert_eq!(answer.packed(), check_packed(&request, &[0, 1, 0, 0, 0, 0, 2, 0]));
+}
+
+#[test]
+fn any_answer_can_be_shown() {
+    let (request, derivation) = ([1, 2, 3], [4, 5, 6, 7]);
+    for input in 0..=255 {
+        for place in [0, 1, 2, 3, 4, 5, 65_535] {
+            let answer = Packed(255 + (input << 8) + (place << 16) + (u64::from(u32::MAX) << 32));
+            let shown = show(answer, &request, &derivation);
+            let (whole, start): (&[u8], usize) = match input {
+                1 => (&request, 3.min(place as usize)),
+                2 => (&derivation, 4.min(place as usize)),
+                _ => (&request[..0], 0),
+            };
+            assert_eq!(shown, &whole[start..], "input {input}, place {place}");
+            assert_eq!(show_start(answer, &request, &derivation), start as u64);
+            if input != 2 && place == 0 {
+                assert_eq!(shown.as_ptr(), request.as_ptr());
+            }
+        }
+    }
+    assert_eq!(show(Answer::BudgetSpent { budget: 1 }, &request, &derivation), []);
+    assert_eq!(show(Answer::WhetherAsked { place: 1 }, &request, &derivation), [2, 3]);
+    assert_eq!(show(Answer::NoRule { place: 1 }, &request, &derivation), [5, 6, 7]);
 }

@@ -1,9 +1,10 @@
-//! Cases 1 to 13 of docs/FORMAT.md and its further rows, through the exported call.
+//! The cases of docs/FORMAT.md and its further rows, through the exported calls.
 
 use oracle::rng::Rng;
 use oracle::text::{parse_bytes, state_line};
 
 use crate::calls::{agreed, expect, Call, Left};
+use crate::checks::{self, Check};
 
 const FILE_A: &str = "4 3 3 3 5 7 3 1 2 0 1 6 1 0 2 4 0 3 0 0 1 1 3 2 1 2 1 0 0 0 2 0 255 2 1 1 0 2 1 2 1 0 0 0 1 7 1 2";
 const BUDGET: u32 = 100_000;
@@ -11,6 +12,8 @@ const LENT: u8 = 9;
 
 extern "C" {
     fn glintstring_judge(request: *const u8, request_length: usize, state: *mut u8, state_length: usize, budget: u32) -> u64;
+    fn glintstring_check(request: *const u8, request_length: usize, derivation: *const u8, derivation_length: usize) -> u64;
+    fn glintstring_show(answer: u64, request: *const u8, request_length: usize, derivation: *const u8, derivation_length: usize) -> u64;
 }
 
 /// How a row gives its request.
@@ -80,6 +83,83 @@ const ROWS: [Row; 40] = [
     ("3.13", "the largest budget", FileA, u32::MAX, 64, [0, 0, 5], None),
 ];
 
+/// The derivation of case 14 but for the citations of its last line (FORMAT 13.42 to 13.51).
+const NINE_LINES: [&str; 10] = [
+    "0 9",
+    "4 0 3 5 7 0 0 4 0 3 5 7 1 0",
+    "4 0 3 5 7 0 0 1 7 6 1 0 0",
+    "4 0 3 5 7 0 1 255 2 1 1 0 2 1 2 1 0 0 0 1 7 4 1 0 1",
+    "4 1 3 5 7 0 1 1 4 1 2 5 7 2 0",
+    "4 1 2 5 7 0 1 2 4 1 2 4 7 2 0",
+    "4 1 3 5 7 0 2 1 2 4 1 2 4 7 5 2 0 3 0 4",
+    "4 1 3 5 7 0 2 1 2 1 7 6 1 0 5",
+    "4 1 3 5 7 0 1 255 2 1 1 0 2 1 2 1 0 0 0 1 7 4 1 0 6",
+    "3 3 5 7 0 2 0 255 2 1 1 0 2 1 2 1 0 0 0 1 7 3",
+];
+
+/// How a row gives its derivation.
+#[derive(Clone, Copy)]
+enum Derivation {
+    /// Nine lines, the last with these citations.
+    Nine(&'static str),
+    /// So many bytes of the nine lines of case 14.
+    StartOf(usize),
+    These(&'static str),
+    Zeros(usize),
+}
+
+use Derivation::*;
+
+/// A sentence, what it is, whether the request is File A with its whether entry, the derivation; number, input and place.
+type DerivationRow = (&'static str, &'static str, bool, Derivation, [u64; 3]);
+
+const DERIVATION_ROWS: [DerivationRow; 20] = [
+    ("13.52", "14", false, Nine("2 0 2 0 7"), [0, 0, 0]),
+    ("13.53", "14, the two in the other order", false, Nine("2 0 7 0 2"), [34, 2, 144]),
+    ("13.54", "14, three lines", false, Nine("3 0 2 0 7 0 7"), [33, 2, 144]),
+    ("10.23", "14, one line", false, Nine("1 0 2"), [34, 2, 144]),
+    ("10.28", "14, the line itself", false, Nine("2 0 2 0 8"), [32, 2, 144]),
+    ("10.28", "14, no line at all", false, Nine("2 0 2 255 255"), [32, 2, 144]),
+    ("4.20", "14, with the whether entry", true, Nine("2 0 2 0 7"), [30, 1, 46]),
+    ("5.21", "30 before the derivation's length", true, Zeros(32_769), [30, 1, 46]),
+    ("5.22", "too long", false, Zeros(32_769), [10, 2, 0]),
+    ("3.11", "32,768 zeros, which are read", false, Zeros(32_768), [12, 2, 0]),
+    ("4.9", "no byte", false, These(""), [11, 2, 0]),
+    ("5.13", "one byte of the line count", false, These("5"), [11, 2, 1]),
+    ("4.35", "no line", false, These("0 0"), [12, 2, 0]),
+    ("4.9", "ends within the last citation", false, StartOf(170), [11, 2, 170]),
+    ("4.18", "a byte more", false, Nine("2 0 2 0 7 0"), [20, 2, 171]),
+    ("4.21", "rule 0", false, These("0 1 0 0 0 0 0 0"), [31, 2, 2]),
+    ("5.24", "65 citations under no rule", false, These("0 1 0 0 0 0 0 65"), [12, 2, 7]),
+    ("5.26", "33 before 32", false, These("0 1 0 0 0 0 6 2 0 0 0 0"), [33, 2, 2]),
+    ("5.27", "34 of line 0 before 31 of line 1", false, These("0 2 0 0 0 0 2 0 0 0 0 0 9 0"), [34, 2, 2]),
+    ("4.25", "another question", false, These("0 1 0 0 0 0 1 0"), [35, 2, 2]),
+];
+
+fn derivation(row: Derivation) -> Vec<u8> {
+    let nine = |citations: &str| NINE_LINES.into_iter().chain([citations]).flat_map(bytes).collect::<Vec<u8>>();
+    match row {
+        Nine(citations) => nine(citations),
+        StartOf(length) => nine("2 0 2 0 7")[..length].to_vec(),
+        These(all) => bytes(all),
+        Zeros(length) => vec![0; length],
+    }
+}
+
+/// The rows of the derivation call.
+fn compare_derivations(rng: &mut Rng) -> Result<(), String> {
+    let file_a = bytes(FILE_A);
+    for (sentence, name, whether, given, [number, input, place]) in DERIVATION_ROWS {
+        let request = if whether { file_a.clone() } else { [&file_a[..46], &[0]].concat() };
+        let check = Check { request, derivation: derivation(given) };
+        let answer = checks::agreed(rng, &check).map_err(|why| format!("FORMAT {sentence}, {name}: {why}; {check}"))?;
+        if answer != [number, input, place, 0] {
+            return Err(format!("FORMAT {sentence}, {name}: number, input, place, count are {answer:?}; {check}"));
+        }
+    }
+    Ok(())
+}
+
 fn bytes(text: &str) -> Vec<u8> {
     parse_bytes(text).expect("bytes of a row")
 }
@@ -117,13 +197,20 @@ fn without_bytes() -> Result<(), String> {
     let mut state = [LENT; 64];
     let no_request = unsafe { glintstring_judge(null(), 0, state.as_mut_ptr(), state.len(), 0) };
     let no_state = unsafe { glintstring_judge(null(), 0, null_mut(), 0, 0) };
-    match (no_request, no_state, state) {
-        (267, 9, [LENT, ..]) => Ok(()),
-        _ => Err(format!("null and length 0: {no_request} for the request, {no_state} for the state")),
+    let file_a = [&bytes(FILE_A)[..46], &[0]].concat();
+    let no_input = unsafe { glintstring_check(null(), 0, null(), 0) };
+    let no_derivation = unsafe { glintstring_check(file_a.as_ptr(), file_a.len(), null(), 0) };
+    let shown = unsafe { glintstring_show(u64::MAX - (253 << 8), null(), 0, null(), 0) };
+    match (no_request, no_state, state, no_input, no_derivation, shown) {
+        (267, 9, [LENT, ..], 267, 523, 0) => Ok(()),
+        _ => Err(format!(
+            "null and length 0: {no_request} for the request, {no_state} for the state, {no_input} for a derivation call's request, \
+             {no_derivation} for its derivation, {shown} shown"
+        )),
     }
 }
 
-/// Every row through the exported call, and the independent program's opinion of it.
+/// Every row through its exported call, and the independent program's opinion of it.
 pub fn compare() -> Result<String, String> {
     let mut rng = Rng::new(1, 5, 0);
     for row in &ROWS {
@@ -132,6 +219,8 @@ pub fn compare() -> Result<String, String> {
         let same = agreed(&mut rng, &call).and_then(|left| expect(&left, &expected(row, &call.lent), "the format"));
         same.map_err(|why| format!("FORMAT {sentence}, {name}: {why}; {call}"))?;
     }
+    compare_derivations(&mut rng)?;
     without_bytes()?;
-    Ok(format!("{} rows of the format answered as it says, and null pointers with length 0", ROWS.len()))
+    let (walks, checks) = (ROWS.len(), DERIVATION_ROWS.len());
+    Ok(format!("{walks} rows of the format, and {checks} for derivations, answered as it says, and null pointers with length 0"))
 }

@@ -79,7 +79,7 @@ fn any_call(rng: &mut Rng) -> Call {
 }
 
 /// One byte is another, is there once more, or is not there.
-fn change(rng: &mut Rng, request: &mut Vec<u8>) {
+pub fn change(rng: &mut Rng, request: &mut Vec<u8>) {
     if request.is_empty() {
         return request.push(rng.byte(0, 255));
     }
@@ -94,8 +94,8 @@ fn change(rng: &mut Rng, request: &mut Vec<u8>) {
     }
 }
 
-/// The start of one request and the end of another.
-fn cross(rng: &mut Rng, request: &mut Vec<u8>, other: &[u8]) {
+/// The start of one input and the end of another.
+pub fn cross(rng: &mut Rng, request: &mut Vec<u8>, other: &[u8]) {
     request.truncate(rng.below(request.len() + 1));
     let from = match other.len() {
         length if rng.chance(50) => request.len().min(length),

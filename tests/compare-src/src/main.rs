@@ -1,12 +1,15 @@
-//! The exported walk call against the independent program: on the format's cases, on the deepest requests, and on generated and damaged
-//! ones. The exit status is 0 where all agree and 1 at the first difference; what is told of it is enough to make the call again.
+//! The exported calls against the independent program: the walk call on the format's cases, on the deepest requests, and on generated and
+//! damaged ones, the derivation call and the showing call on derivations at their limits, and on generated, forged and damaged ones. The exit status is 0 where all agree and 1 at the first difference; what is told of it is enough to make the call again.
 
 mod calls;
 mod cases;
+mod checks;
 mod crowded;
 mod deepest;
+mod derivations;
 mod fence;
 mod generated;
+mod largest;
 
 use std::process::ExitCode;
 use std::{env, thread};
@@ -14,7 +17,7 @@ use std::{env, thread};
 /// The stack on which calls are made, apart from the deepest ones, which have a thread with less: that of a process's first thread.
 const STACK: usize = 8 << 20;
 
-const HELP: &str = "usage: compare cases | compare deepest FOLDER | compare generated SEED COUNT";
+const HELP: &str = "usage: compare cases | compare deepest FOLDER | compare generated SEED COUNT | compare largest | compare derivations SEED COUNT";
 
 fn main() -> ExitCode {
     let work = thread::Builder::new().stack_size(STACK).spawn(|| {
@@ -25,6 +28,8 @@ fn main() -> ExitCode {
             ["cases"] => Ok(cases::compare()),
             ["deepest", folder] => Ok(deepest::compare(folder)),
             ["generated", seed, count] => Ok(generated::compare(number(seed)?, number(count)?)),
+            ["largest"] => Ok(largest::compare()),
+            ["derivations", seed, count] => Ok(derivations::compare(number(seed)?, number(count)?)),
             _ => Err(HELP.to_string()),
         }
     });
