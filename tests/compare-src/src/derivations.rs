@@ -48,7 +48,7 @@ pub fn compare(seed: u64, count: u64) -> Result<String, String> {
     if count >= ENOUGH && !missing.is_empty() {
         return Err(format!("seed {seed}: answers {} never occurred in {count} derivations", missing.join(", ")));
     }
-    Ok(format!("{count} derivations of seed {seed} agree; the longest has {longest} bytes, and {most_lines} lines are the most that were gone through"))
+    Ok(format!("{count} derivations of seed {seed} agree; the longest has {longest} bytes, and up to {most_lines} lines were gone through"))
 }
 
 /// A call of the independent program's own generators, about half of which are made wrong in some way; of some calls an input is made wrong

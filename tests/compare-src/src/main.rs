@@ -1,5 +1,6 @@
 //! The exported calls against the independent program: the walk call on the format's cases, on the deepest requests, and on generated and
-//! damaged ones, the derivation call and the showing call on derivations at their limits, and on generated, forged and damaged ones. The exit status is 0 where all agree and 1 at the first difference; what is told of it is enough to make the call again.
+//! damaged ones, the derivation call and the showing call on derivations at their limits, and on generated, forged and damaged ones. The
+//! exit status is 0 where all agree and 1 at the first difference; what is told of it is enough to make the call again.
 
 mod calls;
 mod cases;
