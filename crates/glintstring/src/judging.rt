@@ -8,6 +8,7 @@ ghost use Rattle.steps.specs.AtHand.{request-in, At-hand};
 ghost use Rattle.glintstring.specs.Telling.{start};
 use super::answers;
 use super::telling::tell;
+use bytes::limits;
 use bytes::lists::Passed;
 use meaning::Answer;
 use reading::marks::state_of;
@@ -21,7 +22,7 @@ use walking::walk::walk;
 fn start_of(items: usize) -> usize
     ensures { λ r. ⌜ r ≡ start items ⌝ }
 {
-    if items == 0 { 1024 } else { 0 }
+    if items == 0 { limits::ITEMS } else { 0 }
 }
 
 // The walk of a settled request.

@@ -6,6 +6,8 @@ ghost use Rattle.walking.specs.Standing.{standing};
 ghost use Rattle.glintstring.specs.Telling.{told, Tallied};
 use super::answers;
 use meaning::Answer;
+use walking::tally::MISSED;
+use walking::tally::SPENT;
 use walking::tally::Tally;
 
 fn widened(x: u32) -> usize
@@ -44,7 +46,7 @@ pub fn tell(tally: &Tally, state: &mut [u8], budget: u32) -> Answer
     ensures { λ r. ⌜ record { answer = r; state = now (state .exit) } ≡ told (now (state .entry)) budget (standing (now (tally .entry))) ⌝ }
 {
     let number = tally[0];
-    if number == 3 {
+    if number == SPENT {
         return Answer {
             number: answers::BUDGET_SPENT,
             input: answers::NEITHER_INPUT,
@@ -63,7 +65,7 @@ pub fn tell(tally: &Tally, state: &mut [u8], budget: u32) -> Answer
     }
     let place = widened(tally[1]);
     hand_over(tally, state);
-    if number == 1 {
+    if number == MISSED {
         return Answer {
             number: answers::GOAL_MISSED,
             input: answers::THE_REQUEST,

@@ -1,6 +1,5 @@
 ghost use mathlib.Core.Path.{_≡_};
-ghost use Prim.Native.Nat.{_+_, _<_};
-ghost use lib.ListN.{getD};
+ghost use Prim.Native.Nat.{_<_};
 ghost use Rattle.meaning.specs.Walk.{judged};
 ghost use Rattle.reading.specs.Planned.{items-of};
 ghost use Rattle.steps.specs.AtHand.{request-in, At-hand, Marked};
