@@ -1,12 +1,12 @@
 -- The bytes that are handed on are some of the buffer's.
 use borrow.Author.Needs.{needs}
-use Rattle.judge.proofs.InputLaws.{read-within, read-counted}
+use Rattle.programs.proofs.InputLaws.{read-within, read-counted}
 use Rattle.judge.proofs.main.Statement.{statement}
 use Rattle.judge.proofs.main.Tie as tie
 use Rattle.judge.proofs.main.Reads as reads
 use Rattle.judge.proofs.main.Lts as lts
 use Rattle.judge.proofs.answer_to.Reads as answer-to-reads
-use Rattle.judge.proofs.read_all.Reads as read-all-reads
+use Rattle.programs.proofs.read_all.Reads as read-all-reads
 use Rattle.os.proofs.fail.Reads as fail-reads
 
 -- src/main.rt:104:20

@@ -9,7 +9,7 @@ use Rattle.judge.proofs.put_state.Statement.{statement}
 use Rattle.judge.proofs.put_state.Tie as tie
 use Rattle.judge.proofs.put_state.Reads as reads
 use Rattle.judge.proofs.put_state.Lts as lts
-use Rattle.judge.proofs.put.Reads as put-reads
+use Rattle.programs.proofs.put.Reads as put-reads
 use Rattle.judge.proofs.sign.Reads as sign-reads
 
 abbrev Inv-loop : tie.InvT-loop

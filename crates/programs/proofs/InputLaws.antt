@@ -7,9 +7,9 @@ use lib.ListN.{length, take}
 use lib.Seq.{length-take-le}
 use mir.Syntax.{w64}
 use mir.Val.{Fits}
-use Rattle.judge.specs.declared.Input.{Input}
-use Rattle.judge.specs.declared.Input.the-variants.{Bytes}
-use Rattle.judge.specs.Input.{Within}
+use Rattle.programs.specs.declared.Input.{Input}
+use Rattle.programs.specs.declared.Input.the-variants.{Bytes}
+use Rattle.programs.specs.Input.{Within}
 
 pub bytes-within : (done : ℕ) (r : Input) (buffer : List ℕ) → Within done r buffer → (n : ℕ) → r ≡ Bytes n → done + n ≤ length buffer
 bytes-within done r buffer h n is = subst (λ (i : Input). Within done i buffer) is h

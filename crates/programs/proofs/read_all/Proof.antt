@@ -2,18 +2,18 @@
 use borrow.Author.Needs.{needs}
 use Prim.Native.Nat.{_-_}
 use lib.ListN.{length}
-use Rattle.judge.proofs.InputLaws.{Filled, nothing-filled, more-fits, more-filled}
-use Rattle.judge.proofs.read_all.Statement.{statement}
-use Rattle.judge.proofs.read_all.Tie as tie
-use Rattle.judge.proofs.read_all.Reads as reads
-use Rattle.judge.proofs.read_all.Lts as lts
-use Rattle.judge.proofs.read_on.Reads as read-on-reads
+use Rattle.programs.proofs.InputLaws.{Filled, nothing-filled, more-fits, more-filled}
+use Rattle.programs.proofs.read_all.Statement.{statement}
+use Rattle.programs.proofs.read_all.Tie as tie
+use Rattle.programs.proofs.read_all.Reads as reads
+use Rattle.programs.proofs.read_all.Lts as lts
+use Rattle.programs.proofs.read_on.Reads as read-on-reads
 
 abbrev Inv-loop : tie.InvT-loop
-Inv-loop buf₀ done₀ buf done = Filled buf₀ buf done
+Inv-loop fd buf₀ done₀ buf done = Filled buf₀ buf done
 
 abbrev μ-loop : tie.MeasureT-loop
-μ-loop buf₀ done₀ buf done = length buf₀ - done
+μ-loop fd buf₀ done₀ buf done = length buf₀ - done
 
 -- src/main.rt:38:5
 loop-holds : tie.Need-loop-holds Inv-loop μ-loop

@@ -1,0 +1,59 @@
+-- The bytes that are handed on are some of the buffer's.
+use borrow.Author.Needs.{needs}
+use Rattle.programs.proofs.InputLaws.{read-within, read-counted}
+use Rattle.audit.proofs.audit.Statement.{statement}
+use Rattle.audit.proofs.audit.Tie as tie
+use Rattle.audit.proofs.audit.Reads as reads
+use Rattle.audit.proofs.audit.Lts as lts
+use Rattle.audit.proofs.answer_to.Reads as answer-to-reads
+use Rattle.audit.proofs.read_argument.Reads as read-argument-reads
+
+-- src/main.rt:54:28
+slice-aggregate-read-argument : tie.Need-slice-aggregate-read-argument
+slice-aggregate-read-argument c = search needs
+
+-- src/main.rt:54:11
+read-argument-requires : tie.Need-read-argument-requires
+read-argument-requires c κs = search needs
+
+-- src/main.rt:55:22
+enum-known-n : tie.Need-enum-known-n
+enum-known-n c = search needs
+
+-- src/main.rt:55:47
+array-share-prefix-bytes : tie.Need-array-share-prefix-bytes
+array-share-prefix-bytes c = search read-within
+
+-- src/main.rt:55:47
+slice-aggregate-answer-to : tie.Need-slice-aggregate-answer-to
+slice-aggregate-answer-to c = search read-counted
+
+-- src/main.rt:55:28
+answer-to-requires : tie.Need-answer-to-requires
+answer-to-requires c κs = search needs
+
+-- src/main.rt:56:30
+enum-told : tie.Need-enum-told
+enum-told c = search needs
+
+-- src/main.rt:56:30
+returns : tie.Need-returns
+returns c = search needs
+
+-- src/main.rt:51:1
+returns-2 : tie.Need-returns-2
+returns-2 c = search needs
+
+pub audit-spec : {M : Type 1} → statement M
+audit-spec =
+    tie.close
+    (tie.spec
+    slice-aggregate-read-argument
+    read-argument-requires
+    enum-known-n
+    array-share-prefix-bytes
+    slice-aggregate-answer-to
+    answer-to-requires
+    enum-told
+    returns
+    returns-2)

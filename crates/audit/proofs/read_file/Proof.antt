@@ -1,0 +1,81 @@
+-- What is told of the bytes read is what reading them tells.
+use borrow.Author.Needs.{needs}
+use Rattle.programs.proofs.InputLaws.{bytes-within}
+use Rattle.audit.proofs.read_file.Statement.{statement}
+use Rattle.audit.proofs.read_file.Tie as tie
+use Rattle.audit.proofs.read_file.Reads as reads
+use Rattle.audit.proofs.read_file.Lts as lts
+use Rattle.libc.proofs.close.Reads as close-reads
+use Rattle.os.proofs.fail.Reads as fail-reads
+use Rattle.os.proofs.open_read.Reads as open-read-reads
+use Rattle.programs.proofs.read_all.Reads as read-all-reads
+
+-- src/main.rt:12:9
+open-read-requires : tie.Need-open-read-requires
+open-read-requires c κs = search needs
+
+-- src/main.rt:14:9
+fail-requires : tie.Need-fail-requires
+fail-requires c κs = search needs
+
+-- src/main.rt:15:9
+returns : tie.Need-returns
+returns c = search needs
+
+-- src/main.rt:17:11
+read-all-requires : tie.Need-read-all-requires
+read-all-requires c κs = search needs
+
+-- src/main.rt:18:22
+enum-known-n : tie.Need-enum-known-n
+enum-known-n c = search needs
+
+-- src/main.rt:19:13
+close-requires : tie.Need-close-requires
+close-requires c κs = search needs
+
+-- src/main.rt:23:13
+enum-told : tie.Need-enum-told
+enum-told c = search needs
+
+-- src/main.rt:23:13
+fail-requires-2 : tie.Need-fail-requires-2
+fail-requires-2 c κs = search needs
+
+-- src/main.rt:24:13
+close-requires-2 : tie.Need-close-requires-2
+close-requires-2 c κs = search needs
+
+-- src/main.rt:9:1
+same-length : tie.Need-same-length
+same-length c = search needs
+
+-- src/main.rt:9:1
+returns-2 : tie.Need-returns-2
+returns-2 c = search bytes-within
+
+-- src/main.rt:9:1
+same-length-2 : tie.Need-same-length-2
+same-length-2 c = search needs
+
+-- src/main.rt:9:1
+returns-3 : tie.Need-returns-3
+returns-3 c = search needs
+
+pub read-file-spec : {M : Type 1} → statement M
+read-file-spec =
+    tie.close
+    (tie.spec
+    open-read-requires
+    fail-requires
+    returns
+    read-all-requires
+    enum-known-n
+    close-requires
+    enum-told
+    fail-requires-2
+    close-requires-2
+    same-length
+    returns-2
+    same-length-2
+    returns-3)
