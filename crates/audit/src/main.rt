@@ -42,7 +42,11 @@ fn read_argument(i: usize, buf: &mut [u8]) -> Input
 
 fn answer_to(request: &[u8], derivation: &[u8]) {
     let answer = check(request, derivation);
-    if !put_line(answer.number as u64, answer.input as u64, answer.place as u64) {
+    if !put_line(
+        answer.number as u64,
+        answer.input as u64,
+        answer.place as u64,
+    ) {
         os::fail(b"audit: standard output");
     }
 }
@@ -59,7 +63,10 @@ fn audit(request: &[u8]) {
 
 fn main() {
     if os::arg_count() != 3 {
-        io::write_all(libc::STDERR_FILENO, b"audit: two file names are needed, a request's and a derivation's\n");
+        io::write_all(
+            libc::STDERR_FILENO,
+            b"audit: two file names are needed, a request's and a derivation's\n",
+        );
         return;
     }
     // One byte more than a request may have.

@@ -36,7 +36,11 @@ fn put_state(state: &[u8; 64], fluents: u8) -> bool {
 fn answer_to(request: &[u8]) -> bool {
     let mut state = [0u8; 64];
     let answer = judge(request, &mut state, BUDGET);
-    if !put_line(answer.number as u64, answer.place as u64, answer.count as u64) {
+    if !put_line(
+        answer.number as u64,
+        answer.place as u64,
+        answer.count as u64,
+    ) {
         return false;
     }
     if answer.number == answers::GOAL_MISSED || answer.number == answers::NOT_EXECUTABLE {

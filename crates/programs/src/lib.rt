@@ -53,5 +53,10 @@ fn put_number(n: u64) -> bool {
 
 // A line with three numbers.
 pub fn put_line(first: u64, second: u64, third: u64) -> bool {
-    put_number(first) && put(b" ") && put_number(second) && put(b" ") && put_number(third) && put(b"\n")
+    put_number(first)
+        && put(b" ")
+        && put_number(second)
+        && put(b" ")
+        && put_number(third)
+        && put(b"\n")
 }
