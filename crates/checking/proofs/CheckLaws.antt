@@ -20,9 +20,9 @@ use Rattle.reading.proofs.SectionLaws.{noting-fault}
 use Rattle.deriving.specs.DerivationRead.{places-noted, settled-derivation}
 use Rattle.deriving.specs.Derived.{Lines-here, Some-lines}
 use Rattle.steps.specs.AtHand.{request-in, At-hand}
-use Rattle.checking.specs.Stands.{Lines-stand, Ends-noted, Some-derived}
+use Rattle.comparing.specs.Stands.{Lines-stand, Ends-noted, Some-derived}
 use Rattle.checking.specs.Checked.{lines-of, lines-in, All-stand, all-checked}
-use Rattle.checking.proofs.StandLaws.{derived-whole, derived-count, derived-stand, count-first, count-second, derived-long, derived-least, derived-few, derived-some}
+use Rattle.comparing.proofs.StandLaws.{derived-whole, derived-count, derived-stand, count-first, count-second, derived-long, derived-least, derived-few, derived-some}
 use Rattle.checking.proofs.QuestionLaws.{fluents-are, actions-are}
 
 -- A FAULT on the way.

@@ -1,14 +1,4 @@
-pub mod CodedLaws
-pub mod CodedReads
-pub mod StandLaws
-pub mod CodedPlaces
-pub mod PartLaws
-pub mod KnownLaws
-pub mod PlanLaws
-pub mod RuleLaws
 pub mod LineLaws
 pub mod OrderLaws
-pub mod ReadingRuleLaws
-pub mod BranchRuleLaws
 pub mod QuestionLaws
 pub mod CheckLaws

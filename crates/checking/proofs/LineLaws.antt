@@ -23,10 +23,10 @@ use Rattle.reading.specs.Listed.{List-here}
 use Rattle.refusing.specs.Branchings.{sequence-place}
 use Rattle.deriving.specs.Derived.{Line-here}
 use Rattle.steps.proofs.SmallActions.{Small, plan-small}
-use Rattle.checking.specs.Stands.{after-list, Numbers-stand, Stands}
-use Rattle.checking.specs.Rules.{Some-line, Some-read, Some-lines, Ruled, Ruled-by, Ruled-by-two, Ruled-by-all, Read-by, Cited-below}
+use Rattle.comparing.specs.Stands.{after-list, Numbers-stand, Stands}
+use Rattle.comparing.specs.Rules.{Some-line, Some-read, Some-lines, Ruled, Ruled-by, Ruled-by-two, Ruled-by-all, Read-by, Cited-below}
 use Rattle.checking.specs.Checked.{lines-in, no-line, line-in, Numbered, Cites-earlier, all-below, numbers-from, refused-by}
-use Rattle.checking.proofs.StandLaws.{line-number}
+use Rattle.comparing.proofs.StandLaws.{line-number}
 
 -- WHICH BYTES are rules.
 no-fail : (b : Bool) → b ≡ true → fails b ≡ false

@@ -18,8 +18,8 @@ use Rattle.meaning.specs.Derivations.{Line, follows, citations-of, a-rule, cite
 use Rattle.meaning.proofs.TestLaws.{pick-true, pick-false}
 use Rattle.bytes.specs.declared.lists.Passed.the-variants.{To, Fault as Stop}
 use Rattle.bytes.specs.Read.{passed}
-use Rattle.checking.specs.Stands.{Stands}
-use Rattle.checking.specs.Rules.{Some-line, Ruled}
+use Rattle.comparing.specs.Stands.{Stands}
+use Rattle.comparing.specs.Rules.{Some-line, Ruled}
 use Rattle.checking.specs.Checked.{lines-in, no-line, line-in, All-stand, Numbered, refused-by, all-checked}
 use Rattle.checking.proofs.LineLaws.{own-few, own-some, own}
 

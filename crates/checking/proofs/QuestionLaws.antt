@@ -29,10 +29,10 @@ use Rattle.steps.specs.AtHand.{request-of, request-in, At-hand}
 use Rattle.steps.specs.Lines.{goals-in}
 use Rattle.steps.proofs.SlotLaws.{goals-noted}
 use Rattle.steps.proofs.Served.{ends-at-hand}
-use Rattle.checking.specs.Stands.{after-list, Plan-stands, Stands}
-use Rattle.checking.specs.Rules.{Some-plan, Same-plans, Ruled}
-use Rattle.checking.proofs.StandLaws.{plan-stands}
-use Rattle.checking.proofs.RuleLaws.{no-left, no-right, yes-left}
+use Rattle.comparing.specs.Stands.{after-list, Plan-stands, Stands}
+use Rattle.comparing.specs.Rules.{Some-plan, Same-plans, Ruled}
+use Rattle.comparing.proofs.StandLaws.{plan-stands}
+use Rattle.ruling.proofs.RuleLaws.{no-left, no-right, yes-left}
 
 yes-right : (a b : Bool) → b ≡ true → both a b ≡ a
 unfolding both

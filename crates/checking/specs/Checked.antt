@@ -13,7 +13,7 @@ use Rattle.meaning.specs.Requests.{Table, done, Request}
 use Rattle.meaning.specs.Reading.{Got, got, fault, next}
 use Rattle.meaning.specs.Derivations.{Line, read-derivation, follows, citations-of, a-rule, cited-by, check-lines, check-last}
 use Rattle.deriving.specs.Derived.{Lines-here}
-use Rattle.checking.specs.Stands.{Lines-stand}
+use Rattle.comparing.specs.Stands.{Lines-stand}
 
 -- THE LINES that were read; none where a fault was met.
 unfoldable pub lines-of : Got (List Line) → List Line

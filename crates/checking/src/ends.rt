@@ -2,7 +2,7 @@ ghost use mathlib.Core.Path.{_≡_};
 ghost use Prim.Native.Nat.{_≤_};
 ghost use lib.ListN.{length};
 ghost use Rattle.deriving.specs.Derived.{Some-lines};
-ghost use Rattle.checking.specs.Stands.{Ends-noted};
+ghost use Rattle.comparing.specs.Stands.{Ends-noted};
 use bytes::bytes::Read;
 use deriving::derivations;
 use deriving::derivations::Places;

@@ -7,26 +7,26 @@ ghost use Rattle.meaning.specs.Literals.{among};
 ghost use Rattle.meaning.specs.Derivations.{citations-of, cited-by, follows, is-question};
 ghost use Rattle.bytes.specs.Read.{passed};
 ghost use Rattle.steps.specs.AtHand.{request-in, At-hand};
-ghost use Rattle.checking.specs.Rules.{Some-line, Ruled};
+ghost use Rattle.comparing.specs.Rules.{Some-line, Ruled};
 ghost use Rattle.checking.specs.Checked.{lines-in, line-in, All-stand, Numbered, Cites-earlier, all-below, numbers-from, refused-by, all-checked};
-use super::branches::rule_4;
 use super::numbers;
-use super::parts::same_lists;
-use super::plans::same_plans;
-use super::readings::rule_3;
-use super::rules::rule_1;
-use super::rules::rule_2;
-use super::rules::rule_5;
-use super::rules::rule_6;
 use bytes::bytes::two;
 use bytes::bytes::wide;
 use bytes::lists::Passed;
+use comparing::parts::same_lists;
+use comparing::plans::same_plans;
 use deriving::derivations::Places;
 use deriving::derived::place_of;
 use reading::table;
 use reading::table::Table;
 use reading::table::get;
 use refusing::overlaps::sequence_of;
+use ruling::branches::rule_4;
+use ruling::readings::rule_3;
+use ruling::rules::rule_1;
+use ruling::rules::rule_2;
+use ruling::rules::rule_5;
+use ruling::rules::rule_6;
 
 // One for each reading of some fluents, six at the most.
 fn readings(count: usize) -> bool

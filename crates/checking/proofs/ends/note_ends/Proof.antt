@@ -1,7 +1,7 @@
 -- Whatever lines stand where the places say, the slots before slot k have the ends of the lines before line k; the plan of line k, read again,
 -- ends where the line's list Y stands.
 use Prim.Native.Nat.{_-_}
-use Rattle.checking.proofs.StandLaws.{Noted, noted-start, noted-done, line-starts, end-fits, noted-next, noted-fault}
+use Rattle.comparing.proofs.StandLaws.{Noted, noted-start, noted-done, line-starts, end-fits, noted-next, noted-fault}
 use borrow.Author.Needs.{needs}
 use Rattle.checking.proofs.ends.note_ends.Statement.{statement}
 use Rattle.checking.proofs.ends.note_ends.Tie as tie

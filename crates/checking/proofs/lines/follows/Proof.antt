@@ -8,12 +8,12 @@ use Rattle.checking.proofs.lines.follows.Reads as reads
 use Rattle.checking.proofs.lines.follows.Lts as lts
 use Rattle.bytes.proofs.bytes.two.Reads as two-reads
 use Rattle.bytes.proofs.bytes.wide.Reads as wide-reads
-use Rattle.checking.proofs.branches.rule_4.Reads as rule-4-reads
-use Rattle.checking.proofs.readings.rule_3.Reads as rule-3-reads
-use Rattle.checking.proofs.rules.rule_1.Reads as rule-1-reads
-use Rattle.checking.proofs.rules.rule_2.Reads as rule-2-reads
-use Rattle.checking.proofs.rules.rule_5.Reads as rule-5-reads
-use Rattle.checking.proofs.rules.rule_6.Reads as rule-6-reads
+use Rattle.ruling.proofs.branches.rule_4.Reads as rule-4-reads
+use Rattle.ruling.proofs.readings.rule_3.Reads as rule-3-reads
+use Rattle.ruling.proofs.rules.rule_1.Reads as rule-1-reads
+use Rattle.ruling.proofs.rules.rule_2.Reads as rule-2-reads
+use Rattle.ruling.proofs.rules.rule_5.Reads as rule-5-reads
+use Rattle.ruling.proofs.rules.rule_6.Reads as rule-6-reads
 use Rattle.deriving.proofs.derived.place_of.Reads as place-of-reads
 use Rattle.refusing.proofs.overlaps.sequence_of.Reads as sequence-of-reads
 

@@ -1,13 +1,13 @@
 -- The facts stand at place 2 of the request, and its plan and its goals where the table says.
-use Rattle.checking.proofs.RuleLaws.{some-plan}
+use Rattle.ruling.proofs.RuleLaws.{some-plan}
 use Rattle.checking.proofs.QuestionLaws.{facts-here, goals-here, asked-some, other-facts, other-goals, question}
 use borrow.Author.Needs.{needs}
 use Rattle.checking.proofs.lines.is_question.Statement.{statement}
 use Rattle.checking.proofs.lines.is_question.Tie as tie
 use Rattle.checking.proofs.lines.is_question.Reads as reads
 use Rattle.checking.proofs.lines.is_question.Lts as lts
-use Rattle.checking.proofs.parts.same_lists.Reads as same-lists-reads
-use Rattle.checking.proofs.plans.same_plans.Reads as same-plans-reads
+use Rattle.comparing.proofs.parts.same_lists.Reads as same-lists-reads
+use Rattle.comparing.proofs.plans.same_plans.Reads as same-plans-reads
 use Rattle.reading.proofs.table.get.Reads as get-reads
 use Rattle.refusing.proofs.overlaps.sequence_of.Reads as sequence-of-reads
 

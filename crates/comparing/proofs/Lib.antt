@@ -1,0 +1,7 @@
+pub mod CodedLaws
+pub mod CodedReads
+pub mod StandLaws
+pub mod CodedPlaces
+pub mod PartLaws
+pub mod KnownLaws
+pub mod PlanLaws

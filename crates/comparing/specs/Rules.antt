@@ -1,0 +1,86 @@
+-- What the rules' functions answer of lines that stand in the input, whatever lines these are.
+use Prim.Native.Nat.{ℕ, _+_, _≤_, _<_}
+use mathlib.Core.Path.{_≡_}
+use mathlib.Core.Bool.{Bool}
+use mathlib.Core.List.{List, [], _∷_}
+use lib.ListN.{length, getD}
+use Rattle.meaning.specs.Requests.{Sequence}
+use lib.Dec.{ltb}
+use mathlib.Core.Bool.{true}
+use Rattle.meaning.specs.Tests.{each-of}
+use Rattle.meaning.specs.Derivations.{Line, same-plan, join, cited-by}
+use Rattle.reading.specs.Listed.{bytes-from}
+use Rattle.reading.specs.Planned.{bytes-of}
+use Rattle.refusing.specs.Plans.{own-items}
+use Rattle.deriving.specs.Derived.{Line-here}
+use Rattle.steps.proofs.SmallActions.{Small}
+use Rattle.comparing.specs.Coded.{coded, Tellable}
+use Rattle.comparing.specs.Stands.{Plan-stands, Stands, Lines-stand}
+
+-- PLANS. One stands with its count at q, up to e.
+pub record Some-plan (d : List ℕ) (q e : ℕ) : Type 0 where
+  pub plan : Sequence ℕ
+  pub stands : Plan-stands d q e plan
+
+-- So many items stand from a up to b.
+pub record Items-stand (d : List ℕ) (a b count : ℕ) (c : Sequence ℕ) : Type 0 where
+  pub counted : count ≡ own-items c
+  pub few : count ≤ 1024
+  pub ends : a + bytes-of c ≡ b
+  pub inside : b ≤ length d
+  pub sized : length (coded c) ≡ bytes-of c
+  pub bytes : bytes-from d a (bytes-of c) ≡ coded c
+  pub tellable : Tellable c
+
+pub record Some-items (d : List ℕ) (a b count : ℕ) : Type 0 where
+  pub items : Sequence ℕ
+  pub stand : Items-stand d a b count items
+
+pub record Same-plans (d : List ℕ) (q e : ℕ) (u : List ℕ) (r f : ℕ) (answer : Bool) : Type 0 where
+  pub holds : (b c : Sequence ℕ) → Plan-stands d q e b → Plan-stands u r f c → answer ≡ same-plan b c
+
+-- A plan is what stands from a up to b joined with what stands from g up to h.
+pub record Joined-plans (d : List ℕ) (q e a b count g h more : ℕ) (answer : Bool) : Type 0 where
+  pub holds : (c first rest : Sequence ℕ) → Plan-stands d q e c → Items-stand d a b count first → Items-stand d g h more rest → answer ≡ same-plan c (join first rest)
+
+-- LINES. One stands at p, with its list Y at y; its actions are below 64.
+pub record Some-line (d : List ℕ) (p y : ℕ) : Type 0 where
+  pub long : length d ≤ 32768
+  pub line : Line
+  pub stands : Stands d p y line
+  pub small : Small (line .c)
+
+pub record Ruled (d : List ℕ) (p y : ℕ) (rule : Line → Bool) (answer : Bool) : Type 0 where
+  pub holds : (l : Line) → Stands d p y l → answer ≡ rule l
+
+-- By a line that it cites.
+pub record Ruled-by (d : List ℕ) (pc yc p y : ℕ) (rule : Line → Line → Bool) (answer : Bool) : Type 0 where
+  pub holds : (c l : Line) → Stands d pc yc c → Stands d p y l → answer ≡ rule c l
+
+-- Where the line itself is read again, with n fluents and m actions.
+pub record Some-read (n m : ℕ) (d : List ℕ) (p y : ℕ) : Type 0 where
+  pub long : length d ≤ 32768
+  pub line : Line
+  pub here : Line-here n m d p line
+  pub stands : Stands d p y line
+
+pub record Read-by (n m : ℕ) (d : List ℕ) (pc yc p y : ℕ) (rule : Line → Line → Bool) (answer : Bool) : Type 0 where
+  pub holds : (c l : Line) → Stands d pc yc c → Line-here n m d p l → Stands d p y l → answer ≡ rule c l
+
+-- By two.
+pub record Ruled-by-two (d : List ℕ) (p₁ y₁ p₂ y₂ p y : ℕ) (rule : Line → Line → Line → Bool) (answer : Bool) : Type 0 where
+  pub holds : (b c l : Line) → Stands d p₁ y₁ b → Stands d p₂ y₂ c → Stands d p y l → answer ≡ rule b c l
+
+-- All lines stand, whatever lines these are, and there are so many.
+pub record Some-lines (d places ends : List ℕ) (count : ℕ) : Type 0 where
+  pub lines : List Line
+  pub stand : Lines-stand d places ends lines
+  pub size : length lines ≡ count
+
+-- By the lines that it cites, each of which is one of the lines.
+pub record Ruled-by-all (d places ends : List ℕ) (p y : ℕ) (rule : List Line → Line → Bool) (answer : Bool) : Type 0 where
+  pub holds : (lines : List Line) (l : Line) → Lines-stand d places ends lines → Stands d p y l → each-of (λ (k : ℕ). ltb k (length lines)) (l .cites) ≡ true → answer ≡ rule (cited-by lines l) l
+
+-- Each number that the line at p cites is that of one of so many lines.
+pub record Cited-below (d : List ℕ) (p y count : ℕ) : Type 0 where
+  pub holds : (l : Line) → Stands d p y l → each-of (λ (k : ℕ). ltb k count) (l .cites) ≡ true

@@ -1,0 +1,505 @@
+-- Rule 4 over the bytes: the branches of a plan's first item stand one after another, each with its condition and its sequence, and after the last
+-- of them the rest. What the whole branching gives is what the branches that are left give. Assumes nothing.
+use Prim.Native.Nat.{ℕ, zero, suc, _+_, _-_, _*_, _≤_, _<_}
+use native.Mathlib.Omega.{arith}
+use mathlib.Core.Path.{_≡_, refl, sym, _∙_, ap, ap₂, subst, fun-ext}
+use mathlib.Core.Bool.{Bool, true, false}
+use mathlib.Core.List.{List}
+use lib.ListN.{length, getD}
+use mir.Syntax.{w64}
+use mir.Val.{Fits}
+use Rattle.meaning.specs.Tests.{both, either, each-of}
+use Rattle.meaning.specs.Limits.{format}
+use Rattle.meaning.specs.Literals.{among, exclusive}
+use Rattle.meaning.specs.Requests.{Sequence, done, item, act, branching, Branches, none, branch}
+use Rattle.meaning.specs.Reading.{got, fault, Met, item-at, items-at, sequence-at, branching-at, plan-at}
+use Rattle.meaning.specs.States.{State, known, state-of}
+use Rattle.meaning.specs.Derivations.{Line, same-list, same-plan, join, included, says, takes-branch, branches-first, rule-4}
+use Rattle.meaning.proofs.TestLaws.{by-test}
+use Rattle.meaning.proofs.ToldLaws.{Clear, state-known}
+use Rattle.meaning.proofs.SettledLaws.{fault≢got, got-same}
+use Rattle.bytes.specs.declared.bytes.Read.{Read}
+use Rattle.bytes.specs.declared.bytes.Read.the-variants.{Value, Fault}
+use Rattle.reading.specs.declared.marks.Test.the-variants.{Known}
+use Rattle.reading.specs.Listed.{listed, List-here, holds-as}
+use Rattle.reading.specs.Planned.{items-of, items-in, items-under, bytes-of, bytes-in, bytes-under, place-of, plan-noted, noting-met, outcome-met}
+use Rattle.reading.proofs.PlanSizes.{On, got-on, next-on, two-bytes-through, item-read}
+use Rattle.reading.proofs.NotingLaws.{with-items, met-value, met-fault, fault-met}
+use Rattle.refusing.specs.Branchings.{sequence-place, place-after, item-after, Branches-here}
+use Rattle.refusing.specs.Plans.{own-items, branches-in, Written, Item-written, Branches-written, Kept, Item-kept, Branches-kept, Plan-held}
+use Rattle.refusing.proofs.OverlapLaws.{branch-first}
+use Rattle.refusing.proofs.PlanOverlaps.{place-is, item-is}
+use Rattle.refusing.proofs.WrittenLaws.{plan-held}
+use Rattle.deriving.specs.Derived.{Line-here}
+use Rattle.comparing.specs.Coded.{Tellable, Tellable-branches}
+use Rattle.comparing.specs.Stands.{after-list, Plan-stands, Stands}
+use Rattle.comparing.specs.Rules.{Some-plan, Items-stand, Some-items, Joined-plans, Some-line, Some-read, Read-by}
+use Rattle.ruling.specs.Branched.{branches-end, Branches-held, Branched, Some-branched, takes-known, Branch-taken}
+use Rattle.comparing.proofs.CodedLaws.{coded-length, own-most, none-done}
+use Rattle.comparing.proofs.CodedPlaces.{branch-coded, act-there, Branching-coded, branching-there}
+use Rattle.comparing.proofs.KnownLaws.{listed-clear}
+use Rattle.comparing.proofs.StandLaws.{Line-parts, line-parts}
+
+-- THE PLACE after so many branches.
+module _ (d t : List ℕ) where
+  end-first : (left p i : ℕ) → 0 < left → branches-end d t left p i ≡ branches-end d t (left - 1) (place-after d t p i) (item-after d t p i)
+  unfolding branches-end
+  end-first zero p i more = absurd (omega (arith, more))
+  end-first (suc left) p i more = let less : suc left - 1 ≡ left = omega arith in rw less
+
+  end-none : (left p i : ℕ) → left ≤ 0 → branches-end d t left p i ≡ p
+  unfolding branches-end
+  end-none zero p i h = refl
+  end-none (suc left) p i h = absurd (omega (arith, h))
+
+  module _ (whole left p i : ℕ) (so-far : whole ≡ branches-end d t left p i) where
+    pub end-next : 0 < left → (q j : ℕ) → q ≡ place-after d t p i → j ≡ item-after d t p i → whole ≡ branches-end d t (left - 1) q j
+    end-next more q j placed counted = so-far ∙ end-first left p i more ∙ rw (placed, counted)
+
+    pub end-done : left ≤ 0 → p ≡ whole
+    end-done over = sym (so-far ∙ end-none left p i over)
+
+  -- Branches that are held.
+  end-is : (bs : Branches ℕ) (p i : ℕ) → Branches-written d p bs → Branches-kept t i p bs → branches-end d t (branches-in bs) p i ≡ p + bytes-under bs
+  unfolding branches-end branches-in Branches-written Branches-kept bytes-under
+  end-is none p i w k = omega arith
+  end-is (branch c b rest) p i w k =
+      ap₂ {C = ℕ} (λ q j. branches-end d t (branches-in rest) q j) (place-is d t i p c b (w .0) (k .0)) (item-is d t i p c b (w .0) (k .0))
+      ∙ end-is rest (p + (1 + length c) + (2 + bytes-of b)) (i + items-of b) (w .2) (k .2)
+      ∙ omega arith
+
+  held-here : (bs : Branches ℕ) (p i : ℕ) → i + items-under bs ≤ 1024 → Branches-written d p bs → Branches-kept t i p bs → Branches-here d t (branches-in bs) p i
+  unfolding Branches-here branches-in Branches-written Branches-kept items-under
+  held-here none p i few w k = tt
+  held-here (branch c b rest) p i few w k = (
+    record { condition = w .0 .here; counted = w .0 .there; few = omega (arith, few) },
+    rw (place-is d t i p c b (w .0) (k .0), item-is d t i p c b (w .0) (k .0))
+        (held-here rest (p + (1 + length c) + (2 + bytes-of b)) (i + items-of b) (omega (arith, few)) (w .2) (k .2)),
+  )
+
+  -- THE FIRST of the branches, its items, and those after it.
+  record First-branch (left p i : ℕ) (bs : Branches ℕ) : Type 0 where
+    condition : List ℕ
+    body : Sequence ℕ
+    others : Branches ℕ
+    is : bs ≡ branch condition body others
+    same : listed d p ≡ condition
+    items : Items-stand d (sequence-place d p + 2) (place-after d t p i) (getD d (sequence-place d p) 0 * 256 + getD d (sequence-place d p + 1) 0) body
+    count : left - 1 ≡ branches-in others
+    then : Branches-held d t (place-after d t p i) (item-after d t p i) others
+
+  first-branch : (left p i : ℕ) → 0 < left → (bs : Branches ℕ) → left ≡ branches-in bs → Branches-held d t p i bs → First-branch left p i bs
+  unfolding branches-in Branches-written Branches-kept Tellable-branches items-under bytes-under sequence-place
+  first-branch left p i more none count h = absurd (omega (arith, more, count))
+  first-branch left p i more (branch c b rest) count h =
+      let w = h .written in let k = h .kept in let few = h .few in let inside = h .inside in
+      let code = branch-coded d p c b rest (h .bytes) in
+      let size = code .size in
+      let own = own-most b in
+      let place : place-after d t p i ≡ p + (1 + length c) + (2 + bytes-of b) = place-is d t i p c b (w .0) (k .0) in
+      let met : item-after d t p i ≡ i + items-of b = item-is d t i p c b (w .0) (k .0) in
+      let counted = code .count in
+      record {
+        condition = c;
+        body = b;
+        others = rest;
+        is = refl;
+        same = w .0 .condition;
+        items = record {
+          counted = counted;
+          few = omega (arith, few, own, counted);
+          ends = omega (arith, place, size);
+          inside = omega (arith, place, inside);
+          sized = coded-length b;
+          bytes = code .body;
+          tellable = h .tellable .1;
+        };
+        count = omega (arith, count);
+        then = rw (place, met)
+            (record {
+              few = omega (arith, few);
+              inside = omega (arith, inside);
+              written = w .2;
+              kept = k .2;
+              bytes = code .more-there;
+              tellable = h .tellable .2;
+            });
+      }
+
+  -- A BRANCHING that stands at `first`.
+  module _ (first y more : ℕ) where
+    module _ (some : Some-branched d t first y more) where
+      pub second-there : first + 1 < length d
+      second-there = some .branched .there
+
+      pub second-fits : Fits w64 (length d) → Fits w64 (first + 1)
+      second-fits room = let there = second-there in let most = room .fits in record { fits = omega arith }
+
+      pub start-fits : Fits w64 (length d) → Fits w64 (first + 2)
+      start-fits room = let there = second-there in let most = room .fits in record { fits = omega arith }
+
+    module _ (count : ℕ) (is : count ≡ getD d (first + 1) 0) where
+      pub branches-start : Some-branched d t first y more → Branches-here d t count (first + 2) 1
+      branches-start some =
+          let b = some .branched in
+          rw (is ∙ b .count) (held-here (some .branches) (first + 2) 1 (b .held .few) (b .held .written) (b .held .kept))
+
+      module _ (rest : ℕ) (after : rest ≡ branches-end d t count (first + 2) 1) where
+        rest-place : (bs : Branches ℕ) (last : Sequence ℕ) → Branched d t first y more bs last → rest ≡ first + 2 + bytes-under bs
+        rest-place bs last b = after ∙ ap (λ (k : ℕ). branches-end d t k (first + 2) 1) (is ∙ b .count) ∙ end-is bs (first + 2) 1 (b .held .written) (b .held .kept)
+
+        rest-items : (bs : Branches ℕ) (last : Sequence ℕ) → Branched d t first y more bs last → Items-stand d rest y more last
+        rest-items bs last b = subst (λ (k : ℕ). Items-stand d k y more last) (sym (rest-place bs last b)) (b .rest-stands)
+
+        pub rest-there : Some-branched d t first y more → Some-items d rest y more
+        rest-there some = record { items = some .rest; stand = rest-items (some .branches) (some .rest) (some .branched) }
+
+-- The count of a branch's items, and where these begin.
+module _ (d t : List ℕ) (left p i sequence : ℕ) (more : 0 < left) (here : Branches-here d t left p i) (at : sequence ≡ sequence-place d p) where
+  pub count-there : sequence + 1 < length d
+  count-there = rw at (branch-first d t left p i more here .counted)
+
+  pub items-fit : Fits w64 (length d) → Fits w64 (sequence + 2)
+  items-fit room = let there = count-there in let most = room .fits in record { fits = omega arith }
+
+-- THE LOOP. Of whatever branching stands there, the branches from p on give what all of them give.
+pub record Left (d t : List ℕ) (held : State) (left p i : ℕ) (bs : Branches ℕ) (rest c : Sequence ℕ) : Type 0 where
+  branches : Branches ℕ
+  count : left ≡ branches-in branches
+  here : Branches-held d t p i branches
+  same : takes-known held bs rest c ≡ takes-known held branches rest c
+
+pub record Trying (d t : List ℕ) (held : State) (first cited yc y more left p i : ℕ) : Type 0 where
+  pub holds : (bs : Branches ℕ) (rest c : Sequence ℕ) → Branched d t first y more bs rest → Plan-stands d cited yc c → Left d t held left p i bs rest c
+
+module _ (d t : List ℕ) (held : State) (first cited yc y more : ℕ) where
+  pub trying-starts : (count : ℕ) → count ≡ getD d (first + 1) 0 → Trying d t held first cited yc y more count (first + 2) 1
+  trying-starts count is = record { holds = λ bs rest c b plan. record { branches = bs; count = is ∙ b .count; here = b .held; same = refl } }
+
+  module _ (left p i : ℕ) (so-far : Trying d t held first cited yc y more left p i) where
+    pub taken-none : left ≤ 0 → Branch-taken d t held first cited yc y more false
+    unfolding takes-known branches-in
+    taken-none over = record { holds = λ bs rest c b plan. let l = so-far .holds bs rest c b plan in nothing bs rest c (l .branches) (l .count) (l .same) }
+      where
+        nothing : (bs : Branches ℕ) (rest c : Sequence ℕ) (branches : Branches ℕ) → left ≡ branches-in branches → takes-known held bs rest c ≡ takes-known held branches rest c → false ≡ takes-known held bs rest c
+        nothing bs rest c none count same = sym same
+        nothing bs rest c (branch k b others) count same = absurd (omega (arith, over, count))
+
+    module _ (some-left : 0 < left) where
+      record Step (bs : Branches ℕ) (rest c : Sequence ℕ) : Type 0 where
+        first-one : (branches : Branches ℕ) × First-branch d t left p i branches
+        answers : takes-known held bs rest c
+            ≡ either (both (each-of (known held) (listed d p)) (same-plan c (join (first-one .1 .body) rest))) (takes-known held (first-one .1 .others) rest c)
+
+      step : (bs : Branches ℕ) (rest c : Sequence ℕ) → Branched d t first y more bs rest → Plan-stands d cited yc c → Step bs rest c
+      unfolding takes-known
+      step bs rest c b plan =
+          let l = so-far .holds bs rest c b plan in
+          let f = first-branch d t left p i some-left (l .branches) (l .count) (l .here) in
+          record {
+            first-one = (l .branches, f);
+            answers = l .same ∙ ap (λ (x : Branches ℕ). takes-known held x rest c) (f .is)
+                ∙ ap (λ (k : List ℕ). either (both (each-of (known held) k) (same-plan c (join (f .body) rest))) (takes-known held (f .others) rest c)) (sym (f .same));
+          }
+
+      module _ (q j : ℕ) (placed : q ≡ place-after d t p i) (counted : j ≡ item-after d t p i) where
+        trying-next : ((bs : Branches ℕ) (rest c : Sequence ℕ) → (b : Branched d t first y more bs rest) → (plan : Plan-stands d cited yc c)
+            → both (each-of (known held) (listed d p)) (same-plan c (join (step bs rest c b plan .first-one .1 .body) rest)) ≡ false)
+            → Trying d t held first cited yc y more (left - 1) q j
+        unfolding either
+        trying-next fails =
+            record {
+              holds = λ bs rest c b plan.
+                  let s = step bs rest c b plan in
+                  let f = s .first-one .1 in
+                  record {
+                    branches = f .others;
+                    count = f .count;
+                    here = rw (placed, counted) (f .then);
+                    same = s .answers ∙ ap (λ (x : Bool). either x (takes-known held (f .others) rest c)) (fails bs rest c b plan);
+                  };
+            }
+
+        module _ (known-here : Bool) (tested : known-here ≡ each-of (holds-as Known held) (listed d p)) where
+          test-is : each-of (known held) (listed d p) ≡ known-here
+          unfolding holds-as
+          test-is = sym tested
+
+          pub trying-unknown : known-here ≡ false → Trying d t held first cited yc y more (left - 1) q j
+          unfolding both
+          trying-unknown not = trying-next (λ bs rest c b plan. rw (test-is ∙ not))
+
+      -- The branch's items, from two bytes after its count up to q, and the rest's.
+      module _ (q sequence items : ℕ) (placed : q ≡ place-after d t p i) (at : sequence ≡ sequence-place d p) (read : items ≡ getD d sequence 0 * 256 + getD d (sequence + 1) 0) where
+        branch-items : (branches : Branches ℕ) (f : First-branch d t left p i branches) → Items-stand d (sequence + 2) q items (f .body)
+        branch-items branches f = rw (read, placed, at) (f .items)
+
+        pub branch-there : Some-branched d t first y more → Some-plan d cited yc → Some-items d (sequence + 2) q items
+        branch-there some plan =
+            let s = step (some .branches) (some .rest) (plan .plan) (some .branched) (plan .stands) in
+            record { items = s .first-one .1 .body; stand = branch-items (s .first-one .0) (s .first-one .1) }
+
+        module _ (count rest : ℕ) (is : count ≡ getD d (first + 1) 0) (after : rest ≡ branches-end d t count (first + 2) 1) (answer : Bool) (joined : Joined-plans d cited yc (sequence + 2) q items rest y more answer) where
+          same-is : (bs : Branches ℕ) (last c : Sequence ℕ) (b : Branched d t first y more bs last) (plan : Plan-stands d cited yc c) → answer ≡ same-plan c (join (step bs last c b plan .first-one .1 .body) last)
+          same-is bs last c b plan =
+              let s = step bs last c b plan in
+              joined .holds c (s .first-one .1 .body) last plan (branch-items (s .first-one .0) (s .first-one .1)) (rest-items d t first y more count is rest after bs last b)
+
+          pub trying-other : answer ≡ false → (j : ℕ) → j ≡ item-after d t p i → Trying d t held first cited yc y more (left - 1) q j
+          unfolding both
+          trying-other not j counted =
+              trying-next q j placed counted
+              (λ bs last c b plan. ap (both (each-of (known held) (listed d p))) (sym (same-is bs last c b plan) ∙ not) ∙ by-test (each-of (known held) (listed d p)) (λ t. rw t) (λ f. rw f))
+
+          pub taken-here : (known-here : Bool) → known-here ≡ each-of (holds-as Known held) (listed d p) → known-here ≡ true → answer ≡ true → Branch-taken d t held first cited yc y more true
+          unfolding both either holds-as
+          taken-here known-here tested holds same =
+              record {
+                holds = λ bs last c b plan.
+                    let s = step bs last c b plan in
+                    sym (s .answers ∙ rw (sym tested ∙ holds, sym (same-is bs last c b plan) ∙ same));
+              }
+
+-- THE RULE of whatever lines stand there. A cited line that says another X or another Y says nothing of this one.
+module _ (cited l : Line) where
+  takes-never : ((b : Sequence ℕ) → says cited (l .X) b (l .Y) ≡ false) → (bs : Branches ℕ) (rest : Sequence ℕ) → takes-branch (l .X) bs rest (l .Y) cited ≡ false
+  unfolding takes-branch both either
+  takes-never never none rest = refl
+  takes-never never (branch c b bs) rest =
+      rw (never (join b rest)) (by-test (included c (l .X)) (λ t. rw t (takes-never never bs rest)) (λ f. rw f (takes-never never bs rest)))
+
+  rule-never : ((b : Sequence ℕ) → says cited (l .X) b (l .Y) ≡ false) → rule-4 cited l ≡ false
+  unfolding rule-4 branches-first
+  rule-never never = begins (l .c)
+    where
+      begins : (b : Sequence ℕ) → branches-first cited l b ≡ false
+      begins done = refl
+      begins (item (act p a) rest) = refl
+      begins (item (branching p bs) rest) = takes-never never bs rest
+
+  X-differs : same-list (cited .X) (l .X) ≡ false → rule-4 cited l ≡ false
+  unfolding says both
+  X-differs not = rule-never (λ b. rw not)
+
+  Y-differs : same-list (cited .Y) (l .Y) ≡ false → rule-4 cited l ≡ false
+  unfolding says both
+  Y-differs not =
+      rule-never
+      (λ b. rw not (by-test (same-plan (cited .c) b) (λ t. rw t (by-test (same-list (cited .X) (l .X)) (λ x. rw x) (λ x. rw x))) (λ f. rw f (by-test (same-list (cited .X) (l .X)) (λ x. rw x) (λ x. rw x)))))
+
+  module _ (starts : same-list (cited .X) (l .X) ≡ true) (ends : same-list (cited .Y) (l .Y) ≡ true) where
+    says-is : (b : Sequence ℕ) → says cited (l .X) b (l .Y) ≡ same-plan (cited .c) b
+    unfolding says both
+    says-is b = rw (starts, ends) (by-test (same-plan (cited .c) b) (λ t. rw t) (λ f. rw f))
+
+    takes-same : Clear format (l .X) → (bs : Branches ℕ) (rest : Sequence ℕ) → takes-known (state-of format (l .X)) bs rest (cited .c) ≡ takes-branch (l .X) bs rest (l .Y) cited
+    unfolding takes-known takes-branch included
+    takes-same clear none rest = refl
+    takes-same clear (branch c b bs) rest =
+        let asked : known (state-of format (l .X)) ≡ (λ (x : ℕ). among x (l .X)) = fun-ext (state-known format (l .X) clear) in
+        rw (says-is (join b rest), takes-same clear bs rest) (ap (λ (test : ℕ → Bool). either (both (each-of test c) (same-plan (cited .c) (join b rest))) (takes-branch (l .X) bs rest (l .Y) cited)) asked)
+
+-- A sequence with an item has a byte.
+own-bytes : (b : Sequence ℕ) → 0 < own-items b → 0 < bytes-of b
+unfolding own-items bytes-of bytes-in
+own-bytes done h = absurd (omega (arith, h))
+own-bytes (item (act p a) rest) h = omega arith
+own-bytes (item (branching p bs) rest) h = omega arith
+
+-- THE FIRST ITEM of a plan that was read stands after the plan's count.
+abbrev First-at : ℕ → Sequence ℕ → Type 0
+First-at p done = Unit {0}
+First-at p (item i rest) = place-of i ≡ p
+
+module _ (n m : ℕ) (s : List ℕ) where
+  items-first : (deep left p met : ℕ) → On (items-at format n m s (item-at format n m s (branching-at format n m s deep)) left p met) (λ x q. First-at p (x .value))
+  unfolding items-at
+  items-first deep zero p met = got-on _ _ tt
+  items-first deep (suc left) p met =
+      next-on _ _ (item-read n m s deep p met) λ i q one.
+      next-on _ _ (items-first deep left q (i .items)) λ rest r _.
+      got-on _ _ (one .place)
+
+  sequence-first : (deep p met : ℕ) → On (sequence-at format n m s (branching-at format n m s deep) p met) (λ x q. First-at (p + 2) (x .value))
+  unfolding sequence-at
+  sequence-first deep p met =
+      next-on _ _ (two-bytes-through s p) λ c q two.
+      record { holds = λ x r e. subst (λ (j : ℕ). First-at j (x .value)) (two .after) (items-first deep c q met .holds x r e) }
+
+  plan-first : (p : ℕ) (x : Met (Sequence ℕ)) (e : ℕ) → plan-at format n m s p ≡ got x e → First-at (p + 2) (x .value)
+  unfolding plan-at
+  plan-first p x e read = sequence-first 8 p 0 .holds x e read
+
+-- A LINE whose plan begins with a branching at `first`, and so many items after it up to y.
+record Begins (d u : List ℕ) (first y more : ℕ) (l : Line) : Type 0 where
+  place : ℕ
+  branches : Branches ℕ
+  rest : Sequence ℕ
+  is : l .c ≡ item (branching place branches) rest
+  branched : Branched d u first y more branches rest
+
+module _ (d u : List ℕ) (plan y : ℕ) where
+  opened : (o : ℕ) (bs : Branches ℕ) (rest : Sequence ℕ) → o ≡ plan + 2 → Plan-stands d plan y (item (branching o bs) rest) → Plan-held d u (item (branching o bs) rest) → Branching-coded d (plan + 2) bs rest
+      → Tellable-branches bs → Tellable rest → (more : ℕ) → more ≡ own-items rest → Branched d u (plan + 2) y more bs rest
+  unfolding Written Item-written Kept Item-kept items-of items-in bytes-of bytes-in own-items
+  opened o bs rest place stands held code told tells more counted =
+      let few = held .few in let most = stands .few in let inside = stands .inside in let ends = stands .ends in
+      let w = held .written .0 in let k = held .kept .0 in
+      record {
+        there = subst (λ (j : ℕ). j + 1 < length d) place (w .0 .there);
+        count = code .count;
+        held = record {
+          few = omega (arith, few);
+          inside = omega (arith, inside, ends);
+          written = subst (λ (j : ℕ). Branches-written d (j + 2) bs) place (w .1);
+          kept = subst (λ (j : ℕ). Branches-kept u 1 (j + 2) bs) place (k .1);
+          bytes = code .branches-there;
+          tellable = told;
+        };
+        rest-stands = record {
+          counted = counted;
+          few = omega (arith, counted, most);
+          ends = omega (arith, ends);
+          inside = inside;
+          sized = coded-length rest;
+          bytes = code .rest-there;
+          tellable = tells;
+        };
+      }
+
+-- THE CITED LINE.
+module _ (d : List ℕ) (pc yc : ℕ) where
+  pub cited-list : Some-line d pc yc → List-here 128 d pc
+  cited-list some = some .stands .X .here
+
+  module _ (cited : ℕ) (at : cited ≡ sequence-place d pc) where
+    cited-stands : (c : Line) → Stands d pc yc c → Plan-stands d cited yc (c .c)
+    unfolding sequence-place after-list
+    cited-stands c sc = rw at (sc .plan)
+
+    pub cited-plan : Some-line d pc yc → Some-plan d cited yc
+    cited-plan some = record { plan = some .line .c; stands = cited-stands (some .line) (some .stands) }
+
+  -- Where X or Y differs.
+  module _ (p y : ℕ) where
+    X-same : (c l : Line) → Stands d pc yc c → Stands d p y l → same-list (c .X) (l .X) ≡ same-list (listed d pc) (listed d p)
+    X-same c l sc sl = rw (sc .X .same, sl .X .same)
+
+    Y-same : (c l : Line) → Stands d pc yc c → Stands d p y l → same-list (c .Y) (l .Y) ≡ same-list (listed d yc) (listed d y)
+    Y-same c l sc sl = rw (sc .Y .same, sl .Y .same)
+
+    module _ (n m : ℕ) (r : Bool) where
+      pub starts-other : r ≡ same-list (listed d pc) (listed d p) → r ≡ false → Read-by n m d pc yc p y rule-4 false
+      starts-other tested not = record { holds = λ c l sc _ sl. sym (X-differs c l (X-same c l sc sl ∙ sym tested ∙ not)) }
+
+      pub ends-other : r ≡ same-list (listed d yc) (listed d y) → r ≡ false → Read-by n m d pc yc p y rule-4 false
+      ends-other tested not = record { holds = λ c l sc _ sl. sym (Y-differs c l (Y-same c l sc sl ∙ sym tested ∙ not)) }
+
+-- THE LINE.
+module _ (n m : ℕ) (d : List ℕ) (p y : ℕ) where
+  -- Its plan, with the count there.
+  module _ (plan : ℕ) (at : plan ≡ sequence-place d p) where
+    plan-there : (l : Line) → Stands d p y l → Plan-stands d plan y (l .c)
+    unfolding sequence-place after-list
+    plan-there l sl = rw at (sl .plan)
+
+    pub plan-counted : Some-read n m d p y → plan + 1 < length d
+    plan-counted some = plan-there (some .line) (some .stands) .counted
+
+    pub first-fits : Some-read n m d p y → Fits w64 (length d) → Fits w64 (plan + 2)
+    first-fits some room = let there = plan-counted some in let most = room .fits in record { fits = omega arith }
+
+    module _ (count : ℕ) (counted : count ≡ getD d plan 0 * 256 + getD d (plan + 1) 0) where
+      own-is : (l : Line) → Stands d p y l → count ≡ own-items (l .c)
+      own-is l sl = counted ∙ plan-there l sl .count
+
+      pub count-none : (pc yc : ℕ) → count ≡ 0 → Read-by n m d pc yc p y rule-4 false
+      unfolding rule-4 branches-first
+      count-none pc yc zero-items = record { holds = λ c l sc _ sl. sym (ap (branches-first c l) (none-done (l .c) (sym (own-is l sl) ∙ zero-items))) }
+
+      module _ (some-items : count ≡ 0 → ⊥) where
+        own-some : (l : Line) → Stands d p y l → 0 < own-items (l .c)
+        own-some l sl = let own = own-is l sl in omega (arith, own, some-items)
+
+        pub first-there : Some-read n m d p y → plan + 2 < length d
+        first-there some =
+            let sl = some .stands in
+            let ends = plan-there (some .line) sl .ends in let inside = plan-there (some .line) sl .inside in
+            let bytes = own-bytes (some .line .c) (own-some (some .line) sl) in
+            omega arith
+
+        -- No branching first.
+        pub other-first : (pc yc : ℕ) → (getD d (plan + 2) 0 ≡ 255 → ⊥) → Read-by n m d pc yc p y rule-4 false
+        unfolding rule-4 branches-first
+        other-first pc yc other =
+            record {
+              holds = λ c l sc _ sl.
+                  let there = plan-there l sl in
+                  sym (ap (branches-first c l) (act-there d (plan + 2) (l .c) (own-some l sl) (there .tellable) (there .bytes) other .is));
+            }
+
+        -- THE PLAN READ AGAIN, which leaves it in the table.
+        module _ (byte : getD d (plan + 2) 0 ≡ 255) (few : n ≤ 64) (less : m ≤ 64) (t u : List ℕ) (r : Read) (read : outcome-met r u ≡ noting-met (plan-noted plan t) (plan-at format n m d plan)) where
+          again : (l : Line) (w : Line-parts n m d p l) → plan-at format n m d plan ≡ got (w .plan) (w .end)
+          unfolding sequence-place after-list
+          again l w = ap (plan-at format n m d) at ∙ w .reads
+
+          module _ (long : length t ≡ 9480) (items e : ℕ) (is : r ≡ Value items e) where
+            begins : (l : Line) → Line-here n m d p l → Stands d p y l → Begins d u (plan + 2) y (count - 1) l
+            unfolding place-of
+            begins l here sl =
+                let w = line-parts n m d few p l here in
+                let v = met-value (plan-noted plan t) (plan-at format n m d plan) r u items e read is in
+                let same : with-items (v .0) items ≡ w .plan = got-same (sym (v .1) ∙ again l w) in
+                let tree : v .0 ≡ l .c = ap (λ (x : Met (Sequence ℕ)). x .value) same ∙ w .is in
+                let there = plan-there l sl in
+                let b = branching-there d (plan + 2) (l .c) (own-some l sl) (there .tellable) (there .bytes) byte in
+                let whole : v .0 ≡ item (branching (b .place) (b .branches)) (b .rest) = tree ∙ b .is in
+                let read-there = plan-held n m d few less plan t (with-items (v .0) items) e (omega (arith, long)) (v .1) in
+                let held : Plan-held d u (v .0) = subst (λ (x : List ℕ). Plan-held d x (v .0)) (sym (v .2)) read-there in
+                let own = own-is l sl in let one = b .own in
+                record {
+                  place = b .place;
+                  branches = b .branches;
+                  rest = b .rest;
+                  is = b .is;
+                  branched = opened d u plan y (b .place) (b .branches) (b .rest)
+                      (subst (First-at (plan + 2)) whole (plan-first n m d plan (with-items (v .0) items) e (v .1)))
+                      (subst (Plan-stands d plan y) (b .is) there)
+                      (subst (Plan-held d u) whole held)
+                      (b .there)
+                      (b .branches-told)
+                      (b .rest-told)
+                      (count - 1)
+                      (omega (arith, own, one));
+                }
+
+            pub branching-first : Some-read n m d p y → Some-branched d u (plan + 2) y (count - 1)
+            branching-first some =
+                let g = begins (some .line) (some .here) (some .stands) in
+                record { branches = g .branches; rest = g .rest; branched = g .branched }
+
+            module _ (pc yc : ℕ) (one other : Bool) (starts : one ≡ same-list (listed d pc) (listed d p)) (yes : one ≡ true) (ends : other ≡ same-list (listed d yc) (listed d y)) (also : other ≡ true) where
+              pub rule-by-branch : (held : State) → held ≡ state-of format (listed d p) → (cited : ℕ) → cited ≡ sequence-place d pc → (answer : Bool) → Branch-taken d u held (plan + 2) cited yc y (count - 1) answer
+                  → Read-by n m d pc yc p y rule-4 answer
+              unfolding rule-4 branches-first
+              rule-by-branch held told cited place answer taken =
+                  record {
+                    holds = λ c l sc here sl.
+                        let g = begins l here sl in
+                        let apart = subst (λ (xs : List ℕ). exclusive xs xs ≡ false) (sym (sl .X .same)) (sl .X .clear) in
+                        let clear : Clear format (l .X) = subst (Clear format) (sl .X .same) (listed-clear d p (sl .X .here) apart) in
+                        taken .holds (g .branches) (g .rest) (c .c) (g .branched) (cited-stands d pc yc cited place c sc)
+                        ∙ ap (λ (s : State). takes-known s (g .branches) (g .rest) (c .c)) (told ∙ ap (state-of format) (sl .X .same))
+                        ∙ takes-same c l (X-same d pc yc p y c l sc sl ∙ sym starts ∙ yes) (Y-same d pc yc p y c l sc sl ∙ sym ends ∙ also) clear (g .branches) (g .rest)
+                        ∙ sym (ap (branches-first c l) (g .is));
+                  }
+
+          -- A plan that stands there is read without a fault.
+          pub read-again : (pc yc k e : ℕ) → r ≡ Fault k e → Read-by n m d pc yc p y rule-4 false
+          read-again pc yc k e is =
+              record {
+                holds = λ c l sc here sl.
+                    let no : plan-at format n m d plan ≡ fault k e = fault-met (plan-noted plan t) (plan-at format n m d plan) k e (met-fault (plan-noted plan t) (plan-at format n m d plan) r u k e read is) in
+                    absurd (fault≢got (sym no ∙ again l (line-parts n m d few p l here)));
+              }

@@ -1,0 +1,627 @@
+-- Rule 3: a citation says a reading just where its list, its count and its items' bytes do; the readings of the first unknown fluent are those with
+-- it true and then those with it false, and the citations are used up in that order. As many lines are used as there are readings, so that how
+-- many are cited need not be asked beforehand. Assumes nothing.
+use Prim.Native.Nat.{ℕ, zero, suc, _+_, _-_, _*_, _^_, _≤_, _<_}
+use native.Mathlib.Omega.{arith}
+use native.Mathlib.Nat.{pow-suc}
+use native.Mathlib.Decide.{ℕ-discrete, decLt}
+use mathlib.Core.Path.{_≡_, refl, sym, _∙_, ap, ap₂, subst}
+use mathlib.Core.Bool.{Bool, true, false}
+use mathlib.Core.List.{List, [], _∷_, _++_}
+use lib.ListN.{length, getD, set, take, drop, replicate, length-set, length-replicate, length-map, length-append, getD-replicate, List·getD-eq-default, drop-of-length-le}
+use lib.Seq.{getD-set-same, getD-set-other, drop-cons, set-set}
+use lib.Dec.{eqb, ltb}
+use mir.Syntax.{w64}
+use mir.Val.{Fits}
+use borrow.Author.Tests.{eqb-false, eq-eqb, ne-eqb, ltb-true, lt-ltb, le-ltb}
+use Rattle.meaning.specs.Tests.{both, pick, each-of}
+use Rattle.meaning.specs.Limits.{format}
+use Rattle.meaning.specs.Literals.{says-true, says-false, fluent-of}
+use Rattle.meaning.specs.Requests.{Table, Sequence, done, item, act, branching}
+use Rattle.meaning.specs.Lines.{sensing}
+use Rattle.meaning.specs.States.{State, mark-of, told, told-all, state-of, can-be-run, unknown-sensed, readings}
+use Rattle.meaning.specs.Derivations.{Line, same-list, same-plan, literals-of, says, states-of, each-reads, reads, senses-first, rule-3, cited-by}
+use Rattle.meaning.proofs.TestLaws.{by-test, clash, both-left, both-right, pick-true, pick-false}
+use Rattle.reading.specs.Listed.{bytes-from, listed, List-here}
+use Rattle.reading.specs.Planned.{bytes-of}
+use Rattle.reading.proofs.MarkLaws.{mark-most}
+use Rattle.refusing.specs.Branchings.{sequence-place}
+use Rattle.refusing.specs.Plans.{own-items}
+use Rattle.steps.specs.AtHand.{Marked}
+use Rattle.steps.specs.Steps.{unknown-above, first-of}
+use Rattle.steps.proofs.SmallActions.{Small}
+use Rattle.steps.proofs.SensingLaws.{marked-set, told-true, told-false, unknown-after-set, unknown-first, unknown-first-above, unknown-no-first, sensed-first, sensed-no-first}
+use Rattle.ruling.specs.declared.readings.Used.{Used}
+use Rattle.ruling.specs.declared.readings.Used.the-variants.{To, Fails}
+use Rattle.ruling.specs.declared.readings.Rest.{Rest}
+use Rattle.comparing.specs.Coded.{coded}
+use Rattle.comparing.specs.Stands.{after-list, Plan-stands, Numbers-stand, Stands, Lines-stand}
+use Rattle.comparing.specs.Rules.{Items-stand, Some-line, Some-lines, Cited-below, Ruled-by-all}
+use Rattle.ruling.specs.Readings.{lines-at, reads-at, used, fluents-from, states-from, Stands-some, Follows, Some-follows, Says-reading, Rest-stands, Some-rest, Uses}
+use Rattle.comparing.proofs.CodedLaws.{same-own, same-coded, none-done, coded-length}
+use Rattle.comparing.proofs.CodedPlaces.{Act-there, act-there, branching-there}
+use Rattle.comparing.proofs.PartLaws.{part-bytes}
+
+-- TESTS that are put together.
+no-left : (a b : Bool) → a ≡ false → false ≡ both a b
+unfolding both
+no-left a b e = rw e refl
+
+no-right : (a b : Bool) → b ≡ false → false ≡ both a b
+no-right a b e = by-test (both a b) (λ t. clash (both-right a b t) e) sym
+
+yes-left : (a b : Bool) → a ≡ true → both a b ≡ b
+unfolding both
+yes-left a b e = rw e refl
+
+-- PARTS. What stands after a plan's count, up to its end, is its items; and so are items that stand by themselves.
+plan-part : (d : List ℕ) (q e : ℕ) (c : Sequence ℕ) → Plan-stands d q e c → take (e - (q + 2)) (drop (q + 2) d) ≡ coded c
+plan-part d q e c w =
+    let ends = w .ends in
+    let size : e - (q + 2) ≡ bytes-of c = omega (arith, ends) in
+    part-bytes d (q + 2) e (omega (arith, ends)) (w .inside) ∙ ap (bytes-from d (q + 2)) size ∙ w .bytes
+
+items-part : (d : List ℕ) (a b count : ℕ) (c : Sequence ℕ) → Items-stand d a b count c → take (b - a) (drop a d) ≡ coded c
+items-part d a b count c w =
+    let ends = w .ends in
+    let size : b - a ≡ bytes-of c = omega (arith, ends) in
+    part-bytes d a b (omega (arith, ends)) (w .inside) ∙ ap (bytes-from d a) size ∙ w .bytes
+
+-- ONE CITATION, a line at pc, whose plan's count stands at q.
+module _ (d : List ℕ) (pc yc q : ℕ) (after : q ≡ sequence-place d pc) where
+  cited-plan : (c : Line) → Stands d pc yc c → Plan-stands d q yc (c .c)
+  unfolding sequence-place after-list
+  cited-plan c w = subst (λ (j : ℕ). Plan-stands d j yc (c .c)) (sym after) (w .plan)
+
+  module _ (some : Stands-some d pc yc) where
+    cited-some : Plan-stands d q yc (some .line .c)
+    cited-some = cited-plan (some .line) (some .stands)
+
+    pub cited-counted : q + 1 < length d
+    cited-counted = cited-some .counted
+
+    pub cited-fits : Fits w64 (q + 2)
+    cited-fits = let there = cited-counted in let long = some .long in record { fits = omega (arith, there, long) }
+
+    pub cited-ends : q + 2 ≤ yc
+    cited-ends = let ends = cited-some .ends in omega (arith, ends)
+
+module _ (d : List ℕ) (marks : State) (r : Rest) (pc yc : ℕ) (starts : Bool) (first : starts ≡ same-list (listed d pc) (literals-of marks)) where
+  starts-is : (c : Line) → Stands d pc yc c → starts ≡ same-list (c .X) (literals-of marks)
+  starts-is c w = first ∙ ap (λ (xs : List ℕ). same-list xs (literals-of marks)) (w .X .same)
+
+  pub starts-other : starts ≡ false → Says-reading d marks r pc yc false
+  unfolding says
+  starts-other f = record { holds = λ c rest Y w v. no-left (same-list (c .X) (literals-of marks)) _ (sym (starts-is c w) ∙ f) }
+
+  module _ (q count : ℕ) (after : q ≡ sequence-place d pc) (read : count ≡ getD d q 0 * 256 + getD d (q + 1) 0) where
+    pub count-other : (count ≡ r .items → ⊥) → Says-reading d marks r pc yc false
+    unfolding says
+    count-other differ =
+        record {
+          holds = λ c rest Y w v.
+              no-right (same-list (c .X) (literals-of marks)) _
+              (sym (no-left (same-plan (c .c) rest) (same-list (c .Y) Y)
+              (by-test (same-plan (c .c) rest)
+              (λ t. absurd (differ (read ∙ cited-plan d pc yc q after c w .count ∙ same-own (c .c) rest t ∙ sym (v .items .counted))))
+              (λ f. f))));
+        }
+
+    module _ (counted : count ≡ r .items) (same : Bool) (parts : same ≡ same-list (take (yc - (q + 2)) (drop (q + 2) d)) (take (r .y - r .first) (drop (r .first) d))) where
+      same-is : (c : Line) (rest : Sequence ℕ) (Y : List ℕ) → Stands d pc yc c → Follows d r rest Y → same ≡ same-plan (c .c) rest
+      unfolding both
+      same-is c rest Y w v =
+          let plan = cited-plan d pc yc q after c w in
+          let own : own-items (c .c) ≡ own-items rest = sym (plan .count) ∙ sym read ∙ counted ∙ v .items .counted in
+          parts
+          ∙ rw (plan-part d q yc (c .c) plan, items-part d (r .first) (r .y) (r .items) rest (v .items))
+          (sym (same-coded (c .c) rest (plan .tellable) (v .items .tellable) ∙ rw (eq-eqb (own-items (c .c)) (own-items rest) own)))
+
+      pub items-other : same ≡ false → Says-reading d marks r pc yc false
+      unfolding says
+      items-other f =
+          record {
+            holds = λ c rest Y w v.
+                no-right (same-list (c .X) (literals-of marks)) _ (sym (no-left (same-plan (c .c) rest) (same-list (c .Y) Y) (sym (same-is c rest Y w v) ∙ f)));
+          }
+
+      pub items-same : starts ≡ true → same ≡ true → (answer : Bool) → answer ≡ same-list (listed d yc) (listed d (r .y)) → Says-reading d marks r pc yc answer
+      unfolding says
+      items-same t u answer is =
+          record {
+            holds = λ c rest Y w v.
+                is
+                ∙ ap₂ {C = Bool} same-list (w .Y .same) (v .list .same)
+                ∙ sym (yes-left (same-plan (c .c) rest) (same-list (c .Y) Y) (sym (same-is c rest Y w v) ∙ u))
+                ∙ sym (yes-left (same-list (c .X) (literals-of marks)) _ (sym (starts-is c w) ∙ t));
+          }
+
+-- CITATION k. Two bytes say its number.
+number-stands : (d cites : List ℕ) (p k : ℕ) → Numbers-stand d p cites → k < length cites
+    → (p + 2 * k + 1 < length d) × (getD d (p + 2 * k) 0 * 256 + getD d (p + 2 * k + 1) 0 ≡ getD cites k 0)
+unfolding Numbers-stand
+number-stands d [] p k stand less = absurd (omega (arith, less))
+number-stands d (x ∷ cites) p zero stand less = let same : p + 2 * zero ≡ p = omega arith in rw same (stand .0, stand .1)
+number-stands d (x ∷ cites) p (suc k) stand less =
+    let on : p + 2 * suc k ≡ p + 2 + 2 * k = omega arith in
+    rw on (number-stands d cites (p + 2) k (stand .2) (omega (arith, less)))
+
+each-at : (test : ℕ → Bool) (cites : List ℕ) (k : ℕ) → each-of test cites ≡ true → k < length cites → test (getD cites k 0) ≡ true
+unfolding each-of
+each-at test [] k all less = absurd (omega (arith, less))
+each-at test (x ∷ cites) zero all less = both-left _ _ all
+each-at test (x ∷ cites) (suc k) all less = each-at test cites k (both-right _ _ all) (omega (arith, less))
+
+lines-length : (lines : List Line) (other : Line) (cites : List ℕ) → length (lines-at lines other cites) ≡ length cites
+unfolding lines-at
+lines-length lines other cites = length-map cites (λ (k : ℕ). getD lines k other)
+
+line-at-number : (lines : List Line) (other : Line) (cites : List ℕ) (k : ℕ) → k < length cites → getD (lines-at lines other cites) k other ≡ getD lines (getD cites k 0) other
+unfolding lines-at
+line-at-number lines other [] k less = absurd (omega (arith, less))
+line-at-number lines other (x ∷ cites) zero less = refl
+line-at-number lines other (x ∷ cites) (suc k) less = line-at-number lines other cites k (omega (arith, less))
+
+module _ (d places ends : List ℕ) (r : Rest) (k : ℕ) where
+  pub none-left : (marks : State) → r .count ≤ k → Uses d places ends r (marks ∷ []) k Fails
+  unfolding used reads-at
+  none-left marks far =
+      record {
+        holds = λ lines rest Y cites other w.
+            let size = lines-length lines other cites in let counted = w .counted in
+            sym (pick-false _ _ _ (sym (no-left _ _ (le-ltb k (length (lines-at lines other cites)) (omega (arith, far, size, counted))))));
+      }
+
+  module _ (some : Some-rest d places ends r) (less : k < r .count) where
+    near : k < length (some .cites)
+    near = let counted = some .stands .counted in omega (arith, less, counted)
+
+    pub second-inside : r .cites + 2 * k + 1 < length d
+    second-inside = number-stands d (some .cites) (r .cites) k (some .stands .numbers) near .0
+
+    pub first-inside : r .cites + 2 * k < length d
+    first-inside = let there = second-inside in omega (arith, there)
+
+    pub first-fits : Fits w64 (r .cites + 2 * k)
+    first-fits = let there = second-inside in let long = some .stands .stand .long in record { fits = omega (arith, there, long) }
+
+    pub second-fits : Fits w64 (r .cites + 2 * k + 1)
+    second-fits = let there = second-inside in let long = some .stands .stand .long in record { fits = omega (arith, there, long) }
+
+  -- Its line stands where the slots say.
+  module _ (less : k < r .count) (number : ℕ) (read : number ≡ getD d (r .cites + 2 * k) 0 * 256 + getD d (r .cites + 2 * k + 1) 0) where
+    module _ (lines : List Line) (rest : Sequence ℕ) (Y cites : List ℕ) (w : Rest-stands d places ends r lines rest Y cites) where
+      close : k < length cites
+      close = let counted = w .counted in omega (arith, less, counted)
+
+      is-number : number ≡ getD cites k 0
+      is-number = read ∙ number-stands d cites (r .cites) k (w .numbers) close .1
+
+      is-below : number < length lines
+      is-below = rw is-number (ltb-true (getD cites k 0) (length lines) (each-at (λ (j : ℕ). ltb j (length lines)) cites k (w .below) close))
+
+      module _ (other : Line) where
+        cited-stands : Stands d (getD places number 0) (getD ends number 0) (getD (lines-at lines other cites) k other)
+        cited-stands = subst (Stands d (getD places number 0) (getD ends number 0)) (ap (λ (j : ℕ). getD lines j other) is-number ∙ sym (line-at-number lines other cites k close)) (w .stand .each number is-below other)
+
+        cited-near : ltb k (length (lines-at lines other cites)) ≡ true
+        cited-near = let size = lines-length lines other cites in lt-ltb k (length (lines-at lines other cites)) (let there = close in omega (arith, there, size))
+
+    pub number-small : Some-rest d places ends r → number < 1024
+    number-small some =
+        let below = is-below (some .lines) (some .rest) (some .Y) (some .cites) (some .stands) in
+        let few = some .stands .stand .few in
+        omega (arith, below, few)
+
+    module _ (pc yc : ℕ) (place : pc ≡ getD places number 0) (end : yc ≡ getD ends number 0) where
+      pub number-line : Some-rest d places ends r → Stands-some d pc yc
+      number-line some =
+          let lines = some .lines in
+          record {
+            long = some .stands .stand .long;
+            line = getD (lines-at lines no-line (some .cites)) k no-line;
+            stands = rw (place, end) (cited-stands lines (some .rest) (some .Y) (some .cites) (some .stands) no-line);
+          }
+        where
+          no-line : Line
+          no-line = record { place = 0; X = []; c = done; Y = []; rule = 0; cites = [] }
+
+      module _ (marks : State) (said : Bool) (says-so : Says-reading d marks r pc yc said) where
+        said-is : (lines : List Line) (rest : Sequence ℕ) (Y cites : List ℕ) (other : Line) → Rest-stands d places ends r lines rest Y cites
+            → said ≡ reads-at rest Y (lines-at lines other cites) other marks k
+        unfolding reads-at
+        said-is lines rest Y cites other w =
+            says-so .holds (getD (lines-at lines other cites) k other) rest Y (rw (place, end) (cited-stands lines rest Y cites w other)) (w .follows)
+            ∙ sym (yes-left _ _ (cited-near lines rest Y cites w other))
+
+        pub reading-said : said ≡ true → Uses d places ends r (marks ∷ []) k (To (k + 1))
+        unfolding used
+        reading-said t = record { holds = λ lines rest Y cites other w. sym (pick-true _ _ _ (sym (said-is lines rest Y cites other w) ∙ t)) }
+
+        pub reading-unsaid : said ≡ false → Uses d places ends r (marks ∷ []) k Fails
+        unfolding used
+        reading-unsaid f = record { holds = λ lines rest Y cites other w. sym (pick-false _ _ _ (sym (said-is lines rest Y cites other w) ∙ f)) }
+
+pub some-follows : (d places ends : List ℕ) (r : Rest) → Some-rest d places ends r → Some-follows d r
+some-follows d places ends r some = record { rest = some .rest; Y = some .Y; follows = some .stands .follows }
+
+-- STATES ONE AFTER THE OTHER.
+abbrev on : Used → (ℕ → Used) → Used
+on r then = elim r [ To j ↦ then j | Fails ↦ Fails ]
+
+module _ (rest : Sequence ℕ) (Y : List ℕ) (cited : List Line) (other : Line) where
+  used-then : (xs ys : List State) (k : ℕ) → used rest Y cited other (xs ++ ys) k ≡ on (used rest Y cited other xs k) (used rest Y cited other ys)
+  unfolding used
+  used-then [] ys k = refl
+  used-then (x ∷ xs) ys k =
+      by-test (reads-at rest Y cited other x k)
+      (λ t. pick-true _ _ _ t ∙ used-then xs ys (k + 1) ∙ ap (λ (u : Used). on u (used rest Y cited other ys)) (sym (pick-true _ _ _ t)))
+      (λ f. pick-false _ _ _ f ∙ ap (λ (u : Used). on u (used rest Y cited other ys)) (sym (pick-false _ _ _ f)))
+
+-- THE FIRST UNKNOWN FLUENT f, with the next one g.
+module _ (t : Table) (a : ℕ) (marks : State) (marked : Marked marks) (f : ℕ) where
+  module _ (small : f < 64) where
+    pub first-marked : Marked (set marks f 1)
+    first-marked = marked-set marks f 1 marked small (omega arith)
+
+    pub second-marked : Marked (set (set marks f 1) f 2)
+    second-marked = marked-set (set marks f 1) f 2 first-marked small (omega arith)
+
+  fluents-next : (m : State) → Marked m → (g : ℕ) → g ≡ first-of (unknown-above t a m (f + 1)) → fluents-from t a m g ≡ unknown-above t a m (f + 1)
+  unfolding fluents-from
+  fluents-next m good g next =
+      elim (decLt g 64) [
+        | yes near ↦ pick-true _ _ _ (lt-ltb g 64 near) ∙ sym (unknown-first t a m good (f + 1) g next near)
+        | no far ↦ pick-false _ _ _ (le-ltb g 64 (omega arith)) ∙ sym (unknown-no-first t a m good (f + 1) g next (omega arith))
+      ]
+
+  module _ (small : f < 64) (g : ℕ) (next : g ≡ first-of (unknown-above t a (set marks f 1) (f + 1))) where
+    second-next : g ≡ first-of (unknown-above t a (set (set marks f 1) f 2) (f + 1))
+    second-next = next ∙ ap first-of (sym (unknown-after-set t a (set marks f 1) f 2))
+
+    states-split : states-from t a marks f ≡ states-from t a (set marks f 1) g ++ states-from t a (set (set marks f 1) f 2) g
+    unfolding states-from fluents-from readings states-of
+    states-split =
+        let above : List ℕ = unknown-above t a marks (f + 1) in
+        let one : fluents-from t a (set marks f 1) g ≡ above = fluents-next (set marks f 1) (first-marked small) g next ∙ unknown-after-set t a marks f 1 in
+        let two : fluents-from t a (set (set marks f 1) f 2) g ≡ above =
+        fluents-next (set (set marks f 1) f 2) (second-marked small) g second-next ∙ unknown-after-set t a (set marks f 1) f 2 ∙ unknown-after-set t a marks f 1 in
+        let all : fluents-from t a marks f ≡ f ∷ above = pick-true _ _ _ (lt-ltb f 64 small) in
+        ap (λ (fs : List ℕ). states-of (readings fs marks)) all
+        ∙ rw (one, two, told-true f marks, told-false f marks, set-set marks f 1 2)
+
+    pub next-falls : (μ : ℕ) → 64 - f ≡ μ → 64 - g < μ
+    next-falls μ is =
+        elim (decLt g 64) [
+          | yes near ↦ let h = unknown-first-above t a (set marks f 1) (first-marked small) (f + 1) g next near in omega (arith, h, near, is)
+          | no far ↦ omega (arith, far, small, is)
+        ]
+
+    module _ (d places ends : List ℕ) (r : Rest) (k : ℕ) (answer : Used) (first : Uses d places ends r (states-from t a (set marks f 1) g) k answer) where
+      pub first-fails : answer ≡ Fails → Uses d places ends r (states-from t a marks f) k Fails
+      first-fails is =
+          record {
+            holds = λ lines rest Y cites other w.
+                let cited = lines-at lines other cites in
+                sym (ap (λ (ss : List State). used rest Y cited other ss k) states-split
+                ∙ used-then rest Y cited other (states-from t a (set marks f 1) g) (states-from t a (set (set marks f 1) f 2) g) k
+                ∙ ap (λ (u : Used). on u (used rest Y cited other (states-from t a (set (set marks f 1) f 2) g))) (sym (first .holds lines rest Y cites other w) ∙ is));
+          }
+
+      pub both-read : (j : ℕ) → answer ≡ To j → (last : Used) → Uses d places ends r (states-from t a (set (set marks f 1) f 2) g) j last → Uses d places ends r (states-from t a marks f) k last
+      both-read j is last second =
+          record {
+            holds = λ lines rest Y cites other w.
+                let cited = lines-at lines other cites in
+                second .holds lines rest Y cites other w
+                ∙ sym (ap (λ (ss : List State). used rest Y cited other ss k) states-split
+                ∙ used-then rest Y cited other (states-from t a (set marks f 1) g) (states-from t a (set (set marks f 1) f 2) g) k
+                ∙ ap (λ (u : Used). on u (used rest Y cited other (states-from t a (set (set marks f 1) f 2) g))) (sym (first .holds lines rest Y cites other w) ∙ is));
+          }
+
+-- There is none.
+pub read-whole : (t : Table) (a : ℕ) (marks : State) (f : ℕ) → 64 ≤ f → (d places ends : List ℕ) (r : Rest) (k : ℕ) (answer : Used)
+    → Uses d places ends r (marks ∷ []) k answer → Uses d places ends r (states-from t a marks f) k answer
+unfolding states-from fluents-from readings states-of
+read-whole t a marks f far d places ends r k answer uses =
+    subst (λ (fs : List ℕ). Uses d places ends r (states-of (readings fs marks)) k answer) (sym (pick-false _ _ _ (le-ltb f 64 far))) uses
+
+-- USED UP: each line says its reading just where the citations used are all.
+abbrev all-used : ℕ → Used → Bool
+all-used n u = elim u [ To j ↦ eqb j n | Fails ↦ false ]
+
+module _ (rest : Sequence ℕ) (Y : List ℕ) where
+  module _ (cited : List Line) (other : Line) where
+    line-next : (k : ℕ) → k < length cited → drop k cited ≡ getD cited k other ∷ drop (k + 1) cited
+    line-next k less = let up : suc k ≡ k + 1 = omega arith in drop-cons cited k other less ∙ ap (λ (j : ℕ). getD cited k other ∷ drop j cited) up
+
+    reads-near : (s : State) (k : ℕ) → k < length cited → reads-at rest Y cited other s k ≡ says (getD cited k other) (literals-of s) rest Y
+    unfolding reads-at
+    reads-near s k less = yes-left _ _ (lt-ltb k (length cited) less)
+
+    reads-far : (s : State) (k : ℕ) → length cited ≤ k → reads-at rest Y cited other s k ≡ false
+    unfolding reads-at
+    reads-far s k far = sym (no-left _ _ (le-ltb k (length cited) far))
+
+    each-used : (ss : List State) (k : ℕ) → k ≤ length cited → each-reads rest Y ss (drop k cited) ≡ all-used (length cited) (used rest Y cited other ss k)
+    unfolding each-reads used
+    each-used [] k most =
+        elim (decLt k (length cited)) [
+          | yes less ↦ ap (each-reads rest Y []) (line-next k less) ∙ sym (ne-eqb k (length cited) (λ e. omega (arith, e, less)))
+          | no far ↦ ap (each-reads rest Y []) (drop-of-length-le cited {i = k} (omega (arith, far))) ∙ sym (eq-eqb k (length cited) (omega (arith, far, most)))
+        ]
+    each-used (s ∷ ss) k most =
+        elim (decLt k (length cited)) [
+          | yes less ↦ by-test (says (getD cited k other) (literals-of s) rest Y)
+              (λ t.
+              ap (each-reads rest Y (s ∷ ss)) (line-next k less)
+              ∙ yes-left _ _ t
+              ∙ each-used ss (k + 1) (omega (arith, less))
+              ∙ ap (all-used (length cited)) (sym (pick-true _ _ _ (reads-near s k less ∙ t))))
+              (λ f.
+              ap (each-reads rest Y (s ∷ ss)) (line-next k less)
+              ∙ sym (no-left _ _ f)
+              ∙ ap (all-used (length cited)) (sym (pick-false (reads-at rest Y cited other s k) (λ _. used rest Y cited other ss (k + 1)) (λ _. Fails) (reads-near s k less ∙ f))))
+          | no far ↦ ap (each-reads rest Y (s ∷ ss)) (drop-of-length-le cited {i = k} (omega (arith, far)))
+              ∙ ap (all-used (length cited)) (sym (pick-false (reads-at rest Y cited other s k) (λ _. used rest Y cited other ss (k + 1)) (λ _. Fails) (reads-far s k (omega (arith, far)))))
+        ]
+
+  each-length : (ss : List State) (ls : List Line) → each-reads rest Y ss ls ≡ true → length ss ≡ length ls
+  unfolding each-reads
+  each-length [] [] e = refl
+  each-length [] (l ∷ ls) e = clash e refl
+  each-length (s ∷ ss) [] e = clash e refl
+  each-length (s ∷ ss) (l ∷ ls) e = ap suc (each-length ss ls (both-right _ _ e))
+
+-- As many states as readings.
+states-count : (fs : List ℕ) (s : State) → length (states-of (readings fs s)) ≡ 2 ^ length fs
+unfolding states-of readings
+states-count [] s = refl
+states-count (f ∷ fs) s =
+    let one = states-count fs (told (says-true f) s) in
+    let two = states-count fs (told (says-false f) s) in
+    let up = pow-suc 2 (length fs) in
+    length-append (states-of (readings fs (told (says-true f) s))) (states-of (readings fs (told (says-false f) s))) ∙ omega (arith, one, two, up)
+
+count-settled : (rest : Sequence ℕ) (Y : List ℕ) (fs : List ℕ) (s : State) (cited : List Line)
+    → pick (eqb (2 ^ length fs) (length cited)) (λ _. each-reads rest Y (states-of (readings fs s)) cited) (λ _. false) ≡ each-reads rest Y (states-of (readings fs s)) cited
+count-settled rest Y fs s cited =
+    by-test (eqb (2 ^ length fs) (length cited))
+    (λ t. pick-true _ _ _ t)
+    (λ f.
+    pick-false _ _ _ f
+    ∙ by-test (each-reads rest Y (states-of (readings fs s)) cited)
+    (λ t. absurd (eqb-false (2 ^ length fs) (length cited) f (sym (states-count fs s) ∙ each-length rest Y (states-of (readings fs s)) cited t)))
+    sym)
+
+-- THE STATE of a list: a literal that is told sets one of the three marks, or none beyond the last.
+told-marked : (l : ℕ) (s : State) → Marked s → Marked (told l s)
+unfolding told
+told-marked l s marked = record {
+  sized = length-set s (fluent-of l) (mark-of l) ∙ marked .sized;
+  small = λ g. elim (ℕ-discrete g (fluent-of l)) [
+    | yes e ↦ rw e (elim (decLt (fluent-of l) (length s)) [
+      | yes near ↦ rw (getD-set-same s (fluent-of l) (mark-of l) 0 near) (mark-most l)
+      | no far ↦ rw (List·getD-eq-default (set s (fluent-of l) (mark-of l)) 0 {n = fluent-of l} (rw (length-set s (fluent-of l) (mark-of l)) (omega arith))) (omega arith)
+    ])
+    | no d ↦ rw (getD-set-other s (fluent-of l) g (mark-of l) 0 d) (marked .small g)
+  ];
+}
+
+told-all-marked : (ls : List ℕ) (s : State) → Marked s → Marked (told-all ls s)
+unfolding told-all
+told-all-marked [] s marked = marked
+told-all-marked (l ∷ ls) s marked = told-all-marked ls (told l s) (told-marked l s marked)
+
+unknown-marked : Marked (replicate 64 0)
+unknown-marked = record {
+  sized = let none : ℕ = 0 in length-replicate 64 none;
+  small = λ f. let none : ℕ = 0 in elim (decLt f 64) [
+    | yes near ↦ rw (getD-replicate 64 f none none near) (omega arith)
+    | no far ↦ rw (List·getD-eq-default (replicate 64 none) 0 {n = f} (rw (length-replicate 64 none) (omega arith))) (omega arith)
+  ];
+}
+
+pub X-marked : (d : List ℕ) (p : ℕ) (marks : State) → marks ≡ state-of format (listed d p) → Marked marks
+unfolding state-of
+X-marked d p marks told = rw told (told-all-marked (listed d p) _ unknown-marked)
+
+-- The states by the first unknown fluent are all.
+sensed-states : (t : Table) (a : ℕ) (marks : State) → Marked marks → (f : ℕ) → f ≡ first-of (unknown-sensed t a marks) → states-from t a marks f ≡ states-of (readings (unknown-sensed t a marks) marks)
+unfolding states-from fluents-from
+sensed-states t a marks marked f first =
+    ap (λ (fs : List ℕ). states-of (readings fs marks))
+    (elim (decLt f 64) [
+      | yes near ↦ pick-true _ _ _ (lt-ltb f 64 near) ∙ sym (sensed-first t a marks marked f first near)
+      | no far ↦ pick-false _ _ _ (le-ltb f 64 (omega arith)) ∙ sym (sensed-no-first t a marks marked f first (omega arith))
+    ])
+
+-- THE LINE of rule 3, at p, whose plan's count stands at q.
+own-bytes : (c : Sequence ℕ) → 0 < own-items c → 0 < bytes-of c
+unfolding own-items bytes-of
+own-bytes done h = absurd (omega (arith, h))
+own-bytes (item (act p a) rest) h = omega arith
+own-bytes (item (branching p bs) rest) h = omega arith
+
+act-bytes : (o a : ℕ) (rest : Sequence ℕ) → bytes-of (item (act o a) rest) ≡ 1 + bytes-of rest
+unfolding bytes-of
+act-bytes o a rest = refl
+
+module _ (d : List ℕ) (p y : ℕ) (some : Some-line d p y) where
+  pub Y-there : List-here 128 d y
+  Y-there = some .stands .Y .here
+
+  module _ (q : ℕ) (after : q ≡ sequence-place d p) where
+    pub plan-counted : q + 1 < length d
+    plan-counted = cited-plan d p y q after (some .line) (some .stands) .counted
+
+    pub items-fit : Fits w64 (q + 2)
+    items-fit = let there = plan-counted in let long = some .long in record { fits = omega (arith, there, long) }
+
+    pub rest-fits : Fits w64 (q + 3)
+    rest-fits = let there = plan-counted in let long = some .long in record { fits = omega (arith, there, long) }
+
+  module _ (rule : ℕ) (at : rule ≡ sequence-place d y) where
+    pub counted-inside : rule + 1 < length d
+    unfolding sequence-place after-list
+    counted-inside = rw at (some .stands .ruled)
+
+    pub counted-fits : Fits w64 (rule + 1)
+    counted-fits = let there = counted-inside in let long = some .long in record { fits = omega (arith, there, long) }
+
+    pub cites-fit : Fits w64 (rule + 2)
+    cites-fit = let there = counted-inside in let long = some .long in record { fits = omega (arith, there, long) }
+
+-- Its first item.
+module _ (d : List ℕ) (p y q count : ℕ) (after : q ≡ sequence-place d p) (read : count ≡ getD d q 0 * 256 + getD d (q + 1) 0) where
+  own-count : (l : Line) → Stands d p y l → count ≡ own-items (l .c)
+  own-count l w = read ∙ cited-plan d p y q after l w .count
+
+  module _ (t : Table) (places ends : List ℕ) where
+    pub none-first : count ≡ 0 → Ruled-by-all d places ends p y (rule-3 format t) false
+    unfolding rule-3 senses-first
+    none-first none =
+        record {
+          holds = λ lines l stand w below.
+              let cited = cited-by lines l in
+              sym (ap (senses-first format t cited l) (none-done (l .c) (sym (own-count l w) ∙ none)));
+        }
+
+  module _ (more : count ≡ 0 → ⊥) where
+    own-some : (l : Line) → Stands d p y l → 0 < own-items (l .c)
+    own-some l w = let same = own-count l w in omega (arith, more, same)
+
+    pub item-there : Some-line d p y → q + 2 < length d
+    item-there some =
+        let plan = cited-plan d p y q after (some .line) (some .stands) in
+        let size = own-bytes (some .line .c) (own-some (some .line) (some .stands)) in
+        let to = plan .ends in let inside = plan .inside in
+        omega (arith, size, to, inside)
+
+    pub branching-first : (t : Table) (places ends : List ℕ) → getD d (q + 2) 0 ≡ 255 → Ruled-by-all d places ends p y (rule-3 format t) false
+    unfolding rule-3 senses-first
+    branching-first t places ends is =
+        record {
+          holds = λ lines l stand w below.
+              let cited = cited-by lines l in
+              let plan = cited-plan d p y q after l w in
+              sym (ap (senses-first format t cited l) (branching-there d (q + 2) (l .c) (own-some l w) (plan .tellable) (plan .bytes) is .is));
+        }
+
+    module _ (other : getD d (q + 2) 0 ≡ 255 → ⊥) where
+      first-act : (l : Line) → Stands d p y l → Act-there d (q + 2) (l .c)
+      first-act l w = let plan = cited-plan d p y q after l w in act-there d (q + 2) (l .c) (own-some l w) (plan .tellable) (plan .bytes) other
+
+      rest-items : (l : Line) (w : Stands d p y l) → Items-stand d (q + 3) y (count - 1) (first-act l w .rest)
+      rest-items l w =
+          let first = first-act l w in
+          let plan = cited-plan d p y q after l w in
+          let own = first .own in let same = own-count l w in let few = plan .few in
+          let bytes : bytes-of (l .c) ≡ 1 + bytes-of (first .rest) = ap bytes-of (first .is) ∙ act-bytes _ _ _ in
+          let to = plan .ends in
+          let up : q + 2 + 1 ≡ q + 3 = omega arith in
+          record {
+            counted = omega (arith, own, same);
+            few = omega (arith, own, same, few);
+            ends = omega (arith, bytes, to);
+            inside = plan .inside;
+            sized = coded-length (first .rest);
+            bytes = subst (λ (j : ℕ). bytes-from d j (bytes-of (first .rest)) ≡ coded (first .rest)) up (first .rest-there);
+            tellable = first .rest-told;
+          }
+
+      module _ (a : ℕ) (byte : a ≡ getD d (q + 2) 0) where
+        pub action-small : Some-line d p y → a < 64
+        unfolding Small
+        action-small some = rw byte (subst Small (first-act (some .line) (some .stands) .is) (some .small) .0)
+
+        -- The rule is what its readings are.
+        module _ (t : Table) where
+          rule-reads : (lines : List Line) (l : Line) (w : Stands d p y l) → rule-3 format t (cited-by lines l) l ≡ reads format t (cited-by lines l) l a (first-act l w .rest) (state-of format (listed d p))
+          unfolding rule-3 senses-first
+          rule-reads lines l w =
+              let cited = cited-by lines l in
+              let first = first-act l w in
+              ap (senses-first format t cited l) (first .is)
+              ∙ ap₂ {C = Bool} (λ (b : ℕ) (xs : List ℕ). reads format t cited l b (first .rest) (state-of format xs)) (sym byte) (sym (w .X .same))
+
+          module _ (senses : Bool) (tested : senses ≡ sensing t a) where
+            pub not-sensing : (places ends : List ℕ) → senses ≡ false → Ruled-by-all d places ends p y (rule-3 format t) false
+            unfolding reads
+            not-sensing places ends f = record { holds = λ lines l stand w below. no-left (sensing t a) _ (sym tested ∙ f) ∙ sym (rule-reads lines l w) }
+
+            module _ (marks : State) (held : marks ≡ state-of format (listed d p)) (runs : Bool) (asked : runs ≡ can-be-run t a marks) where
+              pub not-run : (places ends : List ℕ) → runs ≡ false → Ruled-by-all d places ends p y (rule-3 format t) false
+              unfolding reads
+              not-run places ends f =
+                  record {
+                    holds = λ lines l stand w below.
+                        no-right (sensing t a) _ (sym (no-left (can-be-run t a (state-of format (listed d p))) _ (ap (can-be-run t a) (sym held) ∙ sym asked ∙ f)))
+                        ∙ sym (rule-reads lines l w);
+                  }
+
+              module _ (yes : senses ≡ true) (can : runs ≡ true) where
+                rule-each : (lines : List Line) (l : Line) (w : Stands d p y l)
+                    → rule-3 format t (cited-by lines l) l ≡ each-reads (first-act l w .rest) (l .Y) (states-of (readings (unknown-sensed t a marks) marks)) (cited-by lines l)
+                unfolding reads
+                rule-each lines l w =
+                    rule-reads lines l w
+                    ∙ ap (reads format t (cited-by lines l) l a (first-act l w .rest)) (sym held)
+                    ∙ yes-left (sensing t a) _ (sym tested ∙ yes)
+                    ∙ yes-left (can-be-run t a marks) _ (sym asked ∙ can)
+                    ∙ count-settled (first-act l w .rest) (l .Y) (unknown-sensed t a marks) marks (cited-by lines l)
+
+      -- What follows it, and the citations.
+      abbrev rest-of : (rule cited : ℕ) → Rest
+      rest-of rule cited = record { first = q + 3; items = count - 1; y = y; cites = rule + 2; count = cited }
+
+      module _ (rule cited : ℕ) (at : rule ≡ sequence-place d y) (size : cited ≡ getD d (rule + 1) 0) (places ends : List ℕ) where
+        cited-size : (l : Line) → Stands d p y l → cited ≡ length (l .cites)
+        unfolding sequence-place after-list
+        cited-size l w = size ∙ ap (λ (j : ℕ). getD d (j + 1) 0) at ∙ w .cited
+
+        rest-stands : (lines : List Line) (l : Line) → Lines-stand d places ends lines → (w : Stands d p y l) → each-of (λ (k : ℕ). ltb k (length lines)) (l .cites) ≡ true
+            → Rest-stands d places ends (rest-of rule cited) lines (first-act l w .rest) (l .Y) (l .cites)
+        unfolding sequence-place after-list
+        rest-stands lines l stand w below =
+            record {
+              stand = stand;
+              follows = record { items = rest-items l w; list = w .Y };
+              counted = cited-size l w;
+              most = w .most;
+              numbers = subst (λ (j : ℕ). Numbers-stand d (j + 2) (l .cites)) (sym at) (w .cites);
+              below = below;
+            }
+
+        pub some-rest : (lines : ℕ) → Some-line d p y → Some-lines d places ends lines → Cited-below d p y lines → Some-rest d places ends (rest-of rule cited)
+        some-rest count some all below =
+            record {
+              lines = all .lines;
+              rest = first-act (some .line) (some .stands) .rest;
+              Y = some .line .Y;
+              cites = some .line .cites;
+              stands = rest-stands (all .lines) (some .line) (all .stand) (some .stands)
+                  (subst (λ (n : ℕ). each-of (λ (k : ℕ). ltb k n) (some .line .cites) ≡ true) (sym (all .size)) (below .holds (some .line) (some .stands)));
+            }
+
+        module _ (a : ℕ) (byte : a ≡ getD d (q + 2) 0) (t : Table) (senses : Bool) (tested : senses ≡ sensing t a) (marks : State) (held : marks ≡ state-of format (listed d p)) (runs : Bool) (asked : runs ≡ can-be-run t a marks) (yes : senses ≡ true) (can : runs ≡ true) (f : ℕ) (first : f ≡ first-of (unknown-sensed t a marks)) (answer : Used) (uses : Uses d places ends (rest-of rule cited) (states-from t a marks f) 0 answer) where
+          rule-used : (lines : List Line) (l : Line) → Lines-stand d places ends lines → Stands d p y l → each-of (λ (k : ℕ). ltb k (length lines)) (l .cites) ≡ true
+              → rule-3 format t (cited-by lines l) l ≡ all-used cited answer
+          unfolding cited-by lines-at
+          rule-used lines l stand w below =
+              let rest = first-act l w .rest in
+              let lines-cited = cited-by lines l in
+              let states = states-of (readings (unknown-sensed t a marks) marks) in
+              let same : answer ≡ used rest (l .Y) lines-cited l states 0 =
+              uses .holds lines rest (l .Y) (l .cites) l (rest-stands lines l stand w below)
+              ∙ ap (λ (ss : List State). used rest (l .Y) lines-cited l ss 0) (sensed-states t a marks (X-marked d p marks held) f first) in
+              let long : length lines-cited ≡ cited = lines-length lines l (l .cites) ∙ sym (cited-size l w) in
+              rule-each a byte t senses tested marks held runs asked yes can lines l w
+              ∙ each-used rest (l .Y) lines-cited l states 0 (omega arith)
+              ∙ ap₂ {C = Bool} all-used long (sym same)
+
+          pub all-read : (k : ℕ) → answer ≡ To k → Ruled-by-all d places ends p y (rule-3 format t) (eqb k cited)
+          all-read k is = record { holds = λ lines l stand w below. sym (rule-used lines l stand w below ∙ ap (all-used cited) is) }
+
+          pub not-read : answer ≡ Fails → Ruled-by-all d places ends p y (rule-3 format t) false
+          not-read is = record { holds = λ lines l stand w below. sym (rule-used lines l stand w below ∙ ap (all-used cited) is) }

@@ -1,0 +1,153 @@
+-- The first item is told by its byte; where it is a sensing action that can be run, each reading is said by its line just where the citations used
+-- are all, and then they are as many as the readings.
+use Rattle.ruling.proofs.ReadingRuleLaws.{plan-counted, items-fit, rest-fits, item-there, Y-there, counted-inside, counted-fits, cites-fit, none-first, branching-first, action-small, X-marked, some-rest, not-sensing, not-run, all-read, not-read}
+use borrow.Author.Needs.{needs}
+use Rattle.ruling.proofs.readings.rule_3.Statement.{statement}
+use Rattle.ruling.proofs.readings.rule_3.Tie as tie
+use Rattle.ruling.proofs.readings.rule_3.Reads as reads
+use Rattle.ruling.proofs.readings.rule_3.Lts as lts
+use Rattle.bytes.proofs.bytes.wide.Reads as wide-reads
+use Rattle.comparing.proofs.plans.count_of.Reads as count-of-reads
+use Rattle.ruling.proofs.readings.each_reading.Reads as each-reading-reads
+use Rattle.reading.proofs.marks.state_of.Reads as state-of-reads
+use Rattle.refusing.proofs.overlaps.sequence_of.Reads as sequence-of-reads
+use Rattle.steps.proofs.actions.can_be_run.Reads as can-be-run-reads
+use Rattle.steps.proofs.sensing.first_unknown.Reads as first-unknown-reads
+use Rattle.steps.proofs.sensing.is_sensing.Reads as is-sensing-reads
+
+-- src/readings.rt:150:9
+sequence-of-requires : tie.Need-sequence-of-requires
+sequence-of-requires c κs = search needs
+
+-- src/readings.rt:151:9
+count-of-requires : tie.Need-count-of-requires
+count-of-requires c κs = search plan-counted
+
+-- src/readings.rt:153:9
+returns : tie.Need-returns
+returns c = search none-first
+
+-- src/readings.rt:155:17
+add-first : tie.Need-add-first
+add-first c = search items-fit
+
+-- src/readings.rt:156:8
+shared-slice-read-if2 : tie.Need-shared-slice-read-if2
+shared-slice-read-if2 c = search item-there
+
+-- src/readings.rt:157:9
+returns-2 : tie.Need-returns-2
+returns-2 c = search branching-first
+
+-- src/readings.rt:159:18
+shared-slice-read-wide : tie.Need-shared-slice-read-wide
+shared-slice-read-wide c = search item-there
+
+-- src/readings.rt:159:9
+wide-requires : tie.Need-wide-requires
+wide-requires c κs = search needs
+
+-- src/readings.rt:160:9
+is-sensing-requires : tie.Need-is-sensing-requires
+is-sensing-requires c κs = (search needs, search action-small)
+
+-- src/readings.rt:162:21
+state-of-requires : tie.Need-state-of-requires
+state-of-requires c κs = search needs
+
+-- src/readings.rt:163:13
+can-be-run-requires : tie.Need-can-be-run-requires
+can-be-run-requires c κs = (search needs, search action-small)
+
+-- src/readings.rt:165:17
+first-unknown-requires : tie.Need-first-unknown-requires
+first-unknown-requires c κs = (search needs, (search action-small, search X-marked))
+
+-- src/readings.rt:166:17
+sequence-of-requires-2 : tie.Need-sequence-of-requires-2
+sequence-of-requires-2 c κs = search Y-there
+
+-- src/readings.rt:167:27
+add-counted : tie.Need-add-counted
+add-counted c = search counted-fits
+
+-- src/readings.rt:168:30
+shared-slice-read-wide-2 : tie.Need-shared-slice-read-wide-2
+shared-slice-read-wide-2 c = search counted-inside
+
+-- src/readings.rt:168:17
+wide-requires-2 : tie.Need-wide-requires-2
+wide-requires-2 c κs = search needs
+
+-- src/readings.rt:169:25
+add-cites : tie.Need-add-cites
+add-cites c = search cites-fit
+
+-- src/readings.rt:170:24
+add-from : tie.Need-add-from
+add-from c = search rest-fits
+
+-- src/readings.rt:171:25
+sub-items : tie.Need-sub-items
+sub-items c = search needs
+
+-- src/readings.rt:179:19
+each-reading-requires : tie.Need-each-reading-requires
+each-reading-requires c κs =
+    let held = c .before .before .before .before .before .before .before .before .before .before .before .before .before .before .before .before .before .before .before .before .pre in
+    (search needs, (search (action-small, held .1 .0), (search X-marked, search (some-rest, held .1 .0, held .1 .1 .0, held .1 .1 .1))))
+
+-- src/readings.rt:180:26
+enum-known-k : tie.Need-enum-known-k
+enum-known-k c = search needs
+
+-- src/readings.rt:181:21
+returns-3 : tie.Need-returns-3
+returns-3 c = search all-read
+
+-- src/readings.rt:184:21
+enum-told : tie.Need-enum-told
+enum-told c = search needs
+
+-- src/readings.rt:184:21
+returns-4 : tie.Need-returns-4
+returns-4 c = search not-read
+
+-- src/readings.rt:188:9
+returns-5 : tie.Need-returns-5
+returns-5 c = search not-run
+
+-- src/readings.rt:134:1
+returns-6 : tie.Need-returns-6
+returns-6 c = search not-sensing
+
+pub rule-3-spec : {M : Type 1} → statement M
+rule-3-spec =
+    tie.close
+    (tie.spec
+    sequence-of-requires
+    count-of-requires
+    returns
+    add-first
+    shared-slice-read-if2
+    returns-2
+    shared-slice-read-wide
+    wide-requires
+    is-sensing-requires
+    state-of-requires
+    can-be-run-requires
+    first-unknown-requires
+    sequence-of-requires-2
+    add-counted
+    shared-slice-read-wide-2
+    wide-requires-2
+    add-cites
+    add-from
+    sub-items
+    each-reading-requires
+    enum-known-k
+    returns-3
+    enum-told
+    returns-4
+    returns-5
+    returns-6)

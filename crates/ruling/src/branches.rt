@@ -1,0 +1,130 @@
+ghost use mathlib.Core.Path.{_≡_};
+ghost use Prim.Native.Nat.{_≤_};
+ghost use Rattle.meaning.specs.Derivations.{rule-4};
+ghost use Rattle.refusing.specs.Branchings.{Branches-here};
+ghost use Rattle.comparing.specs.Rules.{Some-plan, Some-line, Some-read, Read-by};
+ghost use Rattle.ruling.specs.Branched.{branches-end, Some-branched, Branch-taken};
+use bytes::bytes::Read;
+use bytes::bytes::wide;
+use bytes::limits;
+use comparing::parts::same_lists;
+use comparing::plans::count_of;
+use comparing::plans::joined_plans;
+use reading::marks::Test;
+use reading::marks::each_holds;
+use reading::marks::state_of;
+use reading::plan::plan_at;
+use reading::table;
+use reading::table::Table;
+use refusing::overlaps::next_item;
+use refusing::overlaps::next_place;
+use refusing::overlaps::sequence_of;
+
+// The place after so many branches, the first of which stands at `place` with `item` items before it.
+fn after_branches(d: &[u8], t: &Table, count: usize, place: usize, item: usize) -> usize
+    requires { ⌜ Branches-here (now d) (now t) count place item ⌝ }
+    ensures { λ r. ⌜ r ≡ branches-end (now (d .entry)) (now (t .entry)) count place item ⌝ }
+{
+    let mut left = count;
+    let mut p = place;
+    let mut i = item;
+    while 0 < left {
+        let q = next_place(d, t, p, i);
+        let j = next_item(d, t, p, i);
+        p = q;
+        i = j;
+        left -= 1;
+    }
+    p
+}
+
+// Some branch of the branching at first has its condition known, and joined with the rest, up to y, is the plan with its count at cited.
+fn some_branch(
+    d: &[u8],
+    t: &Table,
+    held: &[u8; 64],
+    first: usize,
+    cited: usize,
+    yc: usize,
+    y: usize,
+    more: usize,
+) -> bool
+    requires { ⌜ Some-branched (now d) (now t) first y more ⌝ }
+    requires { ⌜ Some-plan (now d) cited yc ⌝ }
+    ensures { λ r. ⌜ Branch-taken (now (d .entry)) (now (t .entry)) (now (held .entry)) first cited yc y more r ⌝ }
+{
+    let second = first + 1;
+    let count = wide(d[second]);
+    let start = first + 2;
+    let rest = after_branches(d, t, count, start, 1);
+    let mut left = count;
+    let mut p = start;
+    let mut i = 1;
+    while 0 < left {
+        let q = next_place(d, t, p, i);
+        let j = next_item(d, t, p, i);
+        let known = each_holds(Test::Known, held, d, p);
+        let sequence = sequence_of(d, p);
+        p = q;
+        i = j;
+        left -= 1;
+        if known {
+            let items = count_of(d, sequence);
+            let a = sequence + 2;
+            let same = joined_plans(d, cited, yc, a, q, items, rest, y, more);
+            if same {
+                return true;
+            }
+            continue;
+        }
+    }
+    false
+}
+
+// Rule 4: a branching first, some condition of it within X; X, that branch joined with the rest, Y by the line at pc.
+pub fn rule_4(
+    n: usize,
+    m: usize,
+    d: &[u8],
+    t: &mut Table,
+    pc: usize,
+    yc: usize,
+    p: usize,
+    y: usize,
+) -> bool
+    requires { ⌜ n ≤ 64 ⌝ }
+    requires { ⌜ m ≤ 64 ⌝ }
+    requires { ⌜ Some-line (now d) pc yc ⌝ }
+    requires { ⌜ Some-read n m (now d) p y ⌝ }
+    ensures { λ r. ⌜ Read-by n m (now (d .entry)) pc yc p y rule-4 r ⌝ }
+{
+    let starts = same_lists(d, pc, d, p);
+    if starts {
+        let ends = same_lists(d, yc, d, y);
+        if ends {
+            let plan = sequence_of(d, p);
+            let count = count_of(d, plan);
+            if count == 0 {
+                return false;
+            }
+            let first = plan + 2;
+            if d[first] == limits::BRANCHING_BYTE {
+                table::sized(t);
+                match plan_at(n, m, d, plan, t) {
+                    Read::Value(_, _) => {
+                        let held = state_of(d, p);
+                        let cited = sequence_of(d, pc);
+                        let more = count - 1;
+                        return some_branch(d, t, &held, first, cited, yc, y, more);
+                    }
+                    Read::Fault(_, _) => {
+                        return false;
+                    }
+                }
+            }
+            return false;
+        }
+        return false;
+    }
+    false
+}
