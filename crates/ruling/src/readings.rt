@@ -122,9 +122,7 @@ fn each_reading(
                 state[f] = limits::FALSE_MARK;
                 return each_reading(s, t, d, places, ends, a, g, state, rest, j);
             }
-            Used::Fails => {
-                return Used::Fails;
-            }
+            Used::Fails => return Used::Fails,
         }
     }
     one_reading(d, places, ends, &marks, rest, k)
