@@ -1,5 +1,7 @@
-// Makes one judging call on a stack of its own, and tells how many bytes of it were used.
-//   driver BUDGET <REQUEST      prints number, input, place, count and the bytes of stack
+// Makes one call on a stack of its own, and tells how many bytes of it were used.
+//   driver walk BUDGET <REQUEST                     the walk call
+//   driver check LENGTH <REQUEST AND DERIVATION     the derivation call, on a request of that length and what follows it
+// It prints number, input, place, count and the bytes of stack.
 // x86-64 Linux, and no library: so it can be linked on any machine.
 
 typedef unsigned char byte;
@@ -14,6 +16,7 @@ struct slice {
 
 // number + 2^8 * input + 2^16 * place + 2^32 * count
 u64 proved_judge(const struct slice *request, const struct slice *lent, u32 budget);
+u64 proved_check(const struct slice *request, const struct slice *derivation);
 
 enum { READ = 0, WRITE = 1, MMAP = 9, MPROTECT = 10, EXIT = 60 };
 
@@ -68,11 +71,11 @@ static u64 untouched(u64 place) {
 }
 
 // The call, with the stack pointer at `top`; what it pushes itself, the place to return to, counts as used.
-static u64 call_at(u64 *top, const struct slice *request, const struct slice *lent, u32 budget) {
+static u64 call_at(u64 *top, void *function, const struct slice *request, const struct slice *other, u64 budget) {
     u64 result;
-    __asm__ volatile("movq %%rsp, %%rbx\n\tmovq %[top], %%rsp\n\tcallq proved_judge\n\tmovq %%rbx, %%rsp"
-                     : "=a"(result), "+D"(request), "+S"(lent), "+d"(budget)
-                     : [top] "r"(top)
+    __asm__ volatile("movq %%rsp, %%rbx\n\tmovq %[top], %%rsp\n\tcallq *%[function]\n\tmovq %%rbx, %%rsp"
+                     : "=a"(result), "+D"(request), "+S"(other), "+d"(budget)
+                     : [top] "r"(top), [function] "r"(function)
                      : "rbx", "rcx", "r8", "r9", "r10", "r11", "xmm0", "xmm1", "xmm2", "xmm3", "xmm4", "xmm5", "xmm6", "xmm7", "xmm8", "xmm9",
                        "xmm10", "xmm11", "xmm12", "xmm13", "xmm14", "xmm15", "memory", "cc");
     return result;
@@ -91,12 +94,13 @@ static byte bytes[1 << 16];
 static byte state[64];
 
 _Noreturn __attribute__((used)) static void begin(long *arguments) {
-    if (arguments[0] != 2) fail("driver: one argument, the budget\n");
-    u64 budget = 0;
-    for (const char *digit = (const char *)arguments[2]; *digit; digit++) {
-        if (*digit < '0' || '9' < *digit) fail("driver: the budget is not a number\n");
-        budget = 10 * budget + (*digit - '0');
-        if (budget >> 32) fail("driver: the budget is above 32 bits\n");
+    if (arguments[0] != 3) fail("driver: two arguments, walk and the budget or check and the request's length\n");
+    int walks = *(const char *)arguments[2] == 'w';
+    u64 number = 0;
+    for (const char *digit = (const char *)arguments[3]; *digit; digit++) {
+        if (*digit < '0' || '9' < *digit) fail("driver: the second argument is not a number\n");
+        number = 10 * number + (*digit - '0');
+        if (number >> 32) fail("driver: the second argument is above 32 bits\n");
     }
 
     struct slice request = {bytes, 0}, lent = {state, sizeof state};
@@ -114,7 +118,15 @@ _Noreturn __attribute__((used)) static void begin(long *arguments) {
     u64 *stack = (u64 *)mapped;
     for (u64 place = PAGE; place < WORDS; place++) stack[place] = untouched(place);
 
-    u64 answer = call_at(stack + WORDS, &request, &lent, budget);
+    u64 answer;
+    if (walks) {
+        answer = call_at(stack + WORDS, proved_judge, &request, &lent, number);
+    } else {
+        if (request.length < number) fail("driver: the request is shorter than its length\n");
+        struct slice derivation = {bytes + number, request.length - number};
+        request.length = number;
+        answer = call_at(stack + WORDS, proved_check, &request, &derivation, 0);
+    }
 
     u64 lowest = PAGE;
     while (lowest < WORDS && stack[lowest] == untouched(lowest)) lowest++;

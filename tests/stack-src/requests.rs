@@ -1,5 +1,6 @@
 //! The requests on which the walk goes deepest, and some beside them: writes each into the folder given, and prints a line for each, with
-//! the file's name, the budget, the number of items and what the request is.
+//! the file's name, the budget, the number of items and what the request is. Beside them derivations, and a list of these (`derivations`),
+//! with the request's file, the derivation's, its number of lines and what it is.
 
 use std::{env, fs};
 
@@ -100,8 +101,43 @@ fn over_and_over(items: &[Item], most: usize) -> Vec<Item> {
     items.iter().cloned().cycle().take(items.len() * (most / size(items))).collect()
 }
 
+/// A derivation's line with nothing known before and nothing said afterwards.
+fn line(plan: &[Item], rule: u8, cited: &[u16]) -> Vec<u8> {
+    [vec![0], sequence(plan), vec![0, rule], section(cited.iter().map(|number| number.to_be_bytes()))].concat()
+}
+
+fn derivation(lines: &[Vec<u8>]) -> Vec<u8> {
+    let bytes = lines.iter().fold((lines.len() as u16).to_be_bytes().to_vec(), |bytes, line| [&bytes[..], line].concat());
+    assert!(lines.len() <= 1024 && bytes.len() <= 32768, "beyond the limits");
+    bytes
+}
+
+/// Derivations of a request whose plan looks at all fluents. The sensing rule goes through their readings as far as its citations go.
+fn derivations(folder: &str) {
+    let plan = [act(LOOK_AT_ALL)];
+    let asked = "asked.request";
+    fs::write(format!("{folder}/{asked}"), request(Forgets::True, Goals::None, &plan)).expect("a file written");
+    let nothing = || line(&[], 1, &[]);
+    let looks = || line(&plan, 3, &[0; 64]);
+    let derivations = [
+        ("64 looked at, 64 cited", vec![nothing(), looks()]),
+        ("eight branchings, one inside another", vec![nothing(), line(&nested(8, plan.to_vec()), 4, &[0])]),
+        ("1,024 branchings in a row", vec![nothing(), line(&over_and_over(&[within(&[])], 1024), 4, &[0])]),
+        ("1,024 lines", vec![nothing(); 1024]),
+        ("64 cited in each line but one", [vec![nothing()], vec![looks(); 240]].concat()),
+    ];
+    let mut list = String::new();
+    for (number, (name, lines)) in derivations.into_iter().enumerate() {
+        let file = format!("{number}.derivation");
+        fs::write(format!("{folder}/{file}"), derivation(&lines)).expect("a file written");
+        list += &format!("{asked} {file} {} {name}\n", lines.len());
+    }
+    fs::write(format!("{folder}/derivations"), list).expect("a file written");
+}
+
 fn main() {
     let folder = env::args().nth(1).expect("a folder");
+    derivations(&folder);
     let steps = |look, most| over_and_over(&[act(look), act(FORGET)], most);
     let with_end = |end: &[Item]| [&steps(LOOK, 1022), end].concat();
     let all_at_last = with_end(&[within(&[act(LOOK_AT_ALL)])]);
