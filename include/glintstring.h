@@ -18,6 +18,10 @@ extern "C" {
 /* The length of the state that the walk call is lent. */
 #define GLINTSTRING_STATE_LENGTH 64
 
+/* Bytes that each input may have. One byte more is answered as any longer input, so that no more of a file need be read. */
+#define GLINTSTRING_REQUEST_LIMIT 16384
+#define GLINTSTRING_DERIVATION_LIMIT 32768
+
 /* Bytes of free stack that a call may need: 6 MiB (docs/STACK.md, for the walk call; the others need less). */
 #define GLINTSTRING_STACK_NEEDED 6291456
 

@@ -36,6 +36,12 @@ use std::{io, thread};
 /// The length of the lent state that a walk takes.
 pub const STATE_LENGTH: usize = 64;
 
+/// Bytes that a request may have. One byte more is answered as any longer one, so that no more of a file need be read.
+pub const REQUEST_LIMIT: usize = 16_384;
+
+/// Bytes that a derivation may have, in the same way.
+pub const DERIVATION_LIMIT: usize = 32_768;
+
 /// Bytes of free stack that a judgement may need (docs/STACK.md): 6 MiB.
 pub const STACK_NEEDED: usize = 6 << 20;
 
