@@ -88,6 +88,7 @@ fn main() -> ExitCode {
     let judge = |names: &[&str], budget| names.iter().map(|name| status(judge_file(name, budget))).max();
     let worst = match words[..] {
         ["judge", "-b", budget, ref names @ ..] => budget.parse().ok().and_then(|budget| judge(names, budget)),
+        ["judge", "-b"] => None,
         ["judge", ref names @ ..] => judge(names, BUDGET),
         ["check", ref names @ ..] if names.len() % 2 == 0 => names.chunks(2).map(|pair| status(check_files(pair[0], pair[1]))).max(),
         _ => None,
