@@ -4,6 +4,7 @@
  * A request has a domain table, a plan and goals in its bytes, and a derivation has lines by which the plan reaches them;
  * docs/FORMAT.md is the format, and numbers such as FORMAT 4.3 are those of its sentences. docs/STATEMENTS.md says what is
  * proved of each call. Link libglintstring.a, which `rt staticlib glintstring` writes for x86-64 Linux. C99 or later, or C++.
+ * examples/c/review.c is a small program that uses all of it.
  */
 #ifndef GLINTSTRING_H
 #define GLINTSTRING_H

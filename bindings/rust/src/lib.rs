@@ -4,6 +4,7 @@
 //! answers; that its answer and the lent bytes are those of the definition is proved, for every request, lent state and budget
 //! (docs/STATEMENTS.md). [`check`] checks a derivation, lines by which the plan reaches its goals, and [`show`] gives the part of an input
 //! that an answer is about; of both the same is proved. This crate adds names to the numbers and proves nothing.
+//! `examples/rust` of the repository is a small program that uses it.
 //!
 //! ```
 //! use glintstring::{judge, Answer, Input, STATE_LENGTH};

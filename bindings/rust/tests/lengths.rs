@@ -60,15 +60,13 @@ fn requests_and_derivations() {
     let (request, largest) = largest_derivation();
     assert_eq!(largest.len(), DERIVATION_LIMIT);
     let longer = [&largest[..], &[0]].concat();
-    let rows: [(&[u8], (u8, u8, usize, u32)); 4] =
-        [(&[], (11, 2, 0, 0)), (&[0], (11, 2, 1, 0)), (&largest, (0, 0, 0, 0)), (&longer, (10, 2, 0, 0))];
+    let rows: [(&[u8], (u8, u8, usize, u32)); 4] = [(&[], (11, 2, 0, 0)), (&[0], (11, 2, 1, 0)), (&largest, (0, 0, 0, 0)), (&longer, (10, 2, 0, 0))];
     for (derivation, answer) in rows {
         assert_eq!(numbers(check_packed(&request, derivation)), answer, "{} bytes", derivation.len());
     }
     let (largest, _) = largest_request();
     let longer = [&largest[..], &[0]].concat();
-    let rows: [(&[u8], (u8, u8, usize, u32)); 4] =
-        [(&[], (11, 1, 0, 0)), (&[0], (12, 1, 0, 0)), (&largest, (11, 2, 0, 0)), (&longer, (10, 1, 0, 0))];
+    let rows: [(&[u8], (u8, u8, usize, u32)); 4] = [(&[], (11, 1, 0, 0)), (&[0], (12, 1, 0, 0)), (&largest, (11, 2, 0, 0)), (&longer, (10, 1, 0, 0))];
     for (request, answer) in rows {
         assert_eq!(numbers(check_packed(request, &[])), answer, "{} bytes", request.len());
     }

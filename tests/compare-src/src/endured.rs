@@ -11,8 +11,8 @@ use crate::calls::{self, expect};
 use crate::hostile::{self, Input, Named};
 use crate::{checks, derivations, generated};
 
-/// What a call may take, and what it may take for each count more: about ten times what is seen, as machines differ and have other work.
-const A: Duration = Duration::from_millis(50);
+/// What a call may take, and what it may take for each count more: ten times what is seen and more, as machines differ and have other work.
+const A: Duration = Duration::from_millis(100);
 const B: Duration = Duration::from_micros(200);
 /// How often a call is made that takes longer: the shortest time is its own.
 const TRIES: usize = 3;
