@@ -11,7 +11,7 @@ use crate::calls::{self, expect};
 use crate::hostile::{self, Input, Named};
 use crate::{checks, derivations, generated};
 
-/// What a call may take, and what it may take for each count more: ten times what is seen and more, as machines differ and have other work.
+/// What a call may take, and what it may take for each count more: seven times what was seen beside other work (docs/HOSTILE.md).
 const A: Duration = Duration::from_millis(100);
 const B: Duration = Duration::from_micros(200);
 /// How often a call is made that takes longer: the shortest time is its own.
@@ -71,7 +71,6 @@ fn endured(rng: &mut Rng, input: &Input) -> Result<Taken, String> {
 }
 
 /// The largest times so far, and whose they are.
-#[derive(Default)]
 struct Largest {
     without_count: (u64, String),
     each: (u64, String),
@@ -104,7 +103,8 @@ fn run(inputs: &[Named], largest: &mut Largest, print: bool) -> Result<(), Strin
 
 /// Every input by name, with the deepest walks of a folder, and random ones; or only the one that takes minutes.
 pub fn compare(folder: Option<&str>) -> Result<String, String> {
-    let mut largest = Largest::default();
+    let none = (0, "none".to_string());
+    let mut largest = Largest { without_count: none.clone(), each: none };
     let (named, random) = match folder {
         Some(folder) => (hostile::named(folder)?, hostile::random(1, RANDOM)),
         None => (hostile::longest(), Vec::new()),
@@ -112,10 +112,11 @@ pub fn compare(folder: Option<&str>) -> Result<String, String> {
     println!("| input | number | place | count | time, us | ns for each count |\n|---|---|---|---|---|---|");
     run(&named, &mut largest, true)?;
     run(&random, &mut largest, false)?;
-    let (total, counted) = (named.len() + random.len(), &largest.each);
-    println!("  a: {} us allowed; without a count at most {} us: {}", A.as_micros(), largest.without_count.0 / 1_000, largest.without_count.1);
-    println!("  b: {} ns allowed; for each of {LARGE} counts or more at most {} ns: {}", B.as_nanos(), counted.0, counted.1);
-    Ok(format!("{total} hostile inputs agree, none writes outside the lent bytes, and each takes at most a + b * count"))
+    let [(whole, slowest), (each, slowest_each)] = [largest.without_count, largest.each];
+    let (a, b, total) = (A.as_micros(), B.as_nanos(), named.len() + random.len());
+    println!("  a: {a} us allowed; without a count at most {} us: {slowest}", whole / 1_000);
+    println!("  b: {b} ns allowed; for each of {LARGE} counts or more at most {each} ns: {slowest_each}");
+    Ok(format!("hostile inputs: {total} agree, none writes outside the lent bytes, and each takes at most a + b * count"))
 }
 
 /// Writes the inputs of a folder's deepest walks, the others by name, and so many generated and random ones as files into another folder.
