@@ -4,6 +4,7 @@
  * A request has a domain table, a plan and goals in its bytes, and a derivation has lines by which the plan reaches them;
  * docs/FORMAT.md is the format, and numbers such as FORMAT 4.3 are those of its sentences. docs/STATEMENTS.md says what is
  * proved of each call. Link libglintstring.a, which `rt staticlib glintstring` writes for x86-64 Linux. C99 or later, or C++.
+ * examples/c/review.c is a small program that uses all of it.
  */
 #ifndef GLINTSTRING_H
 #define GLINTSTRING_H
@@ -17,6 +18,10 @@ extern "C" {
 
 /* The length of the state that the walk call is lent. */
 #define GLINTSTRING_STATE_LENGTH 64
+
+/* Bytes that each input may have. One byte more is answered as any longer input, so that no more of a file need be read. */
+#define GLINTSTRING_REQUEST_LIMIT 16384
+#define GLINTSTRING_DERIVATION_LIMIT 32768
 
 /* Bytes of free stack that a call may need: 6 MiB (docs/STACK.md, for the walk call; the others need less). */
 #define GLINTSTRING_STACK_NEEDED 6291456

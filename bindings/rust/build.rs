@@ -47,7 +47,9 @@ fn built() -> PathBuf {
         ));
     }
     let root = Path::new(env!("CARGO_MANIFEST_DIR")).join("../..");
-    println!("cargo:rerun-if-changed={}", root.join("crates").display());
+    for sources in ["crates", "crates.txt"] {
+        println!("cargo:rerun-if-changed={}", root.join(sources).display());
+    }
     let status = Command::new("rt").args(["staticlib", "glintstring"]).current_dir(&root).status();
     let instead = format!("Set {VARIABLE} to a folder that has {ARCHIVE} to do without it");
     match status {

@@ -427,17 +427,10 @@ impl Answer {
             _ => None,
         }
     }
-}
 
-impl From<Answer> for Packed {
-    fn from(answer: Answer) -> Packed {
-        answer.packed()
-    }
-}
-
-impl fmt::Display for Answer {
-    fn fmt(&self, out: &mut fmt::Formatter<'_>) -> fmt::Result {
-        let what = match self {
+    /// What the answer says, in a few words.
+    pub fn words(&self) -> &'static str {
+        match self {
             Answer::Verified { .. } => "verified",
             Answer::Accepted => "accepted",
             Answer::GoalMissed { .. } => "goal missed",
@@ -462,12 +455,23 @@ impl fmt::Display for Answer {
             Answer::CitationsWrong { .. } => "a line has a number of citations that its rule does not take",
             Answer::DoesNotFollow { .. } => "a line does not follow by its rule",
             Answer::NotTheQuestion { .. } => "the last line differs from the question",
-        };
+        }
+    }
+}
+
+impl From<Answer> for Packed {
+    fn from(answer: Answer) -> Packed {
+        answer.packed()
+    }
+}
+
+impl fmt::Display for Answer {
+    fn fmt(&self, out: &mut fmt::Formatter<'_>) -> fmt::Result {
         let whose = match self.named() {
             Some(Input::Derivation) => " of the derivation",
             _ => "",
         };
-        write!(out, "{what} ({}, place {}{whose}, count {})", self.number(), self.place(), self.count())
+        write!(out, "{} ({}, place {}{whose}, count {})", self.words(), self.number(), self.place(), self.count())
     }
 }
 

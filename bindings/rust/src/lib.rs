@@ -4,6 +4,7 @@
 //! answers; that its answer and the lent bytes are those of the definition is proved, for every request, lent state and budget
 //! (docs/STATEMENTS.md). [`check`] checks a derivation, lines by which the plan reaches its goals, and [`show`] gives the part of an input
 //! that an answer is about; of both the same is proved. This crate adds names to the numbers and proves nothing.
+//! `examples/rust` of the repository is a small program that uses it.
 //!
 //! ```
 //! use glintstring::{judge, Answer, Input, STATE_LENGTH};
@@ -35,6 +36,12 @@ use std::{io, thread};
 
 /// The length of the lent state that a walk takes.
 pub const STATE_LENGTH: usize = 64;
+
+/// Bytes that a request may have. One byte more is answered as any longer one, so that no more of a file need be read.
+pub const REQUEST_LIMIT: usize = 16_384;
+
+/// Bytes that a derivation may have, in the same way.
+pub const DERIVATION_LIMIT: usize = 32_768;
 
 /// Bytes of free stack that a judgement may need (docs/STACK.md): 6 MiB.
 pub const STACK_NEEDED: usize = 6 << 20;

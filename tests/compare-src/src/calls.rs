@@ -1,5 +1,7 @@
 //! One call made both ways.
 
+use std::time::{Duration, Instant};
+
 use glintstring::Packed;
 use oracle::rng::Rng;
 use oracle::text::comma_separated;
@@ -35,10 +37,17 @@ pub fn numbers(packed: Packed) -> [u64; 4] {
 
 /// The exported call, between fences; in words what it changed that it may not, or in what the names of its answer differ from its numbers.
 pub fn exported(rng: &mut Rng, call: &Call) -> Result<Left, String> {
+    timed(rng, call).map(|(left, _)| left)
+}
+
+/// The same, and how long it took.
+pub fn timed(rng: &mut Rng, call: &Call) -> Result<(Left, Duration), String> {
     let mut request = Fenced::new(rng, &call.request);
     let mut state = Fenced::new(rng, &call.lent);
     let (request_before, state_before) = (request.clone(), state.clone());
+    let began = Instant::now();
     let packed = glintstring::judge_packed(request.lent(), state.lent(), call.budget);
+    let took = began.elapsed();
     let lent = state.lent().to_vec();
     if request != request_before {
         return Err("the request, or what stands around it, was changed".to_string());
@@ -53,7 +62,7 @@ pub fn exported(rng: &mut Rng, call: &Call) -> Result<Left, String> {
     if told != answer || !wrote {
         return Err(format!("answer {answer:?} is named {named}"));
     }
-    Ok(Left { answer, lent })
+    Ok((Left { answer, lent }, took))
 }
 
 /// The independent program's.

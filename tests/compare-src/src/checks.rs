@@ -1,5 +1,7 @@
 //! One derivation call made both ways, and what is shown of its answer and of others.
 
+use std::time::{Duration, Instant};
+
 use glintstring::Packed;
 use oracle::rng::Rng;
 use oracle::text::comma_separated;
@@ -25,14 +27,20 @@ const BY_HAND: usize = 3;
 
 /// Number, input, place and count that both give, where they also show the same; or how they differ.
 pub fn agreed(rng: &mut Rng, check: &Check) -> Result<[u64; 4], String> {
+    timed(rng, check).map(|(answer, _)| answer)
+}
+
+/// The same, and how long the exported derivation call took.
+pub fn timed(rng: &mut Rng, check: &Check) -> Result<([u64; 4], Duration), String> {
     let mut request = Fenced::new(rng, &check.request);
     let mut derivation = Fenced::new(rng, &check.derivation);
     let before = (request.clone(), derivation.clone());
+    let began = Instant::now();
     let packed = glintstring::check_packed(request.lent(), derivation.lent());
+    let took = began.elapsed();
     unchanged(&before, &request, &derivation, "the derivation call")?;
     let answer = numbers(packed);
-    let other = oracle::check(&check.request, &check.derivation);
-    let independent = [other.number.into(), other.input.into(), other.place.into(), other.count.into()];
+    let independent = independent(check);
     if answer != independent {
         return Err(format!("number, input, place, count are {answer:?}, by the independent program {independent:?}"));
     }
@@ -46,7 +54,13 @@ pub fn agreed(rng: &mut Rng, check: &Check) -> Result<[u64; 4], String> {
         shown_alike(answer, check, request.lent(), derivation.lent())?;
         unchanged(&before, &request, &derivation, "the showing call")?;
     }
-    Ok(answer)
+    Ok((answer, took))
+}
+
+/// The independent program's.
+pub fn independent(check: &Check) -> [u64; 4] {
+    let answer = oracle::check(&check.request, &check.derivation);
+    [answer.number.into(), answer.input.into(), answer.place.into(), answer.count.into()]
 }
 
 fn unchanged(before: &(Fenced, Fenced), request: &Fenced, derivation: &Fenced, who: &str) -> Result<(), String> {

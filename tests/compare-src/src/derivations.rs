@@ -28,7 +28,7 @@ pub fn compare(seed: u64, count: u64) -> Result<String, String> {
     let mut seen: BTreeMap<(u64, u64), u64> = BTreeMap::new();
     let (mut longest, mut most_lines) = (0, 0);
     for index in 0..count {
-        let check = any_check(&mut Rng::new(seed, CALLS, index));
+        let check = call(seed, index);
         let answer = agreed(&mut Rng::new(seed, FENCES, index), &check);
         let [number, input, ..] = answer.map_err(|why| format!("seed {seed}, call {index}: {why}; {check}"))?;
         *seen.entry((number, input)).or_default() += 1;
@@ -49,6 +49,11 @@ pub fn compare(seed: u64, count: u64) -> Result<String, String> {
         return Err(format!("seed {seed}: answers {} never occurred in {count} derivations", missing.join(", ")));
     }
     Ok(format!("{count} derivations of seed {seed} agree; the longest has {longest} bytes, and up to {most_lines} lines were gone through"))
+}
+
+/// The call with this number from a seed.
+pub fn call(seed: u64, index: u64) -> Check {
+    any_check(&mut Rng::new(seed, CALLS, index))
 }
 
 /// A call of the independent program's own generators, about half of which are made wrong in some way; of some calls an input is made wrong

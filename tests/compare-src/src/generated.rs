@@ -25,7 +25,7 @@ pub fn compare(seed: u64, count: u64) -> Result<String, String> {
     let mut seen: BTreeMap<u64, u64> = BTreeMap::new();
     let mut longest = 0;
     for index in 0..count {
-        let call = any_call(&mut Rng::new(seed, CALLS, index));
+        let call = call(seed, index);
         let left = agreed(&mut Rng::new(seed, FENCES, index), &call);
         let left = left.map_err(|why| format!("seed {seed}, call {index}: {why}; {call}"))?;
         *seen.entry(left.answer[0]).or_default() += 1;
@@ -39,6 +39,11 @@ pub fn compare(seed: u64, count: u64) -> Result<String, String> {
         return Err(format!("seed {seed}: answers {} never occurred in {count} calls", missing.join(", ")));
     }
     Ok(format!("{count} calls of seed {seed} agree; the longest request has {longest} bytes"))
+}
+
+/// The call with this number from a seed.
+pub fn call(seed: u64, index: u64) -> Call {
+    any_call(&mut Rng::new(seed, CALLS, index))
 }
 
 /// A call of the independent program's own generators, which make about three of ten requests wrong in some way; of some calls the request is

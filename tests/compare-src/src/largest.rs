@@ -15,7 +15,7 @@ const STACK: usize = 256 << 10;
 const FENCES: u64 = 9;
 
 /// What it is, the call, and number, input and place.
-type Row = (String, Check, [u64; 3]);
+pub type Row = (String, Check, [u64; 3]);
 
 /// Every row through both calls.
 pub fn compare() -> Result<String, String> {
@@ -33,7 +33,7 @@ pub fn compare() -> Result<String, String> {
     Ok(format!("{} derivations at their limits agree, on a thread of {STACK} bytes of stack", rows.len()))
 }
 
-fn rows() -> Vec<Row> {
+pub fn rows() -> Vec<Row> {
     let mut rows = most_lines_and_bytes();
     rows.extend(most_citations());
     rows.extend(most_items());
@@ -41,7 +41,7 @@ fn rows() -> Vec<Row> {
     rows
 }
 
-fn line(before: &[u8], sequence: &[Item], after: &[u8], rule: u8, cites: &[u16]) -> Line {
+pub fn line(before: &[u8], sequence: &[Item], after: &[u8], rule: u8, cites: &[u16]) -> Line {
     Line { place: 0, before: before.to_vec(), sequence: sequence.to_vec(), after: after.to_vec(), rule, cites: cites.to_vec() }
 }
 

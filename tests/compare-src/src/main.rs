@@ -1,6 +1,7 @@
 //! The exported calls against the independent program: the walk call on the format's cases, on the deepest requests, and on generated and
-//! damaged ones, the derivation call and the showing call on derivations at their limits, and on generated, forged and damaged ones. The
-//! exit status is 0 where all agree and 1 at the first difference; what is told of it is enough to make the call again.
+//! damaged ones, the derivation call and the showing call on derivations at their limits, and on generated, forged and damaged ones; and all
+//! of them on hostile inputs. The exit status is 0 where all agree and 1 at the first difference; what is told of it is enough to make the
+//! call again.
 
 mod calls;
 mod cases;
@@ -8,8 +9,10 @@ mod checks;
 mod crowded;
 mod deepest;
 mod derivations;
+mod endured;
 mod fence;
 mod generated;
+mod hostile;
 mod largest;
 
 use std::process::ExitCode;
@@ -18,7 +21,8 @@ use std::{env, thread};
 /// The stack on which calls are made, apart from the deepest ones, which have a thread with less: that of a process's first thread.
 const STACK: usize = 8 << 20;
 
-const HELP: &str = "usage: compare cases | compare deepest FOLDER | compare generated SEED COUNT | compare largest | compare derivations SEED COUNT";
+const HELP: &str = "usage: compare cases | compare deepest FOLDER | compare generated SEED COUNT | compare largest | compare derivations SEED COUNT \
+                    | compare hostile FOLDER | compare longest | compare write DEEPEST FOLDER BUDGET COUNT";
 
 fn main() -> ExitCode {
     let work = thread::Builder::new().stack_size(STACK).spawn(|| {
@@ -31,6 +35,12 @@ fn main() -> ExitCode {
             ["generated", seed, count] => Ok(generated::compare(number(seed)?, number(count)?)),
             ["largest"] => Ok(largest::compare()),
             ["derivations", seed, count] => Ok(derivations::compare(number(seed)?, number(count)?)),
+            ["hostile", folder] => Ok(endured::compare(Some(folder))),
+            ["longest"] => Ok(endured::compare(None)),
+            ["write", deepest, folder, budget, count] => {
+                let budget = budget.parse().map_err(|_| format!("not a budget: {budget}"))?;
+                Ok(endured::write(deepest, folder, budget, number(count)?))
+            }
             _ => Err(HELP.to_string()),
         }
     });

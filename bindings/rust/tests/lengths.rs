@@ -1,0 +1,91 @@
+//! Each call at the ends of its lengths: inputs of no byte, of one, of as many as they may have and of one more, and lent states of every
+//! length from 0 to 130.
+
+use glintstring::{check_packed, judge_packed, show, show_start, Packed, DERIVATION_LIMIT, REQUEST_LIMIT, STATE_LENGTH};
+
+/// Number, input, place and count.
+fn numbers(packed: Packed) -> (u8, u8, usize, u32) {
+    (packed.number(), packed.input(), packed.place(), packed.count())
+}
+
+/// A list of the literals 0, 2, 4 and so on.
+fn list(count: u8) -> Vec<u8> {
+    [count].into_iter().chain((0..count).map(|fluent| 2 * fluent)).collect()
+}
+
+/// As many bytes as there may be: 255 effects and 255 executability lines with 16 literals each, branchings of eight branches, nine actions.
+/// The branching that comes first can't be run; its place is given too.
+fn largest_request() -> (Vec<u8>, usize) {
+    let effects = [&[0, 126], &list(16)[..]].concat().repeat(255);
+    let lines = [&[0], &list(16)[..]].concat().repeat(255);
+    let before = [&[64, 1, 0, 255], &effects[..], &[255], &lines, &[0, 0, 45 + 9]].concat();
+    let branch = |bits: u8| [list(13), vec![26 + (bits & 1), 28 + (bits >> 1 & 1), 30 + (bits >> 2)], vec![0, 0]].concat();
+    let branches: Vec<u8> = (0..8).map(branch).flat_map(|branch| [&[16], &branch[1..]].concat()).collect();
+    let branchings = [&[255, 8], &branches[..]].concat().repeat(45);
+    let place = before.len();
+    ([before, branchings, vec![0; 9 + 2]].concat(), place)
+}
+
+/// 1,024 lines that have as many bytes as there may be, and the request whose question the last one is.
+fn largest_derivation() -> (Vec<u8>, Vec<u8>) {
+    let request = [vec![14, 1], list(13), vec![0; 5], list(9), vec![0]].concat();
+    let same = [list(13), vec![0, 0], list(13), vec![1, 0]].concat();
+    let last = [list(13), vec![0, 0], list(9), vec![6, 1, 3, 254]].concat();
+    (request, [vec![4, 0], same.repeat(1_023), last].concat())
+}
+
+#[test]
+fn requests_and_lent_states() {
+    let (largest, place) = largest_request();
+    assert_eq!(largest.len(), REQUEST_LIMIT);
+    let longer = [&largest[..], &[0]].concat();
+    let rows: [(&[u8], (u8, u8, usize, u32)); 5] =
+        [(&[], (11, 1, 0, 0)), (&[0], (12, 1, 0, 0)), (&[1], (11, 1, 1, 0)), (&largest, (2, 1, place, 0)), (&longer, (10, 1, 0, 0))];
+    for (request, answer) in rows {
+        for length in 0..=130 {
+            let mut around = [9; 130 + 128];
+            let packed = judge_packed(request, &mut around[64..64 + length], 7);
+            assert_eq!(numbers(packed), if length == STATE_LENGTH { answer } else { (9, 0, 0, 0) }, "{} bytes, {length} lent", request.len());
+            if length == STATE_LENGTH && answer.0 == 2 {
+                assert_eq!(around[64..128], [0; 64]);
+                around[64..128].fill(9);
+            }
+            assert_eq!(around, [9; 130 + 128], "{} bytes, {length} lent", request.len());
+        }
+    }
+}
+
+#[test]
+fn requests_and_derivations() {
+    let (request, largest) = largest_derivation();
+    assert_eq!(largest.len(), DERIVATION_LIMIT);
+    let longer = [&largest[..], &[0]].concat();
+    let rows: [(&[u8], (u8, u8, usize, u32)); 4] = [(&[], (11, 2, 0, 0)), (&[0], (11, 2, 1, 0)), (&largest, (0, 0, 0, 0)), (&longer, (10, 2, 0, 0))];
+    for (derivation, answer) in rows {
+        assert_eq!(numbers(check_packed(&request, derivation)), answer, "{} bytes", derivation.len());
+    }
+    let (largest, _) = largest_request();
+    let longer = [&largest[..], &[0]].concat();
+    let rows: [(&[u8], (u8, u8, usize, u32)); 4] = [(&[], (11, 1, 0, 0)), (&[0], (12, 1, 0, 0)), (&largest, (11, 2, 0, 0)), (&longer, (10, 1, 0, 0))];
+    for (request, answer) in rows {
+        assert_eq!(numbers(check_packed(request, &[])), answer, "{} bytes", request.len());
+    }
+}
+
+#[test]
+fn shown_parts() {
+    let bytes = vec![7; DERIVATION_LIMIT + 1];
+    let lengths = [0, 1, REQUEST_LIMIT, REQUEST_LIMIT + 1, DERIVATION_LIMIT, DERIVATION_LIMIT + 1];
+    for request in lengths.map(|length| &bytes[..length]) {
+        for derivation in lengths.map(|length| &bytes[..length]) {
+            for (input, length) in [(0, 0), (1, request.len()), (2, derivation.len()), (3, 0)] {
+                for place in [0, 1, REQUEST_LIMIT, REQUEST_LIMIT + 1, DERIVATION_LIMIT, DERIVATION_LIMIT + 1, 65_535] {
+                    let answer = Packed((input << 8) + ((place as u64) << 16));
+                    let start = place.min(length);
+                    assert_eq!(show_start(answer, request, derivation), start as u64);
+                    assert_eq!(show(answer, request, derivation).len(), length - start);
+                }
+            }
+        }
+    }
+}

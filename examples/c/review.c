@@ -1,0 +1,189 @@
+/*
+ * Judges requests, or checks derivations, and says in words what the answer is, with the bytes at its place.
+ *
+ *   review judge [-b BUDGET] REQUEST...                     (100,000 unless told otherwise)
+ *   review check REQUEST DERIVATION [REQUEST DERIVATION]...
+ *
+ * `check` does not walk the plan: a derivation may be accepted where every budget is spent. The exit status is 0 where each plan is
+ * verified or each derivation accepted, 1 where some answer is another, and 2 where something can't be read or written.
+ */
+#define _POSIX_C_SOURCE 200809L
+#include <errno.h>
+#include <glintstring.h>
+#include <pthread.h>
+#include <stdio.h>
+#include <stdlib.h>
+#include <string.h>
+
+/* The walk call may need GLINTSTRING_STACK_NEEDED bytes of stack; the rest is for the thread itself. */
+#define STACK (GLINTSTRING_STACK_NEEDED + (1 << 20))
+
+/* How many bytes are printed of the part that an answer is about. */
+#define SHOWN 16
+
+enum { GOOD = 0, OTHER = 1, FAILED = 2 };
+
+struct input {
+    const char *name;
+    uint8_t *bytes;
+    size_t length;
+};
+
+static const char *words(uint64_t answer, int of_derivation) {
+    switch (glintstring_number(answer)) {
+    case GLINTSTRING_VERIFIED: return of_derivation ? "accepted" : "verified";
+    case GLINTSTRING_GOAL_MISSED: return "goal missed";
+    case GLINTSTRING_NOT_EXECUTABLE: return "not executable";
+    case GLINTSTRING_BUDGET_SPENT: return "budget spent";
+    case GLINTSTRING_STATE_LENGTH_WRONG: return "the lent state has another length than 64 bytes";
+    case GLINTSTRING_TOO_LONG: return "too long";
+    case GLINTSTRING_INPUT_ENDS: return "the input ends where a byte is due";
+    case GLINTSTRING_COUNT_NOT_WITHIN_LIMITS: return "a count is not within its limits";
+    case GLINTSTRING_TOO_LARGE: return "a fluent, literal or action is too large";
+    case GLINTSTRING_NOT_LARGER: return "an entry is not larger than its predecessor";
+    case GLINTSTRING_COMPLEMENT: return "an entry is its predecessor's complement";
+    case GLINTSTRING_CONTRADICTORY: return "two effects are contradictory";
+    case GLINTSTRING_EFFECTS_AND_KNOWLEDGE: return "an action has effects and knowledge lines";
+    case GLINTSTRING_NOT_EXCLUSIVE: return "two conditions are not exclusive";
+    case GLINTSTRING_TOO_DEEP: return "a branching stands inside eight others";
+    case GLINTSTRING_BYTES_LEFT_OVER: return "bytes are left over";
+    case GLINTSTRING_TOO_MANY_ITEMS: return "a plan has too many items";
+    case GLINTSTRING_WHETHER_ASKED: return "a derivation for a request with whether entries";
+    case GLINTSTRING_NO_RULE: return "a line has no rule";
+    case GLINTSTRING_CITES_NO_EARLIER_LINE: return "a line cites what is no line before it";
+    case GLINTSTRING_CITATIONS_WRONG: return "a line has a number of citations that its rule does not take";
+    case GLINTSTRING_DOES_NOT_FOLLOW: return "a line does not follow by its rule";
+    case GLINTSTRING_NOT_THE_QUESTION: return "the last line differs from the question";
+    default: return "no answer that the format has";
+    }
+}
+
+/* Prints the words, the numbers, the state that answers 1 and 2 wrote, and the bytes at the place. `derivation` is null after a walk. */
+static int tell(uint64_t answer, const struct input *request, const struct input *derivation, const uint8_t *state) {
+    static const struct input none = {"", NULL, 0};
+    const struct input *second = derivation ? derivation : &none;
+    const uint8_t number = glintstring_number(answer);
+    const size_t start = (size_t)glintstring_show(answer, request->bytes, request->length, second->bytes, second->length);
+    const struct input *named = glintstring_input(answer) == GLINTSTRING_DERIVATION ? second : request;
+    size_t i;
+
+    if (derivation)
+        printf("%s with %s: %s\n", request->name, derivation->name, words(answer, 1));
+    else
+        printf("%s: %s\n", request->name, words(answer, 0));
+    printf("  number %u, place %u, count %lu\n", number, glintstring_place(answer), (unsigned long)glintstring_count(answer));
+    if (number == GLINTSTRING_GOAL_MISSED || number == GLINTSTRING_NOT_EXECUTABLE) {
+        printf("  state ");
+        for (i = 0; i < request->bytes[0]; i++) /* a request that was walked starts with its number of fluents */
+            putchar(state[i] == GLINTSTRING_TRUE ? '+' : state[i] == GLINTSTRING_FALSE ? '-' : '?');
+        putchar('\n');
+    }
+    if (glintstring_input(answer) != GLINTSTRING_NEITHER) {
+        printf("  %s from %lu:", named == request ? "request" : "derivation", (unsigned long)start);
+        for (i = start; i < named->length && i < start + SHOWN; i++)
+            printf(" %u", named->bytes[i]);
+        puts(start == named->length ? " it ends there" : i < named->length ? " ..." : "");
+    }
+    return number == GLINTSTRING_VERIFIED ? GOOD : OTHER;
+}
+
+/* Reads a file, and one byte beyond the limit at the most: longer inputs are all answered alike. The bytes are to be freed. */
+static int read_input(const char *name, size_t limit, struct input *input) {
+    FILE *file = fopen(name, "rb");
+    int failed = 1;
+    input->name = name;
+    input->bytes = malloc(limit + 1);
+    input->length = 0;
+    if (file && input->bytes) {
+        input->length = fread(input->bytes, 1, limit + 1, file);
+        failed = ferror(file);
+    }
+    if (failed)
+        fprintf(stderr, "review: %s: %s\n", name, strerror(errno));
+    if (file)
+        fclose(file);
+    return failed ? FAILED : GOOD;
+}
+
+static int judge(const char *name, uint32_t budget) {
+    uint8_t state[GLINTSTRING_STATE_LENGTH] = {0};
+    struct input request;
+    int status = read_input(name, GLINTSTRING_REQUEST_LIMIT, &request);
+    if (status == GOOD)
+        status = tell(glintstring_judge(request.bytes, request.length, state, sizeof state, budget), &request, NULL, state);
+    free(request.bytes);
+    return status;
+}
+
+static int check(const char *request_name, const char *derivation_name) {
+    struct input request, derivation;
+    int status = read_input(request_name, GLINTSTRING_REQUEST_LIMIT, &request);
+    int second = read_input(derivation_name, GLINTSTRING_DERIVATION_LIMIT, &derivation);
+    if (status == GOOD && second == GOOD)
+        status = tell(glintstring_check(request.bytes, request.length, derivation.bytes, derivation.length), &request, &derivation, NULL);
+    else
+        status = FAILED;
+    free(request.bytes);
+    free(derivation.bytes);
+    return status;
+}
+
+/* Digits, of a number of 32 bits. */
+static int is_budget(const char *word, uint32_t *budget) {
+    uint64_t number = 0;
+    const char *digit;
+    for (digit = word; *digit >= '0' && *digit <= '9' && number <= UINT32_MAX; digit++)
+        number = 10 * number + (uint64_t)(*digit - '0');
+    *budget = (uint32_t)number;
+    return digit != word && *digit == 0 && number <= UINT32_MAX;
+}
+
+static int usage(void) {
+    fputs("usage: review judge [-b BUDGET] REQUEST... | review check REQUEST DERIVATION [REQUEST DERIVATION]...\n", stderr);
+    return FAILED;
+}
+
+static int review(int count, char **word) {
+    uint32_t budget = 100000;
+    int worst = GOOD, i, status;
+    const int checking = count > 2 && count % 2 == 1 && strcmp(word[0], "check") == 0;
+    const int judging = count > 1 && strcmp(word[0], "judge") == 0;
+    const int budgeted = judging && strcmp(word[1], "-b") == 0;
+    if (!(checking || judging) || (budgeted && (count < 4 || !is_budget(word[2], &budget))))
+        return usage();
+    for (i = budgeted ? 3 : 1; i < count; i += checking ? 2 : 1) {
+        status = checking ? check(word[i], word[i + 1]) : judge(word[i], budget);
+        worst = status > worst ? status : worst;
+    }
+    if (fflush(stdout) != 0 || ferror(stdout)) {
+        fputs("review: standard output can't be written\n", stderr);
+        return FAILED;
+    }
+    return worst;
+}
+
+/* The words of the command line, and the exit status. */
+struct work {
+    int count;
+    char **words;
+    int status;
+};
+
+static void *begin(void *given) {
+    struct work *work = given;
+    work->status = review(work->count, work->words);
+    return NULL;
+}
+
+int main(int count, char **words_given) {
+    struct work work = {count - 1, words_given + 1, FAILED};
+    pthread_attr_t attributes;
+    pthread_t thread;
+    if (pthread_attr_init(&attributes) != 0 || pthread_attr_setstacksize(&attributes, STACK) != 0 ||
+        pthread_create(&thread, &attributes, begin, &work) != 0 || pthread_join(thread, NULL) != 0) {
+        fputs("review: the system gives no thread of the stack that a walk may need\n", stderr);
+        return FAILED;
+    }
+    pthread_attr_destroy(&attributes);
+    return work.status;
+}

@@ -1,0 +1,100 @@
+//! Judges requests, or checks derivations, and says in words what the answer is, with the bytes at its place.
+//!
+//!     review judge [-b BUDGET] REQUEST...                     (100,000 unless told otherwise)
+//!     review check REQUEST DERIVATION [REQUEST DERIVATION]...
+//!
+//! `check` does not walk the plan: a derivation may be accepted where every budget is spent. The exit status is 0 where each plan is
+//! verified or each derivation accepted, 1 where some answer is another, and 2 where something can't be read or written.
+
+use std::env;
+use std::fs::File;
+use std::io::{self, Read, Write};
+use std::process::ExitCode;
+
+use glintstring::{check, judge_on_thread, show, Answer, Input, DERIVATION_LIMIT, REQUEST_LIMIT, STATE_LENGTH};
+
+const USAGE: &str = "usage: review judge [-b BUDGET] REQUEST... | review check REQUEST DERIVATION [REQUEST DERIVATION]...";
+const BUDGET: u32 = 100_000;
+
+/// How many bytes are printed of the part that an answer is about.
+const SHOWN: usize = 16;
+
+/// The exit status, of one answer and of all: the largest.
+const GOOD: u8 = 0;
+const OTHER: u8 = 1;
+const FAILED: u8 = 2;
+
+/// Reads a file, and one byte beyond the limit at the most: longer inputs are all answered alike.
+fn read(name: &str, limit: usize) -> Result<Vec<u8>, String> {
+    let mut bytes = Vec::new();
+    let read = File::open(name).and_then(|file| file.take(limit as u64 + 1).read_to_end(&mut bytes));
+    read.map_err(|error| format!("{name}: {error}"))?;
+    Ok(bytes)
+}
+
+/// Prints the words, the numbers, the state of answers 1 and 2, and the bytes at the place.
+fn print(name: &str, answer: Answer, request: &[u8], derivation: &[u8]) -> io::Result<()> {
+    let mut out = io::stdout().lock();
+    writeln!(out, "{name}: {}", answer.words())?;
+    writeln!(out, "  number {}, place {}, count {}", answer.number(), answer.place(), answer.count())?;
+    if let Some(state) = answer.state() {
+        // A request that was walked starts with its number of fluents.
+        writeln!(out, "  state {}", state.line(request[0].into()))?;
+    }
+    let (named, whole) = match answer.named() {
+        None => return Ok(()),
+        Some(Input::Request) => ("request", request),
+        Some(Input::Derivation) => ("derivation", derivation),
+    };
+    let part = show(answer, request, derivation);
+    let bytes: String = part.iter().take(SHOWN).map(|byte| format!(" {byte}")).collect();
+    let end = match part.len() {
+        0 => " it ends there",
+        1..=SHOWN => "",
+        _ => " ...",
+    };
+    writeln!(out, "  {named} from {}:{bytes}{end}", whole.len() - part.len())
+}
+
+/// The same, and what it is for the exit status.
+fn tell(name: &str, answer: Answer, request: &[u8], derivation: &[u8]) -> Result<u8, String> {
+    print(name, answer, request, derivation).map_err(|error| format!("standard output: {error}"))?;
+    Ok(if answer.number() == 0 { GOOD } else { OTHER })
+}
+
+fn judge_file(name: &str, budget: u32) -> Result<u8, String> {
+    let request = read(name, REQUEST_LIMIT)?;
+    let answer = judge_on_thread(&request, &mut [0; STATE_LENGTH], budget).map_err(|error| format!("no thread: {error}"))?;
+    tell(name, answer, &request, &[])
+}
+
+fn check_files(request: &str, derivation: &str) -> Result<u8, String> {
+    let name = format!("{request} with {derivation}");
+    let (request, derivation) = (read(request, REQUEST_LIMIT)?, read(derivation, DERIVATION_LIMIT)?);
+    tell(&name, check(&request, &derivation), &request, &derivation)
+}
+
+/// The answer's part of the exit status, or what failed, said on standard error.
+fn status(outcome: Result<u8, String>) -> u8 {
+    outcome.unwrap_or_else(|why| {
+        eprintln!("review: {why}");
+        FAILED
+    })
+}
+
+fn main() -> ExitCode {
+    let words: Vec<String> = env::args_os().skip(1).map(|word| word.to_string_lossy().into_owned()).collect();
+    let words: Vec<&str> = words.iter().map(String::as_str).collect();
+    let judge = |names: &[&str], budget| names.iter().map(|name| status(judge_file(name, budget))).max();
+    let worst = match words[..] {
+        ["judge", "-b", budget, ref names @ ..] => budget.parse().ok().and_then(|budget| judge(names, budget)),
+        ["judge", "-b"] => None,
+        ["judge", ref names @ ..] => judge(names, BUDGET),
+        ["check", ref names @ ..] if names.len() % 2 == 0 => names.chunks(2).map(|pair| status(check_files(pair[0], pair[1]))).max(),
+        _ => None,
+    };
+    ExitCode::from(worst.unwrap_or_else(|| {
+        eprintln!("{USAGE}");
+        FAILED
+    }))
+}

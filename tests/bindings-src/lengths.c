@@ -1,0 +1,235 @@
+/*
+ * Each exported call at the ends of its lengths, by way of include/glintstring.h: 0, 1, the limit and one more for an input, null where the
+ * length is 0, and lent states of every length from 0 to 130. Each input ends where a page ends behind which nothing may be read or written,
+ * or starts where such a page ends, and inputs may not be written at all: a call that goes astray ends the program by a signal.
+ * It is compiled as C99 and as C++, and prints the first call that is not as it should be.
+ */
+#define _DEFAULT_SOURCE
+#include <glintstring.h>
+#include <stdio.h>
+#include <string.h>
+#include <sys/mman.h>
+
+#define ROOM 65536 /* a multiple of every page's size */
+#define STATES 130
+#define LENT 9
+
+static unsigned long calls;
+
+/* So many bytes between two stretches of memory that nobody may touch. */
+static uint8_t *stretch(void) {
+    uint8_t *all = (uint8_t *)mmap(NULL, 3 * ROOM, PROT_NONE, MAP_PRIVATE | MAP_ANONYMOUS, -1, 0);
+    if (all == (uint8_t *)MAP_FAILED || mprotect(all + ROOM, ROOM, PROT_READ | PROT_WRITE) != 0) {
+        perror("lengths: mmap");
+        return NULL;
+    }
+    return all + ROOM;
+}
+
+/* Puts bytes at the start or at the end of a stretch, and shuts it to writers. */
+static const uint8_t *put(uint8_t *where, const uint8_t *bytes, size_t length, int at_end) {
+    uint8_t *start = at_end ? where + ROOM - length : where;
+    mprotect(where, ROOM, PROT_READ | PROT_WRITE);
+    memcpy(start, bytes, length);
+    mprotect(where, ROOM, PROT_READ);
+    return start;
+}
+
+static int is(uint64_t answer, unsigned number, unsigned input, unsigned place, unsigned count) {
+    calls++;
+    if (glintstring_number(answer) == number && glintstring_input(answer) == input && glintstring_place(answer) == place &&
+        glintstring_count(answer) == count)
+        return 1;
+    printf("lengths: number %u, input %u, place %u, count %lu; expected %u, %u, %u, %u\n", glintstring_number(answer),
+           glintstring_input(answer), glintstring_place(answer), (unsigned long)glintstring_count(answer), number, input, place, count);
+    return 0;
+}
+
+/* A list of the literals 0, 2, 4 and so on. */
+static uint8_t *list(uint8_t *to, unsigned count) {
+    unsigned i;
+    *to++ = (uint8_t)count;
+    for (i = 0; i < count; i++)
+        *to++ = (uint8_t)(2 * i);
+    return to;
+}
+
+/*
+ * A request of 16,384 bytes: 64 fluents, 255 effects and 255 executability lines of one action, each with 16 literals; a plan of 45
+ * branchings, each of eight branches with conditions of 16 literals that are told apart by the last three, and of nine actions.
+ * Nothing is known, so the first branching can't be run: 2, at the place that is stored.
+ */
+static void largest_request(uint8_t *to, unsigned *place) {
+    const uint8_t *const start = to;
+    unsigned i, branch, bit;
+    *to++ = 64;
+    *to++ = 1;
+    *to++ = 0;
+    *to++ = 255;
+    for (i = 0; i < 255; i++) {
+        *to++ = 0;
+        *to++ = 126;
+        to = list(to, 16);
+    }
+    *to++ = 255;
+    for (i = 0; i < 255; i++) {
+        *to++ = 0;
+        to = list(to, 16);
+    }
+    *to++ = 0;
+    *to++ = 0;
+    *to++ = 45 + 9;
+    *place = (unsigned)(to - start);
+    for (i = 0; i < 45; i++) {
+        *to++ = 255;
+        *to++ = 8;
+        for (branch = 0; branch < 8; branch++) {
+            to = list(to, 16);
+            for (bit = 0; bit < 3; bit++)
+                to[(int)bit - 3] = (uint8_t)(to[(int)bit - 3] + (branch >> bit & 1));
+            *to++ = 0;
+            *to++ = 0;
+        }
+    }
+    memset(to, 0, 9 + 2);
+    to += 9 + 2;
+    if (to - start != GLINTSTRING_REQUEST_LIMIT)
+        puts("lengths: the largest request has another length");
+}
+
+/* One fluent more than there are facts, 13 facts of which nine are goals, and the empty plan; 1,024 lines derive it, of 32,768 bytes. */
+static size_t derived_request(uint8_t *to) {
+    uint8_t *end = to;
+    *end++ = 14;
+    *end++ = 1;
+    end = list(end, 13);
+    memset(end, 0, 5);
+    end = list(end + 5, 9);
+    *end++ = 0;
+    return (size_t)(end - to);
+}
+
+static void largest_derivation(uint8_t *to) {
+    static const uint8_t start[2] = {4, 0}, plan[2] = {0, 0}, rule_1[2] = {1, 0}, rule_6[4] = {6, 1, 3, 254};
+    const uint8_t *const first = to;
+    unsigned line;
+    memcpy(to, start, 2);
+    to += 2;
+    for (line = 0; line < 1024; line++) {
+        to = list(to, 13);
+        memcpy(to, plan, 2);
+        to = list(to + 2, line < 1023 ? 13 : 9);
+        memcpy(to, line < 1023 ? rule_1 : rule_6, line < 1023 ? 2 : 4);
+        to += line < 1023 ? 2 : 4;
+    }
+    if (to - first != GLINTSTRING_DERIVATION_LIMIT)
+        puts("lengths: the largest derivation has another length");
+}
+
+static uint8_t request[GLINTSTRING_REQUEST_LIMIT + 1], derivation[GLINTSTRING_DERIVATION_LIMIT + 1];
+static uint8_t *request_room, *derivation_room, *state_room;
+
+/* The walk call on these bytes, with count 0, and with lent states of every length: 9 for all but one, and 2 alone writes the state. */
+static int walks(const uint8_t *bytes, size_t length, unsigned number, unsigned place) {
+    size_t lent, i;
+    int at_end;
+    for (lent = 0; lent <= STATES; lent++)
+        for (at_end = 0; at_end <= 1; at_end++) {
+            const int written = number == GLINTSTRING_NOT_EXECUTABLE && lent == GLINTSTRING_STATE_LENGTH;
+            uint8_t *state = at_end ? state_room + ROOM - lent : state_room;
+            uint64_t answer;
+            memset(state_room, LENT, ROOM);
+            answer = glintstring_judge(bytes, length, lent == 0 && at_end ? NULL : state, lent, 7);
+            if (!(lent == GLINTSTRING_STATE_LENGTH ? is(answer, number, GLINTSTRING_REQUEST, place, 0)
+                                                   : is(answer, GLINTSTRING_STATE_LENGTH_WRONG, GLINTSTRING_NEITHER, 0, 0)))
+                return printf("lengths: a request of %lu bytes, %lu lent\n", (unsigned long)length, (unsigned long)lent), 0;
+            if (written) {
+                for (i = 0; i < lent; i++)
+                    if (state[i] != GLINTSTRING_UNKNOWN) return printf("lengths: fluent %lu is known\n", (unsigned long)i), 0;
+                memset(state, LENT, lent);
+            }
+            for (i = 0; i < ROOM; i++)
+                if (state_room[i] != LENT)
+                    return printf("lengths: a byte of a state of %lu bytes, or around it, was changed\n", (unsigned long)lent), 0;
+        }
+    return 1;
+}
+
+static int judged(void) {
+    unsigned place = 0;
+    int at_end;
+    largest_request(request, &place);
+    for (at_end = 0; at_end <= 1; at_end++) {
+        const uint8_t zero = 0, one = 1;
+        if (!walks(put(request_room, &zero, 1, at_end), 1, GLINTSTRING_COUNT_NOT_WITHIN_LIMITS, 0) ||
+            !walks(put(request_room, &one, 1, at_end), 1, GLINTSTRING_INPUT_ENDS, 1) ||
+            !walks(put(request_room, request, GLINTSTRING_REQUEST_LIMIT, at_end), GLINTSTRING_REQUEST_LIMIT, GLINTSTRING_NOT_EXECUTABLE, place) ||
+            !walks(put(request_room, request, sizeof request, at_end), sizeof request, GLINTSTRING_TOO_LONG, 0))
+            return 0;
+    }
+    /* No byte: null, and an address where nothing may be read. */
+    return walks(NULL, 0, GLINTSTRING_INPUT_ENDS, 0) && walks(request_room - 1, 0, GLINTSTRING_INPUT_ENDS, 0);
+}
+
+static int checked(void) {
+    static uint8_t small[64];
+    const size_t length = derived_request(small);
+    const uint8_t zero = 0;
+    unsigned place = 0;
+    int at_end;
+    largest_request(request, &place);
+    largest_derivation(derivation);
+    for (at_end = 0; at_end <= 1; at_end++) {
+        const uint8_t *given = put(request_room, small, length, at_end);
+        if (!is(glintstring_check(given, length, NULL, 0), GLINTSTRING_INPUT_ENDS, GLINTSTRING_DERIVATION, 0, 0) ||
+            !is(glintstring_check(given, length, derivation_room - 1, 0), GLINTSTRING_INPUT_ENDS, GLINTSTRING_DERIVATION, 0, 0) ||
+            !is(glintstring_check(given, length, put(derivation_room, &zero, 1, at_end), 1), GLINTSTRING_INPUT_ENDS, GLINTSTRING_DERIVATION, 1, 0) ||
+            !is(glintstring_check(given, length, put(derivation_room, derivation, GLINTSTRING_DERIVATION_LIMIT, at_end), GLINTSTRING_DERIVATION_LIMIT),
+                GLINTSTRING_ACCEPTED, GLINTSTRING_NEITHER, 0, 0) ||
+            !is(glintstring_check(given, length, put(derivation_room, derivation, sizeof derivation, at_end), sizeof derivation), GLINTSTRING_TOO_LONG,
+                GLINTSTRING_DERIVATION, 0, 0))
+            return 0;
+        if (!is(glintstring_check(NULL, 0, derivation_room, ROOM), GLINTSTRING_INPUT_ENDS, GLINTSTRING_REQUEST, 0, 0) ||
+            !is(glintstring_check(NULL, 0, NULL, 0), GLINTSTRING_INPUT_ENDS, GLINTSTRING_REQUEST, 0, 0) ||
+            !is(glintstring_check(put(request_room, &zero, 1, at_end), 1, NULL, 0), GLINTSTRING_COUNT_NOT_WITHIN_LIMITS, GLINTSTRING_REQUEST, 0, 0) ||
+            !is(glintstring_check(put(request_room, request, GLINTSTRING_REQUEST_LIMIT, at_end), GLINTSTRING_REQUEST_LIMIT, NULL, 0),
+                GLINTSTRING_INPUT_ENDS, GLINTSTRING_DERIVATION, 0, 0) ||
+            !is(glintstring_check(put(request_room, request, sizeof request, at_end), sizeof request, NULL, 0), GLINTSTRING_TOO_LONG,
+                GLINTSTRING_REQUEST, 0, 0))
+            return 0;
+    }
+    return 1;
+}
+
+/* No byte is read, so the inputs may lie where nothing may be read. */
+static int shown(void) {
+    static const size_t lengths[] = {0, 1, 16384, 16385, 32768, 32769, 65535, 65536};
+    static const unsigned places[] = {0, 1, 16384, 16385, 32768, 32769, 65535};
+    const uint8_t *const nowhere = request_room - 1;
+    size_t i, j, k;
+    unsigned input;
+    for (i = 0; i < sizeof lengths / sizeof *lengths; i++)
+        for (j = 0; j < sizeof lengths / sizeof *lengths; j++)
+            for (k = 0; k < sizeof places / sizeof *places; k++)
+                for (input = 0; input <= 255; input++) {
+                    const uint64_t answer = 255 + ((uint64_t)input << 8) + ((uint64_t)places[k] << 16) + ((uint64_t)UINT32_MAX << 32);
+                    const size_t length = input == GLINTSTRING_REQUEST ? lengths[i] : input == GLINTSTRING_DERIVATION ? lengths[j] : 0;
+                    const uint64_t expected = places[k] < length ? places[k] : length;
+                    const uint64_t start =
+                        glintstring_show(answer, lengths[i] ? nowhere : NULL, lengths[i], lengths[j] ? nowhere : NULL, lengths[j]);
+                    calls++;
+                    if (start != expected)
+                        return printf("lengths: input %u, place %u of %lu bytes is shown from %lu on\n", input, places[k], (unsigned long)length,
+                                      (unsigned long)start), 0;
+                }
+    return 1;
+}
+
+int main(void) {
+    request_room = stretch();
+    derivation_room = stretch();
+    state_room = stretch();
+    if (!request_room || !derivation_room || !state_room || !judged() || !checked() || !shown()) return 1;
+    printf("lengths: %lu calls at the ends of their lengths, and lent states of 0 to %d bytes\n", calls, STATES);
+    return 0;
+}

@@ -1,0 +1,153 @@
+//! Hostile inputs through the exported calls: the independent program's answer, no write outside the lent bytes, and a time of at most
+//! a + b * count. They can also be written as files, for programs that read files.
+
+use std::fmt::Write;
+use std::fs;
+use std::time::Duration;
+
+use oracle::rng::Rng;
+
+use crate::calls::{self, expect};
+use crate::hostile::{self, Input, Named};
+use crate::{checks, derivations, generated};
+
+/// What a call may take, and what it may take for each count more: seven times what was seen beside other work (docs/HOSTILE.md).
+const A: Duration = Duration::from_millis(100);
+const B: Duration = Duration::from_micros(200);
+/// How often a call is made that takes longer: the shortest time is its own.
+const TRIES: usize = 3;
+/// From so large a count on, the time for each is told.
+const LARGE: u64 = 500;
+/// The stream of random numbers of what stands around the lent bytes.
+const FENCES: u64 = 11;
+/// Random requests and derivations of each.
+const RANDOM: u64 = 300;
+
+/// What a call answered, and how long it took.
+struct Taken {
+    answer: [u64; 4],
+    took: Duration,
+}
+
+impl Taken {
+    /// a + b * count.
+    fn bound(&self) -> Duration {
+        let counts = self.answer[3] as f64;
+        A + B.mul_f64(counts)
+    }
+
+    /// Nanoseconds for each count, of large counts.
+    fn each(&self) -> Option<u64> {
+        let count = self.answer[3];
+        (count >= LARGE).then(|| (self.took.as_nanos() / u128::from(count)) as u64)
+    }
+}
+
+/// The call by both programs; its time is that of the exported one.
+fn call(rng: &mut Rng, input: &Input) -> Result<Taken, String> {
+    match input {
+        Input::Walk(call) => {
+            let (left, took) = calls::timed(rng, call)?;
+            expect(&left, &calls::independent(call), "the independent program")?;
+            Ok(Taken { answer: left.answer, took })
+        }
+        Input::Derivation(check) => checks::timed(rng, check).map(|(answer, took)| Taken { answer, took }),
+    }
+}
+
+/// The same within its time, or in words what went wrong.
+fn endured(rng: &mut Rng, input: &Input) -> Result<Taken, String> {
+    let mut best = call(rng, input)?;
+    for _ in 1..TRIES {
+        if best.took > best.bound() {
+            let again = call(rng, input)?;
+            best.took = best.took.min(again.took);
+        }
+    }
+    match best.took > best.bound() {
+        true => Err(format!("{:?} took {:?}, and at most {:?} is allowed", best.answer, best.took, best.bound())),
+        false => Ok(best),
+    }
+}
+
+/// The largest times so far, and whose they are.
+struct Largest {
+    without_count: (u64, String),
+    each: (u64, String),
+}
+
+impl Largest {
+    fn note(&mut self, name: &str, taken: &Taken) {
+        let whole = taken.took.as_nanos() as u64;
+        if taken.answer[3] == 0 && whole > self.without_count.0 {
+            self.without_count = (whole, name.to_string());
+        }
+        if taken.each().is_some_and(|each| each > self.each.0) {
+            self.each = (taken.each().unwrap_or(0), name.to_string());
+        }
+    }
+}
+
+fn run(inputs: &[Named], largest: &mut Largest, print: bool) -> Result<(), String> {
+    for (index, (name, input)) in inputs.iter().enumerate() {
+        let taken = endured(&mut Rng::new(1, FENCES, index as u64), input).map_err(|why| format!("{name}: {why}"))?;
+        largest.note(name, &taken);
+        if print {
+            let [number, _, place, count] = taken.answer;
+            let each = taken.each().map_or(String::new(), |each| each.to_string());
+            println!("| {name} | {number} | {place} | {count} | {} | {each} |", taken.took.as_micros());
+        }
+    }
+    Ok(())
+}
+
+/// Every input by name, with the deepest walks of a folder, and random ones; or only the one that takes minutes.
+pub fn compare(folder: Option<&str>) -> Result<String, String> {
+    let none = (0, "none".to_string());
+    let mut largest = Largest { without_count: none.clone(), each: none };
+    let (named, random) = match folder {
+        Some(folder) => (hostile::named(folder)?, hostile::random(1, RANDOM)),
+        None => (hostile::longest(), Vec::new()),
+    };
+    println!("| input | number | place | count | time, us | ns for each count |\n|---|---|---|---|---|---|");
+    run(&named, &mut largest, true)?;
+    run(&random, &mut largest, false)?;
+    let [(whole, slowest), (each, slowest_each)] = [largest.without_count, largest.each];
+    let (a, b, total) = (A.as_micros(), B.as_nanos(), named.len() + random.len());
+    println!("  a: {a} us allowed; without a count at most {} us: {slowest}", whole / 1_000);
+    println!("  b: {b} ns allowed; for each of {LARGE} counts or more at most {each} ns: {slowest_each}");
+    Ok(format!("hostile inputs: {total} agree, none writes outside the lent bytes, and each takes at most a + b * count"))
+}
+
+/// Writes the inputs of a folder's deepest walks, the others by name, and so many generated and random ones as files into another folder.
+/// There `walks` has the names of requests and `checks` those of requests and derivations, and beside them are the answers, by the
+/// independent program, walks under this budget.
+pub fn write(deepest: &str, folder: &str, budget: u32, count: u64) -> Result<String, String> {
+    let mut inputs: Vec<Input> = hostile::named(deepest)?.into_iter().chain(hostile::random(1, count)).map(|(_, input)| input).collect();
+    inputs.extend((0..count).map(|index| Input::Walk(generated::call(1, index))));
+    inputs.extend((0..count).map(|index| Input::Derivation(derivations::call(1, index))));
+    let save = |name: String, bytes: &[u8]| fs::write(format!("{folder}/{name}"), bytes).map_err(|error| format!("{folder}/{name}: {error}"));
+    let (mut walks, mut checks, mut of_walks, mut of_checks) = (String::new(), String::new(), String::new(), String::new());
+    let told = |[number, _, place, count]: [u64; 4]| format!("  number {number}, place {place}, count {count}");
+    for (index, input) in inputs.iter_mut().enumerate() {
+        match input {
+            Input::Walk(call) => {
+                call.budget = budget;
+                call.lent = vec![0; glintstring::STATE_LENGTH];
+                save(format!("{index}.request"), &call.request)?;
+                _ = writeln!(walks, "{folder}/{index}.request");
+                _ = writeln!(of_walks, "{}", told(calls::independent(call).answer));
+            }
+            Input::Derivation(check) => {
+                save(format!("{index}.request"), &check.request)?;
+                save(format!("{index}.derivation"), &check.derivation)?;
+                _ = writeln!(checks, "{folder}/{index}.request {folder}/{index}.derivation");
+                _ = writeln!(of_checks, "{}", told(checks::independent(check)));
+            }
+        }
+    }
+    for (name, text) in [("walks", walks), ("checks", checks), ("walks.expected", of_walks), ("checks.expected", of_checks)] {
+        save(name.to_string(), text.as_bytes())?;
+    }
+    Ok(format!("{} inputs written", inputs.len()))
+}
