@@ -54,6 +54,13 @@ fn crowded(items: usize) -> Vec<u8> {
     [vec![64, 1, 0], effects, vec![1, 0, 0, 0], sequence(&vec![vec![0]; items]), vec![0, 0]].concat()
 }
 
+/// The same with bodies that are known true but for their last literal, which is unknown: each has to be looked through.
+fn nearly(items: usize) -> Vec<u8> {
+    let body = section(16, |i| vec![if i < 15 { 2 * i as u8 } else { 126 }]);
+    let effects = section(255, |i| [vec![0, 2 * (15 + i as u8 % 48)], body.clone()].concat());
+    [vec![64, 1], section(15, |i| vec![2 * i as u8]), effects, vec![1, 0, 0, 0], sequence(&vec![vec![0]; items]), vec![0, 0]].concat()
+}
+
 /// So many looks, each at a fluent of its own, so that each doubles the paths.
 fn looks(count: u8) -> Vec<u8> {
     let each = |line: fn(u8) -> Vec<u8>| section(count.into(), |i| line(i as u8));
@@ -76,6 +83,7 @@ pub fn judgements() {
         ("File A", FILE_A.to_vec()),
         ("small table, 1,024 actions", long_plan(1024)),
         ("255 effects, 1,024 actions", crowded(1024)),
+        ("255 nearly known, 1,024 actions", nearly(1024)),
         ("15 looks, all ends judged", looks(15)),
         ("20 looks, budget spent", looks(20)),
         ("512 looks at 63, budget spent", deep()),
