@@ -61,8 +61,8 @@ fn left(s: &[u8], t: &Table, a: usize, marks: &[u8; 64], start: [u8; 64]) -> [u8
     next
 }
 
-// The state after an action that is not a sensing one. Each effect undoes what it may and tells what it gives, and where something was told
-// an effect may yet undo it that came before. No body is looked at that changes nothing.
+// The state after an action that is not a sensing one. Each effect in turn undoes what it may or tells what it gives; what is told may yet
+// be undone by an effect whose turn is over, so `left` follows if anything was. A body is looked at only where the mark could change.
 pub fn state_after(s: &[u8], t: &Table, a: usize, marks: [u8; 64]) -> [u8; 64]
     requires { ⌜ At-hand (now s) (now t) ⌝ }
     requires { ⌜ a < 64 ⌝ }
