@@ -1,4 +1,5 @@
--- The pass over an action's effects that both undoes and tells, effect by effect. Assumes nothing.
+-- The pass over an action's effects that both undoes and tells, effect by effect; and that what is known is possible, because the marks of
+-- a literal and of its complement differ and a fluent has one mark. Assumes nothing.
 use Prim.Native.Nat.{ℕ, _+_, _<_}
 use native.Mathlib.Omega.{arith}
 use mathlib.Core.Path.{_≡_, sym, _∙_, ap}
