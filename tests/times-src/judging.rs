@@ -54,6 +54,15 @@ fn crowded(items: usize) -> Vec<u8> {
     [vec![64, 1, 0], effects, vec![1, 0, 0, 0], sequence(&vec![vec![0]; items]), vec![0, 0]].concat()
 }
 
+/// The same in a state that knows the complement of all that is given, with bodies known true but for their last literal, which is known
+/// false: each has to be looked through.
+fn barred(items: usize) -> Vec<u8> {
+    let facts = section(64, |i| vec![2 * i as u8 + u8::from(i == 15)]);
+    let body = section(16, |i| vec![2 * i as u8]);
+    let effects = section(255, |i| [vec![0, 2 * (16 + i as u8 % 48) + 1], body.clone()].concat());
+    [vec![64, 1], facts, effects, vec![1, 0, 0, 0], sequence(&vec![vec![0]; items]), vec![0, 0]].concat()
+}
+
 /// So many looks, each at a fluent of its own, so that each doubles the paths.
 fn looks(count: u8) -> Vec<u8> {
     let each = |line: fn(u8) -> Vec<u8>| section(count.into(), |i| line(i as u8));
@@ -76,6 +85,7 @@ pub fn judgements() {
         ("File A", FILE_A.to_vec()),
         ("small table, 1,024 actions", long_plan(1024)),
         ("255 effects, 1,024 actions", crowded(1024)),
+        ("255 barred at the last, 1,024 actions", barred(1024)),
         ("15 looks, all ends judged", looks(15)),
         ("20 looks, budget spent", looks(20)),
         ("512 looks at 63, budget spent", deep()),

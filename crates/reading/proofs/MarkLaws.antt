@@ -65,35 +65,41 @@ module _ (s : List ℕ) (p : ℕ) (here : List-here 128 s p) where
   pub list-fits : (x : ℕ) → x ≡ getD s p 0 → Fits w64 (length s) → Fits w64 (p + x)
   list-fits x byte room = let ends = here .ends in let most = room .fits in record { fits = omega arith }
 
-  module _ (x end : ℕ) (byte : x ≡ getD s p 0) (is : end ≡ p + x) where
-    ends-at : end ≡ p + getD s p 0
-    ends-at = is ∙ ap (λ (y : ℕ). p + y) byte
+  pub first-fits : Fits w64 (length s) → Fits w64 (p + 1)
+  first-fits room = let there = count-there in let most = room .fits in record { fits = omega arith }
 
-    list-starts : bytes-from s (p + 1) (end - p) ≡ listed s p
+  pub past-fits : (x : ℕ) → x ≡ getD s p 0 → Fits w64 (length s) → Fits w64 (p + 1 + x)
+  past-fits x byte room = let ends = here .ends in let most = room .fits in record { fits = omega arith }
+
+  module _ (x end : ℕ) (byte : x ≡ getD s p 0) (is : end ≡ p + 1 + x) where
+    ends-at : end ≡ p + 1 + getD s p 0
+    ends-at = is ∙ ap (λ (y : ℕ). p + 1 + y) byte
+
+    list-starts : bytes-from s (p + 1) (end - (p + 1)) ≡ listed s p
     unfolding listed
-    list-starts = let e = ends-at in let left : end - p ≡ getD s p 0 = omega arith in rw left
+    list-starts = let e = ends-at in let left : end - (p + 1) ≡ getD s p 0 = omega arith in rw left
 
-    pub each-starts : (test : ℕ → Bool) → each-of test (listed s p) ≡ each-of test (bytes-from s (p + 1) (end - p))
+    pub each-starts : (test : ℕ → Bool) → each-of test (listed s p) ≡ each-of test (bytes-from s (p + 1) (end - (p + 1)))
     each-starts test = ap (each-of test) (sym list-starts)
 
-    pub state-starts : state-of format (listed s p) ≡ told-all (bytes-from s (p + 1) (end - p)) (replicate 64 0)
+    pub state-starts : state-of format (listed s p) ≡ told-all (bytes-from s (p + 1) (end - (p + 1))) (replicate 64 0)
     unfolding state-of
     state-starts = ap (λ (ls : List ℕ). told-all ls (replicate 64 0)) (sym list-starts)
 
-    module _ (i : ℕ) (from : p ≤ i) (more : i < end) where
-      pub entry-there : i + 1 < length s
+    module _ (i : ℕ) (from : p < i) (more : i < end) where
+      pub entry-there : i < length s
       entry-there = let ends = here .ends in let e = ends-at in omega arith
 
       pub entry-fits : Fits w64 (length s) → Fits w64 (i + 1)
       entry-fits room = let there = entry-there in let most = room .fits in record { fits = omega arith }
 
-      pub entry-below : (l : ℕ) → l ≡ getD s (i + 1) 0 → l < 128
+      pub entry-below : (l : ℕ) → l ≡ getD s i 0 → l < 128
       entry-below l e =
           let ends = ends-at in
-          let same : p + 1 + (i - p) ≡ i + 1 = omega arith in
-          subst (λ (y : ℕ). y < 128) (ap (λ (j : ℕ). getD s j 0) same ∙ sym e) (here .below (i - p) (omega arith))
+          let same : p + 1 + (i - (p + 1)) ≡ i = omega arith in
+          subst (λ (y : ℕ). y < 128) (ap (λ (j : ℕ). getD s j 0) same ∙ sym e) (here .below (i - (p + 1)) (omega arith))
 
-      pub fluent-below : (l : ℕ) → l ≡ getD s (i + 1) 0 → l / 2 < 64
+      pub fluent-below : (l : ℕ) → l ≡ getD s i 0 → l / 2 < 64
       fluent-below l e = let below = entry-below l e in omega arith
 
 module _ (s : List ℕ) (end i : ℕ) (more : i < end) where
@@ -105,29 +111,39 @@ pub bytes-done : (s : List ℕ) (end i : ℕ) → end ≤ i → bytes-from s (i 
 unfolding bytes-from
 bytes-done s end i h = let none : end - i ≡ zero = omega arith in rw none
 
-module _ (whole : Bool) (k : Test) (marks : State) (s : List ℕ) (end i : ℕ) (so-far : whole ≡ each-of (holds-as k marks) (bytes-from s (i + 1) (end - i))) where
-  module _ (b : Bool) (l : ℕ) (more : i < end) (entry : l ≡ getD s (i + 1) 0) (tested : b ≡ holds-as k marks l) where
-    first-is : each-of (holds-as k marks) (bytes-from s (i + 1) (end - i)) ≡ both b (each-of (holds-as k marks) (bytes-from s (i + 1 + 1) (end - (i + 1))))
+-- The same from the entry at i on.
+module _ (s : List ℕ) (end i : ℕ) where
+  entry-next : i < end → bytes-from s i (end - i) ≡ getD s i 0 ∷ bytes-from s (i + 1) (end - (i + 1))
+  unfolding bytes-from
+  entry-next more = let left : end - i ≡ suc (end - (i + 1)) = omega arith in rw left
+
+  entry-last : end ≤ i → bytes-from s i (end - i) ≡ []
+  unfolding bytes-from
+  entry-last h = let none : end - i ≡ zero = omega arith in rw none
+
+module _ (whole : Bool) (k : Test) (marks : State) (s : List ℕ) (end i : ℕ) (so-far : whole ≡ each-of (holds-as k marks) (bytes-from s i (end - i))) where
+  module _ (b : Bool) (l : ℕ) (more : i < end) (entry : l ≡ getD s i 0) (tested : b ≡ holds-as k marks l) where
+    first-is : each-of (holds-as k marks) (bytes-from s i (end - i)) ≡ both b (each-of (holds-as k marks) (bytes-from s (i + 1) (end - (i + 1))))
     unfolding each-of
-    first-is = rw (bytes-next s end i more, tested, entry)
+    first-is = rw (entry-next s end i more, tested, entry)
 
     pub each-fails : b ≡ false → false ≡ whole
     unfolding both
     each-fails f = sym (so-far ∙ first-is ∙ rw f)
 
-    pub each-next : b ≡ true → whole ≡ each-of (holds-as k marks) (bytes-from s (i + 1 + 1) (end - (i + 1)))
+    pub each-next : b ≡ true → whole ≡ each-of (holds-as k marks) (bytes-from s (i + 1) (end - (i + 1)))
     unfolding both
     each-next t = so-far ∙ first-is ∙ rw t
 
   pub each-done : end ≤ i → true ≡ whole
   unfolding each-of
-  each-done h = sym (so-far ∙ rw (bytes-done s end i h))
+  each-done h = sym (so-far ∙ rw (entry-last s end i h))
 
-module _ (whole : State) (s : List ℕ) (end i : ℕ) (marks : State) (so-far : whole ≡ told-all (bytes-from s (i + 1) (end - i)) marks) where
-  pub state-next : (l mark : ℕ) → i < end → l ≡ getD s (i + 1) 0 → mark ≡ mark-of l → whole ≡ told-all (bytes-from s (i + 1 + 1) (end - (i + 1))) (set marks (l / 2) mark)
+module _ (whole : State) (s : List ℕ) (end i : ℕ) (marks : State) (so-far : whole ≡ told-all (bytes-from s i (end - i)) marks) where
+  pub state-next : (l mark : ℕ) → i < end → l ≡ getD s i 0 → mark ≡ mark-of l → whole ≡ told-all (bytes-from s (i + 1) (end - (i + 1))) (set marks (l / 2) mark)
   unfolding told-all told fluent-of
-  state-next l mark h entry is = so-far ∙ rw (bytes-next s end i h, is, entry)
+  state-next l mark h entry is = so-far ∙ rw (entry-next s end i h, is, entry)
 
   pub state-done : end ≤ i → marks ≡ whole
   unfolding told-all
-  state-done h = sym (so-far ∙ rw (bytes-done s end i h))
+  state-done h = sym (so-far ∙ rw (entry-last s end i h))

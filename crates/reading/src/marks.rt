@@ -46,11 +46,12 @@ pub fn each_holds(test: Test, marks: &[u8; 64], s: &[u8], p: usize) -> bool
     requires { ⌜ List-here 128 (now s) p ⌝ }
     ensures { λ r. ⌜ r ≡ each-of (holds-as test (now (marks .entry))) (listed (now (s .entry)) p) ⌝ }
 {
-    let end = p + wide(s[p]);
-    let mut i = p;
+    let first = p + 1;
+    let end = first + wide(s[p]);
+    let mut i = first;
     while i < end {
-        i += 1;
         let l = wide(s[i]);
+        i += 1;
         let good = holds(test, marks, l);
         if good {
             continue;
@@ -66,11 +67,12 @@ pub fn state_of(s: &[u8], p: usize) -> [u8; 64]
     ensures { λ r. ⌜ r ≡ state-of format (listed (now (s .entry)) p) ⌝ }
 {
     let mut marks = [limits::UNKNOWN_MARK; 64];
-    let end = p + wide(s[p]);
-    let mut i = p;
+    let first = p + 1;
+    let end = first + wide(s[p]);
+    let mut i = first;
     while i < end {
-        i += 1;
         let l = wide(s[i]);
+        i += 1;
         let f = l / 2;
         marks[f] = mark_of(l);
     }

@@ -10,20 +10,24 @@ use lib.Dec.{eqb}
 use mir.Syntax.{w64}
 use mir.Val.{Fits}
 use borrow.Author.Tests.{eq-eqb, ne-eqb}
-use Rattle.meaning.specs.Tests.{either, pick, some-of, each-of}
+use Rattle.meaning.specs.Tests.{both, either, fails, pick, some-of, each-of}
 use Rattle.meaning.specs.Literals.{fluent-of, complement}
-use Rattle.meaning.specs.States.{State, mark-of, known, told, can-be-run}
-use Rattle.meaning.proofs.TestLaws.{Has, pick-true, pick-false}
+use Rattle.meaning.specs.States.{State, mark-of, known, possible, told, can-be-run}
+use Rattle.meaning.proofs.TestLaws.{by-test, clash, either-right, each-mono, Has, pick-true, pick-false}
+use Rattle.meaning.proofs.PickLaws.{pick-has}
 use Rattle.meaning.proofs.LiteralLaws.{fluent-complement}
+use Rattle.meaning.proofs.ToldLaws.{either-none, either-assoc}
 use Rattle.reading.specs.Noted.{effect-place, effect-before, effect-last, run-place, run-before}
 use Rattle.reading.specs.Listed.{listed, List-here, holds-as}
 use Rattle.refusing.specs.InTable.{Effect-here}
 use Rattle.reading.specs.declared.marks.Test.the-variants.{Known, Possible}
 use Rattle.reading.proofs.MarkLaws.{mark-other, mark-most}
-use Rattle.steps.specs.AtHand.{request-in, At-hand}
+use Rattle.steps.specs.AtHand.{request-in, At-hand, Marked}
 use Rattle.steps.specs.Lines.{Linked, Chain, allowed-at, Effects}
-use Rattle.steps.specs.After.{told-at, undone, left-at, Effects-chained, Told, Left}
+use Rattle.steps.specs.After.{undone, left-at, Effects-chained, Left}
 use Rattle.steps.proofs.Served.{runs-at-hand, effects-at-hand}
+use Rattle.steps.proofs.Sweeps.{known-possible, mark-some, swept-one, tells-one, swept-at, tells-at}
+use Rattle.steps.proofs.SensingLaws.{marked-set}
 
 -- CHAINS. A chain has one list of places.
 module _ (t : List ℕ) (place before : ℕ) where
@@ -190,10 +194,19 @@ module _ (s t : List ℕ) (k : ℕ) (left : Effects-left s t k) (more : 0 < k) w
 pub mark-within : (l mark : ℕ) → mark ≡ mark-of l → mark ≤ 3
 mark-within l mark is = let most = mark-most l in omega arith
 
--- What was told so far, and what was undone so far.
-pub record Telling (s t : List ℕ) (a : ℕ) (marks next : State) (k : ℕ) : Type 0 where
+either-true : (b : Bool) → either b true ≡ true
+either-true b = either-right b true refl
+
+-- Of three marks one is neither of the other two.
+third : (m mark : ℕ) → 0 < mark → mark ≤ 2 → m ≤ 2 → (m ≡ mark → ⊥) → (m ≡ 0 → ⊥) → m ≡ 3 - mark
+third m mark least most small not some = omega (arith, not, some)
+
+-- What was told and undone so far, and whether anything was told; and what the second pass has undone so far.
+pub record Sweeping (s t : List ℕ) (a : ℕ) (marks next : State) (b : Bool) (k : ℕ) : Type 0 where
   pub left : Effects-left s t k
-  pub same : (ps : List ℕ) → Effects-chained t a ps → told-at s marks ps marks ≡ told-at s marks (left .rest) next
+  pub marked : Marked next
+  pub same : (ps : List ℕ) → Effects-chained t a ps → swept-at s marks ps marks ≡ swept-at s marks (left .rest) next
+  pub tells : (ps : List ℕ) → Effects-chained t a ps → tells-at s marks ps marks ≡ either b (tells-at s marks (left .rest) next)
 
 pub record Leaving (s t : List ℕ) (a : ℕ) (marks start next : State) (k : ℕ) : Type 0 where
   pub left : Effects-left s t k
@@ -214,36 +227,134 @@ module _ (s t : List ℕ) (a k : ℕ) (here : At-hand s t) (small : a < 64) (at 
   unfolding Effects-chained
   all-one ps chained = chain-one t effect-place effect-before (getD t (effect-last + a) 0) ps (all .places) chained (all .chain)
 
-  pub telling-starts : (marks : State) → Telling s t a marks marks k
-  telling-starts marks = record { left = all-left; same = λ ps chained. ap (λ (qs : List ℕ). told-at s marks qs marks) (all-one ps chained) }
+  pub sweeping-starts : (marks : State) → Marked marks → Sweeping s t a marks marks false k
+  unfolding either
+  sweeping-starts marks fine = record {
+    left = all-left;
+    marked = fine;
+    same = λ ps chained. ap (λ (qs : List ℕ). swept-at s marks qs marks) (all-one ps chained);
+    tells = λ ps chained. ap (λ (qs : List ℕ). tells-at s marks qs marks) (all-one ps chained);
+  }
 
   pub leaving-starts : (marks start : State) → Leaving s t a marks start start k
   leaving-starts marks start = record { left = all-left; same = λ ps chained. ap (λ (qs : List ℕ). left-at s marks qs start) (all-one ps chained) }
 
-module _ (s t : List ℕ) (a : ℕ) (marks next : State) (k : ℕ) (tells : Telling s t a marks next k) where
-  pub tell-done : k ≤ 0 → Told s t a marks next
-  unfolding told-at
-  tell-done h = record {
-    holds = λ ps chained. sym (tells .same ps chained ∙ ap (λ (qs : List ℕ). told-at s marks qs next) (chain-none t effect-place effect-before k (tells .left .rest) (tells .left .chain) h));
-  }
+module _ (s t : List ℕ) (a : ℕ) (marks next : State) (b : Bool) (k : ℕ) (sweeps : Sweeping s t a marks next b k) where
+  module _ (ps : List ℕ) (chained : Effects-chained t a ps) (h : k ≤ 0) where
+    sweep-none : sweeps .left .rest ≡ []
+    sweep-none = chain-none t effect-place effect-before k (sweeps .left .rest) (sweeps .left .chain) h
 
-  module _ (more : 0 < k) (p j : ℕ) (at : p ≡ getD t (4096 + k) 0) (onward : j ≡ getD t (4352 + k) 0) (b : Bool) (tested : b ≡ each-of (holds-as Known marks) (listed s (p + 2))) where
-    tell-on : (after : State) → pick b (λ _. told (getD s (p + 1) 0) next) (λ _. next) ≡ after → Telling s t a marks after j
-    unfolding told-at holds-as effects-others
-    tell-on after e = record {
-      left = effects-others s t k (tells .left) more j onward;
-      same = λ ps chained.
-          tells .same ps chained
-          ∙ ap (λ (qs : List ℕ). told-at s marks qs next) (effect-rest s t k (tells .left) more p at)
-          ∙ ap (told-at s marks (effect-first s t k (tells .left) more .others)) (rw (sym tested) e);
-    }
+    pub sweep-done : swept-at s marks ps marks ≡ next
+    unfolding swept-at
+    sweep-done = sweeps .same ps chained ∙ ap (λ (qs : List ℕ). swept-at s marks qs next) sweep-none
 
-    pub tell-other : b ≡ false → Telling s t a marks next j
-    tell-other e = tell-on next (pick-false _ _ _ e)
+    pub sweep-tells : tells-at s marks ps marks ≡ b
+    unfolding tells-at
+    sweep-tells = sweeps .tells ps chained ∙ ap (λ (qs : List ℕ). either b (tells-at s marks qs next)) sweep-none ∙ either-none b
 
-    pub tell-known : b ≡ true → (l mark : ℕ) → l ≡ getD s (p + 1) 0 → mark ≡ mark-of l → Telling s t a marks (set next (l / 2) mark) j
-    unfolding told fluent-of
-    tell-known e l mark is marked = tell-on (set next (l / 2) mark) (pick-true _ _ _ e ∙ rw (marked, is))
+  module _ (more : 0 < k) (p j : ℕ) (at : p ≡ getD t (4096 + k) 0) (onward : j ≡ getD t (4352 + k) 0) where
+    sweep-on : (after : State) (c : Bool) → Marked after → swept-one s marks p next ≡ after → either b (tells-one s marks p next) ≡ c → Sweeping s t a marks after c j
+    unfolding swept-at tells-at effects-others
+    sweep-on after c fine e g =
+        let others = effect-first s t k (sweeps .left) more .others in
+        let rest = effect-rest s t k (sweeps .left) more p at in
+        record {
+          left = effects-others s t k (sweeps .left) more j onward;
+          marked = fine;
+          same = λ ps chained. sweeps .same ps chained ∙ ap (λ (qs : List ℕ). swept-at s marks qs next) rest ∙ ap (swept-at s marks others) e;
+          tells = λ ps chained.
+              sweeps .tells ps chained
+              ∙ ap (λ (qs : List ℕ). either b (tells-at s marks qs next)) rest
+              ∙ sym (either-assoc b (tells-one s marks p next) (tells-at s marks others (swept-one s marks p next)))
+              ∙ ap (λ (x : Bool). either x (tells-at s marks others (swept-one s marks p next))) g
+              ∙ ap (λ (n : State). either c (tells-at s marks others n)) e;
+        }
+
+    module _ (l mark : ℕ) (is : l ≡ getD s (p + 1) 0) (marked : mark ≡ mark-of l) where
+      says-this : known next (getD s (p + 1) 0) ≡ eqb (getD next (l / 2) 0) mark
+      unfolding known fluent-of
+      says-this = rw (marked, is)
+
+      says-against : known next (complement (getD s (p + 1) 0)) ≡ eqb (getD next (l / 2) 0) (3 - mark)
+      unfolding known fluent-of
+      says-against = rw (marked, is, fluent-complement (getD s (p + 1) 0), mark-other (getD s (p + 1) 0))
+
+      mark-there : 0 < mark
+      mark-there = let some = mark-some l in omega arith
+
+      mark-small : mark ≤ 2
+      mark-small = let most = mark-most l in omega arith
+
+      fluent-there : l / 2 < 64
+      fluent-there = effect-fluent s t k (sweeps .left) more p at l is
+
+      nothing-against : getD next (l / 2) 0 ≡ 0 → getD next (l / 2) 0 ≡ 3 - mark → ⊥
+      nothing-against z q = let most = mark-small in omega arith
+
+      -- What the effect gives is known already.
+      pub sweep-known : getD next (l / 2) 0 ≡ mark → Sweeping s t a marks next b j
+      unfolding swept-one tells-one both fails
+      sweep-known e =
+          let this = says-this ∙ eq-eqb _ _ e in
+          sweep-on next b (sweeps .marked) (pick-true _ _ _ this) (rw this (either-none b))
+
+      module _ (not : getD next (l / 2) 0 ≡ mark → ⊥) where
+        says-not : known next (getD s (p + 1) 0) ≡ false
+        says-not = says-this ∙ ne-eqb _ _ not
+
+        module _ (sure : Bool) (tested : sure ≡ each-of (holds-as Known marks) (listed s (p + 2))) where
+          -- It is given.
+          pub sweep-told : sure ≡ true → Sweeping s t a marks (set next (l / 2) mark) true j
+          unfolding swept-one tells-one holds-as told fluent-of both fails
+          sweep-told e =
+              let given = sym tested ∙ e in
+              sweep-on (set next (l / 2) mark) true
+              (marked-set next (l / 2) mark (sweeps .marked) fluent-there mark-small)
+              (pick-false _ _ _ says-not ∙ pick-true _ _ _ given ∙ rw (marked, is))
+              (rw (says-not, given) (either-true b))
+
+          module _ (unsure : sure ≡ false) where
+            quiet : either b (tells-one s marks p next) ≡ b
+            unfolding tells-one holds-as both fails
+            quiet = rw (says-not, sym tested, unsure) (either-none b)
+
+            -- It is not, and nothing is known of the fluent that could be undone.
+            pub sweep-unknown : getD next (l / 2) 0 ≡ 0 → Sweeping s t a marks next b j
+            unfolding swept-one holds-as undone
+            sweep-unknown z =
+                sweep-on next b (sweeps .marked)
+                (pick-false _ _ _ says-not
+                ∙ pick-false _ _ _ (sym tested ∙ unsure)
+                ∙ pick-has (λ (u : State). u ≡ next) _ _ _
+                (λ _. pick-false _ _ _ (says-against ∙ ne-eqb _ _ (nothing-against z)))
+                (λ _. refl))
+                quiet
+
+            -- Its complement is known and may be undone.
+            pub sweep-undone : (may : Bool) → may ≡ each-of (holds-as Possible marks) (listed s (p + 2)) → may ≡ true → (getD next (l / 2) 0 ≡ 0 → ⊥) → Sweeping s t a marks (set next (l / 2) 0) b j
+            unfolding swept-one holds-as undone fluent-of
+            sweep-undone may asked e some =
+                let least = mark-there in
+                let most = mark-small in
+                let small = sweeps .marked .small (l / 2) in
+                let against : getD next (l / 2) 0 ≡ 3 - mark = third _ _ least most small not some in
+                sweep-on (set next (l / 2) 0) b
+                (marked-set next (l / 2) 0 (sweeps .marked) fluent-there (omega arith))
+                (pick-false _ _ _ says-not
+                ∙ pick-false _ _ _ (sym tested ∙ unsure)
+                ∙ pick-true _ _ _ (sym asked ∙ e)
+                ∙ pick-true _ _ _ (says-against ∙ eq-eqb _ _ against)
+                ∙ rw is)
+                quiet
+
+        -- Its body is not even possible.
+        pub sweep-kept : (may : Bool) → may ≡ each-of (holds-as Possible marks) (listed s (p + 2)) → may ≡ false → Sweeping s t a marks next b j
+        unfolding swept-one tells-one holds-as both fails
+        sweep-kept may asked e =
+            let never = sym asked ∙ e in
+            let unsure : each-of (known marks) (listed s (p + 2)) ≡ false =
+            by-test _ (λ y. clash (each-mono (known marks) (possible marks) (known-possible marks) (listed s (p + 2)) y) never) (λ n. n) in
+            sweep-on next b (sweeps .marked) (pick-false _ _ _ says-not ∙ pick-false _ _ _ unsure ∙ pick-false _ _ _ never) (rw (says-not, unsure) (either-none b))
 
 module _ (s t : List ℕ) (a : ℕ) (marks start next : State) (k : ℕ) (leaves : Leaving s t a marks start next k) where
   pub leave-done : k ≤ 0 → Left s t a marks start next
@@ -252,29 +363,31 @@ module _ (s t : List ℕ) (a : ℕ) (marks start next : State) (k : ℕ) (leaves
     holds = λ ps chained. sym (leaves .same ps chained ∙ ap (λ (qs : List ℕ). left-at s marks qs next) (chain-none t effect-place effect-before k (leaves .left .rest) (leaves .left .chain) h));
   }
 
-  module _ (more : 0 < k) (p j : ℕ) (at : p ≡ getD t (4096 + k) 0) (onward : j ≡ getD t (4352 + k) 0) (b : Bool) (tested : b ≡ each-of (holds-as Possible marks) (listed s (p + 2))) where
-    leave-on : (after : State) → pick b (λ _. undone (getD s (p + 1) 0) next) (λ _. next) ≡ after → Leaving s t a marks start after j
-    unfolding left-at holds-as effects-others
+  module _ (more : 0 < k) (p j : ℕ) (at : p ≡ getD t (4096 + k) 0) (onward : j ≡ getD t (4352 + k) 0) where
+    leave-on : (after : State) → pick (each-of (possible marks) (listed s (p + 2))) (λ _. undone (getD s (p + 1) 0) next) (λ _. next) ≡ after → Leaving s t a marks start after j
+    unfolding left-at effects-others
     leave-on after e = record {
       left = effects-others s t k (leaves .left) more j onward;
       same = λ ps chained.
           leaves .same ps chained
           ∙ ap (λ (qs : List ℕ). left-at s marks qs next) (effect-rest s t k (leaves .left) more p at)
-          ∙ ap (left-at s marks (effect-first s t k (leaves .left) more .others)) (rw (sym tested) e);
+          ∙ ap (left-at s marks (effect-first s t k (leaves .left) more .others)) e;
     }
 
-    pub leave-other : b ≡ false → Leaving s t a marks start next j
-    leave-other e = leave-on next (pick-false _ _ _ e)
-
-    module _ (possibly : b ≡ true) (l mark : ℕ) (is : l ≡ getD s (p + 1) 0) (marked : mark ≡ mark-of l) where
+    module _ (l mark : ℕ) (is : l ≡ getD s (p + 1) 0) (marked : mark ≡ mark-of l) where
       says-other : known next (complement l) ≡ eqb (getD next (l / 2) 0) (3 - mark)
       unfolding known fluent-of
       says-other = rw (fluent-complement l, mark-other l, marked)
 
-      pub leave-undone : getD next (l / 2) 0 ≡ 3 - mark → Leaving s t a marks start (set next (l / 2) 0) j
-      unfolding undone fluent-of
-      leave-undone e = leave-on (set next (l / 2) 0) (pick-true _ _ _ possibly ∙ rw (sym is) (pick-true _ _ _ (says-other ∙ eq-eqb _ _ e)))
-
-      pub leave-kept : (getD next (l / 2) 0 ≡ 3 - mark → ⊥) → Leaving s t a marks start next j
+      pub leave-other : (getD next (l / 2) 0 ≡ 3 - mark → ⊥) → Leaving s t a marks start next j
       unfolding undone
-      leave-kept e = leave-on next (pick-true _ _ _ possibly ∙ rw (sym is) (pick-false _ _ _ (says-other ∙ ne-eqb _ _ e)))
+      leave-other e = leave-on next (pick-has (λ (u : State). u ≡ next) _ _ _ (λ _. rw (sym is) (pick-false _ _ _ (says-other ∙ ne-eqb _ _ e))) (λ _. refl))
+
+      module _ (b : Bool) (tested : b ≡ each-of (holds-as Possible marks) (listed s (p + 2))) where
+        pub leave-kept : b ≡ false → Leaving s t a marks start next j
+        unfolding holds-as
+        leave-kept e = leave-on next (pick-false _ _ _ (sym tested ∙ e))
+
+        pub leave-undone : b ≡ true → getD next (l / 2) 0 ≡ 3 - mark → Leaving s t a marks start (set next (l / 2) 0) j
+        unfolding holds-as undone fluent-of
+        leave-undone possibly e = leave-on (set next (l / 2) 0) (pick-true _ _ _ (sym tested ∙ possibly) ∙ rw (sym is) (pick-true _ _ _ (says-other ∙ eq-eqb _ _ e)))

@@ -1,10 +1,10 @@
--- The two passes over an action's effects give the state that the definition gives. A literal is known after the first pass if it was or is
--- given by a body known true, except where such a body gives its complement too; the second pass forgets just what a possible body gives the
--- complement of, and so all of those. Assumes nothing.
+-- The passes over an action's effects give the state that the definition gives. After the first a literal whose complement no possible body
+-- gives is known if it was or is given by a body known true, wherever in the chain; the second forgets the others. Where the first told
+-- nothing, all that is given was known before, so that what it did is what the second does. Assumes nothing.
 use Prim.Native.Nat.{ℕ, _+_, _≤_, _<_}
 use native.Mathlib.Omega.{arith}
 use native.Mathlib.Decide.{ℕ-discrete}
-use mathlib.Core.Path.{_≡_, refl, sym, _∙_, ap}
+use mathlib.Core.Path.{_≡_, refl, sym, _∙_, ap, subst}
 use mathlib.Core.Bool.{Bool, true, false}
 use mathlib.Core.List.{List, [], _∷_}
 use mathlib.Core.Logic.{inl, inr, ⊎-elim}
@@ -18,7 +18,7 @@ use Rattle.meaning.specs.Literals.{says-true, says-false, fluent-of, complement
 use Rattle.meaning.specs.Requests.{Table}
 use Rattle.meaning.specs.Lines.{effects-of, given}
 use Rattle.meaning.specs.States.{State, mark-of, known, possible, told, known-after, mark-after, state-after}
-use Rattle.meaning.proofs.TestLaws.{by-test, clash, both-left, both-right, both-true, either-right, fails-false, pick-true, pick-false, Has, some-mono, each-mono}
+use Rattle.meaning.proofs.TestLaws.{by-test, clash, both-left, both-right, both-true, either-left, either-right, either-split, fails-false, pick-true, pick-false, Has, each-mono}
 use Rattle.meaning.proofs.PickLaws.{pick-has}
 use Rattle.meaning.proofs.LiteralLaws.{complement-twice, fluent-complement, same-fluent, by-literal}
 use Rattle.meaning.proofs.StateLaws.{mark-true, mark-false, mark-complement, known-true, known-false, after-length}
@@ -29,19 +29,13 @@ use Rattle.refusing.specs.InTable.{Effect-here}
 use Rattle.reading.proofs.MarkLaws.{mark-most}
 use Rattle.steps.specs.AtHand.{request-in, At-hand, Marked}
 use Rattle.steps.specs.Lines.{given-at}
-use Rattle.steps.specs.After.{told-at, undone, left-at, Effects-chained, Told, Left}
+use Rattle.steps.specs.After.{undone, left-at, Effects-chained, Left}
 use Rattle.steps.proofs.Served.{effects-at-hand}
+use Rattle.steps.proofs.Sweeps.{known-one, known-possible, mark-some, swept-one, tells-one, swept-at, tells-at}
 use Rattle.steps.proofs.SensingLaws.{marked-set}
+use Rattle.steps.proofs.ActionLaws.{Sweeping, sweep-done, sweep-tells}
 
--- ONE LITERAL. What is known is not known false.
-known-one : (marks : State) (l : ℕ) → known marks l ≡ true → known marks (complement l) ≡ false
-unfolding known
-known-one marks l e = ne-eqb _ _ (λ q. mark-complement l (sym (eqb-true _ _ e) ∙ ap (λ (f : ℕ). getD marks f Limits.unknown-mark) (sym (fluent-complement l)) ∙ q))
-
-known-possible : (marks : State) (l : ℕ) → known marks l ≡ true → possible marks l ≡ true
-unfolding possible
-known-possible marks l e = fails-false _ (known-one marks l e)
-
+-- ONE LITERAL.
 -- Told a literal, with the complement of another left alone.
 told-one : (x l : ℕ) (next : State) → fluent-of x < length next → (x ≡ complement l → ⊥) → known (told x next) l ≡ either (known next l) (eqb x l)
 told-one x l next within other = elim (ℕ-discrete (fluent-of l) (fluent-of x)) [ yes same ↦ ⊎-elim here (λ q. absurd (beside q)) (same-fluent l x same) | no apart ↦ elsewhere apart ]
@@ -56,9 +50,6 @@ told-one x l next within other = elim (ℕ-discrete (fluent-of l) (fluent-of x))
     elsewhere apart = told-elsewhere x next within l apart ∙ sym (rw (ne-eqb x l (λ q. apart (ap fluent-of (sym q)))) (either-none (known next l)))
 
 -- A literal's fluent set unknown.
-mark-some : (l : ℕ) → 0 < mark-of l
-mark-some = by-literal (λ (l : ℕ). 0 < mark-of l) (λ f. rw (mark-true f) (omega arith)) (λ f. rw (mark-false f) (omega arith))
-
 module _ (f l : ℕ) (next : State) (within : f < length next) where
   forgotten : fluent-of l ≡ f → known (set next f Limits.unknown-mark) l ≡ false
   unfolding known
@@ -150,6 +141,62 @@ module _ (s : List ℕ) (p : ℕ) (line : Effect-here s p) (next : State) (marke
       (λ e. rw (pick-true _ (λ _. undone gives next) (λ _. next) e) (undone-known gives l next fluent-within ∙ sym (rw (e, both-all (eqb gives (complement l))))))
       (λ e. rw (pick-false _ (λ _. undone gives next) (λ _. next) e) (sym (rw (e, both-none (eqb gives (complement l))) (both-all (known next l)))))
 
+  -- Its turn in the pass that both undoes and tells.
+  module _ (marks : State) where
+    abbrev sure : Bool
+    sure = each-of (known marks) (listed s (p + 2))
+
+    abbrev may : Bool
+    may = each-of (possible marks) (listed s (p + 2))
+
+    sure-may : sure ≡ true → may ≡ true
+    sure-may = each-mono (known marks) (possible marks) (known-possible marks) (listed s (p + 2))
+
+    swept-marked : Marked (swept-one s marks p next)
+    unfolding swept-one told undone-step
+    swept-marked =
+        pick-has Marked _ _ _
+        (λ _. marked)
+        (λ _. pick-has Marked _ _ _ (λ _. marked-set next (fluent-of gives) (mark-of gives) marked fluent-small (mark-most gives)) (λ _. undone-marked may))
+
+    swept-free : (l : ℕ) → both (eqb gives (complement l)) may ≡ false → known (swept-one s marks p next) l ≡ either (known next l) (both (eqb gives l) sure)
+    unfolding swept-one undone-step both fails
+    swept-free l free = by-test (known next gives) there (λ n. by-test sure (tells n) (undoes n))
+      where
+        there : known next gives ≡ true → known (swept-one s marks p next) l ≡ either (known next l) (both (eqb gives l) sure)
+        there e =
+            ap (λ (u : State). known u l) (pick-true _ _ _ e)
+            ∙ by-test (eqb gives l)
+            (λ q. let k : known next l ≡ true = subst (λ (x : ℕ). known next x ≡ true) (eqb-true _ _ q) e in k ∙ sym (either-left _ _ k))
+            (λ q. sym (rw q (either-none (known next l))))
+
+        tells : known next gives ≡ false → sure ≡ true → known (swept-one s marks p next) l ≡ either (known next l) (both (eqb gives l) sure)
+        tells n e =
+            ap (λ (u : State). known u l) (pick-false _ _ _ n ∙ pick-true _ _ _ e)
+            ∙ told-one gives l next fluent-within (λ q. clash (both-true _ _ (eq-eqb _ _ q) (sure-may e)) free)
+            ∙ sym (rw (e, both-all (eqb gives l)))
+
+        undoes : known next gives ≡ false → sure ≡ false → known (swept-one s marks p next) l ≡ either (known next l) (both (eqb gives l) sure)
+        undoes n e =
+            ap (λ (u : State). known u l) (pick-false _ _ _ n ∙ pick-false _ _ _ e)
+            ∙ undone-stepped may l
+            ∙ ap (λ (b : Bool). both (known next l) (fails b)) free
+            ∙ both-all (known next l)
+            ∙ sym (rw (e, both-none (eqb gives l)) (either-none (known next l)))
+
+    module _ (quiet : tells-one s marks p next ≡ false) where
+      quiet-given : sure ≡ true → known next gives ≡ true
+      unfolding tells-one
+      quiet-given e = by-test (known next gives) (λ y. y) (λ n. clash (both-true _ _ (fails-false _ n) e) quiet)
+
+      -- Where it tells nothing it only undoes.
+      swept-quiet : swept-one s marks p next ≡ undone-step may
+      unfolding swept-one undone-step undone
+      swept-quiet =
+          by-test (known next gives)
+          (λ e. pick-true _ _ _ e ∙ sym (pick-has (λ (u : State). u ≡ next) may _ _ (λ _. pick-false _ _ _ (known-one next gives e)) (λ _. refl)))
+          (λ n. pick-false _ _ _ n ∙ pick-false _ _ _ (by-test sure (λ e. clash (quiet-given e) n) (λ f. f)))
+
 -- ALL THE EFFECTS.
 either-neither : (a b : Bool) → either a b ≡ false → (a ≡ false) × (b ≡ false)
 unfolding either
@@ -163,11 +210,10 @@ less-either true false d = refl
 less-either false c d = refl
 
 module _ (s : List ℕ) (marks : State) where
-  told-at-marked : (ps : List ℕ) → ((p : ℕ) → Has ps p → Effect-here s p) → (next : State) → Marked next → Marked (told-at s marks ps next)
-  unfolding told-at told-step
-  told-at-marked [] lines next marked = marked
-  told-at-marked (p ∷ ps) lines next marked =
-      told-at-marked ps (λ q h. lines q (inr h)) _ (told-marked s p (lines p (inl refl)) next marked (each-of (known marks) (listed s (p + 2))))
+  swept-at-marked : (ps : List ℕ) → ((p : ℕ) → Has ps p → Effect-here s p) → (next : State) → Marked next → Marked (swept-at s marks ps next)
+  unfolding swept-at
+  swept-at-marked [] lines next marked = marked
+  swept-at-marked (p ∷ ps) lines next marked = swept-at-marked ps (λ q h. lines q (inr h)) _ (swept-marked s p (lines p (inl refl)) next marked marks)
 
   left-at-marked : (ps : List ℕ) → ((p : ℕ) → Has ps p → Effect-here s p) → (next : State) → Marked next → Marked (left-at s marks ps next)
   unfolding left-at undone-step
@@ -175,16 +221,16 @@ module _ (s : List ℕ) (marks : State) where
   left-at-marked (p ∷ ps) lines next marked =
       left-at-marked ps (λ q h. lines q (inr h)) _ (undone-marked s p (lines p (inl refl)) next marked (each-of (possible marks) (listed s (p + 2))))
 
-  told-at-known : (ps : List ℕ) → ((p : ℕ) → Has ps p → Effect-here s p) → (next : State) → Marked next → (l : ℕ)
-      → given-at s (known marks) ps (complement l) ≡ false → known (told-at s marks ps next) l ≡ either (known next l) (given-at s (known marks) ps l)
-  unfolding told-at told-step given-at some-of
-  told-at-known [] lines next marked l free = sym (either-none (known next l))
-  told-at-known (p ∷ ps) lines next marked l free =
+  swept-at-free : (ps : List ℕ) → ((p : ℕ) → Has ps p → Effect-here s p) → (next : State) → Marked next → (l : ℕ)
+      → given-at s (possible marks) ps (complement l) ≡ false → known (swept-at s marks ps next) l ≡ either (known next l) (given-at s (known marks) ps l)
+  unfolding swept-at given-at some-of
+  swept-at-free [] lines next marked l free = sym (either-none (known next l))
+  swept-at-free (p ∷ ps) lines next marked l free =
       let b = each-of (known marks) (listed s (p + 2)) in
       let line = lines p (inl refl) in
       let apart = either-neither _ _ free in
-      told-at-known ps (λ q h. lines q (inr h)) _ (told-marked s p line next marked b) l (apart .1)
-      ∙ ap (λ (c : Bool). either c (given-at s (known marks) ps l)) (told-stepped s p line next marked b l (apart .0))
+      swept-at-free ps (λ q h. lines q (inr h)) _ (swept-marked s p line next marked marks) l (apart .1)
+      ∙ ap (λ (c : Bool). either c (given-at s (known marks) ps l)) (swept-free s p line next marked marks l (apart .0))
       ∙ either-assoc (known next l) (both (eqb (getD s (p + 1) 0) l) b) (given-at s (known marks) ps l)
 
   left-at-known : (ps : List ℕ) → ((p : ℕ) → Has ps p → Effect-here s p) → (next : State) → Marked next → (l : ℕ)
@@ -198,10 +244,31 @@ module _ (s : List ℕ) (marks : State) where
       ∙ ap (λ (c : Bool). both c (fails (given-at s (possible marks) ps (complement l)))) (undone-stepped s p line next marked b l)
       ∙ less-either (known next l) (both (eqb (getD s (p + 1) 0) (complement l)) b) (given-at s (possible marks) ps (complement l))
 
-  -- What a body known true gives, a possible one gives.
-  given-possible : (ps : List ℕ) (l : ℕ) → given-at s (known marks) ps l ≡ true → given-at s (possible marks) ps l ≡ true
-  unfolding given-at
-  given-possible ps l = some-mono _ _ (λ p e. both-true _ _ (both-left _ _ e) (each-mono _ _ (known-possible marks) _ (both-right _ _ e))) ps
+  -- Where nothing is told, what is given was known, and the rest is undone.
+  quiet-left : (ps : List ℕ) → ((p : ℕ) → Has ps p → Effect-here s p) → (next : State) → Marked next → tells-at s marks ps next ≡ false → swept-at s marks ps next ≡ left-at s marks ps next
+  unfolding swept-at tells-at left-at undone-step
+  quiet-left [] lines next marked quiet = refl
+  quiet-left (p ∷ ps) lines next marked quiet =
+      let line = lines p (inl refl) in
+      let apart = either-neither _ _ quiet in
+      quiet-left ps (λ q h. lines q (inr h)) _ (swept-marked s p line next marked marks) (apart .1)
+      ∙ ap (left-at s marks ps) (swept-quiet s p line next marked marks (apart .0))
+
+  quiet-known : (ps : List ℕ) → ((p : ℕ) → Has ps p → Effect-here s p) → (next : State) → Marked next → tells-at s marks ps next ≡ false → (l : ℕ)
+      → given-at s (known marks) ps l ≡ true → known next l ≡ true
+  unfolding tells-at given-at some-of
+  quiet-known [] lines next marked quiet l e = clash e refl
+  quiet-known (p ∷ ps) lines next marked quiet l e =
+      let line = lines p (inl refl) in
+      let apart = either-neither _ _ quiet in
+      let b = each-of (possible marks) (listed s (p + 2)) in
+      ⊎-elim
+      (λ g. subst (λ (x : ℕ). known next x ≡ true) (eqb-true _ _ (both-left _ _ g)) (quiet-given s p line next marked marks (apart .0) (both-right _ _ g)))
+      (λ g. both-left _ _
+      (sym (undone-stepped s p line next marked b l)
+      ∙ ap (λ (u : State). known u l) (sym (swept-quiet s p line next marked marks (apart .0)))
+      ∙ quiet-known ps (λ q h. lines q (inr h)) _ (swept-marked s p line next marked marks) (apart .1) l g))
+      (either-split _ _ e)
 
 -- A mark is told by what is known of its fluent.
 mark-told : (m : ℕ) → m ≤ 2 → m ≡ pick (eqb m 1) (λ _. 1) (λ _. pick (eqb m 2) (λ _. 2) (λ _. 0))
@@ -214,51 +281,73 @@ mark-told m most =
 
 module _ (s : List ℕ) (marks : State) (marked : Marked marks) (ps : List ℕ) (lines : (p : ℕ) → Has ps p → Effect-here s p) (t : Table) (a : ℕ)
     (same : (test : ℕ → Bool) (l : ℕ) → given-at s test ps l ≡ given test (effects-of t a) l) where
-  passed : State
-  passed = left-at s marks ps (told-at s marks ps marks)
+  module _ (r : State) (fine : Marked r) (says : (l : ℕ) → known r l ≡ known-after (effects-of t a) marks l) where
+    mark-is : (f : ℕ) → getD r f 0 ≡ mark-after (effects-of t a) marks f
+    unfolding mark-after
+    mark-is f =
+        mark-told (getD r f 0) (fine .small f)
+        ∙ rw (sym (known-true r f), sym (known-false r f), says (says-true f), says (says-false f))
 
-  passed-marked : Marked passed
-  unfolding passed
-  passed-marked = left-at-marked s marks ps lines _ (told-at-marked s marks ps lines marks marked)
+    state-is : r ≡ state-after t a marks
+    state-is =
+        ext-getD 0 r (state-after t a marks) (fine .sized ∙ sym (after-length t a marks ∙ marked .sized))
+        (λ f h. mark-is f ∙ sym (after-mark t a marks f (let e = fine .sized in let g = marked .sized in omega arith)))
+
+  swept-fine : Marked (swept-at s marks ps marks)
+  swept-fine = swept-at-marked s marks ps lines marks marked
 
   module _ (l : ℕ) where
     abbrev Kept : Bool → Type 0
-    Kept b = both (known (told-at s marks ps marks) l) (fails b) ≡ both (either (known marks l) (given-at s (known marks) ps l)) (fails b)
+    Kept b = both (known (swept-at s marks ps marks) l) (fails b) ≡ both (either (known marks l) (given-at s (known marks) ps l)) (fails b)
 
     undoes : given-at s (possible marks) ps (complement l) ≡ true → Kept (given-at s (possible marks) ps (complement l))
     unfolding fails
     undoes e = rw e (both-none _ ∙ sym (both-none _))
 
     keeps : given-at s (possible marks) ps (complement l) ≡ false → Kept (given-at s (possible marks) ps (complement l))
-    keeps e =
-        let free = by-test (given-at s (known marks) ps (complement l)) (λ g. clash (given-possible s marks ps (complement l) g) e) (λ g. g) in
-        ap (λ (b : Bool). both b (fails (given-at s (possible marks) ps (complement l)))) (told-at-known s marks ps lines marks marked l free)
+    keeps e = ap (λ (b : Bool). both b (fails (given-at s (possible marks) ps (complement l)))) (swept-at-free s marks ps lines marks marked l e)
 
-    passed-known : known passed l ≡ known-after (effects-of t a) marks l
-    unfolding passed known-after
-    passed-known =
-        left-at-known s marks ps lines _ (told-at-marked s marks ps lines marks marked) l
+    twice-known : known (left-at s marks ps (swept-at s marks ps marks)) l ≡ known-after (effects-of t a) marks l
+    unfolding known-after
+    twice-known =
+        left-at-known s marks ps lines _ swept-fine l
         ∙ by-test (given-at s (possible marks) ps (complement l)) undoes keeps
         ∙ rw (same (known marks) l, same (possible marks) (complement l))
 
-  passed-mark : (f : ℕ) → getD passed f 0 ≡ mark-after (effects-of t a) marks f
-  unfolding mark-after
-  passed-mark f =
-      mark-told (getD passed f 0) (passed-marked .small f)
-      ∙ rw (sym (known-true passed f), sym (known-false passed f), passed-known (says-true f), passed-known (says-false f))
+    once-known : tells-at s marks ps marks ≡ false → known (left-at s marks ps marks) l ≡ known-after (effects-of t a) marks l
+    unfolding known-after
+    once-known quiet =
+        left-at-known s marks ps lines marks marked l
+        ∙ ap (λ (b : Bool). both b (fails (given-at s (possible marks) ps (complement l)))) (sym adds-nothing)
+        ∙ rw (same (known marks) l, same (possible marks) (complement l))
+      where
+        adds-nothing : either (known marks l) (given-at s (known marks) ps l) ≡ known marks l
+        adds-nothing =
+            by-test (given-at s (known marks) ps l)
+            (λ g. let k = quiet-known s marks ps lines marks marked quiet l g in either-left _ _ k ∙ sym k)
+            (λ g. rw g (either-none (known marks l)))
 
-  -- THE TWO PASSES.
-  pub passes-after : left-at s marks ps (told-at s marks ps marks) ≡ state-after t a marks
-  unfolding passed
-  passes-after =
-      ext-getD 0 passed (state-after t a marks) (passed-marked .sized ∙ sym (after-length t a marks ∙ marked .sized))
-      (λ f h. passed-mark f ∙ sym (after-mark t a marks f (let e = passed-marked .sized in let g = marked .sized in omega arith)))
+  -- ONE PASS that told nothing, or TWO.
+  once-after : tells-at s marks ps marks ≡ false → swept-at s marks ps marks ≡ state-after t a marks
+  once-after quiet =
+      quiet-left s marks ps lines marks marked quiet
+      ∙ state-is (left-at s marks ps marks) (left-at-marked s marks ps lines marks marked) (λ l. once-known l quiet)
 
-module _ (s t : List ℕ) (a : ℕ) (marks next r : State) (here : At-hand s t) (small : a < 64) (marked : Marked marks) where
-  pub after-is : Told s t a marks next → Left s t a marks next r → r ≡ state-after (request-in s .table) a marks
+  twice-after : left-at s marks ps (swept-at s marks ps marks) ≡ state-after t a marks
+  twice-after = state-is _ (left-at-marked s marks ps lines _ swept-fine) twice-known
+
+module _ (s t : List ℕ) (a : ℕ) (marks next : State) (b : Bool) (k : ℕ) (here : At-hand s t) (small : a < 64) (marked : Marked marks) (sweeps : Sweeping s t a marks next b k) (h : k ≤ 0) where
+  pub after-once : b ≡ false → next ≡ state-after (request-in s .table) a marks
   unfolding Effects-chained
-  after-is told left =
+  after-once e =
+      let all = effects-at-hand s t here a small in
+      sym (sweep-done s t a marks next b k sweeps (all .places) (all .chain) h)
+      ∙ once-after s marks marked (all .places) (all .lines) (request-in s .table) a (all .same) (sweep-tells s t a marks next b k sweeps (all .places) (all .chain) h ∙ e)
+
+  pub after-twice : (r : State) → Left s t a marks next r → r ≡ state-after (request-in s .table) a marks
+  unfolding Effects-chained
+  after-twice r left =
       let all = effects-at-hand s t here a small in
       left .holds (all .places) (all .chain)
-      ∙ ap (left-at s marks (all .places)) (told .holds (all .places) (all .chain))
-      ∙ passes-after s marks marked (all .places) (all .lines) (request-in s .table) a (all .same)
+      ∙ ap (left-at s marks (all .places)) (sym (sweep-done s t a marks next b k sweeps (all .places) (all .chain) h))
+      ∙ twice-after s marks marked (all .places) (all .lines) (request-in s .table) a (all .same)

@@ -9,6 +9,7 @@ pub mod RestLaws
 pub mod Laid
 pub mod EndLaws
 pub mod OnwardLaws
-pub mod ActionLaws
+pub mod Sweeps
 pub mod SensingLaws
+pub mod ActionLaws
 pub mod AfterLaws

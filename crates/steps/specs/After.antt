@@ -1,4 +1,4 @@
--- The state after an action in two passes over its effects, which stand at these places.
+-- What an action's effects may undo; they stand at these places.
 use Prim.Native.Nat.{ℕ, _+_}
 use mathlib.Core.Path.{_≡_}
 use mathlib.Core.List.{List, [], _∷_}
@@ -6,15 +6,10 @@ use lib.ListN.{getD, set}
 use Rattle.meaning.specs.Tests.{pick, each-of}
 use Rattle.meaning.specs.Limits
 use Rattle.meaning.specs.Literals.{fluent-of, complement}
-use Rattle.meaning.specs.States.{State, known, possible, told}
+use Rattle.meaning.specs.States.{State, known, possible}
 use Rattle.reading.specs.Noted.{effect-place, effect-before, effect-last}
 use Rattle.reading.specs.Listed.{listed}
 use Rattle.steps.specs.Lines.{Chain}
-
--- Told what bodies known true in `marks` give.
-unfoldable pub told-at : (s : List ℕ) → (marks : State) → List ℕ → State → State
-told-at s marks [] next = next
-told-at s marks (p ∷ ps) next = told-at s marks ps (pick (each-of (known marks) (listed s (p + 2))) (λ _. told (getD s (p + 1) 0) next) (λ _. next))
 
 -- The literal's complement is not known any more.
 unfoldable pub undone : ℕ → State → State
@@ -28,9 +23,6 @@ left-at s marks (p ∷ ps) next = left-at s marks ps (pick (each-of (possible ma
 -- The same by the chain of the action's effects in the table.
 unfoldable pub Effects-chained : (t : List ℕ) (a : ℕ) → List ℕ → Type 0
 Effects-chained t a ps = Chain t effect-place effect-before (getD t (effect-last + a) 0) ps
-
-pub record Told (s t : List ℕ) (a : ℕ) (marks r : State) : Type 0 where
-  pub holds : (ps : List ℕ) → Effects-chained t a ps → r ≡ told-at s marks ps marks
 
 pub record Left (s t : List ℕ) (a : ℕ) (marks start r : State) : Type 0 where
   pub holds : (ps : List ℕ) → Effects-chained t a ps → r ≡ left-at s marks ps start

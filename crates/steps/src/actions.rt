@@ -2,7 +2,7 @@ ghost use mathlib.Core.Path.{_≡_};
 ghost use Prim.Native.Nat.{_<_};
 ghost use Rattle.meaning.specs.States.{can-be-run, state-after};
 ghost use Rattle.steps.specs.AtHand.{request-in, At-hand, Marked};
-ghost use Rattle.steps.specs.After.{Told, Left};
+ghost use Rattle.steps.specs.After.{Left};
 use bytes::bytes::wide;
 use reading::marks::Test;
 use reading::marks::each_holds;
@@ -32,33 +32,7 @@ pub fn can_be_run(s: &[u8], t: &Table, a: usize, marks: &[u8; 64]) -> bool
     false
 }
 
-// The state with what the action's effects give by bodies known true.
-fn told(s: &[u8], t: &Table, a: usize, marks: [u8; 64]) -> [u8; 64]
-    requires { ⌜ At-hand (now s) (now t) ⌝ }
-    requires { ⌜ a < 64 ⌝ }
-    ensures { λ r. ⌜ Told (now (s .entry)) (now (t .entry)) a marks r ⌝ }
-{
-    let mut next = marks;
-    let last = table::EFFECT_LAST + a;
-    let mut k = get(t, last);
-    while 0 < k {
-        let slot = table::EFFECT_PLACE + k;
-        let p = get(t, slot);
-        let before = table::EFFECT_BEFORE + k;
-        k = get(t, before);
-        let body = p + 2;
-        let known = each_holds(Test::Known, &marks, s, body);
-        if known {
-            let one = p + 1;
-            let l = wide(s[one]);
-            let f = l / 2;
-            next[f] = mark_of(l);
-        }
-    }
-    next
-}
-
-// Less what its effects may undo by bodies that are possible.
+// The state less what the action's effects may undo by bodies that are possible.
 fn left(s: &[u8], t: &Table, a: usize, marks: &[u8; 64], start: [u8; 64]) -> [u8; 64]
     requires { ⌜ At-hand (now s) (now t) ⌝ }
     requires { ⌜ a < 64 ⌝ }
@@ -72,14 +46,14 @@ fn left(s: &[u8], t: &Table, a: usize, marks: &[u8; 64], start: [u8; 64]) -> [u8
         let p = get(t, slot);
         let before = table::EFFECT_BEFORE + k;
         k = get(t, before);
-        let body = p + 2;
-        let possible = each_holds(Test::Possible, marks, s, body);
-        if possible {
-            let one = p + 1;
-            let l = wide(s[one]);
-            let f = l / 2;
-            let other = 3 - mark_of(l);
-            if next[f] == other {
+        let one = p + 1;
+        let l = wide(s[one]);
+        let f = l / 2;
+        let other = 3 - mark_of(l);
+        if next[f] == other {
+            let body = p + 2;
+            let possible = each_holds(Test::Possible, marks, s, body);
+            if possible {
                 next[f] = 0;
             }
         }
@@ -87,13 +61,52 @@ fn left(s: &[u8], t: &Table, a: usize, marks: &[u8; 64], start: [u8; 64]) -> [u8
     next
 }
 
-// The state after an action that is not a sensing one.
+// The state after an action that is not a sensing one. Each effect in turn undoes what it may or tells what it gives; what is told may yet
+// be undone by an effect whose turn is over, so `left` follows if anything was. A body is looked at only where the mark could change.
 pub fn state_after(s: &[u8], t: &Table, a: usize, marks: [u8; 64]) -> [u8; 64]
     requires { ⌜ At-hand (now s) (now t) ⌝ }
     requires { ⌜ a < 64 ⌝ }
     requires { ⌜ Marked marks ⌝ }
     ensures { λ r. ⌜ r ≡ state-after (request-in (now (s .entry)) .table) a marks ⌝ }
 {
-    let next = told(s, t, a, marks);
-    left(s, t, a, &marks, next)
+    let mut next = marks;
+    let mut told = false;
+    let last = table::EFFECT_LAST + a;
+    let mut k = get(t, last);
+    while 0 < k {
+        let slot = table::EFFECT_PLACE + k;
+        let p = get(t, slot);
+        let before = table::EFFECT_BEFORE + k;
+        k = get(t, before);
+        let one = p + 1;
+        let l = wide(s[one]);
+        let f = l / 2;
+        let mark = mark_of(l);
+        if next[f] == mark {
+            continue;
+        }
+        let body = p + 2;
+        if next[f] == 0 {
+            let known = each_holds(Test::Known, &marks, s, body);
+            if known {
+                next[f] = mark;
+                told = true;
+            }
+            continue;
+        }
+        let possible = each_holds(Test::Possible, &marks, s, body);
+        if possible {
+            let sure = each_holds(Test::Known, &marks, s, body);
+            if sure {
+                next[f] = mark;
+                told = true;
+                continue;
+            }
+            next[f] = 0;
+        }
+    }
+    if told {
+        return left(s, t, a, &marks, next);
+    }
+    next
 }

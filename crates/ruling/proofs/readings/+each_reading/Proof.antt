@@ -28,83 +28,6 @@ each-reading-below t =
     (falls 5 each-reading-kinds.ps _<_ μ-each-reading t)
     each-reading.Pre
 
--- src/readings.rt:116:21
-each-reading-add-above : (t : ℕ) → each-reading-lts.Need-add-above (
-  next-unknown-reads.Asked,
-  next-unknown-reads.Learnt,
-  each-reading-below t,
-  each-reading.Post,
-  one-reading-reads.Asked,
-  one-reading-reads.Learnt,
-) (each-reading-at t) each-reading.Post
-each-reading-add-above t c = search needs
-
--- src/readings.rt:118:9
-each-reading-array-write-state : (t : ℕ) → each-reading-lts.Need-array-write-state (
-  next-unknown-reads.Asked,
-  next-unknown-reads.Learnt,
-  each-reading-below t,
-  each-reading.Post,
-  one-reading-reads.Asked,
-  one-reading-reads.Learnt,
-) (each-reading-at t) each-reading.Post
-each-reading-array-write-state t c = search needs
-
--- src/readings.rt:119:13
-each-reading-next-unknown-requires : (t : ℕ) → each-reading-lts.Need-next-unknown-requires (
-  next-unknown-reads.Asked,
-  next-unknown-reads.Learnt,
-  each-reading-below t,
-  each-reading.Post,
-  one-reading-reads.Asked,
-  one-reading-reads.Learnt,
-) (each-reading-at t) each-reading.Post
-each-reading-next-unknown-requires t c κs = (search needs, (search needs, search first-marked))
-
--- src/readings.rt:120:15
-each-reading-each-reading-requires : (t : ℕ) → each-reading-lts.Need-each-reading-requires (
-  next-unknown-reads.Asked,
-  next-unknown-reads.Learnt,
-  each-reading-below t,
-  each-reading.Post,
-  one-reading-reads.Asked,
-  one-reading-reads.Learnt,
-) (each-reading-at t) each-reading.Post
-each-reading-each-reading-requires t c κs = (search next-falls, (search needs, (search needs, (search first-marked, search needs))))
-
--- src/readings.rt:121:22
-each-reading-enum-known-j : (t : ℕ) → each-reading-lts.Need-enum-known-j (
-  next-unknown-reads.Asked,
-  next-unknown-reads.Learnt,
-  each-reading-below t,
-  each-reading.Post,
-  one-reading-reads.Asked,
-  one-reading-reads.Learnt,
-) (each-reading-at t) each-reading.Post
-each-reading-enum-known-j t c = search needs
-
--- src/readings.rt:122:17
-each-reading-array-write-state-2 : (t : ℕ) → each-reading-lts.Need-array-write-state-2 (
-  next-unknown-reads.Asked,
-  next-unknown-reads.Learnt,
-  each-reading-below t,
-  each-reading.Post,
-  one-reading-reads.Asked,
-  one-reading-reads.Learnt,
-) (each-reading-at t) each-reading.Post
-each-reading-array-write-state-2 t c = search needs
-
--- src/readings.rt:123:17
-each-reading-each-reading-requires-2 : (t : ℕ) → each-reading-lts.Need-each-reading-requires-2 (
-  next-unknown-reads.Asked,
-  next-unknown-reads.Learnt,
-  each-reading-below t,
-  each-reading.Post,
-  one-reading-reads.Asked,
-  one-reading-reads.Learnt,
-) (each-reading-at t) each-reading.Post
-each-reading-each-reading-requires-2 t c κs = (search next-falls, (search needs, (search needs, (search second-marked, search needs))))
-
 -- src/readings.rt:123:17
 each-reading-returns : (t : ℕ) → each-reading-lts.Need-returns (
   next-unknown-reads.Asked,
@@ -115,50 +38,6 @@ each-reading-returns : (t : ℕ) → each-reading-lts.Need-returns (
   one-reading-reads.Learnt,
 ) (each-reading-at t) each-reading.Post
 each-reading-returns t c = search both-read
-
--- src/readings.rt:126:17
-each-reading-enum-told : (t : ℕ) → each-reading-lts.Need-enum-told (
-  next-unknown-reads.Asked,
-  next-unknown-reads.Learnt,
-  each-reading-below t,
-  each-reading.Post,
-  one-reading-reads.Asked,
-  one-reading-reads.Learnt,
-) (each-reading-at t) each-reading.Post
-each-reading-enum-told t c = search needs
-
--- src/readings.rt:126:17
-each-reading-returns-2 : (t : ℕ) → each-reading-lts.Need-returns-2 (
-  next-unknown-reads.Asked,
-  next-unknown-reads.Learnt,
-  each-reading-below t,
-  each-reading.Post,
-  one-reading-reads.Asked,
-  one-reading-reads.Learnt,
-) (each-reading-at t) each-reading.Post
-each-reading-returns-2 t c = search first-fails
-
--- src/readings.rt:130:5
-each-reading-one-reading-requires : (t : ℕ) → each-reading-lts.Need-one-reading-requires (
-  next-unknown-reads.Asked,
-  next-unknown-reads.Learnt,
-  each-reading-below t,
-  each-reading.Post,
-  one-reading-reads.Asked,
-  one-reading-reads.Learnt,
-) (each-reading-at t) each-reading.Post
-each-reading-one-reading-requires t c κs = search needs
-
--- src/readings.rt:97:1
-each-reading-returns-3 : (t : ℕ) → each-reading-lts.Need-returns-3 (
-  next-unknown-reads.Asked,
-  next-unknown-reads.Learnt,
-  each-reading-below t,
-  each-reading.Post,
-  one-reading-reads.Asked,
-  one-reading-reads.Learnt,
-) (each-reading-at t) each-reading.Post
-each-reading-returns-3 t c = search read-whole
 
 pub +each-reading-spec : {M : Type 1} → statement M
 +each-reading-spec = close μ-each-reading λ t. each-reading-lts.spec (
@@ -171,15 +50,15 @@ pub +each-reading-spec : {M : Type 1} → statement M
 )
     (each-reading-at t)
     each-reading.Post
-    (each-reading-add-above t)
-    (each-reading-array-write-state t)
-    (each-reading-next-unknown-requires t)
-    (each-reading-each-reading-requires t)
-    (each-reading-enum-known-j t)
-    (each-reading-array-write-state-2 t)
-    (each-reading-each-reading-requires-2 t)
+    (λ c. search needs)
+    (λ c. search needs)
+    (λ c κs. (search needs, (search needs, search first-marked)))
+    (λ c κs. (search next-falls, (search needs, (search needs, (search first-marked, search needs)))))
+    (λ c. search needs)
+    (λ c. search needs)
+    (λ c κs. (search next-falls, (search needs, (search needs, (search second-marked, search needs)))))
     (each-reading-returns t)
-    (each-reading-enum-told t)
-    (each-reading-returns-2 t)
-    (each-reading-one-reading-requires t)
-    (each-reading-returns-3 t)
+    (λ c. search needs)
+    (λ c. search first-fails)
+    (λ c κs. search needs)
+    (λ c. search read-whole)

@@ -17,95 +17,95 @@ Inv-loop s t a marks next₀ last k₀ next k = Leaving s t a marks next₀ next
 abbrev μ-loop : tie.MeasureT-loop
 μ-loop s t a marks next₀ last k₀ next k = k
 
--- src/actions.rt:68:16
+-- src/actions.rt:42:16
 add-last : tie.Need-add-last Inv-loop μ-loop
 add-last c = search needs
 
--- src/actions.rt:69:9
+-- src/actions.rt:43:9
 get-requires : tie.Need-get-requires Inv-loop μ-loop
 get-requires c κs = search needs
 
--- src/actions.rt:70:5
+-- src/actions.rt:44:5
 loop-holds : tie.Need-loop-holds Inv-loop μ-loop
 loop-holds c = search leaving-starts
 
--- src/actions.rt:71:20
+-- src/actions.rt:45:20
 add-slot : tie.Need-add-slot Inv-loop μ-loop
 add-slot c = search effect-slot-fits
 
--- src/actions.rt:72:13
+-- src/actions.rt:46:13
 get-requires-2 : tie.Need-get-requires-2 Inv-loop μ-loop
 get-requires-2 c κs = search (needs, effect-slot-there)
 
--- src/actions.rt:73:22
+-- src/actions.rt:47:22
 add-before : tie.Need-add-before Inv-loop μ-loop
 add-before c = search effect-before-fits
 
--- src/actions.rt:74:9
+-- src/actions.rt:48:9
 get-requires-3 : tie.Need-get-requires-3 Inv-loop μ-loop
 get-requires-3 c κs = search (needs, effect-before-there)
 
--- src/actions.rt:75:20
-add-body : tie.Need-add-body Inv-loop μ-loop
-add-body c = search effect-body-fits
-
--- src/actions.rt:76:13
-each-holds-requires : tie.Need-each-holds-requires Inv-loop μ-loop
-each-holds-requires c κs = search (needs, effect-body)
-
--- src/actions.rt:78:23
+-- src/actions.rt:49:19
 add-one : tie.Need-add-one Inv-loop μ-loop
 add-one c = search effect-one-fits
 
--- src/actions.rt:79:26
+-- src/actions.rt:50:22
 shared-slice-read-wide : tie.Need-shared-slice-read-wide Inv-loop μ-loop
 shared-slice-read-wide c = search effect-one-there
 
--- src/actions.rt:79:17
+-- src/actions.rt:50:13
 wide-requires : tie.Need-wide-requires Inv-loop μ-loop
 wide-requires c κs = search needs
 
--- src/actions.rt:81:29
+-- src/actions.rt:52:25
 mark-of-requires : tie.Need-mark-of-requires Inv-loop μ-loop
 mark-of-requires c κs = search needs
 
--- src/actions.rt:81:25
+-- src/actions.rt:52:21
 sub-other : tie.Need-sub-other Inv-loop μ-loop
 sub-other c = search mark-within
 
--- src/actions.rt:82:16
-array-read-if2 : tie.Need-array-read-if2 Inv-loop μ-loop
-array-read-if2 c = search effect-fluent
+-- src/actions.rt:53:12
+array-read-if1 : tie.Need-array-read-if1 Inv-loop μ-loop
+array-read-if1 c = search effect-fluent
 
--- src/actions.rt:83:17
+-- src/actions.rt:54:24
+add-body : tie.Need-add-body Inv-loop μ-loop
+add-body c = search effect-body-fits
+
+-- src/actions.rt:55:17
+each-holds-requires : tie.Need-each-holds-requires Inv-loop μ-loop
+each-holds-requires c κs = search (needs, effect-body)
+
+-- src/actions.rt:57:17
 array-write-next : tie.Need-array-write-next Inv-loop μ-loop
 array-write-next c = search effect-fluent
 
--- src/actions.rt:70:5
+-- src/actions.rt:44:5
 loop-less : tie.Need-loop-less Inv-loop μ-loop
 loop-less c = search effect-less
 
--- src/actions.rt:70:5
+-- src/actions.rt:44:5
 loop-again : tie.Need-loop-again Inv-loop μ-loop
 loop-again c = search leave-undone
 
--- src/actions.rt:70:5
+-- src/actions.rt:44:5
 loop-less-2 : tie.Need-loop-less-2 Inv-loop μ-loop
 loop-less-2 c = search effect-less
 
--- src/actions.rt:70:5
+-- src/actions.rt:44:5
 loop-again-2 : tie.Need-loop-again-2 Inv-loop μ-loop
 loop-again-2 c = search leave-kept
 
--- src/actions.rt:70:5
+-- src/actions.rt:44:5
 loop-less-3 : tie.Need-loop-less-3 Inv-loop μ-loop
 loop-less-3 c = search effect-less
 
--- src/actions.rt:70:5
+-- src/actions.rt:44:5
 loop-again-3 : tie.Need-loop-again-3 Inv-loop μ-loop
 loop-again-3 c = search leave-other
 
--- src/actions.rt:62:1
+-- src/actions.rt:36:1
 returns : tie.Need-returns Inv-loop μ-loop
 returns c = search leave-done
 
@@ -122,14 +122,14 @@ left-spec =
     get-requires-2
     add-before
     get-requires-3
-    add-body
-    each-holds-requires
     add-one
     shared-slice-read-wide
     wide-requires
     mark-of-requires
     sub-other
-    array-read-if2
+    array-read-if1
+    add-body
+    each-holds-requires
     array-write-next
     loop-less
     loop-again
