@@ -1,3 +1,4 @@
+-- `read_request` meets its contract: each return is one of the definition's own, before the sections, in them, and after them. What the sections are is known from `read_sections` alone, whose parameters are plain, so this proof has no walk.
 use Rattle.reader.proofs.WholeLaws.{request-long, request-more, request-whole, request-fault}
 use borrow.Author.Needs.{needs}
 use Rattle.reader.proofs.requests.read_request.Statement.{statement}

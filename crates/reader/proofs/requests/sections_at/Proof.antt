@@ -1,3 +1,4 @@
+-- `sections_at` meets its contract. Where sections 1 to 5 were read from p on, the two counts stand at p and p + 1, so there are bytes to read there and they are the table's own; what sections 6 to 8 note over them is what is noted of the request. A fault in sections 1 to 5 is the request's.
 use Rattle.reader.proofs.WholeLaws.{first-there, second-there, second-fits, fluents-most, sections-there, sections-fault}
 use borrow.Author.Needs.{needs}
 use Rattle.reader.proofs.requests.sections_at.Statement.{statement}
