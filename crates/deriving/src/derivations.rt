@@ -169,7 +169,7 @@ fn read_lines(
     requires { ⌜ n ≤ 64 ⌝ }
     requires { ⌜ count ≤ 1024 ⌝ }
     requires { ⌜ length (now s) ≤ 32768 ⌝ }
-    ensures { λ r. ⌜ outcome r (now (places .exit)) ≡ noting (places-noted 0) (repeated (line-at format n m (now (s .entry))) count start) (now (places .entry)) ⌝ }
+    ensures { λ x. ⌜ outcome x (now (places .exit)) ≡ noting (places-noted 0) (repeated (line-at format n m (now (s .entry))) count start) (now (places .entry)) ⌝ }
 {
     lines(moved(new(s), start), n, m, count, t, places)
 }

@@ -42,7 +42,7 @@ fn sections<'a>(r: Reader<'a>, t: &mut Table) -> Passed
 // All eight sections of an input, by way of a reader: who calls this needs none.
 fn read_sections(s: &[u8], t: &mut Table) -> Passed
     requires { ⌜ length (now s) ≤ 16384 ⌝ }
-    ensures { λ r. ⌜ outcome r (now (t .exit)) ≡ noting request-noted (sections-read (now (s .entry)) 0) (now (t .entry)) ⌝ }
+    ensures { λ x. ⌜ outcome x (now (t .exit)) ≡ noting request-noted (sections-read (now (s .entry)) 0) (now (t .entry)) ⌝ }
 {
     sections(new(s), t)
 }
