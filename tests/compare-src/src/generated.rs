@@ -43,7 +43,7 @@ pub fn compare(seed: u64, count: u64) -> Result<String, String> {
 
 /// A call of the independent program's own generators, which make about three of ten requests wrong in some way; of some calls the request is
 /// made wrong once more or is one of another kind, or the budget or the lent state is another.
-fn any_call(rng: &mut Rng) -> Call {
+pub fn any_call(rng: &mut Rng) -> Call {
     let drawn = judge_call(rng);
     let mut call = Call { request: drawn.request, lent: drawn.lent, budget: drawn.budget };
     match rng.below(100) {
