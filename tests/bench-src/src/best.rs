@@ -14,6 +14,9 @@ const WAITING: usize = 64 * ITEMS;
 const END: u16 = 1_024;
 const AROUND: u16 = 1_025;
 
+/// There are 255 effects at the most, so none has this number.
+const NONE: u8 = 255;
+
 type Read<T> = Result<T, Fault>;
 
 /// The fluents known true and those known false; or a body's, or a literal's.
@@ -89,6 +92,9 @@ pub struct Workspace {
     runs: [Masks; LINES],
     runs_by: [Masks; LINES],
     of: [u8; LINES],
+    /// The last effect on each fluent so far, and for each effect the one before it on that fluent; 255 is none.
+    last: [u8; 64],
+    before: [u8; LINES],
     items: [Item; ITEMS],
     branches: [Branch; BRANCHES],
     waiting: [Waiting; WAITING],
@@ -103,6 +109,8 @@ impl Workspace {
             runs: [Masks::default(); LINES],
             runs_by: [Masks::default(); LINES],
             of: [0; LINES],
+            last: [0; 64],
+            before: [0; LINES],
             items: [Item::default(); ITEMS],
             branches: [Branch::default(); BRANCHES],
             waiting: [Waiting::default(); WAITING],
@@ -241,23 +249,30 @@ impl Reader<'_> {
     fn effects(&mut self, space: &mut Workspace) -> Read<usize> {
         let count = usize::from(self.byte()?);
         let mut contradiction = usize::MAX;
+        space.last.fill(NONE);
         for line in 0..count {
             let place = self.at;
             let action = self.below(self.actions)?;
-            let literal = Masks::of(self.below(2 * self.fluents)?);
+            let byte = self.below(2 * self.fluents)?;
+            let literal = Masks::of(byte);
             let body = self.literals(16)?;
             let said = &mut space.actions[usize::from(action % 64)];
             said.effects.1 += 1;
+            let last = &mut space.last[usize::from(byte / 2 % 64)];
             // Only where the action gives the complement too, pairs are looked at.
             if !said.gives.possible(literal) && contradiction == usize::MAX {
-                let contradicts = |earlier: usize| {
-                    let other = space.effects[earlier];
-                    space.of[earlier] == action && !other.literal.possible(literal) && other.body.possible(body)
-                };
-                if (0..line).any(contradicts) {
-                    contradiction = place;
+                let mut earlier = *last;
+                while earlier != NONE {
+                    let other = &space.effects[usize::from(earlier)];
+                    if space.of[usize::from(earlier)] == action && !other.literal.possible(literal) && other.body.possible(body) {
+                        contradiction = place;
+                        break;
+                    }
+                    earlier = space.before[usize::from(earlier)];
                 }
             }
+            space.before[line % LINES] = *last;
+            *last = line as u8;
             said.gives.yes |= literal.yes;
             said.gives.no |= literal.no;
             space.effects[line % LINES] = Effect { body, literal };

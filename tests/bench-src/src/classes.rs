@@ -2,7 +2,7 @@
 
 use oracle::encode::encode_request;
 use oracle::generate::{forgetful, request, Shape, LARGE, MIDDLE, SMALL, TINY};
-use oracle::model::{item_count, Request};
+use oracle::model::{item_count, Allowance, Item, Knowledge, Request};
 use oracle::reader::{ITEM_LIMIT, REQUEST_LIMIT};
 use oracle::rng::Rng;
 use oracle::walk::{walk, Verdict};
@@ -36,7 +36,7 @@ pub fn class(seed: u64, class: usize) -> Vec<Timed> {
     let of_index = |index: u64| {
         let mut rng = Rng::new(seed, 100 + class as u64, index);
         loop {
-            if let Some(timed) = drawn(&mut rng, class) {
+            if let Some(timed) = drawn(&mut rng, class, index) {
                 return timed;
             }
         }
@@ -45,7 +45,7 @@ pub fn class(seed: u64, class: usize) -> Vec<Timed> {
 }
 
 /// A request of a class, if the one drawn is of it.
-fn drawn(rng: &mut Rng, class: usize) -> Option<Timed> {
+fn drawn(rng: &mut Rng, class: usize, index: u64) -> Option<Timed> {
     let draft = match class {
         0 => {
             let shape = *rng.pick(&[TINY, SMALL]);
@@ -57,7 +57,7 @@ fn drawn(rng: &mut Rng, class: usize) -> Option<Timed> {
             false => crowded(rng),
         },
         3 => request(rng, &LONG_PLAN),
-        _ => spending(rng),
+        _ => spending(rng, index),
     };
     let bytes = encode_request(&draft).bytes;
     let budget = if class == 4 { SPENT } else { BUDGET };
@@ -65,14 +65,28 @@ fn drawn(rng: &mut Rng, class: usize) -> Option<Timed> {
     fits.then(|| Timed { request: bytes, budget, lent: [rng.byte(0, 255); 64] })
 }
 
-/// A request whose walk may well spend its budget.
-fn spending(rng: &mut Rng) -> Request {
-    match rng.below(10) {
-        0 => forgetful(rng, 63, ITEM_LIMIT / 2),
-        1..=3 => request(rng, &LARGE),
-        4..=6 => request(rng, &LONG_PLAN),
-        _ => request(rng, &MIDDLE),
+/// A request whose walk may well spend its budget; the kinds take turns.
+fn spending(rng: &mut Rng, index: u64) -> Request {
+    match index % 4 {
+        0 => looks(rng),
+        1 => request(rng, &LARGE),
+        2 => request(rng, &LONG_PLAN),
+        _ => forgetful(rng, 63, ITEM_LIMIT / 2),
     }
+}
+
+/// A table of medium size with a look at each fluent added, and a plan that takes all the looks before and after its own items.
+fn looks(rng: &mut Rng) -> Request {
+    let mut draft = request(rng, &MIDDLE);
+    let (first, fluents) = (draft.actions, draft.fluents);
+    draft.actions += fluents;
+    for fluent in 0..fluents {
+        draft.knowledge.push(Knowledge { place: 0, action: first + fluent, fluent });
+        draft.allowances.push(Allowance { action: first + fluent, body: Vec::new() });
+    }
+    let looks = || (0..fluents).map(|fluent| Item::act(first + fluent));
+    draft.plan = looks().chain(draft.plan.clone()).chain(looks()).collect();
+    draft
 }
 
 fn in_class(class: usize, draft: &Request) -> bool {

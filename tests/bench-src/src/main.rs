@@ -7,6 +7,7 @@ mod best;
 mod calls;
 mod check;
 mod classes;
+mod clock;
 #[path = "../../compare-src/src/crowded.rs"]
 mod crowded;
 #[allow(dead_code)]

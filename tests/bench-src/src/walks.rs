@@ -1,23 +1,40 @@
 //! Times of the walk call by the three programs, class by class.
 
 use std::hint::black_box;
-use std::time::Instant;
 
 use crate::answers::taken_apart;
 use crate::classes::{class, Timed, NAMES};
+use crate::clock;
 use crate::programs::{agreed, Programs, PROGRAMS};
 
 /// What is timed of a call: all of it, or its reading. For the latter the budget is 0, so that the walk ends at its first action or end state.
 const PARTS: [&str; 2] = ["whole", "reading"];
 
-/// One pass over all calls of a class, in nanoseconds.
+/// Calls of one program in a row, before the next one's turn.
+const TURN: usize = 50;
+
+/// One pass over some calls, in nanoseconds.
 fn pass(programs: &mut Programs, program: usize, part: usize, calls: &mut [Timed]) -> f64 {
-    let start = Instant::now();
+    let start = clock::now();
     for call in calls.iter_mut() {
         let budget = if part == 0 { call.budget } else { 0 };
         black_box(programs.judge(program, black_box(&call.request), &mut call.lent, budget));
     }
-    start.elapsed().as_nanos() as f64
+    clock::now() - start
+}
+
+/// All calls of a class by each program, in turns; whose turn is first goes round.
+fn round_of(programs: &mut Programs, round: usize, calls: &mut [Timed]) -> [[f64; 3]; 2] {
+    let mut taken = [[0.0; 3]; 2];
+    for (index, calls) in calls.chunks_mut(TURN).enumerate() {
+        for turn in 0..PROGRAMS.len() {
+            let program = (round + index + turn) % PROGRAMS.len();
+            for (part, taken) in taken.iter_mut().enumerate() {
+                taken[program] += pass(programs, program, part, calls);
+            }
+        }
+    }
+    taken
 }
 
 fn quartiles(mut numbers: Vec<f64>) -> [f64; 3] {
@@ -59,10 +76,10 @@ pub fn time(seed: u64, rounds: u64) -> Result<String, String> {
     let mut times: Vec<Times> = NAMES.iter().map(|_| Times::default()).collect();
     for round in 0..rounds as usize {
         for (calls, times) in classes.iter_mut().zip(&mut times) {
-            for turn in 0..3 {
-                let program = (round + turn) % 3;
-                for (part, times) in times.iter_mut().enumerate() {
-                    times[program].push(pass(&mut programs, program, part, calls));
+            let taken = round_of(&mut programs, round, calls);
+            for (part, times) in times.iter_mut().enumerate() {
+                for (program, times) in times.iter_mut().enumerate() {
+                    times.push(taken[part][program]);
                 }
             }
         }
