@@ -485,14 +485,13 @@ fn after(effects: &[Effect], state: Masks) -> Masks {
     let mut told = state;
     let mut may = Masks::default();
     for effect in effects {
-        if state.possible(effect.body) {
-            may.yes |= effect.literal.yes;
-            may.no |= effect.literal.no;
-            if state.known(effect.body) {
-                told.yes |= effect.literal.yes;
-                told.no |= effect.literal.no;
-            }
-        }
+        // All bits where the body is possible, or known true; none otherwise.
+        let possible = 0u64.wrapping_sub(u64::from(state.possible(effect.body)));
+        let known = 0u64.wrapping_sub(u64::from(state.known(effect.body)));
+        may.yes |= effect.literal.yes & possible;
+        may.no |= effect.literal.no & possible;
+        told.yes |= effect.literal.yes & known;
+        told.no |= effect.literal.no & known;
     }
     Masks { yes: told.yes & !may.no, no: told.no & !may.yes }
 }
