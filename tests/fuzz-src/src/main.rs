@@ -10,7 +10,7 @@ use fuzz::input::seeds;
 /// As for the comparison: the stack of a process's first thread.
 const STACK: usize = 8 << 20;
 /// Bytes of the inputs that are kept, together.
-const KEPT: usize = 100_000;
+const KEPT: usize = 60_000;
 
 const HELP: &str = "usage: cases seeds FOLDER SEED COUNT | cases keep FOLDER FILE | cases replay FILE";
 
@@ -48,7 +48,7 @@ fn keep(folder: &str, file: &str) -> Result<String, String> {
     let mut room = KEPT;
     inputs.retain(|input| {
         let fits = input.len() <= room;
-        room = room.saturating_sub(input.len());
+        room -= if fits { input.len() } else { 0 };
         fits
     });
     let mut text = String::new();
