@@ -10,6 +10,7 @@ mod classes;
 mod clock;
 #[path = "../../compare-src/src/crowded.rs"]
 mod crowded;
+mod derivations;
 #[allow(dead_code)]
 #[path = "../../compare-src/src/fence.rs"]
 mod fence;
@@ -26,7 +27,7 @@ use std::{env, thread};
 /// Enough for the deepest walks of the plain program, which has a copy of the state in each call of itself.
 const STACK: usize = 256 << 20;
 
-const HELP: &str = "usage: bench check SEED COUNT | bench walks SEED ROUNDS | bench only PROGRAM CLASS whole|reading PASSES";
+const HELP: &str = "usage: bench check SEED COUNT | bench walks SEED ROUNDS | bench derivations SEED ROUNDS | bench only PROGRAM CLASS whole|reading PASSES";
 
 fn main() -> ExitCode {
     let work = thread::Builder::new().stack_size(STACK).spawn(|| {
@@ -36,6 +37,7 @@ fn main() -> ExitCode {
         match words[..] {
             ["check", seed, count] => check::check(number(seed)?, number(count)?),
             ["walks", seed, rounds] => walks::time(number(seed)?, number(rounds)?),
+            ["derivations", seed, rounds] => derivations::time(number(seed)?, number(rounds)?),
             ["only", program, class, part, passes] => walks::only(program, class, part, number(passes)?),
             _ => Err(HELP.to_string()),
         }

@@ -37,7 +37,8 @@ fn round_of(programs: &mut Programs, round: usize, calls: &mut [Timed]) -> [[f64
     taken
 }
 
-fn quartiles(mut numbers: Vec<f64>) -> [f64; 3] {
+/// The lower quartile, the median and the upper quartile.
+pub fn quartiles(mut numbers: Vec<f64>) -> [f64; 3] {
     numbers.sort_by(f64::total_cmp);
     [1, 2, 3].map(|quarter| numbers[quarter * (numbers.len() - 1) / 4])
 }
