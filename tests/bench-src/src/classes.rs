@@ -11,7 +11,7 @@ use crate::crowded::crowded;
 
 pub const NAMES: [&str; 5] = ["small tables", "medium tables", "large tables", "long plans", "budget spent"];
 /// Requests of a class.
-const EACH: u64 = 2_000;
+pub const EACH: u64 = 2_000;
 /// The budget of the program `judge`; walks of the first four classes end within it, and within `MOST`.
 const BUDGET: u32 = 100_000;
 const MOST: u32 = 10_000;
@@ -31,8 +31,8 @@ pub struct Timed {
 /// A plan of so many steps over a table of some size.
 const LONG_PLAN: Shape = Shape { fluents: (4, 40), actions: (3, 30), steps: (LONG, ITEM_LIMIT), items: ITEM_LIMIT, effects: 4, careless: 0, whether: true };
 
-/// The requests of a class.
-pub fn class(seed: u64, class: usize) -> Vec<Timed> {
+/// So many requests of a class.
+pub fn class(seed: u64, class: usize, count: u64) -> Vec<Timed> {
     let of_index = |index: u64| {
         let mut rng = Rng::new(seed, 100 + class as u64, index);
         loop {
@@ -41,7 +41,7 @@ pub fn class(seed: u64, class: usize) -> Vec<Timed> {
             }
         }
     };
-    (0..EACH).map(of_index).collect()
+    (0..count).map(of_index).collect()
 }
 
 /// A request of a class, if the one drawn is of it.

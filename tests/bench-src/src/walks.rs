@@ -3,7 +3,7 @@
 use std::hint::black_box;
 
 use crate::answers::taken_apart;
-use crate::classes::{class, Timed, NAMES};
+use crate::classes::{class, Timed, EACH, NAMES};
 use crate::clock;
 use crate::programs::{agreed, Programs, PROGRAMS};
 
@@ -58,7 +58,7 @@ fn ratio(one: &[f64], other: &[f64]) -> [f64; 3] {
 /// The tables, after a comparison of all answers.
 pub fn time(seed: u64, rounds: u64) -> Result<String, String> {
     let mut programs = Programs::new();
-    let mut classes: Vec<Vec<Timed>> = (0..NAMES.len()).map(|index| class(seed, index)).collect();
+    let mut classes: Vec<Vec<Timed>> = (0..NAMES.len()).map(|index| class(seed, index, EACH)).collect();
     println!("| class | requests | bytes, mean | answers 0, 1, 2, 3 | count, mean |\n|---|---|---|---|---|");
     for (name, calls) in NAMES.iter().zip(&classes) {
         let mut numbers = [0; 4];
@@ -116,12 +116,11 @@ fn tables(times: &[Times], lengths: Vec<usize>) -> String {
     out
 }
 
-/// So many passes of one program over one class, for a profile.
-pub fn only(program: &str, name: &str, part: &str, passes: u64) -> Result<String, String> {
+/// One pass of one program over the first requests of a class, for a profile.
+pub fn only(program: &str, name: &str, part: &str, count: u64) -> Result<String, String> {
     let find = |names: &[&str], name: &str| names.iter().position(|other| *other == name).ok_or(format!("'{name}' is none of {names:?}"));
     let (program, index, part) = (find(&PROGRAMS, program)?, find(&NAMES, name)?, find(&PARTS, part)?);
-    let mut calls = class(1, index);
-    let mut programs = Programs::new();
-    let passed: f64 = (0..passes).map(|_| pass(&mut programs, program, part, &mut calls)).sum();
-    Ok(format!("{:.0} ns for a call", passed / (passes as f64 * calls.len() as f64)))
+    let mut calls = class(1, index, count);
+    let taken = pass(&mut Programs::new(), program, part, &mut calls);
+    Ok(format!("{:.0} ns for a call", taken / count as f64))
 }
