@@ -1,4 +1,4 @@
-//! The requests that are timed, 2,000 in each of five classes.
+//! The requests that are timed, equally many in each of five classes.
 
 use oracle::encode::encode_request;
 use oracle::generate::{forgetful, request, Shape, LARGE, MIDDLE, SMALL, TINY};
@@ -10,8 +10,6 @@ use oracle::walk::{walk, Verdict};
 use crate::crowded::crowded;
 
 pub const NAMES: [&str; 5] = ["small tables", "medium tables", "large tables", "long plans", "budget spent"];
-/// Requests of a class.
-pub const EACH: u64 = 2_000;
 /// The budget of the program `judge`; walks of the first four classes end within it, and within `MOST`.
 const BUDGET: u32 = 100_000;
 const MOST: u32 = 10_000;

@@ -27,7 +27,7 @@ use std::{env, thread};
 /// Enough for the deepest walks of the plain program, which has a copy of the state in each call of itself.
 const STACK: usize = 256 << 20;
 
-const HELP: &str = "usage: bench check SEED COUNT | bench walks SEED ROUNDS | bench derivations SEED ROUNDS | bench only PROGRAM CLASS whole|reading COUNT";
+const HELP: &str = "usage: bench check SEED COUNT | bench walks SEED ROUNDS COUNT | bench derivations SEED ROUNDS | bench only PROGRAM CLASS whole|reading COUNT";
 
 fn main() -> ExitCode {
     let work = thread::Builder::new().stack_size(STACK).spawn(|| {
@@ -36,7 +36,7 @@ fn main() -> ExitCode {
         let number = |word: &str| word.parse::<u64>().map_err(|_| format!("not a number: {word}"));
         match words[..] {
             ["check", seed, count] => check::check(number(seed)?, number(count)?),
-            ["walks", seed, rounds] => walks::time(number(seed)?, number(rounds)?),
+            ["walks", seed, rounds, count] => walks::time(number(seed)?, number(rounds)?, number(count)?),
             ["derivations", seed, rounds] => derivations::time(number(seed)?, number(rounds)?),
             ["only", program, class, part, count] => walks::only(program, class, part, number(count)?),
             _ => Err(HELP.to_string()),

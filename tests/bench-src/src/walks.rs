@@ -3,7 +3,7 @@
 use std::hint::black_box;
 
 use crate::answers::taken_apart;
-use crate::classes::{class, Timed, EACH, NAMES};
+use crate::classes::{class, Timed, NAMES};
 use crate::clock;
 use crate::programs::{agreed, Programs, PROGRAMS};
 
@@ -56,23 +56,23 @@ fn ratio(one: &[f64], other: &[f64]) -> [f64; 3] {
 }
 
 /// The tables, after a comparison of all answers.
-pub fn time(seed: u64, rounds: u64) -> Result<String, String> {
+pub fn time(seed: u64, rounds: u64, count: u64) -> Result<String, String> {
     let mut programs = Programs::new();
-    let mut classes: Vec<Vec<Timed>> = (0..NAMES.len()).map(|index| class(seed, index, EACH)).collect();
+    let mut classes: Vec<Vec<Timed>> = (0..NAMES.len()).map(|index| class(seed, index, count)).collect();
     println!("| class | requests | bytes, mean | answers 0, 1, 2, 3 | count, mean |\n|---|---|---|---|---|");
     for (name, calls) in NAMES.iter().zip(&classes) {
         let mut numbers = [0; 4];
-        let (mut bytes, mut count) = (0, 0);
+        let (mut bytes, mut counted) = (0, 0);
         for call in calls {
             agreed(&mut programs, &call.request, &call.lent, 0)?;
             let [number, _, _, walked] = taken_apart(agreed(&mut programs, &call.request, &call.lent, call.budget)?);
             numbers[number as usize] += 1;
             bytes += call.request.len();
-            count += walked as usize;
+            counted += walked as usize;
         }
         let all = calls.len();
         let [a, b, c, d] = numbers;
-        println!("| {name} | {all} | {} | {a}, {b}, {c}, {d} | {} |", bytes / all, count / all);
+        println!("| {name} | {all} | {} | {a}, {b}, {c}, {d} | {} |", bytes / all, counted / all);
     }
     let mut times: Vec<Times> = NAMES.iter().map(|_| Times::default()).collect();
     for round in 0..rounds as usize {
