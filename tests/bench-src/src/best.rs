@@ -128,8 +128,7 @@ struct Request {
     whether_at: usize,
 }
 
-/// The walk call; a function of its own, so that a profile can tell it apart.
-#[inline(never)]
+/// The walk call.
 pub fn judge(space: &mut Workspace, s: &[u8], lent: &mut [u8], budget: u32) -> u64 {
     let Ok(lent) = <&mut [u8; 64]>::try_from(lent) else { return packed(9, 0, 0, 0) };
     if s.len() > 16_384 {

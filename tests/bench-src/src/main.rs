@@ -27,7 +27,7 @@ use std::{env, thread};
 /// Enough for the deepest walks of the plain program, which has a copy of the state in each call of itself.
 const STACK: usize = 256 << 20;
 
-const HELP: &str = "usage: bench check SEED COUNT | bench walks SEED ROUNDS COUNT | bench derivations SEED ROUNDS | bench only PROGRAM CLASS whole|reading COUNT";
+const HELP: &str = "usage: bench check SEED COUNT | bench walks SEED ROUNDS COUNT | bench derivations SEED ROUNDS | bench only PROGRAM CLASS whole|reading COUNT PASSES";
 
 fn main() -> ExitCode {
     let work = thread::Builder::new().stack_size(STACK).spawn(|| {
@@ -38,7 +38,7 @@ fn main() -> ExitCode {
             ["check", seed, count] => check::check(number(seed)?, number(count)?),
             ["walks", seed, rounds, count] => walks::time(number(seed)?, number(rounds)?, number(count)?),
             ["derivations", seed, rounds] => derivations::time(number(seed)?, number(rounds)?),
-            ["only", program, class, part, count] => walks::only(program, class, part, number(count)?),
+            ["only", program, class, part, count, passes] => walks::only(program, class, part, number(count)?, number(passes)?),
             _ => Err(HELP.to_string()),
         }
     });

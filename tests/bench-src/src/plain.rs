@@ -12,8 +12,7 @@ const BRANCHING: u8 = 255;
 type State = [u8; 64];
 type Read<T> = Result<T, Fault>;
 
-/// The walk call; a function of its own, so that a profile can tell it apart.
-#[inline(never)]
+/// The walk call.
 pub fn judge(s: &[u8], lent: &mut [u8], budget: u32) -> u64 {
     if lent.len() != 64 {
         return packed(9, 0, 0, 0);

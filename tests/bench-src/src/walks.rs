@@ -116,11 +116,12 @@ fn tables(times: &[Times], lengths: Vec<usize>) -> String {
     out
 }
 
-/// One pass of one program over the first requests of a class, for a profile.
-pub fn only(program: &str, name: &str, part: &str, count: u64) -> Result<String, String> {
+/// So many passes of one program over the first requests of a class, for a profile.
+pub fn only(program: &str, name: &str, part: &str, count: u64, passes: u64) -> Result<String, String> {
     let find = |names: &[&str], name: &str| names.iter().position(|other| *other == name).ok_or(format!("'{name}' is none of {names:?}"));
     let (program, index, part) = (find(&PROGRAMS, program)?, find(&NAMES, name)?, find(&PARTS, part)?);
     let mut calls = class(1, index, count);
-    let taken = pass(&mut Programs::new(), program, part, &mut calls);
-    Ok(format!("{:.0} ns for a call", taken / count as f64))
+    let mut programs = Programs::new();
+    let taken: f64 = (0..passes).map(|_| pass(&mut programs, program, part, &mut calls)).sum();
+    Ok(format!("{:.0} ns for a call", taken / (count * passes.max(1)) as f64))
 }
