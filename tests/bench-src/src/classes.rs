@@ -27,7 +27,8 @@ pub struct Timed {
 }
 
 /// A plan of so many steps over a table of some size.
-const LONG_PLAN: Shape = Shape { fluents: (4, 40), actions: (3, 30), steps: (LONG, ITEM_LIMIT), items: ITEM_LIMIT, effects: 4, careless: 0, whether: true };
+const LONG_PLAN: Shape =
+    Shape { fluents: (4, 40), actions: (3, 30), steps: (LONG, ITEM_LIMIT), items: ITEM_LIMIT, effects: 4, careless: 0, whether: true };
 
 /// So many requests of a class.
 pub fn class(seed: u64, class: usize, count: u64) -> Vec<Timed> {

@@ -56,27 +56,31 @@ fn said_again(lines: &[Line], count: usize) -> Vec<Line> {
     all
 }
 
-/// Six fluents sensed at once before a plan of so many items, none or a power of two, by as many lines of 64 citations as there is room for in so many bytes; all of
-/// them cite the same 64 lines, so that each has the whole rest of its plan compared 64 times.
-fn cited_most(items: usize, bytes: usize) -> (Request, Vec<Line>) {
+/// Six fluents sensed at once before a plan of so many items, none or a power of two, by as many lines of 64 citations as there is room for
+/// in so many bytes. All of them cite the same 64 lines, so that each has the whole rest of its plan compared 64 times; so many fluents more
+/// are known in every line.
+fn cited_most(known: u8, items: usize, bytes: usize) -> (Request, Vec<Line>) {
+    let facts: Vec<u8> = (SENSED..SENSED + known).map(|fluent| 2 * fluent).collect();
     let plan: Vec<Item> = std::iter::once(Item::act(0)).chain((0..items).map(|_| Item::act(1))).collect();
     let request = Request {
-        fluents: SENSED,
+        fluents: SENSED + known,
         actions: 2,
+        facts: facts.clone(),
+        goals: facts.clone(),
         allowances: (0..2).map(|action| Allowance { action, body: Vec::new() }).collect(),
         knowledge: (0..SENSED).map(|fluent| Knowledge { place: 0, action: 0, fluent }).collect(),
         plan: plan.clone(),
         ..Request::default()
     };
-    let line = |before: &[u8], sequence: &[Item], rule: u8, cites: &[u16]| Line {
+    let line = |read: &[u8], sequence: &[Item], rule: u8, cites: &[u16]| Line {
         place: 0,
-        before: before.to_vec(),
+        before: [read, &facts].concat(),
         sequence: sequence.to_vec(),
-        after: Vec::new(),
+        after: facts.clone(),
         rule,
         cites: cites.to_vec(),
     };
-    // From nothing known, the plan by doubling; then weakened to each reading; then the citing lines.
+    // Without a reading, the plan by doubling; then weakened to each reading; then the citing lines.
     let mut lines = vec![line(&[], &[], 1, &[])];
     if items > 0 {
         lines.push(line(&[], &plan[1..2], 2, &[]));
@@ -90,8 +94,8 @@ fn cited_most(items: usize, bytes: usize) -> (Request, Vec<Line>) {
     let last = lines.len() as u16 - 1;
     let first = lines.len() as u16;
     for reading in 0..64u8 {
-        let before: Vec<u8> = (0..SENSED).map(|fluent| 2 * fluent + (reading >> (SENSED - 1 - fluent) & 1)).collect();
-        lines.push(line(&before, &plan[1..], 6, &[last]));
+        let read: Vec<u8> = (0..SENSED).map(|fluent| 2 * fluent + (reading >> (SENSED - 1 - fluent) & 1)).collect();
+        lines.push(line(&read, &plan[1..], 6, &[last]));
     }
     let cites: Vec<u16> = (first..first + 64).collect();
     let citing = line(&[], &plan, 3, &cites);
@@ -153,19 +157,20 @@ pub fn time(seed: u64, rounds: u64) -> Result<String, String> {
     }
     let (request, lines) = weakened();
     rows.push(("1,024 lines by rule 6, lists of 12".to_string(), vec![timed(&request, &lines)]));
-    let most = [(0, DERIVATION_LIMIT), (64, DERIVATION_LIMIT), (128, DERIVATION_LIMIT / 2), (128, DERIVATION_LIMIT), (256, DERIVATION_LIMIT)];
-    for (items, bytes) in most {
-        let (request, lines) = cited_most(items, bytes);
-        rows.push((format!("64 citations a line, {items} items after the look"), vec![timed(&request, &lines)]));
+    let all = DERIVATION_LIMIT;
+    for (known, items, bytes) in [(0, 0, all), (0, 64, all), (0, 128, all / 2), (0, 128, all), (58, 0, all)] {
+        let (request, lines) = cited_most(known, items, bytes);
+        rows.push((format!("64 citations a line, lists of {known}, {items} items"), vec![timed(&request, &lines)]));
     }
-    let mut out = String::from("| derivations | lines | bytes, mean | proved, ns | for a byte | lines a second | independent, ns | ratio | quartiles |\n");
-    out += "|---|---|---|---|---|---|---|---|---|\n";
+    let mut out = String::from("| derivations | lines | bytes, mean | proved, ns | for a byte | lines a second | ");
+    out += "independent, ns | ratio | quartiles |\n|---|---|---|---|---|---|---|---|---|\n";
     for (name, calls) in &rows {
         accepted(name, calls)?;
-        let lines: usize = calls.iter().map(|call| usize::from(u16::from_be_bytes([call.derivation[0], call.derivation[1]]))).sum::<usize>() / calls.len();
+        let first = &calls[0].derivation;
+        let lines = u16::from_be_bytes([first[0], first[1]]);
         let bytes = calls.iter().map(|call| call.derivation.len()).sum::<usize>() / calls.len();
         let [[_, proved, _], [_, independent, _], [low, ratio, high]] = times(calls, rounds);
-        let (by_byte, second) = (proved / bytes as f64, lines as f64 * 1e9 / proved);
+        let (by_byte, second) = (proved / bytes as f64, f64::from(lines) * 1e9 / proved);
         out += &format!(
             "| {name} | {lines} | {bytes} | {proved:.0} | {by_byte:.1} | {:.1} million | {independent:.0} | {ratio:.2} | {low:.2} to {high:.2} |\n",
             second / 1e6

@@ -27,7 +27,8 @@ use std::{env, thread};
 /// Enough for the deepest walks of the plain program, which has a copy of the state in each call of itself.
 const STACK: usize = 256 << 20;
 
-const HELP: &str = "usage: bench check SEED COUNT | bench walks SEED ROUNDS COUNT | bench derivations SEED ROUNDS | bench only PROGRAM CLASS whole|reading COUNT PASSES";
+const HELP: &str = "usage: bench check SEED COUNT | bench walks SEED ROUNDS COUNT | bench derivations SEED ROUNDS | \
+     bench only PROGRAM CLASS whole|reading COUNT PASSES";
 
 fn main() -> ExitCode {
     let work = thread::Builder::new().stack_size(STACK).spawn(|| {

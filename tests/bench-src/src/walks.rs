@@ -97,8 +97,8 @@ fn tables(times: &[Times], lengths: Vec<usize>) -> String {
             set[part][program] = (0..rounds).map(|round| times.iter().map(|times| times[part][program][round]).sum()).collect();
         }
     }
-    let rows: Vec<(&str, &Times, usize)> =
-        NAMES.iter().zip(times).zip(&lengths).map(|((name, times), length)| (*name, times, *length)).chain([("the whole set", &set, lengths.iter().sum())]).collect();
+    let classes = NAMES.iter().zip(times).zip(&lengths).map(|((name, times), length)| (*name, times, *length));
+    let rows = classes.chain([("the whole set", &set, lengths.iter().sum())]);
     let mut out = String::from("\n| class | part | proved, ns | plain, ns | best, ns | proved to plain | quartiles | proved to best | quartiles |\n");
     out += "|---|---|---|---|---|---|---|---|---|\n";
     for (name, times, length) in rows {
