@@ -146,12 +146,24 @@ fn derivation(row: Derivation) -> Vec<u8> {
     }
 }
 
+/// The derivation call of a row.
+fn check_of(row: &DerivationRow) -> Check {
+    let (_, _, whether, given, _) = *row;
+    let file_a = bytes(FILE_A);
+    let request = if whether { file_a } else { [&file_a[..46], &[0]].concat() };
+    Check { request, derivation: derivation(given) }
+}
+
+/// Those of all rows.
+pub fn checks() -> Vec<Check> {
+    DERIVATION_ROWS.iter().map(check_of).collect()
+}
+
 /// The rows of the derivation call.
 fn compare_derivations(rng: &mut Rng) -> Result<(), String> {
-    let file_a = bytes(FILE_A);
-    for (sentence, name, whether, given, [number, input, place]) in DERIVATION_ROWS {
-        let request = if whether { file_a.clone() } else { [&file_a[..46], &[0]].concat() };
-        let check = Check { request, derivation: derivation(given) };
+    for row in &DERIVATION_ROWS {
+        let (sentence, name, _, _, [number, input, place]) = *row;
+        let check = check_of(row);
         let answer = checks::agreed(rng, &check).map_err(|why| format!("FORMAT {sentence}, {name}: {why}; {check}"))?;
         if answer != [number, input, place, 0] {
             return Err(format!("FORMAT {sentence}, {name}: number, input, place, count are {answer:?}; {check}"));
@@ -210,12 +222,23 @@ fn without_bytes() -> Result<(), String> {
     }
 }
 
+/// The walk call of a row.
+fn call_of(row: &Row) -> Call {
+    let (_, _, given, budget, length, _, _) = *row;
+    Call { request: request(given), lent: vec![LENT; length], budget }
+}
+
+/// Those of all rows.
+pub fn calls() -> Vec<Call> {
+    ROWS.iter().map(call_of).collect()
+}
+
 /// Every row through its exported call, and the independent program's opinion of it.
 pub fn compare() -> Result<String, String> {
     let mut rng = Rng::new(1, 5, 0);
     for row in &ROWS {
-        let (sentence, name, given, budget, length, _, _) = *row;
-        let call = Call { request: request(given), lent: vec![LENT; length], budget };
+        let (sentence, name, ..) = *row;
+        let call = call_of(row);
         let same = agreed(&mut rng, &call).and_then(|left| expect(&left, &expected(row, &call.lent), "the format"));
         same.map_err(|why| format!("FORMAT {sentence}, {name}: {why}; {call}"))?;
     }
