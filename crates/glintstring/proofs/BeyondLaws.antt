@@ -1,0 +1,107 @@
+-- A walk knows nothing beyond the fluents of its request (FORMAT 4.48): the facts, the literals of effects and the sensed fluents were read below
+-- their bound, so no step sets a mark from there up, and a walk keeps what its steps keep. Assumes nothing.
+use Prim.Native.Nat.{ℕ, _+_, _*_, _≤_, _<_}
+use native.Mathlib.Omega.{arith}
+use native.Mathlib.Decide.{decLt}
+use mathlib.Core.Path.{_≡_, refl, sym, _∙_, ap, subst}
+use mathlib.Core.Bool.{Bool, true, false}
+use mathlib.Core.List.{List, [], _∷_}
+use mathlib.Core.Logic.{inl, inr, ⊎-elim}
+use lib.ListN.{length, getD, replicate, List·getD-eq-default}
+use lib.Seq.{getD-set-other}
+use borrow.Author.Tests.{eqb-true}
+use Rattle.meaning.specs.Tests.{both, either, fails}
+use Rattle.meaning.specs.Limits
+use Rattle.meaning.specs.Limits.{format}
+use Rattle.meaning.specs.Literals.{says-true, says-false, complement, fluent-of}
+use Rattle.meaning.specs.Requests.{Effect, Knowledge, Table, Request}
+use Rattle.meaning.specs.Lines.{effects-of, knowledge-of, given, senses}
+use Rattle.meaning.specs.States.{State, mark-of, known, possible, told, told-all, state-of, first-state, known-after, mark-after, state-after, unknown-from, unknown-sensed, known-whether}
+use Rattle.meaning.specs.Walk.{walked}
+use Rattle.meaning.proofs.TestLaws.{by-test, both-left, both-right, clash, either-split, pick-false, Has, some-has, some-those}
+use Rattle.meaning.proofs.PickLaws.{has-picked}
+use Rattle.meaning.proofs.RangeLaws.{Ranged}
+use Rattle.meaning.proofs.StateLaws.{known-true, known-false, unknown-mark, after-length}
+use Rattle.meaning.proofs.PairLaws.{after-mark}
+use Rattle.glintstring.proofs.KeepingLaws.{End-has, Kept-by, walked-kept}
+
+-- THE LINES of an action give and sense nothing from there up.
+given-within : (t : Table) (a n : ℕ) → ((e : Effect) → Has (t .effects) e → e .literal < 2 * n) → (test : ℕ → Bool) (l : ℕ) → 2 * n ≤ l → given test (effects-of t a) l ≡ false
+unfolding given effects-of
+given-within t a n within test l far =
+    by-test _
+    (λ e.
+    let w = some-has _ (t .effects) (sym (some-those _ _ (t .effects)) ∙ e) in
+    let same : w .0 .literal ≡ l = eqb-true _ _ (both-left _ _ (both-right _ _ (w .2))) in
+    let near = within (w .0) (w .1) in
+    absurd (omega arith))
+    (λ e. e)
+
+unknown-senses : (ks : List Knowledge) (s : State) (f : ℕ) (ms : List ℕ) (g : ℕ) → Has (unknown-from ks s f ms) g → senses ks g ≡ true
+unfolding unknown-from
+unknown-senses ks s f [] g h = absurd h
+unknown-senses ks s f (m ∷ ms) g h =
+    has-picked (λ xs. Has xs g) (both (senses ks f) (fails (known-whether s f))) _ _ h
+    (λ e there. ⊎-elim (λ q. rw q (both-left _ _ e)) (λ later. unknown-senses ks s (f + 1) ms g later) there)
+    (λ _ later. unknown-senses ks s (f + 1) ms g later)
+
+read-within : (t : Table) (a n : ℕ) → ((k : Knowledge) → Has (t .knowledge) k → k .fluent < n) → (s : State) (f : ℕ) → Has (unknown-sensed t a s) f → f < n
+unfolding unknown-sensed knowledge-of senses
+read-within t a n within s f h =
+    let w = some-has _ (t .knowledge) (sym (some-those _ _ (t .knowledge)) ∙ unknown-senses (knowledge-of t a) s 0 s f h) in
+    subst (λ (g : ℕ). g < n) (eqb-true _ _ (both-right _ _ (w .2))) (within (w .0) (w .1))
+
+-- No mark stands from fluent n up.
+abbrev pub Blank-from : ℕ → State → Type 0
+Blank-from n s = (f : ℕ) → n ≤ f → getD s f 0 ≡ 0
+
+module _ (n : ℕ) where
+  told-blank : (l : ℕ) → fluent-of l < n → (s : State) → Blank-from n s → Blank-from n (told l s)
+  unfolding told
+  told-blank l near s blank f far = getD-set-other s (fluent-of l) f (mark-of l) 0 (λ e. omega arith) ∙ blank f far
+
+  told-all-blank : (ls : List ℕ) → ((l : ℕ) → Has ls l → l < 2 * n) → (s : State) → Blank-from n s → Blank-from n (told-all ls s)
+  unfolding told-all fluent-of
+  told-all-blank [] within s blank = blank
+  told-all-blank (l ∷ ls) within s blank =
+      let near = within l (inl refl) in
+      told-all-blank ls (λ k h. within k (inr h)) (told l s) (told-blank l (omega arith) s blank)
+
+module _ (t : Table) (ranged : Ranged format t) where
+  first-blank : Blank-from (t .fluents) (first-state format t)
+  unfolding first-state state-of
+  first-blank = told-all-blank (t .fluents) (t .facts) (ranged .facts) (replicate 64 0) (λ f _. unknown-mark 64 f)
+
+  -- AN ACTION gives no literal from there up, and what was not known is not known after it.
+  still-unknown : (a : ℕ) (s : State) (l : ℕ) → 2 * t .fluents ≤ l → known s l ≡ false → known-after (effects-of t a) s l ≡ false
+  unfolding known-after
+  still-unknown a s l far none =
+      by-test _
+      (λ e. ⊎-elim (λ is. clash is none) (λ is. clash is (given-within t a (t .fluents) (ranged .effects) (known s) l far)) (either-split _ _ (both-left _ _ e)))
+      (λ e. e)
+
+  mark-blank : (a : ℕ) (s : State) (f : ℕ) → t .fluents ≤ f → getD s f 0 ≡ 0 → mark-after (effects-of t a) s f ≡ 0
+  unfolding mark-after says-true says-false
+  mark-blank a s f far none =
+      pick-false _ _ _ (still-unknown a s (says-true f) (omega arith) (known-true s f ∙ rw none refl))
+      ∙ pick-false _ _ _ (still-unknown a s (says-false f) (omega arith) (known-false s f ∙ rw none refl))
+
+  after-blank : (a : ℕ) (s : State) → Blank-from (t .fluents) s → Blank-from (t .fluents) (state-after t a s)
+  after-blank a s blank f far =
+      elim (decLt f (length s)) [
+        | yes near ↦ after-mark t a s f near ∙ mark-blank a s f far (blank f far)
+        | no beyond ↦ List·getD-eq-default (state-after t a s) 0 {n = f} (rw (after-length t a s) (omega arith))
+      ]
+
+  table-blank : Kept-by (Blank-from (t .fluents)) t
+  unfolding says-true says-false fluent-of
+  table-blank = record {
+    reads = λ a s f h u blank.
+        let near = read-within t a (t .fluents) (ranged .knowledge) s f h in
+        (told-blank (t .fluents) (says-true f) (omega arith) u blank, told-blank (t .fluents) (says-false f) (omega arith) u blank);
+    acts = after-blank;
+  }
+
+-- THE WALK from the first state.
+pub walked-blank : (r : Request) → Ranged format (r .table) → End-has (Blank-from (r .table .fluents)) (walked r (first-state format (r .table)) .end)
+walked-blank r ranged = walked-kept (Blank-from (r .table .fluents)) r (table-blank (r .table) ranged) (first-state format (r .table)) (first-blank (r .table) ranged)
