@@ -85,15 +85,20 @@ module _ (κs : Lfts 2) (given : Dens κs ps) where
         → (x : Request) × (e : ℕ) × (settled format request ≡ got x e) × (getD request 0 0 ≡ x .table .fluents) × Marked (left exit) × ((f : ℕ) → x .table .fluents ≤ f → getD (left exit) f 0 ≡ 0)
     written is =
         let w = judge-leaves (λ (x : Request) (s : State). Marked s × Blank-from (x .table .fluents) s) format lent budget request
-            (λ x e past.
-            let reads = settled-is format request x e past .reads in
-            end-both Marked (Blank-from (x .table .fluents)) (walked x (first-state format (x .table)) .end)
-            (walked-marked x (first-state format (x .table)) (first-marked (x .table)))
-            (walked-blank x (read-ranged format request x e reads)))
-            (subst (λ (n : ℕ). (n ≡ Limits.goal-missed) ⊎ (n ≡ Limits.not-executable)) (sym number-is) is) in
-        let same = ap (λ (j : Judgement). j .state) meets in
-        (w .0, w .1, w .2, request-starts request (w .0) (w .1) (settled-is format request (w .0) (w .1) (w .2) .reads) .fluents,
-          subst Marked (sym same) (w .3 .0), subst (Blank-from (w .0 .table .fluents)) (sym same) (w .3 .1))
+        (λ x e past.
+        let reads = settled-is format request x e past .reads in
+        end-both Marked (Blank-from (x .table .fluents)) (walked x (first-state format (x .table)) .end)
+        (walked-marked x (first-state format (x .table)) (first-marked (x .table)))
+        (walked-blank x (read-ranged format request x e reads)))
+        (subst (λ (n : ℕ). (n ≡ Limits.goal-missed) ⊎ (n ≡ Limits.not-executable)) (sym number-is) is) in
+        let same = ap (λ (j : Judgement). j .state) meets in (
+          w .0,
+          w .1,
+          w .2,
+          request-starts request (w .0) (w .1) (settled-is format request (w .0) (w .1) (w .2) .reads) .fluents,
+          subst Marked (sym same) (w .3 .0),
+          subst (Blank-from (w .0 .table .fluents)) (sym same) (w .3 .1),
+        )
 
     -- Demand 3 (FORMAT 11.7 to 11.12): a verified plan is carried out in every world with the initial facts, at any budget.
     pub sound : answer .number ≡ Limits.verified → (x : Request) × (e : ℕ) × (settled format request ≡ got x e) × Carried-out x
