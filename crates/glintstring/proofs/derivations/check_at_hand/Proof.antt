@@ -1,3 +1,4 @@
+-- The whether list's count stands after the goals, so 30 is told as defined; past it the answer is that of the derivation's check.
 use Rattle.glintstring.proofs.DerivationLaws.{after-fits, whether-fits}
 use Rattle.glintstring.proofs.DerivationLaws.{goals-inside, whether-inside, check-30, check-accepts, check-refuses}
 use borrow.Author.Needs.{needs}

@@ -1,3 +1,4 @@
+-- Too long, at fault in a section, with bytes after the last, or whole: one law for each.
 use Rattle.reading.proofs.RequestLaws.{request-long, request-more, request-whole, request-fault}
 use borrow.Author.Needs.{needs}
 use Rattle.reading.proofs.requests.read_request.Statement.{statement}

@@ -1,3 +1,4 @@
+-- The table, then the rest over the counts that stand in the first two bytes.
 use Rattle.reading.proofs.RequestLaws.{first-there, second-byte-there, fluents-most, sections-there, sections-fault}
 use borrow.Author.Needs.{needs}
 use Rattle.reading.proofs.requests.sections_at.Statement.{statement}
