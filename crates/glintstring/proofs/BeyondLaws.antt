@@ -22,34 +22,9 @@ use Rattle.meaning.proofs.TestLaws.{by-test, both-left, both-right, clash, eith
 use Rattle.meaning.proofs.PickLaws.{has-picked}
 use Rattle.meaning.proofs.RangeLaws.{Ranged}
 use Rattle.meaning.proofs.StateLaws.{known-true, known-false, unknown-mark, after-length}
-use Rattle.meaning.proofs.PairLaws.{after-mark}
+use Rattle.meaning.proofs.PairLaws.{given-pair, after-mark, caused-within}
+use Rattle.meaning.proofs.SensingLaws.{sensed-within, read-is}
 use Rattle.glintstring.proofs.KeepingLaws.{End-has, Kept-by, walked-kept}
-
--- THE LINES of an action give and sense nothing from there up.
-given-within : (t : Table) (a n : ℕ) → ((e : Effect) → Has (t .effects) e → e .literal < 2 * n) → (test : ℕ → Bool) (l : ℕ) → 2 * n ≤ l → given test (effects-of t a) l ≡ false
-unfolding given effects-of
-given-within t a n within test l far =
-    by-test _
-    (λ e.
-    let w = some-has _ (t .effects) (sym (some-those _ _ (t .effects)) ∙ e) in
-    let same : w .0 .literal ≡ l = eqb-true _ _ (both-left _ _ (both-right _ _ (w .2))) in
-    let near = within (w .0) (w .1) in
-    absurd (omega arith))
-    (λ e. e)
-
-unknown-senses : (ks : List Knowledge) (s : State) (f : ℕ) (ms : List ℕ) (g : ℕ) → Has (unknown-from ks s f ms) g → senses ks g ≡ true
-unfolding unknown-from
-unknown-senses ks s f [] g h = absurd h
-unknown-senses ks s f (m ∷ ms) g h =
-    has-picked (λ xs. Has xs g) (both (senses ks f) (fails (known-whether s f))) _ _ h
-    (λ e there. ⊎-elim (λ q. rw q (both-left _ _ e)) (λ later. unknown-senses ks s (f + 1) ms g later) there)
-    (λ _ later. unknown-senses ks s (f + 1) ms g later)
-
-read-within : (t : Table) (a n : ℕ) → ((k : Knowledge) → Has (t .knowledge) k → k .fluent < n) → (s : State) (f : ℕ) → Has (unknown-sensed t a s) f → f < n
-unfolding unknown-sensed knowledge-of senses
-read-within t a n within s f h =
-    let w = some-has _ (t .knowledge) (sym (some-those _ _ (t .knowledge)) ∙ unknown-senses (knowledge-of t a) s 0 s f h) in
-    subst (λ (g : ℕ). g < n) (eqb-true _ _ (both-right _ _ (w .2))) (within (w .0) (w .1))
 
 -- No mark stands from fluent n up.
 abbrev pub Blank-from : ℕ → State → Type 0
@@ -77,7 +52,7 @@ module _ (t : Table) (ranged : Ranged format t) where
   unfolding known-after
   still-unknown a s l far none =
       by-test _
-      (λ e. ⊎-elim (λ is. clash is none) (λ is. clash is (given-within t a (t .fluents) (ranged .effects) (known s) l far)) (either-split _ _ (both-left _ _ e)))
+      (λ e. ⊎-elim (λ is. clash is none) (λ is. clash is (sym (given-pair t a (known s) l) ∙ caused-within t a (t .fluents) (ranged .effects) (known s) l far)) (either-split _ _ (both-left _ _ e)))
       (λ e. e)
 
   mark-blank : (a : ℕ) (s : State) (f : ℕ) → t .fluents ≤ f → getD s f 0 ≡ 0 → mark-after (effects-of t a) s f ≡ 0
@@ -97,7 +72,7 @@ module _ (t : Table) (ranged : Ranged format t) where
   unfolding says-true says-false fluent-of
   table-blank = record {
     reads = λ a s f h u blank.
-        let near = read-within t a (t .fluents) (ranged .knowledge) s f h in
+        let near = sensed-within t a (t .fluents) (ranged .knowledge) f (read-is t a s f h .1) in
         (told-blank (t .fluents) (says-true f) (omega arith) u blank, told-blank (t .fluents) (says-false f) (omega arith) u blank);
     acts = after-blank;
   }

@@ -34,6 +34,7 @@ use Rattle.refusing.proofs.PlanOverlaps.{listed-length}
 use Rattle.refusing.proofs.SettleLaws.{blank-long}
 use Rattle.steps.specs.AtHand.{request-of, request-in, At-hand}
 use Rattle.steps.specs.Lines.{Ends, goals-in, whether-in}
+use Rattle.steps.proofs.HandLaws.{request-is}
 use Rattle.steps.proofs.Served.{ends-at-hand}
 use Rattle.steps.proofs.SlotLaws.{goals-noted}
 use Rattle.refusing.proofs.ReadLaws.{parts}
@@ -62,17 +63,12 @@ whether-room s x e read =
     subst (λ (z : Request). 1 + length (z .goals) ≤ z .whether-place) (got-same (not-refused _ _ _ _ e₂ .1)) (request-room s t p y q ey)
 
 module _ (s t : List ℕ) (here : At-hand s t) where
-  -- The request at hand is the one that was read.
-  request-is : request-in s ≡ here .read .request
-  unfolding request-in request-of
-  request-is = ap request-of (here .read .reads)
-
   goals-there : goals-in t ≡ goals-place (request-in s)
   unfolding goals-in
   goals-there =
       ap (λ (u : List ℕ). getD u 5381 0) (here .read .noted)
       ∙ goals-noted s (here .bytes) (here .read .request) (parts s (here .read .request) (here .end) (here .read .reads))
-      ∙ ap goals-place (sym request-is)
+      ∙ ap goals-place (sym (request-is s t here))
 
   goals-long : length (request-in s .goals) ≡ getD s (goals-in t) 0
   goals-long =
@@ -83,7 +79,7 @@ module _ (s t : List ℕ) (here : At-hand s t) where
   whether-there : whether-in s t ≡ request-in s .whether-place
   unfolding whether-in goals-place
   whether-there =
-      let room = subst (λ (z : Request). 1 + length (z .goals) ≤ z .whether-place) (sym request-is) (whether-room s (here .read .request) (here .end) (here .read .reads)) in
+      let room = subst (λ (z : Request). 1 + length (z .goals) ≤ z .whether-place) (sym (request-is s t here)) (whether-room s (here .read .request) (here .end) (here .read .reads)) in
       let at = goals-there in
       let long = goals-long in
       omega arith

@@ -2,7 +2,6 @@ pub mod TellingLaws
 pub mod KeepingLaws
 pub mod MarkedLaws
 pub mod BeyondLaws
-pub mod StartLaws
 pub mod FirstLaws
 pub mod JudgingLaws
 pub mod LentLaws

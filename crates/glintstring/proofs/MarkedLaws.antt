@@ -1,54 +1,16 @@
 -- A walk from a state of marks 0, 1 and 2 ends in such a state, wherever it misses or is stuck: what sets a mark sets one of the three, and a
 -- walk keeps what its steps keep. Assumes nothing.
-use Prim.Native.Nat.{ℕ}
-use native.Mathlib.Omega.{arith}
-use native.Mathlib.Decide.{ℕ-discrete, decLt}
-use mathlib.Core.Path.{_∙_}
-use mathlib.Core.List.{List, [], _∷_}
-use lib.ListN.{length, set, replicate, length-set, length-replicate, getD-replicate, List·getD-eq-default}
-use lib.Seq.{getD-set-same, getD-set-other}
 use Rattle.meaning.specs.Limits.{format}
-use Rattle.meaning.specs.Literals.{says-true, says-false, fluent-of}
+use Rattle.meaning.specs.Literals.{says-true, says-false}
 use Rattle.meaning.specs.Requests.{Table, Request}
-use Rattle.meaning.specs.States.{State, mark-of, told, told-all, state-of, first-state}
+use Rattle.meaning.specs.States.{State, first-state}
 use Rattle.meaning.specs.Walk.{End, walked}
-use Rattle.reading.proofs.MarkLaws.{mark-most}
 use Rattle.steps.specs.AtHand.{Marked}
 use Rattle.steps.proofs.SensingLaws.{marked-after}
+use Rattle.steps.proofs.ToldMarks.{told-marked, state-marked}
 use Rattle.glintstring.proofs.KeepingLaws.{End-has, Kept-by, Keeps, walked-kept}
 
--- STATES. A literal that is told sets one mark, or none beyond the last.
-told-marked : (l : ℕ) (s : State) → Marked s → Marked (told l s)
-unfolding told
-told-marked l s marked = record {
-  sized = length-set s (fluent-of l) (mark-of l) ∙ marked .sized;
-  small = λ g. elim (ℕ-discrete g (fluent-of l)) [
-    | yes e ↦ rw e (elim (decLt (fluent-of l) (length s)) [
-      | yes near ↦ rw (getD-set-same s (fluent-of l) (mark-of l) 0 near) (mark-most l)
-      | no far ↦ rw (List·getD-eq-default (set s (fluent-of l) (mark-of l)) 0 {n = fluent-of l} (rw (length-set s (fluent-of l) (mark-of l)) (omega arith))) (omega arith)
-    ])
-    | no d ↦ rw (getD-set-other s (fluent-of l) g (mark-of l) 0 d) (marked .small g)
-  ];
-}
-
-told-all-marked : (ls : List ℕ) (s : State) → Marked s → Marked (told-all ls s)
-unfolding told-all
-told-all-marked [] s marked = marked
-told-all-marked (l ∷ ls) s marked = told-all-marked ls (told l s) (told-marked l s marked)
-
-unknown-marked : Marked (replicate 64 0)
-unknown-marked = record {
-  sized = let none : ℕ = 0 in length-replicate 64 none;
-  small = λ f. let none : ℕ = 0 in elim (decLt f 64) [
-    | yes near ↦ rw (getD-replicate 64 f none none near) (omega arith)
-    | no far ↦ rw (List·getD-eq-default (replicate 64 none) 0 {n = f} (rw (length-replicate 64 none) (omega arith))) (omega arith)
-  ];
-}
-
-pub state-marked : (ls : List ℕ) → Marked (state-of format ls)
-unfolding state-of
-state-marked ls = told-all-marked ls _ unknown-marked
-
+-- THE FIRST STATE.
 pub first-marked : (t : Table) → Marked (first-state format t)
 unfolding first-state
 first-marked t = state-marked (t .facts)

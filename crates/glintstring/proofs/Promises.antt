@@ -28,11 +28,11 @@ use Rattle.meaning.proofs.Exact.{count, Entailed, format-room}
 use Rattle.meaning.proofs.Demands
 use Rattle.meaning.proofs.SettledLaws.{settled-is}
 use Rattle.meaning.proofs.RangeLaws.{read-ranged}
+use Rattle.refusing.proofs.StartLaws.{request-starts}
 use Rattle.steps.specs.AtHand.{Marked}
 use Rattle.glintstring.proofs.KeepingLaws.{end-both}
 use Rattle.glintstring.proofs.MarkedLaws.{first-marked, walked-marked}
 use Rattle.glintstring.proofs.BeyondLaws.{Blank-from, walked-blank}
-use Rattle.glintstring.proofs.StartLaws.{request-starts}
 use Rattle.glintstring.proofs.LentLaws.{judge-kept, judge-leaves}
 use Rattle.glintstring.proofs.judging.judge.Kinds.{ps, r}
 use Rattle.glintstring.proofs.judging.judge.Reads.{Pre, Post}

@@ -66,11 +66,11 @@ module _ (s : List ℕ) where
   unfolding listed
   listed-length p = bytes-length s (getD s p 0) (p + 1)
 
-  listed-below : (p : ℕ) → List-here 128 s p → (l : ℕ) → Has (listed s p) l → l < 128
+  pub listed-below : (bound p : ℕ) → List-here bound s p → (l : ℕ) → Has (listed s p) l → l < bound
   unfolding listed
-  listed-below p here l h = bytes-below 128 (getD s p 0) (p + 1) l (here .below) h
+  listed-below bound p here l h = bytes-below bound (getD s p 0) (p + 1) l (here .below) h
 
-clear-of : (c : List ℕ) → ((l : ℕ) → Has c l → l < 128) → exclusive c c ≡ false → Clear format c
+pub clear-of : (c : List ℕ) → ((l : ℕ) → Has c l → l < 128) → exclusive c c ≡ false → Clear format c
 unfolding exclusive among
 clear-of c below apart =
     record {
@@ -79,7 +79,7 @@ clear-of c below apart =
     }
 
 written-clear : (s : List ℕ) (p : ℕ) (c : List ℕ) (b : Sequence ℕ) → Branch-written s p c b → Clear format c
-written-clear s p c b w = clear-of c (λ l h. listed-below s p (w .here) l (rw (w .condition) h)) (w .clear)
+written-clear s p c b w = clear-of c (λ l h. listed-below s 128 p (w .here) l (rw (w .condition) h)) (w .clear)
 
 conditions-clear : (s : List ℕ) (p : ℕ) (bs : Branches ℕ) → Branches-written s p bs → (c : List ℕ) → Has (conditions-of bs) c → Clear format c
 unfolding Branches-written conditions-of

@@ -24,13 +24,13 @@ use Rattle.meaning.specs.Derivations.{Line, same-list, same-plan, literals-of, 
 use Rattle.meaning.proofs.TestLaws.{by-test, clash, both-left, both-right, pick-true, pick-false}
 use Rattle.reading.specs.Listed.{bytes-from, listed, List-here}
 use Rattle.reading.specs.Planned.{bytes-of}
-use Rattle.reading.proofs.MarkLaws.{mark-most}
 use Rattle.refusing.specs.Branchings.{sequence-place}
 use Rattle.refusing.specs.Plans.{own-items}
 use Rattle.steps.specs.AtHand.{Marked}
 use Rattle.steps.specs.Steps.{unknown-above, first-of}
 use Rattle.steps.proofs.SmallActions.{Small}
 use Rattle.steps.proofs.SensingLaws.{marked-set, told-true, told-false, unknown-after-set, unknown-first, unknown-first-above, unknown-no-first, sensed-first, sensed-no-first}
+use Rattle.steps.proofs.ToldMarks.{marked-as}
 use Rattle.ruling.specs.declared.readings.Used.{Used}
 use Rattle.ruling.specs.declared.readings.Used.the-variants.{To, Fails}
 use Rattle.ruling.specs.declared.readings.Rest.{Rest}
@@ -41,31 +41,8 @@ use Rattle.ruling.specs.Readings.{lines-at, reads-at, used, fluents-from
 use Rattle.comparing.proofs.CodedLaws.{same-own, same-coded, none-done, coded-length}
 use Rattle.comparing.proofs.CodedPlaces.{Act-there, act-there, branching-there}
 use Rattle.comparing.proofs.PartLaws.{part-bytes}
-
--- TESTS that are put together.
-no-left : (a b : Bool) → a ≡ false → false ≡ both a b
-unfolding both
-no-left a b e = rw e refl
-
-no-right : (a b : Bool) → b ≡ false → false ≡ both a b
-no-right a b e = by-test (both a b) (λ t. clash (both-right a b t) e) sym
-
-yes-left : (a b : Bool) → a ≡ true → both a b ≡ b
-unfolding both
-yes-left a b e = rw e refl
-
--- PARTS. What stands after a plan's count, up to its end, is its items; and so are items that stand by themselves.
-plan-part : (d : List ℕ) (q e : ℕ) (c : Sequence ℕ) → Plan-stands d q e c → take (e - (q + 2)) (drop (q + 2) d) ≡ coded c
-plan-part d q e c w =
-    let ends = w .ends in
-    let size : e - (q + 2) ≡ bytes-of c = omega (arith, ends) in
-    part-bytes d (q + 2) e (omega (arith, ends)) (w .inside) ∙ ap (bytes-from d (q + 2)) size ∙ w .bytes
-
-items-part : (d : List ℕ) (a b count : ℕ) (c : Sequence ℕ) → Items-stand d a b count c → take (b - a) (drop a d) ≡ coded c
-items-part d a b count c w =
-    let ends = w .ends in
-    let size : b - a ≡ bytes-of c = omega (arith, ends) in
-    part-bytes d a b (omega (arith, ends)) (w .inside) ∙ ap (bytes-from d a) size ∙ w .bytes
+use Rattle.comparing.proofs.PlanLaws.{plan-part, items-part}
+use Rattle.ruling.proofs.RuleLaws.{no-left, no-right, yes-left}
 
 -- ONE CITATION, a line at pc, whose plan's count stands at q.
 module _ (d : List ℕ) (pc yc q : ℕ) (after : q ≡ sequence-place d pc) where
@@ -394,37 +371,9 @@ count-settled rest Y fs s cited =
     (λ t. absurd (eqb-false (2 ^ length fs) (length cited) f (sym (states-count fs s) ∙ each-length rest Y (states-of (readings fs s)) cited t)))
     sym)
 
--- THE STATE of a list: a literal that is told sets one of the three marks, or none beyond the last.
-told-marked : (l : ℕ) (s : State) → Marked s → Marked (told l s)
-unfolding told
-told-marked l s marked = record {
-  sized = length-set s (fluent-of l) (mark-of l) ∙ marked .sized;
-  small = λ g. elim (ℕ-discrete g (fluent-of l)) [
-    | yes e ↦ rw e (elim (decLt (fluent-of l) (length s)) [
-      | yes near ↦ rw (getD-set-same s (fluent-of l) (mark-of l) 0 near) (mark-most l)
-      | no far ↦ rw (List·getD-eq-default (set s (fluent-of l) (mark-of l)) 0 {n = fluent-of l} (rw (length-set s (fluent-of l) (mark-of l)) (omega arith))) (omega arith)
-    ])
-    | no d ↦ rw (getD-set-other s (fluent-of l) g (mark-of l) 0 d) (marked .small g)
-  ];
-}
-
-told-all-marked : (ls : List ℕ) (s : State) → Marked s → Marked (told-all ls s)
-unfolding told-all
-told-all-marked [] s marked = marked
-told-all-marked (l ∷ ls) s marked = told-all-marked ls (told l s) (told-marked l s marked)
-
-unknown-marked : Marked (replicate 64 0)
-unknown-marked = record {
-  sized = let none : ℕ = 0 in length-replicate 64 none;
-  small = λ f. let none : ℕ = 0 in elim (decLt f 64) [
-    | yes near ↦ rw (getD-replicate 64 f none none near) (omega arith)
-    | no far ↦ rw (List·getD-eq-default (replicate 64 none) 0 {n = f} (rw (length-replicate 64 none) (omega arith))) (omega arith)
-  ];
-}
-
+-- THE STATE of a list.
 pub X-marked : (d : List ℕ) (p : ℕ) (marks : State) → marks ≡ state-of format (listed d p) → Marked marks
-unfolding state-of
-X-marked d p marks told = rw told (told-all-marked (listed d p) _ unknown-marked)
+X-marked d p marks told = marked-as (listed d p) marks told
 
 -- The states by the first unknown fluent are all.
 sensed-states : (t : Table) (a : ℕ) (marks : State) → Marked marks → (f : ℕ) → f ≡ first-of (unknown-sensed t a marks) → states-from t a marks f ≡ states-of (readings (unknown-sensed t a marks) marks)

@@ -22,13 +22,13 @@ use Rattle.meaning.specs.Derivations.{Line, same-list, same-plan, join, include
 use Rattle.meaning.proofs.TestLaws.{by-test, clash, same-test, both-left, both-right}
 use Rattle.reading.specs.Listed.{listed}
 use Rattle.reading.specs.Planned.{bytes-of}
-use Rattle.reading.proofs.MarkLaws.{mark-most}
 use Rattle.refusing.specs.Branchings.{sequence-place, no-item}
 use Rattle.refusing.specs.Plans.{own-items}
 use Rattle.refusing.proofs.PlanOverlaps.{count-zero}
 use Rattle.steps.specs.AtHand.{request-in, Marked}
 use Rattle.steps.proofs.SmallActions.{Small}
 use Rattle.steps.proofs.SensingLaws.{after-marked}
+use Rattle.steps.proofs.ToldMarks.{marked-as}
 use Rattle.comparing.specs.Coded.{Tellable}
 use Rattle.comparing.specs.Stands.{after-list, Plan-stands, Stands}
 use Rattle.comparing.specs.Rules.{Some-plan, Items-stand, Some-items, Same-plans, Joined-plans, Some-line, Ruled, Ruled-by, Ruled-by-two}
@@ -200,38 +200,10 @@ module _ (d : List ℕ) (p₁ y₁ p₂ y₂ p y : ℕ) (starts : Bool) (first :
                 (yes-left (same-list (b .X) (l .X)) (same-list (b .Y) (c .X)) (sym (begins-is b c l u v w) ∙ begin) ∙ sym (meets-is b c l u v w) ∙ meet));
           }
 
--- STATES. A literal that is told sets one of the three marks, or none beyond the last.
-told-marked : (l : ℕ) (s : State) → Marked s → Marked (told l s)
-unfolding told
-told-marked l s marked = record {
-  sized = length-set s (fluent-of l) (mark-of l) ∙ marked .sized;
-  small = λ g. elim (ℕ-discrete g (fluent-of l)) [
-    | yes e ↦ rw e (elim (decLt (fluent-of l) (length s)) [
-      | yes near ↦ rw (getD-set-same s (fluent-of l) (mark-of l) 0 near) (mark-most l)
-      | no far ↦ rw (List·getD-eq-default (set s (fluent-of l) (mark-of l)) 0 {n = fluent-of l} (rw (length-set s (fluent-of l) (mark-of l)) (omega arith))) (omega arith)
-    ])
-    | no d ↦ rw (getD-set-other s (fluent-of l) g (mark-of l) 0 d) (marked .small g)
-  ];
-}
-
-told-all-marked : (ls : List ℕ) (s : State) → Marked s → Marked (told-all ls s)
-unfolding told-all
-told-all-marked [] s marked = marked
-told-all-marked (l ∷ ls) s marked = told-all-marked ls (told l s) (told-marked l s marked)
-
-unknown-marked : Marked (replicate 64 0)
-unknown-marked = record {
-  sized = let none : ℕ = 0 in length-replicate 64 none;
-  small = λ f. let none : ℕ = 0 in elim (decLt f 64) [
-    | yes near ↦ rw (getD-replicate 64 f none none near) (omega arith)
-    | no far ↦ rw (List·getD-eq-default (replicate 64 none) 0 {n = f} (rw (length-replicate 64 none) (omega arith))) (omega arith)
-  ];
-}
-
+-- STATES.
 module _ (d : List ℕ) (p : ℕ) (marks : State) (first : marks ≡ state-of format (listed d p)) where
   pub first-marked : Marked marks
-  unfolding state-of
-  first-marked = rw first (told-all-marked (listed d p) _ unknown-marked)
+  first-marked = marked-as (listed d p) marks first
 
   pub next-marked : (s : List ℕ) (a : ℕ) (next : State) → next ≡ state-after (request-in s .table) a marks → Marked next
   next-marked s a next then = after-marked (request-in s .table) a marks next first-marked then

@@ -4,7 +4,7 @@ use Prim.Native.Nat.{ℕ, _+_, _-_, _≤_, _<_}
 use native.Mathlib.Omega.{arith}
 use mathlib.Core.Path.{_≡_, refl, sym, _∙_, ap, subst}
 use mathlib.Core.List.{List}
-use lib.ListN.{length, getD, set, length-replicate}
+use lib.ListN.{length, getD, set}
 use lib.Dec.{leb, ltb}
 use borrow.Author.Tests.{ltb-true, ltb-false, leb-true, leb-false, le-leb, lt-leb}
 use Rattle.meaning.specs.Requests.{Sequence, done, item, Item, act, branching, Branches, none, branch, Request}
@@ -18,6 +18,7 @@ use Rattle.refusing.specs.Settled.{blank}
 use Rattle.refusing.proofs.KeptLaws.{kept}
 use Rattle.refusing.proofs.PlanOverlaps.{some-item}
 use Rattle.refusing.proofs.ReadLaws.{Parts, parts, tabled-long, request-held}
+use Rattle.refusing.proofs.SettleLaws.{blank-long}
 use Rattle.steps.specs.AtHand.{request-of, request-in, At-hand}
 use Rattle.steps.specs.Rests.{rest-in, rest-within, rest-under, rest-at, after-first, span, onward, Next, Branches-laid, Inside-laid, Item-laid}
 use Rattle.steps.proofs.NextSlots.{Nexts, Inside-nexts, Under-nexts, nexts-agree, plan-nexts}
@@ -204,10 +205,6 @@ module _ (s t : List ℕ) (plan : Sequence ℕ) (most : items-of plan ≤ 1024) 
       i (omega arith) (omega (arith, less))
 
 -- THE TABLE that reading left.
-blank-long : length blank ≡ 9480
-unfolding blank
-blank-long = let none : ℕ = 0 in length-replicate 9480 none
-
 module _ (s : List ℕ) (bytes : (i : ℕ) → getD s i 0 < 256) (x : Request) (whole : Parts s x) where
   request-nexts : items-of (x .plan) ≤ 1024 → Nexts (request-noted x blank) 1024 0 (x .plan)
   unfolding request-noted places-noted

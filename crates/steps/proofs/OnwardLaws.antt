@@ -5,7 +5,7 @@ use native.Mathlib.Omega.{arith}
 use mathlib.Core.Path.{_≡_, refl, sym, _∙_, ap, subst, fun-ext}
 use mathlib.Core.Bool.{Bool, true, false, false≢true}
 use mathlib.Core.List.{List}
-use lib.ListN.{length, getD, length-replicate}
+use lib.ListN.{length, getD}
 use mir.Syntax.{w64}
 use mir.Val.{Fits}
 use lib.Dec.{leb}
@@ -25,11 +25,13 @@ use Rattle.refusing.specs.Plans.{own-items, branches-in, Item-written, Branches
 use Rattle.refusing.specs.Branchings.{sequence-place, no-item, place-after, item-after, Branches-here, Item-here}
 use Rattle.refusing.specs.Settled.{blank}
 use Rattle.refusing.proofs.ReadLaws.{parts, request-held}
+use Rattle.refusing.proofs.SettleLaws.{blank-long}
 use Rattle.refusing.proofs.OverlapLaws.{branch-first, branches-next}
 use Rattle.refusing.proofs.PlanOverlaps.{count-zero, count-some, some-item, place-is, item-is, plan-here}
-use Rattle.steps.specs.AtHand.{request-of, request-in, At-hand}
+use Rattle.steps.specs.AtHand.{request-in, At-hand}
 use Rattle.steps.specs.Rests.{rest-in, rest-at, after-first, span, onward, Position, Branches-laid, Inside-laid, Item-laid}
 use Rattle.steps.specs.Steps.{walk-from, walk-after, Followed, Into, going-on, Chosen}
+use Rattle.steps.proofs.HandLaws.{request-is}
 use Rattle.steps.proofs.Laid.{item-laid}
 
 -- THE WALK of one sequence after another.
@@ -41,18 +43,10 @@ module _ {S L : Type 0} (step : Steps S L) where
 
 -- THE PLAN is held.
 module _ (s t : List ℕ) (here : At-hand s t) where
-  request-is : request-in s ≡ here .read .request
-  unfolding request-in request-of
-  request-is = ap request-of (here .read .reads)
-
-  blank-long : length blank ≡ 9480
-  unfolding blank
-  blank-long = let none : ℕ = 0 in length-replicate 9480 none
-
   held : Plan-held s t (request-in s .plan)
   held =
       let x : Request = here .read .request in
-      rw request-is
+      rw (request-is s t here)
       (subst (λ (u : List ℕ). Plan-held s u (x .plan)) (sym (here .read .noted)) (request-held s (here .bytes) x (parts s x (here .end) (here .read .reads)) blank blank-long))
 
   pub few-items : items-of (request-in s .plan) ≤ 1024

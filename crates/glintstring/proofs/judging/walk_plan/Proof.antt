@@ -1,7 +1,8 @@
 -- The walk starts in the first state at the first item, and adds its whole to a tally that nothing was walked for; so what the tally tells is the
 -- walk within the budget.
 use borrow.Author.Needs.{needs}
-use Rattle.glintstring.proofs.FirstLaws.{facts-here, first-marked, starts-there}
+use Rattle.steps.proofs.HandLaws.{facts-here}
+use Rattle.glintstring.proofs.FirstLaws.{first-marked, starts-there}
 use Rattle.glintstring.proofs.JudgingLaws.{plan-tallied, plan-judged}
 use Rattle.glintstring.proofs.judging.walk_plan.Statement.{statement}
 use Rattle.glintstring.proofs.judging.walk_plan.Tie as tie
