@@ -10,20 +10,18 @@ use Rattle.meaning.specs.Tests.{both}
 use Rattle.meaning.specs.Limits.{format}
 use Rattle.meaning.specs.Requests.{Table, Sequence, Request, values}
 use Rattle.meaning.specs.Reading
-use Rattle.meaning.specs.Reading.{Got, got, fault, Met, literals, bound-of, count-at, list-at, effect-at, executability-at, knowledge-at, section-at, table-at, plan-at, placed, request-at, read-request}
+use Rattle.meaning.specs.Reading.{Got, got, fault, Met, literals, list-at, table-at, plan-at, placed, request-at, read-request}
 use Rattle.meaning.specs.Derivations.{Line, same-list, same-plan, says, is-question}
 use Rattle.meaning.proofs.SettledLaws.{got-same}
-use Rattle.meaning.proofs.RangeLaws.{not-refused, after-got, count-within}
+use Rattle.meaning.proofs.RangeLaws.{not-refused, after-got}
 use Rattle.reading.specs.Listed.{listed, List-here}
 use Rattle.reading.specs.Planned.{bytes-of}
 use Rattle.reading.specs.Requested.{goals-place, plan-place}
-use Rattle.reading.proofs.SectionLaws.{count-got}
 use Rattle.reading.proofs.PlanSizes.{sequence-read, list-through}
 use Rattle.reading.proofs.RequestLaws.{placed-length}
 use Rattle.refusing.specs.Branchings.{sequence-place}
 use Rattle.refusing.specs.Settled.{blank}
-use Rattle.refusing.proofs.HereLaws.{list-here}
-use Rattle.refusing.proofs.ReadLaws.{Parts, parts, request-parts, plan-noted-at}
+use Rattle.refusing.proofs.ReadLaws.{Parts, parts, plan-noted-at}
 use Rattle.refusing.proofs.SettleLaws.{blank-long}
 use Rattle.steps.specs.AtHand.{request-in, At-hand}
 use Rattle.steps.specs.Lines.{goals-in}
@@ -81,24 +79,24 @@ module _ (s t : List ℕ) (here : At-hand s t) where
   x = here .read .request
 
   pub first-there : 0 < length s
-  first-there = let there = starts s t here .there in omega (arith, there)
+  first-there = let there = starts s t here .front .second in omega (arith, there)
 
   pub second-there : 1 < length s
-  second-there = starts s t here .there
+  second-there = starts s t here .front .second
 
   module _ (n : ℕ) (is : n ≡ getD s 0 0) where
     pub fluents-are : n ≡ request-in s .table .fluents
-    fluents-are = is ∙ starts s t here .fluents
+    fluents-are = is ∙ starts s t here .front .fluents-are
 
     pub fluents-few : n ≤ 64
-    fluents-few = let few = starts s t here .few in let same = fluents-are in omega (arith, few, same)
+    fluents-few = let few = starts s t here .front .most in let same = fluents-are in omega (arith, few, same)
 
   module _ (m : ℕ) (is : m ≡ getD s 1 0) where
     pub actions-are : m ≡ request-in s .table .actions
-    actions-are = is ∙ starts s t here .actions
+    actions-are = is ∙ starts s t here .front .actions-are
 
     pub actions-few : m ≤ 64
-    actions-few = let few = starts s t here .less in let same = actions-are in omega (arith, few, same)
+    actions-few = let few = starts s t here .front .few in let same = actions-are in omega (arith, few, same)
 
   module _ (goals : ℕ) (at-goals : goals ≡ getD t 5381 0) where
     pub goals-here : List-here 128 s goals

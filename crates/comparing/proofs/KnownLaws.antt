@@ -1,10 +1,9 @@
 -- Lists against what a state knows: a list whose state is asked, and the literals of a state listed fluent by fluent. Assumes nothing.
-use Prim.Native.Nat.{ℕ, zero, suc, _+_, _-_, _*_, _≤_, _<_}
+use Prim.Native.Nat.{ℕ, _+_, _-_, _*_, _≤_, _<_}
 use native.Mathlib.Omega.{arith}
-use mathlib.Core.Path.{_≡_, refl, sym, _∙_, ap, subst, fun-ext}
-use mathlib.Core.Bool.{Bool, true, false}
+use mathlib.Core.Path.{_≡_, sym, _∙_, ap, fun-ext}
+use mathlib.Core.Bool.{Bool, false}
 use mathlib.Core.List.{List, [], _∷_}
-use mathlib.Core.Logic.{inl, inr}
 use lib.ListN.{length, getD, drop, drop-of-length-le}
 use lib.Dec.{eqb}
 use mir.Syntax.{w64}
@@ -12,10 +11,10 @@ use mir.Val.{Fits}
 use borrow.Author.Tests.{eqb-true, eqb-false, eq-eqb, ne-eqb}
 use Rattle.meaning.specs.Tests.{both, pick, each-of}
 use Rattle.meaning.specs.Limits.{format}
-use Rattle.meaning.specs.Literals.{says-true, says-false, complement, among, exclusive}
+use Rattle.meaning.specs.Literals.{says-true, says-false, among, exclusive}
 use Rattle.meaning.specs.States.{State, known, state-of}
 use Rattle.meaning.specs.Derivations.{same-list, included, known-from, literals-of}
-use Rattle.meaning.proofs.TestLaws.{by-test, clash, pick-true, pick-false, Has, has-some}
+use Rattle.meaning.proofs.TestLaws.{by-test, pick-true, pick-false}
 use Rattle.meaning.proofs.StateLaws.{known-true, known-false}
 use Rattle.meaning.proofs.ToldLaws.{Clear, state-known}
 use Rattle.reading.specs.declared.marks.Test.the-variants.{Known}

@@ -1,25 +1,22 @@
 -- A walk knows nothing beyond the fluents of its request (FORMAT 4.48): the facts, the literals of effects and the sensed fluents were read below
 -- their bound, so no step sets a mark from there up, and a walk keeps what its steps keep. Assumes nothing.
-use Prim.Native.Nat.{ℕ, _+_, _*_, _≤_, _<_}
+use Prim.Native.Nat.{ℕ, _*_, _≤_, _<_}
 use native.Mathlib.Omega.{arith}
 use native.Mathlib.Decide.{decLt}
-use mathlib.Core.Path.{_≡_, refl, sym, _∙_, ap, subst}
-use mathlib.Core.Bool.{Bool, true, false}
+use mathlib.Core.Path.{_≡_, refl, sym, _∙_}
+use mathlib.Core.Bool.{false}
 use mathlib.Core.List.{List, [], _∷_}
 use mathlib.Core.Logic.{inl, inr, ⊎-elim}
 use lib.ListN.{length, getD, replicate, List·getD-eq-default}
 use lib.Seq.{getD-set-other}
-use borrow.Author.Tests.{eqb-true}
-use Rattle.meaning.specs.Tests.{both, either, fails}
 use Rattle.meaning.specs.Limits
 use Rattle.meaning.specs.Limits.{format}
-use Rattle.meaning.specs.Literals.{says-true, says-false, complement, fluent-of}
-use Rattle.meaning.specs.Requests.{Effect, Knowledge, Table, Request}
-use Rattle.meaning.specs.Lines.{effects-of, knowledge-of, given, senses}
-use Rattle.meaning.specs.States.{State, mark-of, known, possible, told, told-all, state-of, first-state, known-after, mark-after, state-after, unknown-from, unknown-sensed, known-whether}
+use Rattle.meaning.specs.Literals.{says-true, says-false, fluent-of}
+use Rattle.meaning.specs.Requests.{Table, Request}
+use Rattle.meaning.specs.Lines.{effects-of}
+use Rattle.meaning.specs.States.{State, mark-of, known, told, told-all, state-of, first-state, known-after, mark-after, state-after}
 use Rattle.meaning.specs.Walk.{walked}
-use Rattle.meaning.proofs.TestLaws.{by-test, both-left, both-right, clash, either-split, pick-false, Has, some-has, some-those}
-use Rattle.meaning.proofs.PickLaws.{has-picked}
+use Rattle.meaning.proofs.TestLaws.{by-test, both-left, clash, either-split, pick-false, Has}
 use Rattle.meaning.proofs.RangeLaws.{Ranged}
 use Rattle.meaning.proofs.StateLaws.{known-true, known-false, unknown-mark, after-length}
 use Rattle.meaning.proofs.PairLaws.{given-pair, after-mark, caused-within}

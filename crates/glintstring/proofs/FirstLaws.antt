@@ -2,33 +2,27 @@
 -- the first item on is the plan. Assumes nothing.
 use Prim.Native.Nat.{ℕ}
 use native.Mathlib.Omega.{arith}
-use mathlib.Core.Path.{_≡_, refl, sym, _∙_, ap, subst}
+use mathlib.Core.Path.{_≡_, refl, sym, _∙_, ap}
 use mathlib.Core.List.{List}
 use lib.ListN.{getD}
 use lib.Dec.{eqb}
 use borrow.Author.Tests.{eqb-true, eqb-false, eq-eqb, ne-eqb, le-leb}
 use Rattle.meaning.specs.Limits.{format}
-use Rattle.meaning.specs.Requests.{Table, Sequence, done, item, Request}
-use Rattle.meaning.specs.Reading.{Got, got, fault, literals, bound-of, count-at, list-at, effect-at, executability-at, knowledge-at, section-at, table-at, request-at, read-request}
+use Rattle.meaning.specs.Requests.{Sequence, done, item, Request}
 use Rattle.meaning.specs.Derivations.{join}
 use Rattle.meaning.specs.States.{State, state-of, first-state}
 use Rattle.meaning.specs.Walk.{walked}
 use Rattle.meaning.proofs.TestLaws.{by-test, pick-true, pick-false}
-use Rattle.meaning.proofs.SettledLaws.{got-same}
-use Rattle.meaning.proofs.RangeLaws.{not-refused, after-got, count-within}
-use Rattle.reading.specs.Listed.{listed, List-here}
+use Rattle.reading.specs.Listed.{listed}
 use Rattle.reading.specs.Planned.{items-of}
 use Rattle.refusing.specs.Settled.{blank}
-use Rattle.reading.proofs.PlanSizes.{count-through}
 use Rattle.refusing.proofs.PlanOverlaps.{some-item}
-use Rattle.refusing.proofs.HereLaws.{list-here}
-use Rattle.refusing.proofs.ReadLaws.{request-parts, parts, items-noted}
+use Rattle.refusing.proofs.ReadLaws.{parts, items-noted}
 use Rattle.refusing.proofs.SettleLaws.{blank-long}
-use Rattle.steps.specs.AtHand.{request-of, request-in, At-hand, Marked}
+use Rattle.steps.specs.AtHand.{request-in, At-hand}
 use Rattle.steps.specs.Rests.{rest-in, rest-at, Position}
 use Rattle.steps.specs.Steps.{walk-from}
 use Rattle.steps.proofs.HandLaws.{request-is, starts}
-use Rattle.steps.proofs.ToldMarks.{marked-as}
 use Rattle.steps.proofs.OnwardLaws.{few-items}
 use Rattle.glintstring.specs.Telling.{start}
 
@@ -58,9 +52,6 @@ rest-first (item x b) =
 -- A REQUEST at hand.
 module _ (s t : List ℕ) (here : At-hand s t) where
   module _ (marks : State) (is : marks ≡ state-of format (listed s 2)) where
-    pub first-marked : Marked marks
-    first-marked = marked-as (listed s 2) marks is
-
     first-is : marks ≡ first-state format (request-in s .table)
     unfolding first-state
     first-is = is ∙ ap (state-of format) (starts s t here .facts)

@@ -17,8 +17,8 @@ use Rattle.meaning.specs.Literals.{among}
 use Rattle.meaning.specs.Requests.{Request}
 use Rattle.meaning.specs.Reading.{got}
 use Rattle.meaning.specs.Refusals.{settled}
-use Rattle.meaning.specs.States.{State, first-state}
-use Rattle.meaning.specs.Walk.{table-step, missed-in, walked}
+use Rattle.meaning.specs.States.{first-state}
+use Rattle.meaning.specs.Walk.{table-step, missed-in}
 use Rattle.meaning.specs.Judging.{Judgement, within, judge}
 use Rattle.meaning.specs.Approximation.{failed, Φ̂, least}
 use Rattle.meaning.specs.Paths.{paths, walked-along}
@@ -26,14 +26,8 @@ use Rattle.meaning.specs.Worlds.{Carried-out}
 use Rattle.meaning.proofs.AnswerLaws.{answers}
 use Rattle.meaning.proofs.Exact.{count, Entailed, format-room}
 use Rattle.meaning.proofs.Demands
-use Rattle.meaning.proofs.SettledLaws.{settled-is}
-use Rattle.meaning.proofs.RangeLaws.{read-ranged}
-use Rattle.refusing.proofs.StartLaws.{request-starts}
 use Rattle.steps.specs.AtHand.{Marked}
-use Rattle.glintstring.proofs.KeepingLaws.{end-both}
-use Rattle.glintstring.proofs.MarkedLaws.{first-marked, walked-marked}
-use Rattle.glintstring.proofs.BeyondLaws.{Blank-from, walked-blank}
-use Rattle.glintstring.proofs.LentLaws.{judge-kept, judge-leaves}
+use Rattle.glintstring.proofs.LentLaws.{judge-kept, Writes, Written, judge-written}
 use Rattle.glintstring.proofs.judging.judge.Kinds.{ps, r}
 use Rattle.glintstring.proofs.judging.judge.Reads.{Pre, Post}
 
@@ -83,22 +77,7 @@ module _ (κs : Lfts 2) (given : Dens κs ps) where
     -- byte from n up (FORMAT 4.47, 4.48).
     pub written : (answer .number ≡ Limits.goal-missed) ⊎ (answer .number ≡ Limits.not-executable)
         → (x : Request) × (e : ℕ) × (settled format request ≡ got x e) × (getD request 0 0 ≡ x .table .fluents) × Marked (left exit) × ((f : ℕ) → x .table .fluents ≤ f → getD (left exit) f 0 ≡ 0)
-    written is =
-        let w = judge-leaves (λ (x : Request) (s : State). Marked s × Blank-from (x .table .fluents) s) format lent budget request
-        (λ x e past.
-        let reads = settled-is format request x e past .reads in
-        end-both Marked (Blank-from (x .table .fluents)) (walked x (first-state format (x .table)) .end)
-        (walked-marked x (first-state format (x .table)) (first-marked (x .table)))
-        (walked-blank x (read-ranged format request x e reads)))
-        (subst (λ (n : ℕ). (n ≡ Limits.goal-missed) ⊎ (n ≡ Limits.not-executable)) (sym number-is) is) in
-        let same = ap (λ (j : Judgement). j .state) meets in (
-          w .0,
-          w .1,
-          w .2,
-          request-starts request (w .0) (w .1) (settled-is format request (w .0) (w .1) (w .2) .reads) .fluents,
-          subst Marked (sym same) (w .3 .0),
-          subst (Blank-from (w .0 .table .fluents)) (sym same) (w .3 .1),
-        )
+    written = subst (λ (j : Judgement). Writes (j .answer .number) → Written request (j .state)) (sym meets) (judge-written request lent budget)
 
     -- Demand 3 (FORMAT 11.7 to 11.12): a verified plan is carried out in every world with the initial facts, at any budget.
     pub sound : answer .number ≡ Limits.verified → (x : Request) × (e : ℕ) × (settled format request ≡ got x e) × Carried-out x

@@ -18,7 +18,7 @@ use Rattle.meaning.specs.States.{State, known, possible, can-be-run, kno
 use Rattle.meaning.specs.Approximation.{Pair, Disjoint, true-in, false-in, possibly-true, _≼_, executable, caused, e⁺, e⁻, F⁺, F⁻, K, sensing-action, Res}
 use Rattle.meaning.proofs.TestLaws.{by-test, clash, same-test, both-left, both-right, both-true, either-left, either-right, either-split, fails-true, fails-false, pick-true, pick-false, Has, some-has, some-mono, each-mono, some-those}
 use Rattle.meaning.proofs.LiteralLaws.{positive-true, positive-false, fluent-true, fluent-false, complement-true, complement-false, by-literal}
-use Rattle.meaning.proofs.StateLaws.{known-true, known-false, unknown-far, unknown-mark, marks-at, after-length}
+use Rattle.meaning.proofs.StateLaws.{known-true, known-false, unknown-far, marks-at, after-length}
 
 -- WHAT A PAIR SAYS OF THEM.
 module _ (σ : Pair) where

@@ -183,13 +183,14 @@ module _ (s : List ℕ) (x : Table) (p : ℕ) (t : List ℕ) where
       ∙ sym (next-next (plan-at format (x .fluents) (x .actions) s p) _ _)
 
 -- The two counts stand first.
-record Front (s : List ℕ) (x : Table) : Type 0 where
-  second : 1 < length s
-  fluents-are : getD s 0 0 ≡ x .fluents
-  actions-are : getD s 1 0 ≡ x .actions
-  most : x .fluents ≤ 64
+pub record Front (s : List ℕ) (x : Table) : Type 0 where
+  pub second : 1 < length s
+  pub fluents-are : getD s 0 0 ≡ x .fluents
+  pub actions-are : getD s 1 0 ≡ x .actions
+  pub most : x .fluents ≤ 64
+  pub few : x .actions ≤ 64
 
-front : (s : List ℕ) (x : Table) (q : ℕ) → table-at format s 0 ≡ got x q → Front s x
+pub front : (s : List ℕ) (x : Table) (q : ℕ) → table-at format s 0 ≡ got x q → Front s x
 unfolding table-at
 front s x q e =
     after-got (count-at 1 64 s 0) _ e λ n p en e₁.
@@ -207,6 +208,7 @@ front s x q e =
       fluents-are = first .1 ∙ ap (λ (y : Table). y .fluents) is;
       actions-are = ap (λ (y : ℕ). getD s y 0) (sym at-one) ∙ then .1 ∙ ap (λ (y : Table). y .actions) is;
       most = subst (λ (y : ℕ). y ≤ 64) (ap (λ (y : Table). y .fluents) is) (count-within 1 64 s 0 n p en);
+      few = subst (λ (y : ℕ). y ≤ 64) (ap (λ (y : Table). y .actions) is) (count-within 1 64 s p m r em);
     }
 
 module _ (s : List ℕ) (t u : List ℕ) (first : Passed) (read : outcome first u ≡ noting table-noted (table-at format s 0) t) where

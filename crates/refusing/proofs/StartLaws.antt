@@ -1,27 +1,22 @@
 -- Where the parts of a request stand that come first: its counts at places 0 and 1, and its facts at place 2. A count takes one byte, and each
 -- reader starts where the one before it ended. Assumes nothing.
-use Prim.Native.Nat.{ℕ, _≤_, _<_}
+use Prim.Native.Nat.{ℕ}
 use native.Mathlib.Omega.{arith}
 use mathlib.Core.Path.{_≡_, sym, _∙_, ap, subst}
 use mathlib.Core.List.{List}
-use lib.ListN.{length, getD}
 use Rattle.meaning.specs.Limits.{format}
 use Rattle.meaning.specs.Requests.{Table, Request}
-use Rattle.meaning.specs.Reading.{Got, got, fault, literals, bound-of, count-at, list-at, effect-at, executability-at, knowledge-at, section-at, table-at, request-at, read-request}
+use Rattle.meaning.specs.Reading.{got, literals, bound-of, count-at, list-at, effect-at, executability-at, knowledge-at, section-at, table-at, request-at, read-request}
 use Rattle.meaning.proofs.SettledLaws.{got-same}
 use Rattle.meaning.proofs.RangeLaws.{not-refused, after-got, count-within}
 use Rattle.reading.specs.Listed.{listed, List-here}
 use Rattle.reading.proofs.SectionLaws.{count-got}
+use Rattle.reading.proofs.RequestLaws.{Front, front}
 use Rattle.refusing.proofs.HereLaws.{list-here}
 use Rattle.refusing.proofs.ReadLaws.{request-parts}
 
--- THE START of a table that was read.
 pub record Starts (s : List ℕ) (t : Table) : Type 0 where
-  pub there : 1 < length s
-  pub fluents : getD s 0 0 ≡ t .fluents
-  pub actions : getD s 1 0 ≡ t .actions
-  pub few : t .fluents ≤ 64
-  pub less : t .actions ≤ 64
+  pub front : Front s t
   pub here : List-here 128 s 2
   pub facts : listed s 2 ≡ t .facts
 
@@ -35,26 +30,14 @@ table-starts s t p e =
     after-got (section-at (executability-at format n m s) s p₄) _ u₄ λ xs p₅ _ u₅.
     after-got (section-at (knowledge-at format n m s) s p₅) _ u₅ λ ks p₆ _ u₆.
     let few = count-within 1 64 s 0 n p₁ en in
-    let first = count-got 1 64 s 0 n p₁ en in
-    let second = count-got 1 64 s p₁ m p₂ em in
-    let a = first .2 in let b = second .2 in let c = second .0 in
-    let one : p₁ ≡ 1 = omega (arith, a) in
-    let two : p₂ ≡ 2 = omega (arith, a, b) in
+    let first = count-got 1 64 s 0 n p₁ en .2 in let second = count-got 1 64 s p₁ m p₂ em .2 in
+    let two : p₂ ≡ 2 = omega (arith, first, second) in
     let list = list-here literals n s 64 p₂ facts p₃ ef in
-    subst on u₆
-    (record {
-      there = omega (arith, c, one);
-      fluents = first .1;
-      actions = ap (λ (j : ℕ). getD s j 0) (sym one) ∙ second .1;
-      few = few;
-      less = count-within 1 64 s p₁ m p₂ em;
+    record {
+      front = front s t p e;
       here = subst (List-here 128 s) two (list .1 128 (omega (arith, few)));
-      facts = ap (listed s) (sym two) ∙ list .0;
-    })
-  where
-    on : Got Table → Type 0
-    on (got y q) = Starts s y
-    on (fault n q) = Unit {0}
+      facts = ap (listed s) (sym two) ∙ list .0 ∙ ap (λ (x : Table). x .facts) (got-same u₆);
+    }
 
 pub request-starts : (s : List ℕ) (x : Request) (e : ℕ) → read-request format s ≡ got x e → Starts s (x .table)
 unfolding read-request

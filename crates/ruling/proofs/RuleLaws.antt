@@ -2,22 +2,20 @@
 -- Assumes nothing.
 use Prim.Native.Nat.{ℕ, _+_, _*_, _<_}
 use native.Mathlib.Omega.{arith}
-use native.Mathlib.Decide.{ℕ-discrete, decLt}
 use mathlib.Core.Path.{_≡_, refl, sym, _∙_, ap, ap₂, subst}
 use mathlib.Core.Bool.{Bool, true, false}
-use mathlib.Core.List.{List, [], _∷_}
-use lib.ListN.{length, getD, set, replicate, length-set, length-replicate, getD-replicate, List·getD-eq-default}
-use lib.Seq.{getD-set-same, getD-set-other}
+use mathlib.Core.List.{List}
+use lib.ListN.{length, getD}
 use lib.Dec.{eqb}
 use mir.Syntax.{w64}
 use mir.Val.{Fits}
 use borrow.Author.Tests.{eqb-true, eq-eqb}
 use Rattle.meaning.specs.Tests.{both, fails}
 use Rattle.meaning.specs.Limits.{format}
-use Rattle.meaning.specs.Literals.{exclusive, fluent-of}
+use Rattle.meaning.specs.Literals.{exclusive}
 use Rattle.meaning.specs.Requests.{Table, Sequence, done, item, act, branching, Branches}
 use Rattle.meaning.specs.Lines.{sensing}
-use Rattle.meaning.specs.States.{State, mark-of, told, told-all, state-of, can-be-run, state-after}
+use Rattle.meaning.specs.States.{State, state-of, can-be-run, state-after}
 use Rattle.meaning.specs.Derivations.{Line, same-list, same-plan, join, included, literals-of, acts, one-action, rule-1, rule-2, rule-5, rule-6}
 use Rattle.meaning.proofs.TestLaws.{by-test, clash, same-test, both-left, both-right}
 use Rattle.reading.specs.Listed.{listed}
@@ -49,7 +47,7 @@ yes-left a b e = rw e refl
 
 -- A LINE, whose plan's count stands at q.
 module _ (d : List ℕ) (p y q : ℕ) (after : q ≡ sequence-place d p) where
-  plan-of : (l : Line) → Stands d p y l → Plan-stands d q y (l .c)
+  pub plan-of : (l : Line) → Stands d p y l → Plan-stands d q y (l .c)
   unfolding sequence-place after-list
   plan-of l w = subst (λ (j : ℕ). Plan-stands d j y (l .c)) (sym after) (w .plan)
 
@@ -202,14 +200,11 @@ module _ (d : List ℕ) (p₁ y₁ p₂ y₂ p y : ℕ) (starts : Bool) (first :
 
 -- STATES.
 module _ (d : List ℕ) (p : ℕ) (marks : State) (first : marks ≡ state-of format (listed d p)) where
-  pub first-marked : Marked marks
-  first-marked = marked-as (listed d p) marks first
-
   pub next-marked : (s : List ℕ) (a : ℕ) (next : State) → next ≡ state-after (request-in s .table) a marks → Marked next
-  next-marked s a next then = after-marked (request-in s .table) a marks next first-marked then
+  next-marked s a next then = after-marked (request-in s .table) a marks next (marked-as (listed d p) marks first) then
 
 -- RULE 2. An item takes a byte.
-item-bytes : (c : Sequence ℕ) → 0 < own-items c → 0 < bytes-of c
+pub item-bytes : (c : Sequence ℕ) → 0 < own-items c → 0 < bytes-of c
 unfolding own-items bytes-of
 item-bytes done h = absurd (omega arith)
 item-bytes (item (act o a) rest) h = omega arith

@@ -9,7 +9,7 @@ use lib.ListN.{length, getD}
 use mir.Syntax.{w64}
 use mir.Val.{Fits}
 use lib.Dec.{leb}
-use borrow.Author.Tests.{le-leb, lt-leb, le-ltb, leb-true, leb-false}
+use borrow.Author.Tests.{le-leb, lt-leb, leb-true, leb-false}
 use Rattle.meaning.specs.Tests.{each-of}
 use Rattle.meaning.specs.Requests.{Sequence, done, item, Item, act, branching, Branches, none, branch, Request}
 use Rattle.meaning.specs.Derivations.{join}
@@ -20,7 +20,7 @@ use Rattle.reading.specs.Listed.{listed, holds-as}
 use Rattle.reading.specs.declared.marks.Test.the-variants.{Known}
 use Rattle.refusing.specs.declared.refusals.Found as Code
 use Rattle.refusing.specs.declared.refusals.Found.the-variants.{Nowhere, At}
-use Rattle.reading.specs.Planned.{items-of, items-in, bytes-of, place-of}
+use Rattle.reading.specs.Planned.{items-of, bytes-of, place-of}
 use Rattle.refusing.specs.Plans.{own-items, branches-in, Item-written, Branches-written, Plan-held}
 use Rattle.refusing.specs.Branchings.{sequence-place, no-item, place-after, item-after, Branches-here, Item-here}
 use Rattle.refusing.specs.Settled.{blank}
@@ -29,9 +29,10 @@ use Rattle.refusing.proofs.SettleLaws.{blank-long}
 use Rattle.refusing.proofs.OverlapLaws.{branch-first, branches-next}
 use Rattle.refusing.proofs.PlanOverlaps.{count-zero, count-some, some-item, place-is, item-is, plan-here}
 use Rattle.steps.specs.AtHand.{request-in, At-hand}
-use Rattle.steps.specs.Rests.{rest-in, rest-at, after-first, span, onward, Position, Branches-laid, Inside-laid, Item-laid}
+use Rattle.steps.specs.Rests.{rest-at, after-first, span, onward, Position, Branches-laid, Inside-laid, Item-laid}
 use Rattle.steps.specs.Steps.{walk-from, walk-after, Followed, Into, going-on, Chosen}
 use Rattle.steps.proofs.HandLaws.{request-is}
+use Rattle.steps.proofs.RestLaws.{rest-past}
 use Rattle.steps.proofs.Laid.{item-laid}
 
 -- THE WALK of one sequence after another.
@@ -301,19 +302,10 @@ module _ (s t : List ℕ) (i : ℕ) (marks : State) where
         by-branch (branch c d bs) count goes = absurd (omega (arith, over, count))
 
 -- FROM A POSITION. Nothing is left from the plan's end on.
-rest-none : (b : Sequence ℕ) (met i : ℕ) (after : Sequence ℕ) → met + items-of b ≤ i → rest-in b met i after ≡ after
-unfolding rest-in items-of
-rest-none done met i after over = refl
-rest-none (item x b) met i after over =
-    let some = some-item x in
-    pick-false _ _ _ (lt-leb i met (omega (arith, over, some)))
-    ∙ pick-false _ _ _ (le-ltb i (met + items-in x) (omega (arith, over)))
-    ∙ rest-none b (met + items-in x) i after (omega (arith, over))
-
 module _ (s t : List ℕ) (here : At-hand s t) where
   pub end-judged : (marks : State) → walk-from s 1024 marks ≡ judged (request-in s) marks
   unfolding walk-from rest-at walk
-  end-judged marks = let few = few-items s t here in rw (rest-none (request-in s .plan) 0 1024 done (omega (arith, few)))
+  end-judged marks = let few = few-items s t here in rw (rest-past (request-in s .plan) 0 1024 done (omega (arith, few)))
 
   module _ (i : ℕ) (less : i < items-of (request-in s .plan)) (p : ℕ) (is : p ≡ getD t (0 + i) 0) where
     pub item-inside : p < length s

@@ -7,7 +7,7 @@ use mathlib.Core.List.{List}
 use borrow.Author.Tests.{leb-false}
 use Rattle.meaning.specs.Limits.{format}
 use Rattle.meaning.specs.Requests.{Sequence, done, item, Item, act, branching, Branches, none, branch}
-use Rattle.meaning.specs.Reading.{Got, got, Met, byte-at, two-bytes-at, count-at, body-at, item-at, items-at, sequence-at, branches-at, branching-at, plan-at}
+use Rattle.meaning.specs.Reading.{got, Met, byte-at, two-bytes-at, count-at, body-at, item-at, items-at, sequence-at, branches-at, branching-at, plan-at}
 use Rattle.reading.proofs.PlanSizes.{On, got-on, fault-on, pick-on, next-on}
 use Rattle.refusing.proofs.WrittenLaws.{anything}
 
