@@ -10,23 +10,22 @@ use Rattle.meaning.specs.Tests.{both}
 use Rattle.meaning.specs.Limits.{format}
 use Rattle.meaning.specs.Requests.{Table, Sequence, Request, values}
 use Rattle.meaning.specs.Reading
-use Rattle.meaning.specs.Reading.{Got, got, fault, Met, literals, bound-of, count-at, list-at, effect-at, executability-at, knowledge-at, section-at, table-at, plan-at, placed, request-at, read-request}
+use Rattle.meaning.specs.Reading.{Got, got, fault, Met, literals, list-at, table-at, plan-at, placed, request-at, read-request}
 use Rattle.meaning.specs.Derivations.{Line, same-list, same-plan, says, is-question}
 use Rattle.meaning.proofs.SettledLaws.{got-same}
-use Rattle.meaning.proofs.RangeLaws.{not-refused, after-got, count-within}
+use Rattle.meaning.proofs.RangeLaws.{not-refused, after-got}
 use Rattle.reading.specs.Listed.{listed, List-here}
 use Rattle.reading.specs.Planned.{bytes-of}
 use Rattle.reading.specs.Requested.{goals-place, plan-place}
-use Rattle.reading.proofs.SectionLaws.{count-got}
 use Rattle.reading.proofs.PlanSizes.{sequence-read, list-through}
 use Rattle.reading.proofs.RequestLaws.{placed-length}
 use Rattle.refusing.specs.Branchings.{sequence-place}
 use Rattle.refusing.specs.Settled.{blank}
-use Rattle.refusing.proofs.HereLaws.{list-here}
-use Rattle.refusing.proofs.ReadLaws.{Parts, parts, request-parts, plan-noted-at}
+use Rattle.refusing.proofs.ReadLaws.{Parts, parts, plan-noted-at}
 use Rattle.refusing.proofs.SettleLaws.{blank-long}
-use Rattle.steps.specs.AtHand.{request-of, request-in, At-hand}
+use Rattle.steps.specs.AtHand.{request-in, At-hand}
 use Rattle.steps.specs.Lines.{goals-in}
+use Rattle.steps.proofs.HandLaws.{request-is, starts}
 use Rattle.steps.proofs.SlotLaws.{goals-noted}
 use Rattle.steps.proofs.Served.{ends-at-hand}
 use Rattle.comparing.specs.Stands.{after-list, Plan-stands, Stands}
@@ -38,55 +37,6 @@ yes-right : (a b : Bool) → b ≡ true → both a b ≡ a
 unfolding both
 yes-right true b e = e
 yes-right false b e = refl
-
--- THE START of a table that was read.
-record Starts (s : List ℕ) (t : Table) : Type 0 where
-  there : 1 < length s
-  fluents : getD s 0 0 ≡ t .fluents
-  actions : getD s 1 0 ≡ t .actions
-  few : t .fluents ≤ 64
-  less : t .actions ≤ 64
-  here : List-here 128 s 2
-  facts : listed s 2 ≡ t .facts
-
-table-starts : (s : List ℕ) (t : Table) (p : ℕ) → table-at format s 0 ≡ got t p → Starts s t
-unfolding table-at bound-of
-table-starts s t p e =
-    after-got (count-at 1 64 s 0) _ e λ n p₁ en u₁.
-    after-got (count-at 1 64 s p₁) _ u₁ λ m p₂ em u₂.
-    after-got (list-at literals n 64 s p₂) _ u₂ λ facts p₃ ef u₃.
-    after-got (section-at (effect-at format n m s) s p₃) _ u₃ λ es p₄ _ u₄.
-    after-got (section-at (executability-at format n m s) s p₄) _ u₄ λ xs p₅ _ u₅.
-    after-got (section-at (knowledge-at format n m s) s p₅) _ u₅ λ ks p₆ _ u₆.
-    let few = count-within 1 64 s 0 n p₁ en in
-    let first = count-got 1 64 s 0 n p₁ en in
-    let second = count-got 1 64 s p₁ m p₂ em in
-    let a = first .2 in let b = second .2 in let c = second .0 in
-    let one : p₁ ≡ 1 = omega (arith, a) in
-    let two : p₂ ≡ 2 = omega (arith, a, b) in
-    let list = list-here literals n s 64 p₂ facts p₃ ef in
-    subst on u₆
-    (record {
-      there = omega (arith, c, one);
-      fluents = first .1;
-      actions = ap (λ (j : ℕ). getD s j 0) (sym one) ∙ second .1;
-      few = few;
-      less = count-within 1 64 s p₁ m p₂ em;
-      here = subst (List-here 128 s) two (list .1 128 (omega (arith, few)));
-      facts = ap (listed s) (sym two) ∙ list .0;
-    })
-  where
-    on : Got Table → Type 0
-    on (got y q) = Starts s y
-    on (fault n q) = Unit {0}
-
-request-starts : (s : List ℕ) (x : Request) (e : ℕ) → read-request format s ≡ got x e → Starts s (x .table)
-unfolding read-request
-request-starts s x e read =
-    after-got (table-at format s 0) _ (not-refused _ _ _ _ read .1) λ t p et e₁.
-    after-got (request-at format s t p) _ e₁ λ y q ey e₂.
-    subst (λ (z : Request). Starts s (z .table)) (got-same (not-refused _ _ _ _ e₂ .1))
-    (subst (Starts s) (sym (request-parts s t p y q ey .table)) (table-starts s t p et))
 
 -- THE PLAN stands up to the goals.
 record Planned (s : List ℕ) (x : Request) : Type 0 where
@@ -128,36 +78,25 @@ module _ (s t : List ℕ) (here : At-hand s t) where
   x : Request
   x = here .read .request
 
-  request-is : request-in s ≡ x
-  unfolding request-in request-of x
-  request-is = ap request-of (here .read .reads)
-
-  starts : Starts s (request-in s .table)
-  unfolding x
-  starts = rw request-is (request-starts s x (here .end) (here .read .reads))
-
-  pub facts-here : List-here 128 s 2
-  facts-here = starts .here
-
   pub first-there : 0 < length s
-  first-there = let there = starts .there in omega (arith, there)
+  first-there = let there = starts s t here .front .second in omega (arith, there)
 
   pub second-there : 1 < length s
-  second-there = starts .there
+  second-there = starts s t here .front .second
 
   module _ (n : ℕ) (is : n ≡ getD s 0 0) where
     pub fluents-are : n ≡ request-in s .table .fluents
-    fluents-are = is ∙ starts .fluents
+    fluents-are = is ∙ starts s t here .front .fluents-are
 
     pub fluents-few : n ≤ 64
-    fluents-few = let few = starts .few in let same = fluents-are in omega (arith, few, same)
+    fluents-few = let few = starts s t here .front .most in let same = fluents-are in omega (arith, few, same)
 
   module _ (m : ℕ) (is : m ≡ getD s 1 0) where
     pub actions-are : m ≡ request-in s .table .actions
-    actions-are = is ∙ starts .actions
+    actions-are = is ∙ starts s t here .front .actions-are
 
     pub actions-few : m ≤ 64
-    actions-few = let few = starts .less in let same = actions-are in omega (arith, few, same)
+    actions-few = let few = starts s t here .front .few in let same = actions-are in omega (arith, few, same)
 
   module _ (goals : ℕ) (at-goals : goals ≡ getD t 5381 0) where
     pub goals-here : List-here 128 s goals
@@ -179,7 +118,7 @@ module _ (s t : List ℕ) (here : At-hand s t) where
           in
           let goals-are : goals ≡ goals-place x = at-goals ∙ ap (λ (u : List ℕ). getD u 5381 0) (here .read .noted) ∙ goals-noted s (here .bytes) x whole in
           let stands = plan-stands (x .table .fluents) (x .table .actions) s (here .bytes) (whole .of-table .few) (whole .of-table .less) (plan-place x) (w .plan) (goals-place x) (w .reads) in
-          rw (plan-is, goals-are, request-is) (subst (Plan-stands s (plan-place x) (goals-place x)) (w .value) stands)
+          rw (plan-is, goals-are, request-is s t here) (subst (Plan-stands s (plan-place x) (goals-place x)) (w .value) stands)
 
       pub asked-some : Some-plan s asked goals
       asked-some = record { plan = request-in s .plan; stands = asked-stands }
@@ -187,7 +126,7 @@ module _ (s t : List ℕ) (here : At-hand s t) where
   -- THE QUESTION, of a line at p.
   module _ (d : List ℕ) (p y : ℕ) (begins : Bool) (first : begins ≡ same-list (listed d p) (listed s 2)) where
     begins-is : (l : Line) → Stands d p y l → begins ≡ same-list (l .X) (request-in s .table .facts)
-    begins-is l w = first ∙ ap₂ {C = Bool} same-list (w .X .same) (starts .facts)
+    begins-is l w = first ∙ ap₂ {C = Bool} same-list (w .X .same) (starts s t here .facts)
 
     pub other-facts : begins ≡ false → Ruled d p y (is-question (request-in s)) false
     unfolding is-question says

@@ -15,6 +15,7 @@ use Rattle.meaning.proofs.TestLaws.{same-test, both-left, both-right, both-true
 use Rattle.meaning.proofs.DerivationSound.{same-list-is}
 use Rattle.refusing.specs.Plans.{own-items, branches-in}
 use Rattle.reading.specs.Planned.{items-of, bytes-of, bytes-in, bytes-under}
+use Rattle.comparing.proofs.PartLaws.{same-list-equal}
 use Rattle.comparing.specs.Coded.{coded, coded-item, coded-branches, Tellable, Tellable-item, Tellable-branches}
 
 -- LISTS of numbers.
@@ -41,14 +42,6 @@ parted (x ∷ xs) (y ∷ ys) r q h e =
     let rest = parted xs ys r q (omega arith) (tails x y (xs ++ r) (ys ++ q) e) in
     (ap₂ {C = List ℕ} (λ z zs. z ∷ zs) (heads x y (xs ++ r) (ys ++ q) e) (rest .0), rest .1)
 
-pub same-list-self : (xs : List ℕ) → same-list xs xs ≡ true
-unfolding same-list
-same-list-self [] = refl
-same-list-self (x ∷ xs) = both-true _ _ (eq-eqb x x refl) (same-list-self xs)
-
-pub is-same-list : (xs ys : List ℕ) → xs ≡ ys → same-list xs ys ≡ true
-is-same-list xs ys e = rw e (same-list-self ys)
-
 pub same-list-length : (xs ys : List ℕ) → same-list xs ys ≡ true → length xs ≡ length ys
 same-list-length xs ys e = ap length (same-list-is xs ys e)
 
@@ -56,8 +49,8 @@ same-list-length xs ys e = ap length (same-list-is xs ys e)
 pub same-list-parted : (c d r q : List ℕ) → length c ≡ length d → same-list (c ++ r) (d ++ q) ≡ both (same-list c d) (same-list r q)
 same-list-parted c d r q h =
     same-test (same-list (c ++ r) (d ++ q)) (both (same-list c d) (same-list r q))
-    (λ e. let w = parted c d r q h (same-list-is (c ++ r) (d ++ q) e) in both-true _ _ (is-same-list c d (w .0)) (is-same-list r q (w .1)))
-    (λ e. is-same-list (c ++ r) (d ++ q) (ap₂ {C = List ℕ} (λ x y. x ++ y) (same-list-is c d (both-left _ _ e)) (same-list-is r q (both-right _ _ e))))
+    (λ e. let w = parted c d r q h (same-list-is (c ++ r) (d ++ q) e) in both-true _ _ (same-list-equal c d (w .0)) (same-list-equal r q (w .1)))
+    (λ e. same-list-equal (c ++ r) (d ++ q) (ap₂ {C = List ℕ} (λ x y. x ++ y) (same-list-is c d (both-left _ _ e)) (same-list-is r q (both-right _ _ e))))
 
 -- FROM THE BYTES, with anything behind them.
 branch-apart : (c b rest r : List ℕ) → c ++ b ++ rest ++ r ≡ c ++ (b ++ (rest ++ r))
@@ -102,7 +95,7 @@ mutual
       let low : own-items x % 256 ≡ own-items y % 256 = ap head-of (ap tail-of (first .1)) in
       let body = told-sequence x y (omega arith) (t .1) (u .1) (coded-branches bs ++ r) (coded-branches cs ++ q) (ap tail-of (ap tail-of (first .1))) in
       let rest = told-branches bs cs (omega arith) (t .2) (u .2) r q (body .1) in
-      (both-true _ _ (is-same-list c d (first .0)) (both-true _ _ (body .0) (rest .0)), rest .1)
+      (both-true _ _ (same-list-equal c d (first .0)) (both-true _ _ (body .0) (rest .0)), rest .1)
 
 -- TO THE BYTES.
 mutual
@@ -147,7 +140,7 @@ same-bytes b d e = sequence-tells b d e .1
 pub same-coded : (b d : Sequence ℕ) → Tellable b → Tellable d → same-plan b d ≡ both (eqb (own-items b) (own-items d)) (same-list (coded b) (coded d))
 same-coded b d t u =
     same-test (same-plan b d) (both (eqb (own-items b) (own-items d)) (same-list (coded b) (coded d)))
-    (λ e. both-true _ _ (eq-eqb (own-items b) (own-items d) (same-own b d e)) (is-same-list (coded b) (coded d) (same-bytes b d e)))
+    (λ e. both-true _ _ (eq-eqb (own-items b) (own-items d) (same-own b d e)) (same-list-equal (coded b) (coded d) (same-bytes b d e)))
     (λ e. coded-same b d t u (eqb-true (own-items b) (own-items d) (both-left _ _ e)) (same-list-is (coded b) (coded d) (both-right _ _ e)))
 
 -- JOINED PLANS (FORMAT 10.7).

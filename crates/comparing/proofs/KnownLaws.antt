@@ -1,10 +1,9 @@
 -- Lists against what a state knows: a list whose state is asked, and the literals of a state listed fluent by fluent. Assumes nothing.
-use Prim.Native.Nat.{ℕ, zero, suc, _+_, _-_, _*_, _≤_, _<_}
+use Prim.Native.Nat.{ℕ, _+_, _-_, _*_, _≤_, _<_}
 use native.Mathlib.Omega.{arith}
-use mathlib.Core.Path.{_≡_, refl, sym, _∙_, ap, subst, fun-ext}
-use mathlib.Core.Bool.{Bool, true, false}
+use mathlib.Core.Path.{_≡_, sym, _∙_, ap, fun-ext}
+use mathlib.Core.Bool.{Bool, false}
 use mathlib.Core.List.{List, [], _∷_}
-use mathlib.Core.Logic.{inl, inr}
 use lib.ListN.{length, getD, drop, drop-of-length-le}
 use lib.Dec.{eqb}
 use mir.Syntax.{w64}
@@ -12,40 +11,22 @@ use mir.Val.{Fits}
 use borrow.Author.Tests.{eqb-true, eqb-false, eq-eqb, ne-eqb}
 use Rattle.meaning.specs.Tests.{both, pick, each-of}
 use Rattle.meaning.specs.Limits.{format}
-use Rattle.meaning.specs.Literals.{says-true, says-false, complement, among, exclusive}
+use Rattle.meaning.specs.Literals.{says-true, says-false, among, exclusive}
 use Rattle.meaning.specs.States.{State, known, state-of}
 use Rattle.meaning.specs.Derivations.{same-list, included, known-from, literals-of}
-use Rattle.meaning.proofs.TestLaws.{by-test, clash, pick-true, pick-false, Has, has-some}
+use Rattle.meaning.proofs.TestLaws.{by-test, pick-true, pick-false}
 use Rattle.meaning.proofs.StateLaws.{known-true, known-false}
 use Rattle.meaning.proofs.ToldLaws.{Clear, state-known}
 use Rattle.reading.specs.declared.marks.Test.the-variants.{Known}
 use Rattle.reading.specs.Listed.{bytes-from, listed, List-here, holds-as}
 use Rattle.reading.proofs.MarkLaws.{bytes-next, bytes-done}
+use Rattle.refusing.proofs.PlanOverlaps.{listed-below, clear-of}
 use Rattle.steps.specs.AtHand.{Marked}
 use Rattle.comparing.proofs.PartLaws.{drop-next}
 
 -- A LIST in which none stands beside its complement is just what its state knows.
-module _ (bound : ℕ) (s : List ℕ) where
-  bytes-below : (k p l : ℕ) → ((i : ℕ) → i < k → getD s (p + i) 0 < bound) → Has (bytes-from s p k) l → l < bound
-  unfolding bytes-from
-  bytes-below zero p l below h = absurd h
-  bytes-below (suc k) p l below (inl e) = let here : p + 0 ≡ p = omega arith in rw e (subst (λ (j : ℕ). getD s j 0 < bound) here (below 0 (omega arith)))
-  bytes-below (suc k) p l below (inr h) =
-      bytes-below k (p + 1) l (λ i more. let on : p + (i + 1) ≡ p + 1 + i = omega arith in subst (λ (j : ℕ). getD s j 0 < bound) on (below (i + 1) (omega (arith, more)))) h
-
-  pub listed-below : (p l : ℕ) → List-here bound s p → Has (listed s p) l → l < bound
-  unfolding listed
-  listed-below p l here h = bytes-below (getD s p 0) (p + 1) l (here .below) h
-
 pub listed-clear : (s : List ℕ) (p : ℕ) → List-here 128 s p → exclusive (listed s p) (listed s p) ≡ false → Clear format (listed s p)
-unfolding exclusive among
-listed-clear s p here apart =
-    record {
-      within = λ l h. listed-below 128 s p l here h;
-      consistent = λ l h k. clash
-          (has-some (λ (x : ℕ). among (complement x) (listed s p)) (listed s p) l h (has-some (eqb (complement l)) (listed s p) (complement l) k (eq-eqb (complement l) (complement l) refl)))
-          apart;
-    }
+listed-clear s p here apart = clear-of (listed s p) (listed-below s 128 p here) apart
 
 pub within-is : (s : List ℕ) (p : ℕ) (u : List ℕ) (q : ℕ) (marks : State) (r : Bool) → List-here 128 u q → exclusive (listed u q) (listed u q) ≡ false
     → marks ≡ state-of format (listed u q) → r ≡ each-of (holds-as Known marks) (listed s p) → r ≡ included (listed s p) (listed u q)

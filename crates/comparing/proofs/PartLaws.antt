@@ -17,7 +17,7 @@ use Rattle.reading.specs.Listed.{bytes-from, listed, List-here}
 use Rattle.refusing.proofs.HereLaws.{bytes-length}
 
 -- EQUAL LISTS pass, and lists that differ do not.
-pub same-list-self : (xs : List ℕ) → same-list xs xs ≡ true
+same-list-self : (xs : List ℕ) → same-list xs xs ≡ true
 unfolding same-list
 same-list-self [] = refl
 same-list-self (x ∷ xs) = both-true _ _ (eq-eqb x x refl) (same-list-self xs)

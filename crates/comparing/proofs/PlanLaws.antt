@@ -20,13 +20,13 @@ use Rattle.comparing.proofs.CodedLaws.{same-own, same-coded, own-join, 
 use Rattle.comparing.proofs.PartLaws.{part-bytes}
 
 -- PARTS. What stands after a plan's count, up to its end, is its items; and so are items that stand by themselves.
-plan-part : (d : List ℕ) (q e : ℕ) (c : Sequence ℕ) → Plan-stands d q e c → take (e - (q + 2)) (drop (q + 2) d) ≡ coded c
+pub plan-part : (d : List ℕ) (q e : ℕ) (c : Sequence ℕ) → Plan-stands d q e c → take (e - (q + 2)) (drop (q + 2) d) ≡ coded c
 plan-part d q e c w =
     let ends = w .ends in
     let size : e - (q + 2) ≡ bytes-of c = omega (arith, ends) in
     part-bytes d (q + 2) e (omega (arith, ends)) (w .inside) ∙ ap (bytes-from d (q + 2)) size ∙ w .bytes
 
-items-part : (d : List ℕ) (a b count : ℕ) (c : Sequence ℕ) → Items-stand d a b count c → take (b - a) (drop a d) ≡ coded c
+pub items-part : (d : List ℕ) (a b count : ℕ) (c : Sequence ℕ) → Items-stand d a b count c → take (b - a) (drop a d) ≡ coded c
 items-part d a b count c w =
     let ends = w .ends in
     let size : b - a ≡ bytes-of c = omega (arith, ends) in

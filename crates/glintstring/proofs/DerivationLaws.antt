@@ -5,15 +5,13 @@ use mathlib.Core.Path.{_≡_, refl, sym, _∙_, ap, subst}
 use mathlib.Core.Bool.{true, false}
 use mathlib.Core.List.{List, [], _∷_}
 use lib.ListN.{length, getD}
-use mir.Syntax.{w64}
-use mir.Val.{Fits}
 use Rattle.meaning.specs.declared.Answer.{Answer}
-use Rattle.meaning.specs.Tests.{pick, some-of, either}
+use Rattle.meaning.specs.Tests.{some-of, either}
 use Rattle.meaning.specs.Limits
 use Rattle.meaning.specs.Limits.{format}
 use Rattle.meaning.specs.Requests.{Table, Entry, Request}
 use Rattle.meaning.specs.Reading
-use Rattle.meaning.specs.Reading.{Got, got, fault, literals, list-at, placed, plan-at, table-at, request-at, read-request}
+use Rattle.meaning.specs.Reading.{Got, got, fault, literals, list-at, plan-at, table-at, request-at, read-request}
 use Rattle.meaning.specs.Refusals.{settled}
 use Rattle.meaning.specs.Derivations.{check-derivation, answer, accepted-if, check-settled, check}
 use Rattle.meaning.proofs.TestLaws.{pick-true, pick-false}
@@ -29,11 +27,10 @@ use Rattle.reading.specs.Requested.{goals-place, request-noted}
 use Rattle.reading.proofs.SectionLaws.{noting-got, noting-fault}
 use Rattle.reading.proofs.PlanSizes.{list-through}
 use Rattle.reading.proofs.RequestLaws.{placed-length}
-use Rattle.refusing.specs.Settled.{blank}
 use Rattle.refusing.proofs.PlanOverlaps.{listed-length}
-use Rattle.refusing.proofs.SettleLaws.{blank-long}
 use Rattle.steps.specs.AtHand.{request-of, request-in, At-hand}
-use Rattle.steps.specs.Lines.{Ends, goals-in, whether-in}
+use Rattle.steps.specs.Lines.{goals-in, whether-in}
+use Rattle.steps.proofs.HandLaws.{request-is}
 use Rattle.steps.proofs.Served.{ends-at-hand}
 use Rattle.steps.proofs.SlotLaws.{goals-noted}
 use Rattle.refusing.proofs.ReadLaws.{parts}
@@ -62,17 +59,12 @@ whether-room s x e read =
     subst (λ (z : Request). 1 + length (z .goals) ≤ z .whether-place) (got-same (not-refused _ _ _ _ e₂ .1)) (request-room s t p y q ey)
 
 module _ (s t : List ℕ) (here : At-hand s t) where
-  -- The request at hand is the one that was read.
-  request-is : request-in s ≡ here .read .request
-  unfolding request-in request-of
-  request-is = ap request-of (here .read .reads)
-
   goals-there : goals-in t ≡ goals-place (request-in s)
   unfolding goals-in
   goals-there =
       ap (λ (u : List ℕ). getD u 5381 0) (here .read .noted)
       ∙ goals-noted s (here .bytes) (here .read .request) (parts s (here .read .request) (here .end) (here .read .reads))
-      ∙ ap goals-place (sym request-is)
+      ∙ ap goals-place (sym (request-is s t here))
 
   goals-long : length (request-in s .goals) ≡ getD s (goals-in t) 0
   goals-long =
@@ -83,7 +75,7 @@ module _ (s t : List ℕ) (here : At-hand s t) where
   whether-there : whether-in s t ≡ request-in s .whether-place
   unfolding whether-in goals-place
   whether-there =
-      let room = subst (λ (z : Request). 1 + length (z .goals) ≤ z .whether-place) (sym request-is) (whether-room s (here .read .request) (here .end) (here .read .reads)) in
+      let room = subst (λ (z : Request). 1 + length (z .goals) ≤ z .whether-place) (sym (request-is s t here)) (whether-room s (here .read .request) (here .end) (here .read .reads)) in
       let at = goals-there in
       let long = goals-long in
       omega arith
@@ -94,12 +86,6 @@ module _ (s t : List ℕ) (here : At-hand s t) where
     unfolding goals-in
     is-goals = slot
 
-    pub goals-inside : goals < length s
-    goals-inside = let ends = ends-at-hand s t here .goals-here .ends in let is = is-goals in omega arith
-
-    pub after-fits : Fits w64 (length s) → Fits w64 (goals + 1)
-    after-fits long = let most = long .fits in let inside = goals-inside in record { fits = omega arith }
-
     module _ (x : ℕ) (count : x ≡ getD s goals 0) where
       is-whether : goals + 1 + x ≡ whether-in s t
       unfolding whether-in
@@ -107,9 +93,6 @@ module _ (s t : List ℕ) (here : At-hand s t) where
 
       pub whether-inside : goals + 1 + x < length s
       whether-inside = let ends = ends-at-hand s t here .whether-here .ends in let is = is-whether in omega arith
-
-      pub whether-fits : Fits w64 (length s) → Fits w64 (goals + 1 + x)
-      whether-fits long = let most = long .fits in let inside = whether-inside in record { fits = omega arith }
 
 -- A list is asked where it has an entry.
 some-asked : (ws : List Entry) → 0 < length ws → some-of (λ (w : Entry). true) ws ≡ true

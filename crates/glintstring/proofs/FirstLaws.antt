@@ -2,67 +2,29 @@
 -- the first item on is the plan. Assumes nothing.
 use Prim.Native.Nat.{ℕ}
 use native.Mathlib.Omega.{arith}
-use mathlib.Core.Path.{_≡_, refl, sym, _∙_, ap, subst}
+use mathlib.Core.Path.{_≡_, refl, sym, _∙_, ap}
 use mathlib.Core.List.{List}
 use lib.ListN.{getD}
 use lib.Dec.{eqb}
 use borrow.Author.Tests.{eqb-true, eqb-false, eq-eqb, ne-eqb, le-leb}
 use Rattle.meaning.specs.Limits.{format}
-use Rattle.meaning.specs.Requests.{Table, Sequence, done, item, Request}
-use Rattle.meaning.specs.Reading.{Got, got, fault, literals, bound-of, count-at, list-at, effect-at, executability-at, knowledge-at, section-at, table-at, request-at, read-request}
+use Rattle.meaning.specs.Requests.{Sequence, done, item, Request}
 use Rattle.meaning.specs.Derivations.{join}
 use Rattle.meaning.specs.States.{State, state-of, first-state}
 use Rattle.meaning.specs.Walk.{walked}
 use Rattle.meaning.proofs.TestLaws.{by-test, pick-true, pick-false}
-use Rattle.meaning.proofs.SettledLaws.{got-same}
-use Rattle.meaning.proofs.RangeLaws.{not-refused, after-got, count-within}
-use Rattle.reading.specs.Listed.{listed, List-here}
+use Rattle.reading.specs.Listed.{listed}
 use Rattle.reading.specs.Planned.{items-of}
 use Rattle.refusing.specs.Settled.{blank}
-use Rattle.reading.proofs.PlanSizes.{count-through}
 use Rattle.refusing.proofs.PlanOverlaps.{some-item}
-use Rattle.refusing.proofs.HereLaws.{list-here}
-use Rattle.refusing.proofs.ReadLaws.{request-parts, parts, items-noted}
+use Rattle.refusing.proofs.ReadLaws.{parts, items-noted}
 use Rattle.refusing.proofs.SettleLaws.{blank-long}
-use Rattle.steps.specs.AtHand.{request-of, request-in, At-hand, Marked}
+use Rattle.steps.specs.AtHand.{request-in, At-hand}
 use Rattle.steps.specs.Rests.{rest-in, rest-at, Position}
 use Rattle.steps.specs.Steps.{walk-from}
+use Rattle.steps.proofs.HandLaws.{request-is, starts}
 use Rattle.steps.proofs.OnwardLaws.{few-items}
 use Rattle.glintstring.specs.Telling.{start}
-use Rattle.glintstring.proofs.MarkedLaws.{state-marked}
-
--- THE FACTS.
-pub record Facts-at (s : List ℕ) (p : ℕ) (facts : List ℕ) : Type 0 where
-  pub here : List-here 128 s p
-  pub same : listed s p ≡ facts
-
-table-facts : (s : List ℕ) (t : Table) (p : ℕ) → table-at format s 0 ≡ got t p → Facts-at s 2 (t .facts)
-unfolding table-at bound-of
-table-facts s t p e =
-    after-got (count-at 1 64 s 0) _ e λ n p₁ en u₁.
-    after-got (count-at 1 64 s p₁) _ u₁ λ m p₂ em u₂.
-    after-got (list-at literals n 64 s p₂) _ u₂ λ facts p₃ ef u₃.
-    after-got (section-at (effect-at format n m s) s p₃) _ u₃ λ es p₄ _ u₄.
-    after-got (section-at (executability-at format n m s) s p₄) _ u₄ λ xs p₅ _ u₅.
-    after-got (section-at (knowledge-at format n m s) s p₅) _ u₅ λ ks p₆ _ u₆.
-    let few = count-within 1 64 s 0 n p₁ en in
-    let first = count-through s 1 64 0 .holds n p₁ en .after in
-    let second = count-through s 1 64 p₁ .holds m p₂ em .after in
-    let two : p₂ ≡ 2 = omega (arith, first, second) in
-    let list = list-here literals n s 64 p₂ facts p₃ ef in
-    subst on u₆ (subst (λ (q : ℕ). Facts-at s q facts) two (record { here = list .1 128 (omega (arith, few)); same = list .0 }))
-  where
-    on : Got Table → Type 0
-    on (got y q) = Facts-at s 2 (y .facts)
-    on (fault n q) = Unit {0}
-
-request-facts : (s : List ℕ) (x : Request) (e : ℕ) → read-request format s ≡ got x e → Facts-at s 2 (x .table .facts)
-unfolding read-request
-request-facts s x e read =
-    after-got (table-at format s 0) _ (not-refused _ _ _ _ read .1) λ t p et e₁.
-    after-got (request-at format s t p) _ e₁ λ y q ey e₂.
-    subst (λ (z : Request). Facts-at s 2 (z .table .facts)) (got-same (not-refused _ _ _ _ e₂ .1))
-    (subst (λ (z : Table). Facts-at s 2 (z .facts)) (sym (request-parts s t p y q ey .table)) (table-facts s t p et))
 
 -- THE START.
 pub start-end : (items : ℕ) → items ≡ 0 → 1024 ≡ start items
@@ -89,23 +51,10 @@ rest-first (item x b) =
 
 -- A REQUEST at hand.
 module _ (s t : List ℕ) (here : At-hand s t) where
-  request-is : request-in s ≡ here .read .request
-  unfolding request-in request-of
-  request-is = ap request-of (here .read .reads)
-
-  facts-there : Facts-at s 2 (request-in s .table .facts)
-  facts-there = rw request-is (request-facts s (here .read .request) (here .end) (here .read .reads))
-
-  pub facts-here : List-here 128 s 2
-  facts-here = facts-there .here
-
   module _ (marks : State) (is : marks ≡ state-of format (listed s 2)) where
-    pub first-marked : Marked marks
-    first-marked = rw is (state-marked (listed s 2))
-
     first-is : marks ≡ first-state format (request-in s .table)
     unfolding first-state
-    first-is = is ∙ ap (state-of format) (facts-there .same)
+    first-is = is ∙ ap (state-of format) (starts s t here .facts)
 
   module _ (items at : ℕ) (counted : items ≡ getD t 5377 0) (starts : at ≡ start items) where
     items-are : items ≡ items-of (request-in s .plan)
@@ -114,7 +63,7 @@ module _ (s t : List ℕ) (here : At-hand s t) where
         counted
         ∙ ap (λ (u : List ℕ). getD u 5377 0) (here .read .noted)
         ∙ items-noted s (here .bytes) x (parts s x (here .end) (here .read .reads)) blank blank-long
-        ∙ ap (λ (y : Request). items-of (y .plan)) (sym request-is)
+        ∙ ap (λ (y : Request). items-of (y .plan)) (sym (request-is s t here))
 
     at-is : at ≡ start (items-of (request-in s .plan))
     at-is = starts ∙ ap start items-are

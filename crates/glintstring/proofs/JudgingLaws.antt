@@ -32,7 +32,7 @@ use Rattle.steps.specs.Steps.{walk-from}
 use Rattle.walking.specs.Standing.{Standing, nothing, spent, so-far, spend, add, end-in, standing, Going}
 use Rattle.walking.proofs.StandingLaws.{stands-open, end-missed, end-stuck, sized-after}
 use Rattle.glintstring.specs.Telling.{start, told, Tallied}
-use Rattle.glintstring.proofs.MarkedLaws.{End-marked, state-marked, walked-marked}
+use Rattle.glintstring.proofs.MarkedLaws.{End-marked, first-marked, walked-marked}
 use Rattle.glintstring.proofs.FirstLaws.{walks-first}
 
 -- STANDINGS.
@@ -115,7 +115,7 @@ module _ (s t : List ℕ) (here : At-hand s t) (items at : ℕ) (counted : items
   unfolding whole first-state
   plan-tallied =
       tallied budget whole after (sized-after before going (walk-from s at marks) after walks) stands-so
-      (walked-marked (request-in s) (first-state format (request-in s .table)) (state-marked (request-in s .table .facts)))
+      (walked-marked (request-in s) (first-state format (request-in s .table)) (first-marked (request-in s .table)))
 
   pub plan-judged : (lent left : List ℕ) (answer : Answer) → record { answer = answer; state = left } ≡ told lent budget (standing after)
       → record { answer = answer; state = left } ≡ within lent budget (walked (request-in s) (first-state format (request-in s .table)))

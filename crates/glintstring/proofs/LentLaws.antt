@@ -1,16 +1,32 @@
--- The definition writes the lent bytes at answers 1 and 2 only: every other case leaves them. Assumes nothing.
+-- The definition writes the lent bytes at answers 1 and 2 only: every other case leaves them. Those two are of a settled request, since every
+-- fault has another number, and they leave the state where its walk ended, which has what the walk keeps. Assumes nothing.
 use Prim.Native.Nat.{ℕ}
-use mathlib.Core.Path.{_≡_, refl}
+use native.Mathlib.Omega.{arith}
+use mathlib.Core.Path.{_≡_, refl, subst}
+use mathlib.Core.Bool.{true}
 use mathlib.Core.List.{List}
+use mathlib.Core.Logic.{_⊎_, ⊎-elim}
+use lib.ListN.{getD}
+use Rattle.meaning.specs.Tests.{either, some-of}
 use Rattle.meaning.specs.Limits
-use Rattle.meaning.specs.Limits.{Limits}
+use Rattle.meaning.specs.Limits.{Limits, format}
+use Rattle.meaning.specs.Literals.{among}
 use Rattle.meaning.specs.Requests.{Request}
 use Rattle.meaning.specs.Reading.{Got, got, fault}
 use Rattle.meaning.specs.Refusals.{settled}
-use Rattle.meaning.specs.States.{State}
-use Rattle.meaning.specs.Walk.{End, fine, missed, stuck, Walked}
+use Rattle.meaning.specs.States.{State, first-state}
+use Rattle.meaning.specs.Walk.{End, fine, missed, stuck, Walked, walked}
 use Rattle.meaning.specs.Judging.{Judgement, ended, within, judge-settled, judge}
+use Rattle.meaning.proofs.TestLaws.{clash}
 use Rattle.meaning.proofs.PickLaws.{pick-has}
+use Rattle.meaning.proofs.AnswerLaws.{refusals, Numbered-in, settled-numbered}
+use Rattle.meaning.proofs.SettledLaws.{settled-is}
+use Rattle.meaning.proofs.RangeLaws.{read-ranged}
+use Rattle.refusing.proofs.StartLaws.{request-starts}
+use Rattle.steps.specs.AtHand.{Marked}
+use Rattle.glintstring.proofs.KeepingLaws.{End-has, end-both}
+use Rattle.glintstring.proofs.MarkedLaws.{first-marked, walked-marked}
+use Rattle.glintstring.proofs.BeyondLaws.{Blank-from, walked-blank}
 
 module _ (lim : Limits) (lent : List ℕ) (budget : ℕ) where
   abbrev pub Kept : Judgement → Type 0
@@ -34,3 +50,68 @@ module _ (lim : Limits) (lent : List ℕ) (budget : ℕ) where
   pub judge-kept : (request : List ℕ) → Kept (judge lim request lent budget)
   unfolding judge
   judge-kept request = pick-has Kept _ _ _ (λ _. settled-kept (settled lim request)) (λ _ one two. refl)
+
+-- WHAT ANSWERS 1 AND 2 LEAVE.
+abbrev pub Writes : ℕ → Type 0
+Writes n = (n ≡ Limits.goal-missed) ⊎ (n ≡ Limits.not-executable)
+
+verified-writes-nothing : Writes Limits.verified → ⊥
+verified-writes-nothing = ⊎-elim (λ e. omega (arith, e)) (λ e. omega (arith, e))
+
+spent-writes-nothing : Writes Limits.budget-spent → ⊥
+spent-writes-nothing = ⊎-elim (λ e. omega (arith, e)) (λ e. omega (arith, e))
+
+length-writes-nothing : Writes Limits.state-length → ⊥
+length-writes-nothing = ⊎-elim (λ e. omega (arith, e)) (λ e. omega (arith, e))
+
+refusal-writes-nothing : (n : ℕ) → among n refusals ≡ true → Writes n → ⊥
+unfolding among refusals some-of either
+refusal-writes-nothing n refused =
+    ⊎-elim (λ e. clash (subst (λ (k : ℕ). among k refusals ≡ true) e refused) refl) (λ e. clash (subst (λ (k : ℕ). among k refusals ≡ true) e refused) refl)
+
+module _ (P : State → Type 0) (lent : List ℕ) where
+  abbrev Leaves : Judgement → Type 0
+  Leaves j = Writes (j .answer .number) → P (j .state)
+
+  ended-leaves : (c : ℕ) (e : End State) → End-has P e → Leaves (ended lent c e)
+  unfolding ended
+  ended-leaves c fine has writes = absurd (verified-writes-nothing writes)
+  ended-leaves c (missed p s) has writes = has
+  ended-leaves c (stuck p s) has writes = has
+
+  within-leaves : (budget : ℕ) (w : Walked State) → End-has P (w .end) → Leaves (within lent budget w)
+  unfolding within
+  within-leaves budget w has = pick-has Leaves _ _ _ (λ _ writes. absurd (spent-writes-nothing writes)) (λ _. ended-leaves (w .count) (w .end) has)
+
+-- P is said of a request and a state.
+module _ (P : Request → State → Type 0) (lim : Limits) (lent : List ℕ) (budget : ℕ) where
+  abbrev Walk-has : Request → Type 0
+  Walk-has x = End-has (P x) (walked x (first-state lim (x .table)) .end)
+
+  settled-leaves : (g : Got Request) → Numbered-in refusals g → ((x : Request) (e : ℕ) → g ≡ got x e → Walk-has x)
+      → Writes (judge-settled lim lent budget g .answer .number) → (x : Request) × (e : ℕ) × (g ≡ got x e) × P x (judge-settled lim lent budget g .state)
+  unfolding judge-settled
+  settled-leaves (got x e) numbered has writes = (x, e, refl, within-leaves (P x) lent budget (walked x (first-state lim (x .table))) (has x e refl) writes)
+  settled-leaves (fault n p) numbered has writes = absurd (refusal-writes-nothing n numbered writes)
+
+  judge-leaves : (request : List ℕ) → ((x : Request) (e : ℕ) → settled lim request ≡ got x e → Walk-has x)
+      → Writes (judge lim request lent budget .answer .number) → (x : Request) × (e : ℕ) × (settled lim request ≡ got x e) × P x (judge lim request lent budget .state)
+  unfolding judge
+  judge-leaves request has =
+      pick-has (λ (j : Judgement). Writes (j .answer .number) → (x : Request) × (e : ℕ) × (settled lim request ≡ got x e) × P x (j .state)) _ _ _
+      (λ _. settled-leaves (settled lim request) (settled-numbered refusals (λ n h. h) lim request) has)
+      (λ _ writes. absurd (length-writes-nothing writes))
+
+-- Of that request, n fluents by its first byte: 64 marks, and none of them from n up.
+abbrev pub Written : (request left : List ℕ) → Type 0
+Written request left =
+    (x : Request) × (e : ℕ) × (settled format request ≡ got x e) × (getD request 0 0 ≡ x .table .fluents) × Marked left × Blank-from (x .table .fluents) left
+
+pub judge-written : (request lent : List ℕ) (budget : ℕ) → Writes (judge format request lent budget .answer .number) → Written request (judge format request lent budget .state)
+judge-written request lent budget writes =
+    let w = judge-leaves (λ (x : Request) (s : State). Marked s × Blank-from (x .table .fluents) s) format lent budget request
+    (λ x e past.
+    let from : State = first-state format (x .table) in
+    end-both Marked (Blank-from (x .table .fluents)) (walked x from .end) (walked-marked x from (first-marked (x .table))) (walked-blank x (read-ranged format request x e (settled-is format request x e past .reads))))
+    writes in
+    (w .0, w .1, w .2, request-starts request (w .0) (w .1) (settled-is format request (w .0) (w .1) (w .2) .reads) .front .fluents-are, w .3)

@@ -1,5 +1,7 @@
 pub mod TellingLaws
+pub mod KeepingLaws
 pub mod MarkedLaws
+pub mod BeyondLaws
 pub mod FirstLaws
 pub mod JudgingLaws
 pub mod LentLaws

@@ -4,8 +4,8 @@ use Prim.Native.Nat.{ℕ, _≤_, _<_}
 use mathlib.Core.Path.{_≡_, sym, _∙_, ap, subst}
 use mathlib.Core.Bool.{true}
 use mathlib.Core.List.{List}
-use mathlib.Core.Logic.{_↔_}
-use lib.ListN.{length}
+use mathlib.Core.Logic.{_↔_, _⊎_}
+use lib.ListN.{length, getD}
 use contract.Lifetimes.{Lfts}
 use borrow.Fn.Kinds.{Dens, endedOf}
 use denote.Ref.{now}
@@ -26,7 +26,8 @@ use Rattle.meaning.specs.Worlds.{Carried-out}
 use Rattle.meaning.proofs.AnswerLaws.{answers}
 use Rattle.meaning.proofs.Exact.{count, Entailed, format-room}
 use Rattle.meaning.proofs.Demands
-use Rattle.glintstring.proofs.LentLaws.{judge-kept}
+use Rattle.steps.specs.AtHand.{Marked}
+use Rattle.glintstring.proofs.LentLaws.{judge-kept, Writes, Written, judge-written}
 use Rattle.glintstring.proofs.judging.judge.Kinds.{ps, r}
 use Rattle.glintstring.proofs.judging.judge.Reads.{Pre, Post}
 
@@ -71,6 +72,12 @@ module _ (κs : Lfts 2) (given : Dens κs ps) where
     -- The lent bytes are written by answers 1 and 2 and by no other (FORMAT 4.45, 4.49).
     pub kept : (answer .number ≡ Limits.goal-missed → ⊥) → (answer .number ≡ Limits.not-executable → ⊥) → left exit ≡ lent
     kept one two = ap (λ (j : Judgement). j .state) meets ∙ judge-kept format lent budget request (λ e. one (sym number-is ∙ e)) (λ e. two (sym number-is ∙ e))
+
+    -- Those two are of a settled request, whose first byte is its number of fluents n. They leave 64 bytes of marks 0, 1 and 2, and 0 in every
+    -- byte from n up (FORMAT 4.47, 4.48).
+    pub written : (answer .number ≡ Limits.goal-missed) ⊎ (answer .number ≡ Limits.not-executable)
+        → (x : Request) × (e : ℕ) × (settled format request ≡ got x e) × (getD request 0 0 ≡ x .table .fluents) × Marked (left exit) × ((f : ℕ) → x .table .fluents ≤ f → getD (left exit) f 0 ≡ 0)
+    written = subst (λ (j : Judgement). Writes (j .answer .number) → Written request (j .state)) (sym meets) (judge-written request lent budget)
 
     -- Demand 3 (FORMAT 11.7 to 11.12): a verified plan is carried out in every world with the initial facts, at any budget.
     pub sound : answer .number ≡ Limits.verified → (x : Request) × (e : ℕ) × (settled format request ≡ got x e) × Carried-out x

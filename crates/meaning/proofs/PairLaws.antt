@@ -18,7 +18,7 @@ use Rattle.meaning.specs.States.{State, known, possible, can-be-run, kno
 use Rattle.meaning.specs.Approximation.{Pair, Disjoint, true-in, false-in, possibly-true, _≼_, executable, caused, e⁺, e⁻, F⁺, F⁻, K, sensing-action, Res}
 use Rattle.meaning.proofs.TestLaws.{by-test, clash, same-test, both-left, both-right, both-true, either-left, either-right, either-split, fails-true, fails-false, pick-true, pick-false, Has, some-has, some-mono, each-mono, some-those}
 use Rattle.meaning.proofs.LiteralLaws.{positive-true, positive-false, fluent-true, fluent-false, complement-true, complement-false, by-literal}
-use Rattle.meaning.proofs.StateLaws.{known-true, known-false, unknown-far, unknown-mark, marks-at, after-length}
+use Rattle.meaning.proofs.StateLaws.{known-true, known-false, unknown-far, marks-at, after-length}
 
 -- WHAT A PAIR SAYS OF THEM.
 module _ (σ : Pair) where
@@ -150,7 +150,7 @@ module _ (t : Table) (a : ℕ) where
   unfolding K senses knowledge-of
   senses-pair f = sym (some-those _ _ (t .knowledge))
 
-  given-pair : (test : ℕ → Bool) (l : ℕ) → caused t a test l ≡ given test (effects-of t a) l
+  pub given-pair : (test : ℕ → Bool) (l : ℕ) → caused t a test l ≡ given test (effects-of t a) l
   unfolding caused given effects-of
   given-pair test l = sym (some-those _ _ (t .effects))
 
@@ -186,18 +186,19 @@ pub after-mark : (t : Table) (a : ℕ) (s : State) (f : ℕ) → f < length s �
 unfolding state-after
 after-mark t a s f near = marks-at (effects-of t a) s 0 s f near ∙ ap (mark-after (effects-of t a) s) (omega arith)
 
-module _ (t : Table) (a : ℕ) (s : State) (within : (e : Effect) → Has (t .effects) e → e .literal < 2 * length s) where
-  caused-within : (test : ℕ → Bool) (l : ℕ) → 2 * length s ≤ l → caused t a test l ≡ false
-  unfolding caused
-  caused-within test l far =
-      by-test _
-      (λ e.
-      let w = some-has _ (t .effects) e in
-      let same : w .0 .literal ≡ l = eqb-true _ _ (both-left _ _ (both-right _ _ (w .2))) in
-      let near = within (w .0) (w .1) in
-      absurd (omega arith))
-      (λ e. e)
+-- What effects give is below the bound of their literals.
+pub caused-within : (t : Table) (a n : ℕ) → ((e : Effect) → Has (t .effects) e → e .literal < 2 * n) → (test : ℕ → Bool) (l : ℕ) → 2 * n ≤ l → caused t a test l ≡ false
+unfolding caused
+caused-within t a n within test l far =
+    by-test _
+    (λ e.
+    let w = some-has _ (t .effects) e in
+    let same : w .0 .literal ≡ l = eqb-true _ _ (both-left _ _ (both-right _ _ (w .2))) in
+    let near = within (w .0) (w .1) in
+    absurd (omega arith))
+    (λ e. e)
 
+module _ (t : Table) (a : ℕ) (s : State) (within : (e : Effect) → Has (t .effects) e → e .literal < 2 * length s) where
   abbrev Known-as-in-Res : ℕ → Type 0
   Known-as-in-Res f = (known (state-after t a s) (says-true f) ≡ Res t a (pair-of s) .T f) × (known (state-after t a s) (says-false f) ≡ Res t a (pair-of s) .F f)
 
@@ -216,8 +217,8 @@ module _ (t : Table) (a : ℕ) (s : State) (within : (e : Effect) → Has (t .ef
   known-far f far =
       let now = unknown-far s f far in
       let later = unknown-far (state-after t a s) f (rw (after-length t a s) far) in (
-        later .0 ∙ rw (now .0, caused-within (true-in (pair-of s)) (2 * f) (omega arith)),
-        later .1 ∙ rw (now .1, caused-within (true-in (pair-of s)) (2 * f + 1) (omega arith)),
+        later .0 ∙ rw (now .0, caused-within t a (length s) within (true-in (pair-of s)) (2 * f) (omega arith)),
+        later .1 ∙ rw (now .1, caused-within t a (length s) within (true-in (pair-of s)) (2 * f + 1) (omega arith)),
       )
 
   -- The state after a non-sensing action is the action's result.

@@ -117,26 +117,27 @@ unknown-neither s =
     (λ f. rw (fluent-true f) (λ e. by-test _ (λ k. clash (either-left _ _ k) e) (λ k. k)))
     (λ f. rw (fluent-false f) (λ e. by-test _ (λ k. clash (either-right _ _ k) e) (λ k. k)))
 
-module _ (t : Table) (a : ℕ) (s : State) (within : (k : Knowledge) → Has (t .knowledge) k → k .fluent < length s) where
-  sensed-within : (f : ℕ) → K t a f ≡ true → f < length s
-  unfolding K
-  sensed-within f e =
-      let w = some-has _ (t .knowledge) e in subst (λ (g : ℕ). g < length s) (eqb-true _ _ (both-right _ _ (w .2))) (within (w .0) (w .1))
+-- What is sensed is below the bound of the fluents of knowledge lines.
+pub sensed-within : (t : Table) (a n : ℕ) → ((k : Knowledge) → Has (t .knowledge) k → k .fluent < n) → (f : ℕ) → K t a f ≡ true → f < n
+unfolding K
+sensed-within t a n within f e = let w = some-has _ (t .knowledge) e in subst (λ (g : ℕ). g < n) (eqb-true _ _ (both-right _ _ (w .2))) (within (w .0) (w .1))
 
-  -- The fluents read are those sensed and unknown.
+-- What is read is within the state, sensed and unknown.
+pub read-is : (t : Table) (a : ℕ) (s : State) (f : ℕ) → Has (unknown-sensed t a s) f → (f < length s) × (K t a f ≡ true) × (known-whether s f ≡ false)
+unfolding unknown-sensed
+read-is t a s f h = let u = unknown-has (knowledge-of t a) s 0 s f h in (omega (arith, u .below), senses-pair t a f ∙ u .sensed, u .unknown)
+
+module _ (t : Table) (a : ℕ) (s : State) (within : (k : Knowledge) → Has (t .knowledge) k → k .fluent < length s) where
+  -- And whatever is sensed and unknown is read.
   is-read : (f : ℕ) → K t a f ≡ true → known-whether s f ≡ false → Has (unknown-sensed t a s) f
   unfolding unknown-sensed
   is-read f e u =
       has-unknown (knowledge-of t a) s 0 s f
-      (record { above = omega arith; below = omega (arith, sensed-within f e); sensed = sym (senses-pair t a f) ∙ e; unknown = u })
-
-  read-is : (f : ℕ) → Has (unknown-sensed t a s) f → (f < length s) × (K t a f ≡ true) × (known-whether s f ≡ false)
-  unfolding unknown-sensed
-  read-is f h = let u = unknown-has (knowledge-of t a) s 0 s f h in (omega (arith, u .below), senses-pair t a f ∙ u .sensed, u .unknown)
+      (record { above = omega arith; below = omega (arith, sensed-within t a (length s) within f e); sensed = sym (senses-pair t a f) ∙ e; unknown = u })
 
   module _ (ls : List ℕ) (one-each : map fluent-of ls ≡ unknown-sensed t a s) where
     told-read : (l : ℕ) → Has ls l → (fluent-of l < length s) × (K t a (fluent-of l) ≡ true) × (known-whether s (fluent-of l) ≡ false)
-    told-read l h = read-is (fluent-of l) (subst (λ (fs : List ℕ). Has fs (fluent-of l)) one-each (has-map fluent-of ls l h))
+    told-read l h = read-is t a s (fluent-of l) (subst (λ (fs : List ℕ). Has fs (fluent-of l)) one-each (has-map fluent-of ls l h))
 
     can-be-told : Tellable s ls
     unfolding unknown-sensed
@@ -211,5 +212,5 @@ module _ (t : Table) (a : ℕ) (s : State) (within : (k : Knowledge) → Has (t 
   pub reading-follows : (δ : Pair) → pair-of s ≼ δ → ((f : ℕ) → K t a f ≡ true → either (δ .T f) (δ .F f) ≡ true)
       → (u : State) × Ends (arrivals (readings (unknown-sensed t a s) s)) (arrives u) × (length u ≡ length s) × (pair-of u ≼ δ)
   reading-follows δ more valued =
-      let w = followed δ (unknown-sensed t a s) (λ f h. valued f (read-is f h .1)) in
+      let w = followed δ (unknown-sensed t a s) (λ f h. valued f (read-is t a s f h .1)) in
       (told-all (w .0) s, subst (λ (fs : List ℕ). Ends (arrivals (readings fs s)) (arrives (told-all (w .0) s))) (w .1) (readings-to (w .0) s), told-all-length (w .0) s, reading-below (w .0) (w .1) δ more (w .2))

@@ -22,13 +22,14 @@ use Rattle.reading.proofs.RequestLaws.{next-next, plan-whole}
 use Rattle.reader.specs.Sections.{sections-read}
 
 -- THE SECTIONS. The two counts stand first.
-record Front (s : List ℕ) (p : ℕ) (x : Table) : Type 0 where
-  second : p + 1 < length s
-  fluents-are : getD s p 0 ≡ x .fluents
-  actions-are : getD s (p + 1) 0 ≡ x .actions
-  most : x .fluents ≤ 64
+pub record Front (s : List ℕ) (p : ℕ) (x : Table) : Type 0 where
+  pub second : p + 1 < length s
+  pub fluents-are : getD s p 0 ≡ x .fluents
+  pub actions-are : getD s (p + 1) 0 ≡ x .actions
+  pub most : x .fluents ≤ 64
+  pub few : x .actions ≤ 64
 
-front : (s : List ℕ) (p : ℕ) (x : Table) (e : ℕ) → table-at format s p ≡ got x e → Front s p x
+pub front : (s : List ℕ) (p : ℕ) (x : Table) (e : ℕ) → table-at format s p ≡ got x e → Front s p x
 unfolding table-at
 front s p x e is =
     after-got (count-at 1 64 s p) _ is λ n q en e₁.
@@ -46,6 +47,7 @@ front s p x e is =
       fluents-are = first .1 ∙ ap (λ (y : Table). y .fluents) same;
       actions-are = ap (λ (y : ℕ). getD s y 0) (sym after) ∙ then .1 ∙ ap (λ (y : Table). y .actions) same;
       most = subst (λ (y : ℕ). y ≤ 64) (ap (λ (y : Table). y .fluents) same) (count-within 1 64 s p n q en);
+      few = subst (λ (y : ℕ). y ≤ 64) (ap (λ (y : Table). y .actions) same) (count-within 1 64 s q m r em);
     }
 
 module _ (s : List ℕ) (p : ℕ) (t u : List ℕ) (first : Passed) (read : outcome first u ≡ noting table-noted (table-at format s p) t) where

@@ -7,4 +7,5 @@ pub mod OverlapLaws
 pub mod PlanOverlaps
 pub mod WrittenLaws
 pub mod ReadLaws
+pub mod StartLaws
 pub mod SettleLaws

@@ -9,16 +9,15 @@ use mathlib.Core.Logic.{inl, inr}
 use lib.ListN.{length, getD}
 use lib.Dec.{eqb, ltb}
 use borrow.Author.Tests.{eq-eqb, eqb-true, eqb-false, ltb-true, ltb-false}
-use Rattle.meaning.specs.Tests.{both, either, fails, pick, some-of, each-of}
+use Rattle.meaning.specs.Tests.{both, fails, pick}
 use Rattle.meaning.specs.Limits.{format}
 use Rattle.meaning.specs.Literals.{complement, among, exclusive}
 use Rattle.meaning.specs.Requests.{Sequence, done, item, Item, act, branching, Branches, none, branch}
 use Rattle.meaning.specs.Refusals.{Found, nowhere, at, or-else, conditions-of, all-exclusive, overlap-in, overlap-at, overlap-below}
-use Rattle.meaning.specs.States.{state-of, possible}
+use Rattle.meaning.specs.States.{state-of}
 use Rattle.meaning.proofs.TestLaws.{by-test, clash, both-left, both-right, pick-true, pick-false, Has, has-some}
 use Rattle.meaning.proofs.RefusalLaws.{exclusive-sym}
-use Rattle.meaning.proofs.ToldLaws.{Clear, state-known}
-use Rattle.reading.specs.declared.marks.Test.the-variants.{Possible}
+use Rattle.meaning.proofs.ToldLaws.{Clear}
 use Rattle.reading.specs.Listed.{bytes-from, listed, List-here, holds-as}
 use Rattle.reading.specs.Planned.{items-of, items-in, items-under, bytes-of}
 use Rattle.refusing.specs.InTable.{found}
@@ -27,22 +26,17 @@ use Rattle.refusing.specs.Plans.{own-items, branches-in, Act-written, Op
 use Rattle.refusing.specs.declared.refusals.Found as Code
 use Rattle.refusing.proofs.HereLaws.{bytes-length}
 use Rattle.refusing.proofs.OverlapLaws.{overlap-first, item-other}
+use Rattle.refusing.proofs.RefusalLaws.{possible-each}
 
 -- CONDITIONS that are clear: a state of one rules out what the condition excludes.
-not-both : (a e : Bool) → fails (both (fails a) e) ≡ either a (fails e)
-unfolding fails both either
-not-both true e = refl
-not-both false e = refl
+fails-twice : (a : Bool) → fails (fails a) ≡ a
+unfolding fails
+fails-twice true = refl
+fails-twice false = refl
 
-module _ (c : List ℕ) (clear : Clear format c) where
-  possible-is : (l : ℕ) → holds-as Possible (state-of format c) l ≡ fails (among (complement l) c)
-  unfolding holds-as possible
-  possible-is l = ap fails (state-known format c clear (complement l))
-
-  out-is : (d : List ℕ) → rules-out (state-of format c) d ≡ exclusive d c
-  unfolding rules-out exclusive each-of some-of fails
-  out-is [] = refl
-  out-is (l ∷ ls) = rw (possible-is l) (not-both (among (complement l) c) _ ∙ ap (either (among (complement l) c)) (out-is ls))
+out-is : (c : List ℕ) → Clear format c → (d : List ℕ) → rules-out (state-of format c) d ≡ exclusive d c
+unfolding rules-out holds-as exclusive
+out-is c clear d = ap fails (possible-each c clear d) ∙ fails-twice (exclusive d c)
 
 pub apart-is : (cs : List (List ℕ)) → ((c : List ℕ) → Has cs c → Clear format c) → all-apart cs ≡ all-exclusive cs
 unfolding all-apart all-exclusive
@@ -66,11 +60,11 @@ module _ (s : List ℕ) where
   unfolding listed
   listed-length p = bytes-length s (getD s p 0) (p + 1)
 
-  listed-below : (p : ℕ) → List-here 128 s p → (l : ℕ) → Has (listed s p) l → l < 128
+  pub listed-below : (bound p : ℕ) → List-here bound s p → (l : ℕ) → Has (listed s p) l → l < bound
   unfolding listed
-  listed-below p here l h = bytes-below 128 (getD s p 0) (p + 1) l (here .below) h
+  listed-below bound p here l h = bytes-below bound (getD s p 0) (p + 1) l (here .below) h
 
-clear-of : (c : List ℕ) → ((l : ℕ) → Has c l → l < 128) → exclusive c c ≡ false → Clear format c
+pub clear-of : (c : List ℕ) → ((l : ℕ) → Has c l → l < 128) → exclusive c c ≡ false → Clear format c
 unfolding exclusive among
 clear-of c below apart =
     record {
@@ -79,7 +73,7 @@ clear-of c below apart =
     }
 
 written-clear : (s : List ℕ) (p : ℕ) (c : List ℕ) (b : Sequence ℕ) → Branch-written s p c b → Clear format c
-written-clear s p c b w = clear-of c (λ l h. listed-below s p (w .here) l (rw (w .condition) h)) (w .clear)
+written-clear s p c b w = clear-of c (λ l h. listed-below s 128 p (w .here) l (rw (w .condition) h)) (w .clear)
 
 conditions-clear : (s : List ℕ) (p : ℕ) (bs : Branches ℕ) → Branches-written s p bs → (c : List ℕ) → Has (conditions-of bs) c → Clear format c
 unfolding Branches-written conditions-of

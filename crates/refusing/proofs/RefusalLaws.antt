@@ -25,7 +25,6 @@ use Rattle.meaning.proofs.LiteralLaws.{complement-other, fluent-complement, sam
 use Rattle.meaning.proofs.RefusalLaws.{exclusive-sym}
 use Rattle.meaning.proofs.ToldLaws.{Clear, state-known}
 use Rattle.reading.specs.declared.marks.Test.the-variants.{Possible}
-use Rattle.refusing.specs.declared.refusals.Found.{Found}
 use Rattle.refusing.specs.declared.refusals.Found.the-variants.{Nowhere, At}
 use Rattle.reading.specs.Listed.{bytes-from, listed, List-here, holds-as}
 use Rattle.refusing.specs.InTable.{found, knowledge-from, knowledge-in, Knowledge-here, Acting, Mixed-found, effect-from, Effect-here, place-in, effects-in, effects-before, Effects-here, pair-at, Last, Linked, pair-linked}
@@ -68,7 +67,7 @@ possible-is : (b : List ℕ) → Clear format b → (l : ℕ) → possible (stat
 unfolding possible
 possible-is b clear l = ap fails (state-known format b clear (complement l))
 
-possible-each : (b : List ℕ) → Clear format b → (c : List ℕ) → each-of (possible (state-of format b)) c ≡ fails (some-of (λ (l : ℕ). among (complement l) b) c)
+pub possible-each : (b : List ℕ) → Clear format b → (c : List ℕ) → each-of (possible (state-of format b)) c ≡ fails (some-of (λ (l : ℕ). among (complement l) b) c)
 unfolding each-of some-of fails
 possible-each b clear [] = refl
 possible-each b clear (l ∷ c) = rw (possible-each b clear c, possible-is b clear l) (fails-either (among (complement l) b) (some-of (λ (k : ℕ). among (complement k) b) c))

@@ -30,7 +30,7 @@ use Rattle.refusing.proofs.PlanKept.{plan-kept}
 on-both : {A : Type 0} {P Q : A → ℕ → Type 0} (g : Got A) → On g P → On g Q → On g (λ x q. P x q × Q x q)
 on-both g h k = record { holds = λ x q e. (h .holds x q e, k .holds x q e) }
 
-anything : {A : Type 0} (g : Got A) → On g (λ _ _. Unit {0})
+pub anything : {A : Type 0} (g : Got A) → On g (λ _ _. Unit {0})
 anything g = record { holds = λ _ _ _. tt }
 
 -- BYTES AND NUMBERS.

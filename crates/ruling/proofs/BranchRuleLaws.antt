@@ -39,6 +39,7 @@ use Rattle.comparing.proofs.CodedLaws.{coded-length, own-most, none-done}
 use Rattle.comparing.proofs.CodedPlaces.{branch-coded, act-there, Branching-coded, branching-there}
 use Rattle.comparing.proofs.KnownLaws.{listed-clear}
 use Rattle.comparing.proofs.StandLaws.{Line-parts, line-parts}
+use Rattle.ruling.proofs.RuleLaws.{plan-of, item-bytes}
 
 -- THE PLACE after so many branches.
 module _ (d t : List ℕ) where
@@ -299,13 +300,6 @@ module _ (cited l : Line) where
         let asked : known (state-of format (l .X)) ≡ (λ (x : ℕ). among x (l .X)) = fun-ext (state-known format (l .X) clear) in
         rw (says-is (join b rest), takes-same clear bs rest) (ap (λ (test : ℕ → Bool). either (both (each-of test c) (same-plan (cited .c) (join b rest))) (takes-branch (l .X) bs rest (l .Y) cited)) asked)
 
--- A sequence with an item has a byte.
-own-bytes : (b : Sequence ℕ) → 0 < own-items b → 0 < bytes-of b
-unfolding own-items bytes-of bytes-in
-own-bytes done h = absurd (omega (arith, h))
-own-bytes (item (act p a) rest) h = omega arith
-own-bytes (item (branching p bs) rest) h = omega arith
-
 -- THE FIRST ITEM of a plan that was read stands after the plan's count.
 abbrev First-at : ℕ → Sequence ℕ → Type 0
 First-at p done = Unit {0}
@@ -373,12 +367,8 @@ module _ (d : List ℕ) (pc yc : ℕ) where
   cited-list some = some .stands .X .here
 
   module _ (cited : ℕ) (at : cited ≡ sequence-place d pc) where
-    cited-stands : (c : Line) → Stands d pc yc c → Plan-stands d cited yc (c .c)
-    unfolding sequence-place after-list
-    cited-stands c sc = rw at (sc .plan)
-
     pub cited-plan : Some-line d pc yc → Some-plan d cited yc
-    cited-plan some = record { plan = some .line .c; stands = cited-stands (some .line) (some .stands) }
+    cited-plan some = record { plan = some .line .c; stands = plan-of d pc yc cited at (some .line) (some .stands) }
 
   -- Where X or Y differs.
   module _ (p y : ℕ) where
@@ -399,19 +389,15 @@ module _ (d : List ℕ) (pc yc : ℕ) where
 module _ (n m : ℕ) (d : List ℕ) (p y : ℕ) where
   -- Its plan, with the count there.
   module _ (plan : ℕ) (at : plan ≡ sequence-place d p) where
-    plan-there : (l : Line) → Stands d p y l → Plan-stands d plan y (l .c)
-    unfolding sequence-place after-list
-    plan-there l sl = rw at (sl .plan)
-
     pub plan-counted : Some-read n m d p y → plan + 1 < length d
-    plan-counted some = plan-there (some .line) (some .stands) .counted
+    plan-counted some = plan-of d p y plan at (some .line) (some .stands) .counted
 
     pub first-fits : Some-read n m d p y → Fits w64 (length d) → Fits w64 (plan + 2)
     first-fits some room = let there = plan-counted some in let most = room .fits in record { fits = omega arith }
 
     module _ (count : ℕ) (counted : count ≡ getD d plan 0 * 256 + getD d (plan + 1) 0) where
       own-is : (l : Line) → Stands d p y l → count ≡ own-items (l .c)
-      own-is l sl = counted ∙ plan-there l sl .count
+      own-is l sl = counted ∙ plan-of d p y plan at l sl .count
 
       pub count-none : (pc yc : ℕ) → count ≡ 0 → Read-by n m d pc yc p y rule-4 false
       unfolding rule-4 branches-first
@@ -424,8 +410,8 @@ module _ (n m : ℕ) (d : List ℕ) (p y : ℕ) where
         pub first-there : Some-read n m d p y → plan + 2 < length d
         first-there some =
             let sl = some .stands in
-            let ends = plan-there (some .line) sl .ends in let inside = plan-there (some .line) sl .inside in
-            let bytes = own-bytes (some .line .c) (own-some (some .line) sl) in
+            let ends = plan-of d p y plan at (some .line) sl .ends in let inside = plan-of d p y plan at (some .line) sl .inside in
+            let bytes = item-bytes (some .line .c) (own-some (some .line) sl) in
             omega arith
 
         -- No branching first.
@@ -434,7 +420,7 @@ module _ (n m : ℕ) (d : List ℕ) (p y : ℕ) where
         other-first pc yc other =
             record {
               holds = λ c l sc _ sl.
-                  let there = plan-there l sl in
+                  let there = plan-of d p y plan at l sl in
                   sym (ap (branches-first c l) (act-there d (plan + 2) (l .c) (own-some l sl) (there .tellable) (there .bytes) other .is));
             }
 
@@ -452,7 +438,7 @@ module _ (n m : ℕ) (d : List ℕ) (p y : ℕ) where
                 let v = met-value (plan-noted plan t) (plan-at format n m d plan) r u items e read is in
                 let same : with-items (v .0) items ≡ w .plan = got-same (sym (v .1) ∙ again l w) in
                 let tree : v .0 ≡ l .c = ap (λ (x : Met (Sequence ℕ)). x .value) same ∙ w .is in
-                let there = plan-there l sl in
+                let there = plan-of d p y plan at l sl in
                 let b = branching-there d (plan + 2) (l .c) (own-some l sl) (there .tellable) (there .bytes) byte in
                 let whole : v .0 ≡ item (branching (b .place) (b .branches)) (b .rest) = tree ∙ b .is in
                 let read-there = plan-held n m d few less plan t (with-items (v .0) items) e (omega (arith, long)) (v .1) in
@@ -489,7 +475,7 @@ module _ (n m : ℕ) (d : List ℕ) (p y : ℕ) where
                         let g = begins l here sl in
                         let apart = subst (λ (xs : List ℕ). exclusive xs xs ≡ false) (sym (sl .X .same)) (sl .X .clear) in
                         let clear : Clear format (l .X) = subst (Clear format) (sl .X .same) (listed-clear d p (sl .X .here) apart) in
-                        taken .holds (g .branches) (g .rest) (c .c) (g .branched) (cited-stands d pc yc cited place c sc)
+                        taken .holds (g .branches) (g .rest) (c .c) (g .branched) (plan-of d pc yc cited place c sc)
                         ∙ ap (λ (s : State). takes-known s (g .branches) (g .rest) (c .c)) (told ∙ ap (state-of format) (sl .X .same))
                         ∙ takes-same c l (X-same d pc yc p y c l sc sl ∙ sym starts ∙ yes) (Y-same d pc yc p y c l sc sl ∙ sym ends ∙ also) clear (g .branches) (g .rest)
                         ∙ sym (ap (branches-first c l) (g .is));

@@ -4,33 +4,33 @@
 use Prim.Native.Nat.{ℕ, zero, suc, _+_, _-_, _*_, _^_, _≤_, _<_}
 use native.Mathlib.Omega.{arith}
 use native.Mathlib.Nat.{pow-suc}
-use native.Mathlib.Decide.{ℕ-discrete, decLt}
+use native.Mathlib.Decide.{decLt}
 use mathlib.Core.Path.{_≡_, refl, sym, _∙_, ap, ap₂, subst}
 use mathlib.Core.Bool.{Bool, true, false}
 use mathlib.Core.List.{List, [], _∷_, _++_}
-use lib.ListN.{length, getD, set, take, drop, replicate, length-set, length-replicate, length-map, length-append, getD-replicate, List·getD-eq-default, drop-of-length-le}
-use lib.Seq.{getD-set-same, getD-set-other, drop-cons, set-set}
+use lib.ListN.{length, getD, set, take, drop, length-map, length-append, drop-of-length-le}
+use lib.Seq.{drop-cons, set-set}
 use lib.Dec.{eqb, ltb}
 use mir.Syntax.{w64}
 use mir.Val.{Fits}
 use borrow.Author.Tests.{eqb-false, eq-eqb, ne-eqb, ltb-true, lt-ltb, le-ltb}
 use Rattle.meaning.specs.Tests.{both, pick, each-of}
 use Rattle.meaning.specs.Limits.{format}
-use Rattle.meaning.specs.Literals.{says-true, says-false, fluent-of}
-use Rattle.meaning.specs.Requests.{Table, Sequence, done, item, act, branching}
+use Rattle.meaning.specs.Literals.{says-true, says-false}
+use Rattle.meaning.specs.Requests.{Table, Sequence, done, item, act}
 use Rattle.meaning.specs.Lines.{sensing}
-use Rattle.meaning.specs.States.{State, mark-of, told, told-all, state-of, can-be-run, unknown-sensed, readings}
+use Rattle.meaning.specs.States.{State, told, state-of, can-be-run, unknown-sensed, readings}
 use Rattle.meaning.specs.Derivations.{Line, same-list, same-plan, literals-of, says, states-of, each-reads, reads, senses-first, rule-3, cited-by}
 use Rattle.meaning.proofs.TestLaws.{by-test, clash, both-left, both-right, pick-true, pick-false}
 use Rattle.reading.specs.Listed.{bytes-from, listed, List-here}
 use Rattle.reading.specs.Planned.{bytes-of}
-use Rattle.reading.proofs.MarkLaws.{mark-most}
 use Rattle.refusing.specs.Branchings.{sequence-place}
 use Rattle.refusing.specs.Plans.{own-items}
 use Rattle.steps.specs.AtHand.{Marked}
 use Rattle.steps.specs.Steps.{unknown-above, first-of}
 use Rattle.steps.proofs.SmallActions.{Small}
-use Rattle.steps.proofs.SensingLaws.{marked-set, told-true, told-false, unknown-after-set, unknown-first, unknown-first-above, unknown-no-first, sensed-first, sensed-no-first}
+use Rattle.steps.proofs.SensingLaws.{first-marked, second-marked, told-true, told-false, unknown-after-set, unknown-first, unknown-first-above, unknown-no-first, sensed-first, sensed-no-first}
+use Rattle.steps.proofs.ToldMarks.{marked-as}
 use Rattle.ruling.specs.declared.readings.Used.{Used}
 use Rattle.ruling.specs.declared.readings.Used.the-variants.{To, Fails}
 use Rattle.ruling.specs.declared.readings.Rest.{Rest}
@@ -40,42 +40,14 @@ use Rattle.comparing.specs.Rules.{Items-stand, Some-line, Some-lines, Cited-bel
 use Rattle.ruling.specs.Readings.{lines-at, reads-at, used, fluents-from, states-from, Stands-some, Follows, Some-follows, Says-reading, Rest-stands, Some-rest, Uses}
 use Rattle.comparing.proofs.CodedLaws.{same-own, same-coded, none-done, coded-length}
 use Rattle.comparing.proofs.CodedPlaces.{Act-there, act-there, branching-there}
-use Rattle.comparing.proofs.PartLaws.{part-bytes}
-
--- TESTS that are put together.
-no-left : (a b : Bool) → a ≡ false → false ≡ both a b
-unfolding both
-no-left a b e = rw e refl
-
-no-right : (a b : Bool) → b ≡ false → false ≡ both a b
-no-right a b e = by-test (both a b) (λ t. clash (both-right a b t) e) sym
-
-yes-left : (a b : Bool) → a ≡ true → both a b ≡ b
-unfolding both
-yes-left a b e = rw e refl
-
--- PARTS. What stands after a plan's count, up to its end, is its items; and so are items that stand by themselves.
-plan-part : (d : List ℕ) (q e : ℕ) (c : Sequence ℕ) → Plan-stands d q e c → take (e - (q + 2)) (drop (q + 2) d) ≡ coded c
-plan-part d q e c w =
-    let ends = w .ends in
-    let size : e - (q + 2) ≡ bytes-of c = omega (arith, ends) in
-    part-bytes d (q + 2) e (omega (arith, ends)) (w .inside) ∙ ap (bytes-from d (q + 2)) size ∙ w .bytes
-
-items-part : (d : List ℕ) (a b count : ℕ) (c : Sequence ℕ) → Items-stand d a b count c → take (b - a) (drop a d) ≡ coded c
-items-part d a b count c w =
-    let ends = w .ends in
-    let size : b - a ≡ bytes-of c = omega (arith, ends) in
-    part-bytes d a b (omega (arith, ends)) (w .inside) ∙ ap (bytes-from d a) size ∙ w .bytes
+use Rattle.comparing.proofs.PlanLaws.{plan-part, items-part}
+use Rattle.ruling.proofs.RuleLaws.{no-left, no-right, yes-left, plan-of, plan-counted, item-bytes}
 
 -- ONE CITATION, a line at pc, whose plan's count stands at q.
 module _ (d : List ℕ) (pc yc q : ℕ) (after : q ≡ sequence-place d pc) where
-  cited-plan : (c : Line) → Stands d pc yc c → Plan-stands d q yc (c .c)
-  unfolding sequence-place after-list
-  cited-plan c w = subst (λ (j : ℕ). Plan-stands d j yc (c .c)) (sym after) (w .plan)
-
   module _ (some : Stands-some d pc yc) where
     cited-some : Plan-stands d q yc (some .line .c)
-    cited-some = cited-plan (some .line) (some .stands)
+    cited-some = plan-of d pc yc q after (some .line) (some .stands)
 
     pub cited-counted : q + 1 < length d
     cited-counted = cited-some .counted
@@ -103,7 +75,7 @@ module _ (d : List ℕ) (marks : State) (r : Rest) (pc yc : ℕ) (starts : Bool)
               no-right (same-list (c .X) (literals-of marks)) _
               (sym (no-left (same-plan (c .c) rest) (same-list (c .Y) Y)
               (by-test (same-plan (c .c) rest)
-              (λ t. absurd (differ (read ∙ cited-plan d pc yc q after c w .count ∙ same-own (c .c) rest t ∙ sym (v .items .counted))))
+              (λ t. absurd (differ (read ∙ plan-of d pc yc q after c w .count ∙ same-own (c .c) rest t ∙ sym (v .items .counted))))
               (λ f. f))));
         }
 
@@ -111,7 +83,7 @@ module _ (d : List ℕ) (marks : State) (r : Rest) (pc yc : ℕ) (starts : Bool)
       same-is : (c : Line) (rest : Sequence ℕ) (Y : List ℕ) → Stands d pc yc c → Follows d r rest Y → same ≡ same-plan (c .c) rest
       unfolding both
       same-is c rest Y w v =
-          let plan = cited-plan d pc yc q after c w in
+          let plan = plan-of d pc yc q after c w in
           let own : own-items (c .c) ≡ own-items rest = sym (plan .count) ∙ sym read ∙ counted ∙ v .items .counted in
           parts
           ∙ rw (plan-part d q yc (c .c) plan, items-part d (r .first) (r .y) (r .items) rest (v .items))
@@ -260,13 +232,6 @@ module _ (rest : Sequence ℕ) (Y : List ℕ) (cited : List Line) (other : Line)
 
 -- THE FIRST UNKNOWN FLUENT f, with the next one g.
 module _ (t : Table) (a : ℕ) (marks : State) (marked : Marked marks) (f : ℕ) where
-  module _ (small : f < 64) where
-    pub first-marked : Marked (set marks f 1)
-    first-marked = marked-set marks f 1 marked small (omega arith)
-
-    pub second-marked : Marked (set (set marks f 1) f 2)
-    second-marked = marked-set (set marks f 1) f 2 first-marked small (omega arith)
-
   fluents-next : (m : State) → Marked m → (g : ℕ) → g ≡ first-of (unknown-above t a m (f + 1)) → fluents-from t a m g ≡ unknown-above t a m (f + 1)
   unfolding fluents-from
   fluents-next m good g next =
@@ -283,9 +248,9 @@ module _ (t : Table) (a : ℕ) (marks : State) (marked : Marked marks) (f : ℕ)
     unfolding states-from fluents-from readings states-of
     states-split =
         let above : List ℕ = unknown-above t a marks (f + 1) in
-        let one : fluents-from t a (set marks f 1) g ≡ above = fluents-next (set marks f 1) (first-marked small) g next ∙ unknown-after-set t a marks f 1 in
+        let one : fluents-from t a (set marks f 1) g ≡ above = fluents-next (set marks f 1) (first-marked f marks small marked) g next ∙ unknown-after-set t a marks f 1 in
         let two : fluents-from t a (set (set marks f 1) f 2) g ≡ above =
-        fluents-next (set (set marks f 1) f 2) (second-marked small) g second-next ∙ unknown-after-set t a (set marks f 1) f 2 ∙ unknown-after-set t a marks f 1 in
+        fluents-next (set (set marks f 1) f 2) (second-marked f marks small marked) g second-next ∙ unknown-after-set t a (set marks f 1) f 2 ∙ unknown-after-set t a marks f 1 in
         let all : fluents-from t a marks f ≡ f ∷ above = pick-true _ _ _ (lt-ltb f 64 small) in
         ap (λ (fs : List ℕ). states-of (readings fs marks)) all
         ∙ rw (one, two, told-true f marks, told-false f marks, set-set marks f 1 2)
@@ -293,7 +258,7 @@ module _ (t : Table) (a : ℕ) (marks : State) (marked : Marked marks) (f : ℕ)
     pub next-falls : (μ : ℕ) → 64 - f ≡ μ → 64 - g < μ
     next-falls μ is =
         elim (decLt g 64) [
-          | yes near ↦ let h = unknown-first-above t a (set marks f 1) (first-marked small) (f + 1) g next near in omega (arith, h, near, is)
+          | yes near ↦ let h = unknown-first-above t a (set marks f 1) (first-marked f marks small marked) (f + 1) g next near in omega (arith, h, near, is)
           | no far ↦ omega (arith, far, small, is)
         ]
 
@@ -394,38 +359,6 @@ count-settled rest Y fs s cited =
     (λ t. absurd (eqb-false (2 ^ length fs) (length cited) f (sym (states-count fs s) ∙ each-length rest Y (states-of (readings fs s)) cited t)))
     sym)
 
--- THE STATE of a list: a literal that is told sets one of the three marks, or none beyond the last.
-told-marked : (l : ℕ) (s : State) → Marked s → Marked (told l s)
-unfolding told
-told-marked l s marked = record {
-  sized = length-set s (fluent-of l) (mark-of l) ∙ marked .sized;
-  small = λ g. elim (ℕ-discrete g (fluent-of l)) [
-    | yes e ↦ rw e (elim (decLt (fluent-of l) (length s)) [
-      | yes near ↦ rw (getD-set-same s (fluent-of l) (mark-of l) 0 near) (mark-most l)
-      | no far ↦ rw (List·getD-eq-default (set s (fluent-of l) (mark-of l)) 0 {n = fluent-of l} (rw (length-set s (fluent-of l) (mark-of l)) (omega arith))) (omega arith)
-    ])
-    | no d ↦ rw (getD-set-other s (fluent-of l) g (mark-of l) 0 d) (marked .small g)
-  ];
-}
-
-told-all-marked : (ls : List ℕ) (s : State) → Marked s → Marked (told-all ls s)
-unfolding told-all
-told-all-marked [] s marked = marked
-told-all-marked (l ∷ ls) s marked = told-all-marked ls (told l s) (told-marked l s marked)
-
-unknown-marked : Marked (replicate 64 0)
-unknown-marked = record {
-  sized = let none : ℕ = 0 in length-replicate 64 none;
-  small = λ f. let none : ℕ = 0 in elim (decLt f 64) [
-    | yes near ↦ rw (getD-replicate 64 f none none near) (omega arith)
-    | no far ↦ rw (List·getD-eq-default (replicate 64 none) 0 {n = f} (rw (length-replicate 64 none) (omega arith))) (omega arith)
-  ];
-}
-
-pub X-marked : (d : List ℕ) (p : ℕ) (marks : State) → marks ≡ state-of format (listed d p) → Marked marks
-unfolding state-of
-X-marked d p marks told = rw told (told-all-marked (listed d p) _ unknown-marked)
-
 -- The states by the first unknown fluent are all.
 sensed-states : (t : Table) (a : ℕ) (marks : State) → Marked marks → (f : ℕ) → f ≡ first-of (unknown-sensed t a marks) → states-from t a marks f ≡ states-of (readings (unknown-sensed t a marks) marks)
 unfolding states-from fluents-from
@@ -437,12 +370,6 @@ sensed-states t a marks marked f first =
     ])
 
 -- THE LINE of rule 3, at p, whose plan's count stands at q.
-own-bytes : (c : Sequence ℕ) → 0 < own-items c → 0 < bytes-of c
-unfolding own-items bytes-of
-own-bytes done h = absurd (omega (arith, h))
-own-bytes (item (act p a) rest) h = omega arith
-own-bytes (item (branching p bs) rest) h = omega arith
-
 act-bytes : (o a : ℕ) (rest : Sequence ℕ) → bytes-of (item (act o a) rest) ≡ 1 + bytes-of rest
 unfolding bytes-of
 act-bytes o a rest = refl
@@ -452,14 +379,8 @@ module _ (d : List ℕ) (p y : ℕ) (some : Some-line d p y) where
   Y-there = some .stands .Y .here
 
   module _ (q : ℕ) (after : q ≡ sequence-place d p) where
-    pub plan-counted : q + 1 < length d
-    plan-counted = cited-plan d p y q after (some .line) (some .stands) .counted
-
-    pub items-fit : Fits w64 (q + 2)
-    items-fit = let there = plan-counted in let long = some .long in record { fits = omega (arith, there, long) }
-
     pub rest-fits : Fits w64 (q + 3)
-    rest-fits = let there = plan-counted in let long = some .long in record { fits = omega (arith, there, long) }
+    rest-fits = let there = plan-counted d p y q after some in let long = some .long in record { fits = omega (arith, there, long) }
 
   module _ (rule : ℕ) (at : rule ≡ sequence-place d y) where
     pub counted-inside : rule + 1 < length d
@@ -475,7 +396,7 @@ module _ (d : List ℕ) (p y : ℕ) (some : Some-line d p y) where
 -- Its first item.
 module _ (d : List ℕ) (p y q count : ℕ) (after : q ≡ sequence-place d p) (read : count ≡ getD d q 0 * 256 + getD d (q + 1) 0) where
   own-count : (l : Line) → Stands d p y l → count ≡ own-items (l .c)
-  own-count l w = read ∙ cited-plan d p y q after l w .count
+  own-count l w = read ∙ plan-of d p y q after l w .count
 
   module _ (t : Table) (places ends : List ℕ) where
     pub none-first : count ≡ 0 → Ruled-by-all d places ends p y (rule-3 format t) false
@@ -493,8 +414,8 @@ module _ (d : List ℕ) (p y q count : ℕ) (after : q ≡ sequence-place d p) (
 
     pub item-there : Some-line d p y → q + 2 < length d
     item-there some =
-        let plan = cited-plan d p y q after (some .line) (some .stands) in
-        let size = own-bytes (some .line .c) (own-some (some .line) (some .stands)) in
+        let plan = plan-of d p y q after (some .line) (some .stands) in
+        let size = item-bytes (some .line .c) (own-some (some .line) (some .stands)) in
         let to = plan .ends in let inside = plan .inside in
         omega (arith, size, to, inside)
 
@@ -504,18 +425,18 @@ module _ (d : List ℕ) (p y q count : ℕ) (after : q ≡ sequence-place d p) (
         record {
           holds = λ lines l stand w below.
               let cited = cited-by lines l in
-              let plan = cited-plan d p y q after l w in
+              let plan = plan-of d p y q after l w in
               sym (ap (senses-first format t cited l) (branching-there d (q + 2) (l .c) (own-some l w) (plan .tellable) (plan .bytes) is .is));
         }
 
     module _ (other : getD d (q + 2) 0 ≡ 255 → ⊥) where
       first-act : (l : Line) → Stands d p y l → Act-there d (q + 2) (l .c)
-      first-act l w = let plan = cited-plan d p y q after l w in act-there d (q + 2) (l .c) (own-some l w) (plan .tellable) (plan .bytes) other
+      first-act l w = let plan = plan-of d p y q after l w in act-there d (q + 2) (l .c) (own-some l w) (plan .tellable) (plan .bytes) other
 
       rest-items : (l : Line) (w : Stands d p y l) → Items-stand d (q + 3) y (count - 1) (first-act l w .rest)
       rest-items l w =
           let first = first-act l w in
-          let plan = cited-plan d p y q after l w in
+          let plan = plan-of d p y q after l w in
           let own = first .own in let same = own-count l w in let few = plan .few in
           let bytes : bytes-of (l .c) ≡ 1 + bytes-of (first .rest) = ap bytes-of (first .is) ∙ act-bytes _ _ _ in
           let to = plan .ends in
@@ -614,7 +535,7 @@ module _ (d : List ℕ) (p y q count : ℕ) (after : q ≡ sequence-place d p) (
               let states = states-of (readings (unknown-sensed t a marks) marks) in
               let same : answer ≡ used rest (l .Y) lines-cited l states 0 =
               uses .holds lines rest (l .Y) (l .cites) l (rest-stands lines l stand w below)
-              ∙ ap (λ (ss : List State). used rest (l .Y) lines-cited l ss 0) (sensed-states t a marks (X-marked d p marks held) f first) in
+              ∙ ap (λ (ss : List State). used rest (l .Y) lines-cited l ss 0) (sensed-states t a marks (marked-as (listed d p) marks held) f first) in
               let long : length lines-cited ≡ cited = lines-length lines l (l .cites) ∙ sym (cited-size l w) in
               rule-each a byte t senses tested marks held runs asked yes can lines l w
               ∙ each-used rest (l .Y) lines-cited l states 0 (omega arith)

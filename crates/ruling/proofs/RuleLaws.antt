@@ -2,33 +2,31 @@
 -- Assumes nothing.
 use Prim.Native.Nat.{ℕ, _+_, _*_, _<_}
 use native.Mathlib.Omega.{arith}
-use native.Mathlib.Decide.{ℕ-discrete, decLt}
 use mathlib.Core.Path.{_≡_, refl, sym, _∙_, ap, ap₂, subst}
 use mathlib.Core.Bool.{Bool, true, false}
-use mathlib.Core.List.{List, [], _∷_}
-use lib.ListN.{length, getD, set, replicate, length-set, length-replicate, getD-replicate, List·getD-eq-default}
-use lib.Seq.{getD-set-same, getD-set-other}
+use mathlib.Core.List.{List}
+use lib.ListN.{length, getD}
 use lib.Dec.{eqb}
 use mir.Syntax.{w64}
 use mir.Val.{Fits}
 use borrow.Author.Tests.{eqb-true, eq-eqb}
 use Rattle.meaning.specs.Tests.{both, fails}
 use Rattle.meaning.specs.Limits.{format}
-use Rattle.meaning.specs.Literals.{exclusive, fluent-of}
+use Rattle.meaning.specs.Literals.{exclusive}
 use Rattle.meaning.specs.Requests.{Table, Sequence, done, item, act, branching, Branches}
 use Rattle.meaning.specs.Lines.{sensing}
-use Rattle.meaning.specs.States.{State, mark-of, told, told-all, state-of, can-be-run, state-after}
+use Rattle.meaning.specs.States.{State, state-of, can-be-run, state-after}
 use Rattle.meaning.specs.Derivations.{Line, same-list, same-plan, join, included, literals-of, acts, one-action, rule-1, rule-2, rule-5, rule-6}
 use Rattle.meaning.proofs.TestLaws.{by-test, clash, same-test, both-left, both-right}
 use Rattle.reading.specs.Listed.{listed}
 use Rattle.reading.specs.Planned.{bytes-of}
-use Rattle.reading.proofs.MarkLaws.{mark-most}
 use Rattle.refusing.specs.Branchings.{sequence-place, no-item}
 use Rattle.refusing.specs.Plans.{own-items}
 use Rattle.refusing.proofs.PlanOverlaps.{count-zero}
 use Rattle.steps.specs.AtHand.{request-in, Marked}
 use Rattle.steps.proofs.SmallActions.{Small}
 use Rattle.steps.proofs.SensingLaws.{after-marked}
+use Rattle.steps.proofs.ToldMarks.{marked-as}
 use Rattle.comparing.specs.Coded.{Tellable}
 use Rattle.comparing.specs.Stands.{after-list, Plan-stands, Stands}
 use Rattle.comparing.specs.Rules.{Some-plan, Items-stand, Some-items, Same-plans, Joined-plans, Some-line, Ruled, Ruled-by, Ruled-by-two}
@@ -49,7 +47,7 @@ yes-left a b e = rw e refl
 
 -- A LINE, whose plan's count stands at q.
 module _ (d : List ℕ) (p y q : ℕ) (after : q ≡ sequence-place d p) where
-  plan-of : (l : Line) → Stands d p y l → Plan-stands d q y (l .c)
+  pub plan-of : (l : Line) → Stands d p y l → Plan-stands d q y (l .c)
   unfolding sequence-place after-list
   plan-of l w = subst (λ (j : ℕ). Plan-stands d j y (l .c)) (sym after) (w .plan)
 
@@ -200,44 +198,13 @@ module _ (d : List ℕ) (p₁ y₁ p₂ y₂ p y : ℕ) (starts : Bool) (first :
                 (yes-left (same-list (b .X) (l .X)) (same-list (b .Y) (c .X)) (sym (begins-is b c l u v w) ∙ begin) ∙ sym (meets-is b c l u v w) ∙ meet));
           }
 
--- STATES. A literal that is told sets one of the three marks, or none beyond the last.
-told-marked : (l : ℕ) (s : State) → Marked s → Marked (told l s)
-unfolding told
-told-marked l s marked = record {
-  sized = length-set s (fluent-of l) (mark-of l) ∙ marked .sized;
-  small = λ g. elim (ℕ-discrete g (fluent-of l)) [
-    | yes e ↦ rw e (elim (decLt (fluent-of l) (length s)) [
-      | yes near ↦ rw (getD-set-same s (fluent-of l) (mark-of l) 0 near) (mark-most l)
-      | no far ↦ rw (List·getD-eq-default (set s (fluent-of l) (mark-of l)) 0 {n = fluent-of l} (rw (length-set s (fluent-of l) (mark-of l)) (omega arith))) (omega arith)
-    ])
-    | no d ↦ rw (getD-set-other s (fluent-of l) g (mark-of l) 0 d) (marked .small g)
-  ];
-}
-
-told-all-marked : (ls : List ℕ) (s : State) → Marked s → Marked (told-all ls s)
-unfolding told-all
-told-all-marked [] s marked = marked
-told-all-marked (l ∷ ls) s marked = told-all-marked ls (told l s) (told-marked l s marked)
-
-unknown-marked : Marked (replicate 64 0)
-unknown-marked = record {
-  sized = let none : ℕ = 0 in length-replicate 64 none;
-  small = λ f. let none : ℕ = 0 in elim (decLt f 64) [
-    | yes near ↦ rw (getD-replicate 64 f none none near) (omega arith)
-    | no far ↦ rw (List·getD-eq-default (replicate 64 none) 0 {n = f} (rw (length-replicate 64 none) (omega arith))) (omega arith)
-  ];
-}
-
+-- STATES.
 module _ (d : List ℕ) (p : ℕ) (marks : State) (first : marks ≡ state-of format (listed d p)) where
-  pub first-marked : Marked marks
-  unfolding state-of
-  first-marked = rw first (told-all-marked (listed d p) _ unknown-marked)
-
   pub next-marked : (s : List ℕ) (a : ℕ) (next : State) → next ≡ state-after (request-in s .table) a marks → Marked next
-  next-marked s a next then = after-marked (request-in s .table) a marks next first-marked then
+  next-marked s a next then = after-marked (request-in s .table) a marks next (marked-as (listed d p) marks first) then
 
 -- RULE 2. An item takes a byte.
-item-bytes : (c : Sequence ℕ) → 0 < own-items c → 0 < bytes-of c
+pub item-bytes : (c : Sequence ℕ) → 0 < own-items c → 0 < bytes-of c
 unfolding own-items bytes-of
 item-bytes done h = absurd (omega arith)
 item-bytes (item (act o a) rest) h = omega arith

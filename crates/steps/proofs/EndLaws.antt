@@ -1,7 +1,7 @@
 -- What an end state misses: one entry, a list of entries one after another, the goals and then the whether entries. Assumes nothing.
 use Prim.Native.Nat.{ℕ, _+_, _-_, _≤_, _<_}
 use native.Mathlib.Omega.{arith}
-use mathlib.Core.Path.{_≡_, refl, sym, _∙_, ap, subst}
+use mathlib.Core.Path.{_≡_, sym, _∙_, ap, subst}
 use mathlib.Core.Bool.{Bool, true, false}
 use mathlib.Core.List.{List}
 use lib.ListN.{length, getD}
@@ -24,6 +24,7 @@ use Rattle.refusing.specs.declared.refusals.Found.the-variants.{Nowhere, At}
 use Rattle.refusing.specs.InTable.{found}
 use Rattle.reading.specs.Listed.{bytes-from, listed, List-here, holds-as}
 use Rattle.reading.proofs.MarkLaws.{bytes-next, bytes-done}
+use Rattle.refusing.proofs.SettleLaws.{found-none, found-at}
 use Rattle.steps.specs.declared.goals.Asked.{Asked}
 use Rattle.steps.specs.declared.goals.Asked.the-variants.{Goal, Whether}
 use Rattle.steps.specs.AtHand.{request-in, At-hand, Marked}
@@ -107,15 +108,6 @@ module _ (whole : Code.Found) (test : ℕ → Bool) (s : List ℕ) (end i : ℕ)
   unfolding first-missed placed found
   missed-done h = sym (so-far ∙ rw (bytes-done s end i h))
 
--- What the code found is what the definitions found.
-back : Code.Found → Refusals.Found
-back r = elim r [ Nowhere ↦ Refusals.nowhere | At p ↦ Refusals.at p ]
-
-back-found : (f : Refusals.Found) → back (found f) ≡ f
-unfolding back found
-back-found Refusals.Found.nowhere = refl
-back-found (Refusals.Found.at p) = refl
-
 -- THE GOALS, and then the whether entries.
 module _ (s t : List ℕ) (here : At-hand s t) (goals : ℕ) (is : goals ≡ getD t 5381 0) where
   pub goals-there : List-here (bound-as Goal) s goals
@@ -150,15 +142,15 @@ module _ (s t : List ℕ) (here : At-hand s t) (goals : ℕ) (is : goals ≡ get
     goals-looked = looked ∙ ap (λ (es : List Entry). found (first-missed (known marks) es)) goals-are
 
     pub goal-missed : (p : ℕ) → r ≡ At p → At p ≡ found (missed-in (request-in s) marks)
-    unfolding missed-in or-else found back
+    unfolding missed-in or-else found
     goal-missed p e =
-        let is : Refusals.at p ≡ first-missed (known marks) (request-in s .goals) = ap back (sym e ∙ goals-looked) ∙ back-found _ in
-        rw (sym is)
+        let is : first-missed (known marks) (request-in s .goals) ≡ Refusals.at p = found-at _ r goals-looked p e in
+        rw is
 
     pub whether-missed : r ≡ Nowhere → (x : ℕ) → x ≡ getD s goals 0 → (q : Code.Found) → q ≡ found (first-missed (met-as Whether marks) (placed (goals + 1 + x + 1) (listed s (goals + 1 + x)))) → q ≡ found (missed-in (request-in s) marks)
-    unfolding missed-in or-else met-as back
+    unfolding missed-in or-else met-as
     whether-missed e x byte q asked =
-        let is : Refusals.nowhere ≡ first-missed (known marks) (request-in s .goals) = ap back (sym e ∙ goals-looked) ∙ back-found _ in
+        let is : first-missed (known marks) (request-in s .goals) ≡ Refusals.nowhere = found-none _ r goals-looked e in
         asked
         ∙ ap (λ (es : List Entry). found (first-missed (known-whether marks) es)) (whether-is x byte)
-        ∙ rw (sym is)
+        ∙ rw is

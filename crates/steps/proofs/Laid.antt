@@ -4,7 +4,7 @@ use Prim.Native.Nat.{ℕ, _+_, _-_, _≤_, _<_}
 use native.Mathlib.Omega.{arith}
 use mathlib.Core.Path.{_≡_, refl, sym, _∙_, ap, subst}
 use mathlib.Core.List.{List}
-use lib.ListN.{length, getD, set, length-replicate}
+use lib.ListN.{length, getD, set}
 use lib.Dec.{leb, ltb}
 use borrow.Author.Tests.{ltb-true, ltb-false, leb-true, leb-false, le-leb, lt-leb}
 use Rattle.meaning.specs.Requests.{Sequence, done, item, Item, act, branching, Branches, none, branch, Request}
@@ -18,8 +18,10 @@ use Rattle.refusing.specs.Settled.{blank}
 use Rattle.refusing.proofs.KeptLaws.{kept}
 use Rattle.refusing.proofs.PlanOverlaps.{some-item}
 use Rattle.refusing.proofs.ReadLaws.{Parts, parts, tabled-long, request-held}
-use Rattle.steps.specs.AtHand.{request-of, request-in, At-hand}
+use Rattle.refusing.proofs.SettleLaws.{blank-long}
+use Rattle.steps.specs.AtHand.{request-in, At-hand}
 use Rattle.steps.specs.Rests.{rest-in, rest-within, rest-under, rest-at, after-first, span, onward, Next, Branches-laid, Inside-laid, Item-laid}
+use Rattle.steps.proofs.HandLaws.{request-is}
 use Rattle.steps.proofs.NextSlots.{Nexts, Inside-nexts, Under-nexts, nexts-agree, plan-nexts}
 use Rattle.steps.proofs.SmallActions.{Small, Small-item, Small-under, plan-small}
 use Rattle.steps.proofs.RestLaws.{rest-first, rest-inner, rest-later, under-here, under-later, rest-start, rest-past}
@@ -204,10 +206,6 @@ module _ (s t : List ℕ) (plan : Sequence ℕ) (most : items-of plan ≤ 1024) 
       i (omega arith) (omega (arith, less))
 
 -- THE TABLE that reading left.
-blank-long : length blank ≡ 9480
-unfolding blank
-blank-long = let none : ℕ = 0 in length-replicate 9480 none
-
 module _ (s : List ℕ) (bytes : (i : ℕ) → getD s i 0 < 256) (x : Request) (whole : Parts s x) where
   request-nexts : items-of (x .plan) ≤ 1024 → Nexts (request-noted x blank) 1024 0 (x .plan)
   unfolding request-noted places-noted
@@ -231,13 +229,9 @@ module _ (s : List ℕ) (bytes : (i : ℕ) → getD s i 0 < 256) (x : Request) (
       (plan-small (x .table .fluents) (x .table .actions) s (whole .of-table .less) (whole .place) (record { value = x .plan; items = whole .items }) (whole .plan-end) (whole .plan-read))
 
 module _ (s t : List ℕ) (here : At-hand s t) where
-  read-is : request-in s ≡ here .read .request
-  unfolding request-in request-of
-  read-is = ap request-of (here .read .reads)
-
   pub item-laid : (i : ℕ) → i < items-of (request-in s .plan) → Item-laid s t (request-in s .plan) i
   item-laid =
       let x = here .read .request in
-      subst (λ (y : Request). (i : ℕ) → i < items-of (y .plan) → Item-laid s t (y .plan) i) (sym read-is)
+      subst (λ (y : Request). (i : ℕ) → i < items-of (y .plan) → Item-laid s t (y .plan) i) (sym (request-is s t here))
       (subst (λ (u : List ℕ). (i : ℕ) → i < items-of (x .plan) → Item-laid s u (x .plan) i) (sym (here .read .noted))
       (request-laid s (here .bytes) x (parts s x (here .end) (here .read .reads))))

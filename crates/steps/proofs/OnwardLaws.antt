@@ -5,11 +5,11 @@ use native.Mathlib.Omega.{arith}
 use mathlib.Core.Path.{_≡_, refl, sym, _∙_, ap, subst, fun-ext}
 use mathlib.Core.Bool.{Bool, true, false, false≢true}
 use mathlib.Core.List.{List}
-use lib.ListN.{length, getD, length-replicate}
+use lib.ListN.{length, getD}
 use mir.Syntax.{w64}
 use mir.Val.{Fits}
 use lib.Dec.{leb}
-use borrow.Author.Tests.{le-leb, lt-leb, le-ltb, leb-true, leb-false}
+use borrow.Author.Tests.{le-leb, lt-leb, leb-true, leb-false}
 use Rattle.meaning.specs.Tests.{each-of}
 use Rattle.meaning.specs.Requests.{Sequence, done, item, Item, act, branching, Branches, none, branch, Request}
 use Rattle.meaning.specs.Derivations.{join}
@@ -20,16 +20,19 @@ use Rattle.reading.specs.Listed.{listed, holds-as}
 use Rattle.reading.specs.declared.marks.Test.the-variants.{Known}
 use Rattle.refusing.specs.declared.refusals.Found as Code
 use Rattle.refusing.specs.declared.refusals.Found.the-variants.{Nowhere, At}
-use Rattle.reading.specs.Planned.{items-of, items-in, bytes-of, place-of}
+use Rattle.reading.specs.Planned.{items-of, bytes-of, place-of}
 use Rattle.refusing.specs.Plans.{own-items, branches-in, Item-written, Branches-written, Plan-held}
 use Rattle.refusing.specs.Branchings.{sequence-place, no-item, place-after, item-after, Branches-here, Item-here}
 use Rattle.refusing.specs.Settled.{blank}
 use Rattle.refusing.proofs.ReadLaws.{parts, request-held}
+use Rattle.refusing.proofs.SettleLaws.{blank-long}
 use Rattle.refusing.proofs.OverlapLaws.{branch-first, branches-next}
 use Rattle.refusing.proofs.PlanOverlaps.{count-zero, count-some, some-item, place-is, item-is, plan-here}
-use Rattle.steps.specs.AtHand.{request-of, request-in, At-hand}
-use Rattle.steps.specs.Rests.{rest-in, rest-at, after-first, span, onward, Position, Branches-laid, Inside-laid, Item-laid}
+use Rattle.steps.specs.AtHand.{request-in, At-hand}
+use Rattle.steps.specs.Rests.{rest-at, after-first, span, onward, Position, Branches-laid, Inside-laid, Item-laid}
 use Rattle.steps.specs.Steps.{walk-from, walk-after, Followed, Into, going-on, Chosen}
+use Rattle.steps.proofs.HandLaws.{request-is}
+use Rattle.steps.proofs.RestLaws.{rest-past}
 use Rattle.steps.proofs.Laid.{item-laid}
 
 -- THE WALK of one sequence after another.
@@ -41,18 +44,10 @@ module _ {S L : Type 0} (step : Steps S L) where
 
 -- THE PLAN is held.
 module _ (s t : List ℕ) (here : At-hand s t) where
-  request-is : request-in s ≡ here .read .request
-  unfolding request-in request-of
-  request-is = ap request-of (here .read .reads)
-
-  blank-long : length blank ≡ 9480
-  unfolding blank
-  blank-long = let none : ℕ = 0 in length-replicate 9480 none
-
   held : Plan-held s t (request-in s .plan)
   held =
       let x : Request = here .read .request in
-      rw request-is
+      rw (request-is s t here)
       (subst (λ (u : List ℕ). Plan-held s u (x .plan)) (sym (here .read .noted)) (request-held s (here .bytes) x (parts s x (here .end) (here .read .reads)) blank blank-long))
 
   pub few-items : items-of (request-in s .plan) ≤ 1024
@@ -307,19 +302,10 @@ module _ (s t : List ℕ) (i : ℕ) (marks : State) where
         by-branch (branch c d bs) count goes = absurd (omega (arith, over, count))
 
 -- FROM A POSITION. Nothing is left from the plan's end on.
-rest-none : (b : Sequence ℕ) (met i : ℕ) (after : Sequence ℕ) → met + items-of b ≤ i → rest-in b met i after ≡ after
-unfolding rest-in items-of
-rest-none done met i after over = refl
-rest-none (item x b) met i after over =
-    let some = some-item x in
-    pick-false _ _ _ (lt-leb i met (omega (arith, over, some)))
-    ∙ pick-false _ _ _ (le-ltb i (met + items-in x) (omega (arith, over)))
-    ∙ rest-none b (met + items-in x) i after (omega (arith, over))
-
 module _ (s t : List ℕ) (here : At-hand s t) where
   pub end-judged : (marks : State) → walk-from s 1024 marks ≡ judged (request-in s) marks
   unfolding walk-from rest-at walk
-  end-judged marks = let few = few-items s t here in rw (rest-none (request-in s .plan) 0 1024 done (omega (arith, few)))
+  end-judged marks = let few = few-items s t here in rw (rest-past (request-in s .plan) 0 1024 done (omega (arith, few)))
 
   module _ (i : ℕ) (less : i < items-of (request-in s .plan)) (p : ℕ) (is : p ≡ getD t (0 + i) 0) where
     pub item-inside : p < length s

@@ -38,6 +38,14 @@ marked-set marks f m marked near most = record {
   ];
 }
 
+-- The two readings of a fluent, the second set over the first.
+module _ (f : ℕ) (marks : State) (small : f < 64) (marked : Marked marks) where
+  pub first-marked : Marked (set marks f 1)
+  first-marked = marked-set marks f 1 marked small (omega arith)
+
+  pub second-marked : Marked (set (set marks f 1) f 2)
+  second-marked = marked-set (set marks f 1) f 2 first-marked small (omega arith)
+
 pub marked-after : (t : Table) (a : ℕ) (marks : State) → Marked marks → Marked (state-after t a marks)
 unfolding mark-after
 marked-after t a marks marked = record {

@@ -7,8 +7,9 @@ use mathlib.Core.List.{List}
 use borrow.Author.Tests.{leb-false}
 use Rattle.meaning.specs.Limits.{format}
 use Rattle.meaning.specs.Requests.{Sequence, done, item, Item, act, branching, Branches, none, branch}
-use Rattle.meaning.specs.Reading.{Got, got, Met, byte-at, two-bytes-at, count-at, body-at, item-at, items-at, sequence-at, branches-at, branching-at, plan-at}
+use Rattle.meaning.specs.Reading.{got, Met, byte-at, two-bytes-at, count-at, body-at, item-at, items-at, sequence-at, branches-at, branching-at, plan-at}
 use Rattle.reading.proofs.PlanSizes.{On, got-on, fault-on, pick-on, next-on}
+use Rattle.refusing.proofs.WrittenLaws.{anything}
 
 unfoldable mutual
   pub Small : Sequence ℕ → Type 0
@@ -22,9 +23,6 @@ unfoldable mutual
   pub Small-under : Branches ℕ → Type 0
   Small-under none = Unit {0}
   Small-under (branch c b rest) = Small b × Small-under rest
-
-anything : {A : Type 0} (g : Got A) → On g (λ _ _. Unit {0})
-anything g = record { holds = λ _ _ _. tt }
 
 module _ (n m : ℕ) (s : List ℕ) (few : m ≤ 64) where
   abbrev Inner : ℕ → Type 0

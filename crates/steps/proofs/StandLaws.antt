@@ -1,6 +1,6 @@
 -- What the lines, the goals and the whether entries say, by the bytes where they stand: each was read there, and reading keeps its place.
 -- Assumes nothing.
-use Prim.Native.Nat.{ℕ, zero, suc, _+_, _-_, _<_}
+use Prim.Native.Nat.{ℕ, _+_, _-_, _<_}
 use native.Mathlib.Omega.{arith}
 use mathlib.Core.Path.{_≡_, refl, sym, _∙_, ap, subst}
 use mathlib.Core.List.{List}
@@ -13,11 +13,11 @@ use Rattle.meaning.proofs.TestLaws.{Has}
 use Rattle.meaning.proofs.SettledLaws.{got-same}
 use Rattle.meaning.proofs.RangeLaws.{not-refused, after-got, section-read}
 use Rattle.reading.specs.Requested.{goals-place}
-use Rattle.reading.specs.Listed.{bytes-from, listed, List-here}
+use Rattle.reading.specs.Listed.{listed, List-here}
 use Rattle.reading.proofs.SectionLaws.{number-got}
 use Rattle.reading.proofs.PlanSizes.{list-through}
 use Rattle.reading.proofs.RequestLaws.{placed-length}
-use Rattle.refusing.proofs.HereLaws.{list-here}
+use Rattle.refusing.proofs.HereLaws.{bytes-length, list-here}
 use Rattle.refusing.proofs.ReadLaws.{Table-parts}
 
 module _ (s : List ℕ) (t : Table) (p : ℕ) (whole : Table-parts s t p) where
@@ -88,14 +88,9 @@ ends-read s x e read =
     subst (Ends-read s) (got-same (not-refused _ _ _ _ e₂ .1)) (request-ends s t p y q ey)
 
 -- A list that was read, and the place after it.
-bytes-length : (s : List ℕ) (p k : ℕ) → length (bytes-from s p k) ≡ k
-unfolding bytes-from
-bytes-length s p zero = refl
-bytes-length s p (suc k) = ap suc (bytes-length s (p + 1) k)
-
 pub list-after : (kind : Reading.Kind) (n most : ℕ) (s : List ℕ) (p : ℕ) (xs : List ℕ) (q : ℕ) → list-at kind n most s p ≡ got xs q → q ≡ p + 1 + getD s p 0
 unfolding listed
 list-after kind n most s p xs q e =
     let ends = list-through s kind n most p .holds xs q e .after in
-    let sized : length xs ≡ getD s p 0 = ap length (sym (list-here kind n s most p xs q e .0)) ∙ bytes-length s (p + 1) (getD s p 0) in
+    let sized : length xs ≡ getD s p 0 = ap length (sym (list-here kind n s most p xs q e .0)) ∙ bytes-length s (getD s p 0) (p + 1) in
     omega arith

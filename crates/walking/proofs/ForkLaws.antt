@@ -1,33 +1,26 @@
 -- A fork adds the first reading and then the second; each is followed by the fork of the next unknown fluent, or by what follows the action.
 -- Assumes nothing.
-use Prim.Native.Nat.{ℕ, _+_, _-_, _*_, _≤_, _<_}
+use Prim.Native.Nat.{ℕ, _+_, _-_, _≤_, _<_}
 use native.Mathlib.Omega.{arith}
-use mathlib.Core.Path.{_≡_, refl, sym, _∙_, ap}
-use mathlib.Core.Bool.{Bool, true, false}
-use mathlib.Core.List.{List, [], _∷_}
+use mathlib.Core.Path.{_≡_, sym, _∙_, ap}
+use mathlib.Core.Bool.{Bool, false}
+use mathlib.Core.List.{List}
 use lib.ListN.{getD, set}
 use lib.Seq.{set-set}
 use lib.Dec.{ltb}
 use Rattle.meaning.specs.Literals.{says-true, says-false}
 use Rattle.meaning.specs.States.{State, told, readings}
-use Rattle.meaning.specs.Walk.{Walked, and-then, each-reading}
-use Rattle.reading.specs.Planned.{items-of}
-use Rattle.steps.specs.AtHand.{request-in, At-hand, Marked}
+use Rattle.meaning.specs.Walk.{Walked, each-reading}
+use Rattle.steps.specs.AtHand.{request-in, Marked}
 use Rattle.steps.specs.Steps.{walk-from, walk-after, first-of, unknown-above, Followed}
 use Rattle.steps.proofs.OnwardLaws.{followed-walks}
-use Rattle.steps.proofs.SensingLaws.{marked-set, told-true, told-false, unknown-after-set, unknown-first, unknown-first-above, unknown-no-first}
-use Rattle.walking.specs.Standing.{Standing, add, standing, Going}
+use Rattle.steps.proofs.SensingLaws.{first-marked, second-marked, told-true, told-false, unknown-after-set, unknown-first, unknown-first-above, unknown-no-first}
+use Rattle.walking.specs.Standing.{Standing, add, standing}
 use Rattle.walking.specs.Walks.{action-at, read-on, fork-from}
 use Rattle.walking.proofs.StandingLaws.{add-then}
 use Rattle.walking.proofs.WalkLaws.{over}
 
 module _ (s t : List ℕ) (i f : ℕ) (marks : State) (small : f < 64) (marked : Marked marks) where
-  pub first-marked : Marked (set marks f 1)
-  first-marked = marked-set marks f 1 marked small (omega arith)
-
-  pub second-marked : Marked (set (set marks f 1) f 2)
-  second-marked = marked-set (set marks f 1) f 2 first-marked small (omega arith)
-
   -- The first reading and then the second.
   fork-splits : (b : Standing) → add b (fork-from s t i f marks)
       ≡ add (add b (read-on s i (unknown-above (request-in s .table) (action-at s t i) (set marks f 1) (f + 1)) (set marks f 1))) (read-on s i (unknown-above (request-in s .table) (action-at s t i) (set (set marks f 1) f 2) (f + 1)) (set (set marks f 1) f 2))
@@ -55,7 +48,7 @@ module _ (s t : List ℕ) (i f : ℕ) (marks : State) (small : f < 64) (marked :
     second-next = first-next ∙ ap first-of (sym (unknown-after-set (request-in s .table) (action-at s t i) (set marks f 1) f 2))
 
     pub fork-rises : g < 64 → f < g
-    fork-rises near = let h = unknown-first-above (request-in s .table) a (set marks f 1) first-marked (f + 1) g next near in omega arith
+    fork-rises near = let h = unknown-first-above (request-in s .table) a (set marks f 1) (first-marked f marks small marked) (f + 1) g next near in omega arith
 
     -- There is one.
     forks : (m : State) → Marked m → g ≡ first-of (unknown-above (request-in s .table) (action-at s t i) m (f + 1)) → g < 64
@@ -87,18 +80,18 @@ module _ (s t : List ℕ) (i f : ℕ) (marks : State) (small : f < 64) (marked :
 
       module _ (near : g < 64) (first : standing after ≡ add (standing tally) (fork-from s t i g (set marks f 1))) where
         pub fork-stops : (on : Bool) → on ≡ ltb (getD after 0 0) 2 → on ≡ false → standing after ≡ add (standing tally) (fork-from s t i f marks)
-        fork-stops = stops (first ∙ ap (add (standing tally)) (forks (set marks f 1) first-marked first-next near))
+        fork-stops = stops (first ∙ ap (add (standing tally)) (forks (set marks f 1) (first-marked f marks small marked) first-next near))
 
         pub fork-forks : (last : List ℕ) → standing last ≡ add (standing after) (fork-from s t i g (set (set marks f 1) f 2)) → standing last ≡ add (standing tally) (fork-from s t i f marks)
         fork-forks last second =
-            both-read (first ∙ ap (add (standing tally)) (forks (set marks f 1) first-marked first-next near)) last
-            (second ∙ ap (add (standing after)) (forks (set (set marks f 1) f 2) second-marked second-next near))
+            both-read (first ∙ ap (add (standing tally)) (forks (set marks f 1) (first-marked f marks small marked) first-next near)) last
+            (second ∙ ap (add (standing after)) (forks (set (set marks f 1) f 2) (second-marked f marks small marked) second-next near))
 
       module _ (far : 64 ≤ g) (r : ℕ) (follows : Followed s i r) (first : standing after ≡ add (standing tally) (walk-from s r (set marks f 1))) where
         pub last-stops : (on : Bool) → on ≡ ltb (getD after 0 0) 2 → on ≡ false → standing after ≡ add (standing tally) (fork-from s t i f marks)
-        last-stops = stops (first ∙ ap (add (standing tally)) (walks (set marks f 1) first-marked first-next far r follows))
+        last-stops = stops (first ∙ ap (add (standing tally)) (walks (set marks f 1) (first-marked f marks small marked) first-next far r follows))
 
         pub last-walks : (last : List ℕ) → standing last ≡ add (standing after) (walk-from s r (set (set marks f 1) f 2)) → standing last ≡ add (standing tally) (fork-from s t i f marks)
         last-walks last second =
-            both-read (first ∙ ap (add (standing tally)) (walks (set marks f 1) first-marked first-next far r follows)) last
-            (second ∙ ap (add (standing after)) (walks (set (set marks f 1) f 2) second-marked second-next far r follows))
+            both-read (first ∙ ap (add (standing tally)) (walks (set marks f 1) (first-marked f marks small marked) first-next far r follows)) last
+            (second ∙ ap (add (standing after)) (walks (set (set marks f 1) f 2) (second-marked f marks small marked) second-next far r follows))

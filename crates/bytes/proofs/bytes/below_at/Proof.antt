@@ -1,3 +1,4 @@
+-- The byte is missing, at the bound or above, or below it: one law for each.
 use Rattle.bytes.proofs.ByteLaws.{below-large, below-good, below-fault}
 use borrow.Author.Needs.{needs}
 use Rattle.bytes.proofs.bytes.below_at.Statement.{statement}

@@ -1,3 +1,4 @@
+-- A place is before the input's end or not, and the definition goes by the same test.
 use Rattle.bytes.proofs.ByteLaws.{byte-missing, byte-there}
 use borrow.Author.Needs.{needs}
 use Rattle.bytes.proofs.bytes.byte_at.Statement.{statement}

@@ -1,3 +1,4 @@
+-- The count is missing, below its least, above its most, or within: one law for each.
 use Rattle.bytes.proofs.ByteLaws.{count-low, count-high, count-within, count-fault}
 use borrow.Author.Needs.{needs}
 use Rattle.bytes.proofs.bytes.count_at.Statement.{statement}

@@ -1,3 +1,4 @@
+-- None, one or both of the two bytes are there: one law for each.
 use Rattle.bytes.proofs.ByteLaws.{two-bytes-none, two-bytes-half, two-bytes-there}
 use borrow.Author.Needs.{needs}
 use Rattle.bytes.proofs.bytes.two_bytes_at.Statement.{statement}

@@ -1,3 +1,4 @@
+-- The body passes or is at fault, and the line with it.
 use Rattle.bytes.proofs.LineLaws.{body-passed, body-fault}
 use borrow.Author.Needs.{needs}
 use Rattle.bytes.proofs.lines.action_with_body.Statement.{statement}

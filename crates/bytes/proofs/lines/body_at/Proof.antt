@@ -1,3 +1,4 @@
+-- A body is a list of at most 16 literals.
 use Rattle.bytes.proofs.LineLaws.{body-list}
 use borrow.Author.Needs.{needs}
 use Rattle.bytes.proofs.lines.body_at.Statement.{statement}

@@ -1,3 +1,4 @@
+-- Action, literal, then body: the first fault is the line's.
 use Rattle.bytes.proofs.LineLaws.{effect-whole, effect-literal-fault, effect-action-fault}
 use borrow.Author.Needs.{needs}
 use Rattle.bytes.proofs.lines.effect_at.Statement.{statement}

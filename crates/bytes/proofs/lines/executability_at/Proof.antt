@@ -1,3 +1,4 @@
+-- Action, then body: the first fault is the line's.
 use Rattle.bytes.proofs.LineLaws.{executability-whole, executability-action-fault}
 use borrow.Author.Needs.{needs}
 use Rattle.bytes.proofs.lines.executability_at.Statement.{statement}

@@ -1,3 +1,4 @@
+-- Action, then fluent: the first fault is the line's.
 use Rattle.bytes.proofs.LineLaws.{knowledge-whole, knowledge-fluent-fault, knowledge-action-fault}
 use borrow.Author.Needs.{needs}
 use Rattle.bytes.proofs.lines.knowledge_at.Statement.{statement}

@@ -1,3 +1,4 @@
+-- At each turn what the whole list gives is what the entries left give, after the last one read.
 use borrow.Author.Needs.{needs}
 use mathlib.Core.Path.{_≡_, refl}
 use Rattle.meaning.specs.Reading.{entries-at}

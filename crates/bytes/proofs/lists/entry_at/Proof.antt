@@ -1,3 +1,4 @@
+-- An entry is missing or too large, not above the one before, its complement, or good: one law for each, in that order.
 use Rattle.bytes.proofs.ListLaws.{entry-low, entry-beside, entry-good, entry-fault}
 use borrow.Author.Needs.{needs}
 use Rattle.bytes.proofs.lists.entry_at.Statement.{statement}

@@ -1,3 +1,4 @@
+-- Literals go by twice the number of fluents, and fluents by that number.
 use Rattle.bytes.proofs.ListLaws.{bound-literals, bound-fluents}
 use borrow.Author.Needs.{needs}
 use Rattle.bytes.proofs.lists.first_too_large.Statement.{statement}

@@ -1,3 +1,4 @@
+-- A list is its count and then its entries; a fault of the count is the list's.
 use Rattle.bytes.proofs.ListLaws.{list-entries, list-fault}
 use borrow.Author.Needs.{needs}
 use Rattle.bytes.proofs.lists.list_at.Statement.{statement}

@@ -1,6 +1,7 @@
 -- The facts stand at place 2 of the request, and its plan and its goals where the table says.
 use Rattle.ruling.proofs.RuleLaws.{some-plan}
-use Rattle.checking.proofs.QuestionLaws.{facts-here, goals-here, asked-some, other-facts, other-goals, question}
+use Rattle.steps.proofs.HandLaws.{facts-here}
+use Rattle.checking.proofs.QuestionLaws.{goals-here, asked-some, other-facts, other-goals, question}
 use borrow.Author.Needs.{needs}
 use Rattle.checking.proofs.lines.is_question.Statement.{statement}
 use Rattle.checking.proofs.lines.is_question.Tie as tie

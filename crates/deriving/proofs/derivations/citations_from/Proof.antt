@@ -1,3 +1,4 @@
+-- At each turn what the whole list of citations gives is what those left give.
 use mathlib.Core.Path.{_≡_, refl}
 use Rattle.meaning.specs.Reading.{repeated, two-bytes-at}
 use Rattle.bytes.specs.Read.{passed}

@@ -1,3 +1,4 @@
+-- The rule byte, the count, then the citations: the first fault is the line's.
 use Rattle.deriving.proofs.DerivationLaws.{cites-whole, cites-fault, rule-fault}
 use borrow.Author.Needs.{needs}
 use Rattle.deriving.proofs.derivations.cites_at.Statement.{statement}

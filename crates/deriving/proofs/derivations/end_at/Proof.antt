@@ -1,3 +1,4 @@
+-- The list Y, then the rest of the line: the first fault is the line's.
 use Rattle.deriving.proofs.DerivationLaws.{end-whole, end-fault}
 use borrow.Author.Needs.{needs}
 use Rattle.deriving.proofs.derivations.end_at.Statement.{statement}

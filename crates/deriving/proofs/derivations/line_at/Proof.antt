@@ -1,3 +1,4 @@
+-- The list X, then the rest of the line: the first fault is the line's.
 use Rattle.deriving.proofs.DerivationLaws.{line-whole, line-fault}
 use borrow.Author.Needs.{needs}
 use Rattle.deriving.proofs.derivations.line_at.Statement.{statement}

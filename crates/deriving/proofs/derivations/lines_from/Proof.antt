@@ -1,3 +1,4 @@
+-- At each turn what all lines give is what the lines left give, and the places noted are those of the lines read.
 use Prim.Native.Nat.{_-_}
 use mathlib.Core.Path.{_≡_}
 use Rattle.meaning.specs.Limits.{format}

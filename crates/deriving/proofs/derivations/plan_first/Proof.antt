@@ -1,3 +1,4 @@
+-- The plan, then the rest of the line: the first fault is the line's.
 use Rattle.deriving.proofs.DerivationLaws.{plan-whole, plan-fault}
 use borrow.Author.Needs.{needs}
 use Rattle.deriving.proofs.derivations.plan_first.Statement.{statement}

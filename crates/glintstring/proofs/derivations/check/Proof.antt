@@ -1,3 +1,4 @@
+-- The request is settled first, as the definition has it, and then it is at hand.
 use Rattle.glintstring.proofs.DerivationLaws.{check-settled-first, check-then}
 use Rattle.glintstring.proofs.JudgingLaws.{blank-is, judge-at-hand}
 use borrow.Author.Needs.{needs}

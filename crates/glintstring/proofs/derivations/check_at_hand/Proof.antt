@@ -1,5 +1,6 @@
-use Rattle.glintstring.proofs.DerivationLaws.{after-fits, whether-fits}
-use Rattle.glintstring.proofs.DerivationLaws.{goals-inside, whether-inside, check-30, check-accepts, check-refuses}
+-- The whether list's count stands after the goals, so 30 is told as defined; past it the answer is that of the derivation's check.
+use Rattle.steps.proofs.EndLaws.{goals-inside, after-fits, whether-fits}
+use Rattle.glintstring.proofs.DerivationLaws.{whether-inside, check-30, check-accepts, check-refuses}
 use borrow.Author.Needs.{needs}
 use Rattle.glintstring.proofs.derivations.check_at_hand.Statement.{statement}
 use Rattle.glintstring.proofs.derivations.check_at_hand.Tie as tie

@@ -1,7 +1,9 @@
 -- The walk starts in the first state at the first item, and adds its whole to a tally that nothing was walked for; so what the tally tells is the
 -- walk within the budget.
 use borrow.Author.Needs.{needs}
-use Rattle.glintstring.proofs.FirstLaws.{facts-here, first-marked, starts-there}
+use Rattle.steps.proofs.HandLaws.{facts-here}
+use Rattle.steps.proofs.ToldMarks.{marked-as}
+use Rattle.glintstring.proofs.FirstLaws.{starts-there}
 use Rattle.glintstring.proofs.JudgingLaws.{plan-tallied, plan-judged}
 use Rattle.glintstring.proofs.judging.walk_plan.Statement.{statement}
 use Rattle.glintstring.proofs.judging.walk_plan.Tie as tie
@@ -32,7 +34,7 @@ opened-requires c κs = search needs
 
 -- src/judging.rt:36:5
 walk-requires : tie.Need-walk-requires
-walk-requires c κs = (search needs, (search starts-there, (search first-marked, search needs)))
+walk-requires c κs = (search needs, (search starts-there, (search marked-as, search needs)))
 
 -- src/judging.rt:37:5
 tell-requires : tie.Need-tell-requires

@@ -1,3 +1,4 @@
+-- A place within the input starts the part; a place beyond it gives the empty part at the end.
 use Rattle.glintstring.proofs.ShowingLaws.{rest-bytes, beyond-bytes, beyond-start, within-start}
 use borrow.Author.Needs.{needs}
 use Rattle.glintstring.proofs.showing.from.Statement.{statement}

@@ -1,3 +1,4 @@
+-- Three cases, by the input that the answer names: each part has its bytes and its start.
 use Rattle.glintstring.proofs.ShowingLaws.{shown-request, shown-derivation, shown-neither, block-request, block-derivation, block-neither, start-request, start-derivation, start-neither}
 use borrow.Author.Needs.{needs}
 use Rattle.glintstring.proofs.showing.show.Statement.{statement}

@@ -1,3 +1,4 @@
+-- A literal is known where its mark is the fluent's, and possible where the other mark is not.
 use Rattle.reading.proofs.MarkLaws.{mark-within, holds-known, holds-not, holds-possible}
 use borrow.Author.Needs.{needs}
 use Rattle.reading.proofs.marks.holds.Statement.{statement}

@@ -1,3 +1,4 @@
+-- An even literal says true and an odd one false.
 use Rattle.reading.proofs.MarkLaws.{mark-even, mark-odd}
 use Rattle.reading.proofs.marks.mark_of.Statement.{statement}
 use Rattle.reading.proofs.marks.mark_of.Tie as tie

@@ -1,3 +1,4 @@
+-- After the last item of a sequence comes what stands around the sequence, and after another the item met next.
 use Rattle.reading.proofs.NotingLaws.{after-last, after-other}
 use Rattle.reading.proofs.plan.after.Statement.{statement}
 use Rattle.reading.proofs.plan.after.Tie as tie

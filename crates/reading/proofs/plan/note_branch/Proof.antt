@@ -1,3 +1,4 @@
+-- A sequence without items is noted nowhere; of another its end, and the items met up to there, are noted at its first item.
 use Rattle.reading.proofs.NotingLaws.{branch-empty, branch-ended}
 use borrow.Author.Needs.{needs}
 use Rattle.reading.proofs.plan.note_branch.Statement.{statement}

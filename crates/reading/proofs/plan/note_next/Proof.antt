@@ -1,3 +1,4 @@
+-- The item has a slot for what follows it, and what follows fits there.
 use Rattle.reading.proofs.NotingLaws.{next-fits}
 use Rattle.reading.proofs.NotingLaws.{next-noted}
 use borrow.Author.Needs.{needs}

@@ -1,3 +1,4 @@
+-- A plan is a sequence with no item before it, in which branchings may be nested as deep as the limit.
 use Rattle.reading.proofs.SequenceLaws.{plan-whole}
 use borrow.Author.Needs.{needs}
 use Rattle.reading.proofs.plan.plan_at.Statement.{statement}

@@ -1,3 +1,4 @@
+-- The action count, then sections 2 to 5: the first fault is the table's.
 use Rattle.reading.proofs.RequestLaws.{count-most, actions-there, actions-fault}
 use borrow.Author.Needs.{needs}
 use Rattle.reading.proofs.requests.actions_at.Statement.{statement}

@@ -1,3 +1,4 @@
+-- The initial facts, then sections 3 to 5: the first fault is the table's.
 use Rattle.reading.proofs.RequestLaws.{facts-passed, facts-fault}
 use borrow.Author.Needs.{needs}
 use Rattle.reading.proofs.requests.facts_at.Statement.{statement}

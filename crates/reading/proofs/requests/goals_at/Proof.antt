@@ -1,3 +1,4 @@
+-- The goals, then the whether list: the first fault is the request's, and three slots are noted between.
 use Rattle.reading.proofs.RequestLaws.{goals-passed, goals-fault}
 use borrow.Author.Needs.{needs}
 use Rattle.reading.proofs.requests.goals_at.Statement.{statement}

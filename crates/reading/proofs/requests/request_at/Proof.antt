@@ -1,3 +1,4 @@
+-- The plan, then sections 7 and 8: the first fault is the request's.
 use Rattle.reading.proofs.RequestLaws.{plan-place-fits, plan-items-fit, plan-end-fits, plan-there, plan-fault}
 use borrow.Author.Needs.{needs}
 use Rattle.reading.proofs.requests.request_at.Statement.{statement}

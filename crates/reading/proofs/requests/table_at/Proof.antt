@@ -1,3 +1,4 @@
+-- The fluent count, then the rest of the table: the first fault is the table's.
 use Rattle.reading.proofs.RequestLaws.{count-most, fluents-there, fluents-fault}
 use borrow.Author.Needs.{needs}
 use Rattle.reading.proofs.requests.table_at.Statement.{statement}

@@ -1,3 +1,4 @@
+-- One slot for each of the three sections.
 use Rattle.reading.proofs.SectionLaws.{slot-effects, slot-executability, slot-knowledge}
 use borrow.Author.Needs.{needs}
 use Rattle.reading.proofs.sections.count_slot.Statement.{statement}

@@ -1,3 +1,4 @@
+-- The line is read as its section has it, by cases.
 use Rattle.reading.proofs.SectionLaws.{line-effect, line-executability, line-knowledge}
 use borrow.Author.Needs.{needs}
 use Rattle.reading.proofs.sections.line_at.Statement.{statement}

@@ -1,3 +1,4 @@
+-- At each turn what the section's lines give is what the lines left give, and the table has noted those read.
 use borrow.Author.Needs.{needs}
 use Prim.Native.Nat.{_-_}
 use mathlib.Core.Path.{_≡_}

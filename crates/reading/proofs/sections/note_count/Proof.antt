@@ -1,3 +1,4 @@
+-- The section's own slot takes the count.
 use Rattle.reading.proofs.SectionLaws.{slot-fits, count-noted}
 use borrow.Author.Needs.{needs}
 use Rattle.reading.proofs.sections.note_count.Statement.{statement}

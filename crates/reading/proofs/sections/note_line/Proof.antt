@@ -1,3 +1,4 @@
+-- The line is noted as its section has it, by cases.
 use Rattle.reading.proofs.SectionLaws.{knowledge-fits, noted-effect, noted-executability, noted-knowledge}
 use borrow.Author.Needs.{needs}
 use Rattle.reading.proofs.sections.note_line.Statement.{statement}

@@ -1,3 +1,4 @@
+-- Without a count byte the section is at fault there; with one it is that many lines.
 use Rattle.reading.proofs.SectionLaws.{section-none, section-there}
 use borrow.Author.Needs.{needs}
 use Rattle.reading.proofs.sections.section_at.Statement.{statement}

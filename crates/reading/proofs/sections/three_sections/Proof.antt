@@ -1,3 +1,4 @@
+-- The three sections in order: the first fault is theirs.
 use Rattle.reading.proofs.SectionLaws.{three-first, three-second, three-whole}
 use borrow.Author.Needs.{needs}
 use Rattle.reading.proofs.sections.three_sections.Statement.{statement}

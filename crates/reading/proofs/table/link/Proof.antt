@@ -1,3 +1,4 @@
+-- Two slots are set, as the definition's link has it.
 use Rattle.reading.specs.Noted.{link}
 use mathlib.Core.Path.{refl}
 use borrow.Author.Needs.{needs}

@@ -1,3 +1,4 @@
+-- The line's place and its link are set, as the definition's note has it.
 use Rattle.reading.proofs.TableLaws.{effect-note}
 use borrow.Author.Needs.{needs}
 use Rattle.reading.proofs.table.note_effect.Statement.{statement}

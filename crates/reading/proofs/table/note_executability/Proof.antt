@@ -1,3 +1,4 @@
+-- The place of the line's body and its link are set, as the definition's note has it.
 use Rattle.reading.proofs.TableLaws.{run-note}
 use borrow.Author.Needs.{needs}
 use Rattle.reading.proofs.table.note_executability.Statement.{statement}

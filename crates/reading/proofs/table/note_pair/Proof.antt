@@ -1,3 +1,4 @@
+-- The pair's slot is set and the action's two bounds are raised, as the definition's note has it.
 use Rattle.reading.proofs.TableLaws.{pair-note}
 use borrow.Author.Needs.{needs}
 use Rattle.reading.proofs.table.note_pair.Statement.{statement}

@@ -1,3 +1,4 @@
+-- A slot is set where the value is above it, and left where it is not.
 use Rattle.reading.proofs.TableLaws.{raise-set, raise-not}
 use borrow.Author.Needs.{needs}
 use Rattle.reading.proofs.table.raise.Statement.{statement}

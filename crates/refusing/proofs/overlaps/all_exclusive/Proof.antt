@@ -1,3 +1,4 @@
+-- At each turn every two conditions are exclusive just where every two of those left are.
 use Prim.Native.Nat.{_+_, _-_}
 use mathlib.Core.Path.{_≡_}
 use Rattle.meaning.specs.Tests.{each-of}

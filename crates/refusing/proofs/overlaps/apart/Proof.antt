@@ -1,3 +1,4 @@
+-- An action is never at fault; a branching is where two of its conditions are not exclusive.
 use Rattle.refusing.proofs.OverlapLaws.{item-other, item-branching, second-here, item-branches}
 use borrow.Author.Needs.{needs}
 use Rattle.refusing.proofs.overlaps.apart.Statement.{statement}

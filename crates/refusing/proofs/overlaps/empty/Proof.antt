@@ -1,3 +1,4 @@
+-- A sequence is empty just where both bytes of its count are 0.
 use Rattle.refusing.proofs.OverlapLaws.{first-zero, first-other}
 use borrow.Author.Needs.{needs}
 use Rattle.refusing.proofs.overlaps.empty.Statement.{statement}

@@ -1,3 +1,4 @@
+-- At each turn the state rules out every condition just where it rules out those left.
 use Prim.Native.Nat.{_+_, _-_}
 use mathlib.Core.Path.{_≡_}
 use Rattle.meaning.specs.Tests.{each-of}

@@ -1,3 +1,4 @@
+-- At each turn the first overlap of the plan is the first among the items left.
 use Prim.Native.Nat.{_+_, _-_}
 use mathlib.Core.Path.{_≡_}
 use Rattle.refusing.specs.InTable.{found}

@@ -1,3 +1,4 @@
+-- A branch without items leaves the count of items as it was; of another it was noted.
 use Rattle.refusing.proofs.OverlapLaws.{count-here, item-empty, item-noted}
 use borrow.Author.Needs.{needs}
 use Rattle.refusing.proofs.overlaps.next_item.Statement.{statement}

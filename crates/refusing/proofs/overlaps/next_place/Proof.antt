@@ -1,3 +1,4 @@
+-- A branch without items ends behind its count; where another ends was noted.
 use Rattle.refusing.proofs.OverlapLaws.{count-here, place-empty, place-noted}
 use borrow.Author.Needs.{needs}
 use Rattle.refusing.proofs.overlaps.next_place.Statement.{statement}

@@ -1,3 +1,4 @@
+-- Of whatever plan stands there, the first overlap is the first among all its items.
 use Rattle.refusing.proofs.PlanOverlaps.{some-here, overlap-found}
 use borrow.Author.Needs.{needs}
 use Rattle.refusing.proofs.overlaps.overlap.Statement.{statement}

@@ -1,3 +1,4 @@
+-- The count of a sequence stands behind the list before it.
 use Rattle.refusing.proofs.OverlapLaws.{sequence-is}
 use borrow.Author.Needs.{needs}
 use Rattle.refusing.proofs.overlaps.sequence_of.Statement.{statement}

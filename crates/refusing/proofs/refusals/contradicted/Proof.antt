@@ -1,3 +1,4 @@
+-- The links lead to each earlier effect of the same action and fluent, and no other can be contradicted; they fall, so the loop ends.
 use Rattle.refusing.proofs.RefusalLaws.{Sought, new-fit, body-here, body-fits, last-there, last-fits, none-sought, sought-starts, sought-below, sought-there, sought-done, sought-less, sought-fit, sought-paired, sought-met, sought-next}
 use borrow.Author.Needs.{needs}
 use Rattle.refusing.proofs.refusals.contradicted.Statement.{statement}

@@ -1,3 +1,4 @@
+-- At each turn no effect so far contradicts one before it, and the links lead to all of them.
 use Prim.Native.Nat.{_-_}
 use mathlib.Core.Path.{_≡_}
 use mathlib.Core.List.{[]}

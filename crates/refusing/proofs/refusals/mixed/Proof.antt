@@ -1,3 +1,4 @@
+-- At each turn no knowledge line before is of an action with effects.
 use Prim.Native.Nat.{_-_}
 use Rattle.refusing.proofs.RefusalLaws.{Looked, looked-starts, twice-fits, line-fits, line-there, slot-fits, slot-there, look-met, look-next, look-done}
 use borrow.Author.Needs.{needs}

@@ -1,3 +1,4 @@
+-- The action and the literal stand at p, and small enough for their number to fit.
 use Rattle.refusing.proofs.RefusalLaws.{pair-got}
 use borrow.Author.Needs.{needs}
 use Rattle.refusing.proofs.refusals.pair_at.Statement.{statement}

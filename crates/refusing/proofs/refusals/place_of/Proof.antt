@@ -1,3 +1,4 @@
+-- The slot is in the table, and holds the effect's place.
 use Rattle.refusing.proofs.RefusalLaws.{place-got}
 use borrow.Author.Needs.{needs}
 use Rattle.refusing.proofs.refusals.place_of.Statement.{statement}

@@ -1,3 +1,4 @@
+-- A contradiction is refused at its place; else the answer is that from 17 on.
 use Rattle.refusing.proofs.SettleLaws.{few-16, stand-16, past-16, at-16}
 use borrow.Author.Needs.{needs}
 use Rattle.refusing.proofs.settled.refused_from_16.Statement.{statement}

@@ -1,3 +1,4 @@
+-- A knowledge line of an action with effects is refused at its place; else the answer is that from 18 on.
 use Rattle.refusing.proofs.SettleLaws.{fits-17, bytes-17, stand-17, past-17-too, at-17}
 use borrow.Author.Needs.{needs}
 use Rattle.refusing.proofs.settled.refused_from_17.Statement.{statement}

@@ -1,3 +1,4 @@
+-- An overlap is refused at its place; else nothing is.
 use Rattle.refusing.proofs.SettleLaws.{stand-18, none-18, at-18}
 use borrow.Author.Needs.{needs}
 use Rattle.refusing.proofs.settled.refused_from_18.Statement.{statement}

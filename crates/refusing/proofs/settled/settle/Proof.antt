@@ -1,3 +1,4 @@
+-- A request that is read is refused from 16 on; a fault in reading is the answer.
 use Rattle.refusing.proofs.SettleLaws.{settle-here, settle-there, settle-fault}
 use borrow.Author.Needs.{needs}
 use Rattle.refusing.proofs.settled.settle.Statement.{statement}

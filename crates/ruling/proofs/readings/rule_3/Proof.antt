@@ -1,6 +1,8 @@
 -- The first item is told by its byte; where it is a sensing action that can be run, each reading is said by its line just where the citations used
 -- are all, and then they are as many as the readings.
-use Rattle.ruling.proofs.ReadingRuleLaws.{plan-counted, items-fit, rest-fits, item-there, Y-there, counted-inside, counted-fits, cites-fit, none-first, branching-first, action-small, X-marked, some-rest, not-sensing, not-run, all-read, not-read}
+use Rattle.steps.proofs.ToldMarks.{marked-as}
+use Rattle.ruling.proofs.RuleLaws.{plan-counted, items-fit}
+use Rattle.ruling.proofs.ReadingRuleLaws.{rest-fits, item-there, Y-there, counted-inside, counted-fits, cites-fit, none-first, branching-first, action-small, some-rest, not-sensing, not-run, all-read, not-read}
 use borrow.Author.Needs.{needs}
 use Rattle.ruling.proofs.readings.rule_3.Statement.{statement}
 use Rattle.ruling.proofs.readings.rule_3.Tie as tie
@@ -61,7 +63,7 @@ can-be-run-requires c κs = (search needs, search action-small)
 
 -- src/readings.rt:165:17
 first-unknown-requires : tie.Need-first-unknown-requires
-first-unknown-requires c κs = (search needs, (search action-small, search X-marked))
+first-unknown-requires c κs = (search needs, (search action-small, search marked-as))
 
 -- src/readings.rt:166:17
 sequence-of-requires-2 : tie.Need-sequence-of-requires-2
@@ -95,7 +97,7 @@ sub-items c = search needs
 each-reading-requires : tie.Need-each-reading-requires
 each-reading-requires c κs =
     let held = c .before .before .before .before .before .before .before .before .before .before .before .before .before .before .before .before .before .before .before .before .pre in
-    (search needs, (search (action-small, held .1 .0), (search X-marked, search (some-rest, held .1 .0, held .1 .1 .0, held .1 .1 .1))))
+    (search needs, (search (action-small, held .1 .0), (search marked-as, search (some-rest, held .1 .0, held .1 .1 .0, held .1 .1 .1))))
 
 -- src/readings.rt:180:26
 enum-known-k : tie.Need-enum-known-k

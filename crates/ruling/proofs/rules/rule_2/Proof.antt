@@ -1,6 +1,7 @@
 -- A plan of one item whose byte is no 255 is that action, which is below 64; the marks are the state of X, and those after it the state that
 -- Y is compared with.
-use Rattle.ruling.proofs.RuleLaws.{plan-counted, items-fit, first-marked, next-marked, not-one-item, item-there, item-branches, action-small, action-senses, action-stuck, action-leads}
+use Rattle.steps.proofs.ToldMarks.{marked-as}
+use Rattle.ruling.proofs.RuleLaws.{plan-counted, items-fit, next-marked, not-one-item, item-there, item-branches, action-small, action-senses, action-stuck, action-leads}
 use borrow.Author.Needs.{needs}
 use Rattle.ruling.proofs.rules.rule_2.Statement.{statement}
 use Rattle.ruling.proofs.rules.rule_2.Tie as tie
@@ -65,7 +66,7 @@ can-be-run-requires c κs = (search needs, search action-small)
 
 -- src/rules.rt:57:21
 state-after-requires : tie.Need-state-after-requires
-state-after-requires c κs = (search needs, (search action-small, search first-marked))
+state-after-requires c κs = (search needs, (search action-small, search marked-as))
 
 -- src/rules.rt:58:9
 lists-known-requires : tie.Need-lists-known-requires

@@ -1,3 +1,4 @@
+-- With nothing left the budget is spent; else one less is left.
 use Rattle.walking.proofs.StandingLaws.{count-spent, count-left}
 use borrow.Author.Needs.{needs}
 use Rattle.walking.proofs.tally.count_one.Statement.{statement}

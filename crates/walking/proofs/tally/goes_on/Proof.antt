@@ -1,3 +1,4 @@
+-- The walk goes on just where its number is below 2.
 use borrow.Author.Needs.{needs}
 use Rattle.walking.proofs.tally.goes_on.Statement.{statement}
 use Rattle.walking.proofs.tally.goes_on.Tie as tie

@@ -1,3 +1,4 @@
+-- At each turn the marks below f stand in their slots.
 use Rattle.walking.proofs.TallyLaws.{Holding, holding-starts, holding-next, holding-done}
 use borrow.Author.Needs.{needs}
 use Prim.Native.Nat.{_-_}

@@ -1,3 +1,4 @@
+-- The number, the place and the marks are set, and these are the end that the tally tells.
 use Rattle.walking.proofs.StandingLaws.{noted}
 use borrow.Author.Needs.{needs}
 use Rattle.walking.proofs.tally.note.Statement.{statement}

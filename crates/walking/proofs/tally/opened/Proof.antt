@@ -1,3 +1,4 @@
+-- Nothing is counted, and all of the budget is left.
 use Rattle.walking.proofs.StandingLaws.{opens, opens-going}
 use borrow.Author.Needs.{needs}
 use Rattle.walking.proofs.tally.opened.Statement.{statement}

@@ -1,7 +1,9 @@
-use Rattle.steps.proofs.SensingLaws.{after-marked}
+-- Each return is one law that adds what was walked to how the walk stood. At each call the position rises, or in a fork the fluent does, so
+-- the cycle ends.
+use Rattle.steps.proofs.SensingLaws.{first-marked, second-marked, after-marked}
 use Rattle.walking.proofs.FallLaws.{fork-falls, fork-walk-falls, walk-branching-falls, walk-fork-falls, branching-walk-falls, follow-falls, followed-position, chosen-position, marked-sized, opens-branching, is-branching, action-here}
 use Rattle.walking.proofs.WalkLaws.{going-after-fork, going-after-walk, going-after-one, walking-counted, action-low, item-stuck, run-spent, run-moves, run-forks, run-sees, branch-taken, none-taken, Walking, walking-starts, walking-there, walking-marked, walking-sized, walking-going, walking-later, walking-ends, walking-judged, walking-on}
-use Rattle.walking.proofs.ForkLaws.{first-marked, second-marked, fork-rises, fork-stops, fork-forks, last-stops, last-walks}
+use Rattle.walking.proofs.ForkLaws.{fork-rises, fork-stops, fork-forks, last-stops, last-walks}
 use Rattle.walking.proofs.PlaceLaws.{item-fits}
 use Rattle.steps.proofs.OnwardLaws.{item-inside, action-small, place-fits, place-there}
 use borrow.Author.Needs.{needs}

@@ -1,3 +1,4 @@
+-- One is counted, and the state is judged where the walk goes on and has missed nothing yet.
 use Rattle.walking.proofs.WalkLaws.{counts-going, judged-missed, judged-fine, judged-before}
 use Rattle.walking.proofs.PlaceLaws.{missed-fits}
 use borrow.Author.Needs.{needs}

@@ -1,0 +1,79 @@
+-- A walk knows nothing beyond the fluents of its request (FORMAT 4.48): the facts, the literals of effects and the sensed fluents were read below
+-- their bound, so no step sets a mark from there up, and a walk keeps what its steps keep. Assumes nothing.
+use Prim.Native.Nat.{ℕ, _*_, _≤_, _<_}
+use native.Mathlib.Omega.{arith}
+use native.Mathlib.Decide.{decLt}
+use mathlib.Core.Path.{_≡_, refl, sym, _∙_}
+use mathlib.Core.Bool.{false}
+use mathlib.Core.List.{List, [], _∷_}
+use mathlib.Core.Logic.{inl, inr, ⊎-elim}
+use lib.ListN.{length, getD, replicate, List·getD-eq-default}
+use lib.Seq.{getD-set-other}
+use Rattle.meaning.specs.Limits
+use Rattle.meaning.specs.Limits.{format}
+use Rattle.meaning.specs.Literals.{says-true, says-false, fluent-of}
+use Rattle.meaning.specs.Requests.{Table, Request}
+use Rattle.meaning.specs.Lines.{effects-of}
+use Rattle.meaning.specs.States.{State, mark-of, known, told, told-all, state-of, first-state, known-after, mark-after, state-after}
+use Rattle.meaning.specs.Walk.{walked}
+use Rattle.meaning.proofs.TestLaws.{by-test, both-left, clash, either-split, pick-false, Has}
+use Rattle.meaning.proofs.RangeLaws.{Ranged}
+use Rattle.meaning.proofs.StateLaws.{known-true, known-false, unknown-mark, after-length}
+use Rattle.meaning.proofs.PairLaws.{given-pair, after-mark, caused-within}
+use Rattle.meaning.proofs.SensingLaws.{sensed-within, read-is}
+use Rattle.glintstring.proofs.KeepingLaws.{End-has, Kept-by, walked-kept}
+
+-- No mark stands from fluent n up.
+abbrev pub Blank-from : ℕ → State → Type 0
+Blank-from n s = (f : ℕ) → n ≤ f → getD s f 0 ≡ 0
+
+module _ (n : ℕ) where
+  told-blank : (l : ℕ) → fluent-of l < n → (s : State) → Blank-from n s → Blank-from n (told l s)
+  unfolding told
+  told-blank l near s blank f far = getD-set-other s (fluent-of l) f (mark-of l) 0 (λ e. omega arith) ∙ blank f far
+
+  told-all-blank : (ls : List ℕ) → ((l : ℕ) → Has ls l → l < 2 * n) → (s : State) → Blank-from n s → Blank-from n (told-all ls s)
+  unfolding told-all fluent-of
+  told-all-blank [] within s blank = blank
+  told-all-blank (l ∷ ls) within s blank =
+      let near = within l (inl refl) in
+      told-all-blank ls (λ k h. within k (inr h)) (told l s) (told-blank l (omega arith) s blank)
+
+module _ (t : Table) (ranged : Ranged format t) where
+  first-blank : Blank-from (t .fluents) (first-state format t)
+  unfolding first-state state-of
+  first-blank = told-all-blank (t .fluents) (t .facts) (ranged .facts) (replicate 64 0) (λ f _. unknown-mark 64 f)
+
+  -- AN ACTION gives no literal from there up, and what was not known is not known after it.
+  still-unknown : (a : ℕ) (s : State) (l : ℕ) → 2 * t .fluents ≤ l → known s l ≡ false → known-after (effects-of t a) s l ≡ false
+  unfolding known-after
+  still-unknown a s l far none =
+      by-test _
+      (λ e. ⊎-elim (λ is. clash is none) (λ is. clash is (sym (given-pair t a (known s) l) ∙ caused-within t a (t .fluents) (ranged .effects) (known s) l far)) (either-split _ _ (both-left _ _ e)))
+      (λ e. e)
+
+  mark-blank : (a : ℕ) (s : State) (f : ℕ) → t .fluents ≤ f → getD s f 0 ≡ 0 → mark-after (effects-of t a) s f ≡ 0
+  unfolding mark-after says-true says-false
+  mark-blank a s f far none =
+      pick-false _ _ _ (still-unknown a s (says-true f) (omega arith) (known-true s f ∙ rw none refl))
+      ∙ pick-false _ _ _ (still-unknown a s (says-false f) (omega arith) (known-false s f ∙ rw none refl))
+
+  after-blank : (a : ℕ) (s : State) → Blank-from (t .fluents) s → Blank-from (t .fluents) (state-after t a s)
+  after-blank a s blank f far =
+      elim (decLt f (length s)) [
+        | yes near ↦ after-mark t a s f near ∙ mark-blank a s f far (blank f far)
+        | no beyond ↦ List·getD-eq-default (state-after t a s) 0 {n = f} (rw (after-length t a s) (omega arith))
+      ]
+
+  table-blank : Kept-by (Blank-from (t .fluents)) t
+  unfolding says-true says-false fluent-of
+  table-blank = record {
+    reads = λ a s f h u blank.
+        let near = sensed-within t a (t .fluents) (ranged .knowledge) f (read-is t a s f h .1) in
+        (told-blank (t .fluents) (says-true f) (omega arith) u blank, told-blank (t .fluents) (says-false f) (omega arith) u blank);
+    acts = after-blank;
+  }
+
+-- THE WALK from the first state.
+pub walked-blank : (r : Request) → Ranged format (r .table) → End-has (Blank-from (r .table .fluents)) (walked r (first-state format (r .table)) .end)
+walked-blank r ranged = walked-kept (Blank-from (r .table .fluents)) r (table-blank (r .table) ranged) (first-state format (r .table)) (first-blank (r .table) ranged)
