@@ -1,2 +1,3 @@
 pub mod DerivationLaws
 pub mod DerivedLaws
+pub mod Walked

@@ -15,6 +15,9 @@ use bytes::limits;
 use bytes::lists::Kind;
 use bytes::lists::Passed;
 use bytes::lists::list_at;
+use reader::Reader;
+use reader::moved;
+use reader::new;
 use reading::plan::plan_at;
 use reading::table::Table;
 
@@ -136,6 +139,41 @@ fn lines_from(
     Passed::To(p)
 }
 
+// The same, from where a reader stands.
+fn lines<'a>(
+    r: Reader<'a>,
+    n: usize,
+    m: usize,
+    count: usize,
+    t: &mut Table,
+    places: &mut Places,
+) -> Passed
+    requires { ⌜ n ≤ 64 ⌝ }
+    requires { ⌜ count ≤ 1024 ⌝ }
+    requires { ⌜ length (now (r .src)) ≤ 32768 ⌝ }
+    ensures { λ x. ⌜ outcome x (now (places .exit)) ≡ noting (places-noted 0) (repeated (line-at format n m (now (r .entry .src))) count (r .entry .at)) (now (places .entry)) ⌝ }
+{
+    lines_from(n, m, r.src, count, r.at, t, places)
+}
+
+// So many lines from `start` on, by way of a reader: who calls this needs none.
+fn read_lines(
+    n: usize,
+    m: usize,
+    s: &[u8],
+    count: usize,
+    start: usize,
+    t: &mut Table,
+    places: &mut Places,
+) -> Passed
+    requires { ⌜ n ≤ 64 ⌝ }
+    requires { ⌜ count ≤ 1024 ⌝ }
+    requires { ⌜ length (now s) ≤ 32768 ⌝ }
+    ensures { λ x. ⌜ outcome x (now (places .exit)) ≡ noting (places-noted 0) (repeated (line-at format n m (now (s .entry))) count start) (now (places .entry)) ⌝ }
+{
+    lines(moved(new(s), start), n, m, count, t, places)
+}
+
 // A derivation for a request with n fluents and m actions.
 pub fn read_derivation(n: usize, m: usize, s: &[u8], t: &mut Table, places: &mut Places) -> Passed
     requires { ⌜ n ≤ 64 ⌝ }
@@ -152,7 +190,7 @@ pub fn read_derivation(n: usize, m: usize, s: &[u8], t: &mut Table, places: &mut
             if limits::LINES < c {
                 return Passed::Fault(limits::COUNT_OUTSIDE, 0);
             }
-            match lines_from(n, m, s, c, p, t, places) {
+            match read_lines(n, m, s, c, p, t, places) {
                 Passed::To(e) => {
                     if e < s.len() {
                         return Passed::Fault(limits::BYTES_AFTER, e);

@@ -1,18 +1,13 @@
 -- Requests: a law for each way that a reader returns. Assumes nothing.
 use Prim.Native.Nat.{ℕ, suc, _+_, _-_, _≤_, _<_}
 use native.Mathlib.Omega.{arith}
-use mathlib.Core.Path.{_≡_, refl, sym, _∙_, ap, subst}
+use mathlib.Core.Path.{_≡_, refl, sym, _∙_, ap}
 use mathlib.Core.List.{List, [], _∷_}
-use lib.ListN.{length, getD, set}
-use lib.Dec.{ltb}
-use borrow.Author.Tests.{lt-ltb, le-ltb}
-use Rattle.meaning.specs.Tests.{pick}
-use Rattle.meaning.proofs.TestLaws.{pick-true, pick-false}
-use Rattle.meaning.proofs.SettledLaws.{got-same}
+use lib.ListN.{length, set}
 use Rattle.meaning.specs.Limits.{format}
-use Rattle.meaning.specs.Requests.{Table, Sequence, Request}
-use Rattle.meaning.specs.Reading.{Got, got, fault, next, literals, fluents, plan-at, count-at, list-at, section-at, effect-at, executability-at, knowledge-at, table-at, request-at, read-request, placed, Met}
-use Rattle.meaning.proofs.RangeLaws.{count-within, after-got}
+use Rattle.meaning.specs.Requests.{Table, Sequence}
+use Rattle.meaning.specs.Reading.{Got, got, fault, next, literals, fluents, plan-at, count-at, list-at, section-at, effect-at, executability-at, knowledge-at, table-at, request-at, placed, Met}
+use Rattle.meaning.proofs.RangeLaws.{count-within}
 use Rattle.bytes.specs.declared.bytes.Read.{Read}
 use Rattle.bytes.specs.declared.bytes.Read.the-variants.{Value, Fault}
 use Rattle.bytes.specs.declared.lists.Kind.the-variants.{Literals, Fluents}
@@ -22,12 +17,11 @@ use Rattle.bytes.specs.Read.{number-read, passed, kind-of}
 use Rattle.reading.specs.Noted.{effects, executability, knowledge, line-at, table-noted, three-sections, facts-first, actions-first, noting, outcome}
 use Rattle.reading.specs.Noted.{plan-slot, items-slot, goals-slot}
 use Rattle.reading.specs.Planned.{items-of, bytes-of, plan-noted, noting-met, outcome-met}
-use Rattle.reading.specs.Requested.{goals-first, plan-first, places-noted, goals-place, plan-place, request-noted, sections-read}
+use Rattle.reading.specs.Requested.{goals-first, plan-first, places-noted, goals-place, plan-place, request-noted}
 use Rattle.bytes.proofs.ByteLaws.{read-value, read-fault}
 use Rattle.bytes.proofs.ListLaws.{passed-to, passed-stop}
 use Rattle.reading.proofs.NotingLaws.{with-items, met-value, met-fault, fault-met}
 use Rattle.reading.proofs.PlanSizes.{Counted, sequence-read, list-through}
-use Rattle.reading.proofs.SectionLaws.{count-got, noting-got, noting-fault}
 
 -- One part after another.
 module _ {A B C : Type 0} where
@@ -172,7 +166,7 @@ module _ (s : List ℕ) (x : Table) (p : ℕ) (t : List ℕ) where
       let items-are : plan .items ≡ items-of (plan .value) = omega arith in
       rw (placed-length (q + 1) goals, goals-at, plan-stands, items-are)
 
-  plan-whole : plan-first (x .fluents) (x .actions) s p (table-noted x t) ≡ noting request-noted (request-at format s x p) t
+  pub plan-whole : plan-first (x .fluents) (x .actions) s p (table-noted x t) ≡ noting request-noted (request-at format s x p) t
   unfolding plan-first goals-first noting request-at next
   plan-whole =
       next-where (plan-at format (x .fluents) (x .actions) s p) (λ plan q e.
@@ -181,89 +175,3 @@ module _ (s : List ℕ) (x : Table) (p : ℕ) (t : List ℕ) where
       ∙ sym (next-next (list-at fluents (x .fluents) 64 s r) _ _))
       ∙ sym (next-next (list-at literals (x .fluents) 64 s q) _ _))
       ∙ sym (next-next (plan-at format (x .fluents) (x .actions) s p) _ _)
-
--- The two counts stand first.
-pub record Front (s : List ℕ) (x : Table) : Type 0 where
-  pub second : 1 < length s
-  pub fluents-are : getD s 0 0 ≡ x .fluents
-  pub actions-are : getD s 1 0 ≡ x .actions
-  pub most : x .fluents ≤ 64
-  pub few : x .actions ≤ 64
-
-pub front : (s : List ℕ) (x : Table) (q : ℕ) → table-at format s 0 ≡ got x q → Front s x
-unfolding table-at
-front s x q e =
-    after-got (count-at 1 64 s 0) _ e λ n p en e₁.
-    after-got (count-at 1 64 s p) _ e₁ λ m r em e₂.
-    after-got (list-at literals n 64 s r) _ e₂ λ facts i _ e₃.
-    after-got (section-at (effect-at format n m s) s i) _ e₃ λ es j _ e₄.
-    after-got (section-at (executability-at format n m s) s j) _ e₄ λ xs k _ e₅.
-    after-got (section-at (knowledge-at format n m s) s k) _ e₅ λ ks l _ e₆.
-    let is = got-same e₆ in
-    let first = count-got 1 64 s 0 n p en in
-    let then = count-got 1 64 s p m r em in
-    let at-one : p ≡ 1 = sym (first .2) in
-    record {
-      second = subst (λ (y : ℕ). y < length s) at-one (then .0);
-      fluents-are = first .1 ∙ ap (λ (y : Table). y .fluents) is;
-      actions-are = ap (λ (y : ℕ). getD s y 0) (sym at-one) ∙ then .1 ∙ ap (λ (y : Table). y .actions) is;
-      most = subst (λ (y : ℕ). y ≤ 64) (ap (λ (y : Table). y .fluents) is) (count-within 1 64 s 0 n p en);
-      few = subst (λ (y : ℕ). y ≤ 64) (ap (λ (y : Table). y .actions) is) (count-within 1 64 s p m r em);
-    }
-
-module _ (s : List ℕ) (t u : List ℕ) (first : Passed) (read : outcome first u ≡ noting table-noted (table-at format s 0) t) where
-  pub sections-fault : (k q : ℕ) (v : List ℕ) → first ≡ Stop k q → outcome (Stop k q) v ≡ noting request-noted (sections-read s) t
-  unfolding sections-read noting next outcome
-  sections-fault k q v is = rw (noting-fault table-noted (table-at format s 0) first t u read k q is)
-
-  module _ (p : ℕ) (is : first ≡ To p) where
-    table-got : (x : Table) × (table-at format s 0 ≡ got x p) × (u ≡ table-noted x t)
-    table-got = noting-got table-noted (table-at format s 0) first t u read p is
-
-    stands-first : Front s (table-got .0)
-    stands-first = front s (table-got .0) p (table-got .1)
-
-    pub first-there : 0 < length s
-    first-there = let h = stands-first .second in omega arith
-
-    pub second-byte-there : 1 < length s
-    second-byte-there = stands-first .second
-
-    pub fluents-most : (n : ℕ) → n ≡ getD s 0 0 → n ≤ 64
-    fluents-most n e = let a = stands-first .fluents-are in let b = stands-first .most in omega arith
-
-    pub sections-there : (n m : ℕ) (r : Passed) (w : List ℕ) → n ≡ getD s 0 0 → m ≡ getD s 1 0 → outcome r w ≡ plan-first n m s p u → outcome r w ≡ noting request-noted (sections-read s) t
-    unfolding sections-read next
-    sections-there n m r w en em e =
-        let x = table-got .0 in
-        let same : plan-first n m s p u ≡ plan-first (x .fluents) (x .actions) s p (table-noted x t) =
-        ap (λ (y : ℕ). plan-first y m s p u) (en ∙ stands-first .fluents-are)
-        ∙ ap (λ (y : ℕ). plan-first (x .fluents) y s p u) (em ∙ stands-first .actions-are)
-        ∙ ap (plan-first (x .fluents) (x .actions) s p) (table-got .2) in
-        rw (table-got .1) (e ∙ same ∙ plan-whole s x p t)
-
--- THE REQUEST.
-pub request-long : (s t u : List ℕ) → 16384 < length s → outcome (Stop 10 0) u ≡ noting request-noted (read-request format s) t
-unfolding read-request outcome noting next
-request-long s t u h = rw (pick-true (ltb 16384 (length s)) (λ _. fault 10 0) (λ _. next (table-at format s 0) (λ x p. next (request-at format s x p) (λ r e. pick (ltb e (length s)) (λ _. fault 20 e) (λ _. got r e)))) (lt-ltb _ _ h))
-
-module _ (s t u : List ℕ) (room : length s ≤ 16384) (all : Passed) (read : outcome all u ≡ noting request-noted (sections-read s) t) where
-  within-limit : read-request format s ≡ next (sections-read s) (λ r e. pick (ltb e (length s)) (λ _. fault 20 e) (λ _. got r e))
-  unfolding read-request sections-read
-  within-limit = pick-false _ _ _ (le-ltb _ _ room) ∙ sym (next-next (table-at format s 0) _ _)
-
-  pub request-fault : (k q : ℕ) (v : List ℕ) → all ≡ Stop k q → outcome (Stop k q) v ≡ noting request-noted (read-request format s) t
-  unfolding noting next outcome
-  request-fault k q v is = rw (within-limit, noting-fault request-noted (sections-read s) all t u read k q is)
-
-  module _ (e : ℕ) (is : all ≡ To e) where
-    all-got : (x : Request) × (sections-read s ≡ got x e) × (u ≡ request-noted x t)
-    all-got = noting-got request-noted (sections-read s) all t u read e is
-
-    pub request-more : e < length s → outcome (Stop 20 e) u ≡ noting request-noted (read-request format s) t
-    unfolding noting next outcome pick
-    request-more h = rw (within-limit, all-got .1, lt-ltb e (length s) h)
-
-    pub request-whole : length s ≤ e → outcome (To e) u ≡ noting request-noted (read-request format s) t
-    unfolding noting next outcome pick
-    request-whole h = rw (within-limit, all-got .1, le-ltb e (length s) h) (ap (λ (v : List ℕ). got v e) (all-got .2))

@@ -4,7 +4,7 @@ use mathlib.Core.List.{List}
 use lib.ListN.{length, set}
 use Rattle.meaning.specs.Limits.{format}
 use Rattle.meaning.specs.Requests.{Request}
-use Rattle.meaning.specs.Reading.{Got, got, next, literals, fluents, list-at, plan-at, table-at, request-at}
+use Rattle.meaning.specs.Reading.{Got, got, next, literals, fluents, list-at, plan-at}
 use Rattle.reading.specs.Noted.{plan-slot, items-slot, goals-slot, table-noted}
 use Rattle.reading.specs.Planned.{items-of, bytes-of, plan-noted}
 
@@ -33,7 +33,3 @@ unfoldable pub plan-first : (n m : ℕ) → List ℕ → ℕ → List ℕ → Go
 plan-first n m s p t =
     next (plan-at format n m s p) λ plan q.
     goals-first n s p (plan .items) q (plan-noted p t (plan .value))
-
--- The eight sections, whatever their length and whatever follows (FORMAT 2.11).
-unfoldable pub sections-read : List ℕ → Got Request
-sections-read s = next (table-at format s 0) λ x p. request-at format s x p

@@ -2,9 +2,9 @@ ghost use mathlib.Core.Path.{_≡_};
 ghost use Prim.Native.Nat.{_≤_, _<_};
 ghost use lib.ListN.{length};
 ghost use Rattle.meaning.specs.Limits.{format};
-ghost use Rattle.meaning.specs.Reading.{table-at, read-request};
+ghost use Rattle.meaning.specs.Reading.{table-at};
 ghost use Rattle.reading.specs.Noted.{facts-first, actions-first, table-noted, noting, outcome};
-ghost use Rattle.reading.specs.Requested.{goals-first, plan-first, request-noted, sections-read};
+ghost use Rattle.reading.specs.Requested.{goals-first, plan-first};
 use super::plan::plan_at;
 use super::sections::three_sections;
 use super::table;
@@ -12,7 +12,6 @@ use super::table::Table;
 use super::table::put;
 use bytes::bytes::Read;
 use bytes::bytes::count_at;
-use bytes::bytes::wide;
 use bytes::limits;
 use bytes::lists::Kind;
 use bytes::lists::Passed;
@@ -74,7 +73,7 @@ fn goals_at(n: usize, s: &[u8], plan: usize, items: usize, p: usize, t: &mut Tab
 }
 
 // Sections 6 to 8, over n fluents and m actions.
-fn request_at(n: usize, m: usize, s: &[u8], p: usize, t: &mut Table) -> Passed
+pub fn request_at(n: usize, m: usize, s: &[u8], p: usize, t: &mut Table) -> Passed
     requires { ⌜ n ≤ 64 ⌝ }
     requires { ⌜ length (now s) ≤ 16384 ⌝ }
     ensures { λ r. ⌜ outcome r (now (t .exit)) ≡ plan-first n m (now (s .entry)) p (now (t .entry)) ⌝ }
@@ -82,38 +81,5 @@ fn request_at(n: usize, m: usize, s: &[u8], p: usize, t: &mut Table) -> Passed
     match plan_at(n, m, s, p, t) {
         Read::Value(items, q) => goals_at(n, s, p, items, q, t),
         Read::Fault(k, q) => Passed::Fault(k, q),
-    }
-}
-
-// All eight sections.
-fn sections_at(s: &[u8], t: &mut Table) -> Passed
-    requires { ⌜ length (now s) ≤ 16384 ⌝ }
-    ensures { λ r. ⌜ outcome r (now (t .exit)) ≡ noting request-noted (sections-read (now (s .entry))) (now (t .entry)) ⌝ }
-{
-    match table_at(s, 0, t) {
-        Passed::To(p) => {
-            let n = wide(s[0]);
-            let m = wide(s[1]);
-            request_at(n, m, s, p, t)
-        }
-        Passed::Fault(k, q) => Passed::Fault(k, q),
-    }
-}
-
-// A request: at most the limit, all eight sections, and nothing after them.
-pub fn read_request(s: &[u8], t: &mut Table) -> Passed
-    ensures { λ r. ⌜ outcome r (now (t .exit)) ≡ noting request-noted (read-request format (now (s .entry))) (now (t .entry)) ⌝ }
-{
-    if limits::REQUEST < s.len() {
-        return Passed::Fault(limits::TOO_LONG, 0);
-    }
-    match sections_at(s, t) {
-        Passed::To(e) => {
-            if e < s.len() {
-                return Passed::Fault(limits::BYTES_AFTER, e);
-            }
-            Passed::To(e)
-        }
-        Passed::Fault(k, q) => Passed::Fault(k, q),
     }
 }

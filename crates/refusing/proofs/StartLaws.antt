@@ -11,12 +11,12 @@ use Rattle.meaning.proofs.SettledLaws.{got-same}
 use Rattle.meaning.proofs.RangeLaws.{not-refused, after-got, count-within}
 use Rattle.reading.specs.Listed.{listed, List-here}
 use Rattle.reading.proofs.SectionLaws.{count-got}
-use Rattle.reading.proofs.RequestLaws.{Front, front}
+use Rattle.reader.proofs.WholeLaws.{Front, front}
 use Rattle.refusing.proofs.HereLaws.{list-here}
 use Rattle.refusing.proofs.ReadLaws.{request-parts}
 
 pub record Starts (s : List ℕ) (t : Table) : Type 0 where
-  pub front : Front s t
+  pub front : Front s 0 t
   pub here : List-here 128 s 2
   pub facts : listed s 2 ≡ t .facts
 
@@ -34,7 +34,7 @@ table-starts s t p e =
     let two : p₂ ≡ 2 = omega (arith, first, second) in
     let list = list-here literals n s 64 p₂ facts p₃ ef in
     record {
-      front = front s t p e;
+      front = front s 0 t p e;
       here = subst (List-here 128 s) two (list .1 128 (omega (arith, few)));
       facts = ap (listed s) (sym two) ∙ list .0 ∙ ap (λ (x : Table). x .facts) (got-same u₆);
     }

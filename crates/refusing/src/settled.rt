@@ -11,7 +11,7 @@ use super::refusals::contradiction;
 use super::refusals::mixed;
 use bytes::limits;
 use bytes::lists::Passed;
-use reading::requests::read_request;
+use reader::requests::read_request;
 use reading::table;
 use reading::table::Table;
 use reading::table::get;

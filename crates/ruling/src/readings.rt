@@ -175,12 +175,8 @@ pub fn rule_3(
                 count: cited,
             };
             match each_reading(s, t, d, places, ends, a, f, marks, rest, 0) {
-                Used::To(k) => {
-                    return k == cited;
-                }
-                Used::Fails => {
-                    return false;
-                }
+                Used::To(k) => return k == cited,
+                Used::Fails => return false,
             }
         }
         return false;

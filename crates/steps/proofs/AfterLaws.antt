@@ -20,8 +20,8 @@ use Rattle.meaning.specs.Lines.{effects-of, given}
 use Rattle.meaning.specs.States.{State, mark-of, known, possible, told, known-after, mark-after, state-after}
 use Rattle.meaning.proofs.TestLaws.{by-test, clash, both-left, both-right, both-true, either-left, either-right, either-split, fails-false, pick-true, pick-false, Has, each-mono}
 use Rattle.meaning.proofs.PickLaws.{pick-has}
-use Rattle.meaning.proofs.LiteralLaws.{complement-twice, fluent-complement, same-fluent, by-literal}
-use Rattle.meaning.proofs.StateLaws.{mark-true, mark-false, mark-complement, known-true, known-false, after-length}
+use Rattle.meaning.proofs.LiteralLaws.{complement-twice, fluent-complement, same-fluent}
+use Rattle.meaning.proofs.StateLaws.{known-true, known-false, after-length}
 use Rattle.meaning.proofs.ToldLaws.{either-none, either-assoc, told-here, told-elsewhere}
 use Rattle.meaning.proofs.PairLaws.{after-mark}
 use Rattle.reading.specs.Listed.{listed}
@@ -110,15 +110,8 @@ module _ (s : List ℕ) (p : ℕ) (line : Effect-here s p) (next : State) (marke
   unfolding fluent-of
   fluent-small = let below = line .literal in omega arith
 
-  told-step : Bool → State
-  told-step b = pick b (λ _. told gives next) (λ _. next)
-
   undone-step : Bool → State
   undone-step b = pick b (λ _. undone gives next) (λ _. next)
-
-  told-marked : (b : Bool) → Marked (told-step b)
-  unfolding told-step told
-  told-marked b = pick-has Marked b _ _ (λ _. marked-set next (fluent-of gives) (mark-of gives) marked fluent-small (mark-most gives)) (λ _. marked)
 
   undone-marked : (b : Bool) → Marked (undone-step b)
   unfolding undone-step undone
@@ -126,13 +119,6 @@ module _ (s : List ℕ) (p : ℕ) (line : Effect-here s p) (next : State) (marke
       pick-has Marked b _ _
       (λ _. pick-has Marked _ _ _ (λ _. marked-set next (fluent-of gives) Limits.unknown-mark marked fluent-small (omega arith)) (λ _. marked))
       (λ _. marked)
-
-  told-stepped : (b : Bool) (l : ℕ) → both (eqb gives (complement l)) b ≡ false → known (told-step b) l ≡ either (known next l) (both (eqb gives l) b)
-  unfolding told-step
-  told-stepped b l free =
-      by-test b
-      (λ e. rw (pick-true _ (λ _. told gives next) (λ _. next) e) (told-one gives l next fluent-within (λ q. clash (both-true _ _ (eq-eqb _ _ q) e) free) ∙ sym (rw (e, both-all (eqb gives l)))))
-      (λ e. rw (pick-false _ (λ _. told gives next) (λ _. next) e) (sym (rw (e, both-none (eqb gives l)) (either-none (known next l)))))
 
   undone-stepped : (b : Bool) (l : ℕ) → known (undone-step b) l ≡ both (known next l) (fails (both (eqb gives (complement l)) b))
   unfolding undone-step fails

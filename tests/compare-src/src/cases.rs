@@ -146,12 +146,19 @@ fn derivation(row: Derivation) -> Vec<u8> {
     }
 }
 
+/// The derivation calls of the rows.
+pub fn checks() -> Vec<Check> {
+    let file_a = bytes(FILE_A);
+    let check = |&(_, _, whether, given, _): &DerivationRow| {
+        let request = if whether { file_a.clone() } else { [&file_a[..46], &[0]].concat() };
+        Check { request, derivation: derivation(given) }
+    };
+    DERIVATION_ROWS.iter().map(check).collect()
+}
+
 /// The rows of the derivation call.
 fn compare_derivations(rng: &mut Rng) -> Result<(), String> {
-    let file_a = bytes(FILE_A);
-    for (sentence, name, whether, given, [number, input, place]) in DERIVATION_ROWS {
-        let request = if whether { file_a.clone() } else { [&file_a[..46], &[0]].concat() };
-        let check = Check { request, derivation: derivation(given) };
+    for ((sentence, name, _, _, [number, input, place]), check) in DERIVATION_ROWS.into_iter().zip(checks()) {
         let answer = checks::agreed(rng, &check).map_err(|why| format!("FORMAT {sentence}, {name}: {why}; {check}"))?;
         if answer != [number, input, place, 0] {
             return Err(format!("FORMAT {sentence}, {name}: number, input, place, count are {answer:?}; {check}"));
@@ -210,12 +217,17 @@ fn without_bytes() -> Result<(), String> {
     }
 }
 
+/// The walk calls of the rows.
+pub fn calls() -> Vec<Call> {
+    let call = |&(_, _, given, budget, length, _, _): &Row| Call { request: request(given), lent: vec![LENT; length], budget };
+    ROWS.iter().map(call).collect()
+}
+
 /// Every row through its exported call, and the independent program's opinion of it.
 pub fn compare() -> Result<String, String> {
     let mut rng = Rng::new(1, 5, 0);
-    for row in &ROWS {
-        let (sentence, name, given, budget, length, _, _) = *row;
-        let call = Call { request: request(given), lent: vec![LENT; length], budget };
+    for (row, call) in ROWS.iter().zip(calls()) {
+        let (sentence, name, ..) = *row;
         let same = agreed(&mut rng, &call).and_then(|left| expect(&left, &expected(row, &call.lent), "the format"));
         same.map_err(|why| format!("FORMAT {sentence}, {name}: {why}; {call}"))?;
     }

@@ -58,7 +58,7 @@ pub fn call(seed: u64, index: u64) -> Check {
 
 /// A call of the independent program's own generators, about half of which are made wrong in some way; of some calls an input is made wrong
 /// once more, belongs to another call, or is of another kind.
-fn any_check(rng: &mut Rng) -> Check {
+pub fn any_check(rng: &mut Rng) -> Check {
     let mut check = plain(check_call(rng));
     match rng.below(100) {
         0..=5 => {

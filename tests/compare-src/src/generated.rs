@@ -48,7 +48,7 @@ pub fn call(seed: u64, index: u64) -> Call {
 
 /// A call of the independent program's own generators, which make about three of ten requests wrong in some way; of some calls the request is
 /// made wrong once more or is one of another kind, or the budget or the lent state is another.
-fn any_call(rng: &mut Rng) -> Call {
+pub fn any_call(rng: &mut Rng) -> Call {
     let drawn = judge_call(rng);
     let mut call = Call { request: drawn.request, lent: drawn.lent, budget: drawn.budget };
     match rng.below(100) {

@@ -6,7 +6,7 @@ use Rattle.deriving.proofs.derivations.read_derivation.Tie as tie
 use Rattle.deriving.proofs.derivations.read_derivation.Reads as reads
 use Rattle.deriving.proofs.derivations.read_derivation.Lts as lts
 use Rattle.bytes.proofs.bytes.two_bytes_at.Reads as two-bytes-at-reads
-use Rattle.deriving.proofs.derivations.lines_from.Reads as lines-from-reads
+use Rattle.deriving.proofs.derivations.read_lines.Reads as read-lines-reads
 
 -- src/derivations.rt:137:9
 returns : tie.Need-returns
@@ -29,8 +29,8 @@ returns-3 : tie.Need-returns-3
 returns-3 c = search derivation-many
 
 -- src/derivations.rt:147:19
-lines-from-requires : tie.Need-lines-from-requires
-lines-from-requires c κs = search needs
+read-lines-requires : tie.Need-read-lines-requires
+read-lines-requires c κs = search needs
 
 -- src/derivations.rt:148:28
 enum-known-e : tie.Need-enum-known-e
@@ -69,7 +69,7 @@ read-derivation-spec =
     enum-known-c
     returns-2
     returns-3
-    lines-from-requires
+    read-lines-requires
     enum-known-e
     returns-4
     enum-known-k

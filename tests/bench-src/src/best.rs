@@ -1,0 +1,527 @@
+//! The fastest verifier that we could write in Rust: a state is two masks of 64 bits; one pass over the bytes reads the request, finds 16 to 18
+//! and compiles each line into masks, those of one action side by side, and the plan into a flat row of items that each know what follows;
+//! the walk has a stack of its own. All of it lies in a workspace of fixed arrays that is made before the first call and used again.
+
+use crate::answers::{packed, refusal, Fault};
+
+const BRANCHING: u8 = 255;
+const LINES: usize = 256;
+const ITEMS: usize = 1_024;
+const BRANCHES: usize = 8 * ITEMS;
+/// A reading that waits is one fluent of one sensing action, and between two looks at a fluent stands an action that makes it unknown.
+const WAITING: usize = 64 * ITEMS;
+/// The position at the plan's end, and from this on: what follows that branching.
+const END: u16 = 1_024;
+const AROUND: u16 = 1_025;
+
+/// There are 255 effects at the most, so none has this number.
+const NONE: u8 = 255;
+
+type Read<T> = Result<T, Fault>;
+
+/// The fluents known true and those known false; or a body's, or a literal's.
+#[derive(Clone, Copy, Default)]
+struct Masks {
+    yes: u64,
+    no: u64,
+}
+
+impl Masks {
+    #[inline(always)]
+    fn known(self, body: Masks) -> bool {
+        (body.yes & !self.yes) | (body.no & !self.no) == 0
+    }
+
+    #[inline(always)]
+    fn possible(self, body: Masks) -> bool {
+        (body.yes & self.no) | (body.no & self.yes) == 0
+    }
+
+    #[inline(always)]
+    fn of(literal: u8) -> Masks {
+        let bit = 1u64 << (literal / 2 % 64);
+        let no = 0u64.wrapping_sub(u64::from(literal % 2));
+        Masks { yes: bit & !no, no: bit & no }
+    }
+}
+
+#[derive(Clone, Copy, Default)]
+struct Effect {
+    body: Masks,
+    literal: Masks,
+}
+
+/// What is said of an action: where its lines start and end, the literals that its effects give, what it senses.
+#[derive(Clone, Copy, Default)]
+struct Action {
+    effects: (u16, u16),
+    runs: (u16, u16),
+    gives: Masks,
+    senses: u64,
+}
+
+#[derive(Clone, Copy, Default)]
+struct Item {
+    place: u16,
+    next: u16,
+    /// The first branch of a branching, and how many there are; an action has none.
+    first: u16,
+    branches: u8,
+    action: u8,
+}
+
+#[derive(Clone, Copy, Default)]
+struct Branch {
+    condition: Masks,
+    start: u16,
+}
+
+/// Where to go on, with which state, and which fluents have to be read before that.
+#[derive(Clone, Copy, Default)]
+struct Waiting {
+    state: Masks,
+    unread: u64,
+    at: u16,
+}
+
+pub struct Workspace {
+    actions: [Action; 64],
+    /// Lines in the order of the file, with their actions, and then by action.
+    effects: [Effect; LINES],
+    effects_by: [Effect; LINES],
+    runs: [Masks; LINES],
+    runs_by: [Masks; LINES],
+    of: [u8; LINES],
+    /// The last effect on each fluent so far, and for each effect the one before it on that fluent; 255 is none.
+    last: [u8; 64],
+    before: [u8; LINES],
+    items: [Item; ITEMS],
+    branches: [Branch; BRANCHES],
+    waiting: [Waiting; WAITING],
+}
+
+impl Workspace {
+    pub fn new() -> Box<Workspace> {
+        Box::new(Workspace {
+            actions: [Action::default(); 64],
+            effects: [Effect::default(); LINES],
+            effects_by: [Effect::default(); LINES],
+            runs: [Masks::default(); LINES],
+            runs_by: [Masks::default(); LINES],
+            of: [0; LINES],
+            last: [0; 64],
+            before: [0; LINES],
+            items: [Item::default(); ITEMS],
+            branches: [Branch::default(); BRANCHES],
+            waiting: [Waiting::default(); WAITING],
+        })
+    }
+}
+
+/// What a request has besides its compiled lines and items.
+struct Request {
+    facts: Masks,
+    items: usize,
+    goals: Masks,
+    goals_at: usize,
+    whether: u64,
+    whether_at: usize,
+}
+
+/// The walk call.
+pub fn judge(space: &mut Workspace, s: &[u8], lent: &mut [u8], budget: u32) -> u64 {
+    let Ok(lent) = <&mut [u8; 64]>::try_from(lent) else { return packed(9, 0, 0, 0) };
+    if s.len() > 16_384 {
+        return refusal((10, 0));
+    }
+    let mut reader = Reader { s, at: 0, fluents: 0, actions: 0, items: 0, branches: 0, overlap: usize::MAX };
+    match reader.request(space) {
+        Err(fault) => refusal(fault),
+        Ok(request) => walk(space, &request, lent, budget),
+    }
+}
+
+struct Reader<'a> {
+    s: &'a [u8],
+    at: usize,
+    fluents: u8,
+    actions: u8,
+    items: usize,
+    branches: usize,
+    overlap: usize,
+}
+
+impl Reader<'_> {
+    #[inline(always)]
+    fn byte(&mut self) -> Read<u8> {
+        match self.s.get(self.at) {
+            Some(&byte) => {
+                self.at += 1;
+                Ok(byte)
+            }
+            None => Err((11, self.s.len())),
+        }
+    }
+
+    #[inline(always)]
+    fn count(&mut self, least: u8, most: u8) -> Read<u8> {
+        let count = self.byte()?;
+        if count < least || count > most {
+            return Err((12, self.at - 1));
+        }
+        Ok(count)
+    }
+
+    #[inline(always)]
+    fn below(&mut self, bound: u8) -> Read<u8> {
+        let byte = self.byte()?;
+        if byte >= bound {
+            return Err((13, self.at - 1));
+        }
+        Ok(byte)
+    }
+
+    /// A list of literals, as masks.
+    #[inline(always)]
+    fn literals(&mut self, most: u8) -> Read<Masks> {
+        let count = usize::from(self.count(0, most)?);
+        let start = self.at;
+        let there = &self.s[start..self.s.len().min(start + count)];
+        let bound = 2 * self.fluents;
+        let mut masks = [0u64; 2];
+        // An entry must be above this: the entry before, or its complement where that is the larger.
+        let mut least = 0;
+        for (index, &literal) in there.iter().enumerate() {
+            if literal < least || literal >= bound {
+                return Err(self.bad(start, index, literal));
+            }
+            masks[usize::from(literal % 2)] |= 1 << (literal / 2 % 64);
+            least = (literal | 1) + 1;
+        }
+        self.at = start + there.len();
+        if there.len() < count {
+            return Err((11, self.s.len()));
+        }
+        Ok(Masks { yes: masks[0], no: masks[1] })
+    }
+
+    /// Which of 13 to 15 it is; the entry has one before it unless it is too large.
+    #[cold]
+    fn bad(&self, start: usize, index: usize, literal: u8) -> Fault {
+        let place = start + index;
+        let number = match literal {
+            _ if literal >= 2 * self.fluents => 13,
+            _ if literal <= self.s[place - 1] => 14,
+            _ => 15,
+        };
+        (number, place)
+    }
+
+    fn request(&mut self, space: &mut Workspace) -> Read<Request> {
+        self.fluents = self.count(1, 64)?;
+        self.actions = self.count(1, 64)?;
+        space.actions[..usize::from(self.actions)].fill(Action::default());
+        let facts = self.literals(64)?;
+        let contradiction = self.effects(space)?;
+        self.executability(space)?;
+        let mixed = self.knowledge(space)?;
+        let end = self.sequence(space, 8, END)?;
+        let goals_at = self.at;
+        let goals = self.literals(64)?;
+        let whether_at = self.at;
+        let whether = self.whether()?;
+        if self.at < self.s.len() {
+            return Err((20, self.at));
+        }
+        if contradiction != usize::MAX {
+            return Err((16, contradiction));
+        }
+        if mixed != usize::MAX {
+            return Err((17, mixed));
+        }
+        if self.overlap != usize::MAX {
+            return Err((18, self.overlap));
+        }
+        Ok(Request { facts, items: end, goals, goals_at, whether, whether_at })
+    }
+
+    /// Section 3; the first effect that contradicts one before it.
+    fn effects(&mut self, space: &mut Workspace) -> Read<usize> {
+        let count = usize::from(self.byte()?);
+        let mut contradiction = usize::MAX;
+        space.last.fill(NONE);
+        for line in 0..count {
+            let place = self.at;
+            let action = self.below(self.actions)?;
+            let byte = self.below(2 * self.fluents)?;
+            let literal = Masks::of(byte);
+            let body = self.literals(16)?;
+            let said = &mut space.actions[usize::from(action % 64)];
+            said.effects.1 += 1;
+            let last = &mut space.last[usize::from(byte / 2 % 64)];
+            // Only where the action gives the complement too, pairs are looked at.
+            if !said.gives.possible(literal) && contradiction == usize::MAX {
+                let mut earlier = *last;
+                while earlier != NONE {
+                    let other = &space.effects[usize::from(earlier)];
+                    if space.of[usize::from(earlier)] == action && !other.literal.possible(literal) && other.body.possible(body) {
+                        contradiction = place;
+                        break;
+                    }
+                    earlier = space.before[usize::from(earlier)];
+                }
+            }
+            space.before[line % LINES] = *last;
+            *last = line as u8;
+            said.gives.yes |= literal.yes;
+            said.gives.no |= literal.no;
+            space.effects[line % LINES] = Effect { body, literal };
+            space.of[line % LINES] = action;
+        }
+        let mut start = 0;
+        for said in &mut space.actions[..usize::from(self.actions)] {
+            let lines = said.effects.1;
+            said.effects = (start, start);
+            start += lines;
+        }
+        for line in 0..count {
+            let slot = &mut space.actions[usize::from(space.of[line % LINES] % 64)].effects.1;
+            space.effects_by[usize::from(*slot) % LINES] = space.effects[line % LINES];
+            *slot += 1;
+        }
+        Ok(contradiction)
+    }
+
+    /// Section 4.
+    fn executability(&mut self, space: &mut Workspace) -> Read<()> {
+        let count = usize::from(self.byte()?);
+        for line in 0..count {
+            let action = self.below(self.actions)?;
+            space.runs[line % LINES] = self.literals(16)?;
+            space.of[line % LINES] = action;
+            space.actions[usize::from(action % 64)].runs.1 += 1;
+        }
+        let mut start = 0;
+        for said in &mut space.actions[..usize::from(self.actions)] {
+            let lines = said.runs.1;
+            said.runs = (start, start);
+            start += lines;
+        }
+        for line in 0..count {
+            let slot = &mut space.actions[usize::from(space.of[line % LINES] % 64)].runs.1;
+            space.runs_by[usize::from(*slot) % LINES] = space.runs[line % LINES];
+            *slot += 1;
+        }
+        Ok(())
+    }
+
+    /// Section 5; the first line whose action has effects.
+    fn knowledge(&mut self, space: &mut Workspace) -> Read<usize> {
+        let mut mixed = usize::MAX;
+        for _ in 0..self.byte()? {
+            let place = self.at;
+            let action = self.below(self.actions)?;
+            let fluent = self.below(self.fluents)?;
+            let said = &mut space.actions[usize::from(action % 64)];
+            if said.gives.yes | said.gives.no != 0 && mixed == usize::MAX {
+                mixed = place;
+            }
+            said.senses |= 1 << (fluent % 64);
+        }
+        Ok(mixed)
+    }
+
+    /// Section 8.
+    fn whether(&mut self) -> Read<u64> {
+        let mut mask = 0;
+        let mut least = 0;
+        for _ in 0..self.count(0, 64)? {
+            let fluent = self.below(self.fluents)?;
+            if fluent < least {
+                return Err((14, self.at - 1));
+            }
+            mask |= 1 << (fluent % 64);
+            least = fluent + 1;
+        }
+        Ok(mask)
+    }
+
+    /// A sequence in which so many branchings may stand one inside another, and what follows its last item; the items met up to its end.
+    fn sequence(&mut self, space: &mut Workspace, deep: usize, up: u16) -> Read<usize> {
+        let mut left = u16::from_be_bytes([self.byte()?, self.byte()?]);
+        while left > 0 {
+            left -= 1;
+            let place = self.at;
+            let byte = self.byte()?;
+            let item = self.items;
+            if item == ITEMS {
+                return Err((21, place));
+            }
+            self.items += 1;
+            if byte == BRANCHING {
+                if deep == 0 {
+                    return Err((19, place));
+                }
+                self.branching(space, deep - 1, item, place)?;
+            } else {
+                if byte >= self.actions {
+                    return Err((13, place));
+                }
+                space.items[item] = Item { place: place as u16, action: byte, branches: 0, first: 0, next: 0 };
+            }
+            space.items[item].next = if left > 0 { self.items as u16 } else { up };
+        }
+        Ok(self.items)
+    }
+
+    fn branching(&mut self, space: &mut Workspace, deep: usize, item: usize, place: usize) -> Read<()> {
+        let count = usize::from(self.count(1, 8)?);
+        let first = self.branches;
+        self.branches += count;
+        let around = AROUND + item as u16;
+        space.items[item] = Item { place: place as u16, action: BRANCHING, branches: count as u8, first: first as u16, next: 0 };
+        for branch in first..first + count {
+            let condition = self.literals(16)?;
+            let before = self.items;
+            // Some branch before has a condition that does not exclude this one.
+            if space.branches[first..branch].iter().any(|other| other.condition.possible(condition)) {
+                self.overlap = self.overlap.min(place);
+            }
+            // The slots of the branches stay free while what is inside is read.
+            space.branches[branch].condition = condition;
+            let end = self.sequence(space, deep, around)?;
+            space.branches[branch].start = if end == before { around } else { before as u16 };
+        }
+        Ok(())
+    }
+}
+
+/// The item at which the walk goes on.
+#[inline(always)]
+fn settled(items: &[Item; ITEMS], at: u16) -> u16 {
+    let mut at = at;
+    while at > END {
+        at = items[usize::from(at - AROUND) % ITEMS].next;
+    }
+    at
+}
+
+fn walk(space: &mut Workspace, request: &Request, lent: &mut [u8; 64], budget: u32) -> u64 {
+    let Workspace { actions, effects_by, runs_by, items, branches, waiting, .. } = space;
+    let mut left = budget;
+    let mut missed: Option<(usize, Masks)> = None;
+    let mut state = request.facts;
+    let mut at = if request.items == 0 { END } else { 0 };
+    let mut waits = 0;
+    loop {
+        while at < END {
+            let item = &items[usize::from(at) % ITEMS];
+            if item.branches > 0 {
+                let first = usize::from(item.first);
+                let known = |branch: &&Branch| state.known(branch.condition);
+                match branches[first..first + usize::from(item.branches)].iter().find(known) {
+                    Some(branch) => at = settled(items, branch.start),
+                    None => return stuck(lent, item, state, budget - left),
+                }
+                continue;
+            }
+            let action = &actions[usize::from(item.action) % 64];
+            let runs = &runs_by[usize::from(action.runs.0)..usize::from(action.runs.1)];
+            if !runs.iter().any(|&body| state.known(body)) {
+                return stuck(lent, item, state, budget - left);
+            }
+            if left == 0 {
+                return packed(3, 0, 0, budget);
+            }
+            left -= 1;
+            at = settled(items, item.next);
+            if action.senses == 0 {
+                state = after(&effects_by[usize::from(action.effects.0)..usize::from(action.effects.1)], state);
+                continue;
+            }
+            state = fork(waiting, &mut waits, action.senses & !(state.yes | state.no), state, at);
+        }
+        if left == 0 {
+            return packed(3, 0, 0, budget);
+        }
+        left -= 1;
+        if missed.is_none() {
+            missed = first_missed(request, state).map(|place| (place, state));
+        }
+        if waits == 0 {
+            break;
+        }
+        waits -= 1;
+        let turn = waiting[waits];
+        at = turn.at;
+        state = fork(waiting, &mut waits, turn.unread, turn.state, at);
+    }
+    match missed {
+        None => packed(0, 0, 0, budget - left),
+        Some((place, state)) => {
+            write(lent, state);
+            packed(1, 1, place, budget - left)
+        }
+    }
+}
+
+/// The first reading of the fluents, ascending; the others wait.
+#[inline(always)]
+fn fork(waiting: &mut [Waiting; WAITING], waits: &mut usize, unread: u64, state: Masks, at: u16) -> Masks {
+    let mut state = state;
+    let mut unread = unread;
+    while unread != 0 {
+        let bit = unread & unread.wrapping_neg();
+        unread ^= bit;
+        waiting[*waits] = Waiting { state: Masks { yes: state.yes, no: state.no | bit }, unread, at };
+        *waits += 1;
+        state.yes |= bit;
+    }
+    state
+}
+
+#[inline(always)]
+fn after(effects: &[Effect], state: Masks) -> Masks {
+    let mut told = state;
+    let mut may = Masks::default();
+    for effect in effects {
+        // All bits where the body is possible, or known true; none otherwise.
+        let possible = 0u64.wrapping_sub(u64::from(state.possible(effect.body)));
+        let known = 0u64.wrapping_sub(u64::from(state.known(effect.body)));
+        may.yes |= effect.literal.yes & possible;
+        may.no |= effect.literal.no & possible;
+        told.yes |= effect.literal.yes & known;
+        told.no |= effect.literal.no & known;
+    }
+    Masks { yes: told.yes & !may.no, no: told.no & !may.yes }
+}
+
+/// The first goal or whether entry that is missed; entries ascend, so those below it are all before it.
+#[inline(always)]
+fn first_missed(request: &Request, state: Masks) -> Option<usize> {
+    let yes = request.goals.yes & !state.yes;
+    let no = request.goals.no & !state.no;
+    if yes | no != 0 {
+        let below = (yes | no).trailing_zeros();
+        let before = (request.goals.yes | request.goals.no) & ((1 << below) - 1);
+        return Some(request.goals_at + 1 + before.count_ones() as usize);
+    }
+    let whether = request.whether & !(state.yes | state.no);
+    if whether != 0 {
+        let before = request.whether & ((1 << whether.trailing_zeros()) - 1);
+        return Some(request.whether_at + 1 + before.count_ones() as usize);
+    }
+    None
+}
+
+#[cold]
+fn stuck(lent: &mut [u8; 64], item: &Item, state: Masks, count: u32) -> u64 {
+    write(lent, state);
+    packed(2, 1, usize::from(item.place), count)
+}
+
+fn write(lent: &mut [u8; 64], state: Masks) {
+    for (fluent, byte) in lent.iter_mut().enumerate() {
+        *byte = (state.yes >> fluent & 1) as u8 + 2 * (state.no >> fluent & 1) as u8;
+    }
+}

@@ -1,0 +1,67 @@
+//! Inputs of the fuzzer: a byte that says what is called, a number of two bytes, and what the call is given.
+
+use oracle::rng::Rng;
+
+use crate::calls::Call;
+use crate::cases;
+use crate::checks::Check;
+use crate::derivations::any_check;
+use crate::generated::any_call;
+
+/// A derivation call where this bit is set; the number is the length of the request, and the derivation follows it.
+const DERIVATION: u8 = 1;
+/// In a walk call: a budget of up to 16,383 instead of 255.
+const FAR: u8 = 2;
+/// The lent state has the number modulo 130 as its length where these are all set, and 64 otherwise.
+const ODD_LENGTH: u8 = 7 << 2;
+const LENGTHS: usize = 130;
+/// The longest input.
+pub const LONGEST: usize = 4_096;
+/// Streams of random numbers of the comparison's calls.
+const CALLS: u64 = 3;
+const CHECKS: u64 = 7;
+
+/// A call to be made both ways.
+pub enum Given {
+    Walk(Call),
+    Derivation(Check),
+}
+
+/// The call that an input stands for; each input stands for one.
+pub fn given(input: &[u8]) -> Given {
+    let (kind, number, rest) = match *input {
+        [kind, high, low, ref rest @ ..] => (kind, u16::from_be_bytes([high, low]), rest),
+        _ => (0, 0, input),
+    };
+    if kind & DERIVATION != 0 {
+        let (request, derivation) = rest.split_at(rest.len().min(number.into()));
+        return Given::Derivation(Check { request: request.to_vec(), derivation: derivation.to_vec() });
+    }
+    let length = if kind & ODD_LENGTH == ODD_LENGTH { usize::from(number) % LENGTHS } else { 64 };
+    let budget = if kind & FAR != 0 { number / 4 } else { number % 256 };
+    Given::Walk(Call { request: rest.to_vec(), lent: vec![9; length], budget: budget.into() })
+}
+
+/// An input for a walk call; a larger budget becomes the largest that there is.
+fn of_call(call: &Call) -> Vec<u8> {
+    let (kind, number) = match (call.lent.len(), call.budget) {
+        (64, 0..=255) => (0, call.budget as u16),
+        (64, _) => (FAR, call.budget.min(16_383) as u16 * 4),
+        (length, _) => (ODD_LENGTH, (length % LENGTHS) as u16),
+    };
+    [&[kind][..], &number.to_be_bytes(), &call.request].concat()
+}
+
+fn of_check(check: &Check) -> Vec<u8> {
+    let length = u16::try_from(check.request.len()).unwrap_or(u16::MAX);
+    [&[DERIVATION][..], &length.to_be_bytes(), &check.request, &check.derivation].concat()
+}
+
+/// What the fuzzer starts with: the format's rows, and so many generated calls of each kind; those that are too long are left out.
+pub fn seeds(seed: u64, count: u64) -> Vec<Vec<u8>> {
+    let walks = (0..count).map(|index| any_call(&mut Rng::new(seed, CALLS, index)));
+    let derivations = (0..count).map(|index| any_check(&mut Rng::new(seed, CHECKS, index)));
+    let walks = cases::calls().into_iter().chain(walks).map(|call| of_call(&call));
+    let derivations = cases::checks().into_iter().chain(derivations).map(|check| of_check(&check));
+    walks.chain(derivations).filter(|input| input.len() <= LONGEST).collect()
+}
