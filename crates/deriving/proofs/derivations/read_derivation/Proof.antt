@@ -1,4 +1,4 @@
--- Too long, without a right count, with a faulty line, with bytes after its lines, or whole: one law for each.
+-- Too long, without its count or with one outside, with a faulty line, with bytes after its lines, or whole: a law for each way.
 use Rattle.deriving.proofs.DerivationLaws.{derivation-long, derivation-fault, derivation-none, derivation-many, lines-fault, lines-before, lines-whole}
 use borrow.Author.Needs.{needs}
 use Rattle.deriving.proofs.derivations.read_derivation.Statement.{statement}
