@@ -114,4 +114,4 @@ judge-written request lent budget writes =
     let from : State = first-state format (x .table) in
     end-both Marked (Blank-from (x .table .fluents)) (walked x from .end) (walked-marked x from (first-marked (x .table))) (walked-blank x (read-ranged format request x e (settled-is format request x e past .reads))))
     writes in
-    (w .0, w .1, w .2, request-starts request (w .0) (w .1) (settled-is format request (w .0) (w .1) (w .2) .reads) .front .fluents-are, w .3)
+    (w .0, w .1, w .2, request-starts request (w .0) (w .1) (settled-is format request (w .0) (w .1) (w .2) .reads) .front .fluents-are, w .3 .0, w .3 .1)
