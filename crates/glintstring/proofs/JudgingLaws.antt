@@ -27,10 +27,11 @@ use Rattle.reading.specs.Listed.{listed}
 use Rattle.reading.specs.Requested.{request-noted}
 use Rattle.refusing.specs.Settled.{blank}
 use Rattle.reading.proofs.SectionLaws.{noting-got, noting-fault}
-use Rattle.steps.specs.AtHand.{request-of, request-in, At-hand, Marked}
+use Rattle.steps.specs.AtHand.{request-in, At-hand, Marked}
 use Rattle.steps.specs.Steps.{walk-from}
 use Rattle.walking.specs.Standing.{Standing, nothing, spent, so-far, spend, add, end-in, standing, Going}
 use Rattle.walking.proofs.StandingLaws.{stands-open, end-missed, end-stuck, sized-after}
+use Rattle.steps.proofs.HandLaws.{request-read}
 use Rattle.glintstring.specs.Telling.{start, told, Tallied}
 use Rattle.glintstring.proofs.MarkedLaws.{End-marked, first-marked, walked-marked}
 use Rattle.glintstring.proofs.FirstLaws.{walks-first}
@@ -149,8 +150,7 @@ module _ (s lent : List ℕ) (budget : ℕ) where
       }
 
       request-is : request-in s ≡ settled-got .0
-      unfolding request-in request-of
-      request-is = ap request-of (settled-is format s (settled-got .0) e (settled-got .1) .reads)
+      request-is = request-read s (settled-got .0) e (settled-is format s (settled-got .0) e (settled-got .1) .reads)
 
       pub judge-walked : length lent ≡ 64 → (answer : Answer) (left : List ℕ)
           → record { answer = answer; state = left } ≡ within lent budget (walked (request-in s) (first-state format (request-in s .table)))

@@ -39,7 +39,7 @@ use Rattle.comparing.proofs.CodedLaws.{coded-length, own-most, none-done}
 use Rattle.comparing.proofs.CodedPlaces.{branch-coded, act-there, Branching-coded, branching-there}
 use Rattle.comparing.proofs.KnownLaws.{listed-clear}
 use Rattle.comparing.proofs.StandLaws.{Line-parts, line-parts}
-use Rattle.ruling.proofs.RuleLaws.{plan-of, item-bytes}
+use Rattle.ruling.proofs.RuleLaws.{plan-of, item-bytes, own-count}
 
 -- THE PLACE after so many branches.
 module _ (d t : List ℕ) where
@@ -396,16 +396,13 @@ module _ (n m : ℕ) (d : List ℕ) (p y : ℕ) where
     first-fits some room = let there = plan-counted some in let most = room .fits in record { fits = omega arith }
 
     module _ (count : ℕ) (counted : count ≡ getD d plan 0 * 256 + getD d (plan + 1) 0) where
-      own-is : (l : Line) → Stands d p y l → count ≡ own-items (l .c)
-      own-is l sl = counted ∙ plan-of d p y plan at l sl .count
-
       pub count-none : (pc yc : ℕ) → count ≡ 0 → Read-by n m d pc yc p y rule-4 false
       unfolding rule-4 branches-first
-      count-none pc yc zero-items = record { holds = λ c l sc _ sl. sym (ap (branches-first c l) (none-done (l .c) (sym (own-is l sl) ∙ zero-items))) }
+      count-none pc yc zero-items = record { holds = λ c l sc _ sl. sym (ap (branches-first c l) (none-done (l .c) (sym (own-count d p y plan at count counted l sl) ∙ zero-items))) }
 
       module _ (some-items : count ≡ 0 → ⊥) where
         own-some : (l : Line) → Stands d p y l → 0 < own-items (l .c)
-        own-some l sl = let own = own-is l sl in omega (arith, own, some-items)
+        own-some l sl = let own = own-count d p y plan at count counted l sl in omega (arith, own, some-items)
 
         pub first-there : Some-read n m d p y → plan + 2 < length d
         first-there some =
@@ -443,7 +440,7 @@ module _ (n m : ℕ) (d : List ℕ) (p y : ℕ) where
                 let whole : v .0 ≡ item (branching (b .place) (b .branches)) (b .rest) = tree ∙ b .is in
                 let read-there = plan-held n m d few less plan t (with-items (v .0) items) e (omega (arith, long)) (v .1) in
                 let held : Plan-held d u (v .0) = subst (λ (x : List ℕ). Plan-held d x (v .0)) (sym (v .2)) read-there in
-                let own = own-is l sl in let one = b .own in
+                let own = own-count d p y plan at count counted l sl in let one = b .own in
                 record {
                   place = b .place;
                   branches = b .branches;

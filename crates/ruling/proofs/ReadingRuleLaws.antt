@@ -41,7 +41,7 @@ use Rattle.ruling.specs.Readings.{lines-at, reads-at, used, fluents-from
 use Rattle.comparing.proofs.CodedLaws.{same-own, same-coded, none-done, coded-length}
 use Rattle.comparing.proofs.CodedPlaces.{Act-there, act-there, branching-there}
 use Rattle.comparing.proofs.PlanLaws.{plan-part, items-part}
-use Rattle.ruling.proofs.RuleLaws.{no-left, no-right, yes-left, plan-of, plan-counted, item-bytes}
+use Rattle.ruling.proofs.RuleLaws.{no-left, no-right, yes-left, plan-of, plan-counted, own-count}
 
 -- ONE CITATION, a line at pc, whose plan's count stands at q.
 module _ (d : List ℕ) (pc yc q : ℕ) (after : q ≡ sequence-place d pc) where
@@ -395,9 +395,6 @@ module _ (d : List ℕ) (p y : ℕ) (some : Some-line d p y) where
 
 -- Its first item.
 module _ (d : List ℕ) (p y q count : ℕ) (after : q ≡ sequence-place d p) (read : count ≡ getD d q 0 * 256 + getD d (q + 1) 0) where
-  own-count : (l : Line) → Stands d p y l → count ≡ own-items (l .c)
-  own-count l w = read ∙ plan-of d p y q after l w .count
-
   module _ (t : Table) (places ends : List ℕ) where
     pub none-first : count ≡ 0 → Ruled-by-all d places ends p y (rule-3 format t) false
     unfolding rule-3 senses-first
@@ -405,19 +402,12 @@ module _ (d : List ℕ) (p y q count : ℕ) (after : q ≡ sequence-place d p) (
         record {
           holds = λ lines l stand w below.
               let cited = cited-by lines l in
-              sym (ap (senses-first format t cited l) (none-done (l .c) (sym (own-count l w) ∙ none)));
+              sym (ap (senses-first format t cited l) (none-done (l .c) (sym (own-count d p y q after count read l w) ∙ none)));
         }
 
   module _ (more : count ≡ 0 → ⊥) where
     own-some : (l : Line) → Stands d p y l → 0 < own-items (l .c)
-    own-some l w = let same = own-count l w in omega (arith, more, same)
-
-    pub item-there : Some-line d p y → q + 2 < length d
-    item-there some =
-        let plan = plan-of d p y q after (some .line) (some .stands) in
-        let size = item-bytes (some .line .c) (own-some (some .line) (some .stands)) in
-        let to = plan .ends in let inside = plan .inside in
-        omega (arith, size, to, inside)
+    own-some l w = let same = own-count d p y q after count read l w in omega (arith, more, same)
 
     pub branching-first : (t : Table) (places ends : List ℕ) → getD d (q + 2) 0 ≡ 255 → Ruled-by-all d places ends p y (rule-3 format t) false
     unfolding rule-3 senses-first
@@ -437,7 +427,7 @@ module _ (d : List ℕ) (p y q count : ℕ) (after : q ≡ sequence-place d p) (
       rest-items l w =
           let first = first-act l w in
           let plan = plan-of d p y q after l w in
-          let own = first .own in let same = own-count l w in let few = plan .few in
+          let own = first .own in let same = own-count d p y q after count read l w in let few = plan .few in
           let bytes : bytes-of (l .c) ≡ 1 + bytes-of (first .rest) = ap bytes-of (first .is) ∙ act-bytes _ _ _ in
           let to = plan .ends in
           let up : q + 2 + 1 ≡ q + 3 = omega arith in

@@ -232,21 +232,27 @@ record One-act (c : Sequence ℕ) (a : ℕ) : Type 0 where
   is : c ≡ item (act place a) done
 
 module _ (d : List ℕ) (p y q : ℕ) (after : q ≡ sequence-place d p) (count : ℕ) (read : count ≡ getD d q 0 * 256 + getD d (q + 1) 0) where
+  pub own-count : (l : Line) → Stands d p y l → count ≡ own-items (l .c)
+  own-count l w = read ∙ plan-of d p y q after l w .count
+
+  pub items-there : (count ≡ 0 → ⊥) → Some-line d p y → q + 2 < length d
+  items-there more some =
+      let w = plan-of d p y q after (some .line) (some .stands) in
+      let own = own-count (some .line) (some .stands) in
+      let size = item-bytes (some .line .c) (omega (arith, more, own)) in
+      let ends = w .ends in let inside = w .inside in
+      omega (arith, size, ends, inside)
+
   pub not-one-item : (s : List ℕ) → (count ≡ 1 → ⊥) → Ruled d p y (rule-2 format (request-in s .table)) false
   unfolding rule-2
-  not-one-item s other = record { holds = λ l w. not-one (request-in s .table) l (l .c) (λ e. other (read ∙ plan-of d p y q after l w .count ∙ e)) }
+  not-one-item s other = record { holds = λ l w. not-one (request-in s .table) l (l .c) (λ e. other (own-count l w ∙ e)) }
 
   module _ (one : count ≡ 1) where
     own-one : (l : Line) → Stands d p y l → own-items (l .c) ≡ 1
-    own-one l w = sym (plan-of d p y q after l w .count) ∙ sym read ∙ one
+    own-one l w = sym (own-count l w) ∙ one
 
     pub item-there : Some-line d p y → q + 2 < length d
-    item-there some =
-        let w = plan-of d p y q after (some .line) (some .stands) in
-        let own = own-one (some .line) (some .stands) in
-        let more = item-bytes (some .line .c) (omega (arith, own)) in
-        let ends = w .ends in let inside = w .inside in
-        omega (arith, more, ends, inside)
+    item-there = items-there (λ e. omega (arith, one, e))
 
     pub item-branches : (s : List ℕ) → getD d (q + 2) 0 ≡ 255 → Ruled d p y (rule-2 format (request-in s .table)) false
     unfolding rule-2

@@ -24,8 +24,9 @@ use Rattle.refusing.specs.Settled.{blank}
 use Rattle.refusing.proofs.KeptLaws.{kept}
 use Rattle.refusing.proofs.HereLaws.{list-here}
 use Rattle.refusing.proofs.ReadLaws.{Parts, parts, effect-good, knowledge-good}
-use Rattle.steps.specs.AtHand.{request-of, request-in, At-hand}
+use Rattle.steps.specs.AtHand.{request-in, At-hand}
 use Rattle.steps.specs.Lines.{allowed-at, given-at, Runs, Effects, Senses, goals-in, whether-in, Ends}
+use Rattle.steps.proofs.HandLaws.{request-read}
 use Rattle.steps.proofs.ChainLaws.{latest, latest-has, latest-those}
 use Rattle.steps.proofs.SlotLaws.{with-runs, with-knowledge, runs-long, lines-slot, sensed-empty, effects-chain, runs-chain, goals-noted}
 use Rattle.steps.proofs.StandLaws.{run-stands, knowledge-small, Ends-read, ends-read, list-after}
@@ -35,10 +36,6 @@ use Rattle.steps.proofs.SensedLaws.{Sensed, says, seen-after, seen-some
 module _ (s : List ℕ) (bytes : (i : ℕ) → getD s i 0 < 256) (x : Request) (e : ℕ) (reads : read-request format s ≡ got x e) where
   whole : Parts s x
   whole = parts s x e reads
-
-  request-is : request-in s ≡ x
-  unfolding request-in request-of
-  request-is = ap request-of reads
 
   -- What an action senses.
   knowledge-sensed : (a : ℕ) → a < 64 → Sensed (request-noted x blank) a (seen-after a (λ _. false) (x .table .knowledge))
@@ -99,7 +96,7 @@ module _ (s : List ℕ) (bytes : (i : ℕ) → getD s i 0 < 256) (x : Request) (
     same = λ test.
         latest-those (λ (r : Executability). r .action) (λ (r : Executability). r .place + 1) a (λ p. each-of test (listed s p)) (λ (r : Executability). each-of test (r .body)) (x .table .executability)
         (λ r has. ap (each-of test) (run-stands s (x .table) (whole .place) (whole .of-table) r has .0))
-        ∙ ap (λ (y : Request). allowed test (executability-of (y .table) a)) (sym request-is);
+        ∙ ap (λ (y : Request). allowed test (executability-of (y .table) a)) (sym (request-read s x e reads));
   }
 
   effects-there : (a : ℕ) → a < 64 → Effects s (request-noted x blank) a
@@ -113,7 +110,7 @@ module _ (s : List ℕ) (bytes : (i : ℕ) → getD s i 0 < 256) (x : Request) (
     same = λ test l.
         latest-those (λ (e : Effect). e .action) (λ (e : Effect). e .place) a (λ p. both (eqb (getD s (p + 1) 0) l) (each-of test (listed s (p + 2)))) (λ (e : Effect). both (eqb (e .literal) l) (each-of test (e .body))) (x .table .effects)
         (λ e has. ap (λ (y : Effect). both (eqb (y .literal) l) (each-of test (y .body))) (effect-good s (x .table) (whole .place) (whole .of-table) e has .0))
-        ∙ ap (λ (y : Request). given test (effects-of (y .table) a) l) (sym request-is);
+        ∙ ap (λ (y : Request). given test (effects-of (y .table) a) l) (sym (request-read s x e reads));
   }
 
   -- What the request senses is what its knowledge lines say.
@@ -122,7 +119,7 @@ module _ (s : List ℕ) (bytes : (i : ℕ) → getD s i 0 < 256) (x : Request) (
   senses-is a f =
       seen-some a (λ _. false) (x .table .knowledge) f
       ∙ sym (some-those (λ (k : Knowledge). eqb (k .action) a) (λ (k : Knowledge). eqb (k .fluent) f) (x .table .knowledge))
-      ∙ ap (λ (y : Request). senses (knowledge-of (y .table) a) f) (sym request-is)
+      ∙ ap (λ (y : Request). senses (knowledge-of (y .table) a) f) (sym (request-read s x e reads))
 
   senses-there : (a : ℕ) → a < 64 → Senses s (request-noted x blank) a
   unfolding senses sensing
@@ -153,9 +150,9 @@ module _ (s : List ℕ) (bytes : (i : ℕ) → getD s i 0 < 256) (x : Request) (
   ends-there =
       record {
         goals-here = rw at (goals .1 128 (omega (arith, few)));
-        goals-same = rw (at, goals .0, request-is) (sym (ends .goals-are));
+        goals-same = rw (at, goals .0, request-read s x e reads) (sym (ends .goals-are));
         whether-here = rw (sym after) (whether .1 64 (omega (arith, few)));
-        whether-same = rw (sym after, whether .0, request-is) (sym (ends .whether-are));
+        whether-same = rw (sym after, whether .0, request-read s x e reads) (sym (ends .whether-are));
       }
     where
       ends : Ends-read s x

@@ -1,8 +1,8 @@
 -- The first item is told by its byte; where it is a sensing action that can be run, each reading is said by its line just where the citations used
 -- are all, and then they are as many as the readings.
 use Rattle.steps.proofs.ToldMarks.{marked-as}
-use Rattle.ruling.proofs.RuleLaws.{plan-counted, items-fit}
-use Rattle.ruling.proofs.ReadingRuleLaws.{rest-fits, item-there, Y-there, counted-inside, counted-fits, cites-fit, none-first, branching-first, action-small, some-rest, not-sensing, not-run, all-read, not-read}
+use Rattle.ruling.proofs.RuleLaws.{plan-counted, items-fit, items-there}
+use Rattle.ruling.proofs.ReadingRuleLaws.{rest-fits, Y-there, counted-inside, counted-fits, cites-fit, none-first, branching-first, action-small, some-rest, not-sensing, not-run, all-read, not-read}
 use borrow.Author.Needs.{needs}
 use Rattle.ruling.proofs.readings.rule_3.Statement.{statement}
 use Rattle.ruling.proofs.readings.rule_3.Tie as tie
@@ -35,7 +35,7 @@ add-first c = search items-fit
 
 -- src/readings.rt:156:8
 shared-slice-read-if2 : tie.Need-shared-slice-read-if2
-shared-slice-read-if2 c = search item-there
+shared-slice-read-if2 c = search items-there
 
 -- src/readings.rt:157:9
 returns-2 : tie.Need-returns-2
@@ -43,7 +43,7 @@ returns-2 c = search branching-first
 
 -- src/readings.rt:159:18
 shared-slice-read-wide : tie.Need-shared-slice-read-wide
-shared-slice-read-wide c = search item-there
+shared-slice-read-wide c = search items-there
 
 -- src/readings.rt:159:9
 wide-requires : tie.Need-wide-requires
