@@ -20,9 +20,12 @@ mod generated;
 mod plain;
 mod programs;
 mod walks;
+#[path = "../../compare-src/src/words.rs"]
+mod words;
 
 use std::process::ExitCode;
-use std::{env, thread};
+
+use words::{number, obey, Failure};
 
 /// Enough for the deepest walks of the plain program, which has a copy of the state in each call of itself.
 const STACK: usize = 256 << 20;
@@ -31,26 +34,14 @@ const HELP: &str = "usage: bench check SEED COUNT | bench walks SEED ROUNDS COUN
      bench only PROGRAM CLASS whole|reading COUNT PASSES";
 
 fn main() -> ExitCode {
-    let work = thread::Builder::new().stack_size(STACK).spawn(|| {
-        let words: Vec<String> = env::args().skip(1).collect();
-        let words: Vec<&str> = words.iter().map(String::as_str).collect();
-        let number = |word: &str| word.parse::<u64>().map_err(|_| format!("not a number: {word}"));
-        match words[..] {
+    obey("bench", STACK, |words| {
+        let told = match *words {
             ["check", seed, count] => check::check(number(seed)?, number(count)?),
             ["walks", seed, rounds, count] => walks::time(number(seed)?, number(rounds)?, number(count)?),
             ["derivations", seed, rounds] => derivations::time(number(seed)?, number(rounds)?),
             ["only", program, class, part, count, passes] => walks::only(program, class, part, number(count)?, number(passes)?),
-            _ => Err(HELP.to_string()),
-        }
-    });
-    match work.expect("a thread").join().expect("a run") {
-        Ok(told) => {
-            println!("{told}");
-            ExitCode::SUCCESS
-        }
-        Err(why) => {
-            eprintln!("bench: {why}");
-            ExitCode::from(1)
-        }
-    }
+            _ => return Err(Failure::Usage(HELP.to_string())),
+        };
+        told.map_err(Failure::Found)
+    })
 }

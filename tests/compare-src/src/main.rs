@@ -14,9 +14,11 @@ mod fence;
 mod generated;
 mod hostile;
 mod largest;
+mod words;
 
 use std::process::ExitCode;
-use std::{env, thread};
+
+use words::{number, obey, Failure};
 
 /// The stack on which calls are made, apart from the deepest ones, which have a thread with less: that of a process's first thread.
 const STACK: usize = 8 << 20;
@@ -25,37 +27,22 @@ const HELP: &str = "usage: compare cases | compare deepest FOLDER | compare gene
                     | compare hostile FOLDER | compare longest | compare write DEEPEST FOLDER BUDGET COUNT";
 
 fn main() -> ExitCode {
-    let work = thread::Builder::new().stack_size(STACK).spawn(|| {
-        let words: Vec<String> = env::args().skip(1).collect();
-        let words: Vec<&str> = words.iter().map(String::as_str).collect();
-        let number = |word: &str| word.parse::<u64>().map_err(|_| format!("not a number: {word}"));
-        match words[..] {
-            ["cases"] => Ok(cases::compare()),
-            ["deepest", folder] => Ok(deepest::compare(folder)),
-            ["generated", seed, count] => Ok(generated::compare(number(seed)?, number(count)?)),
-            ["largest"] => Ok(largest::compare()),
-            ["derivations", seed, count] => Ok(derivations::compare(number(seed)?, number(count)?)),
-            ["hostile", folder] => Ok(endured::compare(Some(folder))),
-            ["longest"] => Ok(endured::compare(None)),
+    obey("compare", STACK, |words| {
+        let compared = match *words {
+            ["cases"] => cases::compare(),
+            ["deepest", folder] => deepest::compare(folder),
+            ["generated", seed, count] => generated::compare(number(seed)?, number(count)?),
+            ["largest"] => largest::compare(),
+            ["derivations", seed, count] => derivations::compare(number(seed)?, number(count)?),
+            ["hostile", folder] => endured::compare(Some(folder)),
+            ["longest"] => endured::compare(None),
             ["write", deepest, folder, budget, count] => {
-                let budget = budget.parse().map_err(|_| format!("not a budget: {budget}"))?;
-                Ok(endured::write(deepest, folder, budget, number(count)?))
+                let budget = budget.parse().map_err(|_| Failure::Usage(format!("not a budget: {budget}")))?;
+                endured::write(deepest, folder, budget, number(count)?)
             }
-            _ => Err(HELP.to_string()),
-        }
-    });
-    match work.expect("a thread").join().expect("a comparison") {
-        Ok(Ok(agreed)) => {
-            println!("compare: {agreed}");
-            ExitCode::SUCCESS
-        }
-        Ok(Err(difference)) => {
-            println!("compare: DIFFERENCE: {difference}");
-            ExitCode::from(1)
-        }
-        Err(usage) => {
-            eprintln!("compare: {usage}");
-            ExitCode::from(2)
-        }
-    }
+            _ => return Err(Failure::Usage(HELP.to_string())),
+        };
+        let agreed = compared.map_err(|difference| Failure::Found(format!("DIFFERENCE: {difference}")))?;
+        Ok(format!("compare: {agreed}"))
+    })
 }

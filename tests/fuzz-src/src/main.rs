@@ -1,11 +1,15 @@
 //! What the fuzzer starts with, what it found written down as cases, and these judged again by both programs.
 
+#[path = "../../compare-src/src/words.rs"]
+mod words;
+
 use std::fmt::Write;
+use std::fs;
 use std::process::ExitCode;
-use std::{env, fs, thread};
 
 use fuzz::agreed;
 use fuzz::input::seeds;
+use words::{number, obey, Failure};
 
 /// As for the comparison: the stack of a process's first thread.
 const STACK: usize = 8 << 20;
@@ -74,25 +78,13 @@ fn replay(file: &str) -> Result<String, String> {
 }
 
 fn main() -> ExitCode {
-    let work = thread::Builder::new().stack_size(STACK).spawn(|| {
-        let words: Vec<String> = env::args().skip(1).collect();
-        let words: Vec<&str> = words.iter().map(String::as_str).collect();
-        let number = |word: &str| word.parse::<u64>().map_err(|_| format!("not a number: {word}"));
-        match words[..] {
+    obey("fuzz", STACK, |words| {
+        let told = match *words {
             ["seeds", folder, seed, count] => write_seeds(folder, number(seed)?, number(count)?),
             ["keep", folder, file] => keep(folder, file),
             ["replay", file] => replay(file),
-            _ => Err(HELP.to_string()),
-        }
-    });
-    match work.expect("a thread").join().expect("a run") {
-        Ok(told) => {
-            println!("fuzz: {told}");
-            ExitCode::SUCCESS
-        }
-        Err(why) => {
-            eprintln!("fuzz: {why}");
-            ExitCode::from(1)
-        }
-    }
+            _ => return Err(Failure::Usage(HELP.to_string())),
+        };
+        told.map(|said| format!("fuzz: {said}")).map_err(Failure::Found)
+    })
 }
