@@ -7,6 +7,7 @@ pub mod StateLaws
 pub mod WalkLaws
 pub mod RefusalLaws
 pub mod LineLaws
+pub mod DerivationLines
 pub mod SettledLaws
 pub mod AnswerLaws
 pub mod Sound

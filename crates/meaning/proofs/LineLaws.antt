@@ -87,7 +87,7 @@ module _ (t u : Table) (same : Same-tables t u) (a : ℕ) where
       ∙ some-same _ (λ x y r. rw (r .action, r .literal, r .body)) (t .effects) (u .effects) (same .effects)
       ∙ sym (some-those _ _ (u .effects))
 
-  sensing-same : sensing t a ≡ sensing u a
+  pub sensing-same : sensing t a ≡ sensing u a
   unfolding sensing knowledge-of
   sensing-same =
       some-those _ _ (t .knowledge)
@@ -101,12 +101,12 @@ module _ (t u : Table) (same : Same-tables t u) (a : ℕ) where
       ∙ some-same _ (λ x y r. rw (r .action, r .fluent)) (t .knowledge) (u .knowledge) (same .knowledge)
       ∙ sym (some-those _ _ (u .knowledge))
 
-  marks-same : (s : State) (f : ℕ) (ms : List ℕ) → marks-after (effects-of t a) s f ms ≡ marks-after (effects-of u a) s f ms
+  pub marks-same : (s : State) (f : ℕ) (ms : List ℕ) → marks-after (effects-of t a) s f ms ≡ marks-after (effects-of u a) s f ms
   unfolding marks-after mark-after known-after
   marks-same s f [] = refl
   marks-same s f (m ∷ ms) = simp (given-same, marks-same s (f + 1) ms)
 
-  unknown-same : (s : State) (f : ℕ) (ms : List ℕ) → unknown-from (knowledge-of t a) s f ms ≡ unknown-from (knowledge-of u a) s f ms
+  pub unknown-same : (s : State) (f : ℕ) (ms : List ℕ) → unknown-from (knowledge-of t a) s f ms ≡ unknown-from (knowledge-of u a) s f ms
   unfolding unknown-from
   unknown-same s f [] = refl
   unknown-same s f (m ∷ ms) = simp (senses-same, unknown-same s (f + 1) ms)
@@ -126,7 +126,7 @@ module _ (t u : Table) (same : Same-tables t u) where
   unfolding contradictory
   contradictory-same e g x y p q = rw (p .action, p .literal, p .body, q .action, q .literal, q .body)
 
-  contradiction-same : unplaced-found (contradiction-in [] (t .effects)) ≡ unplaced-found (contradiction-in [] (u .effects))
+  pub contradiction-same : unplaced-found (contradiction-in [] (t .effects)) ≡ unplaced-found (contradiction-in [] (u .effects))
   contradiction-same = go _ _ refl refl
     where
       go : (f g : Found) → contradiction-in [] (t .effects) ≡ f → contradiction-in [] (u .effects) ≡ g → unplaced-found f ≡ unplaced-found g
@@ -143,7 +143,7 @@ module _ (t u : Table) (same : Same-tables t u) where
           let y = same .effects .back (w .1) (⊎-elim (λ h. h) absurd (w .3)) in
           clash (contradictory-same (x .0) (y .0) (w .0) (w .1) (x .2) (y .2) ∙ w .4) (past-16 (t .effects) p (x .0) (y .0) (x .1) (y .1))
 
-  mixed-same : unplaced-found (mixed-in (t .effects) (t .knowledge)) ≡ unplaced-found (mixed-in (u .effects) (u .knowledge))
+  pub mixed-same : unplaced-found (mixed-in (t .effects) (t .knowledge)) ≡ unplaced-found (mixed-in (u .effects) (u .knowledge))
   mixed-same =
       unplaced-17 (t .effects) (t .knowledge)
       ∙ ap found-if (some-same _ (λ x y r. rw (r .action)) (t .knowledge) (u .knowledge) (same .knowledge))
