@@ -1,11 +1,11 @@
 -- A plan is told by how many items it has and by their bytes, wherever it stands: each part says its length before it, so that what follows a
 -- part is where it is. Joined plans have the bytes of both, and the first byte says what the first item is. Assumes nothing.
-use Prim.Native.Nat.{ℕ, suc, _+_, _/_, _%_, _≤_, _<_}
+use Prim.Native.Nat.{ℕ, suc, _+_, _/_, _%_, _≤_}
 use native.Mathlib.Omega.{arith}
 use mathlib.Core.Path.{_≡_, refl, sym, _∙_, ap, ap₂}
 use mathlib.Core.Bool.{true, false≢true}
 use mathlib.Core.List.{List, [], _∷_, _++_, append-assoc}
-use lib.ListN.{length, length-append, getD}
+use lib.ListN.{length, length-append}
 use lib.Dec.{eqb}
 use borrow.Author.Tests.{eqb-true, eq-eqb, ne-eqb}
 use Rattle.meaning.specs.Tests.{both}
@@ -41,16 +41,6 @@ parted (x ∷ xs) [] r q h e = absurd (omega arith)
 parted (x ∷ xs) (y ∷ ys) r q h e =
     let rest = parted xs ys r q (omega arith) (tails x y (xs ++ r) (ys ++ q) e) in
     (ap₂ {C = List ℕ} (λ z zs. z ∷ zs) (heads x y (xs ++ r) (ys ++ q) e) (rest .0), rest .1)
-
-pub same-list-length : (xs ys : List ℕ) → same-list xs ys ≡ true → length xs ≡ length ys
-same-list-length xs ys e = ap length (same-list-is xs ys e)
-
--- Part by part, where the first parts have the same length.
-pub same-list-parted : (c d r q : List ℕ) → length c ≡ length d → same-list (c ++ r) (d ++ q) ≡ both (same-list c d) (same-list r q)
-same-list-parted c d r q h =
-    same-test (same-list (c ++ r) (d ++ q)) (both (same-list c d) (same-list r q))
-    (λ e. let w = parted c d r q h (same-list-is (c ++ r) (d ++ q) e) in both-true _ _ (same-list-equal c d (w .0)) (same-list-equal r q (w .1)))
-    (λ e. same-list-equal (c ++ r) (d ++ q) (ap₂ {C = List ℕ} (λ x y. x ++ y) (same-list-is c d (both-left _ _ e)) (same-list-is r q (both-right _ _ e))))
 
 -- FROM THE BYTES, with anything behind them.
 branch-apart : (c b rest r : List ℕ) → c ++ b ++ rest ++ r ≡ c ++ (b ++ (rest ++ r))
@@ -159,11 +149,6 @@ unfolding Tellable join
 tellable-join done q t u = u
 tellable-join (item i p) q t u = (t .0, tellable-join p q (t .1) u)
 
--- A joined plan against another.
-pub same-joined : (p q d : Sequence ℕ) → Tellable p → Tellable q → Tellable d
-    → same-plan (join p q) d ≡ both (eqb (own-items p + own-items q) (own-items d)) (same-list (coded p ++ coded q) (coded d))
-same-joined p q d t u v = rw (sym (coded-join p q), sym (own-join p q)) (same-coded (join p q) d (tellable-join p q t u) v)
-
 pub same-to-joined : (d p q : Sequence ℕ) → Tellable d → Tellable p → Tellable q
     → same-plan d (join p q) ≡ both (eqb (own-items d) (own-items p + own-items q)) (same-list (coded d) (coded p ++ coded q))
 same-to-joined d p q t u v = rw (sym (coded-join p q), sym (own-join p q)) (same-coded d (join p q) t (tellable-join p q u v))
@@ -198,50 +183,11 @@ own-most done = omega arith
 own-most (item (act p a) rest) = let more = own-most rest in omega arith
 own-most (item (branching p bs) rest) = let more = own-most rest in omega arith
 
--- THE FIRST ITEM.
-pub record Acts-first (b : Sequence ℕ) : Type 0 where
-  pub place : ℕ
-  pub rest : Sequence ℕ
-  pub is : b ≡ item (act place (getD (coded b) 0 0)) rest
-  pub more : coded b ≡ getD (coded b) 0 0 ∷ coded rest
-  pub own : own-items b ≡ suc (own-items rest)
-  pub below : getD (coded b) 0 0 < 255
-  pub tellable : Tellable rest
-
-pub record Branches-first (b : Sequence ℕ) : Type 0 where
-  pub place : ℕ
-  pub branches : Branches ℕ
-  pub rest : Sequence ℕ
-  pub is : b ≡ item (branching place branches) rest
-  pub more : coded b ≡ 255 ∷ branches-in branches ∷ (coded-branches branches ++ coded rest)
-  pub own : own-items b ≡ suc (own-items rest)
-  pub told : Tellable-branches branches
-  pub tellable : Tellable rest
-
-pub first-acts : (b : Sequence ℕ) → 0 < own-items b → Tellable b → (getD (coded b) 0 0 ≡ 255 → ⊥) → Acts-first b
-unfolding own-items coded Tellable
-first-acts done h t other = absurd (omega arith)
-first-acts (item (act p a) rest) h t other = record { place = p; rest = rest; is = refl; more = refl; own = refl; below = t .0; tellable = t .1 }
-first-acts (item (branching p bs) rest) h t other = absurd (other refl)
-
-pub first-branches : (b : Sequence ℕ) → 0 < own-items b → Tellable b → getD (coded b) 0 0 ≡ 255 → Branches-first b
-unfolding own-items coded Tellable
-first-branches done h t is = absurd (omega arith)
-first-branches (item (act p a) rest) h t is = let below = t .0 in absurd (omega arith)
-first-branches (item (branching p bs) rest) h t is = record { place = p; branches = bs; rest = rest; is = refl; more = refl; own = refl; told = t .0; tellable = t .1 }
-
+-- NO ITEM.
 pub none-done : (b : Sequence ℕ) → own-items b ≡ 0 → b ≡ done
 unfolding own-items
 none-done done h = refl
 none-done (item i rest) h = absurd (omega arith)
-
-pub done-none : (b : Sequence ℕ) → b ≡ done → own-items b ≡ 0
-unfolding own-items
-done-none b h = rw h refl
-
-pub coded-done : coded done ≡ []
-unfolding coded
-coded-done = refl
 
 -- A sequence with no item is the same as the empty one, and no other is.
 pub same-done : (b : Sequence ℕ) → same-plan b done ≡ eqb (own-items b) 0

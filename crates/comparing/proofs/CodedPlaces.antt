@@ -2,25 +2,17 @@
 -- as the second behind it. Assumes nothing.
 use Prim.Native.Nat.{ℕ, suc, _+_, _*_, _/_, _%_, _<_}
 use native.Mathlib.Omega.{arith}
-use mathlib.Core.Path.{_≡_, refl, sym, _∙_, ap, ap₂, subst}
+use mathlib.Core.Path.{_≡_, refl, sym, ap, ap₂, subst}
 use mathlib.Core.List.{List, [], _∷_, _++_}
 use lib.ListN.{length, length-append, getD}
-use lib.Dec.{eqb}
 use Rattle.meaning.specs.Tests.{both}
 use Rattle.meaning.specs.Requests.{Sequence, done, item, act, branching, Branches, branch}
-use Rattle.meaning.specs.Derivations.{same-list, same-plan}
 use Rattle.reading.specs.Listed.{bytes-from, listed}
 use Rattle.refusing.specs.Branchings.{sequence-place}
 use Rattle.reading.specs.Planned.{bytes-of, bytes-under}
 use Rattle.refusing.specs.Plans.{own-items, branches-in}
 use Rattle.comparing.specs.Coded.{coded, coded-branches, Tellable, Tellable-branches}
-use Rattle.comparing.proofs.CodedLaws.{heads, tails, same-coded, coded-length, branches-length}
-use Rattle.comparing.proofs.CodedReads.{Plan-coded}
-
--- TWO PLANS that were read, of one input or of two.
-pub plans-same : (s u : List ℕ) (p q : ℕ) (b d : Sequence ℕ) (e f : ℕ) → Plan-coded s p b e → Plan-coded u q d f
-    → same-plan b d ≡ both (eqb (own-items b) (own-items d)) (same-list (bytes-from s (p + 2) (bytes-of b)) (bytes-from u (q + 2) (bytes-of d)))
-plans-same s u p q b d e f one two = rw (one .bytes, two .bytes) (same-coded b d (one .tellable) (two .tellable))
+use Rattle.comparing.proofs.CodedLaws.{heads, tails, coded-length, branches-length}
 
 -- PARTS.
 pub record Parted-bytes (s : List ℕ) (p : ℕ) (xs ys : List ℕ) : Type 0 where

@@ -14,7 +14,6 @@ use Rattle.meaning.specs.Derivations.{same-list}
 use Rattle.meaning.proofs.TestLaws.{by-test, clash, both-true}
 use Rattle.meaning.proofs.DerivationSound.{same-list-is}
 use Rattle.reading.specs.Listed.{bytes-from, listed, List-here}
-use Rattle.refusing.proofs.HereLaws.{bytes-length}
 
 -- EQUAL LISTS pass, and lists that differ do not.
 same-list-self : (xs : List ℕ) → same-list xs xs ≡ true
@@ -99,15 +98,9 @@ bytes-take s (suc k) p within =
 pub part-bytes : (s : List ℕ) (a b : ℕ) → a ≤ b → b ≤ length s → take (b - a) (drop a s) ≡ bytes-from s a (b - a)
 part-bytes s a b up within = sym (bytes-take s (b - a) a (omega (arith, up, within)))
 
-pub part-length : (s : List ℕ) (a b : ℕ) → a ≤ b → b ≤ length s → length (take (b - a) (drop a s)) ≡ b - a
-part-length s a b up within = rw (part-bytes s a b up within) (bytes-length s (b - a) a)
-
 module _ (s : List ℕ) (p k : ℕ) (within : p + k ≤ length s) where
   pub part-is : take (p + k - p) (drop p s) ≡ bytes-from s p k
   part-is = let size : p + k - p ≡ k = omega arith in rw size (sym (bytes-take s k p within))
-
-  pub part-size : length (take (p + k - p) (drop p s)) ≡ k
-  part-size = rw part-is (bytes-length s k p)
 
 -- The part after the count of a list that stands at p.
 pub part-listed : (bound : ℕ) (s : List ℕ) (p x : ℕ) → List-here bound s p → x ≡ getD s p 0 → take (p + 1 + x - (p + 1)) (drop (p + 1) s) ≡ listed s p

@@ -1,9 +1,9 @@
 -- What the rules' functions answer of lines that stand in the input, whatever lines these are.
-use Prim.Native.Nat.{ℕ, _+_, _≤_, _<_}
+use Prim.Native.Nat.{ℕ, _+_, _≤_}
 use mathlib.Core.Path.{_≡_}
 use mathlib.Core.Bool.{Bool}
-use mathlib.Core.List.{List, [], _∷_}
-use lib.ListN.{length, getD}
+use mathlib.Core.List.{List}
+use lib.ListN.{length}
 use Rattle.meaning.specs.Requests.{Sequence}
 use lib.Dec.{ltb}
 use mathlib.Core.Bool.{true}

@@ -1,14 +1,11 @@
 -- A place that the tally takes is in the request, which has at most 16,384 bytes. Assumes nothing.
 use Prim.Native.Nat.{ℕ, _+_, _≤_, _<_}
 use native.Mathlib.Omega.{arith}
-use mathlib.Core.Path.{_≡_, refl, sym, _∙_, ap, subst}
+use mathlib.Core.Path.{_≡_, refl, _∙_, ap, subst}
 use mathlib.Core.Bool.{Bool}
 use mathlib.Core.List.{List, [], _∷_}
 use lib.ListN.{length, getD}
 use borrow.Author.Tests.{ltb-false}
-use Rattle.meaning.specs.Tests.{pick}
-use Rattle.meaning.specs.Limits.{format}
-use Rattle.meaning.specs.Requests.{Request, Entry}
 use Rattle.meaning.specs.Reading.{placed, read-request}
 use Rattle.meaning.specs.Refusals
 use Rattle.meaning.specs.Refusals.{nowhere, at, or-else}
@@ -24,7 +21,7 @@ use Rattle.refusing.specs.declared.refusals.Found.the-variants.{At}
 use Rattle.refusing.proofs.SettleLaws.{found-at}
 use Rattle.refusing.proofs.PlanOverlaps.{listed-length}
 use Rattle.steps.specs.AtHand.{request-in, At-hand}
-use Rattle.steps.specs.Lines.{Ends, goals-in, whether-in}
+use Rattle.steps.specs.Lines.{goals-in, whether-in}
 use Rattle.steps.proofs.Served.{ends-at-hand}
 use Rattle.steps.proofs.OnwardLaws.{item-inside}
 

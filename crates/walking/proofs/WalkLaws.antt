@@ -1,22 +1,20 @@
 -- The walk's arms: each is what the definition gives for the item met, by the standing that the tally held before. Assumes nothing.
-use Prim.Native.Nat.{ℕ, _+_, _-_, _*_, _≤_, _<_}
+use Prim.Native.Nat.{ℕ, _+_, _≤_, _<_}
 use native.Mathlib.Omega.{arith}
-use mathlib.Core.Path.{_≡_, refl, sym, _∙_, ap, subst}
+use mathlib.Core.Path.{_≡_, refl, sym, _∙_, ap}
 use mathlib.Core.Bool.{Bool, true, false}
-use mathlib.Core.List.{List, [], _∷_}
+use mathlib.Core.List.{List, _∷_}
 use lib.ListN.{length, getD}
-use lib.Dec.{eqb, ltb}
-use borrow.Author.Tests.{ltb-true, ltb-false, eqb-true, eqb-false}
-use Rattle.meaning.specs.Tests.{pick, fails}
-use Rattle.meaning.specs.Limits.{format}
-use Rattle.meaning.specs.Requests.{Request, Entry}
-use Rattle.meaning.specs.Reading.{placed}
+use lib.Dec.{ltb}
+use borrow.Author.Tests.{ltb-true, ltb-false}
+use Rattle.meaning.specs.Tests.{pick}
+use Rattle.meaning.specs.Requests.{Request}
 use Rattle.meaning.specs.Refusals
-use Rattle.meaning.specs.Refusals.{nowhere, at, or-else}
+use Rattle.meaning.specs.Refusals.{nowhere, at}
 use Rattle.meaning.specs.Lines.{sensing}
 use Rattle.meaning.specs.States.{State, can-be-run, state-after, unknown-sensed, readings, Outcome, outcome}
-use Rattle.meaning.specs.Walk.{End, fine, missed, stuck, Walked, stuck-at, counted, and-then, after-end, each-reading, run-action, table-step, first-missed, missed-in, end-of, judged, keep-miss}
-use Rattle.meaning.proofs.TestLaws.{by-test, pick-true, pick-false}
+use Rattle.meaning.specs.Walk.{fine, missed, Walked, stuck-at, counted, and-then, after-end, each-reading, run-action, table-step, missed-in, end-of, judged}
+use Rattle.meaning.proofs.TestLaws.{pick-true, pick-false}
 use Rattle.reading.specs.Planned.{items-of}
 use Rattle.refusing.specs.InTable.{found}
 use Rattle.refusing.specs.declared.refusals.Found.{Found}

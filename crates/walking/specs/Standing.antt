@@ -1,5 +1,5 @@
 -- How a walk stands within its budget, and what the walk of a part adds to that. The defined walk knows no budget; this ties the two.
-use Prim.Native.Nat.{ℕ, _+_, _-_, _<_}
+use Prim.Native.Nat.{ℕ, _-_, _<_}
 use mathlib.Core.Path.{_≡_}
 use mathlib.Core.List.{List}
 use lib.ListN.{length, getD, drop}

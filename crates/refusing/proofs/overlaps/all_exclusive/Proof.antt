@@ -1,9 +1,6 @@
 -- At each turn every two conditions are exclusive just where every two of those left are.
-use Prim.Native.Nat.{_+_, _-_}
 use mathlib.Core.Path.{_≡_}
-use Rattle.meaning.specs.Tests.{each-of}
-use Rattle.refusing.specs.InTable.{found}
-use Rattle.refusing.specs.Branchings.{conditions-from, rules-out, all-apart, first-overlap, Branches-here}
+use Rattle.refusing.specs.Branchings.{conditions-from, all-apart, Branches-here}
 use Rattle.refusing.proofs.OverlapLaws.{branch-first, condition-first, branches-next, apart-not, apart-next, apart-done}
 use borrow.Author.Needs.{needs}
 use Rattle.refusing.proofs.overlaps.all_exclusive.Statement.{statement}

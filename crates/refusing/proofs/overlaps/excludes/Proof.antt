@@ -1,9 +1,7 @@
 -- At each turn the state rules out every condition just where it rules out those left.
-use Prim.Native.Nat.{_+_, _-_}
 use mathlib.Core.Path.{_≡_}
 use Rattle.meaning.specs.Tests.{each-of}
-use Rattle.refusing.specs.InTable.{found}
-use Rattle.refusing.specs.Branchings.{conditions-from, rules-out, all-apart, first-overlap, Branches-here}
+use Rattle.refusing.specs.Branchings.{conditions-from, rules-out, Branches-here}
 use Rattle.refusing.proofs.OverlapLaws.{branch-first, condition-first, branches-next, out-not, out-next, out-done}
 use borrow.Author.Needs.{needs}
 use Rattle.refusing.proofs.overlaps.excludes.Statement.{statement}
