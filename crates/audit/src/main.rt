@@ -1,4 +1,4 @@
-// Checks the derivation in one file against the request in another, and says so on standard output (FORMAT 12.8 to 12.11).
+// Checks the derivation in one file against the request in another, and says so on standard output (FORMAT 12.8 to 12.12).
 ghost use Rattle.programs.specs.Input.{Within};
 use glintstring::derivations::check;
 use programs::Input;
