@@ -48,7 +48,7 @@ unfoldable pub concludes-fluent : ℕ → Bool
 concludes-fluent rule = among rule (Limits.look-rule ∷ Limits.literal-rule ∷ Limits.sensing-whether-rule ∷ Limits.composition-whether-rule ∷ Limits.branching-whether-rule ∷ [])
 
 -- READING, with the fluent count n and the action count m of the request.
-module _ (lim : Limits) (n m : ℕ) (s : List ℕ) where
+module _ (lim : Limits) (n : ℕ) (s : List ℕ) where
   unfoldable pub list-concluded : ℕ → Got Conclusion
   list-concluded p =
       next (list-at literals n (lim .listed) s p) λ Y e.
@@ -73,19 +73,20 @@ module _ (lim : Limits) (n m : ℕ) (s : List ℕ) where
       next (conclusion-at rule q) λ Y e.
       got (record { rule = rule; Y = Y }) e
 
+-- What closes a derivation: nothing, or a count byte of any value and as many line numbers (FORMAT 17.7).
+unfoldable pub closing-at : List ℕ → Layout → ℕ → Got (List ℕ)
+closing-at s Plain p = got [] p
+closing-at s Closing p = section-at (two-bytes-at s) s p
+
+module _ (lim : Limits) (n m : ℕ) (s : List ℕ) where
   unfoldable pub line-at : Layout → ℕ → Got Line
   line-at layout p =
       next (list-at literals n (lim .listed) s p) λ X q.
       next (plan-at lim n m s q) λ plan r.
-      next (concluded-at layout r) λ end t.
+      next (concluded-at lim n s layout r) λ end t.
       next (count-at 0 (lim .citations) s t) λ k u.
       next (repeated (two-bytes-at s) k u) λ cites e.
       got (record { place = p; X = X; c = plan .value; Y = end .Y; rule = end .rule; cites = cites }) e
-
-  -- What closes a derivation: nothing, or a count byte of any value and as many line numbers (FORMAT 17.7).
-  unfoldable pub closing-at : Layout → ℕ → Got (List ℕ)
-  closing-at Plain p = got [] p
-  closing-at Closing p = section-at (two-bytes-at s) s p
 
   -- At most the derivation limit, a line count within its limits, the lines, what closes them, and nothing after (FORMAT 5.22, 5.23, 10.1,
   -- 17.3, 17.8).
@@ -95,7 +96,7 @@ module _ (lim : Limits) (n m : ℕ) (s : List ℕ) where
       next (two-bytes-at s 0) λ c p.
       pick (either (ltb c 1) (ltb (lim .lines) c)) (λ _. fault Limits.count-outside 0) λ _.
       next (repeated (line-at layout) c p) λ lines q.
-      next (closing-at layout q) λ closing e.
+      next (closing-at s layout q) λ closing e.
       pick (ltb e (length s)) (λ _. fault Limits.bytes-after e) λ _.
       got (record { lines = lines; closing = closing; closing-place = q }) e
 

@@ -9,11 +9,13 @@ use bytes::bytes::two;
 use bytes::bytes::wide;
 use bytes::limits;
 use comparing::known::lists_known;
-use comparing::parts::same_lists;
 use comparing::parts::same_part;
 use comparing::plans::count_of;
+use comparing::spots::Spot;
+use comparing::spots::same_conclusions;
+use comparing::spots::spot_of;
 use deriving::derivations::Places;
-use deriving::derived::place_of;
+use meaning::Layout;
 use reading::marks::state_of;
 use reading::table::Table;
 use refusing::overlaps::sequence_of;
@@ -28,22 +30,25 @@ pub enum Used {
     Fails,
 }
 
-// What follows the sensing action: its items from `first` up to `y`, so many; and the citations from `cites` on, so many.
+// What follows the sensing action in the line `own`: its items from `first` up to the end of the plan, so many; and so many citations.
+// There are so many lines, in the layout.
 pub struct Rest {
+    pub own: Spot,
     pub first: usize,
     pub items: usize,
-    pub y: usize,
-    pub cites: usize,
     pub count: usize,
+    pub lines: usize,
+    pub layout: Layout,
 }
 
-// The line at pc says what the state knows, the rest, and the list Y at y.
-fn says_reading(d: &[u8], marks: &[u8; 64], rest: Rest, pc: usize, yc: usize) -> bool
+// The line `cited` says what the state knows, the rest, and the line's own conclusion.
+fn says_reading(d: &[u8], marks: &[u8; 64], rest: Rest, cited: Spot) -> bool
     requires { ⌜ Marked (now marks) ⌝ }
-    requires { ⌜ Stands-some (now d) pc yc ⌝ }
+    requires { ⌜ Stands-some (now d) cited ⌝ }
     requires { ⌜ Some-follows (now d) rest ⌝ }
-    ensures { λ r. ⌜ Says-reading (now (d .entry)) (now (marks .entry)) rest pc yc r ⌝ }
+    ensures { λ r. ⌜ Says-reading (now (d .entry)) (now (marks .entry)) rest cited r ⌝ }
 {
+    let pc = cited.line;
     let starts = lists_known(marks, d, pc);
     if starts {
         let plan = sequence_of(d, pc);
@@ -51,12 +56,14 @@ fn says_reading(d: &[u8], marks: &[u8; 64], rest: Rest, pc: usize, yc: usize) ->
         if count != rest.items {
             return false;
         }
+        let own = rest.own;
         let first = plan + 2;
+        let last = cited.end;
         let from = rest.first;
-        let y = rest.y;
-        let same = same_part(&d[first..yc], &d[from..y]);
+        let to = own.end;
+        let same = same_part(&d[first..last], &d[from..to]);
         if same {
-            return same_lists(d, yc, d, y);
+            return same_conclusions(d, cited, own);
         }
         return false;
     }
@@ -64,28 +71,22 @@ fn says_reading(d: &[u8], marks: &[u8; 64], rest: Rest, pc: usize, yc: usize) ->
 }
 
 // Citation k says the reading that the state has.
-fn one_reading(
-    d: &[u8],
-    places: &Places,
-    ends: &Places,
-    marks: &[u8; 64],
-    rest: Rest,
-    k: usize,
-) -> Used
+fn one_reading(d: &[u8], places: &Places, marks: &[u8; 64], rest: Rest, k: usize) -> Used
     requires { ⌜ Marked (now marks) ⌝ }
-    requires { ⌜ Some-rest (now d) (now places) (now ends) rest ⌝ }
-    ensures { λ r. ⌜ Uses (now (d .entry)) (now (places .entry)) (now (ends .entry)) rest (now (marks .entry) ∷ []) k r ⌝ }
+    requires { ⌜ Some-rest (now d) (now places) rest ⌝ }
+    ensures { λ r. ⌜ Uses (now (d .entry)) (now (places .entry)) rest (now (marks .entry) ∷ []) k r ⌝ }
 {
     if rest.count <= k {
         return Used::Fails;
     }
+    let own = rest.own;
     let twice = 2 * k;
-    let at = rest.cites + twice;
+    let counted = own.cites + 1;
+    let at = counted + twice;
     let second = at + 1;
     let number = two(d[at], d[second]);
-    let pc = place_of(places, number);
-    let yc = place_of(ends, number);
-    let says = says_reading(d, marks, rest, pc, yc);
+    let cited = spot_of(rest.layout, d, places, rest.lines, number);
+    let says = says_reading(d, marks, rest, cited);
     if says {
         return Used::To(k + 1);
     }
@@ -99,7 +100,6 @@ fn each_reading(
     t: &Table,
     d: &[u8],
     places: &Places,
-    ends: &Places,
     a: usize,
     f: usize,
     marks: [u8; 64],
@@ -109,42 +109,43 @@ fn each_reading(
     requires { ⌜ At-hand (now s) (now t) ⌝ }
     requires { ⌜ a < 64 ⌝ }
     requires { ⌜ Marked marks ⌝ }
-    requires { ⌜ Some-rest (now d) (now places) (now ends) rest ⌝ }
-    ensures { λ r. ⌜ Uses (now (d .entry)) (now (places .entry)) (now (ends .entry)) rest (states-from (request-in (now (s .entry)) .table) a marks f) k r ⌝ }
+    requires { ⌜ Some-rest (now d) (now places) rest ⌝ }
+    ensures { λ r. ⌜ Uses (now (d .entry)) (now (places .entry)) rest (states-from (request-in (now (s .entry)) .table) a marks f) k r ⌝ }
 {
     if f < limits::FLUENTS {
         let above = f + 1;
         let mut state = marks;
         state[f] = limits::TRUE_MARK;
         let g = next_unknown(s, t, a, above, &state);
-        match each_reading(s, t, d, places, ends, a, g, state, rest, k) {
+        match each_reading(s, t, d, places, a, g, state, rest, k) {
             Used::To(j) => {
                 state[f] = limits::FALSE_MARK;
-                return each_reading(s, t, d, places, ends, a, g, state, rest, j);
+                return each_reading(s, t, d, places, a, g, state, rest, j);
             }
             Used::Fails => return Used::Fails,
         }
     }
-    one_reading(d, places, ends, &marks, rest, k)
+    one_reading(d, places, &marks, rest, k)
 }
 
-// Rule 3: a sensing action first that can be run in X; one line for each reading in the walk's order: X with the reading, the rest, Y.
+// Rules 3 and 10: a sensing action first that can be run in X; one line for each reading in the walk's order: X with the reading, the rest,
+// and the line's own conclusion.
 pub fn rule_3(
+    layout: Layout,
     s: &[u8],
     t: &Table,
     d: &[u8],
     places: &Places,
-    ends: &Places,
     lines: usize,
-    p: usize,
-    y: usize,
+    l: Spot,
 ) -> bool
     requires { ⌜ At-hand (now s) (now t) ⌝ }
-    requires { ⌜ Some-line (now d) p y ⌝ }
-    requires { ⌜ Some-lines (now d) (now places) (now ends) lines ⌝ }
-    requires { ⌜ Cited-below (now d) p y lines ⌝ }
-    ensures { λ r. ⌜ Ruled-by-all (now (d .entry)) (now (places .entry)) (now (ends .entry)) p y (rule-3 format (request-in (now (s .entry)) .table)) r ⌝ }
+    requires { ⌜ Some-line (now d) l ⌝ }
+    requires { ⌜ Some-lines layout (now d) (now places) lines ⌝ }
+    requires { ⌜ Cited-below (now d) l lines ⌝ }
+    ensures { λ r. ⌜ Ruled-by-all layout (now (d .entry)) (now (places .entry)) l (rule-3 format (request-in (now (s .entry)) .table)) r ⌝ }
 {
+    let p = l.line;
     let plan = sequence_of(d, p);
     let count = count_of(d, plan);
     if count == 0 {
@@ -161,20 +162,19 @@ pub fn rule_3(
         let runs = can_be_run(s, t, a, &marks);
         if runs {
             let f = first_unknown(s, t, a, &marks);
-            let rule = sequence_of(d, y);
-            let counted = rule + 1;
+            let counted = l.cites;
             let cited = wide(d[counted]);
-            let cites = rule + 2;
             let from = plan + 3;
             let items = count - 1;
             let rest = Rest {
+                own: l,
                 first: from,
                 items: items,
-                y: y,
-                cites: cites,
                 count: cited,
+                lines: lines,
+                layout: layout,
             };
-            match each_reading(s, t, d, places, ends, a, f, marks, rest, 0) {
+            match each_reading(s, t, d, places, a, f, marks, rest, 0) {
                 Used::To(k) => return k == cited,
                 Used::Fails => return false,
             }
