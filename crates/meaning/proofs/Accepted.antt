@@ -1,5 +1,6 @@
--- A derivation is accepted exactly when demand 2 says (FORMAT 11.6), and every answer of the derivation call is one of the format's numbers.
--- Each test of the check is taken as it comes: what gives no fault has passed it. Assumes nothing.
+-- A derivation is accepted exactly when demand 2 says (FORMAT 11.6, 17.39), and every answer of the derivation call and of the whether call is
+-- one of the format's numbers (FORMAT 11.1, 17.38). Each test of the check is taken as it comes: what gives no fault has passed it. Assumes
+-- nothing.
 use Prim.Native.Nat.{ℕ, zero, suc, _+_}
 use native.Mathlib.Omega.{arith}
 use mathlib.Core.Path.{_≡_, refl, sym, _∙_, ap, subst}
@@ -7,8 +8,10 @@ use mathlib.Core.Bool.{Bool, true, false, false≢true}
 use mathlib.Core.List.{List, [], _∷_}
 use mathlib.Core.Logic.{_↔_}
 use lib.ListN.{length}
-use lib.Dec.{ltb}
+use lib.Dec.{ltb, eqb}
 use Rattle.meaning.specs.declared.Answer.{Answer}
+use Rattle.meaning.specs.declared.Layout.{Layout}
+use Rattle.meaning.specs.declared.Layout.the-variants.{Plain, Closing}
 use Rattle.meaning.specs.Tests.{either, fails, pick, some-of, each-of}
 use Rattle.meaning.specs.Limits
 use Rattle.meaning.specs.Limits.{Limits}
@@ -16,42 +19,54 @@ use Rattle.meaning.specs.Literals.{among}
 use Rattle.meaning.specs.Requests.{Table, Entry, Request}
 use Rattle.meaning.specs.Reading.{Got, got, fault, next, two-bytes-at, literals, repeated}
 use Rattle.meaning.specs.Refusals.{nowhere, refuse, settled}
-use Rattle.meaning.specs.Derivations.{Line, line-at, read-derivation, overlap-in-lines, follows, citations-of, a-rule, cited-by, check-lines, is-question, check-last, check-derivation, answer, accepted-if, check-settled, check}
+use Rattle.meaning.specs.Derivations.{Conclusion, Line, Derivation, list-concluded, fluent-concluded, conclusion-at, concluded-at, line-at, closing-at, read-derivation, overlap-in-lines, follows, citations-of, a-rule, cited-by, check-lines, asks-for, goals-of, check-last, all-asked, names, check-entries, check-closing, check-end, check-derivation, answer, accepted-if, beyond, check-settled, check}
 use Rattle.meaning.proofs.TestLaws.{by-test, clash, pick-true, pick-false, pick-cases, either-right}
 use Rattle.meaning.proofs.AnswerLaws
 use Rattle.meaning.proofs.AnswerLaws.{refusals, Numbered-in}
 use Rattle.meaning.proofs.SettledLaws.{fault≢got, got-same, next-got, refuse-got}
 
--- THE STATEMENT. A line follows from those before it: it names a rule, cites as many lines as the rule takes, each an earlier one, and is
--- what the rule gives from them. `lines` are all of them, and i is the line's number.
-pub record Line-follows (lim : Limits) (t : Table) (lines : List Line) (i : ℕ) (l : Line) : Type 0 where
-  pub rule : a-rule (l .rule) ≡ true
+-- THE STATEMENT. A line follows from those before it: it names a rule of the layout, cites as many lines as the rule takes, each an earlier
+-- one, and is what the rule gives from them. `lines` are all of them, and i is the line's number.
+pub record Line-follows (lim : Limits) (layout : Layout) (t : Table) (lines : List Line) (i : ℕ) (l : Line) : Type 0 where
+  pub rule : a-rule layout (l .rule) ≡ true
   pub takes : among (length (l .cites)) (citations-of (l .rule)) ≡ true
   pub earlier : each-of (λ (k : ℕ). ltb k i) (l .cites) ≡ true
   pub gives : follows lim t (cited-by lines l) l ≡ true
 
-abbrev pub All-follow : Limits → Table → List Line → ℕ → List Line → Type 0
-All-follow lim t lines i [] = Unit {0}
-All-follow lim t lines i (l ∷ ls) = Line-follows lim t lines i l × All-follow lim t lines (i + 1) ls
+abbrev pub All-follow : Limits → Layout → Table → List Line → ℕ → List Line → Type 0
+All-follow lim layout t lines i [] = Unit {0}
+All-follow lim layout t lines i (l ∷ ls) = Line-follows lim layout t lines i l × All-follow lim layout t lines (i + 1) ls
 
 -- The last line is the question; where there is no line none is.
 abbrev pub Last-asks : Request → List Line → Type 0
 Last-asks r [] = ⊥
-Last-asks r (l ∷ []) = is-question r l ≡ true
+Last-asks r (l ∷ []) = asks-for r (goals-of r) l ≡ true
 Last-asks r (l ∷ (k ∷ ls)) = Last-asks r (k ∷ ls)
 
--- Neither file is refused by 10 to 21, no whether goal is asked, each line follows, and the last line is the question.
-pub record Accepted (lim : Limits) (request derivation : List ℕ) : Type 0 where
+-- For each conclusion one number, and each number is that of a line which asks for its conclusion.
+abbrev pub All-named : Request → List Line → List Conclusion → List ℕ → Type 0
+All-named r lines [] [] = Unit {0}
+All-named r lines [] (k ∷ ks) = ⊥
+All-named r lines (Y ∷ Ys) [] = ⊥
+All-named r lines (Y ∷ Ys) (k ∷ ks) = (names r lines k Y ≡ true) × All-named r lines Ys ks
+
+-- The question is answered: in the plain layout no whether entry is asked and the last line is the question, and in the closing one the
+-- closing list names a line for the goals and one for each whether entry (FORMAT 17.31 to 17.33).
+abbrev pub Answered : Layout → Request → Derivation → Type 0
+Answered Plain r d = (r .whether ≡ []) × Last-asks r (d .lines)
+Answered Closing r d = All-named r (d .lines) (all-asked r) (d .closing)
+
+-- Neither file is refused by 10 to 21, each line follows, and the question is answered.
+pub record Accepted (lim : Limits) (layout : Layout) (request derivation : List ℕ) : Type 0 where
   pub asks : Request
   pub end : ℕ
   pub request-settled : settled lim request ≡ got asks end
-  pub no-whether : asks .whether ≡ []
-  pub lines : List Line
+  pub reads : Derivation
   pub derivation-end : ℕ
-  pub derivation-read : read-derivation lim (asks .table .fluents) (asks .table .actions) derivation ≡ got lines derivation-end
-  pub no-overlap : overlap-in-lines lines ≡ nowhere
-  pub all-follow : All-follow lim (asks .table) lines 0 lines
-  pub last-asks : Last-asks asks lines
+  pub derivation-read : read-derivation lim (asks .table .fluents) (asks .table .actions) derivation layout ≡ got reads derivation-end
+  pub no-overlap : overlap-in-lines (reads .lines) ≡ nowhere
+  pub all-follow : All-follow lim layout (asks .table) (reads .lines) 0 (reads .lines)
+  pub answered : Answered layout asks reads
 
 -- NUMBERS. Those of the derivation's faults, and all that the call answers.
 unfoldable pub faults : List ℕ
