@@ -21,7 +21,7 @@ use Rattle.meaning.specs.Literals.{says-true, says-false, fluent-of, amo
 use Rattle.meaning.specs.Requests.{Effect, Knowledge, Table, Sequence, done, item, Item, act, branching, Branches, none, branch, Entry, Request, values}
 use Rattle.meaning.specs.Reading.{got, two-bytes-at, count-at, literals, list-at, repeated, plan-at}
 use Rattle.meaning.specs.Refusals.{nowhere, conditions-of, all-exclusive, overlap-in}
-use Rattle.meaning.specs.Lines.{knowledge-of, sensing, senses}
+use Rattle.meaning.specs.Lines.{sensing}
 use Rattle.meaning.specs.States.{State, known, state-of, first-state, can-be-run, state-after, unknown-sensed, Outcome, single, fork, readings}
 use Rattle.meaning.specs.Walk.{walked}
 use Rattle.meaning.specs.Approximation.{Pair, Disjoint, true-in, false-in, _≼_, executable, K, sensing-action, Res, Result, failed, state, Sensed, Φ, Union, None-true, Φ̂, Φ̂-item, Φ̂-case, Entails}
@@ -133,7 +133,11 @@ pub record Holds (t : Table) (X : List ℕ) (c : Sequence ℕ) (Y : Conclusion) 
   pub runs : (σ : Pair) → Disjoint σ → each-of (true-in σ) X ≡ true → Φ̂ t c σ failed → ⊥
   pub ends : (σ : Pair) → Disjoint σ → each-of (true-in σ) X ≡ true → (δ : Pair) → Φ̂ t c σ (state δ) → Disjoint δ × (holds-in Y δ ≡ true)
 
--- From a larger X the same plan, and a conclusion that the one found gives.
+-- What the line claims holds.
+abbrev Good : Table → Line → Type 0
+Good t l = Holds t (l .X) (l .c) (l .Y)
+
+-- A line holds with more in X, the same plan written elsewhere, and a conclusion that its own gives.
 weaker : (t : Table) (X Z : List ℕ) (c d : Sequence ℕ) (Y W : Conclusion) → Holds t Z d W
     → ((σ : Pair) → each-of (true-in σ) X ≡ true → each-of (true-in σ) Z ≡ true) → same-plan d c ≡ true → ((δ : Pair) → holds-in W δ ≡ true → holds-in Y δ ≡ true)
     → Holds t X c Y
@@ -166,7 +170,7 @@ included-true xs ys e σ h =
 
 -- THE RULES that ask nothing of the table.
 -- A line that says X, c, Y and holds.
-said : (t : Table) (l : Line) (X : List ℕ) (c : Sequence ℕ) (Y : Conclusion) → says l X c Y ≡ true → Holds t (l .X) (l .c) (l .Y) → Holds t X c Y
+said : (t : Table) (l : Line) (X : List ℕ) (c : Sequence ℕ) (Y : Conclusion) → says l X c Y ≡ true → Good t l → Holds t X c Y
 unfolding says
 said t l X c Y e good =
     let x : l .X ≡ X = same-list-is (l .X) X (both-left _ _ e) in
@@ -212,25 +216,48 @@ module _ (t : Table) where
       })
   rule-1-holds X (item i rest) Y e q = absurd (false≢true e)
 
-  rule-5-holds : (X Z : List ℕ) (Y : Conclusion) (c d e : Sequence ℕ) → Holds t X d (knows Z) → Holds t Z e Y → same-plan (join d e) c ≡ true → Holds t X c Y
-  rule-5-holds X Z Y c d e first second same =
+  -- Rules 5 and 11. What the first line leads to is where the second starts.
+  rule-5-holds : (l first second : Line) → Good t first → Good t second → rule-5 first second l ≡ true → Good t l
+  unfolding rule-5
+  rule-5-holds l first second f g e =
       record {
         runs = λ σ apart h z. fails-at σ apart h (joined σ failed z);
         ends = λ σ apart h δ z. ends-at σ apart h δ (joined σ (state δ) z);
       }
     where
-      joined : (σ : Pair) (x : Result) → Φ̂ t c σ x → Union (Φ̂ t d σ) (Φ̂ t e) x
-      joined σ x z = join-leads t d e σ x (same-leads t (join d e) c same σ x z)
+      start : Holds t (l .X) (first .c) (knows (second .X))
+      start =
+          subst (λ (X : List ℕ). Holds t X (first .c) (knows (second .X))) (same-list-is (first .X) (l .X) (both-left _ _ (both-left _ _ e)))
+          (subst (Holds t (first .X) (first .c)) (same-conclusion-is (first .Y) (knows (second .X)) (both-right _ _ (both-left _ _ e))) f)
 
-      fails-at : (σ : Pair) → Disjoint σ → each-of (true-in σ) X ≡ true → Union (Φ̂ t d σ) (Φ̂ t e) failed → ⊥
-      fails-at σ apart h (inl w) = first .runs σ apart h (w .0)
-      fails-at σ apart h (inr w) = let m = first .ends σ apart h (w .0) (w .1) in second .runs (w .0) (m .0) (m .1) (w .2)
+      then : Holds t (second .X) (second .c) (l .Y)
+      then = subst (Holds t (second .X) (second .c)) (same-conclusion-is (second .Y) (l .Y) (both-left _ _ (both-right _ _ e))) g
 
-      ends-at : (σ : Pair) → Disjoint σ → each-of (true-in σ) X ≡ true → (δ : Pair) → Union (Φ̂ t d σ) (Φ̂ t e) (state δ) → Disjoint δ × (holds-in Y δ ≡ true)
+      joined : (σ : Pair) (x : Result) → Φ̂ t (l .c) σ x → Union (Φ̂ t (first .c) σ) (Φ̂ t (second .c)) x
+      joined σ x z = join-leads t (first .c) (second .c) σ x (same-leads t (join (first .c) (second .c)) (l .c) (both-right _ _ (both-right _ _ e)) σ x z)
+
+      fails-at : (σ : Pair) → Disjoint σ → each-of (true-in σ) (l .X) ≡ true → Union (Φ̂ t (first .c) σ) (Φ̂ t (second .c)) failed → ⊥
+      fails-at σ apart h (inl w) = start .runs σ apart h (w .0)
+      fails-at σ apart h (inr w) = let m = start .ends σ apart h (w .0) (w .1) in then .runs (w .0) (m .0) (m .1) (w .2)
+
+      ends-at : (σ : Pair) → Disjoint σ → each-of (true-in σ) (l .X) ≡ true → (δ : Pair) → Union (Φ̂ t (first .c) σ) (Φ̂ t (second .c)) (state δ) → Disjoint δ × (holds-in (l .Y) δ ≡ true)
       ends-at σ apart h δ (inl w) = absurd (state≢failed (w .1))
-      ends-at σ apart h δ (inr w) = let m = first .ends σ apart h (w .0) (w .1) in second .ends (w .0) (m .0) (m .1) δ (w .2)
+      ends-at σ apart h δ (inr w) = let m = start .ends σ apart h (w .0) (w .1) in then .ends (w .0) (m .0) (m .1) δ (w .2)
 
-  -- Rule 4. The branch taken is the one whose condition is true.
+  rule-6-holds : (l cited : Line) → Good t cited → rule-6 cited l ≡ true → Good t l
+  unfolding rule-6
+  rule-6-holds l cited good e =
+      weaker t (l .X) (cited .X) (l .c) (cited .c) (l .Y) (cited .Y) good (included-true (cited .X) (l .X) (both-left _ _ e)) (both-left _ _ (both-right _ _ e))
+      (part-holds (l .Y) (cited .Y) (both-right _ _ (both-right _ _ e)))
+
+  rule-8-holds : (l cited : Line) → Good t cited → rule-8 cited l ≡ true → Good t l
+  unfolding rule-8
+  rule-8-holds l cited good e =
+      let x : cited .X ≡ l .X = same-list-is _ _ (both-left _ _ e) in
+      weaker t (l .X) (cited .X) (l .c) (cited .c) (l .Y) (cited .Y) good (λ σ h. rw x h) (both-left _ _ (both-right _ _ e))
+      (settled-holds (cited .Y) (l .Y) (both-right _ _ (both-right _ _ e)))
+
+  -- Rules 4 and 12. The branch taken is the one whose condition is true.
   abbrev Taken : List ℕ → Branches ℕ → Sequence ℕ → Conclusion → Line → Pair → Type 0
   Taken X bs rest Y cited σ = (b : Sequence ℕ) × (says cited X (join b rest) Y ≡ true) × ((x : Result) → Φ̂-case t bs σ x → Φ̂ t b σ x) × (None-true t bs σ → ⊥)
 
@@ -252,7 +279,7 @@ module _ (t : Table) where
       later : Taken X bs rest Y cited σ → Taken X (branch c b bs) rest Y cited σ
       later m = (m .0, m .1, λ x z. ⊎-elim (λ v. absurd (m .3 (others (v .0)))) (m .2 x) z, λ n. m .3 (n .1))
 
-  rule-4-holds : (X : List ℕ) (p : ℕ) (bs : Branches ℕ) (rest : Sequence ℕ) (Y : Conclusion) (cited : Line) → Holds t (cited .X) (cited .c) (cited .Y)
+  rule-4-holds : (X : List ℕ) (p : ℕ) (bs : Branches ℕ) (rest : Sequence ℕ) (Y : Conclusion) (cited : Line) → Good t cited
       → takes-branch X bs rest Y cited ≡ true → all-exclusive (conditions-of bs) ≡ true → Holds t X (item (branching p bs) rest) Y
   unfolding says
   rule-4-holds X p bs rest Y cited good e apart =
@@ -339,22 +366,24 @@ module _ (lim : Limits) (t : Table) (effects-within : (e : Effect) → Has (t .e
           more : (σ : Pair) → each-of (true-in σ) X ≡ true → pair-of u ≼ Res t a σ
           more σ h = rw (pair-after t a (state-of lim X) (λ n m. rw (state-length lim X) (effects-within n m))) (Res-grows t a (below X clear σ h))
 
-  -- Rule 7. What an action determines is known after it, whatever it was before.
-  rule-7-holds : (X : List ℕ) (f : ℕ) → Clear lim X → (p a : ℕ) → senses (knowledge-of t a) f ≡ true → can-be-run t a (state-of lim X) ≡ true → Holds t X (item (act p a) done) (knows-whether f)
-  unfolding K sensing-action
-  rule-7-holds X f clear p a told run =
-      action-holds X (knows-whether f) clear p a run
+  -- Rule 7. What an action determines is known after it, whatever was known before.
+  rule-7-holds : (X : List ℕ) (Y : Conclusion) → Clear lim X → (p a : ℕ) → looks-for lim t Y a (state-of lim X) ≡ true → Holds t X (item (act p a) done) Y
+  unfolding looks-for K sensing-action
+  rule-7-holds X (knows Y) clear p a e = absurd (false≢true e)
+  rule-7-holds X (knows-whether f) clear p a e =
+      action-holds X (knows-whether f) clear p a (both-right _ _ e)
       (λ σ d h ρ z. ⊎-elim (λ w. clash looks (w .0)) (λ w. (w .1 .disjoint, rw (true-in-true ρ f, false-in-true ρ f) (w .1 .domain f ∙ either-right _ _ determined))) (z .1))
     where
       determined : K t a f ≡ true
-      determined = senses-pair t a f ∙ told
+      determined = senses-pair t a f ∙ both-left _ _ e
 
       looks : sensing-action t a ≡ true
       looks = some-mono _ _ (λ k. both-left _ _) (t .knowledge) determined
 
+  -- Rules 3 and 10. Each a-state that the action leads to is above some reading, and the line of that reading holds.
   rule-3-holds : (X : List ℕ) (Y : Conclusion) → Clear lim X → (p a : ℕ) (rest : Sequence ℕ) (cited : List Line) → sensing t a ≡ true → can-be-run t a (state-of lim X) ≡ true
       → each-reads rest Y (states-of (readings (unknown-sensed t a (state-of lim X)) (state-of lim X))) cited ≡ true
-      → ((l : Line) → Has cited l → Holds t (l .X) (l .c) (l .Y)) → Holds t X (item (act p a) rest) Y
+      → ((l : Line) → Has cited l → Good t l) → Holds t X (item (act p a) rest) Y
   rule-3-holds X Y clear p a rest cited senses run each good =
       record {
         runs = λ σ d h z. ⊎-elim (λ w. clash (can-run X clear a run σ h) (w .0)) (λ w. let m = after σ h (w .0) (w .1) in m .1 .runs (w .0) (m .2) (m .3) (w .2)) z;
@@ -374,7 +403,7 @@ module _ (lim : Limits) (t : Table) (effects-within : (e : Effect) → Has (t .e
               (v .0, said t (c .0) (literals-of (v .0)) rest Y (c .2) (good (c .0) (c .1)), seen .disjoint, knows-true (v .0) ρ (v .3) (literals-of (v .0)) (literals-known (v .0)))
 
   -- A line that follows from lines that hold, holds: its X is clear and its plan's conditions are exclusive.
-  module _ (cited : List Line) (good : (l : Line) → Has cited l → Holds t (l .X) (l .c) (l .Y)) where
+  module _ (cited : List Line) (good : (l : Line) → Has cited l → Good t l) where
     acts-holds : (l : Line) → Clear lim (l .X) → (c : Sequence ℕ) → one-action lim t l c ≡ true → Holds t (l .X) c (l .Y)
     unfolding one-action acts
     acts-holds l clear done e = absurd (false≢true e)
@@ -383,17 +412,12 @@ module _ (lim : Limits) (t : Table) (effects-within : (e : Effect) → Has (t .e
     acts-holds l clear (item (act p a) (item i rest)) e = absurd (false≢true e)
     acts-holds l clear (item (branching p bs) rest) e = absurd (false≢true e)
 
-    looks-hold : (l : Line) → Clear lim (l .X) → (Y : Conclusion) (p a : ℕ) → looks-for lim t Y a (state-of lim (l .X)) ≡ true → Holds t (l .X) (item (act p a) done) Y
-    unfolding looks-for
-    looks-hold l clear (knows Y) p a e = absurd (false≢true e)
-    looks-hold l clear (knows-whether f) p a e = rule-7-holds (l .X) f clear p a (both-left _ _ e) (both-right _ _ e)
-
-    look-holds : (l : Line) → Clear lim (l .X) → (c : Sequence ℕ) → one-look lim t l c ≡ true → Holds t (l .X) c (l .Y)
+    looks-holds : (l : Line) → Clear lim (l .X) → (c : Sequence ℕ) → one-look lim t l c ≡ true → Holds t (l .X) c (l .Y)
     unfolding one-look
-    look-holds l clear done e = absurd (false≢true e)
-    look-holds l clear (item (act p a) done) e = looks-hold l clear (l .Y) p a e
-    look-holds l clear (item (act p a) (item i rest)) e = absurd (false≢true e)
-    look-holds l clear (item (branching p bs) rest) e = absurd (false≢true e)
+    looks-holds l clear done e = absurd (false≢true e)
+    looks-holds l clear (item (act p a) done) e = rule-7-holds (l .X) (l .Y) clear p a e
+    looks-holds l clear (item (act p a) (item i rest)) e = absurd (false≢true e)
+    looks-holds l clear (item (branching p bs) rest) e = absurd (false≢true e)
 
     senses-holds : (l : Line) → Clear lim (l .X) → (c : Sequence ℕ) → senses-first lim t cited l c ≡ true → Holds t (l .X) c (l .Y)
     unfolding senses-first reads
@@ -403,82 +427,57 @@ module _ (lim : Limits) (t : Table) (effects-within : (e : Effect) → Has (t .e
         (pick-cases _ _ _ (both-right _ _ (both-right _ _ e)) (λ _ r. r) (λ _ r. absurd (false≢true r))) good
     senses-holds l clear (item (branching p bs) rest) e = absurd (false≢true e)
 
-    branches-hold : (l k : Line) → Holds t (k .X) (k .c) (k .Y) → (c : Sequence ℕ) → Fit c → branches-first k l c ≡ true → Holds t (l .X) c (l .Y)
+    branches-hold : (l k : Line) → Good t k → (c : Sequence ℕ) → Fit c → branches-first k l c ≡ true → Holds t (l .X) c (l .Y)
     unfolding branches-first
     branches-hold l k h done fit e = absurd (false≢true e)
     branches-hold l k h (item (act p a) rest) fit e = absurd (false≢true e)
     branches-hold l k h (item (branching p bs) rest) fit e = rule-4-holds t (l .X) p bs rest (l .Y) k h e (fit .0 .0)
 
-    one-cited : (test : Line → Bool) → of-one test cited ≡ true → (l : Line) × Holds t (l .X) (l .c) (l .Y) × (test l ≡ true)
+    one-cited : (test : Line → Bool) → of-one test cited ≡ true → (l : Line) × Good t l × (test l ≡ true)
     one-cited test e = let w = of-one-is test cited e in (w .0, good (w .0) (w .1), w .2)
 
-    two-cited : (test : Line → Line → Bool) → of-two test cited ≡ true → (l k : Line) × Holds t (l .X) (l .c) (l .Y) × Holds t (k .X) (k .c) (k .Y) × (test l k ≡ true)
+    two-cited : (test : Line → Line → Bool) → of-two test cited ≡ true → (l k : Line) × Good t l × Good t k × (test l k ≡ true)
     two-cited test e = let w = of-two-is test cited e in (w .0, w .1, good (w .0) (w .2), good (w .1) (w .3), w .4)
 
-    composed-holds : (l first second : Line) → Holds t (first .X) (first .c) (first .Y) → Holds t (second .X) (second .c) (second .Y) → rule-5 first second l ≡ true → Holds t (l .X) (l .c) (l .Y)
-    unfolding rule-5
-    composed-holds l first second f g e =
-        let x : first .X ≡ l .X = same-list-is _ _ (both-left _ _ (both-left _ _ e)) in
-        let z : first .Y ≡ knows (second .X) = same-conclusion-is _ _ (both-right _ _ (both-left _ _ e)) in
-        let y : second .Y ≡ l .Y = same-conclusion-is _ _ (both-left _ _ (both-right _ _ e)) in
-        rule-5-holds t (l .X) (second .X) (l .Y) (l .c) (first .c) (second .c)
-        (subst (λ (X : List ℕ). Holds t X (first .c) (knows (second .X))) x (subst (Holds t (first .X) (first .c)) z f))
-        (subst (Holds t (second .X) (second .c)) y g)
-        (both-right _ _ (both-right _ _ e))
-
-    part-of-holds : (l k : Line) → Holds t (k .X) (k .c) (k .Y) → rule-6 k l ≡ true → Holds t (l .X) (l .c) (l .Y)
-    unfolding rule-6
-    part-of-holds l k h e =
-        weaker t (l .X) (k .X) (l .c) (k .c) (l .Y) (k .Y) h (included-true (k .X) (l .X) (both-left _ _ e)) (both-left _ _ (both-right _ _ e)) (part-holds (l .Y) (k .Y) (both-right _ _ (both-right _ _ e)))
-
-    literal-of-holds : (l k : Line) → Holds t (k .X) (k .c) (k .Y) → rule-8 k l ≡ true → Holds t (l .X) (l .c) (l .Y)
-    unfolding rule-8
-    literal-of-holds l k h e =
-        let x : k .X ≡ l .X = same-list-is _ _ (both-left _ _ e) in
-        weaker t (l .X) (k .X) (l .c) (k .c) (l .Y) (k .Y) h (λ σ a. rw x a) (both-left _ _ (both-right _ _ e)) (settled-holds (k .Y) (l .Y) (both-right _ _ (both-right _ _ e)))
-
     -- Whatever rule is taken.
-    given-holds : (rule : ℕ) (l : Line) → Clear lim (l .X) → Fit (l .c) → given-by lim t rule cited l ≡ true → Holds t (l .X) (l .c) (l .Y)
+    given-holds : (rule : ℕ) (l : Line) → Clear lim (l .X) → Fit (l .c) → given-by lim t rule cited l ≡ true → Good t l
     unfolding given-by rule-1 rule-2 rule-3 rule-4 rule-7
     given-holds rule l clear fit e =
         pick-cases _ _ _ e (λ _ r. rule-1-holds t (l .X) (l .c) (l .Y) (both-left _ _ r) (both-right _ _ r)) λ _ e₂.
         pick-cases _ _ _ e₂ (λ _ r. acts-holds l clear (l .c) r) λ _ e₃.
         pick-cases _ _ _ e₃ (λ _ r. senses-holds l clear (l .c) r) λ _ e₄.
         pick-cases _ _ _ e₄ (λ _ r. let w = one-cited _ r in branches-hold l (w .0) (w .1) (l .c) fit (w .2)) λ _ e₅.
-        pick-cases _ _ _ e₅ (λ _ r. let w = two-cited _ r in composed-holds l (w .0) (w .1) (w .2) (w .3) (w .4)) λ _ e₆.
-        pick-cases _ _ _ e₆ (λ _ r. let w = one-cited _ r in part-of-holds l (w .0) (w .1) (w .2)) λ _ e₇.
-        pick-cases _ _ _ e₇ (λ _ r. look-holds l clear (l .c) r) λ _ r.
-        let w = one-cited _ r in literal-of-holds l (w .0) (w .1) (w .2)
+        pick-cases _ _ _ e₅ (λ _ r. let w = two-cited _ r in rule-5-holds t l (w .0) (w .1) (w .2) (w .3) (w .4)) λ _ e₆.
+        pick-cases _ _ _ e₆ (λ _ r. let w = one-cited _ r in rule-6-holds t l (w .0) (w .1) (w .2)) λ _ e₇.
+        pick-cases _ _ _ e₇ (λ _ r. looks-holds l clear (l .c) r) λ _ r.
+        let w = one-cited _ r in rule-8-holds t l (w .0) (w .1) (w .2)
 
-    line-holds : (l : Line) → Clear lim (l .X) → Fit (l .c) → follows lim t cited l ≡ true → Holds t (l .X) (l .c) (l .Y)
+    line-holds : (l : Line) → Clear lim (l .X) → Fit (l .c) → follows lim t cited l ≡ true → Good t l
     unfolding follows
     line-holds l clear fit e = given-holds (for-lists (l .rule)) l clear fit e
 
   -- THE INDUCTION. `ls` are the lines from number i on; those before hold.
-  abbrev Good : Line → Type 0
-  Good l = Holds t (l .X) (l .c) (l .Y)
-
-  cited-good : (lines : List Line) (i : ℕ) → ((k : ℕ) → k < i → (d : Line) → Good (getD lines k d)) → (l : Line) → each-of (λ (k : ℕ). ltb k i) (l .cites) ≡ true → (x : Line) → Has (cited-by lines l) x → Good x
+  cited-good : (lines : List Line) (i : ℕ) → ((k : ℕ) → k < i → (d : Line) → Good t (getD lines k d)) → (l : Line) → each-of (λ (k : ℕ). ltb k i) (l .cites) ≡ true → (x : Line) → Has (cited-by lines l) x → Good t x
   unfolding cited-by
   cited-good lines i earlier l e x h =
       let w = map-has (λ (k : ℕ). getD lines k l) (l .cites) x h in
-      subst Good (sym (w .2)) (earlier (w .0) (ltb-true (w .0) i (each-has _ (l .cites) (w .0) e (w .1))) l)
+      subst (Good t) (sym (w .2)) (earlier (w .0) (ltb-true (w .0) i (each-has _ (l .cites) (w .0) e (w .1))) l)
 
   lines-hold : (layout : Layout) (lines : List Line) (i : ℕ) (ls : List Line) → ((k : ℕ) → k < length ls → (d : Line) → getD lines (i + k) d ≡ getD ls k d)
-      → ((k : ℕ) → k < i → (d : Line) → Good (getD lines k d))
+      → ((k : ℕ) → k < i → (d : Line) → Good t (getD lines k d))
       → All-follow lim layout t lines i ls → ((l : Line) → Has ls l → Clear lim (l .X)) → ((l : Line) → Has ls l → Fit (l .c))
-      → (l : Line) → Has ls l → Good l
+      → (l : Line) → Has ls l → Good t l
   lines-hold layout lines i [] at earlier all clear fits l h = absurd h
   lines-hold layout lines i (x ∷ xs) at earlier all clear fits l h =
       ⊎-elim (λ q. rw q here)
       (lines-hold layout lines (i + 1) xs (λ k lt d. ap (λ (j : ℕ). getD lines j d) (omega arith) ∙ at (suc k) (omega arith) d) before (all .1) (λ y m. clear y (inr m)) (λ y m. fits y (inr m)) l)
       h
     where
-      here : Good x
+      here : Good t x
       here = line-holds (cited-by lines x) (cited-good lines i earlier x (all .0 .earlier)) x (clear x (inl refl)) (fits x (inl refl)) (all .0 .gives)
 
-      before : (k : ℕ) → k < i + 1 → (d : Line) → Good (getD lines k d)
-      before k lt d = elim (decLt k i) [ yes less ↦ earlier k less d | no not-less ↦ subst Good (sym (ap (λ (j : ℕ). getD lines j d) (omega arith) ∙ at 0 (omega arith) d)) here ]
+      before : (k : ℕ) → k < i + 1 → (d : Line) → Good t (getD lines k d)
+      before k lt d = elim (decLt k i) [ yes less ↦ earlier k less d | no not-less ↦ subst (Good t) (sym (ap (λ (j : ℕ). getD lines j d) (omega arith) ∙ at 0 (omega arith) d)) here ]
 
 -- WHAT WAS READ. The X of each line is clear, and its plan's conditions are exclusive.
 lines-clear : (lim : Limits) (n m : ℕ) → n ≤ lim .state → (s : List ℕ) (layout : Layout) (d : Derivation) (e : ℕ) → read-derivation lim n m s layout ≡ got d e
