@@ -236,10 +236,10 @@ some-line lim n m s layout d e q =
     closed (ls .0) (ls .1) (ls .3) (repeated-some (line-at lim n m s layout) (c .0) (c .1) (either-none _ _ within) (ls .2))
   where
     -- What closes the lines leaves them as they are.
-    closed : (lines : List Line) (p : ℕ) → next (closing-at lim n m s layout p) (λ closing o. pick (ltb o (length s)) (λ _. fault Limits.bytes-after o) (λ _. got (record { lines = lines; closing = closing; closing-place = p }) o)) ≡ got d e
+    closed : (lines : List Line) (p : ℕ) → next (closing-at s layout p) (λ closing o. pick (ltb o (length s)) (λ _. fault Limits.bytes-after o) (λ _. got (record { lines = lines; closing = closing; closing-place = p }) o)) ≡ got d e
         → (l : Line) × (ls : List Line) × (lines ≡ l ∷ ls) → (l : Line) × (ls : List Line) × (d .lines ≡ l ∷ ls)
     closed lines p r w =
-        let ks = next-got (closing-at lim n m s layout p) _ r in
+        let ks = next-got (closing-at s layout p) _ r in
         pick-cases _ _ _ (ks .3) (λ _ f. absurd (fault≢got f)) (λ _ last. (w .0, w .1, sym (ap (λ (x : Derivation). x .lines) (got-same last)) ∙ w .2))
 
 no-entry : (ws : List Entry) → some-of (λ (w : Entry). true) ws ≡ false → ws ≡ []

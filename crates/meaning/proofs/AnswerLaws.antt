@@ -150,15 +150,15 @@ module _ (ns : List ℕ) (has : (n : ℕ) → among n refusals ≡ true → amon
     plan-numbered p = sequence-numbered (Reading.branching-at lim n m s (lim .nested)) (branching-numbered (lim .nested)) p 0
 
     -- A derivation, in each layout.
-    list-concluded-numbered : (p : ℕ) → Numbered (Derivations.list-concluded lim n m s p)
+    list-concluded-numbered : (p : ℕ) → Numbered (Derivations.list-concluded lim n s p)
     unfolding Derivations.list-concluded
     list-concluded-numbered p = by-next _ _ (list-numbered Reading.Kind.literals n (lim .listed) s p) λ _ _. tt
 
-    fluent-concluded-numbered : (p : ℕ) → Numbered (Derivations.fluent-concluded lim n m s p)
+    fluent-concluded-numbered : (p : ℕ) → Numbered (Derivations.fluent-concluded lim n s p)
     unfolding Derivations.fluent-concluded
     fluent-concluded-numbered p = by-next _ _ (below-numbered n s p) λ _ _. tt
 
-    concluded-numbered : (layout : Layout) (p : ℕ) → Numbered (Derivations.concluded-at lim n m s layout p)
+    concluded-numbered : (layout : Layout) (p : ℕ) → Numbered (Derivations.concluded-at lim n s layout p)
     unfolding Derivations.concluded-at Derivations.conclusion-at
     concluded-numbered Plain p = by-next _ _ (list-concluded-numbered p) λ _ q. by-next _ _ (byte-numbered s q) λ _ _. tt
     concluded-numbered Closing p =
@@ -174,7 +174,7 @@ module _ (ns : List ℕ) (has : (n : ℕ) → among n refusals ≡ true → amon
         by-next _ _ (count-numbered 0 (lim .citations) s t) λ k u.
         by-next _ _ (repeated-numbered (Reading.two-bytes-at s) (two-bytes-numbered s) k u) λ _ _. tt
 
-    closing-numbered : (layout : Layout) (p : ℕ) → Numbered (Derivations.closing-at lim n m s layout p)
+    closing-numbered : (layout : Layout) (p : ℕ) → Numbered (Derivations.closing-at s layout p)
     unfolding Derivations.closing-at
     closing-numbered Plain p = tt
     closing-numbered Closing p = section-numbered (Reading.two-bytes-at s) (two-bytes-numbered s) s p

@@ -486,11 +486,11 @@ unfolding read-derivation line-at
 lines-clear lim n m room s layout d e q l h =
     after-got (two-bytes-at s 0) _ (not-refused _ _ _ _ q .1) λ c p _ q₁.
     after-got (repeated (line-at lim n m s layout) c p) _ (not-refused _ _ _ _ q₁ .1) λ ls p₁ read q₂.
-    after-got (closing-at lim n m s layout p₁) _ q₂ λ _ _ _ q₃.
+    after-got (closing-at s layout p₁) _ q₂ λ _ _ _ q₃.
     let w = line-read (line-at lim n m s layout) c p ls p₁ read l (subst (λ (x : Derivation). Has (x .lines) l) (sym (got-same (not-refused _ _ _ _ q₃ .1))) h) in
     after-got (list-at literals n (lim .listed) s (w .0)) _ (w .2) λ X i x q₄.
     after-got (plan-at lim n m s i) _ q₄ λ _ j _ q₅.
-    after-got (concluded-at lim n m s layout j) _ q₅ λ _ k _ q₆.
+    after-got (concluded-at lim n s layout j) _ q₅ λ _ k _ q₆.
     after-got (count-at 0 (lim .citations) s k) _ q₆ λ v g _ q₇.
     after-got (repeated (two-bytes-at s) v g) _ q₇ λ _ _ _ same.
     subst (λ (z : Line). Clear lim (z .X)) (got-same same)
