@@ -16,6 +16,8 @@ pub mod WalkSound
 pub mod PickLaws
 pub mod PathLaws
 pub mod RangeLaws
+pub mod MovedReads
+pub mod MovedPlans
 pub mod PairLaws
 pub mod ToldLaws
 pub mod EndLaws
