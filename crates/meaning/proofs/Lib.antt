@@ -18,6 +18,8 @@ pub mod PathLaws
 pub mod RangeLaws
 pub mod MovedReads
 pub mod MovedPlans
+pub mod PlacelessLaws
+pub mod MovedLines
 pub mod PairLaws
 pub mod ToldLaws
 pub mod EndLaws

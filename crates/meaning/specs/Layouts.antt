@@ -1,15 +1,17 @@
 -- A derivation written in a layout: the bytes that say its lines, and the list that closes them (FORMAT 10.1, 17.3 to 17.7).
-use Prim.Native.Nat.{ℕ, zero, suc, _+_, _-_, _/_, _%_, _<_}
+use Prim.Native.Nat.{ℕ, suc, _-_, _/_, _%_, _<_}
+use mathlib.Core.Bool.{Bool}
 use mathlib.Core.List.{List, [], _∷_, _++_}
 use lib.ListN.{length, getD}
 use Rattle.meaning.specs.declared.Layout.{Layout}
 use Rattle.meaning.specs.declared.Layout.the-variants.{Plain, Closing}
+use Rattle.meaning.specs.Tests.{each-of}
 use Rattle.meaning.specs.Limits
 use Rattle.meaning.specs.Limits.{Limits}
 use Rattle.meaning.specs.Requests.{Sequence, done, item, Item, act, branching, Branches, none, branch}
 use Rattle.meaning.specs.Reading.{Got, next}
 use Rattle.meaning.specs.Refusals.{settled}
-use Rattle.meaning.specs.Derivations.{Conclusion, knows, knows-whether, Line, Derivation, read-derivation}
+use Rattle.meaning.specs.Derivations.{Conclusion, knows, knows-whether, Line, Derivation, read-derivation, a-rule}
 
 -- Each number is a byte, as in every input of a call.
 abbrev pub Bytes : List ℕ → Type 0
@@ -77,7 +79,11 @@ closing-written Closing ks = length ks ∷ numbers-written ks
 unfoldable pub written : Layout → Derivation → List ℕ
 written layout d = number-written (length (d .lines)) ++ (lines-written layout (d .lines) ++ closing-written layout (d .closing))
 
--- FROM ONE LAYOUT TO THE OTHER. The closing list that names the last line (FORMAT 17.42, 17.43).
+-- FROM ONE LAYOUT TO THE OTHER. Every line is by a rule of the plain layout, 1 to 6 (FORMAT 17.43).
+unfoldable pub plain-rules : List Line → Bool
+plain-rules = each-of (λ (l : Line). a-rule Plain (l .rule))
+
+-- The closing list that names the last line (FORMAT 17.42, 17.43).
 unfoldable pub names-last : List Line → List ℕ
 names-last lines = (length lines - 1) ∷ []
 
