@@ -27,6 +27,7 @@ pub mod SensingLaws
 pub mod CoverLaws
 pub mod Exact
 pub mod Accepted
+pub mod LayoutLaws
 pub mod DerivationSound
 pub mod Table
 pub mod NotEmpty

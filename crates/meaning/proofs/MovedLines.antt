@@ -3,22 +3,21 @@
 use Prim.Native.Nat.{ℕ, zero, suc, _+_, _≤_}
 use native.Mathlib.Omega.{arith}
 use mathlib.Core.Path.{_≡_, refl, sym, _∙_, ap, ap₂, subst}
-use mathlib.Core.Bool.{Bool, true, false}
+use mathlib.Core.Bool.{true, false}
 use mathlib.Core.List.{List, [], _∷_, _++_}
 use lib.ListN.{length}
-use lib.Dec.{ltb}
 use borrow.Author.Tests.{leb-true, ltb-false, le-ltb, ne-eqb}
 use Rattle.meaning.specs.declared.Layout.{Layout}
 use Rattle.meaning.specs.declared.Layout.the-variants.{Plain, Closing}
-use Rattle.meaning.specs.Tests.{both, either, some-of, each-of}
+use Rattle.meaning.specs.Tests.{either, some-of, each-of}
 use Rattle.meaning.specs.Limits.{Limits}
 use Rattle.meaning.specs.Literals.{among}
 use Rattle.meaning.specs.Requests.{Sequence}
-use Rattle.meaning.specs.Reading.{Got, got, literals, byte-at, two-bytes-at, repeated, section-at}
-use Rattle.meaning.specs.Derivations.{Conclusion, knows, knows-whether, Line, Derivation, Concluded, concludes-fluent, list-concluded, fluent-concluded, conclusion-at, concluded-at, line-at, closing-at, read-derivation, a-rule}
+use Rattle.meaning.specs.Reading.{Got, got, literals, two-bytes-at, repeated, section-at}
+use Rattle.meaning.specs.Derivations.{Conclusion, Line, Derivation, Concluded, concludes-fluent, list-concluded, fluent-concluded, conclusion-at, concluded-at, line-at, closing-at, read-derivation, a-rule}
 use Rattle.meaning.specs.Layouts.{Bytes, list-written, number-written, numbers-written, plan-written, conclusion-written, concluded-written, line-written, lines-written, closing-written, written, plain-rules}
 use Rattle.meaning.proofs.TestLaws.{both-left, both-right, clash, pick-false}
-use Rattle.meaning.proofs.MovedReads.{On, got-on, pick-on, refuse-on, next-on, next-is, Stands, stands-both, stands-parts, whole-stands, stands-whole, stands-inside, Copied, byte-stands, byte-copied, count-copied, below-copied, list-copied, number-stands, numbers-stand, two-bytes-copied, numbers-copied}
+use Rattle.meaning.proofs.MovedReads.{On, got-on, pick-on, refuse-on, next-on, next-is, Stands, stands-both, stands-parts, whole-stands, stands-whole, stands-inside, Copied, byte-stands, byte-copied, count-copied, below-copied, list-copied, numbers-stand, two-bytes-copied, numbers-copied}
 use Rattle.meaning.proofs.MovedPlans.{plan-copied}
 use Rattle.meaning.proofs.PlacelessLaws.{unplaced-line, unplaced-lines}
 

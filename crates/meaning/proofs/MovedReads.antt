@@ -6,15 +6,12 @@ use mathlib.Core.Path.{_≡_, refl, sym, _∙_, ap, ap₂, subst}
 use mathlib.Core.Bool.{Bool, true, false}
 use mathlib.Core.List.{List, [], _∷_, _++_}
 use lib.ListN.{length, getD}
-use lib.Dec.{leb, ltb, eqb}
-use borrow.Author.Tests.{leb-false, ltb-false, lt-leb, eqb-true, eq-eqb}
-use Rattle.meaning.specs.Tests.{both, either, pick}
-use Rattle.meaning.specs.Limits
-use Rattle.meaning.specs.Limits.{Limits}
+use borrow.Author.Tests.{leb-false, lt-leb}
+use Rattle.meaning.specs.Tests.{pick}
 use Rattle.meaning.specs.Reading
 use Rattle.meaning.specs.Reading.{Got, got, fault, next, byte-at, two-bytes-at, count-at, below-at, entry-at, entries-at, list-at, repeated}
 use Rattle.meaning.specs.Layouts.{Bytes, list-written, number-written, numbers-written}
-use Rattle.meaning.proofs.TestLaws.{pick-true, pick-false}
+use Rattle.meaning.proofs.TestLaws.{pick-false}
 use Rattle.meaning.proofs.SettledLaws.{fault≢got}
 
 -- WHAT IS TRUE OF WHATEVER WAS READ.
@@ -148,7 +145,7 @@ module _ (kind : Reading.Kind) (n : ℕ) (s : List ℕ) where
   list-copied most p = counted-copied s (count-at 0 most) (λ u c q. entries-at kind n u c q 0) (λ xs. xs) p (count-copied s 0 most p) (λ c q. entries-copied c q 0)
 
 -- TWO-BYTE NUMBERS.
-pub number-stands : (u : List ℕ) (q k f : ℕ) → Stands u q (number-written k) f → two-bytes-at u q ≡ got k f
+number-stands : (u : List ℕ) (q k f : ℕ) → Stands u q (number-written k) f → two-bytes-at u q ≡ got k f
 unfolding two-bytes-at number-written
 number-stands u q k f st =
     let is : k / 256 * 256 + k % 256 ≡ k = omega arith in

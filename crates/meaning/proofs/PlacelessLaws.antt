@@ -1,16 +1,15 @@
 -- Where a line stands does not matter to any rule, to 18 or to the question: plans are compared wherever they stand, and a rule looks at lines
 -- only so. Assumes nothing.
-use Prim.Native.Nat.{ℕ, zero, suc, _+_}
-use mathlib.Core.Path.{_≡_, refl, sym, _∙_, ap, ap₂, subst}
-use mathlib.Core.Bool.{Bool, true, false}
+use Prim.Native.Nat.{ℕ, zero, suc}
+use mathlib.Core.Path.{_≡_, refl, sym, _∙_, ap, ap₂}
+use mathlib.Core.Bool.{Bool}
 use mathlib.Core.List.{List, [], _∷_, map}
-use lib.ListN.{length, length-map, getD, List·getD-map}
-use Rattle.meaning.specs.Tests.{both, either, pick}
+use lib.ListN.{length-map, getD, List·getD-map}
 use Rattle.meaning.specs.Limits.{Limits}
 use Rattle.meaning.specs.Requests.{Table, Sequence, done, item, Item, act, branching, Branches, none, branch, Request}
-use Rattle.meaning.specs.Refusals.{Found, nowhere, at, or-else, overlap-in}
-use Rattle.meaning.specs.States.{State, state-of, unknown-sensed}
-use Rattle.meaning.specs.Derivations.{Conclusion, Line, overlap-in-lines, same-plan, same-item, same-branches, join, says, of-one, of-two, rule-1, takes-branch, branches-first, rule-4, rule-5, rule-6, rule-8, each-reads, acts, one-action, rule-2, reads, senses-first, rule-3, looks-for, one-look, rule-7, given-by, for-lists, follows, cited-by, asks-for, goals-of, names}
+use Rattle.meaning.specs.Refusals.{Found, nowhere, at, overlap-in}
+use Rattle.meaning.specs.States.{State, state-of}
+use Rattle.meaning.specs.Derivations.{Conclusion, Line, overlap-in-lines, same-plan, same-item, same-branches, join, says, of-one, of-two, rule-1, takes-branch, branches-first, rule-4, rule-5, rule-6, rule-8, each-reads, acts, one-action, rule-2, reads, senses-first, rule-3, one-look, rule-7, given-by, for-lists, follows, cited-by, asks-for, names}
 use Rattle.meaning.proofs.WalkLaws.{unplaced, unplaced-item, unplaced-branches}
 use Rattle.meaning.proofs.RefusalLaws.{at≢nowhere, unplaced-found, unplaced-or-else, unplaced-18}
 

@@ -17,7 +17,7 @@ use Rattle.meaning.specs.Derivations.{Conclusion, knows, knows-whether, 
 abbrev pub Bytes : List ℕ → Type 0
 Bytes s = (i : ℕ) → getD s i 0 < 256
 
--- A list is its count and its entries (FORMAT 2.20).
+-- A list is its count and its entries (FORMAT 2.5).
 unfoldable pub list-written : List ℕ → List ℕ
 list-written xs = length xs ∷ xs
 
