@@ -213,7 +213,7 @@ pub record In-closing-layout (lim : Limits) (request d : List ℕ) : Type 0 wher
   pub accepted : length (written Closing (closed-by-last says)) ≤ lim .derivation → check lim Closing request (written Closing (closed-by-last says)) .number ≡ Limits.verified
 
 -- A derivation that the derivation call accepts is three bytes longer in the closing layout, and the whether call accepts it where it has room
--- (FORMAT 17.42). That call asks for no whether entry, or it would have answered 30.
+-- (FORMAT 17.42). The request has no whether entries, or the derivation call would have answered 30.
 pub plain-to-closing : (lim : Limits) (request d : List ℕ) → Bytes d → check lim Plain request d .number ≡ Limits.verified → In-closing-layout lim request d
 unfolding closed-by-last names-last
 plain-to-closing lim request d bytes verified =
@@ -257,7 +257,7 @@ pub record In-plain-layout (lim : Limits) (request d : List ℕ) (D : Derivation
   pub accepted : check lim Plain request (written Plain D) .number ≡ Limits.verified
 
 -- A derivation by rules 1 to 6 whose closing list names its last line, and that the whether call accepts, is three bytes shorter in the plain
--- layout, and the derivation call accepts it (FORMAT 17.43). A closing list of one entry is accepted only where no whether entry is asked.
+-- layout, and the derivation call accepts it (FORMAT 17.43). The request has no whether entries, or one closing entry would be too few.
 pub closing-to-plain : (lim : Limits) (request d : List ℕ) → Bytes d → (D : Derivation) (e : ℕ) → read-for lim Closing request d ≡ got D e
     → plain-rules (D .lines) ≡ true → D .closing ≡ names-last (D .lines) → check lim Closing request d .number ≡ Limits.verified
     → In-plain-layout lim request d D
@@ -274,10 +274,8 @@ closing-to-plain lim request d bytes D e read plain closing verified =
     let copied = derivation-copied lim n m d bytes Closing .holds D e here in
     let whole : length d ≡ length u + 3 = ap length (sym (copied .same)) ∙ three-more D D k refl closing in
     let within = copied .within in
-    let answer : All-named r ls (all-asked r) (k ∷ []) =
-    subst (All-named r ls (all-asked r)) closing (subst (λ (x : Derivation). All-named r (x .lines) (all-asked r) (x .closing)) is (a .answered))
-    in
-    let asked = named-one r ls k answer in
+    let named = subst (λ (x : Derivation). All-named r (x .lines) (all-asked r) (x .closing)) is (a .answered) in
+    let asked = named-one r ls k (subst (All-named r ls (all-asked r)) closing named) in
     let new = copied .again plain Plain (D .closing) (D .closing-place) (omega arith) in
     record {
       same = copied .same;

@@ -17,7 +17,7 @@ use Rattle.meaning.proofs.RefusalLaws.{at≢nowhere, unplaced-found, un
 mutual
   unfolding same-plan
 
-  same-placeless : (p q : Sequence ℕ) → same-plan (unplaced p) (unplaced q) ≡ same-plan p q
+  pub same-placeless : (p q : Sequence ℕ) → same-plan (unplaced p) (unplaced q) ≡ same-plan p q
   same-placeless done done = refl
   same-placeless done (item j q) = refl
   same-placeless (item i p) done = refl
