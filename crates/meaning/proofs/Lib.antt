@@ -1,6 +1,7 @@
 pub mod Compute
 pub mod Cases
 pub mod DerivationCases
+pub mod WhetherCases
 pub mod TestLaws
 pub mod LiteralLaws
 pub mod StateLaws
