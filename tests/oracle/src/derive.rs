@@ -140,12 +140,12 @@ fn by_weakening(line: &Line, cited: &Line) -> bool {
 }
 
 /// Every entry of one list stands in the other.
-fn within(inner: &[u8], outer: &[u8]) -> bool {
+pub(crate) fn within(inner: &[u8], outer: &[u8]) -> bool {
     inner.iter().all(|entry| outer.contains(entry))
 }
 
 /// Whether `whole` is `first` joined with `second`.
-fn joined(first: &[Item], second: &[Item], whole: &[Item]) -> bool {
+pub(crate) fn joined(first: &[Item], second: &[Item], whole: &[Item]) -> bool {
     whole.len() == first.len() + second.len()
         && whole[..first.len()] == *first
         && whole[first.len()..] == *second
