@@ -54,8 +54,8 @@ pub record Rewritten (lim : Limits) (n m : ℕ) (ls : List Line) (other : Layout
 module _ (lim : Limits) (n m : ℕ) where
   -- FROM EITHER LAYOUT. A rule byte and a list.
   concluded-again : (rule : ℕ) (Y : Conclusion) → concludes-fluent rule ≡ false
-      → ((u : List ℕ) (q f : ℕ) → Stands u q (conclusion-written Y) f → list-concluded lim n m u q ≡ got Y f)
-      → (other : Layout) (u : List ℕ) (q f : ℕ) → Stands u q (concluded-written other rule Y) f → concluded-at lim n m u other q ≡ got (record { rule = rule; Y = Y }) f
+      → ((u : List ℕ) (q f : ℕ) → Stands u q (conclusion-written Y) f → list-concluded lim n u q ≡ got Y f)
+      → (other : Layout) (u : List ℕ) (q f : ℕ) → Stands u q (concluded-written other rule Y) f → concluded-at lim n u other q ≡ got (record { rule = rule; Y = Y }) f
   unfolding concluded-at concluded-written conclusion-at
   concluded-again rule Y lists again Plain u q f st =
       let parts = stands-parts u q (conclusion-written Y) (rule ∷ []) f st in
@@ -63,7 +63,7 @@ module _ (lim : Limits) (n m : ℕ) where
   concluded-again rule Y lists again Closing u q f st =
       next-is _ _ _ _ (byte-stands u q rule (q + 1) (st .0, st .1, refl)) ∙ next-is _ _ _ _ (pick-false _ _ _ lists ∙ again u (q + 1) f (st .2))
 
-  closing-again : (other : Layout) (ks : List ℕ) (u : List ℕ) (q f : ℕ) → Stands u q (closing-written other ks) f → closing-at lim n m u other q ≡ got (closed-in other ks) f
+  closing-again : (other : Layout) (ks : List ℕ) (u : List ℕ) (q f : ℕ) → Stands u q (closing-written other ks) f → closing-at u other q ≡ got (closed-in other ks) f
   unfolding closing-at closing-written section-at
   closing-again Plain ks u q f st = ap (λ (o : ℕ). got [] o) st
   closing-again Closing ks u q f st = next-is _ _ _ _ (byte-stands u q (length ks) (q + 1) (st .0, st .1, refl)) ∙ numbers-stand u (q + 1) ks f (st .2)
@@ -72,19 +72,19 @@ module _ (lim : Limits) (n m : ℕ) where
     -- WHAT WAS READ.
     record Concluded-copied (layout : Layout) (p : ℕ) (x : Concluded) (e : ℕ) : Type 0 where
       there : Stands s p (concluded-written layout (x .rule) (x .Y)) e
-      again : concludes-fluent (x .rule) ≡ false → (other : Layout) (u : List ℕ) (q f : ℕ) → Stands u q (concluded-written other (x .rule) (x .Y)) f → concluded-at lim n m u other q ≡ got x f
+      again : concludes-fluent (x .rule) ≡ false → (other : Layout) (u : List ℕ) (q f : ℕ) → Stands u q (concluded-written other (x .rule) (x .Y)) f → concluded-at lim n u other q ≡ got x f
 
-    list-there : (p : ℕ) → On (list-concluded lim n m s p) (Copied (list-concluded lim n m) conclusion-written s p)
+    list-there : (p : ℕ) → On (list-concluded lim n s p) (Copied (list-concluded lim n) conclusion-written s p)
     unfolding list-concluded conclusion-written
     list-there p =
         next-on _ _ (list-copied literals n s (lim .listed) p) λ Y e one.
         got-on _ _ (record { there = one .there; again = λ u q f st. next-is _ _ _ _ (one .again u q f st) })
 
-    fluent-there : (p : ℕ) → On (fluent-concluded lim n m s p) (λ Y e. Stands s p (conclusion-written Y) e)
+    fluent-there : (p : ℕ) → On (fluent-concluded lim n s p) (λ Y e. Stands s p (conclusion-written Y) e)
     unfolding fluent-concluded conclusion-written
     fluent-there p = next-on _ _ (below-copied s n p) λ g e one. got-on _ _ (one .there)
 
-    concluded-copied : (layout : Layout) (p : ℕ) → On (concluded-at lim n m s layout p) (Concluded-copied layout p)
+    concluded-copied : (layout : Layout) (p : ℕ) → On (concluded-at lim n s layout p) (Concluded-copied layout p)
     unfolding concluded-at concluded-written conclusion-at
     concluded-copied Plain p =
         next-on _ _ (list-there p) λ Y q one.
@@ -95,7 +95,7 @@ module _ (lim : Limits) (n m : ℕ) where
         })
     concluded-copied Closing p =
         next-on _ _ (byte-copied s p) λ rule q one.
-        next-on {P = λ Y e. Stands s q (conclusion-written Y) e × (concludes-fluent rule ≡ false → (u : List ℕ) (o f : ℕ) → Stands u o (conclusion-written Y) f → list-concluded lim n m u o ≡ got Y f)} _ _
+        next-on {P = λ Y e. Stands s q (conclusion-written Y) e × (concludes-fluent rule ≡ false → (u : List ℕ) (o f : ℕ) → Stands u o (conclusion-written Y) f → list-concluded lim n u o ≡ got Y f)} _ _
         (pick-on _ _ _
         (λ fluent. record { holds = λ Y e read. (fluent-there q .holds Y e read, λ lists. clash fluent lists) })
         (λ _. record { holds = λ Y e read. let all = list-there q .holds Y e read in (all .there, λ lists. all .again) })) λ Y e two.
@@ -178,7 +178,7 @@ module _ (lim : Limits) (n m : ℕ) where
           → length (written other (record { lines = d .lines; closing = ks; closing-place = place })) ≤ lim .derivation
           → Rewritten lim n m (d .lines) other ks (written other (record { lines = d .lines; closing = ks; closing-place = place }))
 
-    closing-there : (layout : Layout) (p : ℕ) → On (closing-at lim n m s layout p) (λ ks e. Stands s p (closing-written layout ks) e)
+    closing-there : (layout : Layout) (p : ℕ) → On (closing-at s layout p) (λ ks e. Stands s p (closing-written layout ks) e)
     unfolding closing-at closing-written section-at
     closing-there Plain p = got-on _ _ refl
     closing-there Closing p =

@@ -45,7 +45,9 @@ pub record Concluded : Type 0 where
 
 -- The rules that conclude a fluent (FORMAT 17.5).
 unfoldable pub concludes-fluent : ℕ → Bool
-concludes-fluent rule = among rule (Limits.look-rule ∷ Limits.literal-rule ∷ Limits.sensing-whether-rule ∷ Limits.composition-whether-rule ∷ Limits.branching-whether-rule ∷ [])
+concludes-fluent rule =
+    among rule
+    (Limits.look-rule ∷ Limits.literal-rule ∷ Limits.sensing-whether-rule ∷ Limits.composition-whether-rule ∷ Limits.branching-whether-rule ∷ [])
 
 -- READING, with the fluent count n and the action count m of the request.
 module _ (lim : Limits) (n : ℕ) (s : List ℕ) where
@@ -159,6 +161,12 @@ same-conclusion (knows Y) (knows-whether g) = false
 same-conclusion (knows-whether f) (knows Z) = false
 same-conclusion (knows-whether f) (knows-whether g) = eqb f g
 
+-- One list is part of another; a fluent is part of nothing.
+unfoldable pub part-of : Conclusion → Conclusion → Bool
+part-of (knows Y) (knows Z) = included Y Z
+part-of (knows Y) (knows-whether g) = false
+part-of (knows-whether f) Z = false
+
 -- The line says X, c, Y.
 unfoldable pub says : Line → List ℕ → Sequence ℕ → Conclusion → Bool
 says l X c Y = both (same-list (l .X) X) (both (same-plan (l .c) c) (same-conclusion (l .Y) Y))
@@ -204,12 +212,7 @@ rule-5 first second l =
     both (both (same-list (first .X) (l .X)) (same-conclusion (first .Y) (knows (second .X))))
     (both (same-conclusion (second .Y) (l .Y)) (same-plan (join (first .c) (second .c)) (l .c)))
 
--- Rule 6 (FORMAT 10.17, 10.27): X' c Y', with X' within X and Y within Y'; both are lists.
-unfoldable pub part-of : Conclusion → Conclusion → Bool
-part-of (knows Y) (knows Z) = included Y Z
-part-of (knows Y) (knows-whether g) = false
-part-of (knows-whether f) Z = false
-
+-- Rule 6 (FORMAT 10.17, 10.27): X' c Y', with X' within X and Y within Y'.
 unfoldable pub rule-6 : Line → Line → Bool
 rule-6 cited l = both (included (cited .X) (l .X)) (both (same-plan (cited .c) (l .c)) (part-of (l .Y) (cited .Y)))
 
