@@ -131,7 +131,7 @@ module _ (n m : ℕ) (d : List ℕ) where
       subst (λ (w : Spot). Concluded-stands w (record { rule = rule; Y = Y }) t) (sym (spot-list d p e (kind ∙ no)))
       (record { Y = second .0; rule = first .1; after = sym end ∙ second .1 })))
 
-  -- In either layout.
+  -- A line starts with its list X and its plan, in either layout.
   pub record Line-parts (p : ℕ) (l : Line) : Type 0 where
     place : l .place ≡ p
     X : List-stands d p (l .X)
@@ -140,6 +140,7 @@ module _ (n m : ℕ) (d : List ℕ) where
     pub reads : plan-at format n m d (after-list d p) ≡ got plan end
     pub is : plan .value ≡ l .c
 
+  -- The rest goes by the layout.
   record Line-read (layout : Layout) (p : ℕ) (l : Line) : Type 0 where
     parts : Line-parts p l
     after : ℕ
