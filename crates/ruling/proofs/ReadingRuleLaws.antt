@@ -1,6 +1,6 @@
--- Rule 3: a citation says a reading just where its list, its count and its items' bytes do; the readings of the first unknown fluent are those with
--- it true and then those with it false, and the citations are used up in that order. As many lines are used as there are readings, so that how
--- many are cited need not be asked beforehand. Assumes nothing.
+-- Rules 3 and 10: a citation says a reading just where its list, its count, its items' bytes and its conclusion do; the readings of the first unknown
+-- fluent are those with it true and then those with it false, and the citations are used up in that order. As many lines are used as there are
+-- readings, so that how many are cited need not be asked beforehand. Assumes nothing.
 use Prim.Native.Nat.{ℕ, zero, suc, _+_, _-_, _*_, _^_, _≤_, _<_}
 use native.Mathlib.Omega.{arith}
 use native.Mathlib.Nat.{pow-suc}
@@ -386,7 +386,7 @@ sensed-states t a marks marked f first =
       | no far ↦ pick-false _ _ _ (le-ltb f 64 (omega arith)) ∙ sym (sensed-no-first t a marks marked f first (omega arith))
     ])
 
--- THE LINE of rule 3, at the spot w, whose plan's count stands at q.
+-- THE LINE itself, at the spot w, whose plan's count stands at q.
 act-bytes : (o a : ℕ) (rest : Sequence ℕ) → bytes-of (item (act o a) rest) ≡ 1 + bytes-of rest
 unfolding bytes-of
 act-bytes o a rest = refl

@@ -1,4 +1,4 @@
--- What rule 3's functions answer: the readings of the unknown sensed fluents against the lines cited, one after the other.
+-- What the functions of rules 3 and 10 answer: the readings of the unknown sensed fluents against the lines cited, one after the other.
 use Prim.Native.Nat.{ℕ, _+_, _≤_}
 use mathlib.Core.Path.{_≡_}
 use mathlib.Core.Bool.{Bool, true}
