@@ -1,4 +1,4 @@
--- What rule 3's functions answer: the readings of the unknown sensed fluents against the lines cited, one after the other.
+-- What the functions of rules 3 and 10 answer: the readings of the unknown sensed fluents against the lines cited, one after the other.
 use Prim.Native.Nat.{ℕ, _+_, _≤_}
 use mathlib.Core.Path.{_≡_}
 use mathlib.Core.Bool.{Bool, true}
@@ -56,18 +56,19 @@ pub record Some-follows (d : List ℕ) (r : Rest) : Type 0 where
 pub record Says-reading (d : List ℕ) (marks : State) (r : Rest) (w : Spot) (answer : Bool) : Type 0 where
   pub holds : (c : Line) (rest : Sequence ℕ) (Y : Conclusion) → Stands d w c → Follows d r rest Y → answer ≡ says c (literals-of marks) rest Y
 
--- All lines stand, so many; and what follows the action, and the citations, each the number of a line.
+-- All lines stand; and what follows the action, and the citations, each the number of a line.
 pub record Rest-stands (d places : List ℕ) (r : Rest) (lines : List Line) (rest : Sequence ℕ) (Y : Conclusion) (cites : List ℕ) : Type 0 where
   pub stand : Lines-stand (r .layout) d places lines
-  pub size : length lines ≡ r .lines
   pub follows : Follows d r rest Y
   pub counted : r .count ≡ length cites
   pub most : length cites ≤ 64
   pub numbers : Numbers-stand d (r .own .cites + 1) cites
   pub below : each-of (λ (k : ℕ). ltb k (length lines)) cites ≡ true
 
+-- Whatever these are; there are so many lines.
 pub record Some-rest (d places : List ℕ) (r : Rest) : Type 0 where
   pub lines : List Line
+  pub size : length lines ≡ r .lines
   pub rest : Sequence ℕ
   pub Y : Conclusion
   pub cites : List ℕ

@@ -85,7 +85,8 @@ fn one_reading(d: &[u8], places: &Places, marks: &[u8; 64], rest: Rest, k: usize
     let at = counted + twice;
     let second = at + 1;
     let number = two(d[at], d[second]);
-    let cited = spot_of(rest.layout, d, places, rest.lines, number);
+    let layout = rest.layout;
+    let cited = spot_of(layout, d, places, rest.lines, number);
     let says = says_reading(d, marks, rest, cited);
     if says {
         return Used::To(k + 1);

@@ -2,7 +2,7 @@
 -- are all, and then they are as many as the readings.
 use Rattle.steps.proofs.ToldMarks.{marked-as}
 use Rattle.ruling.proofs.RuleLaws.{plan-counted, items-fit, items-there}
-use Rattle.ruling.proofs.ReadingRuleLaws.{rest-fits, Y-there, counted-inside, counted-fits, cites-fit, none-first, branching-first, action-small, some-rest, not-sensing, not-run, all-read, not-read}
+use Rattle.ruling.proofs.ReadingRuleLaws.{rest-fits, none-first, branching-first, action-small, some-rest, not-sensing, not-run, all-read, not-read}
 use borrow.Author.Needs.{needs}
 use Rattle.ruling.proofs.readings.rule_3.Statement.{statement}
 use Rattle.ruling.proofs.readings.rule_3.Tie as tie
@@ -10,9 +10,9 @@ use Rattle.ruling.proofs.readings.rule_3.Reads as reads
 use Rattle.ruling.proofs.readings.rule_3.Lts as lts
 use Rattle.bytes.proofs.bytes.wide.Reads as wide-reads
 use Rattle.comparing.proofs.plans.count_of.Reads as count-of-reads
-use Rattle.ruling.proofs.readings.each_reading.Reads as each-reading-reads
 use Rattle.reading.proofs.marks.state_of.Reads as state-of-reads
 use Rattle.refusing.proofs.overlaps.sequence_of.Reads as sequence-of-reads
+use Rattle.ruling.proofs.readings.each_reading.Reads as each-reading-reads
 use Rattle.steps.proofs.actions.can_be_run.Reads as can-be-run-reads
 use Rattle.steps.proofs.sensing.first_unknown.Reads as first-unknown-reads
 use Rattle.steps.proofs.sensing.is_sensing.Reads as is-sensing-reads
@@ -65,57 +65,45 @@ can-be-run-requires c κs = (search needs, search action-small)
 first-unknown-requires : tie.Need-first-unknown-requires
 first-unknown-requires c κs = (search needs, (search action-small, search marked-as))
 
--- src/readings.rt:166:17
-sequence-of-requires-2 : tie.Need-sequence-of-requires-2
-sequence-of-requires-2 c κs = search Y-there
-
--- src/readings.rt:167:27
-add-counted : tie.Need-add-counted
-add-counted c = search counted-fits
-
--- src/readings.rt:168:30
+-- src/readings.rt:167:30
 shared-slice-read-wide-2 : tie.Need-shared-slice-read-wide-2
-shared-slice-read-wide-2 c = search counted-inside
+shared-slice-read-wide-2 c = search needs
 
--- src/readings.rt:168:17
+-- src/readings.rt:167:17
 wide-requires-2 : tie.Need-wide-requires-2
 wide-requires-2 c κs = search needs
 
--- src/readings.rt:169:25
-add-cites : tie.Need-add-cites
-add-cites c = search cites-fit
-
--- src/readings.rt:170:24
+-- src/readings.rt:168:24
 add-from : tie.Need-add-from
 add-from c = search rest-fits
 
--- src/readings.rt:171:25
+-- src/readings.rt:169:25
 sub-items : tie.Need-sub-items
 sub-items c = search needs
 
--- src/readings.rt:179:19
+-- src/readings.rt:178:19
 each-reading-requires : tie.Need-each-reading-requires
 each-reading-requires c κs =
-    let held = c .before .before .before .before .before .before .before .before .before .before .before .before .before .before .before .before .before .before .before .before .pre in
+    let held = c .before .before .before .before .before .before .before .before .before .before .before .before .before .before .before .before .before .before .before .pre in
     (search needs, (search (action-small, held .1 .0), (search marked-as, search (some-rest, held .1 .0, held .1 .1 .0, held .1 .1 .1))))
 
--- src/readings.rt:180:26
+-- src/readings.rt:179:26
 enum-known-k : tie.Need-enum-known-k
 enum-known-k c = search needs
 
--- src/readings.rt:181:21
+-- src/readings.rt:179:32
 returns-3 : tie.Need-returns-3
 returns-3 c = search all-read
 
--- src/readings.rt:184:21
+-- src/readings.rt:180:32
 enum-told : tie.Need-enum-told
 enum-told c = search needs
 
--- src/readings.rt:184:21
+-- src/readings.rt:180:32
 returns-4 : tie.Need-returns-4
 returns-4 c = search not-read
 
--- src/readings.rt:188:9
+-- src/readings.rt:183:9
 returns-5 : tie.Need-returns-5
 returns-5 c = search not-run
 
@@ -139,11 +127,8 @@ rule-3-spec =
     state-of-requires
     can-be-run-requires
     first-unknown-requires
-    sequence-of-requires-2
-    add-counted
     shared-slice-read-wide-2
     wide-requires-2
-    add-cites
     add-from
     sub-items
     each-reading-requires
