@@ -11,7 +11,10 @@ pub mod PlaceLaws
 pub mod PackingLaws
 pub mod ExportedPromises
 pub mod DerivationLaws
+pub mod CheckPromises
 pub mod DerivationPromises
+pub mod WhetherPromises
 pub mod ShowingPromises
 pub mod ExportedDerivationPromises
+pub mod ExportedWhetherPromises
 pub mod ExportedShowingPromises

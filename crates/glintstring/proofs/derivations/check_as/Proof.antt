@@ -2,10 +2,10 @@
 use Rattle.glintstring.proofs.DerivationLaws.{check-settled-first, check-then}
 use Rattle.glintstring.proofs.JudgingLaws.{blank-is, judge-at-hand}
 use borrow.Author.Needs.{needs}
-use Rattle.glintstring.proofs.derivations.check.Statement.{statement}
-use Rattle.glintstring.proofs.derivations.check.Tie as tie
-use Rattle.glintstring.proofs.derivations.check.Reads as reads
-use Rattle.glintstring.proofs.derivations.check.Lts as lts
+use Rattle.glintstring.proofs.derivations.check_as.Statement.{statement}
+use Rattle.glintstring.proofs.derivations.check_as.Tie as tie
+use Rattle.glintstring.proofs.derivations.check_as.Reads as reads
+use Rattle.glintstring.proofs.derivations.check_as.Lts as lts
 use Rattle.glintstring.proofs.derivations.check_at_hand.Reads as check-at-hand-reads
 use Rattle.refusing.proofs.settled.settle.Reads as settle-reads
 
@@ -33,7 +33,7 @@ returns c = search check-then
 returns-2 : tie.Need-returns-2
 returns-2 c = search check-settled-first
 
-pub check-spec : {M : Type 1} → statement M
-check-spec =
+pub check-as-spec : {M : Type 1} → statement M
+check-as-spec =
     tie.close
     (tie.spec settle-requires enum-told check-at-hand-requires enum-known-k returns returns-2)
