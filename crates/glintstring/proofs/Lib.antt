@@ -17,4 +17,5 @@ pub mod WhetherPromises
 pub mod ShowingPromises
 pub mod ExportedDerivationPromises
 pub mod ExportedWhetherPromises
+pub mod LayoutPromises
 pub mod ExportedShowingPromises
