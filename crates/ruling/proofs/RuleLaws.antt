@@ -4,7 +4,7 @@ use Prim.Native.Nat.{ℕ, zero, suc, _+_, _*_, _/_, _<_}
 use native.Mathlib.Omega.{arith}
 use mathlib.Core.Path.{_≡_, refl, sym, _∙_, ap, ap₂, subst}
 use mathlib.Core.Bool.{Bool, true, false}
-use mathlib.Core.List.{List, [], _∷_}
+use mathlib.Core.List.{List}
 use lib.ListN.{length, getD}
 use lib.Dec.{eqb}
 use mir.Syntax.{w64}
@@ -30,7 +30,7 @@ use Rattle.steps.proofs.ToldMarks.{marked-as}
 use Rattle.comparing.specs.declared.spots.Spot.{Spot}
 use Rattle.comparing.specs.Coded.{Tellable}
 use Rattle.comparing.specs.Stands.{after-list, Plan-stands, Conclusion-stands, Stands}
-use Rattle.comparing.specs.Rules.{Some-plan, Items-stand, Some-items, Same-plans, Joined-plans, Some-concluded, Same-conclusions, Some-line, Ruled, Ruled-by, Ruled-by-two}
+use Rattle.comparing.specs.Rules.{Some-plan, Items-stand, Some-items, Same-plans, Joined-plans, Same-conclusions, Some-line, Ruled, Ruled-by, Ruled-by-two}
 use Rattle.comparing.proofs.CodedLaws.{same-own, same-bytes, coded-same, tellable-join, none-done, same-done}
 use Rattle.comparing.proofs.CodedPlaces.{act-there, Branching-there, branching-there}
 
@@ -113,9 +113,6 @@ module _ (d : List ℕ) (y : ℕ) (fluent : Bool) where
       record { is = ap knows-whether (sym byte); there = there .1; small = omega (arith, byte, below) }
 
 module _ (d : List ℕ) (w : Spot) where
-  pub some-concluded : Some-line d w → Some-concluded d w
-  some-concluded some = record { conclusion = some .line .Y; stands = some .stands .Y }
-
   -- A list.
   module _ (list : w .fluent ≡ false) where
     Y-lists : (l : Line) → Stands d w l → Lists d (w .conclusion) (l .Y)

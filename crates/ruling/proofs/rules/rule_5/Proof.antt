@@ -1,5 +1,5 @@
 -- The lists are what stands at their places, and the plan is the join of the two just where the plan that stands there is. A fluent is no list.
-use Rattle.ruling.proofs.RuleLaws.{some-concluded, Y-here, some-plan, plan-counted, items-fit, some-items, first-whether, starts-apart, meets-apart, ends-apart, composed}
+use Rattle.ruling.proofs.RuleLaws.{Y-here, some-plan, plan-counted, items-fit, some-items, first-whether, starts-apart, meets-apart, ends-apart, composed}
 use borrow.Author.Needs.{needs}
 use Rattle.ruling.proofs.rules.rule_5.Statement.{statement}
 use Rattle.ruling.proofs.rules.rule_5.Tie as tie
@@ -25,7 +25,7 @@ same-lists-requires-2 c κs = (search Y-here, search needs)
 
 -- src/rules.rt:94:17
 same-conclusions-requires : tie.Need-same-conclusions-requires
-same-conclusions-requires c κs = (search some-concluded, search some-concluded)
+same-conclusions-requires c κs = search needs
 
 -- src/rules.rt:96:21
 sequence-of-requires : tie.Need-sequence-of-requires

@@ -41,7 +41,11 @@ add-first c = search literal-fits
 
 -- src/rules.rt:194:28
 shared-slice-read-wide-3 : tie.Need-shared-slice-read-wide-3
-shared-slice-read-wide-3 c = ?
+shared-slice-read-wide-3 c =
+    let list = c .before .before .before .before .before .before .before in
+    let counted = c .before .before .wide2 .ensures in
+    let one = c .before .if3 .left in
+    literal-there _ _ (list .if1 .left) (list .before .before .pre .0) _ counted one
 
 -- src/rules.rt:194:13
 wide-requires-3 : tie.Need-wide-requires-3
