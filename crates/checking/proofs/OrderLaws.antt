@@ -83,8 +83,11 @@ module _ (layout : Layout) (n m : ℕ) (d places : List ℕ) (count : ℕ) (all 
         pub checking-next : number ≤ 0 → Checking layout t (lines-in layout n m d) (i + 1)
         checking-next h = record { same = on ∙ line-passed layout t (lines-in layout n m d) i (line-in layout n m d i) (drop (i + 1) (lines-in layout n m d)) (subst (λ (j : ℕ). j ≤ 0) is h) }
 
+        stopped : 0 < number → (p : ℕ) → p ≡ getD places i 0 → check-lines format layout t (lines-in layout n m d) 0 (lines-in layout n m d) ≡ fault number p
+        stopped h p place =
+            let there : line-in layout n m d i .place ≡ p = own layout n m d places count i (line-numbered i more) (spot-in layout d places i) refl .place ∙ spot-line layout d (getD places i 0) (getD places (1024 + i) 0) ∙ sym place in
+            on ∙ line-refused layout t (lines-in layout n m d) i (line-in layout n m d i) (drop (i + 1) (lines-in layout n m d)) (subst (λ (j : ℕ). 0 < j) is h) ∙ rw (sym is, there) refl
+
         pub line-stops : 0 < number → (p : ℕ) → p ≡ getD places i 0 → Stop number p ≡ passed (check-lines format layout t (lines-in layout n m d) 0 (lines-in layout n m d))
         unfolding passed
-        line-stops h p place =
-            let there : line-in layout n m d i .place ≡ p = own layout n m d places count i (line-numbered i more) (spot-in layout d places i) refl .place ∙ spot-line layout d (getD places i 0) (getD places (1024 + i) 0) ∙ sym place in
-            sym (ap passed (on ∙ line-refused layout t (lines-in layout n m d) i (line-in layout n m d i) (drop (i + 1) (lines-in layout n m d)) (subst (λ (j : ℕ). 0 < j) is h) ∙ rw (sym is, there) refl))
+        line-stops h p place = rw (stopped h p place) refl

@@ -74,7 +74,16 @@ spot-of-requires c κs = (search lines-some, search one-below)
 
 -- src/lines.rt:174:9
 rule-4-requires : tie.Need-rule-4-requires
-rule-4-requires c κs = (search few-fluents, (search few-actions, (search one-some, search own-read)))
+rule-4-requires c κs =
+    let spot = c .before .before in
+    let number = spot .before in
+    let seventh = number .before .before .before in
+    let third = seventh .before in
+    let second = third .before in
+    let first = second .before in
+    let pre = first .before .before .before .pre in
+    let citing = pre .1 .1 .1 .1 in
+    (search few-fluents, (search few-actions, (one-some _ _ _ _ _ _ _ (pre .1 .0) _ (pre .1 .1 .0) citing _ (pre .1 .1 .1 .0) (first .if1 .left) (second .if2 .left) (third .if3 .left) (seventh .if4 .left) _ (number .two .ensures) _ (spot .spot-of .ensures), search own-read)))
 
 -- src/lines.rt:174:9
 returns-5 : tie.Need-returns-5
@@ -106,15 +115,50 @@ spot-of-requires-2 c κs = (search lines-some, search other-below)
 
 -- src/lines.rt:181:9
 rule-5-requires : tie.Need-rule-5-requires
-rule-5-requires c κs = (search one-some, (search other-some, search own-some))
+rule-5-requires c κs =
+    let other = c .before in
+    let fifth = other .before .before .before in
+    let spot = fifth .before .before in
+    let number = spot .before in
+    let seventh = number .before .before .before in
+    let third = seventh .before in
+    let second = third .before in
+    let first = second .before in
+    let pre = first .before .before .before .pre in
+    let citing = pre .1 .1 .1 .1 in
+    let cited =
+    one-some _ _ _ _ _ _ _ (pre .1 .0) _ (pre .1 .1 .0) citing _ (pre .1 .1 .1 .0) (first .if1 .left) (second .if2 .left) (third .if3 .left) (seventh .if4 .left) _ (number .two .ensures) _ (spot .spot-of .ensures)
+    in
+    let cited-too = other-some _ _ _ _ _ _ _ (pre .1 .0) _ (pre .1 .1 .0) citing _ (pre .1 .1 .1 .0) (fifth .if6 .taken) _ (other .two2 .ensures) _ (c .spot-of2 .ensures) in
+    (cited, (cited-too, search own-some))
 
 -- src/lines.rt:181:9
 returns-6 : tie.Need-returns-6
-returns-6 c = search by-composition
+returns-6 c =
+    let other = c .before .before in
+    let fifth = other .before .before .before in
+    let spot = fifth .before .before in
+    let number = spot .before in
+    let seventh = number .before .before .before in
+    let third = seventh .before in
+    let second = third .before in
+    let first = second .before in
+    let pre = first .before .before .before .pre in
+    let citing = pre .1 .1 .1 .1 in
+    by-composition _ _ _ _ _ _ _ (pre .1 .0) _ (pre .1 .1 .0) citing _ (pre .1 .1 .1 .0) (first .if1 .left) (second .if2 .left) (third .if3 .left) (seventh .if4 .left) _ (number .two .ensures) _ (spot .spot-of .ensures) (fifth .if6 .taken) _ (other .two2 .ensures) _ (c .before .spot-of2 .ensures) _ _ (c .rule-5 .ensures)
 
 -- src/lines.rt:184:9
 rule-6-requires : tie.Need-rule-6-requires
-rule-6-requires c κs = (search one-some, search own-some)
+rule-6-requires c κs =
+    let spot = c .before .before .before in
+    let number = spot .before in
+    let seventh = number .before .before .before in
+    let third = seventh .before in
+    let second = third .before in
+    let first = second .before in
+    let pre = first .before .before .before .pre in
+    let citing = pre .1 .1 .1 .1 in
+    (one-some _ _ _ _ _ _ _ (pre .1 .0) _ (pre .1 .1 .0) citing _ (pre .1 .1 .1 .0) (first .if1 .left) (second .if2 .left) (third .if3 .left) (seventh .if4 .left) _ (number .two .ensures) _ (spot .spot-of .ensures), search own-some)
 
 -- src/lines.rt:184:9
 returns-7 : tie.Need-returns-7
@@ -122,7 +166,16 @@ returns-7 c = search by-consequence
 
 -- src/lines.rt:186:5
 rule-8-requires : tie.Need-rule-8-requires
-rule-8-requires c κs = (search one-some, search own-some)
+rule-8-requires c κs =
+    let spot = c .before .before .before in
+    let number = spot .before in
+    let seventh = number .before .before .before in
+    let third = seventh .before in
+    let second = third .before in
+    let first = second .before in
+    let pre = first .before .before .before .pre in
+    let citing = pre .1 .1 .1 .1 in
+    (one-some _ _ _ _ _ _ _ (pre .1 .0) _ (pre .1 .1 .0) citing _ (pre .1 .1 .1 .0) (first .if1 .left) (second .if2 .left) (third .if3 .left) (seventh .if4 .left) _ (number .two .ensures) _ (spot .spot-of .ensures), search own-some)
 
 -- src/lines.rt:135:1
 returns-8 : tie.Need-returns-8
