@@ -317,9 +317,6 @@ module _ (layout : Layout) (n m : ℕ) (d places : List ℕ) (count i : ℕ) (he
   pub lines-some : Some-lines layout d places count
   lines-some = record { lines = lines-in layout n m d; stand = here .all .stand; size = here .all .size }
 
-  pub own-below : i < count
-  own-below = here .below
-
   -- What the rule gives of line i and of the lines that it cites.
   abbrev Given : Table → (rule : ℕ) → Bool
   Given t rule = given-by format t rule (cited-by (lines-in layout n m d) (line-in layout n m d i)) (line-in layout n m d i)
