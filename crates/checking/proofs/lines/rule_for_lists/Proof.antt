@@ -1,4 +1,4 @@
--- The rules that conclude a fluent of a cited line's are told one by one.
+-- Rules 10, 11 and 12 are told one by one, and every other rule is its own.
 use Rattle.checking.proofs.LineLaws.{lists-sensing, lists-composition, lists-branching, lists-same}
 use Rattle.checking.proofs.lines.rule_for_lists.Statement.{statement}
 use Rattle.checking.proofs.lines.rule_for_lists.Tie as tie
