@@ -1,4 +1,4 @@
--- Rule 4 over the bytes: the branches of a plan's first item stand one after another, each with its condition and its sequence, and after the last
+-- Rules 4 and 12 over the bytes: the branches of a plan's first item stand one after another, each with its condition and its sequence, and after the last
 -- of them the rest. What the whole branching gives is what the branches that are left give. Assumes nothing.
 use Prim.Native.Nat.{ℕ, zero, suc, _+_, _-_, _*_, _≤_, _<_}
 use native.Mathlib.Omega.{arith}
@@ -41,7 +41,7 @@ use Rattle.comparing.proofs.CodedLaws.{coded-length, own-most, none-done}
 use Rattle.comparing.proofs.CodedPlaces.{branch-coded, act-there, Branching-coded, branching-there}
 use Rattle.comparing.proofs.KnownLaws.{listed-clear}
 use Rattle.comparing.proofs.StandLaws.{Line-parts, line-parts}
-use Rattle.ruling.proofs.RuleLaws.{plan-of, item-bytes, own-count}
+use Rattle.ruling.proofs.RuleLaws.{X-same, plan-of, item-bytes, own-count}
 
 -- THE PLACE after so many branches.
 module _ (d t : List ℕ) where
@@ -364,16 +364,12 @@ module _ (d u : List ℕ) (plan y : ℕ) where
       }
 
 -- THE CITED LINE, where X or the conclusion differs.
-module _ (d : List ℕ) (v w : Spot) where
-  X-same : (c l : Line) → Stands d v c → Stands d w l → same-list (c .X) (l .X) ≡ same-list (listed d (v .line)) (listed d (w .line))
-  X-same c l sc sl = rw (sc .X .same, sl .X .same)
+module _ (d : List ℕ) (v w : Spot) (n m : ℕ) (r : Bool) where
+  pub starts-other : r ≡ same-list (listed d (v .line)) (listed d (w .line)) → r ≡ false → Read-by n m d v w rule-4 false
+  starts-other tested not = record { holds = λ layout c l sc _ sl. sym (X-differs c l (sym (X-same d v w r tested c l sc sl) ∙ not)) }
 
-  module _ (n m : ℕ) (r : Bool) where
-    pub starts-other : r ≡ same-list (listed d (v .line)) (listed d (w .line)) → r ≡ false → Read-by n m d v w rule-4 false
-    starts-other tested not = record { holds = λ layout c l sc _ sl. sym (X-differs c l (X-same c l sc sl ∙ sym tested ∙ not)) }
-
-    pub ends-other : Same-conclusions d v w r → r ≡ false → Read-by n m d v w rule-4 false
-    ends-other tested not = record { holds = λ layout c l sc _ sl. sym (Y-differs c l (sym (tested .holds (c .Y) (l .Y) (sc .Y) (sl .Y)) ∙ not)) }
+  pub ends-other : Same-conclusions d v w r → r ≡ false → Read-by n m d v w rule-4 false
+  ends-other tested not = record { holds = λ layout c l sc _ sl. sym (Y-differs c l (sym (tested .holds (c .Y) (l .Y) (sc .Y) (sl .Y)) ∙ not)) }
 
 -- THE LINE.
 module _ (n m : ℕ) (d : List ℕ) (w : Spot) where
@@ -464,7 +460,7 @@ module _ (n m : ℕ) (d : List ℕ) (w : Spot) where
                         let clear : Clear format (l .X) = subst (Clear format) (sl .X .same) (listed-clear d (w .line) (sl .X .here) apart) in
                         taken .holds (g .branches) (g .rest) (c .c) (g .branched) (plan-of d v given place c sc)
                         ∙ ap (λ (s : State). takes-known s (g .branches) (g .rest) (c .c)) (told ∙ ap (state-of format) (sl .X .same))
-                        ∙ takes-same c l (X-same d v w c l sc sl ∙ sym starts ∙ yes) (sym (ends .holds (c .Y) (l .Y) (sc .Y) (sl .Y)) ∙ also) clear (g .branches) (g .rest)
+                        ∙ takes-same c l (sym (X-same d v w one starts c l sc sl) ∙ yes) (sym (ends .holds (c .Y) (l .Y) (sc .Y) (sl .Y)) ∙ also) clear (g .branches) (g .rest)
                         ∙ sym (ap (branches-first c l) (g .is));
                   }
 

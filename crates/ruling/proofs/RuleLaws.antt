@@ -1,5 +1,5 @@
--- The rules of lines that stand in the input: each list is what stands at its place, and each plan is told by its count and its bytes.
--- Assumes nothing.
+-- The rules of lines that stand in the input: each list is what stands at its place, each conclusion is a list or a fluent, and each plan is told by its
+-- count and its bytes. Assumes nothing.
 use Prim.Native.Nat.{ℕ, zero, suc, _+_, _*_, _/_, _<_}
 use native.Mathlib.Omega.{arith}
 use mathlib.Core.Path.{_≡_, refl, sym, _∙_, ap, ap₂, subst}
@@ -179,7 +179,11 @@ module _ (d : List ℕ) (w : Spot) (q : ℕ) (after : q ≡ sequence-place d (w 
             (λ e. same-done (l .c) ∙ e));
       }
 
--- PLANS of two lines, with their counts at r and at q.
+-- TWO LINES: their lists X, and their plans with the counts at r and at q.
+module _ (d : List ℕ) (v w : Spot) (starts : Bool) (first : starts ≡ same-list (listed d (v .line)) (listed d (w .line))) where
+  pub X-same : (c l : Line) → Stands d v c → Stands d w l → starts ≡ same-list (c .X) (l .X)
+  X-same c l sc sl = first ∙ ap₂ {C = Bool} same-list (sc .X .same) (sl .X .same)
+
 module _ (d : List ℕ) (v w : Spot) (r q : ℕ) (given : r ≡ sequence-place d (v .line)) (after : q ≡ sequence-place d (w .line)) (same : Bool) (compared : Same-plans d r (v .end) d q (w .end) same) where
   plans-are : (c l : Line) → Stands d v c → Stands d w l → same ≡ same-plan (c .c) (l .c)
   plans-are c l sc sl = compared .holds (c .c) (l .c) (plan-of d v r given c sc) (plan-of d w q after l sl)
@@ -233,16 +237,22 @@ module _ (d : List ℕ) (v w : Spot) where
           }
 
 -- RULE 8. A list of one literal.
-module _ (d : List ℕ) (f : ℕ) where
-  literals-other : (p count : ℕ) → (count ≡ 1 → ⊥) → one-literal f (bytes-from d p count) ≡ false
+module _ (d : List ℕ) (f p : ℕ) where
+  literals-other : (count : ℕ) → (count ≡ 1 → ⊥) → one-literal f (bytes-from d p count) ≡ false
   unfolding one-literal bytes-from
-  literals-other p zero other = refl
-  literals-other p (suc zero) other = absurd (other refl)
-  literals-other p (suc (suc more)) other = refl
+  literals-other zero other = refl
+  literals-other (suc zero) other = absurd (other refl)
+  literals-other (suc (suc more)) other = refl
 
-  literal-one : (p : ℕ) → one-literal f (bytes-from d p 1) ≡ eqb (getD d p 0 / 2) f
+  literal-one : one-literal f (bytes-from d p 1) ≡ eqb (getD d p 0 / 2) f
   unfolding one-literal bytes-from fluent-of
-  literal-one p = refl
+  literal-one = refl
+
+  literal-other : (count : ℕ) → (getD d p 0 / 2 ≡ f → ⊥) → one-literal f (bytes-from d p count) ≡ false
+  unfolding one-literal bytes-from
+  literal-other zero other = refl
+  literal-other (suc zero) other = literal-one ∙ by-test (eqb (getD d p 0 / 2) f) (λ t. absurd (other (eqb-true _ _ t))) (λ e. e)
+  literal-other (suc (suc more)) other = refl
 
 module _ (d : List ℕ) (v : Spot) (from : v .fluent ≡ false) (some : Some-line d v) where
   pub literals-there : v .conclusion < length d
@@ -250,9 +260,6 @@ module _ (d : List ℕ) (v : Spot) (from : v .fluent ≡ false) (some : Some-lin
 
   pub literal-fits : Fits w64 (v .conclusion + 1)
   literal-fits = let there = literals-there in let long = some .long in record { fits = omega (arith, there, long) }
-
-  pub literal-there : (literals : ℕ) → literals ≡ getD d (v .conclusion) 0 → literals ≡ 1 → v .conclusion + 1 < length d
-  literal-there literals counted one = let ends = Y-here d v from some .ends in omega (arith, ends, one, counted)
 
 -- Nothing settles a list.
 settles-list : (Z : Conclusion) (ys : List ℕ) → settles Z (knows ys) ≡ false
@@ -272,6 +279,10 @@ module _ (d : List ℕ) (v w : Spot) where
   pub list-settled : w .fluent ≡ false → Ruled-by d v w rule-8 false
   list-settled list = not-settled (λ c l sc sl. ap (settles (c .Y)) (Y-lists d w list l sl .is) ∙ settles-list (c .Y) (listed d (w .conclusion)))
 
+  pub settled-elsewhere : (starts : Bool) → starts ≡ same-list (listed d (v .line)) (listed d (w .line)) → starts ≡ false → Ruled-by d v w rule-8 false
+  unfolding rule-8
+  settled-elsewhere starts first e = record { holds = λ c l sc sl. no-left (same-list (c .X) (l .X)) _ (sym (X-same d v w starts first c l sc sl) ∙ e) }
+
   -- The cited list against the fluent f.
   module _ (from : v .fluent ≡ false) (to : w .fluent ≡ true) (f literals : ℕ) (told : f ≡ getD d (w .conclusion) 0) (counted : literals ≡ getD d (v .conclusion) 0) where
     settles-is : (c l : Line) → Stands d v c → Stands d w l → settles (c .Y) (l .Y) ≡ one-literal f (bytes-from d (v .conclusion + 1) literals)
@@ -281,29 +292,27 @@ module _ (d : List ℕ) (v w : Spot) where
     pub not-one-literal : (literals ≡ 1 → ⊥) → Ruled-by d v w rule-8 false
     not-one-literal other = not-settled (λ c l sc sl. settles-is c l sc sl ∙ literals-other d f (v .conclusion + 1) literals other)
 
-    module _ (one : literals ≡ 1) (literal : ℕ) (byte : literal ≡ getD d (v .conclusion + 1) 0) where
-      literal-is : (c l : Line) → Stands d v c → Stands d w l → settles (c .Y) (l .Y) ≡ eqb (literal / 2) f
-      literal-is c l sc sl = settles-is c l sc sl ∙ ap (λ (k : ℕ). one-literal f (bytes-from d (v .conclusion + 1) k)) one ∙ literal-one d f (v .conclusion + 1) ∙ ap (λ (k : ℕ). eqb (k / 2) f) (sym byte)
-
+    module _ (literal : ℕ) (byte : literal ≡ getD d (v .conclusion + 1) 0) where
       pub other-fluent : (literal / 2 ≡ f → ⊥) → Ruled-by d v w rule-8 false
-      other-fluent other = not-settled (λ c l sc sl. literal-is c l sc sl ∙ by-test (eqb (literal / 2) f) (λ t. absurd (other (eqb-true _ _ t))) (λ e. e))
+      other-fluent other = not-settled (λ c l sc sl. settles-is c l sc sl ∙ literal-other d f (v .conclusion + 1) literals (subst (λ (k : ℕ). k / 2 ≡ f → ⊥) byte other))
 
-      module _ (same-fluent : literal / 2 ≡ f) (starts : Bool) (first : starts ≡ same-list (listed d (v .line)) (listed d (w .line))) where
-        same-start : (c l : Line) → Stands d v c → Stands d w l → starts ≡ same-list (c .X) (l .X)
-        same-start c l sc sl = first ∙ ap₂ {C = Bool} same-list (sc .X .same) (sl .X .same)
+      module _ (one : literals ≡ 1) (same-fluent : literal / 2 ≡ f) where
+        settles-so : (c l : Line) → Stands d v c → Stands d w l → settles (c .Y) (l .Y) ≡ true
+        settles-so c l sc sl =
+            settles-is c l sc sl
+            ∙ ap (λ (k : ℕ). one-literal f (bytes-from d (v .conclusion + 1) k)) one
+            ∙ literal-one d f (v .conclusion + 1)
+            ∙ eq-eqb _ _ (ap (λ (k : ℕ). k / 2) (sym byte) ∙ same-fluent)
 
-        pub settled-elsewhere : starts ≡ false → Ruled-by d v w rule-8 false
+        pub settled : (starts : Bool) → starts ≡ same-list (listed d (v .line)) (listed d (w .line)) → starts ≡ true
+            → (r q : ℕ) → r ≡ sequence-place d (v .line) → q ≡ sequence-place d (w .line) → (same : Bool) → Same-plans d r (v .end) d q (w .end) same → Ruled-by d v w rule-8 same
         unfolding rule-8
-        settled-elsewhere e = record { holds = λ c l sc sl. no-left (same-list (c .X) (l .X)) _ (sym (same-start c l sc sl) ∙ e) }
-
-        pub settled : starts ≡ true → (r q : ℕ) → r ≡ sequence-place d (v .line) → q ≡ sequence-place d (w .line) → (same : Bool) → Same-plans d r (v .end) d q (w .end) same → Ruled-by d v w rule-8 same
-        unfolding rule-8
-        settled t r q given after same second =
+        settled starts first t r q given after same second =
             record {
               holds = λ c l sc sl.
                   plans-are d v w r q given after same second c l sc sl
-                  ∙ sym (yes-right (same-plan (c .c) (l .c)) (settles (c .Y) (l .Y)) (literal-is c l sc sl ∙ eq-eqb _ _ same-fluent))
-                  ∙ sym (yes-left (same-list (c .X) (l .X)) _ (sym (same-start c l sc sl) ∙ t));
+                  ∙ sym (yes-right (same-plan (c .c) (l .c)) (settles (c .Y) (l .Y)) (settles-so c l sc sl))
+                  ∙ sym (yes-left (same-list (c .X) (l .X)) _ (sym (X-same d v w starts first c l sc sl) ∙ t));
             }
 
 -- RULES 5 and 11.
@@ -322,14 +331,11 @@ module _ (d : List ℕ) (u v w : Spot) where
       }
 
   module _ (starts : Bool) (first : starts ≡ same-list (listed d (u .line)) (listed d (w .line))) where
-    begins-is : (b c l : Line) → Stands d u b → Stands d v c → Stands d w l → starts ≡ same-list (b .X) (l .X)
-    begins-is b c l sb sc sl = first ∙ ap₂ {C = Bool} same-list (sb .X .same) (sl .X .same)
-
     pub starts-apart : starts ≡ false → Ruled-by-two d u v w rule-5 false
     unfolding rule-5
     starts-apart f =
         record {
-          holds = λ b c l sb sc sl. no-left _ _ (sym (no-left (same-list (b .X) (l .X)) (same-conclusion (b .Y) (knows (c .X))) (sym (begins-is b c l sb sc sl) ∙ f)));
+          holds = λ b c l sb sc sl. no-left _ _ (sym (no-left (same-list (b .X) (l .X)) (same-conclusion (b .Y) (knows (c .X))) (sym (X-same d u w starts first b l sb sl) ∙ f)));
         }
 
     module _ (begin : starts ≡ true) (list : u .fluent ≡ false) (meets : Bool) (second : meets ≡ same-list (listed d (u .conclusion)) (listed d (v .line))) where
@@ -370,7 +376,7 @@ module _ (d : List ℕ) (u v w : Spot) where
                   ∙ plan-either-way (l .c) (join (b .c) (c .c)) (whole .tellable) (tellable-join (b .c) (c .c) (one .tellable) (two .tellable))
                   ∙ sym (yes-left (same-conclusion (c .Y) (l .Y)) (same-plan (join (b .c) (c .c)) (l .c)) (sym (ends-is b c l sb sc sl) ∙ end))
                   ∙ sym (yes-left (both (same-list (b .X) (l .X)) (same-conclusion (b .Y) (knows (c .X)))) _
-                  (yes-left (same-list (b .X) (l .X)) (same-conclusion (b .Y) (knows (c .X))) (sym (begins-is b c l sb sc sl) ∙ begin) ∙ sym (meets-is b c l sb sc sl) ∙ meet));
+                  (yes-left (same-list (b .X) (l .X)) (same-conclusion (b .Y) (knows (c .X))) (sym (X-same d u w starts first b l sb sl) ∙ begin) ∙ sym (meets-is b c l sb sc sl) ∙ meet));
             }
 
 -- STATES.

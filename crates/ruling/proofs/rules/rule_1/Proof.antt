@@ -23,7 +23,7 @@ empty-requires c κs = search plan-counted
 
 -- src/rules.rt:37:9
 same-lists-requires : tie.Need-same-lists-requires
-same-lists-requires c κs = (search Y-here, search needs)
+same-lists-requires c κs = search (needs, Y-here)
 
 -- src/rules.rt:37:9
 returns-2 : tie.Need-returns-2

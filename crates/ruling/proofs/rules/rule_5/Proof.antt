@@ -21,7 +21,7 @@ same-lists-requires c κs = search needs
 
 -- src/rules.rt:92:13
 same-lists-requires-2 : tie.Need-same-lists-requires-2
-same-lists-requires-2 c κs = (search Y-here, search needs)
+same-lists-requires-2 c κs = search (needs, Y-here)
 
 -- src/rules.rt:94:17
 same-conclusions-requires : tie.Need-same-conclusions-requires

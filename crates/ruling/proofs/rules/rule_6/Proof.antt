@@ -19,7 +19,7 @@ returns-2 c = search whether-in-part
 
 -- src/rules.rt:129:9
 within-requires : tie.Need-within-requires
-within-requires c κs = (search needs, (search needs, search X-clear))
+within-requires c κs = search (needs, X-clear)
 
 -- src/rules.rt:131:13
 sequence-of-requires : tie.Need-sequence-of-requires
@@ -35,7 +35,7 @@ same-plans-requires c κs = (search some-plan, search some-plan)
 
 -- src/rules.rt:139:13
 within-requires-2 : tie.Need-within-requires-2
-within-requires-2 c κs = (search Y-here, (search Y-here, search Y-clear))
+within-requires-2 c κs = search (Y-here, Y-clear)
 
 -- src/rules.rt:139:13
 returns-3 : tie.Need-returns-3

@@ -1,6 +1,7 @@
 -- The cited list has one literal just where its count is 1, and this is of the fluent just where half of it is the conclusion's byte. The lists X
 -- and the plans are compared as they stand.
-use Rattle.ruling.proofs.RuleLaws.{fluent-there, some-plan, settled-by-whether, list-settled, literals-there, literal-fits, literal-there, not-one-literal, other-fluent, settled-elsewhere, settled}
+use native.Mathlib.Omega.{arith}
+use Rattle.ruling.proofs.RuleLaws.{Y-here, fluent-there, some-plan, settled-by-whether, list-settled, literals-there, literal-fits, not-one-literal, other-fluent, settled-elsewhere, settled}
 use borrow.Author.Needs.{needs}
 use Rattle.ruling.proofs.rules.rule_8.Statement.{statement}
 use Rattle.ruling.proofs.rules.rule_8.Tie as tie
@@ -43,9 +44,10 @@ add-first c = search literal-fits
 shared-slice-read-wide-3 : tie.Need-shared-slice-read-wide-3
 shared-slice-read-wide-3 c =
     let list = c .before .before .before .before .before .before .before in
+    let ends = Y-here _ _ (list .if1 .left) (list .before .before .pre .0) .ends in
     let counted = c .before .before .wide2 .ensures in
     let one = c .before .if3 .left in
-    literal-there _ _ (list .if1 .left) (list .before .before .pre .0) _ counted one
+    omega (arith, ends, counted, one)
 
 -- src/rules.rt:194:13
 wide-requires-3 : tie.Need-wide-requires-3
