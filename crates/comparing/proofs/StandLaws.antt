@@ -27,9 +27,10 @@ use Rattle.deriving.specs.DerivationRead.{plan-end, derivation-noted, settled-d
 use Rattle.deriving.specs.Derived.{Line-here, Lines-here}
 use Rattle.reading.proofs.SectionLaws.{got-place, byte-got, number-got, count-got, repeated-length, noting-got}
 use Rattle.refusing.proofs.HereLaws.{list-here, list-apart}
-use Rattle.reading.proofs.PlanSizes.{list-through, sequence-read}
+use Rattle.reading.proofs.PlanSizes.{list-through}
 use Rattle.refusing.proofs.PlanOverlaps.{listed-length}
 use Rattle.refusing.proofs.WrittenLaws.{two-is}
+use Rattle.deriving.proofs.DerivationLaws.{plan-ends}
 use Rattle.deriving.proofs.DerivedLaws.{derived-here}
 use Rattle.comparing.specs.declared.spots.Spot.{Spot}
 use Rattle.comparing.specs.Stands.{after-list, List-stands, Plan-stands, Numbers-stand, Conclusion-stands, Stands, spot-at, Lines-stand, Closing-stands, Derived, Some-derived}
@@ -174,14 +175,10 @@ module _ (n m : ℕ) (d : List ℕ) where
   line-parts few layout p l here = line-read few layout p l here .parts
 
   -- Where the plan ends.
-  plan-ends : (q : ℕ) (x : Met (Sequence ℕ)) (e : ℕ) → plan-at format n m d q ≡ got x e → e ≡ q + (2 + bytes-of (x .value))
-  unfolding plan-at
-  plan-ends q x e reads = sequence-read n m d 8 q 0 (omega arith) .holds x e reads .through .after
-
   line-ends : (p : ℕ) (l : Line) (w : Line-parts p l) → w .end ≡ plan-end l
   unfolding plan-end after-list
   line-ends p l w =
-      let after = plan-ends (after-list d p) (w .plan) (w .end) (w .reads) in
+      let after = plan-ends n m d (after-list d p) (w .plan) (w .end) (w .reads) .0 in
       let bytes : bytes-of (w .plan .value) ≡ bytes-of (l .c) = ap bytes-of (w .is) in
       let size = list-size p (l .X) (w .X) in
       let place = w .place in

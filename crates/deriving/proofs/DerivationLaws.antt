@@ -15,7 +15,7 @@ use Rattle.meaning.specs.Limits.{format}
 use Rattle.meaning.specs.Literals.{among}
 use Rattle.meaning.specs.Requests.{Sequence}
 use Rattle.meaning.specs.Reading.{Got, got, fault, next, Met, literals, byte-at, two-bytes-at, count-at, below-at, list-at, repeated, section-at, plan-at}
-use Rattle.meaning.specs.Derivations.{Conclusion, knows, knows-whether, Line, Derivation, Concluded, concludes-fluent, list-concluded, fluent-concluded, conclusion-at, concluded-at, closing-at, line-at, read-derivation}
+use Rattle.meaning.specs.Derivations.{Conclusion, knows, Line, Derivation, concludes-fluent, list-concluded, fluent-concluded, conclusion-at, concluded-at, closing-at, line-at, read-derivation}
 use Rattle.meaning.proofs.TestLaws.{pick-true, pick-false, either-left, either-right}
 use Rattle.meaning.proofs.SettledLaws.{got-same}
 use Rattle.meaning.proofs.RangeLaws.{after-got}
@@ -162,7 +162,7 @@ module _ (layout : Layout) (n m : ℕ) (s : List ℕ) (p : ℕ) (t u : List ℕ)
         rw (met-value (plan-noted p t) (plan-at format n m s p) plan u items q read is .1, passed-to (ending layout n s q) e (sym read-too ∙ v) .1)
 
 -- A plan ends as far on as it has bytes, within the input.
-plan-ends : (n m : ℕ) (s : List ℕ) (q : ℕ) (x : Met (Sequence ℕ)) (e : ℕ) → plan-at format n m s q ≡ got x e → (e ≡ q + (2 + bytes-of (x .value))) × (e ≤ length s)
+pub plan-ends : (n m : ℕ) (s : List ℕ) (q : ℕ) (x : Met (Sequence ℕ)) (e : ℕ) → plan-at format n m s q ≡ got x e → (e ≡ q + (2 + bytes-of (x .value))) × (e ≤ length s)
 unfolding plan-at
 plan-ends n m s q x e reads = let w = sequence-read n m s 8 q 0 (omega arith) .holds x e reads .through in (w .after, w .inside)
 
@@ -301,23 +301,23 @@ module _ (layout : Layout) (n m : ℕ) (s : List ℕ) where
     unfolding outcome noting next repeated places-noted
     places-done h = let none : count - k ≡ zero = omega arith in sym (so-far ∙ rw none)
 
-    module _ (r : Lined) (k<count : k < count) (read : r ≡ lined (line-at format n m s layout p)) where
-      places-left : count - k ≡ suc (count - (k + 1))
-      places-left = omega arith
+    places-left : k < count → count - k ≡ suc (count - (k + 1))
+    places-left more = omega arith
 
-      pub places-fault : (j q : ℕ) → r ≡ Break j q → outcome (Stop j q) t ≡ whole
-      unfolding outcome noting next repeated
-      places-fault j q is = sym (so-far ∙ rw (places-left, line-stop p r read j q is))
+    pub places-fault : (r : Lined) (j q : ℕ) → k < count → r ≡ lined (line-at format n m s layout p) → r ≡ Break j q → outcome (Stop j q) t ≡ whole
+    unfolding outcome noting next repeated
+    places-fault r j q more read is = sym (so-far ∙ rw (places-left more, line-stop p r read j q is))
 
-      pub places-next : (q e : ℕ) (u v : List ℕ) → r ≡ Through q e → u ≡ set t k p → v ≡ set u (1024 + k) q → whole ≡ Places-from (count - (k + 1)) e (k + 1) v
-      unfolding repeated next
-      places-next q e u v is put ended =
-          let w = line-to p r read q e is in
-          let first : set t k (w .0 .place) ≡ u = ap (set t k) (line-place p (w .0) e (w .1)) ∙ sym put in
-          so-far ∙ rw (places-left, w .1) (
-          place-first k (w .0) (repeated (line-at format n m s layout) (count - (k + 1)) e) t
-          ∙ ap (Places-from (count - (k + 1)) e (k + 1)) (ap (λ (x : List ℕ). set x (1024 + k) (plan-end (w .0))) first ∙ ap (set u (1024 + k)) (w .2) ∙ sym ended)
-          )
+    pub places-next : (u v : List ℕ) (q e : ℕ) (r : Lined) → u ≡ set t k p → v ≡ set u (1024 + k) q → k < count → r ≡ lined (line-at format n m s layout p) → r ≡ Through q e
+        → whole ≡ Places-from (count - (k + 1)) e (k + 1) v
+    unfolding repeated next
+    places-next u v q e r put ended more read is =
+        let w = line-to p r read q e is in
+        let first : set t k (w .0 .place) ≡ u = ap (set t k) (line-place p (w .0) e (w .1)) ∙ sym put in
+        so-far ∙ rw (places-left more, w .1) (
+        place-first k (w .0) (repeated (line-at format n m s layout) (count - (k + 1)) e) t
+        ∙ ap (Places-from (count - (k + 1)) e (k + 1)) (ap (λ (x : List ℕ). set x (1024 + k) (plan-end (w .0))) first ∙ ap (set u (1024 + k)) (w .2) ∙ sym ended)
+        )
 
 -- WHAT CLOSES A DERIVATION.
 module _ (layout : Layout) (s : List ℕ) (p : ℕ) where

@@ -1,6 +1,5 @@
 -- The five rules one after another.
 use Rattle.deriving.proofs.DerivationLaws.{fluent-by-7, fluent-by-8, fluent-by-10, fluent-by-11, fluent-by-12}
-use borrow.Author.Needs.{needs}
 use Rattle.deriving.proofs.derivations.gives_fluent.Statement.{statement}
 use Rattle.deriving.proofs.derivations.gives_fluent.Tie as tie
 use Rattle.deriving.proofs.derivations.gives_fluent.Reads as reads

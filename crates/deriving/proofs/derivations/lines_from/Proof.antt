@@ -55,7 +55,7 @@ loop-less c = search needs
 
 -- src/derivations.rt:199:5
 loop-again : tie.Need-loop-again Inv-loop μ-loop
-loop-again c = search places-next
+loop-again c = places-next _ _ _ _ _ _ _ _ _ (c .before .before .before .before .before .before .before .before .before .before .loop .inv) _ _ _ _ _ (c .before .before .note-place .ensures) (c .note-place2 .ensures) (c .before .before .before .before .before .before .before .before .before .loop-test .taken) (c .before .before .before .before .before .before .before .line-at .ensures) (c .before .before .before .before .before .q .given .1)
 
 -- src/derivations.rt:208:26
 enum-known-number : tie.Need-enum-known-number Inv-loop μ-loop
