@@ -251,8 +251,8 @@ module _ (layout : Layout) (r : Request) (d places : List ℕ) (count : ℕ) whe
               ∙ ap (λ (y : Layout). passed (check-end y r x)) (sym closing);
         }
 
-pub due-fits : (s t : List ℕ) → At-hand s t → (p x : ℕ) → x ≡ getD s p 0 → Fits w64 (1 + x)
-due-fits s t here p x byte = let below = here .bytes p in record { fits = omega (arith, below, byte) }
+pub sum-fits : (s t : List ℕ) → At-hand s t → (p x : ℕ) → x ≡ getD s p 0 → (more : ℕ) → more < 256 → Fits w64 (more + x)
+sum-fits s t here p x byte more few = let below = here .bytes p in record { fits = omega (arith, below, byte, few) }
 
 pub closing-lines : (d places : List ℕ) (count : ℕ) → Some-derivation Closing d places count → Some-lines Closing d places count
 closing-lines d places count given = record { lines = given .derivation .lines; stand = given .stands .stand; size = given .stands .size }

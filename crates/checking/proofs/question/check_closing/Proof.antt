@@ -1,6 +1,6 @@
 -- The whether entries stand after the goals, and the closing list where slot 2,048 says: a number for the goals, then one for each entry.
 use Rattle.checking.proofs.QuestionLaws.{goals-here, whether-here, whether-there}
-use Rattle.checking.proofs.ClosingLaws.{due-fits, closing-lines, closing-there, closing-fits, goals-number, fluents-fit, fluents-numbers, closing-not-due, goals-wrong, goals-right}
+use Rattle.checking.proofs.ClosingLaws.{sum-fits, closing-lines, closing-there, closing-fits, goals-number, fluents-fit, fluents-numbers, closing-not-due, goals-wrong, goals-right}
 use borrow.Author.Needs.{needs}
 use Rattle.checking.proofs.question.check_closing.Statement.{statement}
 use Rattle.checking.proofs.question.check_closing.Tie as tie
@@ -31,7 +31,7 @@ wide-requires c κs = search needs
 
 -- src/question.rt:142:15
 add-due : tie.Need-add-due
-add-due c = search due-fits
+add-due c = search (needs, sum-fits)
 
 -- src/question.rt:143:9
 place-of-requires : tie.Need-place-of-requires
