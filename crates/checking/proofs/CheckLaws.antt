@@ -9,8 +9,8 @@ use mir.Val.{Fits}
 use Rattle.meaning.specs.declared.Layout.{Layout}
 use Rattle.meaning.specs.Limits.{format}
 use Rattle.meaning.specs.Requests.{Request}
-use Rattle.meaning.specs.Reading.{Got, got, fault, next}
-use Rattle.meaning.specs.Derivations.{Line, Derivation, check-lines, check-end, check-derivation}
+use Rattle.meaning.specs.Reading.{Got, fault, next}
+use Rattle.meaning.specs.Derivations.{Derivation, check-lines, check-end, check-derivation}
 use Rattle.bytes.specs.declared.lists.Passed.{Passed}
 use Rattle.bytes.specs.declared.lists.Passed.the-variants.{To, Fault as Stop}
 use Rattle.bytes.specs.Read.{passed}

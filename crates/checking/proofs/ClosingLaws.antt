@@ -6,14 +6,13 @@ use mathlib.Core.Path.{_≡_, refl, sym, _∙_, ap, ap₂, subst}
 use mathlib.Core.Bool.{Bool, true, false}
 use mathlib.Core.List.{List, [], _∷_, map}
 use lib.ListN.{length, length-map, getD}
-use lib.Dec.{eqb}
 use mir.Syntax.{w64}
 use mir.Val.{Fits}
 use borrow.Author.Tests.{eq-eqb, ne-eqb}
 use Rattle.meaning.specs.declared.Layout.{Layout}
 use Rattle.meaning.specs.declared.Layout.the-variants.{Plain, Closing}
 use Rattle.meaning.specs.Tests.{pick}
-use Rattle.meaning.specs.Requests.{Entry, Request}
+use Rattle.meaning.specs.Requests.{Request}
 use Rattle.meaning.specs.Reading.{Got, got, fault}
 use Rattle.meaning.specs.Derivations.{Conclusion, knows-whether, Line, Derivation, asks-for, goals-of, check-last, all-asked, names, check-entries, check-closing, check-end}
 use Rattle.meaning.proofs.TestLaws.{pick-true, pick-false}
@@ -211,6 +210,7 @@ last-line r other (l ∷ (k ∷ ls)) (suc j) e = last-line r other (k ∷ ls) j 
 pub last-below : (count : ℕ) → 1 ≤ count → count - 1 < count
 last-below count least = omega (arith, least)
 
+-- THE END, by the layout: the last line, or the closing list.
 module _ (layout : Layout) (r : Request) (d places : List ℕ) (count : ℕ) where
   module _ (plain : layout ≡ Plain) where
     pub plain-lines : Some-derivation layout d places count → Some-lines Plain d places count

@@ -139,9 +139,6 @@ module _ (s t : List ℕ) (here : At-hand s t) where
       pub whether-here : List-here 64 s whether
       whether-here = subst (List-here 64 s) (sym whether-at) (ends-at-hand s t here .whether-here)
 
-      pub whether-there : whether < length s
-      whether-there = let ends = whether-here .ends in omega (arith, ends)
-
       pub whether-asked : map (λ (w : Entry). knows-whether (w .value)) (request-in s .whether) ≡ map knows-whether (listed s whether)
       whether-asked =
           ap (map (λ (w : Entry). knows-whether (w .value))) (sym (ends-at-hand s t here .whether-same))
@@ -178,8 +175,8 @@ module _ (d : List ℕ) (w : Spot) (some : Some-stands d w) where
   pub own-list : w .fluent ≡ false → List-here 128 d (w .conclusion)
   own-list list = concluded-list d w list concluded
 
-  pub own-fluent : w .conclusion < length d
-  own-fluent = concluded-there d w concluded
+  pub own-byte : w .conclusion < length d
+  own-byte = concluded-there d w concluded
 
 -- A CONCLUSION that stands at y, against a list and against a fluent.
 module _ (d : List ℕ) (y : ℕ) (fluent : Bool) where

@@ -1,5 +1,5 @@
 -- After the start the conclusion is asked: as a list against the goals, or as a fluent by its byte; of another kind it is not what is asked.
-use Rattle.checking.proofs.QuestionLaws.{goals-here, own-list, own-fluent, other-start, goals-not-fluent, goals-asked, fluent-not-list, fluent-asked}
+use Rattle.checking.proofs.QuestionLaws.{goals-here, own-list, own-byte, other-start, goals-not-fluent, goals-asked, fluent-not-list, fluent-asked}
 use borrow.Author.Needs.{needs}
 use Rattle.checking.proofs.question.asks.Statement.{statement}
 use Rattle.checking.proofs.question.asks.Tie as tie
@@ -39,7 +39,7 @@ enum-known-asked c = search needs
 
 -- src/question.rt:70:28
 shared-slice-read-result : tie.Need-shared-slice-read-result
-shared-slice-read-result c = search own-fluent
+shared-slice-read-result c = search own-byte
 
 -- src/question.rt:70:21
 returns-3 : tie.Need-returns-3

@@ -1,6 +1,6 @@
 -- The whether entries stand after the goals, and the closing list where slot 2,048 says: a number for the goals, then one for each entry.
-use Rattle.checking.proofs.QuestionLaws.{goals-here, whether-here, whether-there}
-use Rattle.checking.proofs.ClosingLaws.{sum-fits, closing-lines, closing-there, closing-fits, goals-number, fluents-fit, fluents-numbers, closing-not-due, goals-wrong, goals-right}
+use Rattle.checking.proofs.QuestionLaws.{goals-here, whether-here}
+use Rattle.checking.proofs.ClosingLaws.{list-there, sum-fits, closing-lines, closing-there, closing-fits, goals-number, fluents-fit, fluents-numbers, closing-not-due, goals-wrong, goals-right}
 use borrow.Author.Needs.{needs}
 use Rattle.checking.proofs.question.check_closing.Statement.{statement}
 use Rattle.checking.proofs.question.check_closing.Tie as tie
@@ -23,7 +23,7 @@ sequence-of-requires c κs = search goals-here
 
 -- src/question.rt:142:24
 shared-slice-read-wide : tie.Need-shared-slice-read-wide
-shared-slice-read-wide c = search whether-there
+shared-slice-read-wide c = search (list-there, whether-here)
 
 -- src/question.rt:142:19
 wide-requires : tie.Need-wide-requires
