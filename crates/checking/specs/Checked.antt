@@ -36,7 +36,7 @@ unfoldable pub line-in : Layout → (n m : ℕ) → List ℕ → ℕ → Line
 line-in layout n m d i = getD (lines-in layout n m d) i no-line
 
 -- Where its parts stand.
-unfoldable pub spot-in : Layout → (d places : List ℕ) → ℕ → Spot
+abbrev pub spot-in : Layout → (d places : List ℕ) → ℕ → Spot
 spot-in layout d places i = spot-at layout d (getD places i 0) (getD places (1024 + i) 0)
 
 -- There are so many, and each stands where its slots say.
