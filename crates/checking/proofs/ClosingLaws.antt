@@ -31,6 +31,7 @@ use Rattle.checking.specs.declared.question.Asked.{Asked}
 use Rattle.checking.specs.declared.question.Asked.the-variants.{Goals, Fluent}
 use Rattle.checking.specs.Checked.{no-line}
 use Rattle.checking.specs.Asked.{conclusion-asked, Names, Entries-checked, Derivation-stands, Some-derivation, Closing-checked, End-checked}
+use Rattle.checking.proofs.LineLaws.{numbers-room}
 use Rattle.checking.proofs.QuestionLaws.{whether-asked}
 
 -- A LINE BY ITS NUMBER.
@@ -71,13 +72,6 @@ module _ (r : Request) (d places : List ℕ) (count at : ℕ) (asked : Asked) (n
             sym (names-past r (conclusion-asked r asked) ls number (omega (arith, past, size)))
             ∙ ap (λ (k : ℕ). names r ls k (conclusion-asked r asked)) read;
       }
-
--- THE NUMBERS stand inside.
-numbers-room : (d : List ℕ) (p : ℕ) (ks : List ℕ) → 1 ≤ length ks → Numbers-stand d p ks → p + 2 * length ks ≤ length d
-unfolding Numbers-stand
-numbers-room d p [] some stand = absurd (omega (arith, some))
-numbers-room d p (k ∷ []) some stand = let there = stand .0 in omega (arith, there)
-numbers-room d p (k ∷ (j ∷ ks)) some stand = let rest = numbers-room d (p + 2) (j ∷ ks) (omega arith) (stand .2) in omega (arith, rest)
 
 -- ONE ENTRY.
 module _ (r : Request) (ls : List Line) (p : ℕ) (Y : Conclusion) (Ys : List Conclusion) (k : ℕ) (ks : List ℕ) where
@@ -272,22 +266,23 @@ module _ (d places : List ℕ) (count closing : ℕ) (at-closing : closing ≡ g
     closing-fits long = let there = closing-there in let most = long .fits in record { fits = omega (arith, there, most) }
 
     module _ (size : ℕ) (read : size ≡ getD d closing 0) where
-      numbers-inside : 1 ≤ size → closing + 1 + 2 * size ≤ length d
-      numbers-inside some =
+      numbers-inside : closing + 1 + 2 * size ≤ length d
+      numbers-inside =
           let all = closes (given .derivation) (given .stands) in
           let long : size ≡ length (given .derivation .closing) = read ∙ all .1 in
-          let inside = numbers-room d (closing + 1) (given .derivation .closing) (omega (arith, some, long)) (all .2) in
+          let there = all .0 in
+          let inside = numbers-room d (closing + 1) (given .derivation .closing) (omega (arith, there)) (all .2) in
           omega (arith, inside, long)
 
       module _ (number : ℕ) (due : size ≡ 1 + number) where
         pub goals-number : closing + 1 + 1 < length d
-        goals-number = let inside = numbers-inside (omega (arith, due)) in omega (arith, inside, due)
+        goals-number = let inside = numbers-inside in omega (arith, inside, due)
 
         pub fluents-fit : Fits w64 (length d) → Fits w64 (closing + 3)
-        fluents-fit long = let inside = numbers-inside (omega (arith, due)) in let most = long .fits in record { fits = omega (arith, inside, due, most) }
+        fluents-fit long = let inside = numbers-inside in let most = long .fits in record { fits = omega (arith, inside, due, most) }
 
         pub fluents-numbers : (x : ℕ) → number ≡ x → closing + 3 + 2 * x ≤ length d
-        fluents-numbers x byte = let inside = numbers-inside (omega (arith, due)) in omega (arith, inside, due, byte)
+        fluents-numbers x byte = let inside = numbers-inside in omega (arith, inside, due, byte)
 
   -- What is asked of it by a request at hand.
   module _ (s t : List ℕ) (here : At-hand s t) (goals : ℕ) (at-goals : goals ≡ getD t 5381 0) (whether : ℕ) (after : whether ≡ sequence-place s goals) (number : ℕ) (byte : number ≡ getD s whether 0) where

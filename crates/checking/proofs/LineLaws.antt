@@ -246,7 +246,7 @@ unfolding Numbers-stand numbers-from
 numbers-are d p [] w = refl
 numbers-are d p (k ∷ ks) w = rw (w .1, numbers-are d (p + 2) ks (w .2)) refl
 
-numbers-room : (d : List ℕ) (p : ℕ) (ks : List ℕ) → p ≤ length d → Numbers-stand d p ks → p + 2 * length ks ≤ length d
+pub numbers-room : (d : List ℕ) (p : ℕ) (ks : List ℕ) → p ≤ length d → Numbers-stand d p ks → p + 2 * length ks ≤ length d
 unfolding Numbers-stand
 numbers-room d p [] h w = omega (arith, h)
 numbers-room d p (k ∷ ks) h w = let there = w .0 in let rest = numbers-room d (p + 2) ks (omega (arith, there)) (w .2) in omega (arith, rest)
