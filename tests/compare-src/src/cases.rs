@@ -13,6 +13,7 @@ const LENT: u8 = 9;
 extern "C" {
     fn glintstring_judge(request: *const u8, request_length: usize, state: *mut u8, state_length: usize, budget: u32) -> u64;
     fn glintstring_check(request: *const u8, request_length: usize, derivation: *const u8, derivation_length: usize) -> u64;
+    fn glintstring_check_whether(request: *const u8, request_length: usize, derivation: *const u8, derivation_length: usize) -> u64;
     fn glintstring_show(answer: u64, request: *const u8, request_length: usize, derivation: *const u8, derivation_length: usize) -> u64;
 }
 
@@ -151,7 +152,7 @@ pub fn checks() -> Vec<Check> {
     let file_a = bytes(FILE_A);
     let check = |&(_, _, whether, given, _): &DerivationRow| {
         let request = if whether { file_a.clone() } else { [&file_a[..46], &[0]].concat() };
-        Check { request, derivation: derivation(given) }
+        Check::plain(request, derivation(given))
     };
     DERIVATION_ROWS.iter().map(check).collect()
 }

@@ -35,7 +35,7 @@ fn walk(name: &str, request: Vec<u8>, budget: u32) -> Named {
 }
 
 fn check(name: &str, request: &Request, derivation: Vec<u8>) -> Named {
-    (name.to_string(), Input::Derivation(Check { request: encode_request(request).bytes, derivation }))
+    (name.to_string(), Input::Derivation(Check::plain(encode_request(request).bytes, derivation)))
 }
 
 /// Every input by name, with the deepest walks of a folder; the one whose walk takes minutes is apart.

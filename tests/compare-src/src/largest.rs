@@ -46,7 +46,7 @@ pub fn line(before: &[u8], sequence: &[Item], after: &[u8], rule: u8, cites: &[u
 }
 
 fn row(name: &str, request: &Request, lines: &[Line], answer: [u64; 3]) -> Row {
-    let check = Check { request: encode_request(request).bytes, derivation: encode_derivation(lines).bytes };
+    let check = Check::plain(encode_request(request).bytes, encode_derivation(lines).bytes);
     (name.to_string(), check, answer)
 }
 
