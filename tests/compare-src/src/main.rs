@@ -17,6 +17,9 @@ mod hostile;
 mod largest;
 mod spoiled;
 mod whether;
+mod whether_cases;
+mod whether_hostile;
+mod whether_largest;
 mod words;
 
 use std::process::ExitCode;

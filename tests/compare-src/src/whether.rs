@@ -6,6 +6,7 @@ use oracle::generate::{any_request, SMALL};
 use oracle::model::{Item, Proof, Request};
 use oracle::reader::{read_derivation, ITEM_LIMIT, LINE_LIMIT};
 use oracle::rng::Rng;
+use oracle::walk::{walk, Verdict};
 use oracle::whether::calls::{any_whether_call, provable, whether_call};
 use oracle::whether::prove::{free_proof, many_whether, natural_proof, pad_proof};
 use oracle::whether::translate::as_proof;
@@ -18,8 +19,9 @@ use crate::spoiled::spoil;
 /// Streams of random numbers: of the calls, and of what stands around the inputs.
 const CALLS: u64 = 13;
 const FENCES: u64 = 14;
-/// The most whether entries that are asked of a request of another source.
+/// The most whether entries that are asked of a request of another source, and how far its walk is counted.
 const ASKED: usize = 4;
+const FAR: u32 = 5_000;
 
 pub const SERIES: Series = Series {
     what: "derivations in the closing layout",
@@ -82,15 +84,17 @@ fn written(request: &Request, proof: &Proof) -> Check {
 fn of_any(rng: &mut Rng, source: fn(&mut Rng) -> Request) -> Check {
     loop {
         let mut draft = source(rng);
-        let goals_only = Request { whether: Vec::new(), ..draft.clone() };
-        if natural_proof(&goals_only).is_none() {
-            draft.goals.clear();
-        }
-        let mut asked = std::mem::take(&mut draft.whether);
+        let (goals, mut asked) = (std::mem::take(&mut draft.goals), std::mem::take(&mut draft.whether));
+        let verified = |goals: &[u8], whether: &[u8]| {
+            let question = Request { goals: goals.to_vec(), whether: whether.to_vec(), ..draft.clone() };
+            matches!(walk(&question, FAR), Verdict::Verified { .. })
+        };
         rng.shuffle(&mut asked);
         asked.truncate(ASKED);
-        asked.retain(|&fluent| natural_proof(&Request { goals: Vec::new(), whether: vec![fluent], ..draft.clone() }).is_some());
+        asked.retain(|&fluent| verified(&[], &[fluent]));
         asked.sort_unstable();
+        let reached = verified(&goals, &[]);
+        draft.goals = if reached { goals } else { Vec::new() };
         draft.whether = asked;
         let proof = if rng.chance(50) { natural_proof(&draft) } else { free_proof(rng, &draft) };
         if let Some(mut proof) = proof {
