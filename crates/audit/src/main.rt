@@ -1,6 +1,10 @@
-// Checks the derivation in one file against the request in another, and says so on standard output (FORMAT 12.8 to 12.12).
+// Checks the derivation in one file against the request in another, and says so on standard output (FORMAT 12.8 to 12.12, 17.44).
 ghost use Rattle.programs.specs.Input.{Within};
+use comparing::parts::same_part;
 use glintstring::derivations::check;
+use glintstring::derivations::check_whether;
+use meaning::Answer;
+use meaning::Layout;
 use programs::Input;
 use programs::put_line;
 use programs::read_all;
@@ -40,8 +44,16 @@ fn read_argument(i: usize, buf: &mut [u8]) -> Input
     read_file(&name[..n], buf)
 }
 
-fn answer_to(request: &[u8], derivation: &[u8]) {
-    let answer = check(request, derivation);
+// The derivation call or the whether call, by the layout.
+fn answer_in(layout: Layout, request: &[u8], derivation: &[u8]) -> Answer {
+    match layout {
+        Layout::Plain => check(request, derivation),
+        Layout::Closing => check_whether(request, derivation),
+    }
+}
+
+fn answer_to(layout: Layout, request: &[u8], derivation: &[u8]) {
+    let answer = answer_in(layout, request, derivation);
     if !put_line(
         answer.number as u64,
         answer.input as u64,
@@ -51,28 +63,50 @@ fn answer_to(request: &[u8], derivation: &[u8]) {
     }
 }
 
-// The derivation, once the request is read.
-fn audit(request: &[u8]) {
+// The derivation that argument i names, once the request is read.
+fn audit(layout: Layout, i: usize, request: &[u8]) {
     // One byte more than a derivation may have: a longer one is refused whatever it holds.
     let mut bytes = [0u8; 32769];
-    match read_argument(2, &mut bytes) {
-        Input::Bytes(n) => answer_to(request, &bytes[..n]),
+    match read_argument(i, &mut bytes) {
+        Input::Bytes(n) => answer_to(layout, request, &bytes[..n]),
         Input::Unreadable => return,
     }
 }
 
-fn main() {
-    if os::arg_count() != 3 {
-        io::write_all(
-            libc::STDERR_FILENO,
-            b"audit: two file names are needed, a request's and a derivation's\n",
-        );
-        return;
-    }
+// The request that the one argument names, and the derivation that the other does.
+fn audit_files(layout: Layout, request: usize, derivation: usize) {
     // One byte more than a request may have.
     let mut bytes = [0u8; 16385];
-    match read_argument(1, &mut bytes) {
-        Input::Bytes(n) => audit(&bytes[..n]),
+    match read_argument(request, &mut bytes) {
+        Input::Bytes(n) => audit(layout, derivation, &bytes[..n]),
         Input::Unreadable => return,
     }
+}
+
+// The first argument is the option --whether.
+fn asks_whether() -> bool {
+    let mut name = io::buffer();
+    let n = os::arg(1, &mut name);
+    if os::errno() != 0 {
+        return false;
+    }
+    same_part(&name[..n], b"--whether")
+}
+
+fn main() {
+    let count = os::arg_count();
+    if count == 3 {
+        audit_files(Layout::Plain, 1, 2);
+        return;
+    }
+    if count == 4 {
+        if asks_whether() {
+            audit_files(Layout::Closing, 2, 3);
+            return;
+        }
+    }
+    io::write_all(
+        libc::STDERR_FILENO,
+        b"audit: two file names are needed, a request's and a derivation's\n",
+    );
 }
