@@ -4,7 +4,6 @@ use comparing::parts::same_part;
 use glintstring::derivations::check;
 use glintstring::derivations::check_whether;
 use meaning::Answer;
-use meaning::Layout;
 use programs::Input;
 use programs::put_line;
 use programs::read_all;
@@ -44,16 +43,22 @@ fn read_argument(i: usize, buf: &mut [u8]) -> Input
     read_file(&name[..n], buf)
 }
 
-// The derivation call or the whether call, by the layout.
-fn answer_in(layout: Layout, request: &[u8], derivation: &[u8]) -> Answer {
-    match layout {
-        Layout::Plain => check(request, derivation),
-        Layout::Closing => check_whether(request, derivation),
-    }
+// The first argument is the option for derivations in the closing layout.
+fn is_whether() -> bool {
+    let mut word = io::buffer();
+    let n = os::arg(1, &mut word);
+    same_part(&word[..n], b"--whether")
 }
 
-fn answer_to(layout: Layout, request: &[u8], derivation: &[u8]) {
-    let answer = answer_in(layout, request, derivation);
+fn answer_to(whether: bool, request: &[u8], derivation: &[u8]) -> Answer {
+    if whether {
+        return check_whether(request, derivation);
+    }
+    check(request, derivation)
+}
+
+fn put_answer(whether: bool, request: &[u8], derivation: &[u8]) {
+    let answer = answer_to(whether, request, derivation);
     if !put_line(
         answer.number as u64,
         answer.input as u64,
@@ -64,49 +69,44 @@ fn answer_to(layout: Layout, request: &[u8], derivation: &[u8]) {
 }
 
 // The derivation that argument i names, once the request is read.
-fn audit(layout: Layout, i: usize, request: &[u8]) {
+fn audit(whether: bool, request: &[u8], i: usize) {
     // One byte more than a derivation may have: a longer one is refused whatever it holds.
     let mut bytes = [0u8; 32769];
     match read_argument(i, &mut bytes) {
-        Input::Bytes(n) => answer_to(layout, request, &bytes[..n]),
+        Input::Bytes(n) => put_answer(whether, request, &bytes[..n]),
         Input::Unreadable => return,
     }
 }
 
-// The request that the one argument names, and the derivation that the other does.
-fn audit_files(layout: Layout, request: usize, derivation: usize) {
+// The request that argument i names, and the derivation that argument j names.
+fn audit_files(whether: bool, i: usize, j: usize) {
     // One byte more than a request may have.
     let mut bytes = [0u8; 16385];
-    match read_argument(request, &mut bytes) {
-        Input::Bytes(n) => audit(layout, derivation, &bytes[..n]),
+    match read_argument(i, &mut bytes) {
+        Input::Bytes(n) => audit(whether, &bytes[..n], j),
         Input::Unreadable => return,
     }
-}
-
-// The first argument is the option --whether.
-fn asks_whether() -> bool {
-    let mut name = io::buffer();
-    let n = os::arg(1, &mut name);
-    if os::errno() != 0 {
-        return false;
-    }
-    same_part(&name[..n], b"--whether")
 }
 
 fn main() {
     let count = os::arg_count();
-    if count == 3 {
-        audit_files(Layout::Plain, 1, 2);
-        return;
-    }
-    if count == 4 {
-        if asks_whether() {
-            audit_files(Layout::Closing, 2, 3);
+    if is_whether() {
+        if count != 4 {
+            io::write_all(
+                libc::STDERR_FILENO,
+                b"audit: two file names are needed: audit REQUEST DERIVATION, or audit --whether REQUEST DERIVATION\n",
+            );
             return;
         }
+        audit_files(true, 2, 3);
+        return;
     }
-    io::write_all(
-        libc::STDERR_FILENO,
-        b"audit: two file names are needed, a request's and a derivation's\n",
-    );
+    if count != 3 {
+        io::write_all(
+            libc::STDERR_FILENO,
+            b"audit: two file names are needed, a request's and a derivation's\n",
+        );
+        return;
+    }
+    audit_files(false, 1, 2);
 }

@@ -138,11 +138,20 @@ const DERIVATION_ROWS: [DerivationRow; 20] = [
     ("4.25", "another question", false, These("0 1 0 0 0 0 1 0"), [35, 2, 2]),
 ];
 
+/// The nine lines, the last with these citations.
+fn nine(citations: &str) -> Vec<u8> {
+    NINE_LINES.into_iter().chain([citations]).flat_map(bytes).collect()
+}
+
+/// The derivation of case 14.
+pub fn nine_lines() -> Vec<u8> {
+    nine("2 0 2 0 7")
+}
+
 fn derivation(row: Derivation) -> Vec<u8> {
-    let nine = |citations: &str| NINE_LINES.into_iter().chain([citations]).flat_map(bytes).collect::<Vec<u8>>();
     match row {
         Nine(citations) => nine(citations),
-        StartOf(length) => nine("2 0 2 0 7")[..length].to_vec(),
+        StartOf(length) => nine_lines()[..length].to_vec(),
         These(all) => bytes(all),
         Zeros(length) => vec![0; length],
     }
