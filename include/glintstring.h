@@ -37,12 +37,12 @@ extern "C" {
 #define GLINTSTRING_DERIVATION 2
 
 /*
- * The numbers of answers (FORMAT 4.3 to 4.25), each with what its place is. The walk call gives 0 to 3 and 9 to 21, the
- * derivation call 0, 10 to 21 and 30 to 35. Of a derivation's faults 10 to 15 and 18 to 21 are told by the same numbers as a
- * request's: the answer names the input.
+ * The numbers of answers (FORMAT 4.3 to 4.25, 17.35 and 17.36), each with what its place is. The walk call gives 0 to 3 and 9 to
+ * 21, the derivation call 0, 10 to 21 and 30 to 35, the whether call 0, 10 to 21, 31 to 34 and 36. Of a derivation's faults 10 to
+ * 15 and 18 to 21 are told by the same numbers as a request's: the answer names the input.
  */
 #define GLINTSTRING_VERIFIED 0                  /* the walk verifies the plan; place 0 */
-#define GLINTSTRING_ACCEPTED 0                  /* the derivation call: the derivation is accepted; place 0 */
+#define GLINTSTRING_ACCEPTED 0                  /* the derivation call, the whether call: the derivation is accepted; place 0 */
 #define GLINTSTRING_GOAL_MISSED 1               /* all paths can be run to their ends, and an end state misses a goal or a whether
                                                    entry; the first entry missed in the first such state */
 #define GLINTSTRING_NOT_EXECUTABLE 2            /* a path comes to an item that cannot be run; that item */
@@ -59,14 +59,19 @@ extern "C" {
 #define GLINTSTRING_EFFECTS_AND_KNOWLEDGE 17    /* an action has effect lines and knowledge lines; the first such of the latter */
 #define GLINTSTRING_NOT_EXCLUSIVE 18            /* a branching has two conditions that are not exclusive; its byte 255 */
 #define GLINTSTRING_TOO_DEEP 19                 /* a branching stands inside eight others; its byte 255 */
-#define GLINTSTRING_BYTES_LEFT_OVER 20          /* bytes are left over after the last section or line; the first */
+#define GLINTSTRING_BYTES_LEFT_OVER 20          /* bytes are left over after the last section, line or closing list; the
+                                                   first */
 #define GLINTSTRING_TOO_MANY_ITEMS 21           /* a plan goes on to a 1,025th item; its first byte */
 #define GLINTSTRING_WHETHER_ASKED 30            /* the request has whether entries; the count byte of their list */
-#define GLINTSTRING_NO_RULE 31                  /* a line's rule byte is none of 1 to 6; the line */
+#define GLINTSTRING_NO_RULE 31                  /* a line's rule byte is none of 1 to 6, or in the whether call none of 1
+                                                   to 8 and 10 to 12; the line */
 #define GLINTSTRING_CITES_NO_EARLIER_LINE 32    /* a line cites something that is not a line before it; the citing line */
 #define GLINTSTRING_CITATIONS_WRONG 33          /* a line has a number of citations that its rule does not take; the line */
 #define GLINTSTRING_DOES_NOT_FOLLOW 34          /* a line does not follow by its rule; the line */
 #define GLINTSTRING_NOT_THE_QUESTION 35         /* the last line differs from the question; the last line */
+#define GLINTSTRING_CLOSING_NOT_RIGHT 36        /* the closing list has another length than the request asks, and then its count
+                                                   byte; or an entry of it names no line or another line than it is to name, and
+                                                   then the first such entry */
 
 /*
  * An answer comes packed into one number: number + 2^8 * input + 2^16 * place + 2^32 * count. These take it apart.
@@ -115,7 +120,7 @@ uint64_t glintstring_judge(const uint8_t *request, size_t request_length, uint8_
  * facts.
  *
  * The request is tested first, then that it asks no whether entry (30), then the derivation. There is no budget: a derivation
- * can be short where the walk is too long to be walked.
+ * can be short where the walk is too long to be walked. For a request with whether entries there is the whether call.
  *
  * The caller sees to this:
  *   - `request` may be read for request_length bytes and `derivation` for derivation_length bytes; nothing is written, and the
@@ -127,10 +132,30 @@ uint64_t glintstring_judge(const uint8_t *request, size_t request_length, uint8_
 uint64_t glintstring_check(const uint8_t *request, size_t request_length, const uint8_t *derivation, size_t derivation_length);
 
 /*
+ * The whether call: checks a derivation of what a request asks, its whether entries included. Its derivations have the closing
+ * layout (FORMAT 17.3 to 17.8). There the rule byte stands before the conclusion. After rules 7, 8, 10, 11 and 12 the conclusion
+ * is a fluent, and the line claims that it is known at each end, be it true or false there. After the lines a closing list names
+ * a line for the goals and then one for each whether entry.
+ *
+ * Promise (proved): for every request and derivation the call ends, and its answer is that of the format, to the last number.
+ * Any bytes may be given, of any length; a caller need not have tested anything. The answer is accepted (0) exactly where
+ * neither input is refused by 10 to 21, each line follows by its rule from lines before it, and the closing list has one entry
+ * more than the whether list: first a line of the initial facts, the plan and the goals, then for each whether entry, in their
+ * order, a line of the initial facts, the plan and that fluent. Where it is accepted, the walk of the plan, without a budget, is
+ * verified, and the plan can be carried out, reaches its goals and leaves every whether fluent known, from every world that has
+ * the initial facts.
+ *
+ * The request is tested first, then the derivation, and last the closing list (36). It never gives 30 or 35. The caller sees to
+ * the same as for the derivation call, and the call keeps nothing either.
+ */
+uint64_t glintstring_check_whether(const uint8_t *request, size_t request_length, const uint8_t *derivation,
+                                   size_t derivation_length);
+
+/*
  * The showing call: where the part starts that a packed answer is about, in the input that it names. The part goes on to that
  * input's end.
  *
- * Promise (proved): for every answer, of either call or made by hand, and every two inputs, the call ends and gives that start
+ * Promise (proved): for every answer, of any call or made by hand, and every two inputs, the call ends and gives that start
  * as the format has it. Where glintstring_input(answer) is GLINTSTRING_REQUEST or GLINTSTRING_DERIVATION it is a place of the
  * request or of the derivation: the answer's own, or the input's length where the answer's place is beyond its end. For every
  * other answer it is 0, and the part is the empty one at the request's start. The start is never larger than the length of the

@@ -3,9 +3,11 @@
  *
  *   review judge [-b BUDGET] REQUEST...                     (100,000 unless told otherwise)
  *   review check REQUEST DERIVATION [REQUEST DERIVATION]...
+ *   review check-whether REQUEST DERIVATION [REQUEST DERIVATION]...
  *
- * `check` does not walk the plan: a derivation may be accepted where every budget is spent. The exit status is 0 where each plan is
- * verified or each derivation accepted, 1 where some answer is another, and 2 where something can't be read or written.
+ * `check` and `check-whether` do not walk the plan: a derivation may be accepted where every budget is spent. The second takes requests
+ * with whether entries too, and derivations in the closing layout. The exit status is 0 where each plan is verified or each derivation
+ * accepted, 1 where some answer is another, and 2 where something can't be read or written.
  */
 #define _POSIX_C_SOURCE 200809L
 #include <errno.h>
@@ -54,6 +56,7 @@ static const char *words(uint64_t answer, int of_derivation) {
     case GLINTSTRING_CITATIONS_WRONG: return "a line has a number of citations that its rule does not take";
     case GLINTSTRING_DOES_NOT_FOLLOW: return "a line does not follow by its rule";
     case GLINTSTRING_NOT_THE_QUESTION: return "the last line differs from the question";
+    case GLINTSTRING_CLOSING_NOT_RIGHT: return "the closing list is not what the request asks";
     default: return "no answer that the format has";
     }
 }
@@ -115,12 +118,15 @@ static int judge(const char *name, uint32_t budget) {
     return status;
 }
 
-static int check(const char *request_name, const char *derivation_name) {
+/* The derivation call or the whether call. */
+typedef uint64_t checking_call(const uint8_t *request, size_t request_length, const uint8_t *derivation, size_t derivation_length);
+
+static int check(checking_call *call, const char *request_name, const char *derivation_name) {
     struct input request, derivation;
     int status = read_input(request_name, GLINTSTRING_REQUEST_LIMIT, &request);
     int second = read_input(derivation_name, GLINTSTRING_DERIVATION_LIMIT, &derivation);
     if (status == GOOD && second == GOOD)
-        status = tell(glintstring_check(request.bytes, request.length, derivation.bytes, derivation.length), &request, &derivation, NULL);
+        status = tell(call(request.bytes, request.length, derivation.bytes, derivation.length), &request, &derivation, NULL);
     else
         status = FAILED;
     free(request.bytes);
@@ -139,20 +145,23 @@ static int is_budget(const char *word, uint32_t *budget) {
 }
 
 static int usage(void) {
-    fputs("usage: review judge [-b BUDGET] REQUEST... | review check REQUEST DERIVATION [REQUEST DERIVATION]...\n", stderr);
+    fputs("usage: review judge [-b BUDGET] REQUEST... | review check REQUEST DERIVATION [REQUEST DERIVATION]... | "
+          "review check-whether REQUEST DERIVATION [REQUEST DERIVATION]...\n",
+          stderr);
     return FAILED;
 }
 
 static int review(int count, char **word) {
     uint32_t budget = 100000;
     int worst = GOOD, i, status;
-    const int checking = count > 2 && count % 2 == 1 && strcmp(word[0], "check") == 0;
+    const int whether = count > 0 && strcmp(word[0], "check-whether") == 0;
+    const int checking = count > 2 && count % 2 == 1 && (whether || strcmp(word[0], "check") == 0);
     const int judging = count > 1 && strcmp(word[0], "judge") == 0;
     const int budgeted = judging && strcmp(word[1], "-b") == 0;
     if (!(checking || judging) || (budgeted && (count < 4 || !is_budget(word[2], &budget))))
         return usage();
     for (i = budgeted ? 3 : 1; i < count; i += checking ? 2 : 1) {
-        status = checking ? check(word[i], word[i + 1]) : judge(word[i], budget);
+        status = checking ? check(whether ? glintstring_check_whether : glintstring_check, word[i], word[i + 1]) : judge(word[i], budget);
         worst = status > worst ? status : worst;
     }
     if (fflush(stdout) != 0 || ferror(stdout)) {

@@ -18,6 +18,28 @@ static const uint8_t nine_lines[171] = {
     4, 1, 3, 5, 7, 0, 1, 255, 2, 1, 1, 0, 2, 1, 2, 1, 0, 0, 0, 1, 7, 4, 1, 0, 6,
     3, 3, 5, 7, 0, 2, 0, 255, 2, 1, 1, 0, 2, 1, 2, 1, 0, 0, 0, 1, 7, 3, 2, 0, 2, 0, 7};
 
+/* A derivation of File A in the closing layout: the nine lines with the rule before Y, nine for fluent 2, and the closing list. */
+static const uint8_t eighteen_lines[328] = {
+    0, 18, 4, 0, 3, 5, 7, 0, 0, 1, 4, 0, 3, 5, 7, 0,
+    4, 0, 3, 5, 7, 0, 0, 6, 1, 7, 1, 0, 0,
+    4, 0, 3, 5, 7, 0, 1, 255, 2, 1, 1, 0, 2, 1, 2, 1, 0, 0, 0, 4, 1, 7, 1, 0, 1,
+    4, 1, 3, 5, 7, 0, 1, 1, 2, 4, 1, 2, 5, 7, 0,
+    4, 1, 2, 5, 7, 0, 1, 2, 2, 4, 1, 2, 4, 7, 0,
+    4, 1, 3, 5, 7, 0, 2, 1, 2, 5, 4, 1, 2, 4, 7, 2, 0, 3, 0, 4,
+    4, 1, 3, 5, 7, 0, 2, 1, 2, 6, 1, 7, 1, 0, 5,
+    4, 1, 3, 5, 7, 0, 1, 255, 2, 1, 1, 0, 2, 1, 2, 1, 0, 0, 0, 4, 1, 7, 1, 0, 6,
+    3, 3, 5, 7, 0, 2, 0, 255, 2, 1, 1, 0, 2, 1, 2, 1, 0, 0, 0, 3, 1, 7, 2, 0, 2, 0, 7,
+    3, 3, 5, 7, 0, 1, 0, 7, 0, 0,
+    4, 0, 3, 5, 7, 0, 0, 6, 1, 5, 1, 0, 0,
+    4, 0, 3, 5, 7, 0, 0, 8, 2, 1, 0, 10,
+    4, 0, 3, 5, 7, 0, 1, 255, 2, 1, 1, 0, 2, 1, 2, 1, 0, 0, 0, 12, 2, 1, 0, 11,
+    4, 1, 2, 5, 7, 0, 1, 2, 6, 1, 4, 1, 0, 4,
+    4, 1, 2, 5, 7, 0, 1, 2, 8, 2, 1, 0, 13,
+    4, 1, 3, 5, 7, 0, 2, 1, 2, 11, 2, 2, 0, 3, 0, 14,
+    4, 1, 3, 5, 7, 0, 1, 255, 2, 1, 1, 0, 2, 1, 2, 1, 0, 0, 0, 12, 2, 1, 0, 15,
+    3, 3, 5, 7, 0, 2, 0, 255, 2, 1, 1, 0, 2, 1, 2, 1, 0, 0, 0, 10, 2, 2, 0, 12, 0, 16,
+    2, 0, 8, 0, 17};
+
 static uint8_t state[GLINTSTRING_STATE_LENGTH];
 
 static int is(uint64_t answer, unsigned number, unsigned input, unsigned place, unsigned count) {
@@ -44,6 +66,7 @@ static int marked(uint8_t m0, uint8_t m1, uint8_t m2, uint8_t m3) {
 int main(void) {
     uint8_t other[64];
     uint8_t turned[171];
+    uint8_t closing[328];
     uint64_t answer;
     memset(state, 9, sizeof state);
 
@@ -88,6 +111,42 @@ int main(void) {
     if (!is(answer, GLINTSTRING_INPUT_ENDS, GLINTSTRING_DERIVATION, 0, 0) || glintstring_show(answer, NULL, 0, NULL, 0) != 0)
         return puts("bindings: 10"), 1;
 
-    puts("bindings: 10 calls as the format says, and what is shown of their answers");
+    /* File A as it is. */
+    memcpy(closing, eighteen_lines, sizeof closing);
+    answer = glintstring_check_whether(file_a, sizeof file_a, closing, sizeof closing);
+    if (!is(answer, GLINTSTRING_ACCEPTED, GLINTSTRING_NEITHER, 0, 0) || glintstring_show(answer, file_a, sizeof file_a, closing, sizeof closing) != 0)
+        return puts("bindings: 11"), 1;
+    if (!is(glintstring_check(file_a, sizeof file_a, closing, sizeof closing), GLINTSTRING_WHETHER_ASKED, GLINTSTRING_REQUEST, 46, 0))
+        return puts("bindings: 12"), 1;
+
+    /* The closing list names line 8 twice; its count says one entry; it ends within the last. */
+    closing[327] = 8;
+    answer = glintstring_check_whether(file_a, sizeof file_a, closing, sizeof closing);
+    if (!is(answer, GLINTSTRING_CLOSING_NOT_RIGHT, GLINTSTRING_DERIVATION, 326, 0) ||
+        glintstring_show(answer, file_a, sizeof file_a, closing, sizeof closing) != 326)
+        return puts("bindings: 13"), 1;
+    closing[323] = 1;
+    if (!is(glintstring_check_whether(file_a, sizeof file_a, closing, 326), GLINTSTRING_CLOSING_NOT_RIGHT, GLINTSTRING_DERIVATION, 323, 0))
+        return puts("bindings: 14"), 1;
+    if (!is(glintstring_check_whether(file_a, sizeof file_a, eighteen_lines, 327), GLINTSTRING_INPUT_ENDS, GLINTSTRING_DERIVATION, 327, 0))
+        return puts("bindings: 15"), 1;
+
+    /* Rule 9 there is none; by rule 7 no fluent is known that the action does not look at; a fluent is too large. */
+    memcpy(closing, eighteen_lines, sizeof closing);
+    closing[178] = 9;
+    if (!is(glintstring_check_whether(file_a, sizeof file_a, closing, sizeof closing), GLINTSTRING_NO_RULE, GLINTSTRING_DERIVATION, 171, 0))
+        return puts("bindings: 16"), 1;
+    closing[178] = 7;
+    closing[179] = 1;
+    if (!is(glintstring_check_whether(file_a, sizeof file_a, closing, sizeof closing), GLINTSTRING_DOES_NOT_FOLLOW, GLINTSTRING_DERIVATION, 171, 0))
+        return puts("bindings: 17"), 1;
+    closing[179] = 4;
+    if (!is(glintstring_check_whether(file_a, sizeof file_a, closing, sizeof closing), GLINTSTRING_TOO_LARGE, GLINTSTRING_DERIVATION, 179, 0))
+        return puts("bindings: 18"), 1;
+    if (!is(glintstring_check_whether(file_a, sizeof file_a, NULL, 0), GLINTSTRING_INPUT_ENDS, GLINTSTRING_DERIVATION, 0, 0) ||
+        !is(glintstring_check_whether(NULL, 0, NULL, 0), GLINTSTRING_INPUT_ENDS, GLINTSTRING_REQUEST, 0, 0))
+        return puts("bindings: 19"), 1;
+
+    puts("bindings: 20 calls as the format says, and what is shown of their answers");
     return 0;
 }

@@ -97,30 +97,49 @@ static void largest_request(uint8_t *to, unsigned *place) {
         puts("lengths: the largest request has another length");
 }
 
-/* One fluent more than there are facts, 13 facts of which nine are goals, and the empty plan; 1,024 lines derive it, of 32,768 bytes. */
-static size_t derived_request(uint8_t *to) {
+/* One fluent more than there are facts, 13 facts of which the first are goals, so many, and the empty plan. */
+static size_t derived_request(uint8_t *to, unsigned goals) {
     uint8_t *end = to;
     *end++ = 14;
     *end++ = 1;
     end = list(end, 13);
     memset(end, 0, 5);
-    end = list(end + 5, 9);
+    end = list(end + 5, goals);
     *end++ = 0;
     return (size_t)(end - to);
 }
 
-static void largest_derivation(uint8_t *to) {
-    static const uint8_t start[2] = {4, 0}, plan[2] = {0, 0}, rule_1[2] = {1, 0}, rule_6[4] = {6, 1, 3, 254};
+/* A rule byte and a list, in the order of the layout. */
+static uint8_t *concluded(uint8_t *to, int closing, uint8_t rule, unsigned count) {
+    if (closing)
+        *to++ = rule;
+    to = list(to, count);
+    if (!closing)
+        *to++ = rule;
+    return to;
+}
+
+/* 1,024 lines that derive it, of 32,768 bytes: for nine goals, or in the closing layout for six, with a closing list that names the last. */
+static void largest_derivation(uint8_t *to, int closing) {
+    static const uint8_t start[2] = {4, 0}, plan[2] = {0, 0}, cited[3] = {1, 3, 254}, end[3] = {1, 3, 255};
     const uint8_t *const first = to;
     unsigned line;
     memcpy(to, start, 2);
     to += 2;
-    for (line = 0; line < 1024; line++) {
+    for (line = 0; line < 1023; line++) {
         to = list(to, 13);
         memcpy(to, plan, 2);
-        to = list(to + 2, line < 1023 ? 13 : 9);
-        memcpy(to, line < 1023 ? rule_1 : rule_6, line < 1023 ? 2 : 4);
-        to += line < 1023 ? 2 : 4;
+        to = concluded(to + 2, closing, 1, 13);
+        *to++ = 0;
+    }
+    to = list(to, 13);
+    memcpy(to, plan, 2);
+    to = concluded(to + 2, closing, 6, closing ? 6 : 9);
+    memcpy(to, cited, 3);
+    to += 3;
+    if (closing) {
+        memcpy(to, end, 3);
+        to += 3;
     }
     if (to - first != GLINTSTRING_DERIVATION_LIMIT)
         puts("lengths: the largest derivation has another length");
@@ -171,30 +190,33 @@ static int judged(void) {
     return walks(NULL, 0, GLINTSTRING_INPUT_ENDS, 0) && walks(request_room - 1, 0, GLINTSTRING_INPUT_ENDS, 0);
 }
 
-static int checked(void) {
+typedef uint64_t (*derivation_call)(const uint8_t *, size_t, const uint8_t *, size_t);
+
+/* The derivation call, or the whether call. */
+static int checked(derivation_call call, int closing) {
     static uint8_t small[64];
-    const size_t length = derived_request(small);
+    const size_t length = derived_request(small, closing ? 6 : 9);
     const uint8_t zero = 0;
     unsigned place = 0;
     int at_end;
     largest_request(request, &place);
-    largest_derivation(derivation);
+    largest_derivation(derivation, closing);
     for (at_end = 0; at_end <= 1; at_end++) {
         const uint8_t *given = put(request_room, small, length, at_end);
-        if (!is(glintstring_check(given, length, NULL, 0), GLINTSTRING_INPUT_ENDS, GLINTSTRING_DERIVATION, 0, 0) ||
-            !is(glintstring_check(given, length, derivation_room - 1, 0), GLINTSTRING_INPUT_ENDS, GLINTSTRING_DERIVATION, 0, 0) ||
-            !is(glintstring_check(given, length, put(derivation_room, &zero, 1, at_end), 1), GLINTSTRING_INPUT_ENDS, GLINTSTRING_DERIVATION, 1, 0) ||
-            !is(glintstring_check(given, length, put(derivation_room, derivation, GLINTSTRING_DERIVATION_LIMIT, at_end), GLINTSTRING_DERIVATION_LIMIT),
+        if (!is(call(given, length, NULL, 0), GLINTSTRING_INPUT_ENDS, GLINTSTRING_DERIVATION, 0, 0) ||
+            !is(call(given, length, derivation_room - 1, 0), GLINTSTRING_INPUT_ENDS, GLINTSTRING_DERIVATION, 0, 0) ||
+            !is(call(given, length, put(derivation_room, &zero, 1, at_end), 1), GLINTSTRING_INPUT_ENDS, GLINTSTRING_DERIVATION, 1, 0) ||
+            !is(call(given, length, put(derivation_room, derivation, GLINTSTRING_DERIVATION_LIMIT, at_end), GLINTSTRING_DERIVATION_LIMIT),
                 GLINTSTRING_ACCEPTED, GLINTSTRING_NEITHER, 0, 0) ||
-            !is(glintstring_check(given, length, put(derivation_room, derivation, sizeof derivation, at_end), sizeof derivation), GLINTSTRING_TOO_LONG,
+            !is(call(given, length, put(derivation_room, derivation, sizeof derivation, at_end), sizeof derivation), GLINTSTRING_TOO_LONG,
                 GLINTSTRING_DERIVATION, 0, 0))
             return 0;
-        if (!is(glintstring_check(NULL, 0, derivation_room, ROOM), GLINTSTRING_INPUT_ENDS, GLINTSTRING_REQUEST, 0, 0) ||
-            !is(glintstring_check(NULL, 0, NULL, 0), GLINTSTRING_INPUT_ENDS, GLINTSTRING_REQUEST, 0, 0) ||
-            !is(glintstring_check(put(request_room, &zero, 1, at_end), 1, NULL, 0), GLINTSTRING_COUNT_NOT_WITHIN_LIMITS, GLINTSTRING_REQUEST, 0, 0) ||
-            !is(glintstring_check(put(request_room, request, GLINTSTRING_REQUEST_LIMIT, at_end), GLINTSTRING_REQUEST_LIMIT, NULL, 0),
+        if (!is(call(NULL, 0, derivation_room, ROOM), GLINTSTRING_INPUT_ENDS, GLINTSTRING_REQUEST, 0, 0) ||
+            !is(call(NULL, 0, NULL, 0), GLINTSTRING_INPUT_ENDS, GLINTSTRING_REQUEST, 0, 0) ||
+            !is(call(put(request_room, &zero, 1, at_end), 1, NULL, 0), GLINTSTRING_COUNT_NOT_WITHIN_LIMITS, GLINTSTRING_REQUEST, 0, 0) ||
+            !is(call(put(request_room, request, GLINTSTRING_REQUEST_LIMIT, at_end), GLINTSTRING_REQUEST_LIMIT, NULL, 0),
                 GLINTSTRING_INPUT_ENDS, GLINTSTRING_DERIVATION, 0, 0) ||
-            !is(glintstring_check(put(request_room, request, sizeof request, at_end), sizeof request, NULL, 0), GLINTSTRING_TOO_LONG,
+            !is(call(put(request_room, request, sizeof request, at_end), sizeof request, NULL, 0), GLINTSTRING_TOO_LONG,
                 GLINTSTRING_REQUEST, 0, 0))
             return 0;
     }
@@ -229,7 +251,9 @@ int main(void) {
     request_room = stretch();
     derivation_room = stretch();
     state_room = stretch();
-    if (!request_room || !derivation_room || !state_room || !judged() || !checked() || !shown()) return 1;
+    if (!request_room || !derivation_room || !state_room || !judged() || !checked(glintstring_check, 0) ||
+        !checked(glintstring_check_whether, 1) || !shown())
+        return 1;
     printf("lengths: %lu calls at the ends of their lengths, and lent states of 0 to %d bytes\n", calls, STATES);
     return 0;
 }

@@ -1,6 +1,7 @@
 // Makes one call on a stack of its own, and tells how many bytes of it were used.
 //   driver walk BUDGET <REQUEST                     the walk call
 //   driver check LENGTH <REQUEST AND DERIVATION     the derivation call, on a request of that length and what follows it
+//   driver whether LENGTH <REQUEST AND DERIVATION   the whether call in the same way
 // It prints number, input, place, count and the bytes of stack.
 // x86-64 Linux, and no library: so it can be linked on any machine.
 
@@ -17,6 +18,7 @@ struct slice {
 // number + 2^8 * input + 2^16 * place + 2^32 * count
 u64 proved_judge(const struct slice *request, const struct slice *lent, u32 budget);
 u64 proved_check(const struct slice *request, const struct slice *derivation);
+u64 proved_whether(const struct slice *request, const struct slice *derivation);
 
 enum { READ = 0, WRITE = 1, MMAP = 9, MPROTECT = 10, EXIT = 60 };
 
@@ -90,12 +92,17 @@ static void print(u64 number, char after) {
     call(WRITE, 1, (long)(text + at), sizeof text - at, 0, 0, 0);
 }
 
+static int is_word(const char *one, const char *other) {
+    while (*one && *one == *other) one++, other++;
+    return *one == *other;
+}
+
 static byte bytes[1 << 16];
 static byte state[64];
 
 _Noreturn __attribute__((used)) static void begin(long *arguments) {
-    if (arguments[0] != 3) fail("driver: two arguments, walk and the budget or check and the request's length\n");
-    int walks = *(const char *)arguments[2] == 'w';
+    if (arguments[0] != 3) fail("driver: two arguments, walk and the budget, or check or whether and the request's length\n");
+    const char *command = (const char *)arguments[2];
     u64 number = 0;
     for (const char *digit = (const char *)arguments[3]; *digit; digit++) {
         if (*digit < '0' || '9' < *digit) fail("driver: the second argument is not a number\n");
@@ -119,13 +126,13 @@ _Noreturn __attribute__((used)) static void begin(long *arguments) {
     for (u64 place = PAGE; place < WORDS; place++) stack[place] = untouched(place);
 
     u64 answer;
-    if (walks) {
+    if (is_word(command, "walk")) {
         answer = call_at(stack + WORDS, proved_judge, &request, &lent, number);
     } else {
         if (request.length < number) fail("driver: the request is shorter than its length\n");
         struct slice derivation = {bytes + number, request.length - number};
         request.length = number;
-        answer = call_at(stack + WORDS, proved_check, &request, &derivation, 0);
+        answer = call_at(stack + WORDS, is_word(command, "check") ? proved_check : proved_whether, &request, &derivation, 0);
     }
 
     u64 lowest = PAGE;

@@ -1,6 +1,6 @@
 //! The requests on which the walk goes deepest, and some beside them: writes each into the folder given, and prints a line for each, with
-//! the file's name, the budget, the number of items and what the request is. Beside them derivations, and a list of these (`derivations`),
-//! with the request's file, the derivation's, its number of lines and what it is.
+//! the file's name, the budget, the number of items and what the request is. Beside them derivations, and lists of these (`derivations`, and
+//! `whether` for the closing layout), with the request's file, the derivation's, its number of lines and what it is.
 
 use std::{env, fs};
 
@@ -112,27 +112,61 @@ fn derivation(lines: &[Vec<u8>]) -> Vec<u8> {
     bytes
 }
 
-/// Derivations of a request whose plan looks at all fluents. The sensing rule goes through their readings as far as its citations go.
+/// The same in the closing layout, with a fluent for what is said after rules 7, 8, 10, 11 and 12.
+fn closing_line(plan: &[Item], rule: u8, cited: &[u16]) -> Vec<u8> {
+    let said = if matches!(rule, 7 | 8 | 10..=12) { LAST } else { 0 };
+    [vec![0], sequence(plan), vec![rule, said], section(cited.iter().map(|number| number.to_be_bytes()))].concat()
+}
+
+/// Lines, and a closing list that names the first so often.
+fn closed(lines: &[Vec<u8>], entries: usize) -> Vec<u8> {
+    let bytes = [derivation(lines), section(vec![[0, 0]; entries])].concat();
+    assert!(bytes.len() <= 32768, "beyond the limits");
+    bytes
+}
+
+/// Writes derivations for a request, and a list of them under this name.
+fn write_derivations(folder: &str, list: &str, asked: (&str, Vec<u8>), derivations: &[(&str, usize, Vec<u8>)]) {
+    let mut lines = String::new();
+    fs::write(format!("{folder}/{}", asked.0), asked.1).expect("a file written");
+    for (number, (name, count, bytes)) in derivations.iter().enumerate() {
+        let file = format!("{list}-{number}");
+        fs::write(format!("{folder}/{file}"), bytes).expect("a file written");
+        lines += &format!("{} {file} {count} {name}\n", asked.0);
+    }
+    fs::write(format!("{folder}/{list}"), lines).expect("a file written");
+}
+
+/// Derivations of requests whose plan looks at all fluents. The sensing rules go through their readings as far as their citations go.
 fn derivations(folder: &str) {
     let plan = [act(LOOK_AT_ALL)];
-    let asked = "asked.request";
-    fs::write(format!("{folder}/{asked}"), request(Forgets::True, Goals::None, &plan)).expect("a file written");
+    let eight = nested(8, plan.to_vec());
+    let in_a_row = over_and_over(&[within(&[])], 1024);
     let nothing = || line(&[], 1, &[]);
     let looks = || line(&plan, 3, &[0; 64]);
-    let derivations = [
+    let plain = [
         ("64 looked at, 64 cited", vec![nothing(), looks()]),
-        ("eight branchings, one inside another", vec![nothing(), line(&nested(8, plan.to_vec()), 4, &[0])]),
-        ("1,024 branchings in a row", vec![nothing(), line(&over_and_over(&[within(&[])], 1024), 4, &[0])]),
+        ("eight branchings, one inside another", vec![nothing(), line(&eight, 4, &[0])]),
+        ("1,024 branchings in a row", vec![nothing(), line(&in_a_row, 4, &[0])]),
         ("1,024 lines", vec![nothing(); 1024]),
         ("64 cited in each line but one", [vec![nothing()], vec![looks(); 240]].concat()),
     ];
-    let mut list = String::new();
-    for (number, (name, lines)) in derivations.into_iter().enumerate() {
-        let file = format!("{number}.derivation");
-        fs::write(format!("{folder}/{file}"), derivation(&lines)).expect("a file written");
-        list += &format!("{asked} {file} {} {name}\n", lines.len());
-    }
-    fs::write(format!("{folder}/derivations"), list).expect("a file written");
+    let plain = plain.map(|(name, lines)| (name, lines.len(), derivation(&lines)));
+    write_derivations(folder, "derivations", ("asked.request", request(Forgets::True, Goals::None, &plan)), &plain);
+
+    let nothing = || closing_line(&[], 1, &[]);
+    let looks = || closing_line(&plan, 10, &[0; 64]);
+    let closing = [
+        ("64 looked at, 64 cited, rule 10", vec![nothing(), looks()], 65),
+        ("64 looked at, rule 7", vec![closing_line(&plan, 7, &[])], 65),
+        ("eight branchings, one inside another, rule 12", vec![nothing(), closing_line(&eight, 12, &[0])], 65),
+        ("1,024 branchings in a row, rule 12", vec![nothing(), closing_line(&in_a_row, 12, &[0])], 65),
+        ("1,024 lines, 65 entries", vec![nothing(); 1024], 65),
+        ("1,024 lines, 255 entries", vec![nothing(); 1024], 255),
+        ("64 cited in each line but one, rule 10", [vec![nothing()], vec![looks(); 240]].concat(), 65),
+    ];
+    let closing = closing.map(|(name, lines, entries)| (name, lines.len(), closed(&lines, entries)));
+    write_derivations(folder, "whether", ("asked-whether.request", request(Forgets::True, Goals::All, &plan)), &closing);
 }
 
 fn main() {

@@ -1,4 +1,4 @@
-//! Answers with the format's names (docs/FORMAT.md, section 4).
+//! Answers with the format's names (docs/FORMAT.md, sections 4 and 17).
 
 use std::fmt;
 
@@ -97,8 +97,8 @@ impl State {
     }
 }
 
-/// An answer of the walk call or of the derivation call. A place is the number of bytes that stand before it in its input: the derivation for
-/// 31 to 35, the request or the derivation where the answer says which, and the request for all others.
+/// An answer of the walk call, the derivation call or the whether call. A place is the number of bytes that stand before it in its input: the
+/// derivation for 31 to 36, the request or the derivation where the answer says which, and the request for all others.
 #[derive(Clone, Copy, Debug, PartialEq, Eq, Hash)]
 pub enum Answer {
     /// 0 of the walk call: the walk verifies the plan.
@@ -106,7 +106,7 @@ pub enum Answer {
         /// Actions run and end states judged.
         count: u32,
     },
-    /// 0 of the derivation call: the derivation is accepted.
+    /// 0 of the derivation call and of the whether call: the derivation is accepted.
     Accepted,
     /// 1: all paths can be run to their ends, and at least one end state misses a goal or a whether entry.
     GoalMissed {
@@ -197,7 +197,7 @@ pub enum Answer {
         /// Its byte 255.
         place: usize,
     },
-    /// 20: bytes are left over when the request's last section or the derivation's last line is read.
+    /// 20: bytes are left over when the request's last section, or the derivation's last line or closing list, is read.
     BytesLeftOver {
         /// The one that has it.
         input: Input,
@@ -216,7 +216,7 @@ pub enum Answer {
         /// The count byte of the whether list, in the request.
         place: usize,
     },
-    /// 31: a line's rule byte is none of 1 to 6.
+    /// 31: a line's rule byte is none of 1 to 6, or in the whether call none of 1 to 8 and 10 to 12.
     NoRule {
         /// The line.
         place: usize,
@@ -239,6 +239,11 @@ pub enum Answer {
     /// 35: the last line differs from the question.
     NotTheQuestion {
         /// The last line.
+        place: usize,
+    },
+    /// 36: the closing list is not what the request asks.
+    ClosingNotRight {
+        /// Its count byte where its length is another; or else its first entry that names no line, or another line than it is to name.
         place: usize,
     },
 }
@@ -284,6 +289,20 @@ impl Answer {
             number => Answer::refusal(number, input, place),
         };
         answer.unwrap_or_else(|| strange(packed)).if_packed(packed)
+    }
+
+    /// Takes an answer of the whether call apart.
+    ///
+    /// # Panics
+    ///
+    /// Where the number is none of the whether call's, or where input, place and count do not go with it. The proved library gives no such
+    /// answer.
+    pub fn unpack_whether(packed: Packed) -> Answer {
+        match packed.number() {
+            30 | 35 => strange(packed),
+            36 => Answer::ClosingNotRight { place: packed.place() }.if_packed(packed),
+            _ => Answer::unpack_checked(packed),
+        }
     }
 
     /// The answers 10 to 21, which say that an input is not of the format.
@@ -345,6 +364,7 @@ impl Answer {
             Answer::CitationsWrong { .. } => 33,
             Answer::DoesNotFollow { .. } => 34,
             Answer::NotTheQuestion { .. } => 35,
+            Answer::ClosingNotRight { .. } => 36,
         }
     }
 
@@ -380,7 +400,8 @@ impl Answer {
             | Answer::CitesNoEarlierLine { .. }
             | Answer::CitationsWrong { .. }
             | Answer::DoesNotFollow { .. }
-            | Answer::NotTheQuestion { .. } => Some(Input::Derivation),
+            | Answer::NotTheQuestion { .. }
+            | Answer::ClosingNotRight { .. } => Some(Input::Derivation),
         }
     }
 
@@ -406,7 +427,8 @@ impl Answer {
             | Answer::CitesNoEarlierLine { place }
             | Answer::CitationsWrong { place }
             | Answer::DoesNotFollow { place }
-            | Answer::NotTheQuestion { place } => place,
+            | Answer::NotTheQuestion { place }
+            | Answer::ClosingNotRight { place } => place,
         }
     }
 
@@ -455,6 +477,7 @@ impl Answer {
             Answer::CitationsWrong { .. } => "a line has a number of citations that its rule does not take",
             Answer::DoesNotFollow { .. } => "a line does not follow by its rule",
             Answer::NotTheQuestion { .. } => "the last line differs from the question",
+            Answer::ClosingNotRight { .. } => "the closing list is not what the request asks",
         }
     }
 }

@@ -2,9 +2,9 @@
 //!
 //! A request has a domain table, a plan and goals in its bytes (docs/FORMAT.md). [`judge`] walks the plan over partial states and
 //! answers; that its answer and the lent bytes are those of the definition is proved, for every request, lent state and budget
-//! (docs/STATEMENTS.md). [`check`] checks a derivation, lines by which the plan reaches its goals, and [`show`] gives the part of an input
-//! that an answer is about; of both the same is proved. This crate adds names to the numbers and proves nothing.
-//! `examples/rust` of the repository is a small program that uses it.
+//! (docs/STATEMENTS.md). [`check`] checks a derivation, lines by which the plan reaches its goals, [`check_whether`] one that also says of
+//! fluents that they are known in the end, and [`show`] gives the part of an input that an answer is about; of these the same is proved. This
+//! crate adds names to the numbers and proves nothing. `examples/rust` of the repository is a small program that uses it.
 //!
 //! ```
 //! use glintstring::{judge, Answer, Input, STATE_LENGTH};
@@ -23,8 +23,8 @@
 //! # Stack
 //!
 //! A judgement may need as much as [`STACK_NEEDED`] bytes of stack, more than the 2 MiB that a thread in Rust gets; the request decides
-//! how much. A call that has too little is ended by the system, and the process with it. [`judge_on_thread`] has enough. [`check`] and
-//! [`show`] need far less, whatever their inputs, and a thread's 2 MiB will do.
+//! how much. A call that has too little is ended by the system, and the process with it. [`judge_on_thread`] has enough. [`check`],
+//! [`check_whether`] and [`show`] need far less, whatever their inputs, and a thread's 2 MiB will do.
 
 #![deny(missing_docs)]
 
@@ -53,6 +53,7 @@ extern "C" {
     // As include/glintstring.h has them.
     fn glintstring_judge(request: *const u8, request_length: usize, state: *mut u8, state_length: usize, budget: u32) -> u64;
     fn glintstring_check(request: *const u8, request_length: usize, derivation: *const u8, derivation_length: usize) -> u64;
+    fn glintstring_check_whether(request: *const u8, request_length: usize, derivation: *const u8, derivation_length: usize) -> u64;
     fn glintstring_show(answer: u64, request: *const u8, request_length: usize, derivation: *const u8, derivation_length: usize) -> u64;
 }
 
@@ -118,7 +119,7 @@ pub fn judge_on_thread(request: &[u8], state: &mut [u8], budget: u32) -> io::Res
 ///
 /// Any bytes may be given, of any length. The answer is [`Answer::Accepted`] exactly where both can be read and settled, the request has no
 /// whether entry, each line follows by its rule from lines before it, and the last line is the question. Then the walk of the plan, without a
-/// budget, is verified.
+/// budget, is verified. For a request with whether entries there is [`check_whether`].
 ///
 /// ```
 /// use glintstring::{check, show, Answer, Input};
@@ -170,9 +171,60 @@ pub fn check_packed(request: &[u8], derivation: &[u8]) -> Packed {
     Packed(unsafe { glintstring_check(request.as_ptr(), request.len(), derivation.as_ptr(), derivation.len()) })
 }
 
+/// The whether call: checks a derivation of what a request asks, its whether entries included.
+///
+/// Its derivations have the closing layout (FORMAT 17.3 to 17.8): the rule byte stands before the conclusion, the conclusion of some rules
+/// is a fluent that is known, be it true or false, and after the lines a closing list names a line for the goals and one for each whether
+/// entry. Any bytes may be given, of any length. The answer is [`Answer::Accepted`] exactly where both can be read and settled, each line
+/// follows by its rule from lines before it, and the closing list is what the request asks. Then the walk of the plan, without a budget, is
+/// verified. The answer is never [`Answer::WhetherAsked`] or [`Answer::NotTheQuestion`].
+///
+/// ```
+/// use glintstring::{check, check_whether, Answer, Input};
+///
+/// // One fluent, one action, which can always be run and looks at the fluent, and it is the plan: no goal, and whether the fluent is true.
+/// let request = [1, 1, 0, 0, 1, 0, 0, 1, 0, 0, 0, 1, 0, 0, 1, 0];
+/// let mut derivation = [
+///     0, 6, // six lines, each with X, its plan, its rule, its conclusion and its citations
+///     1, 0, 0, 0, 1, 1, 0, 0, // true, and stays so, by rule 1
+///     1, 0, 0, 0, 6, 0, 1, 0, 0, // so the empty plan can be run, by rule 6
+///     1, 1, 0, 0, 1, 1, 1, 0, // false, and stays so
+///     1, 1, 0, 0, 6, 0, 1, 0, 2, // the same of it
+///     0, 0, 1, 0, 3, 0, 2, 0, 1, 0, 3, // whatever is seen, the plan can be run, by rule 3
+///     0, 0, 1, 0, 7, 0, 0, // the look tells fluent 0, by rule 7
+///     2, 0, 4, 0, 5, // the goals by line 4, the whether entry by line 5
+/// ];
+/// assert_eq!(check_whether(&request, &derivation), Answer::Accepted);
+/// assert_eq!(check(&request, &derivation), Answer::WhetherAsked { place: 14 });
+///
+/// // The closing list names no line for the whether entry.
+/// derivation[58] = 6;
+/// assert_eq!(check_whether(&request, &derivation), Answer::ClosingNotRight { place: 57 });
+/// assert_eq!(check_whether(&request, &derivation[..58]), Answer::InputEnds { input: Input::Derivation, place: 58 });
+/// ```
+///
+/// # Panics
+///
+/// Where the library linked gives an answer that the format does not have, which the proved one does not.
+pub fn check_whether(request: &[u8], derivation: &[u8]) -> Answer {
+    Answer::unpack_whether(check_whether_packed(request, derivation))
+}
+
+/// The whether call as it is exported: the same as [`check_whether`], with the answer packed into one number.
+///
+/// ```
+/// // One fluent, one action and an empty plan, whether the fluent is true or false.
+/// let packed = glintstring::check_whether_packed(&[1, 1, 0, 0, 0, 0, 0, 0, 0, 1, 0], &[]);
+/// assert_eq!((packed.number(), packed.input(), packed.place(), packed.count()), (11, 2, 0, 0));
+/// ```
+pub fn check_whether_packed(request: &[u8], derivation: &[u8]) -> Packed {
+    // Each pointer is valid for its length, and the call writes nothing and keeps neither.
+    Packed(unsafe { glintstring_check_whether(request.as_ptr(), request.len(), derivation.as_ptr(), derivation.len()) })
+}
+
 /// The showing call: the part of an input that an answer is about, from its place to that input's end.
 ///
-/// Any answer may be given, of either call or made by hand, with any two inputs. For one that names neither, it is the empty part at the
+/// Any answer may be given, of any call or made by hand, with any two inputs. For one that names neither, it is the empty part at the
 /// request's start; for a place beyond an input's end, the empty part at that end.
 ///
 /// ```

@@ -1,6 +1,7 @@
 //! Answers taken apart, and the call where it needs much stack.
 
-use glintstring::{check, check_packed, judge, judge_on_thread, judge_packed, show, show_start, Answer, Input, Mark, Packed, State};
+use glintstring::{check, check_packed, check_whether, check_whether_packed, judge, judge_on_thread, judge_packed, show, show_start};
+use glintstring::{Answer, Input, Mark, Packed, State};
 
 const FILE_A: [u8; 48] = [
     4, 3, 3, 3, 5, 7, 3, 1, 2, 0, 1, 6, 1, 0, 2, 4, 0, 3, 0, 0, 1, 1, 3, 2, 1, 2, 1, 0, 0, 0, 2, 0, 255, 2, 1, 1, 0, 2, 1, 2, 1, 0, 0, 0,
@@ -92,10 +93,10 @@ fn packed_and_named_are_the_same_call() {
     }
 }
 
-#[test]
-fn each_number_of_the_derivation_call_is_packed_as_it_came() {
+/// How many of the numbers, each with each input, are taken apart and packed again; the others are refused.
+fn packed_as_it_came(unpack: fn(Packed) -> Answer, numbers: impl Iterator<Item = u64>) -> usize {
     let mut tried = 0;
-    for number in [0].into_iter().chain(10..=21).chain(30..=35) {
+    for number in numbers {
         for input in 0..=2 {
             let fits = match number {
                 0 => input == 0,
@@ -105,7 +106,7 @@ fn each_number_of_the_derivation_call_is_packed_as_it_came() {
             };
             let place = if matches!(number, 0 | 10) { 0 } else { 32_767 };
             let packed = Packed(number + (input << 8) + (place << 16));
-            let answer = std::panic::catch_unwind(|| Answer::unpack_checked(packed));
+            let answer = std::panic::catch_unwind(|| unpack(packed));
             assert_eq!(answer.is_ok(), fits, "number {number}, input {input}");
             if let Ok(answer) = answer {
                 assert_eq!((answer.packed(), u64::from(answer.number()), u64::from(answer.input())), (packed, number, input));
@@ -113,13 +114,25 @@ fn each_number_of_the_derivation_call_is_packed_as_it_came() {
             }
         }
     }
-    assert_eq!(tried, 1 + 3 + 20 + 5);
+    tried
 }
 
 #[test]
-fn what_is_no_answer_of_the_derivation_call_is_refused() {
-    let refused = |packed: u64| std::panic::catch_unwind(|| Answer::unpack_checked(Packed(packed))).is_err();
-    for number in (1..=9).chain(22..=29).chain(36..=255) {
+fn each_number_of_the_derivation_call_is_packed_as_it_came() {
+    let numbers = [0].into_iter().chain(10..=21).chain(30..=35);
+    assert_eq!(packed_as_it_came(Answer::unpack_checked, numbers), 1 + 3 + 20 + 5);
+}
+
+#[test]
+fn each_number_of_the_whether_call_is_packed_as_it_came() {
+    let numbers = [0].into_iter().chain(10..=21).chain(31..=34).chain([36]);
+    assert_eq!(packed_as_it_came(Answer::unpack_whether, numbers), 1 + 2 + 20 + 5);
+}
+
+/// What no library may give: a number of another call, or an input, a place or a count that does not go with its number.
+fn refuses(unpack: fn(Packed) -> Answer, numbers: impl Iterator<Item = u64>) {
+    let refused = |packed: u64| std::panic::catch_unwind(|| unpack(Packed(packed))).is_err();
+    for number in numbers {
         for input in 0..=3 {
             assert!(refused(number + (input << 8)), "number {number}, input {input}");
         }
@@ -128,6 +141,16 @@ fn what_is_no_answer_of_the_derivation_call_is_refused() {
     assert!(refused(1 << 32), "accepted, with a count");
     assert!(refused(34 + (2 << 8) + (1 << 32)), "a refusal with a count");
     assert!(refused(10 + (2 << 8) + (1 << 16)), "too long, at a place");
+}
+
+#[test]
+fn what_is_no_answer_of_the_derivation_call_is_refused() {
+    refuses(Answer::unpack_checked, (1..=9).chain(22..=29).chain(36..=255));
+}
+
+#[test]
+fn what_is_no_answer_of_the_whether_call_is_refused() {
+    refuses(Answer::unpack_whether, (1..=9).chain(22..=30).chain([35]).chain(37..=255));
 }
 
 /// File A asks whether; without that entry its derivation is looked at.
@@ -152,6 +175,33 @@ fn derivations_are_refused_in_their_input() {
     assert_eq!(answer.packed(), check_packed(&request, &[0, 1, 0, 0, 0, 0, 2, 0]));
 }
 
+/// The whether call takes File A as it is.
+#[test]
+fn derivations_in_the_closing_layout_are_refused_in_their_input() {
+    assert_eq!(check_whether(&FILE_A, &[]), Answer::InputEnds { input: Input::Derivation, place: 0 });
+    assert_eq!(check_whether(&FILE_A, &[0, 0]), Answer::CountNotWithinLimits { input: Input::Derivation, place: 0 });
+    assert_eq!(check_whether(&FILE_A, &[0; 32_769]), Answer::TooLong { input: Input::Derivation });
+    assert_eq!(check_whether(&[0; 16_385], &[0; 32_769]), Answer::TooLong { input: Input::Request });
+    assert_eq!(check_whether(&FILE_A[..46], &[]), Answer::InputEnds { input: Input::Request, place: 46 });
+    // One line: the empty plan, with nothing known, by rule 9, by rule 1, and by rules 7 and 8 for fluents.
+    assert_eq!(check_whether(&FILE_A, &[0, 1, 0, 0, 0, 9, 0, 0, 0]), Answer::NoRule { place: 2 });
+    assert_eq!(check_whether(&FILE_A, &[0, 1, 0, 0, 0, 1, 0, 0, 0, 7]), Answer::BytesLeftOver { input: Input::Derivation, place: 9 });
+    assert_eq!(check_whether(&FILE_A, &[0, 1, 0, 0, 0, 7, 4, 0, 0]), Answer::TooLarge { input: Input::Derivation, place: 6 });
+    assert_eq!(check_whether(&FILE_A, &[0, 1, 0, 0, 0, 7, 3, 0, 0]), Answer::DoesNotFollow { place: 2 });
+    assert_eq!(check_whether(&FILE_A, &[0, 1, 0, 0, 0, 8, 3, 0, 0]), Answer::CitationsWrong { place: 2 });
+    assert_eq!(check_whether(&FILE_A, &[0, 1, 0, 0, 0, 8, 3, 1, 0, 0, 0]), Answer::CitesNoEarlierLine { place: 2 });
+    // The closing list: of no entry, of one too few, and of two that name no line, and another line.
+    assert_eq!(check_whether(&FILE_A, &[0, 1, 0, 0, 0, 1, 0, 0, 0]), Answer::ClosingNotRight { place: 8 });
+    assert_eq!(check_whether(&FILE_A, &[0, 1, 0, 0, 0, 1, 0, 0, 1, 0, 0]), Answer::ClosingNotRight { place: 8 });
+    assert_eq!(check_whether(&FILE_A, &[0, 1, 0, 0, 0, 1, 0, 0, 2, 0, 1, 0, 0]), Answer::ClosingNotRight { place: 9 });
+    let derivation = [0, 1, 0, 0, 0, 1, 0, 0, 2, 0, 0, 0, 0];
+    let answer = check_whether(&FILE_A, &derivation);
+    assert_eq!(answer, Answer::ClosingNotRight { place: 9 });
+    assert_eq!(answer.to_string(), "the closing list is not what the request asks (36, place 9 of the derivation, count 0)");
+    assert_eq!(answer.packed(), check_whether_packed(&FILE_A, &derivation));
+    assert_eq!(show(answer, &FILE_A, &derivation), [0, 0, 0, 0]);
+}
+
 #[test]
 fn any_answer_can_be_shown() {
     let (request, derivation) = ([1, 2, 3], [4, 5, 6, 7]);
@@ -174,4 +224,5 @@ fn any_answer_can_be_shown() {
     assert_eq!(show(Answer::BudgetSpent { budget: 1 }, &request, &derivation), []);
     assert_eq!(show(Answer::WhetherAsked { place: 1 }, &request, &derivation), [2, 3]);
     assert_eq!(show(Answer::NoRule { place: 1 }, &request, &derivation), [5, 6, 7]);
+    assert_eq!(show(Answer::ClosingNotRight { place: 3 }, &request, &derivation), [7]);
 }

@@ -1,7 +1,7 @@
 //! Each call at the ends of its lengths: inputs of no byte, of one, of as many as they may have and of one more, and lent states of every
 //! length from 0 to 130.
 
-use glintstring::{check_packed, judge_packed, show, show_start, Packed, DERIVATION_LIMIT, REQUEST_LIMIT, STATE_LENGTH};
+use glintstring::{check_packed, check_whether_packed, judge_packed, show, show_start, Packed, DERIVATION_LIMIT, REQUEST_LIMIT, STATE_LENGTH};
 
 /// Number, input, place and count.
 fn numbers(packed: Packed) -> (u8, u8, usize, u32) {
@@ -34,6 +34,14 @@ fn largest_derivation() -> (Vec<u8>, Vec<u8>) {
     (request, [vec![4, 0], same.repeat(1_023), last].concat())
 }
 
+/// The same in the closing layout, with fewer goals, and a closing list that names the last line.
+fn largest_closing() -> (Vec<u8>, Vec<u8>) {
+    let request = [vec![14, 1], list(13), vec![0; 5], list(6), vec![0]].concat();
+    let same = [list(13), vec![0, 0, 1], list(13), vec![0]].concat();
+    let last = [list(13), vec![0, 0, 6], list(6), vec![1, 3, 254]].concat();
+    (request, [vec![4, 0], same.repeat(1_023), last, vec![1, 3, 255]].concat())
+}
+
 #[test]
 fn requests_and_lent_states() {
     let (largest, place) = largest_request();
@@ -55,21 +63,29 @@ fn requests_and_lent_states() {
     }
 }
 
-#[test]
-fn requests_and_derivations() {
-    let (request, largest) = largest_derivation();
+fn requests_and_derivations(call: fn(&[u8], &[u8]) -> Packed, (request, largest): (Vec<u8>, Vec<u8>)) {
     assert_eq!(largest.len(), DERIVATION_LIMIT);
     let longer = [&largest[..], &[0]].concat();
     let rows: [(&[u8], (u8, u8, usize, u32)); 4] = [(&[], (11, 2, 0, 0)), (&[0], (11, 2, 1, 0)), (&largest, (0, 0, 0, 0)), (&longer, (10, 2, 0, 0))];
     for (derivation, answer) in rows {
-        assert_eq!(numbers(check_packed(&request, derivation)), answer, "{} bytes", derivation.len());
+        assert_eq!(numbers(call(&request, derivation)), answer, "{} bytes", derivation.len());
     }
     let (largest, _) = largest_request();
     let longer = [&largest[..], &[0]].concat();
     let rows: [(&[u8], (u8, u8, usize, u32)); 4] = [(&[], (11, 1, 0, 0)), (&[0], (12, 1, 0, 0)), (&largest, (11, 2, 0, 0)), (&longer, (10, 1, 0, 0))];
     for (request, answer) in rows {
-        assert_eq!(numbers(check_packed(request, &[])), answer, "{} bytes", request.len());
+        assert_eq!(numbers(call(request, &[])), answer, "{} bytes", request.len());
     }
+}
+
+#[test]
+fn requests_and_plain_derivations() {
+    requests_and_derivations(check_packed, largest_derivation());
+}
+
+#[test]
+fn requests_and_closing_derivations() {
+    requests_and_derivations(check_whether_packed, largest_closing());
 }
 
 #[test]

@@ -1,6 +1,9 @@
-// Checks the derivation in one file against the request in another, and says so on standard output (FORMAT 12.8 to 12.12).
+// Checks the derivation in one file against the request in another, and says so on standard output (FORMAT 12.8 to 12.12, 17.44).
 ghost use Rattle.programs.specs.Input.{Within};
+use comparing::parts::same_part;
 use glintstring::derivations::check;
+use glintstring::derivations::check_whether;
+use meaning::Answer;
 use programs::Input;
 use programs::put_line;
 use programs::read_all;
@@ -40,8 +43,22 @@ fn read_argument(i: usize, buf: &mut [u8]) -> Input
     read_file(&name[..n], buf)
 }
 
-fn answer_to(request: &[u8], derivation: &[u8]) {
-    let answer = check(request, derivation);
+// The first argument is the option for derivations in the closing layout.
+fn is_whether() -> bool {
+    let mut word = io::buffer();
+    let n = os::arg(1, &mut word);
+    same_part(&word[..n], b"--whether")
+}
+
+fn answer_to(whether: bool, request: &[u8], derivation: &[u8]) -> Answer {
+    if whether {
+        return check_whether(request, derivation);
+    }
+    check(request, derivation)
+}
+
+fn put_answer(whether: bool, request: &[u8], derivation: &[u8]) {
+    let answer = answer_to(whether, request, derivation);
     if !put_line(
         answer.number as u64,
         answer.input as u64,
@@ -51,28 +68,45 @@ fn answer_to(request: &[u8], derivation: &[u8]) {
     }
 }
 
-// The derivation, once the request is read.
-fn audit(request: &[u8]) {
+// The derivation that argument i names, once the request is read.
+fn audit(whether: bool, request: &[u8], i: usize) {
     // One byte more than a derivation may have: a longer one is refused whatever it holds.
     let mut bytes = [0u8; 32769];
-    match read_argument(2, &mut bytes) {
-        Input::Bytes(n) => answer_to(request, &bytes[..n]),
+    match read_argument(i, &mut bytes) {
+        Input::Bytes(n) => put_answer(whether, request, &bytes[..n]),
+        Input::Unreadable => return,
+    }
+}
+
+// The request that argument i names, and the derivation that argument j names.
+fn audit_files(whether: bool, i: usize, j: usize) {
+    // One byte more than a request may have.
+    let mut bytes = [0u8; 16385];
+    match read_argument(i, &mut bytes) {
+        Input::Bytes(n) => audit(whether, &bytes[..n], j),
         Input::Unreadable => return,
     }
 }
 
 fn main() {
-    if os::arg_count() != 3 {
+    let count = os::arg_count();
+    if is_whether() {
+        if count != 4 {
+            io::write_all(
+                libc::STDERR_FILENO,
+                b"audit: two file names are needed: audit REQUEST DERIVATION, or audit --whether REQUEST DERIVATION\n",
+            );
+            return;
+        }
+        audit_files(true, 2, 3);
+        return;
+    }
+    if count != 3 {
         io::write_all(
             libc::STDERR_FILENO,
             b"audit: two file names are needed, a request's and a derivation's\n",
         );
         return;
     }
-    // One byte more than a request may have.
-    let mut bytes = [0u8; 16385];
-    match read_argument(1, &mut bytes) {
-        Input::Bytes(n) => audit(&bytes[..n]),
-        Input::Unreadable => return,
-    }
+    audit_files(false, 1, 2);
 }

@@ -1,4 +1,5 @@
 pub mod LineLaws
 pub mod OrderLaws
 pub mod QuestionLaws
+pub mod ClosingLaws
 pub mod CheckLaws

@@ -1,5 +1,5 @@
-// Derivations checked: the lines in order, the whole.
-pub mod ends; // where each line's list Y stands
-pub mod numbers; // what refuses a line, and the rules
-pub mod lines; // the lines in order, and the question
+// Derivations checked: the lines in order, the question, the whole.
+pub mod numbers; // what refuses a line or the closing list
+pub mod lines; // the lines in order
+pub mod question; // the question, by the last line or by the closing list
 pub mod check; // a derivation for a settled request

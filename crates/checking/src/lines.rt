@@ -4,29 +4,66 @@ ghost use Prim.Native.Nat.{_+_, _*_, _≤_};
 ghost use lib.ListN.{length};
 ghost use Rattle.meaning.specs.Limits.{format};
 ghost use Rattle.meaning.specs.Literals.{among};
-ghost use Rattle.meaning.specs.Derivations.{citations-of, cited-by, follows, is-question};
+ghost use Rattle.meaning.specs.Derivations.{for-lists, citations-taken, a-rule, cited-by, given-by, check-lines};
 ghost use Rattle.bytes.specs.Read.{passed};
 ghost use Rattle.steps.specs.AtHand.{request-in, At-hand};
-ghost use Rattle.comparing.specs.Rules.{Some-line, Ruled};
-ghost use Rattle.checking.specs.Checked.{lines-in, line-in, All-stand, Numbered, Cites-earlier, all-below, numbers-from, refused-by, all-checked};
+ghost use Rattle.checking.specs.Checked.{lines-in, line-in, spot-in, All-stand, Numbered, Cites-earlier, all-below, numbers-from, refused-by};
 use super::numbers;
 use bytes::bytes::two;
 use bytes::bytes::wide;
 use bytes::lists::Passed;
-use comparing::parts::same_lists;
-use comparing::plans::same_plans;
+use comparing::spots::Spot;
+use comparing::spots::spot_of;
 use deriving::derivations::Places;
 use deriving::derived::place_of;
-use reading::table;
+use deriving::numbers as rules;
+use meaning::Layout;
 use reading::table::Table;
-use reading::table::get;
-use refusing::overlaps::sequence_of;
 use ruling::branches::rule_4;
 use ruling::readings::rule_3;
 use ruling::rules::rule_1;
 use ruling::rules::rule_2;
 use ruling::rules::rule_5;
 use ruling::rules::rule_6;
+use ruling::rules::rule_7;
+use ruling::rules::rule_8;
+
+// A rule of the layout.
+fn is_rule(layout: Layout, rule: usize) -> bool
+    ensures { λ r. ⌜ r ≡ a-rule layout rule ⌝ }
+{
+    if rule < rules::EMPTY_RULE {
+        return false;
+    }
+    match layout {
+        Layout::Plain => rule <= rules::CONSEQUENCE_RULE,
+        Layout::Closing => {
+            if rule <= rules::LITERAL_RULE {
+                return true;
+            }
+            if rule < rules::SENSING_WHETHER_RULE {
+                return false;
+            }
+            rule <= rules::BRANCHING_WHETHER_RULE
+        }
+    }
+}
+
+// The rule that asks the same of lists.
+fn rule_for_lists(rule: usize) -> usize
+    ensures { λ r. ⌜ r ≡ for-lists rule ⌝ }
+{
+    if rule == rules::SENSING_WHETHER_RULE {
+        return rules::SENSING_RULE;
+    }
+    if rule == rules::COMPOSITION_WHETHER_RULE {
+        return rules::COMPOSITION_RULE;
+    }
+    if rule == rules::BRANCHING_WHETHER_RULE {
+        return rules::BRANCHING_RULE;
+    }
+    rule
+}
 
 // One for each reading of some fluents, six at the most.
 fn readings(count: usize) -> bool
@@ -53,21 +90,24 @@ fn readings(count: usize) -> bool
     count == 64
 }
 
-// The rule takes so many citations.
+// The rule, one for lists or 7 or 8, takes so many citations.
 fn takes(rule: usize, count: usize) -> bool
-    ensures { λ r. ⌜ r ≡ among count (citations-of rule) ⌝ }
+    ensures { λ r. ⌜ r ≡ among count (citations-taken rule) ⌝ }
 {
-    if rule == numbers::EMPTY_RULE {
+    if rule == rules::EMPTY_RULE {
         return count == 0;
     }
-    if rule == numbers::ACTION_RULE {
+    if rule == rules::ACTION_RULE {
         return count == 0;
     }
-    if rule == numbers::SENSING_RULE {
+    if rule == rules::SENSING_RULE {
         return readings(count);
     }
-    if rule == numbers::COMPOSITION_RULE {
+    if rule == rules::COMPOSITION_RULE {
         return count == 2;
+    }
+    if rule == rules::LOOK_RULE {
+        return count == 0;
     }
     count == 1
 }
@@ -91,8 +131,9 @@ fn all_earlier(d: &[u8], cites: usize, count: usize, i: usize) -> bool
     true
 }
 
-// Line i is what its rule gives.
-fn follows(
+// Line i, whose parts stand at l, is what the rule gives: its own, or the one that asks the same of lists.
+fn gives(
+    layout: Layout,
     n: usize,
     m: usize,
     s: &[u8],
@@ -100,49 +141,54 @@ fn follows(
     d: &[u8],
     u: &mut Table,
     places: &Places,
-    ends: &Places,
     lines: usize,
     i: usize,
+    l: Spot,
+    rule: usize,
 ) -> bool
     requires { ⌜ At-hand (now s) (now t) ⌝ }
-    requires { ⌜ Numbered n m (now d) (now places) (now ends) lines i ⌝ }
-    requires { ⌜ Cites-earlier n m (now d) i ⌝ }
-    ensures { λ r. ⌜ r ≡ follows format (request-in (now (s .entry)) .table) (cited-by (lines-in n m (now (d .entry))) (line-in n m (now (d .entry)) i)) (line-in n m (now (d .entry)) i) ⌝ }
+    requires { ⌜ Numbered layout n m (now d) (now places) lines i ⌝ }
+    requires { ⌜ l ≡ spot-in layout (now d) (now places) i ⌝ }
+    requires { ⌜ rule ≡ for-lists (line-in layout n m (now d) i .rule) ⌝ }
+    requires { ⌜ Cites-earlier layout n m (now d) i ⌝ }
+    ensures { λ r. ⌜ r ≡ given-by format (request-in (now (s .entry)) .table) rule (cited-by (lines-in layout n m (now (d .entry))) (line-in layout n m (now (d .entry)) i)) (line-in layout n m (now (d .entry)) i) ⌝ }
 {
-    let p = place_of(places, i);
-    let y = place_of(ends, i);
-    let at = sequence_of(d, y);
-    let rule = wide(d[at]);
-    if rule == numbers::EMPTY_RULE {
-        return rule_1(d, p, y);
+    if rule == rules::EMPTY_RULE {
+        return rule_1(d, l);
     }
-    if rule == numbers::ACTION_RULE {
-        return rule_2(s, t, d, p, y);
+    if rule == rules::ACTION_RULE {
+        return rule_2(s, t, d, l);
     }
-    if rule == numbers::SENSING_RULE {
-        return rule_3(s, t, d, places, ends, lines, p, y);
+    if rule == rules::SENSING_RULE {
+        return rule_3(layout, s, t, d, places, lines, i, l);
     }
-    let high = at + 2;
-    let low = at + 3;
+    if rule == rules::LOOK_RULE {
+        return rule_7(s, t, d, l);
+    }
+    let at = l.cites;
+    let high = at + 1;
+    let low = at + 2;
     let one = two(d[high], d[low]);
-    let pc = place_of(places, one);
-    let yc = place_of(ends, one);
-    if rule == numbers::BRANCHING_RULE {
-        return rule_4(n, m, d, u, pc, yc, p, y);
+    let cited = spot_of(layout, d, places, lines, one);
+    if rule == rules::BRANCHING_RULE {
+        return rule_4(n, m, d, u, cited, l);
     }
-    if rule == numbers::COMPOSITION_RULE {
-        let next = at + 4;
-        let last = at + 5;
+    if rule == rules::COMPOSITION_RULE {
+        let next = at + 3;
+        let last = at + 4;
         let other = two(d[next], d[last]);
-        let p2 = place_of(places, other);
-        let y2 = place_of(ends, other);
-        return rule_5(d, pc, yc, p2, y2, p, y);
+        let second = spot_of(layout, d, places, lines, other);
+        return rule_5(d, cited, second, l);
     }
-    rule_6(d, pc, yc, p, y)
+    if rule == rules::CONSEQUENCE_RULE {
+        return rule_6(d, cited, l);
+    }
+    rule_8(d, cited, l)
 }
 
 // Line i: 31, 33, 32 or 34; 0 where it follows.
 fn line_refused(
+    layout: Layout,
     n: usize,
     m: usize,
     s: &[u8],
@@ -150,63 +196,40 @@ fn line_refused(
     d: &[u8],
     u: &mut Table,
     places: &Places,
-    ends: &Places,
     lines: usize,
     i: usize,
 ) -> u8
     requires { ⌜ At-hand (now s) (now t) ⌝ }
-    requires { ⌜ Numbered n m (now d) (now places) (now ends) lines i ⌝ }
-    ensures { λ r. ⌜ r ≡ refused-by (request-in (now (s .entry)) .table) (lines-in n m (now (d .entry))) i (line-in n m (now (d .entry)) i) ⌝ }
+    requires { ⌜ Numbered layout n m (now d) (now places) lines i ⌝ }
+    ensures { λ r. ⌜ r ≡ refused-by layout (request-in (now (s .entry)) .table) (lines-in layout n m (now (d .entry))) i (line-in layout n m (now (d .entry)) i) ⌝ }
 {
-    let y = place_of(ends, i);
-    let at = sequence_of(d, y);
-    let rule = wide(d[at]);
-    if rule < numbers::EMPTY_RULE {
-        return numbers::NO_SUCH_RULE;
-    }
-    if numbers::CONSEQUENCE_RULE < rule {
-        return numbers::NO_SUCH_RULE;
-    }
-    let second = at + 1;
-    let count = wide(d[second]);
-    let right = takes(rule, count);
-    if right {
-        let cites = at + 2;
-        let earlier = all_earlier(d, cites, count, i);
-        if earlier {
-            let good = follows(n, m, s, t, d, u, places, ends, lines, i);
-            if good {
-                return 0;
+    let l = spot_of(layout, d, places, lines, i);
+    let known = is_rule(layout, l.rule);
+    if known {
+        let rule = rule_for_lists(l.rule);
+        let at = l.cites;
+        let count = wide(d[at]);
+        let right = takes(rule, count);
+        if right {
+            let cites = at + 1;
+            let earlier = all_earlier(d, cites, count, i);
+            if earlier {
+                let good = gives(layout, n, m, s, t, d, u, places, lines, i, l, rule);
+                if good {
+                    return 0;
+                }
+                return numbers::DOES_NOT_FOLLOW;
             }
-            return numbers::DOES_NOT_FOLLOW;
+            return numbers::NOT_EARLIER;
         }
-        return numbers::NOT_EARLIER;
+        return numbers::CITATIONS_NOT_TAKEN;
     }
-    numbers::CITATIONS_NOT_TAKEN
+    numbers::NO_SUCH_RULE
 }
 
-// The line is the question: the initial facts, the plan, the goals of the request.
-fn is_question(s: &[u8], t: &Table, d: &[u8], p: usize, y: usize) -> bool
-    requires { ⌜ At-hand (now s) (now t) ⌝ }
-    requires { ⌜ Some-line (now d) p y ⌝ }
-    ensures { λ r. ⌜ Ruled (now (d .entry)) p y (is-question (request-in (now (s .entry)))) r ⌝ }
-{
-    let starts = same_lists(d, p, s, 2);
-    if starts {
-        let goals = get(t, table::GOALS);
-        let ends = same_lists(d, y, s, goals);
-        if ends {
-            let plan = sequence_of(d, p);
-            let asked = get(t, table::PLAN);
-            return same_plans(d, plan, y, s, asked, goals);
-        }
-        return false;
-    }
-    false
-}
-
-// Line by line 31, 33, 32, 34; then 35 for the last. Accepted: the place 0.
+// Line by line 31, 33, 32, 34.
 pub fn check_lines(
+    layout: Layout,
     n: usize,
     m: usize,
     s: &[u8],
@@ -214,28 +237,20 @@ pub fn check_lines(
     d: &[u8],
     u: &mut Table,
     places: &Places,
-    ends: &Places,
     lines: usize,
 ) -> Passed
     requires { ⌜ At-hand (now s) (now t) ⌝ }
-    requires { ⌜ All-stand n m (now d) (now places) (now ends) lines ⌝ }
-    ensures { λ r. ⌜ r ≡ passed (all-checked (request-in (now (s .entry))) (lines-in n m (now (d .entry)))) ⌝ }
+    requires { ⌜ All-stand layout n m (now d) (now places) lines ⌝ }
+    ensures { λ r. ⌜ r ≡ passed (check-lines format layout (request-in (now (s .entry)) .table) (lines-in layout n m (now (d .entry))) 0 (lines-in layout n m (now (d .entry)))) ⌝ }
 {
     let mut i = 0;
     while i < lines {
-        let number = line_refused(n, m, s, t, d, u, places, ends, lines, i);
+        let number = line_refused(layout, n, m, s, t, d, u, places, lines, i);
         if 0 < number {
             let p = place_of(places, i);
             return Passed::Fault(number, p);
         }
         i += 1;
     }
-    let last = lines - 1;
-    let p = place_of(places, last);
-    let y = place_of(ends, last);
-    let asked = is_question(s, t, d, p, y);
-    if asked {
-        return Passed::To(0);
-    }
-    Passed::Fault(numbers::NOT_THE_QUESTION, p)
+    Passed::To(0)
 }

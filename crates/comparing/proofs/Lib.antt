@@ -1,5 +1,6 @@
 pub mod CodedLaws
 pub mod CodedReads
+pub mod SpotLaws
 pub mod StandLaws
 pub mod CodedPlaces
 pub mod PartLaws

@@ -1,20 +1,24 @@
 -- What it means that the lines of a derivation stand in the input d.
 use Prim.Native.Nat.{ℕ, _+_, _*_, _≤_, _<_}
 use mathlib.Core.Path.{_≡_}
-use mathlib.Core.Bool.{false}
+use mathlib.Core.Bool.{Bool, true, false}
 use mathlib.Core.List.{List, [], _∷_}
 use lib.ListN.{length, getD}
+use Rattle.meaning.specs.declared.Layout.{Layout}
+use Rattle.meaning.specs.declared.Layout.the-variants.{Plain, Closing}
+use Rattle.meaning.specs.Tests.{pick}
 use Rattle.meaning.specs.Limits.{format}
 use Rattle.meaning.specs.Literals.{exclusive}
 use Rattle.meaning.specs.Requests.{Sequence}
 use Rattle.meaning.specs.Reading.{got}
 use Rattle.meaning.specs.Refusals.{nowhere}
-use Rattle.meaning.specs.Derivations.{Line, read-derivation, overlap-in-lines}
+use Rattle.meaning.specs.Derivations.{Conclusion, knows, knows-whether, Line, Derivation, concludes-fluent, read-derivation, overlap-in-lines}
 use Rattle.reading.specs.Listed.{bytes-from, listed, List-here}
 use Rattle.reading.specs.Planned.{bytes-of}
 use Rattle.refusing.specs.Plans.{own-items}
 use Rattle.deriving.specs.DerivationRead.{settled-derivation}
 use Rattle.deriving.specs.Derived.{Lines-here}
+use Rattle.comparing.specs.declared.spots.Spot.{Spot}
 use Rattle.comparing.specs.Coded.{coded, Tellable}
 
 -- The place after the list at p.
@@ -43,45 +47,57 @@ unfoldable pub Numbers-stand : List ℕ → ℕ → List ℕ → Type 0
 Numbers-stand d p [] = Unit {0}
 Numbers-stand d p (k ∷ ks) = (p + 1 < length d) × (getD d p 0 * 256 + getD d (p + 1) 0 ≡ k) × Numbers-stand d (p + 2) ks
 
--- A line at p, whose list Y stands at y.
-pub record Stands (d : List ℕ) (p y : ℕ) (l : Line) : Type 0 where
-  pub place : l .place ≡ p
-  pub X : List-stands d p (l .X)
-  pub plan : Plan-stands d (after-list d p) y (l .c)
-  pub Y : List-stands d y (l .Y)
-  pub ruled : after-list d y + 1 < length d
-  pub rule : getD d (after-list d y) 0 ≡ l .rule
-  pub cited : getD d (after-list d y + 1) 0 ≡ length (l .cites)
+-- A conclusion at y: a list, or a fluent.
+unfoldable pub Conclusion-stands : List ℕ → (fluent : Bool) (y : ℕ) → Conclusion → Type 0
+Conclusion-stands d fluent y (knows Y) = (fluent ≡ false) × List-stands d y Y
+Conclusion-stands d fluent y (knows-whether f) = (fluent ≡ true) × (y < length d) × (getD d y 0 ≡ f) × (f < 64)
+
+-- A line whose parts stand where the spot says.
+pub record Stands (d : List ℕ) (w : Spot) (l : Line) : Type 0 where
+  pub place : l .place ≡ w .line
+  pub X : List-stands d (w .line) (l .X)
+  pub plan : Plan-stands d (after-list d (w .line)) (w .end) (l .c)
+  pub Y : Conclusion-stands d (w .fluent) (w .conclusion) (l .Y)
+  pub rule : w .rule ≡ l .rule
+  pub counted : w .cites < length d
+  pub cited : getD d (w .cites) 0 ≡ length (l .cites)
   pub most : length (l .cites) ≤ 64
-  pub cites : Numbers-stand d (after-list d y + 2) (l .cites)
+  pub cites : Numbers-stand d (w .cites + 1) (l .cites)
 
--- Where its list Y stands.
-unfoldable pub Y-place : Line → ℕ
-Y-place l = l .place + 1 + length (l .X) + 2 + bytes-of (l .c)
-
--- Slot k of the ends has it for line k.
-pub record Ends-noted (n m : ℕ) (d places : List ℕ) (count : ℕ) (ends : List ℕ) : Type 0 where
-  pub holds : (ls : List Line) → Lines-here n m d places 0 ls → length ls ≡ count → (k : ℕ) → k < count → (other : Line) → getD ends k 0 ≡ Y-place (getD ls k other)
+-- The parts of the line at p whose plan ends at e, by the layout (FORMAT 10.3, 17.4 to 17.6).
+unfoldable pub spot-at : Layout → List ℕ → (p e : ℕ) → Spot
+spot-at Plain d p e = record { line = p; end = e; conclusion = e; cites = after-list d e + 1; rule = getD d (after-list d e) 0; fluent = false }
+spot-at Closing d p e =
+    pick (concludes-fluent (getD d e 0))
+    (λ _. record { line = p; end = e; conclusion = e + 1; cites = e + 2; rule = getD d e 0; fluent = true })
+    (λ _. record { line = p; end = e; conclusion = e + 1; cites = after-list d (e + 1); rule = getD d e 0; fluent = false })
 
 -- Every line stands where its slots say.
-pub record Lines-stand (d places ends : List ℕ) (lines : List Line) : Type 0 where
+pub record Lines-stand (layout : Layout) (d places : List ℕ) (lines : List Line) : Type 0 where
   pub long : length d ≤ 32768
   pub few : length lines ≤ 1024
-  pub each : (k : ℕ) → k < length lines → (other : Line) → Stands d (getD places k 0) (getD ends k 0) (getD lines k other)
+  pub each : (k : ℕ) → k < length lines → (other : Line) → Stands d (spot-at layout d (getD places k 0) (getD places (1024 + k) 0)) (getD lines k other)
 
--- A derivation of these lines was read up to e and is past 18, and the lines stand where the places say.
-pub record Derived (n m : ℕ) (d places : List ℕ) (lines : List Line) (e : ℕ) : Type 0 where
-  pub settles : settled-derivation n m d ≡ got lines e
-  pub reads : read-derivation format n m d ≡ got lines e
-  pub clear : overlap-in-lines lines ≡ nowhere
-  pub here : Lines-here n m d places 0 lines
+-- What closes a derivation stands at p: nothing, or a count and as many line numbers (FORMAT 17.7).
+unfoldable pub Closing-stands : Layout → List ℕ → ℕ → List ℕ → Type 0
+Closing-stands Plain d p ks = ks ≡ []
+Closing-stands Closing d p ks = (p < length d) × (getD d p 0 ≡ length ks) × Numbers-stand d (p + 1) ks
+
+-- A derivation was read up to e and is past 18, and its lines and what closes it stand where the places say.
+pub record Derived (layout : Layout) (n m : ℕ) (d places : List ℕ) (x : Derivation) (e : ℕ) : Type 0 where
+  pub settles : settled-derivation layout n m d ≡ got x e
+  pub reads : read-derivation format n m d layout ≡ got x e
+  pub clear : overlap-in-lines (x .lines) ≡ nowhere
+  pub here : Lines-here n m d layout places 0 (x .lines)
   pub there : 1 < length d
-  pub count : getD d 0 0 * 256 + getD d 1 0 ≡ length lines
-  pub some : 1 ≤ length lines
-  pub few : length lines ≤ 1024
+  pub count : getD d 0 0 * 256 + getD d 1 0 ≡ length (x .lines)
+  pub some : 1 ≤ length (x .lines)
+  pub few : length (x .lines) ≤ 1024
   pub long : length d ≤ 32768
+  pub closes : getD places 2048 0 ≡ x .closing-place
+  pub closing : Closing-stands layout d (x .closing-place) (x .closing)
 
--- Whatever lines these are.
-pub record Some-derived (n m : ℕ) (d places : List ℕ) (e : ℕ) : Type 0 where
-  pub lines : List Line
-  pub derived : Derived n m d places lines e
+-- Whatever derivation this is.
+pub record Some-derived (layout : Layout) (n m : ℕ) (d places : List ℕ) (e : ℕ) : Type 0 where
+  pub derivation : Derivation
+  pub derived : Derived layout n m d places derivation e

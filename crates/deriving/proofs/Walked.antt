@@ -17,7 +17,7 @@ use denote.Steps.{heard}
 use denote.Triple.Walked.{says}
 
 abbrev pub Spots : RattleType
-Spots = Array u16 1024
+Spots = Array u16 2049
 
 module _ {M : Type 1} (𝓤 : URA M) (H : Heap 𝓤) (A : Atoms 𝓤) (W : Given 𝓤 H A) (P : SProp 𝓤) (φ χ ψ : Type 0) where
   pub learns : {Q : SProp 𝓤} → (φ → χ → ψ → ent 𝓤 P Q) → ent 𝓤 (sep 𝓤 P (sep 𝓤 (fact 𝓤 φ) (sep 𝓤 (fact 𝓤 χ) (fact 𝓤 ψ)))) Q

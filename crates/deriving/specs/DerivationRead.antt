@@ -1,40 +1,63 @@
 -- What reading a derivation leaves behind, and the parts of a line one after another, without what they hold.
 use Prim.Native.Nat.{ℕ, _+_}
 use mathlib.Core.List.{List, [], _∷_}
-use lib.ListN.{set}
+use lib.ListN.{length, set}
+use Rattle.meaning.specs.declared.Layout.{Layout}
 use Rattle.meaning.specs.Limits
 use Rattle.meaning.specs.Limits.{Limits, format}
-use Rattle.meaning.specs.Reading.{Got, got, next, byte-at, two-bytes-at, count-at, literals, list-at, repeated, plan-at}
+use Rattle.meaning.specs.Reading.{Got, got, fault, next, Met, two-bytes-at, count-at, repeated, plan-at}
+use Rattle.meaning.specs.Requests.{Sequence}
 use Rattle.meaning.specs.Refusals.{refuse}
-use Rattle.meaning.specs.Derivations.{Line, read-derivation, overlap-in-lines}
+use Rattle.meaning.specs.Derivations.{Line, Derivation, concluded-at, read-derivation, overlap-in-lines}
+use Rattle.reading.specs.Planned.{bytes-of}
+use Rattle.deriving.specs.declared.derivations.Lined.{Lined}
+use Rattle.deriving.specs.declared.derivations.Lined.the-variants.{To, Fault}
 
--- The place of each line, in the slot of its number; lines are numbered from 0, and these are those from number k on (FORMAT 10.2).
+-- Where the plan of a line ends: after its list X and its two-byte item count.
+unfoldable pub plan-end : Line → ℕ
+plan-end l = l .place + 1 + length (l .X) + 2 + bytes-of (l .c)
+
+-- Slot k has the place of line k, and slot 1,024 + k has the end of its plan; these are the lines from number k on (FORMAT 10.2).
 unfoldable pub places-noted : (k : ℕ) → List Line → List ℕ → List ℕ
 places-noted k [] t = t
-places-noted k (l ∷ ls) t = places-noted (k + 1) ls (set t k (l .place))
+places-noted k (l ∷ ls) t = places-noted (k + 1) ls (set (set t k (l .place)) (1024 + k) (plan-end l))
 
--- The rule byte, whichever it is, and the citations (FORMAT 5.24, 10.3).
+-- Slot 2,048 has the place where the lines end.
+unfoldable pub derivation-noted : Derivation → List ℕ → List ℕ
+derivation-noted d t = set (places-noted 0 (d .lines) t) 2048 (d .closing-place)
+
+-- The citations (FORMAT 5.24, 10.3).
 unfoldable pub citing : List ℕ → ℕ → Got (List ℕ)
 citing s p =
-    next (byte-at s p) λ rule q.
-    next (count-at 0 (format .citations) s q) λ k r.
+    next (count-at 0 (format .citations) s p) λ k r.
     repeated (two-bytes-at s) k r
 
--- The list Y, and what follows it.
-unfoldable pub ending : (n : ℕ) → List ℕ → ℕ → Got (List ℕ)
-ending n s p =
-    next (list-at literals n (format .listed) s p) λ Y q.
+-- The conclusion and the rule byte, and what follows them.
+unfoldable pub ending : Layout → (n : ℕ) → List ℕ → ℕ → Got (List ℕ)
+ending layout n s p =
+    next (concluded-at format n s layout p) λ end q.
     citing s q
 
--- The plan, and what follows it.
-unfoldable pub planned : (n m : ℕ) → List ℕ → ℕ → Got (List ℕ)
-planned n m s p =
-    next (plan-at format n m s p) λ plan q.
-    ending n s q
+-- Where the plan ends, and where what follows it ends.
+unfoldable pub ended-at : (plan-end : ℕ) → Got (List ℕ) → Lined
+ended-at q (got cites e) = To q e
+ended-at q (fault n p) = Fault n p
+
+unfoldable pub planned : Layout → (n m : ℕ) → List ℕ → ℕ → Lined
+planned layout n m s p = from-plan (plan-at format n m s p)
+  where
+    from-plan : Got (Met (Sequence ℕ)) → Lined
+    from-plan (got plan q) = ended-at q (ending layout n s q)
+    from-plan (fault k q) = Fault k q
+
+-- A line, told by the end of its plan and its own.
+unfoldable pub lined : Got Line → Lined
+lined (got l e) = To (plan-end l) e
+lined (fault n p) = Fault n p
 
 -- A derivation settled: read without a fault, and past 18 over the plans of all lines (FORMAT 5.22 to 5.25).
-unfoldable pub settled-derivation : (n m : ℕ) → List ℕ → Got (List Line)
-settled-derivation n m s =
-    next (read-derivation format n m s) λ lines e.
-    refuse Limits.not-exclusive (overlap-in-lines lines) λ _.
-    got lines e
+unfoldable pub settled-derivation : Layout → (n m : ℕ) → List ℕ → Got Derivation
+settled-derivation layout n m s =
+    next (read-derivation format n m s layout) λ d e.
+    refuse Limits.not-exclusive (overlap-in-lines (d .lines)) λ _.
+    got d e

@@ -1,11 +1,11 @@
 ghost use mathlib.Core.Path.{_≡_};
-ghost use Prim.Native.Nat.{_≤_, _<_};
+ghost use Prim.Native.Nat.{_+_, _≤_, _<_};
 ghost use lib.ListN.{length, getD};
 ghost use Rattle.bytes.specs.Read.{passed};
 ghost use Rattle.reading.specs.Noted.{noting, outcome};
 ghost use Rattle.reading.specs.Listed.{List-here};
-ghost use Rattle.deriving.specs.DerivationRead.{places-noted, settled-derivation};
-ghost use Rattle.deriving.specs.Derived.{Some-lines, Derivation-here, Line-found, Lines-found};
+ghost use Rattle.deriving.specs.DerivationRead.{derivation-noted, settled-derivation};
+ghost use Rattle.deriving.specs.Derived.{Some-lines, Line-found, Lines-found};
 use super::derivations;
 use super::derivations::Places;
 use super::derivations::read_derivation;
@@ -13,6 +13,7 @@ use bytes::bytes::Read;
 use bytes::bytes::two;
 use bytes::limits;
 use bytes::lists::Passed;
+use meaning::Layout;
 use reading::plan::plan_at;
 use reading::table;
 use reading::table::Table;
@@ -21,12 +22,21 @@ use refusing::overlaps::overlap;
 use refusing::overlaps::sequence_of;
 use refusing::refusals::Found;
 
-// The place of line k.
+// The place in slot k, which is that of line k.
 pub fn place_of(places: &Places, k: usize) -> usize
-    requires { ⌜ k < 1024 ⌝ }
+    requires { ⌜ k < 2049 ⌝ }
     ensures { λ r. ⌜ r ≡ getD (now (places .entry)) k 0 ⌝ }
 {
     widened(places[k])
+}
+
+// Where the plan of line k ends.
+pub fn end_of(places: &Places, k: usize) -> usize
+    requires { ⌜ k < 1024 ⌝ }
+    ensures { λ r. ⌜ r ≡ getD (now (places .entry)) (1024 + k) 0 ⌝ }
+{
+    let slot = derivations::PLAN_ENDS + k;
+    place_of(places, slot)
 }
 
 // 18 in the plan of the line at p. The plan is read again, without a fault, into a table that is of no use afterwards.
@@ -76,29 +86,28 @@ fn overlap_in_lines(
     Found::Nowhere
 }
 
-// 18, of a derivation that was read up to e.
-fn refused_by_18(n: usize, m: usize, s: &[u8], t: &mut Table, places: &Places, e: usize) -> Passed
-    requires { ⌜ n ≤ 64 ⌝ }
-    requires { ⌜ m ≤ 64 ⌝ }
-    requires { ⌜ Derivation-here n m (now s) (now places) e ⌝ }
-    ensures { λ r. ⌜ r ≡ passed (settled-derivation n m (now (s .entry))) ⌝ }
-{
-    let count = two(s[0], s[1]);
-    match overlap_in_lines(n, m, s, t, places, count) {
-        Found::Nowhere => Passed::To(e),
-        Found::At(p) => Passed::Fault(limits::NOT_EXCLUSIVE, p),
-    }
-}
-
 // A derivation settled, for a request with n fluents and m actions: read without a fault, and past 18.
-pub fn settle_derivation(n: usize, m: usize, s: &[u8], t: &mut Table, places: &mut Places) -> Passed
+pub fn settle_derivation(
+    layout: Layout,
+    n: usize,
+    m: usize,
+    s: &[u8],
+    t: &mut Table,
+    places: &mut Places,
+) -> Passed
     requires { ⌜ n ≤ 64 ⌝ }
     requires { ⌜ m ≤ 64 ⌝ }
-    ensures { λ r. ⌜ outcome r (now (places .exit)) ≡ noting (places-noted 0) (settled-derivation n m (now (s .entry))) (now (places .entry)) ⌝ }
+    ensures { λ r. ⌜ outcome r (now (places .exit)) ≡ noting derivation-noted (settled-derivation layout n m (now (s .entry))) (now (places .entry)) ⌝ }
 {
     derivations::sized(places);
-    match read_derivation(n, m, s, t, places) {
-        Passed::To(e) => refused_by_18(n, m, s, t, places, e),
+    match read_derivation(layout, n, m, s, t, places) {
+        Passed::To(e) => {
+            let count = two(s[0], s[1]);
+            match overlap_in_lines(n, m, s, t, places, count) {
+                Found::Nowhere => Passed::To(e),
+                Found::At(p) => Passed::Fault(limits::NOT_EXCLUSIVE, p),
+            }
+        }
         Passed::Fault(k, q) => Passed::Fault(k, q),
     }
 }

@@ -1,6 +1,6 @@
 -- What the derivation call promises: each theorem is of an answer that meets the call's own contract. Assumes nothing.
 use Prim.Native.Nat.{ℕ}
-use mathlib.Core.Path.{_≡_, sym, _∙_, ap, subst}
+use mathlib.Core.Path.{_≡_, sym, _∙_, ap}
 use mathlib.Core.Bool.{true}
 use mathlib.Core.List.{List}
 use mathlib.Core.Logic.{_↔_}
@@ -9,6 +9,7 @@ use borrow.Fn.Kinds.{Dens, endedOf}
 use denote.Ref.{now}
 use denote.Triple.Clauses.{AtExit}
 use Rattle.meaning.specs.declared.Answer.{Answer}
+use Rattle.meaning.specs.declared.Layout.the-variants.{Plain}
 use Rattle.meaning.specs.Limits
 use Rattle.meaning.specs.Limits.{format}
 use Rattle.meaning.specs.Literals.{among}
@@ -20,9 +21,8 @@ use Rattle.meaning.specs.Walk.{walked}
 use Rattle.meaning.specs.Derivations.{check}
 use Rattle.meaning.specs.Worlds.{Carried-out}
 use Rattle.meaning.proofs.Accepted.{Accepted, check-answers}
-use Rattle.meaning.proofs.Exact.{format-room}
 use Rattle.meaning.proofs.Sound.{Verified}
-use Rattle.meaning.proofs.Demands
+use Rattle.glintstring.proofs.CheckPromises
 use Rattle.glintstring.proofs.derivations.check.Kinds.{ps, r}
 use Rattle.glintstring.proofs.derivations.check.Reads.{Pre, Post}
 
@@ -35,7 +35,7 @@ module _ (κs : Lfts 2) (given : Dens κs ps) where
   derivation = now (given .1 .0)
 
   -- THE CONTRACT, as the source has it.
-  pub as-written : (answer : Answer) (exit : AtExit (endedOf 2 ps r) κs) → Post κs given answer exit → answer ≡ check format request derivation
+  pub as-written : (answer : Answer) (exit : AtExit (endedOf 2 ps r) κs) → Post κs given answer exit → answer ≡ check format Plain request derivation
   as-written answer exit meets = meets
 
   -- Two results that meet the contract on the same input are equal: it says everything.
@@ -48,22 +48,22 @@ module _ (κs : Lfts 2) (given : Dens κs ps) where
 
   -- A RESULT that meets the contract.
   module _ (answer : Answer) (exit : AtExit (endedOf 2 ps r) κs) (meets : Post κs given answer exit) where
-    number-is : check format request derivation .number ≡ answer .number
+    number-is : check format Plain request derivation .number ≡ answer .number
     number-is = ap (λ (a : Answer). a .number) (sym meets)
 
     -- Demand 1 (FORMAT 11.1): it is one of the numbered answers.
-    pub numbered : among (answer .number) check-answers ≡ true
-    numbered = subst (λ (n : ℕ). among n check-answers ≡ true) number-is (Demands.every-check-numbered format request derivation)
+    pub numbered : among (answer .number) (check-answers Plain) ≡ true
+    numbered = CheckPromises.numbered Plain request derivation _ number-is
 
     -- Demand 2 (FORMAT 11.6): accepted, exactly where neither input is refused, no whether is asked, each line follows from those that it
     -- cites, and the last line is the question.
-    pub accepted-exactly : (answer .number ≡ Limits.verified) ↔ Accepted format request derivation
-    accepted-exactly = rw (sym number-is) (Demands.accepted-exactly format request derivation)
+    pub accepted-exactly : (answer .number ≡ Limits.verified) ↔ Accepted format Plain request derivation
+    accepted-exactly = CheckPromises.accepted-exactly Plain request derivation _ number-is
 
     -- Theorem 3.1 of Zhao and Shen: what an accepted derivation asks is verified by the walk without a budget.
     pub accepted-verified : answer .number ≡ Limits.verified → (x : Request) × (e : ℕ) × (settled format request ≡ got x e) × Verified (walked x (first-state format (x .table)))
-    accepted-verified is = Demands.accepted-verified format format-room request derivation (number-is ∙ is)
+    accepted-verified = CheckPromises.accepted-verified Plain request derivation _ number-is
 
     -- Demand 3 (FORMAT 11.7 to 11.12): the plan of an accepted derivation is carried out in every world with the initial facts.
     pub sound : answer .number ≡ Limits.verified → (x : Request) × (e : ℕ) × (settled format request ≡ got x e) × Carried-out x
-    sound is = Demands.sound-derivation format format-room request derivation (number-is ∙ is)
+    sound = CheckPromises.sound Plain request derivation _ number-is

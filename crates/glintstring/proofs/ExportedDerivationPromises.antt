@@ -1,16 +1,29 @@
 -- What the exported derivation call promises: each theorem is of a number that meets the call's own contract. Assumes nothing.
 use Prim.Native.Nat.{ℕ, _/_, _%_}
-use mathlib.Core.Path.{_≡_, sym, _∙_, ap}
+use mathlib.Core.Path.{_≡_, sym, _∙_}
+use mathlib.Core.Bool.{true}
 use mathlib.Core.List.{List}
+use mathlib.Core.Logic.{_↔_}
 use contract.Lifetimes.{Lfts}
 use borrow.Fn.Kinds.{Dens, endedOf}
 use denote.Ref.{now}
 use denote.Triple.Clauses.{AtExit}
 use Rattle.meaning.specs.declared.Answer.{Answer}
+use Rattle.meaning.specs.declared.Layout.the-variants.{Plain}
+use Rattle.meaning.specs.Limits
 use Rattle.meaning.specs.Limits.{format}
+use Rattle.meaning.specs.Literals.{among}
+use Rattle.meaning.specs.Requests.{Request}
+use Rattle.meaning.specs.Reading.{got}
+use Rattle.meaning.specs.Refusals.{settled}
+use Rattle.meaning.specs.States.{first-state}
+use Rattle.meaning.specs.Walk.{walked}
 use Rattle.meaning.specs.Derivations.{check}
+use Rattle.meaning.specs.Worlds.{Carried-out}
+use Rattle.meaning.proofs.Accepted.{Accepted, check-answers}
+use Rattle.meaning.proofs.Sound.{Verified}
 use Rattle.glintstring.specs.Packing.{packed, unpacked}
-use Rattle.glintstring.proofs.PackingLaws.{number-back, input-back, place-back, count-back, unpacks, check-small}
+use Rattle.glintstring.proofs.CheckPromises
 use Rattle.glintstring.proofs.exports.glintstring_check.Kinds.{ps, r}
 use Rattle.glintstring.proofs.exports.glintstring_check.Reads.{Pre, Post}
 
@@ -24,7 +37,7 @@ module _ (κs : Lfts 2) (given : Dens κs ps) where
 
   -- The definition's answer.
   abbrev pub answer : Answer
-  answer = check format request derivation
+  answer = check format Plain request derivation
 
   -- THE CONTRACT, as the source has it.
   pub as-written : (n : ℕ) (exit : AtExit (endedOf 2 ps r) κs) → Post κs given n exit → n ≡ packed answer
@@ -41,17 +54,34 @@ module _ (κs : Lfts 2) (given : Dens κs ps) where
   -- The definition's number, input, place and count are had from a result that meets the contract.
   module _ (n : ℕ) (exit : AtExit (endedOf 2 ps r) κs) (meets : Post κs given n exit) where
     pub number-is : n % 256 ≡ answer .number
-    number-is = ap (λ (m : ℕ). m % 256) meets ∙ number-back answer (check-small request derivation)
+    number-is = CheckPromises.number-is Plain request derivation n meets
 
     pub input-is : n / 256 % 256 ≡ answer .input
-    input-is = ap (λ (m : ℕ). m / 256 % 256) meets ∙ input-back answer (check-small request derivation)
+    input-is = CheckPromises.input-is Plain request derivation n meets
 
     pub place-is : n / 65536 % 65536 ≡ answer .place
-    place-is = ap (λ (m : ℕ). m / 65536 % 65536) meets ∙ place-back answer (check-small request derivation)
+    place-is = CheckPromises.place-is Plain request derivation n meets
 
     pub count-is : n / 4294967296 ≡ answer .count
-    count-is = ap (λ (m : ℕ). m / 4294967296) meets ∙ count-back answer (check-small request derivation)
+    count-is = CheckPromises.count-is Plain request derivation n meets
 
     -- So the exported showing call, given the result, shows what the definition's answer names.
     pub unpacked-is : unpacked n ≡ answer
-    unpacked-is = ap unpacked meets ∙ unpacks answer (check-small request derivation)
+    unpacked-is = CheckPromises.unpacked-is Plain request derivation n meets
+
+    -- Demand 1 (FORMAT 11.1): it is one of the numbered answers.
+    pub numbered : among (n % 256) (check-answers Plain) ≡ true
+    numbered = CheckPromises.numbered Plain request derivation _ (sym number-is)
+
+    -- Demand 2 (FORMAT 11.6): accepted, exactly where neither input is refused, no whether is asked, each line follows from those that it
+    -- cites, and the last line is the question.
+    pub accepted-exactly : (n % 256 ≡ Limits.verified) ↔ Accepted format Plain request derivation
+    accepted-exactly = CheckPromises.accepted-exactly Plain request derivation _ (sym number-is)
+
+    -- Theorem 3.1 of Zhao and Shen: what an accepted derivation asks is verified by the walk without a budget.
+    pub accepted-verified : n % 256 ≡ Limits.verified → (x : Request) × (e : ℕ) × (settled format request ≡ got x e) × Verified (walked x (first-state format (x .table)))
+    accepted-verified = CheckPromises.accepted-verified Plain request derivation _ (sym number-is)
+
+    -- Demand 3 (FORMAT 11.7 to 11.12): the plan of an accepted derivation is carried out in every world with the initial facts.
+    pub sound : n % 256 ≡ Limits.verified → (x : Request) × (e : ℕ) × (settled format request ≡ got x e) × Carried-out x
+    sound = CheckPromises.sound Plain request derivation _ (sym number-is)

@@ -7,6 +7,7 @@ use borrow.Fn.Kinds.{Dens, endedOf}
 use denote.Ref.{now}
 use denote.Triple.Clauses.{AtExit}
 use Rattle.meaning.specs.declared.Answer.{Answer}
+use Rattle.meaning.specs.declared.Layout.{Layout}
 use Rattle.meaning.specs.Limits.{format}
 use Rattle.meaning.specs.Judging.{judge}
 use Rattle.meaning.specs.Derivations.{check}
@@ -48,5 +49,5 @@ module _ (κs : Lfts 2) (given : Dens κs ps) where
     pub of-walk : (s lent : List ℕ) (budget : ℕ) → answer ≡ packed (judge format s lent budget .answer) → n ≡ show (judge format s lent budget .answer) request derivation .start
     of-walk s lent budget = of-packed (judge format s lent budget .answer) (answer-small s lent budget)
 
-    pub of-derivation : (s d : List ℕ) → answer ≡ packed (check format s d) → n ≡ show (check format s d) request derivation .start
-    of-derivation s d = of-packed (check format s d) (check-small s d)
+    pub of-derivation : (layout : Layout) (s d : List ℕ) → answer ≡ packed (check format layout s d) → n ≡ show (check format layout s d) request derivation .start
+    of-derivation layout s d = of-packed (check format layout s d) (check-small layout s d)

@@ -11,7 +11,11 @@ pub mod PlaceLaws
 pub mod PackingLaws
 pub mod ExportedPromises
 pub mod DerivationLaws
+pub mod CheckPromises
 pub mod DerivationPromises
+pub mod WhetherPromises
 pub mod ShowingPromises
 pub mod ExportedDerivationPromises
+pub mod ExportedWhetherPromises
+pub mod LayoutPromises
 pub mod ExportedShowingPromises

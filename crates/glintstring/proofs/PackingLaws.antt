@@ -8,6 +8,8 @@ use mathlib.Core.List.{List}
 use lib.Dec.{eqb, ltb}
 use borrow.Author.Tests.{eqb-true, ltb-true}
 use Rattle.meaning.specs.declared.Answer.{Answer}
+use Rattle.meaning.specs.declared.Layout.{Layout}
+use Rattle.meaning.specs.declared.Layout.the-variants.{Plain, Closing}
 use Rattle.meaning.specs.Tests.{either, both, some-of, each-of}
 use Rattle.meaning.specs.Limits.{format}
 use Rattle.meaning.specs.Literals.{among}
@@ -21,7 +23,7 @@ use Rattle.meaning.specs.Derivations.{check-derivation, answer, accepted-if, ch
 use Rattle.meaning.proofs.TestLaws.{some-has, each-has}
 use Rattle.meaning.proofs.PickLaws.{pick-has}
 use Rattle.meaning.proofs.AnswerLaws.{refusals, answers, every-answer-numbered}
-use Rattle.meaning.proofs.Accepted.{faults, check-answers, every-check-numbered}
+use Rattle.meaning.proofs.Accepted.{end-fault, faults, check-answers, every-check-numbered}
 use Rattle.glintstring.specs.Packing.{packed, unpacked}
 use Rattle.glintstring.proofs.PlaceLaws.{place-small, check-place-small}
 
@@ -106,13 +108,18 @@ module _ (s lent : List ℕ) (budget : ℕ) (a : Answer) (left : List ℕ) (judg
   pub judged-left : left ≡ judge format s lent budget .state
   judged-left = ap (λ (j : Judgement). j .state) judges
 
--- THE DERIVATION CALL'S ANSWERS.
-check-number-small : (n : ℕ) → among n check-answers ≡ true → n < 256
-unfolding among check-answers faults refusals some-of either each-of both
-check-number-small n is =
-    let one = some-has (eqb n) check-answers is in
+-- THE ANSWERS OF THE DERIVATION CALL and of the whether call.
+numbers-small : (layout : Layout) → each-of (λ (m : ℕ). ltb m 256) (check-answers layout) ≡ true
+unfolding check-answers faults end-fault refusals each-of both
+numbers-small Plain = refl
+numbers-small Closing = refl
+
+check-number-small : (layout : Layout) (n : ℕ) → among n (check-answers layout) ≡ true → n < 256
+unfolding among
+check-number-small layout n is =
+    let one = some-has (eqb n) (check-answers layout) is in
     let same : n ≡ one .0 = eqb-true _ _ (one .2) in
-    subst (λ (m : ℕ). m < 256) (sym same) (ltb-true _ _ (each-has (λ (m : ℕ). ltb m 256) check-answers (one .0) refl (one .1)))
+    subst (λ (m : ℕ). m < 256) (sym same) (ltb-true _ _ (each-has (λ (m : ℕ). ltb m 256) (check-answers layout) (one .0) (numbers-small layout) (one .1)))
 
 abbrev Named-small : Answer → Type 0
 Named-small a = a .input < 256
@@ -122,26 +129,27 @@ unfolding accepted-if answer
 accepted-named (got x e) = omega arith
 accepted-named (fault n p) = omega arith
 
-check-settled-named : (d : List ℕ) (x : Got Request) → Named-small (check-settled format d x)
-unfolding check-settled answer
-check-settled-named d (got r e) = pick-has Named-small _ _ _ (λ _. omega arith) (λ _. accepted-named (check-derivation format r d))
-check-settled-named d (fault n p) = omega arith
+module _ (layout : Layout) where
+  check-settled-named : (d : List ℕ) (x : Got Request) → Named-small (check-settled format layout d x)
+  unfolding check-settled answer
+  check-settled-named d (got r e) = pick-has Named-small _ _ _ (λ _. omega arith) (λ _. accepted-named (check-derivation format layout r d))
+  check-settled-named d (fault n p) = omega arith
 
-check-named : (s d : List ℕ) → Named-small (check format s d)
-unfolding check
-check-named s d = check-settled-named d (settled format s)
+  check-named : (s d : List ℕ) → Named-small (check format layout s d)
+  unfolding check
+  check-named s d = check-settled-named d (settled format s)
 
-pub check-small : (s d : List ℕ) → Small (check format s d)
-check-small s d = record {
-  number = check-number-small _ (every-check-numbered format s d);
-  input = check-named s d;
-  place = check-place-small s d;
-}
+  pub check-small : (s d : List ℕ) → Small (check format layout s d)
+  check-small s d = record {
+    number = check-number-small layout _ (every-check-numbered format layout s d);
+    input = check-named s d;
+    place = check-place-small layout s d;
+  }
 
--- What the exported call returns, where the derivation call has given an answer.
-module _ (s d : List ℕ) (a : Answer) (checks : a ≡ check format s d) where
-  pub checked-small : a .place < 65536
-  checked-small = subst (λ (z : Answer). z .place < 65536) (sym checks) (check-place-small s d)
+  -- What the exported call returns, where the call has given an answer.
+  module _ (s d : List ℕ) (a : Answer) (checks : a ≡ check format layout s d) where
+    pub checked-small : a .place < 65536
+    checked-small = subst (λ (z : Answer). z .place < 65536) (sym checks) (check-place-small layout s d)
 
-  pub checked-packed : (r : ℕ) → r ≡ packed a → r ≡ packed (check format s d)
-  checked-packed r is = is ∙ ap packed checks
+    pub checked-packed : (r : ℕ) → r ≡ packed a → r ≡ packed (check format layout s d)
+    checked-packed r is = is ∙ ap packed checks

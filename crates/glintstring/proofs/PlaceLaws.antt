@@ -1,6 +1,6 @@
 -- Every place that the walk call answers lies within the request or at its end, so it is at most the request limit: each reader goes on
 -- from where the one before it stopped and stops within the input, what is read keeps the places at which it was read, and the later
--- refusals and the walk name those places only. So it is with the derivation call, of the derivation too. Assumes nothing.
+-- refusals and the walk name those places only. So it is with the derivation call and the whether call, of the derivation too. Assumes nothing.
 use Prim.Native.Nat.{ℕ, zero, suc, _+_, _*_, _≤_, _<_}
 use native.Mathlib.Omega.{arith}
 use mathlib.Core.Path.{_≡_, refl}
@@ -9,6 +9,8 @@ use mathlib.Core.List.{List, [], _∷_}
 use lib.ListN.{length}
 use borrow.Author.Tests.{leb-false, ltb-false}
 use Rattle.meaning.specs.declared.Answer.{Answer}
+use Rattle.meaning.specs.declared.Layout.{Layout}
+use Rattle.meaning.specs.declared.Layout.the-variants.{Plain, Closing}
 use Rattle.meaning.specs.Limits.{Limits, format}
 use Rattle.meaning.specs.Requests.{Effect, Executability, Knowledge, Table, Sequence, done, item, Item, act, branching, Branches, none, branch, Entry, Request}
 use Rattle.meaning.specs.Reading.{Got, got, fault, next, byte-at, two-bytes-at, count-at, below-at, Kind, literals, fluents, bound-of, entry-at, entries-at, list-at, repeated, section-at, body-at, effect-at, executability-at, knowledge-at, Met, Part, item-at, items-at, sequence-at, branches-at, branching-at, plan-at, table-at, placed, request-at, read-request}
@@ -16,7 +18,7 @@ use Rattle.meaning.specs.Refusals.{Found, nowhere, at, or-else, contradiction-i
 use Rattle.meaning.specs.States.{State, Outcome, single, fork, outcome, first-state}
 use Rattle.meaning.specs.Walk.{End, fine, missed, stuck, Walked, stuck-at, counted, keep-miss, after-miss, after-end, and-then, each-reading, run-action, walk, walk-item, walk-branch, table-step, first-missed, missed-in, end-of, judged, walked}
 use Rattle.meaning.specs.Judging.{Judgement, ended, within, judge-settled, judge}
-use Rattle.meaning.specs.Derivations.{Line, line-at, read-derivation, overlap-in-lines, check-lines, check-last, check-derivation, answer, accepted-if, check-settled, check}
+use Rattle.meaning.specs.Derivations.{Conclusion, Line, Derivation, Concluded, list-concluded, fluent-concluded, conclusion-at, concluded-at, closing-at, line-at, read-derivation, overlap-in-lines, check-lines, check-last, all-asked, check-entries, check-closing, check-end, check-derivation, answer, accepted-if, check-settled, check}
 use Rattle.meaning.proofs.PickLaws.{pick-has}
 
 -- The places that are at most `most`.
@@ -61,6 +63,16 @@ module _ (most : ℕ) where
   record Line-within (l : Line) : Type 0 where
     here : l .place ≤ most
     plan : Plan-within (l .c)
+
+  -- The numbers that close a derivation, behind their count at p.
+  abbrev Closed-within : Layout → (p : ℕ) → List ℕ → Type 0
+  Closed-within Plain p ks = Unit {0}
+  Closed-within Closing p ks = p + 1 + 2 * length ks ≤ most
+
+  record Derivation-within (layout : Layout) (d : Derivation) : Type 0 where
+    lines : Each Line-within (d .lines)
+    place : d .closing-place ≤ most
+    closing : Closed-within layout (d .closing-place) (d .closing)
 
   -- What a reader gives stops within the limit and is as said of it and of where it stops; and a fault is placed there.
   module _ {A : Type 0} where
@@ -215,16 +227,62 @@ module _ (most : ℕ) where
       plan-held p here = sequence-held _ (branching-held (lim .nested)) p 0 here
 
       -- A line of a derivation.
-      line-held : (p : ℕ) → Held (λ (l : Line) (q : ℕ). Line-within l) (line-at lim n m s p)
+      listed-held : (p : ℕ) → Held (λ (Y : Conclusion) (q : ℕ). Unit {0}) (list-concluded lim n s p)
+      unfolding list-concluded
+      listed-held p = by-next (Long (p + 1)) _ (list-at literals n (lim .listed) s p) _ (list-held literals n (lim .listed) p) λ Y q fits _. (fits, tt)
+
+      fluent-held : (p : ℕ) → Held (λ (Y : Conclusion) (q : ℕ). Unit {0}) (fluent-concluded lim n s p)
+      unfolding fluent-concluded
+      fluent-held p = by-next (One p) _ (below-at n s p) _ (below-held n p) λ f q fits _. (fits, tt)
+
+      concluded-held : (layout : Layout) (p : ℕ) → Held (λ (x : Concluded) (q : ℕ). Unit {0}) (concluded-at lim n s layout p)
+      unfolding concluded-at conclusion-at
+      concluded-held Plain p =
+          by-next _ _ (list-concluded lim n s p) _ (listed-held p) λ Y q _ _.
+          by-next (One q) _ (byte-at s q) _ (byte-held q) λ rule e fits _. (fits, tt)
+      concluded-held Closing p =
+          by-next (One p) _ (byte-at s p) _ (byte-held p) λ rule q _ _.
+          by-next (λ (Y : Conclusion) (e : ℕ). Unit {0}) _ (conclusion-at lim n s rule q) _ (pick-has (Held (λ (Y : Conclusion) (e : ℕ). Unit {0})) _ _ _ (λ _. fluent-held q) (λ _. listed-held q)) λ Y e fits _. (fits, tt)
+
+      line-held : (layout : Layout) (p : ℕ) → Held (λ (l : Line) (q : ℕ). Line-within l) (line-at lim n m s layout p)
       unfolding line-at
-      line-held p =
+      line-held layout p =
           by-next (Long (p + 1)) _ (list-at literals n (lim .listed) s p) _ (list-held literals n (lim .listed) p) λ X q fits long.
           by-next _ _ (plan-at lim n m s q) _ (plan-held q fits) λ plan r _ inside.
-          by-next (Long (r + 1)) _ (list-at literals n (lim .listed) s r) _ (list-held literals n (lim .listed) r) λ Y t _ _.
-          by-next (One t) _ (byte-at s t) _ (byte-held t) λ rule u _ _.
-          by-next (One u) _ (count-at 0 (lim .citations) s u) _ (count-held 0 (lim .citations) u) λ k v fits₂ _.
+          by-next _ _ (concluded-at lim n s layout r) _ (concluded-held layout r) λ x t _ _.
+          by-next (One t) _ (count-at 0 (lim .citations) s t) _ (count-held 0 (lim .citations) t) λ k v fits₂ _.
           by-next _ _ (repeated (two-bytes-at s) k v) _ (repeated-held (λ (x : ℕ). Unit {0}) (two-bytes-at s) two-bytes-held k v fits₂) λ cites e fits₃ _.
           (fits₃, record { here = omega (arith, fits, long); plan = inside })
+
+    -- The numbers that close a derivation.
+    number-held : (p : ℕ) → Held (λ (x q : ℕ). q ≡ p + 2) (two-bytes-at s p)
+    unfolding two-bytes-at
+    number-held p =
+        by-next (One p) _ (byte-at s p) _ (byte-held p) λ high q _ is.
+        by-next (One q) _ (byte-at s q) _ (byte-held q) λ low r fits is₂. (fits, omega (arith, is, is₂))
+
+    numbers-held : (left p : ℕ) → p ≤ most → Held (λ (ks : List ℕ) (q : ℕ). q ≡ p + 2 * length ks) (repeated (two-bytes-at s) left p)
+    unfolding repeated
+    numbers-held zero p fits = (fits, omega arith)
+    numbers-held (suc left) p fits =
+        by-next (λ (x q : ℕ). q ≡ p + 2) _ (two-bytes-at s p) _ (number-held p) λ x q fits₁ is.
+        by-next (λ (ks : List ℕ) (r : ℕ). r ≡ q + 2 * length ks) _ (repeated (two-bytes-at s) left q) _ (numbers-held left q fits₁) λ ks r fits₂ long.
+        (fits₂, omega (arith, is, long))
+
+    closing-held : (layout : Layout) (p : ℕ) → p ≤ most → Held (λ (ks : List ℕ) (q : ℕ). Closed-within layout p ks) (closing-at s layout p)
+    unfolding closing-at section-at
+    closing-held Plain p fits = (fits, tt)
+    closing-held Closing p fits =
+        next-held (One p) (byte-at s p) (λ c q. repeated (two-bytes-at s) c q) (byte-held p) λ c q fits₁ is.
+        long-held q (repeated (two-bytes-at s) c q) is (numbers-held c q fits₁)
+      where
+        next-held : (so : ℕ → ℕ → Type 0) (x : Got ℕ) (k : ℕ → ℕ → Got (List ℕ)) → Held so x
+            → ((c q : ℕ) → q ≤ most → so c q → Held (λ (ks : List ℕ) (e : ℕ). p + 1 + 2 * length ks ≤ most) (k c q)) → Held (λ (ks : List ℕ) (e : ℕ). p + 1 + 2 * length ks ≤ most) (next x k)
+        next-held so x k = by-next so (λ (ks : List ℕ) (e : ℕ). p + 1 + 2 * length ks ≤ most) x k
+
+        long-held : (q : ℕ) (x : Got (List ℕ)) → q ≡ p + 1 → Held (λ (ks : List ℕ) (e : ℕ). e ≡ q + 2 * length ks) x → Held (λ (ks : List ℕ) (e : ℕ). p + 1 + 2 * length ks ≤ most) x
+        long-held q (got ks e) is h = (h .0, omega (arith, is, h .0, h .1))
+        long-held q (fault k e) is h = h
 
     -- The table, and the rest after it.
     placed-within : (p : ℕ) (xs : List ℕ) → p + length xs ≤ most → Each-within (λ (e : Entry). e .place) (placed p xs)
@@ -384,21 +442,32 @@ module _ (most : ℕ) where
   abbrev Checked : Got (Unit {0}) → Type 0
   Checked = Held (λ (x : Unit {0}) (q : ℕ). Unit {0})
 
-  lines-checked : (lim : Limits) (t : Table) (lines : List Line) (i : ℕ) (ls : List Line) → Each Line-within ls → Checked (check-lines lim t lines i ls)
+  lines-checked : (lim : Limits) (layout : Layout) (t : Table) (lines : List Line) (i : ℕ) (ls : List Line) → Each Line-within ls → Checked (check-lines lim layout t lines i ls)
   unfolding check-lines
-  lines-checked lim t lines i [] h = (omega arith, tt)
-  lines-checked lim t lines i (l ∷ ls) h =
+  lines-checked lim layout t lines i [] h = (omega arith, tt)
+  lines-checked lim layout t lines i (l ∷ ls) h =
       pick-has Checked _ _ _ (λ _. h .0 .here) λ _.
       pick-has Checked _ _ _ (λ _. h .0 .here) λ _.
       pick-has Checked _ _ _ (λ _. h .0 .here) λ _.
       pick-has Checked _ _ _ (λ _. h .0 .here) λ _.
-      lines-checked lim t lines (i + 1) ls (h .1)
+      lines-checked lim layout t lines (i + 1) ls (h .1)
 
   last-checked : (r : Request) (ls : List Line) → Each Line-within ls → Checked (check-last r ls)
   unfolding check-last
   last-checked r [] h = (omega arith, tt)
   last-checked r (l ∷ []) h = pick-has Checked _ _ _ (λ _. (omega arith, tt)) (λ _. h .0 .here)
   last-checked r (l ∷ (k ∷ ls)) h = last-checked r (k ∷ ls) (h .1)
+
+  entries-checked : (r : Request) (lines : List Line) (p : ℕ) (Ys : List Conclusion) (ks : List ℕ) → p + 2 * length ks ≤ most → Checked (check-entries r lines p Ys ks)
+  unfolding check-entries
+  entries-checked r lines p [] ks fits = (omega arith, tt)
+  entries-checked r lines p (Y ∷ Ys) [] fits = (omega arith, tt)
+  entries-checked r lines p (Y ∷ Ys) (k ∷ ks) fits = pick-has Checked _ _ _ (λ _. entries-checked r lines (p + 2) Ys ks (omega (arith, fits))) (λ _. omega (arith, fits))
+
+  end-checked : (layout : Layout) (r : Request) (d : Derivation) → Derivation-within layout d → Checked (check-end layout r d)
+  unfolding check-end check-closing
+  end-checked Plain r d h = last-checked r (d .lines) (h .lines)
+  end-checked Closing r d h = pick-has Checked _ _ _ (λ _. entries-checked r (d .lines) (d .closing-place + 1) (all-asked r) (d .closing) (h .closing)) (λ _. h .place)
 
 module _ (lim : Limits) (s : List ℕ) where
   abbrev Read-within : Request → ℕ → Type 0
@@ -431,32 +500,33 @@ module _ (lim : Limits) (s : List ℕ) where
 pub place-small : (s lent : List ℕ) (budget : ℕ) → judge format s lent budget .answer .place < 65536
 place-small s lent budget = let most = place-within format s lent budget in omega (arith, most)
 
--- THE DERIVATION CALL.
-module _ (lim : Limits) (r : Request) (d : List ℕ) where
-  abbrev Lines-within : List Line → ℕ → Type 0
-  Lines-within ls q = Each (lim .derivation) (Line-within (lim .derivation)) ls
+-- THE DERIVATION CALL and the whether call.
+module _ (lim : Limits) (layout : Layout) (r : Request) (d : List ℕ) where
+  abbrev All-within : Derivation → ℕ → Type 0
+  All-within x q = Derivation-within (lim .derivation) layout x
 
-  derivation-held : (n m : ℕ) → Held (lim .derivation) Lines-within (read-derivation lim n m d)
+  derivation-held : (n m : ℕ) → Held (lim .derivation) All-within (read-derivation lim n m d layout)
   unfolding read-derivation
   derivation-held n m =
-      pick-has (Held (lim .derivation) Lines-within) _ _ _ (λ _. omega arith) λ f.
+      pick-has (Held (lim .derivation) All-within) _ _ _ (λ _. omega arith) λ f.
       let short = ltb-false (lim .derivation) (length d) f in
       by-next (lim .derivation) (λ (x q : ℕ). Unit {0}) _ (two-bytes-at d 0) _ (two-bytes-held (lim .derivation) d short 0) λ c p fits _.
-      pick-has (Held (lim .derivation) Lines-within) _ _ _ (λ _. omega arith) λ _.
-      by-next (lim .derivation) Lines-within _ (repeated (line-at lim n m d) c p) _
-      (repeated-held (lim .derivation) d short (Line-within (lim .derivation)) (line-at lim n m d) (line-held (lim .derivation) d short lim n m) c p fits) λ ls e fits₂ so.
-      pick-has (Held (lim .derivation) Lines-within) _ _ _ (λ _. fits₂) (λ _. (fits₂, so))
+      pick-has (Held (lim .derivation) All-within) _ _ _ (λ _. omega arith) λ _.
+      by-next (lim .derivation) (λ (ls : List Line) (q : ℕ). Each (lim .derivation) (Line-within (lim .derivation)) ls) _ (repeated (line-at lim n m d layout) c p) _
+      (repeated-held (lim .derivation) d short (Line-within (lim .derivation)) (line-at lim n m d layout) (line-held (lim .derivation) d short lim n m layout) c p fits) λ ls q fits₂ so.
+      by-next (lim .derivation) (λ (ks : List ℕ) (e : ℕ). Closed-within (lim .derivation) layout q ks) _ (closing-at d layout q) _ (closing-held (lim .derivation) d short layout q fits₂) λ ks e fits₃ closed.
+      pick-has (Held (lim .derivation) All-within) _ _ _ (λ _. fits₃) (λ _. (fits₃, record { lines = so; place = fits₂; closing = closed }))
 
-  derivation-checked : Checked (lim .derivation) (check-derivation lim r d)
+  derivation-checked : Checked (lim .derivation) (check-derivation lim layout r d)
   unfolding check-derivation
   derivation-checked =
-      by-next (lim .derivation) Lines-within _ (read-derivation lim (r .table .fluents) (r .table .actions) d) _ (derivation-held (r .table .fluents) (r .table .actions)) λ ls e _ so.
-      by-refuse (lim .derivation) (λ (x : Unit {0}) (q : ℕ). Unit {0}) _ _ _ (overlap-lines-within (lim .derivation) ls so)
-      (by-next (lim .derivation) (λ (x : Unit {0}) (q : ℕ). Unit {0}) _ (check-lines lim (r .table) ls 0 ls) _ (lines-checked (lim .derivation) lim (r .table) ls 0 ls so) λ _ _ _ _.
-      last-checked (lim .derivation) r ls so)
+      by-next (lim .derivation) All-within _ (read-derivation lim (r .table .fluents) (r .table .actions) d layout) _ (derivation-held (r .table .fluents) (r .table .actions)) λ x e _ so.
+      by-refuse (lim .derivation) (λ (x : Unit {0}) (q : ℕ). Unit {0}) _ _ _ (overlap-lines-within (lim .derivation) (x .lines) (so .lines))
+      (by-next (lim .derivation) (λ (x : Unit {0}) (q : ℕ). Unit {0}) _ (check-lines lim layout (r .table) (x .lines) 0 (x .lines)) _ (lines-checked (lim .derivation) lim layout (r .table) (x .lines) 0 (x .lines) (so .lines)) λ _ _ _ _.
+      end-checked (lim .derivation) layout r x so)
 
 -- Whatever the request and the derivation, the place is at most the one limit or the other.
-module _ (lim : Limits) (most : ℕ) (request : lim .request ≤ most) (derivation : lim .derivation ≤ most) where
+module _ (lim : Limits) (layout : Layout) (most : ℕ) (request : lim .request ≤ most) (derivation : lim .derivation ≤ most) where
   abbrev Place-within : Answer → Type 0
   Place-within a = a .place ≤ most
 
@@ -465,15 +535,15 @@ module _ (lim : Limits) (most : ℕ) (request : lim .request ≤ most) (derivati
   accepted-within (got x e) h = omega arith
   accepted-within (fault n p) h = omega (arith, h, derivation)
 
-  check-settled-within : (d : List ℕ) (x : Got Request) → Held (lim .request) (λ (r : Request) (q : ℕ). Request-within (lim .request) r) x → Place-within (check-settled lim d x)
+  check-settled-within : (d : List ℕ) (x : Got Request) → Held (lim .request) (λ (r : Request) (q : ℕ). Request-within (lim .request) r) x → Place-within (check-settled lim layout d x)
   unfolding check-settled answer
   check-settled-within d (got r e) h =
-      pick-has Place-within _ _ _ (λ _. let here = h .1 .whether-place in omega (arith, here, request)) (λ _. accepted-within (check-derivation lim r d) (derivation-checked lim r d))
+      pick-has Place-within _ _ _ (λ _. let here = h .1 .whether-place in omega (arith, here, request)) (λ _. accepted-within (check-derivation lim layout r d) (derivation-checked lim layout r d))
   check-settled-within d (fault n p) h = omega (arith, h, request)
 
-  pub check-place-within : (s d : List ℕ) → check lim s d .place ≤ most
+  pub check-place-within : (s d : List ℕ) → check lim layout s d .place ≤ most
   unfolding check
   check-place-within s d = check-settled-within d (settled lim s) (settled-held lim s)
 
-pub check-place-small : (s d : List ℕ) → check format s d .place < 65536
-check-place-small s d = let most = check-place-within format 32768 (omega arith) (omega arith) s d in omega (arith, most)
+pub check-place-small : (layout : Layout) (s d : List ℕ) → check format layout s d .place < 65536
+check-place-small layout s d = let most = check-place-within format layout 32768 (omega arith) (omega arith) s d in omega (arith, most)

@@ -1,28 +1,41 @@
 ghost use mathlib.Core.Path.{_≡_};
+ghost use Rattle.meaning.specs.declared.Layout.the-variants.{Plain, Closing};
 ghost use Rattle.meaning.specs.Derivations.{check};
 ghost use Rattle.meaning.specs.Limits.{format};
 ghost use Rattle.steps.specs.AtHand.{request-in, At-hand};
-ghost use Rattle.glintstring.specs.Derivations.{check-at-hand};
+ghost use Rattle.glintstring.specs.Derivations.{too-many, check-at-hand};
 use super::answers;
 use bytes::bytes::wide;
 use bytes::lists::Passed;
 use checking::check::check_derivation;
 use meaning::Answer;
+use meaning::Layout;
 use reading::table;
 use reading::table::Table;
 use reading::table::get;
+use refusing::overlaps::sequence_of;
 use refusing::settled::settle;
 
+// The layout does not speak of so many whether entries.
+fn is_beyond(layout: Layout, asked: usize) -> bool
+    ensures { λ r. ⌜ r ≡ too-many layout asked ⌝ }
+{
+    match layout {
+        Layout::Plain => 0 < asked,
+        Layout::Closing => false,
+    }
+}
+
 // 30, and then the derivation, of a settled request.
-fn check_at_hand(request: &[u8], t: &Table, derivation: &[u8]) -> Answer
+fn check_at_hand(layout: Layout, request: &[u8], t: &Table, derivation: &[u8]) -> Answer
     requires { ⌜ At-hand (now request) (now t) ⌝ }
-    ensures { λ r. ⌜ r ≡ check-at-hand (request-in (now (request .entry))) (now (derivation .entry)) ⌝ }
+    ensures { λ r. ⌜ r ≡ check-at-hand layout (request-in (now (request .entry))) (now (derivation .entry)) ⌝ }
 {
     let goals = get(t, table::GOALS);
-    let after = goals + 1;
-    let whether = after + wide(request[goals]);
+    let whether = sequence_of(request, goals);
     let asked = wide(request[whether]);
-    if 0 < asked {
+    let refused = is_beyond(layout, asked);
+    if refused {
         return Answer {
             number: answers::WHETHER_ASKED,
             input: answers::THE_REQUEST,
@@ -30,7 +43,7 @@ fn check_at_hand(request: &[u8], t: &Table, derivation: &[u8]) -> Answer
             count: 0,
         };
     }
-    match check_derivation(request, t, derivation) {
+    match check_derivation(layout, request, t, derivation) {
         Passed::To(_) => Answer {
             number: answers::VERIFIED,
             input: answers::NEITHER_INPUT,
@@ -46,13 +59,13 @@ fn check_at_hand(request: &[u8], t: &Table, derivation: &[u8]) -> Answer
     }
 }
 
-// The derivation call: the request is settled first, then 30, then the derivation.
-pub fn check(request: &[u8], derivation: &[u8]) -> Answer
-    ensures { λ r. ⌜ r ≡ check format (now (request .entry)) (now (derivation .entry)) ⌝ }
+// The request is settled first, then 30, then the derivation.
+fn check_as(layout: Layout, request: &[u8], derivation: &[u8]) -> Answer
+    ensures { λ r. ⌜ r ≡ check format layout (now (request .entry)) (now (derivation .entry)) ⌝ }
 {
     let mut t: Table = [0u16; 9480];
     match settle(request, &mut t) {
-        Passed::To(_) => check_at_hand(request, &t, derivation),
+        Passed::To(_) => check_at_hand(layout, request, &t, derivation),
         Passed::Fault(k, p) => Answer {
             number: k,
             input: answers::THE_REQUEST,
@@ -60,4 +73,18 @@ pub fn check(request: &[u8], derivation: &[u8]) -> Answer
             count: 0,
         },
     }
+}
+
+// The derivation call.
+pub fn check(request: &[u8], derivation: &[u8]) -> Answer
+    ensures { λ r. ⌜ r ≡ check format Plain (now (request .entry)) (now (derivation .entry)) ⌝ }
+{
+    check_as(Layout::Plain, request, derivation)
+}
+
+// The whether call.
+pub fn check_whether(request: &[u8], derivation: &[u8]) -> Answer
+    ensures { λ r. ⌜ r ≡ check format Closing (now (request .entry)) (now (derivation .entry)) ⌝ }
+{
+    check_as(Layout::Closing, request, derivation)
 }

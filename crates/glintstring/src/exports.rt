@@ -1,6 +1,7 @@
 // The calls under the names by which other languages link them.
 ghost use mathlib.Core.Path.{_≡_};
 ghost use Prim.Native.Nat.{_<_, min};
+ghost use Rattle.meaning.specs.declared.Layout.the-variants.{Plain, Closing};
 ghost use Rattle.meaning.specs.Limits.{format};
 ghost use Rattle.meaning.specs.Judging.{judge};
 ghost use Rattle.meaning.specs.Derivations.{check};
@@ -8,6 +9,7 @@ ghost use Rattle.meaning.specs.Showing.{show};
 ghost use Rattle.glintstring.specs.Packing.{packed, unpacked};
 use super::answers;
 use super::derivations::check;
+use super::derivations::check_whether;
 use super::judging::judge;
 use meaning::Answer;
 
@@ -34,9 +36,17 @@ pub extern "C" fn glintstring_judge(request: &[u8], state: &mut [u8], budget: u3
 // The derivation call, with its answer in one number. It may be called with anything.
 #[no_mangle]
 pub extern "C" fn glintstring_check(request: &[u8], derivation: &[u8]) -> u64
-    ensures { λ r. ⌜ r ≡ packed (check format (now (request .entry)) (now (derivation .entry))) ⌝ }
+    ensures { λ r. ⌜ r ≡ packed (check format Plain (now (request .entry)) (now (derivation .entry))) ⌝ }
 {
     pack(check(request, derivation))
+}
+
+// The whether call, with its answer in one number. It may be called with anything.
+#[no_mangle]
+pub extern "C" fn glintstring_check_whether(request: &[u8], derivation: &[u8]) -> u64
+    ensures { λ r. ⌜ r ≡ packed (check format Closing (now (request .entry)) (now (derivation .entry))) ⌝ }
+{
+    pack(check_whether(request, derivation))
 }
 
 // The smaller of two numbers.

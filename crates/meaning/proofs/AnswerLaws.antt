@@ -1,9 +1,11 @@
--- Every answer of the walk call is one of the format's numbers (demand 1, FORMAT 11.1): each fault of a reading is said by its name, and
--- what is put together from parts has the faults of its parts. Assumes nothing.
+-- Every answer of the walk call is one of the format's numbers (demand 1, FORMAT 11.1), and so is every fault of reading a derivation: each
+-- fault of a reading is said by its name, and what is put together from parts has the faults of its parts. Assumes nothing.
 use Prim.Native.Nat.{ℕ, zero, suc, _+_, _*_}
 use mathlib.Core.Path.{_≡_, refl}
 use mathlib.Core.Bool.{Bool, true, false}
 use mathlib.Core.List.{List, [], _∷_}
+use Rattle.meaning.specs.declared.Layout.{Layout}
+use Rattle.meaning.specs.declared.Layout.the-variants.{Plain, Closing}
 use Rattle.meaning.specs.Tests.{either, pick, some-of}
 use Rattle.meaning.specs.Limits
 use Rattle.meaning.specs.Limits.{Limits}
@@ -15,6 +17,7 @@ use Rattle.meaning.specs.Refusals.{Found, nowhere, at, refuse, settled}
 use Rattle.meaning.specs.States.{State}
 use Rattle.meaning.specs.Walk.{End, fine, missed, stuck}
 use Rattle.meaning.specs.Judging.{Judgement, ended, within, judge-settled, judge}
+use Rattle.meaning.specs.Derivations
 use Rattle.meaning.proofs.TestLaws.{either-right}
 
 -- The numbers of the refusals of a request, and all that the walk call answers.
@@ -145,6 +148,46 @@ module _ (ns : List ℕ) (has : (n : ℕ) → among n refusals ≡ true → amon
     pub plan-numbered : (p : ℕ) → Numbered (Reading.plan-at lim n m s p)
     unfolding Reading.plan-at
     plan-numbered p = sequence-numbered (Reading.branching-at lim n m s (lim .nested)) (branching-numbered (lim .nested)) p 0
+
+    -- A derivation, in each layout.
+    list-concluded-numbered : (p : ℕ) → Numbered (Derivations.list-concluded lim n s p)
+    unfolding Derivations.list-concluded
+    list-concluded-numbered p = by-next _ _ (list-numbered Reading.Kind.literals n (lim .listed) s p) λ _ _. tt
+
+    fluent-concluded-numbered : (p : ℕ) → Numbered (Derivations.fluent-concluded lim n s p)
+    unfolding Derivations.fluent-concluded
+    fluent-concluded-numbered p = by-next _ _ (below-numbered n s p) λ _ _. tt
+
+    concluded-numbered : (layout : Layout) (p : ℕ) → Numbered (Derivations.concluded-at lim n s layout p)
+    unfolding Derivations.concluded-at Derivations.conclusion-at
+    concluded-numbered Plain p = by-next _ _ (list-concluded-numbered p) λ _ q. by-next _ _ (byte-numbered s q) λ _ _. tt
+    concluded-numbered Closing p =
+        by-next _ _ (byte-numbered s p) λ _ q.
+        by-next _ _ (by-pick _ _ _ (fluent-concluded-numbered q) (list-concluded-numbered q)) λ _ _. tt
+
+    line-numbered : (layout : Layout) (p : ℕ) → Numbered (Derivations.line-at lim n m s layout p)
+    unfolding Derivations.line-at
+    line-numbered layout p =
+        by-next _ _ (list-numbered Reading.Kind.literals n (lim .listed) s p) λ _ q.
+        by-next _ _ (plan-numbered q) λ _ r.
+        by-next _ _ (concluded-numbered layout r) λ _ t.
+        by-next _ _ (count-numbered 0 (lim .citations) s t) λ k u.
+        by-next _ _ (repeated-numbered (Reading.two-bytes-at s) (two-bytes-numbered s) k u) λ _ _. tt
+
+    closing-numbered : (layout : Layout) (p : ℕ) → Numbered (Derivations.closing-at s layout p)
+    unfolding Derivations.closing-at
+    closing-numbered Plain p = tt
+    closing-numbered Closing p = section-numbered (Reading.two-bytes-at s) (two-bytes-numbered s) s p
+
+    pub derivation-numbered : (layout : Layout) → Numbered (Derivations.read-derivation lim n m s layout)
+    unfolding Derivations.read-derivation among refusals some-of either
+    derivation-numbered layout =
+        by-pick _ _ _ (has _ refl)
+        (by-next _ _ (two-bytes-numbered s 0) λ c p.
+        by-pick _ _ _ (has _ refl)
+        (by-next _ _ (repeated-numbered (Derivations.line-at lim n m s layout) (line-numbered layout) c p) λ _ q.
+        by-next _ _ (closing-numbered layout q) λ _ _.
+        by-pick _ _ _ (has _ refl) tt))
 
   module _ (lim : Limits) (s : List ℕ) where
     table-numbered : (p : ℕ) → Numbered (Reading.table-at lim s p)

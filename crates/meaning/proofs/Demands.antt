@@ -1,4 +1,4 @@
--- The demands (FORMAT section 11), each by citing where its argument stands. Read this file first. Assumes nothing.
+-- The demands (FORMAT section 11, and 17.38 to 17.41), each by citing where its argument stands. Read this file first. Assumes nothing.
 use Prim.Native.Nat.{ℕ, _≤_}
 use native.Mathlib.Omega.{arith}
 use mathlib.Core.Path.{_≡_, refl, ap}
@@ -6,6 +6,7 @@ use mathlib.Core.Bool.{true}
 use mathlib.Core.List.{List}
 use lib.ListN.{length}
 use lib.Dec.{eqb, ltb}
+use Rattle.meaning.specs.declared.Layout.{Layout}
 use Rattle.meaning.specs.Tests.{either, pick, some-of}
 use Rattle.meaning.specs.Limits
 use Rattle.meaning.specs.Limits.{Limits}
@@ -27,7 +28,7 @@ use Rattle.meaning.proofs.WalkSound.{walk-sound}
 -- Demand 2, its first sentence (FORMAT 11.5): past the refusals and within the budget the answers are those of the 0-approximation, in the
 -- order of the paths.
 pub use Rattle.meaning.proofs.Exact.{spent-exactly, stuck-exactly, verified-exactly, missed-exactly, in-order}
--- Demand 2, its second sentence (FORMAT 11.6), and demand 1 of the derivation call.
+-- Demand 2, its second sentence (FORMAT 11.6, 17.39), and demand 1 of the derivation call and of the whether call (17.38).
 pub use Rattle.meaning.proofs.Accepted.{accepted-exactly, every-check-numbered}
 -- A world's move is single-valued (FORMAT 9.6).
 pub use Rattle.meaning.proofs.WalkSound.{move-is-single-valued}
@@ -72,17 +73,18 @@ sound lim request lent budget q =
     let m = verified-means lim request lent budget q in
     (m .0, m .1, m .2, walk-sound lim request (m .0) (m .1) (m .2) (m .3))
 
--- Theorem 3.1 of Zhao and Shen: what an accepted derivation asks is verified by the walk without a budget. (With a budget it need not be:
--- `DerivationCases.beyond-a-budget` has a derivation accepted where the walk's budget is spent.)
-pub accepted-verified : (lim : Limits) → lim .fluents ≤ lim .state → (request derivation : List ℕ) → check lim request derivation .number ≡ Limits.verified
+-- Theorems 3.1 and 3.3 of Zhao and Shen, for the plain layout and for the closing one: what an accepted derivation asks is verified by the walk
+-- without a budget, the whether entries included (FORMAT 17.40). (With a budget it need not be: `DerivationCases.beyond-a-budget` has a
+-- derivation accepted where the walk's budget is spent.)
+pub accepted-verified : (lim : Limits) → lim .fluents ≤ lim .state → (layout : Layout) (request derivation : List ℕ) → check lim layout request derivation .number ≡ Limits.verified
     → (r : Request) × (e : ℕ) × (settled lim request ≡ got r e) × Verified (walked r (first-state lim (r .table)))
-accepted-verified lim room request derivation q =
-    let a = accepted-exactly lim request derivation .0 q in
-    (a .asks, a .end, a .request-settled, DerivationSound.accepted-verified lim room request derivation a)
+accepted-verified lim room layout request derivation q =
+    let a = accepted-exactly lim layout request derivation .0 q in
+    (a .asks, a .end, a .request-settled, DerivationSound.accepted-verified lim room layout request derivation a)
 
--- Demand 3 for accepted derivations.
-pub sound-derivation : (lim : Limits) → lim .fluents ≤ lim .state → (request derivation : List ℕ) → check lim request derivation .number ≡ Limits.verified
+-- Demand 3 for accepted derivations (FORMAT 11.7, 17.41).
+pub sound-derivation : (lim : Limits) → lim .fluents ≤ lim .state → (layout : Layout) (request derivation : List ℕ) → check lim layout request derivation .number ≡ Limits.verified
     → (r : Request) × (e : ℕ) × (settled lim request ≡ got r e) × Carried-out r
-sound-derivation lim room request derivation q =
-    let m = accepted-verified lim room request derivation q in
+sound-derivation lim room layout request derivation q =
+    let m = accepted-verified lim room layout request derivation q in
     (m .0, m .1, m .2, walk-sound lim request (m .0) (m .1) (m .2) (m .3))

@@ -5,6 +5,8 @@ use mathlib.Core.Path.{_≡_, refl}
 use mathlib.Core.List.{List, [], _∷_, _++_, map}
 use lib.ListN.{take, replicate}
 use Rattle.meaning.specs.declared.Answer.{Answer}
+use Rattle.meaning.specs.declared.Layout.{Layout}
+use Rattle.meaning.specs.declared.Layout.the-variants.{Plain}
 use Rattle.meaning.specs.Limits.{format}
 use Rattle.meaning.specs.Judging.{judge}
 use Rattle.meaning.specs.Derivations.{check}
@@ -12,23 +14,28 @@ use Rattle.meaning.specs.Showing.{Part, show}
 use Rattle.meaning.proofs.Compute.{all-open}
 use Rattle.meaning.proofs.Cases.{table-A, file-A}
 
--- A request, a derivation, and what the call answers.
+-- A request, a derivation in a layout, and what the call of that layout answers.
 pub record Case : Type 0 where
+  pub layout : Layout
   pub request : List ℕ
   pub derivation : List ℕ
   pub gives : Answer
 
+abbrev pub row-in : Layout → (request derivation : List ℕ) → (number input place : ℕ) → Case
+row-in layout request derivation number input place =
+    record { layout = layout; request = request; derivation = derivation; gives = record { number = number; input = input; place = place; count = 0 } }
+
 abbrev row : (request derivation : List ℕ) → (number input place : ℕ) → Case
-row request derivation number input place = record { request = request; derivation = derivation; gives = record { number = number; input = input; place = place; count = 0 } }
+row = row-in Plain
 
 -- File A with an empty whether list, and its nine lines before the last one's citations.
-request-14 : List ℕ
+unfoldable pub request-14 : List ℕ
 request-14 = take 46 file-A ++ (0 ∷ [])
 
-lines-14 : List ℕ
+unfoldable pub lines-14 : List ℕ
 lines-14 = 0 ∷ 9 ∷ 4 ∷ 0 ∷ 3 ∷ 5 ∷ 7 ∷ 0 ∷ 0 ∷ 4 ∷ 0 ∷ 3 ∷ 5 ∷ 7 ∷ 1 ∷ 0 ∷ 4 ∷ 0 ∷ 3 ∷ 5 ∷ 7 ∷ 0 ∷ 0 ∷ 1 ∷ 7 ∷ 6 ∷ 1 ∷ 0 ∷ 0 ∷ 4 ∷ 0 ∷ 3 ∷ 5 ∷ 7 ∷ 0 ∷ 1 ∷ 255 ∷ 2 ∷ 1 ∷ 1 ∷ 0 ∷ 2 ∷ 1 ∷ 2 ∷ 1 ∷ 0 ∷ 0 ∷ 0 ∷ 1 ∷ 7 ∷ 4 ∷ 1 ∷ 0 ∷ 1 ∷ 4 ∷ 1 ∷ 3 ∷ 5 ∷ 7 ∷ 0 ∷ 1 ∷ 1 ∷ 4 ∷ 1 ∷ 2 ∷ 5 ∷ 7 ∷ 2 ∷ 0 ∷ 4 ∷ 1 ∷ 2 ∷ 5 ∷ 7 ∷ 0 ∷ 1 ∷ 2 ∷ 4 ∷ 1 ∷ 2 ∷ 4 ∷ 7 ∷ 2 ∷ 0 ∷ 4 ∷ 1 ∷ 3 ∷ 5 ∷ 7 ∷ 0 ∷ 2 ∷ 1 ∷ 2 ∷ 4 ∷ 1 ∷ 2 ∷ 4 ∷ 7 ∷ 5 ∷ 2 ∷ 0 ∷ 3 ∷ 0 ∷ 4 ∷ 4 ∷ 1 ∷ 3 ∷ 5 ∷ 7 ∷ 0 ∷ 2 ∷ 1 ∷ 2 ∷ 1 ∷ 7 ∷ 6 ∷ 1 ∷ 0 ∷ 5 ∷ 4 ∷ 1 ∷ 3 ∷ 5 ∷ 7 ∷ 0 ∷ 1 ∷ 255 ∷ 2 ∷ 1 ∷ 1 ∷ 0 ∷ 2 ∷ 1 ∷ 2 ∷ 1 ∷ 0 ∷ 0 ∷ 0 ∷ 1 ∷ 7 ∷ 4 ∷ 1 ∷ 0 ∷ 6 ∷ 3 ∷ 3 ∷ 5 ∷ 7 ∷ 0 ∷ 2 ∷ 0 ∷ 255 ∷ 2 ∷ 1 ∷ 1 ∷ 0 ∷ 2 ∷ 1 ∷ 2 ∷ 1 ∷ 0 ∷ 0 ∷ 0 ∷ 1 ∷ 7 ∷ 3 ∷ []
 
-derivation-14 : List ℕ
+unfoldable pub derivation-14 : List ℕ
 derivation-14 = lines-14 ++ (2 ∷ 0 ∷ 2 ∷ 0 ∷ 7 ∷ [])
 
 -- Example 3.1, with its last lines' citations.
@@ -39,7 +46,7 @@ derivation-3-1 : List ℕ
 derivation-3-1 = 0 ∷ 7 ∷ 3 ∷ 1 ∷ 3 ∷ 5 ∷ 0 ∷ 1 ∷ 2 ∷ 3 ∷ 0 ∷ 3 ∷ 5 ∷ 2 ∷ 0 ∷ 3 ∷ 1 ∷ 3 ∷ 5 ∷ 0 ∷ 1 ∷ 255 ∷ 2 ∷ 1 ∷ 1 ∷ 0 ∷ 1 ∷ 2 ∷ 1 ∷ 0 ∷ 0 ∷ 0 ∷ 3 ∷ 0 ∷ 3 ∷ 5 ∷ 4 ∷ 1 ∷ 0 ∷ 0 ∷ 3 ∷ 0 ∷ 3 ∷ 5 ∷ 0 ∷ 0 ∷ 3 ∷ 0 ∷ 3 ∷ 5 ∷ 1 ∷ 0 ∷ 3 ∷ 0 ∷ 3 ∷ 5 ∷ 0 ∷ 1 ∷ 255 ∷ 2 ∷ 1 ∷ 1 ∷ 0 ∷ 1 ∷ 2 ∷ 1 ∷ 0 ∷ 0 ∷ 0 ∷ 3 ∷ 0 ∷ 3 ∷ 5 ∷ 4 ∷ 1 ∷ 0 ∷ 2 ∷ 2 ∷ 3 ∷ 5 ∷ 0 ∷ 2 ∷ 0 ∷ 255 ∷ 2 ∷ 1 ∷ 1 ∷ 0 ∷ 1 ∷ 2 ∷ 1 ∷ 0 ∷ 0 ∷ 0 ∷ 3 ∷ 0 ∷ 3 ∷ 5 ∷ 3 ∷ 2 ∷ 0 ∷ 3 ∷ 0 ∷ 1 ∷ 3 ∷ 0 ∷ 3 ∷ 5 ∷ 0 ∷ 1 ∷ 1 ∷ 3 ∷ 0 ∷ 2 ∷ 5 ∷ 2 ∷ 0 ∷ 2 ∷ 3 ∷ 5 ∷ 0 ∷ 3 ∷ 0 ∷ 255 ∷ 2 ∷ 1 ∷ 1 ∷ 0 ∷ 1 ∷ 2 ∷ 1 ∷ 0 ∷ 0 ∷ 0 ∷ 1 ∷ 3 ∷ 0 ∷ 2 ∷ 5 ∷ 5 ∷ 2 ∷ 0 ∷ 4 ∷ 0 ∷ 5 ∷ []
 
 -- One action that senses seven fluents, all unknown.
-sensing-seven : List ℕ
+unfoldable pub sensing-seven : List ℕ
 sensing-seven = 7 ∷ 1 ∷ 0 ∷ 0 ∷ 1 ∷ 0 ∷ 0 ∷ 7 ∷ 0 ∷ 0 ∷ 0 ∷ 1 ∷ 0 ∷ 2 ∷ 0 ∷ 3 ∷ 0 ∷ 4 ∷ 0 ∷ 5 ∷ 0 ∷ 6 ∷ 0 ∷ 1 ∷ 0 ∷ 0 ∷ 0 ∷ []
 
 -- The literals of reading k, from fluent f on, and one line for each of so many readings, from k on: X the reading, nothing to do, nothing
@@ -146,7 +153,7 @@ unfolding all-open showings
 showings-hold = refl
 
 -- Every derivation is answered as its row says.
-pub derivations-hold : map (λ (c : Case). check format (c .request) (c .derivation)) derivations ≡ map (λ (c : Case). c .gives) derivations
+pub derivations-hold : map (λ (c : Case). check format (c .layout) (c .request) (c .derivation)) derivations ≡ map (λ (c : Case). c .gives) derivations
 unfolding all-open table-A file-A request-14 lines-14 derivation-14 request-3-1 derivation-3-1 sensing-seven reading reading-lines cited-from seven-readings derivations
 derivations-hold = refl
 
@@ -159,6 +166,6 @@ three-sensed = 4 ∷ 3 ∷ 1 ∷ 6 ∷ 0 ∷ 3 ∷ 0 ∷ 0 ∷ 1 ∷ 0 ∷ 2 ∷
 pub three-derived : List ℕ
 three-derived = 0 ∷ 17 ∷ 2 ∷ 0 ∷ 6 ∷ 0 ∷ 0 ∷ 2 ∷ 0 ∷ 6 ∷ 1 ∷ 0 ∷ 2 ∷ 0 ∷ 6 ∷ 0 ∷ 0 ∷ 1 ∷ 6 ∷ 6 ∷ 1 ∷ 0 ∷ 0 ∷ 2 ∷ 1 ∷ 6 ∷ 0 ∷ 0 ∷ 2 ∷ 1 ∷ 6 ∷ 1 ∷ 0 ∷ 2 ∷ 1 ∷ 6 ∷ 0 ∷ 0 ∷ 1 ∷ 6 ∷ 6 ∷ 1 ∷ 0 ∷ 2 ∷ 1 ∷ 6 ∷ 0 ∷ 1 ∷ 0 ∷ 1 ∷ 6 ∷ 3 ∷ 2 ∷ 0 ∷ 1 ∷ 0 ∷ 3 ∷ 2 ∷ 2 ∷ 6 ∷ 0 ∷ 0 ∷ 2 ∷ 2 ∷ 6 ∷ 1 ∷ 0 ∷ 2 ∷ 2 ∷ 6 ∷ 0 ∷ 0 ∷ 1 ∷ 6 ∷ 6 ∷ 1 ∷ 0 ∷ 5 ∷ 2 ∷ 3 ∷ 6 ∷ 0 ∷ 0 ∷ 2 ∷ 3 ∷ 6 ∷ 1 ∷ 0 ∷ 2 ∷ 3 ∷ 6 ∷ 0 ∷ 0 ∷ 1 ∷ 6 ∷ 6 ∷ 1 ∷ 0 ∷ 7 ∷ 1 ∷ 6 ∷ 0 ∷ 1 ∷ 1 ∷ 1 ∷ 6 ∷ 3 ∷ 2 ∷ 0 ∷ 6 ∷ 0 ∷ 8 ∷ 2 ∷ 4 ∷ 6 ∷ 0 ∷ 0 ∷ 2 ∷ 4 ∷ 6 ∷ 1 ∷ 0 ∷ 2 ∷ 4 ∷ 6 ∷ 0 ∷ 0 ∷ 1 ∷ 6 ∷ 6 ∷ 1 ∷ 0 ∷ 10 ∷ 2 ∷ 5 ∷ 6 ∷ 0 ∷ 0 ∷ 2 ∷ 5 ∷ 6 ∷ 1 ∷ 0 ∷ 2 ∷ 5 ∷ 6 ∷ 0 ∷ 0 ∷ 1 ∷ 6 ∷ 6 ∷ 1 ∷ 0 ∷ 12 ∷ 1 ∷ 6 ∷ 0 ∷ 1 ∷ 2 ∷ 1 ∷ 6 ∷ 3 ∷ 2 ∷ 0 ∷ 11 ∷ 0 ∷ 13 ∷ 1 ∷ 6 ∷ 0 ∷ 2 ∷ 0 ∷ 1 ∷ 1 ∷ 6 ∷ 5 ∷ 2 ∷ 0 ∷ 4 ∷ 0 ∷ 9 ∷ 1 ∷ 6 ∷ 0 ∷ 3 ∷ 0 ∷ 1 ∷ 2 ∷ 1 ∷ 6 ∷ 5 ∷ 2 ∷ 0 ∷ 15 ∷ 0 ∷ 14 ∷ []
 
-pub beyond-a-budget : (check format three-sensed three-derived .number ≡ 0) × (judge format three-sensed (replicate 64 0) 14 .answer .number ≡ 3) × (judge format three-sensed (replicate 64 0) 15 .answer .number ≡ 0)
+pub beyond-a-budget : (check format Plain three-sensed three-derived .number ≡ 0) × (judge format three-sensed (replicate 64 0) 14 .answer .number ≡ 3) × (judge format three-sensed (replicate 64 0) 15 .answer .number ≡ 0)
 unfolding all-open three-sensed three-derived
 beyond-a-budget = (refl, refl, refl)

@@ -1,11 +1,13 @@
--- The lines of sections 3 to 5 for the derivation call: said twice, or elsewhere among their like, they change no answer but the place of one
--- that is about the request. Rules 2 and 3 ask a table only what tables that say the same answer alike, the other rules ask it nothing, and the
--- question is compared without its places. Assumes nothing.
-use Prim.Native.Nat.{ℕ, _+_}
+-- The lines of sections 3 to 5 for the derivation call and the whether call: said twice, or elsewhere among their like, they change no answer
+-- but the place of one that is about the request. Rules 2, 3, 7 and 10 ask a table only what tables that say the same answer alike, the other
+-- rules ask it nothing, and what is asked is compared without its places. Assumes nothing.
+use Prim.Native.Nat.{ℕ, zero, suc, _+_}
 use mathlib.Core.Path.{_≡_, refl, sym, _∙_, ap}
 use mathlib.Core.Bool.{Bool, true, false}
-use mathlib.Core.List.{List, [], _∷_}
+use mathlib.Core.List.{List, [], _∷_, map, map-map}
 use Rattle.meaning.specs.declared.Answer.{Answer}
+use Rattle.meaning.specs.declared.Layout.{Layout}
+use Rattle.meaning.specs.declared.Layout.the-variants.{Plain, Closing}
 use Rattle.meaning.specs.Tests.{pick, some-of}
 use Rattle.meaning.specs.Limits
 use Rattle.meaning.specs.Limits.{Limits}
@@ -14,11 +16,11 @@ use Rattle.meaning.specs.Reading.{Got, got, fault, next, read-request}
 use Rattle.meaning.specs.Refusals.{Found, nowhere, at, overlap-in, refuse, settled}
 use Rattle.meaning.specs.States.{State, can-be-run, state-after, unknown-sensed}
 use Rattle.meaning.specs.Walk.{table-step}
-use Rattle.meaning.specs.Derivations.{Line, read-derivation, overlap-in-lines, same-plan, same-item, same-branches, says, acts, one-action, rule-2, reads, senses-first, rule-3, follows, check-lines, is-question, check-last, check-derivation, answer, accepted-if, check-settled, check}
+use Rattle.meaning.specs.Derivations.{Conclusion, knows, knows-whether, Line, Derivation, read-derivation, overlap-in-lines, same-plan, same-item, same-branches, says, acts, one-action, rule-2, reads, senses-first, rule-3, looks-for, one-look, rule-7, given-by, follows, check-lines, asks-for, goals-of, check-last, all-asked, names, check-entries, check-closing, check-end, check-derivation, answer, accepted-if, beyond, check-settled, check}
 use Rattle.meaning.proofs.TestLaws.{clash}
 use Rattle.meaning.proofs.WalkLaws.{unplaced, unplaced-item, unplaced-branches}
 use Rattle.meaning.proofs.RefusalLaws.{at≢nowhere, unplaced-found, unplaced-18}
-use Rattle.meaning.proofs.LineLaws.{Same-tables, Same-but-lines, sensing-same, unknown-same, marks-same, tables-agree, contradiction-same, mixed-same}
+use Rattle.meaning.proofs.LineLaws.{Same-tables, Same-but-lines, sensing-same, senses-same, unknown-same, marks-same, tables-agree, contradiction-same, mixed-same}
 
 -- THE RULES. Tables that say the same give the same lines.
 module _ (lim : Limits) (t u : Table) (same : Same-tables t u) where
@@ -55,15 +57,27 @@ module _ (lim : Limits) (t u : Table) (same : Same-tables t u) where
   senses-first-same cited l (item (act p a) rest) = reads-same cited l a rest _
   senses-first-same cited l (item (branching p bs) rest) = refl
 
+  looks-for-same : (Y : Conclusion) (a : ℕ) (s : State) → looks-for lim t Y a s ≡ looks-for lim u Y a s
+  unfolding looks-for
+  looks-for-same (knows Y) a s = refl
+  looks-for-same (knows-whether f) a s = rw (senses-same t u same a f, runs-same a s)
+
+  one-look-same : (l : Line) (c : Sequence ℕ) → one-look lim t l c ≡ one-look lim u l c
+  unfolding one-look
+  one-look-same l done = refl
+  one-look-same l (item (act p a) done) = looks-for-same (l .Y) a _
+  one-look-same l (item (act p a) (item i rest)) = refl
+  one-look-same l (item (branching p bs) rest) = refl
+
   -- What a rule gives, and what is found line by line.
   follows-same : (cited : List Line) (l : Line) → follows lim t cited l ≡ follows lim u cited l
-  unfolding follows rule-2 rule-3
-  follows-same cited l = rw (one-action-same l (l .c), senses-first-same cited l (l .c))
+  unfolding follows given-by rule-2 rule-3 rule-7
+  follows-same cited l = rw (one-action-same l (l .c), senses-first-same cited l (l .c), one-look-same l (l .c))
 
-  check-lines-same : (lines : List Line) (i : ℕ) (ls : List Line) → check-lines lim t lines i ls ≡ check-lines lim u lines i ls
+  check-lines-same : (layout : Layout) (lines : List Line) (i : ℕ) (ls : List Line) → check-lines lim layout t lines i ls ≡ check-lines lim layout u lines i ls
   unfolding check-lines
-  check-lines-same lines i [] = refl
-  check-lines-same lines i (l ∷ ls) = rw (follows-same _ l, check-lines-same lines (i + 1) ls)
+  check-lines-same layout lines i [] = refl
+  check-lines-same layout lines i (l ∷ ls) = rw (follows-same _ l, check-lines-same layout lines (i + 1) ls)
 
 -- THE QUESTION. Plans are compared wherever they stand.
 mutual
@@ -93,8 +107,8 @@ unfolding some-of values
 any-value [] = refl
 any-value (w ∷ ws) = rw (any-value ws)
 
--- What the derivation call sees alike in two requests: all but places, and the order and repetition of lines. A derivation is read by the
--- counts of fluents and actions, so these are the same too.
+-- What the two calls see alike in two requests: all but places, and the order and repetition of lines. A derivation is read by the counts of
+-- fluents and actions, so these are the same too.
 pub record Same-for-derivations (r q : Request) : Type 0 where
   pub fluents : r .table .fluents ≡ q .table .fluents
   pub actions : r .table .actions ≡ q .table .actions
@@ -104,36 +118,64 @@ module _ (r q : Request) (same : Same-for-derivations r q) where
   plan-same : (c : Sequence ℕ) → same-plan c (r .plan) ≡ same-plan c (q .plan)
   plan-same c = same-unplaced c (r .plan) ∙ ap (same-plan c) (same .but-lines .plan) ∙ sym (same-unplaced c (q .plan))
 
-  question-same : (l : Line) → is-question r l ≡ is-question q l
-  unfolding is-question says
-  question-same l = rw (same .but-lines .tables .facts, plan-same (l .c), same .but-lines .goals)
+  asks-same : (Y : Conclusion) (l : Line) → asks-for r Y l ≡ asks-for q Y l
+  unfolding asks-for says
+  asks-same Y l = rw (same .but-lines .tables .facts, plan-same (l .c))
+
+  goals-same : goals-of r ≡ goals-of q
+  unfolding goals-of
+  goals-same = ap knows (same .but-lines .goals)
 
   last-same : (ls : List Line) → check-last r ls ≡ check-last q ls
   unfolding check-last
   last-same [] = refl
-  last-same (l ∷ []) = rw (question-same l)
+  last-same (l ∷ []) = rw (goals-same, asks-same (goals-of q) l)
   last-same (l ∷ (k ∷ ls)) = last-same (k ∷ ls)
 
-  whether-same : some-of (λ (w : Entry). true) (r .whether) ≡ some-of (λ (w : Entry). true) (q .whether)
-  whether-same = any-value (r .whether) ∙ ap (some-of (λ (v : ℕ). true)) (same .but-lines .whether) ∙ sym (any-value (q .whether))
+  -- The closing list is compared with the values of the whether list.
+  asked-same : all-asked r ≡ all-asked q
+  unfolding all-asked values
+  asked-same = rw (goals-same) (ap (λ (Ys : List Conclusion). goals-of q ∷ Ys) (sym (map-map knows-whether _ (r .whether)) ∙ ap (map knows-whether) (same .but-lines .whether) ∙ map-map knows-whether _ (q .whether)))
+
+  names-same : (ls : List Line) (k : ℕ) (Y : Conclusion) → names r ls k Y ≡ names q ls k Y
+  unfolding names
+  names-same [] k Y = refl
+  names-same (l ∷ ls) zero Y = asks-same Y l
+  names-same (l ∷ ls) (suc k) Y = names-same ls k Y
+
+  entries-same : (lines : List Line) (p : ℕ) (Ys : List Conclusion) (ks : List ℕ) → check-entries r lines p Ys ks ≡ check-entries q lines p Ys ks
+  unfolding check-entries
+  entries-same lines p [] ks = refl
+  entries-same lines p (Y ∷ Ys) [] = refl
+  entries-same lines p (Y ∷ Ys) (k ∷ ks) = rw (names-same lines k Y, entries-same lines (p + 2) Ys ks)
+
+  end-same : (layout : Layout) (d : Derivation) → check-end layout r d ≡ check-end layout q d
+  unfolding check-end check-closing
+  end-same Plain d = last-same (d .lines)
+  end-same Closing d = rw (asked-same, entries-same (d .lines) (d .closing-place + 1) (all-asked q) (d .closing))
+
+  beyond-same : (layout : Layout) → beyond layout r ≡ beyond layout q
+  unfolding beyond
+  beyond-same Plain = any-value (r .whether) ∙ ap (some-of (λ (v : ℕ). true)) (same .but-lines .whether) ∙ sym (any-value (q .whether))
+  beyond-same Closing = refl
 
   -- A derivation has the same outcome for both, its place included.
-  derivation-same : (lim : Limits) (d : List ℕ) → check-derivation lim r d ≡ check-derivation lim q d
+  derivation-same : (lim : Limits) (layout : Layout) (d : List ℕ) → check-derivation lim layout r d ≡ check-derivation lim layout q d
   unfolding check-derivation next
-  derivation-same lim d = ap (λ (x : Got (List Line)). next x (from r)) read-alike ∙ goes-on (read-derivation lim (q .table .fluents) (q .table .actions) d)
+  derivation-same lim layout d = ap (λ (x : Got Derivation). next x (from r)) read-alike ∙ goes-on (read-derivation lim (q .table .fluents) (q .table .actions) d layout)
     where
-      from : Request → List Line → ℕ → Got (Unit {0})
-      from asks lines e =
-          refuse Limits.not-exclusive (overlap-in-lines lines) λ _.
-          next (check-lines lim (asks .table) lines 0 lines) λ _ _.
-          check-last asks lines
+      from : Request → Derivation → ℕ → Got (Unit {0})
+      from asks x e =
+          refuse Limits.not-exclusive (overlap-in-lines (x .lines)) λ _.
+          next (check-lines lim layout (asks .table) (x .lines) 0 (x .lines)) λ _ _.
+          check-end layout asks x
 
-      read-alike : read-derivation lim (r .table .fluents) (r .table .actions) d ≡ read-derivation lim (q .table .fluents) (q .table .actions) d
-      read-alike = ap (λ (n : ℕ). read-derivation lim n (r .table .actions) d) (same .fluents) ∙ ap (λ (m : ℕ). read-derivation lim (q .table .fluents) m d) (same .actions)
+      read-alike : read-derivation lim (r .table .fluents) (r .table .actions) d layout ≡ read-derivation lim (q .table .fluents) (q .table .actions) d layout
+      read-alike = ap (λ (n : ℕ). read-derivation lim n (r .table .actions) d layout) (same .fluents) ∙ ap (λ (m : ℕ). read-derivation lim (q .table .fluents) m d layout) (same .actions)
 
-      goes-on : (x : Got (List Line)) → next x (from r) ≡ next x (from q)
+      goes-on : (x : Got Derivation) → next x (from r) ≡ next x (from q)
       goes-on (fault n p) = refl
-      goes-on (got lines e) = rw (check-lines-same lim (r .table) (q .table) (same .but-lines .tables) lines 0 lines, last-same lines)
+      goes-on (got x e) = rw (check-lines-same lim (r .table) (q .table) (same .but-lines .tables) layout (x .lines) 0 (x .lines), end-same layout x)
 
 -- CHECKING. Two answers are the same, but for a place in the request.
 pub record Same-answer (a b : Answer) : Type 0 where
@@ -142,13 +184,13 @@ pub record Same-answer (a b : Answer) : Type 0 where
   pub count : a .count ≡ b .count
   pub place : (a .input ≡ Limits.the-request → ⊥) → a .place ≡ b .place
 
-module _ (lim : Limits) (d : List ℕ) where
+module _ (lim : Limits) (layout : Layout) (d : List ℕ) where
   in-the-request : (n p q : ℕ) → Same-answer (answer n Limits.the-request p) (answer n Limits.the-request q)
   unfolding answer
   in-the-request n p q = record { number = refl; input = refl; count = refl; place = λ other. absurd (other refl) }
 
   abbrev Alike : Got Request → Got Request → Type 0
-  Alike x y = Same-answer (check-settled lim d x) (check-settled lim d y)
+  Alike x y = Same-answer (check-settled lim layout d x) (check-settled lim layout d y)
 
   -- The same finding without its place refuses alike.
   refuse-alike : (n : ℕ) (f g : Found) → unplaced-found f ≡ unplaced-found g → (j k : Unit {0} → Got Request) → Alike (j tt) (k tt) → Alike (refuse n f j) (refuse n g k)
@@ -161,7 +203,7 @@ module _ (lim : Limits) (d : List ℕ) where
   module _ (r q : Request) (e f : ℕ) (same : Same-for-derivations r q) where
     checked-alike : Alike (got r e) (got q f)
     unfolding check-settled pick
-    checked-alike = go _ _ (whether-same r q same) _ _ (ap accepted-if (derivation-same r q same lim d))
+    checked-alike = go _ _ (beyond-same r q same layout) _ _ (ap accepted-if (derivation-same r q same lim layout d))
       where
         go : (a b : Bool) → a ≡ b → (x y : Answer) → x ≡ y
             → Same-answer (pick a (λ _. answer Limits.whether-asked Limits.the-request (r .whether-place)) (λ _. x)) (pick b (λ _. answer Limits.whether-asked Limits.the-request (q .whether-place)) (λ _. y))
@@ -179,9 +221,9 @@ module _ (lim : Limits) (d : List ℕ) where
         (refuse-alike _ _ _ (mixed-same (r .table) (q .table) tables) _ _
         (refuse-alike _ _ _ (unplaced-18 (r .plan) ∙ ap overlap-in (same .but-lines .plan) ∙ sym (unplaced-18 (q .plan))) _ _ checked-alike)))
 
--- Lines said twice, or elsewhere among their like, change no answer of the derivation call but a place in the request (FORMAT 2.36).
-pub lines-are-a-set-for-derivations : (lim : Limits) (b c d : List ℕ) (r q : Request) (e f : ℕ)
+-- Lines said twice, or elsewhere among their like, change no answer of the two calls but a place in the request (FORMAT 2.36).
+pub lines-are-a-set-for-derivations : (lim : Limits) (layout : Layout) (b c d : List ℕ) (r q : Request) (e f : ℕ)
     → read-request lim b ≡ got r e → read-request lim c ≡ got q f → Same-for-derivations r q
-    → Same-answer (check lim b d) (check lim c d)
+    → Same-answer (check lim layout b d) (check lim layout c d)
 unfolding check
-lines-are-a-set-for-derivations lim b c d r q e f rb rc same = settled-alike lim d r q e f same b c rb rc
+lines-are-a-set-for-derivations lim layout b c d r q e f rb rc same = settled-alike lim layout d r q e f same b c rb rc

@@ -1,48 +1,60 @@
--- Theorem 3.1 of Zhao and Shen: what an accepted derivation asks, the walk verifies without a budget. Each line holds of every a-state in which
--- its X is true, by induction on the lines, a rule at a time; rules 5 and 6 rest on holding of every such a-state. Assumes nothing.
-use Prim.Native.Nat.{ℕ, suc, _+_, _*_, _≤_, _<_}
+-- Theorems 3.1 and 3.3 of Zhao and Shen: what an accepted derivation asks, the walk verifies without a budget, in the plain layout where
+-- goals are asked and in the closing one where whether fluents are asked too. Each line holds of every a-state in which its X is true, by
+-- induction on the lines, a rule at a time; rules 5 and 6 rest on holding of every such a-state. Rules 3, 4 and 5 are indifferent to what is
+-- concluded, so they are 10, 12 and 11 too. Assumes nothing.
+use Prim.Native.Nat.{ℕ, zero, suc, _+_, _*_, _≤_, _<_}
 use native.Mathlib.Omega.{arith}
 use mathlib.Core.Path.{_≡_, refl, sym, _∙_, ap, ap₂, subst}
 use mathlib.Core.Bool.{Bool, true, false, false≢true}
-use mathlib.Core.List.{List, [], _∷_}
+use mathlib.Core.List.{List, [], _∷_, map}
 use mathlib.Core.Logic.{inl, inr, ⊎-elim}
 use lib.ListN.{length, getD}
 use lib.Dec.{eqb, ltb}
 use borrow.Author.Tests.{eqb-true, ltb-true}
 use native.Mathlib.Decide.{decLt}
-use Rattle.meaning.specs.Tests.{both, each-of}
+use Rattle.meaning.specs.declared.Layout.{Layout}
+use Rattle.meaning.specs.declared.Layout.the-variants.{Plain, Closing}
+use Rattle.meaning.specs.Tests.{both, either, each-of}
 use Rattle.meaning.specs.Limits
 use Rattle.meaning.specs.Limits.{Limits}
-use Rattle.meaning.specs.Literals.{says-true, says-false, among}
+use Rattle.meaning.specs.Literals.{says-true, says-false, fluent-of, among}
 use Rattle.meaning.specs.Requests.{Effect, Knowledge, Table, Sequence, done, item, Item, act, branching, Branches, none, branch, Entry, Request, values}
-use Rattle.meaning.specs.Reading.{got, byte-at, two-bytes-at, count-at, literals, list-at, repeated, plan-at}
+use Rattle.meaning.specs.Reading.{got, two-bytes-at, count-at, literals, list-at, repeated, plan-at}
 use Rattle.meaning.specs.Refusals.{nowhere, conditions-of, all-exclusive, overlap-in}
 use Rattle.meaning.specs.Lines.{sensing}
 use Rattle.meaning.specs.States.{State, known, state-of, first-state, can-be-run, state-after, unknown-sensed, Outcome, single, fork, readings}
 use Rattle.meaning.specs.Walk.{walked}
-use Rattle.meaning.specs.Approximation.{Pair, Disjoint, true-in, _≼_, executable, Res, Result, failed, state, Sensed, Φ, Union, None-true, Φ̂, Φ̂-item, Φ̂-case}
-use Rattle.meaning.specs.Derivations.{Line, line-at, read-derivation, overlap-in-lines, same-list, same-plan, same-item, same-branches, join, included, known-from, literals-of, says, states-of, of-one, of-two, rule-1, takes-branch, branches-first, rule-4, rule-5, rule-6, each-reads, acts, one-action, rule-2, reads, senses-first, rule-3, follows, cited-by, is-question}
-use Rattle.meaning.proofs.PairLaws.{pair-of, true-in-true, true-in-false, pair-after, executable-grows, Res-grows, Res-disjoint, runs-pair, sensing-pair, ≼-trans}
+use Rattle.meaning.specs.Approximation.{Pair, Disjoint, true-in, false-in, _≼_, executable, K, sensing-action, Res, Result, failed, state, Sensed, Φ, Union, None-true, Φ̂, Φ̂-item, Φ̂-case, Entails}
+use Rattle.meaning.specs.Derivations.{Conclusion, knows, knows-whether, Line, Derivation, concluded-at, line-at, closing-at, read-derivation, overlap-in-lines, same-list, same-plan, same-item, same-branches, join, included, known-from, literals-of, same-conclusion, says, states-of, of-one, of-two, rule-1, takes-branch, branches-first, rule-4, rule-5, part-of, rule-6, one-literal, settles, rule-8, each-reads, acts, one-action, rule-2, reads, senses-first, rule-3, looks-for, one-look, rule-7, given-by, for-lists, follows, cited-by, asks-for, goals-of, all-asked, names}
+use Rattle.meaning.proofs.PairLaws.{pair-of, true-in-true, true-in-false, false-in-true, pair-after, executable-grows, Res-grows, Res-disjoint, runs-pair, sensing-pair, senses-pair, ≼-trans}
 use Rattle.meaning.specs.Paths.{arrives, arrivals}
 use Rattle.meaning.proofs.EndLaws.{Ends, arrives-same, ends-one, ends-split}
 use Rattle.meaning.proofs.SensingLaws.{reading-follows}
 use Rattle.meaning.proofs.SettledLaws.{got-same, settled-is, or-else-nowhere, Fit, fit}
-use Rattle.meaning.proofs.Accepted.{All-follow, Last-asks, Accepted}
+use Rattle.meaning.proofs.Accepted.{All-follow, Last-asks, All-named, Answered, Accepted}
 use Rattle.meaning.proofs.RangeLaws.{after-got, not-refused, list-within, list-consistent, line-read, Ranged, read-ranged}
 use Rattle.meaning.proofs.Sound.{Verified}
 use Rattle.meaning.proofs.Exact.{Entailed, entailed-fine}
 use Rattle.meaning.proofs.PickLaws.{has-picked}
 use Rattle.meaning.proofs.CoverLaws.{knows-true, others-false, none-chosen}
 use Rattle.meaning.proofs.ToldLaws.{state-length, Clear, state-known}
-use Rattle.meaning.proofs.TestLaws.{clash, both-left, both-right, either-right, either-split, fails-true, pick-cases, Has, has-left, has-right, some-has, each-has, has-each, map-has}
+use Rattle.meaning.proofs.LiteralLaws.{one-of-two}
+use Rattle.meaning.proofs.TestLaws.{clash, both-left, both-right, either-left, either-right, either-split, fails-true, pick-cases, Has, has-left, has-right, some-has, each-has, has-each, some-mono, has-map, map-has}
 
--- EQUALITY of lists, and of plans up to places, as the transition function sees it.
+-- EQUALITY of lists and of conclusions, and of plans up to places, as the transition function sees it.
 pub same-list-is : (xs ys : List ℕ) → same-list xs ys ≡ true → xs ≡ ys
 unfolding same-list
 same-list-is [] [] e = refl
 same-list-is [] (y ∷ ys) e = absurd (false≢true e)
 same-list-is (x ∷ xs) [] e = absurd (false≢true e)
 same-list-is (x ∷ xs) (y ∷ ys) e = ap₂ {C = List ℕ} (λ z zs. z ∷ zs) (eqb-true x y (both-left _ _ e)) (same-list-is xs ys (both-right _ _ e))
+
+same-conclusion-is : (Y Z : Conclusion) → same-conclusion Y Z ≡ true → Y ≡ Z
+unfolding same-conclusion
+same-conclusion-is (knows Y) (knows Z) e = ap knows (same-list-is Y Z e)
+same-conclusion-is (knows Y) (knows-whether g) e = absurd (false≢true e)
+same-conclusion-is (knows-whether f) (knows Z) e = absurd (false≢true e)
+same-conclusion-is (knows-whether f) (knows-whether g) e = ap knows-whether (eqb-true f g e)
 
 state≢failed : {σ : Pair} → state σ ≡ failed → ⊥
 state≢failed e = subst is-state e tt
@@ -111,13 +123,29 @@ module _ (t : Table) where
   leads-joined (item i p) q σ x (inr w) =
       ⊎-elim (λ v. absurd (state≢failed (v .1))) (λ v. inr (v .0, v .1, leads-joined p q (v .0) x (inr (w .0, v .2, w .2)))) (w .1)
 
--- A LINE HOLDS: from every a-state in which X is true the plan does not fail, and leads only to a-states in which Y is true.
-pub record Holds (t : Table) (X : List ℕ) (c : Sequence ℕ) (Y : List ℕ) : Type 0 where
-  pub runs : (σ : Pair) → Disjoint σ → each-of (true-in σ) X ≡ true → Φ̂ t c σ failed → ⊥
-  pub ends : (σ : Pair) → Disjoint σ → each-of (true-in σ) X ≡ true → (δ : Pair) → Φ̂ t c σ (state δ) → Disjoint δ × (each-of (true-in δ) Y ≡ true)
+-- What is asked of an a-state: that the literals are true in it, or that the fluent is known whether.
+abbrev pub holds-in : Conclusion → Pair → Bool
+holds-in (knows Y) σ = each-of (true-in σ) Y
+holds-in (knows-whether f) σ = either (true-in σ (says-true f)) (false-in σ (says-true f))
 
-relist : (t : Table) {X X′ Y Y′ : List ℕ} (c : Sequence ℕ) → X ≡ X′ → Y ≡ Y′ → Holds t X c Y → Holds t X′ c Y′
-relist t {X} {X′} {Y} {Y′} c x y h = subst (λ (Z : List ℕ). Holds t X′ c Z) y (subst (λ (Z : List ℕ). Holds t Z c Y) x h)
+-- A LINE HOLDS: from every a-state in which X is true the plan does not fail, and leads only to a-states in which Y holds.
+pub record Holds (t : Table) (X : List ℕ) (c : Sequence ℕ) (Y : Conclusion) : Type 0 where
+  pub runs : (σ : Pair) → Disjoint σ → each-of (true-in σ) X ≡ true → Φ̂ t c σ failed → ⊥
+  pub ends : (σ : Pair) → Disjoint σ → each-of (true-in σ) X ≡ true → (δ : Pair) → Φ̂ t c σ (state δ) → Disjoint δ × (holds-in Y δ ≡ true)
+
+-- What the line claims holds.
+abbrev Good : Table → Line → Type 0
+Good t l = Holds t (l .X) (l .c) (l .Y)
+
+-- A line holds with more in X, the same plan written elsewhere, and a conclusion that its own gives.
+weaker : (t : Table) (X Z : List ℕ) (c d : Sequence ℕ) (Y W : Conclusion) → Holds t Z d W
+    → ((σ : Pair) → each-of (true-in σ) X ≡ true → each-of (true-in σ) Z ≡ true) → same-plan d c ≡ true → ((δ : Pair) → holds-in W δ ≡ true → holds-in Y δ ≡ true)
+    → Holds t X c Y
+weaker t X Z c d Y W good more same less =
+    record {
+      runs = λ σ apart h z. good .runs σ apart (more σ h) (same-leads t d c same σ failed z);
+      ends = λ σ apart h δ z. let m = good .ends σ apart (more σ h) δ (same-leads t d c same σ (state δ) z) in (m .0, less δ (m .1));
+    }
 
 -- What a state knows, as a list, is known.
 known-from-known : (s : State) (f : ℕ) (ms : List ℕ) (l : ℕ) → Has (known-from s f ms) l → known s l ≡ true
@@ -142,59 +170,98 @@ included-true xs ys e σ h =
 
 -- THE RULES that ask nothing of the table.
 -- A line that says X, c, Y and holds.
-said : (t : Table) (l : Line) (X : List ℕ) (c : Sequence ℕ) (Y : List ℕ) → says l X c Y ≡ true → Holds t (l .X) (l .c) (l .Y) → Holds t X c Y
+said : (t : Table) (l : Line) (X : List ℕ) (c : Sequence ℕ) (Y : Conclusion) → says l X c Y ≡ true → Good t l → Holds t X c Y
 unfolding says
 said t l X c Y e good =
     let x : l .X ≡ X = same-list-is (l .X) X (both-left _ _ e) in
-    let y : l .Y ≡ Y = same-list-is (l .Y) Y (both-right _ _ (both-right _ _ e)) in
-    let same = both-left _ _ (both-right _ _ e) in
-    record {
-      runs = λ σ apart h z. good .runs σ apart (rw x h) (same-leads t (l .c) c same σ failed z);
-      ends = λ σ apart h δ z. let m = good .ends σ apart (rw x h) δ (same-leads t (l .c) c same σ (state δ) z) in (m .0, rw (← y) (m .1));
-    }
+    let y : l .Y ≡ Y = same-conclusion-is (l .Y) Y (both-right _ _ (both-right _ _ e)) in
+    weaker t X (l .X) c (l .c) Y (l .Y) good (λ σ h. rw x h) (both-left _ _ (both-right _ _ e)) (λ δ h. rw (← y) h)
+
+-- Rule 6. The part of a list is true where the list is.
+part-holds : (Y Z : Conclusion) → part-of Y Z ≡ true → (δ : Pair) → holds-in Z δ ≡ true → holds-in Y δ ≡ true
+unfolding part-of
+part-holds (knows Y) (knows Z) e δ h = included-true Y Z e δ h
+part-holds (knows Y) (knows-whether g) e δ h = absurd (false≢true e)
+part-holds (knows-whether f) Z e δ h = absurd (false≢true e)
+
+-- Rule 8. Where either literal of a fluent is true, the fluent is known whether.
+either-tells : (l : ℕ) (δ : Pair) → true-in δ l ≡ true → holds-in (knows-whether (fluent-of l)) δ ≡ true
+either-tells l δ h =
+    rw (true-in-true δ (fluent-of l), false-in-true δ (fluent-of l))
+    (⊎-elim
+    (λ q. either-left _ _ (sym (true-in-true δ (fluent-of l)) ∙ subst (λ (k : ℕ). true-in δ k ≡ true) q h))
+    (λ q. either-right _ _ (sym (true-in-false δ (fluent-of l)) ∙ subst (λ (k : ℕ). true-in δ k ≡ true) q h))
+    (one-of-two l))
+
+literal-holds : (f : ℕ) (Z : List ℕ) → one-literal f Z ≡ true → (δ : Pair) → each-of (true-in δ) Z ≡ true → holds-in (knows-whether f) δ ≡ true
+unfolding one-literal each-of
+literal-holds f [] e δ h = absurd (false≢true e)
+literal-holds f (l ∷ []) e δ h = subst (λ (g : ℕ). holds-in (knows-whether g) δ ≡ true) (eqb-true _ f e) (either-tells l δ (both-left _ _ h))
+literal-holds f (l ∷ (k ∷ ls)) e δ h = absurd (false≢true e)
+
+settled-holds : (Z Y : Conclusion) → settles Z Y ≡ true → (δ : Pair) → holds-in Z δ ≡ true → holds-in Y δ ≡ true
+unfolding settles
+settled-holds (knows Z) (knows-whether f) e δ h = literal-holds f Z e δ h
+settled-holds (knows Z) (knows Y) e δ h = absurd (false≢true e)
+settled-holds (knows-whether g) Y e δ h = absurd (false≢true e)
 
 module _ (t : Table) where
-  rule-1-holds : (X : List ℕ) (c : Sequence ℕ) (Y : List ℕ) → same-plan c done ≡ true → same-list Y X ≡ true → Holds t X c Y
+  rule-1-holds : (X : List ℕ) (c : Sequence ℕ) (Y : Conclusion) → same-plan c done ≡ true → same-conclusion Y (knows X) ≡ true → Holds t X c Y
   unfolding same-plan
   rule-1-holds X done Y e q =
-      record {
+      subst (Holds t X done) (sym (same-conclusion-is Y (knows X) q))
+      (record {
         runs = λ σ apart h z. state≢failed (sym z);
-        ends = λ σ apart h δ z. let same = state-same z in (subst Disjoint (sym same) apart, rw (same, same-list-is Y X q) h);
-      }
+        ends = λ σ apart h δ z. let same = state-same z in (subst Disjoint (sym same) apart, rw same h);
+      })
   rule-1-holds X (item i rest) Y e q = absurd (false≢true e)
 
-  rule-5-holds : (X Z Y : List ℕ) (c d e : Sequence ℕ) → Holds t X d Z → Holds t Z e Y → same-plan (join d e) c ≡ true → Holds t X c Y
-  rule-5-holds X Z Y c d e first second same =
+  -- Rules 5 and 11. What the first line leads to is where the second starts.
+  rule-5-holds : (l first second : Line) → Good t first → Good t second → rule-5 first second l ≡ true → Good t l
+  unfolding rule-5
+  rule-5-holds l first second f g e =
       record {
         runs = λ σ apart h z. fails-at σ apart h (joined σ failed z);
         ends = λ σ apart h δ z. ends-at σ apart h δ (joined σ (state δ) z);
       }
     where
-      joined : (σ : Pair) (x : Result) → Φ̂ t c σ x → Union (Φ̂ t d σ) (Φ̂ t e) x
-      joined σ x z = join-leads t d e σ x (same-leads t (join d e) c same σ x z)
+      start : Holds t (l .X) (first .c) (knows (second .X))
+      start =
+          subst (λ (X : List ℕ). Holds t X (first .c) (knows (second .X))) (same-list-is (first .X) (l .X) (both-left _ _ (both-left _ _ e)))
+          (subst (Holds t (first .X) (first .c)) (same-conclusion-is (first .Y) (knows (second .X)) (both-right _ _ (both-left _ _ e))) f)
 
-      fails-at : (σ : Pair) → Disjoint σ → each-of (true-in σ) X ≡ true → Union (Φ̂ t d σ) (Φ̂ t e) failed → ⊥
-      fails-at σ apart h (inl w) = first .runs σ apart h (w .0)
-      fails-at σ apart h (inr w) = let m = first .ends σ apart h (w .0) (w .1) in second .runs (w .0) (m .0) (m .1) (w .2)
+      then : Holds t (second .X) (second .c) (l .Y)
+      then = subst (Holds t (second .X) (second .c)) (same-conclusion-is (second .Y) (l .Y) (both-left _ _ (both-right _ _ e))) g
 
-      ends-at : (σ : Pair) → Disjoint σ → each-of (true-in σ) X ≡ true → (δ : Pair) → Union (Φ̂ t d σ) (Φ̂ t e) (state δ) → Disjoint δ × (each-of (true-in δ) Y ≡ true)
+      joined : (σ : Pair) (x : Result) → Φ̂ t (l .c) σ x → Union (Φ̂ t (first .c) σ) (Φ̂ t (second .c)) x
+      joined σ x z = join-leads t (first .c) (second .c) σ x (same-leads t (join (first .c) (second .c)) (l .c) (both-right _ _ (both-right _ _ e)) σ x z)
+
+      fails-at : (σ : Pair) → Disjoint σ → each-of (true-in σ) (l .X) ≡ true → Union (Φ̂ t (first .c) σ) (Φ̂ t (second .c)) failed → ⊥
+      fails-at σ apart h (inl w) = start .runs σ apart h (w .0)
+      fails-at σ apart h (inr w) = let m = start .ends σ apart h (w .0) (w .1) in then .runs (w .0) (m .0) (m .1) (w .2)
+
+      ends-at : (σ : Pair) → Disjoint σ → each-of (true-in σ) (l .X) ≡ true → (δ : Pair) → Union (Φ̂ t (first .c) σ) (Φ̂ t (second .c)) (state δ) → Disjoint δ × (holds-in (l .Y) δ ≡ true)
       ends-at σ apart h δ (inl w) = absurd (state≢failed (w .1))
-      ends-at σ apart h δ (inr w) = let m = first .ends σ apart h (w .0) (w .1) in second .ends (w .0) (m .0) (m .1) δ (w .2)
+      ends-at σ apart h δ (inr w) = let m = start .ends σ apart h (w .0) (w .1) in then .ends (w .0) (m .0) (m .1) δ (w .2)
 
-  rule-6-holds : (X X′ Y Y′ : List ℕ) (c d : Sequence ℕ) → Holds t X′ d Y′ → included X′ X ≡ true → same-plan d c ≡ true → included Y Y′ ≡ true → Holds t X c Y
-  rule-6-holds X X′ Y Y′ c d cited less same more =
-      record {
-        runs = λ σ apart h z. cited .runs σ apart (included-true X′ X less σ h) (same-leads t d c same σ failed z);
-        ends = λ σ apart h δ z.
-            let m = cited .ends σ apart (included-true X′ X less σ h) δ (same-leads t d c same σ (state δ) z) in
-            (m .0, included-true Y Y′ more δ (m .1));
-      }
+  rule-6-holds : (l cited : Line) → Good t cited → rule-6 cited l ≡ true → Good t l
+  unfolding rule-6
+  rule-6-holds l cited good e =
+      weaker t (l .X) (cited .X) (l .c) (cited .c) (l .Y) (cited .Y) good (included-true (cited .X) (l .X) (both-left _ _ e)) (both-left _ _ (both-right _ _ e))
+      (part-holds (l .Y) (cited .Y) (both-right _ _ (both-right _ _ e)))
 
-  -- Rule 4. The branch taken is the one whose condition is true.
-  abbrev Taken : List ℕ → Branches ℕ → Sequence ℕ → List ℕ → Line → Pair → Type 0
+  rule-8-holds : (l cited : Line) → Good t cited → rule-8 cited l ≡ true → Good t l
+  unfolding rule-8
+  rule-8-holds l cited good e =
+      let x : cited .X ≡ l .X = same-list-is _ _ (both-left _ _ e) in
+      weaker t (l .X) (cited .X) (l .c) (cited .c) (l .Y) (cited .Y) good (λ σ h. rw x h) (both-left _ _ (both-right _ _ e))
+      (settled-holds (cited .Y) (l .Y) (both-right _ _ (both-right _ _ e)))
+
+  -- Rules 4 and 12. The branch taken is the one whose condition is true.
+  abbrev Taken : List ℕ → Branches ℕ → Sequence ℕ → Conclusion → Line → Pair → Type 0
   Taken X bs rest Y cited σ = (b : Sequence ℕ) × (says cited X (join b rest) Y ≡ true) × ((x : Result) → Φ̂-case t bs σ x → Φ̂ t b σ x) × (None-true t bs σ → ⊥)
 
-  taken : (X : List ℕ) (bs : Branches ℕ) (rest : Sequence ℕ) (Y : List ℕ) (cited : Line) → takes-branch X bs rest Y cited ≡ true → all-exclusive (conditions-of bs) ≡ true
+  taken : (X : List ℕ) (bs : Branches ℕ) (rest : Sequence ℕ) (Y : Conclusion) (cited : Line) → takes-branch X bs rest Y cited ≡ true → all-exclusive (conditions-of bs) ≡ true
       → (σ : Pair) → Disjoint σ → each-of (true-in σ) X ≡ true → Taken X bs rest Y cited σ
   unfolding takes-branch conditions-of all-exclusive
   taken X none rest Y cited e apart σ d h = absurd (false≢true e)
@@ -212,7 +279,7 @@ module _ (t : Table) where
       later : Taken X bs rest Y cited σ → Taken X (branch c b bs) rest Y cited σ
       later m = (m .0, m .1, λ x z. ⊎-elim (λ v. absurd (m .3 (others (v .0)))) (m .2 x) z, λ n. m .3 (n .1))
 
-  rule-4-holds : (X : List ℕ) (p : ℕ) (bs : Branches ℕ) (rest : Sequence ℕ) (Y : List ℕ) (cited : Line) → Holds t (cited .X) (cited .c) (cited .Y)
+  rule-4-holds : (X : List ℕ) (p : ℕ) (bs : Branches ℕ) (rest : Sequence ℕ) (Y : Conclusion) (cited : Line) → Good t cited
       → takes-branch X bs rest Y cited ≡ true → all-exclusive (conditions-of bs) ≡ true → Holds t X (item (branching p bs) rest) Y
   unfolding says
   rule-4-holds X p bs rest Y cited good e apart =
@@ -253,7 +320,7 @@ arrived (single s) u h = inl (arrives-same (ends-one h))
 arrived (fork o p) u h = ⊎-elim (λ k. has-left (states-of o) (states-of (p tt)) u (arrived o u k)) (λ k. has-right (states-of o) (states-of (p tt)) u (arrived (p tt) u k)) (ends-split (arrivals o) (arrivals (p tt)) (arrives u) h)
 
 -- Each reading has its line.
-reading-cited : (rest : Sequence ℕ) (Y : List ℕ) (ss : List State) (ls : List Line) → each-reads rest Y ss ls ≡ true → (u : State) → Has ss u → (l : Line) × Has ls l × (says l (literals-of u) rest Y ≡ true)
+reading-cited : (rest : Sequence ℕ) (Y : Conclusion) (ss : List State) (ls : List Line) → each-reads rest Y ss ls ≡ true → (u : State) → Has ss u → (l : Line) × Has ls l × (says l (literals-of u) rest Y ≡ true)
 unfolding each-reads
 reading-cited rest Y [] [] e u h = absurd h
 reading-cited rest Y [] (l ∷ ls) e u h = absurd h
@@ -273,30 +340,50 @@ module _ (lim : Limits) (t : Table) (effects-within : (e : Effect) → Has (t .e
   can-run : (X : List ℕ) → Clear lim X → (a : ℕ) → can-be-run t a (state-of lim X) ≡ true → (σ : Pair) → each-of (true-in σ) X ≡ true → executable t a σ ≡ true
   can-run X clear a run σ h = executable-grows t a (below X clear σ h) (runs-pair t a (state-of lim X) ∙ run)
 
-  rule-2-holds : (X Y : List ℕ) → Clear lim X → (p a : ℕ) → sensing t a ≡ false → can-be-run t a (state-of lim X) ≡ true
-      → same-list Y (literals-of (state-after t a (state-of lim X))) ≡ true → Holds t X (item (act p a) done) Y
-  rule-2-holds X Y clear p a plain run same =
+  -- A single action: from every a-state in which X is true it can be run, and it leads only to a-states in which Y holds.
+  action-holds : (X : List ℕ) (Y : Conclusion) → Clear lim X → (p a : ℕ) → can-be-run t a (state-of lim X) ≡ true
+      → ((σ : Pair) → Disjoint σ → each-of (true-in σ) X ≡ true → (ρ : Pair) → Φ t a σ (state ρ) → Disjoint ρ × (holds-in Y ρ ≡ true)) → Holds t X (item (act p a) done) Y
+  action-holds X Y clear p a run after =
       record {
         runs = λ σ d h z. ⊎-elim (λ w. clash (can-run X clear a run σ h) (w .0)) (λ w. state≢failed (sym (w .2))) z;
-        ends = λ σ d h δ z. ⊎-elim (λ w. absurd (state≢failed (w .1))) (λ w. subst (λ (ρ : Pair). Disjoint ρ × (each-of (true-in ρ) Y ≡ true)) (sym (state-same (w .2))) (after σ d h (w .0) (w .1))) z;
+        ends = λ σ d h δ z. ⊎-elim (λ w. absurd (state≢failed (w .1))) (λ w. subst (λ (ρ : Pair). Disjoint ρ × (holds-in Y ρ ≡ true)) (sym (state-same (w .2))) (after σ d h (w .0) (w .1))) z;
       }
+
+  rule-2-holds : (X : List ℕ) (Y : Conclusion) → Clear lim X → (p a : ℕ) → sensing t a ≡ false → can-be-run t a (state-of lim X) ≡ true
+      → same-conclusion Y (knows (literals-of (state-after t a (state-of lim X)))) ≡ true → Holds t X (item (act p a) done) Y
+  rule-2-holds X Y clear p a plain run same = action-holds X Y clear p a run after
     where
       u : State
       u = state-after t a (state-of lim X)
 
-      after : (σ : Pair) → Disjoint σ → each-of (true-in σ) X ≡ true → (ρ : Pair) → Φ t a σ (state ρ) → Disjoint ρ × (each-of (true-in ρ) Y ≡ true)
+      after : (σ : Pair) → Disjoint σ → each-of (true-in σ) X ≡ true → (ρ : Pair) → Φ t a σ (state ρ) → Disjoint ρ × (holds-in Y ρ ≡ true)
       after σ d h ρ z =
           ⊎-elim
-          (λ w. rw (w .1) (Res-disjoint t a σ d, rw (same-list-is Y (literals-of u) same) (knows-true u (Res t a σ) (more σ h) (literals-of u) (literals-known u))))
+          (λ w. rw (w .1) (Res-disjoint t a σ d, rw (same-conclusion-is Y (knows (literals-of u)) same) (knows-true u (Res t a σ) (more σ h) (literals-of u) (literals-known u))))
           (λ w. clash (sym (sensing-pair t a) ∙ w .0) plain)
           (z .1)
         where
           more : (σ : Pair) → each-of (true-in σ) X ≡ true → pair-of u ≼ Res t a σ
           more σ h = rw (pair-after t a (state-of lim X) (λ n m. rw (state-length lim X) (effects-within n m))) (Res-grows t a (below X clear σ h))
 
-  rule-3-holds : (X Y : List ℕ) → Clear lim X → (p a : ℕ) (rest : Sequence ℕ) (cited : List Line) → sensing t a ≡ true → can-be-run t a (state-of lim X) ≡ true
+  -- Rule 7. What an action determines is known after it, whatever was known before.
+  rule-7-holds : (X : List ℕ) (Y : Conclusion) → Clear lim X → (p a : ℕ) → looks-for lim t Y a (state-of lim X) ≡ true → Holds t X (item (act p a) done) Y
+  unfolding looks-for K sensing-action
+  rule-7-holds X (knows Y) clear p a e = absurd (false≢true e)
+  rule-7-holds X (knows-whether f) clear p a e =
+      action-holds X (knows-whether f) clear p a (both-right _ _ e)
+      (λ σ d h ρ z. ⊎-elim (λ w. clash looks (w .0)) (λ w. (w .1 .disjoint, rw (true-in-true ρ f, false-in-true ρ f) (w .1 .domain f ∙ either-right _ _ determined))) (z .1))
+    where
+      determined : K t a f ≡ true
+      determined = senses-pair t a f ∙ both-left _ _ e
+
+      looks : sensing-action t a ≡ true
+      looks = some-mono _ _ (λ k. both-left _ _) (t .knowledge) determined
+
+  -- Rules 3 and 10. Each a-state that the action leads to is above some reading, and the line of that reading holds.
+  rule-3-holds : (X : List ℕ) (Y : Conclusion) → Clear lim X → (p a : ℕ) (rest : Sequence ℕ) (cited : List Line) → sensing t a ≡ true → can-be-run t a (state-of lim X) ≡ true
       → each-reads rest Y (states-of (readings (unknown-sensed t a (state-of lim X)) (state-of lim X))) cited ≡ true
-      → ((l : Line) → Has cited l → Holds t (l .X) (l .c) (l .Y)) → Holds t X (item (act p a) rest) Y
+      → ((l : Line) → Has cited l → Good t l) → Holds t X (item (act p a) rest) Y
   rule-3-holds X Y clear p a rest cited senses run each good =
       record {
         runs = λ σ d h z. ⊎-elim (λ w. clash (can-run X clear a run σ h) (w .0)) (λ w. let m = after σ h (w .0) (w .1) in m .1 .runs (w .0) (m .2) (m .3) (w .2)) z;
@@ -316,7 +403,7 @@ module _ (lim : Limits) (t : Table) (effects-within : (e : Effect) → Has (t .e
               (v .0, said t (c .0) (literals-of (v .0)) rest Y (c .2) (good (c .0) (c .1)), seen .disjoint, knows-true (v .0) ρ (v .3) (literals-of (v .0)) (literals-known (v .0)))
 
   -- A line that follows from lines that hold, holds: its X is clear and its plan's conditions are exclusive.
-  module _ (cited : List Line) (good : (l : Line) → Has cited l → Holds t (l .X) (l .c) (l .Y)) where
+  module _ (cited : List Line) (good : (l : Line) → Has cited l → Good t l) where
     acts-holds : (l : Line) → Clear lim (l .X) → (c : Sequence ℕ) → one-action lim t l c ≡ true → Holds t (l .X) c (l .Y)
     unfolding one-action acts
     acts-holds l clear done e = absurd (false≢true e)
@@ -324,6 +411,13 @@ module _ (lim : Limits) (t : Table) (effects-within : (e : Effect) → Has (t .e
         rule-2-holds (l .X) (l .Y) clear p a (fails-true _ (both-left _ _ e)) (both-left _ _ (both-right _ _ e)) (both-right _ _ (both-right _ _ e))
     acts-holds l clear (item (act p a) (item i rest)) e = absurd (false≢true e)
     acts-holds l clear (item (branching p bs) rest) e = absurd (false≢true e)
+
+    looks-holds : (l : Line) → Clear lim (l .X) → (c : Sequence ℕ) → one-look lim t l c ≡ true → Holds t (l .X) c (l .Y)
+    unfolding one-look
+    looks-holds l clear done e = absurd (false≢true e)
+    looks-holds l clear (item (act p a) done) e = rule-7-holds (l .X) (l .Y) clear p a e
+    looks-holds l clear (item (act p a) (item i rest)) e = absurd (false≢true e)
+    looks-holds l clear (item (branching p bs) rest) e = absurd (false≢true e)
 
     senses-holds : (l : Line) → Clear lim (l .X) → (c : Sequence ℕ) → senses-first lim t cited l c ≡ true → Holds t (l .X) c (l .Y)
     unfolding senses-first reads
@@ -333,75 +427,72 @@ module _ (lim : Limits) (t : Table) (effects-within : (e : Effect) → Has (t .e
         (pick-cases _ _ _ (both-right _ _ (both-right _ _ e)) (λ _ r. r) (λ _ r. absurd (false≢true r))) good
     senses-holds l clear (item (branching p bs) rest) e = absurd (false≢true e)
 
-    branches-hold : (l k : Line) → Holds t (k .X) (k .c) (k .Y) → (c : Sequence ℕ) → Fit c → branches-first k l c ≡ true → Holds t (l .X) c (l .Y)
+    branches-hold : (l k : Line) → Good t k → (c : Sequence ℕ) → Fit c → branches-first k l c ≡ true → Holds t (l .X) c (l .Y)
     unfolding branches-first
     branches-hold l k h done fit e = absurd (false≢true e)
     branches-hold l k h (item (act p a) rest) fit e = absurd (false≢true e)
     branches-hold l k h (item (branching p bs) rest) fit e = rule-4-holds t (l .X) p bs rest (l .Y) k h e (fit .0 .0)
 
-    one-cited : (test : Line → Bool) → of-one test cited ≡ true → (l : Line) × Holds t (l .X) (l .c) (l .Y) × (test l ≡ true)
+    one-cited : (test : Line → Bool) → of-one test cited ≡ true → (l : Line) × Good t l × (test l ≡ true)
     one-cited test e = let w = of-one-is test cited e in (w .0, good (w .0) (w .1), w .2)
 
-    two-cited : (test : Line → Line → Bool) → of-two test cited ≡ true → (l k : Line) × Holds t (l .X) (l .c) (l .Y) × Holds t (k .X) (k .c) (k .Y) × (test l k ≡ true)
+    two-cited : (test : Line → Line → Bool) → of-two test cited ≡ true → (l k : Line) × Good t l × Good t k × (test l k ≡ true)
     two-cited test e = let w = of-two-is test cited e in (w .0, w .1, good (w .0) (w .2), good (w .1) (w .3), w .4)
 
-    line-holds : (l : Line) → Clear lim (l .X) → Fit (l .c) → follows lim t cited l ≡ true → Holds t (l .X) (l .c) (l .Y)
-    unfolding follows rule-1 rule-2 rule-3 rule-4 rule-5 rule-6
-    line-holds l clear fit e =
+    -- Whatever rule is taken.
+    given-holds : (rule : ℕ) (l : Line) → Clear lim (l .X) → Fit (l .c) → given-by lim t rule cited l ≡ true → Good t l
+    unfolding given-by rule-1 rule-2 rule-3 rule-4 rule-7
+    given-holds rule l clear fit e =
         pick-cases _ _ _ e (λ _ r. rule-1-holds t (l .X) (l .c) (l .Y) (both-left _ _ r) (both-right _ _ r)) λ _ e₂.
         pick-cases _ _ _ e₂ (λ _ r. acts-holds l clear (l .c) r) λ _ e₃.
         pick-cases _ _ _ e₃ (λ _ r. senses-holds l clear (l .c) r) λ _ e₄.
         pick-cases _ _ _ e₄ (λ _ r. let w = one-cited _ r in branches-hold l (w .0) (w .1) (l .c) fit (w .2)) λ _ e₅.
-        pick-cases _ _ _ e₅
-        (λ _ r.
-        let w = two-cited _ r in
-        let z : w .0 .Y ≡ w .1 .X = same-list-is _ _ (both-right _ _ (both-left _ _ (w .4))) in
-        rule-5-holds t (l .X) (w .1 .X) (l .Y) (l .c) (w .0 .c) (w .1 .c)
-        (relist t (w .0 .c) (same-list-is _ _ (both-left _ _ (both-left _ _ (w .4)))) z (w .2))
-        (relist t (w .1 .c) refl (same-list-is _ _ (both-left _ _ (both-right _ _ (w .4)))) (w .3))
-        (both-right _ _ (both-right _ _ (w .4)))) λ _ r.
-        let w = one-cited _ r in
-        rule-6-holds t (l .X) (w .0 .X) (l .Y) (w .0 .Y) (l .c) (w .0 .c) (w .1) (both-left _ _ (w .2)) (both-left _ _ (both-right _ _ (w .2))) (both-right _ _ (both-right _ _ (w .2)))
+        pick-cases _ _ _ e₅ (λ _ r. let w = two-cited _ r in rule-5-holds t l (w .0) (w .1) (w .2) (w .3) (w .4)) λ _ e₆.
+        pick-cases _ _ _ e₆ (λ _ r. let w = one-cited _ r in rule-6-holds t l (w .0) (w .1) (w .2)) λ _ e₇.
+        pick-cases _ _ _ e₇ (λ _ r. looks-holds l clear (l .c) r) λ _ r.
+        let w = one-cited _ r in rule-8-holds t l (w .0) (w .1) (w .2)
+
+    line-holds : (l : Line) → Clear lim (l .X) → Fit (l .c) → follows lim t cited l ≡ true → Good t l
+    unfolding follows
+    line-holds l clear fit e = given-holds (for-lists (l .rule)) l clear fit e
 
   -- THE INDUCTION. `ls` are the lines from number i on; those before hold.
-  abbrev Good : Line → Type 0
-  Good l = Holds t (l .X) (l .c) (l .Y)
-
-  cited-good : (lines : List Line) (i : ℕ) → ((k : ℕ) → k < i → (d : Line) → Good (getD lines k d)) → (l : Line) → each-of (λ (k : ℕ). ltb k i) (l .cites) ≡ true → (x : Line) → Has (cited-by lines l) x → Good x
+  cited-good : (lines : List Line) (i : ℕ) → ((k : ℕ) → k < i → (d : Line) → Good t (getD lines k d)) → (l : Line) → each-of (λ (k : ℕ). ltb k i) (l .cites) ≡ true → (x : Line) → Has (cited-by lines l) x → Good t x
   unfolding cited-by
   cited-good lines i earlier l e x h =
       let w = map-has (λ (k : ℕ). getD lines k l) (l .cites) x h in
-      subst Good (sym (w .2)) (earlier (w .0) (ltb-true (w .0) i (each-has _ (l .cites) (w .0) e (w .1))) l)
+      subst (Good t) (sym (w .2)) (earlier (w .0) (ltb-true (w .0) i (each-has _ (l .cites) (w .0) e (w .1))) l)
 
-  lines-hold : (lines : List Line) (i : ℕ) (ls : List Line) → ((k : ℕ) → k < length ls → (d : Line) → getD lines (i + k) d ≡ getD ls k d)
-      → ((k : ℕ) → k < i → (d : Line) → Good (getD lines k d))
-      → All-follow lim t lines i ls → ((l : Line) → Has ls l → Clear lim (l .X)) → ((l : Line) → Has ls l → Fit (l .c))
-      → (l : Line) → Has ls l → Good l
-  lines-hold lines i [] at earlier all clear fits l h = absurd h
-  lines-hold lines i (x ∷ xs) at earlier all clear fits l h =
+  lines-hold : (layout : Layout) (lines : List Line) (i : ℕ) (ls : List Line) → ((k : ℕ) → k < length ls → (d : Line) → getD lines (i + k) d ≡ getD ls k d)
+      → ((k : ℕ) → k < i → (d : Line) → Good t (getD lines k d))
+      → All-follow lim layout t lines i ls → ((l : Line) → Has ls l → Clear lim (l .X)) → ((l : Line) → Has ls l → Fit (l .c))
+      → (l : Line) → Has ls l → Good t l
+  lines-hold layout lines i [] at earlier all clear fits l h = absurd h
+  lines-hold layout lines i (x ∷ xs) at earlier all clear fits l h =
       ⊎-elim (λ q. rw q here)
-      (lines-hold lines (i + 1) xs (λ k lt d. ap (λ (j : ℕ). getD lines j d) (omega arith) ∙ at (suc k) (omega arith) d) before (all .1) (λ y m. clear y (inr m)) (λ y m. fits y (inr m)) l)
+      (lines-hold layout lines (i + 1) xs (λ k lt d. ap (λ (j : ℕ). getD lines j d) (omega arith) ∙ at (suc k) (omega arith) d) before (all .1) (λ y m. clear y (inr m)) (λ y m. fits y (inr m)) l)
       h
     where
-      here : Good x
+      here : Good t x
       here = line-holds (cited-by lines x) (cited-good lines i earlier x (all .0 .earlier)) x (clear x (inl refl)) (fits x (inl refl)) (all .0 .gives)
 
-      before : (k : ℕ) → k < i + 1 → (d : Line) → Good (getD lines k d)
-      before k lt d = elim (decLt k i) [ yes less ↦ earlier k less d | no not-less ↦ subst Good (sym (ap (λ (j : ℕ). getD lines j d) (omega arith) ∙ at 0 (omega arith) d)) here ]
+      before : (k : ℕ) → k < i + 1 → (d : Line) → Good t (getD lines k d)
+      before k lt d = elim (decLt k i) [ yes less ↦ earlier k less d | no not-less ↦ subst (Good t) (sym (ap (λ (j : ℕ). getD lines j d) (omega arith) ∙ at 0 (omega arith) d)) here ]
 
 -- WHAT WAS READ. The X of each line is clear, and its plan's conditions are exclusive.
-lines-clear : (lim : Limits) (n m : ℕ) → n ≤ lim .state → (s : List ℕ) (lines : List Line) (e : ℕ) → read-derivation lim n m s ≡ got lines e → (l : Line) → Has lines l → Clear lim (l .X)
+lines-clear : (lim : Limits) (n m : ℕ) → n ≤ lim .state → (s : List ℕ) (layout : Layout) (d : Derivation) (e : ℕ) → read-derivation lim n m s layout ≡ got d e
+    → (l : Line) → Has (d .lines) l → Clear lim (l .X)
 unfolding read-derivation line-at
-lines-clear lim n m room s lines e q l h =
+lines-clear lim n m room s layout d e q l h =
     after-got (two-bytes-at s 0) _ (not-refused _ _ _ _ q .1) λ c p _ q₁.
-    after-got (repeated (line-at lim n m s) c p) _ (not-refused _ _ _ _ q₁ .1) λ ls p₁ read q₂.
-    let w = line-read (line-at lim n m s) c p ls p₁ read l (subst (λ (xs : List Line). Has xs l) (sym (got-same (not-refused _ _ _ _ q₂ .1))) h) in
-    after-got (list-at literals n (lim .listed) s (w .0)) _ (w .2) λ X i x q₃.
-    after-got (plan-at lim n m s i) _ q₃ λ _ j _ q₄.
-    after-got (list-at literals n (lim .listed) s j) _ q₄ λ _ k _ q₅.
-    after-got (byte-at s k) _ q₅ λ _ v _ q₆.
-    after-got (count-at 0 (lim .citations) s v) _ q₆ λ d g _ q₇.
-    after-got (repeated (two-bytes-at s) d g) _ q₇ λ _ _ _ same.
+    after-got (repeated (line-at lim n m s layout) c p) _ (not-refused _ _ _ _ q₁ .1) λ ls p₁ read q₂.
+    after-got (closing-at s layout p₁) _ q₂ λ _ _ _ q₃.
+    let w = line-read (line-at lim n m s layout) c p ls p₁ read l (subst (λ (x : Derivation). Has (x .lines) l) (sym (got-same (not-refused _ _ _ _ q₃ .1))) h) in
+    after-got (list-at literals n (lim .listed) s (w .0)) _ (w .2) λ X i x q₄.
+    after-got (plan-at lim n m s i) _ q₄ λ _ j _ q₅.
+    after-got (concluded-at lim n s layout j) _ q₅ λ _ k _ q₆.
+    after-got (count-at 0 (lim .citations) s k) _ q₆ λ v g _ q₇.
+    after-got (repeated (two-bytes-at s) v g) _ q₇ λ _ _ _ same.
     subst (λ (z : Line). Clear lim (z .X)) (got-same same)
     (record { within = λ y m. omega (arith, list-within n (lim .listed) s (w .0) X i x y m); consistent = list-consistent n (lim .listed) s (w .0) X i x })
 
@@ -410,31 +501,58 @@ unfolding overlap-in-lines
 lines-fit [] e l h = absurd h
 lines-fit (x ∷ xs) e l h = let w = or-else-nowhere (overlap-in (x .c)) _ e in ⊎-elim (λ q. rw q (fit (x .c) (w .0))) (lines-fit xs (w .1) l) h
 
-last-has : (r : Request) (lines : List Line) → Last-asks r lines → (l : Line) × Has lines l × (is-question r l ≡ true)
-last-has r [] h = absurd h
-last-has r (l ∷ []) h = (l, inl refl, h)
-last-has r (l ∷ (k ∷ ls)) h = let w = last-has r (k ∷ ls) h in (w .0, inr (w .1), w .2)
+-- WHAT ANSWERS. For each thing asked some line asks for it: the last one, or one that the closing list names.
+abbrev Asks : Request → List Line → Conclusion → Type 0
+Asks r lines Y = (l : Line) × Has lines l × (asks-for r Y l ≡ true)
 
--- THEOREM 3.1. What an accepted derivation asks is entailed, and the walk verifies it without a budget.
-module _ (lim : Limits) (room : lim .fluents ≤ lim .state) (request derivation : List ℕ) (a : Accepted lim request derivation) where
+last-asks : (r : Request) (lines : List Line) → Last-asks r lines → Asks r lines (goals-of r)
+last-asks r [] h = absurd h
+last-asks r (l ∷ []) h = (l, inl refl, h)
+last-asks r (l ∷ (k ∷ ls)) h = let w = last-asks r (k ∷ ls) h in (w .0, inr (w .1), w .2)
+
+named-asks : (r : Request) (lines : List Line) (k : ℕ) (Y : Conclusion) → names r lines k Y ≡ true → Asks r lines Y
+unfolding names
+named-asks r [] k Y e = absurd (false≢true e)
+named-asks r (l ∷ ls) zero Y e = (l, inl refl, e)
+named-asks r (l ∷ ls) (suc k) Y e = let w = named-asks r ls k Y e in (w .0, inr (w .1), w .2)
+
+all-named-ask : (r : Request) (lines : List Line) (Ys : List Conclusion) (ks : List ℕ) → All-named r lines Ys ks → (Y : Conclusion) → Has Ys Y → Asks r lines Y
+all-named-ask r lines [] ks all Y h = absurd h
+all-named-ask r lines (Z ∷ Zs) [] all Y h = absurd all
+all-named-ask r lines (Z ∷ Zs) (k ∷ ks) all Y h = ⊎-elim (λ q. rw q (named-asks r lines k Z (all .0))) (all-named-ask r lines Zs ks (all .1) Y) h
+
+answered-asks : (layout : Layout) (r : Request) (d : Derivation) → Answered layout r d → (Y : Conclusion) → Has (all-asked r) Y → Asks r (d .lines) Y
+unfolding all-asked
+answered-asks Plain r d a Y h =
+    ⊎-elim (λ q. rw q (last-asks r (d .lines) (a .1)))
+    (λ k. absurd (subst (λ (ws : List Entry). Has (map (λ (w : Entry). knows-whether (w .value)) ws) Y) (a .0) k)) h
+answered-asks Closing r d a Y h = all-named-ask r (d .lines) (all-asked r) (d .closing) a Y h
+
+-- THEOREMS 3.1 and 3.3. What an accepted derivation asks is entailed, and the walk verifies it without a budget.
+module _ (lim : Limits) (room : lim .fluents ≤ lim .state) (layout : Layout) (request derivation : List ℕ) (a : Accepted lim layout request derivation) where
   ranged : Ranged lim (a .asks .table)
   ranged = read-ranged lim request (a .asks) (a .end) (settled-is lim request (a .asks) (a .end) (a .request-settled) .reads)
 
-  question-holds : Holds (a .asks .table) (a .asks .table .facts) (a .asks .plan) (values (a .asks .goals))
-  unfolding is-question
-  question-holds =
-      let last = last-has (a .asks) (a .lines) (a .last-asks) in
-      said (a .asks .table) (last .0) _ _ _ (last .2)
+  asked-holds : (Y : Conclusion) → Has (all-asked (a .asks)) Y → Holds (a .asks .table) (a .asks .table .facts) (a .asks .plan) Y
+  unfolding asks-for
+  asked-holds Y h =
+      let asking = answered-asks layout (a .asks) (a .reads) (a .answered) Y h in
+      said (a .asks .table) (asking .0) _ _ _ (asking .2)
       (lines-hold lim (a .asks .table) (λ e h. omega (arith, ranged .effects e h, ranged .fluents)) (λ k h. omega (arith, ranged .knowledge k h, ranged .fluents))
-      (a .lines) 0 (a .lines) (λ k lt d. ap (λ (j : ℕ). getD (a .lines) j d) (omega arith)) (λ k lt d. absurd (omega arith)) (a .all-follow)
-      (lines-clear lim _ _ (omega (arith, ranged .fluents)) derivation (a .lines) (a .derivation-end) (a .derivation-read)) (lines-fit (a .lines) (a .no-overlap))
-      (last .0) (last .1))
+      layout (a .reads .lines) 0 (a .reads .lines) (λ k lt d. ap (λ (j : ℕ). getD (a .reads .lines) j d) (omega arith)) (λ k lt d. absurd (omega arith)) (a .all-follow)
+      (lines-clear lim _ _ (omega (arith, ranged .fluents)) derivation layout (a .reads) (a .derivation-end) (a .derivation-read)) (lines-fit (a .reads .lines) (a .no-overlap))
+      (asking .0) (asking .1))
+
+  entails : (Y : Conclusion) → Has (all-asked (a .asks)) Y → Entails (a .asks .table) (a .asks .plan) (holds-in Y)
+  entails Y h = let holds = asked-holds Y h in
+      record { executable = λ σ i z. holds .runs σ (i .disjoint) (i .facts) z; true-after = λ σ i δ z. holds .ends σ (i .disjoint) (i .facts) δ z .1 }
 
   asked-entailed : Entailed (a .asks)
-  unfolding values
+  unfolding all-asked goals-of values
   asked-entailed = (
-    record { executable = λ σ i z. question-holds .runs σ (i .disjoint) (i .facts) z; true-after = λ σ i δ z. question-holds .ends σ (i .disjoint) (i .facts) δ z .1 },
-    λ f h. absurd (subst (λ (es : List Entry). Has (values es) f) (a .no-whether) h),
+    entails (goals-of (a .asks)) (inl refl),
+    λ f h. let w = map-has (λ (e : Entry). e .value) (a .asks .whether) f h in
+        rw (w .2) (entails (knows-whether (w .0 .value)) (inr (has-map (λ (e : Entry). knows-whether (e .value)) (a .asks .whether) (w .0) (w .1)))),
   )
 
   pub accepted-verified : Verified (walked (a .asks) (first-state lim (a .asks .table)))

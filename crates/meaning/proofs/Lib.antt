@@ -1,6 +1,7 @@
 pub mod Compute
 pub mod Cases
 pub mod DerivationCases
+pub mod WhetherCases
 pub mod TestLaws
 pub mod LiteralLaws
 pub mod StateLaws
@@ -16,6 +17,10 @@ pub mod WalkSound
 pub mod PickLaws
 pub mod PathLaws
 pub mod RangeLaws
+pub mod MovedReads
+pub mod MovedPlans
+pub mod PlacelessLaws
+pub mod MovedLines
 pub mod PairLaws
 pub mod ToldLaws
 pub mod EndLaws
@@ -23,6 +28,7 @@ pub mod SensingLaws
 pub mod CoverLaws
 pub mod Exact
 pub mod Accepted
+pub mod LayoutLaws
 pub mod DerivationSound
 pub mod Table
 pub mod NotEmpty

@@ -94,7 +94,7 @@ module _ (t u : Table) (same : Same-tables t u) (a : ℕ) where
       ∙ some-same _ (λ x y r. rw (r .action)) (t .knowledge) (u .knowledge) (same .knowledge)
       ∙ sym (some-those _ _ (u .knowledge))
 
-  senses-same : (f : ℕ) → senses (knowledge-of t a) f ≡ senses (knowledge-of u a) f
+  pub senses-same : (f : ℕ) → senses (knowledge-of t a) f ≡ senses (knowledge-of u a) f
   unfolding senses knowledge-of
   senses-same f =
       some-those _ _ (t .knowledge)

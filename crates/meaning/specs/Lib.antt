@@ -13,3 +13,4 @@ pub mod Approximation
 pub mod Paths
 pub mod Derivations
 pub mod Showing
+pub mod Layouts

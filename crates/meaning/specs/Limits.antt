@@ -37,7 +37,7 @@ format = record {
 abbrev pub branching-byte : ℕ
 branching-byte = 255
 
--- Answers (FORMAT 4.3 to 4.25).
+-- Answers (FORMAT 4.3 to 4.25, 17.35, 17.36).
 abbrev pub verified : ℕ
 verified = 0
 
@@ -107,7 +107,10 @@ does-not-follow = 34
 abbrev pub not-the-question : ℕ
 not-the-question = 35
 
--- The rules of a derivation (FORMAT 10.12 to 10.17).
+abbrev pub closing-not-right : ℕ
+closing-not-right = 36
+
+-- The rules of a derivation (FORMAT 10.12 to 10.17, 17.21 to 17.25).
 abbrev pub empty-rule : ℕ
 empty-rule = 1
 
@@ -125,6 +128,21 @@ composition-rule = 5
 
 abbrev pub consequence-rule : ℕ
 consequence-rule = 6
+
+abbrev pub look-rule : ℕ
+look-rule = 7
+
+abbrev pub literal-rule : ℕ
+literal-rule = 8
+
+abbrev pub sensing-whether-rule : ℕ
+sensing-whether-rule = 10
+
+abbrev pub composition-whether-rule : ℕ
+composition-whether-rule = 11
+
+abbrev pub branching-whether-rule : ℕ
+branching-whether-rule = 12
 
 -- The input that a place is in (FORMAT 4.26).
 abbrev pub neither-input : ℕ

@@ -6,3 +6,10 @@ pub struct Answer {
     pub place: usize,
     pub count: u32,
 }
+
+// How a derivation is written: the plain layout has Y before the rule byte, and ends with its lines; the closing one has the rule byte
+// before Y, and after the lines a list that names those which answer the question.
+pub enum Layout {
+    Plain,
+    Closing,
+}

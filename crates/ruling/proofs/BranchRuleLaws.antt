@@ -1,4 +1,4 @@
--- Rule 4 over the bytes: the branches of a plan's first item stand one after another, each with its condition and its sequence, and after the last
+-- Rules 4 and 12 over the bytes: the branches of a plan's first item stand one after another, each with its condition and its sequence, and after the last
 -- of them the rest. What the whole branching gives is what the branches that are left give. Assumes nothing.
 use Prim.Native.Nat.{ℕ, zero, suc, _+_, _-_, _*_, _≤_, _<_}
 use native.Mathlib.Omega.{arith}
@@ -14,14 +14,15 @@ use Rattle.meaning.specs.Literals.{among, exclusive}
 use Rattle.meaning.specs.Requests.{Sequence, done, item, act, branching, Branches, none, branch}
 use Rattle.meaning.specs.Reading.{got, fault, Met, item-at, items-at, sequence-at, branching-at, plan-at}
 use Rattle.meaning.specs.States.{State, known, state-of}
-use Rattle.meaning.specs.Derivations.{Line, same-list, same-plan, join, included, says, takes-branch, branches-first, rule-4}
+use Rattle.meaning.specs.declared.Layout.{Layout}
+use Rattle.meaning.specs.Derivations.{Line, same-list, same-plan, join, included, same-conclusion, says, takes-branch, branches-first, rule-4}
 use Rattle.meaning.proofs.TestLaws.{by-test}
 use Rattle.meaning.proofs.ToldLaws.{Clear, state-known}
 use Rattle.meaning.proofs.SettledLaws.{fault≢got, got-same}
 use Rattle.bytes.specs.declared.bytes.Read.{Read}
 use Rattle.bytes.specs.declared.bytes.Read.the-variants.{Value, Fault}
 use Rattle.reading.specs.declared.marks.Test.the-variants.{Known}
-use Rattle.reading.specs.Listed.{listed, List-here, holds-as}
+use Rattle.reading.specs.Listed.{listed, holds-as}
 use Rattle.reading.specs.Planned.{items-of, items-in, items-under, bytes-of, bytes-in, bytes-under, place-of, plan-noted, noting-met, outcome-met}
 use Rattle.reading.proofs.PlanSizes.{On, got-on, next-on, two-bytes-through, item-read}
 use Rattle.reading.proofs.NotingLaws.{with-items, met-value, met-fault, fault-met}
@@ -31,15 +32,16 @@ use Rattle.refusing.proofs.OverlapLaws.{branch-first}
 use Rattle.refusing.proofs.PlanOverlaps.{place-is, item-is}
 use Rattle.refusing.proofs.WrittenLaws.{plan-held}
 use Rattle.deriving.specs.Derived.{Line-here}
+use Rattle.comparing.specs.declared.spots.Spot.{Spot}
 use Rattle.comparing.specs.Coded.{Tellable, Tellable-branches}
 use Rattle.comparing.specs.Stands.{after-list, Plan-stands, Stands}
-use Rattle.comparing.specs.Rules.{Some-plan, Items-stand, Some-items, Joined-plans, Some-line, Some-read, Read-by}
+use Rattle.comparing.specs.Rules.{Some-plan, Items-stand, Some-items, Joined-plans, Same-conclusions, Some-read, Read-by}
 use Rattle.ruling.specs.Branched.{branches-end, Branches-held, Branched, Some-branched, takes-known, Branch-taken}
 use Rattle.comparing.proofs.CodedLaws.{coded-length, own-most, none-done}
 use Rattle.comparing.proofs.CodedPlaces.{branch-coded, act-there, Branching-coded, branching-there}
 use Rattle.comparing.proofs.KnownLaws.{listed-clear}
 use Rattle.comparing.proofs.StandLaws.{Line-parts, line-parts}
-use Rattle.ruling.proofs.RuleLaws.{plan-of, item-bytes, own-count}
+use Rattle.ruling.proofs.RuleLaws.{X-same, plan-of, item-bytes, own-count}
 
 -- THE PLACE after so many branches.
 module _ (d t : List ℕ) where
@@ -282,13 +284,13 @@ module _ (cited l : Line) where
   unfolding says both
   X-differs not = rule-never (λ b. rw not)
 
-  Y-differs : same-list (cited .Y) (l .Y) ≡ false → rule-4 cited l ≡ false
+  Y-differs : same-conclusion (cited .Y) (l .Y) ≡ false → rule-4 cited l ≡ false
   unfolding says both
   Y-differs not =
       rule-never
       (λ b. rw not (by-test (same-plan (cited .c) b) (λ t. rw t (by-test (same-list (cited .X) (l .X)) (λ x. rw x) (λ x. rw x))) (λ f. rw f (by-test (same-list (cited .X) (l .X)) (λ x. rw x) (λ x. rw x)))))
 
-  module _ (starts : same-list (cited .X) (l .X) ≡ true) (ends : same-list (cited .Y) (l .Y) ≡ true) where
+  module _ (starts : same-list (cited .X) (l .X) ≡ true) (ends : same-conclusion (cited .Y) (l .Y) ≡ true) where
     says-is : (b : Sequence ℕ) → says cited (l .X) b (l .Y) ≡ same-plan (cited .c) b
     unfolding says both
     says-is b = rw (starts, ends) (by-test (same-plan (cited .c) b) (λ t. rw t) (λ f. rw f))
@@ -361,94 +363,78 @@ module _ (d u : List ℕ) (plan y : ℕ) where
         };
       }
 
--- THE CITED LINE.
-module _ (d : List ℕ) (pc yc : ℕ) where
-  pub cited-list : Some-line d pc yc → List-here 128 d pc
-  cited-list some = some .stands .X .here
+-- THE CITED LINE, where X or the conclusion differs.
+module _ (d : List ℕ) (v w : Spot) (n m : ℕ) (r : Bool) where
+  pub starts-other : r ≡ same-list (listed d (v .line)) (listed d (w .line)) → r ≡ false → Read-by n m d v w rule-4 false
+  starts-other tested not = record { holds = λ layout c l sc _ sl. sym (X-differs c l (sym (X-same d v w r tested c l sc sl) ∙ not)) }
 
-  module _ (cited : ℕ) (at : cited ≡ sequence-place d pc) where
-    pub cited-plan : Some-line d pc yc → Some-plan d cited yc
-    cited-plan some = record { plan = some .line .c; stands = plan-of d pc yc cited at (some .line) (some .stands) }
-
-  -- Where X or Y differs.
-  module _ (p y : ℕ) where
-    X-same : (c l : Line) → Stands d pc yc c → Stands d p y l → same-list (c .X) (l .X) ≡ same-list (listed d pc) (listed d p)
-    X-same c l sc sl = rw (sc .X .same, sl .X .same)
-
-    Y-same : (c l : Line) → Stands d pc yc c → Stands d p y l → same-list (c .Y) (l .Y) ≡ same-list (listed d yc) (listed d y)
-    Y-same c l sc sl = rw (sc .Y .same, sl .Y .same)
-
-    module _ (n m : ℕ) (r : Bool) where
-      pub starts-other : r ≡ same-list (listed d pc) (listed d p) → r ≡ false → Read-by n m d pc yc p y rule-4 false
-      starts-other tested not = record { holds = λ c l sc _ sl. sym (X-differs c l (X-same c l sc sl ∙ sym tested ∙ not)) }
-
-      pub ends-other : r ≡ same-list (listed d yc) (listed d y) → r ≡ false → Read-by n m d pc yc p y rule-4 false
-      ends-other tested not = record { holds = λ c l sc _ sl. sym (Y-differs c l (Y-same c l sc sl ∙ sym tested ∙ not)) }
+  pub ends-other : Same-conclusions d v w r → r ≡ false → Read-by n m d v w rule-4 false
+  ends-other tested not = record { holds = λ layout c l sc _ sl. sym (Y-differs c l (sym (tested .holds (c .Y) (l .Y) (sc .Y) (sl .Y)) ∙ not)) }
 
 -- THE LINE.
-module _ (n m : ℕ) (d : List ℕ) (p y : ℕ) where
+module _ (n m : ℕ) (d : List ℕ) (w : Spot) where
   -- Its plan, with the count there.
-  module _ (plan : ℕ) (at : plan ≡ sequence-place d p) where
-    pub plan-counted : Some-read n m d p y → plan + 1 < length d
-    plan-counted some = plan-of d p y plan at (some .line) (some .stands) .counted
+  module _ (plan : ℕ) (at : plan ≡ sequence-place d (w .line)) where
+    pub plan-counted : Some-read n m d w → plan + 1 < length d
+    plan-counted some = plan-of d w plan at (some .line) (some .stands) .counted
 
-    pub first-fits : Some-read n m d p y → Fits w64 (length d) → Fits w64 (plan + 2)
+    pub first-fits : Some-read n m d w → Fits w64 (length d) → Fits w64 (plan + 2)
     first-fits some room = let there = plan-counted some in let most = room .fits in record { fits = omega arith }
 
     module _ (count : ℕ) (counted : count ≡ getD d plan 0 * 256 + getD d (plan + 1) 0) where
-      pub count-none : (pc yc : ℕ) → count ≡ 0 → Read-by n m d pc yc p y rule-4 false
+      pub count-none : (v : Spot) → count ≡ 0 → Read-by n m d v w rule-4 false
       unfolding rule-4 branches-first
-      count-none pc yc zero-items = record { holds = λ c l sc _ sl. sym (ap (branches-first c l) (none-done (l .c) (sym (own-count d p y plan at count counted l sl) ∙ zero-items))) }
+      count-none v zero-items = record { holds = λ layout c l sc _ sl. sym (ap (branches-first c l) (none-done (l .c) (sym (own-count d w plan at count counted l sl) ∙ zero-items))) }
 
       module _ (some-items : count ≡ 0 → ⊥) where
-        own-some : (l : Line) → Stands d p y l → 0 < own-items (l .c)
-        own-some l sl = let own = own-count d p y plan at count counted l sl in omega (arith, own, some-items)
+        own-some : (l : Line) → Stands d w l → 0 < own-items (l .c)
+        own-some l sl = let own = own-count d w plan at count counted l sl in omega (arith, own, some-items)
 
-        pub first-there : Some-read n m d p y → plan + 2 < length d
+        pub first-there : Some-read n m d w → plan + 2 < length d
         first-there some =
             let sl = some .stands in
-            let ends = plan-of d p y plan at (some .line) sl .ends in let inside = plan-of d p y plan at (some .line) sl .inside in
+            let ends = plan-of d w plan at (some .line) sl .ends in let inside = plan-of d w plan at (some .line) sl .inside in
             let bytes = item-bytes (some .line .c) (own-some (some .line) sl) in
             omega arith
 
         -- No branching first.
-        pub other-first : (pc yc : ℕ) → (getD d (plan + 2) 0 ≡ 255 → ⊥) → Read-by n m d pc yc p y rule-4 false
+        pub other-first : (v : Spot) → (getD d (plan + 2) 0 ≡ 255 → ⊥) → Read-by n m d v w rule-4 false
         unfolding rule-4 branches-first
-        other-first pc yc other =
+        other-first v other =
             record {
-              holds = λ c l sc _ sl.
-                  let there = plan-of d p y plan at l sl in
+              holds = λ layout c l sc _ sl.
+                  let there = plan-of d w plan at l sl in
                   sym (ap (branches-first c l) (act-there d (plan + 2) (l .c) (own-some l sl) (there .tellable) (there .bytes) other .is));
             }
 
         -- THE PLAN READ AGAIN, which leaves it in the table.
         module _ (byte : getD d (plan + 2) 0 ≡ 255) (few : n ≤ 64) (less : m ≤ 64) (t u : List ℕ) (r : Read) (read : outcome-met r u ≡ noting-met (plan-noted plan t) (plan-at format n m d plan)) where
-          again : (l : Line) (w : Line-parts n m d p l) → plan-at format n m d plan ≡ got (w .plan) (w .end)
+          again : (l : Line) (parts : Line-parts n m d (w .line) l) → plan-at format n m d plan ≡ got (parts .plan) (parts .end)
           unfolding sequence-place after-list
-          again l w = ap (plan-at format n m d) at ∙ w .reads
+          again l parts = ap (plan-at format n m d) at ∙ parts .reads
 
           module _ (long : length t ≡ 9480) (items e : ℕ) (is : r ≡ Value items e) where
-            begins : (l : Line) → Line-here n m d p l → Stands d p y l → Begins d u (plan + 2) y (count - 1) l
+            begins : (layout : Layout) (l : Line) → Line-here n m d layout (w .line) l → Stands d w l → Begins d u (plan + 2) (w .end) (count - 1) l
             unfolding place-of
-            begins l here sl =
-                let w = line-parts n m d few p l here in
+            begins layout l here sl =
+                let parts = line-parts n m d few layout (w .line) l here in
                 let v = met-value (plan-noted plan t) (plan-at format n m d plan) r u items e read is in
-                let same : with-items (v .0) items ≡ w .plan = got-same (sym (v .1) ∙ again l w) in
-                let tree : v .0 ≡ l .c = ap (λ (x : Met (Sequence ℕ)). x .value) same ∙ w .is in
-                let there = plan-of d p y plan at l sl in
+                let same : with-items (v .0) items ≡ parts .plan = got-same (sym (v .1) ∙ again l parts) in
+                let tree : v .0 ≡ l .c = ap (λ (x : Met (Sequence ℕ)). x .value) same ∙ parts .is in
+                let there = plan-of d w plan at l sl in
                 let b = branching-there d (plan + 2) (l .c) (own-some l sl) (there .tellable) (there .bytes) byte in
                 let whole : v .0 ≡ item (branching (b .place) (b .branches)) (b .rest) = tree ∙ b .is in
                 let read-there = plan-held n m d few less plan t (with-items (v .0) items) e (omega (arith, long)) (v .1) in
                 let held : Plan-held d u (v .0) = subst (λ (x : List ℕ). Plan-held d x (v .0)) (sym (v .2)) read-there in
-                let own = own-count d p y plan at count counted l sl in let one = b .own in
+                let own = own-count d w plan at count counted l sl in let one = b .own in
                 record {
                   place = b .place;
                   branches = b .branches;
                   rest = b .rest;
                   is = b .is;
-                  branched = opened d u plan y (b .place) (b .branches) (b .rest)
+                  branched = opened d u plan (w .end) (b .place) (b .branches) (b .rest)
                       (subst (First-at (plan + 2)) whole (plan-first n m d plan (with-items (v .0) items) e (v .1)))
-                      (subst (Plan-stands d plan y) (b .is) there)
+                      (subst (Plan-stands d plan (w .end)) (b .is) there)
                       (subst (Plan-held d u) whole held)
                       (b .there)
                       (b .branches-told)
@@ -457,32 +443,32 @@ module _ (n m : ℕ) (d : List ℕ) (p y : ℕ) where
                       (omega (arith, own, one));
                 }
 
-            pub branching-first : Some-read n m d p y → Some-branched d u (plan + 2) y (count - 1)
+            pub branching-first : Some-read n m d w → Some-branched d u (plan + 2) (w .end) (count - 1)
             branching-first some =
-                let g = begins (some .line) (some .here) (some .stands) in
+                let g = begins (some .layout) (some .line) (some .here) (some .stands) in
                 record { branches = g .branches; rest = g .rest; branched = g .branched }
 
-            module _ (pc yc : ℕ) (one other : Bool) (starts : one ≡ same-list (listed d pc) (listed d p)) (yes : one ≡ true) (ends : other ≡ same-list (listed d yc) (listed d y)) (also : other ≡ true) where
-              pub rule-by-branch : (held : State) → held ≡ state-of format (listed d p) → (cited : ℕ) → cited ≡ sequence-place d pc → (answer : Bool) → Branch-taken d u held (plan + 2) cited yc y (count - 1) answer
-                  → Read-by n m d pc yc p y rule-4 answer
+            module _ (v : Spot) (one other : Bool) (starts : one ≡ same-list (listed d (v .line)) (listed d (w .line))) (yes : one ≡ true) (ends : Same-conclusions d v w other) (also : other ≡ true) where
+              pub rule-by-branch : (held : State) → held ≡ state-of format (listed d (w .line)) → (given : ℕ) → given ≡ sequence-place d (v .line) → (answer : Bool)
+                  → Branch-taken d u held (plan + 2) given (v .end) (w .end) (count - 1) answer → Read-by n m d v w rule-4 answer
               unfolding rule-4 branches-first
-              rule-by-branch held told cited place answer taken =
+              rule-by-branch held told given place answer taken =
                   record {
-                    holds = λ c l sc here sl.
-                        let g = begins l here sl in
+                    holds = λ layout c l sc here sl.
+                        let g = begins layout l here sl in
                         let apart = subst (λ (xs : List ℕ). exclusive xs xs ≡ false) (sym (sl .X .same)) (sl .X .clear) in
-                        let clear : Clear format (l .X) = subst (Clear format) (sl .X .same) (listed-clear d p (sl .X .here) apart) in
-                        taken .holds (g .branches) (g .rest) (c .c) (g .branched) (plan-of d pc yc cited place c sc)
+                        let clear : Clear format (l .X) = subst (Clear format) (sl .X .same) (listed-clear d (w .line) (sl .X .here) apart) in
+                        taken .holds (g .branches) (g .rest) (c .c) (g .branched) (plan-of d v given place c sc)
                         ∙ ap (λ (s : State). takes-known s (g .branches) (g .rest) (c .c)) (told ∙ ap (state-of format) (sl .X .same))
-                        ∙ takes-same c l (X-same d pc yc p y c l sc sl ∙ sym starts ∙ yes) (Y-same d pc yc p y c l sc sl ∙ sym ends ∙ also) clear (g .branches) (g .rest)
+                        ∙ takes-same c l (sym (X-same d v w one starts c l sc sl) ∙ yes) (sym (ends .holds (c .Y) (l .Y) (sc .Y) (sl .Y)) ∙ also) clear (g .branches) (g .rest)
                         ∙ sym (ap (branches-first c l) (g .is));
                   }
 
           -- A plan that stands there is read without a fault.
-          pub read-again : (pc yc k e : ℕ) → r ≡ Fault k e → Read-by n m d pc yc p y rule-4 false
-          read-again pc yc k e is =
+          pub read-again : (v : Spot) (k e : ℕ) → r ≡ Fault k e → Read-by n m d v w rule-4 false
+          read-again v k e is =
               record {
-                holds = λ c l sc here sl.
+                holds = λ layout c l sc here sl.
                     let no : plan-at format n m d plan ≡ fault k e = fault-met (plan-noted plan t) (plan-at format n m d plan) k e (met-fault (plan-noted plan t) (plan-at format n m d plan) r u k e read is) in
-                    absurd (fault≢got (sym no ∙ again l (line-parts n m d few p l here)));
+                    absurd (fault≢got (sym no ∙ again l (line-parts n m d few layout (w .line) l here)));
               }

@@ -1,6 +1,6 @@
--- Rule 3: a citation says a reading just where its list, its count and its items' bytes do; the readings of the first unknown fluent are those with
--- it true and then those with it false, and the citations are used up in that order. As many lines are used as there are readings, so that how
--- many are cited need not be asked beforehand. Assumes nothing.
+-- Rules 3 and 10: a citation says a reading just where its list, its count, its items' bytes and its conclusion do; the readings of the first unknown
+-- fluent are those with it true and then those with it false, and the citations are used up in that order. As many lines are used as there are
+-- readings, so that how many are cited need not be asked beforehand. Assumes nothing.
 use Prim.Native.Nat.{ℕ, zero, suc, _+_, _-_, _*_, _^_, _≤_, _<_}
 use native.Mathlib.Omega.{arith}
 use native.Mathlib.Nat.{pow-suc}
@@ -14,15 +14,16 @@ use lib.Dec.{eqb, ltb}
 use mir.Syntax.{w64}
 use mir.Val.{Fits}
 use borrow.Author.Tests.{eqb-false, eq-eqb, ne-eqb, ltb-true, lt-ltb, le-ltb}
+use Rattle.meaning.specs.declared.Layout.{Layout}
 use Rattle.meaning.specs.Tests.{both, pick, each-of}
 use Rattle.meaning.specs.Limits.{format}
 use Rattle.meaning.specs.Literals.{says-true, says-false}
 use Rattle.meaning.specs.Requests.{Table, Sequence, done, item, act}
 use Rattle.meaning.specs.Lines.{sensing}
 use Rattle.meaning.specs.States.{State, told, state-of, can-be-run, unknown-sensed, readings}
-use Rattle.meaning.specs.Derivations.{Line, same-list, same-plan, literals-of, says, states-of, each-reads, reads, senses-first, rule-3, cited-by}
+use Rattle.meaning.specs.Derivations.{Conclusion, knows, Line, same-list, same-plan, literals-of, same-conclusion, says, states-of, each-reads, reads, senses-first, rule-3, cited-by}
 use Rattle.meaning.proofs.TestLaws.{by-test, clash, both-left, both-right, pick-true, pick-false}
-use Rattle.reading.specs.Listed.{bytes-from, listed, List-here}
+use Rattle.reading.specs.Listed.{bytes-from, listed}
 use Rattle.reading.specs.Planned.{bytes-of}
 use Rattle.refusing.specs.Branchings.{sequence-place}
 use Rattle.refusing.specs.Plans.{own-items}
@@ -33,80 +34,89 @@ use Rattle.steps.proofs.SensingLaws.{first-marked, second-marked, told-true, to
 use Rattle.steps.proofs.ToldMarks.{marked-as}
 use Rattle.ruling.specs.declared.readings.Used.{Used}
 use Rattle.ruling.specs.declared.readings.Used.the-variants.{To, Fails}
-use Rattle.ruling.specs.declared.readings.Rest.{Rest}
+use Rattle.comparing.specs.declared.spots.Spot.{Spot}
 use Rattle.comparing.specs.Coded.{coded}
-use Rattle.comparing.specs.Stands.{after-list, Plan-stands, Numbers-stand, Stands, Lines-stand}
-use Rattle.comparing.specs.Rules.{Items-stand, Some-line, Some-lines, Cited-below, Ruled-by-all}
-use Rattle.ruling.specs.Readings.{lines-at, reads-at, used, fluents-from, states-from, Stands-some, Follows, Some-follows, Says-reading, Rest-stands, Some-rest, Uses}
+use Rattle.comparing.specs.Stands.{Plan-stands, Numbers-stand, Stands, spot-at, Lines-stand}
+use Rattle.comparing.specs.Rules.{Items-stand, Same-conclusions, Some-line, Some-lines, Cited-below, Ruled-by-all}
+use Rattle.ruling.specs.Readings.{lines-at, reads-at, used, fluents-from, states-from, Stands-some, rest-first, rest-items, Follows, Some-follows, Says-reading, Rest-stands, Some-rest, Uses}
 use Rattle.comparing.proofs.CodedLaws.{same-own, same-coded, none-done, coded-length}
 use Rattle.comparing.proofs.CodedPlaces.{Act-there, act-there, branching-there}
 use Rattle.comparing.proofs.PlanLaws.{plan-part, items-part}
 use Rattle.ruling.proofs.RuleLaws.{no-left, no-right, yes-left, plan-of, plan-counted, own-count}
 
--- ONE CITATION, a line at pc, whose plan's count stands at q.
-module _ (d : List ℕ) (pc yc q : ℕ) (after : q ≡ sequence-place d pc) where
-  module _ (some : Stands-some d pc yc) where
-    cited-some : Plan-stands d q yc (some .line .c)
-    cited-some = plan-of d pc yc q after (some .line) (some .stands)
+-- ONE CITATION, a line at the spot v, whose plan's count stands at q.
+module _ (d : List ℕ) (v : Spot) (q : ℕ) (after : q ≡ sequence-place d (v .line)) (some : Stands-some d v) where
+  cited-some : Plan-stands d q (v .end) (some .line .c)
+  cited-some = plan-of d v q after (some .line) (some .stands)
 
-    pub cited-counted : q + 1 < length d
-    cited-counted = cited-some .counted
+  pub cited-counted : q + 1 < length d
+  cited-counted = cited-some .counted
 
-    pub cited-fits : Fits w64 (q + 2)
-    cited-fits = let there = cited-counted in let long = some .long in record { fits = omega (arith, there, long) }
+  pub cited-fits : Fits w64 (q + 2)
+  cited-fits = let there = cited-counted in let long = some .long in record { fits = omega (arith, there, long) }
 
-    pub cited-ends : q + 2 ≤ yc
-    cited-ends = let ends = cited-some .ends in omega (arith, ends)
+  pub cited-ends : q + 2 ≤ v .end
+  cited-ends = let ends = cited-some .ends in omega (arith, ends)
 
-module _ (d : List ℕ) (marks : State) (r : Rest) (pc yc : ℕ) (starts : Bool) (first : starts ≡ same-list (listed d pc) (literals-of marks)) where
-  starts-is : (c : Line) → Stands d pc yc c → starts ≡ same-list (c .X) (literals-of marks)
-  starts-is c w = first ∙ ap (λ (xs : List ℕ). same-list xs (literals-of marks)) (w .X .same)
+-- By the line itself, at the spot w, whose plan's count stands at p.
+module _ (d : List ℕ) (marks : State) (w v : Spot) (starts : Bool) (first : starts ≡ same-list (listed d (v .line)) (literals-of marks)) where
+  starts-is : (c : Line) → Stands d v c → starts ≡ same-list (c .X) (literals-of marks)
+  starts-is c z = first ∙ ap (λ (xs : List ℕ). same-list xs (literals-of marks)) (z .X .same)
 
-  pub starts-other : starts ≡ false → Says-reading d marks r pc yc false
+  pub starts-other : starts ≡ false → Says-reading d marks w v false
   unfolding says
-  starts-other f = record { holds = λ c rest Y w v. no-left (same-list (c .X) (literals-of marks)) _ (sym (starts-is c w) ∙ f) }
+  starts-other f = record { holds = λ c rest Y z y. no-left (same-list (c .X) (literals-of marks)) _ (sym (starts-is c z) ∙ f) }
 
-  module _ (q count : ℕ) (after : q ≡ sequence-place d pc) (read : count ≡ getD d q 0 * 256 + getD d (q + 1) 0) where
-    pub count-other : (count ≡ r .items → ⊥) → Says-reading d marks r pc yc false
+  module _ (q count : ℕ) (after : q ≡ sequence-place d (v .line)) (read : count ≡ getD d q 0 * 256 + getD d (q + 1) 0) (p all items : ℕ) (own : p ≡ sequence-place d (w .line)) (whole : all ≡ getD d p 0 * 256 + getD d (p + 1) 0) (less : items ≡ all - 1) where
+    items-are : items ≡ rest-items d w
+    items-are = less ∙ ap (λ (n : ℕ). n - 1) (whole ∙ ap (λ (j : ℕ). getD d j 0 * 256 + getD d (j + 1) 0) own)
+
+    pub count-other : (count ≡ items → ⊥) → Says-reading d marks w v false
     unfolding says
     count-other differ =
         record {
-          holds = λ c rest Y w v.
+          holds = λ c rest Y z y.
               no-right (same-list (c .X) (literals-of marks)) _
-              (sym (no-left (same-plan (c .c) rest) (same-list (c .Y) Y)
+              (sym (no-left (same-plan (c .c) rest) (same-conclusion (c .Y) Y)
               (by-test (same-plan (c .c) rest)
-              (λ t. absurd (differ (read ∙ plan-of d pc yc q after c w .count ∙ same-own (c .c) rest t ∙ sym (v .items .counted))))
+              (λ t. absurd (differ (read ∙ plan-of d v q after c z .count ∙ same-own (c .c) rest t ∙ sym (y .items .counted) ∙ sym items-are)))
               (λ f. f))));
         }
 
-    module _ (counted : count ≡ r .items) (same : Bool) (parts : same ≡ same-list (take (yc - (q + 2)) (drop (q + 2) d)) (take (r .y - r .first) (drop (r .first) d))) where
-      same-is : (c : Line) (rest : Sequence ℕ) (Y : List ℕ) → Stands d pc yc c → Follows d r rest Y → same ≡ same-plan (c .c) rest
-      unfolding both
-      same-is c rest Y w v =
-          let plan = plan-of d pc yc q after c w in
-          let own : own-items (c .c) ≡ own-items rest = sym (plan .count) ∙ sym read ∙ counted ∙ v .items .counted in
-          parts
-          ∙ rw (plan-part d q yc (c .c) plan, items-part d (r .first) (r .y) (r .items) rest (v .items))
-          (sym (same-coded (c .c) rest (plan .tellable) (v .items .tellable) ∙ rw (eq-eqb (own-items (c .c)) (own-items rest) own)))
+    module _ (counted : count ≡ items) (same : Bool) (parts : same ≡ same-list (take (v .end - (q + 2)) (drop (q + 2) d)) (take (w .end - (p + 3)) (drop (p + 3) d))) where
+      parts-are : same ≡ same-list (take (v .end - (q + 2)) (drop (q + 2) d)) (take (w .end - rest-first d w) (drop (rest-first d w) d))
+      parts-are = parts ∙ ap (λ (j : ℕ). same-list (take (v .end - (q + 2)) (drop (q + 2) d)) (take (w .end - (j + 3)) (drop (j + 3) d))) own
 
-      pub items-other : same ≡ false → Says-reading d marks r pc yc false
+      same-is : (c : Line) (rest : Sequence ℕ) (Y : Conclusion) → Stands d v c → Follows d w rest Y → same ≡ same-plan (c .c) rest
+      unfolding both
+      same-is c rest Y z y =
+          let plan = plan-of d v q after c z in
+          let own-same : own-items (c .c) ≡ own-items rest = sym (plan .count) ∙ sym read ∙ counted ∙ items-are ∙ y .items .counted in
+          parts-are
+          ∙ rw (plan-part d q (v .end) (c .c) plan, items-part d (rest-first d w) (w .end) (rest-items d w) rest (y .items))
+          (sym (same-coded (c .c) rest (plan .tellable) (y .items .tellable) ∙ rw (eq-eqb (own-items (c .c)) (own-items rest) own-same)))
+
+      pub items-other : same ≡ false → Says-reading d marks w v false
       unfolding says
       items-other f =
           record {
-            holds = λ c rest Y w v.
-                no-right (same-list (c .X) (literals-of marks)) _ (sym (no-left (same-plan (c .c) rest) (same-list (c .Y) Y) (sym (same-is c rest Y w v) ∙ f)));
+            holds = λ c rest Y z y.
+                no-right (same-list (c .X) (literals-of marks)) _ (sym (no-left (same-plan (c .c) rest) (same-conclusion (c .Y) Y) (sym (same-is c rest Y z y) ∙ f)));
           }
 
-      pub items-same : starts ≡ true → same ≡ true → (answer : Bool) → answer ≡ same-list (listed d yc) (listed d (r .y)) → Says-reading d marks r pc yc answer
+      pub items-same : starts ≡ true → same ≡ true → (answer : Bool) → Same-conclusions d v w answer → Says-reading d marks w v answer
       unfolding says
       items-same t u answer is =
           record {
-            holds = λ c rest Y w v.
-                is
-                ∙ ap₂ {C = Bool} same-list (w .Y .same) (v .list .same)
-                ∙ sym (yes-left (same-plan (c .c) rest) (same-list (c .Y) Y) (sym (same-is c rest Y w v) ∙ u))
-                ∙ sym (yes-left (same-list (c .X) (literals-of marks)) _ (sym (starts-is c w) ∙ t));
+            holds = λ c rest Y z y.
+                is .holds (c .Y) Y (z .Y) (y .concluded)
+                ∙ sym (yes-left (same-plan (c .c) rest) (same-conclusion (c .Y) Y) (sym (same-is c rest Y z y) ∙ u))
+                ∙ sym (yes-left (same-list (c .X) (literals-of marks)) _ (sym (starts-is c z) ∙ t));
           }
+
+-- Where the slots of a line say that its parts stand.
+abbrev slot-spot : Layout → (d places : List ℕ) → ℕ → Spot
+slot-spot layout d places i = spot-at layout d (getD places i 0) (getD places (1024 + i) 0)
 
 -- CITATION k. Two bytes say its number.
 number-stands : (d cites : List ℕ) (p k : ℕ) → Numbers-stand d p cites → k < length cites
@@ -134,94 +144,122 @@ line-at-number lines other [] k less = absurd (omega (arith, less))
 line-at-number lines other (x ∷ cites) zero less = refl
 line-at-number lines other (x ∷ cites) (suc k) less = line-at-number lines other cites k (omega (arith, less))
 
-module _ (d places ends : List ℕ) (r : Rest) (k : ℕ) where
-  pub none-left : (marks : State) → r .count ≤ k → Uses d places ends r (marks ∷ []) k Fails
+module _ (layout : Layout) (d places : List ℕ) (w : Spot) (count : ℕ) (counts : count ≡ getD d (w .cites) 0) (k : ℕ) where
+  pub none-left : (marks : State) → count ≤ k → Uses layout d places w (marks ∷ []) k Fails
   unfolding used reads-at
   none-left marks far =
       record {
-        holds = λ lines rest Y cites other w.
-            let size = lines-length lines other cites in let counted = w .counted in
-            sym (pick-false _ _ _ (sym (no-left _ _ (le-ltb k (length (lines-at lines other cites)) (omega (arith, far, size, counted))))));
+        holds = λ lines rest Y cites other v.
+            let size = lines-length lines other cites in let counted = v .counted in
+            sym (pick-false _ _ _ (sym (no-left _ _ (le-ltb k (length (lines-at lines other cites)) (omega (arith, far, size, counted, counts))))));
       }
 
-  module _ (some : Some-rest d places ends r) (less : k < r .count) where
+  module _ (total i : ℕ) (given : Some-rest layout d places total (slot-spot layout d places i)) (placed : w ≡ slot-spot layout d places i) (less : k < count) where
+    some : Some-rest layout d places total w
+    some = subst (Some-rest layout d places total) (sym placed) given
+
     near : k < length (some .cites)
-    near = let counted = some .stands .counted in omega (arith, less, counted)
+    near = let counted = some .stands .counted in omega (arith, less, counted, counts)
 
-    pub second-inside : r .cites + 2 * k + 1 < length d
-    second-inside = number-stands d (some .cites) (r .cites) k (some .stands .numbers) near .0
+    pub second-inside : w .cites + 1 + 2 * k + 1 < length d
+    second-inside = number-stands d (some .cites) (w .cites + 1) k (some .stands .numbers) near .0
 
-    pub first-inside : r .cites + 2 * k < length d
+    pub first-inside : w .cites + 1 + 2 * k < length d
     first-inside = let there = second-inside in omega (arith, there)
 
-    pub first-fits : Fits w64 (r .cites + 2 * k)
+    pub twice-fits : Fits w64 (2 * k)
+    twice-fits = let there = second-inside in let long = some .stands .stand .long in record { fits = omega (arith, there, long) }
+
+    pub numbers-fit : Fits w64 (w .cites + 1)
+    numbers-fit = let there = second-inside in let long = some .stands .stand .long in record { fits = omega (arith, there, long) }
+
+    pub first-fits : Fits w64 (w .cites + 1 + 2 * k)
     first-fits = let there = second-inside in let long = some .stands .stand .long in record { fits = omega (arith, there, long) }
 
-    pub second-fits : Fits w64 (r .cites + 2 * k + 1)
+    pub second-fits : Fits w64 (w .cites + 1 + 2 * k + 1)
     second-fits = let there = second-inside in let long = some .stands .stand .long in record { fits = omega (arith, there, long) }
 
   -- Its line stands where the slots say.
-  module _ (less : k < r .count) (number : ℕ) (read : number ≡ getD d (r .cites + 2 * k) 0 * 256 + getD d (r .cites + 2 * k + 1) 0) where
-    module _ (lines : List Line) (rest : Sequence ℕ) (Y cites : List ℕ) (w : Rest-stands d places ends r lines rest Y cites) where
+  module _ (less : k < count) (number : ℕ) (read : number ≡ getD d (w .cites + 1 + 2 * k) 0 * 256 + getD d (w .cites + 1 + 2 * k + 1) 0) where
+    module _ (lines : List Line) (rest : Sequence ℕ) (Y : Conclusion) (cites : List ℕ) (v : Rest-stands layout d places w lines rest Y cites) where
       close : k < length cites
-      close = let counted = w .counted in omega (arith, less, counted)
+      close = let counted = v .counted in omega (arith, less, counted, counts)
 
       is-number : number ≡ getD cites k 0
-      is-number = read ∙ number-stands d cites (r .cites) k (w .numbers) close .1
+      is-number = read ∙ number-stands d cites (w .cites + 1) k (v .numbers) close .1
 
       is-below : number < length lines
-      is-below = rw is-number (ltb-true (getD cites k 0) (length lines) (each-at (λ (j : ℕ). ltb j (length lines)) cites k (w .below) close))
+      is-below = rw is-number (ltb-true (getD cites k 0) (length lines) (each-at (λ (j : ℕ). ltb j (length lines)) cites k (v .below) close))
 
       module _ (other : Line) where
-        cited-stands : Stands d (getD places number 0) (getD ends number 0) (getD (lines-at lines other cites) k other)
-        cited-stands = subst (Stands d (getD places number 0) (getD ends number 0)) (ap (λ (j : ℕ). getD lines j other) is-number ∙ sym (line-at-number lines other cites k close)) (w .stand .each number is-below other)
+        cited-stands : Stands d (slot-spot layout d places number) (getD (lines-at lines other cites) k other)
+        cited-stands = subst (Stands d (slot-spot layout d places number)) (ap (λ (j : ℕ). getD lines j other) is-number ∙ sym (line-at-number lines other cites k close)) (v .stand .each number is-below other)
 
         cited-near : ltb k (length (lines-at lines other cites)) ≡ true
         cited-near = let size = lines-length lines other cites in lt-ltb k (length (lines-at lines other cites)) (let there = close in omega (arith, there, size))
 
-    pub number-small : Some-rest d places ends r → number < 1024
-    number-small some =
+    pub number-below : (total i : ℕ) → Some-rest layout d places total (slot-spot layout d places i) → w ≡ slot-spot layout d places i → number < total
+    number-below total i given placed =
+        let some : Some-rest layout d places total w = subst (Some-rest layout d places total) (sym placed) given in
         let below = is-below (some .lines) (some .rest) (some .Y) (some .cites) (some .stands) in
-        let few = some .stands .stand .few in
-        omega (arith, below, few)
+        let size = some .size in
+        omega (arith, below, size)
 
-    module _ (pc yc : ℕ) (place : pc ≡ getD places number 0) (end : yc ≡ getD ends number 0) where
-      pub number-line : Some-rest d places ends r → Stands-some d pc yc
-      number-line some =
-          let lines = some .lines in
-          record {
-            long = some .stands .stand .long;
-            line = getD (lines-at lines no-line (some .cites)) k no-line;
-            stands = rw (place, end) (cited-stands lines (some .rest) (some .Y) (some .cites) (some .stands) no-line);
-          }
-        where
-          no-line : Line
-          no-line = record { place = 0; X = []; c = done; Y = []; rule = 0; cites = [] }
+    module _ (v : Spot) (placed : v ≡ slot-spot layout d places number) (marks : State) (said : Bool) (says-so : Says-reading d marks w v said) where
+      said-is : (lines : List Line) (rest : Sequence ℕ) (Y : Conclusion) (cites : List ℕ) (other : Line) → Rest-stands layout d places w lines rest Y cites
+          → said ≡ reads-at rest Y (lines-at lines other cites) other marks k
+      unfolding reads-at
+      said-is lines rest Y cites other z =
+          says-so .holds (getD (lines-at lines other cites) k other) rest Y (rw placed (cited-stands lines rest Y cites z other)) (z .follows)
+          ∙ sym (yes-left _ _ (cited-near lines rest Y cites z other))
 
-      module _ (marks : State) (said : Bool) (says-so : Says-reading d marks r pc yc said) where
-        said-is : (lines : List Line) (rest : Sequence ℕ) (Y cites : List ℕ) (other : Line) → Rest-stands d places ends r lines rest Y cites
-            → said ≡ reads-at rest Y (lines-at lines other cites) other marks k
-        unfolding reads-at
-        said-is lines rest Y cites other w =
-            says-so .holds (getD (lines-at lines other cites) k other) rest Y (rw (place, end) (cited-stands lines rest Y cites w other)) (w .follows)
-            ∙ sym (yes-left _ _ (cited-near lines rest Y cites w other))
+      pub reading-said : said ≡ true → Uses layout d places w (marks ∷ []) k (To (k + 1))
+      unfolding used
+      reading-said t = record { holds = λ lines rest Y cites other z. sym (pick-true _ _ _ (sym (said-is lines rest Y cites other z) ∙ t)) }
 
-        pub reading-said : said ≡ true → Uses d places ends r (marks ∷ []) k (To (k + 1))
-        unfolding used
-        reading-said t = record { holds = λ lines rest Y cites other w. sym (pick-true _ _ _ (sym (said-is lines rest Y cites other w) ∙ t)) }
+      pub reading-unsaid : said ≡ false → Uses layout d places w (marks ∷ []) k Fails
+      unfolding used
+      reading-unsaid f = record { holds = λ lines rest Y cites other z. sym (pick-false _ _ _ (sym (said-is lines rest Y cites other z) ∙ f)) }
 
-        pub reading-unsaid : said ≡ false → Uses d places ends r (marks ∷ []) k Fails
-        unfolding used
-        reading-unsaid f = record { holds = λ lines rest Y cites other w. sym (pick-false _ _ _ (sym (said-is lines rest Y cites other w) ∙ f)) }
+-- LINE i, at the spot w.
+module _ (layout : Layout) (d places : List ℕ) (total i : ℕ) (given : Some-rest layout d places total (slot-spot layout d places i)) where
+  pub some-lines : Some-lines layout d places total
+  some-lines = record { lines = given .lines; stand = given .stands .stand; size = given .size }
 
-pub some-follows : (d places ends : List ℕ) (r : Rest) → Some-rest d places ends r → Some-follows d r
-some-follows d places ends r some = record { rest = some .rest; Y = some .Y; follows = some .stands .follows }
+  -- Any line stands where its slots say.
+  pub line-there : (number : ℕ) → number < total → (v : Spot) → v ≡ slot-spot layout d places number → Stands-some d v
+  line-there number below v placed =
+      let size = given .size in
+      record {
+        long = given .stands .stand .long;
+        line = getD (given .lines) number no-line;
+        stands = rw placed (given .stands .stand .each number (omega (arith, below, size)) no-line);
+      }
+    where
+      no-line : Line
+      no-line = record { place = 0; X = []; c = done; Y = knows []; rule = 0; cites = [] }
+
+  module _ (w : Spot) (placed : w ≡ slot-spot layout d places i) where
+    pub cites-there : i < total → w .cites < length d
+    cites-there below = line-there i below w placed .stands .counted
+
+    pub some-follows : Some-follows d w
+    some-follows = rw placed (record { rest = given .rest; Y = given .Y; follows = given .stands .follows })
+
+    -- And the line of citation k.
+    pub number-line : (count : ℕ) → count ≡ getD d (w .cites) 0 → (k : ℕ) → k < count → (number : ℕ) → number ≡ getD d (w .cites + 1 + 2 * k) 0 * 256 + getD d (w .cites + 1 + 2 * k + 1) 0
+        → (v : Spot) → v ≡ slot-spot layout d places number → Stands-some d v
+    number-line count counts k less number read v there =
+        line-there number (number-below layout d places w count counts k less number read total i given placed) v there
+
+    pub said-of : (states : List State) (k : ℕ) (answer : Used) → Uses layout d places w states k answer → Uses layout d places (slot-spot layout d places i) states k answer
+    said-of states k answer uses = subst (λ (z : Spot). Uses layout d places z states k answer) placed uses
 
 -- STATES ONE AFTER THE OTHER.
 abbrev on : Used → (ℕ → Used) → Used
 on r then = elim r [ To j ↦ then j | Fails ↦ Fails ]
 
-module _ (rest : Sequence ℕ) (Y : List ℕ) (cited : List Line) (other : Line) where
+module _ (rest : Sequence ℕ) (Y : Conclusion) (cited : List Line) (other : Line) where
   used-then : (xs ys : List State) (k : ℕ) → used rest Y cited other (xs ++ ys) k ≡ on (used rest Y cited other xs k) (used rest Y cited other ys)
   unfolding used
   used-then [] ys k = refl
@@ -262,8 +300,8 @@ module _ (t : Table) (a : ℕ) (marks : State) (marked : Marked marks) (f : ℕ)
           | no far ↦ omega (arith, far, small, is)
         ]
 
-    module _ (d places ends : List ℕ) (r : Rest) (k : ℕ) (answer : Used) (first : Uses d places ends r (states-from t a (set marks f 1) g) k answer) where
-      pub first-fails : answer ≡ Fails → Uses d places ends r (states-from t a marks f) k Fails
+    module _ (layout : Layout) (d places : List ℕ) (v : Spot) (k : ℕ) (answer : Used) (first : Uses layout d places v (states-from t a (set marks f 1) g) k answer) where
+      pub first-fails : answer ≡ Fails → Uses layout d places v (states-from t a marks f) k Fails
       first-fails is =
           record {
             holds = λ lines rest Y cites other w.
@@ -273,7 +311,7 @@ module _ (t : Table) (a : ℕ) (marks : State) (marked : Marked marks) (f : ℕ)
                 ∙ ap (λ (u : Used). on u (used rest Y cited other (states-from t a (set (set marks f 1) f 2) g))) (sym (first .holds lines rest Y cites other w) ∙ is));
           }
 
-      pub both-read : (j : ℕ) → answer ≡ To j → (last : Used) → Uses d places ends r (states-from t a (set (set marks f 1) f 2) g) j last → Uses d places ends r (states-from t a marks f) k last
+      pub both-read : (j : ℕ) → answer ≡ To j → (last : Used) → Uses layout d places v (states-from t a (set (set marks f 1) f 2) g) j last → Uses layout d places v (states-from t a marks f) k last
       both-read j is last second =
           record {
             holds = λ lines rest Y cites other w.
@@ -285,17 +323,17 @@ module _ (t : Table) (a : ℕ) (marks : State) (marked : Marked marks) (f : ℕ)
           }
 
 -- There is none.
-pub read-whole : (t : Table) (a : ℕ) (marks : State) (f : ℕ) → 64 ≤ f → (d places ends : List ℕ) (r : Rest) (k : ℕ) (answer : Used)
-    → Uses d places ends r (marks ∷ []) k answer → Uses d places ends r (states-from t a marks f) k answer
+pub read-whole : (t : Table) (a : ℕ) (marks : State) (f : ℕ) → 64 ≤ f → (layout : Layout) (d places : List ℕ) (v : Spot) (k : ℕ) (answer : Used)
+    → Uses layout d places v (marks ∷ []) k answer → Uses layout d places v (states-from t a marks f) k answer
 unfolding states-from fluents-from readings states-of
-read-whole t a marks f far d places ends r k answer uses =
-    subst (λ (fs : List ℕ). Uses d places ends r (states-of (readings fs marks)) k answer) (sym (pick-false _ _ _ (le-ltb f 64 far))) uses
+read-whole t a marks f far layout d places v k answer uses =
+    subst (λ (fs : List ℕ). Uses layout d places v (states-of (readings fs marks)) k answer) (sym (pick-false _ _ _ (le-ltb f 64 far))) uses
 
 -- USED UP: each line says its reading just where the citations used are all.
 abbrev all-used : ℕ → Used → Bool
 all-used n u = elim u [ To j ↦ eqb j n | Fails ↦ false ]
 
-module _ (rest : Sequence ℕ) (Y : List ℕ) where
+module _ (rest : Sequence ℕ) (Y : Conclusion) where
   module _ (cited : List Line) (other : Line) where
     line-next : (k : ℕ) → k < length cited → drop k cited ≡ getD cited k other ∷ drop (k + 1) cited
     line-next k less = let up : suc k ≡ k + 1 = omega arith in drop-cons cited k other less ∙ ap (λ (j : ℕ). getD cited k other ∷ drop j cited) up
@@ -348,7 +386,7 @@ states-count (f ∷ fs) s =
     let up = pow-suc 2 (length fs) in
     length-append (states-of (readings fs (told (says-true f) s))) (states-of (readings fs (told (says-false f) s))) ∙ omega (arith, one, two, up)
 
-count-settled : (rest : Sequence ℕ) (Y : List ℕ) (fs : List ℕ) (s : State) (cited : List Line)
+count-settled : (rest : Sequence ℕ) (Y : Conclusion) (fs : List ℕ) (s : State) (cited : List Line)
     → pick (eqb (2 ^ length fs) (length cited)) (λ _. each-reads rest Y (states-of (readings fs s)) cited) (λ _. false) ≡ each-reads rest Y (states-of (readings fs s)) cited
 count-settled rest Y fs s cited =
     by-test (eqb (2 ^ length fs) (length cited))
@@ -369,65 +407,46 @@ sensed-states t a marks marked f first =
       | no far ↦ pick-false _ _ _ (le-ltb f 64 (omega arith)) ∙ sym (sensed-no-first t a marks marked f first (omega arith))
     ])
 
--- THE LINE of rule 3, at p, whose plan's count stands at q.
+-- THE LINE itself, at the spot w, whose plan's count stands at q.
 act-bytes : (o a : ℕ) (rest : Sequence ℕ) → bytes-of (item (act o a) rest) ≡ 1 + bytes-of rest
 unfolding bytes-of
 act-bytes o a rest = refl
 
-module _ (d : List ℕ) (p y : ℕ) (some : Some-line d p y) where
-  pub Y-there : List-here 128 d y
-  Y-there = some .stands .Y .here
-
-  module _ (q : ℕ) (after : q ≡ sequence-place d p) where
-    pub rest-fits : Fits w64 (q + 3)
-    rest-fits = let there = plan-counted d p y q after some in let long = some .long in record { fits = omega (arith, there, long) }
-
-  module _ (rule : ℕ) (at : rule ≡ sequence-place d y) where
-    pub counted-inside : rule + 1 < length d
-    unfolding sequence-place after-list
-    counted-inside = rw at (some .stands .ruled)
-
-    pub counted-fits : Fits w64 (rule + 1)
-    counted-fits = let there = counted-inside in let long = some .long in record { fits = omega (arith, there, long) }
-
-    pub cites-fit : Fits w64 (rule + 2)
-    cites-fit = let there = counted-inside in let long = some .long in record { fits = omega (arith, there, long) }
-
 -- Its first item.
-module _ (d : List ℕ) (p y q count : ℕ) (after : q ≡ sequence-place d p) (read : count ≡ getD d q 0 * 256 + getD d (q + 1) 0) where
-  module _ (t : Table) (places ends : List ℕ) where
-    pub none-first : count ≡ 0 → Ruled-by-all d places ends p y (rule-3 format t) false
+module _ (d : List ℕ) (w : Spot) (q count : ℕ) (after : q ≡ sequence-place d (w .line)) (read : count ≡ getD d q 0 * 256 + getD d (q + 1) 0) where
+  module _ (t : Table) (layout : Layout) (places : List ℕ) where
+    pub none-first : count ≡ 0 → Ruled-by-all layout d places w (rule-3 format t) false
     unfolding rule-3 senses-first
     none-first none =
         record {
-          holds = λ lines l stand w below.
+          holds = λ lines l stand v below.
               let cited = cited-by lines l in
-              sym (ap (senses-first format t cited l) (none-done (l .c) (sym (own-count d p y q after count read l w) ∙ none)));
+              sym (ap (senses-first format t cited l) (none-done (l .c) (sym (own-count d w q after count read l v) ∙ none)));
         }
 
   module _ (more : count ≡ 0 → ⊥) where
-    own-some : (l : Line) → Stands d p y l → 0 < own-items (l .c)
-    own-some l w = let same = own-count d p y q after count read l w in omega (arith, more, same)
+    own-some : (l : Line) → Stands d w l → 0 < own-items (l .c)
+    own-some l v = let same = own-count d w q after count read l v in omega (arith, more, same)
 
-    pub branching-first : (t : Table) (places ends : List ℕ) → getD d (q + 2) 0 ≡ 255 → Ruled-by-all d places ends p y (rule-3 format t) false
+    pub branching-first : (t : Table) (layout : Layout) (places : List ℕ) → getD d (q + 2) 0 ≡ 255 → Ruled-by-all layout d places w (rule-3 format t) false
     unfolding rule-3 senses-first
-    branching-first t places ends is =
+    branching-first t layout places is =
         record {
-          holds = λ lines l stand w below.
+          holds = λ lines l stand v below.
               let cited = cited-by lines l in
-              let plan = plan-of d p y q after l w in
-              sym (ap (senses-first format t cited l) (branching-there d (q + 2) (l .c) (own-some l w) (plan .tellable) (plan .bytes) is .is));
+              let plan = plan-of d w q after l v in
+              sym (ap (senses-first format t cited l) (branching-there d (q + 2) (l .c) (own-some l v) (plan .tellable) (plan .bytes) is .is));
         }
 
     module _ (other : getD d (q + 2) 0 ≡ 255 → ⊥) where
-      first-act : (l : Line) → Stands d p y l → Act-there d (q + 2) (l .c)
-      first-act l w = let plan = plan-of d p y q after l w in act-there d (q + 2) (l .c) (own-some l w) (plan .tellable) (plan .bytes) other
+      first-act : (l : Line) → Stands d w l → Act-there d (q + 2) (l .c)
+      first-act l v = let plan = plan-of d w q after l v in act-there d (q + 2) (l .c) (own-some l v) (plan .tellable) (plan .bytes) other
 
-      rest-items : (l : Line) (w : Stands d p y l) → Items-stand d (q + 3) y (count - 1) (first-act l w .rest)
-      rest-items l w =
-          let first = first-act l w in
-          let plan = plan-of d p y q after l w in
-          let own = first .own in let same = own-count d p y q after count read l w in let few = plan .few in
+      rest-there : (l : Line) (v : Stands d w l) → Items-stand d (q + 3) (w .end) (count - 1) (first-act l v .rest)
+      rest-there l v =
+          let first = first-act l v in
+          let plan = plan-of d w q after l v in
+          let own = first .own in let same = own-count d w q after count read l v in let few = plan .few in
           let bytes : bytes-of (l .c) ≡ 1 + bytes-of (first .rest) = ap bytes-of (first .is) ∙ act-bytes _ _ _ in
           let to = plan .ends in
           let up : q + 2 + 1 ≡ q + 3 = omega arith in
@@ -442,97 +461,106 @@ module _ (d : List ℕ) (p y q count : ℕ) (after : q ≡ sequence-place d p) (
           }
 
       module _ (a : ℕ) (byte : a ≡ getD d (q + 2) 0) where
-        pub action-small : Some-line d p y → a < 64
+        pub action-small : Some-line d w → a < 64
         unfolding Small
         action-small some = rw byte (subst Small (first-act (some .line) (some .stands) .is) (some .small) .0)
 
         -- The rule is what its readings are.
         module _ (t : Table) where
-          rule-reads : (lines : List Line) (l : Line) (w : Stands d p y l) → rule-3 format t (cited-by lines l) l ≡ reads format t (cited-by lines l) l a (first-act l w .rest) (state-of format (listed d p))
+          rule-reads : (lines : List Line) (l : Line) (v : Stands d w l) → rule-3 format t (cited-by lines l) l ≡ reads format t (cited-by lines l) l a (first-act l v .rest) (state-of format (listed d (w .line)))
           unfolding rule-3 senses-first
-          rule-reads lines l w =
+          rule-reads lines l v =
               let cited = cited-by lines l in
-              let first = first-act l w in
+              let first = first-act l v in
               ap (senses-first format t cited l) (first .is)
-              ∙ ap₂ {C = Bool} (λ (b : ℕ) (xs : List ℕ). reads format t cited l b (first .rest) (state-of format xs)) (sym byte) (sym (w .X .same))
+              ∙ ap₂ {C = Bool} (λ (b : ℕ) (xs : List ℕ). reads format t cited l b (first .rest) (state-of format xs)) (sym byte) (sym (v .X .same))
 
           module _ (senses : Bool) (tested : senses ≡ sensing t a) where
-            pub not-sensing : (places ends : List ℕ) → senses ≡ false → Ruled-by-all d places ends p y (rule-3 format t) false
+            pub not-sensing : (layout : Layout) (places : List ℕ) → senses ≡ false → Ruled-by-all layout d places w (rule-3 format t) false
             unfolding reads
-            not-sensing places ends f = record { holds = λ lines l stand w below. no-left (sensing t a) _ (sym tested ∙ f) ∙ sym (rule-reads lines l w) }
+            not-sensing layout places f = record { holds = λ lines l stand v below. no-left (sensing t a) _ (sym tested ∙ f) ∙ sym (rule-reads lines l v) }
 
-            module _ (marks : State) (held : marks ≡ state-of format (listed d p)) (runs : Bool) (asked : runs ≡ can-be-run t a marks) where
-              pub not-run : (places ends : List ℕ) → runs ≡ false → Ruled-by-all d places ends p y (rule-3 format t) false
+            module _ (marks : State) (held : marks ≡ state-of format (listed d (w .line))) (runs : Bool) (asked : runs ≡ can-be-run t a marks) where
+              pub not-run : (layout : Layout) (places : List ℕ) → runs ≡ false → Ruled-by-all layout d places w (rule-3 format t) false
               unfolding reads
-              not-run places ends f =
+              not-run layout places f =
                   record {
-                    holds = λ lines l stand w below.
-                        no-right (sensing t a) _ (sym (no-left (can-be-run t a (state-of format (listed d p))) _ (ap (can-be-run t a) (sym held) ∙ sym asked ∙ f)))
-                        ∙ sym (rule-reads lines l w);
+                    holds = λ lines l stand v below.
+                        no-right (sensing t a) _ (sym (no-left (can-be-run t a (state-of format (listed d (w .line)))) _ (ap (can-be-run t a) (sym held) ∙ sym asked ∙ f)))
+                        ∙ sym (rule-reads lines l v);
                   }
 
               module _ (yes : senses ≡ true) (can : runs ≡ true) where
-                rule-each : (lines : List Line) (l : Line) (w : Stands d p y l)
-                    → rule-3 format t (cited-by lines l) l ≡ each-reads (first-act l w .rest) (l .Y) (states-of (readings (unknown-sensed t a marks) marks)) (cited-by lines l)
+                rule-each : (lines : List Line) (l : Line) (v : Stands d w l)
+                    → rule-3 format t (cited-by lines l) l ≡ each-reads (first-act l v .rest) (l .Y) (states-of (readings (unknown-sensed t a marks) marks)) (cited-by lines l)
                 unfolding reads
-                rule-each lines l w =
-                    rule-reads lines l w
-                    ∙ ap (reads format t (cited-by lines l) l a (first-act l w .rest)) (sym held)
+                rule-each lines l v =
+                    rule-reads lines l v
+                    ∙ ap (reads format t (cited-by lines l) l a (first-act l v .rest)) (sym held)
                     ∙ yes-left (sensing t a) _ (sym tested ∙ yes)
                     ∙ yes-left (can-be-run t a marks) _ (sym asked ∙ can)
-                    ∙ count-settled (first-act l w .rest) (l .Y) (unknown-sensed t a marks) marks (cited-by lines l)
+                    ∙ count-settled (first-act l v .rest) (l .Y) (unknown-sensed t a marks) marks (cited-by lines l)
 
       -- What follows it, and the citations.
-      abbrev rest-of : (rule cited : ℕ) → Rest
-      rest-of rule cited = record { first = q + 3; items = count - 1; y = y; cites = rule + 2; count = cited }
+      follows : (l : Line) (v : Stands d w l) → Follows d w (first-act l v .rest) (l .Y)
+      follows l v =
+          record {
+            items = subst (λ (j : ℕ). Items-stand d (j + 3) (w .end) (getD d j 0 * 256 + getD d (j + 1) 0 - 1) (first-act l v .rest)) after
+                (subst (λ (n : ℕ). Items-stand d (q + 3) (w .end) (n - 1) (first-act l v .rest)) read (rest-there l v));
+            concluded = v .Y;
+          }
 
-      module _ (rule cited : ℕ) (at : rule ≡ sequence-place d y) (size : cited ≡ getD d (rule + 1) 0) (places ends : List ℕ) where
-        cited-size : (l : Line) → Stands d p y l → cited ≡ length (l .cites)
-        unfolding sequence-place after-list
-        cited-size l w = size ∙ ap (λ (j : ℕ). getD d (j + 1) 0) at ∙ w .cited
-
-        rest-stands : (lines : List Line) (l : Line) → Lines-stand d places ends lines → (w : Stands d p y l) → each-of (λ (k : ℕ). ltb k (length lines)) (l .cites) ≡ true
-            → Rest-stands d places ends (rest-of rule cited) lines (first-act l w .rest) (l .Y) (l .cites)
-        unfolding sequence-place after-list
-        rest-stands lines l stand w below =
+      module _ (layout : Layout) (places : List ℕ) where
+        rest-stands : (lines : List Line) (l : Line) → Lines-stand layout d places lines → (v : Stands d w l) → each-of (λ (k : ℕ). ltb k (length lines)) (l .cites) ≡ true
+            → Rest-stands layout d places w lines (first-act l v .rest) (l .Y) (l .cites)
+        rest-stands lines l stand v below =
             record {
               stand = stand;
-              follows = record { items = rest-items l w; list = w .Y };
-              counted = cited-size l w;
-              most = w .most;
-              numbers = subst (λ (j : ℕ). Numbers-stand d (j + 2) (l .cites)) (sym at) (w .cites);
+              follows = follows l v;
+              counted = v .cited;
+              most = v .most;
+              numbers = v .cites;
               below = below;
             }
 
-        pub some-rest : (lines : ℕ) → Some-line d p y → Some-lines d places ends lines → Cited-below d p y lines → Some-rest d places ends (rest-of rule cited)
-        some-rest count some all below =
-            record {
+        pub some-rest : (i : ℕ) → w ≡ slot-spot layout d places i → (total : ℕ) → Some-line d w → Some-lines layout d places total → Cited-below d w total
+            → Some-rest layout d places total (slot-spot layout d places i)
+        some-rest i placed total some all below =
+            subst (Some-rest layout d places total) placed
+            (record {
               lines = all .lines;
               rest = first-act (some .line) (some .stands) .rest;
               Y = some .line .Y;
               cites = some .line .cites;
+              size = all .size;
               stands = rest-stands (all .lines) (some .line) (all .stand) (some .stands)
                   (subst (λ (n : ℕ). each-of (λ (k : ℕ). ltb k n) (some .line .cites) ≡ true) (sym (all .size)) (below .holds (some .line) (some .stands)));
-            }
+            })
 
-        module _ (a : ℕ) (byte : a ≡ getD d (q + 2) 0) (t : Table) (senses : Bool) (tested : senses ≡ sensing t a) (marks : State) (held : marks ≡ state-of format (listed d p)) (runs : Bool) (asked : runs ≡ can-be-run t a marks) (yes : senses ≡ true) (can : runs ≡ true) (f : ℕ) (first : f ≡ first-of (unknown-sensed t a marks)) (answer : Used) (uses : Uses d places ends (rest-of rule cited) (states-from t a marks f) 0 answer) where
-          rule-used : (lines : List Line) (l : Line) → Lines-stand d places ends lines → Stands d p y l → each-of (λ (k : ℕ). ltb k (length lines)) (l .cites) ≡ true
+        cited-size : (cited : ℕ) → cited ≡ getD d (w .cites) 0 → (l : Line) → Stands d w l → cited ≡ length (l .cites)
+        cited-size cited size l v = size ∙ v .cited
+
+        module _ (a : ℕ) (byte : a ≡ getD d (q + 2) 0) (t : Table) (senses : Bool) (tested : senses ≡ sensing t a) (marks : State) (held : marks ≡ state-of format (listed d (w .line))) (runs : Bool) (asked : runs ≡ can-be-run t a marks) (yes : senses ≡ true) (can : runs ≡ true) (f : ℕ) (first : f ≡ first-of (unknown-sensed t a marks)) (cited : ℕ) (size : cited ≡ getD d (w .cites) 0) (i : ℕ) (placed : w ≡ slot-spot layout d places i) (answer : Used) (told : Uses layout d places (slot-spot layout d places i) (states-from t a marks f) 0 answer) where
+          uses : Uses layout d places w (states-from t a marks f) 0 answer
+          uses = subst (λ (z : Spot). Uses layout d places z (states-from t a marks f) 0 answer) (sym placed) told
+
+          rule-used : (lines : List Line) (l : Line) → Lines-stand layout d places lines → Stands d w l → each-of (λ (k : ℕ). ltb k (length lines)) (l .cites) ≡ true
               → rule-3 format t (cited-by lines l) l ≡ all-used cited answer
           unfolding cited-by lines-at
-          rule-used lines l stand w below =
-              let rest = first-act l w .rest in
+          rule-used lines l stand v below =
+              let rest = first-act l v .rest in
               let lines-cited = cited-by lines l in
               let states = states-of (readings (unknown-sensed t a marks) marks) in
               let same : answer ≡ used rest (l .Y) lines-cited l states 0 =
-              uses .holds lines rest (l .Y) (l .cites) l (rest-stands lines l stand w below)
-              ∙ ap (λ (ss : List State). used rest (l .Y) lines-cited l ss 0) (sensed-states t a marks (marked-as (listed d p) marks held) f first) in
-              let long : length lines-cited ≡ cited = lines-length lines l (l .cites) ∙ sym (cited-size l w) in
-              rule-each a byte t senses tested marks held runs asked yes can lines l w
+              uses .holds lines rest (l .Y) (l .cites) l (rest-stands lines l stand v below)
+              ∙ ap (λ (ss : List State). used rest (l .Y) lines-cited l ss 0) (sensed-states t a marks (marked-as (listed d (w .line)) marks held) f first) in
+              let long : length lines-cited ≡ cited = lines-length lines l (l .cites) ∙ sym (cited-size cited size l v) in
+              rule-each a byte t senses tested marks held runs asked yes can lines l v
               ∙ each-used rest (l .Y) lines-cited l states 0 (omega arith)
               ∙ ap₂ {C = Bool} all-used long (sym same)
 
-          pub all-read : (k : ℕ) → answer ≡ To k → Ruled-by-all d places ends p y (rule-3 format t) (eqb k cited)
-          all-read k is = record { holds = λ lines l stand w below. sym (rule-used lines l stand w below ∙ ap (all-used cited) is) }
+          pub all-read : (k : ℕ) → answer ≡ To k → Ruled-by-all layout d places w (rule-3 format t) (eqb k cited)
+          all-read k is = record { holds = λ lines l stand v below. sym (rule-used lines l stand v below ∙ ap (all-used cited) is) }
 
-          pub not-read : answer ≡ Fails → Ruled-by-all d places ends p y (rule-3 format t) false
-          not-read is = record { holds = λ lines l stand w below. sym (rule-used lines l stand w below ∙ ap (all-used cited) is) }
+          pub not-read : answer ≡ Fails → Ruled-by-all layout d places w (rule-3 format t) false
+          not-read is = record { holds = λ lines l stand v below. sym (rule-used lines l stand v below ∙ ap (all-used cited) is) }

@@ -1,4 +1,4 @@
--- The branching with which a line's plan begins, in the input and in the table that reading the plan again left, and what rule 4 asks of it.
+-- The branching with which a line's plan begins, in the input and in the table that reading the plan again left, and what rules 4 and 12 ask of it.
 use Prim.Native.Nat.{ℕ, zero, suc, _+_, _≤_, _<_}
 use mathlib.Core.Path.{_≡_}
 use mathlib.Core.Bool.{Bool, false}

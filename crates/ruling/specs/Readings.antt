@@ -1,19 +1,21 @@
--- What rule 3's functions answer: the readings of the unknown sensed fluents against the lines cited, one after the other.
-use Prim.Native.Nat.{ℕ, _+_, _≤_}
+-- What the functions of rules 3 and 10 answer: the readings of the unknown sensed fluents against the lines cited, one after the other.
+use Prim.Native.Nat.{ℕ, _+_, _-_, _*_, _≤_}
 use mathlib.Core.Path.{_≡_}
 use mathlib.Core.Bool.{Bool, true}
 use mathlib.Core.List.{List, [], _∷_, map}
 use lib.ListN.{length, getD}
 use lib.Dec.{ltb}
+use Rattle.meaning.specs.declared.Layout.{Layout}
 use Rattle.meaning.specs.Tests.{both, pick, each-of}
 use Rattle.meaning.specs.Requests.{Table, Sequence}
 use Rattle.meaning.specs.States.{State, readings}
-use Rattle.meaning.specs.Derivations.{Line, literals-of, says, states-of}
+use Rattle.meaning.specs.Derivations.{Conclusion, Line, literals-of, says, states-of}
+use Rattle.refusing.specs.Branchings.{sequence-place}
 use Rattle.steps.specs.Steps.{unknown-above}
 use Rattle.ruling.specs.declared.readings.Used.{Used}
 use Rattle.ruling.specs.declared.readings.Used.the-variants.{To, Fails}
-use Rattle.ruling.specs.declared.readings.Rest.{Rest}
-use Rattle.comparing.specs.Stands.{List-stands, Numbers-stand, Stands, Lines-stand}
+use Rattle.comparing.specs.declared.spots.Spot.{Spot}
+use Rattle.comparing.specs.Stands.{Numbers-stand, Conclusion-stands, Stands, Lines-stand}
 use Rattle.comparing.specs.Rules.{Items-stand}
 
 -- The lines with these numbers; another line where there is none.
@@ -21,11 +23,11 @@ unfoldable pub lines-at : List Line → (other : Line) → List ℕ → List Lin
 lines-at lines other cites = map (λ (k : ℕ). getD lines k other) cites
 
 -- Line k of those cited says the state, what follows the action, and Y.
-unfoldable pub reads-at : Sequence ℕ → List ℕ → List Line → (other : Line) → State → (k : ℕ) → Bool
+unfoldable pub reads-at : Sequence ℕ → Conclusion → List Line → (other : Line) → State → (k : ℕ) → Bool
 reads-at rest Y cited other s k = both (ltb k (length cited)) (says (getD cited k other) (literals-of s) rest Y)
 
 -- Each state is said by the next line, the first by line k.
-unfoldable pub used : Sequence ℕ → List ℕ → List Line → (other : Line) → List State → (k : ℕ) → Used
+unfoldable pub used : Sequence ℕ → Conclusion → List Line → (other : Line) → List State → (k : ℕ) → Used
 used rest Y cited other [] k = To k
 used rest Y cited other (s ∷ ss) k = pick (reads-at rest Y cited other s k) (λ _. used rest Y cited other ss (k + 1)) (λ _. Fails)
 
@@ -36,42 +38,52 @@ fluents-from t a marks f = pick (ltb f 64) (λ _. f ∷ unknown-above t a marks 
 unfoldable pub states-from : Table → ℕ → State → (f : ℕ) → List State
 states-from t a marks f = states-of (readings (fluents-from t a marks f) marks)
 
--- A line stands at p, with its list Y at y.
-pub record Stands-some (d : List ℕ) (p y : ℕ) : Type 0 where
+-- A line stands where the spot says.
+pub record Stands-some (d : List ℕ) (w : Spot) : Type 0 where
   pub long : length d ≤ 32768
   pub line : Line
-  pub stands : Stands d p y line
+  pub stands : Stands d w line
 
--- What follows the action stands there, and the list Y after it.
-pub record Follows (d : List ℕ) (r : Rest) (rest : Sequence ℕ) (Y : List ℕ) : Type 0 where
-  pub items : Items-stand d (r .first) (r .y) (r .items) rest
-  pub list : List-stands d (r .y) Y
+-- What follows the first item of the line at the spot: where it starts, and how many items it has.
+abbrev pub rest-first : List ℕ → Spot → ℕ
+rest-first d w = sequence-place d (w .line) + 3
 
-pub record Some-follows (d : List ℕ) (r : Rest) : Type 0 where
+abbrev pub rest-items : List ℕ → Spot → ℕ
+rest-items d w = getD d (sequence-place d (w .line)) 0 * 256 + getD d (sequence-place d (w .line) + 1) 0 - 1
+
+-- It stands there, and the line's conclusion.
+pub record Follows (d : List ℕ) (w : Spot) (rest : Sequence ℕ) (Y : Conclusion) : Type 0 where
+  pub items : Items-stand d (rest-first d w) (w .end) (rest-items d w) rest
+  pub concluded : Conclusion-stands d (w .fluent) (w .conclusion) Y
+
+pub record Some-follows (d : List ℕ) (w : Spot) : Type 0 where
   pub rest : Sequence ℕ
-  pub Y : List ℕ
-  pub follows : Follows d r rest Y
+  pub Y : Conclusion
+  pub follows : Follows d w rest Y
 
-pub record Says-reading (d : List ℕ) (marks : State) (r : Rest) (pc yc : ℕ) (answer : Bool) : Type 0 where
-  pub holds : (c : Line) (rest : Sequence ℕ) (Y : List ℕ) → Stands d pc yc c → Follows d r rest Y → answer ≡ says c (literals-of marks) rest Y
+-- The line at v says the state, and what follows in the line at w.
+pub record Says-reading (d : List ℕ) (marks : State) (w v : Spot) (answer : Bool) : Type 0 where
+  pub holds : (c : Line) (rest : Sequence ℕ) (Y : Conclusion) → Stands d v c → Follows d w rest Y → answer ≡ says c (literals-of marks) rest Y
 
--- All lines stand; and what follows the action, and the citations, each the number of a line.
-pub record Rest-stands (d places ends : List ℕ) (r : Rest) (lines : List Line) (rest : Sequence ℕ) (Y cites : List ℕ) : Type 0 where
-  pub stand : Lines-stand d places ends lines
-  pub follows : Follows d r rest Y
-  pub counted : r .count ≡ length cites
+-- All lines stand; and what follows in the line at w, and its citations, each the number of a line.
+pub record Rest-stands (layout : Layout) (d places : List ℕ) (w : Spot) (lines : List Line) (rest : Sequence ℕ) (Y : Conclusion) (cites : List ℕ) : Type 0 where
+  pub stand : Lines-stand layout d places lines
+  pub follows : Follows d w rest Y
+  pub counted : getD d (w .cites) 0 ≡ length cites
   pub most : length cites ≤ 64
-  pub numbers : Numbers-stand d (r .cites) cites
+  pub numbers : Numbers-stand d (w .cites + 1) cites
   pub below : each-of (λ (k : ℕ). ltb k (length lines)) cites ≡ true
 
-pub record Some-rest (d places ends : List ℕ) (r : Rest) : Type 0 where
+-- Whatever these are; there are so many lines.
+pub record Some-rest (layout : Layout) (d places : List ℕ) (total : ℕ) (w : Spot) : Type 0 where
   pub lines : List Line
+  pub size : length lines ≡ total
   pub rest : Sequence ℕ
-  pub Y : List ℕ
+  pub Y : Conclusion
   pub cites : List ℕ
-  pub stands : Rest-stands d places ends r lines rest Y cites
+  pub stands : Rest-stands layout d places w lines rest Y cites
 
 -- The states are used up by the citations from k on.
-pub record Uses (d places ends : List ℕ) (r : Rest) (states : List State) (k : ℕ) (answer : Used) : Type 0 where
-  pub holds : (lines : List Line) (rest : Sequence ℕ) (Y cites : List ℕ) (other : Line) → Rest-stands d places ends r lines rest Y cites
+pub record Uses (layout : Layout) (d places : List ℕ) (w : Spot) (states : List State) (k : ℕ) (answer : Used) : Type 0 where
+  pub holds : (lines : List Line) (rest : Sequence ℕ) (Y : Conclusion) (cites : List ℕ) (other : Line) → Rest-stands layout d places w lines rest Y cites
       → answer ≡ used rest Y (lines-at lines other cites) other states k

@@ -10,6 +10,8 @@ use bytes::limits;
 use comparing::parts::same_lists;
 use comparing::plans::count_of;
 use comparing::plans::joined_plans;
+use comparing::spots::Spot;
+use comparing::spots::same_conclusions;
 use reading::marks::Test;
 use reading::marks::each_holds;
 use reading::marks::state_of;
@@ -81,26 +83,20 @@ fn some_branch(
     false
 }
 
-// Rule 4: a branching first, some condition of it within X; X, that branch joined with the rest, Y by the line at pc.
-pub fn rule_4(
-    n: usize,
-    m: usize,
-    d: &[u8],
-    t: &mut Table,
-    pc: usize,
-    yc: usize,
-    p: usize,
-    y: usize,
-) -> bool
+// Rules 4 and 12: a branching first, some condition of it within X; X, that branch joined with the rest and the line's own conclusion by the
+// line `cited`.
+pub fn rule_4(n: usize, m: usize, d: &[u8], t: &mut Table, cited: Spot, l: Spot) -> bool
     requires { ⌜ n ≤ 64 ⌝ }
     requires { ⌜ m ≤ 64 ⌝ }
-    requires { ⌜ Some-line (now d) pc yc ⌝ }
-    requires { ⌜ Some-read n m (now d) p y ⌝ }
-    ensures { λ r. ⌜ Read-by n m (now (d .entry)) pc yc p y rule-4 r ⌝ }
+    requires { ⌜ Some-line (now d) cited ⌝ }
+    requires { ⌜ Some-read n m (now d) l ⌝ }
+    ensures { λ r. ⌜ Read-by n m (now (d .entry)) cited l rule-4 r ⌝ }
 {
+    let pc = cited.line;
+    let p = l.line;
     let starts = same_lists(d, pc, d, p);
     if starts {
-        let ends = same_lists(d, yc, d, y);
+        let ends = same_conclusions(d, cited, l);
         if ends {
             let plan = sequence_of(d, p);
             let count = count_of(d, plan);
@@ -113,9 +109,11 @@ pub fn rule_4(
                 match plan_at(n, m, d, plan, t) {
                     Read::Value(_, _) => {
                         let held = state_of(d, p);
-                        let cited = sequence_of(d, pc);
+                        let given = sequence_of(d, pc);
                         let more = count - 1;
-                        return some_branch(d, t, &held, first, cited, yc, y, more);
+                        let g = cited.end;
+                        let e = l.end;
+                        return some_branch(d, t, &held, first, given, g, e, more);
                     }
                     Read::Fault(_, _) => {
                         return false;

@@ -1,19 +1,24 @@
-ghost use Prim.Native.Nat.{_<_};
+ghost use Prim.Native.Nat.{_+_, _-_, _<_};
+ghost use mathlib.Core.Path.{_≡_};
 ghost use mathlib.Core.List.{[], _∷_};
+ghost use lib.ListN.{getD};
 ghost use Rattle.meaning.specs.Derivations.{rule-3};
 ghost use Rattle.meaning.specs.Limits.{format};
 ghost use Rattle.steps.specs.AtHand.{request-in, At-hand, Marked};
+ghost use Rattle.comparing.specs.Stands.{spot-at};
 ghost use Rattle.comparing.specs.Rules.{Some-line, Some-lines, Cited-below, Ruled-by-all};
 ghost use Rattle.ruling.specs.Readings.{states-from, Stands-some, Some-follows, Says-reading, Some-rest, Uses};
 use bytes::bytes::two;
 use bytes::bytes::wide;
 use bytes::limits;
 use comparing::known::lists_known;
-use comparing::parts::same_lists;
 use comparing::parts::same_part;
 use comparing::plans::count_of;
+use comparing::spots::Spot;
+use comparing::spots::same_conclusions;
+use comparing::spots::spot_of;
 use deriving::derivations::Places;
-use deriving::derived::place_of;
+use meaning::Layout;
 use reading::marks::state_of;
 use reading::table::Table;
 use refusing::overlaps::sequence_of;
@@ -28,123 +33,143 @@ pub enum Used {
     Fails,
 }
 
-// What follows the sensing action: its items from `first` up to `y`, so many; and the citations from `cites` on, so many.
-pub struct Rest {
-    pub first: usize,
-    pub items: usize,
-    pub y: usize,
-    pub cites: usize,
-    pub count: usize,
+// One less; 0 where there is none.
+fn one_less(n: usize) -> usize
+    ensures { λ r. ⌜ r ≡ n - 1 ⌝ }
+{
+    if n == 0 {
+        return 0;
+    }
+    n - 1
 }
 
-// The line at pc says what the state knows, the rest, and the list Y at y.
-fn says_reading(d: &[u8], marks: &[u8; 64], rest: Rest, pc: usize, yc: usize) -> bool
+// The line `cited` says what the state knows, what follows the first item of the line `own`, and that line's conclusion.
+fn says_reading(d: &[u8], marks: &[u8; 64], own: Spot, cited: Spot) -> bool
     requires { ⌜ Marked (now marks) ⌝ }
-    requires { ⌜ Stands-some (now d) pc yc ⌝ }
-    requires { ⌜ Some-follows (now d) rest ⌝ }
-    ensures { λ r. ⌜ Says-reading (now (d .entry)) (now (marks .entry)) rest pc yc r ⌝ }
+    requires { ⌜ Stands-some (now d) cited ⌝ }
+    requires { ⌜ Stands-some (now d) own ⌝ }
+    requires { ⌜ Some-follows (now d) own ⌝ }
+    ensures { λ r. ⌜ Says-reading (now (d .entry)) (now (marks .entry)) own cited r ⌝ }
 {
+    let pc = cited.line;
     let starts = lists_known(marks, d, pc);
     if starts {
+        let p = own.line;
+        let mine = sequence_of(d, p);
+        let all = count_of(d, mine);
+        let items = one_less(all);
         let plan = sequence_of(d, pc);
         let count = count_of(d, plan);
-        if count != rest.items {
+        if count != items {
             return false;
         }
         let first = plan + 2;
-        let from = rest.first;
-        let y = rest.y;
-        let same = same_part(&d[first..yc], &d[from..y]);
+        let last = cited.end;
+        let from = mine + 3;
+        let to = own.end;
+        let same = same_part(&d[first..last], &d[from..to]);
         if same {
-            return same_lists(d, yc, d, y);
+            return same_conclusions(d, cited, own);
         }
         return false;
     }
     false
 }
 
-// Citation k says the reading that the state has.
+// Citation k of line i, one of so many in the layout, says the reading that the state has. Where the parts of line i stand is looked up each
+// time: to hand that on through the readings takes longer.
 fn one_reading(
+    layout: Layout,
     d: &[u8],
     places: &Places,
-    ends: &Places,
     marks: &[u8; 64],
-    rest: Rest,
+    lines: usize,
+    i: usize,
     k: usize,
 ) -> Used
     requires { ⌜ Marked (now marks) ⌝ }
-    requires { ⌜ Some-rest (now d) (now places) (now ends) rest ⌝ }
-    ensures { λ r. ⌜ Uses (now (d .entry)) (now (places .entry)) (now (ends .entry)) rest (now (marks .entry) ∷ []) k r ⌝ }
+    requires { ⌜ i < lines ⌝ }
+    requires { ⌜ Some-rest layout (now d) (now places) lines (spot-at layout (now d) (getD (now places) i 0) (getD (now places) (1024 + i) 0)) ⌝ }
+    ensures { λ r. ⌜ Uses layout (now (d .entry)) (now (places .entry)) (spot-at layout (now (d .entry)) (getD (now (places .entry)) i 0) (getD (now (places .entry)) (1024 + i) 0)) (now (marks .entry) ∷ []) k r ⌝ }
 {
-    if rest.count <= k {
+    let own = spot_of(layout, d, places, lines, i);
+    let counted = own.cites;
+    let count = wide(d[counted]);
+    if count <= k {
         return Used::Fails;
     }
     let twice = 2 * k;
-    let at = rest.cites + twice;
+    let cites = counted + 1;
+    let at = cites + twice;
     let second = at + 1;
     let number = two(d[at], d[second]);
-    let pc = place_of(places, number);
-    let yc = place_of(ends, number);
-    let says = says_reading(d, marks, rest, pc, yc);
+    let cited = spot_of(layout, d, places, lines, number);
+    let says = says_reading(d, marks, own, cited);
     if says {
         return Used::To(k + 1);
     }
     Used::Fails
 }
 
-// The readings of fluent f and of the unknown ones above it that action a senses, in order, by the citations from k on. At 64 there
-// is none, and the state is a reading.
+// The readings of fluent f and of the unknown ones above it that action a senses, in order, by the citations of line i from k on. At 64
+// there is none, and the state is a reading.
 fn each_reading(
+    layout: Layout,
     s: &[u8],
     t: &Table,
     d: &[u8],
     places: &Places,
-    ends: &Places,
     a: usize,
     f: usize,
     marks: [u8; 64],
-    rest: Rest,
+    lines: usize,
+    i: usize,
     k: usize,
 ) -> Used
     requires { ⌜ At-hand (now s) (now t) ⌝ }
     requires { ⌜ a < 64 ⌝ }
     requires { ⌜ Marked marks ⌝ }
-    requires { ⌜ Some-rest (now d) (now places) (now ends) rest ⌝ }
-    ensures { λ r. ⌜ Uses (now (d .entry)) (now (places .entry)) (now (ends .entry)) rest (states-from (request-in (now (s .entry)) .table) a marks f) k r ⌝ }
+    requires { ⌜ i < lines ⌝ }
+    requires { ⌜ Some-rest layout (now d) (now places) lines (spot-at layout (now d) (getD (now places) i 0) (getD (now places) (1024 + i) 0)) ⌝ }
+    ensures { λ r. ⌜ Uses layout (now (d .entry)) (now (places .entry)) (spot-at layout (now (d .entry)) (getD (now (places .entry)) i 0) (getD (now (places .entry)) (1024 + i) 0)) (states-from (request-in (now (s .entry)) .table) a marks f) k r ⌝ }
 {
     if f < limits::FLUENTS {
         let above = f + 1;
         let mut state = marks;
         state[f] = limits::TRUE_MARK;
         let g = next_unknown(s, t, a, above, &state);
-        match each_reading(s, t, d, places, ends, a, g, state, rest, k) {
+        match each_reading(layout, s, t, d, places, a, g, state, lines, i, k) {
             Used::To(j) => {
                 state[f] = limits::FALSE_MARK;
-                return each_reading(s, t, d, places, ends, a, g, state, rest, j);
+                return each_reading(layout, s, t, d, places, a, g, state, lines, i, j);
             }
             Used::Fails => return Used::Fails,
         }
     }
-    one_reading(d, places, ends, &marks, rest, k)
+    one_reading(layout, d, places, &marks, lines, i, k)
 }
 
-// Rule 3: a sensing action first that can be run in X; one line for each reading in the walk's order: X with the reading, the rest, Y.
+// Rules 3 and 10, for line i: a sensing action first that can be run in X; one line for each reading in the walk's order: X with the
+// reading, the rest, and the line's own conclusion.
 pub fn rule_3(
+    layout: Layout,
     s: &[u8],
     t: &Table,
     d: &[u8],
     places: &Places,
-    ends: &Places,
     lines: usize,
-    p: usize,
-    y: usize,
+    i: usize,
+    l: Spot,
 ) -> bool
     requires { ⌜ At-hand (now s) (now t) ⌝ }
-    requires { ⌜ Some-line (now d) p y ⌝ }
-    requires { ⌜ Some-lines (now d) (now places) (now ends) lines ⌝ }
-    requires { ⌜ Cited-below (now d) p y lines ⌝ }
-    ensures { λ r. ⌜ Ruled-by-all (now (d .entry)) (now (places .entry)) (now (ends .entry)) p y (rule-3 format (request-in (now (s .entry)) .table)) r ⌝ }
+    requires { ⌜ Some-line (now d) l ⌝ }
+    requires { ⌜ Some-lines layout (now d) (now places) lines ⌝ }
+    requires { ⌜ i < lines ⌝ }
+    requires { ⌜ l ≡ spot-at layout (now d) (getD (now places) i 0) (getD (now places) (1024 + i) 0) ⌝ }
+    requires { ⌜ Cited-below (now d) l lines ⌝ }
+    ensures { λ r. ⌜ Ruled-by-all layout (now (d .entry)) (now (places .entry)) l (rule-3 format (request-in (now (s .entry)) .table)) r ⌝ }
 {
+    let p = l.line;
     let plan = sequence_of(d, p);
     let count = count_of(d, plan);
     if count == 0 {
@@ -161,20 +186,9 @@ pub fn rule_3(
         let runs = can_be_run(s, t, a, &marks);
         if runs {
             let f = first_unknown(s, t, a, &marks);
-            let rule = sequence_of(d, y);
-            let counted = rule + 1;
+            let counted = l.cites;
             let cited = wide(d[counted]);
-            let cites = rule + 2;
-            let from = plan + 3;
-            let items = count - 1;
-            let rest = Rest {
-                first: from,
-                items: items,
-                y: y,
-                cites: cites,
-                count: cited,
-            };
-            match each_reading(s, t, d, places, ends, a, f, marks, rest, 0) {
+            match each_reading(layout, s, t, d, places, a, f, marks, lines, i, 0) {
                 Used::To(k) => return k == cited,
                 Used::Fails => return false,
             }

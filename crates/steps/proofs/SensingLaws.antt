@@ -202,6 +202,9 @@ module _ (s t : List ℕ) (a : ℕ) (here : At-hand s t) (small : a < 64) where
   pub sensing-is : (end : ℕ) → end ≡ getD t (5312 + a) 0 → ltb 0 end ≡ sensing (request-in s .table) a
   sensing-is end at = ap (ltb 0) at ∙ served .any
 
+  pub looks-is : (f there : ℕ) → f < 64 → there ≡ getD t (5384 + (64 * a + f)) 0 → ltb 0 there ≡ senses (knowledge-of (request-in s .table) a) f
+  looks-is f there near at = ap (ltb 0) at ∙ served .slot f near
+
   module _ (end f : ℕ) (at : end ≡ getD t (5312 + a) 0) (more : f < end) where
     pub fluent-near : f < 64
     fluent-near = let last = served .last in omega arith

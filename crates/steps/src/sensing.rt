@@ -1,6 +1,6 @@
 ghost use mathlib.Core.Path.{_≡_};
 ghost use Prim.Native.Nat.{_<_};
-ghost use Rattle.meaning.specs.Lines.{sensing};
+ghost use Rattle.meaning.specs.Lines.{knowledge-of, sensing, senses};
 ghost use Rattle.meaning.specs.States.{unknown-sensed};
 ghost use Rattle.steps.specs.AtHand.{request-in, At-hand, Marked};
 ghost use Rattle.steps.specs.Steps.{unknown-above, first-of};
@@ -17,6 +17,20 @@ pub fn is_sensing(s: &[u8], t: &Table, a: usize) -> bool
     let slot = table::SENSED_TO + a;
     let end = get(t, slot);
     0 < end
+}
+
+// The action has a knowledge line for the fluent.
+pub fn looks_at(s: &[u8], t: &Table, a: usize, f: usize) -> bool
+    requires { ⌜ At-hand (now s) (now t) ⌝ }
+    requires { ⌜ a < 64 ⌝ }
+    requires { ⌜ f < 64 ⌝ }
+    ensures { λ r. ⌜ r ≡ senses (knowledge-of (request-in (now (s .entry)) .table) a) f ⌝ }
+{
+    let row = 64 * a;
+    let pair = row + f;
+    let slot = table::SENSED + pair;
+    let sensed = get(t, slot);
+    0 < sensed
 }
 
 // The first fluent from `from` up that the action senses and that is unknown; 64 where there is none.

@@ -2,18 +2,21 @@
 //!
 //!     review judge [-b BUDGET] REQUEST...                     (100,000 unless told otherwise)
 //!     review check REQUEST DERIVATION [REQUEST DERIVATION]...
+//!     review check-whether REQUEST DERIVATION [REQUEST DERIVATION]...
 //!
-//! `check` does not walk the plan: a derivation may be accepted where every budget is spent. The exit status is 0 where each plan is
-//! verified or each derivation accepted, 1 where some answer is another, and 2 where something can't be read or written.
+//! `check` and `check-whether` do not walk the plan: a derivation may be accepted where every budget is spent. The second takes requests
+//! with whether entries too, and derivations in the closing layout. The exit status is 0 where each plan is verified or each derivation
+//! accepted, 1 where some answer is another, and 2 where something can't be read or written.
 
 use std::env;
 use std::fs::File;
 use std::io::{self, Read, Write};
 use std::process::ExitCode;
 
-use glintstring::{check, judge_on_thread, show, Answer, Input, DERIVATION_LIMIT, REQUEST_LIMIT, STATE_LENGTH};
+use glintstring::{check, check_whether, judge_on_thread, show, Answer, Input, DERIVATION_LIMIT, REQUEST_LIMIT, STATE_LENGTH};
 
-const USAGE: &str = "usage: review judge [-b BUDGET] REQUEST... | review check REQUEST DERIVATION [REQUEST DERIVATION]...";
+const USAGE: &str = "usage: review judge [-b BUDGET] REQUEST... | review check REQUEST DERIVATION [REQUEST DERIVATION]... | \
+                     review check-whether REQUEST DERIVATION [REQUEST DERIVATION]...";
 const BUDGET: u32 = 100_000;
 
 /// How many bytes are printed of the part that an answer is about.
@@ -68,10 +71,13 @@ fn judge_file(name: &str, budget: u32) -> Result<u8, String> {
     tell(name, answer, &request, &[])
 }
 
-fn check_files(request: &str, derivation: &str) -> Result<u8, String> {
+/// The derivation call or the whether call.
+type Call = fn(&[u8], &[u8]) -> Answer;
+
+fn check_files(call: Call, request: &str, derivation: &str) -> Result<u8, String> {
     let name = format!("{request} with {derivation}");
     let (request, derivation) = (read(request, REQUEST_LIMIT)?, read(derivation, DERIVATION_LIMIT)?);
-    tell(&name, check(&request, &derivation), &request, &derivation)
+    tell(&name, call(&request, &derivation), &request, &derivation)
 }
 
 /// The answer's part of the exit status, or what failed, said on standard error.
@@ -86,11 +92,13 @@ fn main() -> ExitCode {
     let words: Vec<String> = env::args_os().skip(1).map(|word| word.to_string_lossy().into_owned()).collect();
     let words: Vec<&str> = words.iter().map(String::as_str).collect();
     let judge = |names: &[&str], budget| names.iter().map(|name| status(judge_file(name, budget))).max();
+    let check_all = |call: Call, names: &[&str]| names.chunks_exact(2).map(|pair| status(check_files(call, pair[0], pair[1]))).max();
     let worst = match words[..] {
         ["judge", "-b", budget, ref names @ ..] => budget.parse().ok().and_then(|budget| judge(names, budget)),
         ["judge", "-b"] => None,
         ["judge", ref names @ ..] => judge(names, BUDGET),
-        ["check", ref names @ ..] if names.len() % 2 == 0 => names.chunks(2).map(|pair| status(check_files(pair[0], pair[1]))).max(),
+        ["check", ref names @ ..] if names.len() % 2 == 0 => check_all(check, names),
+        ["check-whether", ref names @ ..] if names.len() % 2 == 0 => check_all(check_whether, names),
         _ => None,
     };
     ExitCode::from(worst.unwrap_or_else(|| {

@@ -1,4 +1,4 @@
-//! Times of the derivation call beside the independent program: by lines, and on the derivations that cost most.
+//! Times of the derivation call and of the whether call beside the independent program: by lines, and on the derivations that cost most.
 
 use std::hint::black_box;
 
@@ -9,26 +9,53 @@ use oracle::model::{Allowance, Item, Knowledge, Line, Request};
 use oracle::reader::{DERIVATION_LIMIT, LINE_LIMIT};
 use oracle::rng::Rng;
 
-use crate::clock;
 use crate::walks::quartiles;
+use crate::{clock, whether};
 
 /// The stream of random numbers, and how many derivations are timed for each number of lines.
 const STREAM: u64 = 200;
-const EACH: u64 = 200;
+pub const EACH: u64 = 200;
 /// Numbers of lines.
-const LINES: [usize; 3] = [10, 100, LINE_LIMIT];
+pub const LINES: [usize; 3] = [10, 100, LINE_LIMIT];
 /// Bytes of a line, on average, so that 1,024 lines have room.
-const ROOM: usize = 31;
+pub const ROOM: usize = 31;
 /// Fluents sensed at once by lines of 64 citations.
-const SENSED: u8 = 6;
+pub const SENSED: u8 = 6;
+/// Lines of a section, and literals of a body.
+const SECTION: usize = 255;
+const BODY: u8 = 16;
 
-struct Timed {
-    request: Vec<u8>,
-    derivation: Vec<u8>,
+/// What is timed: the inputs of a derivation call or of a whether call.
+pub struct Timed {
+    pub closing: bool,
+    pub request: Vec<u8>,
+    pub derivation: Vec<u8>,
+}
+
+/// What it is, and the calls.
+pub type Row = (String, Vec<Timed>);
+
+impl Timed {
+    #[inline(always)]
+    fn proved(&self) -> u64 {
+        let (request, derivation) = (black_box(&self.request), black_box(&self.derivation));
+        match self.closing {
+            false => glintstring::check_packed(request, derivation).0,
+            true => glintstring::check_whether_packed(request, derivation).0,
+        }
+    }
+
+    fn independent(&self) -> oracle::Answer {
+        let (request, derivation) = (black_box(&self.request), black_box(&self.derivation));
+        match self.closing {
+            false => oracle::check(request, derivation),
+            true => oracle::check_whether(request, derivation),
+        }
+    }
 }
 
 fn timed(request: &Request, lines: &[Line]) -> Timed {
-    Timed { request: encode_request(request).bytes, derivation: encode_derivation(lines).bytes }
+    Timed { closing: false, request: encode_request(request).bytes, derivation: encode_derivation(lines).bytes }
 }
 
 /// A generated derivation of ten lines at the most, small enough to be said a hundred times.
@@ -114,10 +141,29 @@ fn weakened() -> (Request, Vec<Line>) {
     (request, lines.collect())
 }
 
+/// An action that 255 executability lines are gone through for: the first can always be met, and each other but for its last literal.
+pub fn barred() -> Request {
+    let facts: Vec<u8> = (0..BODY).map(|fluent| 2 * fluent).collect();
+    let mut body = facts.clone();
+    body[usize::from(BODY) - 1] += 1;
+    let mut allowances = vec![Allowance { action: 0, body: Vec::new() }];
+    allowances.resize(SECTION, Allowance { action: 0, body });
+    Request { fluents: 64, actions: 1, facts: facts.clone(), goals: facts, allowances, plan: vec![Item::act(0)], ..Request::default() }
+}
+
+/// As many lines by rule 2 for such an action as there is room for.
+fn run_often() -> (Request, Vec<Line>) {
+    let request = barred();
+    let facts = request.facts.clone();
+    let line = Line { place: 0, before: facts.clone(), sequence: request.plan.clone(), after: facts, rule: 2, cites: Vec::new() };
+    let length = encode_derivation(&[line.clone()]).bytes.len() - 2;
+    (request, vec![line; (DERIVATION_LIMIT - 2) / length])
+}
+
 fn accepted(name: &str, calls: &[Timed]) -> Result<(), String> {
     for call in calls {
-        let one = glintstring::check_packed(&call.request, &call.derivation).0;
-        let other = oracle::check(&call.request, &call.derivation);
+        let one = call.proved();
+        let other = call.independent();
         if one != 0 || other.number != 0 {
             return Err(format!("{name}: the answers are {one} and {other}, and both should be 0"));
         }
@@ -125,14 +171,14 @@ fn accepted(name: &str, calls: &[Timed]) -> Result<(), String> {
     Ok(())
 }
 
-/// Medians and quartiles for one call of each: the derivation call, the independent program, and the ratio.
+/// Medians and quartiles for one call of each: the exported call, the independent program, and the ratio.
 fn times(calls: &[Timed], rounds: u64) -> [[f64; 3]; 3] {
     let pass = |program: usize| {
         let start = clock::now();
         for call in calls {
             match program {
-                0 => _ = black_box(glintstring::check_packed(black_box(&call.request), black_box(&call.derivation))),
-                _ => _ = black_box(oracle::check(black_box(&call.request), black_box(&call.derivation))),
+                0 => _ = black_box(call.proved()),
+                _ => _ = black_box(call.independent()),
             }
         }
         (clock::now() - start) / calls.len() as f64
@@ -147,9 +193,14 @@ fn times(calls: &[Timed], rounds: u64) -> [[f64; 3]; 3] {
     taken.map(quartiles)
 }
 
-/// The tables, after a comparison of all answers.
-pub fn time(seed: u64, rounds: u64) -> Result<String, String> {
-    let mut rows: Vec<(String, Vec<Timed>)> = Vec::new();
+/// The rows of the derivation call.
+fn rows(seed: u64) -> Vec<Row> {
+    let nine = Timed {
+        closing: false,
+        request: include_bytes!("../../../samples/nine-lines.request").to_vec(),
+        derivation: include_bytes!("../../../samples/nine-lines.derivation").to_vec(),
+    };
+    let mut rows = vec![("case 14".to_string(), vec![nine])];
     let bases: Vec<(Request, Vec<Line>)> = (0..EACH).map(|index| drawn(seed, index)).collect();
     for count in LINES {
         let calls = bases.iter().map(|(request, lines)| timed(request, &said_again(lines, count))).collect();
@@ -162,9 +213,15 @@ pub fn time(seed: u64, rounds: u64) -> Result<String, String> {
         let (request, lines) = cited_most(known, items, bytes);
         rows.push((format!("64 citations a line, lists of {known}, {items} items"), vec![timed(&request, &lines)]));
     }
+    let (request, lines) = run_often();
+    rows.push(("rule 2 over 255 executability lines".to_string(), vec![timed(&request, &lines)]));
+    rows
+}
+
+fn table(rows: &[Row], rounds: u64) -> Result<String, String> {
     let mut out = String::from("| derivations | lines | bytes, mean | proved, ns | for a byte | lines a second | ");
     out += "independent, ns | ratio | quartiles |\n|---|---|---|---|---|---|---|---|---|\n";
-    for (name, calls) in &rows {
+    for (name, calls) in rows {
         accepted(name, calls)?;
         let first = &calls[0].derivation;
         let lines = u16::from_be_bytes([first[0], first[1]]);
@@ -177,4 +234,11 @@ pub fn time(seed: u64, rounds: u64) -> Result<String, String> {
         );
     }
     Ok(out)
+}
+
+/// The tables, after a comparison of all answers: of the derivation call, and of the whether call.
+pub fn time(seed: u64, rounds: u64) -> Result<String, String> {
+    let plain = table(&rows(seed), rounds)?;
+    let closing = table(&whether::rows(seed), rounds)?;
+    Ok(format!("{plain}\n{closing}"))
 }

@@ -20,6 +20,7 @@ mod generated;
 mod plain;
 mod programs;
 mod walks;
+mod whether;
 #[path = "../../compare-src/src/words.rs"]
 mod words;
 

@@ -5,14 +5,16 @@ use oracle::text::{parse_bytes, state_line};
 
 use crate::calls::{agreed, expect, Call, Left};
 use crate::checks::{self, Check};
+use crate::whether_cases;
 
-const FILE_A: &str = "4 3 3 3 5 7 3 1 2 0 1 6 1 0 2 4 0 3 0 0 1 1 3 2 1 2 1 0 0 0 2 0 255 2 1 1 0 2 1 2 1 0 0 0 1 7 1 2";
+pub const FILE_A: &str = "4 3 3 3 5 7 3 1 2 0 1 6 1 0 2 4 0 3 0 0 1 1 3 2 1 2 1 0 0 0 2 0 255 2 1 1 0 2 1 2 1 0 0 0 1 7 1 2";
 const BUDGET: u32 = 100_000;
 const LENT: u8 = 9;
 
 extern "C" {
     fn glintstring_judge(request: *const u8, request_length: usize, state: *mut u8, state_length: usize, budget: u32) -> u64;
     fn glintstring_check(request: *const u8, request_length: usize, derivation: *const u8, derivation_length: usize) -> u64;
+    fn glintstring_check_whether(request: *const u8, request_length: usize, derivation: *const u8, derivation_length: usize) -> u64;
     fn glintstring_show(answer: u64, request: *const u8, request_length: usize, derivation: *const u8, derivation_length: usize) -> u64;
 }
 
@@ -136,22 +138,35 @@ const DERIVATION_ROWS: [DerivationRow; 20] = [
     ("4.25", "another question", false, These("0 1 0 0 0 0 1 0"), [35, 2, 2]),
 ];
 
+/// The nine lines, the last with these citations.
+fn nine(citations: &str) -> Vec<u8> {
+    NINE_LINES.into_iter().chain([citations]).flat_map(bytes).collect()
+}
+
+/// The derivation of case 14.
+pub fn nine_lines() -> Vec<u8> {
+    nine("2 0 2 0 7")
+}
+
 fn derivation(row: Derivation) -> Vec<u8> {
-    let nine = |citations: &str| NINE_LINES.into_iter().chain([citations]).flat_map(bytes).collect::<Vec<u8>>();
     match row {
         Nine(citations) => nine(citations),
-        StartOf(length) => nine("2 0 2 0 7")[..length].to_vec(),
+        StartOf(length) => nine_lines()[..length].to_vec(),
         These(all) => bytes(all),
         Zeros(length) => vec![0; length],
     }
 }
 
+/// File A without its whether entry.
+pub fn without_whether() -> Vec<u8> {
+    [&bytes(FILE_A)[..46], &[0]].concat()
+}
+
 /// The derivation calls of the rows.
 pub fn checks() -> Vec<Check> {
-    let file_a = bytes(FILE_A);
     let check = |&(_, _, whether, given, _): &DerivationRow| {
-        let request = if whether { file_a.clone() } else { [&file_a[..46], &[0]].concat() };
-        Check { request, derivation: derivation(given) }
+        let request = if whether { bytes(FILE_A) } else { without_whether() };
+        Check::plain(request, derivation(given))
     };
     DERIVATION_ROWS.iter().map(check).collect()
 }
@@ -204,15 +219,18 @@ fn without_bytes() -> Result<(), String> {
     let mut state = [LENT; 64];
     let no_request = unsafe { glintstring_judge(null(), 0, state.as_mut_ptr(), state.len(), 0) };
     let no_state = unsafe { glintstring_judge(null(), 0, null_mut(), 0, 0) };
-    let file_a = [&bytes(FILE_A)[..46], &[0]].concat();
+    let file_a = without_whether();
     let no_input = unsafe { glintstring_check(null(), 0, null(), 0) };
     let no_derivation = unsafe { glintstring_check(file_a.as_ptr(), file_a.len(), null(), 0) };
+    let asked = bytes(FILE_A);
+    let nothing = unsafe { glintstring_check_whether(null(), 0, null(), 0) };
+    let no_lines = unsafe { glintstring_check_whether(asked.as_ptr(), asked.len(), null(), 0) };
     let shown = unsafe { glintstring_show(u64::MAX - (253 << 8), null(), 0, null(), 0) };
-    match (no_request, no_state, state, no_input, no_derivation, shown) {
-        (267, 9, [LENT, ..], 267, 523, 0) => Ok(()),
+    match ([no_request, no_state], state, [no_input, no_derivation], [nothing, no_lines], shown) {
+        ([267, 9], [LENT, ..], [267, 523], [267, 523], 0) => Ok(()),
         _ => Err(format!(
             "null and length 0: {no_request} for the request, {no_state} for the state, {no_input} for a derivation call's request, \
-             {no_derivation} for its derivation, {shown} shown"
+             {no_derivation} for its derivation, {nothing} and {no_lines} for those of a whether call, {shown} shown"
         )),
     }
 }
@@ -232,7 +250,11 @@ pub fn compare() -> Result<String, String> {
         same.map_err(|why| format!("FORMAT {sentence}, {name}: {why}; {call}"))?;
     }
     compare_derivations(&mut rng)?;
+    let whether = whether_cases::compare(&mut rng)?;
     without_bytes()?;
     let (walks, checks) = (ROWS.len(), DERIVATION_ROWS.len());
-    Ok(format!("{walks} rows of the format, and {checks} for derivations, answered as it says, and null pointers with length 0"))
+    Ok(format!(
+        "{walks} rows of the format, {checks} for derivations and {whether} for those in the closing layout answered as it says, and null \
+         pointers with length 0"
+    ))
 }

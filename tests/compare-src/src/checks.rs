@@ -1,4 +1,4 @@
-//! One derivation call made both ways, and what is shown of its answer and of others.
+//! One derivation call or whether call made both ways, and what is shown of its answer and of others.
 
 use std::time::{Duration, Instant};
 
@@ -9,16 +9,41 @@ use oracle::text::comma_separated;
 use crate::calls::numbers;
 use crate::fence::Fenced;
 
-/// What a derivation call takes.
+/// How the derivation is written, and with it which call is made.
+#[derive(Clone, Copy, Debug, PartialEq, Eq)]
+pub enum Layout {
+    /// By the derivation call.
+    Plain,
+    /// By the whether call.
+    Closing,
+}
+
+/// What a derivation call or a whether call takes.
 #[derive(Clone, Debug)]
 pub struct Check {
+    pub layout: Layout,
     pub request: Vec<u8>,
     pub derivation: Vec<u8>,
 }
 
+impl Check {
+    pub fn plain(request: Vec<u8>, derivation: Vec<u8>) -> Check {
+        Check { layout: Layout::Plain, request, derivation }
+    }
+
+    pub fn closing(request: Vec<u8>, derivation: Vec<u8>) -> Check {
+        Check { layout: Layout::Closing, request, derivation }
+    }
+}
+
 impl std::fmt::Display for Check {
     fn fmt(&self, out: &mut std::fmt::Formatter<'_>) -> std::fmt::Result {
-        write!(out, "request {}, derivation {}", comma_separated(&self.request), comma_separated(&self.derivation))
+        let (request, derivation) = (comma_separated(&self.request), comma_separated(&self.derivation));
+        let written = match self.layout {
+            Layout::Plain => "",
+            Layout::Closing => " in the closing layout",
+        };
+        write!(out, "request {request}, derivation{written} {derivation}")
     }
 }
 
@@ -30,21 +55,25 @@ pub fn agreed(rng: &mut Rng, check: &Check) -> Result<[u64; 4], String> {
     timed(rng, check).map(|(answer, _)| answer)
 }
 
-/// The same, and how long the exported derivation call took.
+/// The same, and how long the exported call took.
 pub fn timed(rng: &mut Rng, check: &Check) -> Result<([u64; 4], Duration), String> {
     let mut request = Fenced::new(rng, &check.request);
     let mut derivation = Fenced::new(rng, &check.derivation);
     let before = (request.clone(), derivation.clone());
+    let (exported, unpack): (fn(&[u8], &[u8]) -> Packed, fn(Packed) -> glintstring::Answer) = match check.layout {
+        Layout::Plain => (glintstring::check_packed, glintstring::Answer::unpack_checked),
+        Layout::Closing => (glintstring::check_whether_packed, glintstring::Answer::unpack_whether),
+    };
     let began = Instant::now();
-    let packed = glintstring::check_packed(request.lent(), derivation.lent());
+    let packed = exported(request.lent(), derivation.lent());
     let took = began.elapsed();
-    unchanged(&before, &request, &derivation, "the derivation call")?;
+    unchanged(&before, &request, &derivation, "the call")?;
     let answer = numbers(packed);
     let independent = independent(check);
     if answer != independent {
         return Err(format!("number, input, place, count are {answer:?}, by the independent program {independent:?}"));
     }
-    let named = std::panic::catch_unwind(|| glintstring::Answer::unpack_checked(packed)).map_err(|_| format!("{answer:?} is no answer"))?;
+    let named = std::panic::catch_unwind(|| unpack(packed)).map_err(|_| format!("{answer:?} is no answer"))?;
     let told = [named.number().into(), named.input().into(), named.place() as u64, named.count().into()];
     if told != answer || named.packed() != packed {
         return Err(format!("answer {answer:?} is named {named}"));
@@ -59,7 +88,10 @@ pub fn timed(rng: &mut Rng, check: &Check) -> Result<([u64; 4], Duration), Strin
 
 /// The independent program's.
 pub fn independent(check: &Check) -> [u64; 4] {
-    let answer = oracle::check(&check.request, &check.derivation);
+    let answer = match check.layout {
+        Layout::Plain => oracle::check(&check.request, &check.derivation),
+        Layout::Closing => oracle::check_whether(&check.request, &check.derivation),
+    };
     [answer.number.into(), answer.input.into(), answer.place.into(), answer.count.into()]
 }
 
@@ -104,6 +136,6 @@ fn any_answer(rng: &mut Rng, check: &Check) -> Packed {
         2 => rng.below(length + 1),
         _ => *rng.pick(&[255, 256, 16_384, 32_767, 32_768, 65_535]),
     };
-    let number = *rng.pick(&[0, 1, 3, 9, 10, 11, 18, 30, 34, 35, 255]);
+    let number = *rng.pick(&[0, 1, 3, 9, 10, 11, 18, 30, 34, 35, 36, 255]);
     Packed(number + ((input as u64) << 8) + ((place.min(65_535) as u64) << 16) + (rng.bits() << 32))
 }

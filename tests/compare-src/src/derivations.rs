@@ -1,55 +1,29 @@
 //! Generated, forged and damaged derivations with their requests.
 
-use std::collections::BTreeMap;
-
 use oracle::calls::{any_check_call, check_call, derivable, CheckCall};
 use oracle::encode::{encode_derivation, encode_request};
 use oracle::generate::{any_request, SMALL};
 use oracle::model::{Item, Line, Request};
 use oracle::prove::{free, many_readings, natural, pad};
-use oracle::reader::{DERIVATION_LIMIT, ITEM_LIMIT, LINE_LIMIT, REQUEST_LIMIT};
+use oracle::reader::{ITEM_LIMIT, LINE_LIMIT};
 use oracle::rng::Rng;
 
-use crate::checks::{agreed, Check};
+use crate::answered::Series;
+use crate::checks::Check;
 use crate::crowded::crowded;
-use crate::generated::{change, cross};
+use crate::spoiled::spoil;
 
-/// What each input can be refused by; 0 is given for neither.
-const OF_REQUEST: [u64; 13] = [10, 11, 12, 13, 14, 15, 16, 17, 18, 19, 20, 21, 30];
-const OF_DERIVATION: [u64; 15] = [10, 11, 12, 13, 14, 15, 18, 19, 20, 21, 31, 32, 33, 34, 35];
-/// From so many calls on, each of these has to occur.
-const ENOUGH: u64 = 20_000;
 /// Streams of random numbers: of the calls, and of what stands around the inputs.
 const CALLS: u64 = 7;
 const FENCES: u64 = 8;
 
-/// Makes so many calls from a seed; in words how often each answer occurred, or the first difference.
-pub fn compare(seed: u64, count: u64) -> Result<String, String> {
-    let mut seen: BTreeMap<(u64, u64), u64> = BTreeMap::new();
-    let (mut longest, mut most_lines) = (0, 0);
-    for index in 0..count {
-        let check = call(seed, index);
-        let answer = agreed(&mut Rng::new(seed, FENCES, index), &check);
-        let [number, input, ..] = answer.map_err(|why| format!("seed {seed}, call {index}: {why}; {check}"))?;
-        *seen.entry((number, input)).or_default() += 1;
-        longest = longest.max(check.derivation.len());
-        if let ([high, low, ..], 0 | 31..) = (&check.derivation[..], number) {
-            most_lines = most_lines.max(u16::from_be_bytes([*high, *low]));
-        }
-    }
-    for ((number, input), times) in &seen {
-        let whose = ["", " of the request", " of the derivation"][*input as usize];
-        println!("  answer {number}{whose}: {times}");
-    }
-    let of_request = OF_REQUEST.iter().map(|&number| (number, 1));
-    let of_derivation = OF_DERIVATION.iter().map(|&number| (number, 2));
-    let missing = [(0, 0)].into_iter().chain(of_request).chain(of_derivation).filter(|answer| !seen.contains_key(answer));
-    let missing: Vec<String> = missing.map(|(number, input)| format!("{number} of input {input}")).collect();
-    if count >= ENOUGH && !missing.is_empty() {
-        return Err(format!("seed {seed}: answers {} never occurred in {count} derivations", missing.join(", ")));
-    }
-    Ok(format!("{count} derivations of seed {seed} agree; the longest has {longest} bytes, and up to {most_lines} lines were gone through"))
-}
+pub const SERIES: Series = Series {
+    what: "derivations",
+    call,
+    fences: FENCES,
+    of_request: &[10, 11, 12, 13, 14, 15, 16, 17, 18, 19, 20, 21, 30],
+    of_derivation: &[10, 11, 12, 13, 14, 15, 18, 19, 20, 21, 31, 32, 33, 34, 35],
+};
 
 /// The call with this number from a seed.
 pub fn call(seed: u64, index: u64) -> Check {
@@ -59,58 +33,37 @@ pub fn call(seed: u64, index: u64) -> Check {
 /// A call of the independent program's own generators, about half of which are made wrong in some way; of some calls an input is made wrong
 /// once more, belongs to another call, or is of another kind.
 pub fn any_check(rng: &mut Rng) -> Check {
-    let mut check = plain(check_call(rng));
-    match rng.below(100) {
-        0..=5 => {
-            for _ in 0..rng.range(1, 3) {
-                change(rng, &mut check.derivation);
-            }
-        }
-        6..=7 => {
-            let other = check_call(rng).derivation;
-            cross(rng, &mut check.derivation, &other);
-        }
-        8 => {
-            let most = *rng.pick(&[2, 3, 6, 255]);
-            check.derivation = (0..rng.below(60)).map(|_| rng.byte(0, most)).collect();
-            if rng.chance(70) {
-                check.derivation.splice(0..0, [0, rng.byte(1, 3)]);
-            }
-        }
-        9..=10 => change(rng, &mut check.request),
-        11 => check.request = check_call(rng).request,
-        12..=14 => check = of_any(rng, crowded),
-        15..=17 => check = of_any(rng, any_request),
+    let mut check = drawn(rng);
+    let turn = rng.below(100);
+    spoil(rng, turn, &mut check, drawn);
+    match turn {
+        12..=14 => of_any(rng, crowded),
+        15..=17 => of_any(rng, any_request),
         18 => {
             let (draft, lines) = many_readings(rng.byte(30, 63));
-            check = plain(any_check_call(rng, &draft, &lines));
-        }
-        19 => {
-            let length = *rng.pick(&[DERIVATION_LIMIT - 1, DERIVATION_LIMIT, DERIVATION_LIMIT + 1, 65_535, 70_000]);
-            check.derivation.resize(length, rng.byte(0, 3));
-        }
-        20 if rng.chance(30) => {
-            let length = *rng.pick(&[REQUEST_LIMIT - 1, REQUEST_LIMIT, REQUEST_LIMIT + 1, 20_000]);
-            check.request.resize(length, rng.byte(0, 3));
+            plain(any_check_call(rng, &draft, &lines))
         }
         21 if rng.chance(30) => {
             let (draft, mut lines) = derivable(rng, &SMALL);
             let index = rng.below(lines.len());
             lines[index].sequence = vec![Item::act(0); rng.range(ITEM_LIMIT - 2, ITEM_LIMIT + 2)];
-            check = Check { request: encode_request(&draft).bytes, derivation: encode_derivation(&lines).bytes };
+            Check::plain(encode_request(&draft).bytes, encode_derivation(&lines).bytes)
         }
         22..=26 => {
             let (draft, mut lines) = derivable(rng, &SMALL);
             nearly(rng, draft.fluents, &mut lines);
-            check = Check { request: encode_request(&draft).bytes, derivation: encode_derivation(&lines).bytes };
+            Check::plain(encode_request(&draft).bytes, encode_derivation(&lines).bytes)
         }
-        _ => {}
+        _ => check,
     }
-    check
+}
+
+fn drawn(rng: &mut Rng) -> Check {
+    plain(check_call(rng))
 }
 
 fn plain(call: CheckCall) -> Check {
-    Check { request: call.request, derivation: call.derivation }
+    Check::plain(call.request, call.derivation)
 }
 
 /// A request of another source without whether entries, and its derivation, right or wrong; without goals where it has none with them.

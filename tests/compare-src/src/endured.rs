@@ -8,8 +8,9 @@ use std::time::Duration;
 use oracle::rng::Rng;
 
 use crate::calls::{self, expect};
+use crate::checks::Layout;
 use crate::hostile::{self, Input, Named};
-use crate::{checks, derivations, generated};
+use crate::{checks, derivations, generated, whether};
 
 /// What a call may take, and what it may take for each count more: seven times what was seen beside other work (docs/HOSTILE.md).
 const A: Duration = Duration::from_millis(100);
@@ -20,7 +21,7 @@ const TRIES: usize = 3;
 const LARGE: u64 = 500;
 /// The stream of random numbers of what stands around the lent bytes.
 const FENCES: u64 = 11;
-/// Random requests and derivations of each.
+/// Random requests, derivations, and those in the closing layout, of each.
 const RANDOM: u64 = 300;
 
 /// What a call answered, and how long it took.
@@ -119,35 +120,52 @@ pub fn compare(folder: Option<&str>) -> Result<String, String> {
     Ok(format!("hostile inputs: {total} agree, none writes outside the lent bytes, and each takes at most a + b * count"))
 }
 
+/// Files of one kind: their names, and the independent program's answers.
+#[derive(Default)]
+struct Written {
+    names: String,
+    expected: String,
+}
+
+impl Written {
+    fn add(&mut self, names: &str, [number, _, place, count]: [u64; 4]) {
+        _ = writeln!(self.names, "{names}");
+        _ = writeln!(self.expected, "  number {number}, place {place}, count {count}");
+    }
+}
+
 /// Writes the inputs of a folder's deepest walks, the others by name, and so many generated and random ones as files into another folder.
-/// There `walks` has the names of requests and `checks` those of requests and derivations, and beside them are the answers, by the
-/// independent program, walks under this budget.
+/// There `walks` has the names of requests, `checks` those of requests and derivations, and `whether` the same in the closing layout; beside
+/// them are the answers, by the independent program, walks under this budget.
 pub fn write(deepest: &str, folder: &str, budget: u32, count: u64) -> Result<String, String> {
     let mut inputs: Vec<Input> = hostile::named(deepest)?.into_iter().chain(hostile::random(1, count)).map(|(_, input)| input).collect();
     inputs.extend((0..count).map(|index| Input::Walk(generated::call(1, index))));
     inputs.extend((0..count).map(|index| Input::Derivation(derivations::call(1, index))));
+    inputs.extend((0..count).map(|index| Input::Derivation(whether::call(1, index))));
     let save = |name: String, bytes: &[u8]| fs::write(format!("{folder}/{name}"), bytes).map_err(|error| format!("{folder}/{name}: {error}"));
-    let (mut walks, mut checks, mut of_walks, mut of_checks) = (String::new(), String::new(), String::new(), String::new());
-    let told = |[number, _, place, count]: [u64; 4]| format!("  number {number}, place {place}, count {count}");
+    let (mut walks, mut plain, mut closing) = (Written::default(), Written::default(), Written::default());
     for (index, input) in inputs.iter_mut().enumerate() {
         match input {
             Input::Walk(call) => {
                 call.budget = budget;
                 call.lent = vec![0; glintstring::STATE_LENGTH];
                 save(format!("{index}.request"), &call.request)?;
-                _ = writeln!(walks, "{folder}/{index}.request");
-                _ = writeln!(of_walks, "{}", told(calls::independent(call).answer));
+                walks.add(&format!("{folder}/{index}.request"), calls::independent(call).answer);
             }
             Input::Derivation(check) => {
                 save(format!("{index}.request"), &check.request)?;
                 save(format!("{index}.derivation"), &check.derivation)?;
-                _ = writeln!(checks, "{folder}/{index}.request {folder}/{index}.derivation");
-                _ = writeln!(of_checks, "{}", told(checks::independent(check)));
+                let written = match check.layout {
+                    Layout::Plain => &mut plain,
+                    Layout::Closing => &mut closing,
+                };
+                written.add(&format!("{folder}/{index}.request {folder}/{index}.derivation"), checks::independent(check));
             }
         }
     }
-    for (name, text) in [("walks", walks), ("checks", checks), ("walks.expected", of_walks), ("checks.expected", of_checks)] {
-        save(name.to_string(), text.as_bytes())?;
+    for (name, written) in [("walks", walks), ("checks", plain), ("whether", closing)] {
+        save(name.to_string(), written.names.as_bytes())?;
+        save(format!("{name}.expected"), written.expected.as_bytes())?;
     }
     Ok(format!("{} inputs written", inputs.len()))
 }

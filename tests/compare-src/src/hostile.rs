@@ -9,6 +9,7 @@ use crate::calls::Call;
 use crate::checks::Check;
 use crate::deepest;
 use crate::largest::{self, line};
+use crate::whether_hostile;
 
 /// The stream of random numbers of the bytes that have no meaning.
 const BYTES: u64 = 10;
@@ -18,8 +19,8 @@ const LARGEST_BUDGET: u32 = u32::MAX;
 /// A budget for walks that are slow for each count.
 const FEW: u32 = 1_000;
 
-const FLUENTS: u8 = 64;
-const SECTION: usize = 255;
+pub const FLUENTS: u8 = 64;
+pub const SECTION: usize = 255;
 
 /// What a call takes.
 pub enum Input {
@@ -35,7 +36,7 @@ fn walk(name: &str, request: Vec<u8>, budget: u32) -> Named {
 }
 
 fn check(name: &str, request: &Request, derivation: Vec<u8>) -> Named {
-    (name.to_string(), Input::Derivation(Check { request: encode_request(request).bytes, derivation }))
+    (name.to_string(), Input::Derivation(Check::plain(encode_request(request).bytes, derivation)))
 }
 
 /// Every input by name, with the deepest walks of a folder; the one whose walk takes minutes is apart.
@@ -50,6 +51,7 @@ pub fn named(folder: &str) -> Result<Vec<Named>, String> {
     inputs.extend(citations());
     inputs.extend(slow_lines());
     inputs.extend(all_alike());
+    inputs.extend(whether_hostile::named());
     Ok(inputs)
 }
 
@@ -58,7 +60,7 @@ pub fn longest() -> Vec<Named> {
     sensed_at_once(&[LARGEST_BUDGET])
 }
 
-/// Any bytes, as a request and as a derivation; those of every other pair start as their input may.
+/// Any bytes, as a request and as a derivation in either layout; those of every other three start as their input may.
 pub fn random(seed: u64, count: u64) -> Vec<Named> {
     let mut inputs = Vec::new();
     for index in 0..count {
@@ -74,27 +76,29 @@ pub fn random(seed: u64, count: u64) -> Vec<Named> {
         };
         let request = bytes(rng, REQUEST_LIMIT, [FLUENTS, 64]);
         let derivation = bytes(rng, DERIVATION_LIMIT, [4, 0]);
+        let closing = bytes(rng, DERIVATION_LIMIT, [0, 1]);
         inputs.push(walk(&format!("random request {index}"), request, FEW));
         inputs.push(check(&format!("random derivation {index}"), &wide(), derivation));
+        inputs.push(whether_hostile::check(&format!("random derivation {index}"), &wide(), closing));
     }
     inputs
 }
 
 /// 64 fluents and 64 actions that can always be run, and nothing else.
-fn wide() -> Request {
+pub fn wide() -> Request {
     Request { fluents: FLUENTS, actions: 64, allowances: (0..64).map(always).collect(), ..Request::default() }
 }
 
-fn always(action: u8) -> Allowance {
+pub fn always(action: u8) -> Allowance {
     Allowance { action, body: Vec::new() }
 }
 
-fn senses(action: u8, fluents: std::ops::Range<u8>) -> Vec<Knowledge> {
+pub fn senses(action: u8, fluents: std::ops::Range<u8>) -> Vec<Knowledge> {
     fluents.map(|fluent| Knowledge { place: 0, action, fluent }).collect()
 }
 
 /// A literal for each of some fluents, all of them true.
-fn literals(fluents: std::ops::Range<u8>) -> Vec<u8> {
+pub fn literals(fluents: std::ops::Range<u8>) -> Vec<u8> {
     fluents.map(|fluent| 2 * fluent).collect()
 }
 
@@ -114,7 +118,7 @@ fn sensed_at_once(budgets: &[u32]) -> Vec<Named> {
 
 /// Eight branches, whose conditions have 16 literals and are told apart by the last three; the last branch is followed where the first 16
 /// fluents are true.
-fn eightfold() -> Item {
+pub fn eightfold() -> Item {
     let branch = |bits: u8| {
         let told = (0..3).map(|i| 2 * (13 + i) + (bits >> i & 1));
         Branch { condition: literals(0..13).into_iter().chain(told).collect(), sequence: Vec::new() }
@@ -195,12 +199,26 @@ fn branchings() -> Vec<Named> {
     ]
 }
 
+/// A sequence that says it has 65,535 items, with so many there.
+fn actions(count: usize) -> Vec<u8> {
+    [vec![255, 255], vec![0; count]].concat()
+}
+
+/// The same within eight branchings, whose sequences all say so.
+fn nested(items: usize) -> Vec<u8> {
+    [[255, 255, 255, 1, 0].repeat(NESTING_LIMIT), actions(items)].concat()
+}
+
+/// Derivations, in either layout, that end with such a sequence in their first line.
+pub fn long_lines() -> Vec<(&'static str, Vec<u8>)> {
+    let plans = [("none there", actions(0)), ("1,025 there", actions(ITEM_LIMIT + 1)), ("nested", nested(ITEM_LIMIT))];
+    plans.into_iter().map(|(name, plan)| (name, [vec![0, 1, 0], plan].concat())).collect()
+}
+
 /// Sequences that say they have 65,535 items.
 fn item_counts() -> Vec<Named> {
     let table = vec![1, 1, 0, 0, 1, 0, 0, 0];
     let request = |plan: &[u8]| [&table[..], plan].concat();
-    let actions = |count: usize| [vec![255, 255], vec![0; count]].concat();
-    let nested = |items: usize| [[255, 255, 255, 1, 0].repeat(NESTING_LIMIT), actions(items)].concat();
     let mut inputs = vec![
         walk("65,535 items, none there", request(&actions(0)), FEW),
         walk("65,535 items, 1,024 there", request(&actions(ITEM_LIMIT)), FEW),
@@ -208,9 +226,7 @@ fn item_counts() -> Vec<Named> {
         walk("65,535 items in each of eight branchings", request(&nested(ITEM_LIMIT)), FEW),
     ];
     let one = Request { fluents: 1, actions: 1, allowances: vec![always(0)], ..Request::default() };
-    for (name, plan) in [("none there", actions(0)), ("1,025 there", actions(ITEM_LIMIT + 1)), ("nested", nested(ITEM_LIMIT))] {
-        inputs.push(check(&format!("a line of 65,535 items, {name}"), &one, [vec![0, 1, 0], plan].concat()));
-    }
+    inputs.extend(long_lines().into_iter().map(|(name, bytes)| check(&format!("a line of 65,535 items, {name}"), &one, bytes)));
     inputs
 }
 
@@ -262,8 +278,19 @@ fn long_plans() -> (Request, Vec<Line>) {
     (request, lines)
 }
 
-/// Lines that take long each: rule 2 over 255 effects, and branchings with the longest conditions.
+/// 16 facts, and an action with 255 executability lines, of which the first can always be met, and each other but for its last literal.
+pub fn barred() -> Request {
+    let body = [literals(0..15), vec![31]].concat();
+    let allowances = [vec![always(0)], vec![Allowance { action: 0, body }; SECTION - 1]].concat();
+    Request { facts: literals(0..16), allowances, ..wide() }
+}
+
+/// Lines that take long each: rule 2 over 255 effects or 255 executability lines, and branchings with the longest conditions.
 fn slow_lines() -> Vec<Named> {
+    let (runs, act) = (barred(), [Item::act(0)]);
+    let run = line(&runs.facts, &act, &runs.facts, 2, &[]);
+    let times = (DERIVATION_LIMIT - 2) / (encode_derivation(&[run.clone()]).bytes.len() - 2);
+    let repeated = encode_derivation(&vec![run; times]).bytes;
     let mut request = wide();
     request.effects = vec![Effect { place: 0, action: 0, literal: 0, body: literals(32..48) }; SECTION];
     request.plan = vec![Item::act(0)];
@@ -274,22 +301,24 @@ fn slow_lines() -> Vec<Named> {
     let branched = line(&literals(0..16), &branchings, &[], 4, &[0]);
     vec![
         check("1,024 lines by rule 2 over 255 effects", &request, actions),
+        check(&format!("{times} lines by rule 2 over 255 executability lines"), &runs, repeated),
         check("a line of branchings with the longest conditions", &wide(), encode_derivation(&[empty, branched]).bytes),
     ]
 }
 
-/// Bytes that are all the same.
-fn all_alike() -> Vec<Named> {
-    let mut inputs = Vec::new();
+/// No byte, and bytes that are all the same, of lengths up to a limit and beyond it.
+pub fn all_lengths(limit: usize) -> Vec<(String, Vec<u8>)> {
+    let mut inputs = vec![("no byte".to_string(), Vec::new())];
     for byte in [0, 255] {
-        for length in [1, 2, 64, REQUEST_LIMIT, REQUEST_LIMIT + 1, 1 << 20] {
-            inputs.push(walk(&format!("a request of {length} bytes {byte}"), vec![byte; length], BUDGETS[2]));
-        }
-        for length in [1, 2, 64, DERIVATION_LIMIT, DERIVATION_LIMIT + 1, 1 << 20] {
-            inputs.push(check(&format!("a derivation of {length} bytes {byte}"), &wide(), vec![byte; length]));
+        for length in [1, 2, 64, limit, limit + 1, 1 << 20] {
+            inputs.push((format!("{length} bytes {byte}"), vec![byte; length]));
         }
     }
-    inputs.push(walk("a request of no byte", Vec::new(), BUDGETS[2]));
-    inputs.push(check("a derivation of no byte", &wide(), Vec::new()));
     inputs
+}
+
+fn all_alike() -> Vec<Named> {
+    let requests = all_lengths(REQUEST_LIMIT).into_iter().map(|(name, bytes)| walk(&format!("a request of {name}"), bytes, BUDGETS[2]));
+    let derivations = all_lengths(DERIVATION_LIMIT).into_iter().map(|(name, bytes)| check(&format!("a derivation of {name}"), &wide(), bytes));
+    requests.chain(derivations).collect()
 }

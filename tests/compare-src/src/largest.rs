@@ -8,6 +8,7 @@ use oracle::reader::{DERIVATION_LIMIT, ITEM_LIMIT, LINE_LIMIT, NESTING_LIMIT};
 use oracle::rng::Rng;
 
 use crate::checks::{agreed, Check};
+use crate::whether_largest;
 
 /// The stack of the thread: much less than walks may need.
 const STACK: usize = 256 << 10;
@@ -19,8 +20,8 @@ pub type Row = (String, Check, [u64; 3]);
 
 /// Every row through both calls.
 pub fn compare() -> Result<String, String> {
-    let rows = rows();
-    for (index, (name, check, [number, input, place])) in rows.iter().enumerate() {
+    let (plain, closing) = (rows(), whether_largest::rows());
+    for (index, (name, check, [number, input, place])) in plain.iter().chain(&closing).enumerate() {
         let on_thread = thread::scope(|scope| {
             let calling = || agreed(&mut Rng::new(1, FENCES, index as u64), check);
             thread::Builder::new().stack_size(STACK).spawn_scoped(scope, calling).expect("a thread").join().expect("a call")
@@ -30,7 +31,8 @@ pub fn compare() -> Result<String, String> {
             return Err(format!("{name}: number, input, place, count are {answer:?}, by the format {number}, {input}, {place}, 0; {check}"));
         }
     }
-    Ok(format!("{} derivations at their limits agree, on a thread of {STACK} bytes of stack", rows.len()))
+    let (plain, closing) = (plain.len(), closing.len());
+    Ok(format!("{plain} derivations at their limits and {closing} in the closing layout agree, on a thread of {STACK} bytes of stack"))
 }
 
 pub fn rows() -> Vec<Row> {
@@ -46,7 +48,7 @@ pub fn line(before: &[u8], sequence: &[Item], after: &[u8], rule: u8, cites: &[u
 }
 
 fn row(name: &str, request: &Request, lines: &[Line], answer: [u64; 3]) -> Row {
-    let check = Check { request: encode_request(request).bytes, derivation: encode_derivation(lines).bytes };
+    let check = Check::plain(encode_request(request).bytes, encode_derivation(lines).bytes);
     (name.to_string(), check, answer)
 }
 

@@ -1,8 +1,9 @@
 //! The exported calls against the independent program: the walk call on the format's cases, on the deepest requests, and on generated and
-//! damaged ones, the derivation call and the showing call on derivations at their limits, and on generated, forged and damaged ones; and all
-//! of them on hostile inputs. The exit status is 0 where all agree and 1 at the first difference; what is told of it is enough to make the
-//! call again.
+//! damaged ones, the derivation call, the whether call and the showing call on derivations at their limits, and on generated, forged and
+//! damaged ones; and all of them on hostile inputs. The exit status is 0 where all agree and 1 at the first difference; what is told of it is
+//! enough to make the call again.
 
+mod answered;
 mod calls;
 mod cases;
 mod checks;
@@ -14,6 +15,11 @@ mod fence;
 mod generated;
 mod hostile;
 mod largest;
+mod spoiled;
+mod whether;
+mod whether_cases;
+mod whether_hostile;
+mod whether_largest;
 mod words;
 
 use std::process::ExitCode;
@@ -24,7 +30,7 @@ use words::{number, obey, Failure};
 const STACK: usize = 8 << 20;
 
 const HELP: &str = "usage: compare cases | compare deepest FOLDER | compare generated SEED COUNT | compare largest | compare derivations SEED COUNT \
-                    | compare hostile FOLDER | compare longest | compare write DEEPEST FOLDER BUDGET COUNT";
+                    | compare whether SEED COUNT | compare hostile FOLDER | compare longest | compare write DEEPEST FOLDER BUDGET COUNT";
 
 fn main() -> ExitCode {
     obey("compare", STACK, |words| {
@@ -33,7 +39,8 @@ fn main() -> ExitCode {
             ["deepest", folder] => deepest::compare(folder),
             ["generated", seed, count] => generated::compare(number(seed)?, number(count)?),
             ["largest"] => largest::compare(),
-            ["derivations", seed, count] => derivations::compare(number(seed)?, number(count)?),
+            ["derivations", seed, count] => derivations::SERIES.compare(number(seed)?, number(count)?),
+            ["whether", seed, count] => whether::SERIES.compare(number(seed)?, number(count)?),
             ["hostile", folder] => endured::compare(Some(folder)),
             ["longest"] => endured::compare(None),
             ["write", deepest, folder, budget, count] => {

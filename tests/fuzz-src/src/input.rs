@@ -3,13 +3,15 @@
 use oracle::rng::Rng;
 
 use crate::calls::Call;
-use crate::cases;
-use crate::checks::Check;
+use crate::checks::{Check, Layout};
 use crate::derivations::any_check;
 use crate::generated::any_call;
+use crate::{cases, whether, whether_cases};
 
 /// A derivation call where this bit is set; the number is the length of the request, and the derivation follows it.
 const DERIVATION: u8 = 1;
+/// Instead of a derivation call: a whether call.
+const CLOSING: u8 = 8;
 /// In a walk call: a budget of up to 16,383 instead of 255.
 const FAR: u8 = 2;
 /// The lent state has the number modulo 130 as its length where these are all set, and 64 otherwise.
@@ -20,6 +22,7 @@ pub const LONGEST: usize = 4_096;
 /// Streams of random numbers of the comparison's calls.
 const CALLS: u64 = 3;
 const CHECKS: u64 = 7;
+const WHETHER: u64 = 13;
 
 /// A call to be made both ways.
 pub enum Given {
@@ -35,7 +38,11 @@ pub fn given(input: &[u8]) -> Given {
     };
     if kind & DERIVATION != 0 {
         let (request, derivation) = rest.split_at(rest.len().min(number.into()));
-        return Given::Derivation(Check { request: request.to_vec(), derivation: derivation.to_vec() });
+        let (request, derivation) = (request.to_vec(), derivation.to_vec());
+        return Given::Derivation(match kind & CLOSING {
+            0 => Check::plain(request, derivation),
+            _ => Check::closing(request, derivation),
+        });
     }
     let length = if kind & ODD_LENGTH == ODD_LENGTH { usize::from(number) % LENGTHS } else { 64 };
     let budget = if kind & FAR != 0 { number / 4 } else { number % 256 };
@@ -54,14 +61,19 @@ fn of_call(call: &Call) -> Vec<u8> {
 
 fn of_check(check: &Check) -> Vec<u8> {
     let length = u16::try_from(check.request.len()).unwrap_or(u16::MAX);
-    [&[DERIVATION][..], &length.to_be_bytes(), &check.request, &check.derivation].concat()
+    let kind = match check.layout {
+        Layout::Plain => DERIVATION,
+        Layout::Closing => DERIVATION | CLOSING,
+    };
+    [&[kind][..], &length.to_be_bytes(), &check.request, &check.derivation].concat()
 }
 
 /// What the fuzzer starts with: the format's rows, and so many generated calls of each kind; those that are too long are left out.
 pub fn seeds(seed: u64, count: u64) -> Vec<Vec<u8>> {
     let walks = (0..count).map(|index| any_call(&mut Rng::new(seed, CALLS, index)));
     let derivations = (0..count).map(|index| any_check(&mut Rng::new(seed, CHECKS, index)));
+    let closing = (0..count).map(|index| whether::any_check(&mut Rng::new(seed, WHETHER, index)));
     let walks = cases::calls().into_iter().chain(walks).map(|call| of_call(&call));
-    let derivations = cases::checks().into_iter().chain(derivations).map(|check| of_check(&check));
-    walks.chain(derivations).filter(|input| input.len() <= LONGEST).collect()
+    let derivations = cases::checks().into_iter().chain(derivations).chain(whether_cases::checks()).chain(closing);
+    walks.chain(derivations.map(|check| of_check(&check))).filter(|input| input.len() <= LONGEST).collect()
 }

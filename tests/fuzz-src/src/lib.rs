@@ -1,6 +1,9 @@
 //! One input of the fuzzer is one call, made by the exported calls and by the independent program.
 
 #[allow(dead_code)]
+#[path = "../../compare-src/src/answered.rs"]
+mod answered;
+#[allow(dead_code)]
 #[path = "../../compare-src/src/calls.rs"]
 mod calls;
 #[allow(dead_code)]
@@ -19,6 +22,14 @@ mod fence;
 #[path = "../../compare-src/src/generated.rs"]
 mod generated;
 pub mod input;
+#[path = "../../compare-src/src/spoiled.rs"]
+mod spoiled;
+#[allow(dead_code)]
+#[path = "../../compare-src/src/whether.rs"]
+mod whether;
+#[allow(dead_code)]
+#[path = "../../compare-src/src/whether_cases.rs"]
+mod whether_cases;
 
 use input::{given, Given};
 use oracle::rng::Rng;

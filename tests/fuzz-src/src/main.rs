@@ -16,7 +16,7 @@ const STACK: usize = 8 << 20;
 /// Bytes of the inputs that are kept, together.
 const KEPT: usize = 60_000;
 
-const HELP: &str = "usage: cases seeds FOLDER SEED COUNT | cases keep FOLDER FILE | cases replay FILE";
+const HELP: &str = "usage: cases seeds FOLDER SEED COUNT FILE | cases keep FOLDER FILE | cases replay FILE";
 
 /// Four numbers of the answer and the input in hexadecimal, one case to a line.
 fn line(answer: [u64; 4], input: &[u8]) -> String {
@@ -32,8 +32,20 @@ fn bytes(text: &str) -> Option<Vec<u8>> {
     (0..text.len()).step_by(2).map(|at| u8::from_str_radix(text.get(at..at + 2)?, 16).ok()).collect()
 }
 
-fn write_seeds(folder: &str, seed: u64, count: u64) -> Result<String, String> {
-    let all = seeds(seed, count);
+/// The inputs of the cases in a file, each with its line.
+fn kept(file: &str) -> Result<Vec<(String, Vec<u8>)>, String> {
+    let text = fs::read_to_string(file).map_err(|error| format!("{file}: {error}"))?;
+    let case = |(index, line): (usize, &str)| {
+        let input = line.rsplit(' ').next().and_then(bytes).ok_or(format!("line {}: no bytes", index + 1))?;
+        Ok((line.to_string(), input))
+    };
+    text.lines().enumerate().map(case).collect()
+}
+
+/// What was kept, and generated inputs.
+fn write_seeds(folder: &str, seed: u64, count: u64, file: &str) -> Result<String, String> {
+    let mut all = seeds(seed, count);
+    all.extend(kept(file)?.into_iter().map(|(_, input)| input));
     for (index, input) in all.iter().enumerate() {
         fs::write(format!("{folder}/seed-{index}"), input).map_err(|error| format!("{folder}: {error}"))?;
     }
@@ -66,21 +78,20 @@ fn keep(folder: &str, file: &str) -> Result<String, String> {
 
 /// Every case through both programs, with the answer that is written down.
 fn replay(file: &str) -> Result<String, String> {
-    let text = fs::read_to_string(file).map_err(|error| format!("{file}: {error}"))?;
-    for (index, case) in text.lines().enumerate() {
-        let input = case.rsplit(' ').next().and_then(bytes).ok_or(format!("line {}: no bytes", index + 1))?;
-        let answer = agreed(&input).map_err(|why| format!("line {}: DIFFERENCE: {why}", index + 1))?;
-        if line(answer, &input) != case {
+    let cases = kept(file)?;
+    for (index, (case, input)) in cases.iter().enumerate() {
+        let answer = agreed(input).map_err(|why| format!("line {}: DIFFERENCE: {why}", index + 1))?;
+        if line(answer, input) != *case {
             return Err(format!("line {}: number, input, place, count are {answer:?}", index + 1));
         }
     }
-    Ok(format!("{} cases answered alike by both programs, as written down", text.lines().count()))
+    Ok(format!("{} cases answered alike by both programs, as written down", cases.len()))
 }
 
 fn main() -> ExitCode {
     obey("fuzz", STACK, |words| {
         let told = match *words {
-            ["seeds", folder, seed, count] => write_seeds(folder, number(seed)?, number(count)?),
+            ["seeds", folder, seed, count, file] => write_seeds(folder, number(seed)?, number(count)?, file),
             ["keep", folder, file] => keep(folder, file),
             ["replay", file] => replay(file),
             _ => return Err(Failure::Usage(HELP.to_string())),

@@ -89,7 +89,7 @@ pub fn lend_wrongly(rng: &mut Rng, call: &mut JudgeCall) {
     call.outlook = Outlook::Refused(0, Fault::new(9, 0));
 }
 
-fn outlook(input: u8, damaged: &Damaged) -> Outlook {
+pub(crate) fn outlook(input: u8, damaged: &Damaged) -> Outlook {
     damaged
         .expected
         .map_or(Outlook::Open, |fault| Outlook::Refused(input, fault))

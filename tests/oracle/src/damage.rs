@@ -21,14 +21,14 @@ pub struct Damaged {
 }
 
 impl Damaged {
-    fn unsure(bytes: Vec<u8>) -> Damaged {
+    pub(crate) fn unsure(bytes: Vec<u8>) -> Damaged {
         Damaged {
             bytes,
             expected: None,
         }
     }
 
-    fn sure(bytes: Vec<u8>, number: u8, place: usize) -> Damaged {
+    pub(crate) fn sure(bytes: Vec<u8>, number: u8, place: usize) -> Damaged {
         Damaged {
             bytes,
             expected: Some(Fault::new(number, place)),
@@ -38,10 +38,21 @@ impl Damaged {
 
 /// The numbers of fluents and actions, and the longest input: what byte damage has to know.
 #[derive(Clone, Copy)]
-struct Bounds {
+pub(crate) struct Bounds {
     fluents: u8,
     actions: u8,
     longest: usize,
+}
+
+impl Bounds {
+    /// Those of a derivation for a request.
+    pub fn of_derivation(request: &Request) -> Bounds {
+        Bounds {
+            fluents: request.fluents,
+            actions: request.actions,
+            longest: DERIVATION_LIMIT,
+        }
+    }
 }
 
 /// Damages a request that was right before.
@@ -65,14 +76,10 @@ pub fn damage_request(rng: &mut Rng, request: &Request) -> Damaged {
 
 /// Damages a derivation that was right before. Line numbers and rules go wrong most often.
 pub fn damage_derivation(rng: &mut Rng, request: &Request, lines: &[Line]) -> Damaged {
-    let bounds = Bounds {
-        fluents: request.fluents,
-        actions: request.actions,
-        longest: DERIVATION_LIMIT,
-    };
+    let bounds = Bounds::of_derivation(request);
     match rng.below(100) {
         0..=27 => damage_bytes(rng, &encode_derivation(lines), bounds),
-        28..=30 => wrong_line_count(rng, lines),
+        28..=30 => wrong_line_count(rng, encode_derivation(lines).bytes),
         31..=64 => {
             let mut wrong = lines.to_vec();
             match forge(rng, request, &mut wrong) {
@@ -94,7 +101,7 @@ pub fn damage_derivation(rng: &mut Rng, request: &Request, lines: &[Line]) -> Da
 }
 
 /// Damage to bytes whose marks are known.
-fn damage_bytes(rng: &mut Rng, whole: &Encoded, bounds: Bounds) -> Damaged {
+pub(crate) fn damage_bytes(rng: &mut Rng, whole: &Encoded, bounds: Bounds) -> Damaged {
     let bytes = whole.bytes.clone();
     let length = bytes.len();
     match rng.below(14) {
@@ -152,7 +159,7 @@ fn too_long(rng: &mut Rng, mut bytes: Vec<u8>, bounds: Bounds) -> Damaged {
 }
 
 /// Damage at a mark of some kind; a flipped bit where there is none.
-fn aimed(
+pub(crate) fn aimed(
     rng: &mut Rng,
     whole: &Encoded,
     wanted: fn(&Mark) -> bool,
@@ -381,16 +388,16 @@ fn nests(sequence: &[Item]) -> bool {
 }
 
 /// No line, or line 1,025.
-fn wrong_line_count(rng: &mut Rng, lines: &[Line]) -> Damaged {
-    let mut bytes = encode_derivation(lines).bytes;
+pub(crate) fn wrong_line_count(rng: &mut Rng, mut bytes: Vec<u8>) -> Damaged {
+    let count = u16::from_be_bytes([bytes[0], bytes[1]]);
     let most = LINE_LIMIT as u16;
     let wrong = match rng.below(6) {
         0 => 0,
         1 => most + 1,
         2 => u16::MAX,
         3 => rng.bits() as u16,
-        4 => lines.len() as u16 + 1,
-        _ => lines.len() as u16 - 1,
+        4 => count + 1,
+        _ => count - 1,
     };
     bytes[..2].copy_from_slice(&wrong.to_be_bytes());
     match wrong == 0 || wrong > most {
@@ -406,9 +413,9 @@ fn misshape_lines(rng: &mut Rng, request: &Request, lines: &mut Vec<Line>) {
     match rng.below(16) {
         0 => lines[index].rule = *rng.pick(&[0, 7, 8, 255]),
         1 => lines[index].rule = rng.byte(1, 6),
-        2 | 3 => wrong_citations(rng, &mut lines[index]),
-        4 | 5 => wrong_citation(rng, lines, index),
-        6 | 7 => turn_citations(rng, lines),
+        2 | 3 => wrong_citations(rng, &mut lines[index].cites),
+        4 | 5 => wrong_citation(rng, lines.len(), index, &mut lines[index].cites),
+        6 | 7 => turn_citations(rng, lines.iter_mut().map(|line| &mut line.cites)),
         8 => drop_entry(rng, &mut lines[index].before),
         9 => drop_entry(rng, &mut lines[index].after),
         10 => lines[index].before = body(rng, fluents, 2),
@@ -423,44 +430,41 @@ fn misshape_lines(rng: &mut Rng, request: &Request, lines: &mut Vec<Line>) {
 }
 
 /// Another number of citations.
-fn wrong_citations(rng: &mut Rng, line: &mut Line) {
+pub(crate) fn wrong_citations(rng: &mut Rng, cites: &mut Vec<u16>) {
     match rng.below(3) {
         0 => {
-            line.cites.pop();
+            cites.pop();
         }
-        1 if line.cites.len() < 64 => line.cites.push(line.cites.first().copied().unwrap_or(0)),
+        1 if cites.len() < 64 => cites.push(cites.first().copied().unwrap_or(0)),
         _ => {
-            let cited = line.cites.first().copied().unwrap_or(0);
-            line.cites = vec![cited; *rng.pick(&[0, 1, 2, 3, 4, 5, 6, 8, 63, 64])];
+            let cited = cites.first().copied().unwrap_or(0);
+            *cites = vec![cited; *rng.pick(&[0, 1, 2, 3, 4, 5, 6, 8, 63, 64])];
         }
     }
 }
 
 /// A citation of the line itself, a later line, one that doesn't exist, or another earlier one.
-fn wrong_citation(rng: &mut Rng, lines: &mut [Line], index: usize) {
-    let length = lines.len();
+pub(crate) fn wrong_citation(rng: &mut Rng, length: usize, index: usize, cites: &mut [u16]) {
     let cited = match rng.below(4) {
         0 => index,
         1 => rng.range(index, length - 1),
         2 => length + rng.below(60_000),
         _ => rng.below(index + 1),
     };
-    let cites = &mut lines[index].cites;
     if !cites.is_empty() {
         let place = rng.below(cites.len());
         cites[place] = cited as u16;
     }
 }
 
-/// Rule 3 or 5 with its citations in another order, or with one of them for another.
-fn turn_citations(rng: &mut Rng, lines: &mut [Line]) {
-    let several = |line: &&mut Line| line.cites.len() > 1;
-    let mut citing: Vec<&mut Line> = lines.iter_mut().filter(several).collect();
-    if citing.is_empty() {
+/// Some line's citations in another order, or with one of them for another.
+pub(crate) fn turn_citations<'a>(rng: &mut Rng, all: impl Iterator<Item = &'a mut Vec<u16>>) {
+    let mut several: Vec<&mut Vec<u16>> = all.filter(|cites| cites.len() > 1).collect();
+    if several.is_empty() {
         return;
     }
-    let chosen = rng.below(citing.len());
-    let cites = &mut citing[chosen].cites;
+    let chosen = rng.below(several.len());
+    let cites = &mut several[chosen];
     if rng.chance(70) {
         let place = rng.range(1, cites.len() - 1);
         cites.swap(place - 1, place);
@@ -470,14 +474,14 @@ fn turn_citations(rng: &mut Rng, lines: &mut [Line]) {
     }
 }
 
-fn drop_entry(rng: &mut Rng, list: &mut Vec<u8>) {
+pub(crate) fn drop_entry(rng: &mut Rng, list: &mut Vec<u8>) {
     if !list.is_empty() {
         list.remove(rng.below(list.len()));
     }
 }
 
 /// Another sequence: an item more, less or other, overlapping conditions, too deep, too long.
-fn wrong_sequence(rng: &mut Rng, request: &Request, sequence: &mut Vec<Item>) {
+pub(crate) fn wrong_sequence(rng: &mut Rng, request: &Request, sequence: &mut Vec<Item>) {
     let action = rng.byte(0, request.actions - 1);
     match rng.below(8) {
         0 | 1 => {

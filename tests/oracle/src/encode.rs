@@ -1,6 +1,6 @@
 //! Writing requests and derivations as bytes, with a mark on each byte that damage may aim at.
 
-use crate::model::{Item, Line, Request};
+use crate::model::{Conclusion, Item, Line, Proof, ProofLine, Request};
 use crate::reader::BRANCHING;
 
 /// What a byte, or the first byte of two, stands for.
@@ -15,6 +15,8 @@ pub enum Kind {
     Branching,
     Rule,
     Citation,
+    ClosingCount,
+    Closing,
 }
 
 /// A byte's place and kind, and whether it is an entry of a list with another one before it.
@@ -70,12 +72,29 @@ pub fn encode_derivation(lines: &[Line]) -> Encoded {
         out.sequence(&line.sequence);
         out.list(Kind::Literal, &line.after);
         out.byte(Kind::Rule, line.rule);
-        out.count(line.cites.len());
-        for &cite in &line.cites {
-            out.wide(Kind::Citation, usize::from(cite));
-        }
+        out.cites(&line.cites);
     }
     out
+}
+
+/// Writes a derivation in the second layout. What stands in Y's place is what the line
+/// concludes, whatever its rule.
+pub fn encode_proof(proof: &Proof) -> Encoded {
+    let mut out = Encoded::default();
+    out.proof_lines(&proof.lines);
+    let count = u8::try_from(proof.closing.len()).expect("a count of one byte");
+    out.byte(Kind::ClosingCount, count);
+    for &entry in &proof.closing {
+        out.wide(Kind::Closing, usize::from(entry));
+    }
+    out
+}
+
+/// The place of a line of the second layout, or of the closing list's count after all lines.
+pub fn proof_place(lines: &[ProofLine], index: usize) -> usize {
+    let mut out = Encoded::default();
+    out.proof_lines(&lines[..index]);
+    out.bytes.len()
 }
 
 impl Encoded {
@@ -105,6 +124,27 @@ impl Encoded {
             .to_be_bytes();
         self.byte(kind, high);
         self.bytes.push(low);
+    }
+
+    fn cites(&mut self, cites: &[u16]) {
+        self.count(cites.len());
+        for &cite in cites {
+            self.wide(Kind::Citation, usize::from(cite));
+        }
+    }
+
+    fn proof_lines(&mut self, lines: &[ProofLine]) {
+        self.wide(Kind::LineCount, lines.len());
+        for line in lines {
+            self.list(Kind::Literal, &line.before);
+            self.sequence(&line.sequence);
+            self.byte(Kind::Rule, line.rule);
+            match &line.gives {
+                Conclusion::List(after) => self.list(Kind::Literal, after),
+                Conclusion::Fluent(fluent) => self.byte(Kind::Fluent, *fluent),
+            }
+            self.cites(&line.cites);
+        }
     }
 
     fn list(&mut self, kind: Kind, entries: &[u8]) {

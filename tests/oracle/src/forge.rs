@@ -3,10 +3,10 @@
 //! All lines before the wrong one follow, all lines can be read, and no conditions overlap, so
 //! the answer is the wrong line's: 31, 32, 33 or 34.
 
-use crate::derive::takes;
 use crate::model::{item_count, nesting, Branch, Item, Line, Request};
 use crate::reader::{BODY_LIMIT, CITATION_LIMIT, ITEM_LIMIT, LINE_LIMIT, NESTING_LIMIT};
 use crate::rng::Rng;
+use crate::rules::takes;
 
 /// Makes one line wrong; returns the number of the answer and the index of the line, if the
 /// line chosen can be made wrong in the way chosen.
@@ -47,9 +47,13 @@ fn unfollow(
         (1, 0) => lines[index]
             .sequence
             .push(Item::act(rng.byte(0, request.actions - 1))),
-        (2, 0) => sense(rng, request, &mut lines[index])?,
-        (3, 0) => turn(rng, &mut lines[index])?,
-        (3, 1) => halve(&mut lines[index])?,
+        (2, 0) => {
+            let line = &mut lines[index];
+            line.sequence = sense(rng, request)?;
+            line.after = line.before.clone();
+        }
+        (3, 0) => turn(rng, &mut lines[index].cites)?,
+        (3, 1) => halve(&mut lines[index].cites)?,
         (4 | 5, 0) => alter(rng, &mut lines[index].before, fluents),
         (4 | 5, 1) => {
             lines[index].sequence.pop()?;
@@ -58,7 +62,7 @@ fn unfollow(
         (6, 0) => {
             let cited = lines[index].cites[0];
             let needed = lines[usize::from(cited)].before.clone();
-            assume_too_little(rng, &needed, &mut lines[index])?;
+            assume_too_little(rng, &needed, &mut lines[index].before)?;
         }
         (6, _) => {
             let cited = lines[index].cites[0];
@@ -71,7 +75,7 @@ fn unfollow(
 }
 
 /// Changes a list of literals into another one that can be read.
-fn alter(rng: &mut Rng, list: &mut Vec<u8>, fluents: u8) {
+pub(crate) fn alter(rng: &mut Rng, list: &mut Vec<u8>, fluents: u8) {
     let unmarked = unmarked(list, fluents);
     match rng.below(3) {
         _ if list.is_empty() => list.push(2 * rng.pick(&unmarked) + rng.byte(0, 1)),
@@ -90,43 +94,41 @@ fn alter(rng: &mut Rng, list: &mut Vec<u8>, fluents: u8) {
 }
 
 /// The fluents of which a list says nothing.
-fn unmarked(list: &[u8], fluents: u8) -> Vec<u8> {
+pub(crate) fn unmarked(list: &[u8], fluents: u8) -> Vec<u8> {
     (0..fluents)
         .filter(|fluent| list.iter().all(|literal| literal / 2 != *fluent))
         .collect()
 }
 
-/// A sensing action by rule 2, as if it changed nothing.
-fn sense(rng: &mut Rng, request: &Request, line: &mut Line) -> Option<()> {
+/// A sensing action, which rule 2 never takes, not even as if it changed nothing.
+pub(crate) fn sense(rng: &mut Rng, request: &Request) -> Option<Vec<Item>> {
     if request.knowledge.is_empty() {
         return None;
     }
-    line.sequence = vec![Item::act(rng.pick(&request.knowledge).action)];
-    line.after = line.before.clone();
-    Some(())
+    Some(vec![Item::act(rng.pick(&request.knowledge).action)])
 }
 
-/// Two readings of rule 3 turned round, or one of them for the other.
-fn turn(rng: &mut Rng, line: &mut Line) -> Option<()> {
-    if line.cites.len() < 2 {
+/// Two readings of rule 3 or 10 turned round, or one of them for the other.
+pub(crate) fn turn(rng: &mut Rng, cites: &mut [u16]) -> Option<()> {
+    if cites.len() < 2 {
         return None;
     }
-    let one = rng.below(line.cites.len() - 1);
-    let other = rng.range(one + 1, line.cites.len() - 1);
+    let one = rng.below(cites.len() - 1);
+    let other = rng.range(one + 1, cites.len() - 1);
     match rng.below(3) {
-        0 => line.cites.swap(one, other),
-        1 => line.cites[one] = line.cites[other],
-        _ => line.cites[other] = line.cites[one],
+        0 => cites.swap(one, other),
+        1 => cites[one] = cites[other],
+        _ => cites[other] = cites[one],
     }
     Some(())
 }
 
-/// Half of the readings of rule 3 only: a number that the rule takes, but not here.
-fn halve(line: &mut Line) -> Option<()> {
-    if line.cites.len() < 2 {
+/// Half of the readings of rule 3 or 10 only: a number that the rule takes, but not here.
+pub(crate) fn halve(cites: &mut Vec<u16>) -> Option<()> {
+    if cites.len() < 2 {
         return None;
     }
-    line.cites.truncate(line.cites.len() / 2);
+    cites.truncate(cites.len() / 2);
     Some(())
 }
 
@@ -166,22 +168,11 @@ fn unheld_branch(
     lines: &mut Vec<Line>,
     index: usize,
 ) -> Option<usize> {
-    let cited = lines[index].clone();
-    let full = nesting(&cited.sequence) == NESTING_LIMIT
-        || item_count(&cited.sequence) == ITEM_LIMIT
-        || lines.len() == LINE_LIMIT;
-    if full {
+    if lines.len() == LINE_LIMIT {
         return None;
     }
-    let mut condition = cited.before.clone();
-    condition.truncate(BODY_LIMIT - 1);
-    say_too_much(rng, &cited.before, &mut condition, request.fluents)?;
-    let (inner, rest) = cited.sequence.split_at(rng.below(cited.sequence.len() + 1));
-    let mut sequence = vec![Item::case(vec![Branch {
-        condition,
-        sequence: inner.to_vec(),
-    }])];
-    sequence.extend(rest.iter().cloned());
+    let cited = lines[index].clone();
+    let sequence = under_condition(rng, request.fluents, &cited.before, &cited.sequence)?;
     lines.push(Line {
         sequence,
         rule: 4,
@@ -191,24 +182,51 @@ fn unheld_branch(
     Some(lines.len() - 1)
 }
 
+/// A start of a sequence put into a branch, with a condition that isn't within X.
+pub(crate) fn under_condition(
+    rng: &mut Rng,
+    fluents: u8,
+    before: &[u8],
+    sequence: &[Item],
+) -> Option<Vec<Item>> {
+    if nesting(sequence) == NESTING_LIMIT || item_count(sequence) == ITEM_LIMIT {
+        return None;
+    }
+    let mut condition = before.to_vec();
+    condition.truncate(BODY_LIMIT - 1);
+    say_too_much(rng, before, &mut condition, fluents)?;
+    let (inner, rest) = sequence.split_at(rng.below(sequence.len() + 1));
+    let mut whole = vec![Item::case(vec![Branch {
+        condition,
+        sequence: inner.to_vec(),
+    }])];
+    whole.extend(rest.iter().cloned());
+    Some(whole)
+}
+
 /// Takes a literal of the cited X out of X, or turns it round.
-fn assume_too_little(rng: &mut Rng, needed: &[u8], line: &mut Line) -> Option<()> {
+pub(crate) fn assume_too_little(rng: &mut Rng, needed: &[u8], before: &mut Vec<u8>) -> Option<()> {
     if needed.is_empty() {
         return None;
     }
     let literal = *rng.pick(needed);
-    let place = line.before.iter().position(|&entry| entry == literal)?;
+    let place = before.iter().position(|&entry| entry == literal)?;
     match rng.chance(50) {
-        true => line.before[place] ^= 1,
+        true => before[place] ^= 1,
         false => {
-            line.before.remove(place);
+            before.remove(place);
         }
     }
     Some(())
 }
 
 /// Adds a literal to a part of what is given that isn't given, or turns one round.
-fn say_too_much(rng: &mut Rng, given: &[u8], part: &mut Vec<u8>, fluents: u8) -> Option<()> {
+pub(crate) fn say_too_much(
+    rng: &mut Rng,
+    given: &[u8],
+    part: &mut Vec<u8>,
+    fluents: u8,
+) -> Option<()> {
     let unsaid = unmarked(given, fluents);
     if !unsaid.is_empty() && rng.chance(60) {
         part.push(2 * rng.pick(&unsaid) + rng.byte(0, 1));

@@ -17,11 +17,13 @@ pub mod prove;
 pub mod reader;
 pub mod rng;
 pub mod rows;
+pub mod rules;
 pub mod run;
 pub mod settle;
 pub mod table;
 pub mod text;
 pub mod walk;
+pub mod whether;
 pub mod worlds;
 
 pub use answer::Answer;
@@ -58,6 +60,21 @@ pub fn check(request: &[u8], derivation: &[u8]) -> Answer {
     }
     let checked = reader::read_derivation(derivation, &request)
         .and_then(|lines| derive::check_lines(&request, &lines));
+    match checked {
+        Err(fault) => Answer::refusal(DERIVATION, fault),
+        Ok(()) => Answer::neither(0, 0),
+    }
+}
+
+/// The derivation call of the second layout: the request first, then the derivation. There is
+/// no 30: whether entries are asked by the closing list.
+pub fn check_whether(request: &[u8], derivation: &[u8]) -> Answer {
+    let request = match open(request) {
+        Err(fault) => return Answer::refusal(REQUEST, fault),
+        Ok(request) => request,
+    };
+    let checked = reader::read_proof(derivation, &request)
+        .and_then(|proof| whether::check::check_proof(&request, &proof));
     match checked {
         Err(fault) => Answer::refusal(DERIVATION, fault),
         Ok(()) => Answer::neither(0, 0),

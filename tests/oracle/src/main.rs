@@ -7,7 +7,7 @@ use std::{env, fs};
 
 use oracle::examples::{self, DEFAULT_BUDGET};
 use oracle::text::{parse_bytes, state_line};
-use oracle::{check, judge, rows, run, Answer, STATE_LENGTH};
+use oracle::{check, check_whether, judge, rows, run, whether, Answer, STATE_LENGTH};
 
 const HELP: &str = "\
 oracle: an independent reference program for Glintstring's verifier of conditional plans
@@ -18,17 +18,23 @@ usage:
       line has one of ?+- for each fluent. The budget is 100,000 unless told otherwise.
   oracle check REQUEST DERIVATION [--text]
       Checks a derivation and prints number, input, place and count.
-  oracle run [--seed S] [--requests N] [--derivations M]
-      Makes random calls (seed 1, 100,000 requests and 20,000 derivations unless told
-      otherwise), checks every answer, and prints how often each occurred. The last line is
-      `oracle: ok`, or `oracle: FAILED` and why, with exit status 1.
-  oracle rows [--seed S] [--count N] [--derivations M]
-      Prints N judging calls and M derivation calls with their answers, one per line:
+  oracle check-whether REQUEST DERIVATION [--text]
+      Does so with a derivation in the second layout.
+  oracle run [--seed S] [--requests N] [--derivations M] [--whether K]
+      Makes random calls (seed 1, 100,000 requests, and 20,000 derivations in each layout
+      unless told otherwise), checks every answer, and prints how often each occurred. The last
+      line is `oracle: ok`, or `oracle: FAILED` and why, with exit status 1.
+  oracle run-whether [--seed S] [--derivations K]
+      Makes the random calls with derivations in the second layout only.
+  oracle rows [--seed S] [--count N] [--derivations M] [--whether K]
+      Prints N judging calls, M derivation calls and K in the second layout with their answers,
+      one per line:
         J REQUEST LENT BUDGET NUMBER INPUT PLACE COUNT STATE
         D REQUEST DERIVATION NUMBER INPUT PLACE COUNT
+        W REQUEST DERIVATION NUMBER INPUT PLACE COUNT
       Bytes are decimal with commas between; `-` is no byte; the three words REP BYTE N are N
       times one byte. LENT is the length of the lent state; STATE is its 64 bytes after answers
-      1 and 2, and `-` where it stays as lent. (Seed 1, 300 and 0 unless told otherwise.)
+      1 and 2, and `-` where it stays as lent. (Seed 1, 300, 0 and 0 unless told otherwise.)
   oracle examples [FOLDER]
       Runs the example files and prints a tally.
   oracle --help
@@ -55,16 +61,18 @@ fn command(words: &[String]) -> Result<ExitCode, String> {
     };
     match name.as_str() {
         "judge" => judge_file(&Options::parse(rest, &["--budget"], 1, 1)?),
-        "check" => check_files(&Options::parse(rest, &[], 2, 2)?),
+        "check" => check_files(&Options::parse(rest, &[], 2, 2)?, check),
+        "check-whether" => check_files(&Options::parse(rest, &[], 2, 2)?, check_whether),
         "run" => run_calls(&Options::parse(
             rest,
-            &["--seed", "--requests", "--derivations"],
+            &["--seed", "--requests", "--derivations", "--whether"],
             0,
             0,
         )?),
+        "run-whether" => run_whether(&Options::parse(rest, &["--seed", "--derivations"], 0, 0)?),
         "rows" => print_rows(&Options::parse(
             rest,
-            &["--seed", "--count", "--derivations"],
+            &["--seed", "--count", "--derivations", "--whether"],
             0,
             0,
         )?),
@@ -153,8 +161,8 @@ fn judge_file(options: &Options) -> Result<ExitCode, String> {
     Ok(ExitCode::SUCCESS)
 }
 
-fn check_files(options: &Options) -> Result<ExitCode, String> {
-    println!("{}", check(&options.bytes(0)?, &options.bytes(1)?));
+fn check_files(options: &Options, call: fn(&[u8], &[u8]) -> Answer) -> Result<ExitCode, String> {
+    println!("{}", call(&options.bytes(0)?, &options.bytes(1)?));
     Ok(ExitCode::SUCCESS)
 }
 
@@ -164,6 +172,16 @@ fn run_calls(options: &Options) -> Result<ExitCode, String> {
     let derivations = options.number("--derivations", 20_000);
     println!("seed: {seed}");
     let tally = run::run(seed, requests, derivations);
+    print!("{}", tally.report());
+    let whether = whether::run::run(seed, options.number("--whether", 20_000));
+    print!("{}", whether.report());
+    Ok(conclude(tally.verdict().and(whether.verdict())))
+}
+
+fn run_whether(options: &Options) -> Result<ExitCode, String> {
+    let seed = options.number("--seed", 1);
+    println!("seed: {seed}");
+    let tally = whether::run::run(seed, options.number("--derivations", 20_000));
     print!("{}", tally.report());
     Ok(conclude(tally.verdict()))
 }
@@ -186,8 +204,10 @@ fn print_rows(options: &Options) -> Result<ExitCode, String> {
     let seed = options.number("--seed", 1);
     let judging = options.number("--count", 300);
     let checking = options.number("--derivations", 0);
+    let whether = options.number("--whether", 0);
     let mut out = io::BufWriter::new(io::stdout().lock());
-    for row in rows::rows(seed, judging, checking) {
+    let whether = whether::rows::whether_rows(seed, whether);
+    for row in rows::rows(seed, judging, checking).chain(whether) {
         writeln!(out, "{row}").map_err(|error| error.to_string())?;
     }
     out.flush().map_err(|error| error.to_string())?;

@@ -138,3 +138,34 @@ pub struct Line {
     pub rule: u8,
     pub cites: Vec<u16>,
 }
+
+/// What a line of the second layout concludes.
+#[derive(Clone, Debug, PartialEq, Eq)]
+pub enum Conclusion {
+    /// Every literal of the list Y is known.
+    List(Vec<u8>),
+    /// It is known whether: the fluent is known true or known false.
+    Fluent(u8),
+}
+
+/// A line of a derivation in the second layout: the list X, the sequence c, its rule, what it
+/// concludes, and its citations.
+#[derive(Clone, Debug)]
+pub struct ProofLine {
+    pub place: usize,
+    pub before: Vec<u8>,
+    pub sequence: Vec<Item>,
+    pub rule: u8,
+    pub gives: Conclusion,
+    pub cites: Vec<u16>,
+}
+
+/// A derivation in the second layout: its lines, and the closing list that names the goals'
+/// line and then a line for each whether entry.
+#[derive(Clone, Debug)]
+pub struct Proof {
+    pub lines: Vec<ProofLine>,
+    /// Where the closing list's count stands; entry `i` stands `1 + 2 * i` bytes later.
+    pub closing_place: usize,
+    pub closing: Vec<u16>,
+}

@@ -3,37 +3,64 @@
 //! The natural scheme follows the walk: the empty plan by rules 1 and 6, an action by rule 2,
 //! the rest and rule 5, a sensing action by rule 3 over all readings, a branching by rule 4.
 //! The free scheme cuts, weakens, says again and shares lines wherever it likes.
+//!
+//! The prover keeps its lines in the form of the second layout, since it proves for both; what
+//! is proved of fluents known whether stands in `whether/prove.rs`.
 
 use crate::generate::common;
-use crate::model::{Allowance, Item, Knowledge, Line, Request};
+use crate::model::{Allowance, Conclusion, Item, Knowledge, Line, ProofLine, Request};
 use crate::reader::LINE_LIMIT;
 use crate::rng::Rng;
 use crate::table::{readings, Known, Table};
+use crate::whether::translate::former_lines;
 
 /// Most end states that are followed when a claim is tried.
 const ENDS: usize = 64;
 /// Most unknown fluents that rule 3 can take.
 const READ_AT_ONCE: u32 = 6;
 
-/// A claim {X} c {Y} that the walk from X verifies.
+/// A claim that the walk from X verifies: what is known after c.
 #[derive(Clone)]
-struct Claim {
-    before: Vec<u8>,
-    sequence: Vec<Item>,
-    after: Vec<u8>,
+pub(crate) struct Claim {
+    pub before: Vec<u8>,
+    pub sequence: Vec<Item>,
+    pub gives: Conclusion,
 }
 
 impl Claim {
-    fn new(before: &[u8], sequence: &[Item], after: &[u8]) -> Claim {
+    /// The claim {X} c {Y}.
+    pub fn new(before: &[u8], sequence: &[Item], after: &[u8]) -> Claim {
+        Claim::that(before, sequence, &Conclusion::List(after.to_vec()))
+    }
+
+    pub fn that(before: &[u8], sequence: &[Item], gives: &Conclusion) -> Claim {
         Claim {
             before: before.to_vec(),
             sequence: sequence.to_vec(),
-            after: after.to_vec(),
+            gives: gives.clone(),
         }
     }
 
-    fn is(&self, line: &Line) -> bool {
-        line.before == self.before && line.after == self.after && line.sequence == self.sequence
+    fn is(&self, line: &ProofLine) -> bool {
+        line.before == self.before && line.gives == self.gives && line.sequence == self.sequence
+    }
+
+    /// The rule that does for this claim what one of the rules 3, 4 and 5 does for a list.
+    pub fn rule(&self, of_lists: u8) -> u8 {
+        match (&self.gives, of_lists) {
+            (Conclusion::List(_), rule) => rule,
+            (Conclusion::Fluent(_), 3) => 10,
+            (Conclusion::Fluent(_), 4) => 12,
+            (Conclusion::Fluent(_), _) => 11,
+        }
+    }
+
+    /// Whether the conclusion is so in a state.
+    pub fn known_in(&self, state: Known) -> bool {
+        match &self.gives {
+            Conclusion::List(after) => state.holds(Known::of(after)),
+            Conclusion::Fluent(fluent) => state.marked() & (1 << fluent) != 0,
+        }
     }
 }
 
@@ -41,7 +68,7 @@ impl Claim {
 pub fn natural(request: &Request) -> Option<Vec<Line>> {
     let mut prover = Prover::new(request);
     prover.natural(&Claim::new(&request.facts, &request.plan, &request.goals))?;
-    Some(prover.lines)
+    former_lines(&prover.lines)
 }
 
 /// A derivation of the free scheme, if the plan is verified and the limits allow one.
@@ -53,7 +80,7 @@ pub fn free(rng: &mut Rng, request: &Request) -> Option<Vec<Line>> {
     if last + 1 != prover.lines.len() {
         prover.add(&question, 6, &[last])?;
     }
-    Some(prover.lines)
+    former_lines(&prover.lines)
 }
 
 /// A request of so many sensing actions, each on a fluent of its own, and a derivation of it.
@@ -61,8 +88,18 @@ pub fn free(rng: &mut Rng, request: &Request) -> Option<Vec<Line>> {
 /// The walk's count is above 2 to the number of actions; the derivation takes five lines for
 /// each action and joins them.
 pub fn many_readings(sensing: u8) -> (Request, Vec<Line>) {
+    let request = one_by_one(sensing);
+    let mut prover = Prover::new(&request);
+    prover.in_turn(&request.facts, &request.plan);
+    let lines = former_lines(&prover.lines).expect("lists only");
+    (request, lines)
+}
+
+/// A request of so many sensing actions, each on a fluent of its own, with one more fluent that
+/// is true from the start and a goal.
+pub(crate) fn one_by_one(sensing: u8) -> Request {
     let fact = vec![2 * sensing];
-    let request = Request {
+    Request {
         fluents: sensing + 1,
         actions: sensing,
         facts: fact.clone(),
@@ -80,20 +117,9 @@ pub fn many_readings(sensing: u8) -> (Request, Vec<Line>) {
             })
             .collect(),
         plan: (0..sensing).map(Item::act).collect(),
-        goals: fact.clone(),
+        goals: fact,
         ..Request::default()
-    };
-    let mut prover = Prover::new(&request);
-    let mut done: Option<usize> = None;
-    for index in 0..request.plan.len() {
-        let one = prover.natural(&Claim::new(&fact, &request.plan[index..=index], &fact));
-        let joined = Claim::new(&fact, &request.plan[..=index], &fact);
-        done = match (done, one) {
-            (Some(before), Some(one)) => prover.add(&joined, 5, &[before, one]),
-            _ => one,
-        };
     }
-    (request, prover.lines)
 }
 
 /// Adds lines that nothing cites before the last line until there are so many lines.
@@ -115,13 +141,13 @@ pub fn pad(lines: &mut Vec<Line>, length: usize) {
     lines.push(last);
 }
 
-struct Prover {
-    table: Table,
-    lines: Vec<Line>,
+pub(crate) struct Prover {
+    pub table: Table,
+    pub lines: Vec<ProofLine>,
 }
 
 impl Prover {
-    fn new(request: &Request) -> Prover {
+    pub fn new(request: &Request) -> Prover {
         Prover {
             table: Table::new(request),
             lines: Vec::new(),
@@ -129,27 +155,41 @@ impl Prover {
     }
 
     /// Adds a line for a claim; nothing beyond the last line that a derivation may have.
-    fn add(&mut self, claim: &Claim, rule: u8, cites: &[usize]) -> Option<usize> {
+    pub fn add(&mut self, claim: &Claim, rule: u8, cites: &[usize]) -> Option<usize> {
         if self.lines.len() == LINE_LIMIT {
             return None;
         }
-        self.lines.push(Line {
+        self.lines.push(ProofLine {
             place: 0,
             before: claim.before.clone(),
             sequence: claim.sequence.clone(),
-            after: claim.after.clone(),
             rule,
+            gives: claim.gives.clone(),
             cites: cites.iter().map(|&cite| cite as u16).collect(),
         });
         Some(self.lines.len() - 1)
     }
 
-    fn natural(&mut self, claim: &Claim) -> Option<usize> {
+    pub fn natural(&mut self, claim: &Claim) -> Option<usize> {
         self.by_first_item(claim, &mut |prover, part| prover.natural(part))
     }
 
+    /// Proves that the same list is known before and after a sequence, item by item.
+    pub fn in_turn(&mut self, list: &[u8], sequence: &[Item]) -> Option<usize> {
+        let mut done: Option<usize> = None;
+        for index in 0..sequence.len() {
+            let one = self.natural(&Claim::new(list, &sequence[index..=index], list))?;
+            let joined = Claim::new(list, &sequence[..=index], list);
+            done = match done {
+                Some(before) => Some(self.add(&joined, 5, &[before, one])?),
+                None => Some(one),
+            };
+        }
+        done
+    }
+
     /// One step of the natural scheme; what remains is proved as told.
-    fn by_first_item(
+    pub fn by_first_item(
         &mut self,
         claim: &Claim,
         prove: &mut dyn FnMut(&mut Prover, &Claim) -> Option<usize>,
@@ -160,10 +200,9 @@ impl Prover {
         };
         match first {
             Item::Action { action, .. } if self.table.senses(*action) == 0 => {
-                let done = self.action(claim, *action)?;
-                let middle = self.lines[done].after.clone();
-                let rest = prove(self, &Claim::new(&middle, rest, &claim.after))?;
-                self.add(claim, 5, &[done, rest])
+                let (done, middle) = self.action(claim, *action)?;
+                let rest = prove(self, &Claim::that(&middle, rest, &claim.gives))?;
+                self.add(claim, claim.rule(5), &[done, rest])
             }
             Item::Action { action, .. } => {
                 if !self.table.runnable(*action, known) {
@@ -175,46 +214,55 @@ impl Prover {
                 }
                 let cites = readings(known, unknown)
                     .into_iter()
-                    .map(|state| prove(self, &Claim::new(&state.literals(), rest, &claim.after)))
+                    .map(|state| prove(self, &Claim::that(&state.literals(), rest, &claim.gives)))
                     .collect::<Option<Vec<usize>>>()?;
-                self.add(claim, 3, &cites)
+                self.add(claim, claim.rule(3), &cites)
             }
             Item::Branching { branches, .. } => {
                 let branch = branches
                     .iter()
                     .find(|branch| known.holds(Known::of(&branch.condition)))?;
                 let joined = [&branch.sequence[..], rest].concat();
-                let cited = prove(self, &Claim::new(&claim.before, &joined, &claim.after))?;
-                self.add(claim, 4, &[cited])
+                let cited = prove(self, &Claim::that(&claim.before, &joined, &claim.gives))?;
+                self.add(claim, claim.rule(4), &[cited])
             }
         }
     }
 
-    /// Rules 1 and 6.
-    fn empty(&mut self, claim: &Claim) -> Option<usize> {
-        if !Known::of(&claim.before).holds(Known::of(&claim.after)) {
+    /// Rules 1 and 6, and rule 8 for a fluent.
+    pub fn empty(&mut self, claim: &Claim) -> Option<usize> {
+        if !claim.known_in(Known::of(&claim.before)) {
             return None;
         }
         let all = self.add(&Claim::new(&claim.before, &[], &claim.before), 1, &[])?;
-        self.add(claim, 6, &[all])
+        match claim.gives {
+            Conclusion::List(_) => self.add(claim, 6, &[all]),
+            Conclusion::Fluent(fluent) => {
+                let literal = claim.before.iter().find(|literal| *literal / 2 == fluent)?;
+                let alone = Claim::new(&claim.before, &[], &[*literal]);
+                let alone = self.add(&alone, 6, &[all])?;
+                self.add(claim, 8, &[alone])
+            }
+        }
     }
 
-    /// Rule 2 for the first action of a claim.
-    fn action(&mut self, claim: &Claim, action: u8) -> Option<usize> {
+    /// Rule 2 for the first action of a claim; what is known after it comes along.
+    fn action(&mut self, claim: &Claim, action: u8) -> Option<(usize, Vec<u8>)> {
         let known = Known::of(&claim.before);
         if !self.table.runnable(action, known) {
             return None;
         }
         let after = self.table.step(action, known).literals();
-        self.add(
+        let line = self.add(
             &Claim::new(&claim.before, &claim.sequence[..1], &after),
             2,
             &[],
-        )
+        )?;
+        Some((line, after))
     }
 
     /// Proves a claim that the walk verifies in any way; `fuel` bounds the detours.
-    fn free(&mut self, rng: &mut Rng, claim: &Claim, fuel: usize) -> Option<usize> {
+    pub fn free(&mut self, rng: &mut Rng, claim: &Claim, fuel: usize) -> Option<usize> {
         if rng.chance(50) {
             if let Some(line) = self.lines.iter().position(|line| claim.is(line)) {
                 return Some(line);
@@ -222,6 +270,9 @@ impl Prover {
         }
         if rng.chance(5) {
             self.idle_line(rng, claim);
+        }
+        if let Conclusion::Fluent(fluent) = claim.gives {
+            return self.free_fluent(rng, claim, fluent, fuel);
         }
         if fuel == 0 {
             return self.free_step(rng, claim, 0);
@@ -238,13 +289,18 @@ impl Prover {
         }
     }
 
+    /// One step by the first item, or at once where a rule allows it.
     fn free_step(&mut self, rng: &mut Rng, claim: &Claim, fuel: usize) -> Option<usize> {
+        if let Conclusion::Fluent(fluent) = claim.gives {
+            return self.fluent_step(rng, claim, fluent, fuel);
+        }
         if let [Item::Action { action, .. }] = claim.sequence[..] {
             if self.table.senses(action) == 0 && rng.chance(70) {
                 return self.single_action(claim, action);
             }
         }
-        if claim.sequence.is_empty() && claim.before == claim.after && rng.chance(70) {
+        let same = claim.gives == Conclusion::List(claim.before.clone());
+        if claim.sequence.is_empty() && same && rng.chance(70) {
             return self.add(claim, 1, &[]);
         }
         self.by_first_item(claim, &mut |prover, part| prover.free(rng, part, fuel))
@@ -252,8 +308,8 @@ impl Prover {
 
     /// Rule 2 alone where it says just enough, else with rule 6.
     fn single_action(&mut self, claim: &Claim, action: u8) -> Option<usize> {
-        let done = self.action(claim, action)?;
-        if self.lines[done].after == claim.after {
+        let (done, _) = self.action(claim, action)?;
+        if self.lines[done].gives == claim.gives {
             return Some(done);
         }
         self.add(claim, 6, &[done])
@@ -262,12 +318,13 @@ impl Prover {
     /// Rule 6 from a claim with a larger Y.
     fn say_more(&mut self, rng: &mut Rng, claim: &Claim, fuel: usize) -> Option<usize> {
         let mut stronger = claim.clone();
-        if let Some(ends) = self.ends(claim) {
+        if let (Conclusion::List(after), Some(ends)) = (&claim.gives, self.ends(claim)) {
             let more = common(&ends).literals();
-            stronger.after = more
+            let more = more
                 .into_iter()
-                .filter(|l| claim.after.contains(l) || rng.chance(60))
+                .filter(|l| after.contains(l) || rng.chance(60))
                 .collect();
+            stronger.gives = Conclusion::List(more);
         }
         let line = self.free(rng, &stronger, fuel - 1)?;
         self.add(claim, 6, &[line])
@@ -284,7 +341,7 @@ impl Prover {
     }
 
     /// Drops a literal of X if the claim still holds without it.
-    fn drop_fact(&self, rng: &mut Rng, claim: &mut Claim) {
+    pub fn drop_fact(&self, rng: &mut Rng, claim: &mut Claim) {
         if claim.before.is_empty() {
             return;
         }
@@ -295,14 +352,15 @@ impl Prover {
         }
     }
 
-    /// Rule 5 with a cut anywhere, if the rest can be proved from what all ends have in common.
-    fn cut(&mut self, rng: &mut Rng, claim: &Claim, fuel: usize) -> Option<usize> {
+    /// Rule 5 or 11 with a cut anywhere, if the rest can be proved from what all ends have in
+    /// common.
+    pub fn cut(&mut self, rng: &mut Rng, claim: &Claim, fuel: usize) -> Option<usize> {
         let at = rng.below(claim.sequence.len() + 1);
         let (head, tail) = claim.sequence.split_at(at);
         let Some(ends) = self.ends(&Claim::new(&claim.before, head, &[])) else {
             return self.free_step(rng, claim, fuel);
         };
-        let mut second = Claim::new(&common(&ends).literals(), tail, &claim.after);
+        let mut second = Claim::that(&common(&ends).literals(), tail, &claim.gives);
         if !self.holds(&second) {
             return self.free_step(rng, claim, fuel);
         }
@@ -320,15 +378,14 @@ impl Prover {
                 (self.free(rng, &first, fuel - 1)?, two)
             }
         };
-        self.add(claim, 5, &[one, two])
+        self.add(claim, claim.rule(5), &[one, two])
     }
 
     /// A line that nothing need cite.
     fn idle_line(&mut self, rng: &mut Rng, claim: &Claim) {
-        let list = if rng.chance(50) {
-            &claim.before
-        } else {
-            &claim.after
+        let list = match &claim.gives {
+            Conclusion::List(after) if !rng.chance(50) => after,
+            _ => &claim.before,
         };
         let idle = Claim::new(list, &[], list);
         let line = self.add(&idle, 1, &[]);
@@ -338,13 +395,12 @@ impl Prover {
     }
 
     fn holds(&self, claim: &Claim) -> bool {
-        let goals = Known::of(&claim.after);
         self.ends(claim)
-            .is_some_and(|ends| ends.iter().all(|end| end.holds(goals)))
+            .is_some_and(|ends| ends.iter().all(|&end| claim.known_in(end)))
     }
 
     /// All end states of a claim's sequence, if it can be run and they are few.
-    fn ends(&self, claim: &Claim) -> Option<Vec<Known>> {
+    pub fn ends(&self, claim: &Claim) -> Option<Vec<Known>> {
         self.through(&claim.sequence, vec![Known::of(&claim.before)])
     }
 

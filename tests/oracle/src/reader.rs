@@ -3,7 +3,9 @@
 //! At one byte the order is 11, 21, 19, 12, 13, 14, 15; 20 is looked for when all is read.
 
 use crate::answer::Fault;
-use crate::model::{Allowance, Branch, Effect, Item, Knowledge, Line, Request};
+use crate::model::{
+    Allowance, Branch, Conclusion, Effect, Item, Knowledge, Line, Proof, ProofLine, Request,
+};
 
 /// Longest request in bytes.
 pub const REQUEST_LIMIT: usize = 16_384;
@@ -51,9 +53,28 @@ pub fn read_derivation(bytes: &[u8], request: &Request) -> Read<Vec<Line>> {
         fluents: request.fluents,
         actions: request.actions,
     };
-    let lines = reader.lines()?;
+    let lines = reader.lines(Reader::line)?;
     reader.end()?;
     Ok(lines)
+}
+
+/// Reads a whole derivation in the second layout, by the same order.
+pub fn read_proof(bytes: &[u8], request: &Request) -> Read<Proof> {
+    refuse_length(bytes, DERIVATION_LIMIT)?;
+    let mut reader = Reader {
+        bytes,
+        at: 0,
+        fluents: request.fluents,
+        actions: request.actions,
+    };
+    let proof = reader.proof()?;
+    reader.end()?;
+    Ok(proof)
+}
+
+/// Whether one fluent stands in Y's place after this rule byte; a list does after all others.
+pub fn gives_fluent(rule: u8) -> bool {
+    matches!(rule, 7 | 8 | 10 | 11 | 12)
 }
 
 /// 10: the input is too long.
@@ -279,14 +300,20 @@ impl Reader<'_> {
         })
     }
 
-    /// A derivation: a two-byte line count of 1 to 1,024, then the lines.
-    fn lines(&mut self) -> Read<Vec<Line>> {
+    /// A derivation's lines: a two-byte line count of 1 to 1,024, then the lines.
+    fn lines<T>(&mut self, line: fn(&mut Self) -> Read<T>) -> Read<Vec<T>> {
         let place = self.at;
         let count = usize::from(self.wide()?);
         if count == 0 || count > LINE_LIMIT {
             return Err(Fault::new(12, place));
         }
-        (0..count).map(|_| self.line()).collect()
+        (0..count).map(|_| line(self)).collect()
+    }
+
+    /// A citation count of 0 to 64, then that many line numbers.
+    fn cites(&mut self) -> Read<Vec<u16>> {
+        let count = self.count(0, CITATION_LIMIT)?;
+        (0..count).map(|_| self.wide()).collect()
     }
 
     /// A line. Reading refuses no rule byte and no line number.
@@ -296,14 +323,49 @@ impl Reader<'_> {
         let sequence = self.plan()?;
         let after = self.literals(LIST_LIMIT)?;
         let rule = self.byte()?;
-        let count = self.count(0, CITATION_LIMIT)?;
-        let cites = (0..count).map(|_| self.wide()).collect::<Read<Vec<_>>>()?;
+        let cites = self.cites()?;
         Ok(Line {
             place,
             before,
             sequence,
             after,
             rule,
+            cites,
+        })
+    }
+
+    /// A derivation in the second layout: the lines, then a count of any value and that many
+    /// line numbers.
+    fn proof(&mut self) -> Read<Proof> {
+        let lines = self.lines(Self::proof_line)?;
+        let closing_place = self.at;
+        let count = self.byte()?;
+        let closing = (0..count).map(|_| self.wide()).collect::<Read<Vec<_>>>()?;
+        Ok(Proof {
+            lines,
+            closing_place,
+            closing,
+        })
+    }
+
+    /// A line of the second layout. The rule byte says what is due in Y's place, and reading
+    /// refuses none.
+    fn proof_line(&mut self) -> Read<ProofLine> {
+        let place = self.at;
+        let before = self.literals(LIST_LIMIT)?;
+        let sequence = self.plan()?;
+        let rule = self.byte()?;
+        let gives = match gives_fluent(rule) {
+            true => Conclusion::Fluent(self.fluent()?),
+            false => Conclusion::List(self.literals(LIST_LIMIT)?),
+        };
+        let cites = self.cites()?;
+        Ok(ProofLine {
+            place,
+            before,
+            sequence,
+            rule,
+            gives,
             cites,
         })
     }

@@ -3,7 +3,8 @@
 //! A judging call is one line
 //! `J REQUEST LENT BUDGET NUMBER INPUT PLACE COUNT STATE`,
 //! a derivation call is one line
-//! `D REQUEST DERIVATION NUMBER INPUT PLACE COUNT`.
+//! `D REQUEST DERIVATION NUMBER INPUT PLACE COUNT`;
+//! those of the second layout stand in `whether/rows.rs`.
 //!
 //! Bytes are decimal with commas between, and `-` is no byte at all. `REP BYTE N`, three words
 //! in place of one, stands for N times one byte. LENT is the length of the lent state. STATE is
@@ -28,13 +29,13 @@ use crate::walk::{walk, Verdict};
 use crate::{check, judge, open};
 
 /// Most bytes of a request, and of the few that are longer.
-const BYTES: usize = 120;
+pub(crate) const BYTES: usize = 120;
 const MORE_BYTES: usize = 300;
 /// Most bytes of a derivation, and of the few that are longer.
-const DERIVATION_BYTES: usize = 200;
-const MORE_DERIVATION_BYTES: usize = 400;
+pub(crate) const DERIVATION_BYTES: usize = 200;
+pub(crate) const MORE_DERIVATION_BYTES: usize = 400;
 /// Most bytes of an input with item 1,025.
-const LONG_BYTES: usize = 1_200;
+pub(crate) const LONG_BYTES: usize = 1_200;
 /// Largest count of a walk.
 const COUNT: u32 = 2_000;
 /// Rows after which all answers have come round.
@@ -107,7 +108,7 @@ pub fn rows(seed: u64, judging: u64, checking: u64) -> impl Iterator<Item = Stri
 
 /// The answers wanted, each round in an order of its own. In the first round those with long
 /// inputs take the place of some of the most frequent answer.
-fn rounds<T: Copy>(
+pub(crate) fn rounds<T: Copy>(
     seed: u64,
     stream: u64,
     rows: u64,
@@ -175,7 +176,7 @@ fn small_request(rng: &mut Rng, most: usize) -> Request {
     }
 }
 
-fn small_shape(rng: &mut Rng) -> &'static Shape {
+pub(crate) fn small_shape(rng: &mut Rng) -> &'static Shape {
     match rng.chance(60) {
         true => &TINY,
         false => &SMALL,
@@ -253,7 +254,7 @@ fn tell_checking(call: &CheckCall) -> String {
 }
 
 /// Bytes with commas between, or `REP BYTE N` for many equal ones.
-fn tell_bytes(bytes: &[u8]) -> String {
+pub(crate) fn tell_bytes(bytes: &[u8]) -> String {
     match bytes.first() {
         Some(first) if bytes.len() > REQUEST_LIMIT && bytes.iter().all(|byte| byte == first) => {
             format!("REP {first} {}", bytes.len())

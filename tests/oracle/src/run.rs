@@ -16,9 +16,9 @@ use crate::{check, judge, open, paths, shown, worlds, STATE_LENGTH};
 /// Most paths that the second walk follows.
 const MOST_PATHS: usize = 3_000;
 /// The budget of the walk that an accepted derivation is compared with.
-const WALK_BUDGET: u32 = 50_000;
+pub(crate) const WALK_BUDGET: u32 = 50_000;
 /// Failures told in full.
-const TOLD: usize = 10;
+pub(crate) const TOLD: usize = 10;
 /// Least share of each of the answers 0 to 3, in per cent of all requests judged, damaged ones
 /// included.
 const LEAST_SHARE: u64 = 5;
@@ -96,7 +96,7 @@ pub fn run(seed: u64, requests: u64, derivations: u64) -> Tally {
     tally
 }
 
-fn told(bytes: &[u8]) -> String {
+pub(crate) fn told(bytes: &[u8]) -> String {
     match bytes.len() {
         0..=2_000 => comma_separated(bytes),
         length => format!("({length} bytes)"),
@@ -350,7 +350,7 @@ impl Tally {
 }
 
 /// What every answer keeps to: its input, place and count, and what the showing call shows.
-fn expect_form(answer: Answer, request: &[u8], derivation: &[u8]) -> Result<(), String> {
+pub(crate) fn expect_form(answer: Answer, request: &[u8], derivation: &[u8]) -> Result<(), String> {
     let length = match answer.input {
         NEITHER => 0,
         REQUEST => request.len(),
@@ -378,7 +378,7 @@ fn expect_form(answer: Answer, request: &[u8], derivation: &[u8]) -> Result<(), 
     }
 }
 
-fn expect_outlook(answer: Answer, outlook: Outlook) -> Result<(), String> {
+pub(crate) fn expect_outlook(answer: Answer, outlook: Outlook) -> Result<(), String> {
     let right = match outlook {
         Outlook::Open => true,
         Outlook::Walked => answer.number <= 3,
@@ -392,7 +392,7 @@ fn expect_outlook(answer: Answer, outlook: Outlook) -> Result<(), String> {
 }
 
 /// There is one way to write what was read.
-fn expect_bytes(written: &[u8], read: &[u8]) -> Result<(), String> {
+pub(crate) fn expect_bytes(written: &[u8], read: &[u8]) -> Result<(), String> {
     match written == read {
         true => Ok(()),
         false => Err("written again, the input differs".to_string()),

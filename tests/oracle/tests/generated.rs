@@ -5,13 +5,24 @@ use std::collections::BTreeSet;
 use oracle::rows::rows;
 use oracle::run::run;
 use oracle::text::parse_bytes;
-use oracle::{check, judge};
+use oracle::whether;
+use oracle::whether::rows::whether_rows;
+use oracle::{check, check_whether, judge};
 
 #[test]
 fn small_runs_show_no_difference() {
     for seed in 1..=3 {
         let tally = run(seed, 2_000, 400);
         assert_eq!(tally.differences(), &[] as &[String]);
+    }
+}
+
+#[test]
+fn small_runs_of_the_second_layout_show_no_difference() {
+    for seed in 1..=3 {
+        let tally = whether::run::run(seed, 600);
+        assert_eq!(tally.differences(), &[] as &[String]);
+        assert_eq!(tally.verdict(), Ok(()));
     }
 }
 
@@ -42,7 +53,7 @@ fn number<'a>(words: &mut impl Iterator<Item = &'a str>) -> u32 {
 fn rows_can_be_computed_again() {
     let mut met = BTreeSet::new();
     let mut long = 0;
-    for row in rows(5, 300, 300) {
+    for row in rows(5, 300, 300).chain(whether_rows(5, 300)) {
         let mut words = row.split(' ');
         let kind = words.next().expect("a kind");
         let request = take(&mut words);
@@ -53,6 +64,7 @@ fn rows_can_be_computed_again() {
                 (answer, matches!(answer.number, 1 | 2).then_some(lent))
             }
             "D" => (check(&request, &take(&mut words)), None),
+            "W" => (check_whether(&request, &take(&mut words)), None),
             _ => panic!("no such kind: {kind}"),
         };
         let told: Vec<u32> = (0..4).map(|_| number(&mut words)).collect();
@@ -74,8 +86,10 @@ fn rows_can_be_computed_again() {
         .chain(9..=21)
         .map(|number| ("J".to_string(), number));
     let checking = [0].into_iter().chain(10..=21).chain(30..=35);
+    let whether = [0].into_iter().chain(10..=21).chain(31..=34).chain([36]);
     let all: BTreeSet<_> = judging
         .chain(checking.map(|number| ("D".to_string(), number)))
+        .chain(whether.map(|number| ("W".to_string(), number)))
         .collect();
     assert_eq!(met, all);
     assert!(long <= 3);
@@ -86,4 +100,7 @@ fn rows_come_from_the_seed_alone() {
     let once: Vec<String> = rows(9, 40, 20).collect();
     assert_eq!(once, rows(9, 40, 20).collect::<Vec<_>>());
     assert_ne!(once, rows(10, 40, 20).collect::<Vec<_>>());
+    let once: Vec<String> = whether_rows(9, 20).collect();
+    assert_eq!(once, whether_rows(9, 20).collect::<Vec<_>>());
+    assert_ne!(once, whether_rows(10, 20).collect::<Vec<_>>());
 }

@@ -5,42 +5,42 @@ use Rattle.audit.proofs.audit.Statement.{statement}
 use Rattle.audit.proofs.audit.Tie as tie
 use Rattle.audit.proofs.audit.Reads as reads
 use Rattle.audit.proofs.audit.Lts as lts
-use Rattle.audit.proofs.answer_to.Reads as answer-to-reads
+use Rattle.audit.proofs.put_answer.Reads as put-answer-reads
 use Rattle.audit.proofs.read_argument.Reads as read-argument-reads
 
--- src/main.rt:54:28
+-- src/main.rt:75:28
 slice-aggregate-read-argument : tie.Need-slice-aggregate-read-argument
 slice-aggregate-read-argument c = search needs
 
--- src/main.rt:54:11
+-- src/main.rt:75:11
 read-argument-requires : tie.Need-read-argument-requires
 read-argument-requires c κs = search needs
 
--- src/main.rt:55:22
+-- src/main.rt:76:22
 enum-known-n : tie.Need-enum-known-n
 enum-known-n c = search needs
 
--- src/main.rt:55:47
+-- src/main.rt:76:57
 array-share-prefix-bytes : tie.Need-array-share-prefix-bytes
 array-share-prefix-bytes c = search read-within
 
--- src/main.rt:55:47
-slice-aggregate-answer-to : tie.Need-slice-aggregate-answer-to
-slice-aggregate-answer-to c = search read-counted
+-- src/main.rt:76:57
+slice-aggregate-put-answer : tie.Need-slice-aggregate-put-answer
+slice-aggregate-put-answer c = search read-counted
 
--- src/main.rt:55:28
-answer-to-requires : tie.Need-answer-to-requires
-answer-to-requires c κs = search needs
+-- src/main.rt:76:28
+put-answer-requires : tie.Need-put-answer-requires
+put-answer-requires c κs = search needs
 
--- src/main.rt:56:30
+-- src/main.rt:77:30
 enum-told : tie.Need-enum-told
 enum-told c = search needs
 
--- src/main.rt:56:30
+-- src/main.rt:77:30
 returns : tie.Need-returns
 returns c = search needs
 
--- src/main.rt:51:1
+-- src/main.rt:72:1
 returns-2 : tie.Need-returns-2
 returns-2 c = search needs
 
@@ -52,8 +52,8 @@ audit-spec =
     read-argument-requires
     enum-known-n
     array-share-prefix-bytes
-    slice-aggregate-answer-to
-    answer-to-requires
+    slice-aggregate-put-answer
+    put-answer-requires
     enum-told
     returns
     returns-2)

@@ -10,55 +10,55 @@ use Rattle.os.proofs.fail.Reads as fail-reads
 use Rattle.os.proofs.open_read.Reads as open-read-reads
 use Rattle.programs.proofs.read_all.Reads as read-all-reads
 
--- src/main.rt:12:9
+-- src/main.rt:15:9
 open-read-requires : tie.Need-open-read-requires
 open-read-requires c κs = search needs
 
--- src/main.rt:14:9
+-- src/main.rt:17:9
 fail-requires : tie.Need-fail-requires
 fail-requires c κs = search needs
 
--- src/main.rt:15:9
+-- src/main.rt:18:9
 returns : tie.Need-returns
 returns c = search needs
 
--- src/main.rt:17:11
+-- src/main.rt:20:11
 read-all-requires : tie.Need-read-all-requires
 read-all-requires c κs = search needs
 
--- src/main.rt:18:22
+-- src/main.rt:21:22
 enum-known-n : tie.Need-enum-known-n
 enum-known-n c = search needs
 
--- src/main.rt:19:13
+-- src/main.rt:22:13
 close-requires : tie.Need-close-requires
 close-requires c κs = search needs
 
--- src/main.rt:23:13
+-- src/main.rt:26:13
 enum-told : tie.Need-enum-told
 enum-told c = search needs
 
--- src/main.rt:23:13
+-- src/main.rt:26:13
 fail-requires-2 : tie.Need-fail-requires-2
 fail-requires-2 c κs = search needs
 
--- src/main.rt:24:13
+-- src/main.rt:27:13
 close-requires-2 : tie.Need-close-requires-2
 close-requires-2 c κs = search needs
 
--- src/main.rt:9:1
+-- src/main.rt:12:1
 same-length : tie.Need-same-length
 same-length c = search needs
 
--- src/main.rt:9:1
+-- src/main.rt:12:1
 returns-2 : tie.Need-returns-2
 returns-2 c = search bytes-within
 
--- src/main.rt:9:1
+-- src/main.rt:12:1
 same-length-2 : tie.Need-same-length-2
 same-length-2 c = search needs
 
--- src/main.rt:9:1
+-- src/main.rt:12:1
 returns-3 : tie.Need-returns-3
 returns-3 c = search needs
 

@@ -1,74 +1,53 @@
--- What all lines give is what those from line i on give, where each line before it follows; past the last line the last one is asked.
+-- What all lines give is what those from line i on give, where each line before it follows.
 use Prim.Native.Nat.{_-_}
 use Rattle.steps.specs.AtHand.{request-in}
 use Rattle.checking.specs.Checked.{lines-in}
-use Rattle.checking.proofs.OrderLaws.{Checking, checking-start, line-numbered, index-few, least-one, last-few, checking-next, line-stops, asked-yes, asked-no, last-some}
+use Rattle.checking.proofs.OrderLaws.{Checking, checking-start, line-numbered, index-few, checking-next, line-stops, lines-through}
 use borrow.Author.Needs.{needs}
 use Rattle.checking.proofs.lines.check_lines.Statement.{statement}
 use Rattle.checking.proofs.lines.check_lines.Tie as tie
 use Rattle.checking.proofs.lines.check_lines.Reads as reads
 use Rattle.checking.proofs.lines.check_lines.Lts as lts
-use Rattle.checking.proofs.lines.is_question.Reads as is-question-reads
 use Rattle.checking.proofs.lines.line_refused.Reads as line-refused-reads
 use Rattle.deriving.proofs.derived.place_of.Reads as place-of-reads
 
 abbrev Inv-loop : tie.InvT-loop
-Inv-loop n m s t d u₀ places ends lines i₀ u i = Checking (request-in s .table) (lines-in n m d) i
+Inv-loop layout n m s t d u₀ places lines i₀ u i = Checking layout (request-in s .table) (lines-in layout n m d) i
 
 abbrev μ-loop : tie.MeasureT-loop
-μ-loop n m s t d u₀ places ends lines i₀ u i = lines - i
+μ-loop layout n m s t d u₀ places lines i₀ u i = lines - i
 
--- src/lines.rt:225:5
+-- src/lines.rt:247:5
 loop-holds : tie.Need-loop-holds Inv-loop μ-loop
 loop-holds c = search checking-start
 
--- src/lines.rt:226:13
+-- src/lines.rt:248:13
 line-refused-requires : tie.Need-line-refused-requires Inv-loop μ-loop
 line-refused-requires c κs = (search needs, search line-numbered)
 
--- src/lines.rt:228:17
+-- src/lines.rt:250:17
 place-of-requires : tie.Need-place-of-requires Inv-loop μ-loop
 place-of-requires c κs = search index-few
 
--- src/lines.rt:229:13
+-- src/lines.rt:251:13
 returns : tie.Need-returns Inv-loop μ-loop
 returns c = search line-stops
 
--- src/lines.rt:231:9
+-- src/lines.rt:253:9
 add-i : tie.Need-add-i Inv-loop μ-loop
 add-i c = search needs
 
--- src/lines.rt:225:5
+-- src/lines.rt:247:5
 loop-less : tie.Need-loop-less Inv-loop μ-loop
 loop-less c = search needs
 
--- src/lines.rt:225:5
+-- src/lines.rt:247:5
 loop-again : tie.Need-loop-again Inv-loop μ-loop
 loop-again c = search checking-next
 
--- src/lines.rt:233:16
-sub-last : tie.Need-sub-last Inv-loop μ-loop
-sub-last c = search least-one
-
--- src/lines.rt:234:9
-place-of-requires-2 : tie.Need-place-of-requires-2 Inv-loop μ-loop
-place-of-requires-2 c κs = search last-few
-
--- src/lines.rt:235:9
-place-of-requires-3 : tie.Need-place-of-requires-3 Inv-loop μ-loop
-place-of-requires-3 c κs = search last-few
-
--- src/lines.rt:236:9
-is-question-requires : tie.Need-is-question-requires Inv-loop μ-loop
-is-question-requires c κs = (search needs, search last-some)
-
--- src/lines.rt:238:9
+-- src/lines.rt:231:1
 returns-2 : tie.Need-returns-2 Inv-loop μ-loop
-returns-2 c = search asked-yes
-
--- src/lines.rt:209:1
-returns-3 : tie.Need-returns-3 Inv-loop μ-loop
-returns-3 c = search asked-no
+returns-2 c = search lines-through
 
 pub check-lines-spec : {M : Type 1} → statement M
 check-lines-spec =
@@ -83,9 +62,4 @@ check-lines-spec =
     add-i
     loop-less
     loop-again
-    sub-last
-    place-of-requires-2
-    place-of-requires-3
-    is-question-requires
-    returns-2
-    returns-3)
+    returns-2)

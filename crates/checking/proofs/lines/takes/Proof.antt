@@ -1,5 +1,5 @@
--- Rules 1 and 2 take none, rule 3 one for each reading, rule 5 two, and what is left takes one.
-use Rattle.checking.proofs.LineLaws.{takes-empty, takes-action, takes-sensing, takes-composition, takes-one}
+-- Rules 1, 2 and 7 take none, rule 3 one for each reading, rule 5 two, and what is left takes one.
+use Rattle.checking.proofs.LineLaws.{takes-empty, takes-action, takes-sensing, takes-composition, takes-look, takes-one}
 use borrow.Author.Needs.{needs}
 use Rattle.checking.proofs.lines.takes.Statement.{statement}
 use Rattle.checking.proofs.lines.takes.Tie as tie
@@ -7,29 +7,33 @@ use Rattle.checking.proofs.lines.takes.Reads as reads
 use Rattle.checking.proofs.lines.takes.Lts as lts
 use Rattle.checking.proofs.lines.readings.Reads as readings-reads
 
--- src/lines.rt:61:9
+-- src/lines.rt:98:9
 returns : tie.Need-returns
 returns c = search takes-empty
 
--- src/lines.rt:64:9
+-- src/lines.rt:101:9
 returns-2 : tie.Need-returns-2
 returns-2 c = search takes-action
 
--- src/lines.rt:67:9
+-- src/lines.rt:104:9
 readings-requires : tie.Need-readings-requires
 readings-requires c κs = search needs
 
--- src/lines.rt:67:9
+-- src/lines.rt:104:9
 returns-3 : tie.Need-returns-3
 returns-3 c = search takes-sensing
 
--- src/lines.rt:70:9
+-- src/lines.rt:107:9
 returns-4 : tie.Need-returns-4
 returns-4 c = search takes-composition
 
--- src/lines.rt:57:1
+-- src/lines.rt:110:9
 returns-5 : tie.Need-returns-5
-returns-5 c = search takes-one
+returns-5 c = search takes-look
+
+-- src/lines.rt:94:1
+returns-6 : tie.Need-returns-6
+returns-6 c = search takes-one
 
 pub takes-spec : {M : Type 1} → statement M
-takes-spec = tie.close (tie.spec returns returns-2 readings-requires returns-3 returns-4 returns-5)
+takes-spec = tie.close (tie.spec returns returns-2 readings-requires returns-3 returns-4 returns-5 returns-6)

@@ -1,4 +1,4 @@
--- The list Y, then the rest of the line: the first fault is the line's.
+-- The conclusion and the rule byte, then the citations: the first fault is the line's.
 use Rattle.deriving.proofs.DerivationLaws.{end-whole, end-fault}
 use borrow.Author.Needs.{needs}
 use Rattle.deriving.proofs.derivations.end_at.Statement.{statement}
@@ -6,33 +6,33 @@ use Rattle.deriving.proofs.derivations.end_at.Tie as tie
 use Rattle.deriving.proofs.derivations.end_at.Reads as reads
 use Rattle.deriving.proofs.derivations.end_at.Lts as lts
 use Rattle.deriving.proofs.derivations.cites_at.Reads as cites-at-reads
-use Rattle.bytes.proofs.lists.list_at.Reads as list-at-reads
+use Rattle.deriving.proofs.derivations.concluded_at.Reads as concluded-at-reads
 
--- src/derivations.rt:61:11
-list-at-requires : tie.Need-list-at-requires
-list-at-requires c κs = search needs
+-- src/derivations.rt:134:11
+concluded-at-requires : tie.Need-concluded-at-requires
+concluded-at-requires c κs = search needs
 
--- src/derivations.rt:62:20
+-- src/derivations.rt:135:20
 enum-known-q : tie.Need-enum-known-q
 enum-known-q c = search needs
 
--- src/derivations.rt:62:26
+-- src/derivations.rt:135:26
 cites-at-requires : tie.Need-cites-at-requires
 cites-at-requires c κs = search needs
 
--- src/derivations.rt:63:23
+-- src/derivations.rt:136:23
 enum-known-k : tie.Need-enum-known-k
 enum-known-k c = search needs
 
--- src/derivations.rt:57:1
+-- src/derivations.rt:130:1
 returns : tie.Need-returns
 returns c = search end-whole
 
--- src/derivations.rt:57:1
+-- src/derivations.rt:130:1
 returns-2 : tie.Need-returns-2
 returns-2 c = search end-fault
 
 pub end-at-spec : {M : Type 1} → statement M
 end-at-spec =
     tie.close
-    (tie.spec list-at-requires enum-known-q cites-at-requires enum-known-k returns returns-2)
+    (tie.spec concluded-at-requires enum-known-q cites-at-requires enum-known-k returns returns-2)

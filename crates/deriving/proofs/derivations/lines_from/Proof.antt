@@ -1,4 +1,4 @@
--- At each turn what all lines give is what the lines left give, and the places noted are those of the lines read.
+-- At each turn what all lines give is what the lines left give, and the places noted are those of the lines read and of the ends of their plans.
 use Prim.Native.Nat.{_-_}
 use mathlib.Core.Path.{_≡_}
 use Rattle.meaning.specs.Limits.{format}
@@ -6,7 +6,7 @@ use Rattle.meaning.specs.Reading.{repeated}
 use Rattle.meaning.specs.Derivations.{line-at}
 use Rattle.reading.specs.Noted.{noting}
 use Rattle.deriving.specs.DerivationRead.{places-noted}
-use Rattle.deriving.proofs.DerivationLaws.{places-start, places-done, places-fault, places-next, line-fits}
+use Rattle.deriving.proofs.DerivationLaws.{places-start, places-done, places-fault, places-next, line-fits, end-fits}
 use borrow.Author.Needs.{needs}
 use Rattle.deriving.proofs.derivations.lines_from.Statement.{statement}
 use Rattle.deriving.proofs.derivations.lines_from.Tie as tie
@@ -16,48 +16,56 @@ use Rattle.deriving.proofs.derivations.line_at.Reads as line-at-reads
 use Rattle.deriving.proofs.derivations.note_place.Reads as note-place-reads
 
 abbrev Inv-loop : tie.InvT-loop
-Inv-loop n m s count start t₀ places₀ k₀ p₀ t places k p = noting (places-noted 0) (repeated (line-at format n m s) count start) places₀ ≡ noting (places-noted k) (repeated (line-at format n m s) (count - k) p) places
+Inv-loop layout n m s count start t₀ places₀ k₀ p₀ t places k p = noting (places-noted 0) (repeated (line-at format n m s layout) count start) places₀ ≡ noting (places-noted k) (repeated (line-at format n m s layout) (count - k) p) places
 
 abbrev μ-loop : tie.MeasureT-loop
-μ-loop n m s count start t₀ places₀ k₀ p₀ t places k p = count - k
+μ-loop layout n m s count start t₀ places₀ k₀ p₀ t places k p = count - k
 
--- src/derivations.rt:116:5
+-- src/derivations.rt:199:5
 loop-holds : tie.Need-loop-holds Inv-loop μ-loop
 loop-holds c = search places-start
 
--- src/derivations.rt:117:15
+-- src/derivations.rt:200:15
 line-at-requires : tie.Need-line-at-requires Inv-loop μ-loop
 line-at-requires c κs = search needs
 
--- src/derivations.rt:118:24
-enum-known-e : tie.Need-enum-known-e Inv-loop μ-loop
-enum-known-e c = search needs
+-- src/derivations.rt:201:23
+enum-known-q : tie.Need-enum-known-q Inv-loop μ-loop
+enum-known-q c = search needs
 
--- src/derivations.rt:119:17
+-- src/derivations.rt:202:28
+add-slot : tie.Need-add-slot Inv-loop μ-loop
+add-slot c = search needs
+
+-- src/derivations.rt:203:17
 note-place-requires : tie.Need-note-place-requires Inv-loop μ-loop
 note-place-requires c κs = search (needs, line-fits)
 
--- src/derivations.rt:120:17
+-- src/derivations.rt:204:17
+note-place-requires-2 : tie.Need-note-place-requires-2 Inv-loop μ-loop
+note-place-requires-2 c κs = search (needs, end-fits)
+
+-- src/derivations.rt:205:17
 add-k : tie.Need-add-k Inv-loop μ-loop
 add-k c = search needs
 
--- src/derivations.rt:116:5
+-- src/derivations.rt:199:5
 loop-less : tie.Need-loop-less Inv-loop μ-loop
 loop-less c = search needs
 
--- src/derivations.rt:116:5
+-- src/derivations.rt:199:5
 loop-again : tie.Need-loop-again Inv-loop μ-loop
-loop-again c = search places-next
+loop-again c = places-next _ _ _ _ _ _ _ _ _ (c .before .before .before .before .before .before .before .before .before .before .loop .inv) _ _ _ _ _ (c .before .before .note-place .ensures) (c .note-place2 .ensures) (c .before .before .before .before .before .before .before .before .before .loop-test .taken) (c .before .before .before .before .before .before .before .line-at .ensures) (c .before .before .before .before .before .q .given .1)
 
--- src/derivations.rt:123:27
+-- src/derivations.rt:208:26
 enum-known-number : tie.Need-enum-known-number Inv-loop μ-loop
 enum-known-number c = search needs
 
--- src/derivations.rt:124:17
+-- src/derivations.rt:209:17
 returns : tie.Need-returns Inv-loop μ-loop
 returns c = search places-fault
 
--- src/derivations.rt:100:1
+-- src/derivations.rt:182:1
 returns-2 : tie.Need-returns-2 Inv-loop μ-loop
 returns-2 c = search places-done
 
@@ -69,8 +77,10 @@ lines-from-spec =
     μ-loop
     loop-holds
     line-at-requires
-    enum-known-e
+    enum-known-q
+    add-slot
     note-place-requires
+    note-place-requires-2
     add-k
     loop-less
     loop-again

@@ -1,5 +1,5 @@
 -- The plan, then the rest of the line: the first fault is the line's.
-use Rattle.deriving.proofs.DerivationLaws.{plan-whole, plan-fault}
+use Rattle.deriving.proofs.DerivationLaws.{plan-whole, plan-then-fault, plan-fault}
 use borrow.Author.Needs.{needs}
 use Rattle.deriving.proofs.derivations.plan_first.Statement.{statement}
 use Rattle.deriving.proofs.derivations.plan_first.Tie as tie
@@ -8,31 +8,52 @@ use Rattle.deriving.proofs.derivations.plan_first.Lts as lts
 use Rattle.deriving.proofs.derivations.end_at.Reads as end-at-reads
 use Rattle.reading.proofs.plan.plan_at.Reads as plan-at-reads
 
--- src/derivations.rt:73:11
+-- src/derivations.rt:152:11
 plan-at-requires : tie.Need-plan-at-requires
 plan-at-requires c κs = search needs
 
--- src/derivations.rt:74:21
-enum-known-items : tie.Need-enum-known-items
-enum-known-items c = search needs
+-- src/derivations.rt:153:24
+enum-known-q : tie.Need-enum-known-q
+enum-known-q c = search needs
 
--- src/derivations.rt:74:34
+-- src/derivations.rt:153:36
 end-at-requires : tie.Need-end-at-requires
 end-at-requires c κs = search needs
 
--- src/derivations.rt:75:21
+-- src/derivations.rt:154:24
+enum-known-e : tie.Need-enum-known-e
+enum-known-e c = search needs
+
+-- src/derivations.rt:155:27
 enum-known-k : tie.Need-enum-known-k
 enum-known-k c = search needs
 
--- src/derivations.rt:68:1
+-- src/derivations.rt:157:21
+enum-known-k-2 : tie.Need-enum-known-k-2
+enum-known-k-2 c = search needs
+
+-- src/derivations.rt:147:1
 returns : tie.Need-returns
 returns c = search plan-whole
 
--- src/derivations.rt:68:1
+-- src/derivations.rt:147:1
 returns-2 : tie.Need-returns-2
-returns-2 c = search plan-fault
+returns-2 c = search plan-then-fault
+
+-- src/derivations.rt:147:1
+returns-3 : tie.Need-returns-3
+returns-3 c = search plan-fault
 
 pub plan-first-spec : {M : Type 1} → statement M
 plan-first-spec =
     tie.close
-    (tie.spec plan-at-requires enum-known-items end-at-requires enum-known-k returns returns-2)
+    (tie.spec
+    plan-at-requires
+    enum-known-q
+    end-at-requires
+    enum-known-e
+    enum-known-k
+    enum-known-k-2
+    returns
+    returns-2
+    returns-3)

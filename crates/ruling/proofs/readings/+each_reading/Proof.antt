@@ -14,22 +14,22 @@ use Rattle.steps.proofs.sensing.next_unknown.Reads as next-unknown-reads
 use Rattle.ruling.proofs.readings.+each_reading.{statement}
 use Rattle.ruling.proofs.readings.+each_reading.Tie.{close}
 
-abbrev μ-each-reading : Measures 5 each-reading-kinds.ps ℕ
+abbrev μ-each-reading : Measures 4 each-reading-kinds.ps ℕ
 μ-each-reading κs a = 64 - a .1 .1 .1 .1 .1 .1 .0
 
-abbrev each-reading-at : ℕ → In 5 each-reading-kinds.ps
+abbrev each-reading-at : ℕ → In 4 each-reading-kinds.ps
 each-reading-at t =
-    and 5 each-reading-kinds.ps (is 5 each-reading-kinds.ps μ-each-reading t) each-reading.Pre
+    and 4 each-reading-kinds.ps (is 4 each-reading-kinds.ps μ-each-reading t) each-reading.Pre
 
-abbrev each-reading-below : ℕ → In 5 each-reading-kinds.ps
+abbrev each-reading-below : ℕ → In 4 each-reading-kinds.ps
 each-reading-below t =
     and
-    5
+    4
     each-reading-kinds.ps
-    (falls 5 each-reading-kinds.ps _<_ μ-each-reading t)
+    (falls 4 each-reading-kinds.ps _<_ μ-each-reading t)
     each-reading.Pre
 
--- src/readings.rt:123:17
+-- src/readings.rt:144:17
 each-reading-returns : (t : ℕ) → each-reading-lts.Need-returns (
   next-unknown-reads.Asked,
   next-unknown-reads.Learnt,

@@ -1,5 +1,5 @@
--- The lists are what stands at their places, and the plan is the join of the two just where the plan that stands there is.
-use Rattle.ruling.proofs.RuleLaws.{some-plan, plan-counted, items-fit, some-items, starts-apart, meets-apart, ends-apart, composed}
+-- The lists are what stands at their places, and the plan is the join of the two just where the plan that stands there is. A fluent is no list.
+use Rattle.ruling.proofs.RuleLaws.{Y-here, some-plan, plan-counted, items-fit, some-items, first-whether, starts-apart, meets-apart, ends-apart, composed}
 use borrow.Author.Needs.{needs}
 use Rattle.ruling.proofs.rules.rule_5.Statement.{statement}
 use Rattle.ruling.proofs.rules.rule_5.Tie as tie
@@ -8,75 +8,81 @@ use Rattle.ruling.proofs.rules.rule_5.Lts as lts
 use Rattle.comparing.proofs.parts.same_lists.Reads as same-lists-reads
 use Rattle.comparing.proofs.plans.count_of.Reads as count-of-reads
 use Rattle.comparing.proofs.plans.joined_plans.Reads as joined-plans-reads
+use Rattle.comparing.proofs.spots.same_conclusions.Reads as same-conclusions-reads
 use Rattle.refusing.proofs.overlaps.sequence_of.Reads as sequence-of-reads
 
--- src/rules.rt:70:9
+-- src/rules.rt:84:9
+returns : tie.Need-returns
+returns c = search first-whether
+
+-- src/rules.rt:90:9
 same-lists-requires : tie.Need-same-lists-requires
 same-lists-requires c κs = search needs
 
--- src/rules.rt:72:13
+-- src/rules.rt:92:13
 same-lists-requires-2 : tie.Need-same-lists-requires-2
-same-lists-requires-2 c κs = search needs
+same-lists-requires-2 c κs = search (needs, Y-here)
 
--- src/rules.rt:74:17
-same-lists-requires-3 : tie.Need-same-lists-requires-3
-same-lists-requires-3 c κs = search needs
+-- src/rules.rt:94:17
+same-conclusions-requires : tie.Need-same-conclusions-requires
+same-conclusions-requires c κs = search needs
 
--- src/rules.rt:76:21
+-- src/rules.rt:96:21
 sequence-of-requires : tie.Need-sequence-of-requires
 sequence-of-requires c κs = search needs
 
--- src/rules.rt:77:21
+-- src/rules.rt:97:21
 sequence-of-requires-2 : tie.Need-sequence-of-requires-2
 sequence-of-requires-2 c κs = search needs
 
--- src/rules.rt:78:21
+-- src/rules.rt:98:21
 sequence-of-requires-3 : tie.Need-sequence-of-requires-3
 sequence-of-requires-3 c κs = search needs
 
--- src/rules.rt:79:21
+-- src/rules.rt:99:21
 count-of-requires : tie.Need-count-of-requires
 count-of-requires c κs = search plan-counted
 
--- src/rules.rt:80:21
+-- src/rules.rt:100:21
 count-of-requires-2 : tie.Need-count-of-requires-2
 count-of-requires-2 c κs = search plan-counted
 
--- src/rules.rt:81:25
+-- src/rules.rt:101:25
 add-a : tie.Need-add-a
 add-a c = search items-fit
 
--- src/rules.rt:82:25
+-- src/rules.rt:102:25
 add-g : tie.Need-add-g
 add-g c = search items-fit
 
--- src/rules.rt:83:17
+-- src/rules.rt:106:17
 joined-plans-requires : tie.Need-joined-plans-requires
 joined-plans-requires c κs = (search some-plan, (search some-items, search some-items))
 
--- src/rules.rt:83:17
-returns : tie.Need-returns
-returns c = search composed
-
--- src/rules.rt:85:13
+-- src/rules.rt:106:17
 returns-2 : tie.Need-returns-2
-returns-2 c = search ends-apart
+returns-2 c = search composed
 
--- src/rules.rt:87:9
+-- src/rules.rt:108:13
 returns-3 : tie.Need-returns-3
-returns-3 c = search meets-apart
+returns-3 c = search ends-apart
 
--- src/rules.rt:64:1
+-- src/rules.rt:110:9
 returns-4 : tie.Need-returns-4
-returns-4 c = search starts-apart
+returns-4 c = search meets-apart
+
+-- src/rules.rt:77:1
+returns-5 : tie.Need-returns-5
+returns-5 c = search starts-apart
 
 pub rule-5-spec : {M : Type 1} → statement M
 rule-5-spec =
     tie.close
     (tie.spec
+    returns
     same-lists-requires
     same-lists-requires-2
-    same-lists-requires-3
+    same-conclusions-requires
     sequence-of-requires
     sequence-of-requires-2
     sequence-of-requires-3
@@ -85,7 +91,7 @@ rule-5-spec =
     add-a
     add-g
     joined-plans-requires
-    returns
     returns-2
     returns-3
-    returns-4)
+    returns-4
+    returns-5)

@@ -1,0 +1,25 @@
+-- Rules 10, 11 and 12 are told one by one, and every other rule is its own.
+use Rattle.checking.proofs.LineLaws.{lists-sensing, lists-composition, lists-branching, lists-same}
+use Rattle.checking.proofs.lines.rule_for_lists.Statement.{statement}
+use Rattle.checking.proofs.lines.rule_for_lists.Tie as tie
+use Rattle.checking.proofs.lines.rule_for_lists.Reads as reads
+use Rattle.checking.proofs.lines.rule_for_lists.Lts as lts
+
+-- src/lines.rt:57:9
+returns : tie.Need-returns
+returns c = search lists-sensing
+
+-- src/lines.rt:60:9
+returns-2 : tie.Need-returns-2
+returns-2 c = search lists-composition
+
+-- src/lines.rt:63:9
+returns-3 : tie.Need-returns-3
+returns-3 c = search lists-branching
+
+-- src/lines.rt:53:1
+returns-4 : tie.Need-returns-4
+returns-4 c = search lists-same
+
+pub rule-for-lists-spec : {M : Type 1} → statement M
+rule-for-lists-spec = tie.close (tie.spec returns returns-2 returns-3 returns-4)

@@ -1,0 +1,57 @@
+-- What the derivation call and the whether call promise, once over the layout: of an answer that is the definition's, and of a number that
+-- packs it. Assumes nothing.
+use Prim.Native.Nat.{ℕ, _/_, _%_}
+use mathlib.Core.Path.{_≡_, sym, _∙_, ap, subst}
+use mathlib.Core.Bool.{true}
+use mathlib.Core.List.{List}
+use mathlib.Core.Logic.{_↔_}
+use Rattle.meaning.specs.declared.Answer.{Answer}
+use Rattle.meaning.specs.declared.Layout.{Layout}
+use Rattle.meaning.specs.Limits
+use Rattle.meaning.specs.Limits.{format}
+use Rattle.meaning.specs.Literals.{among}
+use Rattle.meaning.specs.Requests.{Request}
+use Rattle.meaning.specs.Reading.{got}
+use Rattle.meaning.specs.Refusals.{settled}
+use Rattle.meaning.specs.States.{first-state}
+use Rattle.meaning.specs.Walk.{walked}
+use Rattle.meaning.specs.Derivations.{check}
+use Rattle.meaning.specs.Worlds.{Carried-out}
+use Rattle.meaning.proofs.Accepted.{Accepted, check-answers}
+use Rattle.meaning.proofs.Exact.{format-room}
+use Rattle.meaning.proofs.Sound.{Verified}
+use Rattle.meaning.proofs.Demands
+use Rattle.glintstring.specs.Packing.{packed, unpacked}
+use Rattle.glintstring.proofs.PackingLaws.{number-back, input-back, place-back, count-back, unpacks, check-small}
+
+module _ (layout : Layout) (request derivation : List ℕ) where
+  -- THE NUMBER of an answer, as the definition gives it.
+  module _ (number : ℕ) (is : check format layout request derivation .number ≡ number) where
+    pub numbered : among number (check-answers layout) ≡ true
+    numbered = subst (λ (n : ℕ). among n (check-answers layout) ≡ true) is (Demands.every-check-numbered format layout request derivation)
+
+    pub accepted-exactly : (number ≡ Limits.verified) ↔ Accepted format layout request derivation
+    accepted-exactly = rw (sym is) (Demands.accepted-exactly format layout request derivation)
+
+    pub accepted-verified : number ≡ Limits.verified → (x : Request) × (e : ℕ) × (settled format request ≡ got x e) × Verified (walked x (first-state format (x .table)))
+    accepted-verified passes = Demands.accepted-verified format format-room layout request derivation (is ∙ passes)
+
+    pub sound : number ≡ Limits.verified → (x : Request) × (e : ℕ) × (settled format request ≡ got x e) × Carried-out x
+    sound passes = Demands.sound-derivation format format-room layout request derivation (is ∙ passes)
+
+  -- A NUMBER that packs the definition's answer gives it back.
+  module _ (n : ℕ) (packs : n ≡ packed (check format layout request derivation)) where
+    pub number-is : n % 256 ≡ check format layout request derivation .number
+    number-is = ap (λ (m : ℕ). m % 256) packs ∙ number-back (check format layout request derivation) (check-small layout request derivation)
+
+    pub input-is : n / 256 % 256 ≡ check format layout request derivation .input
+    input-is = ap (λ (m : ℕ). m / 256 % 256) packs ∙ input-back (check format layout request derivation) (check-small layout request derivation)
+
+    pub place-is : n / 65536 % 65536 ≡ check format layout request derivation .place
+    place-is = ap (λ (m : ℕ). m / 65536 % 65536) packs ∙ place-back (check format layout request derivation) (check-small layout request derivation)
+
+    pub count-is : n / 4294967296 ≡ check format layout request derivation .count
+    count-is = ap (λ (m : ℕ). m / 4294967296) packs ∙ count-back (check format layout request derivation) (check-small layout request derivation)
+
+    pub unpacked-is : unpacked n ≡ check format layout request derivation
+    unpacked-is = ap unpacked packs ∙ unpacks (check format layout request derivation) (check-small layout request derivation)

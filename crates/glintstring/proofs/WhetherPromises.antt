@@ -1,0 +1,71 @@
+-- What the whether call promises: each theorem is of an answer that meets the call's own contract. Assumes nothing.
+use Prim.Native.Nat.{ℕ}
+use mathlib.Core.Path.{_≡_, sym, _∙_, ap}
+use mathlib.Core.Bool.{true}
+use mathlib.Core.List.{List}
+use mathlib.Core.Logic.{_↔_}
+use contract.Lifetimes.{Lfts}
+use borrow.Fn.Kinds.{Dens, endedOf}
+use denote.Ref.{now}
+use denote.Triple.Clauses.{AtExit}
+use Rattle.meaning.specs.declared.Answer.{Answer}
+use Rattle.meaning.specs.declared.Layout.the-variants.{Closing}
+use Rattle.meaning.specs.Limits
+use Rattle.meaning.specs.Limits.{format}
+use Rattle.meaning.specs.Literals.{among}
+use Rattle.meaning.specs.Requests.{Request}
+use Rattle.meaning.specs.Reading.{got}
+use Rattle.meaning.specs.Refusals.{settled}
+use Rattle.meaning.specs.States.{first-state}
+use Rattle.meaning.specs.Walk.{walked}
+use Rattle.meaning.specs.Derivations.{check}
+use Rattle.meaning.specs.Worlds.{Carried-out}
+use Rattle.meaning.proofs.Accepted.{Accepted, check-answers}
+use Rattle.meaning.proofs.Sound.{Verified}
+use Rattle.glintstring.proofs.CheckPromises
+use Rattle.glintstring.proofs.derivations.check_whether.Kinds.{ps, r}
+use Rattle.glintstring.proofs.derivations.check_whether.Reads.{Pre, Post}
+
+-- WHAT THE CALL IS GIVEN, by the values of its two parameters.
+module _ (κs : Lfts 2) (given : Dens κs ps) where
+  abbrev pub request : List ℕ
+  request = now (given .0)
+
+  abbrev pub derivation : List ℕ
+  derivation = now (given .1 .0)
+
+  -- THE CONTRACT, as the source has it.
+  pub as-written : (answer : Answer) (exit : AtExit (endedOf 2 ps r) κs) → Post κs given answer exit → answer ≡ check format Closing request derivation
+  as-written answer exit meets = meets
+
+  -- Two results that meet the contract on the same input are equal: it says everything.
+  pub determined : (answer answer′ : Answer) (exit exit′ : AtExit (endedOf 2 ps r) κs) → Post κs given answer exit → Post κs given answer′ exit′ → answer ≡ answer′
+  determined answer answer′ exit exit′ meets meets′ = meets ∙ sym meets′
+
+  -- It may be called with anything.
+  pub asks-nothing : Pre κs given
+  asks-nothing = tt
+
+  -- A RESULT that meets the contract.
+  module _ (answer : Answer) (exit : AtExit (endedOf 2 ps r) κs) (meets : Post κs given answer exit) where
+    number-is : check format Closing request derivation .number ≡ answer .number
+    number-is = ap (λ (a : Answer). a .number) (sym meets)
+
+    -- Demand 1 (FORMAT 17.38): it is one of the numbered answers.
+    pub numbered : among (answer .number) (check-answers Closing) ≡ true
+    numbered = CheckPromises.numbered Closing request derivation _ number-is
+
+    -- Demand 2 (FORMAT 17.39): accepted, exactly where neither input is refused, each line follows from those that it cites, and the closing
+    -- list names the goals' line and a line for each whether entry.
+    pub accepted-exactly : (answer .number ≡ Limits.verified) ↔ Accepted format Closing request derivation
+    accepted-exactly = CheckPromises.accepted-exactly Closing request derivation _ number-is
+
+    -- Theorem 3.3 of Zhao and Shen (FORMAT 17.40): what an accepted derivation asks, whether entries included, is verified by the walk without a
+    -- budget.
+    pub accepted-verified : answer .number ≡ Limits.verified → (x : Request) × (e : ℕ) × (settled format request ≡ got x e) × Verified (walked x (first-state format (x .table)))
+    accepted-verified = CheckPromises.accepted-verified Closing request derivation _ number-is
+
+    -- Demand 3 (FORMAT 17.41): the plan of an accepted derivation is carried out in every world with the initial facts, each whether fluent
+    -- included.
+    pub sound : answer .number ≡ Limits.verified → (x : Request) × (e : ℕ) × (settled format request ≡ got x e) × Carried-out x
+    sound = CheckPromises.sound Closing request derivation _ number-is
