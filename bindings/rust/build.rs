@@ -28,7 +28,6 @@ fn main() {
     println!("cargo:rustc-link-lib=static=glintstring");
     if let Some(folder) = folder {
         println!("cargo:rustc-link-search=native={}", folder.display());
-        println!("cargo:rerun-if-changed={}", folder.join(ARCHIVE).display());
     }
 }
 
@@ -46,13 +45,20 @@ fn missing(what: String) {
     warn(format!("{what}. `cargo check` and `cargo doc` do without it, and linking fails"));
 }
 
+/// Whether the folder has the library. This script runs again when it comes, and when it changes.
+fn has_library(folder: &Path) -> bool {
+    let archive = folder.join(ARCHIVE);
+    println!("cargo:rerun-if-changed={}", archive.display());
+    archive.is_file()
+}
+
 /// The folder that the variable names.
 fn given(folder: &Path) -> PathBuf {
     let name = folder.display();
     if !folder.is_absolute() {
         fail(format!("{VARIABLE} is to be a folder from the root on (/...), and is '{name}'"));
     }
-    if !folder.join(ARCHIVE).is_file() {
+    if !has_library(folder) {
         missing(format!("{VARIABLE} is '{name}', and that folder has no {ARCHIVE}"));
     }
     folder.to_path_buf()
@@ -84,7 +90,7 @@ fn expected() -> Option<PathBuf> {
         return None;
     }
     let folder = root().join("target/staticlib");
-    if !folder.join(ARCHIVE).is_file() {
+    if !has_library(&folder) {
         missing(format!(
             "there is no {ARCHIVE} in {}. `rt staticlib glintstring` proves and writes it, in {}; the feature `prove` has the build do so; \
              {VARIABLE} names another folder",
@@ -101,6 +107,7 @@ fn proved() -> PathBuf {
         fail(why);
     }
     let root = root();
+    // The library is written while this script runs, so what is looked at for changes is what it is made of.
     for sources in ["crates", "crates.txt"] {
         println!("cargo:rerun-if-changed={}", root.join(sources).display());
     }
