@@ -1,5 +1,5 @@
 # What the scripts of the programs share: sourced with $program, the program's name, and $usage, what --help prints.
-# Their status is 0 for answer 0, 1 for any other answer and 2 where there is none (docs/FORMAT.md, 12.16 to 12.18).
+# Their status is 0 for answer 0, 1 for any other answer and 2 where there is none (FORMAT 12.16, 12.17).
 set -u
 LC_ALL=C
 root=$(readlink -f "${BASH_SOURCE[0]}")
