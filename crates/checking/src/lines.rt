@@ -160,7 +160,7 @@ fn gives(
         return rule_2(s, t, d, l);
     }
     if rule == rules::SENSING_RULE {
-        return rule_3(layout, s, t, d, places, lines, l);
+        return rule_3(layout, s, t, d, places, lines, i, l);
     }
     if rule == rules::LOOK_RULE {
         return rule_7(s, t, d, l);

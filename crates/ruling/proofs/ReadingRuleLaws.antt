@@ -34,86 +34,89 @@ use Rattle.steps.proofs.SensingLaws.{first-marked, second-marked, told-true, to
 use Rattle.steps.proofs.ToldMarks.{marked-as}
 use Rattle.ruling.specs.declared.readings.Used.{Used}
 use Rattle.ruling.specs.declared.readings.Used.the-variants.{To, Fails}
-use Rattle.ruling.specs.declared.readings.Rest.{Rest}
 use Rattle.comparing.specs.declared.spots.Spot.{Spot}
 use Rattle.comparing.specs.Coded.{coded}
 use Rattle.comparing.specs.Stands.{Plan-stands, Numbers-stand, Stands, spot-at, Lines-stand}
-use Rattle.comparing.specs.Rules.{Items-stand, Some-concluded, Same-conclusions, Some-line, Some-lines, Cited-below, Ruled-by-all}
-use Rattle.ruling.specs.Readings.{lines-at, reads-at, used, fluents-from, states-from, Stands-some, Follows, Some-follows, Says-reading, Rest-stands, Some-rest, Uses}
+use Rattle.comparing.specs.Rules.{Items-stand, Same-conclusions, Some-line, Some-lines, Cited-below, Ruled-by-all}
+use Rattle.ruling.specs.Readings.{lines-at, reads-at, used, fluents-from, states-from, Stands-some, rest-first, rest-items, Follows, Some-follows, Says-reading, Rest-stands, Some-rest, Uses}
 use Rattle.comparing.proofs.CodedLaws.{same-own, same-coded, none-done, coded-length}
 use Rattle.comparing.proofs.CodedPlaces.{Act-there, act-there, branching-there}
 use Rattle.comparing.proofs.PlanLaws.{plan-part, items-part}
 use Rattle.ruling.proofs.RuleLaws.{no-left, no-right, yes-left, plan-of, plan-counted, own-count}
 
--- ONE CITATION, a line at the spot w, whose plan's count stands at q.
-module _ (d : List ℕ) (w : Spot) where
-  pub cited-concluded : Stands-some d w → Some-concluded d w
-  cited-concluded some = record { conclusion = some .line .Y; stands = some .stands .Y }
+-- ONE CITATION, a line at the spot v, whose plan's count stands at q.
+module _ (d : List ℕ) (v : Spot) (q : ℕ) (after : q ≡ sequence-place d (v .line)) (some : Stands-some d v) where
+  cited-some : Plan-stands d q (v .end) (some .line .c)
+  cited-some = plan-of d v q after (some .line) (some .stands)
 
-  module _ (q : ℕ) (after : q ≡ sequence-place d (w .line)) (some : Stands-some d w) where
-    cited-some : Plan-stands d q (w .end) (some .line .c)
-    cited-some = plan-of d w q after (some .line) (some .stands)
+  pub cited-counted : q + 1 < length d
+  cited-counted = cited-some .counted
 
-    pub cited-counted : q + 1 < length d
-    cited-counted = cited-some .counted
+  pub cited-fits : Fits w64 (q + 2)
+  cited-fits = let there = cited-counted in let long = some .long in record { fits = omega (arith, there, long) }
 
-    pub cited-fits : Fits w64 (q + 2)
-    cited-fits = let there = cited-counted in let long = some .long in record { fits = omega (arith, there, long) }
+  pub cited-ends : q + 2 ≤ v .end
+  cited-ends = let ends = cited-some .ends in omega (arith, ends)
 
-    pub cited-ends : q + 2 ≤ w .end
-    cited-ends = let ends = cited-some .ends in omega (arith, ends)
+-- By the line itself, at the spot w, whose plan's count stands at p.
+module _ (d : List ℕ) (marks : State) (w v : Spot) (starts : Bool) (first : starts ≡ same-list (listed d (v .line)) (literals-of marks)) where
+  starts-is : (c : Line) → Stands d v c → starts ≡ same-list (c .X) (literals-of marks)
+  starts-is c z = first ∙ ap (λ (xs : List ℕ). same-list xs (literals-of marks)) (z .X .same)
 
-pub own-concluded : (d : List ℕ) (r : Rest) → Some-follows d r → Some-concluded d (r .own)
-own-concluded d r some = record { conclusion = some .Y; stands = some .follows .concluded }
-
-module _ (d : List ℕ) (marks : State) (r : Rest) (w : Spot) (starts : Bool) (first : starts ≡ same-list (listed d (w .line)) (literals-of marks)) where
-  starts-is : (c : Line) → Stands d w c → starts ≡ same-list (c .X) (literals-of marks)
-  starts-is c v = first ∙ ap (λ (xs : List ℕ). same-list xs (literals-of marks)) (v .X .same)
-
-  pub starts-other : starts ≡ false → Says-reading d marks r w false
+  pub starts-other : starts ≡ false → Says-reading d marks w v false
   unfolding says
-  starts-other f = record { holds = λ c rest Y v z. no-left (same-list (c .X) (literals-of marks)) _ (sym (starts-is c v) ∙ f) }
+  starts-other f = record { holds = λ c rest Y z y. no-left (same-list (c .X) (literals-of marks)) _ (sym (starts-is c z) ∙ f) }
 
-  module _ (q count : ℕ) (after : q ≡ sequence-place d (w .line)) (read : count ≡ getD d q 0 * 256 + getD d (q + 1) 0) where
-    pub count-other : (count ≡ r .items → ⊥) → Says-reading d marks r w false
+  module _ (q count : ℕ) (after : q ≡ sequence-place d (v .line)) (read : count ≡ getD d q 0 * 256 + getD d (q + 1) 0) (p all items : ℕ) (own : p ≡ sequence-place d (w .line)) (whole : all ≡ getD d p 0 * 256 + getD d (p + 1) 0) (less : items ≡ all - 1) where
+    items-are : items ≡ rest-items d w
+    items-are = less ∙ ap (λ (n : ℕ). n - 1) (whole ∙ ap (λ (j : ℕ). getD d j 0 * 256 + getD d (j + 1) 0) own)
+
+    pub count-other : (count ≡ items → ⊥) → Says-reading d marks w v false
     unfolding says
     count-other differ =
         record {
-          holds = λ c rest Y v z.
+          holds = λ c rest Y z y.
               no-right (same-list (c .X) (literals-of marks)) _
               (sym (no-left (same-plan (c .c) rest) (same-conclusion (c .Y) Y)
               (by-test (same-plan (c .c) rest)
-              (λ t. absurd (differ (read ∙ plan-of d w q after c v .count ∙ same-own (c .c) rest t ∙ sym (z .items .counted))))
+              (λ t. absurd (differ (read ∙ plan-of d v q after c z .count ∙ same-own (c .c) rest t ∙ sym (y .items .counted) ∙ sym items-are)))
               (λ f. f))));
         }
 
-    module _ (counted : count ≡ r .items) (same : Bool) (parts : same ≡ same-list (take (w .end - (q + 2)) (drop (q + 2) d)) (take (r .own .end - r .first) (drop (r .first) d))) where
-      same-is : (c : Line) (rest : Sequence ℕ) (Y : Conclusion) → Stands d w c → Follows d r rest Y → same ≡ same-plan (c .c) rest
-      unfolding both
-      same-is c rest Y v z =
-          let plan = plan-of d w q after c v in
-          let own : own-items (c .c) ≡ own-items rest = sym (plan .count) ∙ sym read ∙ counted ∙ z .items .counted in
-          parts
-          ∙ rw (plan-part d q (w .end) (c .c) plan, items-part d (r .first) (r .own .end) (r .items) rest (z .items))
-          (sym (same-coded (c .c) rest (plan .tellable) (z .items .tellable) ∙ rw (eq-eqb (own-items (c .c)) (own-items rest) own)))
+    module _ (counted : count ≡ items) (same : Bool) (parts : same ≡ same-list (take (v .end - (q + 2)) (drop (q + 2) d)) (take (w .end - (p + 3)) (drop (p + 3) d))) where
+      parts-are : same ≡ same-list (take (v .end - (q + 2)) (drop (q + 2) d)) (take (w .end - rest-first d w) (drop (rest-first d w) d))
+      parts-are = parts ∙ ap (λ (j : ℕ). same-list (take (v .end - (q + 2)) (drop (q + 2) d)) (take (w .end - (j + 3)) (drop (j + 3) d))) own
 
-      pub items-other : same ≡ false → Says-reading d marks r w false
+      same-is : (c : Line) (rest : Sequence ℕ) (Y : Conclusion) → Stands d v c → Follows d w rest Y → same ≡ same-plan (c .c) rest
+      unfolding both
+      same-is c rest Y z y =
+          let plan = plan-of d v q after c z in
+          let own-same : own-items (c .c) ≡ own-items rest = sym (plan .count) ∙ sym read ∙ counted ∙ items-are ∙ y .items .counted in
+          parts-are
+          ∙ rw (plan-part d q (v .end) (c .c) plan, items-part d (rest-first d w) (w .end) (rest-items d w) rest (y .items))
+          (sym (same-coded (c .c) rest (plan .tellable) (y .items .tellable) ∙ rw (eq-eqb (own-items (c .c)) (own-items rest) own-same)))
+
+      pub items-other : same ≡ false → Says-reading d marks w v false
       unfolding says
       items-other f =
           record {
-            holds = λ c rest Y v z.
-                no-right (same-list (c .X) (literals-of marks)) _ (sym (no-left (same-plan (c .c) rest) (same-conclusion (c .Y) Y) (sym (same-is c rest Y v z) ∙ f)));
+            holds = λ c rest Y z y.
+                no-right (same-list (c .X) (literals-of marks)) _ (sym (no-left (same-plan (c .c) rest) (same-conclusion (c .Y) Y) (sym (same-is c rest Y z y) ∙ f)));
           }
 
-      pub items-same : starts ≡ true → same ≡ true → (answer : Bool) → Same-conclusions d w (r .own) answer → Says-reading d marks r w answer
+      pub items-same : starts ≡ true → same ≡ true → (answer : Bool) → Same-conclusions d v w answer → Says-reading d marks w v answer
       unfolding says
       items-same t u answer is =
           record {
-            holds = λ c rest Y v z.
-                is .holds (c .Y) Y (v .Y) (z .concluded)
-                ∙ sym (yes-left (same-plan (c .c) rest) (same-conclusion (c .Y) Y) (sym (same-is c rest Y v z) ∙ u))
-                ∙ sym (yes-left (same-list (c .X) (literals-of marks)) _ (sym (starts-is c v) ∙ t));
+            holds = λ c rest Y z y.
+                is .holds (c .Y) Y (z .Y) (y .concluded)
+                ∙ sym (yes-left (same-plan (c .c) rest) (same-conclusion (c .Y) Y) (sym (same-is c rest Y z y) ∙ u))
+                ∙ sym (yes-left (same-list (c .X) (literals-of marks)) _ (sym (starts-is c z) ∙ t));
           }
+
+-- Where the slots of a line say that its parts stand.
+abbrev slot-spot : Layout → (d places : List ℕ) → ℕ → Spot
+slot-spot layout d places i = spot-at layout d (getD places i 0) (getD places (1024 + i) 0)
 
 -- CITATION k. Two bytes say its number.
 number-stands : (d cites : List ℕ) (p k : ℕ) → Numbers-stand d p cites → k < length cites
@@ -141,98 +144,116 @@ line-at-number lines other [] k less = absurd (omega (arith, less))
 line-at-number lines other (x ∷ cites) zero less = refl
 line-at-number lines other (x ∷ cites) (suc k) less = line-at-number lines other cites k (omega (arith, less))
 
-module _ (d places : List ℕ) (r : Rest) (k : ℕ) where
-  pub none-left : (marks : State) → r .count ≤ k → Uses d places r (marks ∷ []) k Fails
+module _ (layout : Layout) (d places : List ℕ) (w : Spot) (count : ℕ) (counts : count ≡ getD d (w .cites) 0) (k : ℕ) where
+  pub none-left : (marks : State) → count ≤ k → Uses layout d places w (marks ∷ []) k Fails
   unfolding used reads-at
   none-left marks far =
       record {
         holds = λ lines rest Y cites other v.
             let size = lines-length lines other cites in let counted = v .counted in
-            sym (pick-false _ _ _ (sym (no-left _ _ (le-ltb k (length (lines-at lines other cites)) (omega (arith, far, size, counted))))));
+            sym (pick-false _ _ _ (sym (no-left _ _ (le-ltb k (length (lines-at lines other cites)) (omega (arith, far, size, counted, counts))))));
       }
 
-  module _ (some : Some-rest d places r) (less : k < r .count) where
+  module _ (total i : ℕ) (given : Some-rest layout d places total (slot-spot layout d places i)) (placed : w ≡ slot-spot layout d places i) (less : k < count) where
+    some : Some-rest layout d places total w
+    some = subst (Some-rest layout d places total) (sym placed) given
+
     near : k < length (some .cites)
-    near = let counted = some .stands .counted in omega (arith, less, counted)
+    near = let counted = some .stands .counted in omega (arith, less, counted, counts)
 
-    pub second-inside : r .own .cites + 1 + 2 * k + 1 < length d
-    second-inside = number-stands d (some .cites) (r .own .cites + 1) k (some .stands .numbers) near .0
+    pub second-inside : w .cites + 1 + 2 * k + 1 < length d
+    second-inside = number-stands d (some .cites) (w .cites + 1) k (some .stands .numbers) near .0
 
-    pub first-inside : r .own .cites + 1 + 2 * k < length d
+    pub first-inside : w .cites + 1 + 2 * k < length d
     first-inside = let there = second-inside in omega (arith, there)
 
-    pub numbers-fit : Fits w64 (r .own .cites + 1)
+    pub twice-fits : Fits w64 (2 * k)
+    twice-fits = let there = second-inside in let long = some .stands .stand .long in record { fits = omega (arith, there, long) }
+
+    pub numbers-fit : Fits w64 (w .cites + 1)
     numbers-fit = let there = second-inside in let long = some .stands .stand .long in record { fits = omega (arith, there, long) }
 
-    pub first-fits : Fits w64 (r .own .cites + 1 + 2 * k)
+    pub first-fits : Fits w64 (w .cites + 1 + 2 * k)
     first-fits = let there = second-inside in let long = some .stands .stand .long in record { fits = omega (arith, there, long) }
 
-    pub second-fits : Fits w64 (r .own .cites + 1 + 2 * k + 1)
+    pub second-fits : Fits w64 (w .cites + 1 + 2 * k + 1)
     second-fits = let there = second-inside in let long = some .stands .stand .long in record { fits = omega (arith, there, long) }
 
   -- Its line stands where the slots say.
-  module _ (less : k < r .count) (number : ℕ) (read : number ≡ getD d (r .own .cites + 1 + 2 * k) 0 * 256 + getD d (r .own .cites + 1 + 2 * k + 1) 0) where
-    abbrev number-spot : Spot
-    number-spot = spot-at (r .layout) d (getD places number 0) (getD places (1024 + number) 0)
-
-    module _ (lines : List Line) (rest : Sequence ℕ) (Y : Conclusion) (cites : List ℕ) (v : Rest-stands d places r lines rest Y cites) where
+  module _ (less : k < count) (number : ℕ) (read : number ≡ getD d (w .cites + 1 + 2 * k) 0 * 256 + getD d (w .cites + 1 + 2 * k + 1) 0) where
+    module _ (lines : List Line) (rest : Sequence ℕ) (Y : Conclusion) (cites : List ℕ) (v : Rest-stands layout d places w lines rest Y cites) where
       close : k < length cites
-      close = let counted = v .counted in omega (arith, less, counted)
+      close = let counted = v .counted in omega (arith, less, counted, counts)
 
       is-number : number ≡ getD cites k 0
-      is-number = read ∙ number-stands d cites (r .own .cites + 1) k (v .numbers) close .1
+      is-number = read ∙ number-stands d cites (w .cites + 1) k (v .numbers) close .1
 
       is-below : number < length lines
       is-below = rw is-number (ltb-true (getD cites k 0) (length lines) (each-at (λ (j : ℕ). ltb j (length lines)) cites k (v .below) close))
 
       module _ (other : Line) where
-        cited-stands : Stands d number-spot (getD (lines-at lines other cites) k other)
-        cited-stands = subst (Stands d number-spot) (ap (λ (j : ℕ). getD lines j other) is-number ∙ sym (line-at-number lines other cites k close)) (v .stand .each number is-below other)
+        cited-stands : Stands d (slot-spot layout d places number) (getD (lines-at lines other cites) k other)
+        cited-stands = subst (Stands d (slot-spot layout d places number)) (ap (λ (j : ℕ). getD lines j other) is-number ∙ sym (line-at-number lines other cites k close)) (v .stand .each number is-below other)
 
         cited-near : ltb k (length (lines-at lines other cites)) ≡ true
         cited-near = let size = lines-length lines other cites in lt-ltb k (length (lines-at lines other cites)) (let there = close in omega (arith, there, size))
 
-    pub number-below : Some-rest d places r → number < r .lines
-    number-below some =
+    pub number-below : (total i : ℕ) → Some-rest layout d places total (slot-spot layout d places i) → w ≡ slot-spot layout d places i → number < total
+    number-below total i given placed =
+        let some : Some-rest layout d places total w = subst (Some-rest layout d places total) (sym placed) given in
         let below = is-below (some .lines) (some .rest) (some .Y) (some .cites) (some .stands) in
         let size = some .size in
         omega (arith, below, size)
 
-    module _ (w : Spot) (placed : w ≡ number-spot) where
-      pub number-line : Some-rest d places r → Stands-some d w
-      number-line some =
-          let lines = some .lines in
-          record {
-            long = some .stands .stand .long;
-            line = getD (lines-at lines no-line (some .cites)) k no-line;
-            stands = rw placed (cited-stands lines (some .rest) (some .Y) (some .cites) (some .stands) no-line);
-          }
-        where
-          no-line : Line
-          no-line = record { place = 0; X = []; c = done; Y = knows []; rule = 0; cites = [] }
+    module _ (v : Spot) (placed : v ≡ slot-spot layout d places number) (marks : State) (said : Bool) (says-so : Says-reading d marks w v said) where
+      said-is : (lines : List Line) (rest : Sequence ℕ) (Y : Conclusion) (cites : List ℕ) (other : Line) → Rest-stands layout d places w lines rest Y cites
+          → said ≡ reads-at rest Y (lines-at lines other cites) other marks k
+      unfolding reads-at
+      said-is lines rest Y cites other z =
+          says-so .holds (getD (lines-at lines other cites) k other) rest Y (rw placed (cited-stands lines rest Y cites z other)) (z .follows)
+          ∙ sym (yes-left _ _ (cited-near lines rest Y cites z other))
 
-      module _ (marks : State) (said : Bool) (says-so : Says-reading d marks r w said) where
-        said-is : (lines : List Line) (rest : Sequence ℕ) (Y : Conclusion) (cites : List ℕ) (other : Line) → Rest-stands d places r lines rest Y cites
-            → said ≡ reads-at rest Y (lines-at lines other cites) other marks k
-        unfolding reads-at
-        said-is lines rest Y cites other v =
-            says-so .holds (getD (lines-at lines other cites) k other) rest Y (rw placed (cited-stands lines rest Y cites v other)) (v .follows)
-            ∙ sym (yes-left _ _ (cited-near lines rest Y cites v other))
+      pub reading-said : said ≡ true → Uses layout d places w (marks ∷ []) k (To (k + 1))
+      unfolding used
+      reading-said t = record { holds = λ lines rest Y cites other z. sym (pick-true _ _ _ (sym (said-is lines rest Y cites other z) ∙ t)) }
 
-        pub reading-said : said ≡ true → Uses d places r (marks ∷ []) k (To (k + 1))
-        unfolding used
-        reading-said t = record { holds = λ lines rest Y cites other v. sym (pick-true _ _ _ (sym (said-is lines rest Y cites other v) ∙ t)) }
+      pub reading-unsaid : said ≡ false → Uses layout d places w (marks ∷ []) k Fails
+      unfolding used
+      reading-unsaid f = record { holds = λ lines rest Y cites other z. sym (pick-false _ _ _ (sym (said-is lines rest Y cites other z) ∙ f)) }
 
-        pub reading-unsaid : said ≡ false → Uses d places r (marks ∷ []) k Fails
-        unfolding used
-        reading-unsaid f = record { holds = λ lines rest Y cites other v. sym (pick-false _ _ _ (sym (said-is lines rest Y cites other v) ∙ f)) }
+-- LINE i, at the spot w.
+module _ (layout : Layout) (d places : List ℕ) (total i : ℕ) (given : Some-rest layout d places total (slot-spot layout d places i)) where
+  pub some-lines : Some-lines layout d places total
+  some-lines = record { lines = given .lines; stand = given .stands .stand; size = given .size }
 
-module _ (d places : List ℕ) (r : Rest) (some : Some-rest d places r) where
-  pub some-follows : Some-follows d r
-  some-follows = record { rest = some .rest; Y = some .Y; follows = some .stands .follows }
+  -- Any line stands where its slots say.
+  pub line-there : (number : ℕ) → number < total → (v : Spot) → v ≡ slot-spot layout d places number → Stands-some d v
+  line-there number below v placed =
+      let size = given .size in
+      record {
+        long = given .stands .stand .long;
+        line = getD (given .lines) number no-line;
+        stands = rw placed (given .stands .stand .each number (omega (arith, below, size)) no-line);
+      }
+    where
+      no-line : Line
+      no-line = record { place = 0; X = []; c = done; Y = knows []; rule = 0; cites = [] }
 
-  pub some-lines : Some-lines (r .layout) d places (r .lines)
-  some-lines = record { lines = some .lines; stand = some .stands .stand; size = some .size }
+  module _ (w : Spot) (placed : w ≡ slot-spot layout d places i) where
+    pub cites-there : i < total → w .cites < length d
+    cites-there below = line-there i below w placed .stands .counted
+
+    pub some-follows : Some-follows d w
+    some-follows = rw placed (record { rest = given .rest; Y = given .Y; follows = given .stands .follows })
+
+    -- And the line of citation k.
+    pub number-line : (count : ℕ) → count ≡ getD d (w .cites) 0 → (k : ℕ) → k < count → (number : ℕ) → number ≡ getD d (w .cites + 1 + 2 * k) 0 * 256 + getD d (w .cites + 1 + 2 * k + 1) 0
+        → (v : Spot) → v ≡ slot-spot layout d places number → Stands-some d v
+    number-line count counts k less number read v there =
+        line-there number (number-below layout d places w count counts k less number read total i given placed) v there
+
+    pub said-of : (states : List State) (k : ℕ) (answer : Used) → Uses layout d places w states k answer → Uses layout d places (slot-spot layout d places i) states k answer
+    said-of states k answer uses = subst (λ (z : Spot). Uses layout d places z states k answer) placed uses
 
 -- STATES ONE AFTER THE OTHER.
 abbrev on : Used → (ℕ → Used) → Used
@@ -279,8 +300,8 @@ module _ (t : Table) (a : ℕ) (marks : State) (marked : Marked marks) (f : ℕ)
           | no far ↦ omega (arith, far, small, is)
         ]
 
-    module _ (d places : List ℕ) (r : Rest) (k : ℕ) (answer : Used) (first : Uses d places r (states-from t a (set marks f 1) g) k answer) where
-      pub first-fails : answer ≡ Fails → Uses d places r (states-from t a marks f) k Fails
+    module _ (layout : Layout) (d places : List ℕ) (v : Spot) (k : ℕ) (answer : Used) (first : Uses layout d places v (states-from t a (set marks f 1) g) k answer) where
+      pub first-fails : answer ≡ Fails → Uses layout d places v (states-from t a marks f) k Fails
       first-fails is =
           record {
             holds = λ lines rest Y cites other w.
@@ -290,7 +311,7 @@ module _ (t : Table) (a : ℕ) (marks : State) (marked : Marked marks) (f : ℕ)
                 ∙ ap (λ (u : Used). on u (used rest Y cited other (states-from t a (set (set marks f 1) f 2) g))) (sym (first .holds lines rest Y cites other w) ∙ is));
           }
 
-      pub both-read : (j : ℕ) → answer ≡ To j → (last : Used) → Uses d places r (states-from t a (set (set marks f 1) f 2) g) j last → Uses d places r (states-from t a marks f) k last
+      pub both-read : (j : ℕ) → answer ≡ To j → (last : Used) → Uses layout d places v (states-from t a (set (set marks f 1) f 2) g) j last → Uses layout d places v (states-from t a marks f) k last
       both-read j is last second =
           record {
             holds = λ lines rest Y cites other w.
@@ -302,11 +323,11 @@ module _ (t : Table) (a : ℕ) (marks : State) (marked : Marked marks) (f : ℕ)
           }
 
 -- There is none.
-pub read-whole : (t : Table) (a : ℕ) (marks : State) (f : ℕ) → 64 ≤ f → (d places : List ℕ) (r : Rest) (k : ℕ) (answer : Used)
-    → Uses d places r (marks ∷ []) k answer → Uses d places r (states-from t a marks f) k answer
+pub read-whole : (t : Table) (a : ℕ) (marks : State) (f : ℕ) → 64 ≤ f → (layout : Layout) (d places : List ℕ) (v : Spot) (k : ℕ) (answer : Used)
+    → Uses layout d places v (marks ∷ []) k answer → Uses layout d places v (states-from t a marks f) k answer
 unfolding states-from fluents-from readings states-of
-read-whole t a marks f far d places r k answer uses =
-    subst (λ (fs : List ℕ). Uses d places r (states-of (readings fs marks)) k answer) (sym (pick-false _ _ _ (le-ltb f 64 far))) uses
+read-whole t a marks f far layout d places v k answer uses =
+    subst (λ (fs : List ℕ). Uses layout d places v (states-of (readings fs marks)) k answer) (sym (pick-false _ _ _ (le-ltb f 64 far))) uses
 
 -- USED UP: each line says its reading just where the citations used are all.
 abbrev all-used : ℕ → Used → Bool
@@ -391,10 +412,6 @@ act-bytes : (o a : ℕ) (rest : Sequence ℕ) → bytes-of (item (act o a) rest)
 unfolding bytes-of
 act-bytes o a rest = refl
 
-module _ (d : List ℕ) (w : Spot) (q : ℕ) (after : q ≡ sequence-place d (w .line)) where
-  pub rest-fits : Some-line d w → Fits w64 (q + 3)
-  rest-fits some = let there = plan-counted d w q after some in let long = some .long in record { fits = omega (arith, there, long) }
-
 -- Its first item.
 module _ (d : List ℕ) (w : Spot) (q count : ℕ) (after : q ≡ sequence-place d (w .line)) (read : count ≡ getD d q 0 * 256 + getD d (q + 1) 0) where
   module _ (t : Table) (layout : Layout) (places : List ℕ) where
@@ -425,8 +442,8 @@ module _ (d : List ℕ) (w : Spot) (q count : ℕ) (after : q ≡ sequence-place
       first-act : (l : Line) → Stands d w l → Act-there d (q + 2) (l .c)
       first-act l v = let plan = plan-of d w q after l v in act-there d (q + 2) (l .c) (own-some l v) (plan .tellable) (plan .bytes) other
 
-      rest-items : (l : Line) (v : Stands d w l) → Items-stand d (q + 3) (w .end) (count - 1) (first-act l v .rest)
-      rest-items l v =
+      rest-there : (l : Line) (v : Stands d w l) → Items-stand d (q + 3) (w .end) (count - 1) (first-act l v .rest)
+      rest-there l v =
           let first = first-act l v in
           let plan = plan-of d w q after l v in
           let own = first .own in let same = own-count d w q after count read l v in let few = plan .few in
@@ -485,28 +502,32 @@ module _ (d : List ℕ) (w : Spot) (q count : ℕ) (after : q ≡ sequence-place
                     ∙ count-settled (first-act l v .rest) (l .Y) (unknown-sensed t a marks) marks (cited-by lines l)
 
       -- What follows it, and the citations.
-      module _ (cited : ℕ) (size : cited ≡ getD d (w .cites) 0) (layout : Layout) (places : List ℕ) (number : ℕ) where
-        abbrev rest-of : Rest
-        rest-of = record { own = w; first = q + 3; items = count - 1; count = cited; lines = number; layout = layout }
+      follows : (l : Line) (v : Stands d w l) → Follows d w (first-act l v .rest) (l .Y)
+      follows l v =
+          record {
+            items = subst (λ (j : ℕ). Items-stand d (j + 3) (w .end) (getD d j 0 * 256 + getD d (j + 1) 0 - 1) (first-act l v .rest)) after
+                (subst (λ (n : ℕ). Items-stand d (q + 3) (w .end) (n - 1) (first-act l v .rest)) read (rest-there l v));
+            concluded = v .Y;
+          }
 
-        cited-size : (l : Line) → Stands d w l → cited ≡ length (l .cites)
-        cited-size l v = size ∙ v .cited
-
+      module _ (layout : Layout) (places : List ℕ) where
         rest-stands : (lines : List Line) (l : Line) → Lines-stand layout d places lines → (v : Stands d w l) → each-of (λ (k : ℕ). ltb k (length lines)) (l .cites) ≡ true
-            → Rest-stands d places rest-of lines (first-act l v .rest) (l .Y) (l .cites)
+            → Rest-stands layout d places w lines (first-act l v .rest) (l .Y) (l .cites)
         rest-stands lines l stand v below =
             record {
               stand = stand;
-              follows = record { items = rest-items l v; concluded = v .Y };
-              counted = cited-size l v;
+              follows = follows l v;
+              counted = v .cited;
               most = v .most;
               numbers = v .cites;
               below = below;
             }
 
-        pub some-rest : Some-line d w → Some-lines layout d places number → Cited-below d w number → Some-rest d places rest-of
-        some-rest some all below =
-            record {
+        pub some-rest : (i : ℕ) → w ≡ slot-spot layout d places i → (total : ℕ) → Some-line d w → Some-lines layout d places total → Cited-below d w total
+            → Some-rest layout d places total (slot-spot layout d places i)
+        some-rest i placed total some all below =
+            subst (Some-rest layout d places total) placed
+            (record {
               lines = all .lines;
               rest = first-act (some .line) (some .stands) .rest;
               Y = some .line .Y;
@@ -514,9 +535,15 @@ module _ (d : List ℕ) (w : Spot) (q count : ℕ) (after : q ≡ sequence-place
               size = all .size;
               stands = rest-stands (all .lines) (some .line) (all .stand) (some .stands)
                   (subst (λ (n : ℕ). each-of (λ (k : ℕ). ltb k n) (some .line .cites) ≡ true) (sym (all .size)) (below .holds (some .line) (some .stands)));
-            }
+            })
 
-        module _ (a : ℕ) (byte : a ≡ getD d (q + 2) 0) (t : Table) (senses : Bool) (tested : senses ≡ sensing t a) (marks : State) (held : marks ≡ state-of format (listed d (w .line))) (runs : Bool) (asked : runs ≡ can-be-run t a marks) (yes : senses ≡ true) (can : runs ≡ true) (f : ℕ) (first : f ≡ first-of (unknown-sensed t a marks)) (answer : Used) (uses : Uses d places rest-of (states-from t a marks f) 0 answer) where
+        cited-size : (cited : ℕ) → cited ≡ getD d (w .cites) 0 → (l : Line) → Stands d w l → cited ≡ length (l .cites)
+        cited-size cited size l v = size ∙ v .cited
+
+        module _ (a : ℕ) (byte : a ≡ getD d (q + 2) 0) (t : Table) (senses : Bool) (tested : senses ≡ sensing t a) (marks : State) (held : marks ≡ state-of format (listed d (w .line))) (runs : Bool) (asked : runs ≡ can-be-run t a marks) (yes : senses ≡ true) (can : runs ≡ true) (f : ℕ) (first : f ≡ first-of (unknown-sensed t a marks)) (cited : ℕ) (size : cited ≡ getD d (w .cites) 0) (i : ℕ) (placed : w ≡ slot-spot layout d places i) (answer : Used) (told : Uses layout d places (slot-spot layout d places i) (states-from t a marks f) 0 answer) where
+          uses : Uses layout d places w (states-from t a marks f) 0 answer
+          uses = subst (λ (z : Spot). Uses layout d places z (states-from t a marks f) 0 answer) (sym placed) told
+
           rule-used : (lines : List Line) (l : Line) → Lines-stand layout d places lines → Stands d w l → each-of (λ (k : ℕ). ltb k (length lines)) (l .cites) ≡ true
               → rule-3 format t (cited-by lines l) l ≡ all-used cited answer
           unfolding cited-by lines-at
@@ -527,7 +554,7 @@ module _ (d : List ℕ) (w : Spot) (q count : ℕ) (after : q ≡ sequence-place
               let same : answer ≡ used rest (l .Y) lines-cited l states 0 =
               uses .holds lines rest (l .Y) (l .cites) l (rest-stands lines l stand v below)
               ∙ ap (λ (ss : List State). used rest (l .Y) lines-cited l ss 0) (sensed-states t a marks (marked-as (listed d (w .line)) marks held) f first) in
-              let long : length lines-cited ≡ cited = lines-length lines l (l .cites) ∙ sym (cited-size l v) in
+              let long : length lines-cited ≡ cited = lines-length lines l (l .cites) ∙ sym (cited-size cited size l v) in
               rule-each a byte t senses tested marks held runs asked yes can lines l v
               ∙ each-used rest (l .Y) lines-cited l states 0 (omega arith)
               ∙ ap₂ {C = Bool} all-used long (sym same)

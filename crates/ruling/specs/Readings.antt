@@ -1,18 +1,19 @@
 -- What the functions of rules 3 and 10 answer: the readings of the unknown sensed fluents against the lines cited, one after the other.
-use Prim.Native.Nat.{ℕ, _+_, _≤_}
+use Prim.Native.Nat.{ℕ, _+_, _-_, _*_, _≤_}
 use mathlib.Core.Path.{_≡_}
 use mathlib.Core.Bool.{Bool, true}
 use mathlib.Core.List.{List, [], _∷_, map}
 use lib.ListN.{length, getD}
 use lib.Dec.{ltb}
+use Rattle.meaning.specs.declared.Layout.{Layout}
 use Rattle.meaning.specs.Tests.{both, pick, each-of}
 use Rattle.meaning.specs.Requests.{Table, Sequence}
 use Rattle.meaning.specs.States.{State, readings}
 use Rattle.meaning.specs.Derivations.{Conclusion, Line, literals-of, says, states-of}
+use Rattle.refusing.specs.Branchings.{sequence-place}
 use Rattle.steps.specs.Steps.{unknown-above}
 use Rattle.ruling.specs.declared.readings.Used.{Used}
 use Rattle.ruling.specs.declared.readings.Used.the-variants.{To, Fails}
-use Rattle.ruling.specs.declared.readings.Rest.{Rest}
 use Rattle.comparing.specs.declared.spots.Spot.{Spot}
 use Rattle.comparing.specs.Stands.{Numbers-stand, Conclusion-stands, Stands, Lines-stand}
 use Rattle.comparing.specs.Rules.{Items-stand}
@@ -43,38 +44,46 @@ pub record Stands-some (d : List ℕ) (w : Spot) : Type 0 where
   pub line : Line
   pub stands : Stands d w line
 
--- What follows the action stands there, and the line's own conclusion.
-pub record Follows (d : List ℕ) (r : Rest) (rest : Sequence ℕ) (Y : Conclusion) : Type 0 where
-  pub items : Items-stand d (r .first) (r .own .end) (r .items) rest
-  pub concluded : Conclusion-stands d (r .own .fluent) (r .own .conclusion) Y
+-- What follows the first item of the line at the spot: where it starts, and how many items it has.
+abbrev pub rest-first : List ℕ → Spot → ℕ
+rest-first d w = sequence-place d (w .line) + 3
 
-pub record Some-follows (d : List ℕ) (r : Rest) : Type 0 where
+abbrev pub rest-items : List ℕ → Spot → ℕ
+rest-items d w = getD d (sequence-place d (w .line)) 0 * 256 + getD d (sequence-place d (w .line) + 1) 0 - 1
+
+-- It stands there, and the line's conclusion.
+pub record Follows (d : List ℕ) (w : Spot) (rest : Sequence ℕ) (Y : Conclusion) : Type 0 where
+  pub items : Items-stand d (rest-first d w) (w .end) (rest-items d w) rest
+  pub concluded : Conclusion-stands d (w .fluent) (w .conclusion) Y
+
+pub record Some-follows (d : List ℕ) (w : Spot) : Type 0 where
   pub rest : Sequence ℕ
   pub Y : Conclusion
-  pub follows : Follows d r rest Y
+  pub follows : Follows d w rest Y
 
-pub record Says-reading (d : List ℕ) (marks : State) (r : Rest) (w : Spot) (answer : Bool) : Type 0 where
-  pub holds : (c : Line) (rest : Sequence ℕ) (Y : Conclusion) → Stands d w c → Follows d r rest Y → answer ≡ says c (literals-of marks) rest Y
+-- The line at v says the state, and what follows in the line at w.
+pub record Says-reading (d : List ℕ) (marks : State) (w v : Spot) (answer : Bool) : Type 0 where
+  pub holds : (c : Line) (rest : Sequence ℕ) (Y : Conclusion) → Stands d v c → Follows d w rest Y → answer ≡ says c (literals-of marks) rest Y
 
--- All lines stand; and what follows the action, and the citations, each the number of a line.
-pub record Rest-stands (d places : List ℕ) (r : Rest) (lines : List Line) (rest : Sequence ℕ) (Y : Conclusion) (cites : List ℕ) : Type 0 where
-  pub stand : Lines-stand (r .layout) d places lines
-  pub follows : Follows d r rest Y
-  pub counted : r .count ≡ length cites
+-- All lines stand; and what follows in the line at w, and its citations, each the number of a line.
+pub record Rest-stands (layout : Layout) (d places : List ℕ) (w : Spot) (lines : List Line) (rest : Sequence ℕ) (Y : Conclusion) (cites : List ℕ) : Type 0 where
+  pub stand : Lines-stand layout d places lines
+  pub follows : Follows d w rest Y
+  pub counted : getD d (w .cites) 0 ≡ length cites
   pub most : length cites ≤ 64
-  pub numbers : Numbers-stand d (r .own .cites + 1) cites
+  pub numbers : Numbers-stand d (w .cites + 1) cites
   pub below : each-of (λ (k : ℕ). ltb k (length lines)) cites ≡ true
 
 -- Whatever these are; there are so many lines.
-pub record Some-rest (d places : List ℕ) (r : Rest) : Type 0 where
+pub record Some-rest (layout : Layout) (d places : List ℕ) (total : ℕ) (w : Spot) : Type 0 where
   pub lines : List Line
-  pub size : length lines ≡ r .lines
+  pub size : length lines ≡ total
   pub rest : Sequence ℕ
   pub Y : Conclusion
   pub cites : List ℕ
-  pub stands : Rest-stands d places r lines rest Y cites
+  pub stands : Rest-stands layout d places w lines rest Y cites
 
 -- The states are used up by the citations from k on.
-pub record Uses (d places : List ℕ) (r : Rest) (states : List State) (k : ℕ) (answer : Used) : Type 0 where
-  pub holds : (lines : List Line) (rest : Sequence ℕ) (Y : Conclusion) (cites : List ℕ) (other : Line) → Rest-stands d places r lines rest Y cites
+pub record Uses (layout : Layout) (d places : List ℕ) (w : Spot) (states : List State) (k : ℕ) (answer : Used) : Type 0 where
+  pub holds : (lines : List Line) (rest : Sequence ℕ) (Y : Conclusion) (cites : List ℕ) (other : Line) → Rest-stands layout d places w lines rest Y cites
       → answer ≡ used rest Y (lines-at lines other cites) other states k

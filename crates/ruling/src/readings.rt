@@ -1,8 +1,11 @@
-ghost use Prim.Native.Nat.{_<_};
+ghost use Prim.Native.Nat.{_+_, _-_, _<_};
+ghost use mathlib.Core.Path.{_≡_};
 ghost use mathlib.Core.List.{[], _∷_};
+ghost use lib.ListN.{getD};
 ghost use Rattle.meaning.specs.Derivations.{rule-3};
 ghost use Rattle.meaning.specs.Limits.{format};
 ghost use Rattle.steps.specs.AtHand.{request-in, At-hand, Marked};
+ghost use Rattle.comparing.specs.Stands.{spot-at};
 ghost use Rattle.comparing.specs.Rules.{Some-line, Some-lines, Cited-below, Ruled-by-all};
 ghost use Rattle.ruling.specs.Readings.{states-from, Stands-some, Some-follows, Says-reading, Some-rest, Uses};
 use bytes::bytes::two;
@@ -30,36 +33,39 @@ pub enum Used {
     Fails,
 }
 
-// What follows the sensing action in the line `own`: its items from `first` up to the end of the plan, so many; and so many citations.
-// There are so many lines, in the layout.
-pub struct Rest {
-    pub own: Spot,
-    pub first: usize,
-    pub items: usize,
-    pub count: usize,
-    pub lines: usize,
-    pub layout: Layout,
+// One less; 0 where there is none.
+fn one_less(n: usize) -> usize
+    ensures { λ r. ⌜ r ≡ n - 1 ⌝ }
+{
+    if n == 0 {
+        return 0;
+    }
+    n - 1
 }
 
-// The line `cited` says what the state knows, the rest, and the line's own conclusion.
-fn says_reading(d: &[u8], marks: &[u8; 64], rest: Rest, cited: Spot) -> bool
+// The line `cited` says what the state knows, what follows the first item of the line `own`, and that line's conclusion.
+fn says_reading(d: &[u8], marks: &[u8; 64], own: Spot, cited: Spot) -> bool
     requires { ⌜ Marked (now marks) ⌝ }
     requires { ⌜ Stands-some (now d) cited ⌝ }
-    requires { ⌜ Some-follows (now d) rest ⌝ }
-    ensures { λ r. ⌜ Says-reading (now (d .entry)) (now (marks .entry)) rest cited r ⌝ }
+    requires { ⌜ Stands-some (now d) own ⌝ }
+    requires { ⌜ Some-follows (now d) own ⌝ }
+    ensures { λ r. ⌜ Says-reading (now (d .entry)) (now (marks .entry)) own cited r ⌝ }
 {
     let pc = cited.line;
     let starts = lists_known(marks, d, pc);
     if starts {
+        let p = own.line;
+        let mine = sequence_of(d, p);
+        let all = count_of(d, mine);
+        let items = one_less(all);
         let plan = sequence_of(d, pc);
         let count = count_of(d, plan);
-        if count != rest.items {
+        if count != items {
             return false;
         }
-        let own = rest.own;
         let first = plan + 2;
         let last = cited.end;
-        let from = rest.first;
+        let from = mine + 3;
         let to = own.end;
         let same = same_part(&d[first..last], &d[from..to]);
         if same {
@@ -70,33 +76,45 @@ fn says_reading(d: &[u8], marks: &[u8; 64], rest: Rest, cited: Spot) -> bool
     false
 }
 
-// Citation k says the reading that the state has.
-fn one_reading(d: &[u8], places: &Places, marks: &[u8; 64], rest: Rest, k: usize) -> Used
+// Citation k of line i, one of so many in the layout, says the reading that the state has. Where the parts of line i stand is looked up each
+// time: to hand that on through the readings takes longer.
+fn one_reading(
+    layout: Layout,
+    d: &[u8],
+    places: &Places,
+    marks: &[u8; 64],
+    lines: usize,
+    i: usize,
+    k: usize,
+) -> Used
     requires { ⌜ Marked (now marks) ⌝ }
-    requires { ⌜ Some-rest (now d) (now places) rest ⌝ }
-    ensures { λ r. ⌜ Uses (now (d .entry)) (now (places .entry)) rest (now (marks .entry) ∷ []) k r ⌝ }
+    requires { ⌜ i < lines ⌝ }
+    requires { ⌜ Some-rest layout (now d) (now places) lines (spot-at layout (now d) (getD (now places) i 0) (getD (now places) (1024 + i) 0)) ⌝ }
+    ensures { λ r. ⌜ Uses layout (now (d .entry)) (now (places .entry)) (spot-at layout (now (d .entry)) (getD (now (places .entry)) i 0) (getD (now (places .entry)) (1024 + i) 0)) (now (marks .entry) ∷ []) k r ⌝ }
 {
-    if rest.count <= k {
+    let own = spot_of(layout, d, places, lines, i);
+    let counted = own.cites;
+    let count = wide(d[counted]);
+    if count <= k {
         return Used::Fails;
     }
-    let own = rest.own;
     let twice = 2 * k;
-    let counted = own.cites + 1;
-    let at = counted + twice;
+    let cites = counted + 1;
+    let at = cites + twice;
     let second = at + 1;
     let number = two(d[at], d[second]);
-    let layout = rest.layout;
-    let cited = spot_of(layout, d, places, rest.lines, number);
-    let says = says_reading(d, marks, rest, cited);
+    let cited = spot_of(layout, d, places, lines, number);
+    let says = says_reading(d, marks, own, cited);
     if says {
         return Used::To(k + 1);
     }
     Used::Fails
 }
 
-// The readings of fluent f and of the unknown ones above it that action a senses, in order, by the citations from k on. At 64 there
-// is none, and the state is a reading.
+// The readings of fluent f and of the unknown ones above it that action a senses, in order, by the citations of line i from k on. At 64
+// there is none, and the state is a reading.
 fn each_reading(
+    layout: Layout,
     s: &[u8],
     t: &Table,
     d: &[u8],
@@ -104,33 +122,35 @@ fn each_reading(
     a: usize,
     f: usize,
     marks: [u8; 64],
-    rest: Rest,
+    lines: usize,
+    i: usize,
     k: usize,
 ) -> Used
     requires { ⌜ At-hand (now s) (now t) ⌝ }
     requires { ⌜ a < 64 ⌝ }
     requires { ⌜ Marked marks ⌝ }
-    requires { ⌜ Some-rest (now d) (now places) rest ⌝ }
-    ensures { λ r. ⌜ Uses (now (d .entry)) (now (places .entry)) rest (states-from (request-in (now (s .entry)) .table) a marks f) k r ⌝ }
+    requires { ⌜ i < lines ⌝ }
+    requires { ⌜ Some-rest layout (now d) (now places) lines (spot-at layout (now d) (getD (now places) i 0) (getD (now places) (1024 + i) 0)) ⌝ }
+    ensures { λ r. ⌜ Uses layout (now (d .entry)) (now (places .entry)) (spot-at layout (now (d .entry)) (getD (now (places .entry)) i 0) (getD (now (places .entry)) (1024 + i) 0)) (states-from (request-in (now (s .entry)) .table) a marks f) k r ⌝ }
 {
     if f < limits::FLUENTS {
         let above = f + 1;
         let mut state = marks;
         state[f] = limits::TRUE_MARK;
         let g = next_unknown(s, t, a, above, &state);
-        match each_reading(s, t, d, places, a, g, state, rest, k) {
+        match each_reading(layout, s, t, d, places, a, g, state, lines, i, k) {
             Used::To(j) => {
                 state[f] = limits::FALSE_MARK;
-                return each_reading(s, t, d, places, a, g, state, rest, j);
+                return each_reading(layout, s, t, d, places, a, g, state, lines, i, j);
             }
             Used::Fails => return Used::Fails,
         }
     }
-    one_reading(d, places, &marks, rest, k)
+    one_reading(layout, d, places, &marks, lines, i, k)
 }
 
-// Rules 3 and 10: a sensing action first that can be run in X; one line for each reading in the walk's order: X with the reading, the rest,
-// and the line's own conclusion.
+// Rules 3 and 10, for line i: a sensing action first that can be run in X; one line for each reading in the walk's order: X with the
+// reading, the rest, and the line's own conclusion.
 pub fn rule_3(
     layout: Layout,
     s: &[u8],
@@ -138,11 +158,14 @@ pub fn rule_3(
     d: &[u8],
     places: &Places,
     lines: usize,
+    i: usize,
     l: Spot,
 ) -> bool
     requires { ⌜ At-hand (now s) (now t) ⌝ }
     requires { ⌜ Some-line (now d) l ⌝ }
     requires { ⌜ Some-lines layout (now d) (now places) lines ⌝ }
+    requires { ⌜ i < lines ⌝ }
+    requires { ⌜ l ≡ spot-at layout (now d) (getD (now places) i 0) (getD (now places) (1024 + i) 0) ⌝ }
     requires { ⌜ Cited-below (now d) l lines ⌝ }
     ensures { λ r. ⌜ Ruled-by-all layout (now (d .entry)) (now (places .entry)) l (rule-3 format (request-in (now (s .entry)) .table)) r ⌝ }
 {
@@ -165,17 +188,7 @@ pub fn rule_3(
             let f = first_unknown(s, t, a, &marks);
             let counted = l.cites;
             let cited = wide(d[counted]);
-            let from = plan + 3;
-            let items = count - 1;
-            let rest = Rest {
-                own: l,
-                first: from,
-                items: items,
-                count: cited,
-                lines: lines,
-                layout: layout,
-            };
-            match each_reading(s, t, d, places, a, f, marks, rest, 0) {
+            match each_reading(layout, s, t, d, places, a, f, marks, lines, i, 0) {
                 Used::To(k) => return k == cited,
                 Used::Fails => return false,
             }

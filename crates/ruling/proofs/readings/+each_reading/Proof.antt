@@ -15,7 +15,7 @@ use Rattle.ruling.proofs.readings.+each_reading.{statement}
 use Rattle.ruling.proofs.readings.+each_reading.Tie.{close}
 
 abbrev μ-each-reading : Measures 4 each-reading-kinds.ps ℕ
-μ-each-reading κs a = 64 - a .1 .1 .1 .1 .1 .0
+μ-each-reading κs a = 64 - a .1 .1 .1 .1 .1 .1 .0
 
 abbrev each-reading-at : ℕ → In 4 each-reading-kinds.ps
 each-reading-at t =
@@ -29,7 +29,7 @@ each-reading-below t =
     (falls 4 each-reading-kinds.ps _<_ μ-each-reading t)
     each-reading.Pre
 
--- src/readings.rt:124:17
+-- src/readings.rt:144:17
 each-reading-returns : (t : ℕ) → each-reading-lts.Need-returns (
   next-unknown-reads.Asked,
   next-unknown-reads.Learnt,
