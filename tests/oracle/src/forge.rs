@@ -3,10 +3,10 @@
 //! All lines before the wrong one follow, all lines can be read, and no conditions overlap, so
 //! the answer is the wrong line's: 31, 32, 33 or 34.
 
-use crate::derive::takes;
 use crate::model::{item_count, nesting, Branch, Item, Line, Request};
 use crate::reader::{BODY_LIMIT, CITATION_LIMIT, ITEM_LIMIT, LINE_LIMIT, NESTING_LIMIT};
 use crate::rng::Rng;
+use crate::rules::takes;
 
 /// Makes one line wrong; returns the number of the answer and the index of the line, if the
 /// line chosen can be made wrong in the way chosen.

@@ -17,6 +17,7 @@ pub mod prove;
 pub mod reader;
 pub mod rng;
 pub mod rows;
+pub mod rules;
 pub mod run;
 pub mod settle;
 pub mod table;
