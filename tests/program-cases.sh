@@ -6,6 +6,9 @@ bad=0
 count=0
 say() { echo "$program-cases: $1"; bad=1; }
 
+# A first run builds the program and says so on standard error, which is no case here.
+crates/programs/run "$program" </dev/null >/dev/null 2>&1
+
 # The program, so called, prints this with the status of such an answer, 0 for number 0 and else 1, and nothing is said on standard error.
 prints() { # NAME TEXT [ARGUMENT...]
     local status expected=1
