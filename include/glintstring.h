@@ -16,6 +16,12 @@
 extern "C" {
 #endif
 
+/* The version of this header, and of the library that it is for. */
+#define GLINTSTRING_VERSION "0.2.0"
+#define GLINTSTRING_VERSION_MAJOR 0
+#define GLINTSTRING_VERSION_MINOR 2
+#define GLINTSTRING_VERSION_PATCH 0
+
 /* The length of the state that the walk call is lent. */
 #define GLINTSTRING_STATE_LENGTH 64
 
@@ -84,6 +90,40 @@ static inline uint8_t glintstring_number(uint64_t answer) { return (uint8_t)(ans
 static inline uint8_t glintstring_input(uint64_t answer) { return (uint8_t)((answer >> 8) & 255u); }
 static inline uint16_t glintstring_place(uint64_t answer) { return (uint16_t)((answer >> 16) & 65535u); }
 static inline uint32_t glintstring_count(uint64_t answer) { return (uint32_t)(answer >> 32); }
+
+/*
+ * What an answer's number says, in a few words: a constant string, also for a number that no answer has. Number 0 is "verified";
+ * of a derivation a program may rather say "accepted".
+ */
+static inline const char *glintstring_words(unsigned number) {
+    switch (number) {
+    case GLINTSTRING_VERIFIED: return "verified";
+    case GLINTSTRING_GOAL_MISSED: return "goal missed";
+    case GLINTSTRING_NOT_EXECUTABLE: return "not executable";
+    case GLINTSTRING_BUDGET_SPENT: return "budget spent";
+    case GLINTSTRING_STATE_LENGTH_WRONG: return "the lent state has another length than 64 bytes";
+    case GLINTSTRING_TOO_LONG: return "too long";
+    case GLINTSTRING_INPUT_ENDS: return "the input ends where a byte is due";
+    case GLINTSTRING_COUNT_NOT_WITHIN_LIMITS: return "a count is not within its limits";
+    case GLINTSTRING_TOO_LARGE: return "a fluent, literal or action is too large";
+    case GLINTSTRING_NOT_LARGER: return "an entry is not larger than its predecessor";
+    case GLINTSTRING_COMPLEMENT: return "an entry is its predecessor's complement";
+    case GLINTSTRING_CONTRADICTORY: return "two effects are contradictory";
+    case GLINTSTRING_EFFECTS_AND_KNOWLEDGE: return "an action has effects and knowledge lines";
+    case GLINTSTRING_NOT_EXCLUSIVE: return "two conditions are not exclusive";
+    case GLINTSTRING_TOO_DEEP: return "a branching stands inside eight others";
+    case GLINTSTRING_BYTES_LEFT_OVER: return "bytes are left over";
+    case GLINTSTRING_TOO_MANY_ITEMS: return "a plan has too many items";
+    case GLINTSTRING_WHETHER_ASKED: return "a derivation for a request with whether entries";
+    case GLINTSTRING_NO_RULE: return "a line has no rule";
+    case GLINTSTRING_CITES_NO_EARLIER_LINE: return "a line cites what is no line before it";
+    case GLINTSTRING_CITATIONS_WRONG: return "a line has a number of citations that its rule does not take";
+    case GLINTSTRING_DOES_NOT_FOLLOW: return "a line does not follow by its rule";
+    case GLINTSTRING_NOT_THE_QUESTION: return "the last line differs from the question";
+    case GLINTSTRING_CLOSING_NOT_RIGHT: return "the closing list is not what the request asks";
+    default: return "no answer that the format has";
+    }
+}
 
 /*
  * The walk call: walks the plan of a request over partial states and judges its goals, counting to `budget` at the most.

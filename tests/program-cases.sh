@@ -6,19 +6,57 @@ bad=0
 count=0
 say() { echo "$program-cases: $1"; bad=1; }
 
-# The program, so called, prints this, and nothing is said on standard error.
+# The program, so called, prints this with the status of such an answer, 0 for number 0 and else 1, and nothing is said on standard error.
 prints() { # NAME TEXT [ARGUMENT...]
+    local status expected=1
+    [ "${2%% *}" != 0 ] || expected=0
     count=$((count + 1))
     "./$program" "${@:3}" >"$out/printed" 2>"$out/said"
+    status=$?
+    [ "$status" -eq "$expected" ] || say "$1: status $status, expected $expected"
     printf '%s\n' "$2" | cmp -s - "$out/printed" || say "$1: printed '$(cat "$out/printed")', expected '$2'"
     [ ! -s "$out/said" ] || say "$1: said '$(cat "$out/said")'"
 }
 
-# Nothing was printed, and this was said on standard error.
-says() { # NAME TEXT
+# What ended with this status printed nothing, and said this first on standard error; it is the status where there is no answer.
+says() { # STATUS NAME TEXT
     count=$((count + 1))
-    [ ! -s "$out/printed" ] || say "$1: printed '$(cat "$out/printed")'"
-    [ "$(cat "$out/said")" = "$2" ] || say "$1: said '$(cat "$out/said")', expected '$2'"
+    [ "$1" -eq 2 ] || say "$2: status $1, expected 2"
+    [ ! -s "$out/printed" ] || say "$2: printed '$(cat "$out/printed")'"
+    [ "$(head -n 1 "$out/said")" = "$3" ] || say "$2: said '$(cat "$out/said")', expected '$3'"
+}
+
+# The program, so called, gives no answer: it prints nothing and says this.
+cannot() { # NAME TEXT [ARGUMENT...]
+    "./$program" "${@:3}" >"$out/printed" 2>"$out/said"
+    says $? "$1" "$2"
+}
+
+# Standard output that can't be written to, where there is something to print.
+cannot_write() { # [ARGUMENT...]
+    : >"$out/printed"
+    "./$program" "$@" >&- 2>"$out/said"
+    says $? 'standard output closed' "$program: standard output: Bad file descriptor"
+    if [ -w /dev/full ]; then
+        "./$program" "$@" >/dev/full 2>"$out/said"
+        says $? 'standard output full' "$program: standard output: No space left on device"
+    fi
+    { "./$program" "$@" 2>"$out/said"; echo $? >"$out/status"; } | true
+    says "$(cat "$out/status")" 'nobody reads standard output' "$program: standard output: Broken pipe"
+}
+
+# A file that nobody but its owner may read, asked for by the user nobody where the owner is root.
+not_allowed() { # [ARGUMENT...], the file's name among them: $out/locked
+    local as=()
+    echo x >"$out/locked"
+    chmod 000 "$out/locked"
+    [ "$(id -u)" -ne 0 ] || as=(setpriv --reuid=65534 --regid=65534 --clear-groups)
+    if ! "${as[@]}" test -x "./$program" 2>/dev/null || "${as[@]}" test -r "$out/locked"; then
+        echo "$program-cases: a file that may not be read was not tried, since no other user can be had here"
+        return
+    fi
+    "${as[@]}" "./$program" "$@" >"$out/printed" 2>"$out/said"
+    says $? 'a file that may not be read' "$program: $out/locked: Permission denied"
 }
 
 # Bytes given in decimal.

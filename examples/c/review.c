@@ -31,36 +31,6 @@ struct input {
     size_t length;
 };
 
-static const char *words(uint64_t answer, int of_derivation) {
-    switch (glintstring_number(answer)) {
-    case GLINTSTRING_VERIFIED: return of_derivation ? "accepted" : "verified";
-    case GLINTSTRING_GOAL_MISSED: return "goal missed";
-    case GLINTSTRING_NOT_EXECUTABLE: return "not executable";
-    case GLINTSTRING_BUDGET_SPENT: return "budget spent";
-    case GLINTSTRING_STATE_LENGTH_WRONG: return "the lent state has another length than 64 bytes";
-    case GLINTSTRING_TOO_LONG: return "too long";
-    case GLINTSTRING_INPUT_ENDS: return "the input ends where a byte is due";
-    case GLINTSTRING_COUNT_NOT_WITHIN_LIMITS: return "a count is not within its limits";
-    case GLINTSTRING_TOO_LARGE: return "a fluent, literal or action is too large";
-    case GLINTSTRING_NOT_LARGER: return "an entry is not larger than its predecessor";
-    case GLINTSTRING_COMPLEMENT: return "an entry is its predecessor's complement";
-    case GLINTSTRING_CONTRADICTORY: return "two effects are contradictory";
-    case GLINTSTRING_EFFECTS_AND_KNOWLEDGE: return "an action has effects and knowledge lines";
-    case GLINTSTRING_NOT_EXCLUSIVE: return "two conditions are not exclusive";
-    case GLINTSTRING_TOO_DEEP: return "a branching stands inside eight others";
-    case GLINTSTRING_BYTES_LEFT_OVER: return "bytes are left over";
-    case GLINTSTRING_TOO_MANY_ITEMS: return "a plan has too many items";
-    case GLINTSTRING_WHETHER_ASKED: return "a derivation for a request with whether entries";
-    case GLINTSTRING_NO_RULE: return "a line has no rule";
-    case GLINTSTRING_CITES_NO_EARLIER_LINE: return "a line cites what is no line before it";
-    case GLINTSTRING_CITATIONS_WRONG: return "a line has a number of citations that its rule does not take";
-    case GLINTSTRING_DOES_NOT_FOLLOW: return "a line does not follow by its rule";
-    case GLINTSTRING_NOT_THE_QUESTION: return "the last line differs from the question";
-    case GLINTSTRING_CLOSING_NOT_RIGHT: return "the closing list is not what the request asks";
-    default: return "no answer that the format has";
-    }
-}
-
 /* Prints the words, the numbers, the state that answers 1 and 2 wrote, and the bytes at the place. `derivation` is null after a walk. */
 static int tell(uint64_t answer, const struct input *request, const struct input *derivation, const uint8_t *state) {
     static const struct input none = {"", NULL, 0};
@@ -71,9 +41,10 @@ static int tell(uint64_t answer, const struct input *request, const struct input
     size_t i;
 
     if (derivation)
-        printf("%s with %s: %s\n", request->name, derivation->name, words(answer, 1));
+        printf("%s with %s: ", request->name, derivation->name);
     else
-        printf("%s: %s\n", request->name, words(answer, 0));
+        printf("%s: ", request->name);
+    puts(derivation && number == GLINTSTRING_ACCEPTED ? "accepted" : glintstring_words(number));
     printf("  number %u, place %u, count %lu\n", number, glintstring_place(answer), (unsigned long)glintstring_count(answer));
     if (number == GLINTSTRING_GOAL_MISSED || number == GLINTSTRING_NOT_EXECUTABLE) {
         printf("  state ");
@@ -184,8 +155,8 @@ static void *begin(void *given) {
     return NULL;
 }
 
-int main(int count, char **words_given) {
-    struct work work = {count - 1, words_given + 1, FAILED};
+int main(int count, char **words) {
+    struct work work = {count - 1, words + 1, FAILED};
     pthread_attr_t attributes;
     pthread_t thread;
     if (pthread_attr_init(&attributes) != 0 || pthread_attr_setstacksize(&attributes, STACK) != 0 ||

@@ -1,4 +1,4 @@
-/* Makes a few calls by way of include/glintstring.h; it is compiled as C99 and as C++. Prints the number of the first that is not as it should be. */
+/* Makes a few calls by way of include/glintstring.h, and looks at its words; it is compiled as C99 and as C++. Prints the number of the first that is not as it should be. */
 #include <glintstring.h>
 #include <stdio.h>
 #include <string.h>
@@ -61,6 +61,18 @@ static int marked(uint8_t m0, uint8_t m1, uint8_t m2, uint8_t m3) {
     for (f = 4; f < sizeof state; f++)
         if (state[f] != 0) return 0;
     return state[0] == m0 && state[1] == m1 && state[2] == m2 && state[3] == m3;
+}
+
+/* Each number of the format has words of its own, and every other number the same words. */
+static int worded(void) {
+    unsigned one, other;
+    for (one = 0; one <= 300; one++)
+        for (other = 0; other < one; other++) {
+            const int known = one <= 3 || (9 <= one && one <= 21) || (30 <= one && one <= 36);
+            const int known_too = other <= 3 || (9 <= other && other <= 21) || (30 <= other && other <= 36);
+            if ((strcmp(glintstring_words(one), glintstring_words(other)) == 0) != (!known && !known_too)) return 0;
+        }
+    return strcmp(glintstring_words(GLINTSTRING_VERIFIED), "verified") == 0;
 }
 
 int main(void) {
@@ -146,6 +158,9 @@ int main(void) {
     if (!is(glintstring_check_whether(file_a, sizeof file_a, NULL, 0), GLINTSTRING_INPUT_ENDS, GLINTSTRING_DERIVATION, 0, 0) ||
         !is(glintstring_check_whether(NULL, 0, NULL, 0), GLINTSTRING_INPUT_ENDS, GLINTSTRING_REQUEST, 0, 0))
         return puts("bindings: 19"), 1;
+
+    if (!worded())
+        return puts("bindings: words"), 1;
 
     puts("bindings: 20 calls as the format says, and what is shown of their answers");
     return 0;

@@ -1,10 +1,11 @@
 //! Answers with the format's names (docs/FORMAT.md, sections 4 and 17).
 
-use std::fmt;
+use std::{error, fmt};
 
 use crate::STATE_LENGTH;
 
 /// An answer packed into one number: number + 2^8 * input + 2^16 * place + 2^32 * count.
+#[must_use = "only number 0 lets a plan pass"]
 #[derive(Clone, Copy, Debug, PartialEq, Eq, Hash)]
 pub struct Packed(pub u64);
 
@@ -99,6 +100,10 @@ impl State {
 
 /// An answer of the walk call, the derivation call or the whether call. A place is the number of bytes that stand before it in its input: the
 /// derivation for 31 to 36, the request or the derivation where the answer says which, and the request for all others.
+///
+/// A number keeps its meaning from one version to the next, and a version may have numbers that the one before did not.
+#[must_use = "an answer other than 0 says that the plan is not to pass: see `is_verified` and `verified`"]
+#[non_exhaustive]
 #[derive(Clone, Copy, Debug, PartialEq, Eq, Hash)]
 pub enum Answer {
     /// 0 of the walk call: the walk verifies the plan.
@@ -332,6 +337,27 @@ impl Answer {
         self
     }
 
+    /// The answer is 0: the plan is verified by its walk, or by the derivation, which is accepted.
+    ///
+    /// Then it can be carried out, and reaches its goals, from every world that has the initial facts. Of no other answer is that said.
+    #[must_use]
+    pub fn is_verified(&self) -> bool {
+        self.number() == 0
+    }
+
+    /// The same as a `Result`, for `?`.
+    ///
+    /// # Errors
+    ///
+    /// Every answer other than 0. The error has that answer, and says its words, number and place.
+    pub fn verified(self) -> Result<(), NotVerified> {
+        if self.is_verified() {
+            Ok(())
+        } else {
+            Err(NotVerified(self))
+        }
+    }
+
     /// The answer as the exported call packs it.
     pub fn packed(&self) -> Packed {
         let [number, input] = [self.number(), self.input()].map(u64::from);
@@ -497,6 +523,31 @@ impl fmt::Display for Answer {
         write!(out, "{} ({}, place {}{whose}, count {})", self.words(), self.number(), self.place(), self.count())
     }
 }
+
+/// An answer other than 0, as an error.
+#[derive(Clone, Copy, Debug, PartialEq, Eq, Hash)]
+pub struct NotVerified(Answer);
+
+impl NotVerified {
+    /// The answer.
+    pub fn answer(&self) -> Answer {
+        self.0
+    }
+}
+
+impl fmt::Display for NotVerified {
+    fn fmt(&self, out: &mut fmt::Formatter<'_>) -> fmt::Result {
+        let NotVerified(answer) = self;
+        write!(out, "not verified: {} (answer {}, ", answer.words(), answer.number())?;
+        match answer.named() {
+            None => write!(out, "no place)"),
+            Some(Input::Request) => write!(out, "place {} of the request)", answer.place()),
+            Some(Input::Derivation) => write!(out, "place {} of the derivation)", answer.place()),
+        }
+    }
+}
+
+impl error::Error for NotVerified {}
 
 fn strange(packed: Packed) -> ! {
     let (number, input, place, count) = (packed.number(), packed.input(), packed.place(), packed.count());

@@ -1,40 +1,54 @@
 //! The proved verifier of conditional plans, called from Rust.
 //!
 //! A request has a domain table, a plan and goals in its bytes (docs/FORMAT.md). [`judge`] walks the plan over partial states and
-//! answers; that its answer and the lent bytes are those of the definition is proved, for every request, lent state and budget
+//! answers; that its answer, the state in it included, is that of the definition is proved, for every request and budget
 //! (docs/STATEMENTS.md). [`check`] checks a derivation, lines by which the plan reaches its goals, [`check_whether`] one that also says of
 //! fluents that they are known in the end, and [`show`] gives the part of an input that an answer is about; of these the same is proved. This
 //! crate adds names to the numbers and proves nothing. `examples/rust` of the repository is a small program that uses it.
 //!
 //! ```
-//! use glintstring::{judge, Answer, Input, STATE_LENGTH};
+//! use glintstring::{judge, Answer, Input};
 //!
+//! # fn main() -> Result<(), Box<dyn std::error::Error>> {
 //! // File A of the format: look at a bit, and convert the volume only where that is safe.
 //! let file_a = [
 //!     4, 3, 3, 3, 5, 7, 3, 1, 2, 0, 1, 6, 1, 0, 2, 4, 0, 3, 0, 0, 1, 1, 3, 2, 1, 2, 1, 0, 0, 0, 2, 0, 255, 2, 1, 1, 0, 2,
 //!     1, 2, 1, 0, 0, 0, 1, 7, 1, 2,
 //! ];
-//! let mut state = [0; STATE_LENGTH];
-//! assert_eq!(judge(&file_a, &mut state, 100_000), Answer::Verified { count: 5 });
-//! assert_eq!(judge(&file_a, &mut state, 4), Answer::BudgetSpent { budget: 4 });
-//! assert_eq!(judge(&file_a[..47], &mut state, 100_000), Answer::InputEnds { input: Input::Request, place: 47 });
+//! judge(&file_a, 100_000)?.verified()?;
+//!
+//! assert_eq!(judge(&file_a, 100_000)?, Answer::Verified { count: 5 });
+//! assert_eq!(judge(&file_a, 4)?, Answer::BudgetSpent { budget: 4 });
+//! assert_eq!(judge(&file_a[..47], 100_000)?, Answer::InputEnds { input: Input::Request, place: 47 });
+//!
+//! let refused = judge(&file_a[..47], 100_000)?.verified().unwrap_err();
+//! assert_eq!(refused.to_string(), "not verified: the input ends where a byte is due (answer 11, place 47 of the request)");
+//! # Ok(())
+//! # }
 //! ```
 //!
 //! # Stack
 //!
-//! A judgement may need as much as [`STACK_NEEDED`] bytes of stack, more than the 2 MiB that a thread in Rust gets; the request decides
-//! how much. A call that has too little is ended by the system, and the process with it. [`judge_on_thread`] has enough. [`check`],
-//! [`check_whether`] and [`show`] need far less, whatever their inputs, and a thread's 2 MiB will do.
+//! A walk may need as much as [`STACK_NEEDED`] bytes of stack, more than the 2 MiB that a thread in Rust gets; the request decides how much.
+//! [`judge`] sees to that: it walks on a thread of its own. [`judge_here`] and [`judge_packed`] walk on the caller's stack, and a walk that
+//! has too little of it is ended by the system, and the process with it. [`check`], [`check_whether`] and [`show`] need far less, whatever
+//! their inputs, and a thread's 2 MiB will do.
+//!
+//! # The library
+//!
+//! What is linked needs `libglintstring.a`; `cargo check` and `cargo doc` do without it. It is looked for in the folder that the variable
+//! `GLINTSTRING_LIB_DIR` names, or else in `target/staticlib` of the repository, where `rt staticlib glintstring` writes it for x86-64 Linux.
+//! With the feature `prove` the build script runs that command.
 
 #![deny(missing_docs)]
 
 mod answer;
 
-pub use answer::{Answer, Input, Mark, Packed, State};
+pub use answer::{Answer, Input, Mark, NotVerified, Packed, State};
 
 use std::{io, thread};
 
-/// The length of the lent state that a walk takes.
+/// The length of the lent state that [`judge_packed`] takes, which is the number of marks in a [`State`].
 pub const STATE_LENGTH: usize = 64;
 
 /// Bytes that a request may have. One byte more is answered as any longer one, so that no more of a file need be read.
@@ -43,10 +57,10 @@ pub const REQUEST_LIMIT: usize = 16_384;
 /// Bytes that a derivation may have, in the same way.
 pub const DERIVATION_LIMIT: usize = 32_768;
 
-/// Bytes of free stack that a judgement may need (docs/STACK.md): 6 MiB.
+/// Bytes of free stack that a walk may need (docs/STACK.md): 6 MiB.
 pub const STACK_NEEDED: usize = 6 << 20;
 
-/// The stack of [`judge_on_thread`]'s thread: what is needed, and 1 MiB for the thread itself.
+/// The stack of [`judge`]'s thread: what is needed, and 1 MiB for the thread itself.
 const STACK: usize = STACK_NEEDED + (1 << 20);
 
 extern "C" {
@@ -59,31 +73,65 @@ extern "C" {
 
 /// The walk call: judges a request by walking its plan, with a count of at most `budget`.
 ///
-/// Any bytes may be given, of any length. `state` is lent: after [`Answer::GoalMissed`] and [`Answer::NotExecutable`] it has the state
-/// concerned, which the answer has too; after every other answer it has the bytes that it had before. Its length is to be
-/// [`STATE_LENGTH`], or else the answer is [`Answer::StateLength`].
+/// Any bytes may be given, of any length. The walk runs on a thread of its own that has enough stack, and the caller waits for it.
+/// [`Answer::GoalMissed`] and [`Answer::NotExecutable`] have the state concerned in them.
 ///
 /// ```
 /// use glintstring::{judge, Answer};
 ///
+/// # fn main() -> std::io::Result<()> {
 /// // One fluent, nothing known of it, one action without lines; the plan is that action.
 /// let request = [1, 1, 0, 0, 0, 0, 0, 1, 0, 0, 0];
-/// let mut state = [7; 64];
-/// let Answer::NotExecutable { place, count, state: told } = judge(&request, &mut state, 10) else { panic!() };
+/// let answer = judge(&request, 10)?;
+/// assert!(!answer.is_verified());
+/// let Answer::NotExecutable { place, count, state } = answer else { panic!("{answer}") };
 /// assert_eq!((place, count), (8, 0));
-/// assert_eq!(told.line(1), "?");
-/// assert_eq!(state, [0; 64]);
+/// assert_eq!(state.line(1), "?");
+/// # Ok(())
+/// # }
+/// ```
+///
+/// # Errors
+///
+/// Where the system gives no such thread. Then nothing is judged.
+///
+/// # Panics
+///
+/// Where the library linked gives an answer that the format does not have, which the proved one does not.
+pub fn judge(request: &[u8], budget: u32) -> io::Result<Answer> {
+    thread::scope(|scope| {
+        let judging = thread::Builder::new().stack_size(STACK).spawn_scoped(scope, || judge_here(request, budget))?;
+        Ok(judging.join().unwrap_or_else(|panic| std::panic::resume_unwind(panic)))
+    })
+}
+
+/// [`judge`] on the caller's own stack, which is to have [`STACK_NEEDED`] free bytes: for a caller that has them, and wants no thread.
+///
+/// A call that has too little stack is ended by the system, and the process with it.
+///
+/// ```
+/// use glintstring::{judge_here, Answer};
+///
+/// # std::thread::Builder::new().stack_size(glintstring::STACK_NEEDED + (1 << 20)).spawn(|| {
+/// // One fluent, known true, which is the goal; one action, and an empty plan.
+/// let request = [1, 1, 1, 0, 0, 0, 0, 0, 0, 1, 0, 0];
+/// assert_eq!(judge_here(&request, 1), Answer::Verified { count: 1 });
+/// # }).unwrap().join().unwrap();
 /// ```
 ///
 /// # Panics
 ///
 /// Where the library linked gives an answer that the format does not have, which the proved one does not.
-pub fn judge(request: &[u8], state: &mut [u8], budget: u32) -> Answer {
-    let packed = judge_packed(request, state, budget);
-    Answer::unpack(packed, state)
+pub fn judge_here(request: &[u8], budget: u32) -> Answer {
+    let mut state = [0; STATE_LENGTH];
+    let packed = judge_packed(request, &mut state, budget);
+    Answer::unpack(packed, &state)
 }
 
-/// The walk call as it is exported: the same as [`judge`], with the answer packed into one number.
+/// The walk call as it is exported: the same as [`judge_here`], with a lent state, and with the answer packed into one number.
+///
+/// After answers 1 and 2 the lent bytes are the state concerned, which [`State::from_bytes`] reads; after every other answer they are what
+/// they were. Where there are not [`STATE_LENGTH`] of them, the answer is 9.
 ///
 /// ```
 /// let packed = glintstring::judge_packed(&[], &mut [0; 64], 0);
@@ -92,27 +140,6 @@ pub fn judge(request: &[u8], state: &mut [u8], budget: u32) -> Answer {
 pub fn judge_packed(request: &[u8], state: &mut [u8], budget: u32) -> Packed {
     // Each pointer is valid for its length, the state's for writing too and for nobody else, and the call keeps neither.
     Packed(unsafe { glintstring_judge(request.as_ptr(), request.len(), state.as_mut_ptr(), state.len(), budget) })
-}
-
-/// [`judge`] on a thread of its own that has enough stack; waits for it.
-///
-/// ```
-/// use glintstring::{judge_on_thread, Answer};
-///
-/// // One fluent, known true, which is the goal; one action, and an empty plan.
-/// let request = [1, 1, 1, 0, 0, 0, 0, 0, 0, 1, 0, 0];
-/// let answer = judge_on_thread(&request, &mut [0; 64], 1).expect("a thread");
-/// assert_eq!(answer, Answer::Verified { count: 1 });
-/// ```
-///
-/// # Errors
-///
-/// Where the system gives no such thread. Then nothing is judged and the lent state is as it was.
-pub fn judge_on_thread(request: &[u8], state: &mut [u8], budget: u32) -> io::Result<Answer> {
-    thread::scope(|scope| {
-        let judging = thread::Builder::new().stack_size(STACK).spawn_scoped(scope, || judge(request, state, budget))?;
-        Ok(judging.join().unwrap_or_else(|panic| std::panic::resume_unwind(panic)))
-    })
 }
 
 /// The derivation call: checks a derivation of what a request asks.
@@ -230,17 +257,20 @@ pub fn check_whether_packed(request: &[u8], derivation: &[u8]) -> Packed {
 /// ```
 /// use glintstring::{judge, show, Answer, Packed};
 ///
+/// # fn main() -> std::io::Result<()> {
 /// // One fluent, nothing known of it, one action without lines; the plan is that action, and the goal that the fluent is true.
 /// let request = [1, 1, 0, 0, 0, 0, 0, 1, 0, 1, 0, 0];
-/// let answer = judge(&request, &mut [0; 64], 10);
-/// assert_eq!(show(answer, &request, &[]), [0, 1, 0, 0]);
+/// assert_eq!(show(judge(&request, 10)?, &request, &[]), [0, 1, 0, 0]);
 /// assert_eq!(show(Answer::Accepted, &request, &[]), []);
 /// assert_eq!(show(Packed((2 << 8) + (1 << 16)), &request, &[7, 8, 9]), [8, 9]);
+/// # Ok(())
+/// # }
 /// ```
 ///
 /// # Panics
 ///
 /// Where the library linked gives a start beyond the input's end, which the proved one does not.
+#[must_use]
 pub fn show<'a>(answer: impl Into<Packed>, request: &'a [u8], derivation: &'a [u8]) -> &'a [u8] {
     let answer = answer.into();
     let start = usize::try_from(show_start(answer, request, derivation)).expect("a place of an input");
@@ -260,6 +290,7 @@ pub fn show<'a>(answer: impl Into<Packed>, request: &'a [u8], derivation: &'a [u
 /// assert_eq!(show_start(in_derivation(2), &[], &[7, 8, 9]), 2);
 /// assert_eq!(show_start(in_derivation(65_535), &[], &[7, 8, 9]), 3);
 /// ```
+#[must_use]
 pub fn show_start(answer: Packed, request: &[u8], derivation: &[u8]) -> u64 {
     // Each pointer is valid for its length, and the call writes nothing and keeps neither.
     unsafe { glintstring_show(answer.0, request.as_ptr(), request.len(), derivation.as_ptr(), derivation.len()) }

@@ -1,7 +1,9 @@
 //! Answers taken apart, and the call where it needs much stack.
 
-use glintstring::{check, check_packed, check_whether, check_whether_packed, judge, judge_on_thread, judge_packed, show, show_start};
-use glintstring::{Answer, Input, Mark, Packed, State};
+use std::error::Error;
+
+use glintstring::{check, check_packed, check_whether, check_whether_packed, judge, judge_here, judge_packed, show, show_start};
+use glintstring::{Answer, Input, Mark, NotVerified, Packed, State};
 
 const FILE_A: [u8; 48] = [
     4, 3, 3, 3, 5, 7, 3, 1, 2, 0, 1, 6, 1, 0, 2, 4, 0, 3, 0, 0, 1, 1, 3, 2, 1, 2, 1, 0, 0, 0, 2, 0, 255, 2, 1, 1, 0, 2, 1, 2, 1, 0, 0, 0,
@@ -23,12 +25,14 @@ fn deep() -> Vec<u8> {
 
 #[test]
 fn a_missed_goal_has_its_state() {
-    let mut lent = [9; 64];
-    let answer = judge(&from_29(&[0, 1, 1, 1, 7, 1, 2]), &mut lent, 100_000);
+    let request = from_29(&[0, 1, 1, 1, 7, 1, 2]);
+    let answer = judge(&request, 100_000).expect("a thread");
     let Answer::GoalMissed { place, count, state } = answer else { panic!("{answer}") };
     assert_eq!((place, count), (33, 2));
     assert_eq!(state.line(4), "?+-?");
     assert_eq!(state.marks()[..4], [Mark::Unknown, Mark::True, Mark::False, Mark::Unknown]);
+    let mut lent = [9; 64];
+    assert_eq!(judge_packed(&request, &mut lent, 100_000), answer.packed());
     assert_eq!(state.bytes(), lent);
     assert_eq!(answer.state(), State::from_bytes(&lent).as_ref());
     assert_eq!(answer.to_string(), "goal missed (1, place 33, count 2)");
@@ -36,21 +40,55 @@ fn a_missed_goal_has_its_state() {
 
 #[test]
 fn other_answers_leave_the_lent_bytes() {
+    let lending = |request: &[u8], lent: &mut [u8], budget| Answer::unpack(judge_packed(request, lent, budget), lent);
     for length in [0, 1, 63, 65, 200] {
         let mut lent = vec![9; length];
-        assert_eq!(judge(&FILE_A, &mut lent, 100_000), Answer::StateLength);
+        assert_eq!(lending(&FILE_A, &mut lent, 100_000), Answer::StateLength);
         assert_eq!(lent, vec![9; length]);
     }
     let mut lent = [9; 64];
-    assert_eq!(judge(&vec![1; 16_385], &mut lent, 0), Answer::TooLong { input: Input::Request });
-    assert_eq!(judge(&from_29(&[0, 0, 0, 0]), &mut lent, 0), Answer::BudgetSpent { budget: 0 });
+    assert_eq!(lending(&vec![1; 16_385], &mut lent, 0), Answer::TooLong { input: Input::Request });
+    assert_eq!(lending(&from_29(&[0, 0, 0, 0]), &mut lent, 0), Answer::BudgetSpent { budget: 0 });
     assert_eq!(lent, [9; 64]);
 }
 
+/// The thread of a test has 2 MiB, which this walk does not fit in.
 #[test]
-fn a_deep_walk_on_a_thread() {
-    let answer = judge_on_thread(&deep(), &mut [0; 64], 100_000).expect("a thread");
-    assert_eq!(answer, Answer::BudgetSpent { budget: 100_000 });
+fn the_short_name_sees_to_its_stack() {
+    assert_eq!(judge(&deep(), 100_000).expect("a thread"), Answer::BudgetSpent { budget: 100_000 });
+}
+
+/// As a caller in haste writes it.
+fn let_pass(request: &[u8], budget: u32) -> Result<(), Box<dyn Error + Send + Sync>> {
+    judge(request, budget)?.verified()?;
+    Ok(())
+}
+
+#[test]
+fn only_zero_passes_the_question_mark() {
+    assert!(let_pass(&FILE_A, 5).is_ok());
+    let error = let_pass(&FILE_A, 4).unwrap_err();
+    assert_eq!(error.to_string(), "not verified: budget spent (answer 3, no place)");
+    let error = let_pass(&from_29(&[0, 1, 1, 1, 7, 1, 2]), 100_000).unwrap_err();
+    assert_eq!(error.to_string(), "not verified: goal missed (answer 1, place 33 of the request)");
+    let told = error.downcast::<NotVerified>().expect("an answer");
+    assert_eq!(told.answer().state().expect("a state").line(4), "?+-?");
+    let error = check(&[1, 1, 0, 0, 0, 0, 0, 0, 0, 0], &[]).verified().unwrap_err();
+    assert_eq!(error.to_string(), "not verified: the input ends where a byte is due (answer 11, place 0 of the derivation)");
+}
+
+#[test]
+fn zero_alone_is_verified() {
+    for number in (0..=3).chain(9..=21) {
+        let input = u64::from(!matches!(number, 0 | 3 | 9));
+        let answer = Answer::unpack(Packed(number + (input << 8)), &[0; 64]);
+        assert_eq!((answer.is_verified(), answer.verified().is_ok()), (number == 0, number == 0), "{answer}");
+    }
+    for number in (30..=35).chain([0]) {
+        let answer = Answer::unpack_checked(Packed(number + (u64::from(number != 0) << if number == 30 { 8 } else { 9 })));
+        assert_eq!((answer.is_verified(), answer.verified().is_ok()), (number == 0, number == 0), "{answer}");
+    }
+    assert!(!Answer::ClosingNotRight { place: 0 }.is_verified());
 }
 
 #[test]
@@ -86,10 +124,10 @@ fn what_is_no_answer_is_refused() {
 #[test]
 fn packed_and_named_are_the_same_call() {
     for end in 0..=FILE_A.len() {
-        let (mut one, mut other) = ([9; 64], [9; 64]);
-        let packed = judge_packed(&FILE_A[..end], &mut one, 7);
-        let answer = judge(&FILE_A[..end], &mut other, 7);
-        assert_eq!((answer.packed(), other), (packed, one));
+        let request = &FILE_A[..end];
+        let packed = judge_packed(request, &mut [9; 64], 7);
+        assert_eq!(judge_here(request, 7).packed(), packed);
+        assert_eq!(judge(request, 7).expect("a thread").packed(), packed);
     }
 }
 

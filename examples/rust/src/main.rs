@@ -13,7 +13,7 @@ use std::fs::File;
 use std::io::{self, Read, Write};
 use std::process::ExitCode;
 
-use glintstring::{check, check_whether, judge_on_thread, show, Answer, Input, DERIVATION_LIMIT, REQUEST_LIMIT, STATE_LENGTH};
+use glintstring::{check, check_whether, judge, show, Answer, Input, DERIVATION_LIMIT, REQUEST_LIMIT};
 
 const USAGE: &str = "usage: review judge [-b BUDGET] REQUEST... | review check REQUEST DERIVATION [REQUEST DERIVATION]... | \
                      review check-whether REQUEST DERIVATION [REQUEST DERIVATION]...";
@@ -62,12 +62,12 @@ fn print(name: &str, answer: Answer, request: &[u8], derivation: &[u8]) -> io::R
 /// The same, and what it is for the exit status.
 fn tell(name: &str, answer: Answer, request: &[u8], derivation: &[u8]) -> Result<u8, String> {
     print(name, answer, request, derivation).map_err(|error| format!("standard output: {error}"))?;
-    Ok(if answer.number() == 0 { GOOD } else { OTHER })
+    Ok(if answer.is_verified() { GOOD } else { OTHER })
 }
 
 fn judge_file(name: &str, budget: u32) -> Result<u8, String> {
     let request = read(name, REQUEST_LIMIT)?;
-    let answer = judge_on_thread(&request, &mut [0; STATE_LENGTH], budget).map_err(|error| format!("no thread: {error}"))?;
+    let answer = judge(&request, budget).map_err(|error| format!("no thread: {error}"))?;
     tell(name, answer, &request, &[])
 }
 
@@ -91,12 +91,12 @@ fn status(outcome: Result<u8, String>) -> u8 {
 fn main() -> ExitCode {
     let words: Vec<String> = env::args_os().skip(1).map(|word| word.to_string_lossy().into_owned()).collect();
     let words: Vec<&str> = words.iter().map(String::as_str).collect();
-    let judge = |names: &[&str], budget| names.iter().map(|name| status(judge_file(name, budget))).max();
+    let judge_all = |names: &[&str], budget| names.iter().map(|name| status(judge_file(name, budget))).max();
     let check_all = |call: Call, names: &[&str]| names.chunks_exact(2).map(|pair| status(check_files(call, pair[0], pair[1]))).max();
     let worst = match words[..] {
-        ["judge", "-b", budget, ref names @ ..] => budget.parse().ok().and_then(|budget| judge(names, budget)),
+        ["judge", "-b", budget, ref names @ ..] => budget.parse().ok().and_then(|budget| judge_all(names, budget)),
         ["judge", "-b"] => None,
-        ["judge", ref names @ ..] => judge(names, BUDGET),
+        ["judge", ref names @ ..] => judge_all(names, BUDGET),
         ["check", ref names @ ..] if names.len() % 2 == 0 => check_all(check, names),
         ["check-whether", ref names @ ..] if names.len() % 2 == 0 => check_all(check_whether, names),
         _ => None,

@@ -1,10 +1,10 @@
 -- The bytes that are handed on are some of the buffer's.
 use borrow.Author.Needs.{needs}
 use Rattle.programs.proofs.InputLaws.{read-within, read-counted}
-use Rattle.judge.proofs.main.Statement.{statement}
-use Rattle.judge.proofs.main.Tie as tie
-use Rattle.judge.proofs.main.Reads as reads
-use Rattle.judge.proofs.main.Lts as lts
+use Rattle.judge.proofs.judge_input.Statement.{statement}
+use Rattle.judge.proofs.judge_input.Tie as tie
+use Rattle.judge.proofs.judge_input.Reads as reads
+use Rattle.judge.proofs.judge_input.Lts as lts
 use Rattle.judge.proofs.answer_to.Reads as answer-to-reads
 use Rattle.programs.proofs.read_all.Reads as read-all-reads
 use Rattle.os.proofs.fail.Reads as fail-reads
@@ -65,8 +65,8 @@ returns-2 c = search needs
 returns-3 : tie.Need-returns-3
 returns-3 c = search needs
 
-pub main-spec : {M : Type 1} → statement M
-main-spec =
+pub judge-input-spec : {M : Type 1} → statement M
+judge-input-spec =
     tie.close
     (tie.spec
     slice-aggregate-read-all

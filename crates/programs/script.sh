@@ -1,0 +1,50 @@
+# What the scripts of the programs share: sourced with $program, the program's name, and $usage, what --help prints.
+# Their status is 0 for answer 0, 1 for any other answer and 2 where there is none (FORMAT 12.16, 12.17).
+set -u
+LC_ALL=C
+root=$(readlink -f "${BASH_SOURCE[0]}")
+root=${root%/crates/programs/script.sh}
+
+fail() { echo "$program: $1" >&2; exit 2; }
+misused() { fail "$1"$'\n'"$usage"; }
+
+# A stream that is closed would be the next file that is opened.
+true 3>&2 || exec 2>/dev/null
+true 2>/dev/null 3>&1 || fail 'standard output: Bad file descriptor'
+
+# Prints this on standard output, or says why it can't.
+put() { # TEXT
+    local reason
+    trap '' PIPE
+    { reason=$(printf '%s\n' "$1" 2>&1 >&3); } 3>&1 || fail "standard output: ${reason##*: }"
+}
+put_version() {
+    local version
+    read -r version <"$root/VERSION" || fail "VERSION can't be read"
+    put "$program $version"
+}
+
+# Says why a file can't be opened, where it can't. One that can is not opened: a pipe may be opened once only.
+readable() { # FILE
+    local reason
+    [ ! -d "$1" ] || fail "$1: Is a directory"
+    [ -r "$1" ] || { reason=$(true 2>&1 <"$1"); fail "$1: ${reason##*: }"; }
+}
+has_input() { true 2>/dev/null 3<&0; }
+
+# Runs the program and leaves in $answer what it printed. Where that is nothing, why has been said.
+ask() { # [ARGUMENT...]
+    local status
+    answer=$("$root/crates/programs/run" "$program" "$@")
+    status=$?
+    case $status in
+    0) ;;
+    2) exit 2 ;;
+    *) fail "the program ended with status $status" ;;
+    esac
+    [ -n "$answer" ] || exit 2
+    [[ $answer =~ ^[0-9]+\ [0-9]+\ [0-9]+($'\n'[-+?]+)?$ ]] || fail 'what the program printed is no answer'
+}
+
+# The status that an answer has.
+finish() { [ "${answer%% *}" = 0 ]; exit; }
