@@ -21,7 +21,7 @@ use programs::read_file;
 // What became of a request, or of a request with a derivation: answer 0, another answer, none, or one that can't be printed.
 pub enum Outcome {
     Passes,
-    Fails,
+    Other,
     Unanswered,
     Unwritten,
 }
@@ -60,9 +60,10 @@ fn outcome_of(number: u8, written: bool) -> Outcome {
     if number == answers::VERIFIED {
         return Outcome::Passes;
     }
-    Outcome::Fails
+    Outcome::Other
 }
 
+// What a walk answers is never about a derivation, so that the request stands for one.
 fn judge_request(name: &[u8], request: &[u8], budget: u32) -> Outcome {
     let mut state = [0u8; 64];
     let answer = judge(request, &mut state, budget);
@@ -111,7 +112,7 @@ fn put_names(request: &[u8], derivation: &[u8]) -> bool {
     put_name(request) && put(b" with ") && put_name(derivation) && put(b": ")
 }
 
-// Both inputs are read, and the names are printed.
+// The answer, behind the names.
 fn check_inputs<'a>(whether: bool, request: &'a [u8], derivation: &'a [u8]) -> Outcome {
     let answer = answer_to(whether, request, derivation);
     let number = answer.number;

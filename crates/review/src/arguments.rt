@@ -1,4 +1,4 @@
-// What the program is asked by its arguments (FORMAT 12.30, 12.41), which the script has put in order: a command, for `judge` a budget, files.
+// What the program is asked by its arguments (FORMAT 12.30, 12.31), which the script has put in order: a command, for `judge` a budget, files.
 ghost use Prim.Native.Nat.{_≤_};
 ghost use Rattle.io.specs.Counts.{Counts};
 use comparing::parts::same_part;

@@ -1,4 +1,4 @@
-// Judges requests, or checks derivations, one after the other, and says in words what is answered (FORMAT 12.30 to 12.43).
+// Judges requests, or checks derivations, one after the other, and says in words what is answered (FORMAT 12.30 to 12.41).
 mod answering;
 mod arguments;
 mod printing;

@@ -1,4 +1,4 @@
-// The lines that an answer is told by, below the one with its words (FORMAT 12.35 to 12.38).
+// The lines that an answer is told by, below the one with its words (FORMAT 12.35 to 12.37).
 use glintstring::answers;
 use glintstring::showing::show;
 use meaning::Answer;
