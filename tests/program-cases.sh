@@ -9,16 +9,22 @@ say() { echo "$program-cases: $1"; bad=1; }
 # A first run builds the program and says so on standard error, which is no case here.
 crates/programs/run "$program" </dev/null >/dev/null 2>&1
 
-# The program, so called, prints this with the status of such an answer, 0 for number 0 and else 1, and nothing is said on standard error.
-prints() { # NAME TEXT [ARGUMENT...]
-    local status expected=1
-    [ "${2%% *}" != 0 ] || expected=0
+# The program, so called, ends with this status, prints this, and says nothing on standard error.
+gives() { # STATUS NAME TEXT [ARGUMENT...]
+    local status
     count=$((count + 1))
-    "./$program" "${@:3}" >"$out/printed" 2>"$out/said"
+    "./$program" "${@:4}" >"$out/printed" 2>"$out/said"
     status=$?
-    [ "$status" -eq "$expected" ] || say "$1: status $status, expected $expected"
-    printf '%s\n' "$2" | cmp -s - "$out/printed" || say "$1: printed '$(cat "$out/printed")', expected '$2'"
-    [ ! -s "$out/said" ] || say "$1: said '$(cat "$out/said")'"
+    [ "$status" -eq "$1" ] || say "$2: status $status, expected $1"
+    printf '%s\n' "$3" | cmp -s - "$out/printed" || say "$2: printed '$(cat "$out/printed")', expected '$3'"
+    [ ! -s "$out/said" ] || say "$2: said '$(cat "$out/said")'"
+}
+
+# The program, so called, prints an answer that starts with its number, with the status of such an answer, 0 for number 0 and else 1.
+prints() { # NAME TEXT [ARGUMENT...]
+    local status=1
+    [ "${2%% *}" != 0 ] || status=0
+    gives "$status" "$@"
 }
 
 # What ended with this status printed nothing, and said this first on standard error; it is the status where there is no answer.

@@ -32,15 +32,31 @@ readable() { # FILE
 }
 has_input() { true 2>/dev/null 3<&0; }
 
+# Takes the word after --budget into $budget, without zeros in front.
+take_budget() { # [WORD]
+    [[ ${1-} =~ ^0*([0-9]{1,10})$ ]] && [ "${BASH_REMATCH[1]}" -le 4294967295 ] || misused '--budget takes a decimal number up to 4294967295'
+    budget=${BASH_REMATCH[1]}
+}
+
+run() { "$root/crates/programs/run" "$program" "$@"; }
+
 # Runs the program and leaves in $answer what it printed. Where that is nothing, why has been said.
 ask() { # [ARGUMENT...]
-    local status
-    answer=$("$root/crates/programs/run" "$program" "$@")
-    status=$?
-    case $status in
+    answer=$(run "$@")
+    answered $?
+}
+# The same for a program that prints its text itself, and gives its answer on descriptor 3.
+ask_beside() { # [ARGUMENT...]
+    trap '' PIPE
+    { answer=$(run "$@" 3>&1 >&4 4>&-); } 4>&1
+    answered $?
+}
+# The program has ended with this status, and $answer is one.
+answered() { # STATUS
+    case $1 in
     0) ;;
     2) exit 2 ;;
-    *) fail "the program ended with status $status" ;;
+    *) fail "the program ended with status $1" ;;
     esac
     [ -n "$answer" ] || exit 2
     [[ $answer =~ ^[0-9]+\ [0-9]+\ [0-9]+($'\n'[-+?]+)?$ ]] || fail 'what the program printed is no answer'

@@ -1,7 +1,7 @@
 /*
  * Judges requests, or checks derivations, and says in words what the answer is, with the bytes at its place.
  *
- *   review judge [-b BUDGET] REQUEST...                     (100,000 unless told otherwise)
+ *   review judge [--budget N] REQUEST...                    (100,000 unless told otherwise)
  *   review check REQUEST DERIVATION [REQUEST DERIVATION]...
  *   review check-whether REQUEST DERIVATION [REQUEST DERIVATION]...
  *
@@ -116,7 +116,7 @@ static int is_budget(const char *word, uint32_t *budget) {
 }
 
 static int usage(void) {
-    fputs("usage: review judge [-b BUDGET] REQUEST... | review check REQUEST DERIVATION [REQUEST DERIVATION]... | "
+    fputs("usage: review judge [--budget N] REQUEST... | review check REQUEST DERIVATION [REQUEST DERIVATION]... | "
           "review check-whether REQUEST DERIVATION [REQUEST DERIVATION]...\n",
           stderr);
     return FAILED;
@@ -128,7 +128,7 @@ static int review(int count, char **word) {
     const int whether = count > 0 && strcmp(word[0], "check-whether") == 0;
     const int checking = count > 2 && count % 2 == 1 && (whether || strcmp(word[0], "check") == 0);
     const int judging = count > 1 && strcmp(word[0], "judge") == 0;
-    const int budgeted = judging && strcmp(word[1], "-b") == 0;
+    const int budgeted = judging && strcmp(word[1], "--budget") == 0;
     if (!(checking || judging) || (budgeted && (count < 4 || !is_budget(word[2], &budget))))
         return usage();
     for (i = budgeted ? 3 : 1; i < count; i += checking ? 2 : 1) {

@@ -3,32 +3,11 @@ ghost use Rattle.programs.specs.Input.{Within};
 use comparing::parts::same_part;
 use glintstring::derivations::check;
 use glintstring::derivations::check_whether;
+use libc::STDOUT_FILENO;
 use meaning::Answer;
 use programs::Input;
 use programs::put_line;
-use programs::read_all;
-
-// Reads the file of this name as far as buf goes, or says why it can't be read.
-fn read_file(name: &[u8], buf: &mut [u8]) -> Input
-    ensures { λ r. ⌜ Within 0 r (now (buf .exit)) ⌝ }
-{
-    let fd = os::open_read(name);
-    if fd < 0 {
-        os::fail(name);
-        return Input::Unreadable;
-    }
-    match read_all(fd, buf) {
-        Input::Bytes(n) => {
-            libc::close(fd);
-            Input::Bytes(n)
-        }
-        Input::Unreadable => {
-            os::fail(name);
-            libc::close(fd);
-            Input::Unreadable
-        }
-    }
-}
+use programs::read_file;
 
 // Reads the file that the program's argument i names.
 fn read_argument(i: usize, buf: &mut [u8]) -> Input
@@ -40,7 +19,7 @@ fn read_argument(i: usize, buf: &mut [u8]) -> Input
         os::fail(b"audit: file name");
         return Input::Unreadable;
     }
-    read_file(&name[..n], buf)
+    read_file(b"", &name[..n], buf)
 }
 
 // The first argument is the option for derivations in the closing layout.
@@ -60,6 +39,7 @@ fn answer_to(whether: bool, request: &[u8], derivation: &[u8]) -> Answer {
 fn put_answer(whether: bool, request: &[u8], derivation: &[u8]) {
     let answer = answer_to(whether, request, derivation);
     if !put_line(
+        STDOUT_FILENO,
         answer.number as u64,
         answer.input as u64,
         answer.place as u64,

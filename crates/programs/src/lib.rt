@@ -1,7 +1,9 @@
-// What the programs share: an input is read as far as a buffer goes, and an answer is printed as three numbers.
+// What the programs share: an input is read as far as a buffer goes, a budget is read from its digits, and an answer is printed as three
+// numbers, its state as signs.
 ghost use Prim.Native.Nat.{_≤_};
 ghost use lib.ListN.{length};
 ghost use Rattle.programs.specs.Input.{Within};
+use libc::STDERR_FILENO;
 use libc::STDOUT_FILENO;
 
 // How many bytes were read, or that they can't be.
@@ -43,20 +45,102 @@ pub fn read_all(fd: i32, buf: &mut [u8]) -> Input
     Input::Bytes(done)
 }
 
+// Reads the file of this name as far as buf goes. Where it can't be read a line says why, with `said` before the name.
+pub fn read_file(said: &[u8], name: &[u8], buf: &mut [u8]) -> Input
+    ensures { λ r. ⌜ Within 0 r (now (buf .exit)) ⌝ }
+{
+    let fd = os::open_read(name);
+    if fd < 0 {
+        say_failed(said, name);
+        return Input::Unreadable;
+    }
+    match read_all(fd, buf) {
+        Input::Bytes(n) => {
+            libc::close(fd);
+            Input::Bytes(n)
+        }
+        Input::Unreadable => {
+            say_failed(said, name);
+            libc::close(fd);
+            Input::Unreadable
+        }
+    }
+}
+
+// What failed and errno's text, in a line on standard error. Writing `said` leaves errno as it is, unless that fails as well.
+fn say_failed(said: &[u8], what: &[u8]) {
+    io::write_all(STDERR_FILENO, said);
+    os::fail(what);
+}
+
+// The number that an argument writes, or that it writes none.
+pub enum Asked {
+    Number(u32),
+    Nothing,
+}
+
+// The number that these decimal digits write, as far as 32 bits go.
+pub fn number_of(text: &[u8]) -> Asked {
+    let mut number = 0u64;
+    let mut i = 0;
+    while i < text.len() {
+        let digit = text[i];
+        if digit < b'0' {
+            return Asked::Nothing;
+        }
+        if digit > b'9' {
+            return Asked::Nothing;
+        }
+        let value = digit - b'0';
+        number = number * 10 + value as u64;
+        if number > 4294967295 {
+            return Asked::Nothing;
+        }
+        i += 1;
+    }
+    if i == 0 {
+        return Asked::Nothing;
+    }
+    Asked::Number(number as u32)
+}
+
 pub fn put(text: &[u8]) -> bool {
     io::write_all(STDOUT_FILENO, text)
 }
 
-fn put_number(n: u64) -> bool {
+pub fn put_number(n: u64) -> bool {
     io::print_decimal(STDOUT_FILENO, n)
 }
 
-// A line with three numbers.
-pub fn put_line(first: u64, second: u64, third: u64) -> bool {
-    put_number(first)
-        && put(b" ")
-        && put_number(second)
-        && put(b" ")
-        && put_number(third)
-        && put(b"\n")
+// A line with three numbers, on this descriptor.
+pub fn put_line(fd: i32, first: u64, second: u64, third: u64) -> bool {
+    io::print_decimal(fd, first)
+        && io::write_all(fd, b" ")
+        && io::print_decimal(fd, second)
+        && io::write_all(fd, b" ")
+        && io::print_decimal(fd, third)
+        && io::write_all(fd, b"\n")
+}
+
+fn sign(mark: u8) -> u8 {
+    match mark {
+        0 => b'?',
+        1 => b'+',
+        _ => b'-',
+    }
+}
+
+// The line with a sign for each fluent. A request has at most 64.
+pub fn put_state(state: &[u8; 64], fluents: u8) -> bool {
+    let mut line = [b'\n'; 65];
+    let mut f = 0;
+    while f < 64 {
+        if f >= fluents as usize {
+            break;
+        }
+        line[f] = sign(state[f]);
+        f += 1;
+    }
+    let end = f + 1;
+    put(&line[..end])
 }

@@ -1,6 +1,6 @@
 //! Judges requests, or checks derivations, and says in words what the answer is, with the bytes at its place.
 //!
-//!     review judge [-b BUDGET] REQUEST...                     (100,000 unless told otherwise)
+//!     review judge [--budget N] REQUEST...                    (100,000 unless told otherwise)
 //!     review check REQUEST DERIVATION [REQUEST DERIVATION]...
 //!     review check-whether REQUEST DERIVATION [REQUEST DERIVATION]...
 //!
@@ -15,7 +15,7 @@ use std::process::ExitCode;
 
 use glintstring::{check, check_whether, judge, show, Answer, Input, DERIVATION_LIMIT, REQUEST_LIMIT};
 
-const USAGE: &str = "usage: review judge [-b BUDGET] REQUEST... | review check REQUEST DERIVATION [REQUEST DERIVATION]... | \
+const USAGE: &str = "usage: review judge [--budget N] REQUEST... | review check REQUEST DERIVATION [REQUEST DERIVATION]... | \
                      review check-whether REQUEST DERIVATION [REQUEST DERIVATION]...";
 const BUDGET: u32 = 100_000;
 
@@ -94,8 +94,8 @@ fn main() -> ExitCode {
     let judge_all = |names: &[&str], budget| names.iter().map(|name| status(judge_file(name, budget))).max();
     let check_all = |call: Call, names: &[&str]| names.chunks_exact(2).map(|pair| status(check_files(call, pair[0], pair[1]))).max();
     let worst = match words[..] {
-        ["judge", "-b", budget, ref names @ ..] => budget.parse().ok().and_then(|budget| judge_all(names, budget)),
-        ["judge", "-b"] => None,
+        ["judge", "--budget", budget, ref names @ ..] => budget.parse().ok().and_then(|budget| judge_all(names, budget)),
+        ["judge", "--budget"] => None,
         ["judge", ref names @ ..] => judge_all(names, BUDGET),
         ["check", ref names @ ..] if names.len() % 2 == 0 => check_all(check, names),
         ["check-whether", ref names @ ..] if names.len() % 2 == 0 => check_all(check_whether, names),

@@ -1,64 +1,64 @@
 -- What is told of the bytes read is what reading them tells.
 use borrow.Author.Needs.{needs}
 use Rattle.programs.proofs.InputLaws.{bytes-within}
-use Rattle.audit.proofs.read_file.Statement.{statement}
-use Rattle.audit.proofs.read_file.Tie as tie
-use Rattle.audit.proofs.read_file.Reads as reads
-use Rattle.audit.proofs.read_file.Lts as lts
+use Rattle.programs.proofs.read_file.Statement.{statement}
+use Rattle.programs.proofs.read_file.Tie as tie
+use Rattle.programs.proofs.read_file.Reads as reads
+use Rattle.programs.proofs.read_file.Lts as lts
 use Rattle.libc.proofs.close.Reads as close-reads
-use Rattle.os.proofs.fail.Reads as fail-reads
 use Rattle.os.proofs.open_read.Reads as open-read-reads
 use Rattle.programs.proofs.read_all.Reads as read-all-reads
+use Rattle.programs.proofs.say_failed.Reads as say-failed-reads
 
--- src/main.rt:15:9
+-- src/lib.rt:52:9
 open-read-requires : tie.Need-open-read-requires
 open-read-requires c κs = search needs
 
--- src/main.rt:17:9
-fail-requires : tie.Need-fail-requires
-fail-requires c κs = search needs
+-- src/lib.rt:54:9
+say-failed-requires : tie.Need-say-failed-requires
+say-failed-requires c κs = search needs
 
--- src/main.rt:18:9
+-- src/lib.rt:55:9
 returns : tie.Need-returns
 returns c = search needs
 
--- src/main.rt:20:11
+-- src/lib.rt:57:11
 read-all-requires : tie.Need-read-all-requires
 read-all-requires c κs = search needs
 
--- src/main.rt:21:22
+-- src/lib.rt:58:22
 enum-known-n : tie.Need-enum-known-n
 enum-known-n c = search needs
 
--- src/main.rt:22:13
+-- src/lib.rt:59:13
 close-requires : tie.Need-close-requires
 close-requires c κs = search needs
 
--- src/main.rt:26:13
+-- src/lib.rt:63:13
 enum-told : tie.Need-enum-told
 enum-told c = search needs
 
--- src/main.rt:26:13
-fail-requires-2 : tie.Need-fail-requires-2
-fail-requires-2 c κs = search needs
+-- src/lib.rt:63:13
+say-failed-requires-2 : tie.Need-say-failed-requires-2
+say-failed-requires-2 c κs = search needs
 
--- src/main.rt:27:13
+-- src/lib.rt:64:13
 close-requires-2 : tie.Need-close-requires-2
 close-requires-2 c κs = search needs
 
--- src/main.rt:12:1
+-- src/lib.rt:49:1
 same-length : tie.Need-same-length
 same-length c = search needs
 
--- src/main.rt:12:1
+-- src/lib.rt:49:1
 returns-2 : tie.Need-returns-2
 returns-2 c = search bytes-within
 
--- src/main.rt:12:1
+-- src/lib.rt:49:1
 same-length-2 : tie.Need-same-length-2
 same-length-2 c = search needs
 
--- src/main.rt:12:1
+-- src/lib.rt:49:1
 returns-3 : tie.Need-returns-3
 returns-3 c = search needs
 
@@ -67,13 +67,13 @@ read-file-spec =
     tie.close
     (tie.spec
     open-read-requires
-    fail-requires
+    say-failed-requires
     returns
     read-all-requires
     enum-known-n
     close-requires
     enum-told
-    fail-requires-2
+    say-failed-requires-2
     close-requires-2
     same-length
     returns-2

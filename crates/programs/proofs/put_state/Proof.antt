@@ -5,12 +5,12 @@ use native.Mathlib.Omega.{arith}
 use mathlib.Core.Path.{_≡_, sym}
 use lib.Seq.{length-take-le}
 use lib.ListN.{length}
-use Rattle.judge.proofs.put_state.Statement.{statement}
-use Rattle.judge.proofs.put_state.Tie as tie
-use Rattle.judge.proofs.put_state.Reads as reads
-use Rattle.judge.proofs.put_state.Lts as lts
+use Rattle.programs.proofs.put_state.Statement.{statement}
+use Rattle.programs.proofs.put_state.Tie as tie
+use Rattle.programs.proofs.put_state.Reads as reads
+use Rattle.programs.proofs.put_state.Lts as lts
 use Rattle.programs.proofs.put.Reads as put-reads
-use Rattle.judge.proofs.sign.Reads as sign-reads
+use Rattle.programs.proofs.sign.Reads as sign-reads
 
 abbrev Inv-loop : tie.InvT-loop
 Inv-loop state fluents line₀ f₀ line f = (f ≤ 64) × (length line ≡ 65)
@@ -18,51 +18,51 @@ Inv-loop state fluents line₀ f₀ line f = (f ≤ 64) × (length line ≡ 65)
 abbrev μ-loop : tie.MeasureT-loop
 μ-loop state fluents line₀ f₀ line f = 64 - f
 
--- src/main.rt:77:5
+-- src/lib.rt:137:5
 loop-holds : tie.Need-loop-holds Inv-loop μ-loop
 loop-holds c = search needs
 
--- src/main.rt:81:24
+-- src/lib.rt:141:24
 element-copy-out-sign : tie.Need-element-copy-out-sign Inv-loop μ-loop
 element-copy-out-sign c = search needs
 
--- src/main.rt:81:19
+-- src/lib.rt:141:19
 sign-requires : tie.Need-sign-requires Inv-loop μ-loop
 sign-requires c κs = search needs
 
--- src/main.rt:81:9
+-- src/lib.rt:141:9
 array-write-line : tie.Need-array-write-line Inv-loop μ-loop
 array-write-line c = search needs
 
--- src/main.rt:82:9
+-- src/lib.rt:142:9
 add-f : tie.Need-add-f Inv-loop μ-loop
 add-f c = search needs
 
--- src/main.rt:77:5
+-- src/lib.rt:137:5
 loop-less : tie.Need-loop-less Inv-loop μ-loop
 loop-less c = search needs
 
--- src/main.rt:77:5
+-- src/lib.rt:137:5
 loop-again : tie.Need-loop-again Inv-loop μ-loop
 loop-again c = search needs
 
--- src/main.rt:84:15
+-- src/lib.rt:144:15
 add-end : tie.Need-add-end Inv-loop μ-loop
 add-end c = search needs
 
--- src/main.rt:85:9
+-- src/lib.rt:145:9
 array-share-prefix-line : tie.Need-array-share-prefix-line Inv-loop μ-loop
 array-share-prefix-line c = search needs
 
--- src/main.rt:85:9
+-- src/lib.rt:145:9
 slice-aggregate-put : tie.Need-slice-aggregate-put Inv-loop μ-loop
 slice-aggregate-put c = sym (length-take-le _ _ (omega arith))
 
--- src/main.rt:85:5
+-- src/lib.rt:145:5
 put-requires : tie.Need-put-requires Inv-loop μ-loop
 put-requires c κs = search needs
 
--- src/main.rt:74:1
+-- src/lib.rt:134:1
 returns : tie.Need-returns Inv-loop μ-loop
 returns c = search needs
 
