@@ -15,6 +15,6 @@ have() { # COMMAND PACKAGE
     command -v "$1" >/dev/null && return
     { apt-get install -y "$2" || { apt-get update && apt-get install -y "$2"; }; } >"$out/log" 2>&1
     command -v "$1" >/dev/null && return
-    echo "$(basename "$0"): $1 is missing, and apt-get cannot install $2: what needs it is not tried"
+    echo "$(basename "$0"): skipped: $1 is missing, and apt-get cannot install $2"
     return 1
 }

@@ -1,11 +1,11 @@
 /*
- * Makes the calls of the archive that it is linked with: takes frames from standard input and writes replies to standard output, until the input
- * ends. Inputs stand between bytes of no meaning, and each call is followed by a look whether it changed any byte that it may not. A walk
- * call has the stack that the header asks for, each other call 256 KiB, with a page below that may not be touched.
+ * Makes the calls of the archive that it is linked with: takes frames from standard input and writes replies to standard output, until the
+ * input ends. Inputs stand between random bytes, and after each call it looks whether a byte changed that may not. A walk call has the stack
+ * that the header asks for, each other call 256 KiB, with a page below that may not be touched.
  *   driver COUNTS [FAULT CALL]
- * At the end a line for each call and number, with how often it was given, is added to the file COUNTS. With a FAULT the call of that number goes
- * wrong on purpose: its answer is another, a byte of its request or of its second input is changed, or the one below or above the second input,
- * or it ends the driver.
+ * At the end a line for each call and number, with how often it was given, is added to the file COUNTS. With a FAULT the call of that number,
+ * from 1 on, goes wrong on purpose: its answer is another (answer), a byte is changed in its request (request), in its lent state or derivation
+ * (second), just below that (below) or just above it (above), or the driver ends instead of a reply (end).
  */
 #define _GNU_SOURCE
 #include <stdio.h>

@@ -1,7 +1,8 @@
 /*
  * A libglintstring.a for the machine at hand that answers nothing by itself: each exported call goes as a frame to the process that the shell
- * starts by GLINTSTRING_DRIVER, and its reply is what the call gives. So whatever links libglintstring.a can be run over another one, unchanged. Where
- * there is no reply, or a byte was changed that may not be, the call says so on standard error and gives a number that is no answer.
+ * starts by GLINTSTRING_DRIVER, and its reply is what the call gives. So whatever links libglintstring.a can be run over an archive for
+ * another machine, unchanged. Where there is no reply, or a byte was changed that may not be, the call says so on standard error and gives a
+ * number that is no answer.
  */
 #define _GNU_SOURCE
 #include <pthread.h>
