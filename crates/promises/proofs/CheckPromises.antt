@@ -21,8 +21,8 @@ use Rattle.meaning.proofs.Accepted.{Accepted, check-answers}
 use Rattle.meaning.proofs.Exact.{format-room}
 use Rattle.meaning.proofs.Sound.{Verified}
 use Rattle.meaning.proofs.Demands
 use Rattle.glintstring.specs.Packing.{packed, unpacked}
-use Rattle.glintstring.proofs.PackingLaws.{number-back, input-back, place-back, count-back, unpacks, check-small}
+use Rattle.promises.proofs.UnpackingLaws.{number-back, input-back, place-back, count-back, unpacks, check-small}
 
 module _ (layout : Layout) (request derivation : List ℕ) where
   -- THE NUMBER of an answer, as the definition gives it.

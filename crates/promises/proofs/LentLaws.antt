@@ -24,9 +24,9 @@ use Rattle.meaning.proofs.SettledLaws.{settled-is}
 use Rattle.meaning.proofs.RangeLaws.{read-ranged}
 use Rattle.refusing.proofs.StartLaws.{request-starts}
 use Rattle.steps.specs.AtHand.{Marked}
 use Rattle.glintstring.proofs.KeepingLaws.{End-has, end-both}
 use Rattle.glintstring.proofs.MarkedLaws.{first-marked, walked-marked}
-use Rattle.glintstring.proofs.BeyondLaws.{Blank-from, walked-blank}
+use Rattle.promises.proofs.BeyondLaws.{Blank-from, walked-blank}
 
 module _ (lim : Limits) (lent : List ℕ) (budget : ℕ) where
   abbrev pub Kept : Judgement → Type 0

@@ -27,9 +27,9 @@ use Rattle.meaning.proofs.AnswerLaws.{answers}
 use Rattle.meaning.proofs.Exact.{count, Entailed, format-room}
 use Rattle.meaning.proofs.Demands
 use Rattle.steps.specs.AtHand.{Marked}
-use Rattle.glintstring.proofs.LentLaws.{judge-kept, Writes, Written, judge-written}
+use Rattle.promises.proofs.LentLaws.{judge-kept, Writes, Written, judge-written}
 use Rattle.glintstring.proofs.judging.judge.Kinds.{ps, r}
 use Rattle.glintstring.proofs.judging.judge.Reads.{Pre, Post}
 
 -- WHAT THE CALL IS GIVEN, by the values of its three parameters.
 module _ (κs : Lfts 2) (given : Dens κs ps) where

@@ -12,10 +12,10 @@ use Rattle.meaning.specs.Limits.{format}
 use Rattle.meaning.specs.Judging.{judge}
 use Rattle.meaning.specs.Derivations.{check}
 use Rattle.meaning.specs.Showing.{show}
 use Rattle.glintstring.specs.Packing.{packed, unpacked}
-use Rattle.glintstring.proofs.PackingLaws.{Small, unpacks, answer-small, check-small}
+use Rattle.promises.proofs.UnpackingLaws.{Small, unpacks, answer-small, check-small}
 use Rattle.glintstring.proofs.exports.glintstring_show.Kinds.{ps, r}
 use Rattle.glintstring.proofs.exports.glintstring_show.Reads.{Pre, Post}
 
 -- WHAT THE CALL IS GIVEN, by the values of its three parameters.
 module _ (κs : Lfts 2) (given : Dens κs ps) where

@@ -9,10 +9,10 @@ use denote.Triple.Clauses.{AtExit}
 use Rattle.meaning.specs.declared.Answer.{Answer}
 use Rattle.meaning.specs.Limits.{format}
 use Rattle.meaning.specs.Judging.{judge}
 use Rattle.glintstring.specs.Packing.{packed}
-use Rattle.glintstring.proofs.PackingLaws.{number-back, input-back, place-back, count-back, answer-small}
+use Rattle.promises.proofs.UnpackingLaws.{number-back, input-back, place-back, count-back, answer-small}
 use Rattle.glintstring.proofs.exports.glintstring_judge.Kinds.{ps, r}
 use Rattle.glintstring.proofs.exports.glintstring_judge.Reads.{Pre, Post}
 
 -- WHAT THE CALL IS GIVEN, by the values of its three parameters.
 module _ (κs : Lfts 2) (given : Dens κs ps) where

@@ -22,9 +22,9 @@ use Rattle.meaning.specs.Derivations.{check}
 use Rattle.meaning.specs.Worlds.{Carried-out}
 use Rattle.meaning.proofs.Accepted.{Accepted, check-answers}
 use Rattle.meaning.proofs.Sound.{Verified}
-use Rattle.glintstring.proofs.CheckPromises
+use Rattle.promises.proofs.CheckPromises
 use Rattle.glintstring.proofs.derivations.check_whether.Kinds.{ps, r}
 use Rattle.glintstring.proofs.derivations.check_whether.Reads.{Pre, Post}
 
 -- WHAT THE CALL IS GIVEN, by the values of its two parameters.
 module _ (κs : Lfts 2) (given : Dens κs ps) where

@@ -1,0 +1,13 @@
+pub mod UnpackingLaws
+pub mod BeyondLaws
+pub mod LentLaws
+pub mod Promises
+pub mod ExportedPromises
+pub mod CheckPromises
+pub mod DerivationPromises
+pub mod WhetherPromises
+pub mod ShowingPromises
+pub mod ExportedDerivationPromises
+pub mod ExportedWhetherPromises
+pub mod LayoutPromises
+pub mod ExportedShowingPromises
