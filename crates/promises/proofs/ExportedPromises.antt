@@ -1,16 +1,35 @@
 -- What the exported walk call promises: each theorem is of a number and of lent bytes that meet the call's own contract. Assumes nothing.
-use Prim.Native.Nat.{ℕ, _/_, _%_}
-use mathlib.Core.Path.{_≡_, sym, _∙_, ap}
+use Prim.Native.Nat.{ℕ, _/_, _%_, _≤_, _<_}
+use mathlib.Core.Path.{_≡_, sym, _∙_, ap, ap₂}
+use mathlib.Core.Bool.{true}
 use mathlib.Core.List.{List}
+use mathlib.Core.Logic.{_↔_, _⊎_}
+use lib.ListN.{length, getD}
 use contract.Lifetimes.{Lfts}
 use borrow.Fn.Kinds.{Dens, endedOf}
 use denote.Ref.{now}
 use denote.Triple.Clauses.{AtExit}
 use Rattle.meaning.specs.declared.Answer.{Answer}
+use Rattle.meaning.specs.Limits
 use Rattle.meaning.specs.Limits.{format}
-use Rattle.meaning.specs.Judging.{judge}
-use Rattle.glintstring.specs.Packing.{packed}
-use Rattle.promises.proofs.UnpackingLaws.{number-back, input-back, place-back, count-back, answer-small}
+use Rattle.meaning.specs.Literals.{among}
+use Rattle.meaning.specs.Requests.{Request}
+use Rattle.meaning.specs.Reading.{got}
+use Rattle.meaning.specs.Refusals.{settled}
+use Rattle.meaning.specs.States.{first-state}
+use Rattle.meaning.specs.Walk.{table-step, missed-in}
+use Rattle.meaning.specs.Judging.{Judgement, within, judge}
+use Rattle.meaning.specs.Approximation.{failed, Φ̂, least}
+use Rattle.meaning.specs.Paths.{paths, walked-along}
+use Rattle.meaning.specs.Worlds.{Carried-out}
+use Rattle.meaning.proofs.TestLaws.{Has}
+use Rattle.meaning.proofs.AnswerLaws.{answers}
+use Rattle.meaning.proofs.Exact.{count, Entailed}
+use Rattle.meaning.proofs.Table.{judging, judged, Row, table}
+use Rattle.steps.specs.AtHand.{Marked}
+use Rattle.glintstring.specs.Packing.{packed, unpacked}
+use Rattle.promises.proofs.UnpackingLaws.{number-back, input-back, place-back, count-back, unpacks, answer-small}
+use Rattle.promises.proofs.JudgePromises
 use Rattle.glintstring.proofs.exports.glintstring_judge.Kinds.{ps, r}
 use Rattle.glintstring.proofs.exports.glintstring_judge.Reads.{Pre, Post}
 
@@ -58,3 +77,63 @@ module _ (κs : Lfts 2) (given : Dens κs ps) where
 
     pub count-is : n / 4294967296 ≡ answer .count
     count-is = ap (λ (m : ℕ). m / 4294967296) (meets .0) ∙ count-back answer (answer-small request lent budget)
+
+    -- So the exported showing call, given the result, shows what the definition's answer names.
+    pub unpacked-is : unpacked n ≡ answer
+    unpacked-is = ap unpacked (meets .0) ∙ unpacks answer (answer-small request lent budget)
+
+    judges : record { answer = unpacked n; state = left exit } ≡ judge format request lent budget
+    judges = ap₂ {C = Judgement} (λ a s. record { answer = a; state = s }) unpacked-is (meets .1)
+
+    -- Demand 1 (FORMAT 11.1): it is one of the numbered answers.
+    pub numbered : among (n % 256) answers ≡ true
+    unfolding unpacked
+    numbered = JudgePromises.numbered request lent budget (unpacked n) (left exit) judges
+
+    -- The lent bytes are written by answers 1 and 2 and by no other (FORMAT 4.45, 4.49).
+    pub kept : (n % 256 ≡ Limits.goal-missed → ⊥) → (n % 256 ≡ Limits.not-executable → ⊥) → left exit ≡ lent
+    unfolding unpacked
+    kept = JudgePromises.kept request lent budget (unpacked n) (left exit) judges
+
+    -- Those two are of a settled request, whose first byte is its number of fluents. They leave 64 bytes of marks 0, 1 and 2, and 0 in every
+    -- byte from that number up (FORMAT 4.47, 4.48).
+    pub written : (n % 256 ≡ Limits.goal-missed) ⊎ (n % 256 ≡ Limits.not-executable)
+        → (x : Request) × (e : ℕ) × (settled format request ≡ got x e) × (getD request 0 0 ≡ x .table .fluents) × Marked (left exit) × ((f : ℕ) → x .table .fluents ≤ f → getD (left exit) f 0 ≡ 0)
+    unfolding unpacked
+    written = JudgePromises.written request lent budget (unpacked n) (left exit) judges
+
+    -- Demand 3 (FORMAT 11.7 to 11.12): a verified plan is carried out in every world with the initial facts, at any budget.
+    pub sound : n % 256 ≡ Limits.verified → (x : Request) × (e : ℕ) × (settled format request ≡ got x e) × Carried-out x
+    unfolding unpacked
+    sound = JudgePromises.sound request lent budget (unpacked n) (left exit) judges
+
+    -- The proved table (FORMAT 15.12): given a row's inputs, it answers what the row says.
+    pub answers-the-table : (row : Row) → Has table row → row .call ≡ judging request lent budget → row .gives ≡ judged (record { answer = unpacked n; state = left exit })
+    answers-the-table = JudgePromises.answers-the-table request lent budget (unpacked n) (left exit) judges
+
+    -- Demand 2 (FORMAT 11.5), of a settled request with 64 lent bytes.
+    module _ (x : Request) (e : ℕ) (lent-length : length lent ≡ 64) (past : settled format request ≡ got x e) where
+      -- The answer and the lent bytes are what the list of paths says, in its order.
+      pub in-order : record { answer = unpacked n; state = left exit } ≡ within lent budget (walked-along (missed-in x) (paths (table-step (x .table)) (x .plan) (first-state format (x .table))))
+      in-order = JudgePromises.in-order request lent budget (unpacked n) (left exit) judges x e lent-length past
+
+      -- The budget is spent exactly where the walk counts more.
+      pub spent-exactly : (n % 256 ≡ Limits.budget-spent) ↔ (budget < count format x)
+      unfolding unpacked
+      spent-exactly = JudgePromises.spent-exactly request lent budget (unpacked n) (left exit) judges x e lent-length past
+
+      module _ (enough : count format x ≤ budget) where
+        -- Not executable, exactly where the plan fails from the least initial a-state.
+        pub stuck-exactly : (n % 256 ≡ Limits.not-executable) ↔ Φ̂ (x .table) (x .plan) (least (x .table)) failed
+        unfolding unpacked
+        stuck-exactly = JudgePromises.stuck-exactly request lent budget (unpacked n) (left exit) judges x e lent-length past enough
+
+        -- Verified, exactly where the goals and the whether fluents are entailed.
+        pub verified-exactly : (n % 256 ≡ Limits.verified) ↔ Entailed x
+        unfolding unpacked
+        verified-exactly = JudgePromises.verified-exactly request lent budget (unpacked n) (left exit) judges x e lent-length past enough
+
+        -- A goal is missed, exactly where neither is so.
+        pub missed-exactly : (n % 256 ≡ Limits.goal-missed) ↔ ((Φ̂ (x .table) (x .plan) (least (x .table)) failed → ⊥) × (Entailed x → ⊥))
+        unfolding unpacked
+        missed-exactly = JudgePromises.missed-exactly request lent budget (unpacked n) (left exit) judges x e lent-length past enough

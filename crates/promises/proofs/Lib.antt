@@ -1,6 +1,8 @@
 pub mod UnpackingLaws
 pub mod BeyondLaws
 pub mod LentLaws
+pub mod TablePromises
+pub mod JudgePromises
 pub mod Promises
 pub mod ExportedPromises
 pub mod CheckPromises

@@ -1,0 +1,31 @@
+-- The proved table, row by row: two lists that are equal have equal entries, so what the definition gives of a row's inputs is what the row says.
+-- Assumes nothing.
+use mathlib.Core.Path.{_≡_, sym, _∙_, ap}
+use mathlib.Core.List.{List, [], _∷_, map}
+use mathlib.Core.Logic.{inl, inr}
+use Rattle.meaning.specs.Showing.{show}
+use Rattle.meaning.proofs.TestLaws.{Has}
+use Rattle.meaning.proofs.DerivationCases.{Shown, showings, showings-hold}
+use Rattle.meaning.proofs.Table.{Call, Given, outcome-of, Row, table, table-holds}
+
+module _ {A B : Type 0} (f g : A → B) where
+  abbrev first-or : B → List B → B
+  first-or x [] = x
+  first-or x (y ∷ ys) = y
+
+  abbrev rest : List B → List B
+  rest [] = []
+  rest (y ∷ ys) = ys
+
+  entry-same : (xs : List A) → map f xs ≡ map g xs → (x : A) → Has xs x → f x ≡ g x
+  entry-same [] same x has = absurd has
+  entry-same (y ∷ ys) same x (inl here) = ap f here ∙ ap (first-or (f y)) same ∙ sym (ap g here)
+  entry-same (y ∷ ys) same x (inr later) = entry-same ys (ap rest same) x later
+
+-- A ROW of the table, whose call is this one: what the definition gives of the call is what the row says.
+pub row-holds : (row : Row) → Has table row → (call : Call) → row .call ≡ call → row .gives ≡ outcome-of call
+row-holds row has call is = sym (entry-same (λ (r : Row). outcome-of (r .call)) (λ (r : Row). r .gives) table table-holds row has) ∙ ap outcome-of is
+
+-- A row of the showing call.
+pub showing-holds : (row : Shown) → Has showings row → row .part ≡ show (row .answer) (row .request) (row .derivation)
+showing-holds row has = sym (entry-same (λ (c : Shown). show (c .answer) (c .request) (c .derivation)) (λ (c : Shown). c .part) showings showings-hold row has)
