@@ -17,11 +17,14 @@ use Rattle.meaning.specs.States.{first-state}
 use Rattle.meaning.specs.Walk.{walked}
 use Rattle.meaning.specs.Derivations.{check}
 use Rattle.meaning.specs.Worlds.{Carried-out}
+use Rattle.meaning.proofs.TestLaws.{Has}
 use Rattle.meaning.proofs.Accepted.{Accepted, check-answers}
 use Rattle.meaning.proofs.Exact.{format-room}
 use Rattle.meaning.proofs.Sound.{Verified}
 use Rattle.meaning.proofs.Demands
+use Rattle.meaning.proofs.Table.{checking, answered, Row, table}
 use Rattle.glintstring.specs.Packing.{packed, unpacked}
+use Rattle.promises.proofs.TablePromises.{row-holds}
 use Rattle.promises.proofs.UnpackingLaws.{number-back, input-back, place-back, count-back, unpacks, check-small}
 
 module _ (layout : Layout) (request derivation : List ℕ) where
@@ -38,6 +41,10 @@ module _ (layout : Layout) (request derivation : List ℕ) where
 
     pub sound : number ≡ Limits.verified → (x : Request) × (e : ℕ) × (settled format request ≡ got x e) × Carried-out x
     sound passes = Demands.sound-derivation format format-room layout request derivation (is ∙ passes)
+
+  -- THE ANSWER that the definition gives.
+  pub answers-the-table : (answer : Answer) → answer ≡ check format layout request derivation → (row : Row) → Has table row → row .call ≡ checking layout request derivation → row .gives ≡ answered answer
+  answers-the-table answer is row has call = row-holds row has (checking layout request derivation) call ∙ ap answered (sym is)
 
   -- A NUMBER that packs the definition's answer gives it back.
   module _ (n : ℕ) (packs : n ≡ packed (check format layout request derivation)) where

@@ -20,8 +20,10 @@ use Rattle.meaning.specs.States.{first-state}
 use Rattle.meaning.specs.Walk.{walked}
 use Rattle.meaning.specs.Derivations.{check}
 use Rattle.meaning.specs.Worlds.{Carried-out}
+use Rattle.meaning.proofs.TestLaws.{Has}
 use Rattle.meaning.proofs.Accepted.{Accepted, check-answers}
 use Rattle.meaning.proofs.Sound.{Verified}
+use Rattle.meaning.proofs.Table.{checking, answered, Row, table}
 use Rattle.promises.proofs.CheckPromises
 use Rattle.glintstring.proofs.derivations.check.Kinds.{ps, r}
 use Rattle.glintstring.proofs.derivations.check.Reads.{Pre, Post}
@@ -54,6 +56,10 @@ module _ (κs : Lfts 2) (given : Dens κs ps) where
     -- Demand 1 (FORMAT 11.1): it is one of the numbered answers.
     pub numbered : among (answer .number) (check-answers Plain) ≡ true
     numbered = CheckPromises.numbered Plain request derivation _ number-is
+
+    -- The proved table (FORMAT 15.12): given a row's inputs, it answers what the row says.
+    pub answers-the-table : (row : Row) → Has table row → row .call ≡ checking Plain request derivation → row .gives ≡ answered answer
+    answers-the-table = CheckPromises.answers-the-table Plain request derivation answer meets
 
     -- Demand 2 (FORMAT 11.6): accepted, exactly where neither input is refused, no whether is asked, each line follows from those that it
     -- cites, and the last line is the question.

@@ -90,6 +90,10 @@ module _ (κs : Lfts 2) (given : Dens κs ps) where
     unfolding unpacked
     numbered = JudgePromises.numbered request lent budget (unpacked n) (left exit) judges
 
+    -- The proved table (FORMAT 15.12): given a row's inputs, it answers what the row says.
+    pub answers-the-table : (row : Row) → Has table row → row .call ≡ judging request lent budget → row .gives ≡ judged (record { answer = unpacked n; state = left exit })
+    answers-the-table = JudgePromises.answers-the-table request lent budget (unpacked n) (left exit) judges
+
     -- The lent bytes are written by answers 1 and 2 and by no other (FORMAT 4.45, 4.49).
     pub kept : (n % 256 ≡ Limits.goal-missed → ⊥) → (n % 256 ≡ Limits.not-executable → ⊥) → left exit ≡ lent
     unfolding unpacked
@@ -106,10 +110,6 @@ module _ (κs : Lfts 2) (given : Dens κs ps) where
     pub sound : n % 256 ≡ Limits.verified → (x : Request) × (e : ℕ) × (settled format request ≡ got x e) × Carried-out x
     unfolding unpacked
     sound = JudgePromises.sound request lent budget (unpacked n) (left exit) judges
-
-    -- The proved table (FORMAT 15.12): given a row's inputs, it answers what the row says.
-    pub answers-the-table : (row : Row) → Has table row → row .call ≡ judging request lent budget → row .gives ≡ judged (record { answer = unpacked n; state = left exit })
-    answers-the-table = JudgePromises.answers-the-table request lent budget (unpacked n) (left exit) judges
 
     -- Demand 2 (FORMAT 11.5), of a settled request with 64 lent bytes.
     module _ (x : Request) (e : ℕ) (lent-length : length lent ≡ 64) (past : settled format request ≡ got x e) where

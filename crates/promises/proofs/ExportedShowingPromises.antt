@@ -11,8 +11,11 @@ use Rattle.meaning.specs.declared.Layout.{Layout}
 use Rattle.meaning.specs.Limits.{format}
 use Rattle.meaning.specs.Judging.{judge}
 use Rattle.meaning.specs.Derivations.{check}
-use Rattle.meaning.specs.Showing.{show}
+use Rattle.meaning.specs.Showing.{Part, show}
+use Rattle.meaning.proofs.TestLaws.{Has}
+use Rattle.meaning.proofs.DerivationCases.{Shown, showings}
 use Rattle.glintstring.specs.Packing.{packed, unpacked}
+use Rattle.promises.proofs.TablePromises.{showing-holds}
 use Rattle.promises.proofs.UnpackingLaws.{Small, unpacks, answer-small, check-small}
 use Rattle.glintstring.proofs.exports.glintstring_show.Kinds.{ps, r}
 use Rattle.glintstring.proofs.exports.glintstring_show.Reads.{Pre, Post}
@@ -51,3 +54,7 @@ module _ (κs : Lfts 2) (given : Dens κs ps) where
 
     pub of-derivation : (layout : Layout) (s d : List ℕ) → answer ≡ packed (check format layout s d) → n ≡ show (check format layout s d) request derivation .start
     of-derivation layout s d = of-packed (check format layout s d) (check-small layout s d)
+
+    -- Given a row's inputs, with the answer in one number, it is the start of the row's part.
+    pub answers-the-table : (row : Shown) → Has showings row → row .answer ≡ unpacked answer → row .request ≡ request → row .derivation ≡ derivation → n ≡ row .part .start
+    answers-the-table row has same-answer same-request same-derivation = meets ∙ sym (ap (λ (p : Part). p .start) (showing-holds row has (unpacked answer) request derivation same-answer same-request same-derivation))

@@ -33,6 +33,9 @@ module _ (request lent : List ℕ) (budget : ℕ) (answer : Answer) (left : List
   pub numbered : among (answer .number) answers ≡ true
   numbered = subst (λ (n : ℕ). among n answers ≡ true) number-is (Demands.numbered format request lent budget)
 
+  pub answers-the-table : (row : Row) → Has table row → row .call ≡ judging request lent budget → row .gives ≡ judged (record { answer = answer; state = left })
+  answers-the-table row has call = row-holds row has (judging request lent budget) call ∙ ap judged (sym is)
+
   pub kept : (answer .number ≡ Limits.goal-missed → ⊥) → (answer .number ≡ Limits.not-executable → ⊥) → left ≡ lent
   kept one two = ap (λ (j : Judgement). j .state) is ∙ judge-kept format lent budget request (λ e. one (sym number-is ∙ e)) (λ e. two (sym number-is ∙ e))
 
@@ -41,9 +44,6 @@ module _ (request lent : List ℕ) (budget : ℕ) (answer : Answer) (left : List
 
   pub sound : answer .number ≡ Limits.verified → (x : Request) × (e : ℕ) × (settled format request ≡ got x e) × Carried-out x
   sound passes = Demands.sound format request lent budget (number-is ∙ passes)
-
-  pub answers-the-table : (row : Row) → Has table row → row .call ≡ judging request lent budget → row .gives ≡ judged (record { answer = answer; state = left })
-  answers-the-table row has call = row-holds row has (judging request lent budget) call ∙ ap judged (sym is)
 
   module _ (x : Request) (e : ℕ) (lent-length : length lent ≡ 64) (past : settled format request ≡ got x e) where
     pub in-order : record { answer = answer; state = left } ≡ within lent budget (walked-along (missed-in x) (paths (table-step (x .table)) (x .plan) (first-state format (x .table))))

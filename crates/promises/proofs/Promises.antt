@@ -67,6 +67,10 @@ module _ (κs : Lfts 2) (given : Dens κs ps) where
     pub numbered : among (answer .number) answers ≡ true
     numbered = JudgePromises.numbered request lent budget answer (left exit) meets
 
+    -- The proved table (FORMAT 15.12): given a row's inputs, it answers what the row says.
+    pub answers-the-table : (row : Row) → Has table row → row .call ≡ judging request lent budget → row .gives ≡ judged (record { answer = answer; state = left exit })
+    answers-the-table = JudgePromises.answers-the-table request lent budget answer (left exit) meets
+
     -- The lent bytes are written by answers 1 and 2 and by no other (FORMAT 4.45, 4.49).
     pub kept : (answer .number ≡ Limits.goal-missed → ⊥) → (answer .number ≡ Limits.not-executable → ⊥) → left exit ≡ lent
     kept = JudgePromises.kept request lent budget answer (left exit) meets
@@ -80,10 +84,6 @@ module _ (κs : Lfts 2) (given : Dens κs ps) where
     -- Demand 3 (FORMAT 11.7 to 11.12): a verified plan is carried out in every world with the initial facts, at any budget.
     pub sound : answer .number ≡ Limits.verified → (x : Request) × (e : ℕ) × (settled format request ≡ got x e) × Carried-out x
     sound = JudgePromises.sound request lent budget answer (left exit) meets
-
-    -- The proved table (FORMAT 15.12): given a row's inputs, it answers what the row says.
-    pub answers-the-table : (row : Row) → Has table row → row .call ≡ judging request lent budget → row .gives ≡ judged (record { answer = answer; state = left exit })
-    answers-the-table = JudgePromises.answers-the-table request lent budget answer (left exit) meets
 
     -- Demand 2 (FORMAT 11.5), of a settled request with 64 lent bytes.
     module _ (x : Request) (e : ℕ) (lent-length : length lent ≡ 64) (past : settled format request ≡ got x e) where

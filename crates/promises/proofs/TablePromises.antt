@@ -1,12 +1,14 @@
 -- The proved table, row by row: two lists that are equal have equal entries, so what the definition gives of a row's inputs is what the row says.
 -- Assumes nothing.
-use mathlib.Core.Path.{_≡_, sym, _∙_, ap}
+use Prim.Native.Nat.{ℕ}
+use mathlib.Core.Path.{_≡_, sym, _∙_, ap, ap₂}
 use mathlib.Core.List.{List, [], _∷_, map}
 use mathlib.Core.Logic.{inl, inr}
-use Rattle.meaning.specs.Showing.{show}
+use Rattle.meaning.specs.declared.Answer.{Answer}
+use Rattle.meaning.specs.Showing.{Part, show}
 use Rattle.meaning.proofs.TestLaws.{Has}
 use Rattle.meaning.proofs.DerivationCases.{Shown, showings, showings-hold}
-use Rattle.meaning.proofs.Table.{Call, Given, outcome-of, Row, table, table-holds}
+use Rattle.meaning.proofs.Table.{Call, outcome-of, Row, table, table-holds}
 
 module _ {A B : Type 0} (f g : A → B) where
   abbrev first-or : B → List B → B
@@ -26,6 +28,9 @@ module _ {A B : Type 0} (f g : A → B) where
 pub row-holds : (row : Row) → Has table row → (call : Call) → row .call ≡ call → row .gives ≡ outcome-of call
 row-holds row has call is = sym (entry-same (λ (r : Row). outcome-of (r .call)) (λ (r : Row). r .gives) table table-holds row has) ∙ ap outcome-of is
 
--- A row of the showing call.
-pub showing-holds : (row : Shown) → Has showings row → row .part ≡ show (row .answer) (row .request) (row .derivation)
-showing-holds row has = sym (entry-same (λ (c : Shown). show (c .answer) (c .request) (c .derivation)) (λ (c : Shown). c .part) showings showings-hold row has)
+-- A row of the showing call, whose inputs are these.
+pub showing-holds : (row : Shown) → Has showings row → (a : Answer) (request derivation : List ℕ) → row .answer ≡ a → row .request ≡ request → row .derivation ≡ derivation → row .part ≡ show a request derivation
+showing-holds row has a request derivation same-answer same-request same-derivation =
+    sym (entry-same (λ (c : Shown). show (c .answer) (c .request) (c .derivation)) (λ (c : Shown). c .part) showings showings-hold row has)
+    ∙ ap (λ (z : Answer). show z (row .request) (row .derivation)) same-answer
+    ∙ ap₂ {C = Part} (show a) same-request same-derivation

@@ -1,6 +1,6 @@
 -- An answer in one number gives its parts back: each part is smaller than the room that it has, so division and remainder find it. Every answer
 -- of the walk call, of the derivation call and of the whether call is such an answer. Assumes nothing.
-use Prim.Native.Nat.{ℕ, _+_, _*_, _/_, _%_, _<_}
+use Prim.Native.Nat.{ℕ, _/_, _%_, _<_}
 use native.Mathlib.Omega.{arith}
 use mathlib.Core.Path.{_≡_, refl, sym, _∙_, ap, subst}
 use mathlib.Core.Bool.{true}
@@ -33,7 +33,7 @@ pub record Small (a : Answer) : Type 0 where
   pub input : a .input < 256
   pub place : a .place < 65536
 
--- AND BACK.
+-- ITS PARTS, BACK from the number.
 module _ (a : Answer) (small : Small a) where
   pub number-back : packed a % 256 ≡ a .number
   unfolding packed
