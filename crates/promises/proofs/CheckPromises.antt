@@ -49,16 +49,16 @@ module _ (layout : Layout) (request derivation : List ℕ) where
   -- A NUMBER that packs the definition's answer gives it back.
   module _ (n : ℕ) (packs : n ≡ packed (check format layout request derivation)) where
     pub number-is : n % 256 ≡ check format layout request derivation .number
-    number-is = ap (λ (m : ℕ). m % 256) packs ∙ number-back (check format layout request derivation) (check-small layout request derivation)
+    number-is = number-back (check format layout request derivation) (check-small layout request derivation) n packs
 
     pub input-is : n / 256 % 256 ≡ check format layout request derivation .input
-    input-is = ap (λ (m : ℕ). m / 256 % 256) packs ∙ input-back (check format layout request derivation) (check-small layout request derivation)
+    input-is = input-back (check format layout request derivation) (check-small layout request derivation) n packs
 
     pub place-is : n / 65536 % 65536 ≡ check format layout request derivation .place
-    place-is = ap (λ (m : ℕ). m / 65536 % 65536) packs ∙ place-back (check format layout request derivation) (check-small layout request derivation)
+    place-is = place-back (check format layout request derivation) (check-small layout request derivation) n packs
 
     pub count-is : n / 4294967296 ≡ check format layout request derivation .count
-    count-is = ap (λ (m : ℕ). m / 4294967296) packs ∙ count-back (check format layout request derivation) (check-small layout request derivation)
+    count-is = count-back (check format layout request derivation) (check-small layout request derivation) n packs
 
     pub unpacked-is : unpacked n ≡ check format layout request derivation
-    unpacked-is = ap unpacked packs ∙ unpacks (check format layout request derivation) (check-small layout request derivation)
+    unpacked-is = unpacks (check format layout request derivation) (check-small layout request derivation) n packs

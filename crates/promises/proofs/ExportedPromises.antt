@@ -1,6 +1,6 @@
 -- What the exported walk call promises: each theorem is of a number and of lent bytes that meet the call's own contract. Assumes nothing.
 use Prim.Native.Nat.{ℕ, _/_, _%_, _≤_, _<_}
-use mathlib.Core.Path.{_≡_, sym, _∙_, ap, ap₂}
+use mathlib.Core.Path.{_≡_, sym, _∙_, ap₂}
 use mathlib.Core.Bool.{true}
 use mathlib.Core.List.{List}
 use mathlib.Core.Logic.{_↔_, _⊎_}
@@ -67,20 +67,20 @@ module _ (κs : Lfts 2) (given : Dens κs ps) where
   -- The definition's number, input, place and count are had from a result that meets the contract.
   module _ (n : ℕ) (exit : AtExit (endedOf 2 ps r) κs) (meets : Post κs given n exit) where
     pub number-is : n % 256 ≡ answer .number
-    number-is = ap (λ (m : ℕ). m % 256) (meets .0) ∙ number-back answer (answer-small request lent budget)
+    number-is = number-back answer (answer-small request lent budget) n (meets .0)
 
     pub input-is : n / 256 % 256 ≡ answer .input
-    input-is = ap (λ (m : ℕ). m / 256 % 256) (meets .0) ∙ input-back answer (answer-small request lent budget)
+    input-is = input-back answer (answer-small request lent budget) n (meets .0)
 
     pub place-is : n / 65536 % 65536 ≡ answer .place
-    place-is = ap (λ (m : ℕ). m / 65536 % 65536) (meets .0) ∙ place-back answer (answer-small request lent budget)
+    place-is = place-back answer (answer-small request lent budget) n (meets .0)
 
     pub count-is : n / 4294967296 ≡ answer .count
-    count-is = ap (λ (m : ℕ). m / 4294967296) (meets .0) ∙ count-back answer (answer-small request lent budget)
+    count-is = count-back answer (answer-small request lent budget) n (meets .0)
 
     -- So the exported showing call, given the result, shows what the definition's answer names.
     pub unpacked-is : unpacked n ≡ answer
-    unpacked-is = ap unpacked (meets .0) ∙ unpacks answer (answer-small request lent budget)
+    unpacked-is = unpacks answer (answer-small request lent budget) n (meets .0)
 
     judges : record { answer = unpacked n; state = left exit } ≡ judge format request lent budget
     judges = ap₂ {C = Judgement} (λ a s. record { answer = a; state = s }) unpacked-is (meets .1)

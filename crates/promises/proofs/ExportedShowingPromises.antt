@@ -47,7 +47,7 @@ module _ (κs : Lfts 2) (given : Dens κs ps) where
   -- that the definition shows of their answer.
   module _ (n : ℕ) (exit : AtExit (endedOf 2 ps r) κs) (meets : Post κs given n exit) where
     of-packed : (a : Answer) → Small a → answer ≡ packed a → n ≡ show a request derivation .start
-    of-packed a small is = meets ∙ ap (λ (z : Answer). show z request derivation .start) (ap unpacked is ∙ unpacks a small)
+    of-packed a small is = meets ∙ ap (λ (z : Answer). show z request derivation .start) (unpacks a small answer is)
 
     pub of-walk : (s lent : List ℕ) (budget : ℕ) → answer ≡ packed (judge format s lent budget .answer) → n ≡ show (judge format s lent budget .answer) request derivation .start
     of-walk s lent budget = of-packed (judge format s lent budget .answer) (answer-small s lent budget)

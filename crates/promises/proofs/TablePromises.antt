@@ -4,6 +4,7 @@ use Prim.Native.Nat.{ℕ}
 use mathlib.Core.Path.{_≡_, sym, _∙_, ap, ap₂}
 use mathlib.Core.List.{List, [], _∷_, map}
 use mathlib.Core.Logic.{inl, inr}
+use lib.ListN.{getD, drop}
 use Rattle.meaning.specs.declared.Answer.{Answer}
 use Rattle.meaning.specs.Showing.{Part, show}
 use Rattle.meaning.proofs.TestLaws.{Has}
@@ -11,18 +12,10 @@ use Rattle.meaning.proofs.DerivationCases.{Shown, showings, showings-hold}
 use Rattle.meaning.proofs.Table.{Call, outcome-of, Row, table, table-holds}
 
 module _ {A B : Type 0} (f g : A → B) where
-  abbrev first-or : B → List B → B
-  first-or x [] = x
-  first-or x (y ∷ ys) = y
-
-  abbrev rest : List B → List B
-  rest [] = []
-  rest (y ∷ ys) = ys
-
   entry-same : (xs : List A) → map f xs ≡ map g xs → (x : A) → Has xs x → f x ≡ g x
   entry-same [] same x has = absurd has
-  entry-same (y ∷ ys) same x (inl here) = ap f here ∙ ap (first-or (f y)) same ∙ sym (ap g here)
-  entry-same (y ∷ ys) same x (inr later) = entry-same ys (ap rest same) x later
+  entry-same (y ∷ ys) same x (inl here) = ap f here ∙ ap (λ (l : List B). getD l 0 (f y)) same ∙ sym (ap g here)
+  entry-same (y ∷ ys) same x (inr later) = entry-same ys (ap (drop 1) same) x later
 
 -- A ROW of the table, whose call is this one: what the definition gives of the call is what the row says.
 pub row-holds : (row : Row) → Has table row → (call : Call) → row .call ≡ call → row .gives ≡ outcome-of call

@@ -34,29 +34,29 @@ pub record Small (a : Answer) : Type 0 where
   pub place : a .place < 65536
 
 -- ITS PARTS, BACK from the number.
-module _ (a : Answer) (small : Small a) where
-  pub number-back : packed a % 256 ≡ a .number
+module _ (a : Answer) (small : Small a) (n : ℕ) (packs : n ≡ packed a) where
+  pub number-back : n % 256 ≡ a .number
   unfolding packed
-  number-back = let n = small .number in omega (arith, n)
+  number-back = let k = small .number in omega (arith, k, packs)
 
-  pub input-back : packed a / 256 % 256 ≡ a .input
+  pub input-back : n / 256 % 256 ≡ a .input
   unfolding packed
-  input-back = let n = small .number in let i = small .input in omega (arith, n, i)
+  input-back = let k = small .number in let i = small .input in omega (arith, k, i, packs)
 
-  pub place-back : packed a / 65536 % 65536 ≡ a .place
+  pub place-back : n / 65536 % 65536 ≡ a .place
   unfolding packed
-  place-back = let n = small .number in let i = small .input in let p = small .place in omega (arith, n, i, p)
+  place-back = let k = small .number in let i = small .input in let p = small .place in omega (arith, k, i, p, packs)
 
-  pub count-back : packed a / 4294967296 ≡ a .count
+  pub count-back : n / 4294967296 ≡ a .count
   unfolding packed
-  count-back = let n = small .number in let i = small .input in let p = small .place in omega (arith, n, i, p)
+  count-back = let k = small .number in let i = small .input in let p = small .place in omega (arith, k, i, p, packs)
 
-  pub unpacks : unpacked (packed a) ≡ a
+  pub unpacks : unpacked n ≡ a
   unfolding unpacked
   unpacks =
-      ap (λ (n : ℕ). record { number = n; input = packed a / 256 % 256; place = packed a / 65536 % 65536; count = packed a / 4294967296 }) number-back
-      ∙ ap (λ (i : ℕ). record { number = a .number; input = i; place = packed a / 65536 % 65536; count = packed a / 4294967296 }) input-back
-      ∙ ap (λ (p : ℕ). record { number = a .number; input = a .input; place = p; count = packed a / 4294967296 }) place-back
+      ap (λ (k : ℕ). record { number = k; input = n / 256 % 256; place = n / 65536 % 65536; count = n / 4294967296 }) number-back
+      ∙ ap (λ (i : ℕ). record { number = a .number; input = i; place = n / 65536 % 65536; count = n / 4294967296 }) input-back
+      ∙ ap (λ (p : ℕ). record { number = a .number; input = a .input; place = p; count = n / 4294967296 }) place-back
       ∙ ap (λ (c : ℕ). record { number = a .number; input = a .input; place = a .place; count = c }) count-back
 
 -- THE WALK CALL'S ANSWERS. Each number is one of a few.
