@@ -7,7 +7,6 @@ pub mod JudgingLaws
 pub mod LentLaws
 pub mod Promises
 pub mod ShowingLaws
-pub mod PlaceLaws
 pub mod PackingLaws
 pub mod ExportedPromises
 pub mod DerivationLaws

@@ -105,38 +105,37 @@ module _ (lim : Limits) (request : List ℕ) (budget : ℕ) where
       (λ _. ended-parts r e past (h .1 .1) lent _ (walked-below (length request) r (h .1 .0) (first-state lim (r .table))))
   settled-parts lent (fault n p) past h = fault-parts n p h
 
-  module _ (lent : List ℕ) where
-    walk-parts : Judged (judge lim request lent budget)
-    unfolding judge
-    walk-parts = pick-has Judged _ _ _ (λ _. settled-parts lent (settled lim request) refl (settled-held lim request)) (λ _. length-parts)
+module _ (lim : Limits) (request lent : List ℕ) (budget : ℕ) where
+  walk-parts : Judged lim request budget (judge lim request lent budget)
+  unfolding judge
+  walk-parts = pick-has (Judged lim request budget) _ _ _ (λ _. settled-parts lim request budget lent (settled lim request) refl (settled-held lim request)) (λ _. length-parts lim request budget)
 
-    -- Neither input is named exactly with 0, 3 and 9, and the request with every other number (FORMAT 4.26, 4.27).
-    pub input-exactly : Walk-input (judge lim request lent budget .answer)
-    input-exactly = walk-parts .input
+  -- Neither input is named exactly with 0, 3 and 9, and the request with every other number (FORMAT 4.26, 4.27).
+  pub input-exactly : Walk-input (judge lim request lent budget .answer)
+  input-exactly = walk-parts .input
 
-    -- With 0, 1 and 2 the count is the walk's, with 3 it is the budget, and with every other number 0 (FORMAT 4.42 to 4.44).
-    pub count-exactly : Walk-count lim request budget (judge lim request lent budget .answer)
-    count-exactly = walk-parts .count
+  -- With 0, 1 and 2 the count is the walk's, with 3 it is the budget, and with every other number 0 (FORMAT 4.42 to 4.44).
+  pub count-exactly : Walk-count lim request budget (judge lim request lent budget .answer)
+  count-exactly = walk-parts .count
 
-    -- The place is 0 with 0, 3, 9 and 10, the request's length with 11, and that of a byte with every other number (FORMAT 4.30).
-    pub place-within : Placed (length request) (judge lim request lent budget .answer .number) (judge lim request lent budget .answer .place)
-    place-within = walk-parts .place
+  -- The place is 0 with 0, 3, 9 and 10, the request's length with 11, and that of a byte with every other number (FORMAT 4.30).
+  pub place-within : Placed (length request) (judge lim request lent budget .answer .number) (judge lim request lent budget .answer .place)
+  place-within = walk-parts .place
 
-    -- So it is at most the request limit: a longer request gets 10.
-    pub place-limited : judge lim request lent budget .answer .place ≤ lim .request
-    place-limited = walk-parts .fits
+  -- So it is at most the request limit: a longer request gets 10.
+  pub place-limited : judge lim request lent budget .answer .place ≤ lim .request
+  place-limited = walk-parts .fits
 
--- THE DERIVATION CALL and the whether call.
+-- THE DERIVATION CALL and the whether call. The limit of the input that an answer names:
+abbrev pub limit-of : Limits → Answer → ℕ
+limit-of lim a = pick (eqb (a .input) Limits.the-derivation) (λ _. lim .derivation) (λ _. lim .request)
+
 module _ (lim : Limits) (request derivation : List ℕ) where
-  -- The limit of the input that an answer names.
-  abbrev pub limit-of : Answer → ℕ
-  limit-of a = pick (eqb (a .input) Limits.the-derivation) (λ _. lim .derivation) (λ _. lim .request)
-
   record Check-parts (a : Answer) : Type 0 where
     input : Check-input a
     count : a .count ≡ 0
     place : Placed (length (named a request derivation)) (a .number) (a .place)
-    fits : a .place ≤ limit-of a
+    fits : a .place ≤ limit-of lim a
 
   accepted-parts : Check-parts (answer Limits.verified Limits.neither-input 0)
   unfolding answer named among inputs-of of-neither at-start some-of either pick
@@ -193,22 +192,23 @@ module _ (lim : Limits) (request derivation : List ℕ) where
         (λ _. accepted-if-parts (check-derivation lim layout r derivation) (derivation-checked lim layout derivation r))
     check-settled-parts (fault n p) h = request-parts n p h
 
-    check-parts : Check-parts (check lim layout request derivation)
-    unfolding check
-    check-parts = check-settled-parts (settled lim request) (settled-held lim request)
+module _ (lim : Limits) (layout : Layout) (request derivation : List ℕ) where
+  check-parts : Check-parts lim request derivation (check lim layout request derivation)
+  unfolding check
+  check-parts = check-settled-parts lim request derivation layout (settled lim request) (settled-held lim request)
 
-    -- Neither input is named exactly with 0, and else one that the number allows (FORMAT 4.26 to 4.29, 17.35, 17.36).
-    pub check-input-exactly : Check-input (check lim layout request derivation)
-    check-input-exactly = check-parts .input
+  -- Neither input is named exactly with 0, and else one that the number allows (FORMAT 4.26 to 4.29, 17.35, 17.36).
+  pub check-input-exactly : Check-input (check lim layout request derivation)
+  check-input-exactly = check-parts .input
 
-    -- The count is 0, whatever the number (FORMAT 4.44).
-    pub check-count-exactly : check lim layout request derivation .count ≡ 0
-    check-count-exactly = check-parts .count
+  -- The count is 0, whatever the number (FORMAT 4.44).
+  pub check-count-exactly : check lim layout request derivation .count ≡ 0
+  check-count-exactly = check-parts .count
 
-    -- The place is 0 with 0 and 10, the named input's length with 11, and that of one of its bytes with every other number (FORMAT 4.30).
-    pub check-place-within : Placed (length (named (check lim layout request derivation) request derivation)) (check lim layout request derivation .number) (check lim layout request derivation .place)
-    check-place-within = check-parts .place
+  -- The place is 0 with 0 and 10, the named input's length with 11, and that of one of its bytes with every other number (FORMAT 4.30).
+  pub check-place-within : Placed (length (named (check lim layout request derivation) request derivation)) (check lim layout request derivation .number) (check lim layout request derivation .place)
+  check-place-within = check-parts .place
 
-    -- So it is at most that input's limit: a longer one gets 10.
-    pub check-place-limited : check lim layout request derivation .place ≤ limit-of (check lim layout request derivation)
-    check-place-limited = check-parts .fits
+  -- So it is at most that input's limit: a longer one gets 10.
+  pub check-place-limited : check lim layout request derivation .place ≤ limit-of lim (check lim layout request derivation)
+  check-place-limited = check-parts .fits

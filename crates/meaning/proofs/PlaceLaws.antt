@@ -39,7 +39,7 @@ module _ {A : Type 0} (so : A → Type 0) where
   Each (x ∷ xs) = so x × Each xs
 
 module _ (size : ℕ) where
-  abbrev Found-below : Found → Type 0
+  abbrev pub Found-below : Found → Type 0
   Found-below nowhere = Unit {0}
   Found-below (at p) = p < size
 
@@ -177,11 +177,13 @@ module _ (size : ℕ) where
   end-below nowhere s h = tt
   end-below (at p) s h = h
 
+  pub missed-below : (r : Request) → Request-below r → (s : State) → Found-below (missed-in r s)
+  unfolding missed-in
+  missed-below r h s = or-below _ _ (first-missed-below _ (r .goals) (h .goals)) (first-missed-below _ (r .whether) (h .whether))
+
   pub walked-below : (r : Request) → Request-below r → Ends-below (walked r)
-  unfolding walked judged missed-in
-  walked-below r h =
-      walk-below (r .table) (r .plan) (h .plan) (judged r)
-      (λ s. end-below (missed-in r s) s (or-below _ _ (first-missed-below _ (r .goals) (h .goals)) (first-missed-below _ (r .whether) (h .whether))))
+  unfolding walked judged
+  walked-below r h = walk-below (r .table) (r .plan) (h .plan) (judged r) (λ s. end-below (missed-in r s) s (missed-below r h s))
 
 -- READING an input, with what is said of its faults.
 module _ (s : List ℕ) (Bad : ℕ → ℕ → Type 0) where
@@ -495,7 +497,7 @@ module _ (lim : Limits) (s : List ℕ) where
   abbrev pub Request-held : Got Request → Type 0
   Request-held = Held s Request-fault Request-read
 
-  read-held : Request-held (read-request lim s)
+  pub read-held : Request-held (read-request lim s)
   unfolding read-request among refusals byte-faults some-of either each-of both
   read-held =
       pick-has Request-held _ _ _ (λ _. too-long-fault refusals (lim .request) (length s) refl) λ f.
