@@ -405,7 +405,7 @@ module _ (s : List ℕ) (Bad : ℕ → ℕ → Type 0) where
     placed-below : (p : ℕ) (xs : List ℕ) → p + length xs ≤ length s → Each-below (length s) (λ (e : Entry). e .place) (placed p xs)
     unfolding placed
     placed-below p [] fits = tt
-    placed-below p (x ∷ xs) fits = (omega (arith, fits), placed-below (p + 1) xs (omega (arith, fits)))
+    placed-below p (x ∷ xs) fits = (omega (arith, fits), placed-below _ xs (omega (arith, fits)))
 
     module _ (lim : Limits) where
       table-held : (p : ℕ) → Held (λ (t : Table) (q : ℕ). Table-below (length s) t) (table-at lim s p)
