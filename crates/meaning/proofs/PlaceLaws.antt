@@ -185,9 +185,9 @@ module _ (size : ℕ) where
   unfolding walked judged
   walked-below r h = walk-below (r .table) (r .plan) (h .plan) (judged r) (λ s. end-below (missed-in r s) s (missed-below r h s))
 
--- READING an input, with what is said of its faults.
+-- READING an input, where `Bad n p` is what is said of a fault with number n at place p.
 module _ (s : List ℕ) (Bad : ℕ → ℕ → Type 0) where
-  -- What a reader gives stops within the input and is as said of it and of where it stops; and of a fault it is said too.
+  -- What a reader gives stops within the input, and `so` holds of it and of where it stops; of a fault `Bad` holds.
   module _ {A : Type 0} where
     abbrev Held : (A → ℕ → Type 0) → Got A → Type 0
     Held so (got x p) = (p ≤ length s) × so x p
@@ -205,7 +205,7 @@ module _ (s : List ℕ) (Bad : ℕ → ℕ → Type 0) where
     by-refuse n nowhere k bad found then = then
     by-refuse n (at p) k bad found then = bad p found
 
-  -- It is so of 11 at the input's length, and of the others at each of its bytes.
+  -- It holds of 11 at the input's length, and of the other faults of reading at each byte.
   module _ (ends : Bad Limits.ends-too-soon (length s)) (byte : (n p : ℕ) → among n byte-faults ≡ true → p < length s → Bad n p) where
     -- Some number, and the place after its one byte.
     abbrev One : ℕ → ℕ → ℕ → Type 0
