@@ -4,6 +4,5 @@ pub mod MarkedLaws
 pub mod FirstLaws
 pub mod JudgingLaws
 pub mod ShowingLaws
-pub mod PlaceLaws
 pub mod PackingLaws
 pub mod DerivationLaws

@@ -1,6 +1,7 @@
 -- An answer in one number, as the exported calls return it: where a call has given the definition's answer, its place has room, and what packs
 -- it packs the definition's. Assumes nothing.
-use Prim.Native.Nat.{ℕ, _+_, _*_, _<_}
+use Prim.Native.Nat.{ℕ, _+_, _*_, _≤_, _<_}
+use native.Mathlib.Omega.{arith}
 use mathlib.Core.Path.{_≡_, refl, sym, _∙_, ap, subst}
 use mathlib.Core.List.{List}
 use Rattle.meaning.specs.declared.Answer.{Answer}
@@ -8,13 +9,24 @@ use Rattle.meaning.specs.declared.Layout.{Layout}
 use Rattle.meaning.specs.Limits.{format}
 use Rattle.meaning.specs.Judging.{Judgement, judge}
 use Rattle.meaning.specs.Derivations.{check}
+use Rattle.meaning.proofs.PickLaws.{pick-has}
+use Rattle.meaning.proofs.PartLaws.{place-limited, limit-of, check-place-limited}
 use Rattle.glintstring.specs.Packing.{packed}
-use Rattle.glintstring.proofs.PlaceLaws.{place-small, check-place-small}
 
 -- PACKED.
 pub packs : (a : Answer) → a .number + 256 * a .input + 65536 * a .place + 4294967296 * a .count ≡ packed a
 unfolding packed
 packs a = refl
+
+-- A PLACE HAS ROOM.
+pub place-small : (s lent : List ℕ) (budget : ℕ) → judge format s lent budget .answer .place < 65536
+place-small s lent budget = let most = place-limited format s lent budget in omega (arith, most)
+
+pub check-place-small : (layout : Layout) (s d : List ℕ) → check format layout s d .place < 65536
+check-place-small layout s d =
+    let most = check-place-limited format layout s d in
+    let limit : limit-of format (check format layout s d) ≤ 32768 = pick-has (λ (n : ℕ). n ≤ 32768) _ _ _ (λ _. omega arith) (λ _. omega arith) in
+    omega (arith, most, limit)
 
 -- WHAT THE EXPORTED WALK CALL RETURNS, where the walk call has given an answer and left these bytes.
 module _ (s lent : List ℕ) (budget : ℕ) (a : Answer) (left : List ℕ) (judges : record { answer = a; state = left } ≡ judge format s lent budget) where

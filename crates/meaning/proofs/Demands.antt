@@ -30,6 +30,8 @@ use Rattle.meaning.proofs.WalkSound.{walk-sound}
 pub use Rattle.meaning.proofs.Exact.{spent-exactly, stuck-exactly, verified-exactly, missed-exactly, in-order}
 -- Demand 2, its second sentence (FORMAT 11.6, 17.39), and demand 1 of the derivation call and of the whether call (17.38).
 pub use Rattle.meaning.proofs.Accepted.{accepted-exactly, every-check-numbered}
+-- Demand 1 of input, place and count (FORMAT 11.4): they are what the number says.
+pub use Rattle.meaning.proofs.PartLaws.{input-exactly, count-exactly, place-within, check-input-exactly, check-count-exactly, check-place-within}
 -- A world's move is single-valued (FORMAT 9.6).
 pub use Rattle.meaning.proofs.WalkSound.{move-is-single-valued}
 

@@ -2,12 +2,14 @@
 use Prim.Native.Nat.{ℕ, _+_, _-_, _*_, _/_, _%_}
 use native.Mathlib.Omega.{arith}
 use mathlib.Core.Path.{_≡_, sym, _∙_, ap, subst}
-use mathlib.Core.Bool.{true, false}
+use mathlib.Core.Bool.{Bool, true, false}
+use mathlib.Core.List.{List}
 use mathlib.Core.Logic.{_⊎_, inl, inr}
 use lib.Dec.{eqb}
 use borrow.Author.Tests.{eqb-true, eqb-false, eq-eqb, ne-eqb}
-use Rattle.meaning.specs.Literals.{says-true, says-false, fluent-of, positive, complement}
-use Rattle.meaning.proofs.TestLaws.{by-test, pick-true, pick-false}
+use Rattle.meaning.specs.Tests.{each-of}
+use Rattle.meaning.specs.Literals.{says-true, says-false, fluent-of, positive, complement, among}
+use Rattle.meaning.proofs.TestLaws.{by-test, pick-true, pick-false, some-has, each-has}
 
 -- COMPLEMENTS.
 pub complement-even : (l : ℕ) → l % 2 ≡ 0 → complement l ≡ l + 1
@@ -86,3 +88,8 @@ same-fluent =
     (λ f. by-literal (λ l. fluent-of (says-false f) ≡ fluent-of l → (says-false f ≡ l) ⊎ (says-false f ≡ complement l))
     (λ g. rw (fluent-false f, fluent-true g, complement-true g) (λ q. inr (ap says-false q)))
     (λ g. rw (fluent-false f, fluent-false g) (λ q. inl (ap says-false q))))
+
+-- What each number of a list passes, a number among them passes.
+pub among-each : (test : ℕ → Bool) (ns : List ℕ) → each-of test ns ≡ true → (n : ℕ) → among n ns ≡ true → test n ≡ true
+unfolding among
+among-each test ns each n is = let one = some-has (eqb n) ns is in rw (eqb-true n (one .0) (one .2)) (each-has test ns (one .0) each (one .1))

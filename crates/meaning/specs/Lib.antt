@@ -14,3 +14,4 @@ pub mod Paths
 pub mod Derivations
 pub mod Showing
 pub mod Layouts
+pub mod AnswerParts

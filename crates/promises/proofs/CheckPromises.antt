@@ -5,6 +5,7 @@ use mathlib.Core.Path.{_≡_, sym, _∙_, ap, subst}
 use mathlib.Core.Bool.{true}
 use mathlib.Core.List.{List}
 use mathlib.Core.Logic.{_↔_}
+use lib.ListN.{length}
 use Rattle.meaning.specs.declared.Answer.{Answer}
 use Rattle.meaning.specs.declared.Layout.{Layout}
 use Rattle.meaning.specs.Limits
@@ -17,6 +18,7 @@ use Rattle.meaning.specs.States.{first-state}
 use Rattle.meaning.specs.Walk.{walked}
 use Rattle.meaning.specs.Derivations.{check}
 use Rattle.meaning.specs.Worlds.{Carried-out}
+use Rattle.meaning.specs.AnswerParts.{Check-input, Placed, named}
 use Rattle.meaning.proofs.TestLaws.{Has}
 use Rattle.meaning.proofs.Accepted.{Accepted, check-answers}
 use Rattle.meaning.proofs.Exact.{format-room}
@@ -62,3 +64,14 @@ module _ (layout : Layout) (request derivation : List ℕ) where
 
     pub unpacked-is : unpacked n ≡ check format layout request derivation
     unpacked-is = unpacks (check format layout request derivation) (check-small layout request derivation) n packs
+
+  -- INPUT, COUNT AND PLACE of an answer that is the definition's (FORMAT 4.26 to 4.44).
+  module _ (a : Answer) (is : a ≡ check format layout request derivation) where
+    pub input-exactly : Check-input a
+    input-exactly = subst Check-input (sym is) (Demands.check-input-exactly format layout request derivation)
+
+    pub count-exactly : a .count ≡ 0
+    count-exactly = ap (λ (z : Answer). z .count) is ∙ Demands.check-count-exactly format layout request derivation
+
+    pub place-within : Placed (length (named a request derivation)) (a .number) (a .place)
+    place-within = subst (λ (z : Answer). Placed (length (named z request derivation)) (z .number) (z .place)) (sym is) (Demands.check-place-within format layout request derivation)

@@ -4,6 +4,7 @@ use mathlib.Core.Path.{_≡_, sym, _∙_, ap}
 use mathlib.Core.Bool.{true}
 use mathlib.Core.List.{List}
 use mathlib.Core.Logic.{_↔_}
+use lib.ListN.{length}
 use contract.Lifetimes.{Lfts}
 use borrow.Fn.Kinds.{Dens, endedOf}
 use denote.Ref.{now}
@@ -20,6 +21,7 @@ use Rattle.meaning.specs.States.{first-state}
 use Rattle.meaning.specs.Walk.{walked}
 use Rattle.meaning.specs.Derivations.{check}
 use Rattle.meaning.specs.Worlds.{Carried-out}
+use Rattle.meaning.specs.AnswerParts.{Check-input, Placed, named}
 use Rattle.meaning.proofs.TestLaws.{Has}
 use Rattle.meaning.proofs.Accepted.{Accepted, check-answers}
 use Rattle.meaning.proofs.Sound.{Verified}
@@ -73,3 +75,14 @@ module _ (κs : Lfts 2) (given : Dens κs ps) where
     -- Demand 3 (FORMAT 11.7 to 11.12): the plan of an accepted derivation is carried out in every world with the initial facts.
     pub sound : answer .number ≡ Limits.verified → (x : Request) × (e : ℕ) × (settled format request ≡ got x e) × Carried-out x
     sound = CheckPromises.sound Plain request derivation _ number-is
+
+    -- Input, count and place are what the number says (FORMAT 4.26 to 4.44): neither input exactly with 0, and else one that the number allows.
+    pub input-exactly : Check-input answer
+    input-exactly = CheckPromises.input-exactly Plain request derivation answer meets
+
+    pub count-exactly : answer .count ≡ 0
+    count-exactly = CheckPromises.count-exactly Plain request derivation answer meets
+
+    -- Place 0 with 0 and 10, the named input's length with 11, and else that of a byte.
+    pub place-within : Placed (length (named answer request derivation)) (answer .number) (answer .place)
+    place-within = CheckPromises.place-within Plain request derivation answer meets

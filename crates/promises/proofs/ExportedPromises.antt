@@ -22,6 +22,7 @@ use Rattle.meaning.specs.Judging.{Judgement, within, judge}
 use Rattle.meaning.specs.Approximation.{failed, Φ̂, least}
 use Rattle.meaning.specs.Paths.{paths, walked-along}
 use Rattle.meaning.specs.Worlds.{Carried-out}
+use Rattle.meaning.specs.AnswerParts.{Walk-input, Walk-count, Placed}
 use Rattle.meaning.proofs.TestLaws.{Has}
 use Rattle.meaning.proofs.AnswerLaws.{answers}
 use Rattle.meaning.proofs.Exact.{count, Entailed}
@@ -137,3 +138,16 @@ module _ (κs : Lfts 2) (given : Dens κs ps) where
         pub missed-exactly : (n % 256 ≡ Limits.goal-missed) ↔ ((Φ̂ (x .table) (x .plan) (least (x .table)) failed → ⊥) × (Entailed x → ⊥))
         unfolding unpacked
         missed-exactly = JudgePromises.missed-exactly request lent budget (unpacked n) (left exit) judges x e lent-length past enough
+
+    -- Input, count and place are what the number says (FORMAT 4.26 to 4.44): neither input exactly with 0, 3 and 9.
+    pub input-exactly : Walk-input (unpacked n)
+    input-exactly = JudgePromises.input-exactly request lent budget (unpacked n) (left exit) judges
+
+    -- The walk's count with 0, 1 and 2, the budget with 3, and else 0.
+    pub count-exactly : Walk-count format request budget (unpacked n)
+    count-exactly = JudgePromises.count-exactly request lent budget (unpacked n) (left exit) judges
+
+    -- Place 0 with 0, 3, 9 and 10, the request's length with 11, and else that of a byte.
+    pub place-within : Placed (length request) (n % 256) (n / 65536 % 65536)
+    unfolding unpacked
+    place-within = JudgePromises.place-within request lent budget (unpacked n) (left exit) judges

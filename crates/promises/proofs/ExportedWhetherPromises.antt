@@ -4,6 +4,7 @@ use mathlib.Core.Path.{_≡_, sym, _∙_}
 use mathlib.Core.Bool.{true}
 use mathlib.Core.List.{List}
 use mathlib.Core.Logic.{_↔_}
+use lib.ListN.{length}
 use contract.Lifetimes.{Lfts}
 use borrow.Fn.Kinds.{Dens, endedOf}
 use denote.Ref.{now}
@@ -20,6 +21,7 @@ use Rattle.meaning.specs.States.{first-state}
 use Rattle.meaning.specs.Walk.{walked}
 use Rattle.meaning.specs.Derivations.{check}
 use Rattle.meaning.specs.Worlds.{Carried-out}
+use Rattle.meaning.specs.AnswerParts.{Check-input, Placed, named}
 use Rattle.meaning.proofs.TestLaws.{Has}
 use Rattle.meaning.proofs.Accepted.{Accepted, check-answers}
 use Rattle.meaning.proofs.Sound.{Verified}
@@ -93,3 +95,16 @@ module _ (κs : Lfts 2) (given : Dens κs ps) where
     -- included.
     pub sound : n % 256 ≡ Limits.verified → (x : Request) × (e : ℕ) × (settled format request ≡ got x e) × Carried-out x
     sound = CheckPromises.sound Closing request derivation _ (sym number-is)
+
+    -- Input, count and place are what the number says (FORMAT 4.26 to 4.44): neither input exactly with 0, and else one that the number allows.
+    pub input-exactly : Check-input (unpacked n)
+    input-exactly = CheckPromises.input-exactly Closing request derivation (unpacked n) unpacked-is
+
+    pub count-exactly : n / 4294967296 ≡ 0
+    unfolding unpacked
+    count-exactly = CheckPromises.count-exactly Closing request derivation (unpacked n) unpacked-is
+
+    -- Place 0 with 0 and 10, the named input's length with 11, and else that of a byte.
+    pub place-within : Placed (length (named (unpacked n) request derivation)) (n % 256) (n / 65536 % 65536)
+    unfolding unpacked
+    place-within = CheckPromises.place-within Closing request derivation (unpacked n) unpacked-is

@@ -18,6 +18,7 @@ use Rattle.meaning.specs.Judging.{Judgement, within, judge}
 use Rattle.meaning.specs.Approximation.{failed, Φ̂, least}
 use Rattle.meaning.specs.Paths.{paths, walked-along}
 use Rattle.meaning.specs.Worlds.{Carried-out}
+use Rattle.meaning.specs.AnswerParts.{Walk-input, Walk-count, Placed}
 use Rattle.meaning.proofs.TestLaws.{Has}
 use Rattle.meaning.proofs.AnswerLaws.{answers}
 use Rattle.meaning.proofs.Exact.{count, Entailed, format-room}
@@ -44,6 +45,15 @@ module _ (request lent : List ℕ) (budget : ℕ) (answer : Answer) (left : List
 
   pub sound : answer .number ≡ Limits.verified → (x : Request) × (e : ℕ) × (settled format request ≡ got x e) × Carried-out x
   sound passes = Demands.sound format request lent budget (number-is ∙ passes)
+
+  pub input-exactly : Walk-input answer
+  input-exactly = subst (λ (j : Judgement). Walk-input (j .answer)) (sym is) (Demands.input-exactly format request lent budget)
+
+  pub count-exactly : Walk-count format request budget answer
+  count-exactly = subst (λ (j : Judgement). Walk-count format request budget (j .answer)) (sym is) (Demands.count-exactly format request lent budget)
+
+  pub place-within : Placed (length request) (answer .number) (answer .place)
+  place-within = subst (λ (j : Judgement). Placed (length request) (j .answer .number) (j .answer .place)) (sym is) (Demands.place-within format request lent budget)
 
   module _ (x : Request) (e : ℕ) (lent-length : length lent ≡ 64) (past : settled format request ≡ got x e) where
     pub in-order : record { answer = answer; state = left } ≡ within lent budget (walked-along (missed-in x) (paths (table-step (x .table)) (x .plan) (first-state format (x .table))))

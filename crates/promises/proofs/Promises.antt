@@ -23,6 +23,7 @@ use Rattle.meaning.specs.Judging.{Judgement, within, judge}
 use Rattle.meaning.specs.Approximation.{failed, Φ̂, least}
 use Rattle.meaning.specs.Paths.{paths, walked-along}
 use Rattle.meaning.specs.Worlds.{Carried-out}
+use Rattle.meaning.specs.AnswerParts.{Walk-input, Walk-count, Placed}
 use Rattle.meaning.proofs.TestLaws.{Has}
 use Rattle.meaning.proofs.AnswerLaws.{answers}
 use Rattle.meaning.proofs.Exact.{count, Entailed}
@@ -107,3 +108,15 @@ module _ (κs : Lfts 2) (given : Dens κs ps) where
         -- A goal is missed, exactly where neither is so.
         pub missed-exactly : (answer .number ≡ Limits.goal-missed) ↔ ((Φ̂ (x .table) (x .plan) (least (x .table)) failed → ⊥) × (Entailed x → ⊥))
         missed-exactly = JudgePromises.missed-exactly request lent budget answer (left exit) meets x e lent-length past enough
+
+    -- Input, count and place are what the number says (FORMAT 4.26 to 4.44): neither input exactly with 0, 3 and 9.
+    pub input-exactly : Walk-input answer
+    input-exactly = JudgePromises.input-exactly request lent budget answer (left exit) meets
+
+    -- The walk's count with 0, 1 and 2, the budget with 3, and else 0.
+    pub count-exactly : Walk-count format request budget answer
+    count-exactly = JudgePromises.count-exactly request lent budget answer (left exit) meets
+
+    -- Place 0 with 0, 3, 9 and 10, the request's length with 11, and else that of a byte.
+    pub place-within : Placed (length request) (answer .number) (answer .place)
+    place-within = JudgePromises.place-within request lent budget answer (left exit) meets

@@ -2,30 +2,28 @@
 -- of the walk call, of the derivation call and of the whether call is such an answer. Assumes nothing.
 use Prim.Native.Nat.{ℕ, _/_, _%_, _<_}
 use native.Mathlib.Omega.{arith}
-use mathlib.Core.Path.{_≡_, refl, sym, _∙_, ap, subst}
+use mathlib.Core.Path.{_≡_, refl, _∙_, ap}
 use mathlib.Core.Bool.{true}
 use mathlib.Core.List.{List}
-use lib.Dec.{eqb, ltb}
-use borrow.Author.Tests.{eqb-true, ltb-true}
+use lib.Dec.{ltb}
+use borrow.Author.Tests.{ltb-true}
 use Rattle.meaning.specs.declared.Answer.{Answer}
 use Rattle.meaning.specs.declared.Layout.{Layout}
 use Rattle.meaning.specs.declared.Layout.the-variants.{Plain, Closing}
-use Rattle.meaning.specs.Tests.{either, both, some-of, each-of}
+use Rattle.meaning.specs.Tests.{both, each-of}
 use Rattle.meaning.specs.Limits.{format}
 use Rattle.meaning.specs.Literals.{among}
-use Rattle.meaning.specs.Requests.{Request}
-use Rattle.meaning.specs.Reading.{Got, got, fault}
-use Rattle.meaning.specs.Refusals.{settled}
-use Rattle.meaning.specs.States.{State}
-use Rattle.meaning.specs.Walk.{End, fine, missed, stuck}
-use Rattle.meaning.specs.Judging.{Judgement, ended, within, judge-settled, judge}
-use Rattle.meaning.specs.Derivations.{check-derivation, answer, accepted-if, check-settled, check}
-use Rattle.meaning.proofs.TestLaws.{some-has, each-has}
+use Rattle.meaning.specs.Judging.{judge}
+use Rattle.meaning.specs.Derivations.{check}
+use Rattle.meaning.specs.AnswerParts.{of-neither, inputs-of}
+use Rattle.meaning.proofs.TestLaws.{by-test}
+use Rattle.meaning.proofs.LiteralLaws.{among-each}
 use Rattle.meaning.proofs.PickLaws.{pick-has}
 use Rattle.meaning.proofs.AnswerLaws.{refusals, answers, every-answer-numbered}
 use Rattle.meaning.proofs.Accepted.{end-fault, faults, check-answers, every-check-numbered}
+use Rattle.meaning.proofs.PartLaws.{input-exactly, check-input-exactly}
 use Rattle.glintstring.specs.Packing.{packed, unpacked}
-use Rattle.glintstring.proofs.PlaceLaws.{place-small, check-place-small}
+use Rattle.glintstring.proofs.PackingLaws.{place-small, check-place-small}
 
 -- An answer whose parts have room.
 pub record Small (a : Answer) : Type 0 where
@@ -61,29 +59,15 @@ module _ (a : Answer) (small : Small a) (n : ℕ) (packs : n ≡ packed a) where
 
 -- THE WALK CALL'S ANSWERS. Each number is one of a few.
 number-small : (n : ℕ) → among n answers ≡ true → n < 256
-unfolding among answers refusals some-of either each-of both
-number-small n is =
-    let one = some-has (eqb n) answers is in
-    let same : n ≡ one .0 = eqb-true _ _ (one .2) in
-    subst (λ (m : ℕ). m < 256) (sym same) (ltb-true _ _ (each-has (λ (m : ℕ). ltb m 256) answers (one .0) refl (one .1)))
+unfolding answers refusals each-of both
+number-small n is = ltb-true _ _ (among-each (λ (m : ℕ). ltb m 256) answers refl n is)
 
-abbrev Input-small : Judgement → Type 0
-Input-small j = j .answer .input < 256
-
-ended-input : (lent : List ℕ) (c : ℕ) (e : End State) → Input-small (ended lent c e)
-unfolding ended
-ended-input lent c fine = omega arith
-ended-input lent c (missed p s) = omega arith
-ended-input lent c (stuck p s) = omega arith
-
-settled-input : (lent : List ℕ) (budget : ℕ) (x : Got Request) → Input-small (judge-settled format lent budget x)
-unfolding judge-settled within
-settled-input lent budget (got r e) = pick-has Input-small _ _ _ (λ _. omega arith) (λ _. ended-input lent _ _)
-settled-input lent budget (fault n p) = omega arith
-
-input-small : (s lent : List ℕ) (budget : ℕ) → Input-small (judge format s lent budget)
-unfolding judge
-input-small s lent budget = pick-has Input-small _ _ _ (λ _. settled-input lent budget (settled format s)) (λ _. omega arith)
+input-small : (s lent : List ℕ) (budget : ℕ) → judge format s lent budget .answer .input < 256
+input-small s lent budget =
+    let input = input-exactly format s lent budget in
+    by-test (among (judge format s lent budget .answer .number) of-neither)
+    (λ t. let is = input .neither .1 t in omega (arith, is))
+    (λ f. let is = input .request f in omega (arith, is))
 
 pub answer-small : (s lent : List ℕ) (budget : ℕ) → Small (judge format s lent budget .answer)
 answer-small s lent budget = record {
@@ -98,34 +82,28 @@ unfolding check-answers faults end-fault refusals each-of both
 numbers-small Plain = refl
 numbers-small Closing = refl
 
-check-number-small : (layout : Layout) (n : ℕ) → among n (check-answers layout) ≡ true → n < 256
-unfolding among
-check-number-small layout n is =
-    let one = some-has (eqb n) (check-answers layout) is in
-    let same : n ≡ one .0 = eqb-true _ _ (one .2) in
-    subst (λ (m : ℕ). m < 256) (sym same) (ltb-true _ _ (each-has (λ (m : ℕ). ltb m 256) (check-answers layout) (one .0) (numbers-small layout) (one .1)))
-
-abbrev Named-small : Answer → Type 0
-Named-small a = a .input < 256
-
-accepted-named : (x : Got (Unit {0})) → Named-small (accepted-if x)
-unfolding accepted-if answer
-accepted-named (got x e) = omega arith
-accepted-named (fault n p) = omega arith
+inputs-small : (n : ℕ) → each-of (λ (m : ℕ). ltb m 256) (inputs-of n) ≡ true
+unfolding inputs-of each-of both
+inputs-small n =
+    pick-has Each-small _ _ _ (λ _. refl) λ _.
+    pick-has Each-small _ _ _ (λ _. refl) λ _.
+    pick-has Each-small _ _ _ (λ _. refl) (λ _. refl)
+  where
+    Each-small : List ℕ → Type 0
+    Each-small ns = each-of (λ (m : ℕ). ltb m 256) ns ≡ true
 
 module _ (layout : Layout) where
-  check-settled-named : (d : List ℕ) (x : Got Request) → Named-small (check-settled format layout d x)
-  unfolding check-settled answer
-  check-settled-named d (got r e) = pick-has Named-small _ _ _ (λ _. omega arith) (λ _. accepted-named (check-derivation format layout r d))
-  check-settled-named d (fault n p) = omega arith
+  check-number-small : (n : ℕ) → among n (check-answers layout) ≡ true → n < 256
+  check-number-small n is = ltb-true _ _ (among-each (λ (m : ℕ). ltb m 256) (check-answers layout) (numbers-small layout) n is)
 
-  check-named : (s d : List ℕ) → Named-small (check format layout s d)
-  unfolding check
-  check-named s d = check-settled-named d (settled format s)
+  check-input-small : (s d : List ℕ) → check format layout s d .input < 256
+  check-input-small s d =
+      let a = check format layout s d in
+      ltb-true _ _ (among-each (λ (m : ℕ). ltb m 256) (inputs-of (a .number)) (inputs-small (a .number)) (a .input) (check-input-exactly format layout s d .allowed))
 
   pub check-small : (s d : List ℕ) → Small (check format layout s d)
   check-small s d = record {
-    number = check-number-small layout _ (every-check-numbered format layout s d);
-    input = check-named s d;
+    number = check-number-small _ (every-check-numbered format layout s d);
+    input = check-input-small s d;
     place = check-place-small layout s d;
   }
