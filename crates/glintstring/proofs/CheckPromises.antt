@@ -14,12 +14,11 @@ use Rattle.meaning.specs.Requests.{Request}
 use Rattle.meaning.specs.Reading.{got}
 use Rattle.meaning.specs.Refusals.{settled}
 use Rattle.meaning.specs.States.{first-state}
-use Rattle.meaning.specs.Walk.{walked}
+use Rattle.meaning.specs.Walk.{Verified, walked}
 use Rattle.meaning.specs.Derivations.{check}
 use Rattle.meaning.specs.Worlds.{Carried-out}
 use Rattle.meaning.proofs.Accepted.{Accepted, check-answers}
 use Rattle.meaning.proofs.Exact.{format-room}
-use Rattle.meaning.proofs.Sound.{Verified}
 use Rattle.meaning.proofs.Demands
 use Rattle.glintstring.specs.Packing.{packed, unpacked}
 use Rattle.glintstring.proofs.PackingLaws.{number-back, input-back, place-back, count-back, unpacks, check-small}

@@ -17,11 +17,10 @@ use Rattle.meaning.specs.Requests.{Request}
 use Rattle.meaning.specs.Reading.{got}
 use Rattle.meaning.specs.Refusals.{settled}
 use Rattle.meaning.specs.States.{first-state}
-use Rattle.meaning.specs.Walk.{walked}
+use Rattle.meaning.specs.Walk.{Verified, walked}
 use Rattle.meaning.specs.Derivations.{check}
 use Rattle.meaning.specs.Worlds.{Carried-out}
 use Rattle.meaning.proofs.Accepted.{Accepted, check-answers}
-use Rattle.meaning.proofs.Sound.{Verified}
 use Rattle.glintstring.specs.Packing.{packed, unpacked}
 use Rattle.glintstring.proofs.CheckPromises
 use Rattle.glintstring.proofs.exports.glintstring_check_whether.Kinds.{ps, r}

@@ -19,15 +19,16 @@ use Rattle.meaning.specs.Reading.{got}
 use Rattle.meaning.specs.Refusals.{settled}
 use Rattle.meaning.specs.States.{first-state}
 use Rattle.meaning.specs.Walk.{table-step, missed-in}
-use Rattle.meaning.specs.Judging.{Judgement, within, judge}
-use Rattle.meaning.specs.Approximation.{failed, Φ̂, least}
+use Rattle.meaning.specs.Judging.{Judgement, within, judge, count}
+use Rattle.meaning.specs.Approximation.{failed, Φ̂, least, Entailed}
 use Rattle.meaning.specs.Paths.{paths, walked-along}
 use Rattle.meaning.specs.Worlds.{Carried-out}
 use Rattle.meaning.proofs.AnswerLaws.{answers}
-use Rattle.meaning.proofs.Exact.{count, Entailed, format-room}
+use Rattle.meaning.proofs.Exact.{format-room}
 use Rattle.meaning.proofs.Demands
 use Rattle.steps.specs.AtHand.{Marked}
-use Rattle.glintstring.proofs.LentLaws.{judge-kept, Writes, Written, judge-written}
+use Rattle.glintstring.specs.Lent.{Writes, Written}
+use Rattle.glintstring.proofs.LentLaws.{judge-kept, judge-written}
 use Rattle.glintstring.proofs.judging.judge.Kinds.{ps, r}
 use Rattle.glintstring.proofs.judging.judge.Reads.{Pre, Post}
 

@@ -9,7 +9,7 @@ use mathlib.Core.Logic.{⊎-elim, _↔_}
 use lib.ListN.{length}
 use lib.Dec.{ltb, eqb}
 use borrow.Author.Tests.{eqb-true, eq-eqb, ltb-true, lt-ltb, le-ltb}
-use Rattle.meaning.specs.Tests.{either, pick, some-of, each-of}
+use Rattle.meaning.specs.Tests.{either, pick, some-of, each-of, Has}
 use Rattle.meaning.specs.Limits
 use Rattle.meaning.specs.Limits.{Limits, format}
 use Rattle.meaning.specs.Literals.{says-true, among}
@@ -18,38 +18,27 @@ use Rattle.meaning.specs.Reading.{got}
 use Rattle.meaning.specs.Refusals.{nowhere, or-else, settled}
 use Rattle.meaning.specs.States.{State, known, known-whether, first-state}
 use Rattle.meaning.specs.Walk.{End, fine, missed, stuck, Walked, table-step, first-missed, missed-in, walked}
-use Rattle.meaning.specs.Judging.{Judgement, ended, within, judge-settled, judge}
-use Rattle.meaning.specs.Approximation.{Pair, Disjoint, true-in, false-in, _≼_, Result, failed, state, Φ̂, least, Initial, Entails, Knows-after, Kwhether-after}
+use Rattle.meaning.specs.Judging.{Judgement, ended, within, judge-settled, judge, number, count}
+use Rattle.meaning.specs.Approximation.{Pair, Disjoint, true-in, false-in, _≼_, Result, failed, state, Φ̂, least, Initial, Entails, Entailed}
 use Rattle.meaning.specs.Paths.{Ending, arrives, stops, Path, paths, walked-along}
-use Rattle.meaning.proofs.TestLaws.{either-left, either-right, either-split, pick-true, pick-false, pick-cases, pick-map, Has, some-has, has-some, each-has, has-each}
+use Rattle.meaning.specs.Reported.{pair-of}
+use Rattle.meaning.proofs.TestLaws.{either-left, either-right, either-split, pick-true, pick-false, pick-cases, pick-map, some-has, has-some, each-has, has-each}
 use Rattle.meaning.proofs.RefusalLaws.{at≢nowhere}
 use Rattle.meaning.proofs.SettledLaws.{or-else-nowhere, Settled, settled-is, Fit, fit}
 use Rattle.meaning.proofs.PathLaws.{walked-in-order}
 use Rattle.meaning.proofs.RangeLaws.{Ranged, read-ranged}
 use Rattle.meaning.proofs.EndLaws.{Ends, Stops, Says, end-says, none-missed}
-use Rattle.meaning.proofs.PairLaws.{true-in-true, true-in-false, false-in-true, pair-of, true-in-pair, pair-disjoint}
+use Rattle.meaning.proofs.PairLaws.{true-in-true, true-in-false, false-in-true, true-in-pair, pair-disjoint}
 use Rattle.meaning.proofs.ToldLaws.{first-length, first-known, first-least}
 use Rattle.meaning.proofs.CoverLaws.{result-of, knows-pair, knows-true, reaches, Covered, covers}
 
--- WHAT IS SAID OF A JUDGEMENT. The answer's number.
-abbrev pub number : Limits → (request lent : List ℕ) → (budget : ℕ) → ℕ
-number lim b lent budget = judge lim b lent budget .answer .number
-
--- The count of the whole walk.
-abbrev pub count : Limits → Request → ℕ
-count lim r = walked r (first-state lim (r .table)) .count
-
--- Its end.
+-- WHAT IS SAID OF A JUDGEMENT. The end of the whole walk.
 abbrev walk-end : Limits → Request → End State
 walk-end lim r = walked r (first-state lim (r .table)) .end
 
 -- The paths of the plan, from the first state.
 abbrev all-paths : Limits → Request → List (Path State)
 all-paths lim r = paths (table-step (r .table)) (r .plan) (first-state lim (r .table))
-
--- The goals are known after the plan and each whether fluent is known whether, in the 0-approximation.
-abbrev pub Entailed : Request → Type 0
-Entailed r = Knows-after (r .table) (values (r .goals)) (r .plan) × ((f : ℕ) → Has (values (r .whether)) f → Kwhether-after (r .table) f (r .plan))
 
 -- NUMBERS. The number of an end.
 abbrev answered : End State → ℕ
