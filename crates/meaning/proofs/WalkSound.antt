@@ -64,6 +64,7 @@ module _ (r : Request) where
   last-reached s v P g e =
       let q = or-else-nowhere _ _ (fine-nowhere (missed-in r s) s e) in
       record {
+        true-world = g .actual;
         goals = λ w h. each-mono (known s) (holds w) (g .agree w h) _ (none-missed (known s) (r .goals) .0 (q .0));
         whether = λ w u hw hu. known-values s w u (g .agree w hw) (g .agree u hu) _ (none-missed (known-whether s) (r .whether) .0 (q .1));
       }
