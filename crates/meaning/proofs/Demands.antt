@@ -27,6 +27,8 @@ use Rattle.meaning.proofs.WalkSound.{walk-sound}
 -- Demand 2, its first sentence (FORMAT 11.5): past the refusals and within the budget the answers are those of the 0-approximation, in the
 -- order of the paths.
 pub use Rattle.meaning.proofs.Exact.{spent-exactly, stuck-exactly, verified-exactly, missed-exactly, in-order}
+-- What answers 1 and 2 report (FORMAT 11.13 to 11.16).
+pub use Rattle.meaning.proofs.ReportLaws.{missed-in-an-end-state, missed-there, stopped-there}
 -- Demand 2, its second sentence (FORMAT 11.6, 17.39), and demand 1 of the derivation call and of the whether call (17.38).
 pub use Rattle.meaning.proofs.Accepted.{accepted-exactly, every-check-numbered}
 -- A world's move is single-valued (FORMAT 9.6).

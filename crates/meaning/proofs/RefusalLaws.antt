@@ -52,6 +52,13 @@ unfolding contradictory
 contradicts-itself e = by-test _ (λ t. absurd (complement-other (e .literal) (sym (eqb-true _ _ (both-left _ _ (both-right _ _ t)))))) (λ f. f)
 
 -- 16.
+pub at-same : {p q : ℕ} → at p ≡ at q → p ≡ q
+at-same {p} e = ap place e
+  where
+    place : Found → ℕ
+    place nowhere = p
+    place (at i) = i
+
 pub at≢nowhere : {p : ℕ} → at p ≡ nowhere → ⊥
 at≢nowhere e = subst told e tt
   where
