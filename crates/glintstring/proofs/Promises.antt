@@ -22,6 +22,7 @@ use Rattle.meaning.specs.Walk.{table-step, missed-in}
 use Rattle.meaning.specs.Judging.{Judgement, within, judge, count}
 use Rattle.meaning.specs.Approximation.{failed, Φ̂, least, Entailed}
 use Rattle.meaning.specs.Paths.{paths, walked-along}
+use Rattle.meaning.specs.Reported.{Misses, all-paths, Missed-at, Stopped-at}
 use Rattle.meaning.specs.Worlds.{Carried-out}
 use Rattle.meaning.proofs.AnswerLaws.{answers}
 use Rattle.meaning.proofs.Exact.{format-room}
@@ -94,6 +95,18 @@ module _ (κs : Lfts 2) (given : Dens κs ps) where
       pub spent-exactly : (answer .number ≡ Limits.budget-spent) ↔ (budget < count format x)
       spent-exactly = rw (sym number-is) (Demands.spent-exactly format format-room request lent budget x e lent-length past)
 
+      -- Answer 1 is about the first end state that misses an entry, and is placed at the first entry that is not met there (FORMAT 11.14, 11.15).
+      pub missed-there : answer .number ≡ Limits.goal-missed → Missed-at x (all-paths format x) (answer .place) (left exit)
+      missed-there =
+          subst (λ (j : Judgement). j .answer .number ≡ Limits.goal-missed → Missed-at x (all-paths format x) (j .answer .place) (j .state)) (sym meets)
+          (Demands.missed-there format format-room request lent budget x e lent-length past)
+
+      -- Answer 2 is about the first path that stops, and is placed at the item that can't be run there (FORMAT 11.16).
+      pub stopped-there : answer .number ≡ Limits.not-executable → Stopped-at x (all-paths format x) (answer .place) (left exit)
+      stopped-there =
+          subst (λ (j : Judgement). j .answer .number ≡ Limits.not-executable → Stopped-at x (all-paths format x) (j .answer .place) (j .state)) (sym meets)
+          (Demands.stopped-there format format-room request lent budget x e lent-length past)
+
       module _ (enough : count format x ≤ budget) where
         -- Not executable, exactly where the plan fails from the least initial a-state.
         pub stuck-exactly : (answer .number ≡ Limits.not-executable) ↔ Φ̂ (x .table) (x .plan) (least (x .table)) failed
@@ -106,3 +119,7 @@ module _ (κs : Lfts 2) (given : Dens κs ps) where
         -- A goal is missed, exactly where neither is so.
         pub missed-exactly : (answer .number ≡ Limits.goal-missed) ↔ ((Φ̂ (x .table) (x .plan) (least (x .table)) failed → ⊥) × (Entailed x → ⊥))
         missed-exactly = rw (sym number-is) (Demands.missed-exactly format format-room request lent budget x e lent-length past enough)
+
+        -- That is where every path can be run and an entry is not met in some end state (FORMAT 11.13).
+        pub missed-in-an-end-state : (answer .number ≡ Limits.goal-missed) ↔ Misses x
+        missed-in-an-end-state = rw (sym number-is) (Demands.missed-in-an-end-state format format-room request lent budget x e lent-length past enough)
