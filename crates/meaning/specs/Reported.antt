@@ -1,5 +1,5 @@
--- What answers 1 and 2 report, by the list of paths and in the terms of the 0-approximation: the walk and its tests are not called
--- (FORMAT 4.36, 4.46, 8.12, 8.16 to 8.20, 11.13 to 11.16).
+-- What answers 1 and 2 report: which of the plan's paths, by their list, and what is true in a state, by the 0-approximation. The walk is not
+-- called (FORMAT 4.36, 4.46, 8.12, 8.16 to 8.20, 11.13 to 11.16).
 use Prim.Native.Nat.{ℕ}
 use mathlib.Core.Path.{_≡_}
 use mathlib.Core.Bool.{Bool, true, false}
