@@ -14,7 +14,7 @@ use borrow.Author.Tests.{eqb-true, ltb-true}
 use native.Mathlib.Decide.{decLt}
 use Rattle.meaning.specs.declared.Layout.{Layout}
 use Rattle.meaning.specs.declared.Layout.the-variants.{Plain, Closing}
-use Rattle.meaning.specs.Tests.{both, either, each-of}
+use Rattle.meaning.specs.Tests.{both, either, each-of, Has}
 use Rattle.meaning.specs.Limits
 use Rattle.meaning.specs.Limits.{Limits}
 use Rattle.meaning.specs.Literals.{says-true, says-false, fluent-of, among}
@@ -23,23 +23,23 @@ use Rattle.meaning.specs.Reading.{got, two-bytes-at, count-at, literals,
 use Rattle.meaning.specs.Refusals.{nowhere, conditions-of, all-exclusive, overlap-in}
 use Rattle.meaning.specs.Lines.{sensing}
 use Rattle.meaning.specs.States.{State, known, state-of, first-state, can-be-run, state-after, unknown-sensed, Outcome, single, fork, readings}
-use Rattle.meaning.specs.Walk.{walked}
-use Rattle.meaning.specs.Approximation.{Pair, Disjoint, true-in, false-in, _≼_, executable, K, sensing-action, Res, Result, failed, state, Sensed, Φ, Union, None-true, Φ̂, Φ̂-item, Φ̂-case, Entails}
+use Rattle.meaning.specs.Walk.{Verified, walked}
+use Rattle.meaning.specs.Approximation.{Pair, Disjoint, true-in, false-in, _≼_, executable, K, sensing-action, Res, Result, failed, state, Sensed, Φ, Union, None-true, Φ̂, Φ̂-item, Φ̂-case, Entails, Entailed}
 use Rattle.meaning.specs.Derivations.{Conclusion, knows, knows-whether, Line, Derivation, concluded-at, line-at, closing-at, read-derivation, overlap-in-lines, same-list, same-plan, same-item, same-branches, join, included, known-from, literals-of, same-conclusion, says, states-of, of-one, of-two, rule-1, takes-branch, branches-first, rule-4, rule-5, part-of, rule-6, one-literal, settles, rule-8, each-reads, acts, one-action, rule-2, reads, senses-first, rule-3, looks-for, one-look, rule-7, given-by, for-lists, follows, cited-by, asks-for, goals-of, all-asked, names}
-use Rattle.meaning.proofs.PairLaws.{pair-of, true-in-true, true-in-false, false-in-true, pair-after, executable-grows, Res-grows, Res-disjoint, runs-pair, sensing-pair, senses-pair, ≼-trans}
+use Rattle.meaning.proofs.PairLaws.{true-in-true, true-in-false, false-in-true, pair-after, executable-grows, Res-grows, Res-disjoint, runs-pair, sensing-pair, senses-pair, ≼-trans}
 use Rattle.meaning.specs.Paths.{arrives, arrivals}
+use Rattle.meaning.specs.Reported.{pair-of}
 use Rattle.meaning.proofs.EndLaws.{Ends, arrives-same, ends-one, ends-split}
 use Rattle.meaning.proofs.SensingLaws.{reading-follows}
 use Rattle.meaning.proofs.SettledLaws.{got-same, settled-is, or-else-nowhere, Fit, fit}
 use Rattle.meaning.proofs.Accepted.{All-follow, Last-asks, All-named, Answered, Accepted}
 use Rattle.meaning.proofs.RangeLaws.{after-got, not-refused, list-within, list-consistent, line-read, Ranged, read-ranged}
-use Rattle.meaning.proofs.Sound.{Verified}
-use Rattle.meaning.proofs.Exact.{Entailed, entailed-fine}
+use Rattle.meaning.proofs.Exact.{entailed-fine}
 use Rattle.meaning.proofs.PickLaws.{has-picked}
 use Rattle.meaning.proofs.CoverLaws.{knows-true, others-false, none-chosen}
 use Rattle.meaning.proofs.ToldLaws.{state-length, Clear, state-known}
 use Rattle.meaning.proofs.LiteralLaws.{one-of-two}
-use Rattle.meaning.proofs.TestLaws.{clash, both-left, both-right, either-left, either-right, either-split, fails-true, pick-cases, Has, has-left, has-right, some-has, each-has, has-each, some-mono, has-map, map-has}
+use Rattle.meaning.proofs.TestLaws.{clash, both-left, both-right, either-left, either-right, either-split, fails-true, pick-cases, has-left, has-right, some-has, each-has, has-each, some-mono, has-map, map-has}
 
 -- EQUALITY of lists and of conclusions, and of plans up to places, as the transition function sees it.
 pub same-list-is : (xs ys : List ℕ) → same-list xs ys ≡ true → xs ≡ ys

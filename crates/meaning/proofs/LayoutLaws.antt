@@ -1,6 +1,6 @@
 -- The two layouts take the same derivations, where no whether entry is asked and every line is by a rule of both: what is read is what is written,
 -- the lines are read from either layout, and no rule asks where they stand. Assumes nothing.
-use Prim.Native.Nat.{ℕ, zero, suc, _+_, _-_, _/_, _%_, _≤_, _<_}
+use Prim.Native.Nat.{ℕ, zero, suc, _+_, _-_, _/_, _%_, _<_}
 use native.Mathlib.Omega.{arith}
 use mathlib.Core.Path.{_≡_, refl, sym, _∙_, ap, subst}
 use mathlib.Core.Bool.{true, false≢true}
@@ -16,7 +16,7 @@ use Rattle.meaning.specs.Requests.{Table, Entry, Request}
 use Rattle.meaning.specs.Reading.{got}
 use Rattle.meaning.specs.Refusals.{nowhere, settled}
 use Rattle.meaning.specs.Derivations.{Conclusion, knows-whether, Line, Derivation, read-derivation, overlap-in-lines, a-rule, goals-of, all-asked, names, check}
-use Rattle.meaning.specs.Layouts.{Bytes, list-written, number-written, numbers-written, plan-written, conclusion-written, concluded-written, line-written, lines-written, closing-written, written, plain-rules, names-last, closed-by-last, read-for}
+use Rattle.meaning.specs.Layouts.{Bytes, list-written, number-written, numbers-written, plan-written, conclusion-written, concluded-written, line-written, lines-written, closing-written, written, plain-rules, names-last, closed-by-last, read-for, In-closing-layout, In-plain-layout}
 use Rattle.meaning.proofs.TestLaws.{both-left, both-right, both-true, either-left}
 use Rattle.meaning.proofs.SettledLaws.{got-same, next-got}
 use Rattle.meaning.proofs.MovedReads.{next-is}
@@ -202,16 +202,7 @@ read-is-written lim layout request d bytes D e read =
     let w = next-got (settled lim request) _ read in
     derivation-copied lim (w .0 .table .fluents) (w .0 .table .actions) d bytes layout .holds D e (w .3) .same
 
--- FROM PLAIN TO CLOSING. The derivation that d says, written in the closing layout with a closing list that names its last line.
-pub record In-closing-layout (lim : Limits) (request d : List ℕ) : Type 0 where
-  pub says : Derivation
-  pub end : ℕ
-  pub read : read-for lim Plain request d ≡ got says end
-  pub same : written Plain says ≡ d
-  pub bytes : Bytes (written Closing (closed-by-last says))
-  pub longer : length (written Closing (closed-by-last says)) ≡ length d + 3
-  pub accepted : length (written Closing (closed-by-last says)) ≤ lim .derivation → check lim Closing request (written Closing (closed-by-last says)) .number ≡ Limits.verified
-
+-- FROM PLAIN TO CLOSING.
 -- A derivation that the derivation call accepts is three bytes longer in the closing layout, and the whether call accepts it where it has room
 -- (FORMAT 17.42). The request has no whether entries, or the derivation call would have answered 30.
 pub plain-to-closing : (lim : Limits) (request d : List ℕ) → Bytes d → check lim Plain request d .number ≡ Limits.verified → In-closing-layout lim request d
@@ -249,13 +240,7 @@ plain-to-closing lim request d bytes verified =
           });
     }
 
--- FROM CLOSING TO PLAIN. The derivation D that d says, written in the plain layout: its closing list is left out.
-pub record In-plain-layout (lim : Limits) (request d : List ℕ) (D : Derivation) : Type 0 where
-  pub same : written Closing D ≡ d
-  pub bytes : Bytes (written Plain D)
-  pub shorter : length (written Plain D) + 3 ≡ length d
-  pub accepted : check lim Plain request (written Plain D) .number ≡ Limits.verified
-
+-- FROM CLOSING TO PLAIN.
 -- A derivation by rules 1 to 6 whose closing list names its last line, and that the whether call accepts, is three bytes shorter in the plain
 -- layout, and the derivation call accepts it (FORMAT 17.43). The request has no whether entries, or one closing entry would be too few.
 pub closing-to-plain : (lim : Limits) (request d : List ℕ) → Bytes d → (D : Derivation) (e : ℕ) → read-for lim Closing request d ≡ got D e

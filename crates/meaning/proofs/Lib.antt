@@ -29,6 +29,7 @@ pub mod EndLaws
 pub mod SensingLaws
 pub mod CoverLaws
 pub mod Exact
+pub mod ReportLaws
 pub mod Accepted
 pub mod LayoutLaws
 pub mod DerivationSound

@@ -9,12 +9,12 @@ use mathlib.Core.List.{List, _∷_}
 use mathlib.Core.Logic.{_⊎_, inl, inr, ⊎-elim}
 use lib.Dec.{eqb}
 use borrow.Author.Tests.{ltb-false, leb-false, lt-ltb, eq-eqb, eqb-true, eqb-false}
-use Rattle.meaning.specs.Tests.{both, pick}
+use Rattle.meaning.specs.Tests.{both, pick, Has}
 use Rattle.meaning.specs.Limits.{Limits}
 use Rattle.meaning.specs.Literals.{complement}
 use Rattle.meaning.specs.Requests.{Effect, Knowledge, Table, Request}
 use Rattle.meaning.specs.Reading.{Got, got, fault, next, byte-at, count-at, below-at, literals, fluents, bound-of, have-complements, entry-at, entries-at, list-at, repeated, section-at, body-at, effect-at, executability-at, knowledge-at, plan-at, table-at, request-at, read-request}
-use Rattle.meaning.proofs.TestLaws.{by-test, clash, both-true, either-right, pick-cases, Has}
+use Rattle.meaning.proofs.TestLaws.{by-test, clash, both-true, either-right, pick-cases}
 use Rattle.meaning.proofs.SettledLaws.{fault≢got, got-same, next-got}
 use Rattle.meaning.proofs.LiteralLaws.{complement-even, complement-odd, complement-twice, complement-other}
 

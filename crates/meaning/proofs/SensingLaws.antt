@@ -10,18 +10,19 @@ use mathlib.Core.Logic.{_⊎_, inl, inr, ⊎-elim}
 use lib.ListN.{length}
 use lib.Dec.{eqb}
 use borrow.Author.Tests.{eqb-true, eq-eqb}
-use Rattle.meaning.specs.Tests.{both, either, fails}
+use Rattle.meaning.specs.Tests.{both, either, fails, Has}
 use Rattle.meaning.specs.Literals.{says-true, says-false, fluent-of, complement, among}
 use Rattle.meaning.specs.Requests.{Knowledge, Table}
 use Rattle.meaning.specs.Lines.{knowledge-of, senses}
 use Rattle.meaning.specs.States.{State, known, known-whether, told, told-all, unknown-from, unknown-sensed, readings}
 use Rattle.meaning.specs.Paths.{Ending, arrives, arrivals}
 use Rattle.meaning.specs.Approximation.{Pair, true-in, _≼_, K, Sensed}
-use Rattle.meaning.proofs.TestLaws.{by-test, clash, same-test, both-left, both-right, both-true, either-left, either-right, either-split, fails-true, fails-false, Has, some-has, has-some, has-map, map-has}
+use Rattle.meaning.specs.Reported.{pair-of}
+use Rattle.meaning.proofs.TestLaws.{by-test, clash, same-test, both-left, both-right, both-true, either-left, either-right, either-split, fails-true, fails-false, some-has, has-some, has-map, map-has}
 use Rattle.meaning.proofs.PickLaws.{pick-has, has-picked}
 use Rattle.meaning.proofs.ToldLaws.{Tellable, told-all-length, told-all-known}
 use Rattle.meaning.proofs.EndLaws.{Ends, ends-left, ends-right, ends-split}
-use Rattle.meaning.proofs.PairLaws.{pair-of, true-in-true, true-in-false, pair-disjoint, senses-pair}
+use Rattle.meaning.proofs.PairLaws.{true-in-true, true-in-false, pair-disjoint, senses-pair}
 use Rattle.meaning.proofs.LiteralLaws.{complement-other, fluent-true, fluent-false, by-literal, one-of-two, fluent-complement}
 
 -- THE FLUENTS READ. No fluent stands twice.

@@ -11,6 +11,8 @@ pub mod Judging
 pub mod Worlds
 pub mod Approximation
 pub mod Paths
+pub mod Reported
+pub mod SameLines
 pub mod Derivations
 pub mod Showing
 pub mod Layouts

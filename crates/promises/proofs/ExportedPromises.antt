@@ -18,14 +18,14 @@ use Rattle.meaning.specs.Reading.{got}
 use Rattle.meaning.specs.Refusals.{settled}
 use Rattle.meaning.specs.States.{first-state}
 use Rattle.meaning.specs.Walk.{table-step, missed-in}
-use Rattle.meaning.specs.Judging.{Judgement, within, judge}
-use Rattle.meaning.specs.Approximation.{failed, Φ̂, least}
+use Rattle.meaning.specs.Judging.{Judgement, within, judge, count}
+use Rattle.meaning.specs.Approximation.{failed, Φ̂, least, Entailed}
 use Rattle.meaning.specs.Paths.{paths, walked-along}
+use Rattle.meaning.specs.Reported.{Misses, all-paths, Missed-at, Stopped-at}
 use Rattle.meaning.specs.Worlds.{Carried-out}
 use Rattle.meaning.specs.AnswerParts.{Walk-input, Walk-count, Placed}
-use Rattle.meaning.proofs.TestLaws.{Has}
+use Rattle.meaning.specs.Tests.{Has}
 use Rattle.meaning.proofs.AnswerLaws.{answers}
-use Rattle.meaning.proofs.Exact.{count, Entailed}
 use Rattle.meaning.proofs.Table.{judging, judged, Row, table}
 use Rattle.steps.specs.AtHand.{Marked}
 use Rattle.glintstring.specs.Packing.{packed, unpacked}
@@ -123,6 +123,16 @@ module _ (κs : Lfts 2) (given : Dens κs ps) where
       unfolding unpacked
       spent-exactly = JudgePromises.spent-exactly request lent budget (unpacked n) (left exit) judges x e lent-length past
 
+      -- Answer 1 is about the first end state that misses an entry, and is placed at the first entry that is not met there (FORMAT 11.14, 11.15).
+      pub missed-there : n % 256 ≡ Limits.goal-missed → Missed-at x (all-paths format x) (n / 65536 % 65536) (left exit)
+      unfolding unpacked
+      missed-there = JudgePromises.missed-there request lent budget (unpacked n) (left exit) judges x e lent-length past
+
+      -- Answer 2 is about the first path that stops, and is placed at the item that can't be run there (FORMAT 11.16).
+      pub stopped-there : n % 256 ≡ Limits.not-executable → Stopped-at x (all-paths format x) (n / 65536 % 65536) (left exit)
+      unfolding unpacked
+      stopped-there = JudgePromises.stopped-there request lent budget (unpacked n) (left exit) judges x e lent-length past
+
       module _ (enough : count format x ≤ budget) where
         -- Not executable, exactly where the plan fails from the least initial a-state.
         pub stuck-exactly : (n % 256 ≡ Limits.not-executable) ↔ Φ̂ (x .table) (x .plan) (least (x .table)) failed
@@ -138,6 +148,11 @@ module _ (κs : Lfts 2) (given : Dens κs ps) where
         pub missed-exactly : (n % 256 ≡ Limits.goal-missed) ↔ ((Φ̂ (x .table) (x .plan) (least (x .table)) failed → ⊥) × (Entailed x → ⊥))
         unfolding unpacked
         missed-exactly = JudgePromises.missed-exactly request lent budget (unpacked n) (left exit) judges x e lent-length past enough
+
+        -- That is where every path can be run and an entry is not met in some end state (FORMAT 11.13).
+        pub missed-in-an-end-state : (n % 256 ≡ Limits.goal-missed) ↔ Misses x
+        unfolding unpacked
+        missed-in-an-end-state = JudgePromises.missed-in-an-end-state request lent budget (unpacked n) (left exit) judges x e lent-length past enough
 
     -- Input, count and place are what the number says (FORMAT 4.26 to 4.44): neither input exactly with 0, 3 and 9.
     pub input-exactly : Walk-input (unpacked n)

@@ -12,7 +12,7 @@ use Rattle.meaning.specs.Limits.{format}
 use Rattle.meaning.specs.Judging.{judge}
 use Rattle.meaning.specs.Derivations.{check}
 use Rattle.meaning.specs.Showing.{Part, show}
-use Rattle.meaning.proofs.TestLaws.{Has}
+use Rattle.meaning.specs.Tests.{Has}
 use Rattle.meaning.proofs.DerivationCases.{Shown, showings}
 use Rattle.glintstring.specs.Packing.{packed, unpacked}
 use Rattle.promises.proofs.TablePromises.{showing-holds}

@@ -14,17 +14,19 @@ use Rattle.meaning.specs.Reading.{got}
 use Rattle.meaning.specs.Refusals.{settled}
 use Rattle.meaning.specs.States.{first-state}
 use Rattle.meaning.specs.Walk.{table-step, missed-in}
-use Rattle.meaning.specs.Judging.{Judgement, within, judge}
-use Rattle.meaning.specs.Approximation.{failed, Φ̂, least}
+use Rattle.meaning.specs.Judging.{Judgement, within, judge, count}
+use Rattle.meaning.specs.Approximation.{failed, Φ̂, least, Entailed}
 use Rattle.meaning.specs.Paths.{paths, walked-along}
+use Rattle.meaning.specs.Reported.{Misses, all-paths, Missed-at, Stopped-at}
 use Rattle.meaning.specs.Worlds.{Carried-out}
 use Rattle.meaning.specs.AnswerParts.{Walk-input, Walk-count, Placed}
-use Rattle.meaning.proofs.TestLaws.{Has}
+use Rattle.meaning.specs.Tests.{Has}
 use Rattle.meaning.proofs.AnswerLaws.{answers}
-use Rattle.meaning.proofs.Exact.{count, Entailed, format-room}
+use Rattle.meaning.proofs.Exact.{format-room}
 use Rattle.meaning.proofs.Demands
 use Rattle.meaning.proofs.Table.{judging, judged, Row, table}
-use Rattle.promises.proofs.LentLaws.{judge-kept, Writes, Written, judge-written}
+use Rattle.glintstring.specs.Lent.{Writes, Written}
+use Rattle.promises.proofs.LentLaws.{judge-kept, judge-written}
 use Rattle.promises.proofs.TablePromises.{row-holds}
 
 module _ (request lent : List ℕ) (budget : ℕ) (answer : Answer) (left : List ℕ) (is : record { answer = answer; state = left } ≡ judge format request lent budget) where
@@ -62,6 +64,16 @@ module _ (request lent : List ℕ) (budget : ℕ) (answer : Answer) (left : List
     pub spent-exactly : (answer .number ≡ Limits.budget-spent) ↔ (budget < count format x)
     spent-exactly = rw (sym number-is) (Demands.spent-exactly format format-room request lent budget x e lent-length past)
 
+    pub missed-there : answer .number ≡ Limits.goal-missed → Missed-at x (all-paths format x) (answer .place) left
+    missed-there =
+        subst (λ (j : Judgement). j .answer .number ≡ Limits.goal-missed → Missed-at x (all-paths format x) (j .answer .place) (j .state)) (sym is)
+        (Demands.missed-there format format-room request lent budget x e lent-length past)
+
+    pub stopped-there : answer .number ≡ Limits.not-executable → Stopped-at x (all-paths format x) (answer .place) left
+    stopped-there =
+        subst (λ (j : Judgement). j .answer .number ≡ Limits.not-executable → Stopped-at x (all-paths format x) (j .answer .place) (j .state)) (sym is)
+        (Demands.stopped-there format format-room request lent budget x e lent-length past)
+
     module _ (enough : count format x ≤ budget) where
       pub stuck-exactly : (answer .number ≡ Limits.not-executable) ↔ Φ̂ (x .table) (x .plan) (least (x .table)) failed
       stuck-exactly = rw (sym number-is) (Demands.stuck-exactly format format-room request lent budget x e lent-length past enough)
@@ -71,3 +83,6 @@ module _ (request lent : List ℕ) (budget : ℕ) (answer : Answer) (left : List
 
       pub missed-exactly : (answer .number ≡ Limits.goal-missed) ↔ ((Φ̂ (x .table) (x .plan) (least (x .table)) failed → ⊥) × (Entailed x → ⊥))
       missed-exactly = rw (sym number-is) (Demands.missed-exactly format format-room request lent budget x e lent-length past enough)
+
+      pub missed-in-an-end-state : (answer .number ≡ Limits.goal-missed) ↔ Misses x
+      missed-in-an-end-state = rw (sym number-is) (Demands.missed-in-an-end-state format format-room request lent budget x e lent-length past enough)

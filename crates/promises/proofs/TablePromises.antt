@@ -7,7 +7,7 @@ use mathlib.Core.Logic.{inl, inr}
 use lib.ListN.{getD, drop}
 use Rattle.meaning.specs.declared.Answer.{Answer}
 use Rattle.meaning.specs.Showing.{Part, show}
-use Rattle.meaning.proofs.TestLaws.{Has}
+use Rattle.meaning.specs.Tests.{Has}
 use Rattle.meaning.proofs.DerivationCases.{Shown, showings, showings-hold}
 use Rattle.meaning.proofs.Table.{Call, outcome-of, Row, table, table-holds}
 

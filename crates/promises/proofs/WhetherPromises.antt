@@ -18,13 +18,12 @@ use Rattle.meaning.specs.Requests.{Request}
 use Rattle.meaning.specs.Reading.{got}
 use Rattle.meaning.specs.Refusals.{settled}
 use Rattle.meaning.specs.States.{first-state}
-use Rattle.meaning.specs.Walk.{walked}
+use Rattle.meaning.specs.Walk.{Verified, walked}
 use Rattle.meaning.specs.Derivations.{check}
 use Rattle.meaning.specs.Worlds.{Carried-out}
 use Rattle.meaning.specs.AnswerParts.{Check-input, Placed, named}
-use Rattle.meaning.proofs.TestLaws.{Has}
+use Rattle.meaning.specs.Tests.{Has}
 use Rattle.meaning.proofs.Accepted.{Accepted, check-answers}
-use Rattle.meaning.proofs.Sound.{Verified}
 use Rattle.meaning.proofs.Table.{checking, answered, Row, table}
 use Rattle.promises.proofs.CheckPromises
 use Rattle.glintstring.proofs.derivations.check_whether.Kinds.{ps, r}
