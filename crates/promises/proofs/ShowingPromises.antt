@@ -12,7 +12,8 @@ use denote.Triple.Clauses.{AtExit}
 use Rattle.meaning.specs.declared.Answer.{Answer}
 use Rattle.meaning.specs.Limits
 use Rattle.meaning.specs.Showing.{Part, part-from, show}
-use Rattle.meaning.proofs.TestLaws.{clash, Has}
+use Rattle.meaning.specs.Tests.{Has}
+use Rattle.meaning.proofs.TestLaws.{clash}
 use Rattle.meaning.proofs.PickLaws.{has-picked}
 use Rattle.meaning.proofs.DerivationCases.{Shown, showings}
 use Rattle.glintstring.specs.Showing.{chosen}
