@@ -6,11 +6,10 @@ use mathlib.Core.Bool.{Bool}
 use mathlib.Core.List.{List, [], _∷_, map}
 use lib.ListN.{length-map, getD, List·getD-map}
 use Rattle.meaning.specs.Limits.{Limits}
-use Rattle.meaning.specs.Requests.{Table, Sequence, done, item, Item, act, branching, Branches, none, branch, Request}
+use Rattle.meaning.specs.Requests.{Table, Sequence, done, item, Item, act, branching, Branches, none, branch, Request, unplaced, unplaced-item, unplaced-branches}
 use Rattle.meaning.specs.Refusals.{Found, nowhere, at, overlap-in}
 use Rattle.meaning.specs.States.{State, state-of}
 use Rattle.meaning.specs.Derivations.{Conclusion, Line, overlap-in-lines, same-plan, same-item, same-branches, join, says, of-one, of-two, rule-1, takes-branch, branches-first, rule-4, rule-5, rule-6, rule-8, each-reads, acts, one-action, rule-2, reads, senses-first, rule-3, one-look, rule-7, given-by, for-lists, follows, cited-by, asks-for, names}
-use Rattle.meaning.proofs.WalkLaws.{unplaced, unplaced-item, unplaced-branches}
 use Rattle.meaning.proofs.RefusalLaws.{at≢nowhere, unplaced-found, unplaced-or-else, unplaced-18}
 
 -- PLANS are compared and joined without their places.

@@ -12,5 +12,6 @@ pub mod Worlds
 pub mod Approximation
 pub mod Paths
 pub mod Derivations
+pub mod Rules
 pub mod Showing
 pub mod Layouts
