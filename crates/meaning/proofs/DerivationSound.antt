@@ -36,20 +36,14 @@ use Rattle.meaning.proofs.RangeLaws.{after-got, not-refused, list-withi
 use Rattle.meaning.proofs.Sound.{Verified}
 use Rattle.meaning.proofs.Exact.{Entailed, entailed-fine}
 use Rattle.meaning.proofs.PickLaws.{has-picked}
+use Rattle.meaning.proofs.SetLaws.{same-list-is, known-from-known}
 use Rattle.meaning.proofs.CoverLaws.{knows-true, others-false, none-chosen}
 use Rattle.meaning.proofs.ToldLaws.{state-length, Clear, state-known}
 use Rattle.meaning.proofs.LiteralLaws.{one-of-two}
 use Rattle.meaning.proofs.TestLaws.{clash, both-left, both-right, either-left, either-right, either-split, fails-true, pick-cases, Has, has-left, has-right, some-has, each-has, has-each, some-mono, has-map, map-has}
 
--- EQUALITY of lists and of conclusions, and of plans up to places, as the transition function sees it.
-pub same-list-is : (xs ys : List ℕ) → same-list xs ys ≡ true → xs ≡ ys
-unfolding same-list
-same-list-is [] [] e = refl
-same-list-is [] (y ∷ ys) e = absurd (false≢true e)
-same-list-is (x ∷ xs) [] e = absurd (false≢true e)
-same-list-is (x ∷ xs) (y ∷ ys) e = ap₂ {C = List ℕ} (λ z zs. z ∷ zs) (eqb-true x y (both-left _ _ e)) (same-list-is xs ys (both-right _ _ e))
-
-same-conclusion-is : (Y Z : Conclusion) → same-conclusion Y Z ≡ true → Y ≡ Z
+-- EQUALITY of conclusions, and of plans up to places, as the transition function sees it.
+pub same-conclusion-is : (Y Z : Conclusion) → same-conclusion Y Z ≡ true → Y ≡ Z
 unfolding same-conclusion
 same-conclusion-is (knows Y) (knows Z) e = ap knows (same-list-is Y Z e)
 same-conclusion-is (knows Y) (knows-whether g) e = absurd (false≢true e)
@@ -148,16 +142,6 @@ weaker t X Z c d Y W good more same less =
     }
 
 -- What a state knows, as a list, is known.
-known-from-known : (s : State) (f : ℕ) (ms : List ℕ) (l : ℕ) → Has (known-from s f ms) l → known s l ≡ true
-unfolding known-from
-known-from-known s f [] l h = absurd h
-known-from-known s f (m ∷ ms) l h =
-    has-picked (λ xs. Has xs l) (known s (says-true f)) _ _ h
-    (λ t k. ⊎-elim (λ q. rw q t) (known-from-known s (f + 1) ms l) k)
-    (λ _ k. has-picked (λ xs. Has xs l) (known s (says-false f)) _ _ k
-    (λ t j. ⊎-elim (λ q. rw q t) (known-from-known s (f + 1) ms l) j)
-    (λ _ j. known-from-known s (f + 1) ms l j))
-
 literals-known : (s : State) → each-of (known s) (literals-of s) ≡ true
 unfolding literals-of
 literals-known s = has-each _ _ (known-from-known s 0 s)

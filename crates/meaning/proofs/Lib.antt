@@ -25,6 +25,8 @@ pub mod PairLaws
 pub mod ToldLaws
 pub mod EndLaws
 pub mod SensingLaws
+pub mod SetLaws
+pub mod RulesExact
 pub mod CoverLaws
 pub mod Exact
 pub mod Accepted
