@@ -29,7 +29,7 @@ use Rattle.meaning.specs.Derivations.{Conclusion, knows, knows-whether, 
 use Rattle.meaning.proofs.PairLaws.{pair-of, true-in-true, true-in-false, false-in-true, pair-after, executable-grows, Res-grows, Res-disjoint, runs-pair, sensing-pair, senses-pair, ≼-trans}
 use Rattle.meaning.specs.Paths.{arrives, arrivals}
 use Rattle.meaning.proofs.EndLaws.{Ends, arrives-same, ends-one, ends-split}
-use Rattle.meaning.proofs.SensingLaws.{reading-follows}
+use Rattle.meaning.proofs.SensingLaws.{arrived, reading-follows}
 use Rattle.meaning.proofs.SettledLaws.{got-same, settled-is, or-else-nowhere, Fit, fit}
 use Rattle.meaning.proofs.Accepted.{All-follow, Last-asks, All-named, Answered, Accepted}
 use Rattle.meaning.proofs.RangeLaws.{after-got, not-refused, list-within, list-consistent, line-read, Ranged, read-ranged}
@@ -297,12 +297,6 @@ module _ {A : Type 0} where
   of-two-is test (x ∷ (y ∷ (z ∷ zs))) e = absurd (false≢true e)
 
 -- THE RULES over the table, whose lines are within the states.
--- The states that paths arrive in are those of the outcome.
-arrived : (o : Outcome State) (u : State) → Ends (arrivals o) (arrives u) → Has (states-of o) u
-unfolding arrivals states-of
-arrived (single s) u h = inl (arrives-same (ends-one h))
-arrived (fork o p) u h = ⊎-elim (λ k. has-left (states-of o) (states-of (p tt)) u (arrived o u k)) (λ k. has-right (states-of o) (states-of (p tt)) u (arrived (p tt) u k)) (ends-split (arrivals o) (arrivals (p tt)) (arrives u) h)
-
 -- Each reading has its line.
 reading-cited : (rest : Sequence ℕ) (Y : Conclusion) (ss : List State) (ls : List Line) → each-reads rest Y ss ls ≡ true → (u : State) → Has ss u → (l : Line) × Has ls l × (says l (literals-of u) rest Y ≡ true)
 unfolding each-reads

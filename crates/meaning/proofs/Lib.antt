@@ -27,6 +27,7 @@ pub mod EndLaws
 pub mod SensingLaws
 pub mod SetLaws
 pub mod RulesExact
+pub mod ReadingsExact
 pub mod CoverLaws
 pub mod Exact
 pub mod Accepted

@@ -16,7 +16,7 @@ use Rattle.meaning.specs.States.{State, known, state-of}
 use Rattle.meaning.specs.Approximation.{Pair}
 use Rattle.meaning.specs.Derivations.{same-list, included, known-from, literals-of}
 use Rattle.meaning.specs.Rules.{_∈_, _⊆_, _≐_, Consistent, a-state}
-use Rattle.meaning.proofs.TestLaws.{clash, same-test, both-left, both-right, both-true, Has, has-left, has-right, some-has, has-some, each-has, has-each}
+use Rattle.meaning.proofs.TestLaws.{clash, same-test, both-left, both-right, both-true, Has, has-left, has-right, has-parts, some-has, has-some, each-has, has-each}
 use Rattle.meaning.proofs.PickLaws.{pick-has, has-picked}
 use Rattle.meaning.proofs.LiteralLaws.{fluent-true, fluent-false, by-literal}
 use Rattle.meaning.proofs.StateLaws.{unknown-far}
@@ -32,11 +32,6 @@ pub has-among : (l : ℕ) (X : List ℕ) → Has X l → l ∈ X
 unfolding among
 has-among l X h = has-some _ X l h (eq-eqb l l refl)
 
-has-split : (X Z : List ℕ) (l : ℕ) → Has (X ++ Z) l → Has X l ⊎ Has Z l
-has-split [] Z l h = inr h
-has-split (x ∷ X) Z l (inl q) = inl (inl q)
-has-split (x ∷ X) Z l (inr h) = ⊎-elim (λ m. inl (inr m)) inr (has-split X Z l h)
-
 pub among-left : (l : ℕ) (X Z : List ℕ) → l ∈ X → l ∈ X ++ Z
 among-left l X Z e = has-among l (X ++ Z) (has-left X Z l (among-has l X e))
 
@@ -44,7 +39,7 @@ pub among-right : (l : ℕ) (X Z : List ℕ) → l ∈ Z → l ∈ X ++ Z
 among-right l X Z e = has-among l (X ++ Z) (has-right X Z l (among-has l Z e))
 
 pub among-split : (l : ℕ) (X Z : List ℕ) → l ∈ X ++ Z → (l ∈ X) ⊎ (l ∈ Z)
-among-split l X Z e = ⊎-elim (λ h. inl (has-among l X h)) (λ h. inr (has-among l Z h)) (has-split X Z l (among-has l (X ++ Z) e))
+among-split l X Z e = ⊎-elim (λ h. inl (has-among l X h)) (λ h. inr (has-among l Z h)) (has-parts X Z l (among-has l (X ++ Z) e))
 
 pub included-exactly : (X Z : List ℕ) → (included X Z ≡ true → X ⊆ Z) × (X ⊆ Z → included X Z ≡ true)
 unfolding included

@@ -130,6 +130,11 @@ module _ {A : Type 0} where
   has-right [] ys x h = h
   has-right (z ∷ zs) ys x h = inr (has-right zs ys x h)
 
+  pub has-parts : (xs ys : List A) (x : A) → Has (xs ++ ys) x → Has xs x ⊎ Has ys x
+  has-parts [] ys x h = inr h
+  has-parts (z ∷ zs) ys x (inl q) = inl (inl q)
+  has-parts (z ∷ zs) ys x (inr h) = ⊎-elim (λ m. inl (inr m)) inr (has-parts zs ys x h)
+
   -- A stronger test passes no more.
   pub some-mono : (p q : A → Bool) → ((x : A) → p x ≡ true → q x ≡ true) → (xs : List A) → some-of p xs ≡ true → some-of q xs ≡ true
   some-mono p q h xs e = let t = some-has p xs e in has-some q xs (t .0) (t .1) (h (t .0) (t .2))
