@@ -30,7 +30,7 @@ use Rattle.meaning.proofs.SensingLaws.{read-is, reading-is, reading-fol
 use Rattle.meaning.proofs.EndLaws.{arrives-same}
 use Rattle.meaning.proofs.PlacelessLaws.{unplaced-line, unplaced-lines, senses-placeless}
 use Rattle.meaning.proofs.SetLaws.{among-has, has-among, among-left, among-right, among-split, ≐-refl, ≐-sym, ≐-trans, ≐-among, Ascending, ascending-from, literals-ascend, literals-among}
-use Rattle.meaning.proofs.RulesExact.{Proper, conclusion-self, conclusions-meet, says-exactly, start-state, runs-exactly}
+use Rattle.meaning.proofs.RulesExact.{Conclusion-ascends, Proper, conclusion-self, conclusions-meet, says-exactly, start-state, runs-exactly}
 
 -- THE ORDER of sets, none of which holds a literal beside its complement.
 before-same : (U U′ W W′ : List ℕ) → U ≐ U′ → W ≐ W′ → Before U W → Before U′ W′
@@ -328,3 +328,121 @@ module _ (t : Table) (a : ℕ) (s : State) (X : List ℕ) (start : pair-of s ≡
             same (W ∷ Vs) (inl p) = inl (≐-trans Z U W q p)
             same (W ∷ Vs) (inr h) = inr (same Vs h)
         carried (U ∷ Us) Ws e all Z (inr h) = carried Us Ws (e .1) all Z h
+
+-- THE NUMBER of readings is that of the citations, so that it need not be asked beforehand.
+pub states-count : (fs : List ℕ) (s : State) → length (states-of (readings fs s)) ≡ 2 ^ length fs
+unfolding states-of readings
+states-count [] s = refl
+states-count (f ∷ fs) s =
+    let one = states-count fs (told (says-true f) s) in
+    let two = states-count fs (told (says-false f) s) in
+    let up = pow-suc 2 (length fs) in
+    length-append (states-of (readings fs (told (says-true f) s))) (states-of (readings fs (told (says-false f) s))) ∙ omega (arith, one, two, up)
+
+pub each-length : (rest : Sequence ℕ) (Y : Conclusion) (ss : List State) (ls : List Line) → each-reads rest Y ss ls ≡ true → length ss ≡ length ls
+unfolding each-reads
+each-length rest Y [] [] e = refl
+each-length rest Y [] (l ∷ ls) e = clash e refl
+each-length rest Y (s ∷ ss) [] e = clash e refl
+each-length rest Y (s ∷ ss) (l ∷ ls) e = ap suc (each-length rest Y ss ls (both-right _ _ e))
+
+pub count-settled : (rest : Sequence ℕ) (Y : Conclusion) (fs : List ℕ) (s : State) (cited : List Line)
+    → pick (eqb (2 ^ length fs) (length cited)) (λ _. each-reads rest Y (states-of (readings fs s)) cited) (λ _. false) ≡ each-reads rest Y (states-of (readings fs s)) cited
+count-settled rest Y fs s cited =
+    by-test (eqb (2 ^ length fs) (length cited))
+    (λ t. pick-true _ _ _ t)
+    (λ f.
+    pick-false _ _ _ f
+    ∙ by-test (each-reads rest Y (states-of (readings fs s)) cited)
+    (λ t. absurd (eqb-false (2 ^ length fs) (length cited) f (sym (states-count fs s) ∙ each-length rest Y (states-of (readings fs s)) cited t)))
+    sym)
+
+-- RULES 3 AND 10.
+append-same : (X X′ Z Z′ : List ℕ) → X ≐ X′ → Z ≐ Z′ → X ++ Z ≐ X′ ++ Z′
+append-same X X′ Z Z′ e f = (
+  λ l m. ⊎-elim (λ k. among-left l X′ Z′ (e .0 l k)) (λ k. among-right l X′ Z′ (f .0 l k)) (among-split l X Z m),
+  λ l m. ⊎-elim (λ k. among-left l X Z (e .1 l k)) (λ k. among-right l X Z (f .1 l k)) (among-split l X′ Z′ m),
+)
+
+module _ (lim : Limits) (g : State → List ℕ) (X : List ℕ) (c : Sequence ℕ) where
+  abbrev Unions : List State → Type 0
+  Unions ss = (u : State) → Has ss u → X ++ g u ≐ literals-of u
+
+  reads-claim : (Y : Conclusion) → Conclusion-ascends Y → (ss : List State) (ls : List Line) → Unions ss → ((l : Line) → Has ls l → Proper lim l) → each-reads c Y ss ls ≡ true → Each-claims X c Y (map g ss) ls
+  unfolding each-reads
+  reads-claim Y up [] [] is proper e = tt
+  reads-claim Y up [] (l ∷ ls) is proper e = absurd (false≢true e)
+  reads-claim Y up (s ∷ ss) [] is proper e = absurd (false≢true e)
+  reads-claim Y up (s ∷ ss) (l ∷ ls) is proper e =
+      let k = says-exactly l (proper l (inl refl)) (literals-of s) c Y (literals-ascend s) up .0 (both-left _ _ e) in (
+        record { start = ≐-trans (l .X) (literals-of s) (X ++ g s) (k .start) (≐-sym (X ++ g s) (literals-of s) (is s (inl refl))); plan = k .plan; end = k .end },
+        reads-claim Y up ss ls (λ u h. is u (inr h)) (λ j h. proper j (inr h)) (both-right _ _ e),
+      )
+
+  -- Claimed of a list that is the same set as X, and of a conclusion that is the same as Y.
+  claims-read : (Z : List ℕ) → Z ≐ X → (Y W : Conclusion) → Conclusion-ascends Y → Same-conclusion Y W → (Us : List (List ℕ)) (ss : List State) (ls : List Line) → Alike Us (map g ss) → Unions ss
+      → ((l : Line) → Has ls l → Proper lim l) → Each-claims Z c W Us ls → each-reads c Y ss ls ≡ true
+  unfolding each-reads
+  claims-read Z z Y W up y [] [] [] alike is proper k = refl
+  claims-read Z z Y W up y [] [] (l ∷ ls) alike is proper k = absurd k
+  claims-read Z z Y W up y [] (s ∷ ss) ls alike is proper k = absurd alike
+  claims-read Z z Y W up y (U ∷ Us) [] ls alike is proper k = absurd alike
+  claims-read Z z Y W up y (U ∷ Us) (s ∷ ss) [] alike is proper k = absurd k
+  claims-read Z z Y W up y (U ∷ Us) (s ∷ ss) (l ∷ ls) alike is proper k =
+      both-true _ _
+      (says-exactly l (proper l (inl refl)) (literals-of s) c Y (literals-ascend s) up .1 (record {
+        start = ≐-trans (l .X) (Z ++ U) (literals-of s) (k .0 .start) (≐-trans (Z ++ U) (X ++ g s) (literals-of s) (append-same Z X U (g s) z (alike .0)) (is s (inl refl)));
+        plan = k .0 .plan;
+        end = conclusions-meet (l .Y) Y W (k .0 .end) y;
+      }))
+      (claims-read Z z Y W up y Us ss ls (alike .1) (λ u h. is u (inr h)) (λ j h. proper j (inr h)) (k .1))
+
+module _ (lim : Limits) (t : Table) (within : (k : Knowledge) → Has (t .knowledge) k → k .fluent < lim .state) where
+  sense-alike : (cited : List Line) (l : Line) (c d : Sequence ℕ) → Same-plan c d → senses-first lim t cited l c ≡ senses-first lim t cited l d
+  sense-alike cited l c d e = sym (senses-placeless lim t cited l c) ∙ ap (senses-first lim t (unplaced-lines cited) (unplaced-line l)) e ∙ senses-placeless lim t cited l d
+
+  pub rule-3-exactly : (cited : List Line) (l : Line) → ((k : Line) → Has cited k → Proper lim k) → Proper lim l → (rule-3 lim t cited l ≡ true) ↔ ((Y : Conclusion) × Rule-3 t cited l Y)
+  unfolding rule-3 senses-first reads
+  rule-3-exactly cited l proper own = (from (l .c) refl, λ w. to (w .0) (w .1))
+    where
+      s : State
+      s = state-of lim (l .X)
+
+      near : (k : Knowledge) → Has (t .knowledge) k → k .fluent < length s
+      near k h = rw (state-length lim (l .X)) (within k h)
+
+      -- The line's own X and any list that is the same set.
+      start : (X : List ℕ) → l .X ≐ X → pair-of s ≡ a-state X
+      start = start-state lim t l own
+
+      unions : (a : ℕ) → Unions lim (sensed-in t a) (l .X) (l .c) (states-of (readings (unknown-sensed t a s) s))
+      unions a u h = union-is t a s (l .X) (start (l .X) (≐-refl (l .X))) u (seen t a s (l .X) (start (l .X) (≐-refl (l .X))) near u h)
+
+      from : (c : Sequence ℕ) → l .c ≡ c → senses-first lim t cited l c ≡ true → (Y : Conclusion) × Rule-3 t cited l Y
+      from done q e = absurd (false≢true e)
+      from (item (act p a) rest) q e = (l .Y, record {
+        X = l .X;
+        place = p;
+        a = a;
+        c = rest;
+        line = record { start = ≐-refl (l .X); plan = ap unplaced q; end = conclusion-self (l .Y) };
+        senses = sensing-pair t a ∙ both-left _ _ e;
+        runs = sym (runs-exactly lim t l own (l .X) (≐-refl (l .X)) a) ∙ both-left _ _ (both-right _ _ e);
+        Xs = map (sensed-in t a) (states-of (readings (unknown-sensed t a s) s));
+        readings = all-readings t a s (l .X) (start (l .X) (≐-refl (l .X))) near;
+        premises =
+            reads-claim lim (sensed-in t a) (l .X) rest (l .Y) (own .Y-ascends) (states-of (readings (unknown-sensed t a s) s)) cited (unions a) proper
+            (sym (count-settled rest (l .Y) (unknown-sensed t a s) s cited) ∙ both-right _ _ (both-right _ _ e));
+      })
+      from (item (branching p bs) rest) q e = absurd (false≢true e)
+
+      to : (Y : Conclusion) → Rule-3 t cited l Y → senses-first lim t cited l (l .c) ≡ true
+      to Y r =
+          let a = r .a in
+          let here = start (r .X) (r .line .start) in
+          sense-alike cited l (l .c) (item (act (r .place) a) (r .c)) (r .line .plan)
+          ∙ both-true _ _ (sym (sensing-pair t a) ∙ r .senses)
+            (both-true _ _ (runs-exactly lim t l own (r .X) (r .line .start) a ∙ r .runs)
+            (count-settled (r .c) (l .Y) (unknown-sensed t a s) s cited
+            ∙ claims-read lim (sensed-in t a) (l .X) (r .c) (r .X) (≐-sym (l .X) (r .X) (r .line .start)) (l .Y) Y (own .Y-ascends) (r .line .end)
+              (r .Xs) (states-of (readings (unknown-sensed t a s) s)) cited (readings-once t a s (r .X) here near (r .Xs) (r .readings)) (unions a) proper (r .premises)))
