@@ -31,7 +31,7 @@ use Rattle.meaning.specs.Paths.{arrives, arrivals}
 use Rattle.meaning.proofs.EndLaws.{Ends, arrives-same, ends-one, ends-split}
 use Rattle.meaning.proofs.SensingLaws.{arrived, reading-follows}
 use Rattle.meaning.proofs.SettledLaws.{got-same, settled-is, or-else-nowhere, Fit, fit}
-use Rattle.meaning.proofs.Accepted.{All-follow, Last-asks, All-named, Answered, Accepted}
+use Rattle.meaning.proofs.Passed.{All-pass, Last-passes, Entries-pass, End-passes, Passed}
 use Rattle.meaning.proofs.RangeLaws.{after-got, not-refused, list-within, list-consistent, line-read, Ranged, read-ranged}
 use Rattle.meaning.proofs.Sound.{Verified}
 use Rattle.meaning.proofs.Exact.{Entailed, entailed-fine}
@@ -443,7 +443,7 @@ module _ (lim : Limits) (t : Table) (effects-within : (e : Effect) → Has (t .e
 
   lines-hold : (layout : Layout) (lines : List Line) (i : ℕ) (ls : List Line) → ((k : ℕ) → k < length ls → (d : Line) → getD lines (i + k) d ≡ getD ls k d)
       → ((k : ℕ) → k < i → (d : Line) → Good t (getD lines k d))
-      → All-follow lim layout t lines i ls → ((l : Line) → Has ls l → Clear lim (l .X)) → ((l : Line) → Has ls l → Fit (l .c))
+      → All-pass lim layout t lines i ls → ((l : Line) → Has ls l → Clear lim (l .X)) → ((l : Line) → Has ls l → Fit (l .c))
       → (l : Line) → Has ls l → Good t l
   lines-hold layout lines i [] at earlier all clear fits l h = absurd h
   lines-hold layout lines i (x ∷ xs) at earlier all clear fits l h =
@@ -483,7 +483,7 @@ lines-fit (x ∷ xs) e l h = let w = or-else-nowhere (overlap-in (x .c)) _ e in 
 abbrev Asks : Request → List Line → Conclusion → Type 0
 Asks r lines Y = (l : Line) × Has lines l × (asks-for r Y l ≡ true)
 
-last-asks : (r : Request) (lines : List Line) → Last-asks r lines → Asks r lines (goals-of r)
+last-asks : (r : Request) (lines : List Line) → Last-passes r lines → Asks r lines (goals-of r)
 last-asks r [] h = absurd h
 last-asks r (l ∷ []) h = (l, inl refl, h)
 last-asks r (l ∷ (k ∷ ls)) h = let w = last-asks r (k ∷ ls) h in (w .0, inr (w .1), w .2)
@@ -494,12 +494,12 @@ named-asks r [] k Y e = absurd (false≢true e)
 named-asks r (l ∷ ls) zero Y e = (l, inl refl, e)
 named-asks r (l ∷ ls) (suc k) Y e = let w = named-asks r ls k Y e in (w .0, inr (w .1), w .2)
 
-all-named-ask : (r : Request) (lines : List Line) (Ys : List Conclusion) (ks : List ℕ) → All-named r lines Ys ks → (Y : Conclusion) → Has Ys Y → Asks r lines Y
+all-named-ask : (r : Request) (lines : List Line) (Ys : List Conclusion) (ks : List ℕ) → Entries-pass r lines Ys ks → (Y : Conclusion) → Has Ys Y → Asks r lines Y
 all-named-ask r lines [] ks all Y h = absurd h
 all-named-ask r lines (Z ∷ Zs) [] all Y h = absurd all
 all-named-ask r lines (Z ∷ Zs) (k ∷ ks) all Y h = ⊎-elim (λ q. rw q (named-asks r lines k Z (all .0))) (all-named-ask r lines Zs ks (all .1) Y) h
 
-answered-asks : (layout : Layout) (r : Request) (d : Derivation) → Answered layout r d → (Y : Conclusion) → Has (all-asked r) Y → Asks r (d .lines) Y
+answered-asks : (layout : Layout) (r : Request) (d : Derivation) → End-passes layout r d → (Y : Conclusion) → Has (all-asked r) Y → Asks r (d .lines) Y
 unfolding all-asked
 answered-asks Plain r d a Y h =
     ⊎-elim (λ q. rw q (last-asks r (d .lines) (a .1)))
@@ -507,7 +507,7 @@ answered-asks Plain r d a Y h =
 answered-asks Closing r d a Y h = all-named-ask r (d .lines) (all-asked r) (d .closing) a Y h
 
 -- THEOREMS 3.1 and 3.3. What an accepted derivation asks is entailed, and the walk verifies it without a budget.
-module _ (lim : Limits) (room : lim .fluents ≤ lim .state) (layout : Layout) (request derivation : List ℕ) (a : Accepted lim layout request derivation) where
+module _ (lim : Limits) (room : lim .fluents ≤ lim .state) (layout : Layout) (request derivation : List ℕ) (a : Passed lim layout request derivation) where
   ranged : Ranged lim (a .asks .table)
   ranged = read-ranged lim request (a .asks) (a .end) (settled-is lim request (a .asks) (a .end) (a .request-settled) .reads)
 

@@ -30,7 +30,7 @@ pub mod RulesExact
 pub mod ReadingsExact
 pub mod CoverLaws
 pub mod Exact
-pub mod Accepted
+pub mod Passed
 pub mod LayoutLaws
 pub mod DerivationSound
 pub mod Table

@@ -13,5 +13,7 @@ pub mod Approximation
 pub mod Paths
 pub mod Derivations
 pub mod Rules
+pub mod Accepted
+pub mod Answers
 pub mod Showing
 pub mod Layouts

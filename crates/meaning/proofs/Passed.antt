@@ -1,6 +1,6 @@
--- A derivation is accepted exactly when demand 2 says (FORMAT 11.6, 17.39), and every answer of the derivation call and of the whether call is
--- one of the format's numbers (FORMAT 11.1, 17.38). Each test of the check is taken as it comes: what gives no fault has passed it. Assumes
--- nothing.
+-- A derivation is accepted exactly when it has passed every test of the check, and every answer of the derivation call and of the whether call
+-- is one of the format's numbers (FORMAT 11.1, 17.38). Each test is taken as it comes: what gives no fault has passed it. What the tests
+-- mean is in `Accepted`. Assumes nothing.
 use Prim.Native.Nat.{ℕ, zero, suc, _+_}
 use native.Mathlib.Omega.{arith}
 use mathlib.Core.Path.{_≡_, refl, sym, _∙_, ap, subst}
@@ -20,44 +20,44 @@ use Rattle.meaning.specs.Requests.{Table, Entry, Request}
 use Rattle.meaning.specs.Reading.{Got, got, fault, next, two-bytes-at, repeated}
 use Rattle.meaning.specs.Refusals.{nowhere, refuse, settled}
 use Rattle.meaning.specs.Derivations.{Conclusion, Line, Derivation, line-at, closing-at, read-derivation, overlap-in-lines, follows, citations-of, a-rule, cited-by, check-lines, asks-for, goals-of, check-last, all-asked, names, check-entries, check-closing, check-end, check-derivation, answer, accepted-if, beyond, check-settled, check}
+use Rattle.meaning.specs.Answers.{refusals, end-fault, faults, check-answers}
 use Rattle.meaning.proofs.TestLaws.{by-test, clash, pick-true, pick-false, pick-cases, either-right}
 use Rattle.meaning.proofs.AnswerLaws
-use Rattle.meaning.proofs.AnswerLaws.{refusals, Numbered-in}
+use Rattle.meaning.proofs.AnswerLaws.{Numbered-in}
 use Rattle.meaning.proofs.SettledLaws.{fault≢got, got-same, next-got, refuse-got}
 
--- THE STATEMENT. A line follows from those before it: it names a rule of the layout, cites as many lines as the rule takes, each an earlier
--- one, and is what the rule gives from them. `lines` are all of them, and i is the line's number.
-pub record Line-follows (lim : Limits) (layout : Layout) (t : Table) (lines : List Line) (i : ℕ) (l : Line) : Type 0 where
+-- THE TESTS. A line names a rule of the layout, cites as many lines as the rule takes, each an earlier one, and passes the rule's test with
+-- them. `lines` are all of them, and i is the line's number.
+pub record Line-passes (lim : Limits) (layout : Layout) (t : Table) (lines : List Line) (i : ℕ) (l : Line) : Type 0 where
   pub rule : a-rule layout (l .rule) ≡ true
   pub takes : among (length (l .cites)) (citations-of (l .rule)) ≡ true
   pub earlier : each-of (λ (k : ℕ). ltb k i) (l .cites) ≡ true
   pub gives : follows lim t (cited-by lines l) l ≡ true
 
-abbrev pub All-follow : Limits → Layout → Table → List Line → ℕ → List Line → Type 0
-All-follow lim layout t lines i [] = Unit {0}
-All-follow lim layout t lines i (l ∷ ls) = Line-follows lim layout t lines i l × All-follow lim layout t lines (i + 1) ls
+abbrev pub All-pass : Limits → Layout → Table → List Line → ℕ → List Line → Type 0
+All-pass lim layout t lines i [] = Unit {0}
+All-pass lim layout t lines i (l ∷ ls) = Line-passes lim layout t lines i l × All-pass lim layout t lines (i + 1) ls
 
--- The last line is the question; where there is no line none is.
-abbrev pub Last-asks : Request → List Line → Type 0
-Last-asks r [] = ⊥
-Last-asks r (l ∷ []) = asks-for r (goals-of r) l ≡ true
-Last-asks r (l ∷ (k ∷ ls)) = Last-asks r (k ∷ ls)
+-- The last line asks for the goals; where there is no line none does.
+abbrev pub Last-passes : Request → List Line → Type 0
+Last-passes r [] = ⊥
+Last-passes r (l ∷ []) = asks-for r (goals-of r) l ≡ true
+Last-passes r (l ∷ (k ∷ ls)) = Last-passes r (k ∷ ls)
 
--- For each conclusion one number, and each number is that of a line which asks for its conclusion.
-abbrev pub All-named : Request → List Line → List Conclusion → List ℕ → Type 0
-All-named r lines [] [] = Unit {0}
-All-named r lines [] (k ∷ ks) = ⊥
-All-named r lines (Y ∷ Ys) [] = ⊥
-All-named r lines (Y ∷ Ys) (k ∷ ks) = (names r lines k Y ≡ true) × All-named r lines Ys ks
+-- For each conclusion one number, which names a line for it.
+abbrev pub Entries-pass : Request → List Line → List Conclusion → List ℕ → Type 0
+Entries-pass r lines [] [] = Unit {0}
+Entries-pass r lines [] (k ∷ ks) = ⊥
+Entries-pass r lines (Y ∷ Ys) [] = ⊥
+Entries-pass r lines (Y ∷ Ys) (k ∷ ks) = (names r lines k Y ≡ true) × Entries-pass r lines Ys ks
 
--- The question is answered: in the plain layout no whether entry is asked and the last line is the question, and in the closing one the
--- closing list names a line for the goals and one for each whether entry (FORMAT 17.31 to 17.33).
-abbrev pub Answered : Layout → Request → Derivation → Type 0
-Answered Plain r d = (r .whether ≡ []) × Last-asks r (d .lines)
-Answered Closing r d = All-named r (d .lines) (all-asked r) (d .closing)
+-- The end: 35 by the last line, or 36 by the closing list.
+abbrev pub End-passes : Layout → Request → Derivation → Type 0
+End-passes Plain r d = (r .whether ≡ []) × Last-passes r (d .lines)
+End-passes Closing r d = Entries-pass r (d .lines) (all-asked r) (d .closing)
 
--- Neither file is refused by 10 to 21, each line follows, and the question is answered.
-pub record Accepted (lim : Limits) (layout : Layout) (request derivation : List ℕ) : Type 0 where
+-- Both inputs, the lines and the end.
+pub record Passed (lim : Limits) (layout : Layout) (request derivation : List ℕ) : Type 0 where
   pub asks : Request
   pub end : ℕ
   pub request-settled : settled lim request ≡ got asks end
@@ -65,21 +65,10 @@ pub record Accepted (lim : Limits) (layout : Layout) (request derivation : List 
   pub derivation-end : ℕ
   pub derivation-read : read-derivation lim (asks .table .fluents) (asks .table .actions) derivation layout ≡ got reads derivation-end
   pub no-overlap : overlap-in-lines (reads .lines) ≡ nowhere
-  pub all-follow : All-follow lim layout (asks .table) (reads .lines) 0 (reads .lines)
-  pub answered : Answered layout asks reads
+  pub all-follow : All-pass lim layout (asks .table) (reads .lines) 0 (reads .lines)
+  pub answered : End-passes layout asks reads
 
--- NUMBERS. Those of the derivation's faults, and all that each call answers.
-unfoldable pub end-fault : Layout → ℕ
-end-fault Plain = Limits.not-the-question
-end-fault Closing = Limits.closing-not-right
-
-unfoldable pub faults : Layout → List ℕ
-faults layout = Limits.no-such-rule ∷ Limits.not-earlier ∷ Limits.citations-not-taken ∷ Limits.does-not-follow ∷ end-fault layout ∷ refusals
-
-unfoldable pub check-answers : Layout → List ℕ
-check-answers Plain = Limits.verified ∷ Limits.whether-asked ∷ faults Plain
-check-answers Closing = Limits.verified ∷ faults Closing
-
+-- NUMBERS. Every fault of the check is one of the format's.
 refusal-is-fault : (layout : Layout) (n : ℕ) → among n refusals ≡ true → among n (faults layout) ≡ true
 unfolding among faults some-of
 refusal-is-fault layout n h = either-right _ _ (either-right _ _ (either-right _ _ (either-right _ _ (either-right _ _ h))))
@@ -167,7 +156,7 @@ module _ {A : Type 0} where
   pass b n p k h = pick-false _ _ _ (ap fails h)
 
 module _ (lim : Limits) (layout : Layout) (t : Table) (lines : List Line) where
-  all-passed : (i : ℕ) (ls : List Line) {e : ℕ} → check-lines lim layout t lines i ls ≡ got tt e → All-follow lim layout t lines i ls
+  all-passed : (i : ℕ) (ls : List Line) {e : ℕ} → check-lines lim layout t lines i ls ≡ got tt e → All-pass lim layout t lines i ls
   unfolding check-lines
   all-passed i [] q = tt
   all-passed i (l ∷ ls) q =
@@ -177,18 +166,18 @@ module _ (lim : Limits) (layout : Layout) (t : Table) (lines : List Line) where
       let d = passed _ _ _ _ (c .1) in
       (record { rule = a .0; takes = b .0; earlier = c .0; gives = d .0 }, all-passed (i + 1) ls (d .1))
 
-  all-pass : (i : ℕ) (ls : List Line) → All-follow lim layout t lines i ls → check-lines lim layout t lines i ls ≡ got tt 0
+  all-pass : (i : ℕ) (ls : List Line) → All-pass lim layout t lines i ls → check-lines lim layout t lines i ls ≡ got tt 0
   unfolding check-lines
   all-pass i [] f = refl
   all-pass i (l ∷ ls) f =
       pass _ _ _ _ (f .0 .rule) ∙ pass _ _ _ _ (f .0 .takes) ∙ pass _ _ _ _ (f .0 .earlier) ∙ pass _ _ _ _ (f .0 .gives) ∙ all-pass (i + 1) ls (f .1)
 
-last-passed : (r : Request) (l : Line) (ls : List Line) {e : ℕ} → check-last r (l ∷ ls) ≡ got tt e → Last-asks r (l ∷ ls)
+last-passed : (r : Request) (l : Line) (ls : List Line) {e : ℕ} → check-last r (l ∷ ls) ≡ got tt e → Last-passes r (l ∷ ls)
 unfolding check-last
 last-passed r l [] q = pick-cases _ _ _ q (λ h _. h) (λ _ f. absurd (fault≢got f))
 last-passed r l (k ∷ ls) q = last-passed r k ls q
 
-last-pass : (r : Request) (ls : List Line) → Last-asks r ls → check-last r ls ≡ got tt 0
+last-pass : (r : Request) (ls : List Line) → Last-passes r ls → check-last r ls ≡ got tt 0
 unfolding check-last
 last-pass r [] h = absurd h
 last-pass r (l ∷ []) h = pick-true _ _ _ h
@@ -196,7 +185,7 @@ last-pass r (l ∷ (k ∷ ls)) h = last-pass r (k ∷ ls) h
 
 -- The closing list: as many entries as are asked, and each names its line.
 module _ (r : Request) (lines : List Line) where
-  entries-passed : (p : ℕ) (Ys : List Conclusion) (ks : List ℕ) {e : ℕ} → eqb (length ks) (length Ys) ≡ true → check-entries r lines p Ys ks ≡ got tt e → All-named r lines Ys ks
+  entries-passed : (p : ℕ) (Ys : List Conclusion) (ks : List ℕ) {e : ℕ} → eqb (length ks) (length Ys) ≡ true → check-entries r lines p Ys ks ≡ got tt e → Entries-pass r lines Ys ks
   unfolding check-entries
   entries-passed p [] [] h q = tt
   entries-passed p [] (k ∷ ks) h q = clash h (eqb·suc-zero (length ks))
@@ -204,13 +193,13 @@ module _ (r : Request) (lines : List Line) where
   entries-passed p (Y ∷ Ys) (k ∷ ks) h q =
       pick-cases _ _ _ q (λ named rest. (named, entries-passed (p + 2) Ys ks (sym (eqb·suc-suc (length ks) (length Ys)) ∙ h) rest)) (λ _ f. absurd (fault≢got f))
 
-  named-length : (Ys : List Conclusion) (ks : List ℕ) → All-named r lines Ys ks → eqb (length ks) (length Ys) ≡ true
+  named-length : (Ys : List Conclusion) (ks : List ℕ) → Entries-pass r lines Ys ks → eqb (length ks) (length Ys) ≡ true
   named-length [] [] a = refl
   named-length [] (k ∷ ks) a = absurd a
   named-length (Y ∷ Ys) [] a = absurd a
   named-length (Y ∷ Ys) (k ∷ ks) a = eqb·suc-suc (length ks) (length Ys) ∙ named-length Ys ks (a .1)
 
-  entries-pass : (p : ℕ) (Ys : List Conclusion) (ks : List ℕ) → All-named r lines Ys ks → check-entries r lines p Ys ks ≡ got tt 0
+  entries-pass : (p : ℕ) (Ys : List Conclusion) (ks : List ℕ) → Entries-pass r lines Ys ks → check-entries r lines p Ys ks ≡ got tt 0
   unfolding check-entries
   entries-pass p [] [] a = refl
   entries-pass p [] (k ∷ ks) a = absurd a
@@ -248,19 +237,19 @@ no-entry [] e = refl
 no-entry (w ∷ ws) e = absurd (false≢true (sym e))
 
 -- The end of a derivation that has a line, and the answer to the question.
-end-passed : (layout : Layout) (r : Request) (d : Derivation) (l : Line) (ls : List Line) → d .lines ≡ l ∷ ls → beyond layout r ≡ false → {e : ℕ} → check-end layout r d ≡ got tt e → Answered layout r d
+end-passed : (layout : Layout) (r : Request) (d : Derivation) (l : Line) (ls : List Line) → d .lines ≡ l ∷ ls → beyond layout r ≡ false → {e : ℕ} → check-end layout r d ≡ got tt e → End-passes layout r d
 unfolding check-end check-closing beyond
-end-passed Plain r d l ls some none q = (no-entry (r .whether) none, subst (Last-asks r) (sym some) (last-passed r l ls (rw some at q)))
+end-passed Plain r d l ls some none q = (no-entry (r .whether) none, subst (Last-passes r) (sym some) (last-passed r l ls (rw some at q)))
 end-passed Closing r d l ls some none q =
     pick-cases _ _ _ q (λ same named. entries-passed r (d .lines) (d .closing-place + 1) (all-asked r) (d .closing) same named) (λ _ f. absurd (fault≢got f))
 
-end-pass : (layout : Layout) (r : Request) (d : Derivation) → Answered layout r d → check-end layout r d ≡ got tt 0
+end-pass : (layout : Layout) (r : Request) (d : Derivation) → End-passes layout r d → check-end layout r d ≡ got tt 0
 unfolding check-end check-closing
 end-pass Plain r d a = last-pass r (d .lines) (a .1)
 end-pass Closing r d a =
     pick-true _ _ _ (named-length r (d .lines) (all-asked r) (d .closing) a) ∙ entries-pass r (d .lines) (d .closing-place + 1) (all-asked r) (d .closing) a
 
-not-beyond : (layout : Layout) (r : Request) (d : Derivation) → Answered layout r d → beyond layout r ≡ false
+not-beyond : (layout : Layout) (r : Request) (d : Derivation) → End-passes layout r d → beyond layout r ≡ false
 unfolding beyond some-of
 not-beyond Plain r d a = ap (some-of (λ (w : Entry). true)) (a .0)
 not-beyond Closing r d a = refl
@@ -271,9 +260,9 @@ unfolding among faults end-fault refusals some-of either
 no-fault Plain = refl
 no-fault Closing = refl
 
--- DEMAND 2, its second sentence, for both calls.
+-- ACCEPTANCE is having passed them all.
 module _ (lim : Limits) (layout : Layout) (request derivation : List ℕ) where
-  derivation-passed : (r : Request) (e : ℕ) → settled lim request ≡ got r e → beyond layout r ≡ false → (f : ℕ) → check-derivation lim layout r derivation ≡ got tt f → Accepted lim layout request derivation
+  derivation-passed : (r : Request) (e : ℕ) → settled lim request ≡ got r e → beyond layout r ≡ false → (f : ℕ) → check-derivation lim layout r derivation ≡ got tt f → Passed lim layout request derivation
   unfolding check-derivation
   derivation-passed r e past none f q =
       let d = next-got (read-derivation lim (r .table .fluents) (r .table .actions) derivation layout) _ q in
@@ -292,12 +281,12 @@ module _ (lim : Limits) (layout : Layout) (request derivation : List ℕ) where
         answered = end-passed layout r (d .0) (some .0) (some .1) (some .2) none (c .3);
       }
 
-  accepted-passed : (r : Request) (e : ℕ) → settled lim request ≡ got r e → beyond layout r ≡ false → (x : Got (Unit {0})) → Numbered-in (faults layout) x → check-derivation lim layout r derivation ≡ x → accepted-if x .number ≡ Limits.verified → Accepted lim layout request derivation
+  accepted-passed : (r : Request) (e : ℕ) → settled lim request ≡ got r e → beyond layout r ≡ false → (x : Got (Unit {0})) → Numbered-in (faults layout) x → check-derivation lim layout r derivation ≡ x → accepted-if x .number ≡ Limits.verified → Passed lim layout request derivation
   unfolding accepted-if answer
   accepted-passed r e past none (got u f) n q z = derivation-passed r e past none f q
   accepted-passed r e past none (fault k p) n q z = clash n (ap (λ (i : ℕ). among i (faults layout)) z ∙ no-fault layout)
 
-  settled-passed : (x : Got Request) → Numbered-in refusals x → settled lim request ≡ x → check-settled lim layout derivation x .number ≡ Limits.verified → Accepted lim layout request derivation
+  settled-passed : (x : Got Request) → Numbered-in refusals x → settled lim request ≡ x → check-settled lim layout derivation x .number ≡ Limits.verified → Passed lim layout request derivation
   unfolding check-settled answer pick among refusals some-of either
   settled-passed (got r e) n q z =
       by-test (beyond layout r)
@@ -305,18 +294,18 @@ module _ (lim : Limits) (layout : Layout) (request derivation : List ℕ) where
       (λ f. accepted-passed r e q f _ (check-numbered lim layout r derivation) refl (rw (f, pick) at z))
   settled-passed (fault k p) n q z = clash n (ap (λ (i : ℕ). among i refusals) z)
 
-  derivation-passes : (a : Accepted lim layout request derivation) → check-derivation lim layout (a .asks) derivation ≡ got tt 0
+  derivation-passes : (a : Passed lim layout request derivation) → check-derivation lim layout (a .asks) derivation ≡ got tt 0
   unfolding check-derivation next refuse
   derivation-passes a =
       rw (a .derivation-read, a .no-overlap, all-pass lim layout (a .asks .table) (a .reads .lines) 0 (a .reads .lines) (a .all-follow)) (end-pass layout (a .asks) (a .reads) (a .answered))
 
-  passes : Accepted lim layout request derivation → check lim layout request derivation .number ≡ Limits.verified
+  passes : Passed lim layout request derivation → check lim layout request derivation .number ≡ Limits.verified
   unfolding check check-settled accepted-if answer
   passes a =
       ap (λ (x : Got Request). check-settled lim layout derivation x .number) (a .request-settled)
       ∙ ap (λ (x : Answer). x .number) (pick-false _ _ _ (not-beyond layout (a .asks) (a .reads) (a .answered)))
       ∙ ap (λ (x : Got (Unit {0})). accepted-if x .number) (derivation-passes a)
 
-  pub accepted-exactly : (check lim layout request derivation .number ≡ Limits.verified) ↔ Accepted lim layout request derivation
+  pub passed-exactly : (check lim layout request derivation .number ≡ Limits.verified) ↔ Passed lim layout request derivation
   unfolding check
-  accepted-exactly = (settled-passed (settled lim request) (AnswerLaws.settled-numbered refusals (λ n h. h) lim request) refl, passes)
+  passed-exactly = (settled-passed (settled lim request) (AnswerLaws.settled-numbered refusals (λ n h. h) lim request) refl, passes)
