@@ -22,8 +22,9 @@ use Rattle.meaning.specs.Judging.{Judgement, ended, within, judge-settled, judg
 use Rattle.meaning.specs.Derivations.{check-derivation, answer, accepted-if, check-settled, check}
 use Rattle.meaning.proofs.TestLaws.{some-has, each-has}
 use Rattle.meaning.proofs.PickLaws.{pick-has}
-use Rattle.meaning.proofs.AnswerLaws.{refusals, answers, every-answer-numbered}
-use Rattle.meaning.proofs.Accepted.{end-fault, faults, check-answers, every-check-numbered}
+use Rattle.meaning.specs.Answers.{refusals, answers, end-fault, faults, check-answers}
+use Rattle.meaning.proofs.AnswerLaws.{every-answer-numbered}
+use Rattle.meaning.proofs.Passed.{every-check-numbered}
 use Rattle.glintstring.specs.Packing.{packed, unpacked}
 use Rattle.glintstring.proofs.PlaceLaws.{place-small, check-place-small}
 

@@ -23,7 +23,7 @@ use Rattle.meaning.specs.Judging.{Judgement, within, judge}
 use Rattle.meaning.specs.Approximation.{failed, Φ̂, least}
 use Rattle.meaning.specs.Paths.{paths, walked-along}
 use Rattle.meaning.specs.Worlds.{Carried-out}
-use Rattle.meaning.proofs.AnswerLaws.{answers}
+use Rattle.meaning.specs.Answers.{answers}
 use Rattle.meaning.proofs.Exact.{count, Entailed, format-room}
 use Rattle.meaning.proofs.Demands
 use Rattle.steps.specs.AtHand.{Marked}

@@ -20,7 +20,8 @@ use Rattle.meaning.specs.States.{first-state}
 use Rattle.meaning.specs.Walk.{walked}
 use Rattle.meaning.specs.Derivations.{check}
 use Rattle.meaning.specs.Worlds.{Carried-out}
-use Rattle.meaning.proofs.Accepted.{Accepted, check-answers}
+use Rattle.meaning.specs.Accepted.{Accepted}
+use Rattle.meaning.specs.Answers.{check-answers}
 use Rattle.meaning.proofs.Sound.{Verified}
 use Rattle.glintstring.proofs.CheckPromises
 use Rattle.glintstring.proofs.derivations.check_whether.Kinds.{ps, r}

@@ -31,6 +31,7 @@ use Rattle.meaning.proofs.WalkSound.{walk-sound}
 -- order of the paths.
 pub use Rattle.meaning.proofs.Exact.{spent-exactly, stuck-exactly, verified-exactly, missed-exactly, in-order}
 -- Demand 2, its second sentence (FORMAT 11.6, 17.39), and demand 1 of the derivation call and of the whether call (17.38).
+pub use Rattle.meaning.proofs.Accepted.{accepted-exactly}
 pub use Rattle.meaning.proofs.Passed.{every-check-numbered}
 -- A world's move is single-valued (FORMAT 9.6).
 pub use Rattle.meaning.proofs.WalkSound.{move-is-single-valued}

@@ -28,9 +28,12 @@ pub mod SensingLaws
 pub mod SetLaws
 pub mod RulesExact
 pub mod ReadingsExact
+pub mod ReadLines
+pub mod FollowsExact
 pub mod CoverLaws
 pub mod Exact
 pub mod Passed
+pub mod Accepted
 pub mod LayoutLaws
 pub mod DerivationSound
 pub mod Table

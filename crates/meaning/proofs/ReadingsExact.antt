@@ -1,35 +1,35 @@
 -- Rules 3 and 10: the test is the relation. The readings that the test goes through, each with what it says of the sensed fluents, are all the
 -- sets of the relation, and they come in its order; two lists of all these sets in this order are the same, since the first of each could
 -- only come later in the other. Assumes nothing.
-use Prim.Native.Nat.{ℕ, suc, _+_, _^_, _≤_, _<_}
+use Prim.Native.Nat.{ℕ, suc, _+_, _^_, _<_}
 use native.Mathlib.Omega.{arith}
 use native.Mathlib.Nat.{pow-suc}
 use native.Mathlib.Decide.{decLt}
-use mathlib.Core.Path.{_≡_, refl, sym, _∙_, ap, ap₂, subst}
+use mathlib.Core.Path.{_≡_, refl, sym, _∙_, ap, subst}
 use mathlib.Core.Bool.{Bool, true, false, false≢true}
 use mathlib.Core.List.{List, [], _∷_, _++_, map}
 use mathlib.Core.Logic.{_⊎_, _↔_, inl, inr, ⊎-elim}
 use lib.ListN.{length, length-append, length-set}
 use lib.Dec.{eqb}
-use borrow.Author.Tests.{eqb-true, eqb-false, eq-eqb}
-use Rattle.meaning.specs.Tests.{both, either, pick, those-of, some-of}
+use borrow.Author.Tests.{eqb-true, eqb-false}
+use Rattle.meaning.specs.Tests.{both, either, pick, those-of}
 use Rattle.meaning.specs.Limits.{Limits}
 use Rattle.meaning.specs.Literals.{says-true, says-false, fluent-of, complement, among}
-use Rattle.meaning.specs.Requests.{Knowledge, Table, Sequence, done, item, Item, act, branching, unplaced}
+use Rattle.meaning.specs.Requests.{Knowledge, Table, Sequence, done, item, act, branching, unplaced}
 use Rattle.meaning.specs.Lines.{knowledge-of, senses}
-use Rattle.meaning.specs.States.{State, mark-of, known, known-whether, told, state-of, can-be-run, unknown-from, unknown-sensed, readings}
-use Rattle.meaning.specs.Approximation.{Pair, true-in, _≼_, K, Sensed}
-use Rattle.meaning.specs.Derivations.{Conclusion, Line, literals-of, says, states-of, each-reads, reads, senses-first, rule-3}
-use Rattle.meaning.specs.Rules.{Each, Some, _∈_, _⊆_, _≐_, Consistent, fln, a-state, Same-plan, Same-conclusion, Claims, Reading-of, Before, Ordered, All-readings, Each-claims, Rule-3}
-use Rattle.meaning.proofs.TestLaws.{by-test, clash, same-test, both-left, both-right, both-true, either-left, either-right, either-split, pick-true, pick-false, Has, has-parts, some-has, has-some, some-those, map-has}
+use Rattle.meaning.specs.States.{State, mark-of, known, told, state-of, unknown-from, unknown-sensed, readings}
+use Rattle.meaning.specs.Approximation.{Pair, _≼_, K, Sensed}
+use Rattle.meaning.specs.Derivations.{Conclusion, Line, literals-of, states-of, each-reads, reads, senses-first, rule-3}
+use Rattle.meaning.specs.Rules.{Each, Some, _∈_, _≐_, Consistent, fln, a-state, Same-plan, Same-conclusion, Reading-of, Before, Ordered, All-readings, Each-claims, Rule-3}
+use Rattle.meaning.proofs.TestLaws.{by-test, clash, same-test, both-left, both-right, both-true, either-left, either-right, either-split, pick-true, pick-false, Has, has-parts, some-has, has-some, some-those}
 use Rattle.meaning.proofs.PickLaws.{pick-has}
 use Rattle.meaning.proofs.LiteralLaws.{fluent-true, fluent-false, complement-true, complement-false, by-literal}
-use Rattle.meaning.proofs.PairLaws.{pair-of, true-in-pair, pair-disjoint, not-both, runs-pair, sensing-pair}
+use Rattle.meaning.proofs.PairLaws.{pair-of, true-in-pair, pair-disjoint, not-both, sensing-pair}
 use Rattle.meaning.proofs.ToldLaws.{told-here, told-elsewhere, state-length}
 use Rattle.meaning.proofs.SensingLaws.{read-is, reading-is, reading-follows, arrived, arrives-in}
 use Rattle.meaning.proofs.EndLaws.{arrives-same}
 use Rattle.meaning.proofs.PlacelessLaws.{unplaced-line, unplaced-lines, senses-placeless}
-use Rattle.meaning.proofs.SetLaws.{among-has, has-among, among-left, among-right, among-split, ≐-refl, ≐-sym, ≐-trans, ≐-among, Ascending, ascending-from, literals-ascend, literals-among}
+use Rattle.meaning.proofs.SetLaws.{among-left, among-right, among-split, ≐-refl, ≐-sym, ≐-trans, ≐-among, Ascending, ascending-from, literals-ascend, literals-among}
 use Rattle.meaning.proofs.RulesExact.{Conclusion-ascends, Proper, conclusion-self, conclusions-meet, says-exactly, start-state, runs-exactly}
 
 -- THE ORDER of sets, none of which holds a literal beside its complement.
@@ -53,9 +53,9 @@ before-once U W c d b r =
     elim (decLt (b .fluent) (r .fluent)) [
       | yes less ↦ not-both-of W d (b .fluent) (r .alike (b .fluent) less .0 ∙ b .true-first) (b .false-second)
       | no not-less ↦ elim (decLt (r .fluent) (b .fluent)) [
-          | yes less ↦ not-both-of U c (r .fluent) (b .alike (r .fluent) less .0 ∙ r .true-first) (r .false-second)
-          | no neither ↦ not-both-of U c (b .fluent) (b .true-first) (subst (λ (f : ℕ). says-false f ∈ U) (omega arith) (r .false-second))
-        ]
+        | yes less ↦ not-both-of U c (r .fluent) (b .alike (r .fluent) less .0 ∙ r .true-first) (r .false-second)
+        | no neither ↦ not-both-of U c (b .fluent) (b .true-first) (subst (λ (f : ℕ). says-false f ∈ U) (omega arith) (r .false-second))
+      ]
     ]
 
 later-before : (U : List ℕ) (Us : List (List ℕ)) → Each (Before U) Us → (Z : List ℕ) → Some (λ W. Z ≐ W) Us → Before U Z
@@ -144,10 +144,10 @@ unfolding among
 among-those p l X =
     some-those p (eqb l) X
     ∙ same-test _ _
-      (λ e. let w = some-has _ X e in let same : l ≡ w .0 = eqb-true l (w .0) (both-right _ _ (w .2)) in
-          both-true _ _ (subst (λ (k : ℕ). p k ≡ true) (sym same) (both-left _ _ (w .2))) (has-some (eqb l) X (w .0) (w .1) (both-right _ _ (w .2))))
-      (λ e. let w = some-has (eqb l) X (both-right _ _ e) in
-          has-some _ X (w .0) (w .1) (both-true _ _ (subst (λ (k : ℕ). p k ≡ true) (eqb-true l (w .0) (w .2)) (both-left _ _ e)) (w .2)))
+    (λ e. let w = some-has _ X e in let same : l ≡ w .0 = eqb-true l (w .0) (both-right _ _ (w .2)) in
+    both-true _ _ (subst (λ (k : ℕ). p k ≡ true) (sym same) (both-left _ _ (w .2))) (has-some (eqb l) X (w .0) (w .1) (both-right _ _ (w .2))))
+    (λ e. let w = some-has (eqb l) X (both-right _ _ e) in
+    has-some _ X (w .0) (w .1) (both-true _ _ (subst (λ (k : ℕ). p k ≡ true) (eqb-true l (w .0) (w .2)) (both-left _ _ e)) (w .2)))
 
 module _ (t : Table) (a : ℕ) where
   unfoldable sensed-in : State → List ℕ
@@ -282,11 +282,11 @@ module _ (t : Table) (a : ℕ) (s : State) (X : List ℕ) (start : pair-of s ≡
         into =
             by-literal (λ l. l ∈ sensed-in t a u → l ∈ X′)
             (λ f m. let e = sym (sensed-true t a u f) ∙ m in
-                ⊎-elim (λ k. k) (λ k. absurd (r .consistent (says-true f) (above (says-true f) (both-right _ _ e)) (subst (λ (l : ℕ). l ∈ X ++ X′) (sym (complement-true f)) (among-right _ X X′ k))))
-                (read f (both-left _ _ e)))
+            ⊎-elim (λ k. k) (λ k. absurd (r .consistent (says-true f) (above (says-true f) (both-right _ _ e)) (subst (λ (l : ℕ). l ∈ X ++ X′) (sym (complement-true f)) (among-right _ X X′ k))))
+            (read f (both-left _ _ e)))
             (λ f m. let e = sym (sensed-false t a u f) ∙ m in
-                ⊎-elim (λ k. absurd (r .consistent (says-false f) (above (says-false f) (both-right _ _ e)) (subst (λ (l : ℕ). l ∈ X ++ X′) (sym (complement-false f)) (among-right _ X X′ k)))) (λ k. k)
-                (read f (both-left _ _ e)))
+            ⊎-elim (λ k. absurd (r .consistent (says-false f) (above (says-false f) (both-right _ _ e)) (subst (λ (l : ℕ). l ∈ X ++ X′) (sym (complement-false f)) (among-right _ X X′ k)))) (λ k. k)
+            (read f (both-left _ _ e)))
 
   -- ALL OF THEM, in their order.
   module _ (within : (k : Knowledge) → Has (t .knowledge) k → k .fluent < length s) where
@@ -301,8 +301,8 @@ module _ (t : Table) (a : ℕ) (s : State) (X : List ℕ) (start : pair-of s ≡
       each = each-mapped (sensed-in t a) (Reading-of t a X) (states-of (readings (unknown-sensed t a s) s)) (λ u h. reading-of u (seen u h));
       all = λ X′ r.
           let v = reading-follows t a s within (a-state (X ++ X′))
-              (record { T = λ f e. among-left _ X X′ (sym (known-start (says-true f)) ∙ e); F = λ f e. among-left _ X X′ (sym (known-start (says-false f)) ∙ e) })
-              (λ f e. ⊎-elim (λ m. either-left _ _ (among-right _ X X′ m)) (λ m. either-right _ _ (among-right _ X X′ m)) (either-split _ _ (r .fluents f ∙ e))) in
+          (record { T = λ f e. among-left _ X X′ (sym (known-start (says-true f)) ∙ e); F = λ f e. among-left _ X X′ (sym (known-start (says-false f)) ∙ e) })
+          (λ f e. ⊎-elim (λ m. either-left _ _ (among-right _ X X′ m)) (λ m. either-right _ _ (among-right _ X X′ m)) (either-split _ _ (r .fluents f ∙ e))) in
           let h = arrived (readings (unknown-sensed t a s) s) (v .0) (v .1) in
           some-mapped (sensed-in t a) (λ U. X′ ≐ U) (states-of (readings (unknown-sensed t a s) s)) (v .0) h (sensed-is (v .0) (seen (v .0) h) X′ r (v .3));
       ordered = readings-ordered t a (unknown-sensed t a s) 0 s (unknown-ascends (knowledge-of t a) s 0 s) (λ f h. let w = read-is t a s f h in (w .0, w .1));
@@ -420,20 +420,23 @@ module _ (lim : Limits) (t : Table) (within : (k : Knowledge) → Has (t .knowle
 
       from : (c : Sequence ℕ) → l .c ≡ c → senses-first lim t cited l c ≡ true → (Y : Conclusion) × Rule-3 t cited l Y
       from done q e = absurd (false≢true e)
-      from (item (act p a) rest) q e = (l .Y, record {
-        X = l .X;
-        place = p;
-        a = a;
-        c = rest;
-        line = record { start = ≐-refl (l .X); plan = ap unplaced q; end = conclusion-self (l .Y) };
-        senses = sensing-pair t a ∙ both-left _ _ e;
-        runs = sym (runs-exactly lim t l own (l .X) (≐-refl (l .X)) a) ∙ both-left _ _ (both-right _ _ e);
-        Xs = map (sensed-in t a) (states-of (readings (unknown-sensed t a s) s));
-        readings = all-readings t a s (l .X) (start (l .X) (≐-refl (l .X))) near;
-        premises =
-            reads-claim lim (sensed-in t a) (l .X) rest (l .Y) (own .Y-ascends) (states-of (readings (unknown-sensed t a s) s)) cited (unions a) proper
-            (sym (count-settled rest (l .Y) (unknown-sensed t a s) s cited) ∙ both-right _ _ (both-right _ _ e));
-      })
+      from (item (act p a) rest) q e = (
+        l .Y,
+        record {
+          X = l .X;
+          place = p;
+          a = a;
+          c = rest;
+          line = record { start = ≐-refl (l .X); plan = ap unplaced q; end = conclusion-self (l .Y) };
+          senses = sensing-pair t a ∙ both-left _ _ e;
+          runs = sym (runs-exactly lim t l own (l .X) (≐-refl (l .X)) a) ∙ both-left _ _ (both-right _ _ e);
+          Xs = map (sensed-in t a) (states-of (readings (unknown-sensed t a s) s));
+          readings = all-readings t a s (l .X) (start (l .X) (≐-refl (l .X))) near;
+          premises =
+              reads-claim lim (sensed-in t a) (l .X) rest (l .Y) (own .Y-ascends) (states-of (readings (unknown-sensed t a s) s)) cited (unions a) proper
+              (sym (count-settled rest (l .Y) (unknown-sensed t a s) s cited) ∙ both-right _ _ (both-right _ _ e));
+        },
+      )
       from (item (branching p bs) rest) q e = absurd (false≢true e)
 
       to : (Y : Conclusion) → Rule-3 t cited l Y → senses-first lim t cited l (l .c) ≡ true
@@ -442,7 +445,7 @@ module _ (lim : Limits) (t : Table) (within : (k : Knowledge) → Has (t .knowle
           let here = start (r .X) (r .line .start) in
           sense-alike cited l (l .c) (item (act (r .place) a) (r .c)) (r .line .plan)
           ∙ both-true _ _ (sym (sensing-pair t a) ∙ r .senses)
-            (both-true _ _ (runs-exactly lim t l own (r .X) (r .line .start) a ∙ r .runs)
-            (count-settled (r .c) (l .Y) (unknown-sensed t a s) s cited
-            ∙ claims-read lim (sensed-in t a) (l .X) (r .c) (r .X) (≐-sym (l .X) (r .X) (r .line .start)) (l .Y) Y (own .Y-ascends) (r .line .end)
-              (r .Xs) (states-of (readings (unknown-sensed t a s) s)) cited (readings-once t a s (r .X) here near (r .Xs) (r .readings)) (unions a) proper (r .premises)))
+          (both-true _ _ (runs-exactly lim t l own (r .X) (r .line .start) a ∙ r .runs)
+          (count-settled (r .c) (l .Y) (unknown-sensed t a s) s cited
+          ∙ claims-read lim (sensed-in t a) (l .X) (r .c) (r .X) (≐-sym (l .X) (r .X) (r .line .start)) (l .Y) Y (own .Y-ascends) (r .line .end)
+          (r .Xs) (states-of (readings (unknown-sensed t a s) s)) cited (readings-once t a s (r .X) here near (r .Xs) (r .readings)) (unions a) proper (r .premises)))

@@ -7,14 +7,12 @@ use mathlib.Core.Bool.{Bool, true, false, false≢true}
 use mathlib.Core.List.{List, [], _∷_}
 use mathlib.Core.Logic.{_↔_, inl, inr, ⊎-elim}
 use borrow.Author.Tests.{eqb-true, eq-eqb}
-use Rattle.meaning.specs.Tests.{both, either}
 use Rattle.meaning.specs.Limits.{Limits}
 use Rattle.meaning.specs.Literals.{fluent-of}
 use Rattle.meaning.specs.Requests.{Effect, Table, Sequence, done, item, Item, act, branching, Branches, none, branch, unplaced, unplaced-item, unplaced-branches}
-use Rattle.meaning.specs.Lines.{sensing}
 use Rattle.meaning.specs.States.{State, state-of, can-be-run, state-after}
-use Rattle.meaning.specs.Approximation.{Pair, executable, K, sensing-action, Res}
-use Rattle.meaning.specs.Derivations.{Conclusion, knows, knows-whether, Line, same-plan, same-item, same-branches, join, included, literals-of, same-conclusion, part-of, says, rule-1, takes-branch, branches-first, rule-4, rule-5, rule-6, one-literal, settles, rule-8, acts, one-action, rule-2, looks-for, one-look, rule-7}
+use Rattle.meaning.specs.Approximation.{executable, K, Res}
+use Rattle.meaning.specs.Derivations.{Conclusion, knows, knows-whether, Line, same-plan, same-item, same-branches, join, literals-of, same-conclusion, part-of, says, of-one, of-two, rule-1, takes-branch, branches-first, rule-4, rule-5, rule-6, one-literal, settles, rule-8, acts, one-action, rule-2, looks-for, one-look, rule-7}
 use Rattle.meaning.specs.Rules.{_⊆_, _≐_, a-state, Same-plan, Same-conclusion, Claims, Rule-1, Rule-2, Case, Rule-4, Rule-5, Rule-6, Rule-7, Rule-8}
 use Rattle.meaning.proofs.TestLaws.{both-left, both-right, both-true, either-left, either-right, either-split, fails-true, fails-false, Has}
 use Rattle.meaning.proofs.PairLaws.{pair-of, pair-after, runs-pair, sensing-pair, senses-pair}
@@ -93,6 +91,21 @@ conclusions-meet (knows-whether f) (knows Z) (knows W) e h = absurd e
 conclusions-meet (knows-whether f) (knows Z) (knows-whether h) e g = absurd g
 conclusions-meet (knows-whether f) (knows-whether g) (knows W) e h = absurd e
 conclusions-meet (knows-whether f) (knows-whether g) (knows-whether h) p q = p ∙ sym q
+
+-- CITED LINES, where a rule takes one or two.
+module _ {A : Type 0} where
+  pub one-only : (test : A → Bool) (xs : List A) → of-one test xs ≡ true → (x : A) × (xs ≡ x ∷ []) × (test x ≡ true)
+  unfolding of-one
+  one-only test [] e = absurd (false≢true e)
+  one-only test (x ∷ []) e = (x, refl, e)
+  one-only test (x ∷ (y ∷ ys)) e = absurd (false≢true e)
+
+  pub two-only : (test : A → A → Bool) (xs : List A) → of-two test xs ≡ true → (x y : A) × (xs ≡ x ∷ y ∷ []) × (test x y ≡ true)
+  unfolding of-two
+  two-only test [] e = absurd (false≢true e)
+  two-only test (x ∷ []) e = absurd (false≢true e)
+  two-only test (x ∷ (y ∷ [])) e = (x, y, refl, e)
+  two-only test (x ∷ (y ∷ (z ∷ zs))) e = absurd (false≢true e)
 
 -- LINES that were read: their lists ascend, and X is clear.
 pub record Proper (lim : Limits) (l : Line) : Type 0 where

@@ -1,6 +1,6 @@
 -- Lists of literals as sets. Two ascending lists with the same literals are one list: the smaller of their first entries could stand nowhere
 -- in the other. What a state knows, as a list, ascends and has just the literals that are known. Assumes nothing.
-use Prim.Native.Nat.{ℕ, suc, _+_, _*_, _≤_, _<_}
+use Prim.Native.Nat.{ℕ, _+_, _*_, _≤_, _<_}
 use native.Mathlib.Omega.{arith}
 use native.Mathlib.Decide.{decLt}
 use mathlib.Core.Path.{_≡_, refl, sym, _∙_, ap, ap₂, subst, fun-ext}
@@ -9,16 +9,15 @@ use mathlib.Core.List.{List, [], _∷_, _++_}
 use mathlib.Core.Logic.{_⊎_, inl, inr, ⊎-elim}
 use lib.ListN.{length}
 use borrow.Author.Tests.{eqb-true, eq-eqb}
-use Rattle.meaning.specs.Tests.{both, each-of}
 use Rattle.meaning.specs.Limits.{Limits}
-use Rattle.meaning.specs.Literals.{says-true, says-false, fluent-of, complement, among}
+use Rattle.meaning.specs.Literals.{says-true, says-false, among}
 use Rattle.meaning.specs.States.{State, known, state-of}
 use Rattle.meaning.specs.Approximation.{Pair}
 use Rattle.meaning.specs.Derivations.{same-list, included, known-from, literals-of}
-use Rattle.meaning.specs.Rules.{_∈_, _⊆_, _≐_, Consistent, a-state}
+use Rattle.meaning.specs.Rules.{_∈_, _⊆_, _≐_, a-state}
 use Rattle.meaning.proofs.TestLaws.{clash, same-test, both-left, both-right, both-true, Has, has-left, has-right, has-parts, some-has, has-some, each-has, has-each}
 use Rattle.meaning.proofs.PickLaws.{pick-has, has-picked}
-use Rattle.meaning.proofs.LiteralLaws.{fluent-true, fluent-false, by-literal}
+use Rattle.meaning.proofs.LiteralLaws.{by-literal}
 use Rattle.meaning.proofs.StateLaws.{unknown-far}
 use Rattle.meaning.proofs.PairLaws.{pair-of, pair-disjoint}
 use Rattle.meaning.proofs.ToldLaws.{Clear, state-known}

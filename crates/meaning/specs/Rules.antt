@@ -9,7 +9,7 @@ use mathlib.Core.Logic.{_⊎_}
 use Rattle.meaning.specs.Tests.{either}
 use Rattle.meaning.specs.Limits
 use Rattle.meaning.specs.Literals.{says-true, says-false, fluent-of, complement, among}
-use Rattle.meaning.specs.Requests.{Table, Sequence, done, item, Item, act, branching, Branches, none, branch, unplaced}
+use Rattle.meaning.specs.Requests.{Table, Sequence, done, item, act, branching, Branches, none, branch, unplaced}
 use Rattle.meaning.specs.Approximation.{Pair, executable, K, sensing-action, Res}
 use Rattle.meaning.specs.Derivations.{Conclusion, knows, knows-whether, Line, join}
 
