@@ -12,7 +12,7 @@ use mathlib.Core.Logic.{_⊎_, _↔_, inl, inr, ⊎-elim}
 use lib.ListN.{length, length-append, length-set}
 use lib.Dec.{eqb}
 use borrow.Author.Tests.{eqb-true, eqb-false}
-use Rattle.meaning.specs.Tests.{both, either, pick, those-of}
+use Rattle.meaning.specs.Tests.{both, either, pick, those-of, Each, Some}
 use Rattle.meaning.specs.Limits.{Limits}
 use Rattle.meaning.specs.Literals.{says-true, says-false, fluent-of, complement, among}
 use Rattle.meaning.specs.Requests.{Knowledge, Table, Sequence, done, item, act, branching, unplaced}
@@ -20,7 +20,7 @@ use Rattle.meaning.specs.Lines.{knowledge-of, senses}
 use Rattle.meaning.specs.States.{State, mark-of, known, told, state-of, unknown-from, unknown-sensed, readings}
 use Rattle.meaning.specs.Approximation.{Pair, _≼_, K, Sensed}
 use Rattle.meaning.specs.Derivations.{Conclusion, Line, literals-of, states-of, each-reads, reads, senses-first, rule-3}
-use Rattle.meaning.specs.Rules.{Each, Some, _∈_, _≐_, Consistent, fln, a-state, Same-plan, Same-conclusion, Reading-of, Before, Ordered, All-readings, Each-claims, Rule-3}
+use Rattle.meaning.specs.Rules.{_∈_, _≐_, Consistent, fln, a-state, Same-plan, Same-conclusion, Reading-of, Before, Ordered, All-readings, Each-claims, Rule-3}
 use Rattle.meaning.proofs.TestLaws.{by-test, clash, same-test, both-left, both-right, both-true, either-left, either-right, either-split, pick-true, pick-false, Has, has-parts, some-has, has-some, some-those}
 use Rattle.meaning.proofs.PickLaws.{pick-has}
 use Rattle.meaning.proofs.LiteralLaws.{fluent-true, fluent-false, complement-true, complement-false, by-literal}

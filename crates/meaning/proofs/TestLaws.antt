@@ -4,6 +4,8 @@ use mathlib.Core.Bool.{Bool, true, false, false≢true}
 use mathlib.Core.List.{List, [], _∷_, _++_, map}
 use mathlib.Core.Logic.{_⊎_, inl, inr, ⊎-elim}
 use Rattle.meaning.specs.Tests.{both, either, fails, pick, some-of, each-of, those-of}
+-- Membership, beside its laws.
+pub use Rattle.meaning.specs.Tests.{Has}
 
 -- By the two values of a test, with the equation in hand.
 pub by-test {ℓ} : {C : Type ℓ} (b : Bool) → (b ≡ true → C) → (b ≡ false → C) → C
@@ -81,12 +83,6 @@ module _ {A B : Type 0} where
   unfolding pick
   pick-map h true f g = refl
   pick-map h false f g = refl
-
--- Membership, as a type.
-module _ {A : Type 0} where
-  abbrev pub Has : List A → A → Type 0
-  Has [] x = ⊥
-  Has (y ∷ ys) x = (x ≡ y) ⊎ Has ys x
 
 module _ {A : Type 0} where
   -- Some entry passes: here it is.

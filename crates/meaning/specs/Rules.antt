@@ -6,21 +6,12 @@ use mathlib.Core.Path.{_≡_}
 use mathlib.Core.Bool.{Bool, true, false}
 use mathlib.Core.List.{List, [], _∷_, _++_}
 use mathlib.Core.Logic.{_⊎_}
-use Rattle.meaning.specs.Tests.{either}
+use Rattle.meaning.specs.Tests.{either, Each, Some}
 use Rattle.meaning.specs.Limits
 use Rattle.meaning.specs.Literals.{says-true, says-false, fluent-of, complement, among}
 use Rattle.meaning.specs.Requests.{Table, Sequence, done, item, act, branching, Branches, none, branch, unplaced}
 use Rattle.meaning.specs.Approximation.{Pair, executable, K, sensing-action, Res}
 use Rattle.meaning.specs.Derivations.{Conclusion, knows, knows-whether, Line, join}
-
-module _ {A : Type 0} where
-  abbrev pub Each : (A → Type 0) → List A → Type 0
-  Each P [] = Unit {0}
-  Each P (x ∷ xs) = P x × Each P xs
-
-  abbrev pub Some : (A → Type 0) → List A → Type 0
-  Some P [] = ⊥
-  Some P (x ∷ xs) = P x ⊎ Some P xs
 
 -- SETS. A list stands for the set of the literals in it, whatever their order.
 infix 40 _∈_
@@ -84,7 +75,7 @@ pub record Reading-of (t : Table) (a : ℕ) (X X′ : List ℕ) : Type 0 where
   pub fluents : (f : ℕ) → fln X′ f ≡ K t a f
   pub consistent : Consistent (X ++ X′)
 
--- Their order: at the smallest fluent on which two of them differ, true comes before false (FORMAT 7.12, 8.3).
+-- Their order: at the smallest fluent on which two of them differ, true comes before false (FORMAT 7.12, 7.15).
 pub record Before (U W : List ℕ) : Type 0 where
   pub fluent : ℕ
   pub true-first : says-true fluent ∈ U

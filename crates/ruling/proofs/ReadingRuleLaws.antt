@@ -28,7 +28,7 @@ use Rattle.refusing.specs.Branchings.{sequence-place}
 use Rattle.refusing.specs.Plans.{own-items}
 use Rattle.steps.specs.AtHand.{Marked}
 use Rattle.steps.specs.Steps.{unknown-above, first-of}
-use Rattle.steps.proofs.SmallActions.{Small}
+use Rattle.steps.specs.SmallPlans.{Small}
 use Rattle.steps.proofs.SensingLaws.{first-marked, second-marked, told-true, told-false, unknown-after-set, unknown-first, unknown-first-above, unknown-no-first, sensed-first, sensed-no-first}
 use Rattle.steps.proofs.ToldMarks.{marked-as}
 use Rattle.ruling.specs.declared.readings.Used.{Used}

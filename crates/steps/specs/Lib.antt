@@ -3,3 +3,4 @@ pub mod Lines
 pub mod Rests
 pub mod Steps
 pub mod After
+pub mod SmallPlans
