@@ -200,6 +200,10 @@ module _ (t : Table) (a : ℕ) where
       same u w l g e less one two =
           one (omega arith) ∙ elsewhere (says-true f) l g (fluent-true f) e less ∙ sym (elsewhere (says-false f) l g (fluent-false f) e less) ∙ sym (two (omega arith))
 
+-- What each reading says of them.
+abbrev read-sets : Table → ℕ → State → List (List ℕ)
+read-sets t a s = map (sensed-in t a) (states-of (readings (unknown-sensed t a s) s))
+
 module _ (t : Table) (a : ℕ) (s : State) (X : List ℕ) (start : pair-of s ≡ a-state X) where
   known-start : (l : ℕ) → known s l ≡ among l X
   unfolding pair-of a-state
@@ -295,25 +299,30 @@ module _ (t : Table) (a : ℕ) (s : State) (X : List ℕ) (start : pair-of s ≡
         let w = reading-is t a s within _ (arrives-in (readings (unknown-sensed t a s) s) u h) in
         subst (λ (v : State). Sensed t a (pair-of s) (pair-of v)) (sym (arrives-same (w .1))) (w .3)
 
-    all-readings : All-readings t a X (map (sensed-in t a) (states-of (readings (unknown-sensed t a s) s)))
-    unfolding unknown-sensed pair-of a-state fln
-    all-readings = record {
-      each = each-mapped (sensed-in t a) (Reading-of t a X) (states-of (readings (unknown-sensed t a s) s)) (λ u h. reading-of u (seen u h));
-      all = λ X′ r.
-          let v = reading-follows t a s within (a-state (X ++ X′))
-          (record { T = λ f e. among-left _ X X′ (sym (known-start (says-true f)) ∙ e); F = λ f e. among-left _ X X′ (sym (known-start (says-false f)) ∙ e) })
-          (λ f e. ⊎-elim (λ m. either-left _ _ (among-right _ X X′ m)) (λ m. either-right _ _ (among-right _ X X′ m)) (either-split _ _ (r .fluents f ∙ e))) in
-          let h = arrived (readings (unknown-sensed t a s) s) (v .0) (v .1) in
-          some-mapped (sensed-in t a) (λ U. X′ ≐ U) (states-of (readings (unknown-sensed t a s) s)) (v .0) h (sensed-is (v .0) (seen (v .0) h) X′ r (v .3));
-      ordered = readings-ordered t a (unknown-sensed t a s) 0 s (unknown-ascends (knowledge-of t a) s 0 s) (λ f h. let w = read-is t a s f h in (w .0, w .1));
-    }
+    each-read : Each (Reading-of t a X) (read-sets t a s)
+    each-read = each-mapped (sensed-in t a) (Reading-of t a X) (states-of (readings (unknown-sensed t a s) s)) (λ u h. reading-of u (seen u h))
+
+    all-read : (X′ : List ℕ) → Reading-of t a X X′ → Some (λ U. X′ ≐ U) (read-sets t a s)
+    unfolding pair-of a-state fln
+    all-read X′ r =
+        let v = reading-follows t a s within (a-state (X ++ X′))
+        (record { T = λ f e. among-left _ X X′ (sym (known-start (says-true f)) ∙ e); F = λ f e. among-left _ X X′ (sym (known-start (says-false f)) ∙ e) })
+        (λ f e. ⊎-elim (λ m. either-left _ _ (among-right _ X X′ m)) (λ m. either-right _ _ (among-right _ X X′ m)) (either-split _ _ (r .fluents f ∙ e))) in
+        let h = arrived (readings (unknown-sensed t a s) s) (v .0) (v .1) in
+        some-mapped (sensed-in t a) (λ U. X′ ≐ U) (states-of (readings (unknown-sensed t a s) s)) (v .0) h (sensed-is (v .0) (seen (v .0) h) X′ r (v .3))
+
+    ordered-read : Ordered (read-sets t a s)
+    unfolding unknown-sensed
+    ordered-read = readings-ordered t a (unknown-sensed t a s) 0 s (unknown-ascends (knowledge-of t a) s 0 s) (λ f h. let w = read-is t a s f h in (w .0, w .1))
+
+    all-readings : All-readings t a X (read-sets t a s)
+    all-readings = record { each = each-read; all = all-read; ordered = ordered-read }
 
     -- So any list of all of them in their order has these.
-    readings-once : (Xs : List (List ℕ)) → All-readings t a X Xs → Alike Xs (map (sensed-in t a) (states-of (readings (unknown-sensed t a s) s)))
+    readings-once : (Xs : List (List ℕ)) → All-readings t a X Xs → Alike Xs (read-sets t a s)
     readings-once Xs r =
-        let here = map (sensed-in t a) (states-of (readings (unknown-sensed t a s) s)) in
-        ordered-once Xs here (consistent Xs (r .each)) (consistent here (all-readings .each)) (r .ordered) (all-readings .ordered)
-        (carried Xs here (r .each) (all-readings .all)) (carried here Xs (all-readings .each) (r .all))
+        ordered-once Xs (read-sets t a s) (consistent Xs (r .each)) (consistent (read-sets t a s) each-read) (r .ordered) ordered-read
+        (carried Xs (read-sets t a s) (r .each) all-read) (carried (read-sets t a s) Xs each-read (r .all))
       where
         consistent : (Us : List (List ℕ)) → Each (Reading-of t a X) Us → Each Consistent Us
         consistent [] e = tt
