@@ -47,7 +47,7 @@ not-both-of U c f t u = c (says-true f) t (subst (λ (l : ℕ). l ∈ U) (sym (c
 before-other : (U W : List ℕ) → Consistent U → Before U W → U ≐ W → ⊥
 before-other U W c b e = not-both-of U c (b .fluent) (b .true-first) (e .1 _ (b .false-second))
 
--- The first of the two is known to have the fluent true, and the other has it false.
+-- No two sets are each before the other: at the smaller of the two fluents they differ by the one order and agree by the other.
 before-once : (U W : List ℕ) → Consistent U → Consistent W → Before U W → Before W U → ⊥
 before-once U W c d b r =
     elim (decLt (b .fluent) (r .fluent)) [

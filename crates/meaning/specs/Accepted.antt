@@ -1,5 +1,5 @@
--- When a derivation is accepted (FORMAT 11.6, 17.39): each line follows by its rule from earlier lines, and the question is answered. It is said by
--- the relations of `Rules`, and by none of the checker's tests.
+-- When a derivation is accepted (FORMAT 11.6, 17.39): each line follows by its rule from earlier lines, and the question is answered. What was
+-- read is judged by the relations of `Rules`, and by none of the checker's tests.
 use Prim.Native.Nat.{ℕ, zero, suc, _+_, _<_}
 use mathlib.Core.Path.{_≡_}
 use mathlib.Core.List.{List, [], _∷_}
