@@ -11,13 +11,13 @@ use Rattle.meaning.specs.declared.Layout.the-variants.{Plain, Closing}
 use Rattle.meaning.specs.Tests.{pick, some-of}
 use Rattle.meaning.specs.Limits
 use Rattle.meaning.specs.Limits.{Limits}
-use Rattle.meaning.specs.Requests.{Table, Sequence, done, item, Item, act, branching, Branches, none, branch, Entry, Request, values}
+use Rattle.meaning.specs.Requests.{Table, Sequence, done, item, Item, act, branching, Branches, none, branch, Entry, Request, values, unplaced, unplaced-item, unplaced-branches}
 use Rattle.meaning.specs.Reading.{Got, got, fault, next, read-request}
 use Rattle.meaning.specs.Refusals.{Found, nowhere, at, overlap-in, refuse, settled}
 use Rattle.meaning.specs.States.{State, can-be-run, state-after, unknown-sensed}
 use Rattle.meaning.specs.Walk.{table-step}
 use Rattle.meaning.specs.Derivations.{Conclusion, knows, knows-whether, Line, Derivation, read-derivation, overlap-in-lines, same-plan, same-item, same-branches, says, acts, one-action, rule-2, reads, senses-first, rule-3, looks-for, one-look, rule-7, given-by, follows, check-lines, asks-for, goals-of, check-last, all-asked, names, check-entries, check-closing, check-end, check-derivation, answer, accepted-if, beyond, check-settled, check}
-use Rattle.meaning.specs.SameLines.{unplaced, unplaced-item, unplaced-branches, Same-tables, Same-for-derivations, Same-answer}
+use Rattle.meaning.specs.SameLines.{Same-tables, Same-for-derivations, Same-answer}
 use Rattle.meaning.proofs.TestLaws.{clash}
 use Rattle.meaning.proofs.RefusalLaws.{at≢nowhere, unplaced-found, unplaced-18}
 use Rattle.meaning.proofs.LineLaws.{sensing-same, senses-same, unknown-same, marks-same, tables-agree, contradiction-same, mixed-same}

@@ -27,9 +27,15 @@ pub mod PairLaws
 pub mod ToldLaws
 pub mod EndLaws
 pub mod SensingLaws
+pub mod SetLaws
+pub mod RulesExact
+pub mod ReadingsExact
+pub mod ReadLines
+pub mod FollowsExact
 pub mod CoverLaws
 pub mod Exact
 pub mod ReportLaws
+pub mod Passed
 pub mod Accepted
 pub mod LayoutLaws
 pub mod DerivationSound

@@ -9,14 +9,14 @@ use lib.Dec.{ltb}
 use Rattle.meaning.specs.Tests.{both, fails, pick, some-of, each-of}
 use Rattle.meaning.specs.Limits
 use Rattle.meaning.specs.Limits.{Limits}
-use Rattle.meaning.specs.Requests.{Effect, Knowledge, Table, Sequence, Entry, Request, values}
+use Rattle.meaning.specs.Requests.{Effect, Knowledge, Table, Sequence, Entry, Request, values, unplaced}
 use Rattle.meaning.specs.Reading.{Got, got, next, read-request}
 use Rattle.meaning.specs.Refusals.{Found, nowhere, at, contradictory, contradiction-in, mixed-in, overlap-in, refuse, settled}
 use Rattle.meaning.specs.Lines.{effects-of, executability-of, knowledge-of, allowed, given, sensing, senses}
 use Rattle.meaning.specs.States.{State, known, known-whether, state-of, first-state, can-be-run, known-after, mark-after, marks-after, state-after, unknown-from, unknown-sensed, outcome}
 use Rattle.meaning.specs.Walk.{End, fine, missed, stuck, Walked, walk, table-step, first-missed, missed-in, end-of, judged, walked}
 use Rattle.meaning.specs.Judging.{Judgement, ended, within, judge-settled, judge}
-use Rattle.meaning.specs.SameLines.{On-actions, Same-lines-of, unplaced, Same-set, Same-effect, Same-tables, Same-but-lines, Gist, gist}
+use Rattle.meaning.specs.SameLines.{On-actions, Same-lines-of, Same-set, Same-effect, Same-tables, Same-but-lines, Gist, gist}
 use Rattle.meaning.proofs.TestLaws.{clash, same-test, pick-map, some-has, has-some, some-those}
 use Rattle.meaning.proofs.WalkLaws.{on-actions, map-actions, Agree, walk-agrees, unplaced-end, unplaced-walk, walk-unplaced}
 use Rattle.meaning.proofs.RefusalLaws.{at≢nowhere, past-16, by-16, unplaced-found, found-if, unplaced-or-else, unplaced-17, unplaced-18}

@@ -19,11 +19,11 @@ use Rattle.meaning.specs.States.{State, first-state}
 use Rattle.meaning.specs.Walk.{End, fine, missed, stuck, walked}
 use Rattle.meaning.specs.Judging.{Judgement, ended, within, judge-settled, judge}
 use Rattle.meaning.specs.Derivations.{check-derivation, answer, accepted-if, check-settled, check}
+use Rattle.meaning.specs.Answers.{refusals}
 use Rattle.meaning.specs.AnswerParts.{of-neither, of-requests, of-derivations, inputs-of, Walk-input, Check-input, at-start, Placed, named, of-walks, Walk-count}
 use Rattle.meaning.proofs.TestLaws.{clash, fails-true}
 use Rattle.meaning.proofs.LiteralLaws.{among-each}
 use Rattle.meaning.proofs.PickLaws.{pick-has}
-use Rattle.meaning.proofs.AnswerLaws.{refusals}
 use Rattle.meaning.proofs.PlaceLaws.{End-below, walked-below, placed-start, placed-byte, Fault-in, Request-held, settled-held, byte-faults, derivation-faults, Checked, derivation-checked}
 
 -- THE WALK CALL.

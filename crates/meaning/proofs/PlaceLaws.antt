@@ -20,11 +20,11 @@ use Rattle.meaning.specs.Refusals.{Found, nowhere, at, or-else, contradi
 use Rattle.meaning.specs.States.{State, Outcome, single, fork, outcome}
 use Rattle.meaning.specs.Walk.{End, fine, missed, stuck, Walked, stuck-at, counted, keep-miss, after-miss, after-end, and-then, each-reading, run-action, walk, walk-item, walk-branch, table-step, first-missed, missed-in, end-of, judged, walked}
 use Rattle.meaning.specs.Derivations.{Conclusion, Line, Derivation, Concluded, list-concluded, fluent-concluded, conclusion-at, concluded-at, closing-at, line-at, read-derivation, overlap-in-lines, check-lines, check-last, all-asked, check-entries, check-closing, check-end, check-derivation}
+use Rattle.meaning.specs.Answers.{refusals}
 use Rattle.meaning.specs.AnswerParts.{of-neither, at-start, Placed}
 use Rattle.meaning.proofs.TestLaws.{clash, either-right, fails-true}
 use Rattle.meaning.proofs.LiteralLaws.{among-each}
 use Rattle.meaning.proofs.PickLaws.{pick-has}
-use Rattle.meaning.proofs.AnswerLaws.{refusals}
 
 -- The faults of reading that are placed at a byte.
 unfoldable pub byte-faults : List ℕ

@@ -9,9 +9,8 @@ use lib.Dec.{eqb}
 use borrow.Author.Tests.{eqb-true, eq-eqb}
 use Rattle.meaning.specs.Tests.{either, fails, pick, some-of, each-of, Has}
 use Rattle.meaning.specs.Literals.{complement, among, exclusive}
-use Rattle.meaning.specs.Requests.{Effect, Knowledge, Sequence, done, item, Item, act, branching, Branches, none, branch}
+use Rattle.meaning.specs.Requests.{Effect, Knowledge, Sequence, done, item, Item, act, branching, Branches, none, branch, unplaced, unplaced-item, unplaced-branches}
 use Rattle.meaning.specs.Refusals.{Found, nowhere, at, or-else, contradictory, contradiction-in, mixed-in, conditions-of, overlap-in, overlap-at, overlap-below}
-use Rattle.meaning.specs.SameLines.{unplaced, unplaced-item, unplaced-branches}
 use Rattle.meaning.proofs.TestLaws.{by-test, clash, same-test, both-left, both-right, both-true, pick-cases, pick-map, some-has, has-some, each-has}
 use Rattle.meaning.proofs.LiteralLaws.{complement-twice, complement-other}
 

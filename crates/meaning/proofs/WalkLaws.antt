@@ -4,11 +4,11 @@ use Prim.Native.Nat.{ℕ}
 use mathlib.Core.Path.{_≡_, refl, _∙_, ap, fun-ext}
 use mathlib.Core.List.{List}
 use Rattle.meaning.specs.Tests.{each-of}
-use Rattle.meaning.specs.Requests.{Sequence, done, item, Item, act, branching, Branches, none, branch}
+use Rattle.meaning.specs.Requests.{Sequence, done, item, Item, act, branching, Branches, none, branch, unplaced, unplaced-item, unplaced-branches}
 use Rattle.meaning.specs.Refusals.{conditions-of}
 use Rattle.meaning.specs.States.{Outcome, single, fork}
 use Rattle.meaning.specs.Walk.{End, fine, missed, stuck, Walked, stuck-at, counted, keep-miss, after-miss, after-end, and-then, each-reading, Steps, run-action, walk, walk-item, walk-branch}
-use Rattle.meaning.specs.SameLines.{On-actions, On-item, On-branches, unplaced, unplaced-item, unplaced-branches}
+use Rattle.meaning.specs.SameLines.{On-actions, On-item, On-branches}
 use Rattle.meaning.proofs.TestLaws.{pick-map}
 
 -- What holds of every action holds of each in a plan.
@@ -82,7 +82,7 @@ module _ {S L : Type 0} (step other : Steps S L) (knows : step .knows ≡ other 
     branches-agree none same p k s = refl
     branches-agree (branch c b bs) same p k s = rw (knows, walk-agrees b (same .0) k s, branches-agree bs (same .1) p k s)
 
--- PLACES. An end and a walk with every place taken as 0.
+-- PLACES. An end and a walk with every place taken as 0, as `unplaced` has it of a plan.
 module _ {S : Type 0} where
   abbrev pub unplaced-end : End S → End S
   unplaced-end fine = fine

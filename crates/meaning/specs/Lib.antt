@@ -14,6 +14,9 @@ pub mod Paths
 pub mod Reported
 pub mod SameLines
 pub mod Derivations
+pub mod Rules
+pub mod Accepted
+pub mod Answers
 pub mod Showing
 pub mod Layouts
 pub mod AnswerParts

@@ -6,7 +6,7 @@ use mathlib.Core.List.{List}
 use Rattle.meaning.specs.declared.Answer.{Answer}
 use Rattle.meaning.specs.Tests.{Has}
 use Rattle.meaning.specs.Limits
-use Rattle.meaning.specs.Requests.{Effect, Executability, Knowledge, Table, Sequence, done, item, Item, act, branching, Branches, none, branch, Request, values}
+use Rattle.meaning.specs.Requests.{Effect, Executability, Knowledge, Table, Sequence, done, item, Item, act, branching, Branches, none, branch, Request, values, unplaced}
 use Rattle.meaning.specs.Lines.{effects-of, executability-of, knowledge-of}
 use Rattle.meaning.specs.Judging.{Judgement}
 
@@ -30,21 +30,6 @@ pub record Same-lines-of (t u : Table) (a : ℕ) : Type 0 where
   pub effects : effects-of t a ≡ effects-of u a
   pub executability : executability-of t a ≡ executability-of u a
   pub knowledge : knowledge-of t a ≡ knowledge-of u a
-
--- PLACES. A plan with every place taken as 0.
-module _ {L : Type 0} where
-  abbrev mutual
-    pub unplaced : Sequence L → Sequence L
-    unplaced done = done
-    unplaced (item i rest) = item (unplaced-item i) (unplaced rest)
-
-    pub unplaced-item : Item L → Item L
-    unplaced-item (act p a) = act 0 a
-    unplaced-item (branching p bs) = branching 0 (unplaced-branches bs)
-
-    pub unplaced-branches : Branches L → Branches L
-    unplaced-branches none = none
-    unplaced-branches (branch c b bs) = branch c (unplaced b) (unplaced-branches bs)
 
 -- LINES SAID TWICE. What stands in the one list stands in the other, as far as R tells.
 module _ {A : Type 0} (R : A → A → Type 0) where

@@ -1,4 +1,4 @@
--- Tests that compute, the choice between two values by a test, and membership. Definitions only.
+-- Tests that compute, the choice between two values by a test, and what is said of the entries of a list. Definitions only.
 use mathlib.Core.Path.{_≡_}
 use mathlib.Core.Bool.{Bool, true, false}
 use mathlib.Core.List.{List, [], _∷_}
@@ -42,3 +42,12 @@ module _ {A : Type 0} where
   abbrev pub Has : List A → A → Type 0
   Has [] x = ⊥
   Has (y ∷ ys) x = (x ≡ y) ⊎ Has ys x
+
+  -- It is so of each entry, or of some.
+  abbrev pub Each : (A → Type 0) → List A → Type 0
+  Each P [] = Unit {0}
+  Each P (x ∷ xs) = P x × Each P xs
+
+  abbrev pub Some : (A → Type 0) → List A → Type 0
+  Some P [] = ⊥
+  Some P (x ∷ xs) = P x ⊎ Some P xs

@@ -18,9 +18,11 @@ use Rattle.meaning.specs.States.{first-state}
 use Rattle.meaning.specs.Walk.{Verified, walked}
 use Rattle.meaning.specs.Derivations.{check}
 use Rattle.meaning.specs.Worlds.{Carried-out}
+use Rattle.meaning.specs.Accepted.{Accepted}
+use Rattle.meaning.specs.Answers.{check-answers}
 use Rattle.meaning.specs.AnswerParts.{Check-input, Placed, named}
 use Rattle.meaning.specs.Tests.{Has}
-use Rattle.meaning.proofs.Accepted.{Accepted, check-answers}
+use Rattle.meaning.proofs.Accepted.{format-citations}
 use Rattle.meaning.proofs.Exact.{format-room}
 use Rattle.meaning.proofs.Demands
 use Rattle.meaning.proofs.Table.{checking, answered, Row, table}
@@ -35,7 +37,7 @@ module _ (layout : Layout) (request derivation : List ℕ) where
     numbered = subst (λ (n : ℕ). among n (check-answers layout) ≡ true) is (Demands.every-check-numbered format layout request derivation)
 
     pub accepted-exactly : (number ≡ Limits.verified) ↔ Accepted format layout request derivation
-    accepted-exactly = rw (sym is) (Demands.accepted-exactly format layout request derivation)
+    accepted-exactly = rw (sym is) (Demands.accepted-exactly format format-room format-citations layout request derivation)
 
     pub accepted-verified : number ≡ Limits.verified → (x : Request) × (e : ℕ) × (settled format request ≡ got x e) × Verified (walked x (first-state format (x .table)))
     accepted-verified passes = Demands.accepted-verified format format-room layout request derivation (is ∙ passes)

@@ -21,9 +21,10 @@ use Rattle.meaning.specs.States.{first-state}
 use Rattle.meaning.specs.Walk.{Verified, walked}
 use Rattle.meaning.specs.Derivations.{check}
 use Rattle.meaning.specs.Worlds.{Carried-out}
+use Rattle.meaning.specs.Accepted.{Accepted}
+use Rattle.meaning.specs.Answers.{check-answers}
 use Rattle.meaning.specs.AnswerParts.{Check-input, Placed, named}
 use Rattle.meaning.specs.Tests.{Has}
-use Rattle.meaning.proofs.Accepted.{Accepted, check-answers}
 use Rattle.meaning.proofs.Table.{checking, answered, Row, table}
 use Rattle.promises.proofs.CheckPromises
 use Rattle.glintstring.proofs.derivations.check.Kinds.{ps, r}

@@ -18,7 +18,8 @@ use Rattle.meaning.specs.Walk.{End, fine, missed, stuck, Walked, walked}
 use Rattle.meaning.specs.Judging.{Judgement, ended, within, judge-settled, judge}
 use Rattle.meaning.proofs.TestLaws.{clash}
 use Rattle.meaning.proofs.PickLaws.{pick-has}
-use Rattle.meaning.proofs.AnswerLaws.{refusals, Numbered-in, settled-numbered}
+use Rattle.meaning.specs.Answers.{refusals}
+use Rattle.meaning.proofs.AnswerLaws.{Numbered-in, settled-numbered}
 use Rattle.meaning.proofs.SettledLaws.{settled-is}
 use Rattle.meaning.proofs.RangeLaws.{read-ranged}
 use Rattle.refusing.proofs.StartLaws.{request-starts}

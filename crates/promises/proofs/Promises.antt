@@ -24,9 +24,9 @@ use Rattle.meaning.specs.Approximation.{failed, Φ̂, least, Entailed}
 use Rattle.meaning.specs.Paths.{paths, walked-along}
 use Rattle.meaning.specs.Reported.{Misses, all-paths, Missed-at, Stopped-at}
 use Rattle.meaning.specs.Worlds.{Carried-out}
+use Rattle.meaning.specs.Answers.{answers}
 use Rattle.meaning.specs.AnswerParts.{Walk-input, Walk-count, Placed}
 use Rattle.meaning.specs.Tests.{Has}
-use Rattle.meaning.proofs.AnswerLaws.{answers}
 use Rattle.meaning.proofs.Table.{judging, judged, Row, table}
 use Rattle.steps.specs.AtHand.{Marked}
 use Rattle.promises.proofs.JudgePromises

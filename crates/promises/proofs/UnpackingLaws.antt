@@ -15,12 +15,13 @@ use Rattle.meaning.specs.Limits.{format}
 use Rattle.meaning.specs.Literals.{among}
 use Rattle.meaning.specs.Judging.{judge}
 use Rattle.meaning.specs.Derivations.{check}
+use Rattle.meaning.specs.Answers.{refusals, answers, end-fault, faults, check-answers}
 use Rattle.meaning.specs.AnswerParts.{of-neither, inputs-of}
 use Rattle.meaning.proofs.TestLaws.{by-test}
 use Rattle.meaning.proofs.LiteralLaws.{among-each}
 use Rattle.meaning.proofs.PickLaws.{pick-has}
-use Rattle.meaning.proofs.AnswerLaws.{refusals, answers, every-answer-numbered}
-use Rattle.meaning.proofs.Accepted.{end-fault, faults, check-answers, every-check-numbered}
+use Rattle.meaning.proofs.AnswerLaws.{every-answer-numbered}
+use Rattle.meaning.proofs.Passed.{every-check-numbered}
 use Rattle.meaning.proofs.PartLaws.{input-exactly, check-input-exactly}
 use Rattle.glintstring.specs.Packing.{packed, unpacked}
 use Rattle.glintstring.proofs.PackingLaws.{place-small, check-place-small}
