@@ -10,7 +10,7 @@ use lib.ListN.{length}
 use borrow.Author.Tests.{leb-false, ltb-true, ltb-false}
 use Rattle.meaning.specs.declared.Layout.{Layout}
 use Rattle.meaning.specs.declared.Layout.the-variants.{Plain, Closing}
-use Rattle.meaning.specs.Tests.{both, either, fails, some-of, each-of}
+use Rattle.meaning.specs.Tests.{both, either, fails, some-of, each-of, Each}
 use Rattle.meaning.specs.Limits
 use Rattle.meaning.specs.Limits.{Limits}
 use Rattle.meaning.specs.Literals.{among}
@@ -33,11 +33,6 @@ byte-faults =
     Limits.too-many-items ∷ []
 
 -- BELOW. What has only places below `size`.
-module _ {A : Type 0} (so : A → Type 0) where
-  abbrev Each : List A → Type 0
-  Each [] = Unit {0}
-  Each (x ∷ xs) = so x × Each xs
-
 module _ (size : ℕ) where
   abbrev pub Found-below : Found → Type 0
   Found-below nowhere = Unit {0}
