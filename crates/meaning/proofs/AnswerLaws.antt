@@ -3,7 +3,7 @@
 use Prim.Native.Nat.{ℕ, zero, suc, _+_, _*_}
 use mathlib.Core.Path.{_≡_, refl}
 use mathlib.Core.Bool.{Bool, true, false}
-use mathlib.Core.List.{List, [], _∷_}
+use mathlib.Core.List.{List}
 use Rattle.meaning.specs.declared.Layout.{Layout}
 use Rattle.meaning.specs.declared.Layout.the-variants.{Plain, Closing}
 use Rattle.meaning.specs.Tests.{either, pick, some-of}
@@ -18,16 +18,8 @@ use Rattle.meaning.specs.States.{State}
 use Rattle.meaning.specs.Walk.{End, fine, missed, stuck}
 use Rattle.meaning.specs.Judging.{Judgement, ended, within, judge-settled, judge}
 use Rattle.meaning.specs.Derivations
+use Rattle.meaning.specs.Answers.{refusals, answers}
 use Rattle.meaning.proofs.TestLaws.{either-right}
-
--- The numbers of the refusals of a request, and all that the walk call answers.
-unfoldable pub refusals : List ℕ
-refusals =
-    Limits.too-long ∷ Limits.ends-too-soon ∷ Limits.count-outside ∷ Limits.too-large ∷ Limits.not-above ∷ Limits.complement-beside ∷
-    Limits.contradictory-effects ∷ Limits.effect-and-knowledge ∷ Limits.not-exclusive ∷ Limits.nested-too-deep ∷ Limits.bytes-after ∷ Limits.too-many-items ∷ []
-
-unfoldable pub answers : List ℕ
-answers = Limits.verified ∷ Limits.goal-missed ∷ Limits.not-executable ∷ Limits.budget-spent ∷ Limits.state-length ∷ refusals
 
 -- A fault is one of the numbers ns, which hold the refusals of a request.
 module _ {A : Type 0} where

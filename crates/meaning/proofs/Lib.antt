@@ -15,6 +15,8 @@ pub mod Sound
 pub mod TableSound
 pub mod WalkSound
 pub mod PickLaws
+pub mod PlaceLaws
+pub mod PartLaws
 pub mod PathLaws
 pub mod RangeLaws
 pub mod MovedReads
@@ -25,8 +27,15 @@ pub mod PairLaws
 pub mod ToldLaws
 pub mod EndLaws
 pub mod SensingLaws
+pub mod SetLaws
+pub mod RulesExact
+pub mod ReadingsExact
+pub mod ReadLines
+pub mod FollowsExact
 pub mod CoverLaws
 pub mod Exact
+pub mod ReportLaws
+pub mod Passed
 pub mod Accepted
 pub mod LayoutLaws
 pub mod DerivationSound
