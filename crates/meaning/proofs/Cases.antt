@@ -93,6 +93,8 @@ cases =
     missed (table-A ++ (0 ∷ 1 ∷ 0 ∷ 1 ∷ 2 ∷ 0 ∷ [])) 33 3 (1 ∷ 2 ∷ 2 ∷ 2 ∷ []) ∷
     -- A goal missed in the first reading, and an item that can't be run in the second.
     stuck (table-A ++ (0 ∷ 2 ∷ 0 ∷ 255 ∷ 1 ∷ 1 ∷ 0 ∷ 0 ∷ 0 ∷ 1 ∷ 2 ∷ 0 ∷ [])) 32 2 (2 ∷ 2 ∷ 2 ∷ 2 ∷ []) ∷
+    -- A goal and a whether entry missed: the goal is named.
+    missed (table-A ++ (0 ∷ 0 ∷ 1 ∷ 2 ∷ 1 ∷ 0 ∷ [])) 32 1 (0 ∷ 2 ∷ 2 ∷ 2 ∷ []) ∷
     -- Case 11.
     refused [] 11 0 ∷
     refused (take 47 file-A) 11 47 ∷

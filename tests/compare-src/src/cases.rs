@@ -44,7 +44,7 @@ use Request::*;
 /// A sentence, the case, the request, the budget, the length of the lent state; number, place and count; the state where it is written.
 type Row = (&'static str, &'static str, Request, u32, usize, [u64; 3], Option<&'static str>);
 
-const ROWS: [Row; 43] = [
+const ROWS: [Row; 44] = [
     ("13.17", "1", FileA, BUDGET, 64, [0, 0, 5], None),
     ("13.18", "2, open unseen", From29("0 1 1 1 7 1 2"), BUDGET, 64, [1, 33, 2], Some("?+-?")),
     ("13.19", "3, branch unseen", From29Then("0 1", 32), BUDGET, 64, [2, 31, 0], Some("?---")),
@@ -82,6 +82,7 @@ const ROWS: [Row; 43] = [
     ("13.59", "18, a branching inside another", Bytes("2 1 0 0 0 0 0 1 255 1 0 0 1 255 2 1 0 0 0 1 2 0 0 0 0"), BUDGET, 64, [18, 13, 0], None),
     ("13.60", "21 and 19 at one byte", Nested(1_016), BUDGET, 64, [21, 1064, 0], None),
     ("13.61", "19, an item earlier", Nested(1_015), BUDGET, 64, [19, 1063, 0], None),
+    ("13.62", "goals before whether entries", From29("0 0 1 2 1 0"), BUDGET, 64, [1, 32, 1], Some("?---")),
     ("8.17", "cannot be run at the budget's end", From29("0 2 0 255 1 1 0 0 0 1 2 0"), 2, 64, [2, 32, 2], Some("----")),
     ("8.17", "with a budget of one less", From29("0 2 0 255 1 1 0 0 0 1 2 0"), 1, 64, [3, 0, 1], None),
     ("8.18", "budget 0, cannot be run", From29("0 1 2 0 0"), 0, 64, [2, 31, 0], Some("?---")),
