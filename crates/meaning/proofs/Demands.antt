@@ -69,7 +69,7 @@ pub verified-means : (lim : Limits) (request lent : List ℕ) (budget : ℕ) →
 unfolding judge pick
 verified-means lim request lent budget q =
     by-test (eqb (length lent) (lim .state))
-    (λ t. verified-settled lim lent budget (settled lim request) (settled-numbered refusals (λ n h. h) lim request) (rw (t, pick) at q))
+    (λ t. verified-settled lim lent budget (settled lim request) (settled-numbered lim request) (rw (t, pick) at q))
     (λ f. absurd (let nine : _≡_ {A = ℕ} 9 0 = rw (f, pick) at q in omega arith))
 
 -- Demand 3 (FORMAT 11.7 to 11.12): a verified plan is carried out in every world with the initial facts, at any budget.

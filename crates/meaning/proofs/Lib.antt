@@ -10,13 +10,13 @@ pub mod RefusalLaws
 pub mod LineLaws
 pub mod DerivationLines
 pub mod SettledLaws
-pub mod AnswerLaws
 pub mod Sound
 pub mod TableSound
 pub mod WalkSound
 pub mod PickLaws
 pub mod PlaceLaws
 pub mod PartLaws
+pub mod AnswerLaws
 pub mod PathLaws
 pub mod RangeLaws
 pub mod MovedReads

@@ -2,12 +2,14 @@
 -- place is one that was read or walked to, and no fault has a number of a walk. Assumes nothing.
 use Prim.Native.Nat.{ℕ, _≤_, _<_}
 use native.Mathlib.Omega.{arith}
-use mathlib.Core.Path.{_≡_, refl, ap}
+use mathlib.Core.Path.{_≡_, refl, _∙_, ap}
+use mathlib.Core.Bool.{true, false}
 use mathlib.Core.List.{List}
 use lib.ListN.{length}
 use lib.Dec.{eqb}
 use Rattle.meaning.specs.declared.Answer.{Answer}
 use Rattle.meaning.specs.declared.Layout.{Layout}
+use Rattle.meaning.specs.declared.Layout.the-variants.{Plain, Closing}
 use Rattle.meaning.specs.Tests.{both, either, fails, pick, some-of, each-of}
 use Rattle.meaning.specs.Limits
 use Rattle.meaning.specs.Limits.{Limits}
@@ -19,7 +21,7 @@ use Rattle.meaning.specs.States.{State, first-state}
 use Rattle.meaning.specs.Walk.{End, fine, missed, stuck, walked}
 use Rattle.meaning.specs.Judging.{Judgement, ended, within, judge-settled, judge}
 use Rattle.meaning.specs.Derivations.{check-derivation, answer, accepted-if, check-settled, check}
-use Rattle.meaning.specs.Answers.{refusals}
+use Rattle.meaning.specs.Answers.{refusals, end-fault}
 use Rattle.meaning.specs.AnswerParts.{of-neither, of-requests, of-derivations, inputs-of, Walk-input, Check-input, at-start, Placed, named, of-walks, Walk-count}
 use Rattle.meaning.proofs.TestLaws.{clash, fails-true}
 use Rattle.meaning.proofs.LiteralLaws.{among-each}
@@ -166,19 +168,30 @@ module _ (lim : Limits) (request derivation : List ℕ) where
     fits = h .fits;
   }
 
-  derivation-parts : (n p : ℕ) → Fault-in derivation-faults (lim .derivation) (length derivation) n p → Check-parts (answer n Limits.the-derivation p)
-  unfolding answer named among derivation-faults byte-faults inputs-of of-neither of-requests of-derivations some-of either each-of both pick
-  derivation-parts n p h = record {
-    input = record {
-      neither = (λ q. absurd (omega (arith, q)), λ q. clash (h .number) (ap (λ (m : ℕ). among m derivation-faults) q));
-      allowed = among-each (λ (m : ℕ). among Limits.the-derivation (inputs-of m)) derivation-faults refl n (h .number);
-    };
-    count = refl;
-    place = h .placed;
-    fits = h .fits;
-  }
+  -- A fault of a derivation names the derivation, and is not 0.
+  faults-allow : (layout : Layout) → each-of (λ (m : ℕ). among Limits.the-derivation (inputs-of m)) (derivation-faults layout) ≡ true
+  unfolding among derivation-faults byte-faults end-fault inputs-of of-neither of-requests of-derivations some-of either each-of both pick
+  faults-allow Plain = refl
+  faults-allow Closing = refl
+
+  faults-refuse : (layout : Layout) → among Limits.verified (derivation-faults layout) ≡ false
+  unfolding among derivation-faults byte-faults end-fault some-of either
+  faults-refuse Plain = refl
+  faults-refuse Closing = refl
 
   module _ (layout : Layout) where
+    derivation-parts : (n p : ℕ) → Fault-in (derivation-faults layout) (lim .derivation) (length derivation) n p → Check-parts (answer n Limits.the-derivation p)
+    unfolding answer named pick
+    derivation-parts n p h = record {
+      input = record {
+        neither = (λ q. absurd (omega (arith, q)), λ q. clash (h .number) (ap (λ (m : ℕ). among m (derivation-faults layout)) q ∙ faults-refuse layout));
+        allowed = among-each (λ (m : ℕ). among Limits.the-derivation (inputs-of m)) (derivation-faults layout) (faults-allow layout) n (h .number);
+      };
+      count = refl;
+      place = h .placed;
+      fits = h .fits;
+    }
+
     accepted-if-parts : (x : Got (Unit {0})) → Checked lim layout derivation x → Check-parts (accepted-if x)
     unfolding accepted-if
     accepted-if-parts (got u e) h = accepted-parts

@@ -12,7 +12,7 @@ use lib.Dec.{ltb, eqb, eqb·zero-suc, eqb·suc-zero, eqb·suc-suc}
 use Rattle.meaning.specs.declared.Answer.{Answer}
 use Rattle.meaning.specs.declared.Layout.{Layout}
 use Rattle.meaning.specs.declared.Layout.the-variants.{Plain, Closing}
-use Rattle.meaning.specs.Tests.{either, fails, pick, some-of, each-of}
+use Rattle.meaning.specs.Tests.{both, either, fails, pick, some-of, each-of}
 use Rattle.meaning.specs.Limits
 use Rattle.meaning.specs.Limits.{Limits}
 use Rattle.meaning.specs.Literals.{among}
@@ -22,8 +22,9 @@ use Rattle.meaning.specs.Refusals.{nowhere, refuse, settled}
 use Rattle.meaning.specs.Derivations.{Conclusion, Line, Derivation, line-at, closing-at, read-derivation, overlap-in-lines, follows, citations-of, a-rule, cited-by, check-lines, asks-for, goals-of, check-last, all-asked, names, check-entries, check-closing, check-end, check-derivation, answer, accepted-if, beyond, check-settled, check}
 use Rattle.meaning.specs.Answers.{refusals, end-fault, faults, check-answers}
 use Rattle.meaning.proofs.TestLaws.{by-test, clash, pick-true, pick-false, pick-cases, either-right}
-use Rattle.meaning.proofs.AnswerLaws
-use Rattle.meaning.proofs.AnswerLaws.{Numbered-in}
+use Rattle.meaning.proofs.LiteralLaws.{among-each}
+use Rattle.meaning.proofs.PlaceLaws.{byte-faults, derivation-faults, Checked, derivation-checked}
+use Rattle.meaning.proofs.AnswerLaws.{Numbered-in, settled-numbered}
 use Rattle.meaning.proofs.SettledLaws.{fault≢got, got-same, next-got, refuse-got}
 
 -- THE TESTS. A line names a rule of the layout, cites as many lines as the rule takes, each an earlier one, and passes the rule's test with
@@ -73,38 +74,17 @@ refusal-is-fault : (layout : Layout) (n : ℕ) → among n refusals ≡ true →
 unfolding among faults some-of
 refusal-is-fault layout n h = either-right _ _ (either-right _ _ (either-right _ _ (either-right _ _ (either-right _ _ h))))
 
-lines-numbered : (lim : Limits) (layout : Layout) (t : Table) (lines : List Line) (i : ℕ) (ls : List Line) → Numbered-in (faults layout) (check-lines lim layout t lines i ls)
-unfolding check-lines among faults some-of either
-lines-numbered lim layout t lines i [] = tt
-lines-numbered lim layout t lines i (l ∷ ls) =
-    AnswerLaws.by-pick (faults layout) (refusal-is-fault layout) _ _ _ refl
-    (AnswerLaws.by-pick (faults layout) (refusal-is-fault layout) _ _ _ refl
-    (AnswerLaws.by-pick (faults layout) (refusal-is-fault layout) _ _ _ refl
-    (AnswerLaws.by-pick (faults layout) (refusal-is-fault layout) _ _ _ refl (lines-numbered lim layout t lines (i + 1) ls))))
-
-last-numbered : (r : Request) (ls : List Line) → Numbered-in (faults Plain) (check-last r ls)
-unfolding check-last among faults end-fault some-of either
-last-numbered r [] = tt
-last-numbered r (l ∷ []) = AnswerLaws.by-pick (faults Plain) (refusal-is-fault Plain) _ _ _ tt refl
-last-numbered r (l ∷ (k ∷ ls)) = last-numbered r (k ∷ ls)
-
-entries-numbered : (r : Request) (lines : List Line) (p : ℕ) (Ys : List Conclusion) (ks : List ℕ) → Numbered-in (faults Closing) (check-entries r lines p Ys ks)
-unfolding check-entries among faults end-fault some-of either
-entries-numbered r lines p [] ks = tt
-entries-numbered r lines p (Y ∷ Ys) [] = tt
-entries-numbered r lines p (Y ∷ Ys) (k ∷ ks) = AnswerLaws.by-pick (faults Closing) (refusal-is-fault Closing) _ _ _ (entries-numbered r lines (p + 2) Ys ks) refl
-
-end-numbered : (layout : Layout) (r : Request) (d : Derivation) → Numbered-in (faults layout) (check-end layout r d)
-unfolding check-end check-closing among faults end-fault some-of either
-end-numbered Plain r d = last-numbered r (d .lines)
-end-numbered Closing r d = AnswerLaws.by-pick (faults Closing) (refusal-is-fault Closing) _ _ _ (entries-numbered r (d .lines) (d .closing-place + 1) (all-asked r) (d .closing)) refl
+derivation-fault-is-fault : (layout : Layout) → each-of (λ (n : ℕ). among n (faults layout)) (derivation-faults layout) ≡ true
+unfolding among faults refusals derivation-faults byte-faults end-fault some-of each-of either both
+derivation-fault-is-fault Plain = refl
+derivation-fault-is-fault Closing = refl
 
 check-numbered : (lim : Limits) (layout : Layout) (r : Request) (s : List ℕ) → Numbered-in (faults layout) (check-derivation lim layout r s)
-unfolding check-derivation among refusals some-of either
-check-numbered lim layout r s =
-    AnswerLaws.by-next (faults layout) (refusal-is-fault layout) _ _ (AnswerLaws.derivation-numbered (faults layout) (refusal-is-fault layout) lim (r .table .fluents) (r .table .actions) s layout) λ d e.
-    AnswerLaws.by-refuse (faults layout) (refusal-is-fault layout) _ (refusal-is-fault layout _ refl) _ _
-    (AnswerLaws.by-next (faults layout) (refusal-is-fault layout) _ _ (lines-numbered lim layout (r .table) (d .lines) 0 (d .lines)) λ _ _. end-numbered layout r d)
+check-numbered lim layout r s = by-fault (check-derivation lim layout r s) (derivation-checked lim layout s r)
+  where
+    by-fault : (x : Got (Unit {0})) → Checked lim layout s x → Numbered-in (faults layout) x
+    by-fault (got u e) h = tt
+    by-fault (fault n p) h = among-each (λ (m : ℕ). among m (faults layout)) (derivation-faults layout) (derivation-fault-is-fault layout) n (h .number)
 
 -- DEMAND 1 of the two calls: every pair of inputs gets one of the numbered answers.
 fault-is-answer : (layout : Layout) (n : ℕ) → among n (faults layout) ≡ true → among n (check-answers layout) ≡ true
@@ -134,7 +114,7 @@ check-settled-numbered lim layout derivation (fault n p) h = fault-is-answer lay
 pub every-check-numbered : (lim : Limits) (layout : Layout) (request derivation : List ℕ) → among (check lim layout request derivation .number) (check-answers layout) ≡ true
 unfolding check
 every-check-numbered lim layout request derivation =
-    check-settled-numbered lim layout derivation (settled lim request) (AnswerLaws.settled-numbered refusals (λ n h. h) lim request)
+    check-settled-numbered lim layout derivation (settled lim request) (settled-numbered lim request)
 
 -- WHAT HAS PASSED. A test that refuses has not been met.
 either-none : (a b : Bool) → either a b ≡ false → a ≡ false
@@ -308,4 +288,4 @@ module _ (lim : Limits) (layout : Layout) (request derivation : List ℕ) where
 
   pub passed-exactly : (check lim layout request derivation .number ≡ Limits.verified) ↔ Passed lim layout request derivation
   unfolding check
-  passed-exactly = (settled-passed (settled lim request) (AnswerLaws.settled-numbered refusals (λ n h. h) lim request) refl, passes)
+  passed-exactly = (settled-passed (settled lim request) (settled-numbered lim request) refl, passes)

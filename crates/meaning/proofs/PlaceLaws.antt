@@ -5,7 +5,7 @@ use Prim.Native.Nat.{ℕ, zero, suc, _+_, _*_, _≤_, _<_}
 use native.Mathlib.Omega.{arith}
 use mathlib.Core.Path.{_≡_, refl, ap}
 use mathlib.Core.Bool.{Bool, true, false}
-use mathlib.Core.List.{List, [], _∷_}
+use mathlib.Core.List.{List, [], _∷_, _++_}
 use lib.ListN.{length}
 use borrow.Author.Tests.{leb-false, ltb-true, ltb-false}
 use Rattle.meaning.specs.declared.Layout.{Layout}
@@ -20,7 +20,7 @@ use Rattle.meaning.specs.Refusals.{Found, nowhere, at, or-else, contradi
 use Rattle.meaning.specs.States.{State, Outcome, single, fork, outcome}
 use Rattle.meaning.specs.Walk.{End, fine, missed, stuck, Walked, stuck-at, counted, keep-miss, after-miss, after-end, and-then, each-reading, run-action, walk, walk-item, walk-branch, table-step, first-missed, missed-in, end-of, judged, walked}
 use Rattle.meaning.specs.Derivations.{Conclusion, Line, Derivation, Concluded, list-concluded, fluent-concluded, conclusion-at, concluded-at, closing-at, line-at, read-derivation, overlap-in-lines, check-lines, check-last, all-asked, check-entries, check-closing, check-end, check-derivation}
-use Rattle.meaning.specs.Answers.{refusals}
+use Rattle.meaning.specs.Answers.{refusals, end-fault}
 use Rattle.meaning.specs.AnswerParts.{of-neither, at-start, Placed}
 use Rattle.meaning.proofs.TestLaws.{clash, either-right, fails-true}
 use Rattle.meaning.proofs.LiteralLaws.{among-each}
@@ -467,8 +467,8 @@ module _ (ns : List ℕ) (limit size : ℕ) where
   too-long-fault is = record { number = is; placed = placed-start size Limits.too-long refl; fits = omega arith }
 
   module _ (short : size ≤ limit) where
-    end-fault : among Limits.ends-too-soon ns ≡ true → Fault-in ns limit size Limits.ends-too-soon size
-    end-fault is = record { number = is; placed = placed-end size; fits = short }
+    ends-fault : among Limits.ends-too-soon ns ≡ true → Fault-in ns limit size Limits.ends-too-soon size
+    ends-fault is = record { number = is; placed = placed-end size; fits = short }
 
     byte-fault : (n p : ℕ) → among n ns ≡ true → among n (Limits.ends-too-soon ∷ at-start) ≡ false → p < size → Fault-in ns limit size n p
     byte-fault n p is not less = record { number = is; placed = placed-byte size n p not less; fits = omega (arith, short, less) }
@@ -497,7 +497,7 @@ module _ (lim : Limits) (s : List ℕ) where
   read-held =
       pick-has Request-held _ _ _ (λ _. too-long-fault refusals (lim .request) (length s) refl) λ f.
       let short = ltb-false (lim .request) (length s) f in
-      let ends = end-fault refusals (lim .request) (length s) short refl in
+      let ends = ends-fault refusals (lim .request) (length s) short refl in
       let byte = reading-fault refusals (lim .request) (length s) short refl in
       by-next s Request-fault (λ (t : Table) (q : ℕ). Table-below (length s) t) Request-read (table-at lim s 0) _ (table-held s Request-fault ends byte lim 0) λ t p fits table.
       by-next s Request-fault (λ (r : Request) (q : ℕ). Request-below (length s) r) Request-read (request-at lim s t p) _ (request-held s Request-fault ends byte lim t p table fits) λ r e fits₂ so.
@@ -512,15 +512,15 @@ module _ (lim : Limits) (s : List ℕ) where
       (by-refuse s Request-fault Request-read _ _ _ (λ p. refused _ p refl refl) (mixed-below (length s) (r .table .effects) (r .table .knowledge) (so .0 .table .knowledge))
       (by-refuse s Request-fault Request-read _ _ _ (λ p. refused _ p refl refl) (overlap-in-below (length s) (r .plan) (so .0 .plan)) (fits, so)))
 
--- A DERIVATION, for a request. It gets neither 16 nor 17.
-unfoldable pub derivation-faults : List ℕ
-derivation-faults =
-    Limits.no-such-rule ∷ Limits.not-earlier ∷ Limits.citations-not-taken ∷ Limits.does-not-follow ∷ Limits.not-the-question ∷
-    Limits.closing-not-right ∷ Limits.not-exclusive ∷ Limits.too-long ∷ Limits.ends-too-soon ∷ byte-faults
+-- A DERIVATION, for a request. It gets neither 16 nor 17. What the layout decides stands last, so that the others are found in any layout.
+unfoldable pub derivation-faults : Layout → List ℕ
+derivation-faults layout =
+    Limits.no-such-rule ∷ Limits.not-earlier ∷ Limits.citations-not-taken ∷ Limits.does-not-follow ∷ Limits.not-exclusive ∷ Limits.too-long ∷
+    Limits.ends-too-soon ∷ byte-faults ++ (end-fault layout ∷ [])
 
 module _ (lim : Limits) (layout : Layout) (d : List ℕ) where
   abbrev Derivation-fault : ℕ → ℕ → Type 0
-  Derivation-fault = Fault-in derivation-faults (lim .derivation) (length d)
+  Derivation-fault = Fault-in (derivation-faults layout) (lim .derivation) (length d)
 
   abbrev Derivation-read : Derivation → ℕ → Type 0
   Derivation-read x e = Derivation-below (length d) layout x × (length d ≤ lim .derivation)
@@ -531,10 +531,10 @@ module _ (lim : Limits) (layout : Layout) (d : List ℕ) where
   derivation-held : (n m : ℕ) → Derivation-held (read-derivation lim n m d layout)
   unfolding read-derivation among derivation-faults byte-faults some-of either each-of both
   derivation-held n m =
-      pick-has Derivation-held _ _ _ (λ _. too-long-fault derivation-faults (lim .derivation) (length d) refl) λ f.
+      pick-has Derivation-held _ _ _ (λ _. too-long-fault (derivation-faults layout) (lim .derivation) (length d) refl) λ f.
       let short = ltb-false (lim .derivation) (length d) f in
-      let ends = end-fault derivation-faults (lim .derivation) (length d) short refl in
-      let byte = reading-fault derivation-faults (lim .derivation) (length d) short refl in
+      let ends = ends-fault (derivation-faults layout) (lim .derivation) (length d) short refl in
+      let byte = reading-fault (derivation-faults layout) (lim .derivation) (length d) short refl in
       by-next d Derivation-fault (λ (c p : ℕ). p ≡ 0 + 2) Derivation-read (two-bytes-at d 0) _ (two-bytes-held d Derivation-fault ends byte 0) λ c p fits is.
       pick-has Derivation-held _ _ _ (λ _. byte _ 0 refl (omega (arith, fits, is))) λ _.
       by-next d Derivation-fault (λ (ls : List Line) (q : ℕ). Each (Line-below (length d)) ls) Derivation-read (repeated (line-at lim n m d layout) c p) _
@@ -546,8 +546,8 @@ module _ (lim : Limits) (layout : Layout) (d : List ℕ) where
   Checked = Held d Derivation-fault (λ (x : Unit {0}) (q : ℕ). Unit {0})
 
   module _ (short : length d ≤ lim .derivation) where
-    refused : (n p : ℕ) → among n derivation-faults ≡ true → among n (Limits.ends-too-soon ∷ at-start) ≡ false → p < length d → Derivation-fault n p
-    refused = byte-fault derivation-faults (lim .derivation) (length d) short
+    refused : (n p : ℕ) → among n (derivation-faults layout) ≡ true → among n (Limits.ends-too-soon ∷ at-start) ≡ false → p < length d → Derivation-fault n p
+    refused = byte-fault (derivation-faults layout) (lim .derivation) (length d) short
 
     lines-checked : (t : Table) (lines : List Line) (i : ℕ) (ls : List Line) → Each (Line-below (length d)) ls → Checked (check-lines lim layout t lines i ls)
     unfolding check-lines among derivation-faults byte-faults at-start of-neither some-of either
@@ -559,30 +559,33 @@ module _ (lim : Limits) (layout : Layout) (d : List ℕ) where
         pick-has Checked _ _ _ (λ _. refused _ _ refl refl (h .0 .here)) λ _.
         lines-checked t lines (i + 1) ls (h .1)
 
-    last-checked : (r : Request) (ls : List Line) → Each (Line-below (length d)) ls → Checked (check-last r ls)
-    unfolding check-last among derivation-faults byte-faults at-start of-neither some-of either
-    last-checked r [] h = (omega arith, tt)
-    last-checked r (l ∷ []) h = pick-has Checked _ _ _ (λ _. (omega arith, tt)) (λ _. refused _ _ refl refl (h .0 .here))
-    last-checked r (l ∷ (k ∷ ls)) h = last-checked r (k ∷ ls) (h .1)
+-- The end, by the layout.
+module _ (lim : Limits) (d : List ℕ) (short : length d ≤ lim .derivation) where
+  last-checked : (r : Request) (ls : List Line) → Each (Line-below (length d)) ls → Checked lim Plain d (check-last r ls)
+  unfolding check-last among derivation-faults byte-faults end-fault at-start of-neither some-of either
+  last-checked r [] h = (omega arith, tt)
+  last-checked r (l ∷ []) h = pick-has (Checked lim Plain d) _ _ _ (λ _. (omega arith, tt)) (λ _. refused lim Plain d short _ _ refl refl (h .0 .here))
+  last-checked r (l ∷ (k ∷ ls)) h = last-checked r (k ∷ ls) (h .1)
 
-    entries-checked : (r : Request) (lines : List Line) (p : ℕ) (Ys : List Conclusion) (ks : List ℕ) → p + 2 * length ks ≤ length d → Checked (check-entries r lines p Ys ks)
-    unfolding check-entries among derivation-faults byte-faults at-start of-neither some-of either
-    entries-checked r lines p [] ks fits = (omega arith, tt)
-    entries-checked r lines p (Y ∷ Ys) [] fits = (omega arith, tt)
-    entries-checked r lines p (Y ∷ Ys) (k ∷ ks) fits =
-        pick-has Checked _ _ _ (λ _. entries-checked r lines (p + 2) Ys ks (omega (arith, fits))) (λ _. refused _ p refl refl (omega (arith, fits)))
+  entries-checked : (r : Request) (lines : List Line) (p : ℕ) (Ys : List Conclusion) (ks : List ℕ) → p + 2 * length ks ≤ length d → Checked lim Closing d (check-entries r lines p Ys ks)
+  unfolding check-entries among derivation-faults byte-faults end-fault at-start of-neither some-of either
+  entries-checked r lines p [] ks fits = (omega arith, tt)
+  entries-checked r lines p (Y ∷ Ys) [] fits = (omega arith, tt)
+  entries-checked r lines p (Y ∷ Ys) (k ∷ ks) fits =
+      pick-has (Checked lim Closing d) _ _ _ (λ _. entries-checked r lines (p + 2) Ys ks (omega (arith, fits))) (λ _. refused lim Closing d short _ p refl refl (omega (arith, fits)))
 
-    end-checked : (layout′ : Layout) (r : Request) (x : Derivation) → Derivation-below (length d) layout′ x → Checked (check-end layout′ r x)
-    unfolding check-end check-closing among derivation-faults byte-faults at-start of-neither some-of either
-    end-checked Plain r x h = last-checked r (x .lines) (h .lines)
-    end-checked Closing r x h =
-        pick-has Checked _ _ _ (λ _. entries-checked r (x .lines) (x .closing-place + 1) (all-asked r) (x .closing) (h .closing))
-        (λ _. let fits = h .closing in refused _ (x .closing-place) refl refl (omega (arith, fits)))
+  end-checked : (layout : Layout) (r : Request) (x : Derivation) → Derivation-below (length d) layout x → Checked lim layout d (check-end layout r x)
+  unfolding check-end check-closing among derivation-faults byte-faults end-fault at-start of-neither some-of either
+  end-checked Plain r x h = last-checked r (x .lines) (h .lines)
+  end-checked Closing r x h =
+      pick-has (Checked lim Closing d) _ _ _ (λ _. entries-checked r (x .lines) (x .closing-place + 1) (all-asked r) (x .closing) (h .closing))
+      (λ _. let fits = h .closing in refused lim Closing d short _ (x .closing-place) refl refl (omega (arith, fits)))
 
-  pub derivation-checked : (r : Request) → Checked (check-derivation lim layout r d)
+module _ (lim : Limits) (layout : Layout) (d : List ℕ) where
+  pub derivation-checked : (r : Request) → Checked lim layout d (check-derivation lim layout r d)
   unfolding check-derivation among derivation-faults byte-faults at-start of-neither some-of either
   derivation-checked r =
-      by-next d Derivation-fault Derivation-read (λ (x : Unit {0}) (q : ℕ). Unit {0}) (read-derivation lim (r .table .fluents) (r .table .actions) d layout) _ (derivation-held (r .table .fluents) (r .table .actions)) λ x e _ so.
-      by-refuse d Derivation-fault (λ (x : Unit {0}) (q : ℕ). Unit {0}) _ _ _ (λ p. refused (so .1) _ p refl refl) (overlap-lines-below (length d) (x .lines) (so .0 .lines))
-      (by-next d Derivation-fault (λ (x : Unit {0}) (q : ℕ). Unit {0}) (λ (x : Unit {0}) (q : ℕ). Unit {0}) (check-lines lim layout (r .table) (x .lines) 0 (x .lines)) _ (lines-checked (so .1) (r .table) (x .lines) 0 (x .lines) (so .0 .lines)) λ _ _ _ _.
-      end-checked (so .1) layout r x (so .0))
+      by-next d (Derivation-fault lim layout d) (Derivation-read lim layout d) (λ (x : Unit {0}) (q : ℕ). Unit {0}) (read-derivation lim (r .table .fluents) (r .table .actions) d layout) _ (derivation-held lim layout d (r .table .fluents) (r .table .actions)) λ x e _ so.
+      by-refuse d (Derivation-fault lim layout d) (λ (x : Unit {0}) (q : ℕ). Unit {0}) _ _ _ (λ p. refused lim layout d (so .1) _ p refl refl) (overlap-lines-below (length d) (x .lines) (so .0 .lines))
+      (by-next d (Derivation-fault lim layout d) (λ (x : Unit {0}) (q : ℕ). Unit {0}) (λ (x : Unit {0}) (q : ℕ). Unit {0}) (check-lines lim layout (r .table) (x .lines) 0 (x .lines)) _ (lines-checked lim layout d (so .1) (r .table) (x .lines) 0 (x .lines) (so .0 .lines)) λ _ _ _ _.
+      end-checked lim d (so .1) layout r x (so .0))

@@ -97,7 +97,7 @@ module _ (P : Request → State → Type 0) (lim : Limits) (lent : List ℕ) (bu
   unfolding judge
   judge-leaves request has =
       pick-has (λ (j : Judgement). Writes (j .answer .number) → (x : Request) × (e : ℕ) × (settled lim request ≡ got x e) × P x (j .state)) _ _ _
-      (λ _. settled-leaves (settled lim request) (settled-numbered refusals (λ n h. h) lim request) has)
+      (λ _. settled-leaves (settled lim request) (settled-numbered lim request) has)
       (λ _ writes. absurd (length-writes-nothing writes))
 
 pub judge-written : (request lent : List ℕ) (budget : ℕ) → Writes (judge format request lent budget .answer .number) → Written request (judge format request lent budget .state)
