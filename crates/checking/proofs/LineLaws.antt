@@ -19,7 +19,8 @@ use Rattle.meaning.specs.Requests.{Table}
 use Rattle.meaning.specs.Derivations.{Line, rule-1, rule-2, rule-3, rule-4, rule-5, rule-6, rule-7, rule-8, of-one, of-two, given-by, for-lists, follows, citations-taken, citations-of, a-rule, cited-by}
 use Rattle.meaning.proofs.TestLaws.{by-test, clash, both-left, both-right, fails-false, pick-true, pick-false, each-mono}
 use Rattle.deriving.specs.Derived.{Line-here}
-use Rattle.steps.proofs.SmallActions.{Small, plan-small}
+use Rattle.steps.specs.Small.{Small}
+use Rattle.steps.proofs.SmallActions.{plan-small}
 use Rattle.comparing.specs.declared.spots.Spot.{Spot}
 use Rattle.comparing.specs.Stands.{after-list, Numbers-stand, Stands}
 use Rattle.comparing.specs.Rules.{Some-line, Some-read, Some-lines, Ruled, Ruled-by, Ruled-by-two, Ruled-by-all, Read-by, Cited-below}

@@ -16,6 +16,7 @@ use Rattle.meaning.specs.Derivations.{Conclusion, knows, knows-whether, Line, s
 use Rattle.meaning.proofs.TestLaws.{clash}
 use Rattle.meaning.proofs.SettledLaws.{got-same}
 use Rattle.meaning.proofs.RangeLaws.{not-refused, after-got}
+use Rattle.meaning.proofs.ReadLines.{placed-values}
 use Rattle.reading.specs.Listed.{listed, List-here}
 use Rattle.reading.specs.Planned.{bytes-of}
 use Rattle.reading.specs.Requested.{goals-place, plan-place}
@@ -69,11 +70,6 @@ planned s x e read =
     after-got (table-at format s 0) _ (not-refused _ _ _ _ read .1) λ t p et e₁.
     after-got (request-at format s t p) _ e₁ λ y q ey e₂.
     subst (Planned s) (got-same (not-refused _ _ _ _ e₂ .1)) (request-planned s t p y q ey)
-
-placed-values : (p : ℕ) (xs : List ℕ) → values (placed p xs) ≡ xs
-unfolding values placed
-placed-values p [] = refl
-placed-values p (x ∷ xs) = ap (λ (ys : List ℕ). x ∷ ys) (placed-values (p + 1) xs)
 
 placed-asked : (p : ℕ) (xs : List ℕ) → map (λ (w : Entry). knows-whether (w .value)) (placed p xs) ≡ map knows-whether xs
 unfolding placed

@@ -11,16 +11,11 @@ use lib.Dec.{eqb}
 use borrow.Author.Tests.{eq-eqb, ne-eqb}
 use Rattle.meaning.specs.Tests.{both}
 use Rattle.meaning.specs.Derivations.{same-list}
-use Rattle.meaning.proofs.TestLaws.{by-test, clash, both-true}
-use Rattle.meaning.proofs.DerivationSound.{same-list-is}
+use Rattle.meaning.proofs.TestLaws.{by-test, clash}
+use Rattle.meaning.proofs.SetLaws.{same-list-is, same-list-self}
 use Rattle.reading.specs.Listed.{bytes-from, listed, List-here}
 
 -- EQUAL LISTS pass, and lists that differ do not.
-same-list-self : (xs : List ℕ) → same-list xs xs ≡ true
-unfolding same-list
-same-list-self [] = refl
-same-list-self (x ∷ xs) = both-true _ _ (eq-eqb x x refl) (same-list-self xs)
-
 pub same-list-equal : (xs ys : List ℕ) → xs ≡ ys → same-list xs ys ≡ true
 same-list-equal xs ys e = rw e (same-list-self ys)
 

@@ -18,14 +18,14 @@ use Rattle.meaning.specs.Refusals.{nowhere}
 use Rattle.meaning.specs.Derivations.{Conclusion, Line, Derivation, Concluded, concludes-fluent, list-concluded, fluent-concluded, conclusion-at, concluded-at, closing-at, line-at, read-derivation, overlap-in-lines}
 use Rattle.meaning.proofs.TestLaws.{by-test, clash, either-left, either-right, pick-cases}
 use Rattle.meaning.proofs.SettledLaws.{got-same, refuse-got}
-use Rattle.meaning.proofs.RangeLaws.{not-refused, after-got, count-within}
+use Rattle.meaning.proofs.RangeLaws.{not-refused, after-got, count-within, repeated-length}
 use Rattle.bytes.specs.declared.lists.Passed.{Passed}
 use Rattle.bytes.specs.declared.lists.Passed.the-variants.{To}
 use Rattle.reading.specs.Noted.{noting, outcome}
 use Rattle.reading.specs.Planned.{bytes-of}
 use Rattle.deriving.specs.DerivationRead.{plan-end, derivation-noted, settled-derivation}
 use Rattle.deriving.specs.Derived.{Line-here, Lines-here}
-use Rattle.reading.proofs.SectionLaws.{got-place, byte-got, number-got, count-got, repeated-length, noting-got}
+use Rattle.reading.proofs.SectionLaws.{got-place, byte-got, number-got, count-got, noting-got}
 use Rattle.refusing.proofs.HereLaws.{list-here, list-apart}
 use Rattle.reading.proofs.PlanSizes.{list-through}
 use Rattle.refusing.proofs.PlanOverlaps.{listed-length}

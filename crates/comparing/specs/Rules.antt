@@ -14,7 +14,7 @@ use Rattle.reading.specs.Listed.{bytes-from}
 use Rattle.reading.specs.Planned.{bytes-of}
 use Rattle.refusing.specs.Plans.{own-items}
 use Rattle.deriving.specs.Derived.{Line-here}
-use Rattle.steps.proofs.SmallActions.{Small}
+use Rattle.steps.specs.Small.{Small}
 use Rattle.comparing.specs.declared.spots.Spot.{Spot}
 use Rattle.comparing.specs.Coded.{coded, Tellable}
 use Rattle.comparing.specs.Stands.{Plan-stands, Conclusion-stands, Stands, spot-at, Lines-stand}

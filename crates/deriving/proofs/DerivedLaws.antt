@@ -16,7 +16,7 @@ use Rattle.meaning.specs.Refusals.{nowhere, at, or-else, overlap-in, refuse}
 use Rattle.meaning.specs.Derivations.{Line, Derivation, concluded-at, closing-at, line-at, read-derivation, overlap-in-lines, check-lines, check-end, check-derivation}
 use Rattle.meaning.proofs.TestLaws.{by-test, clash, either-right}
 use Rattle.meaning.proofs.SettledLaws.{fault≢got, got-same}
-use Rattle.meaning.proofs.RangeLaws.{not-refused, after-got}
+use Rattle.meaning.proofs.RangeLaws.{not-refused, after-got, repeated-length}
 use Rattle.bytes.specs.declared.bytes.Read.{Read}
 use Rattle.bytes.specs.declared.bytes.Read.the-variants.{Value, Fault}
 use Rattle.bytes.specs.declared.lists.Passed.{Passed}
@@ -31,7 +31,7 @@ use Rattle.refusing.specs.Branchings.{sequence-place}
 use Rattle.refusing.specs.Plans.{Some-plan, Overlap-found}
 use Rattle.deriving.specs.DerivationRead.{plan-end, places-noted, derivation-noted, settled-derivation}
 use Rattle.deriving.specs.Derived.{Line-here, Lines-here, Some-lines, Derivation-here, Line-found, Lines-found}
-use Rattle.reading.proofs.SectionLaws.{repeated-length, noting-got, noting-fault}
+use Rattle.reading.proofs.SectionLaws.{noting-got, noting-fault}
 use Rattle.reading.proofs.PlanSizes.{list-through}
 use Rattle.reading.proofs.RequestLaws.{next-next, next-same}
 use Rattle.reading.proofs.NotingLaws.{met-fault, fault-met}

@@ -4,12 +4,12 @@ use Prim.Native.Nat.{ℕ}
 use mathlib.Core.Path.{refl}
 use mathlib.Core.List.{List, [], _∷_}
 use mathlib.Core.Logic.{inl, inr}
+use Rattle.meaning.specs.Tests.{Has}
 use Rattle.meaning.specs.Literals.{says-true, says-false}
 use Rattle.meaning.specs.Requests.{Table, Sequence, done, item, Item, act, branching, Branches, none, branch, Request}
 use Rattle.meaning.specs.Refusals.{Found, nowhere, at}
 use Rattle.meaning.specs.States.{State, told, state-after, unknown-sensed, Outcome, single, fork, readings, outcome}
 use Rattle.meaning.specs.Walk.{End, fine, missed, stuck, Walked, stuck-at, counted, keep-miss, after-miss, after-end, and-then, each-reading, run-action, walk, walk-item, walk-branch, table-step, missed-in, end-of, judged, walked}
-use Rattle.meaning.proofs.TestLaws.{Has}
 use Rattle.meaning.proofs.PickLaws.{pick-has}
 
 module _ (P : State → Type 0) where

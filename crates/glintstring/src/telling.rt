@@ -40,7 +40,7 @@ fn hand_over(tally: &Tally, state: &mut [u8])
 }
 
 // What the tally says once the walk is over.
-pub fn tell(tally: &Tally, state: &mut [u8], budget: u32) -> Answer
+pub(crate) fn tell(tally: &Tally, state: &mut [u8], budget: u32) -> Answer
     requires { ⌜ length (now state) ≡ 64 ⌝ }
     requires { ⌜ Tallied (now tally) budget ⌝ }
     ensures { λ r. ⌜ record { answer = r; state = now (state .exit) } ≡ told (now (state .entry)) budget (standing (now (tally .entry))) ⌝ }

@@ -1,322 +1,209 @@
--- A derivation is accepted exactly when demand 2 says (FORMAT 11.6, 17.39), and every answer of the derivation call and of the whether call is
--- one of the format's numbers (FORMAT 11.1, 17.38). Each test of the check is taken as it comes: what gives no fault has passed it. Assumes
--- nothing.
-use Prim.Native.Nat.{ℕ, zero, suc, _+_}
+-- DEMAND 2, its second sentence, for both calls: a derivation is accepted exactly when `Accepted` says (FORMAT 11.6, 17.39). What has passed the
+-- check's tests is taken line by line, and each test is its relation, since the lists of what was read ascend. Assumes nothing.
+use Prim.Native.Nat.{ℕ, zero, suc, _+_, _*_, _≤_, _<_}
 use native.Mathlib.Omega.{arith}
-use mathlib.Core.Path.{_≡_, refl, sym, _∙_, ap, subst}
-use mathlib.Core.Bool.{Bool, true, false, false≢true}
-use mathlib.Core.List.{List, [], _∷_}
-use mathlib.Core.Logic.{_↔_}
-use lib.ListN.{length}
-use lib.Dec.{ltb, eqb, eqb·zero-suc, eqb·suc-zero, eqb·suc-suc}
-use Rattle.meaning.specs.declared.Answer.{Answer}
+use native.Mathlib.Nat.{not-suc-le-zero, le-of-suc-le-suc}
+use mathlib.Core.Path.{_≡_, refl, sym, _∙_, ap, ap₂, subst}
+use mathlib.Core.Bool.{true, false≢true}
+use mathlib.Core.List.{List, [], _∷_, map}
+use mathlib.Core.Logic.{_↔_, inl, inr}
+use lib.ListN.{length, length-map, getD}
+use lib.Dec.{ltb}
+use borrow.Author.Tests.{ltb-true, lt-ltb}
 use Rattle.meaning.specs.declared.Layout.{Layout}
 use Rattle.meaning.specs.declared.Layout.the-variants.{Plain, Closing}
-use Rattle.meaning.specs.Tests.{either, fails, pick, some-of, each-of}
+use Rattle.meaning.specs.Tests.{each-of, Has}
 use Rattle.meaning.specs.Limits
-use Rattle.meaning.specs.Limits.{Limits}
-use Rattle.meaning.specs.Literals.{among}
-use Rattle.meaning.specs.Requests.{Table, Entry, Request}
-use Rattle.meaning.specs.Reading.{Got, got, fault, next, two-bytes-at, repeated}
-use Rattle.meaning.specs.Refusals.{nowhere, refuse, settled}
-use Rattle.meaning.specs.Derivations.{Conclusion, Line, Derivation, line-at, closing-at, read-derivation, overlap-in-lines, follows, citations-of, a-rule, cited-by, check-lines, asks-for, goals-of, check-last, all-asked, names, check-entries, check-closing, check-end, check-derivation, answer, accepted-if, beyond, check-settled, check}
-use Rattle.meaning.proofs.TestLaws.{by-test, clash, pick-true, pick-false, pick-cases, either-right}
-use Rattle.meaning.proofs.AnswerLaws
-use Rattle.meaning.proofs.AnswerLaws.{refusals, Numbered-in}
-use Rattle.meaning.proofs.SettledLaws.{fault≢got, got-same, next-got, refuse-got}
+use Rattle.meaning.specs.Limits.{Limits, format}
+use Rattle.meaning.specs.Requests.{Effect, Knowledge, Table, Entry, Request, values}
+use Rattle.meaning.specs.Reading.{got}
+use Rattle.meaning.specs.Refusals.{settled}
+use Rattle.meaning.specs.Derivations.{Conclusion, knows-whether, Line, Derivation, read-derivation, follows, cited-by, asks-for, goals-of, all-asked, names, check}
+use Rattle.meaning.specs.Rules.{Follows}
+use Rattle.meaning.specs.Accepted.{Line-is, Earlier, Line-follows, All-follow, Asks, Last-asks, All-named, Answered, Accepted}
+use Rattle.meaning.proofs.TestLaws.{both-left, both-right, both-true}
+use Rattle.meaning.proofs.SettledLaws.{settled-is}
+use Rattle.meaning.proofs.RangeLaws.{Ranged, read-ranged}
+use Rattle.meaning.proofs.SetLaws.{Ascending}
+use Rattle.meaning.proofs.RulesExact.{Conclusion-ascends, Proper, says-exactly}
+use Rattle.meaning.proofs.ReadLines.{Read-line, lines-read, question-ascends}
+use Rattle.meaning.proofs.FollowsExact.{Tested, follows-exactly}
+use Rattle.meaning.proofs.Passed.{Line-passes, All-pass, Last-passes, Entries-pass, End-passes, Passed, passed-exactly}
 
--- THE STATEMENT. A line follows from those before it: it names a rule of the layout, cites as many lines as the rule takes, each an earlier
--- one, and is what the rule gives from them. `lines` are all of them, and i is the line's number.
-pub record Line-follows (lim : Limits) (layout : Layout) (t : Table) (lines : List Line) (i : ℕ) (l : Line) : Type 0 where
-  pub rule : a-rule layout (l .rule) ≡ true
-  pub takes : among (length (l .cites)) (citations-of (l .rule)) ≡ true
-  pub earlier : each-of (λ (k : ℕ). ltb k i) (l .cites) ≡ true
-  pub gives : follows lim t (cited-by lines l) l ≡ true
+-- LINES BY THEIR NUMBERS.
+line-there : (lines : List Line) (k : ℕ) (d : Line) → k < length lines → Line-is lines k (getD lines k d)
+line-there [] k d h = absurd (not-suc-le-zero h)
+line-there (l ∷ ls) zero d h = refl
+line-there (l ∷ ls) (suc k) d h = line-there ls k d (le-of-suc-le-suc h)
 
-abbrev pub All-follow : Limits → Layout → Table → List Line → ℕ → List Line → Type 0
-All-follow lim layout t lines i [] = Unit {0}
-All-follow lim layout t lines i (l ∷ ls) = Line-follows lim layout t lines i l × All-follow lim layout t lines (i + 1) ls
+line-get : (lines : List Line) (k : ℕ) (d x : Line) → Line-is lines k x → getD lines k d ≡ x
+line-get [] k d x h = absurd h
+line-get (l ∷ ls) zero d x h = sym h
+line-get (l ∷ ls) (suc k) d x h = line-get ls k d x h
 
--- The last line is the question; where there is no line none is.
-abbrev pub Last-asks : Request → List Line → Type 0
-Last-asks r [] = ⊥
-Last-asks r (l ∷ []) = asks-for r (goals-of r) l ≡ true
-Last-asks r (l ∷ (k ∷ ls)) = Last-asks r (k ∷ ls)
+line-has : (lines : List Line) (k : ℕ) (x : Line) → Line-is lines k x → Has lines x
+line-has [] k x h = h
+line-has (l ∷ ls) zero x h = inl h
+line-has (l ∷ ls) (suc k) x h = inr (line-has ls k x h)
 
--- For each conclusion one number, and each number is that of a line which asks for its conclusion.
-abbrev pub All-named : Request → List Line → List Conclusion → List ℕ → Type 0
-All-named r lines [] [] = Unit {0}
-All-named r lines [] (k ∷ ks) = ⊥
-All-named r lines (Y ∷ Ys) [] = ⊥
-All-named r lines (Y ∷ Ys) (k ∷ ks) = (names r lines k Y ≡ true) × All-named r lines Ys ks
+module _ (lines : List Line) (i : ℕ) (d : Line) where
+  tested-earlier : i ≤ length lines → (ks : List ℕ) → each-of (λ (k : ℕ). ltb k i) ks ≡ true → Earlier lines i ks (map (λ (k : ℕ). getD lines k d) ks)
+  unfolding each-of
+  tested-earlier within [] e = tt
+  tested-earlier within (k ∷ ks) e =
+      let less = ltb-true k i (both-left _ _ e) in
+      (less, line-there lines k d (omega (arith, less, within)), tested-earlier within ks (both-right _ _ e))
 
--- The question is answered: in the plain layout no whether entry is asked and the last line is the question, and in the closing one the
--- closing list names a line for the goals and one for each whether entry (FORMAT 17.31 to 17.33).
-abbrev pub Answered : Layout → Request → Derivation → Type 0
-Answered Plain r d = (r .whether ≡ []) × Last-asks r (d .lines)
-Answered Closing r d = All-named r (d .lines) (all-asked r) (d .closing)
+  earlier-tested : (ks : List ℕ) (xs : List Line) → Earlier lines i ks xs → (each-of (λ (k : ℕ). ltb k i) ks ≡ true) × (map (λ (k : ℕ). getD lines k d) ks ≡ xs)
+  unfolding each-of
+  earlier-tested [] [] h = (refl, refl)
+  earlier-tested [] (x ∷ xs) h = absurd h
+  earlier-tested (k ∷ ks) [] h = absurd h
+  earlier-tested (k ∷ ks) (x ∷ xs) h =
+      let w = earlier-tested ks xs (h .2) in
+      (both-true _ _ (lt-ltb k i (h .0)) (w .0), ap₂ {C = List Line} (λ y ys. y ∷ ys) (line-get lines k d x (h .1)) (w .1))
 
--- Neither file is refused by 10 to 21, each line follows, and the question is answered.
-pub record Accepted (lim : Limits) (layout : Layout) (request derivation : List ℕ) : Type 0 where
-  pub asks : Request
-  pub end : ℕ
-  pub request-settled : settled lim request ≡ got asks end
-  pub reads : Derivation
-  pub derivation-end : ℕ
-  pub derivation-read : read-derivation lim (asks .table .fluents) (asks .table .actions) derivation layout ≡ got reads derivation-end
-  pub no-overlap : overlap-in-lines (reads .lines) ≡ nowhere
-  pub all-follow : All-follow lim layout (asks .table) (reads .lines) 0 (reads .lines)
-  pub answered : Answered layout asks reads
+  earlier-has : (ks : List ℕ) (xs : List Line) → Earlier lines i ks xs → (x : Line) → Has xs x → Has lines x
+  earlier-has [] [] h x m = absurd m
+  earlier-has [] (y ∷ ys) h x m = absurd h
+  earlier-has (k ∷ ks) [] h x m = absurd h
+  earlier-has (k ∷ ks) (y ∷ ys) h x (inl q) = subst (Has lines) (sym q) (line-has lines k y (h .1))
+  earlier-has (k ∷ ks) (y ∷ ys) h x (inr m) = earlier-has ks ys (h .2) x m
 
--- NUMBERS. Those of the derivation's faults, and all that each call answers.
-unfoldable pub end-fault : Layout → ℕ
-end-fault Plain = Limits.not-the-question
-end-fault Closing = Limits.closing-not-right
+-- EACH LINE.
+module _ (lim : Limits) (few : lim .citations ≤ 64) (t : Table) (effects-within : (e : Effect) → Has (t .effects) e → e .literal < 2 * lim .state) (knowledge-within : (k : Knowledge) → Has (t .knowledge) k → k .fluent < lim .state)
+    (layout : Layout) (lines : List Line) (read : (l : Line) → Has lines l → Read-line lim layout l) where
+  module _ (i : ℕ) (l : Line) (own : Has lines l) where
+    -- With the lines that it cites, in either form.
+    exactly : (cited : List Line) → Earlier lines i (l .cites) cited → length cited ≡ length (l .cites) → Tested lim layout t cited l ↔ Follows t cited l
+    exactly cited earlier counted =
+        follows-exactly lim t effects-within knowledge-within layout cited l (λ k h. read k (earlier-has lines i l (l .cites) cited earlier k h) .proper) (read l own) counted few
 
-unfoldable pub faults : Layout → List ℕ
-faults layout = Limits.no-such-rule ∷ Limits.not-earlier ∷ Limits.citations-not-taken ∷ Limits.does-not-follow ∷ end-fault layout ∷ refusals
+    line-follows : i ≤ length lines → Line-passes lim layout t lines i l → Line-follows t lines i l
+    unfolding cited-by
+    line-follows within p =
+        let earlier = tested-earlier lines i l within (l .cites) (p .earlier) in
+        record {
+          cited = cited-by lines l;
+          earlier = earlier;
+          follows = exactly (cited-by lines l) earlier (length-map (l .cites) (λ (k : ℕ). getD lines k l)) .0 (record { rule = p .rule; takes = p .takes; gives = p .gives });
+        }
 
-unfoldable pub check-answers : Layout → List ℕ
-check-answers Plain = Limits.verified ∷ Limits.whether-asked ∷ faults Plain
-check-answers Closing = Limits.verified ∷ faults Closing
+    line-passes : Line-follows t lines i l → Line-passes lim layout t lines i l
+    unfolding cited-by
+    line-passes f =
+        let w = earlier-tested lines i l (l .cites) (f .cited) (f .earlier) in
+        let p = exactly (f .cited) (f .earlier) (ap length (sym (w .1)) ∙ length-map (l .cites) (λ (k : ℕ). getD lines k l)) .1 (f .follows) in
+        record { rule = p .rule; takes = p .takes; earlier = w .0; gives = subst (λ (cited : List Line). follows lim t cited l ≡ true) (sym (w .1)) (p .gives) }
 
-refusal-is-fault : (layout : Layout) (n : ℕ) → among n refusals ≡ true → among n (faults layout) ≡ true
-unfolding among faults some-of
-refusal-is-fault layout n h = either-right _ _ (either-right _ _ (either-right _ _ (either-right _ _ (either-right _ _ h))))
+  all-follow : (i : ℕ) (ls : List Line) → i + length ls ≤ length lines → ((l : Line) → Has ls l → Has lines l) → All-pass lim layout t lines i ls → All-follow t lines i ls
+  all-follow i [] within has p = tt
+  all-follow i (l ∷ ls) within has p =
+      (line-follows i l (has l (inl refl)) (omega arith) (p .0), all-follow (i + 1) ls (omega arith) (λ k h. has k (inr h)) (p .1))
 
-lines-numbered : (lim : Limits) (layout : Layout) (t : Table) (lines : List Line) (i : ℕ) (ls : List Line) → Numbered-in (faults layout) (check-lines lim layout t lines i ls)
-unfolding check-lines among faults some-of either
-lines-numbered lim layout t lines i [] = tt
-lines-numbered lim layout t lines i (l ∷ ls) =
-    AnswerLaws.by-pick (faults layout) (refusal-is-fault layout) _ _ _ refl
-    (AnswerLaws.by-pick (faults layout) (refusal-is-fault layout) _ _ _ refl
-    (AnswerLaws.by-pick (faults layout) (refusal-is-fault layout) _ _ _ refl
-    (AnswerLaws.by-pick (faults layout) (refusal-is-fault layout) _ _ _ refl (lines-numbered lim layout t lines (i + 1) ls))))
+  all-pass : (i : ℕ) (ls : List Line) → ((l : Line) → Has ls l → Has lines l) → All-follow t lines i ls → All-pass lim layout t lines i ls
+  all-pass i [] has f = tt
+  all-pass i (l ∷ ls) has f = (line-passes i l (has l (inl refl)) (f .0), all-pass (i + 1) ls (λ k h. has k (inr h)) (f .1))
 
-last-numbered : (r : Request) (ls : List Line) → Numbered-in (faults Plain) (check-last r ls)
-unfolding check-last among faults end-fault some-of either
-last-numbered r [] = tt
-last-numbered r (l ∷ []) = AnswerLaws.by-pick (faults Plain) (refusal-is-fault Plain) _ _ _ tt refl
-last-numbered r (l ∷ (k ∷ ls)) = last-numbered r (k ∷ ls)
+-- THE QUESTION.
+module _ (lim : Limits) (r : Request) (facts : Ascending 0 (r .table .facts)) (goals : Ascending 0 (values (r .goals))) where
+  asks-exactly : (l : Line) → Proper lim l → (Y : Conclusion) → Conclusion-ascends Y → (asks-for r Y l ≡ true) ↔ Asks r Y l
+  unfolding asks-for
+  asks-exactly l proper Y up = says-exactly l proper (r .table .facts) (r .plan) Y facts up
 
-entries-numbered : (r : Request) (lines : List Line) (p : ℕ) (Ys : List Conclusion) (ks : List ℕ) → Numbered-in (faults Closing) (check-entries r lines p Ys ks)
-unfolding check-entries among faults end-fault some-of either
-entries-numbered r lines p [] ks = tt
-entries-numbered r lines p (Y ∷ Ys) [] = tt
-entries-numbered r lines p (Y ∷ Ys) (k ∷ ks) = AnswerLaws.by-pick (faults Closing) (refusal-is-fault Closing) _ _ _ (entries-numbered r lines (p + 2) Ys ks) refl
+  goals-ascend : Conclusion-ascends (goals-of r)
+  unfolding goals-of
+  goals-ascend = goals
 
-end-numbered : (layout : Layout) (r : Request) (d : Derivation) → Numbered-in (faults layout) (check-end layout r d)
-unfolding check-end check-closing among faults end-fault some-of either
-end-numbered Plain r d = last-numbered r (d .lines)
-end-numbered Closing r d = AnswerLaws.by-pick (faults Closing) (refusal-is-fault Closing) _ _ _ (entries-numbered r (d .lines) (d .closing-place + 1) (all-asked r) (d .closing)) refl
+  last-asks : (ls : List Line) → ((l : Line) → Has ls l → Proper lim l) → Last-passes r ls ↔ Last-asks r ls
+  last-asks [] proper = (λ h. h, λ h. h)
+  last-asks (l ∷ []) proper = asks-exactly l (proper l (inl refl)) (goals-of r) goals-ascend
+  last-asks (l ∷ (k ∷ ls)) proper = last-asks (k ∷ ls) (λ j h. proper j (inr h))
 
-check-numbered : (lim : Limits) (layout : Layout) (r : Request) (s : List ℕ) → Numbered-in (faults layout) (check-derivation lim layout r s)
-unfolding check-derivation among refusals some-of either
-check-numbered lim layout r s =
-    AnswerLaws.by-next (faults layout) (refusal-is-fault layout) _ _ (AnswerLaws.derivation-numbered (faults layout) (refusal-is-fault layout) lim (r .table .fluents) (r .table .actions) s layout) λ d e.
-    AnswerLaws.by-refuse (faults layout) (refusal-is-fault layout) _ (refusal-is-fault layout _ refl) _ _
-    (AnswerLaws.by-next (faults layout) (refusal-is-fault layout) _ _ (lines-numbered lim layout (r .table) (d .lines) 0 (d .lines)) λ _ _. end-numbered layout r d)
+  names-exactly : (ls : List Line) → ((l : Line) → Has ls l → Proper lim l) → (k : ℕ) (Y : Conclusion) → Conclusion-ascends Y → (names r ls k Y ≡ true) ↔ ((x : Line) × Line-is ls k x × Asks r Y x)
+  unfolding names
+  names-exactly [] proper k Y up = (λ e. absurd (false≢true e), λ w. absurd (w .1))
+  names-exactly (l ∷ ls) proper zero Y up =
+      let asks = asks-exactly l (proper l (inl refl)) Y up in
+      (λ e. (l, refl, asks .0 e), λ w. asks .1 (subst (Asks r Y) (w .1) (w .2)))
+  names-exactly (l ∷ ls) proper (suc k) Y up = names-exactly ls (λ j h. proper j (inr h)) k Y up
 
--- DEMAND 1 of the two calls: every pair of inputs gets one of the numbered answers.
-fault-is-answer : (layout : Layout) (n : ℕ) → among n (faults layout) ≡ true → among n (check-answers layout) ≡ true
-unfolding among check-answers some-of
-fault-is-answer Plain n h = either-right _ _ (either-right _ _ h)
-fault-is-answer Closing n h = either-right _ _ h
+  module _ (lines : List Line) (proper : (l : Line) → Has lines l → Proper lim l) where
+    all-named : (Ys : List Conclusion) → ((Y : Conclusion) → Has Ys Y → Conclusion-ascends Y) → (ks : List ℕ) → Entries-pass r lines Ys ks ↔ All-named r lines Ys ks
+    all-named [] up [] = (λ _. tt, λ _. tt)
+    all-named [] up (k ∷ ks) = (λ h. h, λ h. h)
+    all-named (Y ∷ Ys) up [] = (λ h. h, λ h. h)
+    all-named (Y ∷ Ys) up (k ∷ ks) =
+        let one = names-exactly lines proper k Y (up Y (inl refl)) in
+        let more = all-named Ys (λ Z h. up Z (inr h)) ks in
+        (λ h. (one .0 (h .0), more .0 (h .1)), λ h. (one .1 (h .0), more .1 (h .1)))
 
-accepted-if-numbered : (layout : Layout) (x : Got (Unit {0})) → Numbered-in (faults layout) x → among (accepted-if x .number) (check-answers layout) ≡ true
-unfolding accepted-if answer among check-answers some-of either
-accepted-if-numbered Plain (got u e) h = refl
-accepted-if-numbered Closing (got u e) h = refl
-accepted-if-numbered layout (fault n p) h = fault-is-answer layout n h
+  asked-ascend : (Y : Conclusion) → Has (all-asked r) Y → Conclusion-ascends Y
+  unfolding all-asked
+  asked-ascend Y (inl q) = subst Conclusion-ascends (sym q) goals-ascend
+  asked-ascend Y (inr h) = fluents (r .whether) h
+    where
+      fluents : (ws : List Entry) → Has (map (λ (w : Entry). knows-whether (w .value)) ws) Y → Conclusion-ascends Y
+      fluents [] h = absurd h
+      fluents (w ∷ ws) (inl q) = subst Conclusion-ascends (sym q) tt
+      fluents (w ∷ ws) (inr h) = fluents ws h
 
-asked-numbered : (layout : Layout) (r : Request) → beyond layout r ≡ true → among Limits.whether-asked (check-answers layout) ≡ true
-unfolding beyond among check-answers some-of either
-asked-numbered Plain r asked = refl
-asked-numbered Closing r asked = clash asked refl
+  end-answers : (layout : Layout) (d : Derivation) → ((l : Line) → Has (d .lines) l → Proper lim l) → End-passes layout r d ↔ Answered layout r d
+  end-answers Plain d proper = let last = last-asks (d .lines) proper in (λ h. (h .0, last .0 (h .1)), λ h. (h .0, last .1 (h .1)))
+  end-answers Closing d proper = all-named (d .lines) proper (all-asked r) asked-ascend (d .closing)
 
-check-settled-numbered : (lim : Limits) (layout : Layout) (derivation : List ℕ) (x : Got Request) → Numbered-in refusals x → among (check-settled lim layout derivation x .number) (check-answers layout) ≡ true
-unfolding check-settled answer
-check-settled-numbered lim layout derivation (got r e) h = picked _ _ _ (asked-numbered layout r) (accepted-if-numbered layout _ (check-numbered lim layout r derivation))
-  where
-    picked : (b : Bool) (f g : Unit {0} → Answer) → (b ≡ true → among (f tt .number) (check-answers layout) ≡ true) → among (g tt .number) (check-answers layout) ≡ true → among (pick b f g .number) (check-answers layout) ≡ true
-    picked b f g x y = by-test b (λ t. ap (λ (a : Answer). among (a .number) (check-answers layout)) (pick-true b f g t) ∙ x t) (λ u. ap (λ (a : Answer). among (a .number) (check-answers layout)) (pick-false b f g u) ∙ y)
-check-settled-numbered lim layout derivation (fault n p) h = fault-is-answer layout n (refusal-is-fault layout n h)
+-- BOTH CALLS. The limits' fluents are within a state, and no more lines are cited than six fluents have readings.
+module _ (lim : Limits) (room : lim .fluents ≤ lim .state) (few : lim .citations ≤ 64) (layout : Layout) (request derivation : List ℕ) where
+  module _ (r : Request) (e : ℕ) (past : settled lim request ≡ got r e) (d : Derivation) (f : ℕ) (reads : read-derivation lim (r .table .fluents) (r .table .actions) derivation layout ≡ got d f) where
+    ranged : Ranged lim (r .table)
+    ranged = read-ranged lim request r e (settled-is lim request r e past .reads)
 
-pub every-check-numbered : (lim : Limits) (layout : Layout) (request derivation : List ℕ) → among (check lim layout request derivation .number) (check-answers layout) ≡ true
-unfolding check
-every-check-numbered lim layout request derivation =
-    check-settled-numbered lim layout derivation (settled lim request) (AnswerLaws.settled-numbered refusals (λ n h. h) lim request)
+    read : (l : Line) → Has (d .lines) l → Read-line lim layout l
+    read = lines-read lim _ _ (omega (arith, ranged .fluents, room)) derivation layout d f reads
 
--- WHAT HAS PASSED. A test that refuses has not been met.
-either-none : (a b : Bool) → either a b ≡ false → a ≡ false
-unfolding either
-either-none true b e = e
-either-none false b e = refl
+    effects-within : (x : Effect) → Has (r .table .effects) x → x .literal < 2 * lim .state
+    effects-within x h = omega (arith, ranged .effects x h, ranged .fluents, room)
 
-not-failed : (b : Bool) → fails b ≡ false → b ≡ true
-unfolding fails
-not-failed true e = refl
-not-failed false e = sym e
+    knowledge-within : (k : Knowledge) → Has (r .table .knowledge) k → k .fluent < lim .state
+    knowledge-within k h = omega (arith, ranged .knowledge k h, ranged .fluents, room)
 
-module _ {A : Type 0} where
-  passed : (b : Bool) (n p : ℕ) (k : Unit {0} → Got A) {x : A} {e : ℕ} → pick (fails b) (λ _. fault n p) k ≡ got x e → (b ≡ true) × (k tt ≡ got x e)
-  passed b n p k q = pick-cases _ _ _ q (λ _ f. absurd (fault≢got f)) (λ f r. (not-failed b f, r))
+    lines-exactly : All-pass lim layout (r .table) (d .lines) 0 (d .lines) ↔ All-follow (r .table) (d .lines) 0 (d .lines)
+    lines-exactly = (
+      all-follow lim few (r .table) effects-within knowledge-within layout (d .lines) read 0 (d .lines) (omega arith) (λ l h. h),
+      all-pass lim few (r .table) effects-within knowledge-within layout (d .lines) read 0 (d .lines) (λ l h. h),
+    )
 
-  pass : (b : Bool) (n p : ℕ) (k : Unit {0} → Got A) → b ≡ true → pick (fails b) (λ _. fault n p) k ≡ k tt
-  unfolding fails
-  pass b n p k h = pick-false _ _ _ (ap fails h)
+    end-exactly : End-passes layout r d ↔ Answered layout r d
+    end-exactly = let up = question-ascends lim request r e (settled-is lim request r e past .reads) in end-answers lim r (up .0) (up .1) layout d (λ l h. read l h .proper)
 
-module _ (lim : Limits) (layout : Layout) (t : Table) (lines : List Line) where
-  all-passed : (i : ℕ) (ls : List Line) {e : ℕ} → check-lines lim layout t lines i ls ≡ got tt e → All-follow lim layout t lines i ls
-  unfolding check-lines
-  all-passed i [] q = tt
-  all-passed i (l ∷ ls) q =
-      let a = passed _ _ _ _ q in
-      let b = passed _ _ _ _ (a .1) in
-      let c = passed _ _ _ _ (b .1) in
-      let d = passed _ _ _ _ (c .1) in
-      (record { rule = a .0; takes = b .0; earlier = c .0; gives = d .0 }, all-passed (i + 1) ls (d .1))
+  accepted : Passed lim layout request derivation → Accepted lim layout request derivation
+  accepted p = record {
+    asks = p .asks;
+    end = p .end;
+    request-settled = p .request-settled;
+    reads = p .reads;
+    derivation-end = p .derivation-end;
+    derivation-read = p .derivation-read;
+    no-overlap = p .no-overlap;
+    all-follow = lines-exactly (p .asks) (p .end) (p .request-settled) (p .reads) (p .derivation-end) (p .derivation-read) .0 (p .all-follow);
+    answered = end-exactly (p .asks) (p .end) (p .request-settled) (p .reads) (p .derivation-end) (p .derivation-read) .0 (p .answered);
+  }
 
-  all-pass : (i : ℕ) (ls : List Line) → All-follow lim layout t lines i ls → check-lines lim layout t lines i ls ≡ got tt 0
-  unfolding check-lines
-  all-pass i [] f = refl
-  all-pass i (l ∷ ls) f =
-      pass _ _ _ _ (f .0 .rule) ∙ pass _ _ _ _ (f .0 .takes) ∙ pass _ _ _ _ (f .0 .earlier) ∙ pass _ _ _ _ (f .0 .gives) ∙ all-pass (i + 1) ls (f .1)
-
-last-passed : (r : Request) (l : Line) (ls : List Line) {e : ℕ} → check-last r (l ∷ ls) ≡ got tt e → Last-asks r (l ∷ ls)
-unfolding check-last
-last-passed r l [] q = pick-cases _ _ _ q (λ h _. h) (λ _ f. absurd (fault≢got f))
-last-passed r l (k ∷ ls) q = last-passed r k ls q
-
-last-pass : (r : Request) (ls : List Line) → Last-asks r ls → check-last r ls ≡ got tt 0
-unfolding check-last
-last-pass r [] h = absurd h
-last-pass r (l ∷ []) h = pick-true _ _ _ h
-last-pass r (l ∷ (k ∷ ls)) h = last-pass r (k ∷ ls) h
-
--- The closing list: as many entries as are asked, and each names its line.
-module _ (r : Request) (lines : List Line) where
-  entries-passed : (p : ℕ) (Ys : List Conclusion) (ks : List ℕ) {e : ℕ} → eqb (length ks) (length Ys) ≡ true → check-entries r lines p Ys ks ≡ got tt e → All-named r lines Ys ks
-  unfolding check-entries
-  entries-passed p [] [] h q = tt
-  entries-passed p [] (k ∷ ks) h q = clash h (eqb·suc-zero (length ks))
-  entries-passed p (Y ∷ Ys) [] h q = clash h (eqb·zero-suc (length Ys))
-  entries-passed p (Y ∷ Ys) (k ∷ ks) h q =
-      pick-cases _ _ _ q (λ named rest. (named, entries-passed (p + 2) Ys ks (sym (eqb·suc-suc (length ks) (length Ys)) ∙ h) rest)) (λ _ f. absurd (fault≢got f))
-
-  named-length : (Ys : List Conclusion) (ks : List ℕ) → All-named r lines Ys ks → eqb (length ks) (length Ys) ≡ true
-  named-length [] [] a = refl
-  named-length [] (k ∷ ks) a = absurd a
-  named-length (Y ∷ Ys) [] a = absurd a
-  named-length (Y ∷ Ys) (k ∷ ks) a = eqb·suc-suc (length ks) (length Ys) ∙ named-length Ys ks (a .1)
-
-  entries-pass : (p : ℕ) (Ys : List Conclusion) (ks : List ℕ) → All-named r lines Ys ks → check-entries r lines p Ys ks ≡ got tt 0
-  unfolding check-entries
-  entries-pass p [] [] a = refl
-  entries-pass p [] (k ∷ ks) a = absurd a
-  entries-pass p (Y ∷ Ys) [] a = absurd a
-  entries-pass p (Y ∷ Ys) (k ∷ ks) a = pick-true _ _ _ (a .0) ∙ entries-pass (p + 2) Ys ks (a .1)
-
--- A derivation that is read has a line.
-repeated-some : (line : ℕ → Got Line) (c p : ℕ) {lines : List Line} {e : ℕ} → ltb c 1 ≡ false → repeated line c p ≡ got lines e → (l : Line) × (ls : List Line) × (lines ≡ l ∷ ls)
-unfolding repeated
-repeated-some line zero p h q = absurd (false≢true (sym h))
-repeated-some line (suc c) p h q =
-    let x = next-got (line p) _ q in
-    let xs = next-got (repeated line c (x .1)) _ (x .3) in
-    (x .0, xs .0, sym (got-same (xs .3)))
-
-some-line : (lim : Limits) (n m : ℕ) (s : List ℕ) (layout : Layout) (d : Derivation) (e : ℕ) → read-derivation lim n m s layout ≡ got d e → (l : Line) × (ls : List Line) × (d .lines ≡ l ∷ ls)
-unfolding read-derivation
-some-line lim n m s layout d e q =
-    pick-cases _ _ _ q (λ _ f. absurd (fault≢got f)) λ _ r.
-    let c = next-got (two-bytes-at s 0) _ r in
-    pick-cases _ _ _ (c .3) (λ _ f. absurd (fault≢got f)) λ within r′.
-    let ls = next-got (repeated (line-at lim n m s layout) (c .0) (c .1)) _ r′ in
-    closed (ls .0) (ls .1) (ls .3) (repeated-some (line-at lim n m s layout) (c .0) (c .1) (either-none _ _ within) (ls .2))
-  where
-    -- What closes the lines leaves them as they are.
-    closed : (lines : List Line) (p : ℕ) → next (closing-at s layout p) (λ closing o. pick (ltb o (length s)) (λ _. fault Limits.bytes-after o) (λ _. got (record { lines = lines; closing = closing; closing-place = p }) o)) ≡ got d e
-        → (l : Line) × (ls : List Line) × (lines ≡ l ∷ ls) → (l : Line) × (ls : List Line) × (d .lines ≡ l ∷ ls)
-    closed lines p r w =
-        let ks = next-got (closing-at s layout p) _ r in
-        pick-cases _ _ _ (ks .3) (λ _ f. absurd (fault≢got f)) (λ _ last. (w .0, w .1, sym (ap (λ (x : Derivation). x .lines) (got-same last)) ∙ w .2))
-
-no-entry : (ws : List Entry) → some-of (λ (w : Entry). true) ws ≡ false → ws ≡ []
-unfolding some-of either
-no-entry [] e = refl
-no-entry (w ∷ ws) e = absurd (false≢true (sym e))
-
--- The end of a derivation that has a line, and the answer to the question.
-end-passed : (layout : Layout) (r : Request) (d : Derivation) (l : Line) (ls : List Line) → d .lines ≡ l ∷ ls → beyond layout r ≡ false → {e : ℕ} → check-end layout r d ≡ got tt e → Answered layout r d
-unfolding check-end check-closing beyond
-end-passed Plain r d l ls some none q = (no-entry (r .whether) none, subst (Last-asks r) (sym some) (last-passed r l ls (rw some at q)))
-end-passed Closing r d l ls some none q =
-    pick-cases _ _ _ q (λ same named. entries-passed r (d .lines) (d .closing-place + 1) (all-asked r) (d .closing) same named) (λ _ f. absurd (fault≢got f))
-
-end-pass : (layout : Layout) (r : Request) (d : Derivation) → Answered layout r d → check-end layout r d ≡ got tt 0
-unfolding check-end check-closing
-end-pass Plain r d a = last-pass r (d .lines) (a .1)
-end-pass Closing r d a =
-    pick-true _ _ _ (named-length r (d .lines) (all-asked r) (d .closing) a) ∙ entries-pass r (d .lines) (d .closing-place + 1) (all-asked r) (d .closing) a
-
-not-beyond : (layout : Layout) (r : Request) (d : Derivation) → Answered layout r d → beyond layout r ≡ false
-unfolding beyond some-of
-not-beyond Plain r d a = ap (some-of (λ (w : Entry). true)) (a .0)
-not-beyond Closing r d a = refl
-
--- Acceptance is no fault.
-no-fault : (layout : Layout) → among Limits.verified (faults layout) ≡ false
-unfolding among faults end-fault refusals some-of either
-no-fault Plain = refl
-no-fault Closing = refl
-
--- DEMAND 2, its second sentence, for both calls.
-module _ (lim : Limits) (layout : Layout) (request derivation : List ℕ) where
-  derivation-passed : (r : Request) (e : ℕ) → settled lim request ≡ got r e → beyond layout r ≡ false → (f : ℕ) → check-derivation lim layout r derivation ≡ got tt f → Accepted lim layout request derivation
-  unfolding check-derivation
-  derivation-passed r e past none f q =
-      let d = next-got (read-derivation lim (r .table .fluents) (r .table .actions) derivation layout) _ q in
-      let o = refuse-got _ _ _ (d .3) in
-      let c = next-got (check-lines lim layout (r .table) (d .0 .lines) 0 (d .0 .lines)) _ (o .1) in
-      let some = some-line lim (r .table .fluents) (r .table .actions) derivation layout (d .0) (d .1) (d .2) in
-      record {
-        asks = r;
-        end = e;
-        request-settled = past;
-        reads = d .0;
-        derivation-end = d .1;
-        derivation-read = d .2;
-        no-overlap = o .0;
-        all-follow = all-passed lim layout (r .table) (d .0 .lines) 0 (d .0 .lines) (c .2);
-        answered = end-passed layout r (d .0) (some .0) (some .1) (some .2) none (c .3);
-      }
-
-  accepted-passed : (r : Request) (e : ℕ) → settled lim request ≡ got r e → beyond layout r ≡ false → (x : Got (Unit {0})) → Numbered-in (faults layout) x → check-derivation lim layout r derivation ≡ x → accepted-if x .number ≡ Limits.verified → Accepted lim layout request derivation
-  unfolding accepted-if answer
-  accepted-passed r e past none (got u f) n q z = derivation-passed r e past none f q
-  accepted-passed r e past none (fault k p) n q z = clash n (ap (λ (i : ℕ). among i (faults layout)) z ∙ no-fault layout)
-
-  settled-passed : (x : Got Request) → Numbered-in refusals x → settled lim request ≡ x → check-settled lim layout derivation x .number ≡ Limits.verified → Accepted lim layout request derivation
-  unfolding check-settled answer pick among refusals some-of either
-  settled-passed (got r e) n q z =
-      by-test (beyond layout r)
-      (λ t. absurd (let thirty : _≡_ {A = ℕ} 30 0 = rw (t, pick) at z in omega arith))
-      (λ f. accepted-passed r e q f _ (check-numbered lim layout r derivation) refl (rw (f, pick) at z))
-  settled-passed (fault k p) n q z = clash n (ap (λ (i : ℕ). among i refusals) z)
-
-  derivation-passes : (a : Accepted lim layout request derivation) → check-derivation lim layout (a .asks) derivation ≡ got tt 0
-  unfolding check-derivation next refuse
-  derivation-passes a =
-      rw (a .derivation-read, a .no-overlap, all-pass lim layout (a .asks .table) (a .reads .lines) 0 (a .reads .lines) (a .all-follow)) (end-pass layout (a .asks) (a .reads) (a .answered))
-
-  passes : Accepted lim layout request derivation → check lim layout request derivation .number ≡ Limits.verified
-  unfolding check check-settled accepted-if answer
-  passes a =
-      ap (λ (x : Got Request). check-settled lim layout derivation x .number) (a .request-settled)
-      ∙ ap (λ (x : Answer). x .number) (pick-false _ _ _ (not-beyond layout (a .asks) (a .reads) (a .answered)))
-      ∙ ap (λ (x : Got (Unit {0})). accepted-if x .number) (derivation-passes a)
+  passed : Accepted lim layout request derivation → Passed lim layout request derivation
+  passed a = record {
+    asks = a .asks;
+    end = a .end;
+    request-settled = a .request-settled;
+    reads = a .reads;
+    derivation-end = a .derivation-end;
+    derivation-read = a .derivation-read;
+    no-overlap = a .no-overlap;
+    all-follow = lines-exactly (a .asks) (a .end) (a .request-settled) (a .reads) (a .derivation-end) (a .derivation-read) .1 (a .all-follow);
+    answered = end-exactly (a .asks) (a .end) (a .request-settled) (a .reads) (a .derivation-end) (a .derivation-read) .1 (a .answered);
+  }
 
   pub accepted-exactly : (check lim layout request derivation .number ≡ Limits.verified) ↔ Accepted lim layout request derivation
-  unfolding check
-  accepted-exactly = (settled-passed (settled lim request) (AnswerLaws.settled-numbered refusals (λ n h. h) lim request) refl, passes)
+  accepted-exactly = let p = passed-exactly lim layout request derivation in (λ e. accepted (p .0 e), λ a. p .1 (passed a))
+
+pub format-citations : format .citations ≤ 64
+format-citations = omega arith

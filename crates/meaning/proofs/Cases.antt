@@ -93,6 +93,8 @@ cases =
     missed (table-A ++ (0 ∷ 1 ∷ 0 ∷ 1 ∷ 2 ∷ 0 ∷ [])) 33 3 (1 ∷ 2 ∷ 2 ∷ 2 ∷ []) ∷
     -- A goal missed in the first reading, and an item that can't be run in the second.
     stuck (table-A ++ (0 ∷ 2 ∷ 0 ∷ 255 ∷ 1 ∷ 1 ∷ 0 ∷ 0 ∷ 0 ∷ 1 ∷ 2 ∷ 0 ∷ [])) 32 2 (2 ∷ 2 ∷ 2 ∷ 2 ∷ []) ∷
+    -- A goal and a whether entry missed: the goal is named.
+    missed (table-A ++ (0 ∷ 0 ∷ 1 ∷ 2 ∷ 1 ∷ 0 ∷ [])) 32 1 (0 ∷ 2 ∷ 2 ∷ 2 ∷ []) ∷
     -- Case 11.
     refused [] 11 0 ∷
     refused (take 47 file-A) 11 47 ∷
@@ -129,6 +131,9 @@ cases =
     -- D6, D7
     refused (no-lines ++ (4 ∷ 1 ∷ []) ++ replicate 1024 0 ++ (255 ∷ [])) 21 1032 ∷
     refused (no-lines ++ (4 ∷ 1 ∷ []) ++ replicate 1024 0) 11 1032 ∷
+    -- The ninth branching inside one another is the 1,025th item: 21 goes before 19 (FORMAT 5.6). As the 1,024th item it is 19.
+    refused (no-lines ++ copies 8 opening ++ (3 ∷ 249 ∷ []) ++ replicate 1016 0 ++ (255 ∷ [])) 21 1064 ∷
+    refused (no-lines ++ copies 8 opening ++ (3 ∷ 249 ∷ []) ++ replicate 1015 0 ++ (255 ∷ [])) 19 1063 ∷
     -- D9, D10
     refused (take 30 file-A) 11 30 ∷
     refused (table-A ++ (255 ∷ 255 ∷ [])) 11 31 ∷
@@ -141,6 +146,8 @@ cases =
     -- D17
     refused (2 ∷ 1 ∷ 0 ∷ 0 ∷ 0 ∷ 0 ∷ 0 ∷ 1 ∷ 255 ∷ 3 ∷ 1 ∷ 0 ∷ 0 ∷ 0 ∷ 1 ∷ 1 ∷ 0 ∷ 0 ∷ 2 ∷ 0 ∷ 2 ∷ 0 ∷ 0 ∷ 0 ∷ 0 ∷ []) 18 8 ∷
     refused (2 ∷ 1 ∷ 0 ∷ 0 ∷ 0 ∷ 0 ∷ 0 ∷ 1 ∷ 255 ∷ 2 ∷ 0 ∷ 0 ∷ 0 ∷ 1 ∷ 0 ∷ 0 ∷ 0 ∷ 0 ∷ 0 ∷ []) 18 8 ∷
+    -- Two conditions of a branching inside another may both hold: its own byte is the place (FORMAT 4.16).
+    refused (2 ∷ 1 ∷ 0 ∷ 0 ∷ 0 ∷ 0 ∷ 0 ∷ 1 ∷ 255 ∷ 1 ∷ 0 ∷ 0 ∷ 1 ∷ 255 ∷ 2 ∷ 1 ∷ 0 ∷ 0 ∷ 0 ∷ 1 ∷ 2 ∷ 0 ∷ 0 ∷ 0 ∷ 0 ∷ []) 18 13 ∷
     -- D18
     row (table-A ++ (0 ∷ 1 ∷ 2 ∷ 0 ∷ 0 ∷ [])) lent-64 0 2 1 31 0 (marked (0 ∷ 2 ∷ 2 ∷ 2 ∷ [])) ∷
     row (table-A ++ (0 ∷ 0 ∷ 0 ∷ 0 ∷ [])) lent-64 0 3 0 0 0 lent-64 ∷

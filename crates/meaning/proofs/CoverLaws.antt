@@ -7,7 +7,7 @@ use mathlib.Core.Bool.{true, false}
 use mathlib.Core.List.{List, [], _∷_}
 use mathlib.Core.Logic.{_⊎_, inl, inr, ⊎-elim}
 use lib.ListN.{length}
-use Rattle.meaning.specs.Tests.{each-of}
+use Rattle.meaning.specs.Tests.{each-of, Has}
 use Rattle.meaning.specs.Literals.{exclusive}
 use Rattle.meaning.specs.Requests.{Effect, Knowledge, Table, Sequence, done, item, Item, act, branching, Branches, none, branch}
 use Rattle.meaning.specs.Refusals.{conditions-of, all-exclusive}
@@ -16,11 +16,12 @@ use Rattle.meaning.specs.States.{State, known, can-be-run, state-after, 
 use Rattle.meaning.specs.Walk.{table-step}
 use Rattle.meaning.specs.Paths.{Ending, arrives, stops, Path, first-ran, go-on, arrivals, paths, paths-item, paths-branch}
 use Rattle.meaning.specs.Approximation.{Pair, Disjoint, true-in, _≼_, executable, sensing-action, Res, Result, failed, state, Sensed, Φ, None-true, Φ̂, Φ̂-item, Φ̂-case}
-use Rattle.meaning.proofs.TestLaws.{by-test, clash, both-left, both-right, either-right, Has, each-mono}
+use Rattle.meaning.specs.Reported.{pair-of}
+use Rattle.meaning.proofs.TestLaws.{by-test, clash, both-left, both-right, either-right, each-mono}
 use Rattle.meaning.proofs.PickLaws.{pick-has, has-picked}
 use Rattle.meaning.proofs.SettledLaws.{Fit, Fit-item, Fit-branches}
 use Rattle.meaning.proofs.EndLaws.{Ends, Stops, ends-one, ends-ran, went-on, stop-goes-on, arrives-on}
-use Rattle.meaning.proofs.PairLaws.{not-both, true-grows, executable-grows, Res-grows, Res-disjoint, ≼-trans, pair-of, true-test, sensing-pair, runs-pair, pair-after}
+use Rattle.meaning.proofs.PairLaws.{not-both, true-grows, executable-grows, Res-grows, Res-disjoint, ≼-trans, true-test, sensing-pair, runs-pair, pair-after}
 use Rattle.meaning.proofs.SensingLaws.{reading-is, reading-follows}
 use Rattle.meaning.proofs.StateLaws.{after-length}
 use Rattle.meaning.proofs.RefusalLaws.{exclusive-clash}

@@ -15,21 +15,27 @@ use Rattle.meaning.specs.Requests.{Request}
 use Rattle.meaning.specs.Reading.{Got, got, fault}
 use Rattle.meaning.specs.Refusals.{settled}
 use Rattle.meaning.specs.States.{State, first-state}
-use Rattle.meaning.specs.Walk.{End, fine, missed, stuck, Walked, walked}
+use Rattle.meaning.specs.Walk.{End, fine, missed, stuck, Walked, Verified, walked}
 use Rattle.meaning.specs.Judging.{ended, within, judge-settled, judge}
 use Rattle.meaning.specs.Worlds.{Carried-out}
 use Rattle.meaning.specs.Derivations.{check}
+use Rattle.meaning.specs.Answers.{refusals, answers}
 use Rattle.meaning.proofs.TestLaws.{by-test, clash}
 use Rattle.meaning.proofs.AnswerLaws
 use Rattle.meaning.proofs.DerivationSound
-use Rattle.meaning.proofs.AnswerLaws.{Numbered-in, refusals, answers, settled-numbered}
-use Rattle.meaning.proofs.Sound.{Verified}
+use Rattle.meaning.proofs.AnswerLaws.{Numbered-in, settled-numbered}
+use Rattle.meaning.proofs.Passed.{passed-exactly}
 use Rattle.meaning.proofs.WalkSound.{walk-sound}
 -- Demand 2, its first sentence (FORMAT 11.5): past the refusals and within the budget the answers are those of the 0-approximation, in the
 -- order of the paths.
 pub use Rattle.meaning.proofs.Exact.{spent-exactly, stuck-exactly, verified-exactly, missed-exactly, in-order}
+-- What answers 1 and 2 report (FORMAT 11.13 to 11.16).
+pub use Rattle.meaning.proofs.ReportLaws.{missed-in-an-end-state, missed-there, stopped-there}
 -- Demand 2, its second sentence (FORMAT 11.6, 17.39), and demand 1 of the derivation call and of the whether call (17.38).
-pub use Rattle.meaning.proofs.Accepted.{accepted-exactly, every-check-numbered}
+pub use Rattle.meaning.proofs.Accepted.{accepted-exactly}
+pub use Rattle.meaning.proofs.Passed.{every-check-numbered}
+-- Demand 1 of input, place and count (FORMAT 11.4): they are what the number says.
+pub use Rattle.meaning.proofs.PartLaws.{input-exactly, count-exactly, place-within, check-input-exactly, check-count-exactly, check-place-within}
 -- A world's move is single-valued (FORMAT 9.6).
 pub use Rattle.meaning.proofs.WalkSound.{move-is-single-valued}
 
@@ -63,7 +69,7 @@ pub verified-means : (lim : Limits) (request lent : List ℕ) (budget : ℕ) →
 unfolding judge pick
 verified-means lim request lent budget q =
     by-test (eqb (length lent) (lim .state))
-    (λ t. verified-settled lim lent budget (settled lim request) (settled-numbered refusals (λ n h. h) lim request) (rw (t, pick) at q))
+    (λ t. verified-settled lim lent budget (settled lim request) (settled-numbered lim request) (rw (t, pick) at q))
     (λ f. absurd (let nine : _≡_ {A = ℕ} 9 0 = rw (f, pick) at q in omega arith))
 
 -- Demand 3 (FORMAT 11.7 to 11.12): a verified plan is carried out in every world with the initial facts, at any budget.
@@ -79,7 +85,7 @@ sound lim request lent budget q =
 pub accepted-verified : (lim : Limits) → lim .fluents ≤ lim .state → (layout : Layout) (request derivation : List ℕ) → check lim layout request derivation .number ≡ Limits.verified
     → (r : Request) × (e : ℕ) × (settled lim request ≡ got r e) × Verified (walked r (first-state lim (r .table)))
 accepted-verified lim room layout request derivation q =
-    let a = accepted-exactly lim layout request derivation .0 q in
+    let a = passed-exactly lim layout request derivation .0 q in
     (a .asks, a .end, a .request-settled, DerivationSound.accepted-verified lim room layout request derivation a)
 
 -- Demand 3 for accepted derivations (FORMAT 11.7, 17.41).

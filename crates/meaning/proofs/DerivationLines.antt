@@ -11,16 +11,16 @@ use Rattle.meaning.specs.declared.Layout.the-variants.{Plain, Closing}
 use Rattle.meaning.specs.Tests.{pick, some-of}
 use Rattle.meaning.specs.Limits
 use Rattle.meaning.specs.Limits.{Limits}
-use Rattle.meaning.specs.Requests.{Table, Sequence, done, item, Item, act, branching, Branches, none, branch, Entry, Request, values}
+use Rattle.meaning.specs.Requests.{Table, Sequence, done, item, Item, act, branching, Branches, none, branch, Entry, Request, values, unplaced, unplaced-item, unplaced-branches}
 use Rattle.meaning.specs.Reading.{Got, got, fault, next, read-request}
 use Rattle.meaning.specs.Refusals.{Found, nowhere, at, overlap-in, refuse, settled}
 use Rattle.meaning.specs.States.{State, can-be-run, state-after, unknown-sensed}
 use Rattle.meaning.specs.Walk.{table-step}
 use Rattle.meaning.specs.Derivations.{Conclusion, knows, knows-whether, Line, Derivation, read-derivation, overlap-in-lines, same-plan, same-item, same-branches, says, acts, one-action, rule-2, reads, senses-first, rule-3, looks-for, one-look, rule-7, given-by, follows, check-lines, asks-for, goals-of, check-last, all-asked, names, check-entries, check-closing, check-end, check-derivation, answer, accepted-if, beyond, check-settled, check}
+use Rattle.meaning.specs.SameLines.{Same-tables, Same-for-derivations, Same-answer}
 use Rattle.meaning.proofs.TestLaws.{clash}
-use Rattle.meaning.proofs.WalkLaws.{unplaced, unplaced-item, unplaced-branches}
 use Rattle.meaning.proofs.RefusalLaws.{at≢nowhere, unplaced-found, unplaced-18}
-use Rattle.meaning.proofs.LineLaws.{Same-tables, Same-but-lines, sensing-same, senses-same, unknown-same, marks-same, tables-agree, contradiction-same, mixed-same}
+use Rattle.meaning.proofs.LineLaws.{sensing-same, senses-same, unknown-same, marks-same, tables-agree, contradiction-same, mixed-same}
 
 -- THE RULES. Tables that say the same give the same lines.
 module _ (lim : Limits) (t u : Table) (same : Same-tables t u) where
@@ -107,13 +107,6 @@ unfolding some-of values
 any-value [] = refl
 any-value (w ∷ ws) = rw (any-value ws)
 
--- What the two calls see alike in two requests: all but places, and the order and repetition of lines. A derivation is read by the counts of
--- fluents and actions, so these are the same too.
-pub record Same-for-derivations (r q : Request) : Type 0 where
-  pub fluents : r .table .fluents ≡ q .table .fluents
-  pub actions : r .table .actions ≡ q .table .actions
-  pub but-lines : Same-but-lines r q
-
 module _ (r q : Request) (same : Same-for-derivations r q) where
   plan-same : (c : Sequence ℕ) → same-plan c (r .plan) ≡ same-plan c (q .plan)
   plan-same c = same-unplaced c (r .plan) ∙ ap (same-plan c) (same .but-lines .plan) ∙ sym (same-unplaced c (q .plan))
@@ -177,13 +170,7 @@ module _ (r q : Request) (same : Same-for-derivations r q) where
       goes-on (fault n p) = refl
       goes-on (got x e) = rw (check-lines-same lim (r .table) (q .table) (same .but-lines .tables) layout (x .lines) 0 (x .lines), end-same layout x)
 
--- CHECKING. Two answers are the same, but for a place in the request.
-pub record Same-answer (a b : Answer) : Type 0 where
-  pub number : a .number ≡ b .number
-  pub input : a .input ≡ b .input
-  pub count : a .count ≡ b .count
-  pub place : (a .input ≡ Limits.the-request → ⊥) → a .place ≡ b .place
-
+-- CHECKING.
 module _ (lim : Limits) (layout : Layout) (d : List ℕ) where
   in-the-request : (n p q : ℕ) → Same-answer (answer n Limits.the-request p) (answer n Limits.the-request q)
   unfolding answer

@@ -4,7 +4,7 @@
 -- concluded, so they are 10, 12 and 11 too. Assumes nothing.
 use Prim.Native.Nat.{ℕ, zero, suc, _+_, _*_, _≤_, _<_}
 use native.Mathlib.Omega.{arith}
-use mathlib.Core.Path.{_≡_, refl, sym, _∙_, ap, ap₂, subst}
+use mathlib.Core.Path.{_≡_, refl, sym, _∙_, ap, subst}
 use mathlib.Core.Bool.{Bool, true, false, false≢true}
 use mathlib.Core.List.{List, [], _∷_, map}
 use mathlib.Core.Logic.{inl, inr, ⊎-elim}
@@ -14,42 +14,34 @@ use borrow.Author.Tests.{eqb-true, ltb-true}
 use native.Mathlib.Decide.{decLt}
 use Rattle.meaning.specs.declared.Layout.{Layout}
 use Rattle.meaning.specs.declared.Layout.the-variants.{Plain, Closing}
-use Rattle.meaning.specs.Tests.{both, either, each-of}
+use Rattle.meaning.specs.Tests.{both, either, each-of, Has}
 use Rattle.meaning.specs.Limits
 use Rattle.meaning.specs.Limits.{Limits}
 use Rattle.meaning.specs.Literals.{says-true, says-false, fluent-of, among}
 use Rattle.meaning.specs.Requests.{Effect, Knowledge, Table, Sequence, done, item, Item, act, branching, Branches, none, branch, Entry, Request, values}
-use Rattle.meaning.specs.Reading.{got, two-bytes-at, count-at, literals, list-at, repeated, plan-at}
 use Rattle.meaning.specs.Refusals.{nowhere, conditions-of, all-exclusive, overlap-in}
 use Rattle.meaning.specs.Lines.{sensing}
-use Rattle.meaning.specs.States.{State, known, state-of, first-state, can-be-run, state-after, unknown-sensed, Outcome, single, fork, readings}
-use Rattle.meaning.specs.Walk.{walked}
-use Rattle.meaning.specs.Approximation.{Pair, Disjoint, true-in, false-in, _≼_, executable, K, sensing-action, Res, Result, failed, state, Sensed, Φ, Union, None-true, Φ̂, Φ̂-item, Φ̂-case, Entails}
-use Rattle.meaning.specs.Derivations.{Conclusion, knows, knows-whether, Line, Derivation, concluded-at, line-at, closing-at, read-derivation, overlap-in-lines, same-list, same-plan, same-item, same-branches, join, included, known-from, literals-of, same-conclusion, says, states-of, of-one, of-two, rule-1, takes-branch, branches-first, rule-4, rule-5, part-of, rule-6, one-literal, settles, rule-8, each-reads, acts, one-action, rule-2, reads, senses-first, rule-3, looks-for, one-look, rule-7, given-by, for-lists, follows, cited-by, asks-for, goals-of, all-asked, names}
-use Rattle.meaning.proofs.PairLaws.{pair-of, true-in-true, true-in-false, false-in-true, pair-after, executable-grows, Res-grows, Res-disjoint, runs-pair, sensing-pair, senses-pair, ≼-trans}
-use Rattle.meaning.specs.Paths.{arrives, arrivals}
-use Rattle.meaning.proofs.EndLaws.{Ends, arrives-same, ends-one, ends-split}
-use Rattle.meaning.proofs.SensingLaws.{reading-follows}
-use Rattle.meaning.proofs.SettledLaws.{got-same, settled-is, or-else-nowhere, Fit, fit}
-use Rattle.meaning.proofs.Accepted.{All-follow, Last-asks, All-named, Answered, Accepted}
-use Rattle.meaning.proofs.RangeLaws.{after-got, not-refused, list-within, list-consistent, line-read, Ranged, read-ranged}
-use Rattle.meaning.proofs.Sound.{Verified}
-use Rattle.meaning.proofs.Exact.{Entailed, entailed-fine}
-use Rattle.meaning.proofs.PickLaws.{has-picked}
+use Rattle.meaning.specs.States.{State, known, state-of, first-state, can-be-run, state-after, unknown-sensed, readings}
+use Rattle.meaning.specs.Walk.{Verified, walked}
+use Rattle.meaning.specs.Approximation.{Pair, Disjoint, true-in, false-in, _≼_, executable, K, sensing-action, Res, Result, failed, state, Sensed, Φ, Union, None-true, Φ̂, Φ̂-item, Φ̂-case, Entails, Entailed}
+use Rattle.meaning.specs.Derivations.{Conclusion, knows, knows-whether, Line, Derivation, overlap-in-lines, same-plan, same-item, same-branches, join, included, literals-of, same-conclusion, says, states-of, of-one, of-two, rule-1, takes-branch, branches-first, rule-4, rule-5, part-of, rule-6, one-literal, settles, rule-8, each-reads, acts, one-action, rule-2, reads, senses-first, rule-3, looks-for, one-look, rule-7, given-by, for-lists, follows, cited-by, asks-for, goals-of, all-asked, names}
+use Rattle.meaning.specs.Reported.{pair-of}
+use Rattle.meaning.proofs.PairLaws.{true-in-true, true-in-false, false-in-true, pair-after, executable-grows, Res-grows, Res-disjoint, runs-pair, sensing-pair, senses-pair, ≼-trans}
+use Rattle.meaning.proofs.SensingLaws.{arrived, reading-follows}
+use Rattle.meaning.proofs.SettledLaws.{settled-is, or-else-nowhere, Fit, fit}
+use Rattle.meaning.proofs.Passed.{All-pass, Last-passes, Entries-pass, End-passes, Passed}
+use Rattle.meaning.proofs.RangeLaws.{Ranged, read-ranged}
+use Rattle.meaning.proofs.Exact.{entailed-fine}
+use Rattle.meaning.proofs.SetLaws.{same-list-is, known-from-known}
+use Rattle.meaning.proofs.RulesExact.{one-only, two-only}
+use Rattle.meaning.proofs.ReadLines.{lines-read}
 use Rattle.meaning.proofs.CoverLaws.{knows-true, others-false, none-chosen}
 use Rattle.meaning.proofs.ToldLaws.{state-length, Clear, state-known}
 use Rattle.meaning.proofs.LiteralLaws.{one-of-two}
-use Rattle.meaning.proofs.TestLaws.{clash, both-left, both-right, either-left, either-right, either-split, fails-true, pick-cases, Has, has-left, has-right, some-has, each-has, has-each, some-mono, has-map, map-has}
+use Rattle.meaning.proofs.TestLaws.{clash, both-left, both-right, either-left, either-right, either-split, fails-true, pick-cases, some-has, each-has, has-each, some-mono, has-map, map-has}
 
--- EQUALITY of lists and of conclusions, and of plans up to places, as the transition function sees it.
-pub same-list-is : (xs ys : List ℕ) → same-list xs ys ≡ true → xs ≡ ys
-unfolding same-list
-same-list-is [] [] e = refl
-same-list-is [] (y ∷ ys) e = absurd (false≢true e)
-same-list-is (x ∷ xs) [] e = absurd (false≢true e)
-same-list-is (x ∷ xs) (y ∷ ys) e = ap₂ {C = List ℕ} (λ z zs. z ∷ zs) (eqb-true x y (both-left _ _ e)) (same-list-is xs ys (both-right _ _ e))
-
-same-conclusion-is : (Y Z : Conclusion) → same-conclusion Y Z ≡ true → Y ≡ Z
+-- EQUALITY of conclusions, and of plans up to places, as the transition function sees it.
+pub same-conclusion-is : (Y Z : Conclusion) → same-conclusion Y Z ≡ true → Y ≡ Z
 unfolding same-conclusion
 same-conclusion-is (knows Y) (knows Z) e = ap knows (same-list-is Y Z e)
 same-conclusion-is (knows Y) (knows-whether g) e = absurd (false≢true e)
@@ -148,16 +140,6 @@ weaker t X Z c d Y W good more same less =
     }
 
 -- What a state knows, as a list, is known.
-known-from-known : (s : State) (f : ℕ) (ms : List ℕ) (l : ℕ) → Has (known-from s f ms) l → known s l ≡ true
-unfolding known-from
-known-from-known s f [] l h = absurd h
-known-from-known s f (m ∷ ms) l h =
-    has-picked (λ xs. Has xs l) (known s (says-true f)) _ _ h
-    (λ t k. ⊎-elim (λ q. rw q t) (known-from-known s (f + 1) ms l) k)
-    (λ _ k. has-picked (λ xs. Has xs l) (known s (says-false f)) _ _ k
-    (λ t j. ⊎-elim (λ q. rw q t) (known-from-known s (f + 1) ms l) j)
-    (λ _ j. known-from-known s (f + 1) ms l j))
-
 literals-known : (s : State) → each-of (known s) (literals-of s) ≡ true
 unfolding literals-of
 literals-known s = has-each _ _ (known-from-known s 0 s)
@@ -298,27 +280,7 @@ module _ (t : Table) where
           in-branch (inl w) = inl (⊎-elim (at σ d h .2 failed) (λ v. absurd (at σ d h .3 (v .0))) (w .0), w .1)
           in-branch (inr w) = inr (w .0, ⊎-elim (at σ d h .2 (state (w .0))) (λ v. absurd (at σ d h .3 (v .0))) (w .1), w .2)
 
-module _ {A : Type 0} where
-  of-one-is : (test : A → Bool) (xs : List A) → of-one test xs ≡ true → (x : A) × Has xs x × (test x ≡ true)
-  unfolding of-one
-  of-one-is test [] e = absurd (false≢true e)
-  of-one-is test (x ∷ []) e = (x, inl refl, e)
-  of-one-is test (x ∷ (y ∷ ys)) e = absurd (false≢true e)
-
-  of-two-is : (test : A → A → Bool) (xs : List A) → of-two test xs ≡ true → (x y : A) × Has xs x × Has xs y × (test x y ≡ true)
-  unfolding of-two
-  of-two-is test [] e = absurd (false≢true e)
-  of-two-is test (x ∷ []) e = absurd (false≢true e)
-  of-two-is test (x ∷ (y ∷ [])) e = (x, y, inl refl, inr (inl refl), e)
-  of-two-is test (x ∷ (y ∷ (z ∷ zs))) e = absurd (false≢true e)
-
 -- THE RULES over the table, whose lines are within the states.
--- The states that paths arrive in are those of the outcome.
-arrived : (o : Outcome State) (u : State) → Ends (arrivals o) (arrives u) → Has (states-of o) u
-unfolding arrivals states-of
-arrived (single s) u h = inl (arrives-same (ends-one h))
-arrived (fork o p) u h = ⊎-elim (λ k. has-left (states-of o) (states-of (p tt)) u (arrived o u k)) (λ k. has-right (states-of o) (states-of (p tt)) u (arrived (p tt) u k)) (ends-split (arrivals o) (arrivals (p tt)) (arrives u) h)
-
 -- Each reading has its line.
 reading-cited : (rest : Sequence ℕ) (Y : Conclusion) (ss : List State) (ls : List Line) → each-reads rest Y ss ls ≡ true → (u : State) → Has ss u → (l : Line) × Has ls l × (says l (literals-of u) rest Y ≡ true)
 unfolding each-reads
@@ -434,10 +396,13 @@ module _ (lim : Limits) (t : Table) (effects-within : (e : Effect) → Has (t .e
     branches-hold l k h (item (branching p bs) rest) fit e = rule-4-holds t (l .X) p bs rest (l .Y) k h e (fit .0 .0)
 
     one-cited : (test : Line → Bool) → of-one test cited ≡ true → (l : Line) × Good t l × (test l ≡ true)
-    one-cited test e = let w = of-one-is test cited e in (w .0, good (w .0) (w .1), w .2)
+    one-cited test e = let w = one-only test cited e in (w .0, good (w .0) (subst (λ (xs : List Line). Has xs (w .0)) (sym (w .1)) (inl refl)), w .2)
 
     two-cited : (test : Line → Line → Bool) → of-two test cited ≡ true → (l k : Line) × Good t l × Good t k × (test l k ≡ true)
-    two-cited test e = let w = of-two-is test cited e in (w .0, w .1, good (w .0) (w .2), good (w .1) (w .3), w .4)
+    two-cited test e =
+        let w = two-only test cited e in
+        let has : (x : Line) → Has (w .0 ∷ w .1 ∷ []) x → Has cited x = λ x. subst (λ (xs : List Line). Has xs x) (sym (w .2)) in
+        (w .0, w .1, good (w .0) (has (w .0) (inl refl)), good (w .1) (has (w .1) (inr (inl refl))), w .3)
 
     -- Whatever rule is taken.
     given-holds : (rule : ℕ) (l : Line) → Clear lim (l .X) → Fit (l .c) → given-by lim t rule cited l ≡ true → Good t l
@@ -465,7 +430,7 @@ module _ (lim : Limits) (t : Table) (effects-within : (e : Effect) → Has (t .e
 
   lines-hold : (layout : Layout) (lines : List Line) (i : ℕ) (ls : List Line) → ((k : ℕ) → k < length ls → (d : Line) → getD lines (i + k) d ≡ getD ls k d)
       → ((k : ℕ) → k < i → (d : Line) → Good t (getD lines k d))
-      → All-follow lim layout t lines i ls → ((l : Line) → Has ls l → Clear lim (l .X)) → ((l : Line) → Has ls l → Fit (l .c))
+      → All-pass lim layout t lines i ls → ((l : Line) → Has ls l → Clear lim (l .X)) → ((l : Line) → Has ls l → Fit (l .c))
       → (l : Line) → Has ls l → Good t l
   lines-hold layout lines i [] at earlier all clear fits l h = absurd h
   lines-hold layout lines i (x ∷ xs) at earlier all clear fits l h =
@@ -479,23 +444,7 @@ module _ (lim : Limits) (t : Table) (effects-within : (e : Effect) → Has (t .e
       before : (k : ℕ) → k < i + 1 → (d : Line) → Good t (getD lines k d)
       before k lt d = elim (decLt k i) [ yes less ↦ earlier k less d | no not-less ↦ subst (Good t) (sym (ap (λ (j : ℕ). getD lines j d) (omega arith) ∙ at 0 (omega arith) d)) here ]
 
--- WHAT WAS READ. The X of each line is clear, and its plan's conditions are exclusive.
-lines-clear : (lim : Limits) (n m : ℕ) → n ≤ lim .state → (s : List ℕ) (layout : Layout) (d : Derivation) (e : ℕ) → read-derivation lim n m s layout ≡ got d e
-    → (l : Line) → Has (d .lines) l → Clear lim (l .X)
-unfolding read-derivation line-at
-lines-clear lim n m room s layout d e q l h =
-    after-got (two-bytes-at s 0) _ (not-refused _ _ _ _ q .1) λ c p _ q₁.
-    after-got (repeated (line-at lim n m s layout) c p) _ (not-refused _ _ _ _ q₁ .1) λ ls p₁ read q₂.
-    after-got (closing-at s layout p₁) _ q₂ λ _ _ _ q₃.
-    let w = line-read (line-at lim n m s layout) c p ls p₁ read l (subst (λ (x : Derivation). Has (x .lines) l) (sym (got-same (not-refused _ _ _ _ q₃ .1))) h) in
-    after-got (list-at literals n (lim .listed) s (w .0)) _ (w .2) λ X i x q₄.
-    after-got (plan-at lim n m s i) _ q₄ λ _ j _ q₅.
-    after-got (concluded-at lim n s layout j) _ q₅ λ _ k _ q₆.
-    after-got (count-at 0 (lim .citations) s k) _ q₆ λ v g _ q₇.
-    after-got (repeated (two-bytes-at s) v g) _ q₇ λ _ _ _ same.
-    subst (λ (z : Line). Clear lim (z .X)) (got-same same)
-    (record { within = λ y m. omega (arith, list-within n (lim .listed) s (w .0) X i x y m); consistent = list-consistent n (lim .listed) s (w .0) X i x })
-
+-- WHAT WAS READ. The plan's conditions of each line are exclusive.
 lines-fit : (lines : List Line) → overlap-in-lines lines ≡ nowhere → (l : Line) → Has lines l → Fit (l .c)
 unfolding overlap-in-lines
 lines-fit [] e l h = absurd h
@@ -505,7 +454,7 @@ lines-fit (x ∷ xs) e l h = let w = or-else-nowhere (overlap-in (x .c)) _ e in 
 abbrev Asks : Request → List Line → Conclusion → Type 0
 Asks r lines Y = (l : Line) × Has lines l × (asks-for r Y l ≡ true)
 
-last-asks : (r : Request) (lines : List Line) → Last-asks r lines → Asks r lines (goals-of r)
+last-asks : (r : Request) (lines : List Line) → Last-passes r lines → Asks r lines (goals-of r)
 last-asks r [] h = absurd h
 last-asks r (l ∷ []) h = (l, inl refl, h)
 last-asks r (l ∷ (k ∷ ls)) h = let w = last-asks r (k ∷ ls) h in (w .0, inr (w .1), w .2)
@@ -516,12 +465,12 @@ named-asks r [] k Y e = absurd (false≢true e)
 named-asks r (l ∷ ls) zero Y e = (l, inl refl, e)
 named-asks r (l ∷ ls) (suc k) Y e = let w = named-asks r ls k Y e in (w .0, inr (w .1), w .2)
 
-all-named-ask : (r : Request) (lines : List Line) (Ys : List Conclusion) (ks : List ℕ) → All-named r lines Ys ks → (Y : Conclusion) → Has Ys Y → Asks r lines Y
+all-named-ask : (r : Request) (lines : List Line) (Ys : List Conclusion) (ks : List ℕ) → Entries-pass r lines Ys ks → (Y : Conclusion) → Has Ys Y → Asks r lines Y
 all-named-ask r lines [] ks all Y h = absurd h
 all-named-ask r lines (Z ∷ Zs) [] all Y h = absurd all
 all-named-ask r lines (Z ∷ Zs) (k ∷ ks) all Y h = ⊎-elim (λ q. rw q (named-asks r lines k Z (all .0))) (all-named-ask r lines Zs ks (all .1) Y) h
 
-answered-asks : (layout : Layout) (r : Request) (d : Derivation) → Answered layout r d → (Y : Conclusion) → Has (all-asked r) Y → Asks r (d .lines) Y
+answered-asks : (layout : Layout) (r : Request) (d : Derivation) → End-passes layout r d → (Y : Conclusion) → Has (all-asked r) Y → Asks r (d .lines) Y
 unfolding all-asked
 answered-asks Plain r d a Y h =
     ⊎-elim (λ q. rw q (last-asks r (d .lines) (a .1)))
@@ -529,7 +478,7 @@ answered-asks Plain r d a Y h =
 answered-asks Closing r d a Y h = all-named-ask r (d .lines) (all-asked r) (d .closing) a Y h
 
 -- THEOREMS 3.1 and 3.3. What an accepted derivation asks is entailed, and the walk verifies it without a budget.
-module _ (lim : Limits) (room : lim .fluents ≤ lim .state) (layout : Layout) (request derivation : List ℕ) (a : Accepted lim layout request derivation) where
+module _ (lim : Limits) (room : lim .fluents ≤ lim .state) (layout : Layout) (request derivation : List ℕ) (a : Passed lim layout request derivation) where
   ranged : Ranged lim (a .asks .table)
   ranged = read-ranged lim request (a .asks) (a .end) (settled-is lim request (a .asks) (a .end) (a .request-settled) .reads)
 
@@ -540,7 +489,7 @@ module _ (lim : Limits) (room : lim .fluents ≤ lim .state) (layout : Layout) (
       said (a .asks .table) (asking .0) _ _ _ (asking .2)
       (lines-hold lim (a .asks .table) (λ e h. omega (arith, ranged .effects e h, ranged .fluents)) (λ k h. omega (arith, ranged .knowledge k h, ranged .fluents))
       layout (a .reads .lines) 0 (a .reads .lines) (λ k lt d. ap (λ (j : ℕ). getD (a .reads .lines) j d) (omega arith)) (λ k lt d. absurd (omega arith)) (a .all-follow)
-      (lines-clear lim _ _ (omega (arith, ranged .fluents)) derivation layout (a .reads) (a .derivation-end) (a .derivation-read)) (lines-fit (a .reads .lines) (a .no-overlap))
+      (λ l h. lines-read lim _ _ (omega (arith, ranged .fluents)) derivation layout (a .reads) (a .derivation-end) (a .derivation-read) l h .proper .X-clear) (lines-fit (a .reads .lines) (a .no-overlap))
       (asking .0) (asking .1))
 
   entails : (Y : Conclusion) → Has (all-asked (a .asks)) Y → Entails (a .asks .table) (a .asks .plan) (holds-in Y)

@@ -1,18 +1,56 @@
--- Where the paths of a list end, and what the end of the walk along them says of it: the walk is stuck where a path stops, it misses where
--- none stops and one misses, and else it is fine. By induction on the list. Assumes nothing.
+-- Where the paths of a list end, and what the end of the walk along them says of it: the walk is stuck at the first path that stops, it
+-- misses at the first that misses where none stops, and else it is fine. By induction on the list. Assumes nothing.
 use Prim.Native.Nat.{ℕ}
 use mathlib.Core.Path.{_≡_, refl, sym, _∙_, ap, subst}
-use mathlib.Core.List.{List, [], _∷_, _++_}
+use mathlib.Core.List.{List, [], _∷_, _++_, append-assoc}
 use mathlib.Core.Logic.{_⊎_, inl, inr, ⊎-elim, _↔_}
 use mathlib.Core.Bool.{Bool, true}
-use Rattle.meaning.specs.Tests.{each-of}
+use Rattle.meaning.specs.Tests.{each-of, Has}
 use Rattle.meaning.specs.Requests.{Entry, values}
 use Rattle.meaning.specs.Refusals.{Found, nowhere, at}
 use Rattle.meaning.specs.Walk.{End, fine, missed, stuck, first-missed}
 use Rattle.meaning.specs.Paths.{Ending, arrives, stops, Path, first-ran, goes-on, go-on, stop-of, first-stop, miss-of, first-miss, stop-or-miss, walked-along}
-use Rattle.meaning.proofs.TestLaws.{both-left, both-right, both-true, pick-true, pick-cases}
+use Rattle.meaning.specs.Reported.{First}
+use Rattle.meaning.proofs.TestLaws.{both-left, both-right, both-true, pick-true, pick-cases, has-right}
 use Rattle.meaning.proofs.RefusalLaws.{at≢nowhere}
 use Rattle.meaning.proofs.PathLaws.{by-found, misses-not, misses-here}
+
+-- THE FIRST OF A LIST.
+module _ {A : Type 0} {Otherwise So : A → Type 0} where
+  pub first-here : {x : A} {xs : List A} → So x → First Otherwise So (x ∷ xs)
+  first-here {x} {xs} is = record { before = []; here = x; after = xs; split = refl; otherwise = λ y h. absurd h; so = is }
+
+  pub first-later : {x : A} {xs : List A} → Otherwise x → First Otherwise So xs → First Otherwise So (x ∷ xs)
+  first-later {x} {xs} other f = record {
+    before = x ∷ f .before;
+    here = f .here;
+    after = f .after;
+    split = ap (λ (ys : List A). x ∷ ys) (f .split);
+    otherwise = λ y h. ⊎-elim (λ q. subst Otherwise (sym q) other) (f .otherwise y) h;
+    so = f .so;
+  }
+
+  -- It is one of the list.
+  pub first-has : {xs : List A} (f : First Otherwise So xs) → Has xs (f .here)
+  first-has f = subst (λ (ys : List A). Has ys (f .here)) (sym (f .split)) (has-right (f .before) (f .here ∷ f .after) (f .here) (inl refl))
+
+  pub first-left : {xs : List A} (ys : List A) → First Otherwise So xs → First Otherwise So (xs ++ ys)
+  first-left ys f = record {
+    before = f .before;
+    here = f .here;
+    after = f .after ++ ys;
+    split = ap (λ (zs : List A). zs ++ ys) (f .split) ∙ append-assoc (f .before) (f .here ∷ f .after) ys;
+    otherwise = f .otherwise;
+    so = f .so;
+  }
+
+  pub first-right : (xs : List A) {ys : List A} → ((x : A) → Has xs x → Otherwise x) → First Otherwise So ys → First Otherwise So (xs ++ ys)
+  first-right [] others f = f
+  first-right (x ∷ xs) others f = first-later (others x (inl refl)) (first-right xs (λ y h. others y (inr h)) f)
+
+module _ {A : Type 0} {O Q P R : A → Type 0} (other : (x : A) → O x → Q x) (is : (x : A) → P x → R x) where
+  pub first-map : {xs : List A} → First O P xs → First Q R xs
+  first-map f = record { before = f .before; here = f .here; after = f .after; split = f .split; otherwise = λ x h. other x (f .otherwise x h); so = is (f .here) (f .so) }
 
 module _ {S : Type 0} where
   -- Some path of the list ends so.
@@ -23,12 +61,26 @@ module _ {S : Type 0} where
   abbrev pub Stops : List (Path S) → Type 0
   Stops xs = (p : ℕ) × (s : S) × Ends xs (stops p s)
 
-  arrives≢stops : {u s : S} {p : ℕ} → arrives u ≡ stops p s → ⊥
+  pub arrives≢stops : {u s : S} {p : ℕ} → arrives u ≡ stops p s → ⊥
   arrives≢stops q = subst arrived q tt
     where
       arrived : Ending S → Type 0
       arrived (arrives u) = Unit {0}
       arrived (stops p s) = ⊥
+
+  -- A path of the list ends so.
+  has-ends : (xs : List (Path S)) (x : Path S) (e : Ending S) → Has xs x → x .ending ≡ e → Ends xs e
+  has-ends [] x e h q = absurd h
+  has-ends (y ∷ ys) x e (inl r) q = inl (sym q ∙ ap (λ (z : Path S). z .ending) r)
+  has-ends (y ∷ ys) x e (inr h) q = inr (has-ends ys x e h q)
+
+  -- Where none stops, each arrives.
+  pub all-arrive : (xs : List (Path S)) → (Stops xs → ⊥) → (x : Path S) → Has xs x → (u : S) × (x .ending ≡ arrives u)
+  all-arrive xs none x h = by-ending (x .ending) refl
+    where
+      by-ending : (g : Ending S) → x .ending ≡ g → (u : S) × (g ≡ arrives u)
+      by-ending (arrives u) q = (u, refl)
+      by-ending (stops p s) q = absurd (none (p, s, has-ends xs x (stops p s) h q))
 
   pub arrives-same : {u v : S} → arrives u ≡ arrives v → u ≡ v
   arrives-same {u} q = ap state q
@@ -36,6 +88,17 @@ module _ {S : Type 0} where
       state : Ending S → S
       state (arrives v) = v
       state (stops p s) = u
+
+  pub stops-same : {p q : ℕ} {u v : S} → stops p u ≡ stops q v → (p ≡ q) × (u ≡ v)
+  stops-same {p} {u = u} e = (ap place e, ap state e)
+    where
+      place : Ending S → ℕ
+      place (arrives v) = p
+      place (stops q v) = q
+
+      state : Ending S → S
+      state (arrives v) = v
+      state (stops q v) = v
 
   -- A list of one path ends as that does.
   pub ends-one : {e g : Ending S} → (e ≡ g) ⊎ ⊥ → e ≡ g
@@ -96,11 +159,17 @@ module _ {S : Type 0} where
 
 -- THE END OF THE WALK.
 module _ {S : Type 0} where
-  -- What the first stop says.
+  -- The first path that stops.
+  abbrev pub Stops-first : List (Path S) → ℕ → S → Type 0
+  Stops-first xs p s = First (λ x. (u : S) × (x .ending ≡ arrives u)) (λ x. x .ending ≡ stops p s) xs
+
+  pub stop-ends : (xs : List (Path S)) (p : ℕ) (s : S) → Stops-first xs p s → Ends xs (stops p s)
+  stop-ends xs p s f = has-ends xs (f .here) (stops p s) (first-has f) (f .so)
+
   abbrev Stop-says : List (Path S) → End S → Type 0
   Stop-says xs fine = Stops xs → ⊥
   Stop-says xs (missed p s) = ⊥
-  Stop-says xs (stuck p s) = Ends xs (stops p s)
+  Stop-says xs (stuck p s) = Stops-first xs p s
 
   stop-says : (xs : List (Path S)) → Stop-says xs (first-stop xs)
   unfolding first-stop stop-of
@@ -109,14 +178,21 @@ module _ {S : Type 0} where
     where
       by-ending : (g : Ending S) → g ≡ x .ending → (w : End S) → Stop-says xs w → Stop-says (x ∷ xs) (stop-of g w)
       by-ending (arrives u) q fine no-stop = λ h. ⊎-elim (λ r. arrives≢stops (q ∙ sym r)) (λ k. no-stop (h .0, h .1, k)) (h .2)
-      by-ending (arrives u) q (stuck p s) stop = inr stop
+      by-ending (arrives u) q (stuck p s) stop = first-later (u, sym q) stop
       by-ending (arrives u) q (missed p s) none = none
-      by-ending (stops p s) q w stop = inl q
+      by-ending (stops p s) q w stop = first-here (sym q)
 
 module _ {S : Type 0} (miss : S → Found) where
+  -- The first path that misses.
+  abbrev pub Misses-first : List (Path S) → ℕ → S → Type 0
+  Misses-first xs p s = First (λ x. (u : S) → x .ending ≡ arrives u → miss u ≡ nowhere) (λ x. (x .ending ≡ arrives s) × (miss s ≡ at p)) xs
+
+  pub miss-ends : (xs : List (Path S)) (p : ℕ) (s : S) → Misses-first xs p s → Ends xs (arrives s)
+  miss-ends xs p s f = has-ends xs (f .here) (arrives s) (first-has f) (f .so .0)
+
   abbrev Miss-says : List (Path S) → End S → Type 0
   Miss-says xs fine = (u : S) → Ends xs (arrives u) → miss u ≡ nowhere
-  Miss-says xs (missed p s) = Ends xs (arrives s) × (miss s ≡ at p)
+  Miss-says xs (missed p s) = Misses-first xs p s
   Miss-says xs (stuck p s) = ⊥
 
   miss-says : (xs : List (Path S)) → Miss-says xs (first-miss miss xs)
@@ -126,21 +202,21 @@ module _ {S : Type 0} (miss : S → Found) where
     where
       later : (w : End S) → Miss-says xs w → ((u : S) → arrives u ≡ x .ending → miss u ≡ nowhere) → Miss-says (x ∷ xs) w
       later fine none here = λ u. ⊎-elim (here u) (none u)
-      later (missed p s) w here = (inr (w .0), w .1)
+      later (missed p s) w here = first-later (λ u q. here u (sym q)) w
       later (stuck p s) w here = w
 
       by-ending : (g : Ending S) → g ≡ x .ending → (w : End S) → Miss-says xs w → Miss-says (x ∷ xs) (miss-of miss g w)
       by-ending (arrives u) q w says =
           by-found (miss u)
           (λ r. rw (misses-not miss u w r) (later w says (λ v k. ap miss (arrives-same (k ∙ sym q)) ∙ r)))
-          (λ p r. rw (misses-here miss u w p r) (inl q, r))
+          (λ p r. rw (misses-here miss u w p r) (first-here (sym q, r)))
       by-ending (stops p s) q w says = unfold miss-of in later w says (λ v k. absurd (arrives≢stops (k ∙ sym q)))
 
   -- What the end of the walk along a list says of it.
   abbrev pub Says : List (Path S) → End S → Type 0
   Says xs fine = (Stops xs → ⊥) × ((u : S) → Ends xs (arrives u) → miss u ≡ nowhere)
-  Says xs (missed p s) = (Stops xs → ⊥) × Ends xs (arrives s) × (miss s ≡ at p)
-  Says xs (stuck p s) = Ends xs (stops p s)
+  Says xs (missed p s) = (Stops xs → ⊥) × Misses-first xs p s
+  Says xs (stuck p s) = Stops-first xs p s
 
   pub end-says : (xs : List (Path S)) → Says xs (walked-along miss xs .end)
   unfolding walked-along stop-or-miss
@@ -148,7 +224,7 @@ module _ {S : Type 0} (miss : S → Found) where
     where
       by-both : (v w : End S) → Stop-says xs v → Miss-says xs w → Says xs (stop-or-miss v w)
       by-both fine fine no-stop says = (no-stop, says)
-      by-both fine (missed p s) no-stop says = (no-stop, says .0, says .1)
+      by-both fine (missed p s) no-stop says = (no-stop, says)
       by-both fine (stuck p s) no-stop says = absurd says
       by-both (missed p s) w stop says = absurd stop
       by-both (stuck p s) w stop says = stop

@@ -9,7 +9,7 @@ use mathlib.Core.Logic.{⊎-elim, _↔_}
 use lib.ListN.{length}
 use lib.Dec.{ltb, eqb}
 use borrow.Author.Tests.{eqb-true, eq-eqb, ltb-true, lt-ltb, le-ltb}
-use Rattle.meaning.specs.Tests.{either, pick, some-of, each-of}
+use Rattle.meaning.specs.Tests.{either, pick, some-of, each-of, Has}
 use Rattle.meaning.specs.Limits
 use Rattle.meaning.specs.Limits.{Limits, format}
 use Rattle.meaning.specs.Literals.{says-true, among}
@@ -18,41 +18,26 @@ use Rattle.meaning.specs.Reading.{got}
 use Rattle.meaning.specs.Refusals.{nowhere, or-else, settled}
 use Rattle.meaning.specs.States.{State, known, known-whether, first-state}
 use Rattle.meaning.specs.Walk.{End, fine, missed, stuck, Walked, table-step, first-missed, missed-in, walked}
-use Rattle.meaning.specs.Judging.{Judgement, ended, within, judge-settled, judge}
-use Rattle.meaning.specs.Approximation.{Pair, Disjoint, true-in, false-in, _≼_, Result, failed, state, Φ̂, least, Initial, Entails, Knows-after, Kwhether-after}
-use Rattle.meaning.specs.Paths.{Ending, arrives, stops, Path, paths, walked-along}
-use Rattle.meaning.proofs.TestLaws.{either-left, either-right, either-split, pick-true, pick-false, pick-cases, pick-map, Has, some-has, has-some, each-has, has-each}
+use Rattle.meaning.specs.Judging.{Judgement, ended, within, judge-settled, judge, number, count}
+use Rattle.meaning.specs.Approximation.{Pair, Disjoint, true-in, false-in, _≼_, Result, failed, state, Φ̂, least, Initial, Entails, Entailed}
+use Rattle.meaning.specs.Paths.{Ending, arrives, stops, paths, walked-along}
+use Rattle.meaning.specs.Reported.{pair-of, all-paths}
+use Rattle.meaning.proofs.TestLaws.{either-left, either-right, either-split, pick-true, pick-false, pick-cases, pick-map, some-has, has-some, each-has, has-each}
 use Rattle.meaning.proofs.RefusalLaws.{at≢nowhere}
 use Rattle.meaning.proofs.SettledLaws.{or-else-nowhere, Settled, settled-is, Fit, fit}
 use Rattle.meaning.proofs.PathLaws.{walked-in-order}
 use Rattle.meaning.proofs.RangeLaws.{Ranged, read-ranged}
-use Rattle.meaning.proofs.EndLaws.{Ends, Stops, Says, end-says, none-missed}
-use Rattle.meaning.proofs.PairLaws.{true-in-true, true-in-false, false-in-true, pair-of, true-in-pair, pair-disjoint}
+use Rattle.meaning.proofs.EndLaws.{Ends, Stops, stop-ends, miss-ends, Says, end-says, none-missed}
+use Rattle.meaning.proofs.PairLaws.{true-in-true, true-in-false, false-in-true, true-in-pair, pair-disjoint}
 use Rattle.meaning.proofs.ToldLaws.{first-length, first-known, first-least}
 use Rattle.meaning.proofs.CoverLaws.{result-of, knows-pair, knows-true, reaches, Covered, covers}
 
--- WHAT IS SAID OF A JUDGEMENT. The answer's number.
-abbrev pub number : Limits → (request lent : List ℕ) → (budget : ℕ) → ℕ
-number lim b lent budget = judge lim b lent budget .answer .number
-
--- The count of the whole walk.
-abbrev pub count : Limits → Request → ℕ
-count lim r = walked r (first-state lim (r .table)) .count
-
--- Its end.
-abbrev walk-end : Limits → Request → End State
+-- The end of the whole walk.
+abbrev pub walk-end : Limits → Request → End State
 walk-end lim r = walked r (first-state lim (r .table)) .end
 
--- The paths of the plan, from the first state.
-abbrev all-paths : Limits → Request → List (Path State)
-all-paths lim r = paths (table-step (r .table)) (r .plan) (first-state lim (r .table))
-
--- The goals are known after the plan and each whether fluent is known whether, in the 0-approximation.
-abbrev pub Entailed : Request → Type 0
-Entailed r = Knows-after (r .table) (values (r .goals)) (r .plan) × ((f : ℕ) → Has (values (r .whether)) f → Kwhether-after (r .table) f (r .plan))
-
 -- NUMBERS. The number of an end.
-abbrev answered : End State → ℕ
+abbrev pub answered : End State → ℕ
 answered fine = Limits.verified
 answered (missed p s) = Limits.goal-missed
 answered (stuck p s) = Limits.not-executable
@@ -79,7 +64,7 @@ the-third (missed p u) s v = refl
 the-third (stuck p u) s v = absurd (s refl)
 
 -- MISSES. An end state misses nothing exactly where every goal is known and every whether fluent is known whether.
-met : (r : Request) (u : State) → (missed-in r u ≡ nowhere) ↔ ((each-of (known u) (values (r .goals)) ≡ true) × (each-of (known-whether u) (values (r .whether)) ≡ true))
+pub met : (r : Request) (u : State) → (missed-in r u ≡ nowhere) ↔ ((each-of (known u) (values (r .goals)) ≡ true) × (each-of (known-whether u) (values (r .whether)) ≡ true))
 unfolding missed-in or-else
 met r u = (
   λ q. let w = or-else-nowhere (first-missed (known u) (r .goals)) _ q in (none-missed _ (r .goals) .0 (w .0), none-missed _ (r .whether) .0 (w .1)),
@@ -87,10 +72,10 @@ met r u = (
 )
 
 -- What is asked of a whether fluent.
-abbrev whether-in : ℕ → Pair → Bool
+abbrev pub whether-in : ℕ → Pair → Bool
 whether-in f σ = either (true-in σ (says-true f)) (false-in σ (says-true f))
 
-whether-pair : (u : State) (f : ℕ) → whether-in f (pair-of u) ≡ known-whether u f
+pub whether-pair : (u : State) (f : ℕ) → whether-in f (pair-of u) ≡ known-whether u f
 unfolding known-whether pair-of
 whether-pair u f = rw (true-in-true (pair-of u) f, false-in-true (pair-of u) f)
 
@@ -109,7 +94,7 @@ least-below t σ initial = record { T = λ f e. sym (true-in-true σ f) ∙ fact
 
 -- THE WALK'S END AND THE 0-APPROXIMATION.
 module _ (lim : Limits) (room : lim .fluents ≤ lim .state) (r : Request) (ranged : Ranged lim (r .table)) (fits : Fit (r .plan)) where
-  least-initial : Initial (r .table) (least (r .table))
+  pub least-initial : Initial (r .table) (least (r .table))
   unfolding among
   least-initial = record {
     disjoint = subst Disjoint (first-least lim room (r .table) ranged) (pair-disjoint (first-state lim (r .table)));
@@ -124,7 +109,7 @@ module _ (lim : Limits) (room : lim .fluents ≤ lim .state) (r : Request) (rang
   knowledge-within k h = omega (arith, ranged .knowledge k h, ranged .fluents)
 
   -- Where a path ends, the function leads from the least initial a-state.
-  leads : (g : Ending State) → Ends (all-paths lim r) g → Φ̂ (r .table) (r .plan) (least (r .table)) (result-of g)
+  pub leads : (g : Ending State) → Ends (all-paths lim r) g → Φ̂ (r .table) (r .plan) (least (r .table)) (result-of g)
   leads g h =
       subst (λ (σ : Pair). Φ̂ (r .table) (r .plan) σ (result-of g)) (first-least lim room (r .table) ranged)
       (reaches (r .table) (lim .state) effects-within knowledge-within (r .plan) (first-state lim (r .table)) (first-length lim (r .table)) g h .0)
@@ -146,7 +131,7 @@ module _ (lim : Limits) (room : lim .fluents ≤ lim .state) (r : Request) (rang
   end-failed : (n : End State) → Says (missed-in r) (all-paths lim r) n → (answered n ≡ Limits.not-executable) ↔ Φ̂ (r .table) (r .plan) (least (r .table)) failed
   end-failed fine says = (λ q. absurd (omega arith), λ h. absurd (not-failed (says .0) h))
   end-failed (missed p u) says = (λ q. absurd (omega arith), λ h. absurd (not-failed (says .0) h))
-  end-failed (stuck p u) says = (λ _. leads (stops p u) says, λ _. refl)
+  end-failed (stuck p u) says = (λ _. leads (stops p u) (stop-ends (all-paths lim r) p u says), λ _. refl)
 
   -- The walk is fine exactly where what is asked is entailed.
   end-entailed : (n : End State) → Says (missed-in r) (all-paths lim r) n → (answered n ≡ Limits.verified) ↔ Entailed r
@@ -163,30 +148,30 @@ module _ (lim : Limits) (room : lim .fluents ≤ lim .state) (r : Request) (rang
         executable = λ σ i h. says .0 (covered σ i failed h);
         true-after = λ σ i δ h. ⊎-elim (λ stop. absurd (says .0 stop)) (λ w. after (w .0) δ (w .2 .extends) (says .1 (w .0) (w .1))) (covered σ i (state δ) h);
       }
-  end-entailed (missed p u) says = (λ q. absurd (omega arith), λ k. absurd (at≢nowhere (sym (says .2) ∙ met r u .1 (goals k, whether k))))
+  end-entailed (missed p u) says = (λ q. absurd (omega arith), λ k. absurd (at≢nowhere (sym (says .1 .so .1) ∙ met r u .1 (goals k, whether k))))
     where
       led : Φ̂ (r .table) (r .plan) (least (r .table)) (state (pair-of u))
-      led = leads (arrives u) (says .1)
+      led = leads (arrives u) (miss-ends (missed-in r) (all-paths lim r) p u (says .1))
 
       goals : Entailed r → each-of (known u) (values (r .goals)) ≡ true
       goals k = sym (knows-pair u _) ∙ k .0 .true-after (least (r .table)) least-initial (pair-of u) led
 
       whether : Entailed r → each-of (known-whether u) (values (r .whether)) ≡ true
       whether k = has-each _ _ (λ f h. sym (whether-pair u f) ∙ k .1 f h .true-after (least (r .table)) least-initial (pair-of u) led)
-  end-entailed (stuck p u) says = (λ q. absurd (omega arith), λ k. absurd (k .0 .executable (least (r .table)) least-initial (leads (stops p u) says)))
+  end-entailed (stuck p u) says = (λ q. absurd (omega arith), λ k. absurd (k .0 .executable (least (r .table)) least-initial (leads (stops p u) (stop-ends (all-paths lim r) p u says))))
 
 -- A SETTLED REQUEST, whatever the budget.
 module _ (lim : Limits) (room : lim .fluents ≤ lim .state) (b : List ℕ) (r : Request) (e : ℕ) (past : settled lim b ≡ got r e) where
   is-settled : Settled lim b r e
   is-settled = settled-is lim b r e past
 
-  ranged : Ranged lim (r .table)
+  pub ranged : Ranged lim (r .table)
   ranged = read-ranged lim b r e (is-settled .reads)
 
-  fits : Fit (r .plan)
+  pub fits : Fit (r .plan)
   fits = fit (r .plan) (is-settled .no-overlap)
 
-  says : Says (missed-in r) (all-paths lim r) (walk-end lim r)
+  pub says : Says (missed-in r) (all-paths lim r) (walk-end lim r)
   says = subst (λ (w : Walked State). Says (missed-in r) (all-paths lim r) (w .end)) (sym (walked-in-order r (first-state lim (r .table)))) (end-says (missed-in r) (all-paths lim r))
 
   failed-exactly : (answered (walk-end lim r) ≡ Limits.not-executable) ↔ Φ̂ (r .table) (r .plan) (least (r .table)) failed
@@ -206,7 +191,7 @@ module _ (lim : Limits) (room : lim .fluents ≤ lim .state) (b : List ℕ) (r :
 
 -- THE THEOREMS.
 module _ (lim : Limits) (room : lim .fluents ≤ lim .state) (b lent : List ℕ) (budget : ℕ) (r : Request) (e : ℕ) (lent-length : length lent ≡ lim .state) (past : settled lim b ≡ got r e) where
-  judged-by-walk : judge lim b lent budget ≡ within lent budget (walked r (first-state lim (r .table)))
+  pub judged-by-walk : judge lim b lent budget ≡ within lent budget (walked r (first-state lim (r .table)))
   unfolding judge judge-settled
   judged-by-walk = pick-true _ _ _ (eq-eqb _ _ lent-length) ∙ rw past
 

@@ -1,6 +1,6 @@
 -- The two layouts take the same derivations, where no whether entry is asked and every line is by a rule of both: what is read is what is written,
 -- the lines are read from either layout, and no rule asks where they stand. Assumes nothing.
-use Prim.Native.Nat.{ℕ, zero, suc, _+_, _-_, _/_, _%_, _≤_, _<_}
+use Prim.Native.Nat.{ℕ, zero, suc, _+_, _-_, _/_, _%_, _<_}
 use native.Mathlib.Omega.{arith}
 use mathlib.Core.Path.{_≡_, refl, sym, _∙_, ap, subst}
 use mathlib.Core.Bool.{true, false≢true}
@@ -16,13 +16,13 @@ use Rattle.meaning.specs.Requests.{Table, Entry, Request}
 use Rattle.meaning.specs.Reading.{got}
 use Rattle.meaning.specs.Refusals.{nowhere, settled}
 use Rattle.meaning.specs.Derivations.{Conclusion, knows-whether, Line, Derivation, read-derivation, overlap-in-lines, a-rule, goals-of, all-asked, names, check}
-use Rattle.meaning.specs.Layouts.{Bytes, list-written, number-written, numbers-written, plan-written, conclusion-written, concluded-written, line-written, lines-written, closing-written, written, plain-rules, names-last, closed-by-last, read-for}
+use Rattle.meaning.specs.Layouts.{Bytes, list-written, number-written, numbers-written, plan-written, conclusion-written, concluded-written, line-written, lines-written, closing-written, written, plain-rules, names-last, closed-by-last, read-for, In-closing-layout, In-plain-layout}
 use Rattle.meaning.proofs.TestLaws.{both-left, both-right, both-true, either-left}
 use Rattle.meaning.proofs.SettledLaws.{got-same, next-got}
 use Rattle.meaning.proofs.MovedReads.{next-is}
 use Rattle.meaning.proofs.PlacelessLaws.{unplaced-line, unplaced-lines, follows-placeless, nowhere-placeless, named-placeless}
 use Rattle.meaning.proofs.MovedLines.{derivation-copied}
-use Rattle.meaning.proofs.Accepted.{All-follow, Last-asks, All-named, accepted-exactly}
+use Rattle.meaning.proofs.Passed.{All-pass, Last-passes, Entries-pass, passed-exactly}
 
 -- THE LENGTHS.
 line-length : (l : Line) → length (line-written Plain l) ≡ length (line-written Closing l)
@@ -58,14 +58,14 @@ plain-rule Closing rule h =
     let most = leb-true rule 6 (both-right _ _ h) in
     either-left _ _ (both-true _ _ (both-left _ _ h) (le-leb rule 8 (omega arith)))
 
-follow-plain : (lim : Limits) (t : Table) (lines : List Line) (i : ℕ) (ls : List Line) → All-follow lim Plain t lines i ls → plain-rules ls ≡ true
+follow-plain : (lim : Limits) (t : Table) (lines : List Line) (i : ℕ) (ls : List Line) → All-pass lim Plain t lines i ls → plain-rules ls ≡ true
 unfolding plain-rules each-of
 follow-plain lim t lines i [] all = refl
 follow-plain lim t lines i (l ∷ ls) all = both-true _ _ (all .0 .rule) (follow-plain lim t lines (i + 1) ls (all .1))
 
 module _ (lim : Limits) (layout other : Layout) (t : Table) where
   -- Without their places, by rules of both layouts.
-  follow-placeless : (lines : List Line) (i : ℕ) (ls : List Line) → plain-rules ls ≡ true → All-follow lim layout t lines i ls → All-follow lim other t (unplaced-lines lines) i (unplaced-lines ls)
+  follow-placeless : (lines : List Line) (i : ℕ) (ls : List Line) → plain-rules ls ≡ true → All-pass lim layout t lines i ls → All-pass lim other t (unplaced-lines lines) i (unplaced-lines ls)
   unfolding plain-rules each-of
   follow-placeless lines i [] plain all = tt
   follow-placeless lines i (l ∷ ls) plain all =
@@ -74,48 +74,48 @@ module _ (lim : Limits) (layout other : Layout) (t : Table) where
         follow-placeless lines (i + 1) ls (both-right _ _ plain) (all .1),
       )
 
-  follow-placed : (lines : List Line) (i : ℕ) (ls : List Line) → All-follow lim other t (unplaced-lines lines) i (unplaced-lines ls) → All-follow lim other t lines i ls
+  follow-placed : (lines : List Line) (i : ℕ) (ls : List Line) → All-pass lim other t (unplaced-lines lines) i (unplaced-lines ls) → All-pass lim other t lines i ls
   follow-placed lines i [] all = tt
   follow-placed lines i (l ∷ ls) all =
       let one = all .0 in
       (record { rule = one .rule; takes = one .takes; earlier = one .earlier; gives = sym (follows-placeless lim t lines l) ∙ one .gives }, follow-placed lines (i + 1) ls (all .1))
 
-  follow-carried : (ls js : List Line) → unplaced-lines js ≡ unplaced-lines ls → plain-rules ls ≡ true → All-follow lim layout t ls 0 ls → All-follow lim other t js 0 js
-  follow-carried ls js alike plain all = follow-placed js 0 js (subst (λ (xs : List Line). All-follow lim other t xs 0 xs) (sym alike) (follow-placeless ls 0 ls plain all))
+  follow-carried : (ls js : List Line) → unplaced-lines js ≡ unplaced-lines ls → plain-rules ls ≡ true → All-pass lim layout t ls 0 ls → All-pass lim other t js 0 js
+  follow-carried ls js alike plain all = follow-placed js 0 js (subst (λ (xs : List Line). All-pass lim other t xs 0 xs) (sym alike) (follow-placeless ls 0 ls plain all))
 
 -- THE QUESTION.
 one-less : (n : ℕ) → suc (suc n - 1) ≡ suc (suc n) - 1
 one-less n = omega arith
 
-last-named : (r : Request) (ls : List Line) → Last-asks r ls → names r ls (length ls - 1) (goals-of r) ≡ true
+last-named : (r : Request) (ls : List Line) → Last-passes r ls → names r ls (length ls - 1) (goals-of r) ≡ true
 unfolding names
 last-named r [] h = absurd h
 last-named r (l ∷ []) h = h
 last-named r (l ∷ (k ∷ ls)) h = subst (λ (j : ℕ). names r (l ∷ (k ∷ ls)) j (goals-of r) ≡ true) (one-less (length ls)) (last-named r (k ∷ ls) h)
 
-named-last : (r : Request) (ls : List Line) → names r ls (length ls - 1) (goals-of r) ≡ true → Last-asks r ls
+named-last : (r : Request) (ls : List Line) → names r ls (length ls - 1) (goals-of r) ≡ true → Last-passes r ls
 unfolding names
 named-last r [] h = absurd (false≢true h)
 named-last r (l ∷ []) h = h
 named-last r (l ∷ (k ∷ ls)) h = named-last r (k ∷ ls) (subst (λ (j : ℕ). names r (l ∷ (k ∷ ls)) j (goals-of r) ≡ true) (sym (one-less (length ls))) h)
 
 -- The last line is the question wherever it stands.
-last-alike : (r : Request) (ls js : List Line) → unplaced-lines js ≡ unplaced-lines ls → names r ls (length ls - 1) (goals-of r) ≡ true → Last-asks r js
+last-alike : (r : Request) (ls js : List Line) → unplaced-lines js ≡ unplaced-lines ls → names r ls (length ls - 1) (goals-of r) ≡ true → Last-passes r js
 last-alike r ls js alike h =
     let size : length js ≡ length ls = sym (length-map js unplaced-line) ∙ ap {B = ℕ} (λ xs. length xs) alike ∙ length-map ls unplaced-line in
     named-last r js (named-placeless r js ls alike (length js - 1) (goals-of r) ∙ ap (λ (i : ℕ). names r ls (i - 1) (goals-of r)) size ∙ h)
 
-named-one : (r : Request) (lines : List Line) (k : ℕ) → All-named r lines (all-asked r) (k ∷ []) → (r .whether ≡ []) × (names r lines k (goals-of r) ≡ true)
+named-one : (r : Request) (lines : List Line) (k : ℕ) → Entries-pass r lines (all-asked r) (k ∷ []) → (r .whether ≡ []) × (names r lines k (goals-of r) ≡ true)
 unfolding all-asked
 named-one r lines k h = (none-left (r .whether) (h .1), h .0)
   where
-    none-left : (ws : List Entry) → All-named r lines (map (λ (w : Entry). knows-whether (w .value)) ws) [] → ws ≡ []
+    none-left : (ws : List Entry) → Entries-pass r lines (map (λ (w : Entry). knows-whether (w .value)) ws) [] → ws ≡ []
     none-left [] g = refl
     none-left (w ∷ ws) g = absurd g
 
-one-named : (r : Request) (lines : List Line) (k : ℕ) → r .whether ≡ [] → names r lines k (goals-of r) ≡ true → All-named r lines (all-asked r) (k ∷ [])
+one-named : (r : Request) (lines : List Line) (k : ℕ) → r .whether ≡ [] → names r lines k (goals-of r) ≡ true → Entries-pass r lines (all-asked r) (k ∷ [])
 unfolding all-asked
-one-named r lines k whether h = (h, subst (λ (ws : List Entry). All-named r lines (map (λ (w : Entry). knows-whether (w .value)) ws) []) (sym whether) tt)
+one-named r lines k whether h = (h, subst (λ (ws : List Entry). Entries-pass r lines (map (λ (w : Entry). knows-whether (w .value)) ws) []) (sym whether) tt)
 
 -- BYTES. What is written anew has the bytes that were there, and those of a line number.
 abbrev Small : List ℕ → Type 0
@@ -202,22 +202,13 @@ read-is-written lim layout request d bytes D e read =
     let w = next-got (settled lim request) _ read in
     derivation-copied lim (w .0 .table .fluents) (w .0 .table .actions) d bytes layout .holds D e (w .3) .same
 
--- FROM PLAIN TO CLOSING. The derivation that d says, written in the closing layout with a closing list that names its last line.
-pub record In-closing-layout (lim : Limits) (request d : List ℕ) : Type 0 where
-  pub says : Derivation
-  pub end : ℕ
-  pub read : read-for lim Plain request d ≡ got says end
-  pub same : written Plain says ≡ d
-  pub bytes : Bytes (written Closing (closed-by-last says))
-  pub longer : length (written Closing (closed-by-last says)) ≡ length d + 3
-  pub accepted : length (written Closing (closed-by-last says)) ≤ lim .derivation → check lim Closing request (written Closing (closed-by-last says)) .number ≡ Limits.verified
-
+-- FROM PLAIN TO CLOSING.
 -- A derivation that the derivation call accepts is three bytes longer in the closing layout, and the whether call accepts it where it has room
 -- (FORMAT 17.42). The request has no whether entries, or the derivation call would have answered 30.
 pub plain-to-closing : (lim : Limits) (request d : List ℕ) → Bytes d → check lim Plain request d .number ≡ Limits.verified → In-closing-layout lim request d
 unfolding closed-by-last names-last
 plain-to-closing lim request d bytes verified =
-    let a = accepted-exactly lim Plain request d .0 verified in
+    let a = passed-exactly lim Plain request d .0 verified in
     let r = a .asks in
     let n = r .table .fluents in let m = r .table .actions in
     let D = a .reads in
@@ -236,7 +227,7 @@ plain-to-closing lim request d bytes verified =
       accepted = λ fits.
           let new = copied .again plain Closing (k ∷ []) (D .closing-place) fits in
           let named = named-placeless r (new .value .lines) ls (new .lines-alike) k (goals-of r) ∙ last-named r ls (a .answered .1) in
-          accepted-exactly lim Closing request u .1 (record {
+          passed-exactly lim Closing request u .1 (record {
             asks = r;
             end = a .end;
             request-settled = a .request-settled;
@@ -245,17 +236,11 @@ plain-to-closing lim request d bytes verified =
             derivation-read = new .is;
             no-overlap = nowhere-placeless ls (new .value .lines) (sym (new .lines-alike)) (a .no-overlap);
             all-follow = follow-carried lim Plain Closing (r .table) ls (new .value .lines) (new .lines-alike) plain (a .all-follow);
-            answered = subst (All-named r (new .value .lines) (all-asked r)) (sym (new .closing-is)) (one-named r (new .value .lines) k (a .answered .0) named);
+            answered = subst (Entries-pass r (new .value .lines) (all-asked r)) (sym (new .closing-is)) (one-named r (new .value .lines) k (a .answered .0) named);
           });
     }
 
--- FROM CLOSING TO PLAIN. The derivation D that d says, written in the plain layout: its closing list is left out.
-pub record In-plain-layout (lim : Limits) (request d : List ℕ) (D : Derivation) : Type 0 where
-  pub same : written Closing D ≡ d
-  pub bytes : Bytes (written Plain D)
-  pub shorter : length (written Plain D) + 3 ≡ length d
-  pub accepted : check lim Plain request (written Plain D) .number ≡ Limits.verified
-
+-- FROM CLOSING TO PLAIN.
 -- A derivation by rules 1 to 6 whose closing list names its last line, and that the whether call accepts, is three bytes shorter in the plain
 -- layout, and the derivation call accepts it (FORMAT 17.43). The request has no whether entries, or one closing entry would be too few.
 pub closing-to-plain : (lim : Limits) (request d : List ℕ) → Bytes d → (D : Derivation) (e : ℕ) → read-for lim Closing request d ≡ got D e
@@ -263,7 +248,7 @@ pub closing-to-plain : (lim : Limits) (request d : List ℕ) → Bytes d → (D 
     → In-plain-layout lim request d D
 unfolding names-last
 closing-to-plain lim request d bytes D e read plain closing verified =
-    let a = accepted-exactly lim Closing request d .0 verified in
+    let a = passed-exactly lim Closing request d .0 verified in
     let r = a .asks in
     let n = r .table .fluents in let m = r .table .actions in
     let ls = D .lines in
@@ -274,14 +259,14 @@ closing-to-plain lim request d bytes D e read plain closing verified =
     let copied = derivation-copied lim n m d bytes Closing .holds D e here in
     let whole : length d ≡ length u + 3 = ap length (sym (copied .same)) ∙ three-more D D k refl closing in
     let within = copied .within in
-    let named = subst (λ (x : Derivation). All-named r (x .lines) (all-asked r) (x .closing)) is (a .answered) in
-    let asked = named-one r ls k (subst (All-named r ls (all-asked r)) closing named) in
+    let named = subst (λ (x : Derivation). Entries-pass r (x .lines) (all-asked r) (x .closing)) is (a .answered) in
+    let asked = named-one r ls k (subst (Entries-pass r ls (all-asked r)) closing named) in
     let new = copied .again plain Plain (D .closing) (D .closing-place) (omega arith) in
     record {
       same = copied .same;
       bytes = written-small Closing Plain D D refl (λ _. none-small (D .closing)) (subst Bytes (sym (copied .same)) bytes);
       shorter = sym whole;
-      accepted = accepted-exactly lim Plain request u .1 (record {
+      accepted = passed-exactly lim Plain request u .1 (record {
         asks = r;
         end = a .end;
         request-settled = a .request-settled;
@@ -291,7 +276,7 @@ closing-to-plain lim request d bytes D e read plain closing verified =
         no-overlap = nowhere-placeless ls (new .value .lines) (sym (new .lines-alike)) (subst (λ (x : Derivation). overlap-in-lines (x .lines) ≡ nowhere) is (a .no-overlap));
         all-follow =
             follow-carried lim Closing Plain (r .table) ls (new .value .lines) (new .lines-alike) plain
-            (subst (λ (x : Derivation). All-follow lim Closing (r .table) (x .lines) 0 (x .lines)) is (a .all-follow));
+            (subst (λ (x : Derivation). All-pass lim Closing (r .table) (x .lines) 0 (x .lines)) is (a .all-follow));
         answered = (asked .0, last-alike r ls (new .value .lines) (new .lines-alike) (asked .1));
       });
     }

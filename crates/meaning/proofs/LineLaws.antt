@@ -9,24 +9,19 @@ use lib.Dec.{ltb}
 use Rattle.meaning.specs.Tests.{both, fails, pick, some-of, each-of}
 use Rattle.meaning.specs.Limits
 use Rattle.meaning.specs.Limits.{Limits}
-use Rattle.meaning.specs.Requests.{Effect, Executability, Knowledge, Table, Sequence, Entry, Request, values}
+use Rattle.meaning.specs.Requests.{Effect, Knowledge, Table, Sequence, Entry, Request, values, unplaced}
 use Rattle.meaning.specs.Reading.{Got, got, next, read-request}
 use Rattle.meaning.specs.Refusals.{Found, nowhere, at, contradictory, contradiction-in, mixed-in, overlap-in, refuse, settled}
 use Rattle.meaning.specs.Lines.{effects-of, executability-of, knowledge-of, allowed, given, sensing, senses}
 use Rattle.meaning.specs.States.{State, known, known-whether, state-of, first-state, can-be-run, known-after, mark-after, marks-after, state-after, unknown-from, unknown-sensed, outcome}
 use Rattle.meaning.specs.Walk.{End, fine, missed, stuck, Walked, walk, table-step, first-missed, missed-in, end-of, judged, walked}
 use Rattle.meaning.specs.Judging.{Judgement, ended, within, judge-settled, judge}
-use Rattle.meaning.proofs.TestLaws.{clash, same-test, pick-map, Has, some-has, has-some, some-those}
-use Rattle.meaning.proofs.WalkLaws.{On-actions, on-actions, map-actions, Agree, walk-agrees, unplaced, unplaced-end, unplaced-walk, walk-unplaced}
+use Rattle.meaning.specs.SameLines.{On-actions, Same-lines-of, Same-set, Same-effect, Same-tables, Same-but-lines, Gist, gist}
+use Rattle.meaning.proofs.TestLaws.{clash, same-test, pick-map, some-has, has-some, some-those}
+use Rattle.meaning.proofs.WalkLaws.{on-actions, map-actions, Agree, walk-agrees, unplaced-end, unplaced-walk, walk-unplaced}
 use Rattle.meaning.proofs.RefusalLaws.{at≢nowhere, past-16, by-16, unplaced-found, found-if, unplaced-or-else, unplaced-17, unplaced-18}
 
 -- THE LINES OF ANOTHER ACTION.
--- Two tables have the same lines of an action.
-pub record Same-lines-of (t u : Table) (a : ℕ) : Type 0 where
-  pub effects : effects-of t a ≡ effects-of u a
-  pub executability : executability-of t a ≡ executability-of u a
-  pub knowledge : knowledge-of t a ≡ knowledge-of u a
-
 lines-agree : (t u : Table) (a : ℕ) → Same-lines-of t u a → Agree (table-step t) (table-step u) a
 unfolding table-step can-be-run outcome sensing unknown-sensed state-after
 lines-agree t u a same = record { runs = λ s. rw (same .executability); leads-to = λ s. rw (same .knowledge, same .effects) }
@@ -37,12 +32,6 @@ unfolding table-step
 no-other-action's-line t u p same = walk-agrees (table-step t) (table-step u) refl p (map-actions (lines-agree t u) p same)
 
 -- LINES SAID TWICE.
--- What stands in the one list stands in the other, as far as R tells.
-module _ {A : Type 0} (R : A → A → Type 0) where
-  pub record Same-set (xs ys : List A) : Type 0 where
-    pub there : (x : A) → Has xs x → (y : A) × Has ys y × R x y
-    pub back : (y : A) → Has ys y → (x : A) × Has xs x × R x y
-
 module _ {A : Type 0} {R : A → A → Type 0} (p : A → Bool) (fair : (x y : A) → R x y → p x ≡ p y) where
   -- A test that does not tell R's pairs apart passes in both lists or in neither.
   some-same : (xs ys : List A) → Same-set R xs ys → some-of p xs ≡ some-of p ys
@@ -50,27 +39,6 @@ module _ {A : Type 0} {R : A → A → Type 0} (p : A → Bool) (fair : (x y : A
       same-test (some-of p xs) (some-of p ys)
       (λ e. let t = some-has p xs e in let u = same .there (t .0) (t .1) in has-some p ys (u .0) (u .1) (sym (fair (t .0) (u .0) (u .2)) ∙ t .2))
       (λ e. let t = some-has p ys e in let u = same .back (t .0) (t .1) in has-some p xs (u .0) (u .1) (fair (u .0) (t .0) (u .2) ∙ t .2))
-
--- Two lines that say the same, wherever they stand.
-pub record Same-effect (e g : Effect) : Type 0 where
-  pub action : e .action ≡ g .action
-  pub literal : e .literal ≡ g .literal
-  pub body : e .body ≡ g .body
-
-pub record Same-executability (x y : Executability) : Type 0 where
-  pub action : x .action ≡ y .action
-  pub body : x .body ≡ y .body
-
-pub record Same-knowledge (k j : Knowledge) : Type 0 where
-  pub action : k .action ≡ j .action
-  pub fluent : k .fluent ≡ j .fluent
-
--- Two tables say the same, but for order and repetition.
-pub record Same-tables (t u : Table) : Type 0 where
-  pub facts : t .facts ≡ u .facts
-  pub effects : Same-set Same-effect (t .effects) (u .effects)
-  pub executability : Same-set Same-executability (t .executability) (u .executability)
-  pub knowledge : Same-set Same-knowledge (t .knowledge) (u .knowledge)
 
 module _ (t u : Table) (same : Same-tables t u) (a : ℕ) where
   allowed-same : (test : ℕ → Bool) → allowed test (executability-of t a) ≡ allowed test (executability-of u a)
@@ -151,23 +119,7 @@ module _ (t u : Table) (same : Same-tables t u) where
       (fun-ext λ (k : Knowledge). some-same _ (λ x y r. rw (r .action)) (t .effects) (u .effects) (same .effects))
       ∙ sym (unplaced-17 (u .effects) (u .knowledge))
 
--- JUDGING. Two requests say the same, but for places and for the order and repetition of lines.
-pub record Same-but-lines (r q : Request) : Type 0 where
-  pub tables : Same-tables (r .table) (q .table)
-  pub plan : unplaced (r .plan) ≡ unplaced (q .plan)
-  pub goals : values (r .goals) ≡ values (q .goals)
-  pub whether : values (r .whether) ≡ values (q .whether)
-
--- What is left of a judgement without its place.
-pub record Gist : Type 0 where
-  pub number : ℕ
-  pub input : ℕ
-  pub count : ℕ
-  pub state : List ℕ
-
-abbrev pub gist : Judgement → Gist
-gist j = record { number = j .answer .number; input = j .answer .input; count = j .answer .count; state = j .state }
-
+-- JUDGING.
 missed-values : (test : ℕ → Bool) (es : List Entry) → unplaced-found (first-missed test es) ≡ found-if (fails (each-of test (values es)))
 unfolding first-missed each-of pick fails both values
 missed-values test [] = refl

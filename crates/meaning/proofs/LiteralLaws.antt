@@ -1,13 +1,16 @@
--- Literals: the two of a fluent, complements, and that every literal is one of the two. By remainders of 2. Assumes nothing.
+-- Literals: the two of a fluent, complements, and that every literal is one of the two. By remainders of 2. Numbers among those of a list.
+-- Assumes nothing.
 use Prim.Native.Nat.{ℕ, _+_, _-_, _*_, _/_, _%_}
 use native.Mathlib.Omega.{arith}
-use mathlib.Core.Path.{_≡_, sym, _∙_, ap, subst}
-use mathlib.Core.Bool.{true, false}
+use mathlib.Core.Path.{_≡_, refl, sym, _∙_, ap, subst}
+use mathlib.Core.Bool.{Bool, true, false}
+use mathlib.Core.List.{List}
 use mathlib.Core.Logic.{_⊎_, inl, inr}
 use lib.Dec.{eqb}
 use borrow.Author.Tests.{eqb-true, eqb-false, eq-eqb, ne-eqb}
-use Rattle.meaning.specs.Literals.{says-true, says-false, fluent-of, positive, complement}
-use Rattle.meaning.proofs.TestLaws.{by-test, pick-true, pick-false}
+use Rattle.meaning.specs.Tests.{each-of, Has}
+use Rattle.meaning.specs.Literals.{says-true, says-false, fluent-of, positive, complement, among}
+use Rattle.meaning.proofs.TestLaws.{by-test, pick-true, pick-false, some-has, has-some, each-has}
 
 -- COMPLEMENTS.
 pub complement-even : (l : ℕ) → l % 2 ≡ 0 → complement l ≡ l + 1
@@ -86,3 +89,16 @@ same-fluent =
     (λ f. by-literal (λ l. fluent-of (says-false f) ≡ fluent-of l → (says-false f ≡ l) ⊎ (says-false f ≡ complement l))
     (λ g. rw (fluent-false f, fluent-true g, complement-true g) (λ q. inr (ap says-false q)))
     (λ g. rw (fluent-false f, fluent-false g) (λ q. inl (ap says-false q))))
+
+-- A number is among those of a list where the list has it.
+pub among-has : (l : ℕ) (X : List ℕ) → among l X ≡ true → Has X l
+unfolding among
+among-has l X e = let w = some-has _ X e in subst (Has X) (sym (eqb-true _ _ (w .2))) (w .1)
+
+pub has-among : (l : ℕ) (X : List ℕ) → Has X l → among l X ≡ true
+unfolding among
+has-among l X h = has-some _ X l h (eq-eqb l l refl)
+
+-- What each number of a list passes, a number among them passes.
+pub among-each : (test : ℕ → Bool) (ns : List ℕ) → each-of test ns ≡ true → (n : ℕ) → among n ns ≡ true → test n ≡ true
+among-each test ns each n is = each-has test ns n each (among-has n ns is)

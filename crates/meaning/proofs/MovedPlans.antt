@@ -7,11 +7,10 @@ use lib.ListN.{length, getD}
 use borrow.Author.Tests.{eqb-true}
 use Rattle.meaning.specs.Limits
 use Rattle.meaning.specs.Limits.{Limits}
-use Rattle.meaning.specs.Requests.{Sequence, done, item, Item, act, branching, Branches, none, branch}
+use Rattle.meaning.specs.Requests.{Sequence, done, item, Item, act, branching, Branches, none, branch, unplaced, unplaced-item, unplaced-branches}
 use Rattle.meaning.specs.Reading.{Got, got, byte-at, literals, body-at, Met, item-at, items-at, sequence-at, branches-at, branching-at, plan-at}
 use Rattle.meaning.specs.Layouts.{Bytes, list-written, number-written, items-in, branches-in, items-written, item-written, branches-written, plan-written}
 use Rattle.meaning.proofs.TestLaws.{pick-true, pick-false}
-use Rattle.meaning.proofs.WalkLaws.{unplaced, unplaced-item, unplaced-branches}
 use Rattle.meaning.proofs.MovedReads.{On, got-on, fault-on, pick-on, refuse-on, next-on, next-is, Stands, stands-both, stands-parts, byte-copied, count-copied, list-copied, two-bytes-copied}
 
 -- The part x up to f, its places aside.

@@ -94,7 +94,11 @@ case-10-carried-out v h =
     record {
       allowed = λ w p. refl;
       read = λ on. absurd (false≢true on);
-      done = λ off. record { goals = λ w p. both-true _ _ (ap (λ (x : World). x 0) (p .2) ∙ moved-to-true (p .0)) refl; whether = λ w u p q. refl };
+      done = λ off. record {
+        true-world = (v, h, refl);
+        goals = λ w p. both-true _ _ (ap (λ (x : World). x 0) (p .2) ∙ moved-to-true (p .0)) refl;
+        whether = λ w u p q. refl;
+      };
     }
 
 -- An action that can't be run, and then one that can: the failed state is in the plan's set.

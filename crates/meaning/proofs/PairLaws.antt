@@ -9,14 +9,15 @@ use mathlib.Core.Logic.{⊎-elim}
 use lib.ListN.{length, getD}
 use lib.Dec.{eqb}
 use borrow.Author.Tests.{eqb-true}
-use Rattle.meaning.specs.Tests.{both, either, fails, pick, some-of}
+use Rattle.meaning.specs.Tests.{both, either, fails, pick, some-of, Has}
 use Rattle.meaning.specs.Limits
 use Rattle.meaning.specs.Literals.{says-true, says-false, complement}
 use Rattle.meaning.specs.Requests.{Effect, Knowledge, Table}
 use Rattle.meaning.specs.Lines.{effects-of, executability-of, knowledge-of, allowed, given, sensing, senses}
 use Rattle.meaning.specs.States.{State, known, possible, can-be-run, known-after, mark-after, state-after}
 use Rattle.meaning.specs.Approximation.{Pair, Disjoint, true-in, false-in, possibly-true, _≼_, executable, caused, e⁺, e⁻, F⁺, F⁻, K, sensing-action, Res}
-use Rattle.meaning.proofs.TestLaws.{by-test, clash, same-test, both-left, both-right, both-true, either-left, either-right, either-split, fails-true, fails-false, pick-true, pick-false, Has, some-has, some-mono, each-mono, some-those}
+use Rattle.meaning.specs.Reported.{pair-of}
+use Rattle.meaning.proofs.TestLaws.{by-test, clash, same-test, both-left, both-right, both-true, either-left, either-right, either-split, fails-true, fails-false, pick-true, pick-false, some-has, some-mono, each-mono, some-those}
 use Rattle.meaning.proofs.LiteralLaws.{positive-true, positive-false, fluent-true, fluent-false, complement-true, complement-false, by-literal}
 use Rattle.meaning.proofs.StateLaws.{known-true, known-false, unknown-far, marks-at, after-length}
 
@@ -114,9 +115,6 @@ module _ (t : Table) (a : ℕ) where
           (either-split _ _ (both-left _ _ x))
 
 -- A PARTIAL STATE AS A PAIR.
-unfoldable pub pair-of : State → Pair
-pair-of s = record { T = λ f. known s (says-true f); F = λ f. known s (says-false f) }
-
 module _ (s : State) where
   pub true-in-pair : (l : ℕ) → true-in (pair-of s) l ≡ known s l
   unfolding pair-of

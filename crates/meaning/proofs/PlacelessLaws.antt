@@ -6,11 +6,10 @@ use mathlib.Core.Bool.{Bool}
 use mathlib.Core.List.{List, [], _∷_, map}
 use lib.ListN.{length-map, getD, List·getD-map}
 use Rattle.meaning.specs.Limits.{Limits}
-use Rattle.meaning.specs.Requests.{Table, Sequence, done, item, Item, act, branching, Branches, none, branch, Request}
+use Rattle.meaning.specs.Requests.{Table, Sequence, done, item, Item, act, branching, Branches, none, branch, Request, unplaced, unplaced-item, unplaced-branches}
 use Rattle.meaning.specs.Refusals.{Found, nowhere, at, overlap-in}
 use Rattle.meaning.specs.States.{State, state-of}
 use Rattle.meaning.specs.Derivations.{Conclusion, Line, overlap-in-lines, same-plan, same-item, same-branches, join, says, of-one, of-two, rule-1, takes-branch, branches-first, rule-4, rule-5, rule-6, rule-8, each-reads, acts, one-action, rule-2, reads, senses-first, rule-3, one-look, rule-7, given-by, for-lists, follows, cited-by, asks-for, names}
-use Rattle.meaning.proofs.WalkLaws.{unplaced, unplaced-item, unplaced-branches}
 use Rattle.meaning.proofs.RefusalLaws.{at≢nowhere, unplaced-found, unplaced-or-else, unplaced-18}
 
 -- PLANS are compared and joined without their places.
@@ -35,7 +34,7 @@ mutual
   same-placeless-branches (branch c p bs) none = refl
   same-placeless-branches (branch c p bs) (branch d q cs) = rw (same-placeless p q, same-placeless-branches bs cs)
 
-join-placeless : (p q : Sequence ℕ) → join (unplaced p) (unplaced q) ≡ unplaced (join p q)
+pub join-placeless : (p q : Sequence ℕ) → join (unplaced p) (unplaced q) ≡ unplaced (join p q)
 unfolding join
 join-placeless done q = refl
 join-placeless (item i p) q = ap (λ (r : Sequence ℕ). item (unplaced-item i) r) (join-placeless p q)
@@ -74,7 +73,7 @@ unfolding takes-branch
 branch-placeless X none rest Y x = refl
 branch-placeless X (branch c b bs) rest Y x = rw (join-placeless b rest, says-placeless x X (join b rest) Y, branch-placeless X bs rest Y x)
 
-branches-placeless : (x l : Line) (c : Sequence ℕ) → branches-first (unplaced-line x) (unplaced-line l) (unplaced c) ≡ branches-first x l c
+pub branches-placeless : (x l : Line) (c : Sequence ℕ) → branches-first (unplaced-line x) (unplaced-line l) (unplaced c) ≡ branches-first x l c
 unfolding branches-first
 branches-placeless x l done = refl
 branches-placeless x l (item (act p a) rest) = refl
@@ -104,7 +103,7 @@ each-placeless rest Y (s ∷ ss) [] = refl
 each-placeless rest Y (s ∷ ss) (l ∷ ls) = rw (says-placeless l _ rest Y, each-placeless rest Y ss ls)
 
 module _ (lim : Limits) (t : Table) where
-  acts-placeless : (l : Line) (c : Sequence ℕ) → one-action lim t (unplaced-line l) (unplaced c) ≡ one-action lim t l c
+  pub acts-placeless : (l : Line) (c : Sequence ℕ) → one-action lim t (unplaced-line l) (unplaced c) ≡ one-action lim t l c
   unfolding one-action acts
   acts-placeless l done = refl
   acts-placeless l (item (act p a) done) = refl
@@ -115,13 +114,13 @@ module _ (lim : Limits) (t : Table) where
   unfolding reads
   reads-placeless cited l a rest s = rw (length-map cited unplaced-line, each-placeless rest (l .Y) _ cited)
 
-  senses-placeless : (cited : List Line) (l : Line) (c : Sequence ℕ) → senses-first lim t (unplaced-lines cited) (unplaced-line l) (unplaced c) ≡ senses-first lim t cited l c
+  pub senses-placeless : (cited : List Line) (l : Line) (c : Sequence ℕ) → senses-first lim t (unplaced-lines cited) (unplaced-line l) (unplaced c) ≡ senses-first lim t cited l c
   unfolding senses-first
   senses-placeless cited l done = refl
   senses-placeless cited l (item (act p a) rest) = reads-placeless cited l a rest (state-of lim (l .X))
   senses-placeless cited l (item (branching p bs) rest) = refl
 
-  look-placeless : (l : Line) (c : Sequence ℕ) → one-look lim t (unplaced-line l) (unplaced c) ≡ one-look lim t l c
+  pub look-placeless : (l : Line) (c : Sequence ℕ) → one-look lim t (unplaced-line l) (unplaced c) ≡ one-look lim t l c
   unfolding one-look
   look-placeless l done = refl
   look-placeless l (item (act p a) done) = refl

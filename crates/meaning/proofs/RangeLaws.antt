@@ -7,14 +7,15 @@ use mathlib.Core.Path.{_≡_, sym, _∙_, ap, subst}
 use mathlib.Core.Bool.{Bool, false}
 use mathlib.Core.List.{List, _∷_}
 use mathlib.Core.Logic.{_⊎_, inl, inr, ⊎-elim}
+use lib.ListN.{length}
 use lib.Dec.{eqb}
 use borrow.Author.Tests.{ltb-false, leb-false, lt-ltb, eq-eqb, eqb-true, eqb-false}
-use Rattle.meaning.specs.Tests.{both, pick}
+use Rattle.meaning.specs.Tests.{both, pick, Has}
 use Rattle.meaning.specs.Limits.{Limits}
 use Rattle.meaning.specs.Literals.{complement}
 use Rattle.meaning.specs.Requests.{Effect, Knowledge, Table, Request}
 use Rattle.meaning.specs.Reading.{Got, got, fault, next, byte-at, count-at, below-at, literals, fluents, bound-of, have-complements, entry-at, entries-at, list-at, repeated, section-at, body-at, effect-at, executability-at, knowledge-at, plan-at, table-at, request-at, read-request}
-use Rattle.meaning.proofs.TestLaws.{by-test, clash, both-true, either-right, pick-cases, Has}
+use Rattle.meaning.proofs.TestLaws.{by-test, clash, both-true, either-right, pick-cases}
 use Rattle.meaning.proofs.SettledLaws.{fault≢got, got-same, next-got}
 use Rattle.meaning.proofs.LiteralLaws.{complement-even, complement-odd, complement-twice, complement-other}
 
@@ -44,9 +45,9 @@ below-bound bound s p x q e =
     subst (λ (y : ℕ). y < bound) (got-same (u .1)) (leb-false bound d (u .0))
 
 -- LISTS OF LITERALS. The floor is one more than the entry before: what follows is not below it, and is not that entry's complement.
-record Above (floor y : ℕ) : Type 0 where
-  least : floor ≤ y
-  apart : 0 < floor → y ≡ complement (floor - 1) → ⊥
+pub record Above (floor y : ℕ) : Type 0 where
+  pub least : floor ≤ y
+  pub apart : 0 < floor → y ≡ complement (floor - 1) → ⊥
 
 complement-near : (l : ℕ) → complement l ≤ l + 1
 complement-near l =
@@ -55,7 +56,7 @@ complement-near l =
     (λ u. let q = complement-odd l (eqb-false _ _ u) in omega arith)
 
 module _ (n : ℕ) (s : List ℕ) where
-  entry-above : (p floor x q : ℕ) → entry-at literals n s p floor ≡ got x q → (x < 2 * n) × Above floor x
+  pub entry-above : (p floor x q : ℕ) → entry-at literals n s p floor ≡ got x q → (x < 2 * n) × Above floor x
   unfolding entry-at have-complements bound-of both
   entry-above p floor x q e =
       after-got (below-at (2 * n) s p) _ e λ y r below e′.
@@ -119,6 +120,14 @@ module _ {A : Type 0} (line : ℕ → Got A) where
       after-got (line p) _ e λ y i ey e′.
       after-got (repeated line left i) _ e′ λ ys j eys e″.
       ⊎-elim (λ here. (p, i, rw here ey)) (line-read left i ys j eys x) (subst (λ (zs : List A). Has zs x) (sym (got-same e″)) h)
+
+  pub repeated-length : (left p : ℕ) (xs : List A) (q : ℕ) → repeated line left p ≡ got xs q → length xs ≡ left
+  unfolding repeated
+  repeated-length zero p xs q e = ap length (sym (got-same e))
+  repeated-length (suc left) p xs q e =
+      after-got (line p) _ e λ x i _ e′.
+      after-got (repeated line left i) _ e′ λ ys j eys e″.
+      ap length (sym (got-same e″)) ∙ ap suc (repeated-length left i ys j eys)
 
   pub section-read : (s : List ℕ) (p : ℕ) (xs : List A) (q : ℕ) → section-at line s p ≡ got xs q → (x : A) → Has xs x → (i j : ℕ) × (line i ≡ got x j)
   unfolding section-at

@@ -7,12 +7,11 @@ use mathlib.Core.List.{List, [], _∷_}
 use mathlib.Core.Logic.{_⊎_, inl, inr, ⊎-elim}
 use lib.Dec.{eqb}
 use borrow.Author.Tests.{eqb-true, eq-eqb}
-use Rattle.meaning.specs.Tests.{either, fails, pick, some-of, each-of}
+use Rattle.meaning.specs.Tests.{either, fails, pick, some-of, each-of, Has}
 use Rattle.meaning.specs.Literals.{complement, among, exclusive}
-use Rattle.meaning.specs.Requests.{Effect, Knowledge, Sequence, done, item, Item, act, branching, Branches, none, branch}
+use Rattle.meaning.specs.Requests.{Effect, Knowledge, Sequence, done, item, Item, act, branching, Branches, none, branch, unplaced, unplaced-item, unplaced-branches}
 use Rattle.meaning.specs.Refusals.{Found, nowhere, at, or-else, contradictory, contradiction-in, mixed-in, conditions-of, overlap-in, overlap-at, overlap-below}
-use Rattle.meaning.proofs.TestLaws.{by-test, clash, same-test, both-left, both-right, both-true, pick-cases, pick-map, Has, some-has, has-some, each-has}
-use Rattle.meaning.proofs.WalkLaws.{unplaced, unplaced-item, unplaced-branches}
+use Rattle.meaning.proofs.TestLaws.{by-test, clash, same-test, both-left, both-right, both-true, pick-cases, pick-map, some-has, has-some, each-has}
 use Rattle.meaning.proofs.LiteralLaws.{complement-twice, complement-other}
 
 -- EXCLUSIVE and CONTRADICTORY go both ways.
@@ -52,6 +51,13 @@ unfolding contradictory
 contradicts-itself e = by-test _ (λ t. absurd (complement-other (e .literal) (sym (eqb-true _ _ (both-left _ _ (both-right _ _ t)))))) (λ f. f)
 
 -- 16.
+pub at-same : {p q : ℕ} → at p ≡ at q → p ≡ q
+at-same {p} e = ap place e
+  where
+    place : Found → ℕ
+    place nowhere = p
+    place (at i) = i
+
 pub at≢nowhere : {p : ℕ} → at p ≡ nowhere → ⊥
 at≢nowhere e = subst told e tt
   where

@@ -10,18 +10,20 @@ use mathlib.Core.Logic.{_⊎_, inl, inr, ⊎-elim}
 use lib.ListN.{length}
 use lib.Dec.{eqb}
 use borrow.Author.Tests.{eqb-true, eq-eqb}
-use Rattle.meaning.specs.Tests.{both, either, fails}
+use Rattle.meaning.specs.Tests.{both, either, fails, Has}
 use Rattle.meaning.specs.Literals.{says-true, says-false, fluent-of, complement, among}
 use Rattle.meaning.specs.Requests.{Knowledge, Table}
 use Rattle.meaning.specs.Lines.{knowledge-of, senses}
-use Rattle.meaning.specs.States.{State, known, known-whether, told, told-all, unknown-from, unknown-sensed, readings}
+use Rattle.meaning.specs.States.{State, known, known-whether, told, told-all, unknown-from, unknown-sensed, Outcome, single, fork, readings}
 use Rattle.meaning.specs.Paths.{Ending, arrives, arrivals}
 use Rattle.meaning.specs.Approximation.{Pair, true-in, _≼_, K, Sensed}
-use Rattle.meaning.proofs.TestLaws.{by-test, clash, same-test, both-left, both-right, both-true, either-left, either-right, either-split, fails-true, fails-false, Has, some-has, has-some, has-map, map-has}
+use Rattle.meaning.specs.Reported.{pair-of}
+use Rattle.meaning.specs.Derivations.{states-of}
+use Rattle.meaning.proofs.TestLaws.{by-test, clash, same-test, both-left, both-right, both-true, either-left, either-right, either-split, fails-true, fails-false, has-left, has-right, has-split, some-has, has-some, has-map, map-has}
 use Rattle.meaning.proofs.PickLaws.{pick-has, has-picked}
 use Rattle.meaning.proofs.ToldLaws.{Tellable, told-all-length, told-all-known}
-use Rattle.meaning.proofs.EndLaws.{Ends, ends-left, ends-right, ends-split}
-use Rattle.meaning.proofs.PairLaws.{pair-of, true-in-true, true-in-false, pair-disjoint, senses-pair}
+use Rattle.meaning.proofs.EndLaws.{Ends, arrives-same, ends-one, ends-left, ends-right, ends-split}
+use Rattle.meaning.proofs.PairLaws.{true-in-true, true-in-false, pair-disjoint, senses-pair}
 use Rattle.meaning.proofs.LiteralLaws.{complement-other, fluent-true, fluent-false, by-literal, one-of-two, fluent-complement}
 
 -- THE FLUENTS READ. No fluent stands twice.
@@ -214,3 +216,16 @@ module _ (t : Table) (a : ℕ) (s : State) (within : (k : Knowledge) → Has (t 
   reading-follows δ more valued =
       let w = followed δ (unknown-sensed t a s) (λ f h. valued f (read-is t a s f h .1)) in
       (told-all (w .0) s, subst (λ (fs : List ℕ). Ends (arrivals (readings fs s)) (arrives (told-all (w .0) s))) (w .1) (readings-to (w .0) s), told-all-length (w .0) s, reading-below (w .0) (w .1) δ more (w .2))
+
+-- The states that paths arrive in are those of the outcome.
+pub arrived : (o : Outcome State) (u : State) → Ends (arrivals o) (arrives u) → Has (states-of o) u
+unfolding arrivals states-of
+arrived (single s) u h = inl (arrives-same (ends-one h))
+arrived (fork o p) u h = ⊎-elim (λ k. has-left (states-of o) (states-of (p tt)) u (arrived o u k)) (λ k. has-right (states-of o) (states-of (p tt)) u (arrived (p tt) u k)) (ends-split (arrivals o) (arrivals (p tt)) (arrives u) h)
+
+pub arrives-in : (o : Outcome State) (u : State) → Has (states-of o) u → Ends (arrivals o) (arrives u)
+unfolding arrivals states-of
+arrives-in (single s) u h = ⊎-elim (λ q. inl (ap arrives q)) absurd h
+arrives-in (fork o p) u h =
+    ⊎-elim (λ k. ends-left (arrivals o) (arrivals (p tt)) (arrives u) (arrives-in o u k)) (λ k. ends-right (arrivals o) (arrivals (p tt)) (arrives u) (arrives-in (p tt) u k))
+    (has-split (states-of o) (states-of (p tt)) u h)

@@ -5,16 +5,16 @@ use mathlib.Core.Path.{_≡_, refl, sym, subst}
 use mathlib.Core.Bool.{true, false}
 use mathlib.Core.List.{List, _∷_}
 use mathlib.Core.Logic.{_⊎_, inl, inr, ⊎-elim}
-use Rattle.meaning.specs.Tests.{pick, each-of}
+use Rattle.meaning.specs.Tests.{pick, each-of, Has}
 use Rattle.meaning.specs.Requests.{Sequence, done, item, Item, act, branching, Branches, none, branch}
 use Rattle.meaning.specs.Refusals.{conditions-of}
 use Rattle.meaning.specs.States.{Outcome, single, fork}
-use Rattle.meaning.specs.Walk.{End, fine, missed, stuck, Walked, stuck-at, counted, keep-miss, after-miss, after-end, and-then, each-reading, Steps, run-action, walk, walk-item, walk-branch}
+use Rattle.meaning.specs.Walk.{End, fine, missed, stuck, Walked, Verified, stuck-at, counted, keep-miss, after-miss, after-end, and-then, each-reading, Steps, run-action, walk, walk-item, walk-branch}
 use Rattle.meaning.specs.Worlds.{Domain, Worlds, Sure, Kept, Moved, Acted, None-sure, Carried, Carried-item, Chosen}
-use Rattle.meaning.proofs.TestLaws.{by-test, Has, each-mono}
+use Rattle.meaning.proofs.TestLaws.{by-test, each-mono}
 use Rattle.meaning.proofs.WalkLaws.{On-conditions, On-conditions-item, On-conditions-below}
 
--- ENDS. A walk is verified where it ends fine.
+-- ENDS.
 module _ {S : Type 0} where
   pub missed≢fine : {p : ℕ} {s : S} → missed p s ≡ fine → ⊥
   missed≢fine e = subst is-missed e tt
@@ -31,9 +31,6 @@ module _ {S : Type 0} where
       is-stuck fine = ⊥
       is-stuck (missed p s) = ⊥
       is-stuck (stuck p s) = Unit {0}
-
-  abbrev pub Verified : Walked S → Type 0
-  Verified w = w .end ≡ fine
 
   pub stuck-at-not-verified : (p : ℕ) (s : S) → Verified (stuck-at p s) → ⊥
   unfolding stuck-at

@@ -9,7 +9,7 @@ use mathlib.Core.List.{List, [], _∷_, map}
 use mathlib.Core.Logic.{_⊎_, inl, inr, ⊎-elim}
 use lib.ListN.{length, getD, drop, List·getD-eq-default}
 use borrow.Author.Tests.{eqb-true}
-use Rattle.meaning.specs.Tests.{both, fails, pick, each-of}
+use Rattle.meaning.specs.Tests.{both, fails, pick, each-of, Has}
 use Rattle.meaning.specs.Limits
 use Rattle.meaning.specs.Limits.{Limits}
 use Rattle.meaning.specs.Literals.{says-true, says-false, fluent-of, complement, exclusive}
@@ -19,7 +19,7 @@ use Rattle.meaning.specs.Lines.{effects-of, executability-of, knowledge-
 use Rattle.meaning.specs.States.{State, Outcome, known, possible, known-whether, told, can-be-run, known-after, mark-after, marks-after, state-after, unknown-from, unknown-sensed, readings, outcome}
 use Rattle.meaning.specs.Walk.{table-step}
 use Rattle.meaning.specs.Worlds.{World, holds, may-be-run, moved, shown, table-domain}
-use Rattle.meaning.proofs.TestLaws.{by-test, clash, both-left, both-right, both-true, either-split, fails-true, fails-false, pick-true, pick-false, pick-cases, Has, some-has, each-has, some-mono, each-mono}
+use Rattle.meaning.proofs.TestLaws.{by-test, clash, both-left, both-right, both-true, either-split, fails-true, fails-false, pick-true, pick-false, pick-cases, some-has, each-has, some-mono, each-mono}
 use Rattle.meaning.proofs.Sound.{Some-state, some-state-map, Sound-step}
 use Rattle.meaning.proofs.RefusalLaws.{exclusive-clash}
 use Rattle.meaning.proofs.LiteralLaws.{positive-true, positive-false, fluent-true, fluent-false, complement-true, complement-false, by-literal, same-fluent}

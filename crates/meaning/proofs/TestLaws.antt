@@ -3,7 +3,7 @@ use mathlib.Core.Path.{_≡_, refl, sym, _∙_, ap}
 use mathlib.Core.Bool.{Bool, true, false, false≢true}
 use mathlib.Core.List.{List, [], _∷_, _++_, map}
 use mathlib.Core.Logic.{_⊎_, inl, inr, ⊎-elim}
-use Rattle.meaning.specs.Tests.{both, either, fails, pick, some-of, each-of, those-of}
+use Rattle.meaning.specs.Tests.{both, either, fails, pick, some-of, each-of, those-of, Has}
 
 -- By the two values of a test, with the equation in hand.
 pub by-test {ℓ} : {C : Type ℓ} (b : Bool) → (b ≡ true → C) → (b ≡ false → C) → C
@@ -82,12 +82,6 @@ module _ {A B : Type 0} where
   pick-map h true f g = refl
   pick-map h false f g = refl
 
--- Membership, as a type.
-module _ {A : Type 0} where
-  abbrev pub Has : List A → A → Type 0
-  Has [] x = ⊥
-  Has (y ∷ ys) x = (x ≡ y) ⊎ Has ys x
-
 module _ {A : Type 0} where
   -- Some entry passes: here it is.
   pub some-has : (p : A → Bool) (xs : List A) → some-of p xs ≡ true → (x : A) × Has xs x × (p x ≡ true)
@@ -129,6 +123,11 @@ module _ {A : Type 0} where
   pub has-right : (xs ys : List A) (x : A) → Has ys x → Has (xs ++ ys) x
   has-right [] ys x h = h
   has-right (z ∷ zs) ys x h = inr (has-right zs ys x h)
+
+  pub has-split : (xs ys : List A) (x : A) → Has (xs ++ ys) x → Has xs x ⊎ Has ys x
+  has-split [] ys x h = inr h
+  has-split (z ∷ zs) ys x (inl q) = inl (inl q)
+  has-split (z ∷ zs) ys x (inr h) = ⊎-elim (λ m. inl (inr m)) inr (has-split zs ys x h)
 
   -- A stronger test passes no more.
   pub some-mono : (p q : A → Bool) → ((x : A) → p x ≡ true → q x ≡ true) → (xs : List A) → some-of p xs ≡ true → some-of q xs ≡ true

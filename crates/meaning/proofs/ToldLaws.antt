@@ -11,16 +11,16 @@ use lib.ListN.{length, length-set, length-replicate}
 use lib.Seq.{getD-set-same, getD-set-other, set-out}
 use lib.Dec.{eqb}
 use borrow.Author.Tests.{eq-eqb, ne-eqb}
-use Rattle.meaning.specs.Tests.{either, some-of}
+use Rattle.meaning.specs.Tests.{either, some-of, Has}
 use Rattle.meaning.specs.Limits
 use Rattle.meaning.specs.Limits.{Limits}
 use Rattle.meaning.specs.Literals.{says-true, says-false, fluent-of, complement, among}
 use Rattle.meaning.specs.Requests.{Table}
 use Rattle.meaning.specs.States.{State, mark-of, known, told, told-all, state-of, first-state}
 use Rattle.meaning.specs.Approximation.{least}
-use Rattle.meaning.proofs.TestLaws.{either-right, Has}
+use Rattle.meaning.specs.Reported.{pair-of}
+use Rattle.meaning.proofs.TestLaws.{either-right}
 use Rattle.meaning.proofs.RangeLaws.{Ranged}
-use Rattle.meaning.proofs.PairLaws.{pair-of}
 use Rattle.meaning.proofs.LiteralLaws.{complement-other, fluent-complement, same-fluent}
 use Rattle.meaning.proofs.StateLaws.{nothing-told, mark-complement, unknown-mark, none-known}
 

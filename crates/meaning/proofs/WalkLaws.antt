@@ -4,40 +4,27 @@ use Prim.Native.Nat.{ℕ}
 use mathlib.Core.Path.{_≡_, refl, _∙_, ap, fun-ext}
 use mathlib.Core.List.{List}
 use Rattle.meaning.specs.Tests.{each-of}
-use Rattle.meaning.specs.Requests.{Sequence, done, item, Item, act, branching, Branches, none, branch}
+use Rattle.meaning.specs.Requests.{Sequence, done, item, Item, act, branching, Branches, none, branch, unplaced, unplaced-item, unplaced-branches}
 use Rattle.meaning.specs.Refusals.{conditions-of}
 use Rattle.meaning.specs.States.{Outcome, single, fork}
 use Rattle.meaning.specs.Walk.{End, fine, missed, stuck, Walked, stuck-at, counted, keep-miss, after-miss, after-end, and-then, each-reading, Steps, run-action, walk, walk-item, walk-branch}
+use Rattle.meaning.specs.SameLines.{On-actions, On-item, On-branches}
 use Rattle.meaning.proofs.TestLaws.{pick-map}
 
--- Something holds of each action in a plan.
-module _ {L : Type 0} (P : ℕ → Type 0) where
-  abbrev mutual
-    pub On-actions : Sequence L → Type 0
-    On-actions done = Unit {0}
-    On-actions (item i rest) = On-item i × On-actions rest
+-- What holds of every action holds of each in a plan.
+module _ {L : Type 0} (P : ℕ → Type 0) (always : (a : ℕ) → P a) where
+  mutual
+    pub on-actions : (p : Sequence L) → On-actions P p
+    on-actions done = tt
+    on-actions (item i rest) = (on-item i, on-actions rest)
 
-    pub On-item : Item L → Type 0
-    On-item (act p a) = P a
-    On-item (branching p bs) = On-branches bs
+    pub on-item : (i : Item L) → On-item P i
+    on-item (act p a) = always a
+    on-item (branching p bs) = on-branches bs
 
-    pub On-branches : Branches L → Type 0
-    On-branches none = Unit {0}
-    On-branches (branch c b bs) = On-actions b × On-branches bs
-
-  module _ (always : (a : ℕ) → P a) where
-    mutual
-      pub on-actions : (p : Sequence L) → On-actions p
-      on-actions done = tt
-      on-actions (item i rest) = (on-item i, on-actions rest)
-
-      pub on-item : (i : Item L) → On-item i
-      on-item (act p a) = always a
-      on-item (branching p bs) = on-branches bs
-
-      pub on-branches : (bs : Branches L) → On-branches bs
-      on-branches none = tt
-      on-branches (branch c b bs) = (on-actions b, on-branches bs)
+    pub on-branches : (bs : Branches L) → On-branches P bs
+    on-branches none = tt
+    on-branches (branch c b bs) = (on-actions b, on-branches bs)
 
 module _ {L : Type 0} {P Q : ℕ → Type 0} (h : (a : ℕ) → P a → Q a) where
   mutual
@@ -95,21 +82,7 @@ module _ {S L : Type 0} (step other : Steps S L) (knows : step .knows ≡ other 
     branches-agree none same p k s = refl
     branches-agree (branch c b bs) same p k s = rw (knows, walk-agrees b (same .0) k s, branches-agree bs (same .1) p k s)
 
--- PLACES. A plan, an end and a walk with every place taken as 0.
-module _ {L : Type 0} where
-  abbrev mutual
-    pub unplaced : Sequence L → Sequence L
-    unplaced done = done
-    unplaced (item i rest) = item (unplaced-item i) (unplaced rest)
-
-    pub unplaced-item : Item L → Item L
-    unplaced-item (act p a) = act 0 a
-    unplaced-item (branching p bs) = branching 0 (unplaced-branches bs)
-
-    pub unplaced-branches : Branches L → Branches L
-    unplaced-branches none = none
-    unplaced-branches (branch c b bs) = branch c (unplaced b) (unplaced-branches bs)
-
+-- PLACES. An end and a walk with every place taken as 0, as `unplaced` has it of a plan.
 module _ {S : Type 0} where
   abbrev pub unplaced-end : End S → End S
   unplaced-end fine = fine

@@ -15,14 +15,14 @@ use Rattle.meaning.specs.Reading.{got}
 use Rattle.meaning.specs.Refusals.{Found, nowhere, at, contradictory, contradiction-in, settled}
 use Rattle.meaning.specs.Lines.{effects-of, given}
 use Rattle.meaning.specs.States.{State, known, known-whether, told, told-all, state-of, first-state}
-use Rattle.meaning.specs.Walk.{fine, table-step, missed-in, end-of, judged, walked}
+use Rattle.meaning.specs.Walk.{fine, Verified, table-step, missed-in, end-of, judged, walked}
 use Rattle.meaning.specs.Worlds.{World, holds, table-domain, Facts, Reached, Carried-out}
 use Rattle.meaning.proofs.TestLaws.{by-test, clash, both-left, both-right, both-true, fails-true, fails-false, either-split, some-has, each-mono, some-those}
 use Rattle.meaning.proofs.RefusalLaws.{past-16}
 use Rattle.meaning.proofs.SettledLaws.{settled-is, or-else-nowhere, fit}
 use Rattle.meaning.proofs.EndLaws.{none-missed}
 use Rattle.meaning.proofs.StateLaws.{nothing-told, none-known}
-use Rattle.meaning.proofs.Sound.{missed≢fine, Verified, Follows, plan-sound}
+use Rattle.meaning.proofs.Sound.{missed≢fine, Follows, plan-sound}
 use Rattle.meaning.proofs.TableSound.{Agrees, Exclusive, told-agrees, exclusive-apart, holds-true, holds-false, table-sound}
 
 -- THE FIRST STATE.
@@ -64,6 +64,7 @@ module _ (r : Request) where
   last-reached s v P g e =
       let q = or-else-nowhere _ _ (fine-nowhere (missed-in r s) s e) in
       record {
+        true-world = g .actual;
         goals = λ w h. each-mono (known s) (holds w) (g .agree w h) _ (none-missed (known s) (r .goals) .0 (q .0));
         whether = λ w u hw hu. known-values s w u (g .agree w hw) (g .agree u hu) _ (none-missed (known-whether s) (r .whether) .0 (q .1));
       }

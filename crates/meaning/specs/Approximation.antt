@@ -1,14 +1,14 @@
 -- The 0-approximation, as Zhao and Shen set it out in their definitions 2.1 to 2.4 (FORMAT 1.11): sets of fluents, unions, the failed state.
--- It shares the table and the plan with the other definitions and nothing of the walk. A set of fluents is a test.
+-- It shares the request with the other definitions and nothing of the walk. A set of fluents is a test.
 use Prim.Native.Nat.{ℕ}
 use mathlib.Core.Path.{_≡_}
 use mathlib.Core.Bool.{Bool, true, false}
 use mathlib.Core.List.{List}
 use mathlib.Core.Logic.{_⊎_}
 use lib.Dec.{eqb}
-use Rattle.meaning.specs.Tests.{both, either, fails, pick, some-of, each-of}
+use Rattle.meaning.specs.Tests.{both, either, fails, pick, some-of, each-of, Has}
 use Rattle.meaning.specs.Literals.{says-true, says-false, fluent-of, positive, among}
-use Rattle.meaning.specs.Requests.{Effect, Executability, Knowledge, Table, Sequence, done, item, Item, act, branching, Branches, none, branch}
+use Rattle.meaning.specs.Requests.{Effect, Executability, Knowledge, Table, Sequence, done, item, Item, act, branching, Branches, none, branch, Request, values}
 
 -- An a-state is a pair of disjoint sets: the fluents that are true, and those that are false.
 pub record Pair : Type 0 where
@@ -132,3 +132,7 @@ module _ (t : Table) where
   -- Kwhether f after c.
   abbrev pub Kwhether-after : ℕ → Sequence ℕ → Type 0
   Kwhether-after f c = Entails c (λ σ. either (true-in σ (says-true f)) (false-in σ (says-true f)))
+
+-- What a request asks is entailed: the goals are known after the plan, and of each whether fluent it is known whether.
+abbrev pub Entailed : Request → Type 0
+Entailed r = Knows-after (r .table) (values (r .goals)) (r .plan) × ((f : ℕ) → Has (values (r .whether)) f → Kwhether-after (r .table) f (r .plan))

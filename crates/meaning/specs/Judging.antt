@@ -41,3 +41,10 @@ judge lim request lent budget =
     pick (eqb (length lent) (lim .state))
     (λ _. judge-settled lim lent budget (settled lim request))
     (λ _. record { answer = record { number = Limits.state-length; input = Limits.neither-input; place = 0; count = 0 }; state = lent })
+
+-- WHAT STATEMENTS SAY OF IT. The answer's number, and the count of the whole walk.
+abbrev pub number : Limits → (request lent : List ℕ) → (budget : ℕ) → ℕ
+number lim request lent budget = judge lim request lent budget .answer .number
+
+abbrev pub count : Limits → Request → ℕ
+count lim r = walked r (first-state lim (r .table)) .count

@@ -1,5 +1,6 @@
 -- A derivation written in a layout: the bytes that say its lines, and the list that closes them (FORMAT 10.1, 17.3 to 17.7).
-use Prim.Native.Nat.{ℕ, suc, _-_, _/_, _%_, _<_}
+use Prim.Native.Nat.{ℕ, suc, _+_, _-_, _/_, _%_, _≤_, _<_}
+use mathlib.Core.Path.{_≡_}
 use mathlib.Core.Bool.{Bool}
 use mathlib.Core.List.{List, [], _∷_, _++_}
 use lib.ListN.{length, getD}
@@ -9,9 +10,9 @@ use Rattle.meaning.specs.Tests.{each-of}
 use Rattle.meaning.specs.Limits
 use Rattle.meaning.specs.Limits.{Limits}
 use Rattle.meaning.specs.Requests.{Sequence, done, item, Item, act, branching, Branches, none, branch}
-use Rattle.meaning.specs.Reading.{Got, next}
+use Rattle.meaning.specs.Reading.{Got, got, next}
 use Rattle.meaning.specs.Refusals.{settled}
-use Rattle.meaning.specs.Derivations.{Conclusion, knows, knows-whether, Line, Derivation, read-derivation, a-rule}
+use Rattle.meaning.specs.Derivations.{Conclusion, knows, knows-whether, Line, Derivation, read-derivation, a-rule, check}
 
 -- Each number is a byte, as in every input of a call.
 abbrev pub Bytes : List ℕ → Type 0
@@ -95,3 +96,20 @@ unfoldable pub read-for : Limits → Layout → (request derivation : List ℕ) 
 read-for lim layout request derivation =
     next (settled lim request) λ r e.
     read-derivation lim (r .table .fluents) (r .table .actions) derivation layout
+
+-- The derivation that d says, written in the closing layout with a closing list that names its last line.
+pub record In-closing-layout (lim : Limits) (request d : List ℕ) : Type 0 where
+  pub says : Derivation
+  pub end : ℕ
+  pub read : read-for lim Plain request d ≡ got says end
+  pub same : written Plain says ≡ d
+  pub bytes : Bytes (written Closing (closed-by-last says))
+  pub longer : length (written Closing (closed-by-last says)) ≡ length d + 3
+  pub accepted : length (written Closing (closed-by-last says)) ≤ lim .derivation → check lim Closing request (written Closing (closed-by-last says)) .number ≡ Limits.verified
+
+-- The derivation D that d says, written in the plain layout: its closing list is left out.
+pub record In-plain-layout (lim : Limits) (request d : List ℕ) (D : Derivation) : Type 0 where
+  pub same : written Closing D ≡ d
+  pub bytes : Bytes (written Plain D)
+  pub shorter : length (written Plain D) + 3 ≡ length d
+  pub accepted : check lim Plain request (written Plain D) .number ≡ Limits.verified

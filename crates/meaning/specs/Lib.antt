@@ -11,6 +11,12 @@ pub mod Judging
 pub mod Worlds
 pub mod Approximation
 pub mod Paths
+pub mod Reported
+pub mod SameLines
 pub mod Derivations
+pub mod Rules
+pub mod Accepted
+pub mod Answers
 pub mod Showing
 pub mod Layouts
+pub mod AnswerParts

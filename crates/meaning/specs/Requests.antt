@@ -42,6 +42,21 @@ mutual
     none : Branches L
     branch : (condition : List L) → Sequence L → Branches L → Branches L
 
+-- A plan with every place taken as 0: what is left of it wherever it stands.
+module _ {L : Type 0} where
+  abbrev mutual
+    pub unplaced : Sequence L → Sequence L
+    unplaced done = done
+    unplaced (item i rest) = item (unplaced-item i) (unplaced rest)
+
+    pub unplaced-item : Item L → Item L
+    unplaced-item (act p a) = act 0 a
+    unplaced-item (branching p bs) = branching 0 (unplaced-branches bs)
+
+    pub unplaced-branches : Branches L → Branches L
+    unplaced-branches none = none
+    unplaced-branches (branch c b bs) = branch c (unplaced b) (unplaced-branches bs)
+
 -- An entry of the goals or of the whether list (FORMAT 2.18, 2.19).
 pub record Entry : Type 0 where
   pub place : ℕ

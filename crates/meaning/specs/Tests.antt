@@ -1,6 +1,8 @@
--- Tests that compute, and the choice between two values by a test. Definitions only.
+-- Tests that compute, the choice between two values by a test, and what is said of the entries of a list. Definitions only.
+use mathlib.Core.Path.{_≡_}
 use mathlib.Core.Bool.{Bool, true, false}
 use mathlib.Core.List.{List, [], _∷_}
+use mathlib.Core.Logic.{_⊎_}
 
 unfoldable pub both : Bool → Bool → Bool
 both true b = b
@@ -35,3 +37,17 @@ module _ {A : Type 0} where
   unfoldable pub those-of : (A → Bool) → List A → List A
   those-of p [] = []
   those-of p (x ∷ xs) = pick (p x) (λ _. x ∷ those-of p xs) (λ _. those-of p xs)
+
+  -- The list has the entry.
+  abbrev pub Has : List A → A → Type 0
+  Has [] x = ⊥
+  Has (y ∷ ys) x = (x ≡ y) ⊎ Has ys x
+
+  -- It is so of each entry, or of some.
+  abbrev pub Each : (A → Type 0) → List A → Type 0
+  Each P [] = Unit {0}
+  Each P (x ∷ xs) = P x × Each P xs
+
+  abbrev pub Some : (A → Type 0) → List A → Type 0
+  Some P [] = ⊥
+  Some P (x ∷ xs) = P x ⊎ Some P xs

@@ -1,5 +1,6 @@
 -- The walk of a plan over states: what it counted and how it ended (FORMAT section 8). There is no budget here.
 use Prim.Native.Nat.{ℕ, _+_}
+use mathlib.Core.Path.{_≡_}
 use mathlib.Core.Bool.{Bool}
 use mathlib.Core.List.{List, [], _∷_}
 use Rattle.meaning.specs.Tests.{pick, each-of}
@@ -19,6 +20,10 @@ pub record Walked (S : Type 0) : Type 0 where
   pub end : End S
 
 module _ {S : Type 0} where
+  -- Nothing is missed, and no path stops.
+  abbrev pub Verified : Walked S → Type 0
+  Verified w = w .end ≡ fine
+
   -- An item that can't be run isn't counted (FORMAT 8.12).
   unfoldable pub stuck-at : ℕ → S → Walked S
   stuck-at p s = record { count = 0; end = stuck p s }

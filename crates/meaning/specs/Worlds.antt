@@ -90,8 +90,10 @@ table-domain t = record { may-be-run = may-be-run t; sensing = sensing t; shows 
 abbrev pub Facts : Table → Worlds World
 Facts t w = each-of (holds w) (t .facts) ≡ true
 
--- At the end each goal holds in every possible world, and each whether fluent has one value across them (FORMAT 11.11, 11.12).
+-- At the end the true world is one of the possible ones, each goal holds in every one of them, and each whether fluent has one value across
+-- them (FORMAT 9.3, 11.11, 11.12).
 pub record Reached (r : Request) (v : World) (P : Worlds World) : Type 0 where
+  pub true-world : P v
   pub goals : (w : World) → P w → each-of (holds w) (values (r .goals)) ≡ true
   pub whether : (w u : World) → P w → P u → map w (values (r .whether)) ≡ map u (values (r .whether))
 

@@ -12,7 +12,7 @@ use Rattle.meaning.specs.Limits.{format}
 use Rattle.meaning.specs.Requests.{Effect, Executability, Knowledge}
 use Rattle.meaning.specs.Reading.{Got, got, fault, next, byte-at, count-at, below-at, list-at, body-at, effect-at, executability-at, knowledge-at, repeated, section-at}
 use Rattle.meaning.proofs.SettledLaws.{got-same, next-got, fault≢got}
-use Rattle.meaning.proofs.RangeLaws.{not-refused, after-got}
+use Rattle.meaning.proofs.RangeLaws.{not-refused, after-got, repeated-length}
 use Rattle.bytes.specs.declared.bytes.Read.{Read}
 use Rattle.bytes.specs.declared.bytes.Read.the-variants.{Value, Fault}
 use Rattle.bytes.specs.declared.lists.Passed.{Passed}
@@ -192,15 +192,6 @@ module _ (n m : ℕ) (s : List ℕ) where
   stops effects p k q e = fault-by (λ (x : Effect). x .action) effect-read (λ x i. refl) (λ k i. refl) (effect-at format n m s p) k q e
   stops executability p k q e = fault-by (λ (x : Executability). x .action) executability-read (λ x i. refl) (λ k i. refl) (executability-at format n m s p) k q e
   stops knowledge p k q e = fault-by (λ (x : Knowledge). x .action) knowledge-read (λ x i. refl) (λ k i. refl) (knowledge-at format n m s p) k q e
-
--- As many lines as the count says.
-pub repeated-length : {A : Type 0} (line : ℕ → Got A) (left p : ℕ) (xs : List A) (q : ℕ) → repeated line left p ≡ got xs q → length xs ≡ left
-unfolding repeated
-repeated-length line zero p xs q e = ap length (sym (got-same e))
-repeated-length line (suc left) p xs q e =
-    after-got (line p) _ e λ x i _ e′.
-    after-got (repeated line left i) _ e′ λ ys j eys e″.
-    ap length (sym (got-same e″)) ∙ ap suc (repeated-length line left i ys j eys)
 
 -- THE LOOP. What is noted of so many lines from place p on, the first of which has number k + 1.
 module _ {A : Type 0} (note : ℕ → A → List ℕ → List ℕ) where

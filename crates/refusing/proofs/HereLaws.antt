@@ -7,12 +7,13 @@ use mathlib.Core.List.{List}
 use lib.ListN.{length, getD}
 use lib.Dec.{eqb}
 use borrow.Author.Tests.{eqb-true}
+use Rattle.meaning.specs.Tests.{Has}
 use Rattle.meaning.specs.Limits.{format}
 use Rattle.meaning.specs.Literals.{complement, among, exclusive}
 use Rattle.meaning.specs.Requests.{Effect}
 use Rattle.meaning.specs.Reading
 use Rattle.meaning.specs.Reading.{got, count-at, below-at, bound-of, literals, entry-at, entries-at, list-at, body-at, effect-at}
-use Rattle.meaning.proofs.TestLaws.{by-test, some-has, Has}
+use Rattle.meaning.proofs.TestLaws.{by-test, some-has}
 use Rattle.meaning.proofs.SettledLaws.{got-same}
 use Rattle.meaning.proofs.RangeLaws.{not-refused, after-got, list-consistent}
 use Rattle.reading.specs.Listed.{bytes-from, listed, List-here}

@@ -9,9 +9,9 @@ use lib.ListN.{length, getD, set, length-set}
 use lib.Seq.{getD-set-same}
 use lib.Dec.{eqb, ltb}
 use borrow.Author.Tests.{eqb-true, eqb-false, lt-ltb}
-use Rattle.meaning.specs.Tests.{either, some-of}
+use Rattle.meaning.specs.Tests.{either, some-of, Has}
 use Rattle.meaning.specs.Requests.{Effect}
-use Rattle.meaning.proofs.TestLaws.{by-test, either-right, Has}
+use Rattle.meaning.proofs.TestLaws.{by-test, either-right}
 use Rattle.reading.specs.Noted.{effects, link, effect-noted, note-line, lines-noted}
 use Rattle.refusing.specs.InTable.{effect-from, Effect-here, place-in, effects-in}
 use Rattle.refusing.proofs.KeptLaws.{kept, link-kept, note-long}

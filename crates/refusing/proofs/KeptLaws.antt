@@ -7,8 +7,9 @@ use mathlib.Core.Logic.{inl, inr}
 use lib.ListN.{length, getD, set, length-set}
 use lib.Seq.{getD-set-other}
 use lib.Dec.{ltb}
+use Rattle.meaning.specs.Tests.{Has}
 use Rattle.meaning.specs.Requests.{Sequence}
-use Rattle.meaning.proofs.TestLaws.{by-test, pick-true, pick-false, Has}
+use Rattle.meaning.proofs.TestLaws.{by-test, pick-true, pick-false}
 use Rattle.reading.specs.Noted.{Section, effects, executability, knowledge, Line, link, effect-noted, run-noted, raised, pair-noted, note-line, lines-noted}
 use Rattle.reading.specs.Planned.{items-of, plan-noted, sequence-noted}
 use Rattle.refusing.proofs.PlanKept.{rest-length, rest-other}

@@ -6,19 +6,18 @@ use mathlib.Core.List.{List, _∷_}
 use lib.ListN.{length, getD, set, length-set}
 use lib.Seq.{getD-set-same}
 use lib.Dec.{eqb, ltb}
-use Rattle.meaning.specs.Tests.{either, some-of}
+use Rattle.meaning.specs.Tests.{either, some-of, Has}
 use Rattle.meaning.specs.Limits.{format}
 use Rattle.meaning.specs.Requests.{Effect, Executability, Knowledge, Table, Request}
 use Rattle.meaning.specs.Reading
 use Rattle.meaning.specs.Reading.{Got, got, fault, literals, byte-at, count-at, below-at, list-at, body-at, effect-at, executability-at, knowledge-at, repeated, section-at, plan-at, table-at, request-at, read-request}
-use Rattle.meaning.proofs.TestLaws.{Has}
 use Rattle.meaning.proofs.SettledLaws.{got-same}
-use Rattle.meaning.proofs.RangeLaws.{not-refused, after-got, count-within, section-read}
+use Rattle.meaning.proofs.RangeLaws.{not-refused, after-got, count-within, section-read, repeated-length}
 use Rattle.reading.specs.Noted.{Section, effects, executability, knowledge, Line, effect-noted, note-line, count-slot, section-noted, table-noted}
 use Rattle.reading.specs.Planned.{items-of, bytes-of, plan-noted}
 use Rattle.reading.specs.Requested.{goals-place, plan-place, places-noted, request-noted}
 use Rattle.refusing.specs.InTable.{effect-from, Effect-here, place-in, effects-in, Effects-here, knowledge-from, knowledge-in, Knowledge-here, Acting}
-use Rattle.reading.proofs.SectionLaws.{got-place, byte-got, number-got, repeated-length}
+use Rattle.reading.proofs.SectionLaws.{got-place, byte-got, number-got}
 use Rattle.reading.proofs.PlanSizes.{sequence-read, list-through}
 use Rattle.reading.proofs.RequestLaws.{placed-length}
 use Rattle.refusing.proofs.HereLaws.{effect-here}

@@ -13,14 +13,14 @@ use lib.Dec.{eqb, ltb}
 use mir.Syntax.{w64}
 use mir.Val.{Fits}
 use borrow.Author.Tests.{eqb-true, eq-eqb, ne-eqb, lt-ltb, le-ltb}
-use Rattle.meaning.specs.Tests.{both, either, fails, pick, some-of, each-of}
+use Rattle.meaning.specs.Tests.{both, either, fails, pick, some-of, each-of, Has}
 use Rattle.meaning.specs.Limits.{format}
 use Rattle.meaning.specs.Literals.{complement, fluent-of, among, exclusive}
 use Rattle.meaning.specs.Requests.{Effect}
 use Rattle.meaning.specs.States.{State, possible, state-of}
 use Rattle.meaning.specs.Refusals
 use Rattle.meaning.specs.Refusals.{contradictory, contradiction-in, mixed-in}
-use Rattle.meaning.proofs.TestLaws.{by-test, clash, both-left, both-right, pick-true, pick-false, Has, has-some}
+use Rattle.meaning.proofs.TestLaws.{by-test, clash, both-left, both-right, pick-true, pick-false, has-some}
 use Rattle.meaning.proofs.LiteralLaws.{complement-other, fluent-complement, same-fluent}
 use Rattle.meaning.proofs.RefusalLaws.{exclusive-sym}
 use Rattle.meaning.proofs.ToldLaws.{Clear, state-known}

@@ -1,35 +1,34 @@
 -- Rules 3 and 10: a citation says a reading just where its list, its count, its items' bytes and its conclusion do; the readings of the first unknown
 -- fluent are those with it true and then those with it false, and the citations are used up in that order. As many lines are used as there are
 -- readings, so that how many are cited need not be asked beforehand. Assumes nothing.
-use Prim.Native.Nat.{ℕ, zero, suc, _+_, _-_, _*_, _^_, _≤_, _<_}
+use Prim.Native.Nat.{ℕ, zero, suc, _+_, _-_, _*_, _≤_, _<_}
 use native.Mathlib.Omega.{arith}
-use native.Mathlib.Nat.{pow-suc}
 use native.Mathlib.Decide.{decLt}
 use mathlib.Core.Path.{_≡_, refl, sym, _∙_, ap, ap₂, subst}
 use mathlib.Core.Bool.{Bool, true, false}
 use mathlib.Core.List.{List, [], _∷_, _++_}
-use lib.ListN.{length, getD, set, take, drop, length-map, length-append, drop-of-length-le}
+use lib.ListN.{length, getD, set, take, drop, length-map, drop-of-length-le}
 use lib.Seq.{drop-cons, set-set}
 use lib.Dec.{eqb, ltb}
 use mir.Syntax.{w64}
 use mir.Val.{Fits}
-use borrow.Author.Tests.{eqb-false, eq-eqb, ne-eqb, ltb-true, lt-ltb, le-ltb}
+use borrow.Author.Tests.{eq-eqb, ne-eqb, ltb-true, lt-ltb, le-ltb}
 use Rattle.meaning.specs.declared.Layout.{Layout}
-use Rattle.meaning.specs.Tests.{both, pick, each-of}
+use Rattle.meaning.specs.Tests.{both, each-of}
 use Rattle.meaning.specs.Limits.{format}
-use Rattle.meaning.specs.Literals.{says-true, says-false}
 use Rattle.meaning.specs.Requests.{Table, Sequence, done, item, act}
 use Rattle.meaning.specs.Lines.{sensing}
 use Rattle.meaning.specs.States.{State, told, state-of, can-be-run, unknown-sensed, readings}
 use Rattle.meaning.specs.Derivations.{Conclusion, knows, Line, same-list, same-plan, literals-of, same-conclusion, says, states-of, each-reads, reads, senses-first, rule-3, cited-by}
-use Rattle.meaning.proofs.TestLaws.{by-test, clash, both-left, both-right, pick-true, pick-false}
+use Rattle.meaning.proofs.TestLaws.{by-test, both-left, both-right, pick-true, pick-false}
+use Rattle.meaning.proofs.ReadingsExact.{count-settled}
 use Rattle.reading.specs.Listed.{bytes-from, listed}
 use Rattle.reading.specs.Planned.{bytes-of}
 use Rattle.refusing.specs.Branchings.{sequence-place}
 use Rattle.refusing.specs.Plans.{own-items}
 use Rattle.steps.specs.AtHand.{Marked}
+use Rattle.steps.specs.Small.{Small}
 use Rattle.steps.specs.Steps.{unknown-above, first-of}
-use Rattle.steps.proofs.SmallActions.{Small}
 use Rattle.steps.proofs.SensingLaws.{first-marked, second-marked, told-true, told-false, unknown-after-set, unknown-first, unknown-first-above, unknown-no-first, sensed-first, sensed-no-first}
 use Rattle.steps.proofs.ToldMarks.{marked-as}
 use Rattle.ruling.specs.declared.readings.Used.{Used}
@@ -42,7 +41,7 @@ use Rattle.ruling.specs.Readings.{lines-at, reads-at, used, fluents-from
 use Rattle.comparing.proofs.CodedLaws.{same-own, same-coded, none-done, coded-length}
 use Rattle.comparing.proofs.CodedPlaces.{Act-there, act-there, branching-there}
 use Rattle.comparing.proofs.PlanLaws.{plan-part, items-part}
-use Rattle.ruling.proofs.RuleLaws.{no-left, no-right, yes-left, plan-of, plan-counted, own-count}
+use Rattle.ruling.proofs.RuleLaws.{no-left, no-right, yes-left, plan-of, own-count}
 
 -- ONE CITATION, a line at the spot v, whose plan's count stands at q.
 module _ (d : List ℕ) (v : Spot) (q : ℕ) (after : q ≡ sequence-place d (v .line)) (some : Stands-some d v) where
@@ -368,34 +367,6 @@ module _ (rest : Sequence ℕ) (Y : Conclusion) where
           | no far ↦ ap (each-reads rest Y (s ∷ ss)) (drop-of-length-le cited {i = k} (omega (arith, far)))
               ∙ ap (all-used (length cited)) (sym (pick-false (reads-at rest Y cited other s k) (λ _. used rest Y cited other ss (k + 1)) (λ _. Fails) (reads-far s k (omega (arith, far)))))
         ]
-
-  each-length : (ss : List State) (ls : List Line) → each-reads rest Y ss ls ≡ true → length ss ≡ length ls
-  unfolding each-reads
-  each-length [] [] e = refl
-  each-length [] (l ∷ ls) e = clash e refl
-  each-length (s ∷ ss) [] e = clash e refl
-  each-length (s ∷ ss) (l ∷ ls) e = ap suc (each-length ss ls (both-right _ _ e))
-
--- As many states as readings.
-states-count : (fs : List ℕ) (s : State) → length (states-of (readings fs s)) ≡ 2 ^ length fs
-unfolding states-of readings
-states-count [] s = refl
-states-count (f ∷ fs) s =
-    let one = states-count fs (told (says-true f) s) in
-    let two = states-count fs (told (says-false f) s) in
-    let up = pow-suc 2 (length fs) in
-    length-append (states-of (readings fs (told (says-true f) s))) (states-of (readings fs (told (says-false f) s))) ∙ omega (arith, one, two, up)
-
-count-settled : (rest : Sequence ℕ) (Y : Conclusion) (fs : List ℕ) (s : State) (cited : List Line)
-    → pick (eqb (2 ^ length fs) (length cited)) (λ _. each-reads rest Y (states-of (readings fs s)) cited) (λ _. false) ≡ each-reads rest Y (states-of (readings fs s)) cited
-count-settled rest Y fs s cited =
-    by-test (eqb (2 ^ length fs) (length cited))
-    (λ t. pick-true _ _ _ t)
-    (λ f.
-    pick-false _ _ _ f
-    ∙ by-test (each-reads rest Y (states-of (readings fs s)) cited)
-    (λ t. absurd (eqb-false (2 ^ length fs) (length cited) f (sym (states-count fs s) ∙ each-length rest Y (states-of (readings fs s)) cited t)))
-    sym)
 
 -- The states by the first unknown fluent are all.
 sensed-states : (t : Table) (a : ℕ) (marks : State) → Marked marks → (f : ℕ) → f ≡ first-of (unknown-sensed t a marks) → states-from t a marks f ≡ states-of (readings (unknown-sensed t a marks) marks)

@@ -24,7 +24,7 @@ use Rattle.refusing.specs.Branchings.{sequence-place, no-item}
 use Rattle.refusing.specs.Plans.{own-items}
 use Rattle.refusing.proofs.PlanOverlaps.{count-zero}
 use Rattle.steps.specs.AtHand.{request-in, Marked}
-use Rattle.steps.proofs.SmallActions.{Small}
+use Rattle.steps.specs.Small.{Small}
 use Rattle.steps.proofs.SensingLaws.{after-marked}
 use Rattle.steps.proofs.ToldMarks.{marked-as}
 use Rattle.comparing.specs.declared.spots.Spot.{Spot}

@@ -10,10 +10,10 @@ use lib.Dec.{eqb}
 use mir.Syntax.{w64}
 use mir.Val.{Fits}
 use borrow.Author.Tests.{eq-eqb, ne-eqb}
-use Rattle.meaning.specs.Tests.{both, either, fails, pick, some-of, each-of}
+use Rattle.meaning.specs.Tests.{both, either, fails, pick, some-of, each-of, Has}
 use Rattle.meaning.specs.Literals.{fluent-of, complement}
 use Rattle.meaning.specs.States.{State, mark-of, known, possible, told, can-be-run}
-use Rattle.meaning.proofs.TestLaws.{by-test, clash, either-right, each-mono, Has, pick-true, pick-false}
+use Rattle.meaning.proofs.TestLaws.{by-test, clash, either-right, each-mono, pick-true, pick-false}
 use Rattle.meaning.proofs.PickLaws.{pick-has}
 use Rattle.meaning.proofs.LiteralLaws.{fluent-complement}
 use Rattle.meaning.proofs.ToldLaws.{either-none, either-assoc}

@@ -10,8 +10,8 @@ use lib.ListN.{length, getD, set, length-set}
 use lib.Seq.{getD-set-same}
 use lib.Dec.{eqb}
 use borrow.Author.Tests.{eqb-true, eqb-false}
-use Rattle.meaning.specs.Tests.{both, either, pick, some-of, those-of}
-use Rattle.meaning.proofs.TestLaws.{by-test, pick-true, pick-false, some-those, Has}
+use Rattle.meaning.specs.Tests.{both, either, pick, some-of, those-of, Has}
+use Rattle.meaning.proofs.TestLaws.{by-test, pick-true, pick-false, some-those}
 use Rattle.reading.specs.Noted.{link, lines-noted}
 use Rattle.refusing.proofs.KeptLaws.{kept, link-kept}
 use Rattle.steps.specs.Lines.{Chain}

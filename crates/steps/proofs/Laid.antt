@@ -20,10 +20,11 @@ use Rattle.refusing.proofs.PlanOverlaps.{some-item}
 use Rattle.refusing.proofs.ReadLaws.{Parts, parts, tabled-long, request-held}
 use Rattle.refusing.proofs.SettleLaws.{blank-long}
 use Rattle.steps.specs.AtHand.{request-in, At-hand}
+use Rattle.steps.specs.Small.{Small, Small-item, Small-under}
 use Rattle.steps.specs.Rests.{rest-in, rest-within, rest-under, rest-at, after-first, span, onward, Next, Branches-laid, Inside-laid, Item-laid}
 use Rattle.steps.proofs.HandLaws.{request-is}
 use Rattle.steps.proofs.NextSlots.{Nexts, Inside-nexts, Under-nexts, nexts-agree, plan-nexts}
-use Rattle.steps.proofs.SmallActions.{Small, Small-item, Small-under, plan-small}
+use Rattle.steps.proofs.SmallActions.{plan-small}
 use Rattle.steps.proofs.RestLaws.{rest-first, rest-inner, rest-later, under-here, under-later, rest-start, rest-past}
 
 module _ (s t : List ℕ) (plan : Sequence ℕ) (most : items-of plan ≤ 1024) where

@@ -10,9 +10,9 @@ use lib.ListN.{length, getD, set, length-set}
 use lib.Seq.{getD-set-same}
 use lib.Dec.{eqb, ltb}
 use borrow.Author.Tests.{eqb-true, eqb-false, eq-eqb, ltb-true, ltb-false, lt-ltb}
-use Rattle.meaning.specs.Tests.{both, either, some-of}
+use Rattle.meaning.specs.Tests.{both, either, some-of, Has}
 use Rattle.meaning.specs.Requests.{Knowledge}
-use Rattle.meaning.proofs.TestLaws.{by-test, clash, same-test, both-left, both-right, both-true, either-left, either-right, either-split, pick-true, pick-false, Has}
+use Rattle.meaning.proofs.TestLaws.{by-test, clash, same-test, both-left, both-right, both-true, either-left, either-right, either-split, pick-true, pick-false}
 use Rattle.reading.specs.Noted.{knowledge, raised, pair-noted, note-line, lines-noted}
 use Rattle.refusing.proofs.KeptLaws.{kept, raised-kept, raised-long, note-long}
 

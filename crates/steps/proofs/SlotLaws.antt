@@ -6,8 +6,8 @@ use mathlib.Core.Path.{_≡_, refl, _∙_, ap}
 use mathlib.Core.List.{List, []}
 use lib.ListN.{length, getD, set, length-set}
 use lib.Seq.{getD-set-same}
+use Rattle.meaning.specs.Tests.{Has}
 use Rattle.meaning.specs.Requests.{Effect, Executability, Knowledge, Request}
-use Rattle.meaning.proofs.TestLaws.{Has}
 use Rattle.reading.specs.Noted.{Section, effects, executability, knowledge, Line, link, effect-noted, run-noted, note-line, count-slot, section-noted, table-noted}
 use Rattle.reading.specs.Planned.{items-of, plan-noted}
 use Rattle.reading.specs.Requested.{goals-place, plan-place, places-noted, request-noted}

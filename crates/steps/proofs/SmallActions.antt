@@ -1,28 +1,16 @@
 -- Each action of a plan that was read is below 64: an item is read as an action only where its byte is below the actions' count, which is at
 -- most 64. Assumes nothing.
-use Prim.Native.Nat.{ℕ, zero, suc, _+_, _≤_, _<_}
+use Prim.Native.Nat.{ℕ, zero, suc, _+_, _≤_}
 use native.Mathlib.Omega.{arith}
 use mathlib.Core.Path.{_≡_}
 use mathlib.Core.List.{List}
 use borrow.Author.Tests.{leb-false}
 use Rattle.meaning.specs.Limits.{format}
-use Rattle.meaning.specs.Requests.{Sequence, done, item, Item, act, branching, Branches, none, branch}
+use Rattle.meaning.specs.Requests.{Sequence}
 use Rattle.meaning.specs.Reading.{got, Met, byte-at, two-bytes-at, count-at, body-at, item-at, items-at, sequence-at, branches-at, branching-at, plan-at}
 use Rattle.reading.proofs.PlanSizes.{On, got-on, fault-on, pick-on, next-on}
 use Rattle.refusing.proofs.WrittenLaws.{anything}
-
-unfoldable mutual
-  pub Small : Sequence ℕ → Type 0
-  Small done = Unit {0}
-  Small (item i rest) = Small-item i × Small rest
-
-  pub Small-item : Item ℕ → Type 0
-  Small-item (act p a) = a < 64
-  Small-item (branching p bs) = Small-under bs
-
-  pub Small-under : Branches ℕ → Type 0
-  Small-under none = Unit {0}
-  Small-under (branch c b rest) = Small b × Small-under rest
+use Rattle.steps.specs.Small.{Small, Small-item, Small-under}
 
 module _ (n m : ℕ) (s : List ℕ) (few : m ≤ 64) where
   abbrev Inner : ℕ → Type 0

@@ -5,11 +5,11 @@ use native.Mathlib.Omega.{arith}
 use mathlib.Core.Path.{_≡_, refl, sym, _∙_, ap, subst}
 use mathlib.Core.List.{List}
 use lib.ListN.{length, getD}
+use Rattle.meaning.specs.Tests.{Has}
 use Rattle.meaning.specs.Limits.{format}
 use Rattle.meaning.specs.Requests.{Executability, Knowledge, Table, Request}
 use Rattle.meaning.specs.Reading
 use Rattle.meaning.specs.Reading.{Got, got, fault, literals, bound-of, below-at, list-at, body-at, executability-at, knowledge-at, placed, plan-at, table-at, request-at, read-request}
-use Rattle.meaning.proofs.TestLaws.{Has}
 use Rattle.meaning.proofs.SettledLaws.{got-same}
 use Rattle.meaning.proofs.RangeLaws.{not-refused, after-got, section-read}
 use Rattle.reading.specs.Requested.{goals-place}

@@ -1,4 +1,5 @@
 pub mod AtHand
+pub mod Small
 pub mod Lines
 pub mod Rests
 pub mod Steps

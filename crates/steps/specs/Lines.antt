@@ -5,10 +5,9 @@ use mathlib.Core.Bool.{Bool, true}
 use mathlib.Core.List.{List, [], _∷_}
 use lib.ListN.{getD}
 use lib.Dec.{eqb, ltb}
-use Rattle.meaning.specs.Tests.{both, some-of, each-of}
+use Rattle.meaning.specs.Tests.{both, some-of, each-of, Has}
 use Rattle.meaning.specs.Reading.{placed}
 use Rattle.meaning.specs.Lines.{effects-of, executability-of, knowledge-of, allowed, given, sensing, senses}
-use Rattle.meaning.proofs.TestLaws.{Has}
 use Rattle.reading.specs.Noted.{effect-place, effect-before, run-place, run-before, effect-last, run-last, sensed-from, sensed-to, sensed, goals-slot}
 use Rattle.reading.specs.Listed.{listed, List-here}
 use Rattle.refusing.specs.InTable.{Effect-here}

@@ -35,6 +35,8 @@ enum Request {
     Changed(usize, u8),
     /// So many bytes, all the same.
     Run(usize, u8),
+    /// Eight branchings one inside another, in the last of them so many actions and a ninth branching's byte.
+    Nested(usize),
 }
 
 use Request::*;
@@ -42,7 +44,7 @@ use Request::*;
 /// A sentence, the case, the request, the budget, the length of the lent state; number, place and count; the state where it is written.
 type Row = (&'static str, &'static str, Request, u32, usize, [u64; 3], Option<&'static str>);
 
-const ROWS: [Row; 40] = [
+const ROWS: [Row; 44] = [
     ("13.17", "1", FileA, BUDGET, 64, [0, 0, 5], None),
     ("13.18", "2, open unseen", From29("0 1 1 1 7 1 2"), BUDGET, 64, [1, 33, 2], Some("?+-?")),
     ("13.19", "3, branch unseen", From29Then("0 1", 32), BUDGET, 64, [2, 31, 0], Some("?---")),
@@ -77,6 +79,10 @@ const ROWS: [Row; 40] = [
     ("13.56", "both end states miss", From29("0 1 0 1 2 0"), BUDGET, 64, [1, 33, 3], Some("+---")),
     ("13.57", "a miss, then one that cannot be run", From29("0 2 0 255 1 1 0 0 0 1 2 0"), BUDGET, 64, [2, 32, 2], Some("----")),
     ("13.58", "size before order", Changed(3, 8), BUDGET, 64, [13, 3, 0], None),
+    ("13.59", "18, a branching inside another", Bytes("2 1 0 0 0 0 0 1 255 1 0 0 1 255 2 1 0 0 0 1 2 0 0 0 0"), BUDGET, 64, [18, 13, 0], None),
+    ("13.60", "21 and 19 at one byte", Nested(1_016), BUDGET, 64, [21, 1064, 0], None),
+    ("13.61", "19, an item earlier", Nested(1_015), BUDGET, 64, [19, 1063, 0], None),
+    ("13.62", "goals before whether entries", From29("0 0 1 2 1 0"), BUDGET, 64, [1, 32, 1], Some("?---")),
     ("8.17", "cannot be run at the budget's end", From29("0 2 0 255 1 1 0 0 0 1 2 0"), 2, 64, [2, 32, 2], Some("----")),
     ("8.17", "with a budget of one less", From29("0 2 0 255 1 1 0 0 0 1 2 0"), 1, 64, [3, 0, 1], None),
     ("8.18", "budget 0, cannot be run", From29("0 1 2 0 0"), 0, 64, [2, 31, 0], Some("?---")),
@@ -197,6 +203,10 @@ fn request(row: Request) -> Vec<u8> {
         Longer(byte) => [file_a, vec![byte]].concat(),
         Changed(place, byte) => file_a.iter().enumerate().map(|(i, &b)| if i == place { byte } else { b }).collect(),
         Run(length, byte) => vec![byte; length],
+        Nested(actions) => {
+            let count = (actions as u16 + 1).to_be_bytes();
+            [bytes("1 1 0 0 0 0"), [0, 1, 255, 1, 0].repeat(8), count.to_vec(), vec![0; actions], vec![255]].concat()
+        }
     }
 }
 

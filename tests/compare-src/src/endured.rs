@@ -1,5 +1,5 @@
 //! Hostile inputs through the exported calls: the independent program's answer, no write outside the lent bytes, and a time of at most
-//! a + b * count. They can also be written as files, for programs that read files.
+//! a + b * count, or a multiple of that where the calls are known to be slow. They can also be written as files, for programs that read files.
 
 use std::fmt::Write;
 use std::fs;
@@ -31,10 +31,10 @@ struct Taken {
 }
 
 impl Taken {
-    /// a + b * count.
-    fn bound(&self) -> Duration {
+    /// a + b * count, as many times as the calls are slower than those that a and b are of.
+    fn bound(&self, slower: u32) -> Duration {
         let counts = self.answer[3] as f64;
-        A + B.mul_f64(counts)
+        (A + B.mul_f64(counts)) * slower
     }
 
     /// Nanoseconds for each count, of large counts.
@@ -57,16 +57,16 @@ fn call(rng: &mut Rng, input: &Input) -> Result<Taken, String> {
 }
 
 /// The same within its time, or in words what went wrong.
-fn endured(rng: &mut Rng, input: &Input) -> Result<Taken, String> {
+fn endured(rng: &mut Rng, input: &Input, slower: u32) -> Result<Taken, String> {
     let mut best = call(rng, input)?;
     for _ in 1..TRIES {
-        if best.took > best.bound() {
+        if best.took > best.bound(slower) {
             let again = call(rng, input)?;
             best.took = best.took.min(again.took);
         }
     }
-    match best.took > best.bound() {
-        true => Err(format!("{:?} took {:?}, and at most {:?} is allowed", best.answer, best.took, best.bound())),
+    match best.took > best.bound(slower) {
+        true => Err(format!("{:?} took {:?}, and at most {:?} is allowed", best.answer, best.took, best.bound(slower))),
         false => Ok(best),
     }
 }
@@ -89,9 +89,9 @@ impl Largest {
     }
 }
 
-fn run(inputs: &[Named], largest: &mut Largest, print: bool) -> Result<(), String> {
+fn run(inputs: &[Named], slower: u32, largest: &mut Largest, print: bool) -> Result<(), String> {
     for (index, (name, input)) in inputs.iter().enumerate() {
-        let taken = endured(&mut Rng::new(1, FENCES, index as u64), input).map_err(|why| format!("{name}: {why}"))?;
+        let taken = endured(&mut Rng::new(1, FENCES, index as u64), input, slower).map_err(|why| format!("{name}: {why}"))?;
         largest.note(name, &taken);
         if print {
             let [number, _, place, count] = taken.answer;
@@ -102,8 +102,9 @@ fn run(inputs: &[Named], largest: &mut Largest, print: bool) -> Result<(), Strin
     Ok(())
 }
 
-/// Every input by name, with the deepest walks of a folder, and random ones; or only the one that takes minutes.
-pub fn compare(folder: Option<&str>) -> Result<String, String> {
+/// Every input by name, with the deepest walks of a folder, and random ones; or only the one that takes minutes. The calls may be so many times
+/// slower than the library's.
+pub fn compare(folder: Option<&str>, slower: u32) -> Result<String, String> {
     let none = (0, "none".to_string());
     let mut largest = Largest { without_count: none.clone(), each: none };
     let (named, random) = match folder {
@@ -111,10 +112,10 @@ pub fn compare(folder: Option<&str>) -> Result<String, String> {
         None => (hostile::longest(), Vec::new()),
     };
     println!("| input | number | place | count | time, us | ns for each count |\n|---|---|---|---|---|---|");
-    run(&named, &mut largest, true)?;
-    run(&random, &mut largest, false)?;
+    run(&named, slower, &mut largest, true)?;
+    run(&random, slower, &mut largest, false)?;
     let [(whole, slowest), (each, slowest_each)] = [largest.without_count, largest.each];
-    let (a, b, total) = (A.as_micros(), B.as_nanos(), named.len() + random.len());
+    let (a, b, total) = ((A * slower).as_micros(), (B * slower).as_nanos(), named.len() + random.len());
     println!("  a: {a} us allowed; without a count at most {} us: {slowest}", whole / 1_000);
     println!("  b: {b} ns allowed; for each of {LARGE} counts or more at most {each} ns: {slowest_each}");
     Ok(format!("hostile inputs: {total} agree, none writes outside the lent bytes, and each takes at most a + b * count"))

@@ -30,7 +30,7 @@ use words::{number, obey, Failure};
 const STACK: usize = 8 << 20;
 
 const HELP: &str = "usage: compare cases | compare deepest FOLDER | compare generated SEED COUNT | compare largest | compare derivations SEED COUNT \
-                    | compare whether SEED COUNT | compare hostile FOLDER | compare longest | compare write DEEPEST FOLDER BUDGET COUNT";
+                    | compare whether SEED COUNT | compare hostile FOLDER [SLOWER] | compare longest | compare write DEEPEST FOLDER BUDGET COUNT";
 
 fn main() -> ExitCode {
     obey("compare", STACK, |words| {
@@ -41,12 +41,10 @@ fn main() -> ExitCode {
             ["largest"] => largest::compare(),
             ["derivations", seed, count] => derivations::SERIES.compare(number(seed)?, number(count)?),
             ["whether", seed, count] => whether::SERIES.compare(number(seed)?, number(count)?),
-            ["hostile", folder] => endured::compare(Some(folder)),
-            ["longest"] => endured::compare(None),
-            ["write", deepest, folder, budget, count] => {
-                let budget = budget.parse().map_err(|_| Failure::Usage(format!("not a budget: {budget}")))?;
-                endured::write(deepest, folder, budget, number(count)?)
-            }
+            ["hostile", folder] => endured::compare(Some(folder), 1),
+            ["hostile", folder, slower] => endured::compare(Some(folder), number(slower)?),
+            ["longest"] => endured::compare(None, 1),
+            ["write", deepest, folder, budget, count] => endured::write(deepest, folder, number(budget)?, number(count)?),
             _ => return Err(Failure::Usage(HELP.to_string())),
         };
         let agreed = compared.map_err(|difference| Failure::Found(format!("DIFFERENCE: {difference}")))?;

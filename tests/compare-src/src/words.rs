@@ -1,6 +1,7 @@
 //! What the test programs share: each does what its words say, on a thread with enough stack.
 
 use std::process::ExitCode;
+use std::str::FromStr;
 use std::{env, thread};
 
 /// Why nothing good came of it.
@@ -35,6 +36,6 @@ pub fn obey(name: &str, stack: usize, work: fn(&[&str]) -> Result<String, Failur
     }
 }
 
-pub fn number(word: &str) -> Result<u64, Failure> {
+pub fn number<Number: FromStr>(word: &str) -> Result<Number, Failure> {
     word.parse().map_err(|_| Failure::Usage(format!("not a number: {word}")))
 }

@@ -4,6 +4,7 @@ use mathlib.Core.Path.{_≡_, sym, _∙_, ap}
 use mathlib.Core.Bool.{true}
 use mathlib.Core.List.{List}
 use mathlib.Core.Logic.{_↔_}
+use lib.ListN.{length}
 use contract.Lifetimes.{Lfts}
 use borrow.Fn.Kinds.{Dens, endedOf}
 use denote.Ref.{now}
@@ -17,14 +18,17 @@ use Rattle.meaning.specs.Requests.{Request}
 use Rattle.meaning.specs.Reading.{got}
 use Rattle.meaning.specs.Refusals.{settled}
 use Rattle.meaning.specs.States.{first-state}
-use Rattle.meaning.specs.Walk.{walked}
+use Rattle.meaning.specs.Walk.{Verified, walked}
 use Rattle.meaning.specs.Derivations.{check}
 use Rattle.meaning.specs.Worlds.{Carried-out}
-use Rattle.meaning.proofs.Accepted.{Accepted, check-answers}
-use Rattle.meaning.proofs.Sound.{Verified}
-use Rattle.glintstring.proofs.CheckPromises
+use Rattle.meaning.specs.Accepted.{Accepted}
+use Rattle.meaning.specs.Answers.{check-answers}
+use Rattle.meaning.specs.AnswerParts.{Check-input, Placed, named}
+use Rattle.meaning.specs.Tests.{Has}
+use Rattle.meaning.proofs.Table.{checking, answered, Row, table}
+use Rattle.promises.proofs.CheckPromises
 use Rattle.glintstring.proofs.derivations.check_whether.Kinds.{ps, r}
 use Rattle.glintstring.proofs.derivations.check_whether.Reads.{Pre, Post}
 
 -- WHAT THE CALL IS GIVEN, by the values of its two parameters.
 module _ (κs : Lfts 2) (given : Dens κs ps) where
@@ -55,6 +59,10 @@ module _ (κs : Lfts 2) (given : Dens κs ps) where
     pub numbered : among (answer .number) (check-answers Closing) ≡ true
     numbered = CheckPromises.numbered Closing request derivation _ number-is
 
+    -- The proved table (FORMAT 15.12): given a row's inputs, it answers what the row says.
+    pub answers-the-table : (row : Row) → Has table row → row .call ≡ checking Closing request derivation → row .gives ≡ answered answer
+    answers-the-table = CheckPromises.answers-the-table Closing request derivation answer meets
+
     -- Demand 2 (FORMAT 17.39): accepted, exactly where neither input is refused, each line follows from those that it cites, and the closing
     -- list names the goals' line and a line for each whether entry.
     pub accepted-exactly : (answer .number ≡ Limits.verified) ↔ Accepted format Closing request derivation
@@ -69,3 +77,14 @@ module _ (κs : Lfts 2) (given : Dens κs ps) where
     -- included.
     pub sound : answer .number ≡ Limits.verified → (x : Request) × (e : ℕ) × (settled format request ≡ got x e) × Carried-out x
     sound = CheckPromises.sound Closing request derivation _ number-is
+
+    -- Input, count and place are what the number says (FORMAT 4.26 to 4.44): neither input exactly with 0, and else one that the number allows.
+    pub input-exactly : Check-input answer
+    input-exactly = CheckPromises.input-exactly Closing request derivation answer meets
+
+    pub count-exactly : answer .count ≡ 0
+    count-exactly = CheckPromises.count-exactly Closing request derivation answer meets
+
+    -- Place 0 with 0 and 10, the named input's length with 11, and else that of a byte.
+    pub place-within : Placed (length (named answer request derivation)) (answer .number) (answer .place)
+    place-within = CheckPromises.place-within Closing request derivation answer meets

@@ -9,6 +9,7 @@ use mathlib.Core.List.{List, [], _∷_}
 use mathlib.Core.Logic.{inl, inr, ⊎-elim}
 use lib.ListN.{length, getD, replicate, List·getD-eq-default}
 use lib.Seq.{getD-set-other}
+use Rattle.meaning.specs.Tests.{Has}
 use Rattle.meaning.specs.Limits
 use Rattle.meaning.specs.Limits.{format}
 use Rattle.meaning.specs.Literals.{says-true, says-false, fluent-of}
@@ -16,16 +17,13 @@ use Rattle.meaning.specs.Requests.{Table, Request}
 use Rattle.meaning.specs.Lines.{effects-of}
 use Rattle.meaning.specs.States.{State, mark-of, known, told, told-all, state-of, first-state, known-after, mark-after, state-after}
 use Rattle.meaning.specs.Walk.{walked}
-use Rattle.meaning.proofs.TestLaws.{by-test, both-left, clash, either-split, pick-false, Has}
+use Rattle.meaning.proofs.TestLaws.{by-test, both-left, clash, either-split, pick-false}
 use Rattle.meaning.proofs.RangeLaws.{Ranged}
 use Rattle.meaning.proofs.StateLaws.{known-true, known-false, unknown-mark, after-length}
 use Rattle.meaning.proofs.PairLaws.{given-pair, after-mark, caused-within}
 use Rattle.meaning.proofs.SensingLaws.{sensed-within, read-is}
+use Rattle.glintstring.specs.Lent.{Blank-from}
 use Rattle.glintstring.proofs.KeepingLaws.{End-has, Kept-by, walked-kept}
-
--- No mark stands from fluent n up.
-abbrev pub Blank-from : ℕ → State → Type 0
-Blank-from n s = (f : ℕ) → n ≤ f → getD s f 0 ≡ 0
 
 module _ (n : ℕ) where
   told-blank : (l : ℕ) → fluent-of l < n → (s : State) → Blank-from n s → Blank-from n (told l s)

@@ -4,6 +4,7 @@ use mathlib.Core.Path.{_≡_, sym, _∙_}
 use mathlib.Core.Bool.{true}
 use mathlib.Core.List.{List}
 use mathlib.Core.Logic.{_↔_}
+use lib.ListN.{length}
 use contract.Lifetimes.{Lfts}
 use borrow.Fn.Kinds.{Dens, endedOf}
 use denote.Ref.{now}
@@ -17,15 +18,18 @@ use Rattle.meaning.specs.Requests.{Request}
 use Rattle.meaning.specs.Reading.{got}
 use Rattle.meaning.specs.Refusals.{settled}
 use Rattle.meaning.specs.States.{first-state}
-use Rattle.meaning.specs.Walk.{walked}
+use Rattle.meaning.specs.Walk.{Verified, walked}
 use Rattle.meaning.specs.Derivations.{check}
 use Rattle.meaning.specs.Worlds.{Carried-out}
-use Rattle.meaning.proofs.Accepted.{Accepted, check-answers}
-use Rattle.meaning.proofs.Sound.{Verified}
+use Rattle.meaning.specs.Accepted.{Accepted}
+use Rattle.meaning.specs.Answers.{check-answers}
+use Rattle.meaning.specs.AnswerParts.{Check-input, Placed, named}
+use Rattle.meaning.specs.Tests.{Has}
+use Rattle.meaning.proofs.Table.{checking, answered, Row, table}
 use Rattle.glintstring.specs.Packing.{packed, unpacked}
-use Rattle.glintstring.proofs.CheckPromises
+use Rattle.promises.proofs.CheckPromises
 use Rattle.glintstring.proofs.exports.glintstring_check_whether.Kinds.{ps, r}
 use Rattle.glintstring.proofs.exports.glintstring_check_whether.Reads.{Pre, Post}
 
 -- WHAT THE CALL IS GIVEN, by the values of its two parameters.
 module _ (κs : Lfts 2) (given : Dens κs ps) where
@@ -73,6 +77,10 @@ module _ (κs : Lfts 2) (given : Dens κs ps) where
     pub numbered : among (n % 256) (check-answers Closing) ≡ true
     numbered = CheckPromises.numbered Closing request derivation _ (sym number-is)
 
+    -- The proved table (FORMAT 15.12): given a row's inputs, it answers what the row says.
+    pub answers-the-table : (row : Row) → Has table row → row .call ≡ checking Closing request derivation → row .gives ≡ answered (unpacked n)
+    answers-the-table = CheckPromises.answers-the-table Closing request derivation (unpacked n) unpacked-is
+
     -- Demand 2 (FORMAT 17.39): accepted, exactly where neither input is refused, each line follows from those that it cites, and the closing
     -- list names the goals' line and a line for each whether entry.
     pub accepted-exactly : (n % 256 ≡ Limits.verified) ↔ Accepted format Closing request derivation
@@ -87,3 +95,16 @@ module _ (κs : Lfts 2) (given : Dens κs ps) where
     -- included.
     pub sound : n % 256 ≡ Limits.verified → (x : Request) × (e : ℕ) × (settled format request ≡ got x e) × Carried-out x
     sound = CheckPromises.sound Closing request derivation _ (sym number-is)
+
+    -- Input, count and place are what the number says (FORMAT 4.26 to 4.44): neither input exactly with 0, and else one that the number allows.
+    pub input-exactly : Check-input (unpacked n)
+    input-exactly = CheckPromises.input-exactly Closing request derivation (unpacked n) unpacked-is
+
+    pub count-exactly : n / 4294967296 ≡ 0
+    unfolding unpacked
+    count-exactly = CheckPromises.count-exactly Closing request derivation (unpacked n) unpacked-is
+
+    -- Place 0 with 0 and 10, the named input's length with 11, and else that of a byte.
+    pub place-within : Placed (length (named (unpacked n) request derivation)) (n % 256) (n / 65536 % 65536)
+    unfolding unpacked
+    place-within = CheckPromises.place-within Closing request derivation (unpacked n) unpacked-is

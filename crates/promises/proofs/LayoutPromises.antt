@@ -15,21 +15,20 @@ use Rattle.meaning.specs.Limits
 use Rattle.meaning.specs.Limits.{format}
 use Rattle.meaning.specs.Reading.{got}
 use Rattle.meaning.specs.Derivations.{Derivation, check}
-use Rattle.meaning.specs.Layouts.{Bytes, written, plain-rules, names-last, closed-by-last, read-for}
-use Rattle.meaning.proofs.LayoutLaws.{In-closing-layout, In-plain-layout, plain-to-closing, closing-to-plain}
-use Rattle.glintstring.proofs.CheckPromises
-use Rattle.glintstring.proofs.DerivationPromises
-use Rattle.glintstring.proofs.WhetherPromises
-use Rattle.glintstring.proofs.ExportedDerivationPromises
-use Rattle.glintstring.proofs.ExportedWhetherPromises
+use Rattle.meaning.specs.Layouts.{Bytes, written, plain-rules, names-last, closed-by-last, read-for, In-closing-layout, In-plain-layout}
+use Rattle.meaning.proofs.LayoutLaws.{plain-to-closing, closing-to-plain}
+use Rattle.promises.proofs.DerivationPromises
+use Rattle.promises.proofs.WhetherPromises
+use Rattle.promises.proofs.ExportedDerivationPromises
+use Rattle.promises.proofs.ExportedWhetherPromises
 use Rattle.glintstring.proofs.derivations.check.Kinds as plain-kinds
 use Rattle.glintstring.proofs.derivations.check.Reads as plain-reads
 use Rattle.glintstring.proofs.derivations.check_whether.Kinds as closing-kinds
 use Rattle.glintstring.proofs.derivations.check_whether.Reads as closing-reads
 use Rattle.glintstring.proofs.exports.glintstring_check.Kinds as plain-export-kinds
 use Rattle.glintstring.proofs.exports.glintstring_check.Reads as plain-export-reads
 use Rattle.glintstring.proofs.exports.glintstring_check_whether.Kinds as closing-export-kinds
 use Rattle.glintstring.proofs.exports.glintstring_check_whether.Reads as closing-export-reads
 
 -- The number for inputs that are said otherwise.
 same-inputs : (layout : Layout) (request request′ d d′ : List ℕ) → request′ ≡ request → d′ ≡ d → check format layout request′ d′ .number ≡ check format layout request d .number

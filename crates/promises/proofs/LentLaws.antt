@@ -5,8 +5,7 @@ use native.Mathlib.Omega.{arith}
 use mathlib.Core.Path.{_≡_, refl, subst}
 use mathlib.Core.Bool.{true}
 use mathlib.Core.List.{List}
-use mathlib.Core.Logic.{_⊎_, ⊎-elim}
-use lib.ListN.{getD}
+use mathlib.Core.Logic.{⊎-elim}
 use Rattle.meaning.specs.Tests.{either, some-of}
 use Rattle.meaning.specs.Limits
 use Rattle.meaning.specs.Limits.{Limits, format}
@@ -19,14 +18,16 @@ use Rattle.meaning.specs.Walk.{End, fine, missed, stuck, Walked, walked}
 use Rattle.meaning.specs.Judging.{Judgement, ended, within, judge-settled, judge}
 use Rattle.meaning.proofs.TestLaws.{clash}
 use Rattle.meaning.proofs.PickLaws.{pick-has}
-use Rattle.meaning.proofs.AnswerLaws.{refusals, Numbered-in, settled-numbered}
+use Rattle.meaning.specs.Answers.{refusals}
+use Rattle.meaning.proofs.AnswerLaws.{Numbered-in, settled-numbered}
 use Rattle.meaning.proofs.SettledLaws.{settled-is}
 use Rattle.meaning.proofs.RangeLaws.{read-ranged}
 use Rattle.refusing.proofs.StartLaws.{request-starts}
 use Rattle.steps.specs.AtHand.{Marked}
+use Rattle.glintstring.specs.Lent.{Writes, Blank-from, Written}
 use Rattle.glintstring.proofs.KeepingLaws.{End-has, end-both}
 use Rattle.glintstring.proofs.MarkedLaws.{first-marked, walked-marked}
-use Rattle.glintstring.proofs.BeyondLaws.{Blank-from, walked-blank}
+use Rattle.promises.proofs.BeyondLaws.{walked-blank}
 
 module _ (lim : Limits) (lent : List ℕ) (budget : ℕ) where
   abbrev pub Kept : Judgement → Type 0
@@ -52,9 +53,6 @@ module _ (lim : Limits) (lent : List ℕ) (budget : ℕ) where
   judge-kept request = pick-has Kept _ _ _ (λ _. settled-kept (settled lim request)) (λ _ one two. refl)
 
 -- WHAT ANSWERS 1 AND 2 LEAVE.
-abbrev pub Writes : ℕ → Type 0
-Writes n = (n ≡ Limits.goal-missed) ⊎ (n ≡ Limits.not-executable)
-
 verified-writes-nothing : Writes Limits.verified → ⊥
 verified-writes-nothing = ⊎-elim (λ e. omega (arith, e)) (λ e. omega (arith, e))
 
@@ -99,13 +97,8 @@ module _ (P : Request → State → Type 0) (lim : Limits) (lent : List ℕ) (bu
   unfolding judge
   judge-leaves request has =
       pick-has (λ (j : Judgement). Writes (j .answer .number) → (x : Request) × (e : ℕ) × (settled lim request ≡ got x e) × P x (j .state)) _ _ _
-      (λ _. settled-leaves (settled lim request) (settled-numbered refusals (λ n h. h) lim request) has)
+      (λ _. settled-leaves (settled lim request) (settled-numbered lim request) has)
       (λ _ writes. absurd (length-writes-nothing writes))
-
--- Of that request, n fluents by its first byte: 64 marks, and none of them from n up.
-abbrev pub Written : (request left : List ℕ) → Type 0
-Written request left =
-    (x : Request) × (e : ℕ) × (settled format request ≡ got x e) × (getD request 0 0 ≡ x .table .fluents) × Marked left × Blank-from (x .table .fluents) left
 
 pub judge-written : (request lent : List ℕ) (budget : ℕ) → Writes (judge format request lent budget .answer .number) → Written request (judge format request lent budget .state)
 judge-written request lent budget writes =

@@ -11,11 +11,14 @@ use Rattle.meaning.specs.declared.Layout.{Layout}
 use Rattle.meaning.specs.Limits.{format}
 use Rattle.meaning.specs.Judging.{judge}
 use Rattle.meaning.specs.Derivations.{check}
-use Rattle.meaning.specs.Showing.{show}
+use Rattle.meaning.specs.Showing.{Part, show}
+use Rattle.meaning.specs.Tests.{Has}
+use Rattle.meaning.proofs.DerivationCases.{Shown, showings}
 use Rattle.glintstring.specs.Packing.{packed, unpacked}
-use Rattle.glintstring.proofs.PackingLaws.{Small, unpacks, answer-small, check-small}
+use Rattle.promises.proofs.TablePromises.{showing-holds}
+use Rattle.promises.proofs.UnpackingLaws.{Small, unpacks, answer-small, check-small}
 use Rattle.glintstring.proofs.exports.glintstring_show.Kinds.{ps, r}
 use Rattle.glintstring.proofs.exports.glintstring_show.Reads.{Pre, Post}
 
 -- WHAT THE CALL IS GIVEN, by the values of its three parameters.
 module _ (κs : Lfts 2) (given : Dens κs ps) where
@@ -44,10 +47,14 @@ module _ (κs : Lfts 2) (given : Dens κs ps) where
   -- that the definition shows of their answer.
   module _ (n : ℕ) (exit : AtExit (endedOf 2 ps r) κs) (meets : Post κs given n exit) where
     of-packed : (a : Answer) → Small a → answer ≡ packed a → n ≡ show a request derivation .start
-    of-packed a small is = meets ∙ ap (λ (z : Answer). show z request derivation .start) (ap unpacked is ∙ unpacks a small)
+    of-packed a small is = meets ∙ ap (λ (z : Answer). show z request derivation .start) (unpacks a small answer is)
 
     pub of-walk : (s lent : List ℕ) (budget : ℕ) → answer ≡ packed (judge format s lent budget .answer) → n ≡ show (judge format s lent budget .answer) request derivation .start
     of-walk s lent budget = of-packed (judge format s lent budget .answer) (answer-small s lent budget)
 
     pub of-derivation : (layout : Layout) (s d : List ℕ) → answer ≡ packed (check format layout s d) → n ≡ show (check format layout s d) request derivation .start
     of-derivation layout s d = of-packed (check format layout s d) (check-small layout s d)
+
+    -- Given a row's inputs, with the answer in one number, it is the start of the row's part.
+    pub answers-the-table : (row : Shown) → Has showings row → row .answer ≡ unpacked answer → row .request ≡ request → row .derivation ≡ derivation → n ≡ row .part .start
+    answers-the-table row has same-answer same-request same-derivation = meets ∙ sym (ap (λ (p : Part). p .start) (showing-holds row has (unpacked answer) request derivation same-answer same-request same-derivation))

@@ -1,7 +1,7 @@
 -- What the walk call promises: each theorem is of an answer and of lent bytes that meet the call's own contract. Read this file first in
 -- this crate. Assumes nothing.
 use Prim.Native.Nat.{ℕ, _≤_, _<_}
-use mathlib.Core.Path.{_≡_, sym, _∙_, ap, subst}
+use mathlib.Core.Path.{_≡_, sym, _∙_, ap}
 use mathlib.Core.Bool.{true}
 use mathlib.Core.List.{List}
 use mathlib.Core.Logic.{_↔_, _⊎_}
@@ -19,17 +19,19 @@ use Rattle.meaning.specs.Reading.{got}
 use Rattle.meaning.specs.Refusals.{settled}
 use Rattle.meaning.specs.States.{first-state}
 use Rattle.meaning.specs.Walk.{table-step, missed-in}
-use Rattle.meaning.specs.Judging.{Judgement, within, judge}
-use Rattle.meaning.specs.Approximation.{failed, Φ̂, least}
+use Rattle.meaning.specs.Judging.{Judgement, within, judge, count}
+use Rattle.meaning.specs.Approximation.{failed, Φ̂, least, Entailed}
 use Rattle.meaning.specs.Paths.{paths, walked-along}
+use Rattle.meaning.specs.Reported.{Misses, all-paths, Missed-at, Stopped-at}
 use Rattle.meaning.specs.Worlds.{Carried-out}
-use Rattle.meaning.proofs.AnswerLaws.{answers}
-use Rattle.meaning.proofs.Exact.{count, Entailed, format-room}
-use Rattle.meaning.proofs.Demands
+use Rattle.meaning.specs.Answers.{answers}
+use Rattle.meaning.specs.AnswerParts.{Walk-input, Walk-count, Placed}
+use Rattle.meaning.specs.Tests.{Has}
+use Rattle.meaning.proofs.Table.{judging, judged, Row, table}
 use Rattle.steps.specs.AtHand.{Marked}
-use Rattle.glintstring.proofs.LentLaws.{judge-kept, Writes, Written, judge-written}
+use Rattle.promises.proofs.JudgePromises
 use Rattle.glintstring.proofs.judging.judge.Kinds.{ps, r}
 use Rattle.glintstring.proofs.judging.judge.Reads.{Pre, Post}
 
 -- WHAT THE CALL IS GIVEN, by the values of its three parameters.
 module _ (κs : Lfts 2) (given : Dens κs ps) where
@@ -62,46 +64,71 @@ module _ (κs : Lfts 2) (given : Dens κs ps) where
 
   -- A RESULT that meets the contract.
   module _ (answer : Answer) (exit : AtExit (endedOf 2 ps r) κs) (meets : Post κs given answer exit) where
-    number-is : judge format request lent budget .answer .number ≡ answer .number
-    number-is = ap (λ (j : Judgement). j .answer .number) (sym meets)
-
     -- Demand 1 (FORMAT 11.1): it is one of the numbered answers.
     pub numbered : among (answer .number) answers ≡ true
-    numbered = subst (λ (n : ℕ). among n answers ≡ true) number-is (Demands.numbered format request lent budget)
+    numbered = JudgePromises.numbered request lent budget answer (left exit) meets
+
+    -- The proved table (FORMAT 15.12): given a row's inputs, it answers what the row says.
+    pub answers-the-table : (row : Row) → Has table row → row .call ≡ judging request lent budget → row .gives ≡ judged (record { answer = answer; state = left exit })
+    answers-the-table = JudgePromises.answers-the-table request lent budget answer (left exit) meets
 
     -- The lent bytes are written by answers 1 and 2 and by no other (FORMAT 4.45, 4.49).
     pub kept : (answer .number ≡ Limits.goal-missed → ⊥) → (answer .number ≡ Limits.not-executable → ⊥) → left exit ≡ lent
-    kept one two = ap (λ (j : Judgement). j .state) meets ∙ judge-kept format lent budget request (λ e. one (sym number-is ∙ e)) (λ e. two (sym number-is ∙ e))
+    kept = JudgePromises.kept request lent budget answer (left exit) meets
 
     -- Those two are of a settled request, whose first byte is its number of fluents n. They leave 64 bytes of marks 0, 1 and 2, and 0 in every
     -- byte from n up (FORMAT 4.47, 4.48).
     pub written : (answer .number ≡ Limits.goal-missed) ⊎ (answer .number ≡ Limits.not-executable)
         → (x : Request) × (e : ℕ) × (settled format request ≡ got x e) × (getD request 0 0 ≡ x .table .fluents) × Marked (left exit) × ((f : ℕ) → x .table .fluents ≤ f → getD (left exit) f 0 ≡ 0)
-    written = subst (λ (j : Judgement). Writes (j .answer .number) → Written request (j .state)) (sym meets) (judge-written request lent budget)
+    written = JudgePromises.written request lent budget answer (left exit) meets
 
     -- Demand 3 (FORMAT 11.7 to 11.12): a verified plan is carried out in every world with the initial facts, at any budget.
     pub sound : answer .number ≡ Limits.verified → (x : Request) × (e : ℕ) × (settled format request ≡ got x e) × Carried-out x
-    sound is = Demands.sound format request lent budget (number-is ∙ is)
+    sound = JudgePromises.sound request lent budget answer (left exit) meets
 
     -- Demand 2 (FORMAT 11.5), of a settled request with 64 lent bytes.
     module _ (x : Request) (e : ℕ) (lent-length : length lent ≡ 64) (past : settled format request ≡ got x e) where
       -- The answer and the lent bytes are what the list of paths says, in its order.
       pub in-order : record { answer = answer; state = left exit } ≡ within lent budget (walked-along (missed-in x) (paths (table-step (x .table)) (x .plan) (first-state format (x .table))))
-      in-order = meets ∙ Demands.in-order format format-room request lent budget x e lent-length past
+      in-order = JudgePromises.in-order request lent budget answer (left exit) meets x e lent-length past
 
       -- The budget is spent exactly where the walk counts more.
       pub spent-exactly : (answer .number ≡ Limits.budget-spent) ↔ (budget < count format x)
-      spent-exactly = rw (sym number-is) (Demands.spent-exactly format format-room request lent budget x e lent-length past)
+      spent-exactly = JudgePromises.spent-exactly request lent budget answer (left exit) meets x e lent-length past
+
+      -- Answer 1 is about the first end state that misses an entry, and is placed at the first entry that is not met there (FORMAT 11.14, 11.15).
+      pub missed-there : answer .number ≡ Limits.goal-missed → Missed-at x (all-paths format x) (answer .place) (left exit)
+      missed-there = JudgePromises.missed-there request lent budget answer (left exit) meets x e lent-length past
+
+      -- Answer 2 is about the first path that stops, and is placed at the item that can't be run there (FORMAT 11.16).
+      pub stopped-there : answer .number ≡ Limits.not-executable → Stopped-at x (all-paths format x) (answer .place) (left exit)
+      stopped-there = JudgePromises.stopped-there request lent budget answer (left exit) meets x e lent-length past
 
       module _ (enough : count format x ≤ budget) where
         -- Not executable, exactly where the plan fails from the least initial a-state.
         pub stuck-exactly : (answer .number ≡ Limits.not-executable) ↔ Φ̂ (x .table) (x .plan) (least (x .table)) failed
-        stuck-exactly = rw (sym number-is) (Demands.stuck-exactly format format-room request lent budget x e lent-length past enough)
+        stuck-exactly = JudgePromises.stuck-exactly request lent budget answer (left exit) meets x e lent-length past enough
 
         -- Verified, exactly where the goals and the whether fluents are entailed.
         pub verified-exactly : (answer .number ≡ Limits.verified) ↔ Entailed x
-        verified-exactly = rw (sym number-is) (Demands.verified-exactly format format-room request lent budget x e lent-length past enough)
+        verified-exactly = JudgePromises.verified-exactly request lent budget answer (left exit) meets x e lent-length past enough
 
         -- A goal is missed, exactly where neither is so.
         pub missed-exactly : (answer .number ≡ Limits.goal-missed) ↔ ((Φ̂ (x .table) (x .plan) (least (x .table)) failed → ⊥) × (Entailed x → ⊥))
-        missed-exactly = rw (sym number-is) (Demands.missed-exactly format format-room request lent budget x e lent-length past enough)
+        missed-exactly = JudgePromises.missed-exactly request lent budget answer (left exit) meets x e lent-length past enough
+
+        -- That is where every path can be run and an entry is not met in some end state (FORMAT 11.13).
+        pub missed-in-an-end-state : (answer .number ≡ Limits.goal-missed) ↔ Misses x
+        missed-in-an-end-state = JudgePromises.missed-in-an-end-state request lent budget answer (left exit) meets x e lent-length past enough
+
+    -- Input, count and place are what the number says (FORMAT 4.26 to 4.44): neither input exactly with 0, 3 and 9.
+    pub input-exactly : Walk-input answer
+    input-exactly = JudgePromises.input-exactly request lent budget answer (left exit) meets
+
+    -- The walk's count with 0, 1 and 2, the budget with 3, and else 0.
+    pub count-exactly : Walk-count format request budget answer
+    count-exactly = JudgePromises.count-exactly request lent budget answer (left exit) meets
+
+    -- Place 0 with 0, 3, 9 and 10, the request's length with 11, and else that of a byte.
+    pub place-within : Placed (length request) (answer .number) (answer .place)
+    place-within = JudgePromises.place-within request lent budget answer (left exit) meets

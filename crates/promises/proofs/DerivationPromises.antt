@@ -4,6 +4,7 @@ use mathlib.Core.Path.{_≡_, sym, _∙_, ap}
 use mathlib.Core.Bool.{true}
 use mathlib.Core.List.{List}
 use mathlib.Core.Logic.{_↔_}
+use lib.ListN.{length}
 use contract.Lifetimes.{Lfts}
 use borrow.Fn.Kinds.{Dens, endedOf}
 use denote.Ref.{now}
@@ -17,14 +18,17 @@ use Rattle.meaning.specs.Requests.{Request}
 use Rattle.meaning.specs.Reading.{got}
 use Rattle.meaning.specs.Refusals.{settled}
 use Rattle.meaning.specs.States.{first-state}
-use Rattle.meaning.specs.Walk.{walked}
+use Rattle.meaning.specs.Walk.{Verified, walked}
 use Rattle.meaning.specs.Derivations.{check}
 use Rattle.meaning.specs.Worlds.{Carried-out}
-use Rattle.meaning.proofs.Accepted.{Accepted, check-answers}
-use Rattle.meaning.proofs.Sound.{Verified}
-use Rattle.glintstring.proofs.CheckPromises
+use Rattle.meaning.specs.Accepted.{Accepted}
+use Rattle.meaning.specs.Answers.{check-answers}
+use Rattle.meaning.specs.AnswerParts.{Check-input, Placed, named}
+use Rattle.meaning.specs.Tests.{Has}
+use Rattle.meaning.proofs.Table.{checking, answered, Row, table}
+use Rattle.promises.proofs.CheckPromises
 use Rattle.glintstring.proofs.derivations.check.Kinds.{ps, r}
 use Rattle.glintstring.proofs.derivations.check.Reads.{Pre, Post}
 
 -- WHAT THE CALL IS GIVEN, by the values of its two parameters.
 module _ (κs : Lfts 2) (given : Dens κs ps) where
@@ -55,6 +59,10 @@ module _ (κs : Lfts 2) (given : Dens κs ps) where
     pub numbered : among (answer .number) (check-answers Plain) ≡ true
     numbered = CheckPromises.numbered Plain request derivation _ number-is
 
+    -- The proved table (FORMAT 15.12): given a row's inputs, it answers what the row says.
+    pub answers-the-table : (row : Row) → Has table row → row .call ≡ checking Plain request derivation → row .gives ≡ answered answer
+    answers-the-table = CheckPromises.answers-the-table Plain request derivation answer meets
+
     -- Demand 2 (FORMAT 11.6): accepted, exactly where neither input is refused, no whether is asked, each line follows from those that it
     -- cites, and the last line is the question.
     pub accepted-exactly : (answer .number ≡ Limits.verified) ↔ Accepted format Plain request derivation
@@ -67,3 +75,14 @@ module _ (κs : Lfts 2) (given : Dens κs ps) where
     -- Demand 3 (FORMAT 11.7 to 11.12): the plan of an accepted derivation is carried out in every world with the initial facts.
     pub sound : answer .number ≡ Limits.verified → (x : Request) × (e : ℕ) × (settled format request ≡ got x e) × Carried-out x
     sound = CheckPromises.sound Plain request derivation _ number-is
+
+    -- Input, count and place are what the number says (FORMAT 4.26 to 4.44): neither input exactly with 0, and else one that the number allows.
+    pub input-exactly : Check-input answer
+    input-exactly = CheckPromises.input-exactly Plain request derivation answer meets
+
+    pub count-exactly : answer .count ≡ 0
+    count-exactly = CheckPromises.count-exactly Plain request derivation answer meets
+
+    -- Place 0 with 0 and 10, the named input's length with 11, and else that of a byte.
+    pub place-within : Placed (length (named answer request derivation)) (answer .number) (answer .place)
+    place-within = CheckPromises.place-within Plain request derivation answer meets

@@ -1,0 +1,591 @@
+-- Where faults are placed, in what was read and in a walk: 11 at the input's length, and every other at a byte. Each reader goes on from where
+-- the one before it stopped and stops within the input, what is read keeps the places at which it was read, and the later refusals and the
+-- walk name those places only. Assumes nothing.
+use Prim.Native.Nat.{ℕ, zero, suc, _+_, _*_, _≤_, _<_}
+use native.Mathlib.Omega.{arith}
+use mathlib.Core.Path.{_≡_, refl, ap}
+use mathlib.Core.Bool.{Bool, true, false}
+use mathlib.Core.List.{List, [], _∷_, _++_}
+use lib.ListN.{length}
+use borrow.Author.Tests.{leb-false, ltb-true, ltb-false}
+use Rattle.meaning.specs.declared.Layout.{Layout}
+use Rattle.meaning.specs.declared.Layout.the-variants.{Plain, Closing}
+use Rattle.meaning.specs.Tests.{both, either, fails, some-of, each-of, Each}
+use Rattle.meaning.specs.Limits
+use Rattle.meaning.specs.Limits.{Limits}
+use Rattle.meaning.specs.Literals.{among}
+use Rattle.meaning.specs.Requests.{Effect, Executability, Knowledge, Table, Sequence, done, item, Item, act, branching, Branches, none, branch, Entry, Request}
+use Rattle.meaning.specs.Reading.{Got, got, fault, next, byte-at, two-bytes-at, count-at, below-at, Kind, literals, fluents, bound-of, entry-at, entries-at, list-at, repeated, section-at, body-at, effect-at, executability-at, knowledge-at, Met, Part, item-at, items-at, sequence-at, branches-at, branching-at, plan-at, table-at, placed, request-at, read-request}
+use Rattle.meaning.specs.Refusals.{Found, nowhere, at, or-else, contradiction-in, mixed-in, overlap-in, overlap-at, overlap-below, refuse, settled}
+use Rattle.meaning.specs.States.{State, Outcome, single, fork, outcome}
+use Rattle.meaning.specs.Walk.{End, fine, missed, stuck, Walked, stuck-at, counted, keep-miss, after-miss, after-end, and-then, each-reading, run-action, walk, walk-item, walk-branch, table-step, first-missed, missed-in, end-of, judged, walked}
+use Rattle.meaning.specs.Derivations.{Conclusion, Line, Derivation, Concluded, list-concluded, fluent-concluded, conclusion-at, concluded-at, closing-at, line-at, read-derivation, overlap-in-lines, check-lines, check-last, all-asked, check-entries, check-closing, check-end, check-derivation}
+use Rattle.meaning.specs.Answers.{refusals, end-fault}
+use Rattle.meaning.specs.AnswerParts.{of-neither, at-start, Placed}
+use Rattle.meaning.proofs.TestLaws.{clash, either-right, fails-true}
+use Rattle.meaning.proofs.LiteralLaws.{among-each}
+use Rattle.meaning.proofs.PickLaws.{pick-has}
+
+-- The faults of reading that are placed at a byte.
+unfoldable pub byte-faults : List ℕ
+byte-faults =
+    Limits.count-outside ∷ Limits.too-large ∷ Limits.not-above ∷ Limits.complement-beside ∷ Limits.nested-too-deep ∷ Limits.bytes-after ∷
+    Limits.too-many-items ∷ []
+
+-- BELOW. What has only places below `size`.
+module _ (size : ℕ) where
+  abbrev pub Found-below : Found → Type 0
+  Found-below nowhere = Unit {0}
+  Found-below (at p) = p < size
+
+  module _ {A : Type 0} (place : A → ℕ) where
+    abbrev Each-below : List A → Type 0
+    Each-below xs = Each (λ (x : A). place x < size) xs
+
+  abbrev mutual
+    Plan-below : Sequence ℕ → Type 0
+    Plan-below done = Unit {0}
+    Plan-below (item i rest) = Item-below i × Plan-below rest
+
+    Item-below : Item ℕ → Type 0
+    Item-below (act p a) = p < size
+    Item-below (branching p bs) = (p < size) × Branches-below bs
+
+    Branches-below : Branches ℕ → Type 0
+    Branches-below none = Unit {0}
+    Branches-below (branch c b bs) = Plan-below b × Branches-below bs
+
+  record Table-below (t : Table) : Type 0 where
+    effects : Each-below (λ (e : Effect). e .place) (t .effects)
+    knowledge : Each-below (λ (k : Knowledge). k .place) (t .knowledge)
+
+  pub record Request-below (r : Request) : Type 0 where
+    table : Table-below (r .table)
+    plan : Plan-below (r .plan)
+    goals : Each-below (λ (e : Entry). e .place) (r .goals)
+    whether : Each-below (λ (e : Entry). e .place) (r .whether)
+    pub whether-place : r .whether-place < size
+
+  record Line-below (l : Line) : Type 0 where
+    here : l .place < size
+    plan : Plan-below (l .c)
+
+  -- The numbers that close a derivation, behind their count at p.
+  abbrev Closed : Layout → (p : ℕ) → List ℕ → Type 0
+  Closed Plain p ks = Unit {0}
+  Closed Closing p ks = p + 1 + 2 * length ks ≤ size
+
+  record Derivation-below (layout : Layout) (d : Derivation) : Type 0 where
+    lines : Each Line-below (d .lines)
+    closing : Closed layout (d .closing-place) (d .closing)
+
+  -- THE LATER REFUSALS.
+  or-below : (f : Found) (k : Unit {0} → Found) → Found-below f → Found-below (k tt) → Found-below (or-else f k)
+  unfolding or-else
+  or-below nowhere k first then = then
+  or-below (at p) k first then = first
+
+  contradiction-below : (before es : List Effect) → Each-below (λ (e : Effect). e .place) es → Found-below (contradiction-in before es)
+  unfolding contradiction-in
+  contradiction-below before [] h = tt
+  contradiction-below before (e ∷ es) h = pick-has Found-below _ _ _ (λ _. h .0) (λ _. contradiction-below (e ∷ before) es (h .1))
+
+  mixed-below : (es : List Effect) (ks : List Knowledge) → Each-below (λ (k : Knowledge). k .place) ks → Found-below (mixed-in es ks)
+  unfolding mixed-in
+  mixed-below es [] h = tt
+  mixed-below es (k ∷ ks) h = pick-has Found-below _ _ _ (λ _. h .0) (λ _. mixed-below es ks (h .1))
+
+  mutual
+    unfolding overlap-in overlap-at overlap-below
+
+    overlap-in-below : (b : Sequence ℕ) → Plan-below b → Found-below (overlap-in b)
+    overlap-in-below done h = tt
+    overlap-in-below (item i rest) h = or-below (overlap-at i) _ (overlap-at-below i (h .0)) (overlap-in-below rest (h .1))
+
+    overlap-at-below : (i : Item ℕ) → Item-below i → Found-below (overlap-at i)
+    overlap-at-below (act p a) h = tt
+    overlap-at-below (branching p bs) h = pick-has Found-below _ _ _ (λ _. overlap-below-below bs (h .1)) (λ _. h .0)
+
+    overlap-below-below : (bs : Branches ℕ) → Branches-below bs → Found-below (overlap-below bs)
+    overlap-below-below none h = tt
+    overlap-below-below (branch c b bs) h = or-below (overlap-in b) _ (overlap-in-below b (h .0)) (overlap-below-below bs (h .1))
+
+  overlap-lines-below : (ls : List Line) → Each Line-below ls → Found-below (overlap-in-lines ls)
+  unfolding overlap-in-lines
+  overlap-lines-below [] h = tt
+  overlap-lines-below (l ∷ ls) h = or-below (overlap-in (l .c)) _ (overlap-in-below (l .c) (h .0 .plan)) (overlap-lines-below ls (h .1))
+
+  -- THE WALK.
+  abbrev pub End-below : End State → Type 0
+  End-below fine = Unit {0}
+  End-below (missed p s) = p < size
+  End-below (stuck p s) = p < size
+
+  abbrev Ends-below : (State → Walked State) → Type 0
+  Ends-below k = (s : State) → End-below (k s .end)
+
+  keep-below : (p : ℕ) (s : State) → p < size → (e : End State) → End-below e → End-below (keep-miss p s e)
+  unfolding keep-miss
+  keep-below p s first fine then = first
+  keep-below p s first (missed q u) then = first
+  keep-below p s first (stuck q u) then = then
+
+  after-end-below : (e : End State) (c : ℕ) (more : Unit {0} → Walked State) → End-below e → End-below (more tt .end) → End-below (after-end e c more .end)
+  unfolding after-end counted after-miss
+  after-end-below fine c more first then = then
+  after-end-below (missed p s) c more first then = keep-below p s first (more tt .end) then
+  after-end-below (stuck p s) c more first then = first
+
+  each-below : (o : Outcome State) (k : State → Walked State) → Ends-below k → End-below (each-reading o k .end)
+  unfolding each-reading and-then
+  each-below (single s) k ends = ends s
+  each-below (fork o p) k ends = after-end-below (each-reading o k .end) (each-reading o k .count) (λ _. each-reading (p tt) k) (each-below o k ends) (each-below (p tt) k ends)
+
+  module _ (t : Table) where
+    run-below : (p a : ℕ) → p < size → (k : State → Walked State) → Ends-below k → Ends-below (run-action (table-step t) p a k)
+    unfolding run-action counted stuck-at table-step
+    run-below p a here k ends s = pick-has (λ (w : Walked State). End-below (w .end)) _ _ _ (λ _. each-below (outcome t a s) k ends) (λ _. here)
+
+    mutual
+      unfolding walk walk-item walk-branch stuck-at
+
+      walk-below : (b : Sequence ℕ) → Plan-below b → (k : State → Walked State) → Ends-below k → Ends-below (walk (table-step t) b k)
+      walk-below done h k ends s = ends s
+      walk-below (item i rest) h k ends s = walk-item-below i (h .0) (walk (table-step t) rest k) (walk-below rest (h .1) k ends) s
+
+      walk-item-below : (i : Item ℕ) → Item-below i → (k : State → Walked State) → Ends-below k → Ends-below (walk-item (table-step t) i k)
+      walk-item-below (act p a) h k ends s = run-below p a h k ends s
+      walk-item-below (branching p bs) h k ends s = walk-branch-below bs p (h .0) (h .1) k ends s
+
+      walk-branch-below : (bs : Branches ℕ) (p : ℕ) → p < size → Branches-below bs → (k : State → Walked State) → Ends-below k → Ends-below (walk-branch (table-step t) bs p k)
+      walk-branch-below none p here h k ends s = here
+      walk-branch-below (branch c b bs) p here h k ends s =
+          pick-has (λ (w : Walked State). End-below (w .end)) _ _ _ (λ _. walk-below b (h .0) k ends s) (λ _. walk-branch-below bs p here (h .1) k ends s)
+
+  first-missed-below : (test : ℕ → Bool) (es : List Entry) → Each-below (λ (e : Entry). e .place) es → Found-below (first-missed test es)
+  unfolding first-missed
+  first-missed-below test [] h = tt
+  first-missed-below test (e ∷ es) h = pick-has Found-below _ _ _ (λ _. first-missed-below test es (h .1)) (λ _. h .0)
+
+  end-below : (f : Found) (s : State) → Found-below f → End-below (end-of f s)
+  unfolding end-of
+  end-below nowhere s h = tt
+  end-below (at p) s h = h
+
+  pub missed-below : (r : Request) → Request-below r → (s : State) → Found-below (missed-in r s)
+  unfolding missed-in
+  missed-below r h s = or-below _ _ (first-missed-below _ (r .goals) (h .goals)) (first-missed-below _ (r .whether) (h .whether))
+
+  pub walked-below : (r : Request) → Request-below r → Ends-below (walked r)
+  unfolding walked judged
+  walked-below r h = walk-below (r .table) (r .plan) (h .plan) (judged r) (λ s. end-below (missed-in r s) s (missed-below r h s))
+
+-- READING an input, where `Bad n p` is what is said of a fault with number n at place p.
+module _ (s : List ℕ) (Bad : ℕ → ℕ → Type 0) where
+  -- What a reader gives stops within the input, and `so` holds of it and of where it stops; of a fault `Bad` holds.
+  module _ {A : Type 0} where
+    abbrev Held : (A → ℕ → Type 0) → Got A → Type 0
+    Held so (got x p) = (p ≤ length s) × so x p
+    Held so (fault n p) = Bad n p
+
+  module _ {A B : Type 0} (so : A → ℕ → Type 0) (then : B → ℕ → Type 0) where
+    by-next : (m : Got A) (k : A → ℕ → Got B) → Held so m → ((x : A) (p : ℕ) → p ≤ length s → so x p → Held then (k x p)) → Held then (next m k)
+    unfolding next
+    by-next (got x p) k h g = g x p (h .0) (h .1)
+    by-next (fault n p) k h g = h
+
+  module _ {A : Type 0} (so : A → ℕ → Type 0) where
+    by-refuse : (n : ℕ) (f : Found) (k : Unit {0} → Got A) → ((p : ℕ) → p < length s → Bad n p) → Found-below (length s) f → Held so (k tt) → Held so (refuse n f k)
+    unfolding refuse
+    by-refuse n nowhere k bad found then = then
+    by-refuse n (at p) k bad found then = bad p found
+
+  -- It holds of 11 at the input's length, and of the other faults of reading at each byte.
+  module _ (ends : Bad Limits.ends-too-soon (length s)) (byte : (n p : ℕ) → among n byte-faults ≡ true → p < length s → Bad n p) where
+    -- Some number, and the place after its one byte.
+    abbrev One : ℕ → ℕ → ℕ → Type 0
+    One p x q = q ≡ p + 1
+
+    byte-held : (p : ℕ) → Held (One p) (byte-at s p)
+    unfolding byte-at
+    byte-held p = pick-has (Held (One p)) _ _ _ (λ _. ends) (λ f. let more = leb-false (length s) p f in (omega (arith, more), refl))
+
+    abbrev Two : ℕ → ℕ → ℕ → Type 0
+    Two p x q = q ≡ p + 2
+
+    two-bytes-held : (p : ℕ) → Held (Two p) (two-bytes-at s p)
+    unfolding two-bytes-at
+    two-bytes-held p =
+        by-next (One p) _ (byte-at s p) _ (byte-held p) λ high q _ is.
+        by-next (One q) _ (byte-at s q) _ (byte-held q) λ low r fits is₂. (fits, omega (arith, is, is₂))
+
+    count-held : (least limit p : ℕ) → Held (One p) (count-at least limit s p)
+    unfolding count-at among byte-faults some-of either
+    count-held least limit p =
+        by-next (One p) _ (byte-at s p) _ (byte-held p) λ c q fits is.
+        pick-has (Held (One p)) _ _ _ (λ _. byte _ p refl (omega (arith, fits, is))) (λ _. (fits, is))
+
+    below-held : (bound p : ℕ) → Held (One p) (below-at bound s p)
+    unfolding below-at among byte-faults some-of either
+    below-held bound p =
+        by-next (One p) _ (byte-at s p) _ (byte-held p) λ x q fits is.
+        pick-has (Held (One p)) _ _ _ (λ _. byte _ p refl (omega (arith, fits, is))) (λ _. (fits, is))
+
+    entry-held : (kind : Kind) (n p floor : ℕ) → Held (One p) (entry-at kind n s p floor)
+    unfolding entry-at among byte-faults some-of either
+    entry-held kind n p floor =
+        by-next (One p) _ (below-at (bound-of kind n) s p) _ (below-held (bound-of kind n) p) λ x q fits is.
+        pick-has (Held (One p)) _ _ _ (λ _. byte _ p refl (omega (arith, fits, is))) λ _.
+        pick-has (Held (One p)) _ _ _ (λ _. byte _ p refl (omega (arith, fits, is))) (λ _. (fits, is))
+
+    -- A list stops as far on as it is long, behind its count.
+    abbrev Long : ℕ → List ℕ → ℕ → Type 0
+    Long p xs q = q ≡ p + length xs
+
+    entries-held : (kind : Kind) (n left p floor : ℕ) → p ≤ length s → Held (Long p) (entries-at kind n s left p floor)
+    unfolding entries-at
+    entries-held kind n zero p floor fits = (fits, omega arith)
+    entries-held kind n (suc left) p floor fits =
+        by-next (One p) _ (entry-at kind n s p floor) _ (entry-held kind n p floor) λ x q fits₁ is.
+        by-next (Long q) _ (entries-at kind n s left q (x + 1)) _ (entries-held kind n left q (x + 1) fits₁) λ xs r fits₂ long.
+        (fits₂, omega (arith, is, long))
+
+    list-held : (kind : Kind) (n limit p : ℕ) → Held (Long (p + 1)) (list-at kind n limit s p)
+    unfolding list-at
+    list-held kind n limit p =
+        by-next (One p) _ (count-at 0 limit s p) _ (count-held 0 limit p) λ c q fits is.
+        rw is (entries-held kind n c (p + 1) 0 (omega (arith, fits, is)))
+
+    module _ {A : Type 0} (so : A → Type 0) (line : ℕ → Got A) (held : (p : ℕ) → Held (λ (x : A) (q : ℕ). so x) (line p)) where
+      repeated-held : (left p : ℕ) → p ≤ length s → Held (λ (xs : List A) (q : ℕ). Each so xs) (repeated line left p)
+      unfolding repeated
+      repeated-held zero p fits = (fits, tt)
+      repeated-held (suc left) p fits =
+          by-next (λ (x : A) (q : ℕ). so x) _ (line p) _ (held p) λ x q fits₁ here.
+          by-next (λ (xs : List A) (q : ℕ). Each so xs) _ (repeated line left q) _ (repeated-held left q fits₁) λ xs r fits₂ rest.
+          (fits₂, (here, rest))
+
+      section-held : (p : ℕ) → Held (λ (xs : List A) (q : ℕ). Each so xs) (section-at line s p)
+      unfolding section-at
+      section-held p = by-next (One p) _ (byte-at s p) _ (byte-held p) λ c q fits _. repeated-held c q fits
+
+    -- Two-byte numbers, one after the other.
+    numbers-held : (left p : ℕ) → p ≤ length s → Held (λ (ks : List ℕ) (q : ℕ). q ≡ p + 2 * length ks) (repeated (two-bytes-at s) left p)
+    unfolding repeated
+    numbers-held zero p fits = (fits, omega arith)
+    numbers-held (suc left) p fits =
+        by-next (Two p) _ (two-bytes-at s p) _ (two-bytes-held p) λ x q fits₁ is.
+        by-next (λ (ks : List ℕ) (r : ℕ). r ≡ q + 2 * length ks) _ (repeated (two-bytes-at s) left q) _ (numbers-held left q fits₁) λ ks r fits₂ long.
+        (fits₂, omega (arith, is, long))
+
+    module _ (lim : Limits) (n m : ℕ) where
+      body-held : (p : ℕ) → Held (Long (p + 1)) (body-at lim n s p)
+      unfolding body-at
+      body-held p = list-held literals n (lim .body) p
+
+      effect-held : (p : ℕ) → Held (λ (x : Effect) (q : ℕ). x .place < length s) (effect-at lim n m s p)
+      unfolding effect-at
+      effect-held p =
+          by-next (One p) _ (below-at m s p) _ (below-held m p) λ a q fits is.
+          by-next (One q) _ (below-at (2 * n) s q) _ (below-held (2 * n) q) λ l r _ _.
+          by-next (Long (r + 1)) _ (body-at lim n s r) _ (body-held r) λ b e fits₂ _. (fits₂, omega (arith, fits, is))
+
+      executability-held : (p : ℕ) → Held (λ (x : Executability) (q : ℕ). Unit {0}) (executability-at lim n m s p)
+      unfolding executability-at
+      executability-held p =
+          by-next (One p) _ (below-at m s p) _ (below-held m p) λ a q _ _.
+          by-next (Long (q + 1)) _ (body-at lim n s q) _ (body-held q) λ b e fits _. (fits, tt)
+
+      knowledge-held : (p : ℕ) → Held (λ (x : Knowledge) (q : ℕ). x .place < length s) (knowledge-at lim n m s p)
+      unfolding knowledge-at
+      knowledge-held p =
+          by-next (One p) _ (below-at m s p) _ (below-held m p) λ a q fits is.
+          by-next (One q) _ (below-at n s q) _ (below-held n q) λ f e fits₂ _. (fits₂, omega (arith, fits, is))
+
+      -- A part of the plan, from a place within the input; and a branching, from its own byte.
+      module _ {A : Type 0} (so : A → Type 0) where
+        abbrev Part-held : Part A → Type 0
+        Part-held part = (p met : ℕ) → p ≤ length s → Held (λ (x : Met A) (q : ℕ). so (x .value)) (part p met)
+
+      abbrev Branching-held : Part (Item ℕ) → Type 0
+      Branching-held deeper = (p met : ℕ) → p < length s → Held (λ (i : Met (Item ℕ)) (q : ℕ). Item-below (length s) (i .value)) (deeper p met)
+
+      item-held : (deeper : Part (Item ℕ)) → Branching-held deeper → Part-held (Item-below (length s)) (item-at lim n m s deeper)
+      unfolding item-at among byte-faults some-of either
+      item-held deeper h p met _ =
+          by-next (One p) _ (byte-at s p) _ (byte-held p) λ x q fits is.
+          let here : p < length s = omega (arith, fits, is) in
+          pick-has (Held (λ (i : Met (Item ℕ)) (q : ℕ). Item-below (length s) (i .value))) _ _ _ (λ _. byte _ p refl here) λ _.
+          pick-has (Held (λ (i : Met (Item ℕ)) (q : ℕ). Item-below (length s) (i .value))) _ _ _ (λ _. h p (met + 1) here) λ _.
+          pick-has (Held (λ (i : Met (Item ℕ)) (q : ℕ). Item-below (length s) (i .value))) _ _ _ (λ _. byte _ p refl here) (λ _. (fits, here))
+
+      items-held : (one-item : Part (Item ℕ)) → Part-held (Item-below (length s)) one-item → (left : ℕ) → Part-held (Plan-below (length s)) (items-at lim n m s one-item left)
+      unfolding items-at
+      items-held one-item h zero p met here = (here, tt)
+      items-held one-item h (suc left) p met here =
+          by-next _ _ (one-item p met) _ (h p met here) λ i q fits first.
+          by-next _ _ (items-at lim n m s one-item left q (i .items)) _ (items-held one-item h left q (i .items) fits) λ rest r fits₂ others.
+          (fits₂, (first, others))
+
+      sequence-held : (deeper : Part (Item ℕ)) → Branching-held deeper → Part-held (Plan-below (length s)) (sequence-at lim n m s deeper)
+      unfolding sequence-at
+      sequence-held deeper h p met _ =
+          by-next (Two p) _ (two-bytes-at s p) _ (two-bytes-held p) λ c q fits _. items-held (item-at lim n m s deeper) (item-held deeper h) c q met fits
+
+      branches-held : (sequence : Part (Sequence ℕ)) → Part-held (Plan-below (length s)) sequence → (left : ℕ) → Part-held (Branches-below (length s)) (branches-at lim n m s sequence left)
+      unfolding branches-at
+      branches-held sequence h zero p met here = (here, tt)
+      branches-held sequence h (suc left) p met here =
+          by-next (Long (p + 1)) _ (body-at lim n s p) _ (body-held p) λ c q fits _.
+          by-next _ _ (sequence q met) _ (h q met fits) λ b r fits₂ first.
+          by-next _ _ (branches-at lim n m s sequence left r (b .items)) _ (branches-held sequence h left r (b .items) fits₂) λ rest e fits₃ others.
+          (fits₃, (first, others))
+
+      branching-held : (left : ℕ) → Branching-held (branching-at lim n m s left)
+      unfolding branching-at among byte-faults some-of either
+      branching-held zero p met here = byte _ p refl here
+      branching-held (suc left) p met here =
+          by-next (One (p + 1)) _ (count-at 1 (lim .branches) s (p + 1)) _ (count-held 1 (lim .branches) (p + 1)) λ c q fits _.
+          by-next _ _ (branches-at lim n m s (sequence-at lim n m s (branching-at lim n m s left)) c q met) _ (branches-held _ (sequence-held _ (branching-held left)) c q met fits) λ bs r fits₂ inside.
+          (fits₂, (here, inside))
+
+      plan-held : (p : ℕ) → p ≤ length s → Held (λ (x : Met (Sequence ℕ)) (q : ℕ). Plan-below (length s) (x .value)) (plan-at lim n m s p)
+      unfolding plan-at
+      plan-held p here = sequence-held _ (branching-held (lim .nested)) p 0 here
+
+      -- A line of a derivation.
+      listed-held : (p : ℕ) → Held (λ (Y : Conclusion) (q : ℕ). Unit {0}) (list-concluded lim n s p)
+      unfolding list-concluded
+      listed-held p = by-next (Long (p + 1)) _ (list-at literals n (lim .listed) s p) _ (list-held literals n (lim .listed) p) λ Y q fits _. (fits, tt)
+
+      fluent-held : (p : ℕ) → Held (λ (Y : Conclusion) (q : ℕ). Unit {0}) (fluent-concluded lim n s p)
+      unfolding fluent-concluded
+      fluent-held p = by-next (One p) _ (below-at n s p) _ (below-held n p) λ f q fits _. (fits, tt)
+
+      concluded-held : (layout : Layout) (p : ℕ) → Held (λ (x : Concluded) (q : ℕ). Unit {0}) (concluded-at lim n s layout p)
+      unfolding concluded-at conclusion-at
+      concluded-held Plain p =
+          by-next _ _ (list-concluded lim n s p) _ (listed-held p) λ Y q _ _.
+          by-next (One q) _ (byte-at s q) _ (byte-held q) λ rule e fits _. (fits, tt)
+      concluded-held Closing p =
+          by-next (One p) _ (byte-at s p) _ (byte-held p) λ rule q _ _.
+          by-next (λ (Y : Conclusion) (e : ℕ). Unit {0}) _ (conclusion-at lim n s rule q) _ (pick-has (Held (λ (Y : Conclusion) (e : ℕ). Unit {0})) _ _ _ (λ _. fluent-held q) (λ _. listed-held q)) λ Y e fits _. (fits, tt)
+
+      line-held : (layout : Layout) (p : ℕ) → Held (λ (l : Line) (q : ℕ). Line-below (length s) l) (line-at lim n m s layout p)
+      unfolding line-at
+      line-held layout p =
+          by-next (Long (p + 1)) _ (list-at literals n (lim .listed) s p) _ (list-held literals n (lim .listed) p) λ X q fits long.
+          by-next _ _ (plan-at lim n m s q) _ (plan-held q fits) λ plan r _ inside.
+          by-next _ _ (concluded-at lim n s layout r) _ (concluded-held layout r) λ x t _ _.
+          by-next (One t) _ (count-at 0 (lim .citations) s t) _ (count-held 0 (lim .citations) t) λ k v fits₂ _.
+          by-next _ _ (repeated (two-bytes-at s) k v) _ (numbers-held k v fits₂) λ cites e fits₃ _.
+          (fits₃, record { here = omega (arith, fits, long); plan = inside })
+
+    closing-held : (layout : Layout) (p : ℕ) → p ≤ length s → Held (λ (ks : List ℕ) (q : ℕ). Closed (length s) layout p ks) (closing-at s layout p)
+    unfolding closing-at section-at
+    closing-held Plain p fits = (fits, tt)
+    closing-held Closing p fits =
+        next-held (One p) (byte-at s p) (λ c q. repeated (two-bytes-at s) c q) (byte-held p) λ c q fits₁ is.
+        long-held q (repeated (two-bytes-at s) c q) is (numbers-held c q fits₁)
+      where
+        next-held : (so : ℕ → ℕ → Type 0) (x : Got ℕ) (k : ℕ → ℕ → Got (List ℕ)) → Held so x
+            → ((c q : ℕ) → q ≤ length s → so c q → Held (λ (ks : List ℕ) (e : ℕ). p + 1 + 2 * length ks ≤ length s) (k c q)) → Held (λ (ks : List ℕ) (e : ℕ). p + 1 + 2 * length ks ≤ length s) (next x k)
+        next-held so x k = by-next so (λ (ks : List ℕ) (e : ℕ). p + 1 + 2 * length ks ≤ length s) x k
+
+        long-held : (q : ℕ) (x : Got (List ℕ)) → q ≡ p + 1 → Held (λ (ks : List ℕ) (e : ℕ). e ≡ q + 2 * length ks) x → Held (λ (ks : List ℕ) (e : ℕ). p + 1 + 2 * length ks ≤ length s) x
+        long-held q (got ks e) is h = (h .0, omega (arith, is, h .0, h .1))
+        long-held q (fault k e) is h = h
+
+    -- The table, and the rest after it.
+    placed-below : (p : ℕ) (xs : List ℕ) → p + length xs ≤ length s → Each-below (length s) (λ (e : Entry). e .place) (placed p xs)
+    unfolding placed
+    placed-below p [] fits = tt
+    placed-below p (x ∷ xs) fits = (omega (arith, fits), placed-below _ xs (omega (arith, fits)))
+
+    module _ (lim : Limits) where
+      table-held : (p : ℕ) → Held (λ (t : Table) (q : ℕ). Table-below (length s) t) (table-at lim s p)
+      unfolding table-at
+      table-held start =
+          by-next _ _ (count-at 1 (lim .fluents) s start) _ (count-held 1 (lim .fluents) start) λ n p _ _.
+          by-next _ _ (count-at 1 (lim .actions) s p) _ (count-held 1 (lim .actions) p) λ m q _ _.
+          by-next _ _ (list-at literals n (lim .listed) s q) _ (list-held literals n (lim .listed) q) λ facts r _ _.
+          by-next _ _ (section-at (effect-at lim n m s) s r) _ (section-held (λ (e : Effect). e .place < length s) _ (effect-held lim n m) r) λ es t _ effects.
+          by-next _ _ (section-at (executability-at lim n m s) s t) _ (section-held (λ (e : Executability). Unit {0}) _ (executability-held lim n m) t) λ xs u _ _.
+          by-next _ _ (section-at (knowledge-at lim n m s) s u) _ (section-held (λ (k : Knowledge). k .place < length s) _ (knowledge-held lim n m) u) λ ks e fits knowledge.
+          (fits, record { effects = effects; knowledge = knowledge })
+
+      request-held : (t : Table) (p : ℕ) → Table-below (length s) t → p ≤ length s → Held (λ (r : Request) (q : ℕ). Request-below (length s) r) (request-at lim s t p)
+      unfolding request-at
+      request-held t start table here =
+          by-next _ _ (plan-at lim (t .fluents) (t .actions) s start) _ (plan-held lim (t .fluents) (t .actions) start here) λ b p _ plan.
+          by-next _ _ (list-at literals (t .fluents) (lim .listed) s p) _ (list-held literals (t .fluents) (lim .listed) p) λ gs q fits goals.
+          by-next _ _ (list-at fluents (t .fluents) (lim .listed) s q) _ (list-held fluents (t .fluents) (lim .listed) q) λ ws e fits₂ whether. (
+            fits₂,
+            record {
+              table = table;
+              plan = plan;
+              goals = placed-below (p + 1) gs (omega (arith, fits, goals));
+              whether = placed-below (q + 1) ws (omega (arith, fits₂, whether));
+              whether-place = omega (arith, fits₂, whether);
+            },
+          )
+
+-- PLACED, by the number.
+start-or-end : (n : ℕ) → among n at-start ≡ true → among n (Limits.ends-too-soon ∷ at-start) ≡ true
+unfolding among some-of
+start-or-end n is = either-right _ _ is
+
+pub placed-start : (size n : ℕ) → among n at-start ≡ true → Placed size n 0
+unfolding among at-start of-neither some-of either
+placed-start size n is = record {
+  start = λ _. refl;
+  end = λ e. clash is (ap (λ (m : ℕ). among m at-start) e);
+  byte = λ f. clash (start-or-end n is) f;
+}
+
+placed-end : (size : ℕ) → Placed size Limits.ends-too-soon size
+unfolding among at-start of-neither some-of either
+placed-end size = record { start = λ h. clash h refl; end = λ _. refl; byte = λ f. clash refl f }
+
+pub placed-byte : (size n p : ℕ) → among n (Limits.ends-too-soon ∷ at-start) ≡ false → p < size → Placed size n p
+unfolding among at-start of-neither some-of either
+placed-byte size n p not less = record {
+  start = λ h. clash (start-or-end n h) not;
+  end = λ e. clash (ap (λ (m : ℕ). among m (Limits.ends-too-soon ∷ at-start)) e) not;
+  byte = λ _. less;
+}
+
+-- A FAULT of an input: its number is one of ns, and its place is as the input's size says and no larger than its limit.
+pub record Fault-in (ns : List ℕ) (limit size n p : ℕ) : Type 0 where
+  pub number : among n ns ≡ true
+  pub placed : Placed size n p
+  pub fits : p ≤ limit
+
+module _ (ns : List ℕ) (limit size : ℕ) where
+  too-long-fault : among Limits.too-long ns ≡ true → Fault-in ns limit size Limits.too-long 0
+  unfolding among at-start of-neither some-of either
+  too-long-fault is = record { number = is; placed = placed-start size Limits.too-long refl; fits = omega arith }
+
+  module _ (short : size ≤ limit) where
+    ends-fault : among Limits.ends-too-soon ns ≡ true → Fault-in ns limit size Limits.ends-too-soon size
+    ends-fault is = record { number = is; placed = placed-end size; fits = short }
+
+    byte-fault : (n p : ℕ) → among n ns ≡ true → among n (Limits.ends-too-soon ∷ at-start) ≡ false → p < size → Fault-in ns limit size n p
+    byte-fault n p is not less = record { number = is; placed = placed-byte size n p not less; fits = omega (arith, short, less) }
+
+    -- So are those of reading that are placed at a byte.
+    reading-fault : each-of (λ (n : ℕ). among n ns) byte-faults ≡ true → (n p : ℕ) → among n byte-faults ≡ true → p < size → Fault-in ns limit size n p
+    unfolding among byte-faults at-start of-neither some-of either fails each-of both
+    reading-fault each n p is less =
+        byte-fault n p (among-each (λ (m : ℕ). among m ns) byte-faults each n is)
+        (fails-true _ (among-each (λ (m : ℕ). fails (among m (Limits.ends-too-soon ∷ at-start))) byte-faults refl n is)) less
+
+-- A REQUEST.
+module _ (lim : Limits) (s : List ℕ) where
+  abbrev Request-fault : ℕ → ℕ → Type 0
+  Request-fault = Fault-in refusals (lim .request) (length s)
+
+  -- It is no longer than its limit, and has only places of its bytes.
+  abbrev pub Request-read : Request → ℕ → Type 0
+  Request-read r e = Request-below (length s) r × (length s ≤ lim .request)
+
+  abbrev pub Request-held : Got Request → Type 0
+  Request-held = Held s Request-fault Request-read
+
+  pub read-held : Request-held (read-request lim s)
+  unfolding read-request among refusals byte-faults some-of either each-of both
+  read-held =
+      pick-has Request-held _ _ _ (λ _. too-long-fault refusals (lim .request) (length s) refl) λ f.
+      let short = ltb-false (lim .request) (length s) f in
+      let ends = ends-fault refusals (lim .request) (length s) short refl in
+      let byte = reading-fault refusals (lim .request) (length s) short refl in
+      by-next s Request-fault (λ (t : Table) (q : ℕ). Table-below (length s) t) Request-read (table-at lim s 0) _ (table-held s Request-fault ends byte lim 0) λ t p fits table.
+      by-next s Request-fault (λ (r : Request) (q : ℕ). Request-below (length s) r) Request-read (request-at lim s t p) _ (request-held s Request-fault ends byte lim t p table fits) λ r e fits₂ so.
+      pick-has Request-held _ _ _ (λ more. byte _ e refl (ltb-true _ _ more)) (λ _. (fits₂, (so, short)))
+
+  pub settled-held : Request-held (settled lim s)
+  unfolding settled among refusals at-start of-neither some-of either
+  settled-held =
+      by-next s Request-fault Request-read Request-read (read-request lim s) _ read-held λ r e fits so.
+      let refused = byte-fault refusals (lim .request) (length s) (so .1) in
+      by-refuse s Request-fault Request-read _ _ _ (λ p. refused _ p refl refl) (contradiction-below (length s) [] (r .table .effects) (so .0 .table .effects))
+      (by-refuse s Request-fault Request-read _ _ _ (λ p. refused _ p refl refl) (mixed-below (length s) (r .table .effects) (r .table .knowledge) (so .0 .table .knowledge))
+      (by-refuse s Request-fault Request-read _ _ _ (λ p. refused _ p refl refl) (overlap-in-below (length s) (r .plan) (so .0 .plan)) (fits, so)))
+
+-- A DERIVATION, for a request. It gets neither 16 nor 17. What the layout decides stands last, so that the others are found in any layout.
+unfoldable pub derivation-faults : Layout → List ℕ
+derivation-faults layout =
+    Limits.no-such-rule ∷ Limits.not-earlier ∷ Limits.citations-not-taken ∷ Limits.does-not-follow ∷ Limits.not-exclusive ∷ Limits.too-long ∷
+    Limits.ends-too-soon ∷ byte-faults ++ (end-fault layout ∷ [])
+
+module _ (lim : Limits) (layout : Layout) (d : List ℕ) where
+  abbrev Derivation-fault : ℕ → ℕ → Type 0
+  Derivation-fault = Fault-in (derivation-faults layout) (lim .derivation) (length d)
+
+  abbrev Derivation-read : Derivation → ℕ → Type 0
+  Derivation-read x e = Derivation-below (length d) layout x × (length d ≤ lim .derivation)
+
+  abbrev Derivation-held : Got Derivation → Type 0
+  Derivation-held = Held d Derivation-fault Derivation-read
+
+  derivation-held : (n m : ℕ) → Derivation-held (read-derivation lim n m d layout)
+  unfolding read-derivation among derivation-faults byte-faults some-of either each-of both
+  derivation-held n m =
+      pick-has Derivation-held _ _ _ (λ _. too-long-fault (derivation-faults layout) (lim .derivation) (length d) refl) λ f.
+      let short = ltb-false (lim .derivation) (length d) f in
+      let ends = ends-fault (derivation-faults layout) (lim .derivation) (length d) short refl in
+      let byte = reading-fault (derivation-faults layout) (lim .derivation) (length d) short refl in
+      by-next d Derivation-fault (λ (c p : ℕ). p ≡ 0 + 2) Derivation-read (two-bytes-at d 0) _ (two-bytes-held d Derivation-fault ends byte 0) λ c p fits is.
+      pick-has Derivation-held _ _ _ (λ _. byte _ 0 refl (omega (arith, fits, is))) λ _.
+      by-next d Derivation-fault (λ (ls : List Line) (q : ℕ). Each (Line-below (length d)) ls) Derivation-read (repeated (line-at lim n m d layout) c p) _
+      (repeated-held d Derivation-fault ends byte (Line-below (length d)) (line-at lim n m d layout) (line-held d Derivation-fault ends byte lim n m layout) c p fits) λ ls q fits₂ so.
+      by-next d Derivation-fault (λ (ks : List ℕ) (e : ℕ). Closed (length d) layout q ks) Derivation-read (closing-at d layout q) _ (closing-held d Derivation-fault ends byte layout q fits₂) λ ks e fits₃ closed.
+      pick-has Derivation-held _ _ _ (λ more. byte _ e refl (ltb-true _ _ more)) (λ _. (fits₃, (record { lines = so; closing = closed }, short)))
+
+  abbrev pub Checked : Got (Unit {0}) → Type 0
+  Checked = Held d Derivation-fault (λ (x : Unit {0}) (q : ℕ). Unit {0})
+
+  module _ (short : length d ≤ lim .derivation) where
+    refused : (n p : ℕ) → among n (derivation-faults layout) ≡ true → among n (Limits.ends-too-soon ∷ at-start) ≡ false → p < length d → Derivation-fault n p
+    refused = byte-fault (derivation-faults layout) (lim .derivation) (length d) short
+
+    lines-checked : (t : Table) (lines : List Line) (i : ℕ) (ls : List Line) → Each (Line-below (length d)) ls → Checked (check-lines lim layout t lines i ls)
+    unfolding check-lines among derivation-faults byte-faults at-start of-neither some-of either
+    lines-checked t lines i [] h = (omega arith, tt)
+    lines-checked t lines i (l ∷ ls) h =
+        pick-has Checked _ _ _ (λ _. refused _ _ refl refl (h .0 .here)) λ _.
+        pick-has Checked _ _ _ (λ _. refused _ _ refl refl (h .0 .here)) λ _.
+        pick-has Checked _ _ _ (λ _. refused _ _ refl refl (h .0 .here)) λ _.
+        pick-has Checked _ _ _ (λ _. refused _ _ refl refl (h .0 .here)) λ _.
+        lines-checked t lines (i + 1) ls (h .1)
+
+-- The end, by the layout.
+module _ (lim : Limits) (d : List ℕ) (short : length d ≤ lim .derivation) where
+  last-checked : (r : Request) (ls : List Line) → Each (Line-below (length d)) ls → Checked lim Plain d (check-last r ls)
+  unfolding check-last among derivation-faults byte-faults end-fault at-start of-neither some-of either
+  last-checked r [] h = (omega arith, tt)
+  last-checked r (l ∷ []) h = pick-has (Checked lim Plain d) _ _ _ (λ _. (omega arith, tt)) (λ _. refused lim Plain d short _ _ refl refl (h .0 .here))
+  last-checked r (l ∷ (k ∷ ls)) h = last-checked r (k ∷ ls) (h .1)
+
+  entries-checked : (r : Request) (lines : List Line) (p : ℕ) (Ys : List Conclusion) (ks : List ℕ) → p + 2 * length ks ≤ length d → Checked lim Closing d (check-entries r lines p Ys ks)
+  unfolding check-entries among derivation-faults byte-faults end-fault at-start of-neither some-of either
+  entries-checked r lines p [] ks fits = (omega arith, tt)
+  entries-checked r lines p (Y ∷ Ys) [] fits = (omega arith, tt)
+  entries-checked r lines p (Y ∷ Ys) (k ∷ ks) fits =
+      pick-has (Checked lim Closing d) _ _ _ (λ _. entries-checked r lines (p + 2) Ys ks (omega (arith, fits))) (λ _. refused lim Closing d short _ p refl refl (omega (arith, fits)))
+
+  end-checked : (layout : Layout) (r : Request) (x : Derivation) → Derivation-below (length d) layout x → Checked lim layout d (check-end layout r x)
+  unfolding check-end check-closing among derivation-faults byte-faults end-fault at-start of-neither some-of either
+  end-checked Plain r x h = last-checked r (x .lines) (h .lines)
+  end-checked Closing r x h =
+      pick-has (Checked lim Closing d) _ _ _ (λ _. entries-checked r (x .lines) (x .closing-place + 1) (all-asked r) (x .closing) (h .closing))
+      (λ _. let fits = h .closing in refused lim Closing d short _ (x .closing-place) refl refl (omega (arith, fits)))
+
+module _ (lim : Limits) (layout : Layout) (d : List ℕ) where
+  pub derivation-checked : (r : Request) → Checked lim layout d (check-derivation lim layout r d)
+  unfolding check-derivation among derivation-faults byte-faults at-start of-neither some-of either
+  derivation-checked r =
+      by-next d (Derivation-fault lim layout d) (Derivation-read lim layout d) (λ (x : Unit {0}) (q : ℕ). Unit {0}) (read-derivation lim (r .table .fluents) (r .table .actions) d layout) _ (derivation-held lim layout d (r .table .fluents) (r .table .actions)) λ x e _ so.
+      by-refuse d (Derivation-fault lim layout d) (λ (x : Unit {0}) (q : ℕ). Unit {0}) _ _ _ (λ p. refused lim layout d (so .1) _ p refl refl) (overlap-lines-below (length d) (x .lines) (so .0 .lines))
+      (by-next d (Derivation-fault lim layout d) (λ (x : Unit {0}) (q : ℕ). Unit {0}) (λ (x : Unit {0}) (q : ℕ). Unit {0}) (check-lines lim layout (r .table) (x .lines) 0 (x .lines)) _ (lines-checked lim layout d (so .1) (r .table) (x .lines) 0 (x .lines) (so .0 .lines)) λ _ _ _ _.
+      end-checked lim d (so .1) layout r x (so .0))

@@ -1,0 +1,207 @@
+-- What answers 1 and 2 report: the place and the state are those of the first path that misses, where none stops, or of the first that stops.
+-- The end of the walk says so of the list of paths (`EndLaws`); a state's tests are those of its a-state (`PairLaws`); and a path stops only
+-- at an item that can't be run, by induction on the plan. Assumes nothing.
+use Prim.Native.Nat.{ℕ, _≤_}
+use native.Mathlib.Omega.{arith}
+use mathlib.Core.Path.{_≡_, refl, sym, _∙_, subst}
+use mathlib.Core.Bool.{Bool, true, false}
+use mathlib.Core.List.{List, [], _∷_, map}
+use mathlib.Core.Logic.{_⊎_, inl, inr, ⊎-elim, _↔_}
+use lib.ListN.{length}
+use Rattle.meaning.specs.Tests.{each-of, Has}
+use Rattle.meaning.specs.Limits
+use Rattle.meaning.specs.Limits.{Limits}
+use Rattle.meaning.specs.Requests.{Table, Sequence, done, item, Item, act, branching, Branches, none, branch, Entry, Request, values}
+use Rattle.meaning.specs.Reading.{got}
+use Rattle.meaning.specs.Refusals.{nowhere, at, or-else, settled}
+use Rattle.meaning.specs.States.{State, known, known-whether, can-be-run, Outcome, single, fork, outcome}
+use Rattle.meaning.specs.Walk.{End, fine, missed, stuck, table-step, first-missed, missed-in}
+use Rattle.meaning.specs.Judging.{Judgement, ended, within, judge, number, count}
+use Rattle.meaning.specs.Approximation.{Pair, true-in, state, None-true, Φ̂, Initial, Entailed}
+use Rattle.meaning.specs.Paths.{arrives, stops, arrivals, paths, paths-item, paths-branch}
+use Rattle.meaning.specs.Reported.{First, pair-of, Asked, goal, whether, asked-at, met-in, asked-by, All-met, Misses, all-paths, Missed-at, Item-in, Item-of, Item-under, item-place, Not-run, Stopped-at}
+use Rattle.meaning.proofs.TestLaws.{clash, pick-cases, each-has, has-each, has-split, has-map, map-has}
+use Rattle.meaning.proofs.PickLaws.{pick-has, has-picked}
+use Rattle.meaning.proofs.RefusalLaws.{at≢nowhere, at-same}
+use Rattle.meaning.proofs.PathLaws.{by-found}
+use Rattle.meaning.proofs.EndLaws.{first-here, first-later, first-has, first-left, first-right, first-map, Ends, arrives≢stops, all-arrive, stops-same, ends-one, ends-split, ends-ran, went-on, stop-ends, miss-ends, Says, none-missed}
+use Rattle.meaning.proofs.PairLaws.{true-in-pair, runs-pair}
+use Rattle.meaning.proofs.CoverLaws.{knows-pair}
+use Rattle.meaning.proofs.Exact.{walk-end, met, whether-pair, whether-in, least-initial, leads, ranged, fits, says, judged-by-walk, missed-exactly}
+
+-- ENTRIES. One list of them, where each is met just where its value passes a test.
+module _ (σ : Pair) (test : ℕ → Bool) (asks : Entry → Asked) (same : (e : Entry) → met-in σ (asks e) ≡ test (e .value)) (stands : (e : Entry) → asked-at (asks e) ≡ e .place) where
+  first-in : (es : List Entry) (p : ℕ) → first-missed test es ≡ at p → First (λ a. met-in σ a ≡ true) (λ a. (met-in σ a ≡ false) × (asked-at a ≡ p)) (map asks es)
+  unfolding first-missed
+  first-in [] p q = absurd (at≢nowhere (sym q))
+  first-in (e ∷ es) p q = pick-cases _ _ _ q (λ t k. first-later (same e ∙ t) (first-in es p k)) (λ f k. first-here (same e ∙ f, stands e ∙ at-same k))
+
+  all-in : (es : List Entry) → each-of test (values es) ≡ true → (a : Asked) → Has (map asks es) a → met-in σ a ≡ true
+  unfolding values
+  all-in es all a h =
+      let w = map-has asks es a h in
+      rw (w .2) (same (w .0) ∙ each-has test (values es) (w .0 .value) all (has-map (λ (e : Entry). e .value) es (w .0) (w .1)))
+
+-- Both lists, of a state.
+module _ (r : Request) (u : State) where
+  goal-met : (e : Entry) → met-in (pair-of u) (goal e) ≡ known u (e .value)
+  unfolding met-in
+  goal-met e = true-in-pair u (e .value)
+
+  whether-met : (e : Entry) → met-in (pair-of u) (whether e) ≡ known-whether u (e .value)
+  unfolding met-in
+  whether-met e = whether-pair u (e .value)
+
+  goal-at : (e : Entry) → asked-at (goal e) ≡ e .place
+  unfolding asked-at
+  goal-at e = refl
+
+  whether-at : (e : Entry) → asked-at (whether e) ≡ e .place
+  unfolding asked-at
+  whether-at e = refl
+
+  goals-met : each-of (known u) (values (r .goals)) ≡ true → (a : Asked) → Has (map goal (r .goals)) a → met-in (pair-of u) a ≡ true
+  goals-met = all-in (pair-of u) (known u) goal goal-met goal-at (r .goals)
+
+  -- Where the walk misses nothing, all is met.
+  nothing-missed : missed-in r u ≡ nowhere → All-met r (pair-of u)
+  unfolding asked-by
+  nothing-missed q a h =
+      let w = met r u .0 q in
+      ⊎-elim (goals-met (w .0) a) (all-in (pair-of u) (known-whether u) whether whether-met whether-at (r .whether) (w .1) a)
+      (has-split (map goal (r .goals)) (map whether (r .whether)) a h)
+
+  -- Where it misses an entry, that is the first not met.
+  entry-missed : (p : ℕ) → missed-in r u ≡ at p → First (λ a. met-in (pair-of u) a ≡ true) (λ a. (met-in (pair-of u) a ≡ false) × (asked-at a ≡ p)) (asked-by r)
+  unfolding missed-in or-else asked-by
+  entry-missed p q =
+      by-found (first-missed (known u) (r .goals))
+      (λ none. first-right (map goal (r .goals)) (goals-met (none-missed (known u) (r .goals) .0 none))
+      (first-in (pair-of u) (known-whether u) whether whether-met whether-at (r .whether) p (rw none at q)))
+      (λ i is. first-left (map whether (r .whether)) (first-in (pair-of u) (known u) goal goal-met goal-at (r .goals) p (is ∙ (rw is at q))))
+
+-- What is entailed is met in every end state.
+entailed-met : (r : Request) (σ δ : Pair) → Initial (r .table) σ → Φ̂ (r .table) (r .plan) σ (state δ) → Entailed r → All-met r δ
+unfolding asked-by met-in asked-at
+entailed-met r σ δ initial led k a h =
+    ⊎-elim
+    (all-in δ (true-in δ) goal (λ e. refl) (λ e. refl) (r .goals) (k .0 .true-after σ initial δ led) a)
+    (all-in δ (λ f. whether-in f δ) whether (λ e. refl) (λ e. refl) (r .whether) (has-each _ _ (λ f m. k .1 f m .true-after σ initial δ led)) a)
+    (has-split (map goal (r .goals)) (map whether (r .whether)) a h)
+
+-- ITEMS. What an action leads to are arrivals.
+arrivals-go-on : (o : Outcome State) (p : ℕ) (u : State) → Ends (arrivals o) (stops p u) → ⊥
+unfolding arrivals
+arrivals-go-on (single s) p u h = arrives≢stops (sym (ends-one h))
+arrivals-go-on (fork o q) p u h = ⊎-elim (arrivals-go-on o p u) (arrivals-go-on (q tt) p u) (ends-split (arrivals o) (arrivals (q tt)) (stops p u) h)
+
+module _ (t : Table) where
+  -- One of the items stands at the place and can't be run in the state.
+  abbrev Stop : (Item ℕ → Type 0) → ℕ → State → Type 0
+  Stop Items p u = (i : Item ℕ) × Items i × (item-place i ≡ p) × Not-run t i (pair-of u)
+
+  mutual
+    unfolding paths table-step item-place
+
+    -- A path stops at an item of the plan that can't be run.
+    stops-in : (c : Sequence ℕ) (s : State) (p : ℕ) (u : State) → Ends (paths (table-step t) c s) (stops p u) → Stop (Item-in c) p u
+    stops-in done s p u h = absurd (arrives≢stops (sym (ends-one h)))
+    stops-in (item i rest) s p u h =
+        ⊎-elim
+        (λ w. let v = stops-of i s p u (subst (Ends (paths-item (table-step t) i s)) (sym (w .3)) (w .2)) in (v .0, inl (v .1), v .2, v .3))
+        (λ w. let v = stops-in rest (w .0) p u (w .2) in (v .0, inr (v .1), v .2, v .3))
+        (went-on (paths (table-step t) rest) (paths-item (table-step t) i s) (stops p u) h)
+
+    stops-of : (i : Item ℕ) (s : State) (p : ℕ) (u : State) → Ends (paths-item (table-step t) i s) (stops p u) → Stop (Item-of i) p u
+    stops-of (act q a) s p u h =
+        has-picked (λ xs. Ends xs (stops p u)) (can-be-run t a s) _ _ h
+        (λ _ k. absurd (arrivals-go-on (outcome t a s) p u (ends-ran (a ∷ []) (arrivals (outcome t a s)) (stops p u) .0 k)))
+        (λ off k. let w = stops-same (ends-one k) in (act q a, refl, sym (w .0), rw (w .1) (runs-pair t a s ∙ off)))
+    stops-of (branching q bs) s p u h =
+        ⊎-elim
+        (λ w. (w .0, inr (w .1), w .2, w .3))
+        (λ w. (branching q bs, inl refl, sym (w .0), rw (w .1) (w .2)))
+        (stops-under bs q s p u h)
+
+    stops-under : (bs : Branches ℕ) (q : ℕ) (s : State) (p : ℕ) (u : State) → Ends (paths-branch (table-step t) bs q s) (stops p u)
+        → Stop (Item-under bs) p u ⊎ ((p ≡ q) × (u ≡ s) × None-true t bs (pair-of s))
+    stops-under none q s p u h = let w = stops-same (ends-one h) in inr (w .0, w .1, tt)
+    stops-under (branch c b bs) q s p u h =
+        has-picked (λ xs. Ends xs (stops p u)) (each-of (known s) c) _ _ h
+        (λ _ k. let w = stops-in b s p u k in inl (w .0, inl (w .1), w .2, w .3))
+        (λ off k. ⊎-elim (λ w. inl (w .0, inr (w .1), w .2, w .3)) (λ w. inr (w .0, w .1, (knows-pair s c ∙ off, w .2))) (stops-under bs q s p u k))
+
+-- THE REPORTS, of a settled request.
+module _ (lim : Limits) (room : lim .fluents ≤ lim .state) (b lent : List ℕ) (budget : ℕ) (r : Request) (e : ℕ) (lent-length : length lent ≡ lim .state) (past : settled lim b ≡ got r e) where
+  end-reports : (n : End State) → walk-end lim r ≡ n → Says (missed-in r) (all-paths lim r) n
+  end-reports n q = subst (Says (missed-in r) (all-paths lim r)) q (says lim room b r e past)
+
+  missed-reports : (p : ℕ) (u : State) → walk-end lim r ≡ missed p u → Missed-at r (all-paths lim r) p u
+  missed-reports p u q =
+      let w = end-reports (missed p u) q in
+      record {
+        all-arrive = all-arrive (all-paths lim r) (w .0);
+        path = first-map (λ x none v is. nothing-missed r v (none v is)) (λ x is. is .0) (w .1);
+        entry = entry-missed r u p (w .1 .so .1);
+        end-state = leads lim room r (ranged lim room b r e past) (fits lim room b r e past) (arrives u) (miss-ends (missed-in r) (all-paths lim r) p u (w .1));
+      }
+
+  stuck-reports : (p : ℕ) (u : State) → walk-end lim r ≡ stuck p u → Stopped-at r (all-paths lim r) p u
+  stuck-reports p u q =
+      let w = end-reports (stuck p u) q in
+      let ends = stop-ends (all-paths lim r) p u w in
+      let v = stops-in (r .table) (r .plan) _ p u ends in
+      record {
+        path = w;
+        stop = v .0;
+        in-plan = v .1;
+        stands = v .2;
+        not-run = v .3;
+        fails = leads lim room r (ranged lim room b r e past) (fits lim room b r e past) (stops p u) ends;
+      }
+
+  -- Where the answer is 1, its place and the state left are those of the first miss.
+  pub missed-there : number lim b lent budget ≡ Limits.goal-missed → Missed-at r (all-paths lim r) (judge lim b lent budget .answer .place) (judge lim b lent budget .state)
+  unfolding within ended
+  missed-there = subst Says-missed (sym (judged-by-walk lim room b lent budget r e lent-length past)) (pick-has Says-missed _ _ _ (λ _ q. absurd (omega (arith, q))) (λ _. by-end (walk-end lim r) refl))
+    where
+      Says-missed : Judgement → Type 0
+      Says-missed j = j .answer .number ≡ Limits.goal-missed → Missed-at r (all-paths lim r) (j .answer .place) (j .state)
+
+      by-end : (n : End State) → walk-end lim r ≡ n → Says-missed (ended lent (count lim r) n)
+      by-end fine q k = absurd (omega (arith, k))
+      by-end (missed p u) q k = missed-reports p u q
+      by-end (stuck p u) q k = absurd (omega (arith, k))
+
+  -- Where it is 2, they are those of the first stop.
+  pub stopped-there : number lim b lent budget ≡ Limits.not-executable → Stopped-at r (all-paths lim r) (judge lim b lent budget .answer .place) (judge lim b lent budget .state)
+  unfolding within ended
+  stopped-there = subst Says-stopped (sym (judged-by-walk lim room b lent budget r e lent-length past)) (pick-has Says-stopped _ _ _ (λ _ q. absurd (omega (arith, q))) (λ _. by-end (walk-end lim r) refl))
+    where
+      Says-stopped : Judgement → Type 0
+      Says-stopped j = j .answer .number ≡ Limits.not-executable → Stopped-at r (all-paths lim r) (j .answer .place) (j .state)
+
+      by-end : (n : End State) → walk-end lim r ≡ n → Says-stopped (ended lent (count lim r) n)
+      by-end fine q k = absurd (omega (arith, k))
+      by-end (missed p u) q k = absurd (omega (arith, k))
+      by-end (stuck p u) q k = stuck-reports p u q
+
+  -- A goal is missed, exactly where every path can be run and an entry is not met in some end state.
+  pub missed-in-an-end-state : count lim r ≤ budget → (number lim b lent budget ≡ Limits.goal-missed) ↔ Misses r
+  missed-in-an-end-state enough = (
+    λ q.
+        let m = missed-there q in
+        record {
+          executable = missed-exactly lim room b lent budget r e lent-length past enough .0 q .0;
+          end-state = pair-of (judge lim b lent budget .state);
+          reached = m .end-state;
+          entry = m .entry .here;
+          asked = first-has (m .entry);
+          not-met = m .entry .so .0;
+        },
+    λ m.
+        missed-exactly lim room b lent budget r e lent-length past enough .1 (
+          m .executable,
+          λ k. clash (entailed-met r _ (m .end-state) (least-initial lim room r (ranged lim room b r e past) (fits lim room b r e past)) (m .reached) k (m .entry) (m .asked)) (m .not-met),
+        ),
+  )

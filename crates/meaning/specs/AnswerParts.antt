@@ -1,0 +1,72 @@
+-- What an answer's input, place and count are, by its number (FORMAT 4.3 to 4.44, 17.35, 17.36).
+use Prim.Native.Nat.{ℕ, _<_}
+use mathlib.Core.Path.{_≡_}
+use mathlib.Core.Bool.{true, false}
+use mathlib.Core.List.{List, [], _∷_}
+use mathlib.Core.Logic.{_↔_}
+use lib.Dec.{eqb}
+use Rattle.meaning.specs.declared.Answer.{Answer}
+use Rattle.meaning.specs.Tests.{pick}
+use Rattle.meaning.specs.Limits
+use Rattle.meaning.specs.Limits.{Limits}
+use Rattle.meaning.specs.Literals.{among}
+use Rattle.meaning.specs.Requests.{Request}
+use Rattle.meaning.specs.Reading.{got}
+use Rattle.meaning.specs.Refusals.{settled}
+use Rattle.meaning.specs.States.{first-state}
+use Rattle.meaning.specs.Walk.{walked}
+
+-- INPUT. The numbers that name neither (FORMAT 4.27), those that only the request gets, and those that only a derivation gets.
+unfoldable pub of-neither : List ℕ
+of-neither = Limits.verified ∷ Limits.budget-spent ∷ Limits.state-length ∷ []
+
+unfoldable pub of-requests : List ℕ
+of-requests = Limits.goal-missed ∷ Limits.not-executable ∷ Limits.contradictory-effects ∷ Limits.effect-and-knowledge ∷ Limits.whether-asked ∷ []
+
+unfoldable pub of-derivations : List ℕ
+of-derivations =
+    Limits.no-such-rule ∷ Limits.not-earlier ∷ Limits.citations-not-taken ∷ Limits.does-not-follow ∷ Limits.not-the-question ∷
+    Limits.closing-not-right ∷ []
+
+-- The inputs that an answer of this number may name: the last column of the table of FORMAT 4.3 to 4.25.
+unfoldable pub inputs-of : (number : ℕ) → List ℕ
+inputs-of number =
+    pick (among number of-neither) (λ _. Limits.neither-input ∷ []) λ _.
+    pick (among number of-requests) (λ _. Limits.the-request ∷ []) λ _.
+    pick (among number of-derivations) (λ _. Limits.the-derivation ∷ []) λ _.
+    Limits.the-request ∷ Limits.the-derivation ∷ []
+
+-- The walk call names neither input exactly with 0, 3 and 9, and the request with every other number.
+pub record Walk-input (a : Answer) : Type 0 where
+  pub neither : (a .input ≡ Limits.neither-input) ↔ (among (a .number) of-neither ≡ true)
+  pub request : among (a .number) of-neither ≡ false → a .input ≡ Limits.the-request
+
+-- The derivation call and the whether call name neither exactly with 0, and else an input that the number allows.
+pub record Check-input (a : Answer) : Type 0 where
+  pub neither : (a .input ≡ Limits.neither-input) ↔ (a .number ≡ Limits.verified)
+  pub allowed : among (a .input) (inputs-of (a .number)) ≡ true
+
+-- PLACE. The numbers whose place is 0 whatever the input is (FORMAT 4.3, 4.6 to 4.8).
+unfoldable pub at-start : List ℕ
+at-start = Limits.too-long ∷ of-neither
+
+-- In an input of this size: with these four the place is 0, with 11 it is the size, and with every other number it is that of a byte.
+pub record Placed (size number place : ℕ) : Type 0 where
+  pub start : among number at-start ≡ true → place ≡ 0
+  pub end : number ≡ Limits.ends-too-soon → place ≡ size
+  pub byte : among number (Limits.ends-too-soon ∷ at-start) ≡ false → place < size
+
+-- The input that an answer's place is in; the request, where it names neither.
+unfoldable pub named : Answer → (request derivation : List ℕ) → List ℕ
+named a request derivation = pick (eqb (a .input) Limits.the-derivation) (λ _. derivation) (λ _. request)
+
+-- COUNT. The numbers of a walk that has ended within its budget.
+unfoldable pub of-walks : List ℕ
+of-walks = Limits.verified ∷ Limits.goal-missed ∷ Limits.not-executable ∷ []
+
+-- The walk call counts the walk of the settled request with 0, 1 and 2, the budget with 3, and 0 with every other number (FORMAT 4.42 to
+-- 4.44).
+pub record Walk-count (lim : Limits) (request : List ℕ) (budget : ℕ) (a : Answer) : Type 0 where
+  pub walk : among (a .number) of-walks ≡ true → (r : Request) × (e : ℕ) × (settled lim request ≡ got r e) × (a .count ≡ walked r (first-state lim (r .table)) .count)
+  pub spent : a .number ≡ Limits.budget-spent → a .count ≡ budget
+  pub other : among (a .number) (Limits.budget-spent ∷ of-walks) ≡ false → a .count ≡ 0

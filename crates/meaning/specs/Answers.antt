@@ -1,0 +1,27 @@
+-- The numbers that each call answers (FORMAT section 4, 11.1, 17.38).
+use Prim.Native.Nat.{ℕ}
+use mathlib.Core.List.{List, [], _∷_}
+use Rattle.meaning.specs.declared.Layout.{Layout}
+use Rattle.meaning.specs.declared.Layout.the-variants.{Plain, Closing}
+use Rattle.meaning.specs.Limits
+
+-- The refusals of a request, and all that the walk call answers.
+unfoldable pub refusals : List ℕ
+refusals =
+    Limits.too-long ∷ Limits.ends-too-soon ∷ Limits.count-outside ∷ Limits.too-large ∷ Limits.not-above ∷ Limits.complement-beside ∷
+    Limits.contradictory-effects ∷ Limits.effect-and-knowledge ∷ Limits.not-exclusive ∷ Limits.nested-too-deep ∷ Limits.bytes-after ∷ Limits.too-many-items ∷ []
+
+unfoldable pub answers : List ℕ
+answers = Limits.verified ∷ Limits.goal-missed ∷ Limits.not-executable ∷ Limits.budget-spent ∷ Limits.state-length ∷ refusals
+
+-- The refusals of a derivation, and all that the derivation call and the whether call answer.
+unfoldable pub end-fault : Layout → ℕ
+end-fault Plain = Limits.not-the-question
+end-fault Closing = Limits.closing-not-right
+
+unfoldable pub faults : Layout → List ℕ
+faults layout = Limits.no-such-rule ∷ Limits.not-earlier ∷ Limits.citations-not-taken ∷ Limits.does-not-follow ∷ end-fault layout ∷ refusals
+
+unfoldable pub check-answers : Layout → List ℕ
+check-answers Plain = Limits.verified ∷ Limits.whether-asked ∷ faults Plain
+check-answers Closing = Limits.verified ∷ faults Closing

@@ -1,0 +1,15 @@
+pub mod UnpackingLaws
+pub mod BeyondLaws
+pub mod LentLaws
+pub mod TablePromises
+pub mod JudgePromises
+pub mod Promises
+pub mod ExportedPromises
+pub mod CheckPromises
+pub mod DerivationPromises
+pub mod WhetherPromises
+pub mod ShowingPromises
+pub mod ExportedDerivationPromises
+pub mod ExportedWhetherPromises
+pub mod LayoutPromises
+pub mod ExportedShowingPromises

@@ -1,0 +1,110 @@
+-- An answer in one number gives its parts back: each part is smaller than the room that it has, so division and remainder find it. Every answer
+-- of the walk call, of the derivation call and of the whether call is such an answer. Assumes nothing.
+use Prim.Native.Nat.{ℕ, _/_, _%_, _<_}
+use native.Mathlib.Omega.{arith}
+use mathlib.Core.Path.{_≡_, refl, _∙_, ap}
+use mathlib.Core.Bool.{true}
+use mathlib.Core.List.{List}
+use lib.Dec.{ltb}
+use borrow.Author.Tests.{ltb-true}
+use Rattle.meaning.specs.declared.Answer.{Answer}
+use Rattle.meaning.specs.declared.Layout.{Layout}
+use Rattle.meaning.specs.declared.Layout.the-variants.{Plain, Closing}
+use Rattle.meaning.specs.Tests.{both, each-of}
+use Rattle.meaning.specs.Limits.{format}
+use Rattle.meaning.specs.Literals.{among}
+use Rattle.meaning.specs.Judging.{judge}
+use Rattle.meaning.specs.Derivations.{check}
+use Rattle.meaning.specs.Answers.{refusals, answers, end-fault, faults, check-answers}
+use Rattle.meaning.specs.AnswerParts.{of-neither, inputs-of}
+use Rattle.meaning.proofs.TestLaws.{by-test}
+use Rattle.meaning.proofs.LiteralLaws.{among-each}
+use Rattle.meaning.proofs.PickLaws.{pick-has}
+use Rattle.meaning.proofs.AnswerLaws.{every-answer-numbered}
+use Rattle.meaning.proofs.Passed.{every-check-numbered}
+use Rattle.meaning.proofs.PartLaws.{input-exactly, check-input-exactly}
+use Rattle.glintstring.specs.Packing.{packed, unpacked}
+use Rattle.glintstring.proofs.PackingLaws.{place-small, check-place-small}
+
+-- An answer whose parts have room.
+pub record Small (a : Answer) : Type 0 where
+  pub number : a .number < 256
+  pub input : a .input < 256
+  pub place : a .place < 65536
+
+-- ITS PARTS, BACK from the number.
+module _ (a : Answer) (small : Small a) (n : ℕ) (packs : n ≡ packed a) where
+  pub number-back : n % 256 ≡ a .number
+  unfolding packed
+  number-back = let k = small .number in omega (arith, k, packs)
+
+  pub input-back : n / 256 % 256 ≡ a .input
+  unfolding packed
+  input-back = let k = small .number in let i = small .input in omega (arith, k, i, packs)
+
+  pub place-back : n / 65536 % 65536 ≡ a .place
+  unfolding packed
+  place-back = let k = small .number in let i = small .input in let p = small .place in omega (arith, k, i, p, packs)
+
+  pub count-back : n / 4294967296 ≡ a .count
+  unfolding packed
+  count-back = let k = small .number in let i = small .input in let p = small .place in omega (arith, k, i, p, packs)
+
+  pub unpacks : unpacked n ≡ a
+  unfolding unpacked
+  unpacks =
+      ap (λ (k : ℕ). record { number = k; input = n / 256 % 256; place = n / 65536 % 65536; count = n / 4294967296 }) number-back
+      ∙ ap (λ (i : ℕ). record { number = a .number; input = i; place = n / 65536 % 65536; count = n / 4294967296 }) input-back
+      ∙ ap (λ (p : ℕ). record { number = a .number; input = a .input; place = p; count = n / 4294967296 }) place-back
+      ∙ ap (λ (c : ℕ). record { number = a .number; input = a .input; place = a .place; count = c }) count-back
+
+-- THE WALK CALL'S ANSWERS. Each number is one of a few.
+number-small : (n : ℕ) → among n answers ≡ true → n < 256
+unfolding answers refusals each-of both
+number-small n is = ltb-true _ _ (among-each (λ (m : ℕ). ltb m 256) answers refl n is)
+
+input-small : (s lent : List ℕ) (budget : ℕ) → judge format s lent budget .answer .input < 256
+input-small s lent budget =
+    let input = input-exactly format s lent budget in
+    by-test (among (judge format s lent budget .answer .number) of-neither)
+    (λ t. let is = input .neither .1 t in omega (arith, is))
+    (λ f. let is = input .request f in omega (arith, is))
+
+pub answer-small : (s lent : List ℕ) (budget : ℕ) → Small (judge format s lent budget .answer)
+answer-small s lent budget = record {
+  number = number-small _ (every-answer-numbered format s lent budget);
+  input = input-small s lent budget;
+  place = place-small s lent budget;
+}
+
+-- THE ANSWERS OF THE DERIVATION CALL and of the whether call.
+numbers-small : (layout : Layout) → each-of (λ (m : ℕ). ltb m 256) (check-answers layout) ≡ true
+unfolding check-answers faults end-fault refusals each-of both
+numbers-small Plain = refl
+numbers-small Closing = refl
+
+inputs-small : (n : ℕ) → each-of (λ (m : ℕ). ltb m 256) (inputs-of n) ≡ true
+unfolding inputs-of each-of both
+inputs-small n =
+    pick-has Each-small _ _ _ (λ _. refl) λ _.
+    pick-has Each-small _ _ _ (λ _. refl) λ _.
+    pick-has Each-small _ _ _ (λ _. refl) (λ _. refl)
+  where
+    Each-small : List ℕ → Type 0
+    Each-small ns = each-of (λ (m : ℕ). ltb m 256) ns ≡ true
+
+module _ (layout : Layout) where
+  check-number-small : (n : ℕ) → among n (check-answers layout) ≡ true → n < 256
+  check-number-small n is = ltb-true _ _ (among-each (λ (m : ℕ). ltb m 256) (check-answers layout) (numbers-small layout) n is)
+
+  check-input-small : (s d : List ℕ) → check format layout s d .input < 256
+  check-input-small s d =
+      let a = check format layout s d in
+      ltb-true _ _ (among-each (λ (m : ℕ). ltb m 256) (inputs-of (a .number)) (inputs-small (a .number)) (a .input) (check-input-exactly format layout s d .allowed))
+
+  pub check-small : (s d : List ℕ) → Small (check format layout s d)
+  check-small s d = record {
+    number = check-number-small _ (every-check-numbered format layout s d);
+    input = check-input-small s d;
+    place = check-place-small layout s d;
+  }

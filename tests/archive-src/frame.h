@@ -1,0 +1,33 @@
+/* What goes between library.c and driver.c, which run on two machines. Both have the low byte of a number first. */
+#ifndef FRAME_H
+#define FRAME_H
+
+#include <stdint.h>
+
+/* The exported calls. */
+enum { JUDGE, CHECK, CHECK_WHETHER, SHOW, CALLS };
+
+/* What a call takes. The bytes of its first input follow, which is the request, and then those of its second, the lent state or the derivation.
+   `*_at` has the low four bits of the address of an input, or NOWHERE for a null pointer. */
+#define NOWHERE 255
+struct frame {
+    uint64_t answer; /* of the showing call */
+    uint64_t request_length;
+    uint64_t second_length;
+    uint32_t budget; /* of the walk call */
+    uint8_t call;
+    uint8_t request_at;
+    uint8_t second_at;
+    uint8_t unused;
+};
+
+/* What it may not change, and changed. */
+enum { NOTHING, REQUEST, AROUND_REQUEST, DERIVATION, AROUND_SECOND };
+
+/* What it gave. After a walk call the lent bytes follow. */
+struct reply {
+    uint64_t answer;
+    uint64_t changed;
+};
+
+#endif

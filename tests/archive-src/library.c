@@ -1,0 +1,116 @@
+/*
+ * A libglintstring.a for the machine at hand that answers nothing by itself: each exported call goes as a frame to the process that the shell
+ * starts by GLINTSTRING_DRIVER, and its reply is what the call gives. So whatever links libglintstring.a can be run over an archive for
+ * another machine, unchanged. Where there is no reply, or a byte was changed that may not be, the call says so on standard error and gives a
+ * number that is no answer.
+ */
+#define _GNU_SOURCE
+#include <pthread.h>
+#include <stdio.h>
+#include <stdlib.h>
+#include <sys/uio.h>
+#include <sys/wait.h>
+#include <unistd.h>
+
+#include "frame.h"
+#include "glintstring.h"
+
+#define NO_ANSWER UINT64_MAX
+
+static pthread_mutex_t lock = PTHREAD_MUTEX_INITIALIZER;
+static pid_t driver;
+static int to_driver, from_driver;
+
+static void fail(const char *why) {
+    fprintf(stderr, "archive: %s\n", why);
+    _exit(2);
+}
+
+/* The driver writes its counts when its input ends. */
+static void finish(void) {
+    int status;
+    close(to_driver);
+    if (waitpid(driver, &status, 0) != driver || status != 0) fprintf(stderr, "archive: the driver did not end well\n");
+}
+
+static void start(void) {
+    const char *command = getenv("GLINTSTRING_DRIVER");
+    int in[2], out[2];
+    if (command == NULL) fail("GLINTSTRING_DRIVER does not say how the driver is started");
+    if (pipe(in) != 0 || pipe(out) != 0 || (driver = fork()) < 0) fail("the driver cannot be started");
+    if (driver == 0) {
+        dup2(in[0], 0);
+        dup2(out[1], 1);
+        close(in[0]), close(in[1]), close(out[0]), close(out[1]);
+        execl("/bin/sh", "sh", "-c", command, (char *)NULL);
+        fail("there is no shell");
+    }
+    close(in[0]), close(out[1]);
+    to_driver = in[1];
+    from_driver = out[0];
+    atexit(finish);
+}
+
+static int sent(struct iovec *part, int parts) {
+    while (parts > 0) {
+        ssize_t length = writev(to_driver, part, parts);
+        if (length < 0) return 0;
+        for (; parts > 0 && (size_t)length >= part->iov_len; part++, parts--) length -= (ssize_t)part->iov_len;
+        if (parts > 0) {
+            part->iov_base = (char *)part->iov_base + length;
+            part->iov_len -= (size_t)length;
+        }
+    }
+    return 1;
+}
+
+static int received(void *to, size_t length) {
+    for (char *next = to; length > 0;) {
+        ssize_t part = read(from_driver, next, length);
+        if (part <= 0) return 0;
+        next += part;
+        length -= (size_t)part;
+    }
+    return 1;
+}
+
+static uint8_t at(const uint8_t *bytes) { return bytes == NULL ? NOWHERE : (uint8_t)((uintptr_t)bytes & 15); }
+
+/* The lent bytes are those of a walk call. */
+static uint64_t made(struct frame frame, const uint8_t *request, const uint8_t *second, uint8_t *lent) {
+    static const char *const what[] = {"", "the request", "what stands around the request", "the derivation",
+                                       "what stands around the lent state or the derivation"};
+    struct iovec parts[] = {{&frame, sizeof frame}, {(void *)request, frame.request_length}, {(void *)second, frame.second_length}};
+    struct reply reply;
+    frame.request_at = at(request);
+    frame.second_at = at(second);
+    pthread_mutex_lock(&lock);
+    if (driver == 0) start();
+    int replied = sent(parts, 3) && received(&reply, sizeof reply) && (lent == NULL || received(lent, frame.second_length));
+    pthread_mutex_unlock(&lock);
+    if (replied && reply.changed == NOTHING) return reply.answer;
+    if (replied) fprintf(stderr, "archive: a call changed %s\n", what[reply.changed]);
+    else fprintf(stderr, "archive: the driver gives no reply\n");
+    return NO_ANSWER;
+}
+
+uint64_t glintstring_judge(const uint8_t *request, size_t request_length, uint8_t *state, size_t state_length, uint32_t budget) {
+    struct frame frame = {.call = JUDGE, .request_length = request_length, .second_length = state_length, .budget = budget};
+    return made(frame, request, state, state);
+}
+
+uint64_t glintstring_check(const uint8_t *request, size_t request_length, const uint8_t *derivation, size_t derivation_length) {
+    struct frame frame = {.call = CHECK, .request_length = request_length, .second_length = derivation_length};
+    return made(frame, request, derivation, NULL);
+}
+
+uint64_t glintstring_check_whether(const uint8_t *request, size_t request_length, const uint8_t *derivation, size_t derivation_length) {
+    struct frame frame = {.call = CHECK_WHETHER, .request_length = request_length, .second_length = derivation_length};
+    return made(frame, request, derivation, NULL);
+}
+
+uint64_t glintstring_show(uint64_t answer, const uint8_t *request, size_t request_length, const uint8_t *derivation,
+                          size_t derivation_length) {
+    struct frame frame = {.call = SHOW, .answer = answer, .request_length = request_length, .second_length = derivation_length};
+    return made(frame, request, derivation, NULL);
+}
