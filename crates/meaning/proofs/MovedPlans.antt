@@ -12,7 +12,8 @@ use Rattle.meaning.specs.Reading.{Got, got, byte-at, literals, body-at, 
 use Rattle.meaning.specs.SameLines.{unplaced, unplaced-item, unplaced-branches}
 use Rattle.meaning.specs.Layouts.{Bytes, list-written, number-written, items-in, branches-in, items-written, item-written, branches-written, plan-written}
 use Rattle.meaning.proofs.TestLaws.{pick-true, pick-false}
-use Rattle.meaning.proofs.MovedReads.{On, got-on, fault-on, pick-on, refuse-on, next-on, next-is, Stands, stands-both, stands-parts, byte-copied, count-copied, list-copied, two-bytes-copied}
+use Rattle.meaning.proofs.GotLaws.{On, got-on, fault-on, pick-on, refuse-on, next-on}
+use Rattle.meaning.proofs.MovedReads.{next-is, Stands, stands-both, stands-parts, byte-copied, count-copied, list-copied, two-bytes-copied}
 
 -- The part x up to f, its places aside.
 pub record Moved {X : Type 0} (m : Got (Met X)) (unplace : X → X) (x : Met X) (f : ℕ) : Type 0 where
