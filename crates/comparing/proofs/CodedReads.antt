@@ -15,7 +15,8 @@ use Rattle.refusing.specs.Plans.{own-items, branches-in}
 use Rattle.reading.proofs.SectionLaws.{byte-got, count-got}
 use Rattle.refusing.proofs.HereLaws.{list-here}
 use Rattle.refusing.proofs.PlanOverlaps.{listed-length}
-use Rattle.reading.proofs.PlanSizes.{On, got-on, fault-on, pick-on, next-on, body-through, sequence-read}
+use Rattle.meaning.proofs.GotLaws.{On, got-on, fault-on, pick-on, next-on}
+use Rattle.reading.proofs.PlanSizes.{body-through, sequence-read}
 use Rattle.refusing.proofs.WrittenLaws.{two-is}
 use Rattle.comparing.specs.Coded.{coded, coded-item, coded-branches, Tellable, Tellable-item, Tellable-branches}
 use Rattle.comparing.proofs.CodedLaws.{heads, tails, coded-length, own-most}

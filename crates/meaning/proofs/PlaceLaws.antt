@@ -215,20 +215,20 @@ module _ (s : List ℕ) (Bad : ℕ → ℕ → Type 0) where
     abbrev One : ℕ → ℕ → ℕ → Type 0
     One p x q = q ≡ p + 1
 
-    byte-held : (p : ℕ) → Held (One p) (byte-at s p)
+    pub byte-held : (p : ℕ) → Held (One p) (byte-at s p)
     unfolding byte-at
     byte-held p = pick-has (Held (One p)) _ _ _ (λ _. ends) (λ f. let more = leb-false (length s) p f in (omega (arith, more), refl))
 
     abbrev Two : ℕ → ℕ → ℕ → Type 0
     Two p x q = q ≡ p + 2
 
-    two-bytes-held : (p : ℕ) → Held (Two p) (two-bytes-at s p)
+    pub two-bytes-held : (p : ℕ) → Held (Two p) (two-bytes-at s p)
     unfolding two-bytes-at
     two-bytes-held p =
         by-next (One p) _ (byte-at s p) _ (byte-held p) λ high q _ is.
         by-next (One q) _ (byte-at s q) _ (byte-held q) λ low r fits is₂. (fits, omega (arith, is, is₂))
 
-    count-held : (least limit p : ℕ) → Held (One p) (count-at least limit s p)
+    pub count-held : (least limit p : ℕ) → Held (One p) (count-at least limit s p)
     unfolding count-at among byte-faults some-of either
     count-held least limit p =
         by-next (One p) _ (byte-at s p) _ (byte-held p) λ c q fits is.
@@ -259,7 +259,7 @@ module _ (s : List ℕ) (Bad : ℕ → ℕ → Type 0) where
         by-next (Long q) _ (entries-at kind n s left q (x + 1)) _ (entries-held kind n left q (x + 1) fits₁) λ xs r fits₂ long.
         (fits₂, omega (arith, is, long))
 
-    list-held : (kind : Kind) (n limit p : ℕ) → Held (Long (p + 1)) (list-at kind n limit s p)
+    pub list-held : (kind : Kind) (n limit p : ℕ) → Held (Long (p + 1)) (list-at kind n limit s p)
     unfolding list-at
     list-held kind n limit p =
         by-next (One p) _ (count-at 0 limit s p) _ (count-held 0 limit p) λ c q fits is.

@@ -22,7 +22,8 @@ use Rattle.bytes.specs.declared.bytes.Read.the-variants.{Value}
 use Rattle.refusing.specs.declared.refusals.Found as Code
 use Rattle.reading.proofs.SectionLaws.{byte-got, count-got}
 use Rattle.refusing.proofs.HereLaws.{list-here, list-apart}
-use Rattle.reading.proofs.PlanSizes.{On, got-on, fault-on, pick-on, next-on, body-through, sequence-read}
+use Rattle.meaning.proofs.GotLaws.{On, got-on, fault-on, pick-on, next-on}
+use Rattle.reading.proofs.PlanSizes.{body-through, sequence-read}
 use Rattle.reading.proofs.NotingLaws.{with-items, met-value}
 use Rattle.refusing.proofs.PlanOverlaps.{listed-length}
 use Rattle.refusing.proofs.PlanKept.{plan-kept}

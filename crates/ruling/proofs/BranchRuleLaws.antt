@@ -24,7 +24,8 @@ use Rattle.bytes.specs.declared.bytes.Read.the-variants.{Value, Fault}
 use Rattle.reading.specs.declared.marks.Test.the-variants.{Known}
 use Rattle.reading.specs.Listed.{listed, holds-as}
 use Rattle.reading.specs.Planned.{items-of, items-in, items-under, bytes-of, bytes-in, bytes-under, place-of, plan-noted, noting-met, outcome-met}
-use Rattle.reading.proofs.PlanSizes.{On, got-on, next-on, two-bytes-through, item-read}
+use Rattle.meaning.proofs.GotLaws.{On, got-on, next-on}
+use Rattle.reading.proofs.PlanSizes.{two-bytes-through, item-read}
 use Rattle.reading.proofs.NotingLaws.{with-items, met-value, met-fault, fault-met}
 use Rattle.refusing.specs.Branchings.{sequence-place, place-after, item-after, Branches-here}
 use Rattle.refusing.specs.Plans.{own-items, branches-in, Written, Item-written, Branches-written, Kept, Item-kept, Branches-kept, Plan-held}

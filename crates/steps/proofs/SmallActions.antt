@@ -8,7 +8,7 @@ use borrow.Author.Tests.{leb-false}
 use Rattle.meaning.specs.Limits.{format}
 use Rattle.meaning.specs.Requests.{Sequence}
 use Rattle.meaning.specs.Reading.{got, Met, byte-at, two-bytes-at, count-at, body-at, item-at, items-at, sequence-at, branches-at, branching-at, plan-at}
-use Rattle.reading.proofs.PlanSizes.{On, got-on, fault-on, pick-on, next-on}
+use Rattle.meaning.proofs.GotLaws.{On, got-on, fault-on, pick-on, next-on}
 use Rattle.refusing.proofs.WrittenLaws.{anything}
 use Rattle.steps.specs.Small.{Small, Small-item, Small-under}
 
