@@ -8,7 +8,7 @@ use borrow.Author.Tests.{leb-false, eqb-true}
 use Rattle.meaning.specs.Limits.{format}
 use Rattle.meaning.specs.Refusals.{overlap-in}
 use Rattle.meaning.specs.Requests.{Sequence}
-use Rattle.meaning.specs.Reading.{Got, got, Met, byte-at, two-bytes-at, literals, bound-of, body-at, plan-at}
+use Rattle.meaning.specs.Reading.{got, Met, byte-at, two-bytes-at, literals, bound-of, body-at, plan-at}
 use Rattle.meaning.proofs.SettledLaws.{got-same}
 use Rattle.meaning.proofs.GotLaws.{On, got-on, next-on}
 use Rattle.meaning.proofs.PlanReads.{Said, Passed-on, plan-on}
@@ -25,9 +25,6 @@ use Rattle.reading.proofs.PlanSizes.{body-through, sequence-read}
 use Rattle.reading.proofs.NotingLaws.{with-items, met-value}
 use Rattle.refusing.proofs.PlanOverlaps.{listed-length}
 use Rattle.refusing.proofs.PlanKept.{plan-kept}
-
-pub anything : {A : Type 0} (g : Got A) → On g (λ _ _. Unit {0})
-anything g = record { holds = λ _ _ _. tt }
 
 -- A NUMBER in two bytes.
 pub record Two-got (s : List ℕ) (p c q : ℕ) : Type 0 where
