@@ -65,9 +65,9 @@ module _ (n m : ℕ) (s : List ℕ) (bytes : Bytes s) (few : m ≤ 64) where
     branches = λ deep left p met x e. Tellable-branches (x .value);
   }
 
-  told-on : Passed-on format n m s plan-told
+  told-passed : Passed-on format n m s plan-told
   unfolding Tellable own-items
-  told-on = record {
+  told-passed = record {
     an-action = λ deep p met x q _ _ _ within. let below = leb-false m x within in omega (arith, below, few);
     a-branching = λ deep p met x q c r bs e _ _ _ _ all. all;
     no-item = λ deep p met. (tt, refl);
@@ -107,6 +107,6 @@ plan-coded n m s small few p x e read =
       count = omega arith;
       there = st .2 .0;
       inside = sizes .through .inside;
-      tellable = plan-on format n m s (plan-told n m s small few) (told-on n m s small few) p .holds x e read .1;
+      tellable = plan-on format n m s (plan-told n m s small few) (told-passed n m s small few) p .holds x e read .1;
       few = omega arith;
     }

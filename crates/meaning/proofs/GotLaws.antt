@@ -19,7 +19,7 @@ module _ {A : Type 0} {P : A → ℕ → Type 0} where
       given (got y q) = P y q
       given (fault n i) = Unit {0}
 
-  pub fault-on : (n i : ℕ) → On (fault n i) P
+  fault-on : (n i : ℕ) → On (fault n i) P
   fault-on n i = record { holds = λ y q e. absurd (fault≢got e) }
 
   pub pick-on : (b : Bool) (f g : Unit {0} → Got A) → (b ≡ true → On (f tt) P) → (b ≡ false → On (g tt) P) → On (pick b f g) P

@@ -2,7 +2,7 @@
 -- give, and the items met are counted alike. Assumes nothing.
 use Prim.Native.Nat.{ℕ, suc, _+_}
 use mathlib.Core.Path.{_≡_, refl, sym, _∙_, ap, ap₂, subst}
-use mathlib.Core.List.{List, _∷_, _++_}
+use mathlib.Core.List.{List, _++_}
 use borrow.Author.Tests.{eqb-true}
 use Rattle.meaning.specs.Limits
 use Rattle.meaning.specs.Limits.{Limits}
@@ -41,9 +41,9 @@ module _ (lim : Limits) (n m : ℕ) (s : List ℕ) (bytes : Bytes s) where
     branches = λ deep left p met x e. Part-copied (λ u q. branches-at lim n m u (one-sequence deep u) left q met) branches-written unplaced-branches s p x e × (branches-in (x .value) ≡ left);
   }
 
-  moved-on : Passed-on lim n m s plan-moved
+  moved-passed : Passed-on lim n m s plan-moved
   unfolding item-at items-at sequence-at branches-at branching-at body-at items-in branches-in items-written item-written branches-written plan-written
-  moved-on = record {
+  moved-passed = record {
     an-action = λ deep p met x q read few other within.
         let one = byte-copied s p .holds x q read in
         record {
@@ -128,4 +128,4 @@ module _ (lim : Limits) (n m : ℕ) (s : List ℕ) (bytes : Bytes s) where
   -- THE PLAN.
   pub plan-copied : (p : ℕ) → On (plan-at lim n m s p) (Part-copied (λ u q. plan-at lim n m u q) plan-written unplaced s p)
   unfolding plan-at
-  plan-copied p = plan-on lim n m s plan-moved moved-on p
+  plan-copied p = plan-on lim n m s plan-moved moved-passed p

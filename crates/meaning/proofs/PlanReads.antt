@@ -9,7 +9,7 @@ use lib.Dec.{leb, eqb}
 use Rattle.meaning.specs.Limits
 use Rattle.meaning.specs.Limits.{Limits}
 use Rattle.meaning.specs.Requests.{Sequence, done, item, Item, act, branching, Branches, none, branch}
-use Rattle.meaning.specs.Reading.{Got, got, byte-at, two-bytes-at, count-at, body-at, Met, item-at, items-at, sequence-at, branches-at, branching-at, plan-at}
+use Rattle.meaning.specs.Reading.{got, byte-at, two-bytes-at, count-at, body-at, Met, item-at, items-at, sequence-at, branches-at, branching-at, plan-at}
 use Rattle.meaning.proofs.PickLaws.{pick-has}
 use Rattle.meaning.proofs.GotLaws.{On, Held, Faulty, held-on, held-then, next-held, any-fault}
 
@@ -29,7 +29,7 @@ module _ {A : Type 0} where
   part x k = record { value = x; items = k }
 
 module _ (lim : Limits) (n m : ℕ) (s : List ℕ) where
-  -- Each way to read a part passes it on.
+  -- Each way to read a part passes it on. A branch is also told that its sequence was read, so that an earlier law of sequences can be cited there.
   pub record Passed-on (said : Said) : Type 0 where
     pub an-action : (deep p met x q : ℕ) → byte-at s p ≡ got x q → leb (lim .items) met ≡ false → eqb x Limits.branching-byte ≡ false → leb m x ≡ false
         → said .item deep p met (part (act p x) (met + 1)) q

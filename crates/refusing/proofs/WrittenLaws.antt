@@ -73,9 +73,9 @@ module _ (n m : ℕ) (s : List ℕ) where
           count = subst (λ (x : ℕ). getD s x 0 * 256 + getD s (x + 1) 0 ≡ own-items b) place (one .count);
         }
 
-    written-on : Passed-on format n m s plan-there
+    written-passed : Passed-on format n m s plan-there
     unfolding Written Item-written Branches-written own-items branches-in
-    written-on = record {
+    written-passed = record {
       an-action = λ deep p met x q read _ _ within.
           let one = byte-got s p x q read in
           let below = leb-false m x within in
@@ -115,7 +115,7 @@ module _ (n m : ℕ) (s : List ℕ) where
           let small : items-of (x .value) ≤ 1024 = omega arith in
           record {
             few = small;
-            written = plan-on format n m s plan-there written-on p .holds x e read .written;
+            written = plan-on format n m s plan-there written-passed p .holds x e read .written;
             kept = plan-kept p t (x .value) small room;
           }
 

@@ -317,9 +317,9 @@ module _ (n m : ℕ) (s : List ℕ) where
     branches = λ deep left p met x e. Unit {0};
   }
 
-  begun-on : Passed-on format n m s plan-begun
+  begun-passed : Passed-on format n m s plan-begun
   unfolding place-of
-  begun-on = record {
+  begun-passed = record {
     an-action = λ deep p met x q _ _ _ _. refl;
     a-branching = λ deep p met x q c r bs e _ _ _ _ _. refl;
     no-item = λ deep p met. tt;
@@ -330,7 +330,7 @@ module _ (n m : ℕ) (s : List ℕ) where
   }
 
   plan-first : (p : ℕ) (x : Met (Sequence ℕ)) (e : ℕ) → plan-at format n m s p ≡ got x e → First-at (p + 2) (x .value)
-  plan-first p = plan-on format n m s plan-begun begun-on p .holds
+  plan-first p = plan-on format n m s plan-begun begun-passed p .holds
 
 -- A LINE whose plan begins with a branching at `first`, and so many items after it up to y.
 record Begins (d u : List ℕ) (first y more : ℕ) (l : Line) : Type 0 where
