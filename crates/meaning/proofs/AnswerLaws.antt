@@ -1,7 +1,7 @@
 -- Every answer of the walk call is one of the format's numbers (demand 1, FORMAT 11.1), and so is every fault of reading a derivation: each
 -- fault of a reading is said by its name, and what is put together from parts has the faults of its parts. Assumes nothing.
 use Prim.Native.Nat.{ℕ, zero, suc, _+_, _*_}
-use mathlib.Core.Path.{_≡_, refl}
+use mathlib.Core.Path.{_≡_, refl, ap}
 use mathlib.Core.Bool.{Bool, true, false}
 use mathlib.Core.List.{List, [], _∷_}
 use Rattle.meaning.specs.declared.Layout.{Layout}
@@ -15,10 +15,11 @@ use Rattle.meaning.specs.Reading
 use Rattle.meaning.specs.Reading.{Got, got, fault, next, Part}
 use Rattle.meaning.specs.Refusals.{Found, nowhere, at, refuse, settled}
 use Rattle.meaning.specs.States.{State}
-use Rattle.meaning.specs.Walk.{End, fine, missed, stuck}
-use Rattle.meaning.specs.Judging.{Judgement, ended, within, judge-settled, judge}
+use Rattle.meaning.specs.Walk.{End, fine, missed, stopped}
+use Rattle.meaning.specs.Judging.{Judgement, reported, ended, within, judge-settled, judge}
 use Rattle.meaning.specs.Derivations
 use Rattle.meaning.proofs.TestLaws.{either-right}
+use Rattle.meaning.proofs.KeptEnds.{Stuck, walked-stuck}
 
 -- The numbers of the refusals of a request, and all that the walk call answers.
 unfoldable pub refusals : List ℕ
@@ -219,11 +220,11 @@ module _ (ns : List ℕ) (has : (n : ℕ) → among n refusals ≡ true → amon
     settled-numbered = by-next _ _ read-numbered λ r e. by-refuse _ (has _ refl) _ _ (by-refuse _ (has _ refl) _ _ (by-refuse _ (has _ refl) _ _ tt))
 
 -- DEMAND 1: every input gets one of the numbered answers.
-ended-numbered : (lent : List ℕ) (c : ℕ) (e : End State) → among (ended lent c e .answer .number) answers ≡ true
-unfolding ended among answers refusals some-of either
-ended-numbered lent c fine = refl
-ended-numbered lent c (missed p s) = refl
-ended-numbered lent c (stuck p s) = refl
+ended-numbered : (lent : List ℕ) (c : ℕ) (e : End State) → Stuck e → among (ended lent c e .answer .number) answers ≡ true
+unfolding ended reported among answers refusals some-of either
+ended-numbered lent c fine stuck = refl
+ended-numbered lent c (missed p s) stuck = refl
+ended-numbered lent c (stopped n p u) stuck = ap (λ (m : ℕ). among m answers) (stuck .0)
 
 -- Whichever is picked is numbered.
 picked-numbered : (b : Bool) (f g : Unit {0} → Judgement) → among (f tt .answer .number) answers ≡ true → among (g tt .answer .number) answers ≡ true → among (pick b f g .answer .number) answers ≡ true
@@ -237,7 +238,7 @@ refusal-numbered n h = either-right _ _ (either-right _ _ (either-right _ _ (eit
 
 settled-answer-numbered : (lim : Limits) (lent : List ℕ) (budget : ℕ) (x : Got Request) → Numbered-in refusals x → among (judge-settled lim lent budget x .answer .number) answers ≡ true
 unfolding judge-settled within among answers refusals some-of either
-settled-answer-numbered lim lent budget (got r e) h = picked-numbered _ _ _ refl (ended-numbered lent _ _)
+settled-answer-numbered lim lent budget (got r e) h = picked-numbered _ _ _ refl (ended-numbered lent _ _ (walked-stuck r _))
 settled-answer-numbered lim lent budget (fault n p) h = refusal-numbered n h
 
 pub every-answer-numbered : (lim : Limits) (request lent : List ℕ) (budget : ℕ) → among (judge lim request lent budget .answer .number) answers ≡ true

@@ -15,6 +15,7 @@ pub mod Sound
 pub mod TableSound
 pub mod WalkSound
 pub mod PickLaws
+pub mod KeptEnds
 pub mod PlaceLaws
 pub mod PartLaws
 pub mod PathLaws
