@@ -3,6 +3,7 @@
 use Prim.Native.Nat.{ℕ, _+_, _-_, _≤_, _<_}
 use native.Mathlib.Omega.{arith}
 use mathlib.Core.Path.{_≡_, refl, sym, _∙_, ap, subst}
+use mathlib.Core.Bool.{false}
 use mathlib.Core.List.{List}
 use lib.ListN.{length, getD, set, drop, replicate, length-set}
 use lib.Seq.{getD-set-same, getD-set-other, drop-set-lt}
@@ -233,11 +234,8 @@ module _ (tally : List ℕ) (going : Going tally) where
       stands-open next (length-set tally 2 (left - 1) ∙ sized) (λ e. omega arith) ∙ rw (fewer, same) (sym (how .1) ∙ ap (λ (a : Standing). add a one) (sym (how .0)))
 
 -- NOTED.
-pub notable-missed : Notable 1
-notable-missed = record { some = omega arith; within = λ e. omega arith }
-
-pub notable-stuck : Notable 2
-notable-stuck = record { some = omega arith; within = λ e. omega arith }
+pub notable : (number : ℕ) → 1 ≤ number → eqb number 3 ≡ false → Notable number
+notable number least other = record { some = least; within = eqb-false number 3 other }
 
 pub noted : (tally : List ℕ) → Going tally → (number place : ℕ) → Notable number → (marks after : List ℕ) → Held (set tally 0 number) place marks after → standing after ≡ so-far (getD tally 2 0) (end-by number place marks)
 unfolding end-by pick
