@@ -16,6 +16,7 @@ pub mod WalkSound
 pub mod PickLaws
 pub mod GotLaws
 pub mod PlanReads
+pub mod KeptEnds
 pub mod PlaceLaws
 pub mod PartLaws
 pub mod AnswerLaws

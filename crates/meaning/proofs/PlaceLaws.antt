@@ -3,7 +3,7 @@
 -- walk name those places only. Assumes nothing.
 use Prim.Native.Nat.{ℕ, zero, suc, _+_, _*_, _≤_, _<_}
 use native.Mathlib.Omega.{arith}
-use mathlib.Core.Path.{_≡_, refl, ap}
+use mathlib.Core.Path.{_≡_, refl, ap, subst}
 use mathlib.Core.Bool.{Bool, true, false}
 use mathlib.Core.List.{List, [], _∷_, _++_}
 use lib.ListN.{length}
@@ -17,8 +17,8 @@ use Rattle.meaning.specs.Literals.{among}
 use Rattle.meaning.specs.Requests.{Effect, Executability, Knowledge, Table, Sequence, done, item, Item, act, branching, Branches, none, branch, Entry, Request}
 use Rattle.meaning.specs.Reading.{Got, got, fault, next, byte-at, two-bytes-at, count-at, below-at, Kind, literals, fluents, bound-of, entry-at, entries-at, list-at, repeated, section-at, body-at, effect-at, executability-at, knowledge-at, Met, plan-at, table-at, placed, request-at, read-request}
 use Rattle.meaning.specs.Refusals.{Found, nowhere, at, or-else, contradiction-in, mixed-in, overlap-in, overlap-at, overlap-below, refuse, settled}
-use Rattle.meaning.specs.States.{State, Outcome, single, fork, outcome}
-use Rattle.meaning.specs.Walk.{End, fine, missed, stuck, Walked, stuck-at, counted, keep-miss, after-miss, after-end, and-then, each-reading, run-action, walk, walk-item, walk-branch, table-step, first-missed, missed-in, end-of, judged, walked}
+use Rattle.meaning.specs.States.{State, outcome}
+use Rattle.meaning.specs.Walk.{End, first-missed, missed-in, walked}
 use Rattle.meaning.specs.Derivations.{Conclusion, Line, Derivation, Concluded, list-concluded, fluent-concluded, conclusion-at, concluded-at, closing-at, line-at, read-derivation, overlap-in-lines, check-lines, check-last, all-asked, check-entries, check-closing, check-end, check-derivation}
 use Rattle.meaning.specs.Answers.{refusals, end-fault}
 use Rattle.meaning.specs.AnswerParts.{of-neither, at-start, Placed}
@@ -29,6 +29,7 @@ use Rattle.meaning.proofs.GotLaws
 use Rattle.meaning.proofs.GotLaws.{held-got, held-then, held-faulty, next-held}
 use Rattle.meaning.proofs.PlanReads
 use Rattle.meaning.proofs.PlanReads.{About, Said, Passed-on, Faults}
+use Rattle.meaning.proofs.KeptEnds.{On-places, On-places-item, On-places-below, any-outcome, End-so, walked-so}
 
 -- The faults of reading that are placed at a byte.
 unfoldable pub byte-faults : List ℕ
@@ -46,18 +47,14 @@ module _ (size : ℕ) where
     abbrev Each-below : List A → Type 0
     Each-below xs = Each (λ (x : A). place x < size) xs
 
-  abbrev mutual
-    Plan-below : Sequence ℕ → Type 0
-    Plan-below done = Unit {0}
-    Plan-below (item i rest) = Item-below i × Plan-below rest
+  abbrev Plan-below : Sequence ℕ → Type 0
+  Plan-below b = On-places (λ p. p < size) b
 
-    Item-below : Item ℕ → Type 0
-    Item-below (act p a) = p < size
-    Item-below (branching p bs) = (p < size) × Branches-below bs
+  abbrev Item-below : Item ℕ → Type 0
+  Item-below i = On-places-item (λ p. p < size) i
 
-    Branches-below : Branches ℕ → Type 0
-    Branches-below none = Unit {0}
-    Branches-below (branch c b bs) = Plan-below b × Branches-below bs
+  abbrev Branches-below : Branches ℕ → Type 0
+  Branches-below bs = On-places-below (λ p. p < size) bs
 
   record Table-below (t : Table) : Type 0 where
     effects : Each-below (λ (e : Effect). e .place) (t .effects)
@@ -119,70 +116,23 @@ module _ (size : ℕ) where
   overlap-lines-below [] h = tt
   overlap-lines-below (l ∷ ls) h = or-below (overlap-in (l .c)) _ (overlap-in-below (l .c) (h .0 .plan)) (overlap-lines-below ls (h .1))
 
-  -- THE WALK.
-  abbrev pub End-below : End State → Type 0
-  End-below fine = Unit {0}
-  End-below (missed p s) = p < size
-  End-below (stuck p s) = p < size
-
-  abbrev Ends-below : (State → Walked State) → Type 0
-  Ends-below k = (s : State) → End-below (k s .end)
-
-  keep-below : (p : ℕ) (s : State) → p < size → (e : End State) → End-below e → End-below (keep-miss p s e)
-  unfolding keep-miss
-  keep-below p s first fine then = first
-  keep-below p s first (missed q u) then = first
-  keep-below p s first (stuck q u) then = then
-
-  after-end-below : (e : End State) (c : ℕ) (more : Unit {0} → Walked State) → End-below e → End-below (more tt .end) → End-below (after-end e c more .end)
-  unfolding after-end counted after-miss
-  after-end-below fine c more first then = then
-  after-end-below (missed p s) c more first then = keep-below p s first (more tt .end) then
-  after-end-below (stuck p s) c more first then = first
-
-  each-below : (o : Outcome State) (k : State → Walked State) → Ends-below k → End-below (each-reading o k .end)
-  unfolding each-reading and-then
-  each-below (single s) k ends = ends s
-  each-below (fork o p) k ends = after-end-below (each-reading o k .end) (each-reading o k .count) (λ _. each-reading (p tt) k) (each-below o k ends) (each-below (p tt) k ends)
-
-  module _ (t : Table) where
-    run-below : (p a : ℕ) → p < size → (k : State → Walked State) → Ends-below k → Ends-below (run-action (table-step t) p a k)
-    unfolding run-action counted stuck-at table-step
-    run-below p a here k ends s = pick-has (λ (w : Walked State). End-below (w .end)) _ _ _ (λ _. each-below (outcome t a s) k ends) (λ _. here)
-
-    mutual
-      unfolding walk walk-item walk-branch stuck-at
-
-      walk-below : (b : Sequence ℕ) → Plan-below b → (k : State → Walked State) → Ends-below k → Ends-below (walk (table-step t) b k)
-      walk-below done h k ends s = ends s
-      walk-below (item i rest) h k ends s = walk-item-below i (h .0) (walk (table-step t) rest k) (walk-below rest (h .1) k ends) s
-
-      walk-item-below : (i : Item ℕ) → Item-below i → (k : State → Walked State) → Ends-below k → Ends-below (walk-item (table-step t) i k)
-      walk-item-below (act p a) h k ends s = run-below p a h k ends s
-      walk-item-below (branching p bs) h k ends s = walk-branch-below bs p (h .0) (h .1) k ends s
-
-      walk-branch-below : (bs : Branches ℕ) (p : ℕ) → p < size → Branches-below bs → (k : State → Walked State) → Ends-below k → Ends-below (walk-branch (table-step t) bs p k)
-      walk-branch-below none p here h k ends s = here
-      walk-branch-below (branch c b bs) p here h k ends s =
-          pick-has (λ (w : Walked State). End-below (w .end)) _ _ _ (λ _. walk-below b (h .0) k ends s) (λ _. walk-branch-below bs p here (h .1) k ends s)
-
   first-missed-below : (test : ℕ → Bool) (es : List Entry) → Each-below (λ (e : Entry). e .place) es → Found-below (first-missed test es)
   unfolding first-missed
   first-missed-below test [] h = tt
   first-missed-below test (e ∷ es) h = pick-has Found-below _ _ _ (λ _. first-missed-below test es (h .1)) (λ _. h .0)
 
-  end-below : (f : Found) (s : State) → Found-below f → End-below (end-of f s)
-  unfolding end-of
-  end-below nowhere s h = tt
-  end-below (at p) s h = h
-
   pub missed-below : (r : Request) → Request-below r → (s : State) → Found-below (missed-in r s)
   unfolding missed-in
   missed-below r h s = or-below _ _ (first-missed-below _ (r .goals) (h .goals)) (first-missed-below _ (r .whether) (h .whether))
 
-  pub walked-below : (r : Request) → Request-below r → Ends-below (walked r)
-  unfolding walked judged
-  walked-below r h = walk-below (r .table) (r .plan) (h .plan) (judged r) (λ s. end-below (missed-in r s) s (missed-below r h s))
+  -- THE WALK misses at an entry, and stops at an item.
+  abbrev pub End-below : End State → Type 0
+  End-below = End-so (λ p _. p < size) (λ _ p _. p < size)
+
+  pub walked-below : (r : Request) → Request-below r → (s : State) → End-below (walked r s .end)
+  walked-below r h s =
+      walked-so _ _ (λ _. Unit {0}) (λ p. p < size) (λ _ _ p here. here) r (λ a u _. any-outcome (outcome (r .table) a u))
+      (λ u _ p q. subst Found-below q (missed-below r h u)) (h .plan) s tt
 
 -- READING an input, where `Bad n p` is what is said of a fault with number n at place p.
 module _ (s : List ℕ) (Bad : ℕ → ℕ → Type 0) where
