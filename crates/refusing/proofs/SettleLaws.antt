@@ -126,7 +126,7 @@ module _ (s : List ℕ) (bytes : (i : ℕ) → Fits w8 (getD s i 0)) (t : List �
       sought-17 : f ≡ found (mixed-in (here .request .table .effects) (here .request .table .knowledge))
       sought-17 =
           answer .holds (here .request .table .effects)
-          (subst (λ (u : List ℕ). Acting u (here .request .table .effects)) (sym (here .noted)) (acting s small (here .request) whole blank blank-long (λ a few. blank-slot (5120 + a) (omega arith))))
+          (subst (λ (u : List ℕ). Acting u (here .request .table .effects)) (sym (here .noted)) (acting s small (here .request) whole blank blank-long blank-slot))
           ∙ ap (λ (p : ℕ). found (mixed-in (here .request .table .effects) (knowledge-in s p 0 count))) starts
           ∙ ap (λ (ks : List Knowledge). found (mixed-in (here .request .table .effects) ks)) (lines-17 .0)
 
