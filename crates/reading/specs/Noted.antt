@@ -30,8 +30,9 @@ branch-place = 2048
 abbrev pub branch-item : ℕ
 branch-item = 3072
 
--- Where the slots of the effects start, and those of the executability lines. From there on stand, for line k, the place of its first byte; 256 slots on, the next line
--- of the same action in file order, or 0; 512 slots on, the first line of action a, or 0. So 256 and the action is a number that its first line comes after.
+-- Where the slots of the effects start, and those of the executability lines. From there on stand the places of the lines' first bytes;
+-- from 256 slots on, for each line, the next one of the same action in file order, or 0; from 512 slots on the first line of each action,
+-- or 0. So the first line of action a stands where that after a line with number 256 + a would.
 abbrev pub effect-lines : ℕ
 effect-lines = 4096
 

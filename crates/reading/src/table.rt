@@ -96,7 +96,7 @@ pub fn first_line(t: &Table, lines: usize, a: usize) -> usize
     get(t, slot)
 }
 
-// What a new line of action a comes after: the action's last line so far, or the action's own number among the lines.
+// What a new line of action a comes after: the action's last line so far, or 256 + a where it has none.
 fn before(last: u8, a: usize) -> usize
     requires { ⌜ a < 64 ⌝ }
     ensures { λ r. ⌜ r ≡ Noted.before last a ⌝ }

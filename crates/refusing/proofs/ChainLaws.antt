@@ -1,5 +1,6 @@
--- A section leaves the lines of an action in file order. A line that is noted goes behind its action's last one, into a slot that no later line touches, since by then
--- another line is the last; so each slot has what the lines from there on leave in it. One law for effects and for executability lines. Assumes nothing.
+-- A section leaves the lines of an action in file order. A line that is noted goes behind its action's last one, and is then the last itself,
+-- so that no later line touches that slot; no two actions have the same last line. One law for effects and for executability lines.
+-- Assumes nothing.
 use Prim.Native.Nat.{ℕ, _+_, _≤_, _<_}
 use native.Mathlib.Omega.{arith}
 use native.Mathlib.Decide.{ℕ-discrete}

@@ -32,7 +32,7 @@ use Rattle.steps.proofs.SlotLaws.{sensed-empty, goals-noted}
 use Rattle.steps.proofs.StandLaws.{run-stands, knowledge-small, Ends-read, ends-read, list-after}
 use Rattle.steps.proofs.SensedLaws.{Sensed, says, seen-after, seen-some, lines-sensed}
 
--- THE PLACES of some lines: each is that of one of all lines, and a test of places that says what a test of lines says finds one there just where that does.
+-- THE PLACES of the lines that pass a test: each is that of a line, and what some place passes some line passes, where the two tests agree.
 module _ {A : Type 0} (stands : A → ℕ) (acts : A → Bool) where
   those-has : (xs : List A) (x : A) → Has (those-of acts xs) x → Has xs x
   unfolding those-of pick
