@@ -11,11 +11,11 @@ use mathlib.Core.Logic.{_⊎_, inl, inr, ⊎-elim}
 use lib.ListN.{length, getD, set, length-set}
 use lib.Seq.{getD-set-same}
 use lib.Dec.{eqb, ltb}
-use borrow.Author.Tests.{eqb-true, eqb-false, eq-eqb, ne-eqb, lt-ltb, le-ltb}
+use borrow.Author.Tests.{eqb-true, eqb-false, lt-ltb, le-ltb}
 use Rattle.meaning.specs.Tests.{either, pick, some-of, those-of, Has}
 use Rattle.meaning.proofs.TestLaws.{by-test, pick-true, pick-false}
 use Rattle.reading.specs.Noted.{Section, Line, line-place, next-line, first-line, before, appended, action-in, note-line, none-yet, lines-noted, count-slot, section-noted}
-use Rattle.reading.specs.Ordered.{Line-in, Chain, In-order}
+use Rattle.reading.specs.Ordered.{Chain, In-order}
 use Rattle.reading.proofs.TableLaws.{before-first, before-later, before-most}
 use Rattle.refusing.proofs.KeptLaws.{kept, Lasts, none-last, lasts-none, last-here, last-other, lasts-next, Outside, note-long}
 

@@ -1,17 +1,13 @@
 -- What the table holds of the effects once they are noted. Assumes nothing.
 use Prim.Native.Nat.{ℕ, zero, suc, _+_, _≤_, _<_}
 use native.Mathlib.Omega.{arith}
-use mathlib.Core.Path.{_≡_, refl, sym, _∙_, ap, subst}
-use mathlib.Core.Bool.{true}
+use mathlib.Core.Path.{_≡_, refl, _∙_, ap, subst}
 use mathlib.Core.List.{List, [], _∷_}
 use mathlib.Core.Logic.{inl, inr}
-use lib.ListN.{length, getD, set, length-set}
+use lib.ListN.{length, getD, set}
 use lib.Seq.{getD-set-same}
-use lib.Dec.{eqb, ltb}
-use borrow.Author.Tests.{eqb-true, eqb-false, lt-ltb}
-use Rattle.meaning.specs.Tests.{either, some-of, Has}
+use Rattle.meaning.specs.Tests.{Has}
 use Rattle.meaning.specs.Requests.{Effect}
-use Rattle.meaning.proofs.TestLaws.{by-test, either-right}
 use Rattle.reading.specs.Noted.{effects, line-place, before, appended, action-in, note-line, lines-noted}
 use Rattle.refusing.specs.InTable.{effect-from, Effect-here, place-in, effects-in}
 use Rattle.refusing.proofs.KeptLaws.{kept, note-long}

@@ -5,8 +5,8 @@ use mathlib.Core.Path.{_≡_, refl, sym, _∙_, ap, subst}
 use mathlib.Core.List.{List, _∷_, map}
 use lib.ListN.{length, getD, set, length-set}
 use lib.Seq.{getD-set-same}
-use lib.Dec.{eqb, ltb}
-use Rattle.meaning.specs.Tests.{either, some-of, Has}
+use lib.Dec.{eqb}
+use Rattle.meaning.specs.Tests.{Has}
 use Rattle.meaning.specs.Limits.{format}
 use Rattle.meaning.specs.Requests.{Effect, Executability, Knowledge, Table, Request}
 use Rattle.meaning.specs.Lines.{effects-of, executability-of}
