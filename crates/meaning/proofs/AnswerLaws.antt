@@ -1,7 +1,7 @@
 -- Every answer of the walk call is one of the format's numbers (demand 1, FORMAT 11.1): a fault of the request has one of its refusals'
 -- numbers, as is said of it beside its place, and a walk that ends has one of its own. Assumes nothing.
 use Prim.Native.Nat.{ℕ}
-use mathlib.Core.Path.{_≡_, refl}
+use mathlib.Core.Path.{_≡_, refl, ap}
 use mathlib.Core.Bool.{Bool, true, false}
 use mathlib.Core.List.{List}
 use Rattle.meaning.specs.Tests.{either, pick, some-of}
