@@ -1,6 +1,6 @@
 -- What the walk call answers. A settled request is at hand for the walk; the tally that the walk leaves stands as a walk from the whole
 -- budget does, so what is told of it is what the definition says of the walk within the budget. Assumes nothing.
-use Prim.Native.Nat.{ℕ, _-_, _≤_}
+use Prim.Native.Nat.{ℕ, _-_, _≤_, _<_}
 use native.Mathlib.Omega.{arith}
 use mathlib.Core.Path.{_≡_, refl, sym, _∙_, ap, subst}
 use mathlib.Core.Bool.{true, false}
@@ -20,6 +20,7 @@ use Rattle.meaning.specs.Walk.{End, fine, Walked, walked}
 use Rattle.meaning.specs.Judging.{ended, within, judge-settled, judge}
 use Rattle.meaning.proofs.TestLaws.{by-test, pick-true, pick-false}
 use Rattle.meaning.proofs.SettledLaws.{settled-is}
+use Rattle.meaning.proofs.KeptEnds.{Stuck, walked-stuck}
 use Rattle.bytes.specs.declared.lists.Passed.{Passed}
 use Rattle.bytes.specs.declared.lists.Passed.the-variants.{To, Fault as Stop}
 use Rattle.reading.specs.Noted.{noting, outcome}
@@ -30,7 +31,7 @@ use Rattle.reading.proofs.SectionLaws.{noting-got, noting-fault}
 use Rattle.steps.specs.AtHand.{request-in, At-hand, Marked}
 use Rattle.steps.specs.Steps.{walk-from}
 use Rattle.walking.specs.Standing.{Standing, nothing, spent, so-far, spend, add, end-in, standing, Going}
-use Rattle.walking.proofs.StandingLaws.{stands-open, end-missed, end-stuck, sized-after}
+use Rattle.walking.proofs.StandingLaws.{stands-open, end-missed, end-stopped, sized-after}
 use Rattle.steps.proofs.HandLaws.{request-read}
 use Rattle.glintstring.specs.Telling.{start, told, Tallied}
 use Rattle.glintstring.proofs.MarkedLaws.{End-marked, first-marked, walked-marked}
@@ -92,12 +93,23 @@ module _ (budget : ℕ) (w : Walked State) where
     end-state some marked =
         by-test (eqb (getD tally 0 0) 1)
         (λ t. subst End-marked (end-missed tally sized (eqb-true _ _ t)) marked)
-        (λ f. subst End-marked (end-stuck tally sized some (eqb-false _ _ f)) marked)
+        (λ f. subst End-marked (end-stopped tally sized some (eqb-false _ _ f)) marked)
 
-    tallied : End-marked (w .end) → Tallied tally budget
-    tallied marked = record {
+    -- It holds 0, 1, or the number with which the walk stopped.
+    end-small : Stuck (end-in tally) → getD tally 0 0 < 256
+    end-small stuck =
+        by-test (eqb (getD tally 0 0) 0)
+        (λ t. let none : getD tally 0 0 ≡ 0 = eqb-true _ _ t in omega (arith, none))
+        (λ n.
+        by-test (eqb (getD tally 0 0) 1)
+        (λ t. let one : getD tally 0 0 ≡ 1 = eqb-true _ _ t in omega (arith, one))
+        (λ f. let two : getD tally 0 0 ≡ 2 = subst Stuck (end-stopped tally sized (eqb-false _ _ n) (eqb-false _ _ f)) stuck .0 in omega (arith, two)))
+
+    tallied : End-marked (w .end) → Stuck (w .end) → Tallied tally budget
+    tallied marked stuck = record {
       sized = sized;
       fewer = λ going. let left = left-same (within-is going) in omega (arith, left);
+      small = λ going. end-small (subst Stuck (sym (end-same (within-is going))) stuck);
       marked = λ going some. end-state some (subst End-marked (sym (end-same (within-is going))) marked);
     }
 
@@ -117,6 +129,7 @@ module _ (s t : List ℕ) (here : At-hand s t) (items at : ℕ) (counted : items
   plan-tallied =
       tallied budget whole after (sized-after before going (walk-from s at marks) after walks) stands-so
       (walked-marked (request-in s) (first-state format (request-in s .table)) (first-marked (request-in s .table)))
+      (walked-stuck (request-in s) (first-state format (request-in s .table)))
 
   pub plan-judged : (lent left : List ℕ) (answer : Answer) → record { answer = answer; state = left } ≡ told lent budget (standing after)
       → record { answer = answer; state = left } ≡ within lent budget (walked (request-in s) (first-state format (request-in s .table)))

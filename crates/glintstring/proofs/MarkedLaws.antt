@@ -1,4 +1,4 @@
--- A walk from a state of marks 0, 1 and 2 ends in such a state, wherever it misses or is stuck: what sets a mark sets one of the three, and a
+-- A walk from a state of marks 0, 1 and 2 ends in such a state, wherever it misses or stops: what sets a mark sets one of the three, and a
 -- walk keeps what its steps keep. Assumes nothing.
 use Rattle.meaning.specs.Limits.{format}
 use Rattle.meaning.specs.Literals.{says-true, says-false}

@@ -1,4 +1,5 @@
--- What the tally says: its marks go over the lent bytes one by one, and each number has its answer. Assumes nothing.
+-- What the tally says: its marks go over the lent bytes one by one, and its number is the answer's, which 1 and whatever stopped the walk share
+-- one law for. Assumes nothing.
 use Prim.Native.Nat.{ℕ, _+_, _-_, _≤_, _<_}
 use native.Mathlib.Omega.{arith}
 use mathlib.Core.Path.{_≡_, sym, _∙_, ap}
@@ -7,12 +8,11 @@ use lib.ListN.{length, getD, set, drop, length-set, length-drop}
 use lib.Seq.{getD-set-same, getD-set-other, getD-drop, ext-getD}
 use lib.Dec.{eqb}
 use borrow.Author.Tests.{eqb-true, eqb-false}
-use Rattle.meaning.specs.Walk.{stuck}
-use Rattle.meaning.specs.Judging.{ended}
+use Rattle.meaning.specs.Judging.{written-over, reported, ended}
 use Rattle.meaning.proofs.TestLaws.{by-test}
 use Rattle.steps.specs.AtHand.{Marked}
-use Rattle.walking.specs.Standing.{so-far, standing}
-use Rattle.walking.proofs.StandingLaws.{stands-open, stands-spent, end-stuck, stands-fine, stands-missed}
+use Rattle.walking.specs.Standing.{standing}
+use Rattle.walking.proofs.StandingLaws.{stands-spent, stands-fine, stands-missed, stands-stopped}
 use Rattle.glintstring.specs.Telling.{told, Tallied}
 
 -- HANDED OVER below fluent f.
@@ -56,6 +56,9 @@ module _ (tally lent : List ℕ) (budget : ℕ) (tallied : Tallied tally budget)
     pub left-within : getD tally 2 0 ≤ budget
     left-within = tallied .fewer going
 
+    pub number-small : getD tally 0 0 < 256
+    number-small = tallied .small going
+
     pub tell-fine : getD tally 0 0 ≡ 0 → record { answer = record { number = 0; input = 0; place = 0; count = budget - getD tally 2 0 }; state = lent } ≡ told lent budget (standing tally)
     unfolding told ended
     tell-fine h = sym (ap (told lent budget) (stands-fine tally (tallied .sized) h))
@@ -64,14 +67,10 @@ module _ (tally lent : List ℕ) (budget : ℕ) (tallied : Tallied tally budget)
       pub state-marked : Marked (drop 3 tally)
       state-marked = tallied .marked going some
 
-      module _ (place : ℕ) (state : List ℕ) (at : place ≡ getD tally 1 0) (over : state ≡ drop 3 tally) where
-        pub tell-missed : getD tally 0 0 ≡ 1 → record { answer = record { number = 1; input = 1; place = place; count = budget - getD tally 2 0 }; state = state } ≡ told lent budget (standing tally)
-        unfolding told ended
-        tell-missed h = sym (ap (told lent budget) (stands-missed tally (tallied .sized) h) ∙ rw (at, over))
-
-        stands-other : (getD tally 0 0 ≡ 1 → ⊥) → standing tally ≡ so-far (getD tally 2 0) (stuck (getD tally 1 0) (drop 3 tally))
-        stands-other h = stands-open tally (tallied .sized) going ∙ ap (so-far (getD tally 2 0)) (end-stuck tally (tallied .sized) some h)
-
-        pub tell-stuck : (getD tally 0 0 ≡ 1 → ⊥) → record { answer = record { number = 2; input = 1; place = place; count = budget - getD tally 2 0 }; state = state } ≡ told lent budget (standing tally)
-        unfolding told ended
-        tell-stuck h = sym (ap (told lent budget) (stands-other h) ∙ rw (at, over))
+      pub tell-reported : (number place : ℕ) (state : List ℕ) → number ≡ getD tally 0 0 → place ≡ getD tally 1 0 → state ≡ drop 3 tally
+          → record { answer = record { number = number; input = 1; place = place; count = budget - getD tally 2 0 }; state = state } ≡ told lent budget (standing tally)
+      unfolding told ended reported written-over
+      tell-reported number place state is at over =
+          by-test (eqb (getD tally 0 0) 1)
+          (λ t. let one = eqb-true _ _ t in sym (ap (told lent budget) (stands-missed tally (tallied .sized) one) ∙ rw (is, at, over, one)))
+          (λ f. sym (ap (told lent budget) (stands-stopped tally (tallied .sized) going some (eqb-false _ _ f)) ∙ rw (is, at, over)))

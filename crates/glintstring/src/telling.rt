@@ -6,7 +6,6 @@ ghost use Rattle.walking.specs.Standing.{standing};
 ghost use Rattle.glintstring.specs.Telling.{told, Tallied};
 use super::answers;
 use meaning::Answer;
-use walking::tally::MISSED;
 use walking::tally::SPENT;
 use walking::tally::Tally;
 
@@ -16,12 +15,12 @@ fn widened(x: u32) -> usize
     x as usize
 }
 
-// A mark is 0, 1 or 2.
-fn byte_of(mark: u32) -> u8
-    requires { ⌜ mark < 256 ⌝ }
-    ensures { λ r. ⌜ r ≡ mark ⌝ }
+// A mark, or an answer's number, as the byte that it is.
+fn byte_of(x: u32) -> u8
+    requires { ⌜ x < 256 ⌝ }
+    ensures { λ r. ⌜ r ≡ x ⌝ }
 {
-    mark as u8
+    x as u8
 }
 
 // The tally's state goes over the lent one.
@@ -39,7 +38,7 @@ fn hand_over(tally: &Tally, state: &mut [u8])
     }
 }
 
-// What the tally says once the walk is over.
+// What the tally says once the walk is over. A miss and whatever stopped the walk are told in one way.
 pub(crate) fn tell(tally: &Tally, state: &mut [u8], budget: u32) -> Answer
     requires { ⌜ length (now state) ≡ 64 ⌝ }
     requires { ⌜ Tallied (now tally) budget ⌝ }
@@ -63,18 +62,11 @@ pub(crate) fn tell(tally: &Tally, state: &mut [u8], budget: u32) -> Answer
             count: count,
         };
     }
+    let told = byte_of(number);
     let place = widened(tally[1]);
     hand_over(tally, state);
-    if number == MISSED {
-        return Answer {
-            number: answers::GOAL_MISSED,
-            input: answers::THE_REQUEST,
-            place: place,
-            count: count,
-        };
-    }
     Answer {
-        number: answers::NOT_EXECUTABLE,
+        number: told,
         input: answers::THE_REQUEST,
         place: place,
         count: count,

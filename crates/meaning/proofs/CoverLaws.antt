@@ -8,13 +8,14 @@ use mathlib.Core.List.{List, [], _∷_}
 use mathlib.Core.Logic.{_⊎_, inl, inr, ⊎-elim}
 use lib.ListN.{length}
 use Rattle.meaning.specs.Tests.{each-of, Has}
+use Rattle.meaning.specs.Limits
 use Rattle.meaning.specs.Literals.{exclusive}
 use Rattle.meaning.specs.Requests.{Effect, Knowledge, Table, Sequence, done, item, Item, act, branching, Branches, none, branch}
 use Rattle.meaning.specs.Refusals.{conditions-of, all-exclusive}
 use Rattle.meaning.specs.Lines.{sensing}
 use Rattle.meaning.specs.States.{State, known, can-be-run, state-after, unknown-sensed, single, readings, outcome}
-use Rattle.meaning.specs.Walk.{table-step}
-use Rattle.meaning.specs.Paths.{Ending, arrives, stops, Path, first-ran, go-on, arrivals, paths, paths-item, paths-branch}
+use Rattle.meaning.specs.Walk.{in-state, Step, table-does, table-step}
+use Rattle.meaning.specs.Paths.{Ending, arrives, stops, Path, first-ran, go-on, arrivals, paths-step, paths, paths-item, paths-branch}
 use Rattle.meaning.specs.Approximation.{Pair, Disjoint, true-in, _≼_, executable, sensing-action, Res, Result, failed, state, Sensed, Φ, None-true, Φ̂, Φ̂-item, Φ̂-case}
 use Rattle.meaning.specs.Reported.{pair-of}
 use Rattle.meaning.proofs.TestLaws.{by-test, clash, both-left, both-right, either-right, each-mono}
@@ -29,7 +30,7 @@ use Rattle.meaning.proofs.RefusalLaws.{exclusive-clash}
 -- What an ending is in the 0-approximation.
 abbrev pub result-of : Ending State → Result
 result-of (arrives u) = state (pair-of u)
-result-of (stops p u) = failed
+result-of (stops n p u) = failed
 
 -- Conditions true of a state's pair are those that it knows.
 pub knows-pair : (s : State) (c : List ℕ) → each-of (true-in (pair-of s)) c ≡ each-of (known s) c
@@ -54,7 +55,7 @@ module _ (t : Table) where
 
   none-taken : (bs : Branches ℕ) (p : ℕ) (s : State) (δ : Pair) → pair-of s ≼ δ → None-true t bs δ → Stops (paths-branch (table-step t) bs p s)
   unfolding paths table-step
-  none-taken none p s δ more n = (p, s, inl refl)
+  none-taken none p s δ more n = (Limits.not-executable, p, in-state s, inl refl)
   none-taken (branch c b bs) p s δ more n =
       pick-has Stops (each-of (known s) c) _ _ (λ k. clash (knows-true s δ more c k) (n .0)) (λ _. none-taken bs p s δ more (n .1))
 
@@ -62,7 +63,7 @@ module _ (t : Table) where
 module _ (size : ℕ) where
   abbrev pub Sized : Ending State → Type 0
   Sized (arrives u) = length u ≡ size
-  Sized (stops p u) = Unit {0}
+  Sized (stops n p u) = Unit {0}
 
   -- A state below a pair.
   pub record Below (u : State) (δ : Pair) : Type 0 where
@@ -80,8 +81,8 @@ module _ (size : ℕ) where
   stops-cover xs stop (state δ) = inl stop
 
   covers-on : (more : State → List (Path State)) (xs : List (Path State)) (u : State) → Ends xs (arrives u) → (x : Result) → Covered (more u) x → Covered (go-on xs more) x
-  covers-on more xs u h failed w = (w .0, w .1, arrives-on more xs u _ h (w .2))
-  covers-on more xs u h (state δ) (inl w) = inl (w .0, w .1, arrives-on more xs u _ h (w .2))
+  covers-on more xs u h failed w = (w .0, w .1, w .2, arrives-on more xs u _ h (w .3))
+  covers-on more xs u h (state δ) (inl w) = inl (w .0, w .1, w .2, arrives-on more xs u _ h (w .3))
   covers-on more xs u h (state δ) (inr w) = inr (w .0, arrives-on more xs u _ h (w .1), w .2)
 
   covers-then : (more : State → List (Path State)) (xs : List (Path State)) (σ : Pair) (x : Result) → Covered xs (state σ) → ((u : State) → Below u σ → Covered (more u) x) → Covered (go-on xs more) x
@@ -92,9 +93,9 @@ module _ (size : ℕ) where
 module _ (t : Table) (size : ℕ) (effects-within : (e : Effect) → Has (t .effects) e → e .literal < 2 * size) (knowledge-within : (k : Knowledge) → Has (t .knowledge) k → k .fluent < size) where
   -- EXACT.
   reaches-act : (p a : ℕ) (s : State) → length s ≡ size → (e : Ending State) → Ends (paths-item (table-step t) (act p a) s) e → Φ t a (pair-of s) (result-of e) × Sized size e
-  unfolding paths table-step outcome arrivals
+  unfolding paths paths-step table-step table-does outcome arrivals
   reaches-act p a s sized e h =
-      has-picked (λ xs. Ends xs e) (can-be-run t a s) _ _ h ran (λ stuck k. rw (ends-one k) (runs-pair t a s ∙ stuck, tt))
+      has-picked (λ (x : Step State). Ends (paths-step p a x) e) (can-be-run t a s) _ _ h ran (λ stuck k. rw (ends-one k) (runs-pair t a s ∙ stuck, tt))
     where
       read : executable t a (pair-of s) ≡ true → sensing t a ≡ true → Ends (arrivals (readings (unknown-sensed t a s) s)) e → Φ t a (pair-of s) (result-of e) × Sized size e
       read runs senses k =
@@ -119,7 +120,7 @@ module _ (t : Table) (size : ℕ) (effects-within : (e : Effect) → Has (t .eff
     reaches done s sized e h = rw (ends-one h) (refl, sized)
     reaches (item i rest) s sized e h =
         ⊎-elim
-        (λ w. rw (w .3) (inl (reaches-item i s sized (stops (w .0) (w .1)) (w .2) .0, refl), tt))
+        (λ w. rw (w .4) (inl (reaches-item i s sized (stops (w .0) (w .1) (w .2)) (w .3) .0, refl), tt))
         (λ w.
         let here = reaches-item i s sized (arrives (w .0)) (w .1) in
         let there = reaches rest (w .0) (here .1) e (w .2) in
@@ -139,11 +140,11 @@ module _ (t : Table) (size : ℕ) (effects-within : (e : Effect) → Has (t .eff
 
   -- COVERING.
   covers-act : (p a : ℕ) (s : State) (δ : Pair) → Below size s δ → (x : Result) → Φ t a δ x → Covered size (paths-item (table-step t) (act p a) s) x
-  unfolding paths table-step outcome arrivals
+  unfolding paths paths-step table-step table-does outcome arrivals
   covers-act p a s δ below x h =
-      pick-has (λ xs. Covered size xs x) (can-be-run t a s) _ _
+      pick-has (λ (y : Step State). Covered size (paths-step p a y) x) (can-be-run t a s) _ _
       (λ runs. ran (executable-grows t a (below .extends) (runs-pair t a s ∙ runs)) x h)
-      (λ _. stops-cover size _ (p, s, inl refl) x)
+      (λ _. stops-cover size _ (Limits.not-executable, p, in-state s, inl refl) x)
     where
       after : List (Path State)
       after = first-ran (a ∷ []) (arrivals (outcome t a s))
@@ -192,7 +193,7 @@ module _ (t : Table) (size : ℕ) (effects-within : (e : Effect) → Has (t .eff
     covers-item (branching p bs) fits s δ below x h = covers-branch bs p (fits .0) (fits .1) s δ below x h
 
     covers-branch : (bs : Branches ℕ) (p : ℕ) → all-exclusive (conditions-of bs) ≡ true → Fit-branches bs → (s : State) (δ : Pair) → Below size s δ → (x : Result) → Φ̂-item t (branching p bs) δ x → Covered size (paths-branch (table-step t) bs p s) x
-    covers-branch none p apart fits s δ below x h = ⊎-elim absurd (λ w. rw (w .1) (p, s, inl refl)) h
+    covers-branch none p apart fits s δ below x h = ⊎-elim absurd (λ w. rw (w .1) (Limits.not-executable, p, in-state s, inl refl)) h
     covers-branch (branch c b bs) p apart fits s δ below x h =
         pick-has (λ xs. Covered size xs x) (each-of (known s) c) _ _
         (λ k. here (knows-true s δ (below .extends) c k) (λ w. covers b (fits .0) s δ below x w) h)

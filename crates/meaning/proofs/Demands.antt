@@ -15,12 +15,13 @@ use Rattle.meaning.specs.Requests.{Request}
 use Rattle.meaning.specs.Reading.{Got, got, fault}
 use Rattle.meaning.specs.Refusals.{settled}
 use Rattle.meaning.specs.States.{State, first-state}
-use Rattle.meaning.specs.Walk.{End, fine, missed, stuck, Walked, Verified, walked}
-use Rattle.meaning.specs.Judging.{ended, within, judge-settled, judge}
+use Rattle.meaning.specs.Walk.{End, fine, missed, stopped, Walked, Verified, walked}
+use Rattle.meaning.specs.Judging.{reported, ended, within, judge-settled, judge}
 use Rattle.meaning.specs.Worlds.{Carried-out}
 use Rattle.meaning.specs.Derivations.{check}
 use Rattle.meaning.specs.Answers.{refusals, answers}
 use Rattle.meaning.proofs.TestLaws.{by-test, clash}
+use Rattle.meaning.proofs.KeptEnds.{Stuck, walked-stuck}
 use Rattle.meaning.proofs.AnswerLaws
 use Rattle.meaning.proofs.DerivationSound
 use Rattle.meaning.proofs.AnswerLaws.{Numbered-in, settled-numbered}
@@ -45,23 +46,23 @@ numbered = AnswerLaws.every-answer-numbered
 
 -- Answer 0 is given to a settled request whose walk is verified.
 module _ (lim : Limits) (lent : List ℕ) (budget : ℕ) where
-  verified-ends-fine : (c : ℕ) (e : End State) → ended lent c e .answer .number ≡ Limits.verified → e ≡ fine
-  unfolding ended
-  verified-ends-fine c fine q = refl
-  verified-ends-fine c (missed p s) q = absurd (omega arith)
-  verified-ends-fine c (stuck p s) q = absurd (omega arith)
+  verified-ends-fine : (c : ℕ) (e : End State) → Stuck e → ended lent c e .answer .number ≡ Limits.verified → e ≡ fine
+  unfolding ended reported
+  verified-ends-fine c fine stuck q = refl
+  verified-ends-fine c (missed p s) stuck q = absurd (omega arith)
+  verified-ends-fine c (stopped n p u) stuck q = absurd (omega (arith, stuck .0))
 
-  verified-within : (w : Walked State) → within lent budget w .answer .number ≡ Limits.verified → Verified w
+  verified-within : (w : Walked State) → Stuck (w .end) → within lent budget w .answer .number ≡ Limits.verified → Verified w
   unfolding within pick
-  verified-within w q =
+  verified-within w stuck q =
       by-test (ltb budget (w .count))
       (λ t. absurd (let three : _≡_ {A = ℕ} 3 0 = rw (t, pick) at q in omega arith))
-      (λ f. verified-ends-fine (w .count) (w .end) (rw (f, pick) at q))
+      (λ f. verified-ends-fine (w .count) (w .end) stuck (rw (f, pick) at q))
 
   verified-settled : (x : Got Request) → Numbered-in refusals x → judge-settled lim lent budget x .answer .number ≡ Limits.verified
       → (r : Request) × (e : ℕ) × (x ≡ got r e) × Verified (walked r (first-state lim (r .table)))
   unfolding judge-settled among refusals some-of either
-  verified-settled (got r e) n q = (r, e, refl, verified-within _ q)
+  verified-settled (got r e) n q = (r, e, refl, verified-within _ (walked-stuck r _) q)
   verified-settled (fault k p) n q = clash n (ap (λ (i : ℕ). among i refusals) q)
 
 pub verified-means : (lim : Limits) (request lent : List ℕ) (budget : ℕ) → judge lim request lent budget .answer .number ≡ Limits.verified

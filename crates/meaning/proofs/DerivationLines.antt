@@ -14,20 +14,15 @@ use Rattle.meaning.specs.Limits.{Limits}
 use Rattle.meaning.specs.Requests.{Table, Sequence, done, item, Item, act, branching, Branches, none, branch, Entry, Request, values, unplaced, unplaced-item, unplaced-branches}
 use Rattle.meaning.specs.Reading.{Got, got, fault, next, read-request}
 use Rattle.meaning.specs.Refusals.{Found, nowhere, at, overlap-in, refuse, settled}
-use Rattle.meaning.specs.States.{State, can-be-run, state-after, unknown-sensed}
-use Rattle.meaning.specs.Walk.{table-step}
+use Rattle.meaning.specs.States.{State, state-after, unknown-sensed}
 use Rattle.meaning.specs.Derivations.{Conclusion, knows, knows-whether, Line, Derivation, read-derivation, overlap-in-lines, same-plan, same-item, same-branches, says, acts, one-action, rule-2, reads, senses-first, rule-3, looks-for, one-look, rule-7, given-by, follows, check-lines, asks-for, goals-of, check-last, all-asked, names, check-entries, check-closing, check-end, check-derivation, answer, accepted-if, beyond, check-settled, check}
 use Rattle.meaning.specs.SameLines.{Same-tables, Same-for-derivations, Same-answer}
 use Rattle.meaning.proofs.TestLaws.{clash}
 use Rattle.meaning.proofs.RefusalLaws.{at≢nowhere, unplaced-found, unplaced-18}
-use Rattle.meaning.proofs.LineLaws.{sensing-same, senses-same, unknown-same, marks-same, tables-agree, contradiction-same, mixed-same}
+use Rattle.meaning.proofs.LineLaws.{sensing-same, senses-same, unknown-same, marks-same, runs-same, contradiction-same, mixed-same}
 
 -- THE RULES. Tables that say the same give the same lines.
 module _ (lim : Limits) (t u : Table) (same : Same-tables t u) where
-  runs-same : (a : ℕ) (s : State) → can-be-run t a s ≡ can-be-run u a s
-  unfolding table-step
-  runs-same a s = tables-agree t u same a .runs s
-
   after-same : (a : ℕ) (s : State) → state-after t a s ≡ state-after u a s
   unfolding state-after
   after-same a s = marks-same t u same a s 0 s
@@ -38,7 +33,7 @@ module _ (lim : Limits) (t u : Table) (same : Same-tables t u) where
 
   acts-same : (l : Line) (a : ℕ) (s : State) → acts lim t l a s ≡ acts lim u l a s
   unfolding acts
-  acts-same l a s = rw (sensing-same t u same a, runs-same a s, after-same a s)
+  acts-same l a s = rw (sensing-same t u same a, runs-same t u same a s, after-same a s)
 
   one-action-same : (l : Line) (c : Sequence ℕ) → one-action lim t l c ≡ one-action lim u l c
   unfolding one-action
@@ -49,7 +44,7 @@ module _ (lim : Limits) (t u : Table) (same : Same-tables t u) where
 
   reads-same : (cited : List Line) (l : Line) (a : ℕ) (rest : Sequence ℕ) (s : State) → reads lim t cited l a rest s ≡ reads lim u cited l a rest s
   unfolding reads
-  reads-same cited l a rest s = rw (sensing-same t u same a, runs-same a s, unread-same a s)
+  reads-same cited l a rest s = rw (sensing-same t u same a, runs-same t u same a s, unread-same a s)
 
   senses-first-same : (cited : List Line) (l : Line) (c : Sequence ℕ) → senses-first lim t cited l c ≡ senses-first lim u cited l c
   unfolding senses-first
@@ -60,7 +55,7 @@ module _ (lim : Limits) (t u : Table) (same : Same-tables t u) where
   looks-for-same : (Y : Conclusion) (a : ℕ) (s : State) → looks-for lim t Y a s ≡ looks-for lim u Y a s
   unfolding looks-for
   looks-for-same (knows Y) a s = refl
-  looks-for-same (knows-whether f) a s = rw (senses-same t u same a f, runs-same a s)
+  looks-for-same (knows-whether f) a s = rw (senses-same t u same a f, runs-same t u same a s)
 
   one-look-same : (l : Line) (c : Sequence ℕ) → one-look lim t l c ≡ one-look lim u l c
   unfolding one-look

@@ -1,4 +1,4 @@
--- Where the paths of a list end, and what the end of the walk along them says of it: the walk is stuck at the first path that stops, it
+-- Where the paths of a list end, and what the end of the walk along them says of it: the walk stops at the first path that stops, it
 -- misses at the first that misses where none stops, and else it is fine. By induction on the list. Assumes nothing.
 use Prim.Native.Nat.{ℕ}
 use mathlib.Core.Path.{_≡_, refl, sym, _∙_, ap, subst}
@@ -8,7 +8,7 @@ use mathlib.Core.Bool.{Bool, true}
 use Rattle.meaning.specs.Tests.{each-of, Has}
 use Rattle.meaning.specs.Requests.{Entry, values}
 use Rattle.meaning.specs.Refusals.{Found, nowhere, at}
-use Rattle.meaning.specs.Walk.{End, fine, missed, stuck, first-missed}
+use Rattle.meaning.specs.Walk.{Concerned, no-state, in-state, End, fine, missed, stopped, first-missed}
 use Rattle.meaning.specs.Paths.{Ending, arrives, stops, Path, first-ran, goes-on, go-on, stop-of, first-stop, miss-of, first-miss, stop-or-miss, walked-along}
 use Rattle.meaning.specs.Reported.{First}
 use Rattle.meaning.proofs.TestLaws.{both-left, both-right, both-true, pick-true, pick-cases, has-right}
@@ -59,14 +59,14 @@ module _ {S : Type 0} where
   Ends (x ∷ xs) e = (e ≡ x .ending) ⊎ Ends xs e
 
   abbrev pub Stops : List (Path S) → Type 0
-  Stops xs = (p : ℕ) × (s : S) × Ends xs (stops p s)
+  Stops xs = (n : ℕ) × (p : ℕ) × (u : Concerned S) × Ends xs (stops n p u)
 
-  pub arrives≢stops : {u s : S} {p : ℕ} → arrives u ≡ stops p s → ⊥
+  pub arrives≢stops : {s : S} {n p : ℕ} {u : Concerned S} → arrives s ≡ stops n p u → ⊥
   arrives≢stops q = subst arrived q tt
     where
       arrived : Ending S → Type 0
-      arrived (arrives u) = Unit {0}
-      arrived (stops p s) = ⊥
+      arrived (arrives s) = Unit {0}
+      arrived (stops n p u) = ⊥
 
   -- A path of the list ends so.
   has-ends : (xs : List (Path S)) (x : Path S) (e : Ending S) → Has xs x → x .ending ≡ e → Ends xs e
@@ -80,25 +80,26 @@ module _ {S : Type 0} where
     where
       by-ending : (g : Ending S) → x .ending ≡ g → (u : S) × (g ≡ arrives u)
       by-ending (arrives u) q = (u, refl)
-      by-ending (stops p s) q = absurd (none (p, s, has-ends xs x (stops p s) h q))
+      by-ending (stops n p s) q = absurd (none (n, p, s, has-ends xs x (stops n p s) h q))
 
   pub arrives-same : {u v : S} → arrives u ≡ arrives v → u ≡ v
   arrives-same {u} q = ap state q
     where
       state : Ending S → S
       state (arrives v) = v
-      state (stops p s) = u
+      state (stops n p s) = u
 
-  pub stops-same : {p q : ℕ} {u v : S} → stops p u ≡ stops q v → (p ≡ q) × (u ≡ v)
-  stops-same {p} {u = u} e = (ap place e, ap state e)
+  pub stops-same : {m n p q : ℕ} {u v : S} → stops m p (in-state u) ≡ stops n q (in-state v) → (p ≡ q) × (u ≡ v)
+  stops-same {p = p} {u = u} e = (ap place e, ap state e)
     where
       place : Ending S → ℕ
       place (arrives v) = p
-      place (stops q v) = q
+      place (stops n q v) = q
 
       state : Ending S → S
       state (arrives v) = v
-      state (stops q v) = v
+      state (stops n q no-state) = u
+      state (stops n q (in-state v)) = v
 
   -- A list of one path ends as that does.
   pub ends-one : {e g : Ending S} → (e ≡ g) ⊎ ⊥ → e ≡ g
@@ -127,7 +128,7 @@ module _ {S : Type 0} where
   module _ (more : S → List (Path S)) where
     -- A path stopped before, or went on from where one arrived.
     abbrev pub Went-on : List (Path S) → Ending S → Type 0
-    Went-on xs e = ((p : ℕ) × (s : S) × Ends xs (stops p s) × (e ≡ stops p s)) ⊎ ((u : S) × Ends xs (arrives u) × Ends (more u) e)
+    Went-on xs e = ((n : ℕ) × (p : ℕ) × (u : Concerned S) × Ends xs (stops n p u) × (e ≡ stops n p u)) ⊎ ((s : S) × Ends xs (arrives s) × Ends (more s) e)
 
     pub went-on : (xs : List (Path S)) (e : Ending S) → Ends (go-on xs more) e → Went-on xs e
     unfolding go-on goes-on
@@ -136,20 +137,20 @@ module _ {S : Type 0} where
       where
         by-ending : (g : Ending S) → g ≡ x .ending → Ends (goes-on (x .ran) g more) e → Went-on (x ∷ xs) e
         by-ending (arrives u) q k = inr (u, inl q, ends-ran (x .ran) (more u) e .0 k)
-        by-ending (stops p s) q (inl k) = inl (p, s, inl q, k)
+        by-ending (stops n p u) q (inl k) = inl (n, p, u, inl q, k)
 
         later : Went-on xs e → Went-on (x ∷ xs) e
-        later (inl w) = inl (w .0, w .1, inr (w .2), w .3)
+        later (inl w) = inl (w .0, w .1, w .2, inr (w .3), w .4)
         later (inr w) = inr (w .0, inr (w .1), w .2)
 
-    stops-on : (xs : List (Path S)) (p : ℕ) (s : S) → Ends xs (stops p s) → Ends (go-on xs more) (stops p s)
+    stops-on : (xs : List (Path S)) (n p : ℕ) (u : Concerned S) → Ends xs (stops n p u) → Ends (go-on xs more) (stops n p u)
     unfolding go-on goes-on
-    stops-on [] p s h = absurd h
-    stops-on (x ∷ xs) p s (inl q) = ends-left (goes-on (x .ran) (x .ending) more) (go-on xs more) (stops p s) (subst (λ (g : Ending S). Ends (goes-on (x .ran) g more) (stops p s)) q (inl refl))
-    stops-on (x ∷ xs) p s (inr h) = ends-right (goes-on (x .ran) (x .ending) more) (go-on xs more) (stops p s) (stops-on xs p s h)
+    stops-on [] n p u h = absurd h
+    stops-on (x ∷ xs) n p u (inl q) = ends-left (goes-on (x .ran) (x .ending) more) (go-on xs more) (stops n p u) (subst (λ (g : Ending S). Ends (goes-on (x .ran) g more) (stops n p u)) q (inl refl))
+    stops-on (x ∷ xs) n p u (inr h) = ends-right (goes-on (x .ran) (x .ending) more) (go-on xs more) (stops n p u) (stops-on xs n p u h)
 
     pub stop-goes-on : (xs : List (Path S)) → Stops xs → Stops (go-on xs more)
-    stop-goes-on xs w = (w .0, w .1, stops-on xs (w .0) (w .1) (w .2))
+    stop-goes-on xs w = (w .0, w .1, w .2, stops-on xs (w .0) (w .1) (w .2) (w .3))
 
     pub arrives-on : (xs : List (Path S)) (u : S) (e : Ending S) → Ends xs (arrives u) → Ends (more u) e → Ends (go-on xs more) e
     unfolding go-on goes-on
@@ -160,27 +161,27 @@ module _ {S : Type 0} where
 -- THE END OF THE WALK.
 module _ {S : Type 0} where
   -- The first path that stops.
-  abbrev pub Stops-first : List (Path S) → ℕ → S → Type 0
-  Stops-first xs p s = First (λ x. (u : S) × (x .ending ≡ arrives u)) (λ x. x .ending ≡ stops p s) xs
+  abbrev pub Stops-first : List (Path S) → (n p : ℕ) → Concerned S → Type 0
+  Stops-first xs n p u = First (λ x. (s : S) × (x .ending ≡ arrives s)) (λ x. x .ending ≡ stops n p u) xs
 
-  pub stop-ends : (xs : List (Path S)) (p : ℕ) (s : S) → Stops-first xs p s → Ends xs (stops p s)
-  stop-ends xs p s f = has-ends xs (f .here) (stops p s) (first-has f) (f .so)
+  pub stop-ends : (xs : List (Path S)) (n p : ℕ) (u : Concerned S) → Stops-first xs n p u → Ends xs (stops n p u)
+  stop-ends xs n p u f = has-ends xs (f .here) (stops n p u) (first-has f) (f .so)
 
   abbrev Stop-says : List (Path S) → End S → Type 0
   Stop-says xs fine = Stops xs → ⊥
   Stop-says xs (missed p s) = ⊥
-  Stop-says xs (stuck p s) = Stops-first xs p s
+  Stop-says xs (stopped n p u) = Stops-first xs n p u
 
   stop-says : (xs : List (Path S)) → Stop-says xs (first-stop xs)
   unfolding first-stop stop-of
-  stop-says [] = λ h. h .2
+  stop-says [] = λ h. h .3
   stop-says (x ∷ xs) = by-ending (x .ending) refl (first-stop xs) (stop-says xs)
     where
       by-ending : (g : Ending S) → g ≡ x .ending → (w : End S) → Stop-says xs w → Stop-says (x ∷ xs) (stop-of g w)
-      by-ending (arrives u) q fine no-stop = λ h. ⊎-elim (λ r. arrives≢stops (q ∙ sym r)) (λ k. no-stop (h .0, h .1, k)) (h .2)
-      by-ending (arrives u) q (stuck p s) stop = first-later (u, sym q) stop
+      by-ending (arrives u) q fine no-stop = λ h. ⊎-elim (λ r. arrives≢stops (q ∙ sym r)) (λ k. no-stop (h .0, h .1, h .2, k)) (h .3)
+      by-ending (arrives u) q (stopped n p s) stop = first-later (u, sym q) stop
       by-ending (arrives u) q (missed p s) none = none
-      by-ending (stops p s) q w stop = first-here (sym q)
+      by-ending (stops n p s) q w stop = first-here (sym q)
 
 module _ {S : Type 0} (miss : S → Found) where
   -- The first path that misses.
@@ -193,7 +194,7 @@ module _ {S : Type 0} (miss : S → Found) where
   abbrev Miss-says : List (Path S) → End S → Type 0
   Miss-says xs fine = (u : S) → Ends xs (arrives u) → miss u ≡ nowhere
   Miss-says xs (missed p s) = Misses-first xs p s
-  Miss-says xs (stuck p s) = ⊥
+  Miss-says xs (stopped n p u) = ⊥
 
   miss-says : (xs : List (Path S)) → Miss-says xs (first-miss miss xs)
   unfolding first-miss
@@ -203,20 +204,20 @@ module _ {S : Type 0} (miss : S → Found) where
       later : (w : End S) → Miss-says xs w → ((u : S) → arrives u ≡ x .ending → miss u ≡ nowhere) → Miss-says (x ∷ xs) w
       later fine none here = λ u. ⊎-elim (here u) (none u)
       later (missed p s) w here = first-later (λ u q. here u (sym q)) w
-      later (stuck p s) w here = w
+      later (stopped n p u) w here = w
 
       by-ending : (g : Ending S) → g ≡ x .ending → (w : End S) → Miss-says xs w → Miss-says (x ∷ xs) (miss-of miss g w)
       by-ending (arrives u) q w says =
           by-found (miss u)
           (λ r. rw (misses-not miss u w r) (later w says (λ v k. ap miss (arrives-same (k ∙ sym q)) ∙ r)))
           (λ p r. rw (misses-here miss u w p r) (first-here (sym q, r)))
-      by-ending (stops p s) q w says = unfold miss-of in later w says (λ v k. absurd (arrives≢stops (k ∙ sym q)))
+      by-ending (stops n p s) q w says = unfold miss-of in later w says (λ v k. absurd (arrives≢stops (k ∙ sym q)))
 
   -- What the end of the walk along a list says of it.
   abbrev pub Says : List (Path S) → End S → Type 0
   Says xs fine = (Stops xs → ⊥) × ((u : S) → Ends xs (arrives u) → miss u ≡ nowhere)
   Says xs (missed p s) = (Stops xs → ⊥) × Misses-first xs p s
-  Says xs (stuck p s) = Stops-first xs p s
+  Says xs (stopped n p u) = Stops-first xs n p u
 
   pub end-says : (xs : List (Path S)) → Says xs (walked-along miss xs .end)
   unfolding walked-along stop-or-miss
@@ -225,9 +226,9 @@ module _ {S : Type 0} (miss : S → Found) where
       by-both : (v w : End S) → Stop-says xs v → Miss-says xs w → Says xs (stop-or-miss v w)
       by-both fine fine no-stop says = (no-stop, says)
       by-both fine (missed p s) no-stop says = (no-stop, says)
-      by-both fine (stuck p s) no-stop says = absurd says
+      by-both fine (stopped n p u) no-stop says = absurd says
       by-both (missed p s) w stop says = absurd stop
-      by-both (stuck p s) w stop says = stop
+      by-both (stopped n p u) w stop says = stop
 
 -- MISSES. Nothing in a list of entries is missed exactly where each of its values passes.
 pub none-missed : (test : ℕ → Bool) (es : List Entry) → (first-missed test es ≡ nowhere) ↔ (each-of test (values es) ≡ true)

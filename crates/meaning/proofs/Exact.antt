@@ -17,12 +17,13 @@ use Rattle.meaning.specs.Requests.{Effect, Knowledge, Table, Request, va
 use Rattle.meaning.specs.Reading.{got}
 use Rattle.meaning.specs.Refusals.{nowhere, or-else, settled}
 use Rattle.meaning.specs.States.{State, known, known-whether, first-state}
-use Rattle.meaning.specs.Walk.{End, fine, missed, stuck, Walked, table-step, first-missed, missed-in, walked}
-use Rattle.meaning.specs.Judging.{Judgement, ended, within, judge-settled, judge, number, count}
+use Rattle.meaning.specs.Walk.{End, fine, missed, stopped, Walked, table-step, first-missed, missed-in, walked}
+use Rattle.meaning.specs.Judging.{Judgement, reported, ended, within, judge-settled, judge, number, count}
 use Rattle.meaning.specs.Approximation.{Pair, Disjoint, true-in, false-in, _≼_, Result, failed, state, Φ̂, least, Initial, Entails, Entailed}
 use Rattle.meaning.specs.Paths.{Ending, arrives, stops, paths, walked-along}
 use Rattle.meaning.specs.Reported.{pair-of, all-paths}
 use Rattle.meaning.proofs.TestLaws.{either-left, either-right, either-split, pick-true, pick-false, pick-cases, pick-map, some-has, has-some, each-has, has-each}
+use Rattle.meaning.proofs.KeptEnds.{Stuck, walked-stuck}
 use Rattle.meaning.proofs.RefusalLaws.{at≢nowhere}
 use Rattle.meaning.proofs.SettledLaws.{or-else-nowhere, Settled, settled-is, Fit, fit}
 use Rattle.meaning.proofs.PathLaws.{walked-in-order}
@@ -36,14 +37,14 @@ use Rattle.meaning.proofs.CoverLaws.{result-of, knows-pair, knows-true,
 abbrev pub walk-end : Limits → Request → End State
 walk-end lim r = walked r (first-state lim (r .table)) .end
 
--- NUMBERS. The number of an end.
+-- NUMBERS. The number of an end; a walk stops with 2.
 abbrev pub answered : End State → ℕ
 answered fine = Limits.verified
 answered (missed p s) = Limits.goal-missed
-answered (stuck p s) = Limits.not-executable
+answered (stopped n p u) = n
 
 within-number : (lent : List ℕ) (budget : ℕ) (w : Walked State) → within lent budget w .answer .number ≡ pick (ltb budget (w .count)) (λ _. Limits.budget-spent) (λ _. answered (w .end))
-unfolding within ended
+unfolding within ended reported
 within-number lent budget w =
     pick-map (λ (j : Judgement). j .answer .number) (ltb budget (w .count)) _ _
     ∙ ap (λ (n : ℕ). pick (ltb budget (w .count)) (λ _. Limits.budget-spent) (λ _. n)) (by-end (w .end))
@@ -51,17 +52,17 @@ within-number lent budget w =
     by-end : (n : End State) → ended lent (w .count) n .answer .number ≡ answered n
     by-end fine = refl
     by-end (missed p s) = refl
-    by-end (stuck p s) = refl
+    by-end (stopped m p u) = refl
 
-not-spent : (n : End State) → answered n ≡ Limits.budget-spent → ⊥
-not-spent fine q = omega arith
-not-spent (missed p s) q = omega arith
-not-spent (stuck p s) q = omega arith
+not-spent : (n : End State) → Stuck n → answered n ≡ Limits.budget-spent → ⊥
+not-spent fine stuck q = omega arith
+not-spent (missed p s) stuck q = omega arith
+not-spent (stopped m p u) stuck q = omega (arith, stuck .0)
 
-the-third : (n : End State) → (answered n ≡ Limits.not-executable → ⊥) → (answered n ≡ Limits.verified → ⊥) → answered n ≡ Limits.goal-missed
-the-third fine s v = absurd (v refl)
-the-third (missed p u) s v = refl
-the-third (stuck p u) s v = absurd (s refl)
+the-third : (n : End State) → Stuck n → (answered n ≡ Limits.not-executable → ⊥) → (answered n ≡ Limits.verified → ⊥) → answered n ≡ Limits.goal-missed
+the-third fine stuck s v = absurd (v refl)
+the-third (missed p u) stuck s v = refl
+the-third (stopped m p u) stuck s v = absurd (s (stuck .0))
 
 -- MISSES. An end state misses nothing exactly where every goal is known and every whether fluent is known whether.
 pub met : (r : Request) (u : State) → (missed-in r u ≡ nowhere) ↔ ((each-of (known u) (values (r .goals)) ≡ true) × (each-of (known-whether u) (values (r .whether)) ≡ true))
@@ -127,15 +128,15 @@ module _ (lim : Limits) (room : lim .fluents ≤ lim .state) (r : Request) (rang
   not-failed : (Stops (all-paths lim r) → ⊥) → Φ̂ (r .table) (r .plan) (least (r .table)) failed → ⊥
   not-failed none h = none (covered (least (r .table)) least-initial failed h)
 
-  -- The walk is stuck exactly where the function fails from the least initial a-state.
-  end-failed : (n : End State) → Says (missed-in r) (all-paths lim r) n → (answered n ≡ Limits.not-executable) ↔ Φ̂ (r .table) (r .plan) (least (r .table)) failed
-  end-failed fine says = (λ q. absurd (omega arith), λ h. absurd (not-failed (says .0) h))
-  end-failed (missed p u) says = (λ q. absurd (omega arith), λ h. absurd (not-failed (says .0) h))
-  end-failed (stuck p u) says = (λ _. leads (stops p u) (stop-ends (all-paths lim r) p u says), λ _. refl)
+  -- The walk stops exactly where the function fails from the least initial a-state.
+  end-failed : (n : End State) → Stuck n → Says (missed-in r) (all-paths lim r) n → (answered n ≡ Limits.not-executable) ↔ Φ̂ (r .table) (r .plan) (least (r .table)) failed
+  end-failed fine stuck says = (λ q. absurd (omega arith), λ h. absurd (not-failed (says .0) h))
+  end-failed (missed p u) stuck says = (λ q. absurd (omega arith), λ h. absurd (not-failed (says .0) h))
+  end-failed (stopped m p u) stuck says = (λ _. leads (stops m p u) (stop-ends (all-paths lim r) m p u says), λ _. stuck .0)
 
   -- The walk is fine exactly where what is asked is entailed.
-  end-entailed : (n : End State) → Says (missed-in r) (all-paths lim r) n → (answered n ≡ Limits.verified) ↔ Entailed r
-  end-entailed fine says = (
+  end-entailed : (n : End State) → Stuck n → Says (missed-in r) (all-paths lim r) n → (answered n ≡ Limits.verified) ↔ Entailed r
+  end-entailed fine stuck says = (
     λ _. (
       entails (λ σ. each-of (true-in σ) (values (r .goals))) (λ u δ more q. knows-true u δ more _ (met r u .0 q .0)),
       λ f h. entails (whether-in f) (λ u δ more q. whether-grows more f (whether-pair u f ∙ each-has _ (values (r .whether)) f (met r u .0 q .1) h)),
@@ -148,7 +149,7 @@ module _ (lim : Limits) (room : lim .fluents ≤ lim .state) (r : Request) (rang
         executable = λ σ i h. says .0 (covered σ i failed h);
         true-after = λ σ i δ h. ⊎-elim (λ stop. absurd (says .0 stop)) (λ w. after (w .0) δ (w .2 .extends) (says .1 (w .0) (w .1))) (covered σ i (state δ) h);
       }
-  end-entailed (missed p u) says = (λ q. absurd (omega arith), λ k. absurd (at≢nowhere (sym (says .1 .so .1) ∙ met r u .1 (goals k, whether k))))
+  end-entailed (missed p u) stuck says = (λ q. absurd (omega arith), λ k. absurd (at≢nowhere (sym (says .1 .so .1) ∙ met r u .1 (goals k, whether k))))
     where
       led : Φ̂ (r .table) (r .plan) (least (r .table)) (state (pair-of u))
       led = leads (arrives u) (miss-ends (missed-in r) (all-paths lim r) p u (says .1))
@@ -158,7 +159,10 @@ module _ (lim : Limits) (room : lim .fluents ≤ lim .state) (r : Request) (rang
 
       whether : Entailed r → each-of (known-whether u) (values (r .whether)) ≡ true
       whether k = has-each _ _ (λ f h. sym (whether-pair u f) ∙ k .1 f h .true-after (least (r .table)) least-initial (pair-of u) led)
-  end-entailed (stuck p u) says = (λ q. absurd (omega arith), λ k. absurd (k .0 .executable (least (r .table)) least-initial (leads (stops p u) (stop-ends (all-paths lim r) p u says))))
+  end-entailed (stopped m p u) stuck says = (
+    λ q. absurd (omega (arith, stuck .0)),
+    λ k. absurd (k .0 .executable (least (r .table)) least-initial (leads (stops m p u) (stop-ends (all-paths lim r) m p u says))),
+  )
 
 -- A SETTLED REQUEST, whatever the budget.
 module _ (lim : Limits) (room : lim .fluents ≤ lim .state) (b : List ℕ) (r : Request) (e : ℕ) (past : settled lim b ≡ got r e) where
@@ -174,20 +178,23 @@ module _ (lim : Limits) (room : lim .fluents ≤ lim .state) (b : List ℕ) (r :
   pub says : Says (missed-in r) (all-paths lim r) (walk-end lim r)
   says = subst (λ (w : Walked State). Says (missed-in r) (all-paths lim r) (w .end)) (sym (walked-in-order r (first-state lim (r .table)))) (end-says (missed-in r) (all-paths lim r))
 
+  end-stuck : Stuck (walk-end lim r)
+  end-stuck = walked-stuck r (first-state lim (r .table))
+
   failed-exactly : (answered (walk-end lim r) ≡ Limits.not-executable) ↔ Φ̂ (r .table) (r .plan) (least (r .table)) failed
-  failed-exactly = end-failed lim room r ranged fits (walk-end lim r) says
+  failed-exactly = end-failed lim room r ranged fits (walk-end lim r) end-stuck says
 
   entailed-exactly : (answered (walk-end lim r) ≡ Limits.verified) ↔ Entailed r
-  entailed-exactly = end-entailed lim room r ranged fits (walk-end lim r) says
+  entailed-exactly = end-entailed lim room r ranged fits (walk-end lim r) end-stuck says
 
   -- Where what is asked is entailed, the walk without a budget is verified.
   pub entailed-fine : Entailed r → walked r (first-state lim (r .table)) .end ≡ fine
-  entailed-fine k = is-fine (walk-end lim r) (entailed-exactly .1 k)
+  entailed-fine k = is-fine (walk-end lim r) end-stuck (entailed-exactly .1 k)
     where
-      is-fine : (n : End State) → answered n ≡ Limits.verified → n ≡ fine
-      is-fine fine q = refl
-      is-fine (missed p u) q = absurd (omega arith)
-      is-fine (stuck p u) q = absurd (omega arith)
+      is-fine : (n : End State) → Stuck n → answered n ≡ Limits.verified → n ≡ fine
+      is-fine fine stuck q = refl
+      is-fine (missed p u) stuck q = absurd (omega arith)
+      is-fine (stopped m p u) stuck q = absurd (omega (arith, stuck .0))
 
 -- THE THEOREMS.
 module _ (lim : Limits) (room : lim .fluents ≤ lim .state) (b lent : List ℕ) (budget : ℕ) (r : Request) (e : ℕ) (lent-length : length lent ≡ lim .state) (past : settled lim b ≡ got r e) where
@@ -208,7 +215,7 @@ module _ (lim : Limits) (room : lim .fluents ≤ lim .state) (b lent : List ℕ)
   -- The budget is spent exactly where the walk counts more.
   pub spent-exactly : (number lim b lent budget ≡ Limits.budget-spent) ↔ (budget < count lim r)
   spent-exactly = (
-    λ q. pick-cases _ _ _ (sym number-is ∙ q) (λ t _. ltb-true _ _ t) (λ _ k. absurd (not-spent (walk-end lim r) k)),
+    λ q. pick-cases _ _ _ (sym number-is ∙ q) (λ t _. ltb-true _ _ t) (λ _ k. absurd (not-spent (walk-end lim r) (end-stuck lim room b r e past) k)),
     λ h. number-is ∙ pick-true _ _ _ (lt-ltb budget (count lim r) h),
   )
 
@@ -224,7 +231,7 @@ module _ (lim : Limits) (room : lim .fluents ≤ lim .state) (b lent : List ℕ)
   pub missed-exactly : count lim r ≤ budget → (number lim b lent budget ≡ Limits.goal-missed) ↔ ((Φ̂ (r .table) (r .plan) (least (r .table)) failed → ⊥) × (Entailed r → ⊥))
   missed-exactly enough = (
     λ q. (λ h. omega (arith, q, stuck-exactly enough .1 h), λ k. omega (arith, q, verified-exactly enough .1 k)),
-    λ w. within-budget enough ∙ the-third (walk-end lim r) (λ q. w .0 (stuck-exactly enough .0 (within-budget enough ∙ q))) (λ q. w .1 (verified-exactly enough .0 (within-budget enough ∙ q))),
+    λ w. within-budget enough ∙ the-third (walk-end lim r) (end-stuck lim room b r e past) (λ q. w .0 (stuck-exactly enough .0 (within-budget enough ∙ q))) (λ q. w .1 (verified-exactly enough .0 (within-budget enough ∙ q))),
   )
 
 -- The format's own limits have the room.

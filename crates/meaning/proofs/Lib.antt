@@ -14,6 +14,9 @@ pub mod Sound
 pub mod TableSound
 pub mod WalkSound
 pub mod PickLaws
+pub mod GotLaws
+pub mod PlanReads
+pub mod KeptEnds
 pub mod PlaceLaws
 pub mod PartLaws
 pub mod AnswerLaws

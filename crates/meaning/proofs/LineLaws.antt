@@ -14,8 +14,8 @@ use Rattle.meaning.specs.Reading.{Got, got, next, read-request}
 use Rattle.meaning.specs.Refusals.{Found, nowhere, at, contradictory, contradiction-in, mixed-in, overlap-in, refuse, settled}
 use Rattle.meaning.specs.Lines.{effects-of, executability-of, knowledge-of, allowed, given, sensing, senses}
 use Rattle.meaning.specs.States.{State, known, known-whether, state-of, first-state, can-be-run, known-after, mark-after, marks-after, state-after, unknown-from, unknown-sensed, outcome}
-use Rattle.meaning.specs.Walk.{End, fine, missed, stuck, Walked, walk, table-step, first-missed, missed-in, end-of, judged, walked}
-use Rattle.meaning.specs.Judging.{Judgement, ended, within, judge-settled, judge}
+use Rattle.meaning.specs.Walk.{End, fine, missed, stopped, Walked, walk, table-does, table-step, first-missed, missed-in, end-of, judged, walked}
+use Rattle.meaning.specs.Judging.{Judgement, written-over, reported, ended, within, judge-settled, judge}
 use Rattle.meaning.specs.SameLines.{On-actions, Same-lines-of, Same-set, Same-effect, Same-tables, Same-but-lines, Gist, gist}
 use Rattle.meaning.proofs.TestLaws.{clash, same-test, pick-map, some-has, has-some, some-those}
 use Rattle.meaning.proofs.WalkLaws.{on-actions, map-actions, Agree, walk-agrees, unplaced-end, unplaced-walk, walk-unplaced}
@@ -23,8 +23,8 @@ use Rattle.meaning.proofs.RefusalLaws.{at≢nowhere, past-16, by-16, un
 
 -- THE LINES OF ANOTHER ACTION.
 lines-agree : (t u : Table) (a : ℕ) → Same-lines-of t u a → Agree (table-step t) (table-step u) a
-unfolding table-step can-be-run outcome sensing unknown-sensed state-after
-lines-agree t u a same = record { runs = λ s. rw (same .executability); leads-to = λ s. rw (same .knowledge, same .effects) }
+unfolding table-step table-does can-be-run outcome sensing unknown-sensed state-after
+lines-agree t u a same = record { does = λ s. rw (same .executability, same .knowledge, same .effects) }
 
 -- The walk never reads a line of another action: tables that have the same lines of each of the plan's actions walk it alike.
 pub no-other-action's-line : (t u : Table) (p : Sequence ℕ) → On-actions (Same-lines-of t u) p → (k : State → Walked State) (s : State) → walk (table-step t) p k s ≡ walk (table-step u) p k s
@@ -79,14 +79,14 @@ module _ (t u : Table) (same : Same-tables t u) (a : ℕ) where
   unknown-same s f [] = refl
   unknown-same s f (m ∷ ms) = simp (senses-same, unknown-same s (f + 1) ms)
 
+  pub runs-same : (s : State) → can-be-run t a s ≡ can-be-run u a s
+  unfolding can-be-run
+  runs-same s = allowed-same (known s)
+
   -- Tables that say the same step alike.
-  pub tables-agree : Agree (table-step t) (table-step u) a
-  unfolding table-step can-be-run outcome unknown-sensed state-after
-  tables-agree =
-      record {
-        runs = λ s. allowed-same (known s);
-        leads-to = λ s. rw (sensing-same, unknown-same s 0 s, marks-same s 0 s);
-      }
+  tables-agree : Agree (table-step t) (table-step u) a
+  unfolding table-step table-does outcome unknown-sensed state-after
+  tables-agree = record { does = λ s. rw (runs-same s, sensing-same, unknown-same s 0 s, marks-same s 0 s) }
 
 -- 16 and 17 find something in both tables or in neither.
 module _ (t u : Table) (same : Same-tables t u) where
@@ -165,7 +165,7 @@ module _ (r q : Request) (same : Same-but-lines r q) where
       ∙ sym (walk-unplaced (table-step (q .table)) (q .plan) (judged q) s)
 
 within-gist : (lent : List ℕ) (budget : ℕ) (w : Walked State) → gist (within lent budget w) ≡ gist (within lent budget (unplaced-walk w))
-unfolding within ended pick
+unfolding within ended reported written-over pick
 within-gist lent budget w = go (ltb budget (w .count)) (w .end)
   where
     spent : Judgement
@@ -175,7 +175,7 @@ within-gist lent budget w = go (ltb budget (w .count)) (w .end)
     go true e = refl
     go false fine = refl
     go false (missed p s) = refl
-    go false (stuck p s) = refl
+    go false (stopped n p u) = refl
 
 -- The same finding without its place refuses alike.
 module _ (lim : Limits) (lent : List ℕ) (budget : ℕ) where

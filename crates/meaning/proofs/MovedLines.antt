@@ -17,7 +17,8 @@ use Rattle.meaning.specs.Reading.{Got, got, literals, two-bytes-at, repe
 use Rattle.meaning.specs.Derivations.{Conclusion, Line, Derivation, Concluded, concludes-fluent, list-concluded, fluent-concluded, conclusion-at, concluded-at, line-at, closing-at, read-derivation, a-rule}
 use Rattle.meaning.specs.Layouts.{Bytes, list-written, number-written, numbers-written, plan-written, conclusion-written, concluded-written, line-written, lines-written, closing-written, written, plain-rules}
 use Rattle.meaning.proofs.TestLaws.{both-left, both-right, clash, pick-false}
-use Rattle.meaning.proofs.MovedReads.{On, got-on, pick-on, refuse-on, next-on, next-is, Stands, stands-both, stands-parts, whole-stands, stands-whole, stands-inside, Copied, byte-stands, byte-copied, count-copied, below-copied, list-copied, numbers-stand, two-bytes-copied, numbers-copied}
+use Rattle.meaning.proofs.GotLaws.{On, got-on, pick-on, refuse-on, next-on}
+use Rattle.meaning.proofs.MovedReads.{next-is, Stands, stands-both, stands-parts, whole-stands, stands-whole, stands-inside, Copied, byte-stands, byte-copied, count-copied, below-copied, list-copied, numbers-stand, two-bytes-copied, numbers-copied}
 use Rattle.meaning.proofs.MovedPlans.{plan-copied}
 use Rattle.meaning.proofs.PlacelessLaws.{unplaced-line, unplaced-lines}
 

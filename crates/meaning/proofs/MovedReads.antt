@@ -3,46 +3,14 @@
 use Prim.Native.Nat.{ℕ, zero, suc, _+_, _*_, _/_, _%_, _≤_, _<_}
 use native.Mathlib.Omega.{arith}
 use mathlib.Core.Path.{_≡_, refl, sym, _∙_, ap, ap₂, subst}
-use mathlib.Core.Bool.{Bool, true, false}
 use mathlib.Core.List.{List, [], _∷_, _++_}
 use lib.ListN.{length, getD}
 use borrow.Author.Tests.{leb-false, lt-leb}
-use Rattle.meaning.specs.Tests.{pick}
 use Rattle.meaning.specs.Reading
-use Rattle.meaning.specs.Reading.{Got, got, fault, next, byte-at, two-bytes-at, count-at, below-at, entry-at, entries-at, list-at, repeated}
+use Rattle.meaning.specs.Reading.{Got, got, next, byte-at, two-bytes-at, count-at, below-at, entry-at, entries-at, list-at, repeated}
 use Rattle.meaning.specs.Layouts.{Bytes, list-written, number-written, numbers-written}
 use Rattle.meaning.proofs.TestLaws.{pick-false}
-use Rattle.meaning.proofs.SettledLaws.{fault≢got}
-
--- WHAT IS TRUE OF WHATEVER WAS READ.
-pub record On {A : Type 0} (m : Got A) (P : A → ℕ → Type 0) : Type 0 where
-  pub holds : (x : A) (e : ℕ) → m ≡ got x e → P x e
-
-module _ {A : Type 0} {P : A → ℕ → Type 0} where
-  pub got-on : (x : A) (p : ℕ) → P x p → On (got x p) P
-  got-on x p h = record { holds = λ y q e. subst given e h }
-    where
-      given : Got A → Type 0
-      given (got y q) = P y q
-      given (fault n i) = Unit {0}
-
-  pub fault-on : (n i : ℕ) → On (fault n i) P
-  fault-on n i = record { holds = λ y q e. absurd (fault≢got e) }
-
-  pub pick-on : (b : Bool) (f g : Unit {0} → Got A) → (b ≡ true → On (f tt) P) → (b ≡ false → On (g tt) P) → On (pick b f g) P
-  unfolding pick
-  pick-on true f g h k = h refl
-  pick-on false f g h k = k refl
-
-  -- What is refused gives nothing.
-  pub refuse-on : (b : Bool) (n i : ℕ) (g : Unit {0} → Got A) → (b ≡ false → On (g tt) P) → On (pick b (λ _. fault n i) g) P
-  refuse-on b n i g k = pick-on b _ g (λ _. fault-on n i) k
-
-module _ {A B : Type 0} {P : A → ℕ → Type 0} {Q : B → ℕ → Type 0} where
-  pub next-on : (m : Got A) (k : A → ℕ → Got B) → On m P → ((x : A) (q : ℕ) → P x q → On (k x q) Q) → On (next m k) Q
-  unfolding next
-  next-on (got x q) k h f = f x q (h .holds x q refl)
-  next-on (fault n i) k h f = fault-on n i
+use Rattle.meaning.proofs.GotLaws.{On, got-on, refuse-on, next-on}
 
 -- After a part that gives something comes what follows it.
 module _ {A B : Type 0} where

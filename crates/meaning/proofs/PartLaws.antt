@@ -2,7 +2,7 @@
 -- place is one that was read or walked to, and no fault has a number of a walk. Assumes nothing.
 use Prim.Native.Nat.{ℕ, _≤_, _<_}
 use native.Mathlib.Omega.{arith}
-use mathlib.Core.Path.{_≡_, refl, _∙_, ap}
+use mathlib.Core.Path.{_≡_, refl, sym, _∙_, ap, subst}
 use mathlib.Core.Bool.{true, false}
 use mathlib.Core.List.{List}
 use lib.ListN.{length}
@@ -18,14 +18,15 @@ use Rattle.meaning.specs.Requests.{Request}
 use Rattle.meaning.specs.Reading.{Got, got, fault}
 use Rattle.meaning.specs.Refusals.{settled}
 use Rattle.meaning.specs.States.{State, first-state}
-use Rattle.meaning.specs.Walk.{End, fine, missed, stuck, walked}
-use Rattle.meaning.specs.Judging.{Judgement, ended, within, judge-settled, judge}
+use Rattle.meaning.specs.Walk.{End, fine, missed, stopped, walked}
+use Rattle.meaning.specs.Judging.{Judgement, reported, ended, within, judge-settled, judge}
 use Rattle.meaning.specs.Derivations.{check-derivation, answer, accepted-if, check-settled, check}
 use Rattle.meaning.specs.Answers.{refusals, end-fault}
 use Rattle.meaning.specs.AnswerParts.{of-neither, of-requests, of-derivations, inputs-of, Walk-input, Check-input, at-start, Placed, named, of-walks, Walk-count}
 use Rattle.meaning.proofs.TestLaws.{clash, fails-true}
 use Rattle.meaning.proofs.LiteralLaws.{among-each}
 use Rattle.meaning.proofs.PickLaws.{pick-has}
+use Rattle.meaning.proofs.KeptEnds.{Stuck, walked-stuck}
 use Rattle.meaning.proofs.PlaceLaws.{End-below, walked-below, placed-start, placed-byte, Fault-in, Request-held, settled-held, byte-faults, derivation-faults, Checked, derivation-checked}
 
 -- THE WALK CALL.
@@ -62,26 +63,27 @@ module _ (lim : Limits) (request : List ℕ) (budget : ℕ) where
     abbrev count : ℕ
     count = walked r (first-state lim (r .table)) .count
 
-    ended-parts : (end : End State) → End-below (length request) end → Judged (ended lent count end)
-    unfolding ended among of-neither at-start of-walks some-of either
-    ended-parts fine less = record {
+    ended-parts : (end : End State) → End-below (length request) end → Stuck end → Judged (ended lent count end)
+    unfolding ended reported among of-neither at-start of-walks some-of either
+    ended-parts fine less stuck = record {
       input = record { neither = (λ _. refl, λ _. refl); request = λ f. clash refl f };
       count = record { walk = λ _. (r, e, past, refl); spent = λ q. absurd (omega (arith, q)); other = λ f. clash refl f };
       place = placed-start (length request) Limits.verified refl;
       fits = omega arith;
     }
-    ended-parts (missed p s) less = record {
+    ended-parts (missed p s) less stuck = record {
       input = record { neither = (λ q. absurd (omega (arith, q)), λ h. clash h refl); request = λ _. refl };
       count = record { walk = λ _. (r, e, past, refl); spent = λ q. absurd (omega (arith, q)); other = λ f. clash refl f };
       place = placed-byte (length request) Limits.goal-missed p refl less;
       fits = omega (arith, less, short);
     }
-    ended-parts (stuck p s) less = record {
-      input = record { neither = (λ q. absurd (omega (arith, q)), λ h. clash h refl); request = λ _. refl };
-      count = record { walk = λ _. (r, e, past, refl); spent = λ q. absurd (omega (arith, q)); other = λ f. clash refl f };
-      place = placed-byte (length request) Limits.not-executable p refl less;
-      fits = omega (arith, less, short);
-    }
+    ended-parts (stopped n p u) less stuck =
+        subst (λ (m : ℕ). Judged (ended lent count (stopped m p u))) (sym (stuck .0)) (record {
+          input = record { neither = (λ q. absurd (omega (arith, q)), λ h. clash h refl); request = λ _. refl };
+          count = record { walk = λ _. (r, e, past, refl); spent = λ q. absurd (omega (arith, q)); other = λ f. clash refl f };
+          place = placed-byte (length request) Limits.not-executable p refl less;
+          fits = omega (arith, less, short);
+        })
 
   fault-parts : (n p : ℕ) → Fault-in refusals (lim .request) (length request) n p → Walk-parts (record { number = n; input = Limits.the-request; place = p; count = 0 })
   unfolding among refusals of-neither of-walks some-of either each-of both fails
@@ -103,7 +105,7 @@ module _ (lim : Limits) (request : List ℕ) (budget : ℕ) where
   unfolding judge-settled within
   settled-parts lent (got r e) past h =
       pick-has Judged _ _ _ (λ _. spent-parts)
-      (λ _. ended-parts r e past (h .1 .1) lent _ (walked-below (length request) r (h .1 .0) (first-state lim (r .table))))
+      (λ _. ended-parts r e past (h .1 .1) lent _ (walked-below (length request) r (h .1 .0) (first-state lim (r .table))) (walked-stuck r (first-state lim (r .table))))
   settled-parts lent (fault n p) past h = fault-parts n p h
 
 module _ (lim : Limits) (request lent : List ℕ) (budget : ℕ) where

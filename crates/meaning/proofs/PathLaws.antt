@@ -10,8 +10,8 @@ use Rattle.meaning.specs.Tests.{each-of}
 use Rattle.meaning.specs.Requests.{Sequence, done, item, Item, act, branching, Branches, none, branch, Request}
 use Rattle.meaning.specs.Refusals.{Found, nowhere, at}
 use Rattle.meaning.specs.States.{State, Outcome, single, fork}
-use Rattle.meaning.specs.Walk.{End, fine, missed, stuck, Walked, stuck-at, counted, keep-miss, after-miss, after-end, and-then, each-reading, Steps, run-action, walk, walk-item, walk-branch, table-step, missed-in, end-of, judged, walked}
-use Rattle.meaning.specs.Paths.{Ending, arrives, stops, Path, first-ran, goes-on, go-on, arrivals, paths, paths-item, paths-branch, count-of, count-in, stop-of, first-stop, miss-of, first-miss, stop-or-miss, walked-along}
+use Rattle.meaning.specs.Walk.{Concerned, End, fine, missed, stopped, Walked, stopped-at, counted, keep-miss, after-miss, after-end, and-then, each-reading, Step, leads-to, refuses, Steps, after-step, run-action, walk, walk-item, walk-branch, table-step, missed-in, end-of, judged, walked}
+use Rattle.meaning.specs.Paths.{Ending, arrives, stops, Path, first-ran, goes-on, go-on, arrivals, paths-step, paths, paths-item, paths-branch, count-of, count-in, stop-of, first-stop, miss-of, first-miss, stop-or-miss, walked-along}
 use Rattle.meaning.proofs.TestLaws.{pick-map}
 use Rattle.meaning.proofs.PickLaws.{pick-has}
 
@@ -42,7 +42,7 @@ module _ {S : Type 0} where
       by-end : (e : End S) → after-end e (w .count) (λ _. no-walk) ≡ record { count = w .count; end = e }
       by-end fine = same-walk (omega arith) refl
       by-end (missed p s) = same-walk (omega arith) refl
-      by-end (stuck p s) = refl
+      by-end (stopped n p u) = refl
 
   counted-then : (c : ℕ) (w : Walked S) (more : Unit {0} → Walked S) → and-then (counted c w) more ≡ counted c (and-then w more)
   unfolding and-then after-end counted
@@ -51,7 +51,7 @@ module _ {S : Type 0} where
       by-end : (e : End S) → after-end e (c + w .count) more ≡ counted c (after-end e (w .count) more)
       by-end fine = same-walk (omega arith) refl
       by-end (missed p s) = same-walk (omega arith) refl
-      by-end (stuck p s) = refl
+      by-end (stopped n p u) = refl
 
   then-then : (w : Walked S) (more last : Unit {0} → Walked S) → and-then (and-then w more) last ≡ and-then w (λ _. and-then (more tt) last)
   unfolding and-then after-end counted after-miss keep-miss
@@ -66,23 +66,23 @@ module _ {S : Type 0} where
       kept : (p q : ℕ) (s t : S) (e : End S) → keep-miss p s e ≡ keep-miss p s (keep-miss q t e)
       kept p q s t fine = refl
       kept p q s t (missed i u) = refl
-      kept p q s t (stuck i u) = refl
+      kept p q s t (stopped n i u) = refl
 
       by-ends : (e g : End S)
           → and-then (after-end e c (λ _. record { count = d; end = g })) last
           ≡ after-end e c (λ _. and-then (record { count = d; end = g }) last)
       by-ends fine fine = same-walk (omega arith) refl
       by-ends fine (missed p s) = same-walk (omega arith) refl
-      by-ends fine (stuck p s) = refl
+      by-ends fine (stopped n p u) = refl
       by-ends (missed p s) fine = same-walk (omega arith) refl
       by-ends (missed p s) (missed q t) = same-walk (omega arith) (kept p q s t (last tt .end))
-      by-ends (missed p s) (stuck q t) = refl
-      by-ends (stuck p s) g = refl
+      by-ends (missed p s) (stopped n q u) = refl
+      by-ends (stopped n p u) g = refl
 
   -- EACH PATH IN TURN, with k walked where it arrives.
   unfoldable path-walk : (S → Walked S) → List ℕ → Ending S → Walked S
   path-walk k ran (arrives s) = counted (length ran) (k s)
-  path-walk k ran (stops p s) = counted (length ran) (stuck-at p s)
+  path-walk k ran (stops n p u) = counted (length ran) (stopped-at n p u)
 
   unfoldable each-path : (S → Walked S) → List (Path S) → Walked S
   each-path k [] = no-walk
@@ -97,9 +97,9 @@ module _ {S : Type 0} where
   unfolding each-path path-walk
   each-arrives k s = none-after _ ∙ none-before (k s)
 
-  each-stops : (k : S → Walked S) (p : ℕ) (s : S) → each-path k (record { ran = []; ending = stops p s } ∷ []) ≡ stuck-at p s
+  each-stops : (k : S → Walked S) (n p : ℕ) (u : Concerned S) → each-path k (record { ran = []; ending = stops n p u } ∷ []) ≡ stopped-at n p u
   unfolding each-path path-walk
-  each-stops k p s = none-after _ ∙ none-before (stuck-at p s)
+  each-stops k n p u = none-after _ ∙ none-before (stopped-at n p u)
 
   each-appended : (k : S → Walked S) (xs ys : List (Path S)) → each-path k (xs ++ ys) ≡ and-then (each-path k xs) (λ _. each-path k ys)
   unfolding each-path
@@ -109,7 +109,7 @@ module _ {S : Type 0} where
   ran-before : (k : S → Walked S) (before ran : List ℕ) (e : Ending S) → path-walk k (before ++ ran) e ≡ counted (length before) (path-walk k ran e)
   unfolding path-walk
   ran-before k before ran (arrives s) = rw (length-append before ran) (sym (counted-twice _ _ _))
-  ran-before k before ran (stops p s) = rw (length-append before ran) (sym (counted-twice _ _ _))
+  ran-before k before ran (stops n p u) = rw (length-append before ran) (sym (counted-twice _ _ _))
 
   each-first-ran : (k : S → Walked S) (before : List ℕ) (xs : List (Path S)) → Inhabited xs → each-path k (first-ran before xs) ≡ counted (length before) (each-path k xs)
   unfolding each-path first-ran
@@ -124,7 +124,7 @@ module _ {S : Type 0} where
     where
       by-ending : (ran : List ℕ) (e : Ending S) → each-path k (goes-on ran e more) ≡ path-walk (λ s. each-path k (more s)) ran e
       by-ending ran (arrives s) = each-first-ran k ran (more s) (some s)
-      by-ending ran (stops p s) = none-after _
+      by-ending ran (stops n p u) = none-after _
 
   each-arrival : (k : S → Walked S) (o : Outcome S) → each-path k (arrivals o) ≡ each-reading o k
   unfolding arrivals each-reading
@@ -148,12 +148,23 @@ module _ {S : Type 0} where
     where
       by-ending : (ran : List ℕ) (e : Ending S) → Inhabited (goes-on ran e more)
       by-ending ran (arrives s) = ran-inhabited ran (more s) (each s)
-      by-ending ran (stops p s) = tt
+      by-ending ran (stops n p u) = tt
 
   arrivals-inhabited : (o : Outcome S) → Inhabited (arrivals o)
   unfolding arrivals
   arrivals-inhabited (single s) = tt
   arrivals-inhabited (fork o p) = appended-inhabited (arrivals o) _ (arrivals-inhabited o)
+
+  step-inhabited : (p a : ℕ) (x : Step S) → Inhabited (paths-step p a x)
+  unfolding paths-step
+  step-inhabited p a (leads-to o) = ran-inhabited (a ∷ []) (arrivals o) (arrivals-inhabited o)
+  step-inhabited p a (refuses n u) = tt
+
+  -- A step and what follows it.
+  each-step : (p a : ℕ) (x : Step S) (k : S → Walked S) → after-step p x k ≡ each-path k (paths-step p a x)
+  unfolding after-step paths-step
+  each-step p a (leads-to o) k = sym (each-first-ran k (a ∷ []) (arrivals o) (arrivals-inhabited o) ∙ ap (counted 1) (each-arrival k o))
+  each-step p a (refuses n u) k = sym (each-stops k n p u)
 
 module _ {S L : Type 0} (step : Steps S L) where
   mutual
@@ -164,8 +175,7 @@ module _ {S L : Type 0} (step : Steps S L) where
     paths-inhabited (item i rest) s = gone-on-inhabited (paths step rest) (paths-inhabited rest) (paths-item step i s) (item-inhabited i s)
 
     item-inhabited : (i : Item L) (s : S) → Inhabited (paths-item step i s)
-    item-inhabited (act p a) s =
-        pick-has Inhabited (step .runs a s) _ _ (λ _. ran-inhabited (a ∷ []) (arrivals (step .leads-to a s)) (arrivals-inhabited (step .leads-to a s))) (λ _. tt)
+    item-inhabited (act p a) s = step-inhabited p a (step .does a s)
     item-inhabited (branching p bs) s = branch-inhabited bs p s
 
     branch-inhabited : (bs : Branches L) (p : ℕ) (s : S) → Inhabited (paths-branch step bs p s)
@@ -173,18 +183,8 @@ module _ {S L : Type 0} (step : Steps S L) where
     branch-inhabited (branch c b bs) p s =
         pick-has Inhabited (each-of (step .knows s) c) _ _ (λ _. paths-inhabited b s) (λ _. branch-inhabited bs p s)
 
-  run-each-path : (p a : ℕ) (k : S → Walked S) (s : S) → run-action step p a k s ≡ each-path k (paths-item step (act p a) s)
-  unfolding run-action paths
-  run-each-path p a k s = sym (pick-map (each-path k) (step .runs a s) _ _ ∙ rw (ran, each-stops k p s))
-    where
-      o : Outcome S
-      o = step .leads-to a s
-
-      ran : each-path k (first-ran (a ∷ []) (arrivals o)) ≡ counted 1 (each-reading o k)
-      ran = each-first-ran k (a ∷ []) (arrivals o) (arrivals-inhabited o) ∙ ap (counted 1) (each-arrival k o)
-
   mutual
-    unfolding walk paths
+    unfolding walk run-action paths
 
     -- A walk is what follows it, walked at the end of each path.
     walk-each-path : (p : Sequence L) (k : S → Walked S) (s : S) → walk step p k s ≡ each-path k (paths step p s)
@@ -195,11 +195,11 @@ module _ {S L : Type 0} (step : Steps S L) where
         ∙ sym (each-gone-on k (paths step rest) (paths-inhabited rest) (paths-item step i s))
 
     item-each-path : (i : Item L) (k : S → Walked S) (s : S) → walk-item step i k s ≡ each-path k (paths-item step i s)
-    item-each-path (act p a) k s = run-each-path p a k s
+    item-each-path (act p a) k s = each-step p a (step .does a s) k
     item-each-path (branching p bs) k s = branch-each-path bs p k s
 
     branch-each-path : (bs : Branches L) (p : ℕ) (k : S → Walked S) (s : S) → walk-branch step bs p k s ≡ each-path k (paths-branch step bs p s)
-    branch-each-path none p k s = sym (each-stops k p s)
+    branch-each-path none p k s = sym (each-stops k _ p _)
     branch-each-path (branch c b bs) p k s = rw (walk-each-path b k s, branch-each-path bs p k s) (sym (pick-map (each-path k) _ _ _))
 
 -- JUDGING, where a path arrives.
@@ -223,7 +223,7 @@ module _ {S : Type 0} (miss : S → Found) where
     where
       by-ending : (e : Ending S) → keep-miss p s (first-miss miss xs) ≡ missed p s → keep-miss p s (miss-of miss e (first-miss miss xs)) ≡ missed p s
       by-ending (arrives t) ih = by-found (miss t) (λ q. rw (misses-not t _ q) ih) (λ i q. rw (misses-here t _ i q))
-      by-ending (stops i t) ih = unfold miss-of in ih
+      by-ending (stops n i u) ih = unfold miss-of in ih
 
   stop-kept : (p : ℕ) (s : S) (m : End S) → keep-miss p s m ≡ missed p s → (xs : List (Path S)) → keep-miss p s (stop-or-miss (first-stop xs) m) ≡ stop-or-miss (first-stop xs) (missed p s)
   unfolding keep-miss first-stop stop-or-miss stop-of
@@ -234,14 +234,14 @@ module _ {S : Type 0} (miss : S → Found) where
           → keep-miss p s (stop-or-miss (first-stop xs) m) ≡ stop-or-miss (first-stop xs) (missed p s)
           → keep-miss p s (stop-or-miss (stop-of g (first-stop xs)) m) ≡ stop-or-miss (stop-of g (first-stop xs)) (missed p s)
       by-ending (arrives t) ih = ih
-      by-ending (stops i t) ih = refl
+      by-ending (stops n i u) ih = refl
 
 abbrev pub judging : (State → Found) → State → Walked State
 judging miss s = record { count = 1; end = end-of (miss s) s }
 
 module _ (miss : State → Found) where
   judged-along : (xs : List (Path State)) → each-path (judging miss) xs ≡ walked-along miss xs
-  unfolding each-path walked-along first-stop first-miss count-in stop-or-miss path-walk counted stuck-at and-then after-end after-miss end-of count-of stop-of
+  unfolding each-path walked-along first-stop first-miss count-in stop-or-miss path-walk counted stopped-at and-then after-end after-miss end-of count-of stop-of
   judged-along [] = refl
   judged-along (x ∷ xs) = rw (judged-along xs) (by-ending (x .ran) (x .ending))
     where
@@ -250,7 +250,7 @@ module _ (miss : State → Found) where
           by-found (miss s)
           (λ q. rw (q, misses-not miss s (first-miss miss xs) q) (same-walk (omega arith) refl))
           (λ p q. rw (q, misses-here miss s (first-miss miss xs) p q) (same-walk (omega arith) (stop-kept miss p s _ (first-kept miss p s xs) xs)))
-      by-ending ran (stops p s) = same-walk (omega arith) refl
+      by-ending ran (stops n p u) = same-walk (omega arith) refl
 
   -- The walk is what its list of paths says.
   pub walk-along : {L : Type 0} (step : Steps State L) (p : Sequence L) (s : State) → walk step p (judging miss) s ≡ walked-along miss (paths step p s)

@@ -3,7 +3,7 @@
 -- walk name those places only. Assumes nothing.
 use Prim.Native.Nat.{ℕ, zero, suc, _+_, _*_, _≤_, _<_}
 use native.Mathlib.Omega.{arith}
-use mathlib.Core.Path.{_≡_, refl, ap}
+use mathlib.Core.Path.{_≡_, refl, ap, subst}
 use mathlib.Core.Bool.{Bool, true, false}
 use mathlib.Core.List.{List, [], _∷_, _++_}
 use lib.ListN.{length}
@@ -15,16 +15,21 @@ use Rattle.meaning.specs.Limits
 use Rattle.meaning.specs.Limits.{Limits}
 use Rattle.meaning.specs.Literals.{among}
 use Rattle.meaning.specs.Requests.{Effect, Executability, Knowledge, Table, Sequence, done, item, Item, act, branching, Branches, none, branch, Entry, Request}
-use Rattle.meaning.specs.Reading.{Got, got, fault, next, byte-at, two-bytes-at, count-at, below-at, Kind, literals, fluents, bound-of, entry-at, entries-at, list-at, repeated, section-at, body-at, effect-at, executability-at, knowledge-at, Met, Part, item-at, items-at, sequence-at, branches-at, branching-at, plan-at, table-at, placed, request-at, read-request}
+use Rattle.meaning.specs.Reading.{Got, got, fault, next, byte-at, two-bytes-at, count-at, below-at, Kind, literals, fluents, bound-of, entry-at, entries-at, list-at, repeated, section-at, body-at, effect-at, executability-at, knowledge-at, Met, plan-at, table-at, placed, request-at, read-request}
 use Rattle.meaning.specs.Refusals.{Found, nowhere, at, or-else, contradiction-in, mixed-in, overlap-in, overlap-at, overlap-below, refuse, settled}
-use Rattle.meaning.specs.States.{State, Outcome, single, fork, outcome}
-use Rattle.meaning.specs.Walk.{End, fine, missed, stuck, Walked, stuck-at, counted, keep-miss, after-miss, after-end, and-then, each-reading, run-action, walk, walk-item, walk-branch, table-step, first-missed, missed-in, end-of, judged, walked}
+use Rattle.meaning.specs.States.{State, outcome}
+use Rattle.meaning.specs.Walk.{End, first-missed, missed-in, walked}
 use Rattle.meaning.specs.Derivations.{Conclusion, Line, Derivation, Concluded, list-concluded, fluent-concluded, conclusion-at, concluded-at, closing-at, line-at, read-derivation, overlap-in-lines, check-lines, check-last, all-asked, check-entries, check-closing, check-end, check-derivation}
 use Rattle.meaning.specs.Answers.{refusals, end-fault}
 use Rattle.meaning.specs.AnswerParts.{of-neither, at-start, Placed}
 use Rattle.meaning.proofs.TestLaws.{clash, either-right, fails-true}
 use Rattle.meaning.proofs.LiteralLaws.{among-each}
 use Rattle.meaning.proofs.PickLaws.{pick-has}
+use Rattle.meaning.proofs.GotLaws
+use Rattle.meaning.proofs.GotLaws.{held-got, held-then, held-faulty, next-held}
+use Rattle.meaning.proofs.PlanReads
+use Rattle.meaning.proofs.PlanReads.{About, Said, Passed-on, Faults}
+use Rattle.meaning.proofs.KeptEnds.{On-places, On-places-item, On-places-below, any-outcome, End-so, walked-so}
 
 -- The faults of reading that are placed at a byte.
 unfoldable pub byte-faults : List ℕ
@@ -42,18 +47,14 @@ module _ (size : ℕ) where
     abbrev Each-below : List A → Type 0
     Each-below xs = Each (λ (x : A). place x < size) xs
 
-  abbrev mutual
-    Plan-below : Sequence ℕ → Type 0
-    Plan-below done = Unit {0}
-    Plan-below (item i rest) = Item-below i × Plan-below rest
+  abbrev Plan-below : Sequence ℕ → Type 0
+  Plan-below b = On-places (λ p. p < size) b
 
-    Item-below : Item ℕ → Type 0
-    Item-below (act p a) = p < size
-    Item-below (branching p bs) = (p < size) × Branches-below bs
+  abbrev Item-below : Item ℕ → Type 0
+  Item-below i = On-places-item (λ p. p < size) i
 
-    Branches-below : Branches ℕ → Type 0
-    Branches-below none = Unit {0}
-    Branches-below (branch c b bs) = Plan-below b × Branches-below bs
+  abbrev Branches-below : Branches ℕ → Type 0
+  Branches-below bs = On-places-below (λ p. p < size) bs
 
   record Table-below (t : Table) : Type 0 where
     effects : Each-below (λ (e : Effect). e .place) (t .effects)
@@ -115,84 +116,37 @@ module _ (size : ℕ) where
   overlap-lines-below [] h = tt
   overlap-lines-below (l ∷ ls) h = or-below (overlap-in (l .c)) _ (overlap-in-below (l .c) (h .0 .plan)) (overlap-lines-below ls (h .1))
 
-  -- THE WALK.
-  abbrev pub End-below : End State → Type 0
-  End-below fine = Unit {0}
-  End-below (missed p s) = p < size
-  End-below (stuck p s) = p < size
-
-  abbrev Ends-below : (State → Walked State) → Type 0
-  Ends-below k = (s : State) → End-below (k s .end)
-
-  keep-below : (p : ℕ) (s : State) → p < size → (e : End State) → End-below e → End-below (keep-miss p s e)
-  unfolding keep-miss
-  keep-below p s first fine then = first
-  keep-below p s first (missed q u) then = first
-  keep-below p s first (stuck q u) then = then
-
-  after-end-below : (e : End State) (c : ℕ) (more : Unit {0} → Walked State) → End-below e → End-below (more tt .end) → End-below (after-end e c more .end)
-  unfolding after-end counted after-miss
-  after-end-below fine c more first then = then
-  after-end-below (missed p s) c more first then = keep-below p s first (more tt .end) then
-  after-end-below (stuck p s) c more first then = first
-
-  each-below : (o : Outcome State) (k : State → Walked State) → Ends-below k → End-below (each-reading o k .end)
-  unfolding each-reading and-then
-  each-below (single s) k ends = ends s
-  each-below (fork o p) k ends = after-end-below (each-reading o k .end) (each-reading o k .count) (λ _. each-reading (p tt) k) (each-below o k ends) (each-below (p tt) k ends)
-
-  module _ (t : Table) where
-    run-below : (p a : ℕ) → p < size → (k : State → Walked State) → Ends-below k → Ends-below (run-action (table-step t) p a k)
-    unfolding run-action counted stuck-at table-step
-    run-below p a here k ends s = pick-has (λ (w : Walked State). End-below (w .end)) _ _ _ (λ _. each-below (outcome t a s) k ends) (λ _. here)
-
-    mutual
-      unfolding walk walk-item walk-branch stuck-at
-
-      walk-below : (b : Sequence ℕ) → Plan-below b → (k : State → Walked State) → Ends-below k → Ends-below (walk (table-step t) b k)
-      walk-below done h k ends s = ends s
-      walk-below (item i rest) h k ends s = walk-item-below i (h .0) (walk (table-step t) rest k) (walk-below rest (h .1) k ends) s
-
-      walk-item-below : (i : Item ℕ) → Item-below i → (k : State → Walked State) → Ends-below k → Ends-below (walk-item (table-step t) i k)
-      walk-item-below (act p a) h k ends s = run-below p a h k ends s
-      walk-item-below (branching p bs) h k ends s = walk-branch-below bs p (h .0) (h .1) k ends s
-
-      walk-branch-below : (bs : Branches ℕ) (p : ℕ) → p < size → Branches-below bs → (k : State → Walked State) → Ends-below k → Ends-below (walk-branch (table-step t) bs p k)
-      walk-branch-below none p here h k ends s = here
-      walk-branch-below (branch c b bs) p here h k ends s =
-          pick-has (λ (w : Walked State). End-below (w .end)) _ _ _ (λ _. walk-below b (h .0) k ends s) (λ _. walk-branch-below bs p here (h .1) k ends s)
-
   first-missed-below : (test : ℕ → Bool) (es : List Entry) → Each-below (λ (e : Entry). e .place) es → Found-below (first-missed test es)
   unfolding first-missed
   first-missed-below test [] h = tt
   first-missed-below test (e ∷ es) h = pick-has Found-below _ _ _ (λ _. first-missed-below test es (h .1)) (λ _. h .0)
 
-  end-below : (f : Found) (s : State) → Found-below f → End-below (end-of f s)
-  unfolding end-of
-  end-below nowhere s h = tt
-  end-below (at p) s h = h
-
   pub missed-below : (r : Request) → Request-below r → (s : State) → Found-below (missed-in r s)
   unfolding missed-in
   missed-below r h s = or-below _ _ (first-missed-below _ (r .goals) (h .goals)) (first-missed-below _ (r .whether) (h .whether))
 
-  pub walked-below : (r : Request) → Request-below r → Ends-below (walked r)
-  unfolding walked judged
-  walked-below r h = walk-below (r .table) (r .plan) (h .plan) (judged r) (λ s. end-below (missed-in r s) s (missed-below r h s))
+  -- THE WALK misses at an entry, and stops at an item.
+  abbrev pub End-below : End State → Type 0
+  End-below = End-so (λ p _. p < size) (λ _ p _. p < size)
+
+  pub walked-below : (r : Request) → Request-below r → (s : State) → End-below (walked r s .end)
+  walked-below r h s =
+      walked-so _ _ (λ _. Unit {0}) (λ p. p < size) (λ _ _ p here. here) r (λ a u _. any-outcome (outcome (r .table) a u))
+      (λ u _ p q. subst Found-below q (missed-below r h u)) (h .plan) s tt
 
 -- READING an input, where `Bad n p` is what is said of a fault with number n at place p.
 module _ (s : List ℕ) (Bad : ℕ → ℕ → Type 0) where
   -- What a reader gives stops within the input, and `so` holds of it and of where it stops; of a fault `Bad` holds.
-  module _ {A : Type 0} where
-    abbrev Held : (A → ℕ → Type 0) → Got A → Type 0
-    Held so (got x p) = (p ≤ length s) × so x p
-    Held so (fault n p) = Bad n p
+  module _ {A : Type 0} (so : A → ℕ → Type 0) where
+    abbrev Inside : A → ℕ → Type 0
+    Inside x p = (p ≤ length s) × so x p
+
+    abbrev Held : Got A → Type 0
+    Held = GotLaws.Held Bad Inside
 
   module _ {A B : Type 0} (so : A → ℕ → Type 0) (then : B → ℕ → Type 0) where
     by-next : (m : Got A) (k : A → ℕ → Got B) → Held so m → ((x : A) (p : ℕ) → p ≤ length s → so x p → Held then (k x p)) → Held then (next m k)
-    unfolding next
-    by-next (got x p) k h g = g x p (h .0) (h .1)
-    by-next (fault n p) k h g = h
+    by-next m k h g = next-held Bad (Inside so) (Inside then) m k h λ x p _ w. g x p (w .0) (w .1)
 
   module _ {A : Type 0} (so : A → ℕ → Type 0) where
     by-refuse : (n : ℕ) (f : Found) (k : Unit {0} → Got A) → ((p : ℕ) → p < length s → Bad n p) → Found-below (length s) f → Held so (k tt) → Held so (refuse n f k)
@@ -206,20 +160,20 @@ module _ (s : List ℕ) (Bad : ℕ → ℕ → Type 0) where
     abbrev One : ℕ → ℕ → ℕ → Type 0
     One p x q = q ≡ p + 1
 
-    byte-held : (p : ℕ) → Held (One p) (byte-at s p)
+    pub byte-held : (p : ℕ) → Held (One p) (byte-at s p)
     unfolding byte-at
     byte-held p = pick-has (Held (One p)) _ _ _ (λ _. ends) (λ f. let more = leb-false (length s) p f in (omega (arith, more), refl))
 
     abbrev Two : ℕ → ℕ → ℕ → Type 0
     Two p x q = q ≡ p + 2
 
-    two-bytes-held : (p : ℕ) → Held (Two p) (two-bytes-at s p)
+    pub two-bytes-held : (p : ℕ) → Held (Two p) (two-bytes-at s p)
     unfolding two-bytes-at
     two-bytes-held p =
         by-next (One p) _ (byte-at s p) _ (byte-held p) λ high q _ is.
         by-next (One q) _ (byte-at s q) _ (byte-held q) λ low r fits is₂. (fits, omega (arith, is, is₂))
 
-    count-held : (least limit p : ℕ) → Held (One p) (count-at least limit s p)
+    pub count-held : (least limit p : ℕ) → Held (One p) (count-at least limit s p)
     unfolding count-at among byte-faults some-of either
     count-held least limit p =
         by-next (One p) _ (byte-at s p) _ (byte-held p) λ c q fits is.
@@ -250,7 +204,7 @@ module _ (s : List ℕ) (Bad : ℕ → ℕ → Type 0) where
         by-next (Long q) _ (entries-at kind n s left q (x + 1)) _ (entries-held kind n left q (x + 1) fits₁) λ xs r fits₂ long.
         (fits₂, omega (arith, is, long))
 
-    list-held : (kind : Kind) (n limit p : ℕ) → Held (Long (p + 1)) (list-at kind n limit s p)
+    pub list-held : (kind : Kind) (n limit p : ℕ) → Held (Long (p + 1)) (list-at kind n limit s p)
     unfolding list-at
     list-held kind n limit p =
         by-next (One p) _ (count-at 0 limit s p) _ (count-held 0 limit p) λ c q fits is.
@@ -302,56 +256,53 @@ module _ (s : List ℕ) (Bad : ℕ → ℕ → Type 0) where
           by-next (One p) _ (below-at m s p) _ (below-held m p) λ a q fits is.
           by-next (One q) _ (below-at n s q) _ (below-held n q) λ f e fits₂ _. (fits₂, omega (arith, fits, is))
 
-      -- A part of the plan, from a place within the input; and a branching, from its own byte.
-      module _ {A : Type 0} (so : A → Type 0) where
-        abbrev Part-held : Part A → Type 0
-        Part-held part = (p met : ℕ) → p ≤ length s → Held (λ (x : Met A) (q : ℕ). so (x .value)) (part p met)
+      -- The plan: a part of it that begins within the input stops there, and has only places of its bytes.
+      abbrev Part-below : {A : Type 0} → (A → Type 0) → About A
+      Part-below below p met x e = p ≤ length s → (e ≤ length s) × below (x .value)
 
-      abbrev Branching-held : Part (Item ℕ) → Type 0
-      Branching-held deeper = (p met : ℕ) → p < length s → Held (λ (i : Met (Item ℕ)) (q : ℕ). Item-below (length s) (i .value)) (deeper p met)
+      abbrev plan-below : Said
+      plan-below = record {
+        item = λ deep. Part-below (Item-below (length s));
+        items = λ deep left. Part-below (Plan-below (length s));
+        sequence = λ deep. Part-below (Plan-below (length s));
+        branches = λ deep left. Part-below (Branches-below (length s));
+      }
 
-      item-held : (deeper : Part (Item ℕ)) → Branching-held deeper → Part-held (Item-below (length s)) (item-at lim n m s deeper)
-      unfolding item-at among byte-faults some-of either
-      item-held deeper h p met _ =
-          by-next (One p) _ (byte-at s p) _ (byte-held p) λ x q fits is.
-          let here : p < length s = omega (arith, fits, is) in
-          pick-has (Held (λ (i : Met (Item ℕ)) (q : ℕ). Item-below (length s) (i .value))) _ _ _ (λ _. byte _ p refl here) λ _.
-          pick-has (Held (λ (i : Met (Item ℕ)) (q : ℕ). Item-below (length s) (i .value))) _ _ _ (λ _. h p (met + 1) here) λ _.
-          pick-has (Held (λ (i : Met (Item ℕ)) (q : ℕ). Item-below (length s) (i .value))) _ _ _ (λ _. byte _ p refl here) (λ _. (fits, here))
+      byte-there : (p x q : ℕ) → byte-at s p ≡ got x q → (q ≤ length s) × (p < length s)
+      byte-there p x q read = let h = held-got Bad (Inside (One p)) (byte-at s p) (byte-held p) x q read in let fits = h .0 in let is = h .1 in (fits, omega (arith, fits, is))
 
-      items-held : (one-item : Part (Item ℕ)) → Part-held (Item-below (length s)) one-item → (left : ℕ) → Part-held (Plan-below (length s)) (items-at lim n m s one-item left)
-      unfolding items-at
-      items-held one-item h zero p met here = (here, tt)
-      items-held one-item h (suc left) p met here =
-          by-next _ _ (one-item p met) _ (h p met here) λ i q fits first.
-          by-next _ _ (items-at lim n m s one-item left q (i .items)) _ (items-held one-item h left q (i .items) fits) λ rest r fits₂ others.
-          (fits₂, (first, others))
+      below-passed : Passed-on lim n m s plan-below
+      below-passed = record {
+        an-action = λ deep p met x q read _ _ _ _. byte-there p x q read;
+        a-branching = λ deep p met x q c r bs e read _ _ count all _.
+            let inside = all (held-got Bad (Inside (One (p + 1))) (count-at 1 (lim .branches) s (p + 1)) (count-held 1 (lim .branches) (p + 1)) c r count .0) in
+            (inside .0, (byte-there p x q read .1, inside .1));
+        no-item = λ deep p met here. (here, tt);
+        an-item = λ deep left p met i q rest e one more here. let first = one here in let others = more (first .0) in (others .0, (first .1, others .1));
+        a-sequence = λ deep p met c q b e read all _. all (held-got Bad (Inside (Two p)) (two-bytes-at s p) (two-bytes-held p) c q read .0);
+        no-branch = λ deep p met here. (here, tt);
+        a-branch = λ deep left p met c q b r rest e read _ one more _.
+            let first = one (held-got Bad (Inside (Long (p + 1))) (body-at lim n s p) (body-held p) c q read .0) in
+            let others = more (first .0) in
+            (others .0, (first .1, others .1));
+      }
 
-      sequence-held : (deeper : Part (Item ℕ)) → Branching-held deeper → Part-held (Plan-below (length s)) (sequence-at lim n m s deeper)
-      unfolding sequence-at
-      sequence-held deeper h p met _ =
-          by-next (Two p) _ (two-bytes-at s p) _ (two-bytes-held p) λ c q fits _. items-held (item-at lim n m s deeper) (item-held deeper h) c q met fits
-
-      branches-held : (sequence : Part (Sequence ℕ)) → Part-held (Plan-below (length s)) sequence → (left : ℕ) → Part-held (Branches-below (length s)) (branches-at lim n m s sequence left)
-      unfolding branches-at
-      branches-held sequence h zero p met here = (here, tt)
-      branches-held sequence h (suc left) p met here =
-          by-next (Long (p + 1)) _ (body-at lim n s p) _ (body-held p) λ c q fits _.
-          by-next _ _ (sequence q met) _ (h q met fits) λ b r fits₂ first.
-          by-next _ _ (branches-at lim n m s sequence left r (b .items)) _ (branches-held sequence h left r (b .items) fits₂) λ rest e fits₃ others.
-          (fits₃, (first, others))
-
-      branching-held : (left : ℕ) → Branching-held (branching-at lim n m s left)
-      unfolding branching-at among byte-faults some-of either
-      branching-held zero p met here = byte _ p refl here
-      branching-held (suc left) p met here =
-          by-next (One (p + 1)) _ (count-at 1 (lim .branches) s (p + 1)) _ (count-held 1 (lim .branches) (p + 1)) λ c q fits _.
-          by-next _ _ (branches-at lim n m s (sequence-at lim n m s (branching-at lim n m s left)) c q met) _ (branches-held _ (sequence-held _ (branching-held left)) c q met fits) λ bs r fits₂ inside.
-          (fits₂, (here, inside))
+      plan-faults : Faults lim n m s Bad
+      unfolding among byte-faults some-of either
+      plan-faults = record {
+        byte = λ p. held-faulty Bad (Inside (One p)) (byte-at s p) (byte-held p);
+        number = λ p. held-faulty Bad (Inside (Two p)) (two-bytes-at s p) (two-bytes-held p);
+        count = λ p. held-faulty Bad (Inside (One p)) (count-at 1 (lim .branches) s p) (count-held 1 (lim .branches) p);
+        condition = λ p. held-faulty Bad (Inside (Long (p + 1))) (body-at lim n s p) (body-held p);
+        too-many = λ p x q read. byte _ p refl (byte-there p x q read .1);
+        too-large = λ p x q read. byte _ p refl (byte-there p x q read .1);
+        too-deep = λ p x q read. byte _ p refl (byte-there p x q read .1);
+      }
 
       plan-held : (p : ℕ) → p ≤ length s → Held (λ (x : Met (Sequence ℕ)) (q : ℕ). Plan-below (length s) (x .value)) (plan-at lim n m s p)
-      unfolding plan-at
-      plan-held p here = sequence-held _ (branching-held (lim .nested)) p 0 here
+      plan-held p here =
+          held-then Bad (Part-below (Plan-below (length s)) p 0) (Inside (λ x q. Plan-below (length s) (x .value))) (plan-at lim n m s p)
+          (PlanReads.plan-held lim n m s plan-below below-passed Bad plan-faults p) λ x e below. below here
 
       -- A line of a derivation.
       listed-held : (p : ℕ) → Held (λ (Y : Conclusion) (q : ℕ). Unit {0}) (list-concluded lim n s p)
@@ -385,16 +336,9 @@ module _ (s : List ℕ) (Bad : ℕ → ℕ → Type 0) where
     unfolding closing-at section-at
     closing-held Plain p fits = (fits, tt)
     closing-held Closing p fits =
-        next-held (One p) (byte-at s p) (λ c q. repeated (two-bytes-at s) c q) (byte-held p) λ c q fits₁ is.
-        long-held q (repeated (two-bytes-at s) c q) is (numbers-held c q fits₁)
-      where
-        next-held : (so : ℕ → ℕ → Type 0) (x : Got ℕ) (k : ℕ → ℕ → Got (List ℕ)) → Held so x
-            → ((c q : ℕ) → q ≤ length s → so c q → Held (λ (ks : List ℕ) (e : ℕ). p + 1 + 2 * length ks ≤ length s) (k c q)) → Held (λ (ks : List ℕ) (e : ℕ). p + 1 + 2 * length ks ≤ length s) (next x k)
-        next-held so x k = by-next so (λ (ks : List ℕ) (e : ℕ). p + 1 + 2 * length ks ≤ length s) x k
-
-        long-held : (q : ℕ) (x : Got (List ℕ)) → q ≡ p + 1 → Held (λ (ks : List ℕ) (e : ℕ). e ≡ q + 2 * length ks) x → Held (λ (ks : List ℕ) (e : ℕ). p + 1 + 2 * length ks ≤ length s) x
-        long-held q (got ks e) is h = (h .0, omega (arith, is, h .0, h .1))
-        long-held q (fault k e) is h = h
+        by-next (One p) (λ ks e. p + 1 + 2 * length ks ≤ length s) (byte-at s p) _ (byte-held p) λ c q fits₁ is.
+        held-then Bad (Inside (λ ks e. e ≡ q + 2 * length ks)) (Inside (λ ks e. p + 1 + 2 * length ks ≤ length s)) (repeated (two-bytes-at s) c q) (numbers-held c q fits₁) λ ks e h.
+        (h .0, omega (arith, is, h .0, h .1))
 
     -- The table, and the rest after it.
     placed-below : (p : ℕ) (xs : List ℕ) → p + length xs ≤ length s → Each-below (length s) (λ (e : Entry). e .place) (placed p xs)

@@ -14,14 +14,15 @@ use Rattle.meaning.specs.Limits.{Limits}
 use Rattle.meaning.specs.Requests.{Table, Sequence, done, item, Item, act, branching, Branches, none, branch, Entry, Request, values}
 use Rattle.meaning.specs.Reading.{got}
 use Rattle.meaning.specs.Refusals.{nowhere, at, or-else, settled}
-use Rattle.meaning.specs.States.{State, known, known-whether, can-be-run, Outcome, single, fork, outcome}
-use Rattle.meaning.specs.Walk.{End, fine, missed, stuck, table-step, first-missed, missed-in}
-use Rattle.meaning.specs.Judging.{Judgement, ended, within, judge, number, count}
+use Rattle.meaning.specs.States.{State, known, known-whether, first-state, can-be-run, Outcome, single, fork, outcome}
+use Rattle.meaning.specs.Walk.{in-state, End, fine, missed, stopped, Step, table-does, table-step, first-missed, missed-in}
+use Rattle.meaning.specs.Judging.{Judgement, written-over, reported, ended, within, judge, number, count}
 use Rattle.meaning.specs.Approximation.{Pair, true-in, state, None-true, Φ̂, Initial, Entailed}
-use Rattle.meaning.specs.Paths.{arrives, stops, arrivals, paths, paths-item, paths-branch}
+use Rattle.meaning.specs.Paths.{Ending, arrives, stops, arrivals, paths-step, paths, paths-item, paths-branch}
 use Rattle.meaning.specs.Reported.{First, pair-of, Asked, goal, whether, asked-at, met-in, asked-by, All-met, Misses, all-paths, Missed-at, Item-in, Item-of, Item-under, item-place, Not-run, Stopped-at}
 use Rattle.meaning.proofs.TestLaws.{clash, pick-cases, each-has, has-each, has-split, has-map, map-has}
 use Rattle.meaning.proofs.PickLaws.{pick-has, has-picked}
+use Rattle.meaning.proofs.KeptEnds.{Stuck, walked-stuck}
 use Rattle.meaning.proofs.RefusalLaws.{at≢nowhere, at-same}
 use Rattle.meaning.proofs.PathLaws.{by-found}
 use Rattle.meaning.proofs.EndLaws.{first-here, first-later, first-has, first-left, first-right, first-map, Ends, arrives≢stops, all-arrive, stops-same, ends-one, ends-split, ends-ran, went-on, stop-ends, miss-ends, Says, none-missed}
@@ -89,11 +90,15 @@ entailed-met r σ δ initial led k a h =
     (all-in δ (λ f. whether-in f δ) whether (λ e. refl) (λ e. refl) (r .whether) (has-each _ _ (λ f m. k .1 f m .true-after σ initial δ led)) a)
     (has-split (map goal (r .goals)) (map whether (r .whether)) a h)
 
--- ITEMS. What an action leads to are arrivals.
-arrivals-go-on : (o : Outcome State) (p : ℕ) (u : State) → Ends (arrivals o) (stops p u) → ⊥
+-- ITEMS. How a path stops at an item that can't be run.
+abbrev sticks : ℕ → State → Ending State
+sticks p u = stops Limits.not-executable p (in-state u)
+
+-- What an action leads to are arrivals.
+arrivals-go-on : (o : Outcome State) (p : ℕ) (u : State) → Ends (arrivals o) (sticks p u) → ⊥
 unfolding arrivals
 arrivals-go-on (single s) p u h = arrives≢stops (sym (ends-one h))
-arrivals-go-on (fork o q) p u h = ⊎-elim (arrivals-go-on o p u) (arrivals-go-on (q tt) p u) (ends-split (arrivals o) (arrivals (q tt)) (stops p u) h)
+arrivals-go-on (fork o q) p u h = ⊎-elim (arrivals-go-on o p u) (arrivals-go-on (q tt) p u) (ends-split (arrivals o) (arrivals (q tt)) (sticks p u) h)
 
 module _ (t : Table) where
   -- One of the items stands at the place and can't be run in the state.
@@ -101,21 +106,21 @@ module _ (t : Table) where
   Stop Items p u = (i : Item ℕ) × Items i × (item-place i ≡ p) × Not-run t i (pair-of u)
 
   mutual
-    unfolding paths table-step item-place
+    unfolding paths paths-step table-step table-does item-place
 
     -- A path stops at an item of the plan that can't be run.
-    stops-in : (c : Sequence ℕ) (s : State) (p : ℕ) (u : State) → Ends (paths (table-step t) c s) (stops p u) → Stop (Item-in c) p u
+    stops-in : (c : Sequence ℕ) (s : State) (p : ℕ) (u : State) → Ends (paths (table-step t) c s) (sticks p u) → Stop (Item-in c) p u
     stops-in done s p u h = absurd (arrives≢stops (sym (ends-one h)))
     stops-in (item i rest) s p u h =
         ⊎-elim
-        (λ w. let v = stops-of i s p u (subst (Ends (paths-item (table-step t) i s)) (sym (w .3)) (w .2)) in (v .0, inl (v .1), v .2, v .3))
+        (λ w. let v = stops-of i s p u (subst (Ends (paths-item (table-step t) i s)) (sym (w .4)) (w .3)) in (v .0, inl (v .1), v .2, v .3))
         (λ w. let v = stops-in rest (w .0) p u (w .2) in (v .0, inr (v .1), v .2, v .3))
-        (went-on (paths (table-step t) rest) (paths-item (table-step t) i s) (stops p u) h)
+        (went-on (paths (table-step t) rest) (paths-item (table-step t) i s) (sticks p u) h)
 
-    stops-of : (i : Item ℕ) (s : State) (p : ℕ) (u : State) → Ends (paths-item (table-step t) i s) (stops p u) → Stop (Item-of i) p u
+    stops-of : (i : Item ℕ) (s : State) (p : ℕ) (u : State) → Ends (paths-item (table-step t) i s) (sticks p u) → Stop (Item-of i) p u
     stops-of (act q a) s p u h =
-        has-picked (λ xs. Ends xs (stops p u)) (can-be-run t a s) _ _ h
-        (λ _ k. absurd (arrivals-go-on (outcome t a s) p u (ends-ran (a ∷ []) (arrivals (outcome t a s)) (stops p u) .0 k)))
+        has-picked (λ (x : Step State). Ends (paths-step q a x) (sticks p u)) (can-be-run t a s) _ _ h
+        (λ _ k. absurd (arrivals-go-on (outcome t a s) p u (ends-ran (a ∷ []) (arrivals (outcome t a s)) (sticks p u) .0 k)))
         (λ off k. let w = stops-same (ends-one k) in (act q a, refl, sym (w .0), rw (w .1) (runs-pair t a s ∙ off)))
     stops-of (branching q bs) s p u h =
         ⊎-elim
@@ -123,11 +128,11 @@ module _ (t : Table) where
         (λ w. (branching q bs, inl refl, sym (w .0), rw (w .1) (w .2)))
         (stops-under bs q s p u h)
 
-    stops-under : (bs : Branches ℕ) (q : ℕ) (s : State) (p : ℕ) (u : State) → Ends (paths-branch (table-step t) bs q s) (stops p u)
+    stops-under : (bs : Branches ℕ) (q : ℕ) (s : State) (p : ℕ) (u : State) → Ends (paths-branch (table-step t) bs q s) (sticks p u)
         → Stop (Item-under bs) p u ⊎ ((p ≡ q) × (u ≡ s) × None-true t bs (pair-of s))
     stops-under none q s p u h = let w = stops-same (ends-one h) in inr (w .0, w .1, tt)
     stops-under (branch c b bs) q s p u h =
-        has-picked (λ xs. Ends xs (stops p u)) (each-of (known s) c) _ _ h
+        has-picked (λ xs. Ends xs (sticks p u)) (each-of (known s) c) _ _ h
         (λ _ k. let w = stops-in b s p u k in inl (w .0, inl (w .1), w .2, w .3))
         (λ off k. ⊎-elim (λ w. inl (w .0, inr (w .1), w .2, w .3)) (λ w. inr (w .0, w .1, (knows-pair s c ∙ off, w .2))) (stops-under bs q s p u k))
 
@@ -146,10 +151,10 @@ module _ (lim : Limits) (room : lim .fluents ≤ lim .state) (b lent : List ℕ)
         end-state = leads lim room r (ranged lim room b r e past) (fits lim room b r e past) (arrives u) (miss-ends (missed-in r) (all-paths lim r) p u (w .1));
       }
 
-  stuck-reports : (p : ℕ) (u : State) → walk-end lim r ≡ stuck p u → Stopped-at r (all-paths lim r) p u
+  stuck-reports : (p : ℕ) (u : State) → walk-end lim r ≡ stopped Limits.not-executable p (in-state u) → Stopped-at r (all-paths lim r) p u
   stuck-reports p u q =
-      let w = end-reports (stuck p u) q in
-      let ends = stop-ends (all-paths lim r) p u w in
+      let w = end-reports (stopped Limits.not-executable p (in-state u)) q in
+      let ends = stop-ends (all-paths lim r) Limits.not-executable p (in-state u) w in
       let v = stops-in (r .table) (r .plan) _ p u ends in
       record {
         path = w;
@@ -157,34 +162,34 @@ module _ (lim : Limits) (room : lim .fluents ≤ lim .state) (b lent : List ℕ)
         in-plan = v .1;
         stands = v .2;
         not-run = v .3;
-        fails = leads lim room r (ranged lim room b r e past) (fits lim room b r e past) (stops p u) ends;
+        fails = leads lim room r (ranged lim room b r e past) (fits lim room b r e past) (sticks p u) ends;
       }
 
   -- Where the answer is 1, its place and the state left are those of the first miss.
   pub missed-there : number lim b lent budget ≡ Limits.goal-missed → Missed-at r (all-paths lim r) (judge lim b lent budget .answer .place) (judge lim b lent budget .state)
-  unfolding within ended
-  missed-there = subst Says-missed (sym (judged-by-walk lim room b lent budget r e lent-length past)) (pick-has Says-missed _ _ _ (λ _ q. absurd (omega (arith, q))) (λ _. by-end (walk-end lim r) refl))
+  unfolding within ended reported written-over
+  missed-there = subst Says-missed (sym (judged-by-walk lim room b lent budget r e lent-length past)) (pick-has Says-missed _ _ _ (λ _ q. absurd (omega (arith, q))) (λ _. by-end (walk-end lim r) refl (walked-stuck r (first-state lim (r .table)))))
     where
       Says-missed : Judgement → Type 0
       Says-missed j = j .answer .number ≡ Limits.goal-missed → Missed-at r (all-paths lim r) (j .answer .place) (j .state)
 
-      by-end : (n : End State) → walk-end lim r ≡ n → Says-missed (ended lent (count lim r) n)
-      by-end fine q k = absurd (omega (arith, k))
-      by-end (missed p u) q k = missed-reports p u q
-      by-end (stuck p u) q k = absurd (omega (arith, k))
+      by-end : (n : End State) → walk-end lim r ≡ n → Stuck n → Says-missed (ended lent (count lim r) n)
+      by-end fine q stuck k = absurd (omega (arith, k))
+      by-end (missed p u) q stuck k = missed-reports p u q
+      by-end (stopped m p u) q stuck k = absurd (omega (arith, k, stuck .0))
 
   -- Where it is 2, they are those of the first stop.
   pub stopped-there : number lim b lent budget ≡ Limits.not-executable → Stopped-at r (all-paths lim r) (judge lim b lent budget .answer .place) (judge lim b lent budget .state)
-  unfolding within ended
-  stopped-there = subst Says-stopped (sym (judged-by-walk lim room b lent budget r e lent-length past)) (pick-has Says-stopped _ _ _ (λ _ q. absurd (omega (arith, q))) (λ _. by-end (walk-end lim r) refl))
+  unfolding within ended reported written-over
+  stopped-there = subst Says-stopped (sym (judged-by-walk lim room b lent budget r e lent-length past)) (pick-has Says-stopped _ _ _ (λ _ q. absurd (omega (arith, q))) (λ _. by-end (walk-end lim r) refl (walked-stuck r (first-state lim (r .table)))))
     where
       Says-stopped : Judgement → Type 0
       Says-stopped j = j .answer .number ≡ Limits.not-executable → Stopped-at r (all-paths lim r) (j .answer .place) (j .state)
 
-      by-end : (n : End State) → walk-end lim r ≡ n → Says-stopped (ended lent (count lim r) n)
-      by-end fine q k = absurd (omega (arith, k))
-      by-end (missed p u) q k = absurd (omega (arith, k))
-      by-end (stuck p u) q k = stuck-reports p u q
+      by-end : (n : End State) → walk-end lim r ≡ n → Stuck n → Says-stopped (ended lent (count lim r) n)
+      by-end fine q stuck k = absurd (omega (arith, k))
+      by-end (missed p u) q stuck k = absurd (omega (arith, k))
+      by-end (stopped m p u) q stuck k = rw (stuck .1 .1) (stuck-reports p (stuck .1 .0) (q ∙ rw (stuck .0, stuck .1 .1)))
 
   -- A goal is missed, exactly where every path can be run and an entry is not met in some end state.
   pub missed-in-an-end-state : count lim r ≤ budget → (number lim b lent budget ≡ Limits.goal-missed) ↔ Misses r

@@ -9,7 +9,7 @@ use Rattle.meaning.specs.Tests.{pick, each-of, Has}
 use Rattle.meaning.specs.Requests.{Sequence, done, item, Item, act, branching, Branches, none, branch}
 use Rattle.meaning.specs.Refusals.{conditions-of}
 use Rattle.meaning.specs.States.{Outcome, single, fork}
-use Rattle.meaning.specs.Walk.{End, fine, missed, stuck, Walked, Verified, stuck-at, counted, keep-miss, after-miss, after-end, and-then, each-reading, Steps, run-action, walk, walk-item, walk-branch}
+use Rattle.meaning.specs.Walk.{Concerned, End, fine, missed, stopped, Walked, Verified, stopped-at, counted, keep-miss, after-miss, after-end, and-then, each-reading, Step, leads-to, refuses, Steps, after-step, run-action, walk, walk-item, walk-branch}
 use Rattle.meaning.specs.Worlds.{Domain, Worlds, Sure, Kept, Moved, Acted, None-sure, Carried, Carried-item, Chosen}
 use Rattle.meaning.proofs.TestLaws.{by-test, each-mono}
 use Rattle.meaning.proofs.WalkLaws.{On-conditions, On-conditions-item, On-conditions-below}
@@ -22,19 +22,19 @@ module _ {S : Type 0} where
       is-missed : End S → Type 0
       is-missed fine = ⊥
       is-missed (missed p s) = Unit {0}
-      is-missed (stuck p s) = ⊥
+      is-missed (stopped n p u) = ⊥
 
-  pub stuck≢fine : {p : ℕ} {s : S} → stuck p s ≡ fine → ⊥
-  stuck≢fine e = subst is-stuck e tt
+  stopped≢fine : {n p : ℕ} {u : Concerned S} → stopped n p u ≡ fine → ⊥
+  stopped≢fine e = subst is-stopped e tt
     where
-      is-stuck : End S → Type 0
-      is-stuck fine = ⊥
-      is-stuck (missed p s) = ⊥
-      is-stuck (stuck p s) = Unit {0}
+      is-stopped : End S → Type 0
+      is-stopped fine = ⊥
+      is-stopped (missed p s) = ⊥
+      is-stopped (stopped n p u) = Unit {0}
 
-  pub stuck-at-not-verified : (p : ℕ) (s : S) → Verified (stuck-at p s) → ⊥
-  unfolding stuck-at
-  stuck-at-not-verified p s e = stuck≢fine e
+  stopped-not-verified : (n p : ℕ) (u : Concerned S) → Verified (stopped-at n p u) → ⊥
+  unfolding stopped-at
+  stopped-not-verified n p u e = stopped≢fine e
 
   pub counted-verified : (c : ℕ) (w : Walked S) → Verified (counted c w) → Verified w
   unfolding counted
@@ -48,12 +48,12 @@ module _ {S : Type 0} where
       kept : (p : ℕ) (s : S) (x : End S) → keep-miss p s x ≡ fine → ⊥
       kept p s fine q = missed≢fine q
       kept p s (missed i u) q = missed≢fine q
-      kept p s (stuck i u) q = stuck≢fine q
+      kept p s (stopped n i u) q = stopped≢fine q
 
       go : (x y : End S) → w .end ≡ x → more tt .end ≡ y → after-end x (w .count) more .end ≡ fine → (w .end ≡ fine) × (more tt .end ≡ fine)
       go fine y p q r = (p, r)
       go (missed i u) y p q r = absurd (kept i u (more tt .end) r)
-      go (stuck i u) y p q r = absurd (stuck≢fine r)
+      go (stopped n i u) y p q r = absurd (stopped≢fine r)
 
   -- Something holds of one of the states that an action leads to.
   abbrev pub Some-state : Outcome S → (S → Type 0) → Type 0
@@ -73,14 +73,15 @@ module _ {S : Type 0} where
       ⊎-elim (reading-verified o k Q (b .0)) (reading-verified (p tt) k Q (b .1)) h
 
 module _ {S W L R : Type 0} where
-  -- What a step must satisfy, where `Agrees w s` says that all that s knows is right in the world w.
+  -- What a step must satisfy, where `Agrees w s` says that all that s knows is right in the world w. Nothing is asked of what it refuses.
   pub record Sound-step (step : Steps S L) (d : Domain W L R) (Apart : List (List L) → Type 0) (Agrees : W → S → Type 0) : Type 0 where
-    -- runnable is sound
-    pub runs : (a : ℕ) (w : W) (s : S) → Agrees w s → step .runs a s ≡ true → d .may-be-run a w ≡ true
+    -- what isn't refused may be run
+    pub runs : (a : ℕ) (s : S) (o : Outcome S) → step .does a s ≡ leads-to o → (w : W) → Agrees w s → d .may-be-run a w ≡ true
     -- the state after is sound
-    pub moves : (a : ℕ) (s : S) → d .sensing a ≡ false → Some-state (step .leads-to a s) (λ u. (w : W) → Agrees w s → Agrees (d .moved a w) u)
+    pub moves : (a : ℕ) (s : S) (o : Outcome S) → step .does a s ≡ leads-to o → d .sensing a ≡ false → Some-state o (λ u. (w : W) → Agrees w s → Agrees (d .moved a w) u)
     -- a reading is sound: the one that the true world v gives
-    pub reads : (a : ℕ) (s : S) (v : W) → d .sensing a ≡ true → Agrees v s → Some-state (step .leads-to a s) (λ u. (w : W) → Agrees w s → d .shows a w ≡ d .shows a v → Agrees w u)
+    pub reads : (a : ℕ) (s : S) (o : Outcome S) → step .does a s ≡ leads-to o → (v : W) → d .sensing a ≡ true → Agrees v s
+        → Some-state o (λ u. (w : W) → Agrees w s → d .shows a w ≡ d .shows a v → Agrees w u)
     -- a branching is sound: what is known holds, and conditions that are apart don't hold together
     pub knows : (l : L) (w : W) (s : S) → Agrees w s → step .knows s l ≡ true → d .holds w l ≡ true
     pub apart : (c : List L) (cs : List (List L)) → Apart (c ∷ cs) → (w : W) → each-of (d .holds w) c ≡ true → (e : List L) → Has cs e → each-of (d .holds w) e ≡ true → ⊥
@@ -109,27 +110,27 @@ module _ {S W L R : Type 0} (step : Steps S L) (d : Domain W L R) (Apart : List 
   none-followed : (k : S → Walked S) {v : W} {P : Worlds W} {s : S} (bs : Branches L) (p : ℕ) → Known v P s
       → Verified (walk-branch step bs p k s) → ((e : List L) → Has (conditions-of bs) e → each-of (d .holds v) e ≡ true → ⊥) → ⊥
   unfolding walk pick conditions-of
-  none-followed k {s = s} none p g r no-e = stuck-at-not-verified p s r
+  none-followed k {s = s} none p g r no-e = stopped-not-verified _ p _ r
   none-followed k {v} {s = s} (branch e b bs) p g r no-e =
       by-test (each-of (step .knows s) e)
       (λ q. no-e e (inl refl) (sure e g q v (g .actual)))
       (λ q. none-followed k bs p g (rw (q, pick) at r) (λ i m. no-e i (inr m)))
 
   run-sound : (p a : ℕ) (k : S → Walked S) (K : W → Worlds W → Type 0) → Follows k K → Follows (run-action step p a k) (Acted d a K)
-  unfolding run-action pick
-  run-sound p a k K then s v P g e =
-      by-test (step .runs a s) (λ run. acted run (rw (run, pick) at e)) (λ off. absurd (stuck-at-not-verified p s (rw (off, pick) at e)))
+  unfolding run-action after-step
+  run-sound p a k K then s v P g e = by-step (step .does a s) refl e
     where
-      acted : step .runs a s ≡ true → Verified (counted 1 (each-reading (step .leads-to a s) k)) → Acted d a K v P
-      acted run fine-after =
-          let each = counted-verified 1 (each-reading (step .leads-to a s) k) fine-after in
+      by-step : (x : Step S) → step .does a s ≡ x → Verified (after-step p x k) → Acted d a K v P
+      by-step (refuses n u) is e = absurd (stopped-not-verified n p u e)
+      by-step (leads-to o) is fine-after =
+          let each = counted-verified 1 (each-reading o k) fine-after in
           record {
-            allowed = λ w h. sound .runs a w s (g .agree w h) run;
+            allowed = λ w h. sound .runs a s o is w (g .agree w h);
             read = λ sens.
-                let t = reading-verified (step .leads-to a s) k _ each (sound .reads a s v sens (g .agree v (g .actual))) in
+                let t = reading-verified o k _ each (sound .reads a s o is v sens (g .agree v (g .actual))) in
                 then (t .0) v (Kept d a v P) (record { agree = λ w h. t .1 w (g .agree w (h .0)) (h .1); actual = (g .actual, refl) }) (t .2);
             done = λ off.
-                let t = reading-verified (step .leads-to a s) k _ each (sound .moves a s off) in
+                let t = reading-verified o k _ each (sound .moves a s o is off) in
                 then (t .0) (d .moved a v) (Moved d a P)
                 (record { agree = λ w h. subst (λ (u : W). Agrees u (t .0)) (sym (h .2)) (t .1 (h .0) (g .agree (h .0) (h .1))); actual = (v, g .actual, refl) })
                 (t .2);
@@ -150,7 +151,7 @@ module _ {S W L R : Type 0} (step : Steps S L) (d : Domain W L R) (Apart : List 
 
     branches-sound : (bs : Branches L) → Apart (conditions-of bs) → On-conditions-below Apart bs → (p : ℕ) (k : S → Walked S) (K : W → Worlds W → Type 0) → Follows k K
         → Follows (walk-branch step bs p k) (Chosen d bs K)
-    branches-sound none apart fit p k K then s v P g e = stuck-at-not-verified p s e
+    branches-sound none apart fit p k K then s v P g e = stopped-not-verified _ p _ e
     branches-sound (branch c b bs) apart fit p k K then s v P g e =
         by-test (each-of (step .knows s) c)
         (λ q.

@@ -17,7 +17,7 @@ use Rattle.meaning.specs.Requests.{Effect, Executability, Knowledge, Tab
 use Rattle.meaning.specs.Refusals.{all-exclusive}
 use Rattle.meaning.specs.Lines.{effects-of, executability-of, knowledge-of, allowed, given, senses}
 use Rattle.meaning.specs.States.{State, Outcome, known, possible, known-whether, told, can-be-run, known-after, mark-after, marks-after, state-after, unknown-from, unknown-sensed, readings, outcome}
-use Rattle.meaning.specs.Walk.{table-step}
+use Rattle.meaning.specs.Walk.{Step, leads-to, refuses, table-does, table-step}
 use Rattle.meaning.specs.Worlds.{World, holds, may-be-run, moved, shown, table-domain}
 use Rattle.meaning.proofs.TestLaws.{by-test, clash, both-left, both-right, both-true, either-split, fails-true, fails-false, pick-true, pick-false, pick-cases, some-has, each-has, some-mono, each-mono}
 use Rattle.meaning.proofs.Sound.{Some-state, some-state-map, Sound-step}
@@ -184,14 +184,28 @@ shown-same t a w v f e s =
 abbrev pub Exclusive : List (List ℕ) → Type 0
 Exclusive cs = all-exclusive cs ≡ true
 
+-- What the table's step leads to is the outcome of an action that can be run.
+does-lead : (t : Table) (a : ℕ) (s : State) (o : Outcome State) → table-does t a s ≡ leads-to o → (can-be-run t a s ≡ true) × (outcome t a s ≡ o)
+unfolding table-does
+does-lead t a s o e = pick-cases _ _ _ e (λ run is. (run, ap led is)) (λ _ is. absurd (subst refused is tt))
+  where
+    led : Step State → Outcome State
+    led (leads-to x) = x
+    led (refuses n u) = o
+
+    refused : Step State → Type 0
+    refused (leads-to x) = ⊥
+    refused (refuses n u) = Unit {0}
+
 pub table-sound : (t : Table) → Sound-step (table-step t) (table-domain t) Exclusive Agrees
 unfolding table-step table-domain can-be-run may-be-run outcome unknown-sensed all-exclusive
 table-sound t =
     record {
-      runs = λ a w s g. allowed-mono (known s) (holds w) g (executability-of t a);
-      moves = λ a s off. subst (λ (o : Outcome State). Some-state o (λ u. (w : World) → Agrees w s → Agrees (moved t a w) u)) (sym (pick-false _ _ _ off)) (after-agrees t a s);
-      reads = λ a s v on g.
-          subst (λ (o : Outcome State). Some-state o (λ u. (w : World) → Agrees w s → shown t a w ≡ shown t a v → Agrees w u)) (sym (pick-true _ _ _ on))
+      runs = λ a s o is w g. allowed-mono (known s) (holds w) g (executability-of t a) (does-lead t a s o is .0);
+      moves = λ a s o is off.
+          subst (λ (x : Outcome State). Some-state x (λ u. (w : World) → Agrees w s → Agrees (moved t a w) u)) (sym (pick-false _ _ _ off) ∙ does-lead t a s o is .1) (after-agrees t a s);
+      reads = λ a s o is v on g.
+          subst (λ (x : Outcome State). Some-state x (λ u. (w : World) → Agrees w s → shown t a w ≡ shown t a v → Agrees w u)) (sym (pick-true _ _ _ on) ∙ does-lead t a s o is .1)
           (some-state-map (λ u h w agree same. h w (agree, same)) (readings (unknown-sensed t a s) s)
           (readings-agree (unknown-sensed t a s) s v (λ w. Agrees w s × (shown t a w ≡ shown t a v)) (λ w p. p .0)
           (λ f m w p. shown-same t a w v f (p .1) (unknown-is-sensed (knowledge-of t a) s 0 s f m))));

@@ -7,7 +7,7 @@ use Rattle.meaning.specs.Tests.{each-of}
 use Rattle.meaning.specs.Requests.{Sequence, done, item, Item, act, branching, Branches, none, branch, unplaced, unplaced-item, unplaced-branches}
 use Rattle.meaning.specs.Refusals.{conditions-of}
 use Rattle.meaning.specs.States.{Outcome, single, fork}
-use Rattle.meaning.specs.Walk.{End, fine, missed, stuck, Walked, stuck-at, counted, keep-miss, after-miss, after-end, and-then, each-reading, Steps, run-action, walk, walk-item, walk-branch}
+use Rattle.meaning.specs.Walk.{Concerned, End, fine, missed, stopped, Walked, stopped-at, counted, keep-miss, after-miss, after-end, and-then, each-reading, Step, leads-to, refuses, Steps, after-step, run-action, walk, walk-item, walk-branch}
 use Rattle.meaning.specs.SameLines.{On-actions, On-item, On-branches}
 use Rattle.meaning.proofs.TestLaws.{pick-map}
 
@@ -57,13 +57,12 @@ module _ {L : Type 0} (Q : List (List L) → Type 0) where
 
 -- Two steps agree on an action.
 pub record Agree {S L : Type 0} (step other : Steps S L) (a : ℕ) : Type 0 where
-  pub runs : (s : S) → step .runs a s ≡ other .runs a s
-  pub leads-to : (s : S) → step .leads-to a s ≡ other .leads-to a s
+  pub does : (s : S) → step .does a s ≡ other .does a s
 
 module _ {S L : Type 0} (step other : Steps S L) (knows : step .knows ≡ other .knows) where
   run-agrees : (p a : ℕ) → Agree step other a → (k : S → Walked S) (s : S) → run-action step p a k s ≡ run-action other p a k s
   unfolding run-action
-  run-agrees p a same k s = rw (same .runs s, same .leads-to s)
+  run-agrees p a same k s = rw (same .does s)
 
   mutual
     unfolding walk
@@ -87,14 +86,14 @@ module _ {S : Type 0} where
   abbrev pub unplaced-end : End S → End S
   unplaced-end fine = fine
   unplaced-end (missed p s) = missed 0 s
-  unplaced-end (stuck p s) = stuck 0 s
+  unplaced-end (stopped n p u) = stopped n 0 u
 
   abbrev pub unplaced-walk : Walked S → Walked S
   unplaced-walk w = record { count = w .count; end = unplaced-end (w .end) }
 
-  unplaced-stuck : (p : ℕ) (s : S) → unplaced-walk (stuck-at p s) ≡ stuck-at 0 s
-  unfolding stuck-at
-  unplaced-stuck p s = refl
+  unplaced-stopped : (n p : ℕ) (u : Concerned S) → unplaced-walk (stopped-at n p u) ≡ stopped-at n 0 u
+  unfolding stopped-at
+  unplaced-stopped n p u = refl
 
   unplaced-then : (w : Walked S) (more : Unit {0} → Walked S) → unplaced-walk (and-then w more) ≡ and-then (unplaced-walk w) (λ _. unplaced-walk (more tt))
   unfolding and-then after-end counted after-miss keep-miss
@@ -103,12 +102,12 @@ module _ {S : Type 0} where
       kept : (p : ℕ) (s : S) (e : End S) → unplaced-end (keep-miss p s e) ≡ keep-miss 0 s (unplaced-end e)
       kept p s fine = refl
       kept p s (missed q t) = refl
-      kept p s (stuck q t) = refl
+      kept p s (stopped n q u) = refl
 
       by-end : (e : End S) → unplaced-walk (after-end e (w .count) more) ≡ after-end (unplaced-end e) (w .count) (λ _. unplaced-walk (more tt))
       by-end fine = refl
       by-end (missed p s) = ap (λ (e : End S). counted (w .count) (record { count = more tt .count; end = e })) (kept p s (more tt .end))
-      by-end (stuck p s) = refl
+      by-end (stopped n p u) = refl
 
   unplaced-readings : (o : Outcome S) (k : S → Walked S) → unplaced-walk (each-reading o k) ≡ each-reading o (λ s. unplaced-walk (k s))
   unfolding each-reading
@@ -116,10 +115,15 @@ module _ {S : Type 0} where
   unplaced-readings (fork o p) k =
       unplaced-then (each-reading o k) (λ _. each-reading (p tt) k) ∙ rw (unplaced-readings o k, unplaced-readings (p tt) k)
 
+  unplaced-step : (p : ℕ) (x : Step S) (k : S → Walked S) → unplaced-walk (after-step p x k) ≡ after-step 0 x (λ s. unplaced-walk (k s))
+  unfolding after-step counted
+  unplaced-step p (leads-to o) k = ap (counted 1) (unplaced-readings o k)
+  unplaced-step p (refuses n u) k = unplaced-stopped n p u
+
 module _ {S L : Type 0} (step : Steps S L) where
   unplaced-run : (p a : ℕ) (k : S → Walked S) (s : S) → unplaced-walk (run-action step p a k s) ≡ run-action step 0 a (λ t. unplaced-walk (k t)) s
-  unfolding run-action counted stuck-at
-  unplaced-run p a k s = pick-map unplaced-walk (step .runs a s) _ _ ∙ rw (← unplaced-readings (step .leads-to a s) k)
+  unfolding run-action
+  unplaced-run p a k s = unplaced-step p (step .does a s) k
 
   mutual
     unfolding walk
@@ -135,6 +139,6 @@ module _ {S L : Type 0} (step : Steps S L) where
     item-unplaced (branching p bs) k s = branches-unplaced bs p k s
 
     branches-unplaced : (bs : Branches L) (p : ℕ) (k : S → Walked S) (s : S) → unplaced-walk (walk-branch step bs p k s) ≡ walk-branch step (unplaced-branches bs) 0 (λ t. unplaced-walk (k t)) s
-    branches-unplaced none p k s = unplaced-stuck p s
+    branches-unplaced none p k s = unplaced-stopped _ p _
     branches-unplaced (branch c b bs) p k s =
         pick-map unplaced-walk (each-of (step .knows s) c) _ _ ∙ rw (walk-unplaced b k s, branches-unplaced bs p k s)

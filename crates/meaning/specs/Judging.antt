@@ -11,17 +11,26 @@ use Rattle.meaning.specs.Requests.{Request}
 use Rattle.meaning.specs.Reading.{Got, got, fault}
 use Rattle.meaning.specs.Refusals.{settled}
 use Rattle.meaning.specs.States.{State, first-state}
-use Rattle.meaning.specs.Walk.{End, fine, missed, stuck, Walked, walked}
+use Rattle.meaning.specs.Walk.{Concerned, no-state, in-state, End, fine, missed, stopped, Walked, walked}
 
 pub record Judgement : Type 0 where
   pub answer : Answer
   pub state : List ℕ
 
+-- The lent bytes afterwards: the state concerned goes over them, where there is one (FORMAT 4.45 to 4.49).
+unfoldable pub written-over : (lent : List ℕ) → Concerned State → List ℕ
+written-over lent no-state = lent
+written-over lent (in-state s) = s
+
+-- What a walk says of the request: an answer's number, a place, and the state concerned (FORMAT 4.27, 4.42).
+unfoldable pub reported : (lent : List ℕ) → (count number place : ℕ) → Concerned State → Judgement
+reported lent c n p u = record { answer = record { number = n; input = Limits.the-request; place = p; count = c }; state = written-over lent u }
+
 -- The answer of a walk that ended so, within its budget (FORMAT 4.42, 4.45 to 4.49, 8.16).
 unfoldable pub ended : (lent : List ℕ) → (count : ℕ) → End State → Judgement
 ended lent c fine = record { answer = record { number = Limits.verified; input = Limits.neither-input; place = 0; count = c }; state = lent }
-ended lent c (missed p s) = record { answer = record { number = Limits.goal-missed; input = Limits.the-request; place = p; count = c }; state = s }
-ended lent c (stuck p s) = record { answer = record { number = Limits.not-executable; input = Limits.the-request; place = p; count = c }; state = s }
+ended lent c (missed p s) = reported lent c Limits.goal-missed p (in-state s)
+ended lent c (stopped n p u) = reported lent c n p u
 
 -- Budget spent exactly when the walk's count is above it (FORMAT 4.43, 8.14).
 unfoldable pub within : (lent : List ℕ) → (budget : ℕ) → Walked State → Judgement

@@ -3,15 +3,16 @@ use Prim.Native.Nat.{ℕ, suc, _+_}
 use mathlib.Core.List.{List, [], _∷_, _++_}
 use lib.ListN.{length}
 use Rattle.meaning.specs.Tests.{pick, each-of}
+use Rattle.meaning.specs.Limits
 use Rattle.meaning.specs.Requests.{Sequence, done, item, Item, act, branching, Branches, none, branch}
 use Rattle.meaning.specs.Refusals.{Found, nowhere, at}
 use Rattle.meaning.specs.States.{Outcome, single, fork}
-use Rattle.meaning.specs.Walk.{End, fine, missed, stuck, Walked, Steps}
+use Rattle.meaning.specs.Walk.{Concerned, in-state, End, fine, missed, stopped, Walked, Step, leads-to, refuses, Steps}
 
--- A path arrives in an end state, or stops at an item that can't be run in the state it is met in.
+-- A path arrives in an end state, or stops at an item that is refused: with an answer's number, the item's place and the state concerned.
 pub data Ending (S : Type 0) : Type 0 where
   arrives : S → Ending S
-  stops : (place : ℕ) → S → Ending S
+  stops : (number place : ℕ) → Concerned S → Ending S
 
 -- The actions run on a path, those aside that were run on a path before it already, and its ending.
 pub record Path (S : Type 0) : Type 0 where
@@ -27,7 +28,7 @@ module _ {S : Type 0} where
   -- Each path that arrives goes on.
   unfoldable pub goes-on : List ℕ → Ending S → (S → List (Path S)) → List (Path S)
   goes-on ran (arrives s) more = first-ran ran (more s)
-  goes-on ran (stops p s) more = record { ran = ran; ending = stops p s } ∷ []
+  goes-on ran (stops n p u) more = record { ran = ran; ending = stops n p u } ∷ []
 
   unfoldable pub go-on : List (Path S) → (S → List (Path S)) → List (Path S)
   go-on [] more = []
@@ -37,6 +38,11 @@ module _ {S : Type 0} where
   arrivals (single s) = record { ran = []; ending = arrives s } ∷ []
   arrivals (fork o p) = arrivals o ++ arrivals (p tt)
 
+  -- The paths of an action at a place, by what it does.
+  unfoldable pub paths-step : (place action : ℕ) → Step S → List (Path S)
+  paths-step p a (leads-to o) = first-ran (a ∷ []) (arrivals o)
+  paths-step p a (refuses n u) = record { ran = []; ending = stops n p u } ∷ []
+
 module _ {S L : Type 0} (step : Steps S L) where
   unfoldable mutual
     pub paths : Sequence L → S → List (Path S)
@@ -44,19 +50,18 @@ module _ {S L : Type 0} (step : Steps S L) where
     paths (item i rest) s = go-on (paths-item i s) (paths rest)
 
     pub paths-item : Item L → S → List (Path S)
-    paths-item (act p a) s =
-        pick (step .runs a s) (λ _. first-ran (a ∷ []) (arrivals (step .leads-to a s))) (λ _. record { ran = []; ending = stops p s } ∷ [])
+    paths-item (act p a) s = paths-step p a (step .does a s)
     paths-item (branching p bs) s = paths-branch bs p s
 
     pub paths-branch : Branches L → ℕ → S → List (Path S)
-    paths-branch none p s = record { ran = []; ending = stops p s } ∷ []
+    paths-branch none p s = record { ran = []; ending = stops Limits.not-executable p (in-state s) } ∷ []
     paths-branch (branch c b bs) p s = pick (each-of (step .knows s) c) (λ _. paths b s) (λ _. paths-branch bs p s)
 
 module _ {S : Type 0} where
   -- The count: the actions run and the end states met, up to the first path that stops.
   unfoldable pub count-of : List ℕ → Ending S → ℕ → ℕ
   count-of ran (arrives s) later = suc (length ran) + later
-  count-of ran (stops p s) later = length ran
+  count-of ran (stops n p u) later = length ran
 
   unfoldable pub count-in : List (Path S) → ℕ
   count-in [] = 0
@@ -65,7 +70,7 @@ module _ {S : Type 0} where
   -- The first path that stops, if any does.
   unfoldable pub stop-of : Ending S → End S → End S
   stop-of (arrives s) later = later
-  stop-of (stops p s) later = stuck p s
+  stop-of (stops n p u) later = stopped n p u
 
   unfoldable pub first-stop : List (Path S) → End S
   first-stop [] = fine
@@ -78,7 +83,7 @@ module _ {S : Type 0} where
       miss-at : Found → End S
       miss-at nowhere = later
       miss-at (at p) = missed p s
-  miss-of miss (stops p s) later = later
+  miss-of miss (stops n p u) later = later
 
   unfoldable pub first-miss : (S → Found) → List (Path S) → End S
   first-miss miss [] = fine
@@ -88,7 +93,7 @@ module _ {S : Type 0} where
   unfoldable pub stop-or-miss : End S → End S → End S
   stop-or-miss fine miss = miss
   stop-or-miss (missed p s) miss = missed p s
-  stop-or-miss (stuck p s) miss = stuck p s
+  stop-or-miss (stopped n p u) miss = stopped n p u
 
   -- What the list of paths says of the walk.
   unfoldable pub walked-along : (S → Found) → List (Path S) → Walked S

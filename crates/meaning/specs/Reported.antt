@@ -6,11 +6,12 @@ use mathlib.Core.Bool.{Bool, true, false}
 use mathlib.Core.List.{List, _∷_, _++_, map}
 use mathlib.Core.Logic.{_⊎_}
 use Rattle.meaning.specs.Tests.{either, Has}
+use Rattle.meaning.specs.Limits
 use Rattle.meaning.specs.Limits.{Limits}
 use Rattle.meaning.specs.Literals.{says-true, says-false}
 use Rattle.meaning.specs.Requests.{Table, Sequence, done, item, Item, act, branching, Branches, none, branch, Entry, Request}
 use Rattle.meaning.specs.States.{State, known, first-state}
-use Rattle.meaning.specs.Walk.{table-step}
+use Rattle.meaning.specs.Walk.{in-state, table-step}
 use Rattle.meaning.specs.Approximation.{Pair, true-in, false-in, executable, failed, state, None-true, Φ̂, least}
 use Rattle.meaning.specs.Paths.{arrives, stops, Path, paths}
 
@@ -95,7 +96,7 @@ Not-run t (branching p bs) σ = None-true t bs σ
 
 -- The first path that stops, stops in u, at the place of an item that can't be run in u.
 pub record Stopped-at (r : Request) (xs : List (Path State)) (place : ℕ) (u : State) : Type 0 where
-  pub path : First Arrives (λ x. x .ending ≡ stops place u) xs
+  pub path : First Arrives (λ x. x .ending ≡ stops Limits.not-executable place (in-state u)) xs
   pub stop : Item ℕ
   pub in-plan : Item-in (r .plan) stop
   pub stands : item-place stop ≡ place

@@ -4,16 +4,22 @@ use mathlib.Core.Path.{_≡_}
 use mathlib.Core.Bool.{Bool}
 use mathlib.Core.List.{List, [], _∷_}
 use Rattle.meaning.specs.Tests.{pick, each-of}
+use Rattle.meaning.specs.Limits
 use Rattle.meaning.specs.Requests.{Table, Sequence, done, item, Item, act, branching, Branches, none, branch, Entry, Request}
 use Rattle.meaning.specs.Refusals.{Found, nowhere, at, or-else}
 use Rattle.meaning.specs.States.{State, known, known-whether, can-be-run, Outcome, single, fork, outcome}
 
--- How a walk ends: nothing is missed; or the first entry missed, with the end state; or the item that can't be run, with its state
--- (FORMAT 8.16).
+-- The state concerned, where there is one.
+pub data Concerned (S : Type 0) : Type 0 where
+  no-state : Concerned S
+  in-state : S → Concerned S
+
+-- How a walk ends: nothing is missed; or the first entry missed, with the end state; or what stopped it, with the answer's number, the item's
+-- place and the state concerned (FORMAT 8.16). Only a stop keeps a walk from going on, and it goes before any miss; a miss stops nothing.
 pub data End (S : Type 0) : Type 0 where
   fine : End S
   missed : (place : ℕ) → S → End S
-  stuck : (place : ℕ) → S → End S
+  stopped : (number place : ℕ) → Concerned S → End S
 
 pub record Walked (S : Type 0) : Type 0 where
   pub count : ℕ
@@ -24,18 +30,22 @@ module _ {S : Type 0} where
   abbrev pub Verified : Walked S → Type 0
   Verified w = w .end ≡ fine
 
-  -- An item that can't be run isn't counted (FORMAT 8.12).
-  unfoldable pub stuck-at : ℕ → S → Walked S
-  stuck-at p s = record { count = 0; end = stuck p s }
+  -- An item that stops the walk isn't counted (FORMAT 8.12).
+  unfoldable pub stopped-at : (number place : ℕ) → Concerned S → Walked S
+  stopped-at n p u = record { count = 0; end = stopped n p u }
+
+  -- An item that can't be run.
+  abbrev pub stuck-at : ℕ → S → Walked S
+  stuck-at p s = stopped-at Limits.not-executable p (in-state s)
 
   unfoldable pub counted : ℕ → Walked S → Walked S
   counted c w = record { count = c + w .count; end = w .end }
 
-  -- The first miss is kept, unless a later path is stuck (FORMAT 8.19, 8.20).
+  -- The first miss is kept, unless a later path stops (FORMAT 8.19, 8.20).
   unfoldable pub keep-miss : ℕ → S → End S → End S
   keep-miss p s fine = missed p s
   keep-miss p s (missed q t) = missed p s
-  keep-miss p s (stuck q t) = stuck q t
+  keep-miss p s (stopped n q u) = stopped n q u
 
   unfoldable pub after-miss : ℕ → S → Walked S → Walked S
   after-miss p s w = record { count = w .count; end = keep-miss p s (w .end) }
@@ -43,9 +53,9 @@ module _ {S : Type 0} where
   unfoldable pub after-end : End S → ℕ → (Unit {0} → Walked S) → Walked S
   after-end fine c more = counted c (more tt)
   after-end (missed p s) c more = counted c (after-miss p s (more tt))
-  after-end (stuck p s) c more = record { count = c; end = stuck p s }
+  after-end (stopped n p u) c more = record { count = c; end = stopped n p u }
 
-  -- One walk after another: the walk goes on after a miss, and not after what is stuck (FORMAT 8.8, 8.12).
+  -- One walk after another: the walk goes on after a miss, and not after a stop (FORMAT 8.8, 8.12).
   unfoldable pub and-then : Walked S → (Unit {0} → Walked S) → Walked S
   and-then w more = after-end (w .end) (w .count) more
 
@@ -54,16 +64,24 @@ module _ {S : Type 0} where
   each-reading (single s) k = k s
   each-reading (fork o p) k = and-then (each-reading o k) (λ _. each-reading (p tt) k)
 
+-- What an action does in a state: it leads to an outcome, or is refused with an answer's number.
+pub data Step (S : Type 0) : Type 0 where
+  leads-to : Outcome S → Step S
+  refuses : (number : ℕ) → Concerned S → Step S
+
 -- What the walk asks at each step, of states S and literals L.
 pub record Steps (S L : Type 0) : Type 0 where
-  pub runs : ℕ → S → Bool
-  pub leads-to : ℕ → S → Outcome S
+  pub does : ℕ → S → Step S
   pub knows : S → L → Bool
 
+-- A step at a place, and what follows it (FORMAT 8.9, 8.10).
+unfoldable pub after-step : {S : Type 0} → (place : ℕ) → Step S → (S → Walked S) → Walked S
+after-step p (leads-to o) k = counted 1 (each-reading o k)
+after-step p (refuses n u) k = stopped-at n p u
+
 module _ {S L : Type 0} (step : Steps S L) where
-  -- An action and what follows it (FORMAT 8.9, 8.10).
   unfoldable pub run-action : (place action : ℕ) → (S → Walked S) → S → Walked S
-  run-action p a k s = pick (step .runs a s) (λ _. counted 1 (each-reading (step .leads-to a s) k)) (λ _. stuck-at p s)
+  run-action p a k s = after-step p (step .does a s) k
 
   -- k walks what follows.
   unfoldable mutual
@@ -80,9 +98,12 @@ module _ {S L : Type 0} (step : Steps S L) where
     walk-branch none p k s = stuck-at p s
     walk-branch (branch c b bs) p k s = pick (each-of (step .knows s) c) (λ _. walk b k s) (λ _. walk-branch bs p k s)
 
--- The step of a table over partial states.
+-- The step of a table over partial states. An action that can't be run is refused (FORMAT 7.8, 8.12).
+unfoldable pub table-does : Table → ℕ → State → Step State
+table-does t a s = pick (can-be-run t a s) (λ _. leads-to (outcome t a s)) (λ _. refuses Limits.not-executable (in-state s))
+
 unfoldable pub table-step : Table → Steps State ℕ
-table-step t = record { runs = can-be-run t; leads-to = outcome t; knows = known }
+table-step t = record { does = table-does t; knows = known }
 
 -- The first entry that fails the test (FORMAT 4.36).
 unfoldable pub first-missed : (ℕ → Bool) → List Entry → Found

@@ -2,7 +2,7 @@
 -- fault has another number, and they leave the state where its walk ended, which has what the walk keeps. Assumes nothing.
 use Prim.Native.Nat.{ℕ}
 use native.Mathlib.Omega.{arith}
-use mathlib.Core.Path.{_≡_, refl, subst}
+use mathlib.Core.Path.{_≡_, refl, sym, subst}
 use mathlib.Core.Bool.{true}
 use mathlib.Core.List.{List}
 use mathlib.Core.Logic.{⊎-elim}
@@ -14,18 +14,19 @@ use Rattle.meaning.specs.Requests.{Request}
 use Rattle.meaning.specs.Reading.{Got, got, fault}
 use Rattle.meaning.specs.Refusals.{settled}
 use Rattle.meaning.specs.States.{State, first-state}
-use Rattle.meaning.specs.Walk.{End, fine, missed, stuck, Walked, walked}
-use Rattle.meaning.specs.Judging.{Judgement, ended, within, judge-settled, judge}
+use Rattle.meaning.specs.Walk.{Concerned, End, fine, missed, stopped, Walked, walked}
+use Rattle.meaning.specs.Judging.{Judgement, written-over, reported, ended, within, judge-settled, judge}
 use Rattle.meaning.proofs.TestLaws.{clash}
 use Rattle.meaning.proofs.PickLaws.{pick-has}
 use Rattle.meaning.specs.Answers.{refusals}
+use Rattle.meaning.proofs.KeptEnds.{Stuck, walked-stuck}
 use Rattle.meaning.proofs.AnswerLaws.{Numbered-in, settled-numbered}
 use Rattle.meaning.proofs.SettledLaws.{settled-is}
 use Rattle.meaning.proofs.RangeLaws.{read-ranged}
 use Rattle.refusing.proofs.StartLaws.{request-starts}
 use Rattle.steps.specs.AtHand.{Marked}
 use Rattle.glintstring.specs.Lent.{Writes, Blank-from, Written}
-use Rattle.glintstring.proofs.KeepingLaws.{End-has, end-both}
+use Rattle.glintstring.proofs.KeepingLaws.{Concerned-has, End-has, end-both}
 use Rattle.glintstring.proofs.MarkedLaws.{first-marked, walked-marked}
 use Rattle.promises.proofs.BeyondLaws.{walked-blank}
 
@@ -33,19 +34,19 @@ module _ (lim : Limits) (lent : List ℕ) (budget : ℕ) where
   abbrev pub Kept : Judgement → Type 0
   Kept j = (j .answer .number ≡ Limits.goal-missed → ⊥) → (j .answer .number ≡ Limits.not-executable → ⊥) → j .state ≡ lent
 
-  ended-kept : (c : ℕ) (e : End State) → Kept (ended lent c e)
-  unfolding ended
-  ended-kept c fine one two = refl
-  ended-kept c (missed p s) one two = absurd (one refl)
-  ended-kept c (stuck p s) one two = absurd (two refl)
+  ended-kept : (c : ℕ) (e : End State) → Stuck e → Kept (ended lent c e)
+  unfolding ended reported
+  ended-kept c fine stuck one two = refl
+  ended-kept c (missed p s) stuck one two = absurd (one refl)
+  ended-kept c (stopped n p u) stuck one two = absurd (two (stuck .0))
 
-  within-kept : (w : Walked State) → Kept (within lent budget w)
+  within-kept : (w : Walked State) → Stuck (w .end) → Kept (within lent budget w)
   unfolding within
-  within-kept w = pick-has Kept _ _ _ (λ _ one two. refl) (λ _. ended-kept (w .count) (w .end))
+  within-kept w stuck = pick-has Kept _ _ _ (λ _ one two. refl) (λ _. ended-kept (w .count) (w .end) stuck)
 
   settled-kept : (x : Got Request) → Kept (judge-settled lim lent budget x)
   unfolding judge-settled
-  settled-kept (got r e) = within-kept _
+  settled-kept (got r e) = within-kept _ (walked-stuck r _)
   settled-kept (fault n p) = λ one two. refl
 
   pub judge-kept : (request : List ℕ) → Kept (judge lim request lent budget)
@@ -71,15 +72,16 @@ module _ (P : State → Type 0) (lent : List ℕ) where
   abbrev Leaves : Judgement → Type 0
   Leaves j = Writes (j .answer .number) → P (j .state)
 
-  ended-leaves : (c : ℕ) (e : End State) → End-has P e → Leaves (ended lent c e)
-  unfolding ended
-  ended-leaves c fine has writes = absurd (verified-writes-nothing writes)
-  ended-leaves c (missed p s) has writes = has
-  ended-leaves c (stuck p s) has writes = has
+  ended-leaves : (c : ℕ) (e : End State) → Stuck e → End-has P e → Leaves (ended lent c e)
+  unfolding ended reported written-over
+  ended-leaves c fine stuck has writes = absurd (verified-writes-nothing writes)
+  ended-leaves c (missed p s) stuck has writes = has
+  ended-leaves c (stopped n p u) stuck has writes =
+      subst (λ (v : Concerned State). Concerned-has P v → P (written-over lent v)) (sym (stuck .1 .1)) (λ there. there) has
 
-  within-leaves : (budget : ℕ) (w : Walked State) → End-has P (w .end) → Leaves (within lent budget w)
+  within-leaves : (budget : ℕ) (w : Walked State) → Stuck (w .end) → End-has P (w .end) → Leaves (within lent budget w)
   unfolding within
-  within-leaves budget w has = pick-has Leaves _ _ _ (λ _ writes. absurd (spent-writes-nothing writes)) (λ _. ended-leaves (w .count) (w .end) has)
+  within-leaves budget w stuck has = pick-has Leaves _ _ _ (λ _ writes. absurd (spent-writes-nothing writes)) (λ _. ended-leaves (w .count) (w .end) stuck has)
 
 -- P is said of a request and a state.
 module _ (P : Request → State → Type 0) (lim : Limits) (lent : List ℕ) (budget : ℕ) where
@@ -89,7 +91,7 @@ module _ (P : Request → State → Type 0) (lim : Limits) (lent : List ℕ) (bu
   settled-leaves : (g : Got Request) → Numbered-in refusals g → ((x : Request) (e : ℕ) → g ≡ got x e → Walk-has x)
       → Writes (judge-settled lim lent budget g .answer .number) → (x : Request) × (e : ℕ) × (g ≡ got x e) × P x (judge-settled lim lent budget g .state)
   unfolding judge-settled
-  settled-leaves (got x e) numbered has writes = (x, e, refl, within-leaves (P x) lent budget (walked x (first-state lim (x .table))) (has x e refl) writes)
+  settled-leaves (got x e) numbered has writes = (x, e, refl, within-leaves (P x) lent budget (walked x (first-state lim (x .table))) (walked-stuck x _) (has x e refl) writes)
   settled-leaves (fault n p) numbered has writes = absurd (refusal-writes-nothing n numbered writes)
 
   judge-leaves : (request : List ℕ) → ((x : Request) (e : ℕ) → settled lim request ≡ got x e → Walk-has x)

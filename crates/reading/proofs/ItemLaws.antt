@@ -17,7 +17,7 @@ use Rattle.bytes.specs.Read.{number-read}
 use Rattle.reading.specs.Noted.{item-place}
 use Rattle.reading.specs.Planned.{place-of, inside-noted, item-noted, noting-met, outcome-met}
 use Rattle.bytes.proofs.ByteLaws.{read-value, read-fault}
-use Rattle.reading.proofs.PlanSizes.{byte-through, branching-read}
+use Rattle.reading.proofs.PlanSizes.{byte-through, item-read}
 use Rattle.reading.proofs.NotingLaws.{noting-same, with-items}
 
 module _ (n m deep : ℕ) (s : List ℕ) (p met : ℕ) (t : List ℕ) (byte : Read) (read : byte ≡ number-read (byte-at s p)) where
@@ -41,9 +41,10 @@ module _ (n m deep : ℕ) (s : List ℕ) (p met : ℕ) (t : List ℕ) (byte : Re
         → outcome-met r v ≡ noting-met (inside-noted met u) (branching-at format n m s deep p (met + 1)) → outcome-met r v ≡ noting-met (item-noted met t) whole-item
     unfolding item-noted
     item-branching r u v h b placed e =
+        let whole : whole-item ≡ branching-at format n m s deep p (met + 1) = item-rest ∙ pick-false _ _ _ (lt-leb 1024 met h) ∙ pick-true _ _ _ (eq-eqb x 255 b) in
         e ∙ noting-same (inside-noted met u) (item-noted met t) (branching-at format n m s deep p (met + 1))
-        (λ y r g. rw (placed, branching-read n m s deep p met h .holds y r g .place) refl)
-        ∙ sym (ap (noting-met (item-noted met t)) (item-rest ∙ pick-false _ _ _ (lt-leb 1024 met h) ∙ pick-true _ _ _ (eq-eqb x 255 b)))
+        (λ y r g. rw (placed, item-read n m s deep p met .holds y r (whole ∙ g) .place) refl)
+        ∙ sym (ap (noting-met (item-noted met t)) whole)
 
     pub item-large : (u : List ℕ) → met < 1024 → (x ≡ 255 → ⊥) → m ≤ x → outcome-met (Fault 13 p) u ≡ noting-met (item-noted met t) whole-item
     unfolding noting-met next outcome-met

@@ -1,45 +1,19 @@
 -- What reading guarantees of a part of a plan: the items met are those before it and its own, at most the limit, and the place after it is as
 -- far on as it has bytes, within the input. Each reader passes on what its parts give. Assumes nothing.
-use Prim.Native.Nat.{ℕ, zero, suc, _+_, _≤_, _<_}
+use Prim.Native.Nat.{ℕ, _+_, _≤_, _<_}
 use native.Mathlib.Omega.{arith}
-use mathlib.Core.Path.{_≡_, refl, subst}
-use mathlib.Core.Bool.{Bool, true, false}
+use mathlib.Core.Path.{_≡_, refl}
 use mathlib.Core.List.{List}
 use lib.ListN.{length}
 use borrow.Author.Tests.{leb-false}
-use Rattle.meaning.specs.Tests.{pick}
 use Rattle.meaning.specs.Limits.{format}
 use Rattle.meaning.specs.Requests.{Item}
 use Rattle.meaning.specs.Reading
-use Rattle.meaning.specs.Reading.{Got, got, fault, next, Part, byte-at, two-bytes-at, count-at, below-at, entry-at, entries-at, list-at, body-at, item-at, items-at, sequence-at, branches-at, branching-at}
-use Rattle.meaning.proofs.SettledLaws.{fault≢got}
+use Rattle.meaning.specs.Reading.{Got, byte-at, two-bytes-at, count-at, list-at, body-at, item-at, sequence-at, branching-at}
+use Rattle.meaning.proofs.GotLaws.{On, Held, held-got}
+use Rattle.meaning.proofs.PlaceLaws.{byte-held, two-bytes-held, count-held, list-held}
+use Rattle.meaning.proofs.PlanReads.{Said, Passed-on, item-on, sequence-on}
 use Rattle.reading.specs.Planned.{items-of, items-in, items-under, bytes-of, bytes-in, bytes-under, place-of}
-
--- What is true of whatever was read.
-pub record On {A : Type 0} (m : Got A) (P : A → ℕ → Type 0) : Type 0 where
-  pub holds : (x : A) (q : ℕ) → m ≡ got x q → P x q
-
-module _ {A : Type 0} {P : A → ℕ → Type 0} where
-  pub got-on : (x : A) (p : ℕ) → P x p → On (got x p) P
-  got-on x p h = record { holds = λ y q e. subst given e h }
-    where
-      given : Got A → Type 0
-      given (got y q) = P y q
-      given (fault n i) = Unit {0}
-
-  pub fault-on : (n i : ℕ) → On (fault n i) P
-  fault-on n i = record { holds = λ y q e. absurd (fault≢got e) }
-
-  pub pick-on : (b : Bool) (f g : Unit {0} → Got A) → (b ≡ true → On (f tt) P) → (b ≡ false → On (g tt) P) → On (pick b f g) P
-  unfolding pick
-  pick-on true f g h k = h refl
-  pick-on false f g h k = k refl
-
-module _ {A B : Type 0} {P : A → ℕ → Type 0} {Q : B → ℕ → Type 0} where
-  pub next-on : (m : Got A) (k : A → ℕ → Got B) → On m P → ((x : A) (q : ℕ) → P x q → On (k x q) Q) → On (next m k) Q
-  unfolding next
-  next-on (got x q) k h f = f x q (h .holds x q refl)
-  next-on (fault n i) k h f = fault-on n i
 
 -- So many bytes were read, and they were there.
 pub record Through (s : List ℕ) (p bytes q : ℕ) : Type 0 where
@@ -47,51 +21,27 @@ pub record Through (s : List ℕ) (p bytes q : ℕ) : Type 0 where
   pub inside : q ≤ length s
 
 module _ (s : List ℕ) where
+  -- Where a reader stops, as it is known of every input.
+  module _ {A : Type 0} (p : ℕ) (bytes : A → ℕ) (m : Got A) (held : Held (λ _ _. Unit {0}) (λ x q. (q ≤ length s) × (q ≡ p + bytes x)) m) where
+    stops : On m (λ x q. Through s p (bytes x) q)
+    stops = record { holds = λ x q e. let h = held-got _ (λ x q. (q ≤ length s) × (q ≡ p + bytes x)) m held x q e in record { after = h .1; inside = h .0 } }
+
   pub byte-through : (p : ℕ) → On (byte-at s p) (λ _ q. Through s p 1 q)
-  unfolding byte-at
-  byte-through p =
-      pick-on _ _ _ (λ _. fault-on _ _)
-      (λ u. let h = leb-false (length s) p u in got-on _ _ (record { after = refl; inside = omega arith }))
+  byte-through p = stops p (λ _. 1) _ (byte-held s (λ _ _. Unit {0}) tt (λ _ _ _ _. tt) p)
 
   pub two-bytes-through : (p : ℕ) → On (two-bytes-at s p) (λ _ q. Through s p 2 q)
-  unfolding two-bytes-at
-  two-bytes-through p =
-      next-on (byte-at s p) _ (byte-through p) λ _ q h.
-      next-on (byte-at s q) _ (byte-through q) λ _ r k.
-      let a = h .after in let b = k .after in
-      got-on _ _ (record { after = omega arith; inside = k .inside })
+  two-bytes-through p = stops p (λ _. 2) _ (two-bytes-held s (λ _ _. Unit {0}) tt (λ _ _ _ _. tt) p)
 
   pub count-through : (least most p : ℕ) → On (count-at least most s p) (λ _ q. Through s p 1 q)
-  unfolding count-at
-  count-through least most p =
-      next-on (byte-at s p) _ (byte-through p) λ _ q h.
-      pick-on _ _ _ (λ _. fault-on _ _) (λ _. got-on _ _ h)
-
-  entry-through : (kind : Reading.Kind) (n p floor : ℕ) → On (entry-at kind n s p floor) (λ _ q. Through s p 1 q)
-  unfolding entry-at below-at
-  entry-through kind n p floor =
-      next-on _ _ (next-on (byte-at s p) _ (byte-through p) λ _ q h. pick-on _ _ _ (λ _. fault-on _ _) (λ _. got-on _ _ h)) λ _ q h.
-      pick-on _ _ _ (λ _. fault-on _ _) λ _.
-      pick-on _ _ _ (λ _. fault-on _ _) (λ _. got-on _ _ h)
-
-  entries-through : (kind : Reading.Kind) (n left p floor : ℕ) → p ≤ length s → On (entries-at kind n s left p floor) (λ xs q. Through s p (length xs) q)
-  unfolding entries-at
-  entries-through kind n zero p floor h = got-on _ _ (record { after = omega arith; inside = h })
-  entries-through kind n (suc left) p floor h =
-      next-on _ _ (entry-through kind n p floor) λ x q one.
-      next-on _ _ (entries-through kind n left q (x + 1) (one .inside)) λ xs r rest.
-      let a = one .after in let b = rest .after in
-      got-on _ _ (record { after = omega arith; inside = rest .inside })
+  count-through least most p = stops p (λ _. 1) _ (count-held s (λ _ _. Unit {0}) tt (λ _ _ _ _. tt) least most p)
 
   pub list-through : (kind : Reading.Kind) (n most p : ℕ) → On (list-at kind n most s p) (λ c q. Through s p (1 + length c) q)
-  unfolding list-at
   list-through kind n most p =
-      next-on _ _ (count-through 0 most p) λ c q one.
       record {
-        holds = λ xs r e.
-            let rest = entries-through kind n c q 0 (one .inside) .holds xs r e in
-            let a = one .after in let b = rest .after in
-            record { after = omega arith; inside = rest .inside };
+        holds = λ c q e.
+            let h = stops (p + 1) length _ (list-held s (λ _ _. Unit {0}) tt (λ _ _ _ _. tt) kind n most p) .holds c q e in
+            let a = h .after in
+            record { after = omega arith; inside = h .inside };
       }
 
   pub body-through : (n p : ℕ) → On (body-at format n s p) (λ c q. Through s p (1 + length c) q)
@@ -110,72 +60,55 @@ pub record ItemRead (s : List ℕ) (p met : ℕ) (i : Item ℕ) (items q : ℕ) 
   pub place : place-of i ≡ p
 
 module _ (n m : ℕ) (s : List ℕ) where
-  Deeper : Part (Item ℕ) → Type 0
-  Deeper deeper = (p met : ℕ) → met < 1024 → On (deeper p (met + 1)) (λ x q. ItemRead s p met (x .value) (x .items) q)
+  abbrev plan-sized : Said
+  plan-sized = record {
+    item = λ deep p met x e. ItemRead s p met (x .value) (x .items) e;
+    items = λ deep left p met x e. p ≤ length s → met ≤ 1024 → Counted s p met (items-of (x .value)) (bytes-of (x .value)) (x .items) e;
+    sequence = λ deep p met x e. met ≤ 1024 → Counted s p met (items-of (x .value)) (2 + bytes-of (x .value)) (x .items) e;
+    branches = λ deep left p met x e. p ≤ length s → met ≤ 1024 → Counted s p met (items-under (x .value)) (bytes-under (x .value)) (x .items) e;
+  }
 
-  item-counted : (deeper : Part (Item ℕ)) → Deeper deeper → (p met : ℕ) → On (item-at format n m s deeper p met) (λ x q. ItemRead s p met (x .value) (x .items) q)
-  unfolding item-at items-in bytes-in place-of Deeper
-  item-counted deeper inner p met =
-      next-on (byte-at s p) _ (byte-through s p) λ x q one.
-      pick-on _ _ _ (λ _. fault-on _ _) λ u.
-      let below = leb-false 1024 met u in
-      pick-on _ _ _ (λ _. inner p met below) λ _.
-      pick-on _ _ _ (λ _. fault-on _ _) λ _.
-      got-on _ _ (record { sized = record { through = one; counted = refl; most = omega arith }; below = below; place = refl })
+  nothing-counted : (p met : ℕ) → p ≤ length s → met ≤ 1024 → Counted s p met 0 0 met p
+  nothing-counted p met here few = record { through = record { after = omega arith; inside = here }; counted = omega arith; most = few }
 
-  items-counted : (deeper : Part (Item ℕ)) → Deeper deeper → (left p met : ℕ) → p ≤ length s → met ≤ 1024
-      → On (items-at format n m s (item-at format n m s deeper) left p met) (λ x q. Counted s p met (items-of (x .value)) (bytes-of (x .value)) (x .items) q)
-  unfolding items-at items-of bytes-of
-  items-counted deeper inner zero p met h k = got-on _ _ (record { through = record { after = omega arith; inside = h }; counted = omega arith; most = k })
-  items-counted deeper inner (suc left) p met h k =
-      next-on _ _ (item-counted deeper inner p met) λ i q one.
-      next-on _ _ (items-counted deeper inner left q (i .items) (one .sized .through .inside) (one .sized .most)) λ rest r more.
-      let a = one .sized .through .after in let b = more .through .after in
-      let c = one .sized .counted in let d = more .counted in
-      got-on _ _ (record { through = record { after = omega arith; inside = more .through .inside }; counted = omega arith; most = more .most })
-
-  sequence-counted : (deeper : Part (Item ℕ)) → Deeper deeper → (p met : ℕ) → met ≤ 1024
-      → On (sequence-at format n m s deeper p met) (λ x q. Counted s p met (items-of (x .value)) (2 + bytes-of (x .value)) (x .items) q)
-  unfolding sequence-at
-  sequence-counted deeper inner p met h =
-      next-on _ _ (two-bytes-through s p) λ c q two.
-      record {
-        holds = λ x r e.
-            let rest = items-counted deeper inner c q met (two .inside) h .holds x r e in
-            let a = two .after in let b = rest .through .after in
-            record { through = record { after = omega arith; inside = rest .through .inside }; counted = rest .counted; most = rest .most };
-      }
-
-  branches-counted : (deeper : Part (Item ℕ)) → Deeper deeper → (left p met : ℕ) → p ≤ length s → met ≤ 1024
-      → On (branches-at format n m s (sequence-at format n m s deeper) left p met) (λ x q. Counted s p met (items-under (x .value)) (bytes-under (x .value)) (x .items) q)
-  unfolding branches-at items-under bytes-under
-  branches-counted deeper inner zero p met h k = got-on _ _ (record { through = record { after = omega arith; inside = h }; counted = omega arith; most = k })
-  branches-counted deeper inner (suc left) p met h k =
-      next-on _ _ (body-through s n p) λ c q condition.
-      next-on _ _ (sequence-counted deeper inner q met k) λ b r one.
-      next-on _ _ (branches-counted deeper inner left r (b .items) (one .through .inside) (one .most)) λ rest e more.
+  both-counted : (p met own bytes k q own′ bytes′ l e : ℕ) → Counted s p met own bytes k q → Counted s q k own′ bytes′ l e → Counted s p met (own + own′) (bytes + bytes′) l e
+  both-counted p met own bytes k q own′ bytes′ l e one more =
       let a = one .through .after in let b = more .through .after in
       let c = one .counted in let d = more .counted in
-      let f = condition .after in
-      got-on _ _ (record { through = record { after = omega arith; inside = more .through .inside }; counted = omega arith; most = more .most })
+      record { through = record { after = omega arith; inside = more .through .inside }; counted = omega arith; most = more .most }
 
-  branching-counted : (left : ℕ) → Deeper (branching-at format n m s left)
-  unfolding branching-at Deeper items-in bytes-in place-of
-  branching-counted zero p met h = fault-on _ _
-  branching-counted (suc left) p met h =
-      next-on _ _ (count-through s 1 8 (p + 1)) λ c q count.
-      next-on _ _ (branches-counted (branching-at format n m s left) (branching-counted left) c q (met + 1) (count .inside) (omega arith)) λ bs r rest.
-      let a = count .after in let b = rest .through .after in let c = rest .counted in
-      got-on _ _ (record { sized = record { through = record { after = omega arith; inside = rest .through .inside }; counted = omega arith; most = rest .most }; below = h; place = refl })
+  sizes-passed : Passed-on format n m s plan-sized
+  unfolding items-of items-in items-under bytes-of bytes-in bytes-under place-of
+  sizes-passed = record {
+    an-action = λ deep p met x q read few _ _.
+        let below = leb-false 1024 met few in
+        record { sized = record { through = byte-through s p .holds x q read; counted = refl; most = omega arith }; below = below; place = refl };
+    a-branching = λ deep p met x q c r bs e read few _ counted all.
+        let below = leb-false 1024 met few in
+        let count = count-through s 1 8 (p + 1) .holds c r counted in
+        let rest = all (count .inside) (omega arith) in
+        let a = count .after in let b = rest .through .after in let d = rest .counted in
+        record { sized = record { through = record { after = omega arith; inside = rest .through .inside }; counted = omega arith; most = rest .most }; below = below; place = refl };
+    no-item = λ deep p met here few. nothing-counted p met here few;
+    an-item = λ deep left p met i q rest e one more here few. both-counted _ _ _ _ _ _ _ _ _ _ (one .sized) (more (one .sized .through .inside) (one .sized .most));
+    a-sequence = λ deep p met c q x e read all few.
+        let two = two-bytes-through s p .holds c q read in
+        let rest = all (two .inside) few in
+        let a = two .after in let b = rest .through .after in
+        record { through = record { after = omega arith; inside = rest .through .inside }; counted = rest .counted; most = rest .most };
+    no-branch = λ deep p met here few. nothing-counted p met here few;
+    a-branch = λ deep left p met c q b r rest e read _ one more here few.
+        let condition = body-through s n p .holds c q read in
+        let body = one few in
+        let all = both-counted _ _ _ _ _ _ _ _ _ _ body (more (body .through .inside) (body .most)) in
+        let a = condition .after in let d = all .through .after in
+        record { through = record { after = omega arith; inside = all .through .inside }; counted = all .counted; most = all .most };
+  }
 
   -- With so many branchings one inside another.
   pub item-read : (deep p met : ℕ) → On (item-at format n m s (branching-at format n m s deep) p met) (λ x q. ItemRead s p met (x .value) (x .items) q)
-  item-read deep = item-counted (branching-at format n m s deep) (branching-counted deep)
+  item-read = item-on format n m s plan-sized sizes-passed
 
   pub sequence-read : (deep p met : ℕ) → met ≤ 1024
       → On (sequence-at format n m s (branching-at format n m s deep) p met) (λ x q. Counted s p met (items-of (x .value)) (2 + bytes-of (x .value)) (x .items) q)
-  sequence-read deep = sequence-counted (branching-at format n m s deep) (branching-counted deep)
-
-  pub branching-read : (deep p met : ℕ) → met < 1024 → On (branching-at format n m s deep p (met + 1)) (λ x q. ItemRead s p met (x .value) (x .items) q)
-  unfolding Deeper
-  branching-read deep = branching-counted deep
+  sequence-read deep p met few = record { holds = λ x q e. sequence-on format n m s plan-sized sizes-passed deep p met .holds x q e few }

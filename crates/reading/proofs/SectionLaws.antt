@@ -4,7 +4,7 @@ use native.Mathlib.Omega.{arith}
 use mathlib.Core.Path.{_≡_, refl, sym, _∙_, ap, subst}
 use mathlib.Core.List.{List, _∷_}
 use mathlib.Core.Logic.{_⊎_, inl, inr, ⊎-elim}
-use lib.ListN.{length, getD, set}
+use lib.ListN.{length, getD, set, replicate}
 use mir.Syntax.{w64}
 use mir.Val.{Fits}
 use borrow.Author.Tests.{leb-false}
@@ -21,7 +21,7 @@ use Rattle.reading.specs.declared.sections.Section as Code
 use Rattle.reading.specs.declared.sections.Section.the-variants.{Effects, Executability as Runs, Knowledge as Senses}
 use Rattle.bytes.specs.Read.{effect-read, executability-read, knowledge-read}
 use Rattle.bytes.proofs.ByteLaws.{byte-none, byte-is}
-use Rattle.reading.specs.Noted.{Section, effects, executability, knowledge, section-of, Line, line-at, line-read, line-noted, note-line, lines-noted, count-slot, section-noted, three-sections, noting, outcome, effect-noted, run-noted, pair-noted}
+use Rattle.reading.specs.Noted.{Section, effects, executability, knowledge, section-of, Line, line-at, line-read, line-noted, action-in, note-line, none-yet, lines-noted, count-slot, section-noted, three-sections, noting, outcome, effect-lines, run-lines, appended, pair-noted}
 
 -- ONE OF THE THREE SECTIONS.
 module _ (c : Code.Section) (n m : ℕ) (s : List ℕ) (p : ℕ) (r : Read) where
@@ -37,16 +37,16 @@ module _ (c : Code.Section) (n m : ℕ) (s : List ℕ) (p : ℕ) (r : Read) wher
   unfolding line-read line-at section-of
   line-knowledge e h = rw e h
 
-module _ (c : Code.Section) (k p a f : ℕ) (t u : List ℕ) where
-  pub noted-effect : c ≡ Effects → u ≡ effect-noted k p a t → u ≡ line-noted (section-of c) k p a f t
+module _ (c : Code.Section) (last k p a f : ℕ) (t u : List ℕ) where
+  pub noted-effect : c ≡ Effects → u ≡ appended effect-lines last k p a t → u ≡ line-noted (section-of c) last k p a f t
   unfolding line-noted section-of
   noted-effect e h = rw e h
 
-  pub noted-executability : c ≡ Runs → u ≡ run-noted k p a t → u ≡ line-noted (section-of c) k p a f t
+  pub noted-executability : c ≡ Runs → u ≡ appended run-lines last k p a t → u ≡ line-noted (section-of c) last k p a f t
   unfolding line-noted section-of
   noted-executability e h = rw e h
 
-  pub noted-knowledge : c ≡ Senses → u ≡ pair-noted a f t → u ≡ line-noted (section-of c) k p a f t
+  pub noted-knowledge : c ≡ Senses → u ≡ pair-noted a f t → u ≡ line-noted (section-of c) last k p a f t
   unfolding line-noted section-of
   noted-knowledge e h = rw e h
 
@@ -113,7 +113,8 @@ record Stands (c : Section) (n m : ℕ) (s : List ℕ) (p a : ℕ) (l : Line c) 
   second : p + 1 < length s
   acts : a < m
   senses : c ≡ knowledge → getD s (p + 1) 0 < n
-  notes : (k : ℕ) (t : List ℕ) → note-line c k l t ≡ line-noted c k p a (getD s (p + 1) 0) t
+  is-of : action-in c l ≡ a
+  notes : (last k : ℕ) (t : List ℕ) → note-line c last k l t ≡ line-noted c last k p a (getD s (p + 1) 0) t
 
 senses-not : {c : Section} {X : Type 0} → (c ≡ effects) ⊎ (c ≡ executability) → c ≡ knowledge → X
 senses-not {X = X} h e = ⊎-elim (λ f. absurd (subst Other (sym e ∙ f) tt)) (λ f. absurd (subst Other (sym e ∙ f) tt)) h
@@ -125,7 +126,7 @@ senses-not {X = X} h e = ⊎-elim (λ f. absurd (subst Other (sym e ∙ f) tt)) 
 
 module _ (n m : ℕ) (s : List ℕ) where
   effect-stands : (p a q : ℕ) (x : Effect) → effect-at format n m s p ≡ got x q → x .action ≡ a → Stands effects n m s p a x
-  unfolding effect-at note-line line-noted
+  unfolding effect-at action-in note-line line-noted
   effect-stands p a q x e same =
       after-got (below-at m s p) _ e λ b i eb e′.
       after-got (below-at (2 * n) s i) _ e′ λ l j el e″.
@@ -138,11 +139,12 @@ module _ (n m : ℕ) (s : List ℕ) where
         second = subst (λ (y : ℕ). y < length s) (sym (first .2)) (then .0);
         acts = subst (λ (y : ℕ). y < m) acts (first .3);
         senses = senses-not (inl refl);
-        notes = λ k t. rw (sym (ap (λ (y : Effect). y .place) is), same);
+        is-of = same;
+        notes = λ last k t. rw (sym (ap (λ (y : Effect). y .place) is), same);
       }
 
   executability-stands : (p a q : ℕ) (x : Executability) → executability-at format n m s p ≡ got x q → x .action ≡ a → Stands executability n m s p a x
-  unfolding executability-at note-line line-noted body-at list-at count-at
+  unfolding executability-at action-in note-line line-noted body-at list-at count-at
   executability-stands p a q x e same =
       after-got (below-at m s p) _ e λ b i eb e′.
       after-got (body-at format n s i) _ e′ λ bs r ebs e″.
@@ -155,11 +157,12 @@ module _ (n m : ℕ) (s : List ℕ) where
         second = subst (λ (y : ℕ). y < length s) (sym (first .2)) (byte-got s i d′ j′ ed′ .0);
         acts = subst (λ (y : ℕ). y < m) acts (first .3);
         senses = senses-not (inr refl);
-        notes = λ k t. rw (sym (ap (λ (y : Executability). y .place) is), same);
+        is-of = same;
+        notes = λ last k t. rw (sym (ap (λ (y : Executability). y .place) is), same);
       }
 
   knowledge-stands : (p a q : ℕ) (x : Knowledge) → knowledge-at format n m s p ≡ got x q → x .action ≡ a → Stands knowledge n m s p a x
-  unfolding knowledge-at note-line line-noted
+  unfolding knowledge-at action-in note-line line-noted
   knowledge-stands p a q x e same =
       after-got (below-at m s p) _ e λ b i eb e′.
       after-got (below-at n s i) _ e′ λ f j ef e″.
@@ -172,7 +175,8 @@ module _ (n m : ℕ) (s : List ℕ) where
         second = subst (λ (y : ℕ). y < length s) (sym (first .2)) (then .0);
         acts = subst (λ (y : ℕ). y < m) acts (first .3);
         senses = λ _. subst (λ (y : ℕ). y < n) (sym senses) (then .3);
-        notes = λ k t. rw (sym (ap (λ (y : Knowledge). y .fluent) is), same, senses);
+        is-of = same;
+        notes = λ last k t. rw (sym (ap (λ (y : Knowledge). y .fluent) is), same, senses);
       }
 
   stands : (c : Section) (p a q : ℕ) → line-read c (line-at c n m s p) ≡ Value a q → (l : Line c) × (line-at c n m s p ≡ got l q) × Stands c n m s p a l
@@ -194,21 +198,23 @@ module _ (n m : ℕ) (s : List ℕ) where
   stops knowledge p k q e = fault-by (λ (x : Knowledge). x .action) knowledge-read (λ x i. refl) (λ k i. refl) (knowledge-at format n m s p) k q e
 
 -- THE LOOP. What is noted of so many lines from place p on, the first of which has number k + 1.
-module _ {A : Type 0} (note : ℕ → A → List ℕ → List ℕ) where
-  one-more : (k : ℕ) (x : A) (g : Got (List A)) (t : List ℕ) → noting (lines-noted note k) (next g (λ rest r. got (x ∷ rest) r)) t ≡ noting (lines-noted note (k + 1)) g (note (k + 1) x t)
+module _ (c : Section) where
+  one-more : (k : ℕ) (last : List ℕ) (x : Line c) (g : Got (List (Line c))) (t : List ℕ)
+      → noting (lines-noted c k last) (next g (λ rest r. got (x ∷ rest) r)) t ≡ noting (lines-noted c (k + 1) (set last (action-in c x) (k + 1))) g (note-line c (getD last (action-in c x) 0) (k + 1) x t)
   unfolding noting next lines-noted
-  one-more k x (got xs p) t = refl
-  one-more k x (fault n p) t = refl
+  one-more k last x (got xs p) t = refl
+  one-more k last x (fault n p) t = refl
 
 module _ (c : Section) (n m : ℕ) (s : List ℕ) where
-  -- What the table notes of so many lines from place p on, when k are noted.
-  abbrev From : (left p k : ℕ) → List ℕ → Got (List ℕ)
-  From left p k t = noting (lines-noted (note-line c) k) (repeated (line-at c n m s) left p) t
+  -- What the table notes of so many lines from place p on, when k are noted and `last` has the last of each action.
+  abbrev From : (left p k : ℕ) → (last t : List ℕ) → Got (List ℕ)
+  From left p k last t = noting (lines-noted c k last) (repeated (line-at c n m s) left p) t
 
-  pub lines-start : (count end p : ℕ) (t : List ℕ) → end ≡ count → From count p 0 t ≡ From (end - 0) p 0 t
+  pub lines-start : (count end p : ℕ) (t : List ℕ) → end ≡ count → From count p 0 none-yet t ≡ From (end - 0) p 0 (replicate 64 0) t
+  unfolding none-yet
   lines-start count end p t e = let same : end - 0 ≡ count = omega arith in rw same
 
-  module _ (whole : Got (List ℕ)) (count p k : ℕ) (t : List ℕ) (so-far : whole ≡ From (count - k) p k t) where
+  module _ (whole : Got (List ℕ)) (count p k : ℕ) (last t : List ℕ) (so-far : whole ≡ From (count - k) p k last t) where
     pub lines-done : count ≤ k → outcome (To p) t ≡ whole
     unfolding outcome noting next repeated lines-noted
     lines-done h = let none : count - k ≡ zero = omega arith in sym (so-far ∙ rw none)
@@ -225,12 +231,12 @@ module _ (c : Section) (n m : ℕ) (s : List ℕ) where
         stood : (l : Line c) × (line-at c n m s p ≡ got l e) × Stands c n m s p a l
         stood = stands n m s c p a e (sym read ∙ is)
 
-        pub lines-next : (f : ℕ) (u : List ℕ) → f ≡ getD s (p + 1) 0 → u ≡ line-noted c (k + 1) p a f t → whole ≡ From (count - (k + 1)) e (k + 1) u
+        pub lines-next : (f : ℕ) (u : List ℕ) → f ≡ getD s (p + 1) 0 → u ≡ line-noted c (getD last a 0) (k + 1) p a f t → whole ≡ From (count - (k + 1)) e (k + 1) (set last a (k + 1)) u
         unfolding repeated next
         lines-next f u ef eu =
             so-far ∙ rw (left-is, stood .1) (
-            one-more (note-line c) k (stood .0) (repeated (line-at c n m s) (count - (k + 1)) e) t
-            ∙ ap (From (count - (k + 1)) e (k + 1)) (stood .2 .notes (k + 1) t ∙ ap (λ (g : ℕ). line-noted c (k + 1) p a g t) (sym ef) ∙ sym eu)
+            one-more c k last (stood .0) (repeated (line-at c n m s) (count - (k + 1)) e) t
+            ∙ rw (stood .2 .is-of) (ap (From (count - (k + 1)) e (k + 1) (set last a (k + 1))) (stood .2 .notes (getD last a 0) (k + 1) t ∙ ap (λ (g : ℕ). line-noted c (getD last a 0) (k + 1) p a g t) (sym ef) ∙ sym eu))
             )
 
   -- Room for what is noted of a line.
@@ -244,7 +250,7 @@ module _ (c : Section) (n m : ℕ) (s : List ℕ) where
     pub second-fits : length s ≤ 16384 → Fits w64 (p + 1)
     second-fits h = let there = second-there in omega arith
 
-    pub place-fits : length s ≤ 16384 → p < 65535
+    pub place-fits : length s ≤ 16384 → p < 65536
     place-fits h = let there = second-there in omega arith
 
     pub action-fits : m ≤ 64 → a < 64
@@ -255,7 +261,7 @@ module _ (c : Section) (n m : ℕ) (s : List ℕ) where
 
   -- THE COUNT BYTE.
   counted : (left p : ℕ) (t : List ℕ) (slot : ℕ) (g : Got (List (Line c))) → repeated (line-at c n m s) left p ≡ g
-      → noting (lines-noted (note-line c) 0) g (set t slot left) ≡ noting (λ (xs : List (Line c)) (u : List ℕ). lines-noted (note-line c) 0 xs (set u slot (length xs))) g t
+      → noting (lines-noted c 0 none-yet) g (set t slot left) ≡ noting (λ (xs : List (Line c)) (u : List ℕ). lines-noted c 0 none-yet xs (set u slot (length xs))) g t
   unfolding noting next
   counted left p t slot (got xs q) e = rw (repeated-length (line-at c n m s) left p xs q e)
   counted left p t slot (fault k q) e = refl
@@ -265,10 +271,10 @@ module _ (c : Section) (n m : ℕ) (s : List ℕ) where
   section-none p t u h = rw (byte-none s p h)
 
   pub section-there : (p : ℕ) (t u v : List ℕ) (r : Passed) → p < length s → u ≡ set t (count-slot c) (getD s p 0)
-      → outcome r v ≡ From (getD s p 0) (p + 1) 0 u → outcome r v ≡ noting (section-noted c) (section-at (line-at c n m s) s p) t
+      → outcome r v ≡ From (getD s p 0) (p + 1) 0 none-yet u → outcome r v ≡ noting (section-noted c) (section-at (line-at c n m s) s p) t
   unfolding section-at section-noted next
   section-there p t u v r h put e =
-      rw (byte-is s p h) (e ∙ ap (From (getD s p 0) (p + 1) 0) put ∙ counted (getD s p 0) (p + 1) t (count-slot c) _ refl)
+      rw (byte-is s p h) (e ∙ ap (From (getD s p 0) (p + 1) 0 none-yet) put ∙ counted (getD s p 0) (p + 1) t (count-slot c) _ refl)
 
 pub slot-effects : (c : Code.Section) → c ≡ Effects → 5378 ≡ count-slot (section-of c)
 unfolding count-slot section-of

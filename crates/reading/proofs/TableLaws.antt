@@ -1,21 +1,54 @@
--- What noting a line leaves in the table, and the loop over the lines of a section. Assumes nothing.
+-- What noting a line leaves in the table, and what the table says of a line. Assumes nothing.
 use Prim.Native.Nat.{ℕ, _+_, _-_, _*_, _≤_, _<_}
+use native.Mathlib.Omega.{arith}
 use mathlib.Core.Path.{_≡_, sym, _∙_, ap}
 use mathlib.Core.List.{List}
 use lib.ListN.{getD, set}
-use borrow.Author.Tests.{lt-ltb, le-ltb}
-use Rattle.meaning.proofs.TestLaws.{pick-true, pick-false}
-use Rattle.reading.specs.Noted.{link, effect-noted, run-noted, effect-place, effect-before, effect-last, run-place, run-before, run-last, raised, pair-noted, sensed, sensed-from, sensed-to}
+use lib.Dec.{eqb}
+use mir.Syntax.{w64}
+use mir.Val.{Fits}
+use borrow.Author.Tests.{lt-ltb, le-ltb, eq-eqb, ne-eqb}
+use Rattle.meaning.proofs.TestLaws.{by-test, pick-true, pick-false}
+use Rattle.reading.specs.Noted.{line-place, next-line, first-line, before, appended, raised, pair-noted, sensed, sensed-from, sensed-to}
 
-module _ (k p a : ℕ) (t u v : List ℕ) where
-  pub effect-note : u ≡ set t (effect-place + k) p → v ≡ link (effect-last + a) effect-before k u → v ≡ effect-noted k p a t
-  unfolding effect-noted
-  effect-note placed linked = linked ∙ ap (link (effect-last + a) effect-before k) placed
+-- A LINE.
+pub before-first : (last a : ℕ) → last ≡ 0 → 256 + a ≡ before last a
+unfolding before
+before-first last a e = sym (pick-true _ _ _ (eq-eqb last 0 e))
 
-  pub run-note : u ≡ set t (run-place + k) (p + 1) → v ≡ link (run-last + a) run-before k u → v ≡ run-noted k p a t
-  unfolding run-noted
-  run-note placed linked = linked ∙ ap (link (run-last + a) run-before k) placed
+pub before-later : (last a r : ℕ) → (last ≡ 0 → ⊥) → r ≡ last → r ≡ before last a
+unfolding before
+before-later last a r h e = e ∙ sym (pick-false _ _ _ (ne-eqb last 0 h))
 
+pub before-most : (last a : ℕ) → last < 256 → a < 64 → before last a < 320
+unfolding before
+before-most last a h g = by-test (eqb last 0) (λ e. rw (pick-true (eqb last 0) (λ _. 256 + a) (λ _. last) e) (omega arith)) (λ e. rw (pick-false (eqb last 0) (λ _. 256 + a) (λ _. last) e) (omega arith))
+
+module _ (lines last a i : ℕ) (at : i ≡ before last a) where
+  module _ (few : lines ≤ 4672) (small : last < 256) (acts : a < 64) where
+    pub link-there : lines + 256 + i < 9480
+    link-there = let most = before-most last a small acts in omega arith
+
+    pub link-fits : Fits w64 (lines + 256 + i)
+    link-fits = let most = before-most last a small acts in record { fits = omega arith }
+
+  pub line-appended : (k p : ℕ) (t u v : List ℕ) → u ≡ set t (lines + k) p → v ≡ set u (lines + 256 + i) k → v ≡ appended lines last k p a t
+  unfolding appended
+  line-appended k p t u v placed linked = linked ∙ rw (placed, at)
+
+pub first-got : (t : List ℕ) (lines a r : ℕ) → r ≡ getD t (lines + 512 + a) 0 → r ≡ first-line t lines a
+unfolding first-line next-line
+first-got t lines a r e = let same : lines + 512 + a ≡ lines + 256 + (256 + a) = omega arith in e ∙ ap (λ (slot : ℕ). getD t slot 0) same
+
+pub next-got : (t : List ℕ) (lines k r : ℕ) → r ≡ getD t (lines + 256 + k) 0 → r ≡ next-line t lines k
+unfolding next-line
+next-got t lines k r e = e
+
+pub place-got : (t : List ℕ) (lines k r : ℕ) → r ≡ getD t (lines + k) 0 → r ≡ line-place t lines k
+unfolding line-place
+place-got t lines k r e = e
+
+-- WHAT IS SENSED.
 module _ (slot v x : ℕ) (t : List ℕ) (read : x ≡ getD t slot 0) where
   pub raise-set : (u : List ℕ) → x < v → u ≡ set t slot v → u ≡ raised slot v t
   unfolding raised

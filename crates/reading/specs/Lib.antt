@@ -2,3 +2,4 @@ pub mod Noted
 pub mod Listed
 pub mod Planned
 pub mod Requested
+pub mod Ordered

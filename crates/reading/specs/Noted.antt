@@ -1,8 +1,8 @@
 -- What reading leaves in its one table, as a function of what the definitions read. Lines are numbered from 1 in file order, so that 0 is no line; items from 0.
 use Prim.Native.Nat.{ℕ, _+_, _-_, _*_}
 use mathlib.Core.List.{List, [], _∷_}
-use lib.ListN.{length, getD, set}
-use lib.Dec.{ltb}
+use lib.ListN.{length, getD, set, replicate}
+use lib.Dec.{eqb, ltb}
 use Rattle.meaning.specs.Tests.{pick}
 use Rattle.meaning.specs.Limits.{format}
 use Rattle.meaning.specs.Requests.{Effect, Executability, Knowledge, Table}
@@ -30,27 +30,25 @@ branch-place = 2048
 abbrev pub branch-item : ℕ
 branch-item = 3072
 
--- Effect k: the place of its line; the last effect before it with the same action.
-abbrev pub effect-place : ℕ
-effect-place = 4096
+-- Where the slots of the effects start, and those of the executability lines. From there on stand the places of the lines' first bytes;
+-- from 256 slots on, for each line, the next one of the same action in file order, or 0; from 512 slots on the first line of each action,
+-- or 0. So the first line of action a stands where that after a line with number 256 + a would.
+abbrev pub effect-lines : ℕ
+effect-lines = 4096
 
-abbrev pub effect-before : ℕ
-effect-before = 4352
+abbrev pub run-lines : ℕ
+run-lines = 4672
 
--- Executability line k: the place of its body; the last one before it with the same action.
-abbrev pub run-place : ℕ
-run-place = 4608
+unfoldable pub line-place : (t : List ℕ) (lines k : ℕ) → ℕ
+line-place t lines k = getD t (lines + k) 0
 
-abbrev pub run-before : ℕ
-run-before = 4864
+unfoldable pub next-line : (t : List ℕ) (lines i : ℕ) → ℕ
+next-line t lines i = getD t (lines + 256 + i) 0
 
--- Action a: its last effect, its last executability line.
-abbrev pub effect-last : ℕ
-effect-last = 5120
+unfoldable pub first-line : (t : List ℕ) (lines a : ℕ) → ℕ
+first-line t lines a = next-line t lines (256 + a)
 
-abbrev pub run-last : ℕ
-run-last = 5184
-
+-- Action a: what it senses, from the smallest fluent (as 64 less it) to the largest (as one more).
 abbrev pub sensed-from : ℕ
 sensed-from = 5248
 
@@ -79,15 +77,13 @@ module _ {A : Type 0} where
 unfoldable pub outcome : Passed → List ℕ → Got (List ℕ)
 outcome r t = elim r [ To p ↦ got t p | Stop n p ↦ fault n p ]
 
--- LINES. Line k goes in front of the chain that starts at `last` and goes on at `before` and the line's number.
-unfoldable pub link : (last before k : ℕ) → List ℕ → List ℕ
-link last before k t = set (set t (before + k) (getD t last 0)) last k
+-- LINES. What a new line of an action comes after, by its last line so far.
+unfoldable pub before : (last action : ℕ) → ℕ
+before last a = pick (eqb last 0) (λ _. 256 + a) (λ _. last)
 
-unfoldable pub effect-noted : (k place action : ℕ) → List ℕ → List ℕ
-effect-noted k p a t = link (effect-last + a) effect-before k (set t (effect-place + k) p)
-
-unfoldable pub run-noted : (k place action : ℕ) → List ℕ → List ℕ
-run-noted k p a t = link (run-last + a) run-before k (set t (run-place + k) (p + 1))
+-- Line k comes after the others of its action.
+unfoldable pub appended : (lines last k place action : ℕ) → List ℕ → List ℕ
+appended lines last k p a t = set (set t (lines + k) p) (lines + 256 + before last a) k
 
 -- The pair is 64 times the action and the fluent. From the smallest fluent that the action senses (as 64 less it) to the largest (as one more).
 unfoldable pub raised : (slot value : ℕ) → List ℕ → List ℕ
@@ -113,10 +109,15 @@ line-at effects n m s = effect-at format n m s
 line-at executability n m s = executability-at format n m s
 line-at knowledge n m s = knowledge-at format n m s
 
-unfoldable pub note-line : (c : Section) → ℕ → Line c → List ℕ → List ℕ
-note-line effects k e = effect-noted k (e .place) (e .action)
-note-line executability k x = run-noted k (x .place) (x .action)
-note-line knowledge k l = pair-noted (l .action) (l .fluent)
+unfoldable pub action-in : (c : Section) → Line c → ℕ
+action-in effects e = e .action
+action-in executability x = x .action
+action-in knowledge l = l .action
+
+unfoldable pub note-line : (c : Section) → (last k : ℕ) → Line c → List ℕ → List ℕ
+note-line effects last k e = appended effect-lines last k (e .place) (e .action)
+note-line executability last k x = appended run-lines last k (x .place) (x .action)
+note-line knowledge last k l = pair-noted (l .action) (l .fluent)
 
 -- The action of a line that was read, and the place after it.
 unfoldable pub line-read : (c : Section) → Got (Line c) → Read
@@ -125,16 +126,18 @@ line-read executability = executability-read
 line-read knowledge = knowledge-read
 
 -- What the table notes of line k, of action a, at place p; f is the byte after the action.
-unfoldable pub line-noted : Section → (k p a f : ℕ) → List ℕ → List ℕ
-line-noted effects k p a f = effect-noted k p a
-line-noted executability k p a f = run-noted k p a
-line-noted knowledge k p a f = pair-noted a f
+unfoldable pub line-noted : Section → (last k p a f : ℕ) → List ℕ → List ℕ
+line-noted effects last k p a f = appended effect-lines last k p a
+line-noted executability last k p a f = appended run-lines last k p a
+line-noted knowledge last k p a f = pair-noted a f
 
--- Lines from number k + 1 on.
-module _ {A : Type 0} (note : ℕ → A → List ℕ → List ℕ) where
-  unfoldable pub lines-noted : (k : ℕ) → List A → List ℕ → List ℕ
-  lines-noted k [] t = t
-  lines-noted k (x ∷ xs) t = lines-noted (k + 1) xs (note (k + 1) x t)
+-- Lines from number k + 1 on, where `last` has the last line of each action so far.
+unfoldable pub lines-noted : (c : Section) (k : ℕ) (last : List ℕ) → List (Line c) → List ℕ → List ℕ
+lines-noted c k last [] t = t
+lines-noted c k last (x ∷ xs) t = lines-noted c (k + 1) (set last (action-in c x) (k + 1)) xs (note-line c (getD last (action-in c x) 0) (k + 1) x t)
+
+unfoldable pub none-yet : List ℕ
+none-yet = replicate 64 0
 
 -- How many lines each section has.
 unfoldable pub count-slot : Section → ℕ
@@ -143,7 +146,7 @@ count-slot executability = 5379
 count-slot knowledge = 5380
 
 unfoldable pub section-noted : (c : Section) → List (Line c) → List ℕ → List ℕ
-section-noted c xs t = lines-noted (note-line c) 0 xs (set t (count-slot c) (length xs))
+section-noted c xs t = lines-noted c 0 none-yet xs (set t (count-slot c) (length xs))
 
 -- Sections 1 to 5. The counts stand at places 0 and 1, and the facts from 2 on.
 unfoldable pub table-noted : Table → List ℕ → List ℕ

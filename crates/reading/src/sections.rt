@@ -3,11 +3,10 @@ ghost use Prim.Native.Nat.{_≤_, _<_};
 ghost use lib.ListN.{length, set};
 ghost use Rattle.meaning.specs.Reading.{repeated, section-at};
 ghost use Rattle.reading.specs.Noted;
-ghost use Rattle.reading.specs.Noted.{section-of, line-at, line-read, line-noted, note-line, lines-noted, count-slot, section-noted, three-sections, noting, outcome};
+ghost use Rattle.reading.specs.Noted.{section-of, line-at, line-read, line-noted, none-yet, lines-noted, count-slot, section-noted, three-sections, noting, outcome};
 use super::table;
 use super::table::Table;
-use super::table::note_effect;
-use super::table::note_executability;
+use super::table::append_line;
 use super::table::note_pair;
 use super::table::put;
 use bytes::bytes::Read;
@@ -37,22 +36,22 @@ fn line_at(c: Section, n: usize, m: usize, s: &[u8], p: usize) -> Read
     }
 }
 
-// Line k, of action a, stands at p; f is the byte after the action.
-fn note_line(c: Section, k: usize, p: usize, a: usize, f: usize, t: &mut Table)
+// Line k, of action a, stands at p; `last` is the action's last line so far, and f is the byte after the action.
+fn note_line(c: Section, last: u8, k: usize, p: usize, a: usize, f: usize, t: &mut Table)
     requires { ⌜ k < 256 ⌝ }
-    requires { ⌜ p < 65535 ⌝ }
+    requires { ⌜ p < 65536 ⌝ }
     requires { ⌜ a < 64 ⌝ }
     requires { ⌜ (section-of c ≡ Noted.Section.knowledge → f < 64) ⌝ }
-    ensures { λ _. ⌜ now (t .exit) ≡ line-noted (section-of c) k p a f (now (t .entry)) ⌝ }
+    ensures { λ _. ⌜ now (t .exit) ≡ line-noted (section-of c) last k p a f (now (t .entry)) ⌝ }
 {
     match c {
-        Section::Effects => note_effect(t, k, p, a),
-        Section::Executability => note_executability(t, k, p, a),
+        Section::Effects => append_line(t, table::EFFECTS, last, k, p, a),
+        Section::Executability => append_line(t, table::EXECUTABILITY, last, k, p, a),
         Section::Knowledge => note_pair(t, a, f),
     }
 }
 
-// So many lines from a place on.
+// So many lines from a place on. Each action's last line so far is in `last`; once the section is read nobody asks for it.
 fn lines_from(
     c: Section,
     n: usize,
@@ -65,18 +64,20 @@ fn lines_from(
     requires { ⌜ n ≤ 64 ⌝ }
     requires { ⌜ m ≤ 64 ⌝ }
     requires { ⌜ length (now s) ≤ 16384 ⌝ }
-    ensures { λ r. ⌜ outcome r (now (t .exit)) ≡ noting (lines-noted (note-line (section-of c)) 0) (repeated (line-at (section-of c) n m (now (s .entry))) count start) (now (t .entry)) ⌝ }
+    ensures { λ r. ⌜ outcome r (now (t .exit)) ≡ noting (lines-noted (section-of c) 0 none-yet) (repeated (line-at (section-of c) n m (now (s .entry))) count start) (now (t .entry)) ⌝ }
 {
     let end = wide(count);
     let mut k = 0;
     let mut p = start;
+    let mut last = [0u8; 64];
     while k < end {
         match line_at(c, n, m, s, p) {
             Read::Value(a, e) => {
                 let q = p + 1;
                 let f = wide(s[q]);
                 k += 1;
-                note_line(c, k, p, a, f, t);
+                note_line(c, last[a], k, p, a, f, t);
+                last[a] = k as u8;
                 p = e;
             }
             Read::Fault(number, at) => {

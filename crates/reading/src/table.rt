@@ -1,8 +1,9 @@
 ghost use mathlib.Core.Path.{_≡_};
-ghost use Prim.Native.Nat.{_+_, _<_};
+ghost use Prim.Native.Nat.{_≤_, _<_};
 ghost use lib.ListN.{length, getD, set};
 ghost use Rattle.reading.specs.Noted;
-ghost use Rattle.reading.specs.Noted.{effect-noted, run-noted, pair-noted, raised};
+ghost use Rattle.reading.specs.Noted.{line-place, next-line, first-line, appended, pair-noted, raised};
+use bytes::bytes::wide;
 
 // What reading leaves behind; specs/Noted says what its slots hold.
 pub const ITEM_PLACE: usize = 0;
@@ -13,17 +14,9 @@ pub const BRANCH_PLACE: usize = 2048;
 
 pub const BRANCH_ITEM: usize = 3072;
 
-pub const EFFECT_PLACE: usize = 4096;
+pub const EFFECTS: usize = 4096;
 
-pub const EFFECT_BEFORE: usize = 4352;
-
-pub const RUN_PLACE: usize = 4608;
-
-pub const RUN_BEFORE: usize = 4864;
-
-pub const EFFECT_LAST: usize = 5120;
-
-pub const RUN_LAST: usize = 5184;
+pub const EXECUTABILITY: usize = 4672;
 
 pub const SENSED_FROM: usize = 5248;
 
@@ -73,37 +66,58 @@ pub fn put(t: &mut Table, slot: usize, value: usize)
     t[slot] = value as u16;
 }
 
-// Line k goes in front of the chain that starts at `last` and goes on at `before` + k.
-pub fn link(t: &mut Table, last: usize, before: usize, k: usize)
-    requires { ⌜ last < 9480 ⌝ }
-    requires { ⌜ before + k < 9480 ⌝ }
-    requires { ⌜ k < 65536 ⌝ }
-    ensures { λ _. ⌜ now (t .exit) ≡ Noted.link last before k (now (t .entry)) ⌝ }
+// Where line k stands, of the section whose slots start at `lines`.
+pub fn line_place(t: &Table, lines: usize, k: usize) -> usize
+    requires { ⌜ lines ≤ 4672 ⌝ }
+    requires { ⌜ k < 256 ⌝ }
+    ensures { λ r. ⌜ r ≡ line-place (now (t .entry)) lines k ⌝ }
 {
-    t[before + k] = t[last];
-    t[last] = k as u16;
+    let slot = lines + k;
+    get(t, slot)
 }
 
-// Effect k, of action a, stands at p.
-pub fn note_effect(t: &mut Table, k: usize, p: usize, a: usize)
+// The line of the same action that comes after line k in file order, or 0.
+pub fn next_line(t: &Table, lines: usize, k: usize) -> usize
+    requires { ⌜ lines ≤ 4672 ⌝ }
+    requires { ⌜ k < 256 ⌝ }
+    ensures { λ r. ⌜ r ≡ next-line (now (t .entry)) lines k ⌝ }
+{
+    let slot = lines + 256 + k;
+    get(t, slot)
+}
+
+// The first line of action a in file order, or 0.
+pub fn first_line(t: &Table, lines: usize, a: usize) -> usize
+    requires { ⌜ lines ≤ 4672 ⌝ }
+    requires { ⌜ a < 64 ⌝ }
+    ensures { λ r. ⌜ r ≡ first-line (now (t .entry)) lines a ⌝ }
+{
+    let slot = lines + 512 + a;
+    get(t, slot)
+}
+
+// What a new line of action a comes after: the action's last line so far, or 256 + a where it has none.
+fn before(last: u8, a: usize) -> usize
+    requires { ⌜ a < 64 ⌝ }
+    ensures { λ r. ⌜ r ≡ Noted.before last a ⌝ }
+{
+    if last == 0 {
+        return 256 + a;
+    }
+    wide(last)
+}
+
+// Line k, of action a, stands at p; `last` is the action's last line so far.
+pub fn append_line(t: &mut Table, lines: usize, last: u8, k: usize, p: usize, a: usize)
+    requires { ⌜ lines ≤ 4672 ⌝ }
     requires { ⌜ k < 256 ⌝ }
     requires { ⌜ p < 65536 ⌝ }
     requires { ⌜ a < 64 ⌝ }
-    ensures { λ _. ⌜ now (t .exit) ≡ effect-noted k p a (now (t .entry)) ⌝ }
+    ensures { λ _. ⌜ now (t .exit) ≡ appended lines last k p a (now (t .entry)) ⌝ }
 {
-    put(t, EFFECT_PLACE + k, p);
-    link(t, EFFECT_LAST + a, EFFECT_BEFORE, k);
-}
-
-// Executability line k, of action a, stands at p.
-pub fn note_executability(t: &mut Table, k: usize, p: usize, a: usize)
-    requires { ⌜ k < 256 ⌝ }
-    requires { ⌜ p < 65535 ⌝ }
-    requires { ⌜ a < 64 ⌝ }
-    ensures { λ _. ⌜ now (t .exit) ≡ run-noted k p a (now (t .entry)) ⌝ }
-{
-    put(t, RUN_PLACE + k, p + 1);
-    link(t, RUN_LAST + a, RUN_BEFORE, k);
+    put(t, lines + k, p);
+    let i = before(last, a);
+    put(t, lines + 256 + i, k);
 }
 
 // The slot holds at least the value.

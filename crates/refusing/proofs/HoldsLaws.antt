@@ -1,24 +1,16 @@
 -- What the table holds of the effects once they are noted. Assumes nothing.
 use Prim.Native.Nat.{ℕ, zero, suc, _+_, _≤_, _<_}
 use native.Mathlib.Omega.{arith}
-use mathlib.Core.Path.{_≡_, refl, sym, _∙_, ap, subst}
-use mathlib.Core.Bool.{true}
+use mathlib.Core.Path.{_≡_, refl, _∙_, ap, subst}
 use mathlib.Core.List.{List, [], _∷_}
 use mathlib.Core.Logic.{inl, inr}
-use lib.ListN.{length, getD, set, length-set}
+use lib.ListN.{length, getD, set}
 use lib.Seq.{getD-set-same}
-use lib.Dec.{eqb, ltb}
-use borrow.Author.Tests.{eqb-true, eqb-false, lt-ltb}
-use Rattle.meaning.specs.Tests.{either, some-of, Has}
+use Rattle.meaning.specs.Tests.{Has}
 use Rattle.meaning.specs.Requests.{Effect}
-use Rattle.meaning.proofs.TestLaws.{by-test, either-right}
-use Rattle.reading.specs.Noted.{effects, link, effect-noted, note-line, lines-noted}
+use Rattle.reading.specs.Noted.{effects, line-place, before, appended, action-in, note-line, lines-noted}
 use Rattle.refusing.specs.InTable.{effect-from, Effect-here, place-in, effects-in}
-use Rattle.refusing.proofs.KeptLaws.{kept, link-kept, note-long}
-
--- An effect is good for noting where its action is below 64.
-abbrev pub Good : Effect → Type 0
-Good e = e .action < 64
+use Rattle.refusing.proofs.KeptLaws.{kept, note-long}
 
 -- The table has the places of these effects, from number k + 1 on.
 unfoldable pub Placed-in : List ℕ → ℕ → List Effect → Type 0
@@ -26,32 +18,34 @@ Placed-in t k [] = Unit {0}
 Placed-in t k (e ∷ es) = (place-in t (k + 1) ≡ e .place) × Placed-in t (k + 1) es
 
 -- The place of an effect stays where others are noted after it.
-place-kept : (i k : ℕ) (e : Effect) (t : List ℕ) → i < 256 → k < 256 → (i ≡ k → ⊥) → getD (note-line effects k e t) (4096 + i) 0 ≡ getD t (4096 + i) 0
-unfolding note-line effect-noted
-place-kept i k e t h g other =
-    link-kept (4096 + i) (5120 + e .action) 4352 k (set t (4096 + k) (e .place)) (λ q. omega arith) (λ q. omega arith)
+place-kept : (i last k : ℕ) (e : Effect) (t : List ℕ) → i < 256 → k < 256 → (i ≡ k → ⊥) → place-in (note-line effects last k e t) i ≡ place-in t i
+unfolding note-line appended line-place
+place-kept i last k e t h g other =
+    kept (set t (4096 + k) (e .place)) (4096 + 256 + before last (e .action)) (4096 + i) k (λ q. omega arith)
     ∙ kept t (4096 + k) (4096 + i) (e .place) (λ q. other (omega arith))
 
-place-noted : (k : ℕ) (e : Effect) (t : List ℕ) → length t ≡ 9480 → k < 256 → getD (note-line effects k e t) (4096 + k) 0 ≡ e .place
-unfolding note-line effect-noted
-place-noted k e t sized h =
-    link-kept (4096 + k) (5120 + e .action) 4352 k (set t (4096 + k) (e .place)) (λ q. omega arith) (λ q. omega arith)
+place-noted : (last k : ℕ) (e : Effect) (t : List ℕ) → length t ≡ 9480 → k < 256 → place-in (note-line effects last k e t) k ≡ e .place
+unfolding note-line appended line-place
+place-noted last k e t sized h =
+    kept (set t (4096 + k) (e .place)) (4096 + 256 + before last (e .action)) (4096 + k) k (λ q. omega arith)
     ∙ getD-set-same t (4096 + k) (e .place) 0 (omega arith)
 
-places-later : (i k : ℕ) (es : List Effect) (t : List ℕ) → i ≤ k → k + length es < 256 → getD (lines-noted (note-line effects) k es t) (4096 + i) 0 ≡ getD t (4096 + i) 0
-unfolding lines-noted
-places-later i k [] t h g = refl
-places-later i k (e ∷ es) t h g =
-    places-later i (k + 1) es (note-line effects (k + 1) e t) (omega arith) (omega arith)
-    ∙ place-kept i (k + 1) e t (omega arith) (omega arith) (λ q. omega arith)
+places-later : (i k : ℕ) (last : List ℕ) (es : List Effect) (t : List ℕ) → i ≤ k → k + length es < 256 → place-in (lines-noted effects k last es t) i ≡ place-in t i
+unfolding lines-noted action-in
+places-later i k last [] t h g = refl
+places-later i k last (e ∷ es) t h g =
+    places-later i (k + 1) (set last (e .action) (k + 1)) es (note-line effects (getD last (e .action) 0) (k + 1) e t) (omega arith) (omega arith)
+    ∙ place-kept i (getD last (e .action) 0) (k + 1) e t (omega arith) (omega arith) (λ q. omega arith)
 
-pub effects-placed : (k : ℕ) (es : List Effect) (t : List ℕ) → length t ≡ 9480 → k + length es < 256 → Placed-in (lines-noted (note-line effects) k es t) k es
-unfolding lines-noted Placed-in place-in
-effects-placed k [] t sized h = tt
-effects-placed k (e ∷ es) t sized h = (
-  places-later (k + 1) (k + 1) es (note-line effects (k + 1) e t) (omega arith) (omega arith) ∙ place-noted (k + 1) e t sized (omega arith),
-  effects-placed (k + 1) es (note-line effects (k + 1) e t) (note-long effects (k + 1) e t ∙ sized) (omega arith),
-)
+pub effects-placed : (k : ℕ) (last : List ℕ) (es : List Effect) (t : List ℕ) → length t ≡ 9480 → k + length es < 256 → Placed-in (lines-noted effects k last es t) k es
+unfolding lines-noted action-in Placed-in
+effects-placed k last [] t sized h = tt
+effects-placed k last (e ∷ es) t sized h =
+    let newest : List ℕ = set last (e .action) (k + 1) in
+    let noted : List ℕ = note-line effects (getD last (e .action) 0) (k + 1) e t in (
+      places-later (k + 1) (k + 1) newest es noted (omega arith) (omega arith) ∙ place-noted (getD last (e .action) 0) (k + 1) e t sized (omega arith),
+      effects-placed (k + 1) newest es noted (note-long effects (getD last (e .action) 0) (k + 1) e t ∙ sized) (omega arith),
+    )
 
 -- A table that agrees on the places has them too.
 pub placed-same : (t u : List ℕ) (k : ℕ) (es : List Effect) → ((i : ℕ) → i ≤ k + length es → place-in u i ≡ place-in t i) → Placed-in t k es → Placed-in u k es
@@ -75,26 +69,3 @@ effects-fit s t k (e ∷ es) h each zero less =
 effects-fit s t k (e ∷ es) h each (suc i) less =
     let same : k + 1 + i + 1 ≡ k + suc i + 1 = omega arith in
     subst (λ (j : ℕ). Effect-here s (place-in t j)) same (effects-fit s t (k + 1) es (h .1) (λ y has. each y (inr has)) i (omega arith))
-
--- The last effect of an action.
-last-here : (k a : ℕ) (e : Effect) (t : List ℕ) → length t ≡ 9480 → k < 256 → a < 64 → e .action ≡ a → getD (note-line effects k e t) (5120 + a) 0 ≡ k
-unfolding note-line effect-noted link
-last-here k a e t sized h g is =
-    rw is (getD-set-same (set (set t (4096 + k) (e .place)) (4352 + k) (getD (set t (4096 + k) (e .place)) (5120 + a) 0)) (5120 + a) k 0
-    (omega (arith, length-set (set t (4096 + k) (e .place)) (4352 + k) (getD (set t (4096 + k) (e .place)) (5120 + a) 0), length-set t (4096 + k) (e .place))))
-
-last-kept : (k a : ℕ) (e : Effect) (t : List ℕ) → k < 256 → (e .action ≡ a → ⊥) → getD (note-line effects k e t) (5120 + a) 0 ≡ getD t (5120 + a) 0
-unfolding note-line effect-noted
-last-kept k a e t h other =
-    link-kept (5120 + a) (5120 + e .action) 4352 k (set t (4096 + k) (e .place)) (λ q. other (omega arith)) (λ q. omega arith)
-    ∙ kept t (4096 + k) (5120 + a) (e .place) (λ q. omega arith)
-
-pub last-noted : (a : ℕ) → a < 64 → (k : ℕ) (es : List Effect) (t : List ℕ) → length t ≡ 9480 → k + length es < 256
-    → ltb 0 (getD (lines-noted (note-line effects) k es t) (5120 + a) 0) ≡ either (ltb 0 (getD t (5120 + a) 0)) (some-of (λ (e : Effect). eqb (e .action) a) es)
-unfolding lines-noted some-of either
-last-noted a small k [] t sized h = by-test (ltb 0 (getD t (5120 + a) 0)) (λ e. rw e) (λ e. rw e)
-last-noted a small k (e ∷ es) t sized h =
-    last-noted a small (k + 1) es (note-line effects (k + 1) e t) (note-long effects (k + 1) e t ∙ sized) (omega arith)
-    ∙ by-test (eqb (e .action) a)
-    (λ q. rw (last-here (k + 1) a e t sized (omega arith) small (eqb-true _ _ q), lt-ltb 0 (k + 1) (omega arith), q) (sym (either-right (ltb 0 (getD t (5120 + a) 0)) true refl)))
-    (λ q. rw (last-kept (k + 1) a e t (omega arith) (eqb-false _ _ q), q))

@@ -2,6 +2,7 @@ pub mod RefusalLaws
 pub mod HereLaws
 pub mod PlanKept
 pub mod KeptLaws
+pub mod ChainLaws
 pub mod HoldsLaws
 pub mod OverlapLaws
 pub mod PlanOverlaps

@@ -2,18 +2,20 @@
 use Prim.Native.Nat.{ℕ, zero, suc, _+_, _-_, _*_, _≤_, _<_}
 use native.Mathlib.Omega.{arith}
 use mathlib.Core.Path.{_≡_, refl, sym, _∙_, ap, subst}
-use mathlib.Core.List.{List, _∷_}
+use mathlib.Core.List.{List, _∷_, map}
 use lib.ListN.{length, getD, set, length-set}
 use lib.Seq.{getD-set-same}
-use lib.Dec.{eqb, ltb}
-use Rattle.meaning.specs.Tests.{either, some-of, Has}
+use lib.Dec.{eqb}
+use Rattle.meaning.specs.Tests.{Has}
 use Rattle.meaning.specs.Limits.{format}
 use Rattle.meaning.specs.Requests.{Effect, Executability, Knowledge, Table, Request}
+use Rattle.meaning.specs.Lines.{effects-of, executability-of}
 use Rattle.meaning.specs.Reading
 use Rattle.meaning.specs.Reading.{Got, got, fault, literals, byte-at, count-at, below-at, list-at, body-at, effect-at, executability-at, knowledge-at, repeated, section-at, plan-at, table-at, request-at, read-request}
 use Rattle.meaning.proofs.SettledLaws.{got-same}
 use Rattle.meaning.proofs.RangeLaws.{not-refused, after-got, count-within, section-read, repeated-length}
-use Rattle.reading.specs.Noted.{Section, effects, executability, knowledge, Line, effect-noted, note-line, count-slot, section-noted, table-noted}
+use Rattle.reading.specs.Noted.{effects, executability, knowledge, effect-lines, run-lines, line-place, action-in, note-line, none-yet, count-slot, section-noted, table-noted}
+use Rattle.reading.specs.Ordered.{In-order}
 use Rattle.reading.specs.Planned.{items-of, bytes-of, plan-noted}
 use Rattle.reading.specs.Requested.{goals-place, plan-place, places-noted, request-noted}
 use Rattle.refusing.specs.InTable.{effect-from, Effect-here, place-in, effects-in, Effects-here, knowledge-from, knowledge-in, Knowledge-here, Acting}
@@ -21,11 +23,12 @@ use Rattle.reading.proofs.SectionLaws.{got-place, byte-got, number-got}
 use Rattle.reading.proofs.PlanSizes.{sequence-read, list-through}
 use Rattle.reading.proofs.RequestLaws.{placed-length}
 use Rattle.refusing.proofs.HereLaws.{effect-here}
-use Rattle.refusing.proofs.KeptLaws.{kept, link-kept, run-kept, pair-kept, lines-kept, lines-long, note-long, plan-kept, plan-long}
+use Rattle.refusing.proofs.KeptLaws.{kept, Outside, appended-kept, pair-kept, section-kept, section-counted, section-long, plan-kept, plan-long}
+use Rattle.refusing.proofs.ChainLaws.{section-ordered, order-same, order-some}
 use Rattle.refusing.specs.Plans.{Kept, Plan-held}
 use Rattle.refusing.proofs.PlanKept.{kept-agree}
 use Rattle.refusing.proofs.WrittenLaws.{plan-held}
-use Rattle.refusing.proofs.HoldsLaws.{Placed-in, effects-placed, placed-same, effects-found, effects-fit, last-noted}
+use Rattle.refusing.proofs.HoldsLaws.{Placed-in, effects-placed, placed-same, effects-found, effects-fit}
 
 -- THE PARTS of a table that was read up to p, and of a request with that table.
 pub record Table-parts (s : List ℕ) (t : Table) (p : ℕ) : Type 0 where
@@ -124,12 +127,23 @@ section-length line s p xs q e =
     after-got (byte-at s p) _ e λ c i ec e′.
     repeated-length line c i xs q e′ ∙ sym (byte-got s p c i ec .1)
 
+acts : (s : List ℕ) (e : Effect) → effect-from s (e .place) ≡ e → getD s (e .place) 0 ≡ e .action
+unfolding effect-from
+acts s e is = ap (λ (y : Effect). y .action) is
+
 -- WHAT THE LINES SAY: actions below 64, and where each stands.
 module _ (s : List ℕ) (t : Table) (p : ℕ) (whole : Table-parts s t p) where
   pub effect-good : (e : Effect) → Has (t .effects) e → (effect-from s (e .place) ≡ e) × Effect-here s (e .place)
   effect-good e has =
       let w = section-read (effect-at format (t .fluents) (t .actions) s) s (whole .effects-at) (t .effects) (whole .effects-end) (whole .effects-read) e has in
       effect-here (t .fluents) (t .actions) s (whole .few) (whole .less) (w .0) e (w .1) (w .2)
+
+  pub effect-acts : (e : Effect) → Has (t .effects) e → e .action < 64
+  effect-acts e has =
+      let good = effect-good e has in
+      let is : getD s (e .place) 0 ≡ e .action = acts s e (good .0) in
+      let small = good .1 .action in
+      omega arith
 
   pub run-good : (r : Executability) → Has (t .executability) r → r .action < 64
   unfolding executability-at
@@ -153,21 +167,20 @@ module _ (s : List ℕ) (t : Table) (p : ℕ) (whole : Table-parts s t p) where
       let is : a ≡ k .action = ap (λ (y : Knowledge). y .action) (got-same e₂) in
       omega arith
 
-acts : (s : List ℕ) (e : Effect) → effect-from s (e .place) ≡ e → getD s (e .place) 0 ≡ e .action
-unfolding effect-from
-acts s e is = ap (λ (y : Effect). y .action) is
-
-pub section-long : (c : Section) (xs : List (Line c)) (t : List ℕ) → length (section-noted c xs t) ≡ length t
-unfolding section-noted
-section-long c xs t = lines-long (note-line c) (note-long c) 0 xs (set t (count-slot c) (length xs)) ∙ length-set t (count-slot c) (length xs)
-
--- THE SLOTS that nothing noted after the effects touches.
+-- THE SLOTS that nothing noted after the executability lines touches.
 pub record Apart (j : ℕ) : Type 0 where
   pub plan : 4096 ≤ j
-  pub run : (k : ℕ) → k < 256 → (j ≡ 4608 + k → ⊥) × (j ≡ 4864 + k → ⊥)
-  pub action : (a : ℕ) → a < 64 → (j ≡ 5184 + a → ⊥) × (j ≡ 5248 + a → ⊥) × (j ≡ 5312 + a → ⊥)
+  pub action : (a : ℕ) → a < 64 → (j ≡ 5248 + a → ⊥) × (j ≡ 5312 + a → ⊥)
   pub sensed : j < 5384
-  pub other : (j ≡ 5379 → ⊥) × (j ≡ 5380 → ⊥) × (j ≡ 5376 → ⊥) × (j ≡ 5377 → ⊥) × (j ≡ 5381 → ⊥)
+  pub other : (j ≡ 5380 → ⊥) × (j ≡ 5376 → ⊥) × (j ≡ 5377 → ⊥) × (j ≡ 5381 → ⊥)
+
+lines-apart : (j : ℕ) → 4096 ≤ j → j < 5248 → Apart j
+lines-apart j far near = record {
+  plan = far;
+  action = λ a h. (λ e. omega arith, λ e. omega arith);
+  sensed = omega arith;
+  other = (λ e. omega arith, λ e. omega arith, λ e. omega arith, λ e. omega arith);
+}
 
 module _ (s : List ℕ) (bytes : (i : ℕ) → getD s i 0 < 256) (x : Request) (whole : Parts s x) (t : List ℕ) where
   pub effects-few : length (x .table .effects) < 256
@@ -197,17 +210,49 @@ module _ (s : List ℕ) (bytes : (i : ℕ) → getD s i 0 < 256) (x : Request) (
   pub planned-long : {n : ℕ} → length t ≡ n → length (plan-noted (plan-place x) (table-noted (x .table) t) (x .plan)) ≡ n
   planned-long sized = plan-long (plan-place x) (table-noted (x .table) t) (x .plan) ∙ tabled-long sized
 
-  with-effects : List ℕ
+  -- The table after one section, two and three.
+  unfoldable pub with-effects : List ℕ
   with-effects = section-noted effects (x .table .effects) t
 
-  with-runs : List ℕ
+  unfoldable pub with-runs : List ℕ
   with-runs = section-noted executability (x .table .executability) with-effects
 
-  with-knowledge : List ℕ
+  unfoldable pub with-knowledge : List ℕ
   with-knowledge = section-noted knowledge (x .table .knowledge) with-runs
 
+  effects-long : {n : ℕ} → length t ≡ n → length with-effects ≡ n
+  unfolding with-effects
+  effects-long sized = section-long effects (x .table .effects) t ∙ sized
+
+  pub runs-long : {n : ℕ} → length t ≡ n → length with-runs ≡ n
+  unfolding with-runs
+  runs-long sized = section-long executability (x .table .executability) with-effects ∙ effects-long sized
+
+  -- EACH SECTION leaves alone what is none of its slots.
+  module _ (u : List ℕ) (j : ℕ) where
+    pub effects-kept : Outside effect-lines j → (j ≡ 5378 → ⊥) → getD (section-noted effects (x .table .effects) u) j 0 ≡ getD u j 0
+    unfolding note-line action-in count-slot
+    effects-kept out other =
+        section-kept effects j (λ (e : Effect). e .action < 64)
+        (λ last k e v small less few. appended-kept j effect-lines last k (e .place) (e .action) v less few small out) (λ e small. small)
+        (x .table .effects) u (effect-acts s (x .table) (whole .place) (whole .of-table)) effects-few other
+
+    pub runs-kept : Outside run-lines j → (j ≡ 5379 → ⊥) → getD (section-noted executability (x .table .executability) u) j 0 ≡ getD u j 0
+    unfolding note-line action-in count-slot
+    runs-kept out other =
+        section-kept executability j (λ (r : Executability). r .action < 64)
+        (λ last k r v small less few. appended-kept j run-lines last k (r .place) (r .action) v less few small out) (λ r small. small)
+        (x .table .executability) u (run-good s (x .table) (whole .place) (whole .of-table)) runs-few other
+
+    knowledge-kept : Apart j → getD (section-noted knowledge (x .table .knowledge) u) j 0 ≡ getD u j 0
+    unfolding note-line action-in count-slot
+    knowledge-kept apart =
+        section-kept knowledge j (λ (l : Knowledge). l .action < 64)
+        (λ last k l v small _ _. pair-kept j (l .action) (l .fluent) v (apart .sensed) (apart .action (l .action) small .0) (apart .action (l .action) small .1)) (λ l small. small)
+        (x .table .knowledge) u (knowledge-good s (x .table) (whole .place) (whole .of-table)) knowledge-few (apart .other .0)
+
   -- The plan and the places leave a slot as the table's sections left it.
-  after-sections : (j : ℕ) → 4096 ≤ j → (j ≡ 5376 → ⊥) → (j ≡ 5377 → ⊥) → (j ≡ 5381 → ⊥) → getD (request-noted x t) j 0 ≡ getD with-knowledge j 0
+  pub after-sections : (j : ℕ) → 4096 ≤ j → (j ≡ 5376 → ⊥) → (j ≡ 5377 → ⊥) → (j ≡ 5381 → ⊥) → getD (request-noted x t) j 0 ≡ getD with-knowledge j 0
   unfolding request-noted places-noted table-noted with-knowledge with-runs with-effects
   after-sections j far a b c =
       let planned : List ℕ = plan-noted (plan-place x) (table-noted (x .table) t) (x .plan) in
@@ -216,50 +261,36 @@ module _ (s : List ℕ) (bytes : (i : ℕ) → getD s i 0 < 256) (x : Request) (
       ∙ kept planned 5376 j (plan-place x) a
       ∙ plan-kept j far (plan-place x) (table-noted (x .table) t) (x .plan) (items-most .1)
 
-  after-effects : (j : ℕ) → Apart j → getD (request-noted x t) j 0 ≡ getD with-effects j 0
-  unfolding with-knowledge with-runs section-noted note-line count-slot
-  after-effects j apart =
-      after-sections j (apart .plan) (apart .other .2) (apart .other .3) (apart .other .4)
-      ∙ lines-kept (note-line knowledge) j (λ (k : Knowledge). k .action < 64)
-      (λ k l u small _. pair-kept j (l .action) (l .fluent) u (apart .sensed) (apart .action (l .action) small .1) (apart .action (l .action) small .2))
-      0 (x .table .knowledge) (set with-runs 5380 (length (x .table .knowledge))) (knowledge-good s (x .table) (whole .place) (whole .of-table)) (omega (arith, knowledge-few))
-      ∙ kept with-runs 5380 j (length (x .table .knowledge)) (apart .other .1)
-      ∙ lines-kept (note-line executability) j (λ (r : Executability). r .action < 64)
-      (λ k r u small less. run-kept j k (r .place) (r .action) u (apart .run k less .0) (apart .run k less .1) (apart .action (r .action) small .0))
-      0 (x .table .executability) (set with-effects 5379 (length (x .table .executability))) (run-good s (x .table) (whole .place) (whole .of-table)) (omega (arith, runs-few))
-      ∙ kept with-effects 5379 j (length (x .table .executability)) (apart .other .0)
+  after-runs : (j : ℕ) → Apart j → getD (request-noted x t) j 0 ≡ getD with-runs j 0
+  unfolding with-knowledge
+  after-runs j apart = after-sections j (apart .plan) (apart .other .1) (apart .other .2) (apart .other .3) ∙ knowledge-kept with-runs j apart
+
+  after-effects : (j : ℕ) → Apart j → Outside run-lines j → (j ≡ 5379 → ⊥) → getD (request-noted x t) j 0 ≡ getD with-effects j 0
+  unfolding with-runs
+  after-effects j apart out other = after-runs j apart ∙ runs-kept with-effects j out other
 
   module _ (sized : length t ≡ 9480) where
     pub knowledge-counted : getD (request-noted x t) 5380 0 ≡ length (x .table .knowledge)
-    unfolding with-knowledge with-runs with-effects section-noted note-line count-slot
+    unfolding with-knowledge note-line action-in count-slot
     knowledge-counted =
         after-sections 5380 (omega arith) (λ e. omega arith) (λ e. omega arith) (λ e. omega arith)
-        ∙ lines-kept (note-line knowledge) 5380 (λ (k : Knowledge). k .action < 64)
-        (λ k l u small _. pair-kept 5380 (l .action) (l .fluent) u (omega arith) (λ e. omega arith) (λ e. omega arith))
-        0 (x .table .knowledge) (set with-runs 5380 (length (x .table .knowledge))) (knowledge-good s (x .table) (whole .place) (whole .of-table)) (omega (arith, knowledge-few))
-        ∙ getD-set-same with-runs 5380 (length (x .table .knowledge)) 0 (omega (arith, section-long executability (x .table .executability) with-effects, section-long effects (x .table .effects) t))
+        ∙ section-counted knowledge 5380 (λ (l : Knowledge). l .action < 64)
+        (λ last k l v small _ _. pair-kept 5380 (l .action) (l .fluent) v (omega arith) (λ e. omega arith) (λ e. omega arith)) (λ l small. small)
+        (x .table .knowledge) with-runs (knowledge-good s (x .table) (whole .place) (whole .of-table)) knowledge-few refl (omega (arith, runs-long sized))
 
     pub effects-counted : getD (request-noted x t) 5378 0 ≡ length (x .table .effects)
-    unfolding with-effects section-noted count-slot note-line effect-noted
+    unfolding with-effects note-line action-in count-slot
     effects-counted =
         after-effects 5378 (record {
           plan = omega arith;
-          run = λ k h. (λ e. omega arith, λ e. omega arith);
-          action = λ a h. (λ e. omega arith, λ e. omega arith, λ e. omega arith);
+          action = λ a h. (λ e. omega arith, λ e. omega arith);
           sensed = omega arith;
-          other = (λ e. omega arith, λ e. omega arith, λ e. omega arith, λ e. omega arith, λ e. omega arith);
+          other = (λ e. omega arith, λ e. omega arith, λ e. omega arith, λ e. omega arith);
         })
-        ∙ lines-kept (note-line effects) 5378 (λ (e : Effect). e .action < 64)
-        (λ k e u small less. link-kept 5378 (5120 + e .action) 4352 k (set u (4096 + k) (e .place)) (λ q. omega arith) (λ q. omega arith) ∙ kept u (4096 + k) 5378 (e .place) (λ q. omega arith))
-        0 (x .table .effects) (set t 5378 (length (x .table .effects))) effect-small (omega (arith, effects-few))
-        ∙ getD-set-same t 5378 (length (x .table .effects)) 0 (omega arith)
-      where
-        effect-small : (e : Effect) → Has (x .table .effects) e → e .action < 64
-        effect-small e has =
-            let good = effect-good s (x .table) (whole .place) (whole .of-table) e has in
-            let is : getD s (e .place) 0 ≡ e .action = acts s e (good .0) in
-            let small = good .1 .action in
-            omega arith
+        (λ i h e. omega arith) (λ e. omega arith)
+        ∙ section-counted effects 5378 (λ (e : Effect). e .action < 64)
+        (λ last k e v small less few. appended-kept 5378 effect-lines last k (e .place) (e .action) v less few small (λ i h q. omega arith)) (λ e small. small)
+        (x .table .effects) t (effect-acts s (x .table) (whole .place) (whole .of-table)) effects-few refl (omega arith)
 
     pub items-noted : getD (request-noted x t) 5377 0 ≡ items-of (x .plan)
     unfolding request-noted places-noted
@@ -306,17 +337,13 @@ module _ (s : List ℕ) (bytes : (i : ℕ) → getD s i 0 < 256) (x : Request) (
 
     -- 16 finds the effects.
     placed-effects : Placed-in (request-noted x t) 0 (x .table .effects)
-    unfolding with-effects section-noted count-slot place-in
+    unfolding with-effects section-noted count-slot line-place
     placed-effects =
         placed-same with-effects (request-noted x t) 0 (x .table .effects)
-        (λ i less. after-effects (4096 + i) (record {
-          plan = omega arith;
-          run = λ k h. (λ e. omega (arith, effects-few), λ e. omega (arith, effects-few));
-          action = λ a h. (λ e. omega (arith, effects-few), λ e. omega (arith, effects-few), λ e. omega (arith, effects-few));
-          sensed = omega (arith, effects-few);
-          other = (λ e. omega (arith, effects-few), λ e. omega (arith, effects-few), λ e. omega (arith, effects-few), λ e. omega (arith, effects-few), λ e. omega (arith, effects-few));
-        }))
-        (effects-placed 0 (x .table .effects) (set t 5378 (length (x .table .effects))) (length-set t 5378 (length (x .table .effects)) ∙ sized) (omega (arith, effects-few)))
+        (λ i less.
+        let few = effects-few in
+        after-effects (4096 + i) (lines-apart (4096 + i) (omega arith) (omega arith)) (λ m h e. omega arith) (λ e. omega arith))
+        (effects-placed 0 none-yet (x .table .effects) (set t 5378 (length (x .table .effects))) (length-set t 5378 (length (x .table .effects)) ∙ sized) (omega (arith, effects-few)))
 
     pub effects-are : effects-in s (request-noted x t) 0 (length (x .table .effects)) ≡ x .table .effects
     effects-are = effects-found s (request-noted x t) 0 (x .table .effects) placed-effects (λ e has. effect-good s (x .table) (whole .place) (whole .of-table) e has .0)
@@ -329,20 +356,32 @@ module _ (s : List ℕ) (bytes : (i : ℕ) → getD s i 0 < 256) (x : Request) (
           (effects-fit s (request-noted x t) 0 (x .table .effects) placed-effects (λ e has. effect-good s (x .table) (whole .place) (whole .of-table) e has .1) i less);
     }
 
+    -- THE LINES OF AN ACTION, over a table that held nothing.
+    module _ (blank : (j : ℕ) → j < 9480 → getD t j 0 ≡ 0) (a : ℕ) (small : a < 64) where
+      pub effects-ordered : In-order (request-noted x t) effect-lines a (map (λ (e : Effect). e .place) (effects-of (x .table) a))
+      unfolding with-effects note-line action-in count-slot effects-of
+      effects-ordered =
+          order-same effect-lines with-effects (request-noted x t)
+          (λ i less. after-effects (4096 + i) (lines-apart (4096 + i) (omega arith) (omega arith)) (λ m h e. omega arith) (λ e. omega arith))
+          a (map (λ (e : Effect). e .place) (effects-of (x .table) a)) small
+          (section-ordered effects effect-lines (omega arith) (λ (e : Effect). e .place) (λ last k e u. refl) a small (x .table .effects) t sized effects-few
+          (effect-acts s (x .table) (whole .place) (whole .of-table)) (λ i less e. omega arith) (λ i less. blank (4096 + i) (omega arith)))
+
+      pub runs-ordered : In-order (request-noted x t) run-lines a (map (λ (r : Executability). r .place) (executability-of (x .table) a))
+      unfolding with-runs with-effects note-line action-in count-slot executability-of
+      runs-ordered =
+          order-same run-lines with-runs (request-noted x t)
+          (λ i less. after-runs (4672 + i) (lines-apart (4672 + i) (omega arith) (omega arith)))
+          a (map (λ (r : Executability). r .place) (executability-of (x .table) a)) small
+          (section-ordered executability run-lines (omega arith) (λ (r : Executability). r .place) (λ last k r u. refl) a small (x .table .executability) with-effects (effects-long sized) runs-few
+          (run-good s (x .table) (whole .place) (whole .of-table)) (λ i less e. omega arith)
+          (λ i less. effects-kept t (4672 + i) (λ m h e. omega arith) (λ e. omega arith) ∙ blank (4672 + i) (omega arith)))
+
     -- 17 finds the actions that have an effect.
-    pub acting : ((a : ℕ) → a < 64 → getD t (5120 + a) 0 ≡ 0) → Acting (request-noted x t) (x .table .effects)
-    unfolding with-effects section-noted count-slot either
+    pub acting : ((j : ℕ) → j < 9480 → getD t j 0 ≡ 0) → Acting (request-noted x t) (x .table .effects)
+    unfolding effects-of
     acting blank = record {
-      slot = λ a small.
-          ap (ltb 0) (after-effects (5120 + a) (record {
-            plan = omega arith;
-            run = λ k h. (λ e. omega arith, λ e. omega arith);
-            action = λ b h. (λ e. omega arith, λ e. omega arith, λ e. omega arith);
-            sensed = omega arith;
-            other = (λ e. omega arith, λ e. omega arith, λ e. omega arith, λ e. omega arith, λ e. omega arith);
-          }))
-          ∙ last-noted a small 0 (x .table .effects) (set t 5378 (length (x .table .effects))) (length-set t 5378 (length (x .table .effects)) ∙ sized) (omega (arith, effects-few))
-          ∙ ap (λ (v : ℕ). either (ltb 0 v) (some-of (λ (e : Effect). eqb (e .action) a) (x .table .effects))) (kept t 5378 (5120 + a) (length (x .table .effects)) (λ e. omega arith) ∙ blank a small);
+      slot = λ a small. order-some (λ (e : Effect). e .place) (λ (e : Effect). eqb (e .action) a) (request-noted x t) effect-lines a (x .table .effects) (effects-ordered blank a small);
     }
 
 -- KNOWLEDGE LINES stand one after another, two bytes each.

@@ -28,11 +28,7 @@ use Rattle.reading.specs.declared.marks.Test.the-variants.{Possible}
 use Rattle.refusing.specs.declared.refusals.Found.the-variants.{Nowhere, At}
 use Rattle.reading.specs.Listed.{bytes-from, listed, List-here, holds-as}
 use Rattle.refusing.specs.InTable.{found, knowledge-from, knowledge-in, Knowledge-here, Acting, Mixed-found, effect-from, Effect-here, place-in, effects-in, effects-before, Effects-here, pair-at, Last, Linked, pair-linked}
-use Rattle.reading.specs.Noted.{effect-place, effect-last}
-
-pub place-got : (t : List ℕ) (j p : ℕ) → p ≡ getD t (effect-place + j) 0 → p ≡ place-in t j
-unfolding place-in
-place-got t j p e = e
+use Rattle.reading.specs.Noted.{effect-lines, first-line}
 
 pub pair-got : (s : List ℕ) (p x y : ℕ) → x ≡ getD s p 0 → y ≡ getD s (p + 1) 0 → 64 * x + y / 2 ≡ pair-at s p
 unfolding pair-at
@@ -366,28 +362,22 @@ module _ (s : List ℕ) (start count : ℕ) (here : Knowledge-here s start count
   line-there = let ends = here .ends in omega arith
 
   module _ (a : ℕ) (read : a ≡ getD s (start + 2 * k) 0) where
-    acts : a < 64
+    pub acts : a < 64
     acts = subst (λ (x : ℕ). x < 64) (sym read) (here .acts k more)
 
-    pub slot-fits : Fits w64 (effect-last + a)
-    slot-fits = let below = acts in record { fits = omega arith }
-
-    pub slot-there : effect-last + a < 9480
-    slot-there = let below = acts in omega arith
-
-    module _ (t : List ℕ) (looked : Looked s t start count k) (last : ℕ) (got : last ≡ getD t (effect-last + a) 0) where
-      look-is : (es : List Effect) → Acting t es → mixed-in es (knowledge-in s start 0 count) ≡ pick (ltb 0 last) (λ _. Refusals.Found.at (start + 2 * k)) (λ _. mixed-in es (knowledge-in s start (k + 1) (count - (k + 1))))
+    module _ (t : List ℕ) (looked : Looked s t start count k) (first : ℕ) (got : first ≡ first-line t effect-lines a) where
+      look-is : (es : List Effect) → Acting t es → mixed-in es (knowledge-in s start 0 count) ≡ pick (ltb 0 first) (λ _. Refusals.Found.at (start + 2 * k)) (λ _. mixed-in es (knowledge-in s start (k + 1) (count - (k + 1))))
       unfolding mixed-in knowledge-in knowledge-from
       look-is es acting =
           let left : count - k ≡ suc (count - (k + 1)) = omega arith in
           looked .rest es acting ∙ rw (left, sym read, sym (acting .slot a acts), got)
 
-      pub look-met : 0 < last → Mixed-found s t start count (At (start + 2 * k))
+      pub look-met : 0 < first → Mixed-found s t start count (At (start + 2 * k))
       unfolding found
-      look-met h = record { holds = λ es acting. sym (ap found (look-is es acting ∙ pick-true _ _ _ (lt-ltb 0 last h))) }
+      look-met h = record { holds = λ es acting. sym (ap found (look-is es acting ∙ pick-true _ _ _ (lt-ltb 0 first h))) }
 
-      pub look-next : last ≤ 0 → Looked s t start count (k + 1)
-      look-next h = record { rest = λ es acting. look-is es acting ∙ pick-false _ _ _ (le-ltb 0 last h) }
+      pub look-next : first ≤ 0 → Looked s t start count (k + 1)
+      look-next h = record { rest = λ es acting. look-is es acting ∙ pick-false _ _ _ (le-ltb 0 first h) }
 
 pub look-done : (s t : List ℕ) (start count k : ℕ) → Looked s t start count k → count ≤ k → Mixed-found s t start count Nowhere
 unfolding mixed-in knowledge-in found

@@ -1,5 +1,5 @@
 -- Refusals 16 to 18 after reading: a law for each way that they return. Assumes nothing.
-use Prim.Native.Nat.{ℕ, _+_, _-_, _*_, _≤_, _<_}
+use Prim.Native.Nat.{ℕ, _-_, _*_, _≤_, _<_}
 use native.Mathlib.Omega.{arith}
 use mathlib.Core.Path.{_≡_, refl, sym, _∙_, ap, subst}
 use mathlib.Core.List.{List, []}
@@ -126,7 +126,7 @@ module _ (s : List ℕ) (bytes : (i : ℕ) → Fits w8 (getD s i 0)) (t : List �
       sought-17 : f ≡ found (mixed-in (here .request .table .effects) (here .request .table .knowledge))
       sought-17 =
           answer .holds (here .request .table .effects)
-          (subst (λ (u : List ℕ). Acting u (here .request .table .effects)) (sym (here .noted)) (acting s small (here .request) whole blank blank-long (λ a few. blank-slot (5120 + a) (omega arith))))
+          (subst (λ (u : List ℕ). Acting u (here .request .table .effects)) (sym (here .noted)) (acting s small (here .request) whole blank blank-long blank-slot))
           ∙ ap (λ (p : ℕ). found (mixed-in (here .request .table .effects) (knowledge-in s p 0 count))) starts
           ∙ ap (λ (ks : List Knowledge). found (mixed-in (here .request .table .effects) ks)) (lines-17 .0)
 

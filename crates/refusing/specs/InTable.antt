@@ -11,7 +11,7 @@ use Rattle.meaning.specs.Requests.{Effect, Knowledge}
 use Rattle.meaning.specs.Refusals
 use Rattle.meaning.specs.Refusals.{mixed-in}
 use Rattle.reading.specs.Listed.{listed, List-here}
-use Rattle.reading.specs.Noted.{effect-place, effect-last}
+use Rattle.reading.specs.Noted.{effect-lines, line-place, first-line}
 use Rattle.refusing.specs.declared.refusals.Found.{Found}
 use Rattle.refusing.specs.declared.refusals.Found.the-variants.{Nowhere, At}
 
@@ -31,8 +31,8 @@ pub record Effect-here (s : List ℕ) (p : ℕ) : Type 0 where
   pub apart : exclusive (listed s (p + 2)) (listed s (p + 2)) ≡ false
 
 -- Where the line of effect j stands.
-unfoldable pub place-in : List ℕ → ℕ → ℕ
-place-in t j = getD t (effect-place + j) 0
+abbrev pub place-in : List ℕ → ℕ → ℕ
+place-in t j = line-place t effect-lines j
 
 -- So many effects from number k + 1 on, in file order.
 unfoldable pub effects-in : List ℕ → List ℕ → (k left : ℕ) → List Effect
@@ -80,9 +80,9 @@ pub record Knowledge-here (s : List ℕ) (start count : ℕ) : Type 0 where
   pub ends : start + 2 * count ≤ length s
   pub acts : (k : ℕ) → k < count → getD s (start + 2 * k) 0 < 64
 
--- The table has a last effect of an action just where one of the effects is of that action.
+-- The table has a first effect of an action just where one of the effects is of that action.
 pub record Acting (t : List ℕ) (es : List Effect) : Type 0 where
-  pub slot : (a : ℕ) → a < 64 → ltb 0 (getD t (effect-last + a) 0) ≡ some-of (λ (e : Effect). eqb (e .action) a) es
+  pub slot : (a : ℕ) → a < 64 → ltb 0 (first-line t effect-lines a) ≡ some-of (λ (e : Effect). eqb (e .action) a) es
 
 -- What is found is the first knowledge line whose action has an effect, whatever effects these slots tell of (FORMAT 4.39).
 pub record Mixed-found (s t : List ℕ) (start count : ℕ) (r : Found) : Type 0 where

@@ -13,21 +13,13 @@ use reading::marks::each_holds;
 use reading::marks::state_of;
 use reading::table;
 use reading::table::Table;
-use reading::table::get;
+use reading::table::first_line;
+use reading::table::line_place;
 
 // The place of the first thing sought, or none.
 pub enum Found {
     Nowhere,
     At(usize),
-}
-
-// The place of effect j.
-fn place_of(t: &Table, j: usize) -> usize
-    requires { ⌜ j < 256 ⌝ }
-    ensures { λ r. ⌜ r ≡ place-in (now (t .entry)) j ⌝ }
-{
-    let slot = table::EFFECT_PLACE + j;
-    get(t, slot)
 }
 
 // The action and the fluent of the effect at p, as one number.
@@ -75,7 +67,7 @@ fn contradicted(s: &[u8], t: &Table, same: &[u8; 4352], k: usize) -> bool
     ensures { λ r. ⌜ r ≡ some-of (contradictory (effect-from (now (s .entry)) (place-in (now (t .entry)) (k + 1)))) (effects-before (now (s .entry)) (now (t .entry)) k) ⌝ }
 {
     let number = k + 1;
-    let p = place_of(t, number);
+    let p = line_place(t, table::EFFECTS, number);
     let pair = pair_at(s, p);
     let last = 256 + pair;
     let mut j = wide(same[last]);
@@ -85,7 +77,7 @@ fn contradicted(s: &[u8], t: &Table, same: &[u8; 4352], k: usize) -> bool
     let body = p + 2;
     let held = state_of(s, body);
     while 0 < j {
-        let q = place_of(t, j);
+        let q = line_place(t, table::EFFECTS, j);
         let found = contradicts(s, &held, p, q);
         if found {
             return true;
@@ -106,7 +98,7 @@ pub fn contradiction(s: &[u8], t: &Table, count: usize) -> Found
     while k < count {
         let met = contradicted(s, t, &same, k);
         k += 1;
-        let p = place_of(t, k);
+        let p = line_place(t, table::EFFECTS, k);
         if met {
             return Found::At(p);
         }
@@ -126,9 +118,8 @@ pub fn mixed(s: &[u8], t: &Table, start: usize, count: usize) -> Found
         let twice = 2 * k;
         let p = start + twice;
         let a = wide(s[p]);
-        let slot = table::EFFECT_LAST + a;
-        let last = get(t, slot);
-        if 0 < last {
+        let first = first_line(t, table::EFFECTS, a);
+        if 0 < first {
             return Found::At(p);
         }
         k += 1;

@@ -12,19 +12,20 @@ use Rattle.meaning.specs.Tests.{both, either, each-of}
 use Rattle.meaning.specs.Limits.{format}
 use Rattle.meaning.specs.Literals.{among, exclusive}
 use Rattle.meaning.specs.Requests.{Sequence, done, item, act, branching, Branches, none, branch}
-use Rattle.meaning.specs.Reading.{got, fault, Met, item-at, items-at, sequence-at, branching-at, plan-at}
+use Rattle.meaning.specs.Reading.{got, fault, Met, plan-at}
 use Rattle.meaning.specs.States.{State, known, state-of}
 use Rattle.meaning.specs.declared.Layout.{Layout}
 use Rattle.meaning.specs.Derivations.{Line, same-list, same-plan, join, included, same-conclusion, says, takes-branch, branches-first, rule-4}
 use Rattle.meaning.proofs.TestLaws.{by-test}
 use Rattle.meaning.proofs.ToldLaws.{Clear, state-known}
 use Rattle.meaning.proofs.SettledLaws.{fault≢got, got-same}
+use Rattle.meaning.proofs.PlanReads.{Said, Passed-on, plan-on}
 use Rattle.bytes.specs.declared.bytes.Read.{Read}
 use Rattle.bytes.specs.declared.bytes.Read.the-variants.{Value, Fault}
 use Rattle.reading.specs.declared.marks.Test.the-variants.{Known}
 use Rattle.reading.specs.Listed.{listed, holds-as}
 use Rattle.reading.specs.Planned.{items-of, items-in, items-under, bytes-of, bytes-in, bytes-under, place-of, plan-noted, noting-met, outcome-met}
-use Rattle.reading.proofs.PlanSizes.{On, got-on, next-on, two-bytes-through, item-read}
+use Rattle.reading.proofs.PlanSizes.{two-bytes-through}
 use Rattle.reading.proofs.NotingLaws.{with-items, met-value, met-fault, fault-met}
 use Rattle.refusing.specs.Branchings.{sequence-place, place-after, item-after, Branches-here}
 use Rattle.refusing.specs.Plans.{own-items, branches-in, Written, Item-written, Branches-written, Kept, Item-kept, Branches-kept, Plan-held}
@@ -308,23 +309,28 @@ First-at p done = Unit {0}
 First-at p (item i rest) = place-of i ≡ p
 
 module _ (n m : ℕ) (s : List ℕ) where
-  items-first : (deep left p met : ℕ) → On (items-at format n m s (item-at format n m s (branching-at format n m s deep)) left p met) (λ x q. First-at p (x .value))
-  unfolding items-at
-  items-first deep zero p met = got-on _ _ tt
-  items-first deep (suc left) p met =
-      next-on _ _ (item-read n m s deep p met) λ i q one.
-      next-on _ _ (items-first deep left q (i .items)) λ rest r _.
-      got-on _ _ (one .place)
+  abbrev plan-begun : Said
+  plan-begun = record {
+    item = λ deep p met x e. place-of (x .value) ≡ p;
+    items = λ deep left p met x e. First-at p (x .value);
+    sequence = λ deep p met x e. First-at (p + 2) (x .value);
+    branches = λ deep left p met x e. Unit {0};
+  }
 
-  sequence-first : (deep p met : ℕ) → On (sequence-at format n m s (branching-at format n m s deep) p met) (λ x q. First-at (p + 2) (x .value))
-  unfolding sequence-at
-  sequence-first deep p met =
-      next-on _ _ (two-bytes-through s p) λ c q two.
-      record { holds = λ x r e. subst (λ (j : ℕ). First-at j (x .value)) (two .after) (items-first deep c q met .holds x r e) }
+  begun-passed : Passed-on format n m s plan-begun
+  unfolding place-of
+  begun-passed = record {
+    an-action = λ deep p met x q _ _ _ _. refl;
+    a-branching = λ deep p met x q c r bs e _ _ _ _ _. refl;
+    no-item = λ deep p met. tt;
+    an-item = λ deep left p met i q rest e one _. one;
+    a-sequence = λ deep p met c q b e read all. subst (λ (j : ℕ). First-at j (b .value)) (two-bytes-through s p .holds c q read .after) all;
+    no-branch = λ deep p met. tt;
+    a-branch = λ deep left p met c q b r rest e _ _ _ _. tt;
+  }
 
   plan-first : (p : ℕ) (x : Met (Sequence ℕ)) (e : ℕ) → plan-at format n m s p ≡ got x e → First-at (p + 2) (x .value)
-  unfolding plan-at
-  plan-first p x e read = sequence-first 8 p 0 .holds x e read
+  plan-first p = plan-on format n m s plan-begun begun-passed p .holds
 
 -- A LINE whose plan begins with a branching at `first`, and so many items after it up to y.
 record Begins (d u : List ℕ) (first y more : ℕ) (l : Line) : Type 0 where

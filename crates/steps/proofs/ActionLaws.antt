@@ -1,5 +1,5 @@
--- The loops along the chains of an action's lines: what all its lines give is what those from line k on give. Assumes nothing.
-use Prim.Native.Nat.{ℕ, _+_, _-_, _/_, _≤_, _<_}
+-- The loops along an action's lines in file order: what all its lines give is what those from line k on give. Assumes nothing.
+use Prim.Native.Nat.{ℕ, zero, suc, _+_, _-_, _/_, _≤_, _<_}
 use native.Mathlib.Omega.{arith}
 use mathlib.Core.Path.{_≡_, refl, sym, _∙_, ap, subst}
 use mathlib.Core.Bool.{Bool, true, false}
@@ -17,179 +17,160 @@ use Rattle.meaning.proofs.TestLaws.{by-test, clash, either-right, each-mono, pi
 use Rattle.meaning.proofs.PickLaws.{pick-has}
 use Rattle.meaning.proofs.LiteralLaws.{fluent-complement}
 use Rattle.meaning.proofs.ToldLaws.{either-none, either-assoc}
-use Rattle.reading.specs.Noted.{effect-place, effect-before, effect-last, run-place, run-before}
+use Rattle.reading.specs.Noted.{effect-lines, run-lines, line-place, next-line, first-line}
+use Rattle.reading.specs.Ordered.{Line-in, Chain, In-order}
 use Rattle.reading.specs.Listed.{listed, List-here, holds-as}
 use Rattle.refusing.specs.InTable.{Effect-here}
 use Rattle.reading.specs.declared.marks.Test.the-variants.{Known, Possible}
 use Rattle.reading.proofs.MarkLaws.{mark-other, mark-most}
 use Rattle.steps.specs.AtHand.{request-in, At-hand, Marked}
-use Rattle.steps.specs.Lines.{Linked, Chain, allowed-at, Effects}
-use Rattle.steps.specs.After.{undone, left-at, Effects-chained, Left}
+use Rattle.steps.specs.Lines.{run-places, effect-places, allowed-at}
+use Rattle.steps.specs.After.{undone, left-at}
 use Rattle.steps.proofs.Served.{runs-at-hand, effects-at-hand}
 use Rattle.steps.proofs.Sweeps.{known-possible, mark-some, swept-one, tells-one, swept-at, tells-at}
 use Rattle.steps.proofs.SensingLaws.{marked-set}
 
--- CHAINS. A chain has one list of places.
-module _ (t : List ℕ) (place before : ℕ) where
-  chain-one : (j : ℕ) (ps qs : List ℕ) → Chain t place before j ps → Chain t place before j qs → ps ≡ qs
-  unfolding Chain
-  chain-one j [] [] c d = refl
-  chain-one j [] (q ∷ qs) c d = let some = d .0 .some in absurd (omega arith)
-  chain-one j (p ∷ ps) [] c d = let some = c .0 .some in absurd (omega arith)
-  chain-one j (p ∷ ps) (q ∷ qs) c d = let e = sym (c .0 .stands) ∙ d .0 .stands in let es = chain-one (getD t (before + j) 0) ps qs (c .1) (d .1) in rw (e, es)
+-- HOW FAR the lines go on from line k: numbers rise from line to line and stay below 256, and 0 is no line.
+unfoldable pub to-go : ℕ → ℕ
+to-go zero = 0
+to-go (suc k) = 256 - k
 
-  chain-none : (j : ℕ) (ps : List ℕ) → Chain t place before j ps → j ≤ 0 → ps ≡ []
-  unfolding Chain
-  chain-none j [] c h = refl
-  chain-none j (p ∷ ps) c h = let some = c .0 .some in absurd (omega arith)
+goes-on : (k j : ℕ) → 0 < k → k < 256 → (0 < j → k < j) → to-go j < to-go k
+unfolding to-go
+goes-on zero j some few rises = absurd (omega arith)
+goes-on (suc k) zero some few rises = omega arith
+goes-on (suc k) (suc j) some few rises = let more = rises (omega arith) in omega arith
 
-  -- The first line of a chain, and those after it.
-  record First (j : ℕ) (ps : List ℕ) : Type 0 where
-    first : ℕ
-    others : List ℕ
-    is : ps ≡ first ∷ others
-    line : Linked t place before j first
-    chain : Chain t place before (getD t (before + j) 0) others
-
-  chain-first : (j : ℕ) (ps : List ℕ) → Chain t place before j ps → 0 < j → First j ps
-  unfolding Chain
-  chain-first j [] c more = absurd (omega arith)
-  chain-first j (p ∷ ps) c more = record { first = p; others = ps; is = refl; line = c .0; chain = c .1 }
-
--- A line's number leads to slots of the table.
-module _ (j : ℕ) (few : j < 256) where
-  slot-fits : (n : ℕ) → n ≤ 4864 → Fits w64 (n + j)
-  slot-fits n most = record { fits = omega arith }
-
-  slot-there : (n : ℕ) → n ≤ 4864 → n + j < 9480
-  slot-there n most = omega arith
-
--- EXECUTABILITY LINES, from line k on.
-pub record Running (s t : List ℕ) (marks : State) (whole : Bool) (k : ℕ) : Type 0 where
+-- LINES from line k on, each of which is fit to be read; effects and executability lines alike.
+pub record Ahead (Fit : ℕ → Type 0) (t : List ℕ) (lines k : ℕ) : Type 0 where
   pub rest : List ℕ
-  pub chain : Chain t run-place run-before k rest
-  pub bodies : (p : ℕ) → Has rest p → List-here 128 s p
-  pub same : whole ≡ allowed-at s (known marks) rest
+  pub chain : Chain t lines k rest
+  pub fit : (p : ℕ) → Has rest p → Fit p
 
-pub running-starts : (s t : List ℕ) (a : ℕ) (marks : State) (k : ℕ) → At-hand s t → a < 64 → k ≡ getD t (5184 + a) 0 → Running s t marks (can-be-run (request-in s .table) a marks) k
-unfolding can-be-run
+module _ (Fit : ℕ → Type 0) (t : List ℕ) (lines : ℕ) where
+  ahead-starts : (a : ℕ) (ps : List ℕ) → In-order t lines a ps → ((p : ℕ) → Has ps p → Fit p) → (k : ℕ) → k ≡ first-line t lines a → Ahead Fit t lines k
+  unfolding In-order
+  ahead-starts a ps order fit k at = record { rest = ps; chain = subst (λ (j : ℕ). Chain t lines j ps) (sym at) order; fit = fit }
+
+  module _ (k : ℕ) (ahead : Ahead Fit t lines k) where
+    ahead-none : k ≤ 0 → ahead .rest ≡ []
+    unfolding Chain
+    ahead-none h = none (ahead .rest) (ahead .chain)
+      where
+        none : (ps : List ℕ) → Chain t lines k ps → ps ≡ []
+        none [] chain = refl
+        none (p ∷ ps) chain = let some = chain .0 .some in absurd (omega arith)
+
+    -- The first of them, and those after it.
+    record First : Type 0 where
+      place : ℕ
+      others : List ℕ
+      is : ahead .rest ≡ place ∷ others
+      line : Line-in t lines k place
+      chain : Chain t lines (next-line t lines k) others
+
+    module _ (more : 0 < k) where
+      ahead-first : First
+      unfolding Chain
+      ahead-first = first (ahead .rest) refl (ahead .chain)
+        where
+          first : (ps : List ℕ) → ahead .rest ≡ ps → Chain t lines k ps → First
+          first [] e chain = absurd (omega arith)
+          first (p ∷ ps) e chain = record { place = p; others = ps; is = e; line = chain .0; chain = chain .1 }
+
+      pub line-few : k < 256
+      line-few = ahead-first .line .few
+
+      module _ (j : ℕ) (onward : j ≡ next-line t lines k) where
+        pub line-less : to-go j < to-go k
+        line-less = goes-on k j more line-few (rw onward (ahead-first .line .rises))
+
+        line-others : Ahead Fit t lines j
+        line-others = record {
+          rest = ahead-first .others;
+          chain = subst (λ (i : ℕ). Chain t lines i (ahead-first .others)) (sym onward) (ahead-first .chain);
+          fit = λ p h. ahead .fit p (subst (λ (ps : List ℕ). Has ps p) (sym (ahead-first .is)) (inr h));
+        }
+
+      module _ (p : ℕ) (at : p ≡ line-place t lines k) where
+        line-rest : ahead .rest ≡ p ∷ ahead-first .others
+        line-rest = ahead-first .is ∙ ap (λ (q : ℕ). q ∷ ahead-first .others) (sym (ahead-first .line .stands) ∙ sym at)
+
+        line-fit : Fit p
+        line-fit = ahead .fit p (subst (λ (ps : List ℕ). Has ps p) (sym line-rest) (inl refl))
+
+-- EXECUTABILITY LINES.
+abbrev pub Runs-ahead : (s t : List ℕ) (k : ℕ) → Type 0
+Runs-ahead s t k = Ahead (λ (p : ℕ). List-here 128 s (p + 1)) t run-lines k
+
+pub record Running (s t : List ℕ) (marks : State) (whole : Bool) (k : ℕ) : Type 0 where
+  pub ahead : Runs-ahead s t k
+  pub same : whole ≡ allowed-at s (known marks) (ahead .rest)
+
+pub running-starts : (s t : List ℕ) (a : ℕ) (marks : State) (k : ℕ) → At-hand s t → a < 64 → k ≡ first-line t run-lines a → Running s t marks (can-be-run (request-in s .table) a marks) k
+unfolding can-be-run ahead-starts
 running-starts s t a marks k here small at =
     let runs = runs-at-hand s t here a small in
     record {
-      rest = runs .places;
-      chain = subst (λ (j : ℕ). Chain t run-place run-before j (runs .places)) (sym at) (runs .chain);
-      bodies = runs .bodies;
+      ahead = ahead-starts (λ (p : ℕ). List-here 128 s (p + 1)) t run-lines a (run-places s a) (runs .order) (runs .lines) k at;
       same = sym (runs .same (known marks));
     }
 
 module _ (s t : List ℕ) (marks : State) (whole : Bool) (k : ℕ) (run : Running s t marks whole k) where
   pub running-done : k ≤ 0 → false ≡ whole
   unfolding allowed-at some-of
-  running-done h = sym (run .same ∙ ap (allowed-at s (known marks)) (chain-none t run-place run-before k (run .rest) (run .chain) h))
+  running-done h = sym (run .same ∙ ap (allowed-at s (known marks)) (ahead-none _ t run-lines k (run .ahead) h))
 
-  module _ (more : 0 < k) where
-    run-first : First t run-place run-before k (run .rest)
-    run-first = chain-first t run-place run-before k (run .rest) (run .chain) more
+  module _ (more : 0 < k) (p : ℕ) (at : p ≡ line-place t run-lines k) where
+    others : List ℕ
+    others = ahead-first (λ (q : ℕ). List-here 128 s (q + 1)) t run-lines k (run .ahead) more .others
 
-    pub run-slot-fits : Fits w64 (4608 + k)
-    run-slot-fits = slot-fits k (run-first .line .few) 4608 (omega arith)
+    pub run-body : List-here 128 s (p + 1)
+    run-body = line-fit (λ (q : ℕ). List-here 128 s (q + 1)) t run-lines k (run .ahead) more p at
 
-    pub run-slot-there : 4608 + k < 9480
-    run-slot-there = slot-there k (run-first .line .few) 4608 (omega arith)
+    pub run-body-fits : Fits w64 (length s) → Fits w64 (p + 1)
+    run-body-fits room = let ends = run-body .ends in let most = room .fits in record { fits = omega arith }
 
-    pub run-before-fits : Fits w64 (4864 + k)
-    run-before-fits = slot-fits k (run-first .line .few) 4864 (omega arith)
+    module _ (b : Bool) (tested : b ≡ each-of (holds-as Known marks) (listed s (p + 1))) where
+      run-whole : whole ≡ either b (allowed-at s (known marks) others)
+      unfolding others allowed-at some-of holds-as
+      run-whole = run .same ∙ ap (allowed-at s (known marks)) (line-rest _ t run-lines k (run .ahead) more p at) ∙ rw tested
 
-    pub run-before-there : 4864 + k < 9480
-    run-before-there = slot-there k (run-first .line .few) 4864 (omega arith)
+      pub run-met : b ≡ true → true ≡ whole
+      unfolding either
+      run-met e = sym (run-whole ∙ ap (λ (x : Bool). either x (allowed-at s (known marks) others)) e)
 
-    pub run-less : (j : ℕ) → j ≡ getD t (4864 + k) 0 → j < k
-    run-less j e = let falls = run-first .line .falls in omega arith
+      pub run-next : (j : ℕ) → b ≡ false → j ≡ next-line t run-lines k → Running s t marks whole j
+      unfolding others either line-others
+      run-next j e onward =
+          record {
+            ahead = line-others _ t run-lines k (run .ahead) more j onward;
+            same = run-whole ∙ ap (λ (x : Bool). either x (allowed-at s (known marks) others)) e;
+          }
 
-    module _ (p : ℕ) (at : p ≡ getD t (4608 + k) 0) where
-      run-is : run-first .first ≡ p
-      run-is = sym (run-first .line .stands) ∙ sym at
+-- EFFECTS.
+abbrev pub Effects-ahead : (s t : List ℕ) (k : ℕ) → Type 0
+Effects-ahead s t k = Ahead (Effect-here s) t effect-lines k
 
-      pub run-body : List-here 128 s p
-      run-body = subst (List-here 128 s) run-is (run .bodies (run-first .first) (subst (λ (ps : List ℕ). Has ps (run-first .first)) (sym (run-first .is)) (inl refl)))
+module _ (s t : List ℕ) (k : ℕ) (ahead : Effects-ahead s t k) (more : 0 < k) (p : ℕ) (at : p ≡ line-place t effect-lines k) where
+  effect-line : Effect-here s p
+  effect-line = line-fit (Effect-here s) t effect-lines k ahead more p at
 
-      module _ (b : Bool) (tested : b ≡ each-of (holds-as Known marks) (listed s p)) where
-        run-whole : whole ≡ either b (allowed-at s (known marks) (run-first .others))
-        unfolding allowed-at some-of holds-as
-        run-whole = run .same ∙ ap (allowed-at s (known marks)) (run-first .is) ∙ rw (run-is, tested)
+  pub effect-body : List-here 128 s (p + 2)
+  effect-body = effect-line .body
 
-        pub run-met : b ≡ true → true ≡ whole
-        unfolding either
-        run-met e = sym (run-whole ∙ ap (λ (x : Bool). either x (allowed-at s (known marks) (run-first .others))) e)
+  pub effect-one-there : p + 1 < length s
+  effect-one-there = let ends = effect-line .body .ends in omega arith
 
-        pub run-next : (j : ℕ) → b ≡ false → j ≡ getD t (4864 + k) 0 → Running s t marks whole j
-        unfolding either
-        run-next j e next =
-            record {
-              rest = run-first .others;
-              chain = subst (λ (i : ℕ). Chain t run-place run-before i (run-first .others)) (sym next) (run-first .chain);
-              bodies = λ q h. run .bodies q (subst (λ (ps : List ℕ). Has ps q) (sym (run-first .is)) (inr h));
-              same = run-whole ∙ ap (λ (x : Bool). either x (allowed-at s (known marks) (run-first .others))) e;
-            }
+  module _ (room : Fits w64 (length s)) where
+    pub effect-body-fits : Fits w64 (p + 2)
+    effect-body-fits = let ends = effect-line .body .ends in let most = room .fits in record { fits = omega arith }
 
--- EFFECTS, from effect k on.
-pub record Effects-left (s t : List ℕ) (k : ℕ) : Type 0 where
-  pub rest : List ℕ
-  pub chain : Chain t effect-place effect-before k rest
-  pub lines : (p : ℕ) → Has rest p → Effect-here s p
+    pub effect-one-fits : Fits w64 (p + 1)
+    effect-one-fits = let ends = effect-line .body .ends in let most = room .fits in record { fits = omega arith }
 
-module _ (s t : List ℕ) (k : ℕ) (left : Effects-left s t k) (more : 0 < k) where
-  effect-first : First t effect-place effect-before k (left .rest)
-  effect-first = chain-first t effect-place effect-before k (left .rest) (left .chain) more
-
-  pub effect-slot-fits : Fits w64 (4096 + k)
-  effect-slot-fits = slot-fits k (effect-first .line .few) 4096 (omega arith)
-
-  pub effect-slot-there : 4096 + k < 9480
-  effect-slot-there = slot-there k (effect-first .line .few) 4096 (omega arith)
-
-  pub effect-before-fits : Fits w64 (4352 + k)
-  effect-before-fits = slot-fits k (effect-first .line .few) 4352 (omega arith)
-
-  pub effect-before-there : 4352 + k < 9480
-  effect-before-there = slot-there k (effect-first .line .few) 4352 (omega arith)
-
-  module _ (j : ℕ) (onward : j ≡ getD t (4352 + k) 0) where
-    pub effect-less : j < k
-    effect-less = let falls = effect-first .line .falls in omega arith
-
-    effects-others : Effects-left s t j
-    effects-others = record {
-      rest = effect-first .others;
-      chain = subst (λ (i : ℕ). Chain t effect-place effect-before i (effect-first .others)) (sym onward) (effect-first .chain);
-      lines = λ p h. left .lines p (subst (λ (ps : List ℕ). Has ps p) (sym (effect-first .is)) (inr h));
-    }
-
-  module _ (p : ℕ) (at : p ≡ getD t (4096 + k) 0) where
-    effect-is : effect-first .first ≡ p
-    effect-is = sym (effect-first .line .stands) ∙ sym at
-
-    effect-rest : left .rest ≡ p ∷ effect-first .others
-    effect-rest = effect-first .is ∙ ap (λ (q : ℕ). q ∷ effect-first .others) effect-is
-
-    effect-line : Effect-here s p
-    effect-line = subst (Effect-here s) effect-is (left .lines (effect-first .first) (subst (λ (ps : List ℕ). Has ps (effect-first .first)) (sym (effect-first .is)) (inl refl)))
-
-    pub effect-body : List-here 128 s (p + 2)
-    effect-body = effect-line .body
-
-    pub effect-one-there : p + 1 < length s
-    effect-one-there = let ends = effect-line .body .ends in omega arith
-
-    module _ (room : Fits w64 (length s)) where
-      pub effect-body-fits : Fits w64 (p + 2)
-      effect-body-fits = let ends = effect-line .body .ends in let most = room .fits in record { fits = omega arith }
-
-      pub effect-one-fits : Fits w64 (p + 1)
-      effect-one-fits = let ends = effect-line .body .ends in let most = room .fits in record { fits = omega arith }
-
-    pub effect-fluent : (l : ℕ) → l ≡ getD s (p + 1) 0 → l / 2 < 64
-    effect-fluent l e = let below = effect-line .literal in omega arith
+  pub effect-fluent : (l : ℕ) → l ≡ getD s (p + 1) 0 → l / 2 < 64
+  effect-fluent l e = let below = effect-line .literal in omega arith
 
 pub mark-within : (l mark : ℕ) → mark ≡ mark-of l → mark ≤ 3
 mark-within l mark is = let most = mark-most l in omega arith
@@ -203,67 +184,52 @@ third m mark least most small not some = omega (arith, not, some)
 
 -- What was told and undone so far, and whether anything was told; and what the second pass has undone so far.
 pub record Sweeping (s t : List ℕ) (a : ℕ) (marks next : State) (b : Bool) (k : ℕ) : Type 0 where
-  pub left : Effects-left s t k
+  pub ahead : Effects-ahead s t k
   pub marked : Marked next
-  pub same : (ps : List ℕ) → Effects-chained t a ps → swept-at s marks ps marks ≡ swept-at s marks (left .rest) next
-  pub tells : (ps : List ℕ) → Effects-chained t a ps → tells-at s marks ps marks ≡ either b (tells-at s marks (left .rest) next)
+  pub same : swept-at s marks (effect-places s a) marks ≡ swept-at s marks (ahead .rest) next
+  pub tells : tells-at s marks (effect-places s a) marks ≡ either b (tells-at s marks (ahead .rest) next)
 
 pub record Leaving (s t : List ℕ) (a : ℕ) (marks start next : State) (k : ℕ) : Type 0 where
-  pub left : Effects-left s t k
-  pub same : (ps : List ℕ) → Effects-chained t a ps → left-at s marks ps start ≡ left-at s marks (left .rest) next
+  pub ahead : Effects-ahead s t k
+  pub same : left-at s marks (effect-places s a) start ≡ left-at s marks (ahead .rest) next
 
-module _ (s t : List ℕ) (a k : ℕ) (here : At-hand s t) (small : a < 64) (at : k ≡ getD t (5120 + a) 0) where
-  abbrev all : Effects s t a
-  all = effects-at-hand s t here a small
-
-  abbrev all-left : Effects-left s t k
-  all-left = record {
-    rest = all .places;
-    chain = subst (λ (j : ℕ). Chain t effect-place effect-before j (all .places)) (sym at) (all .chain);
-    lines = all .lines;
-  }
-
-  all-one : (ps : List ℕ) → Effects-chained t a ps → ps ≡ all .places
-  unfolding Effects-chained
-  all-one ps chained = chain-one t effect-place effect-before (getD t (effect-last + a) 0) ps (all .places) chained (all .chain)
+module _ (s t : List ℕ) (a k : ℕ) (here : At-hand s t) (small : a < 64) (at : k ≡ first-line t effect-lines a) where
+  abbrev all-ahead : Effects-ahead s t k
+  all-ahead = let all = effects-at-hand s t here a small in ahead-starts (Effect-here s) t effect-lines a (effect-places s a) (all .order) (all .lines) k at
 
   pub sweeping-starts : (marks : State) → Marked marks → Sweeping s t a marks marks false k
-  unfolding either
-  sweeping-starts marks fine = record {
-    left = all-left;
-    marked = fine;
-    same = λ ps chained. ap (λ (qs : List ℕ). swept-at s marks qs marks) (all-one ps chained);
-    tells = λ ps chained. ap (λ (qs : List ℕ). tells-at s marks qs marks) (all-one ps chained);
-  }
+  unfolding either ahead-starts
+  sweeping-starts marks fine = record { ahead = all-ahead; marked = fine; same = refl; tells = refl }
 
   pub leaving-starts : (marks start : State) → Leaving s t a marks start start k
-  leaving-starts marks start = record { left = all-left; same = λ ps chained. ap (λ (qs : List ℕ). left-at s marks qs start) (all-one ps chained) }
+  unfolding ahead-starts
+  leaving-starts marks start = record { ahead = all-ahead; same = refl }
 
 module _ (s t : List ℕ) (a : ℕ) (marks next : State) (b : Bool) (k : ℕ) (sweeps : Sweeping s t a marks next b k) where
-  module _ (ps : List ℕ) (chained : Effects-chained t a ps) (h : k ≤ 0) where
-    sweep-none : sweeps .left .rest ≡ []
-    sweep-none = chain-none t effect-place effect-before k (sweeps .left .rest) (sweeps .left .chain) h
+  module _ (h : k ≤ 0) where
+    sweep-none : sweeps .ahead .rest ≡ []
+    sweep-none = ahead-none (Effect-here s) t effect-lines k (sweeps .ahead) h
 
-    pub sweep-done : swept-at s marks ps marks ≡ next
+    pub sweep-done : swept-at s marks (effect-places s a) marks ≡ next
     unfolding swept-at
-    sweep-done = sweeps .same ps chained ∙ ap (λ (qs : List ℕ). swept-at s marks qs next) sweep-none
+    sweep-done = sweeps .same ∙ ap (λ (qs : List ℕ). swept-at s marks qs next) sweep-none
 
-    pub sweep-tells : tells-at s marks ps marks ≡ b
+    pub sweep-tells : tells-at s marks (effect-places s a) marks ≡ b
     unfolding tells-at
-    sweep-tells = sweeps .tells ps chained ∙ ap (λ (qs : List ℕ). either b (tells-at s marks qs next)) sweep-none ∙ either-none b
+    sweep-tells = sweeps .tells ∙ ap (λ (qs : List ℕ). either b (tells-at s marks qs next)) sweep-none ∙ either-none b
 
-  module _ (more : 0 < k) (p j : ℕ) (at : p ≡ getD t (4096 + k) 0) (onward : j ≡ getD t (4352 + k) 0) where
+  module _ (more : 0 < k) (p j : ℕ) (at : p ≡ line-place t effect-lines k) (onward : j ≡ next-line t effect-lines k) where
     sweep-on : (after : State) (c : Bool) → Marked after → swept-one s marks p next ≡ after → either b (tells-one s marks p next) ≡ c → Sweeping s t a marks after c j
-    unfolding swept-at tells-at effects-others
+    unfolding swept-at tells-at line-others
     sweep-on after c fine e g =
-        let others = effect-first s t k (sweeps .left) more .others in
-        let rest = effect-rest s t k (sweeps .left) more p at in
+        let others = ahead-first (Effect-here s) t effect-lines k (sweeps .ahead) more .others in
+        let rest = line-rest (Effect-here s) t effect-lines k (sweeps .ahead) more p at in
         record {
-          left = effects-others s t k (sweeps .left) more j onward;
+          ahead = line-others (Effect-here s) t effect-lines k (sweeps .ahead) more j onward;
           marked = fine;
-          same = λ ps chained. sweeps .same ps chained ∙ ap (λ (qs : List ℕ). swept-at s marks qs next) rest ∙ ap (swept-at s marks others) e;
-          tells = λ ps chained.
-              sweeps .tells ps chained
+          same = sweeps .same ∙ ap (λ (qs : List ℕ). swept-at s marks qs next) rest ∙ ap (swept-at s marks others) e;
+          tells =
+              sweeps .tells
               ∙ ap (λ (qs : List ℕ). either b (tells-at s marks qs next)) rest
               ∙ sym (either-assoc b (tells-one s marks p next) (tells-at s marks others (swept-one s marks p next)))
               ∙ ap (λ (x : Bool). either x (tells-at s marks others (swept-one s marks p next))) g
@@ -286,7 +252,7 @@ module _ (s t : List ℕ) (a : ℕ) (marks next : State) (b : Bool) (k : ℕ) (s
       mark-small = let most = mark-most l in omega arith
 
       fluent-there : l / 2 < 64
-      fluent-there = effect-fluent s t k (sweeps .left) more p at l is
+      fluent-there = effect-fluent s t k (sweeps .ahead) more p at l is
 
       nothing-against : getD next (l / 2) 0 ≡ 0 → getD next (l / 2) 0 ≡ 3 - mark → ⊥
       nothing-against z q = let most = mark-small in omega arith
@@ -357,21 +323,19 @@ module _ (s t : List ℕ) (a : ℕ) (marks next : State) (b : Bool) (k : ℕ) (s
             sweep-on next b (sweeps .marked) (pick-false _ _ _ says-not ∙ pick-false _ _ _ unsure ∙ pick-false _ _ _ never) (rw (says-not, unsure) (either-none b))
 
 module _ (s t : List ℕ) (a : ℕ) (marks start next : State) (k : ℕ) (leaves : Leaving s t a marks start next k) where
-  pub leave-done : k ≤ 0 → Left s t a marks start next
+  pub leave-done : k ≤ 0 → next ≡ left-at s marks (effect-places s a) start
   unfolding left-at
-  leave-done h = record {
-    holds = λ ps chained. sym (leaves .same ps chained ∙ ap (λ (qs : List ℕ). left-at s marks qs next) (chain-none t effect-place effect-before k (leaves .left .rest) (leaves .left .chain) h));
-  }
+  leave-done h = sym (leaves .same ∙ ap (λ (qs : List ℕ). left-at s marks qs next) (ahead-none (Effect-here s) t effect-lines k (leaves .ahead) h))
 
-  module _ (more : 0 < k) (p j : ℕ) (at : p ≡ getD t (4096 + k) 0) (onward : j ≡ getD t (4352 + k) 0) where
+  module _ (more : 0 < k) (p j : ℕ) (at : p ≡ line-place t effect-lines k) (onward : j ≡ next-line t effect-lines k) where
     leave-on : (after : State) → pick (each-of (possible marks) (listed s (p + 2))) (λ _. undone (getD s (p + 1) 0) next) (λ _. next) ≡ after → Leaving s t a marks start after j
-    unfolding left-at effects-others
+    unfolding left-at line-others
     leave-on after e = record {
-      left = effects-others s t k (leaves .left) more j onward;
-      same = λ ps chained.
-          leaves .same ps chained
-          ∙ ap (λ (qs : List ℕ). left-at s marks qs next) (effect-rest s t k (leaves .left) more p at)
-          ∙ ap (left-at s marks (effect-first s t k (leaves .left) more .others)) e;
+      ahead = line-others (Effect-here s) t effect-lines k (leaves .ahead) more j onward;
+      same =
+          leaves .same
+          ∙ ap (λ (qs : List ℕ). left-at s marks qs next) (line-rest (Effect-here s) t effect-lines k (leaves .ahead) more p at)
+          ∙ ap (left-at s marks (ahead-first (Effect-here s) t effect-lines k (leaves .ahead) more .others)) e;
     }
 
     module _ (l mark : ℕ) (is : l ≡ getD s (p + 1) 0) (marked : mark ≡ mark-of l) where

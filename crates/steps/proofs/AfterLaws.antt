@@ -1,5 +1,5 @@
 -- The passes over an action's effects give the state that the definition gives. After the first a literal whose complement no possible body
--- gives is known if it was or is given by a body known true, wherever in the chain; the second forgets the others. Where the first told
+-- gives is known if it was or is given by a body known true, wherever in the order; the second forgets the others. Where the first told
 -- nothing, all that is given was known before, so that what it did is what the second does. Assumes nothing.
 use Prim.Native.Nat.{ℕ, _+_, _≤_, _<_}
 use native.Mathlib.Omega.{arith}
@@ -28,8 +28,8 @@ use Rattle.reading.specs.Listed.{listed}
 use Rattle.refusing.specs.InTable.{Effect-here}
 use Rattle.reading.proofs.MarkLaws.{mark-most}
 use Rattle.steps.specs.AtHand.{request-in, At-hand, Marked}
-use Rattle.steps.specs.Lines.{given-at}
-use Rattle.steps.specs.After.{undone, left-at, Effects-chained, Left}
+use Rattle.steps.specs.Lines.{effect-places, given-at}
+use Rattle.steps.specs.After.{undone, left-at}
 use Rattle.steps.proofs.Served.{effects-at-hand}
 use Rattle.steps.proofs.Sweeps.{known-one, known-possible, mark-some, swept-one, tells-one, swept-at, tells-at}
 use Rattle.steps.proofs.SensingLaws.{marked-set}
@@ -324,16 +324,14 @@ module _ (s : List ℕ) (marks : State) (marked : Marked marks) (ps : List ℕ) 
 
 module _ (s t : List ℕ) (a : ℕ) (marks next : State) (b : Bool) (k : ℕ) (here : At-hand s t) (small : a < 64) (marked : Marked marks) (sweeps : Sweeping s t a marks next b k) (h : k ≤ 0) where
   pub after-once : b ≡ false → next ≡ state-after (request-in s .table) a marks
-  unfolding Effects-chained
   after-once e =
       let all = effects-at-hand s t here a small in
-      sym (sweep-done s t a marks next b k sweeps (all .places) (all .chain) h)
-      ∙ once-after s marks marked (all .places) (all .lines) (request-in s .table) a (all .same) (sweep-tells s t a marks next b k sweeps (all .places) (all .chain) h ∙ e)
+      sym (sweep-done s t a marks next b k sweeps h)
+      ∙ once-after s marks marked (effect-places s a) (all .lines) (request-in s .table) a (all .same) (sweep-tells s t a marks next b k sweeps h ∙ e)
 
-  pub after-twice : (r : State) → Left s t a marks next r → r ≡ state-after (request-in s .table) a marks
-  unfolding Effects-chained
+  pub after-twice : (r : State) → r ≡ left-at s marks (effect-places s a) next → r ≡ state-after (request-in s .table) a marks
   after-twice r left =
       let all = effects-at-hand s t here a small in
-      left .holds (all .places) (all .chain)
-      ∙ ap (left-at s marks (all .places)) (sym (sweep-done s t a marks next b k sweeps (all .places) (all .chain) h))
-      ∙ twice-after s marks marked (all .places) (all .lines) (request-in s .table) a (all .same)
+      left
+      ∙ ap (left-at s marks (effect-places s a)) (sym (sweep-done s t a marks next b k sweeps h))
+      ∙ twice-after s marks marked (effect-places s a) (all .lines) (request-in s .table) a (all .same)

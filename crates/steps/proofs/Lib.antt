@@ -1,6 +1,5 @@
 pub mod HandLaws
 pub mod ToldMarks
-pub mod ChainLaws
 pub mod SlotLaws
 pub mod StandLaws
 pub mod SensedLaws

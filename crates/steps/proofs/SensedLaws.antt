@@ -13,7 +13,7 @@ use borrow.Author.Tests.{eqb-true, eqb-false, eq-eqb, ltb-true, ltb-false, lt-lt
 use Rattle.meaning.specs.Tests.{both, either, some-of, Has}
 use Rattle.meaning.specs.Requests.{Knowledge}
 use Rattle.meaning.proofs.TestLaws.{by-test, clash, same-test, both-left, both-right, both-true, either-left, either-right, either-split, pick-true, pick-false}
-use Rattle.reading.specs.Noted.{knowledge, raised, pair-noted, note-line, lines-noted}
+use Rattle.reading.specs.Noted.{knowledge, raised, pair-noted, action-in, note-line, lines-noted}
 use Rattle.refusing.proofs.KeptLaws.{kept, raised-kept, raised-long, note-long}
 
 raised-same : (slot v : ℕ) (t : List ℕ) → slot < length t → getD (raised slot v t) slot 0 ≡ max (getD t slot 0) v
@@ -168,11 +168,11 @@ module _ (a : ℕ) where
     line-sensed = by-test (eqb (l .action) a) (λ e. own-noted (eqb-true _ _ e)) (λ e. other-noted (eqb-false _ _ e))
 
   -- ALL LINES.
-  pub lines-sensed : a < 64 → (k : ℕ) (ls : List Knowledge) (t : List ℕ) (seen : ℕ → Bool) → length t ≡ 9480 → ((l : Knowledge) → Has ls l → (l .action < 64) × (l .fluent < 64)) → Sensed t a seen
-      → Sensed (lines-noted (note-line knowledge) k ls t) a (seen-after seen ls)
-  unfolding lines-noted seen-after note-line
-  lines-sensed small k [] t seen sized good before = before
-  lines-sensed small k (l ∷ ls) t seen sized good before =
+  pub lines-sensed : a < 64 → (k : ℕ) (last : List ℕ) (ls : List Knowledge) (t : List ℕ) (seen : ℕ → Bool) → length t ≡ 9480 → ((l : Knowledge) → Has ls l → (l .action < 64) × (l .fluent < 64)) → Sensed t a seen
+      → Sensed (lines-noted knowledge k last ls t) a (seen-after seen ls)
+  unfolding lines-noted action-in seen-after note-line
+  lines-sensed small k last [] t seen sized good before = before
+  lines-sensed small k last (l ∷ ls) t seen sized good before =
       let here = good l (inl refl) in
-      lines-sensed small (k + 1) ls (note-line knowledge (k + 1) l t) (λ f. either (seen f) (says l f)) (note-long knowledge (k + 1) l t ∙ sized) (λ m has. good m (inr has))
+      lines-sensed small (k + 1) (set last (l .action) (k + 1)) ls (note-line knowledge (getD last (l .action) 0) (k + 1) l t) (λ f. either (seen f) (says l f)) (note-long knowledge (getD last (l .action) 0) (k + 1) l t ∙ sized) (λ m has. good m (inr has))
       (line-sensed small l (here .0) (here .1) t sized seen before)

@@ -1,36 +1,64 @@
--- The table that reading left leads to each action's lines and to the goals: the chains, the slots of what is sensed and the place of the
+-- The table that reading left leads to each action's lines and to the goals: their order, the slots of what is sensed and the place of the
 -- goals are as their sections left them, and the lines stand in the input where they were read. Assumes nothing.
 use Prim.Native.Nat.{ℕ, _+_, _*_, _≤_, _<_}
 use native.Mathlib.Omega.{arith}
 use mathlib.Core.Path.{_≡_, refl, sym, _∙_, ap, subst}
-use mathlib.Core.Bool.{true, false, false≢true}
-use mathlib.Core.List.{List, []}
-use mathlib.Core.Logic.{⊎-elim}
+use mathlib.Core.Bool.{Bool, true, false, false≢true}
+use mathlib.Core.List.{List, [], _∷_, map}
+use mathlib.Core.Logic.{_⊎_, inl, inr}
 use lib.ListN.{length, getD, set, length-set}
 use lib.Dec.{eqb, ltb}
 use borrow.Author.Tests.{ltb-true, lt-ltb, le-ltb, eq-eqb}
-use Rattle.meaning.specs.Tests.{both, either, each-of}
+use Rattle.meaning.specs.Tests.{both, either, pick, some-of, each-of, those-of, Has}
 use Rattle.meaning.specs.Requests.{Effect, Executability, Knowledge, Request}
 use Rattle.meaning.specs.Reading
 use Rattle.meaning.specs.Limits.{format}
 use Rattle.meaning.specs.Reading.{got, literals, bound-of, read-request}
 use Rattle.meaning.specs.Lines.{effects-of, executability-of, knowledge-of, allowed, given, sensing, senses}
 use Rattle.meaning.proofs.TestLaws.{same-test, some-has, has-some, some-those}
-use Rattle.reading.specs.Noted.{count-slot, section-noted}
+use Rattle.reading.specs.Noted.{none-yet, count-slot, section-noted}
 use Rattle.reading.specs.Requested.{goals-place, request-noted}
 use Rattle.reading.specs.Listed.{listed, List-here}
 use Rattle.refusing.specs.InTable.{effect-from}
 use Rattle.refusing.specs.Settled.{blank}
 use Rattle.refusing.proofs.KeptLaws.{kept}
 use Rattle.refusing.proofs.HereLaws.{list-here}
-use Rattle.refusing.proofs.ReadLaws.{Parts, parts, effect-good, knowledge-good}
+use Rattle.refusing.proofs.ReadLaws.{Parts, parts, effect-good, knowledge-good, with-runs, with-knowledge, runs-long, after-sections, effects-ordered, runs-ordered}
+use Rattle.refusing.proofs.SettleLaws.{blank-long, blank-slot}
 use Rattle.steps.specs.AtHand.{request-in, At-hand}
-use Rattle.steps.specs.Lines.{allowed-at, given-at, Runs, Effects, Senses, goals-in, whether-in, Ends}
+use Rattle.steps.specs.Lines.{run-places, effect-places, allowed-at, given-at, Runs, Effects, Senses, goals-in, whether-in, Ends}
 use Rattle.steps.proofs.HandLaws.{request-read}
-use Rattle.steps.proofs.ChainLaws.{latest, latest-has, latest-those}
-use Rattle.steps.proofs.SlotLaws.{with-runs, with-knowledge, runs-long, lines-slot, sensed-empty, effects-chain, runs-chain, goals-noted}
+use Rattle.steps.proofs.SlotLaws.{sensed-empty, goals-noted}
 use Rattle.steps.proofs.StandLaws.{run-stands, knowledge-small, Ends-read, ends-read, list-after}
 use Rattle.steps.proofs.SensedLaws.{Sensed, says, seen-after, seen-some, lines-sensed}
+
+-- THE PLACES of the lines that pass a test: each is that of a line, and what some place passes some line passes, where the two tests agree.
+module _ {A : Type 0} (stands : A → ℕ) (acts : A → Bool) where
+  those-has : (xs : List A) (x : A) → Has (those-of acts xs) x → Has xs x
+  unfolding those-of pick
+  those-has [] x has = has
+  those-has (y ∷ ys) x has = step (acts y) (those-has ys x) has
+    where
+      step : (b : Bool) → (Has (those-of acts ys) x → Has ys x) → Has (pick b (λ _. y ∷ those-of acts ys) (λ _. those-of acts ys)) x → (x ≡ y) ⊎ Has ys x
+      step true rest (inl e) = inl e
+      step true rest (inr h) = inr (rest h)
+      step false rest h = inr (rest h)
+
+  placed-has : (ys : List A) (p : ℕ) → Has (map stands ys) p → (y : A) × Has ys y × (p ≡ stands y)
+  placed-has [] p has = absurd has
+  placed-has (y ∷ ys) p (inl e) = (y, inl refl, e)
+  placed-has (y ∷ ys) p (inr h) = let w = placed-has ys p h in (w .0, inr (w .1), w .2)
+
+  those-placed : (xs : List A) (p : ℕ) → Has (map stands (those-of acts xs)) p → (x : A) × Has xs x × (p ≡ stands x)
+  those-placed xs p has = let w = placed-has (those-of acts xs) p has in (w .0, those-has xs (w .0) (w .1), w .2)
+
+  placed-same : (test : ℕ → Bool) (g : A → Bool) (ys : List A) → ((y : A) → Has ys y → test (stands y) ≡ g y) → some-of test (map stands ys) ≡ some-of g ys
+  unfolding some-of
+  placed-same test g [] same = refl
+  placed-same test g (y ∷ ys) same = rw (same y (inl refl), placed-same test g ys (λ z has. same z (inr has)))
+
+  those-same : (test : ℕ → Bool) (g : A → Bool) (xs : List A) → ((x : A) → Has xs x → test (stands x) ≡ g x) → some-of test (map stands (those-of acts xs)) ≡ some-of g (those-of acts xs)
+  those-same test g xs same = placed-same test g (those-of acts xs) (λ y has. same y (those-has xs y has))
 
 -- A REQUEST x that was read.
 module _ (s : List ℕ) (bytes : (i : ℕ) → getD s i 0 < 256) (x : Request) (e : ℕ) (reads : read-request format s ≡ got x e) where
@@ -49,20 +77,20 @@ module _ (s : List ℕ) (bytes : (i : ℕ) → getD s i 0 < 256) (x : Request) (
     some = λ h. after .some (subst (λ (v : ℕ). 0 < v) to-same h);
   }
     where
-      same : (j : ℕ) → 4096 ≤ j → (j ≡ 5376 → ⊥) → (j ≡ 5377 → ⊥) → (j ≡ 5381 → ⊥) → getD (request-noted x blank) j 0 ≡ getD (with-knowledge s bytes x whole) j 0
-      same j far = lines-slot s bytes x whole j far
+      same : (j : ℕ) → 4096 ≤ j → (j ≡ 5376 → ⊥) → (j ≡ 5377 → ⊥) → (j ≡ 5381 → ⊥) → getD (request-noted x blank) j 0 ≡ getD (with-knowledge s bytes x whole blank) j 0
+      same j far = after-sections s bytes x whole blank j far
 
-      from-same : getD (request-noted x blank) (5248 + a) 0 ≡ getD (with-knowledge s bytes x whole) (5248 + a) 0
+      from-same : getD (request-noted x blank) (5248 + a) 0 ≡ getD (with-knowledge s bytes x whole blank) (5248 + a) 0
       from-same = same (5248 + a) (omega arith) (λ e. omega arith) (λ e. omega arith) (λ e. omega arith)
 
-      to-same : getD (request-noted x blank) (5312 + a) 0 ≡ getD (with-knowledge s bytes x whole) (5312 + a) 0
+      to-same : getD (request-noted x blank) (5312 + a) 0 ≡ getD (with-knowledge s bytes x whole blank) (5312 + a) 0
       to-same = same (5312 + a) (omega arith) (λ e. omega arith) (λ e. omega arith) (λ e. omega arith)
 
       start : List ℕ
-      start = set (with-runs s bytes x whole) 5380 (length (x .table .knowledge))
+      start = set (with-runs s bytes x whole blank) 5380 (length (x .table .knowledge))
 
       empty : (j : ℕ) → 5248 ≤ j → j < 9480 → (j ≡ 5378 → ⊥) → (j ≡ 5379 → ⊥) → (j ≡ 5380 → ⊥) → getD start j 0 ≡ 0
-      empty j far near b c d = kept (with-runs s bytes x whole) 5380 j (length (x .table .knowledge)) d ∙ sensed-empty s bytes x whole j far near b c
+      empty j far near b c d = kept (with-runs s bytes x whole blank) 5380 j (length (x .table .knowledge)) d ∙ sensed-empty s bytes x whole j far near b c
 
       from-empty : getD start (5248 + a) 0 ≡ 0
       from-empty = empty (5248 + a) (omega arith) (omega arith) (λ e. omega arith) (λ e. omega arith) (λ e. omega arith)
@@ -80,37 +108,37 @@ module _ (s : List ℕ) (bytes : (i : ℕ) → getD s i 0 < 256) (x : Request) (
         some = λ h. absurd (omega (arith, to-empty));
       }
 
-      after : Sensed (with-knowledge s bytes x whole) a (seen-after a (λ _. false) (x .table .knowledge))
+      after : Sensed (with-knowledge s bytes x whole blank) a (seen-after a (λ _. false) (x .table .knowledge))
       after =
-          lines-sensed a small 0 (x .table .knowledge) start (λ _. false) (length-set (with-runs s bytes x whole) 5380 (length (x .table .knowledge)) ∙ runs-long s bytes x whole)
+          lines-sensed a small 0 none-yet (x .table .knowledge) start (λ _. false) (length-set (with-runs s bytes x whole blank) 5380 (length (x .table .knowledge)) ∙ runs-long s bytes x whole blank blank-long)
           (λ l has. (knowledge-good s (x .table) (whole .place) (whole .of-table) l has, knowledge-small s (x .table) (whole .place) (whole .of-table) l has)) nothing
 
+  is : request-in s ≡ x
+  is = request-read s x e reads
+
+  -- The lines of an action, whose places are the request's.
   runs-there : (a : ℕ) → a < 64 → Runs s (request-noted x blank) a
-  unfolding allowed-at allowed executability-of
+  unfolding run-places allowed-at allowed executability-of
   runs-there a small = record {
-    places = latest (λ (r : Executability). r .action) (λ (r : Executability). r .place + 1) a (x .table .executability) [];
-    chain = runs-chain s bytes x whole a small;
-    bodies = λ p has.
-        ⊎-elim (λ none. absurd none) (λ w. rw (w .2) (run-stands s (x .table) (whole .place) (whole .of-table) (w .0) (w .1) .1))
-        (latest-has (λ (r : Executability). r .action) (λ (r : Executability). r .place + 1) a (x .table .executability) [] p has);
-    same = λ test.
-        latest-those (λ (r : Executability). r .action) (λ (r : Executability). r .place + 1) a (λ p. each-of test (listed s p)) (λ (r : Executability). each-of test (r .body)) (x .table .executability)
-        (λ r has. ap (each-of test) (run-stands s (x .table) (whole .place) (whole .of-table) r has .0))
-        ∙ ap (λ (y : Request). allowed test (executability-of (y .table) a)) (sym (request-read s x e reads));
+    order = rw is (runs-ordered s bytes x whole blank blank-long blank-slot a small);
+    lines = λ p has.
+        let w = those-placed (λ (r : Executability). r .place) (λ (r : Executability). eqb (r .action) a) (x .table .executability) p (rw is at has) in
+        rw (w .2) (run-stands s (x .table) (whole .place) (whole .of-table) (w .0) (w .1) .1);
+    same = λ test. rw is
+        (those-same (λ (r : Executability). r .place) (λ (r : Executability). eqb (r .action) a) (λ p. each-of test (listed s (p + 1))) (λ (r : Executability). each-of test (r .body)) (x .table .executability)
+        (λ r has. ap (each-of test) (run-stands s (x .table) (whole .place) (whole .of-table) r has .0)));
   }
 
   effects-there : (a : ℕ) → a < 64 → Effects s (request-noted x blank) a
-  unfolding given-at given effects-of effect-from
+  unfolding effect-places given-at given effects-of effect-from
   effects-there a small = record {
-    places = latest (λ (e : Effect). e .action) (λ (e : Effect). e .place) a (x .table .effects) [];
-    chain = effects-chain s bytes x whole a small;
+    order = rw is (effects-ordered s bytes x whole blank blank-long blank-slot a small);
     lines = λ p has.
-        ⊎-elim (λ none. absurd none) (λ w. rw (w .2) (effect-good s (x .table) (whole .place) (whole .of-table) (w .0) (w .1) .1))
-        (latest-has (λ (e : Effect). e .action) (λ (e : Effect). e .place) a (x .table .effects) [] p has);
-    same = λ test l.
-        latest-those (λ (e : Effect). e .action) (λ (e : Effect). e .place) a (λ p. both (eqb (getD s (p + 1) 0) l) (each-of test (listed s (p + 2)))) (λ (e : Effect). both (eqb (e .literal) l) (each-of test (e .body))) (x .table .effects)
-        (λ e has. ap (λ (y : Effect). both (eqb (y .literal) l) (each-of test (y .body))) (effect-good s (x .table) (whole .place) (whole .of-table) e has .0))
-        ∙ ap (λ (y : Request). given test (effects-of (y .table) a) l) (sym (request-read s x e reads));
+        let w = those-placed (λ (e : Effect). e .place) (λ (e : Effect). eqb (e .action) a) (x .table .effects) p (rw is at has) in
+        rw (w .2) (effect-good s (x .table) (whole .place) (whole .of-table) (w .0) (w .1) .1);
+    same = λ test l. rw is
+        (those-same (λ (e : Effect). e .place) (λ (e : Effect). eqb (e .action) a) (λ p. both (eqb (getD s (p + 1) 0) l) (each-of test (listed s (p + 2)))) (λ (e : Effect). both (eqb (e .literal) l) (each-of test (e .body))) (x .table .effects)
+        (λ e has. ap (λ (y : Effect). both (eqb (y .literal) l) (each-of test (y .body))) (effect-good s (x .table) (whole .place) (whole .of-table) e has .0)));
   }
 
   -- What the request senses is what its knowledge lines say.

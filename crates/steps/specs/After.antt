@@ -1,15 +1,12 @@
 -- What an action's effects may undo; they stand at these places.
 use Prim.Native.Nat.{ℕ, _+_}
-use mathlib.Core.Path.{_≡_}
 use mathlib.Core.List.{List, [], _∷_}
 use lib.ListN.{getD, set}
 use Rattle.meaning.specs.Tests.{pick, each-of}
 use Rattle.meaning.specs.Limits
 use Rattle.meaning.specs.Literals.{fluent-of, complement}
 use Rattle.meaning.specs.States.{State, known, possible}
-use Rattle.reading.specs.Noted.{effect-place, effect-before, effect-last}
 use Rattle.reading.specs.Listed.{listed}
-use Rattle.steps.specs.Lines.{Chain}
 
 -- The literal's complement is not known any more.
 unfoldable pub undone : ℕ → State → State
@@ -19,10 +16,3 @@ undone l next = pick (known next (complement l)) (λ _. set next (fluent-of l) L
 unfoldable pub left-at : (s : List ℕ) → (marks : State) → List ℕ → State → State
 left-at s marks [] next = next
 left-at s marks (p ∷ ps) next = left-at s marks ps (pick (each-of (possible marks) (listed s (p + 2))) (λ _. undone (getD s (p + 1) 0) next) (λ _. next))
-
--- The same by the chain of the action's effects in the table.
-unfoldable pub Effects-chained : (t : List ℕ) (a : ℕ) → List ℕ → Type 0
-Effects-chained t a ps = Chain t effect-place effect-before (getD t (effect-last + a) 0) ps
-
-pub record Left (s t : List ℕ) (a : ℕ) (marks start r : State) : Type 0 where
-  pub holds : (ps : List ℕ) → Effects-chained t a ps → r ≡ left-at s marks ps start

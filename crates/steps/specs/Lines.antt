@@ -2,49 +2,44 @@
 use Prim.Native.Nat.{ℕ, _+_, _-_, _*_, _≤_, _<_}
 use mathlib.Core.Path.{_≡_}
 use mathlib.Core.Bool.{Bool, true}
-use mathlib.Core.List.{List, [], _∷_}
+use mathlib.Core.List.{List, map}
 use lib.ListN.{getD}
 use lib.Dec.{eqb, ltb}
 use Rattle.meaning.specs.Tests.{both, some-of, each-of, Has}
+use Rattle.meaning.specs.Requests.{Effect, Executability}
 use Rattle.meaning.specs.Reading.{placed}
 use Rattle.meaning.specs.Lines.{effects-of, executability-of, knowledge-of, allowed, given, sensing, senses}
-use Rattle.reading.specs.Noted.{effect-place, effect-before, run-place, run-before, effect-last, run-last, sensed-from, sensed-to, sensed, goals-slot}
+use Rattle.reading.specs.Noted.{effect-lines, run-lines, sensed-from, sensed-to, sensed, goals-slot}
+use Rattle.reading.specs.Ordered.{In-order}
 use Rattle.reading.specs.Listed.{listed, List-here}
 use Rattle.refusing.specs.InTable.{Effect-here}
 use Rattle.steps.specs.AtHand.{request-in}
 
--- One line of a chain: its number is j, it stands at p, and the line before it has a smaller number.
-pub record Linked (t : List ℕ) (place before j p : ℕ) : Type 0 where
-  pub some : 0 < j
-  pub few : j < 256
-  pub stands : getD t (place + j) 0 ≡ p
-  pub falls : getD t (before + j) 0 < j
+-- THE PLACES of an action's lines, in file order.
+unfoldable pub run-places : List ℕ → (a : ℕ) → List ℕ
+run-places s a = map (λ (r : Executability). r .place) (executability-of (request-in s .table) a)
 
--- The places of a chain's lines, from line j on; there is none where j is 0.
-unfoldable pub Chain : (t : List ℕ) (place before j : ℕ) → List ℕ → Type 0
-Chain t place before j [] = j ≡ 0
-Chain t place before j (p ∷ ps) = Linked t place before j p × Chain t place before (getD t (before + j) 0) ps
+unfoldable pub effect-places : List ℕ → (a : ℕ) → List ℕ
+effect-places s a = map (λ (e : Effect). e .place) (effects-of (request-in s .table) a)
 
--- Some line has a body each of whose literals passes the test; the places are those of the bodies.
+-- Some executability line has a body each of whose literals passes the test.
 unfoldable pub allowed-at : List ℕ → (ℕ → Bool) → List ℕ → Bool
-allowed-at s test = some-of (λ (p : ℕ). each-of test (listed s p))
+allowed-at s test = some-of (λ (p : ℕ). each-of test (listed s (p + 1)))
 
 -- Some effect gives the literal by a body each of whose literals passes the test.
 unfoldable pub given-at : List ℕ → (ℕ → Bool) → List ℕ → ℕ → Bool
 given-at s test places l = some-of (λ (p : ℕ). both (eqb (getD s (p + 1) 0) l) (each-of test (listed s (p + 2)))) places
 
--- THE LINES OF AN ACTION, the last one first.
+-- THE LINES OF AN ACTION: the table leads to them in file order, they are fit to be read, and what they say is what the request's lines say.
 pub record Runs (s t : List ℕ) (a : ℕ) : Type 0 where
-  pub places : List ℕ
-  pub chain : Chain t run-place run-before (getD t (run-last + a) 0) places
-  pub bodies : (p : ℕ) → Has places p → List-here 128 s p
-  pub same : (test : ℕ → Bool) → allowed-at s test places ≡ allowed test (executability-of (request-in s .table) a)
+  pub order : In-order t run-lines a (run-places s a)
+  pub lines : (p : ℕ) → Has (run-places s a) p → List-here 128 s (p + 1)
+  pub same : (test : ℕ → Bool) → allowed-at s test (run-places s a) ≡ allowed test (executability-of (request-in s .table) a)
 
 pub record Effects (s t : List ℕ) (a : ℕ) : Type 0 where
-  pub places : List ℕ
-  pub chain : Chain t effect-place effect-before (getD t (effect-last + a) 0) places
-  pub lines : (p : ℕ) → Has places p → Effect-here s p
-  pub same : (test : ℕ → Bool) (l : ℕ) → given-at s test places l ≡ given test (effects-of (request-in s .table) a) l
+  pub order : In-order t effect-lines a (effect-places s a)
+  pub lines : (p : ℕ) → Has (effect-places s a) p → Effect-here s p
+  pub same : (test : ℕ → Bool) (l : ℕ) → given-at s test (effect-places s a) l ≡ given test (effects-of (request-in s .table) a) l
 
 -- WHAT IT SENSES, with the smallest fluent as 64 less it and the largest as one more.
 pub record Senses (s t : List ℕ) (a : ℕ) : Type 0 where

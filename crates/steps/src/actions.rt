@@ -2,14 +2,17 @@ ghost use mathlib.Core.Path.{_≡_};
 ghost use Prim.Native.Nat.{_<_};
 ghost use Rattle.meaning.specs.States.{can-be-run, state-after};
 ghost use Rattle.steps.specs.AtHand.{request-in, At-hand, Marked};
-ghost use Rattle.steps.specs.After.{Left};
+ghost use Rattle.steps.specs.Lines.{effect-places};
+ghost use Rattle.steps.specs.After.{left-at};
 use bytes::bytes::wide;
 use reading::marks::Test;
 use reading::marks::each_holds;
 use reading::marks::mark_of;
 use reading::table;
 use reading::table::Table;
-use reading::table::get;
+use reading::table::first_line;
+use reading::table::line_place;
+use reading::table::next_line;
 
 // Some executability line of the action has its whole body known true.
 pub fn can_be_run(s: &[u8], t: &Table, a: usize, marks: &[u8; 64]) -> bool
@@ -17,17 +20,15 @@ pub fn can_be_run(s: &[u8], t: &Table, a: usize, marks: &[u8; 64]) -> bool
     requires { ⌜ a < 64 ⌝ }
     ensures { λ r. ⌜ r ≡ can-be-run (request-in (now (s .entry)) .table) a (now (marks .entry)) ⌝ }
 {
-    let last = table::RUN_LAST + a;
-    let mut k = get(t, last);
+    let mut k = first_line(t, table::EXECUTABILITY, a);
     while 0 < k {
-        let slot = table::RUN_PLACE + k;
-        let body = get(t, slot);
+        let p = line_place(t, table::EXECUTABILITY, k);
+        let body = p + 1;
         let known = each_holds(Test::Known, marks, s, body);
         if known {
             return true;
         }
-        let before = table::RUN_BEFORE + k;
-        k = get(t, before);
+        k = next_line(t, table::EXECUTABILITY, k);
     }
     false
 }
@@ -36,16 +37,13 @@ pub fn can_be_run(s: &[u8], t: &Table, a: usize, marks: &[u8; 64]) -> bool
 fn left(s: &[u8], t: &Table, a: usize, marks: &[u8; 64], start: [u8; 64]) -> [u8; 64]
     requires { ⌜ At-hand (now s) (now t) ⌝ }
     requires { ⌜ a < 64 ⌝ }
-    ensures { λ r. ⌜ Left (now (s .entry)) (now (t .entry)) a (now (marks .entry)) start r ⌝ }
+    ensures { λ r. ⌜ r ≡ left-at (now (s .entry)) (now (marks .entry)) (effect-places (now (s .entry)) a) start ⌝ }
 {
     let mut next = start;
-    let last = table::EFFECT_LAST + a;
-    let mut k = get(t, last);
+    let mut k = first_line(t, table::EFFECTS, a);
     while 0 < k {
-        let slot = table::EFFECT_PLACE + k;
-        let p = get(t, slot);
-        let before = table::EFFECT_BEFORE + k;
-        k = get(t, before);
+        let p = line_place(t, table::EFFECTS, k);
+        k = next_line(t, table::EFFECTS, k);
         let one = p + 1;
         let l = wide(s[one]);
         let f = l / 2;
@@ -71,13 +69,10 @@ pub fn state_after(s: &[u8], t: &Table, a: usize, marks: [u8; 64]) -> [u8; 64]
 {
     let mut next = marks;
     let mut told = false;
-    let last = table::EFFECT_LAST + a;
-    let mut k = get(t, last);
+    let mut k = first_line(t, table::EFFECTS, a);
     while 0 < k {
-        let slot = table::EFFECT_PLACE + k;
-        let p = get(t, slot);
-        let before = table::EFFECT_BEFORE + k;
-        k = get(t, before);
+        let p = line_place(t, table::EFFECTS, k);
+        k = next_line(t, table::EFFECTS, k);
         let one = p + 1;
         let l = wide(s[one]);
         let f = l / 2;

@@ -64,7 +64,7 @@ module _ (s t : List ℕ) (i f : ℕ) (marks : State) (small : f < 64) (marked :
         sym (followed-walks s i r follows m) ∙ ap (λ (fs : List ℕ). each-reading (readings fs m) (walk-after s i)) (sym (unknown-no-first (request-in s .table) (action-at s t i) m good (f + 1) g is far))
 
     module _ (tally after : List ℕ) where
-      -- The second reading is not tried where the walk is stuck or spent with the first.
+      -- The second reading is not tried where the walk has stopped or is spent with the first.
       stops : standing after ≡ add (standing tally) (read-on s i (unknown-above (request-in s .table) (action-at s t i) (set marks f 1) (f + 1)) (set marks f 1)) → (on : Bool) → on ≡ ltb (getD after 0 0) 2 → on ≡ false
           → standing after ≡ add (standing tally) (fork-from s t i f marks)
       stops first on says no-more =

@@ -3,19 +3,20 @@
 use Prim.Native.Nat.{ℕ, _+_, _-_, _≤_, _<_}
 use native.Mathlib.Omega.{arith}
 use mathlib.Core.Path.{_≡_, refl, sym, _∙_, ap, subst}
+use mathlib.Core.Bool.{false}
 use mathlib.Core.List.{List}
 use lib.ListN.{length, getD, set, drop, replicate, length-set}
 use lib.Seq.{getD-set-same, getD-set-other, drop-set-lt}
-use lib.Dec.{eqb, ltb}
+use lib.Dec.{eqb, leb, ltb, leb·suc-suc}
 use borrow.Author.Tests.{ltb-true, ltb-false, eqb-true, eqb-false, lt-ltb, le-ltb, eq-eqb, ne-eqb}
 use Rattle.meaning.specs.Tests.{pick}
 use Rattle.meaning.specs.Limits
 use Rattle.meaning.specs.Refusals
 use Rattle.meaning.specs.Refusals.{nowhere, at}
 use Rattle.meaning.specs.States.{State}
-use Rattle.meaning.specs.Walk.{End, fine, missed, stuck, Walked, stuck-at, counted, keep-miss, after-miss, after-end, and-then, end-of}
+use Rattle.meaning.specs.Walk.{Concerned, in-state, End, fine, missed, stopped, Walked, stopped-at, counted, keep-miss, after-miss, after-end, and-then, end-of}
 use Rattle.meaning.proofs.TestLaws.{by-test, pick-true, pick-false}
-use Rattle.walking.specs.Standing.{Standing, nothing, spent, so-far, spend, add, one, end-in, standing, Going, end-by, Held}
+use Rattle.walking.specs.Standing.{Standing, nothing, spent, so-far, spend, add, one, end-in, standing, Going, Notable, end-by, Held}
 
 -- SPENDING. A walk within what is left, or above it.
 spend-within : (left : ℕ) (then : End State → End State) (w : Walked State) → w .count ≤ left → spend left then w ≡ so-far (left - w .count) (then (w .end))
@@ -50,7 +51,7 @@ keep-keep : (p q : ℕ) (s t : State) (e : End State) → keep-miss p s (keep-mi
 unfolding keep-miss
 keep-keep p q s t fine = refl
 keep-keep p q s t (missed r u) = refl
-keep-keep p q s t (stuck r u) = refl
+keep-keep p q s t (stopped n r u) = refl
 
 module _ (left c : ℕ) (more : Unit {0} → Walked State) where
   -- Above what is left with the first walk.
@@ -58,25 +59,25 @@ module _ (left c : ℕ) (more : Unit {0} → Walked State) where
   unfolding after-end counted after-miss
   spent-first then fine h = spend-above left then (counted c (more tt)) (omega arith)
   spent-first then (missed p s) h = spend-above left then (counted c (after-miss p s (more tt))) (omega arith)
-  spent-first then (stuck p s) h = spend-above left then (record { count = c; end = stuck p s }) h
+  spent-first then (stopped n p u) h = spend-above left then (record { count = c; end = stopped n p u }) h
 
   fine-then : (e : End State) → c ≤ left → spend left (λ x. x) (after-end e c more) ≡ add (so-far (left - c) e) (more tt)
   unfolding after-end counted after-miss add
   fine-then fine h = spend-two left c (λ x. x) (λ x. x) (counted c (more tt)) (more tt) refl refl h
   fine-then (missed p s) h = spend-two left c (λ x. x) (keep-miss p s) (counted c (after-miss p s (more tt))) (more tt) refl refl h
-  fine-then (stuck p s) h = spend-within left (λ x. x) (record { count = c; end = stuck p s }) h
+  fine-then (stopped n p u) h = spend-within left (λ x. x) (record { count = c; end = stopped n p u }) h
 
   missed-then : (q : ℕ) (u : State) (e : End State) → c ≤ left → spend left (keep-miss q u) (after-end e c more) ≡ add (so-far (left - c) (keep-miss q u e)) (more tt)
   unfolding after-end counted after-miss add keep-miss
   missed-then q u fine h = spend-two left c (keep-miss q u) (keep-miss q u) (counted c (more tt)) (more tt) refl refl h
   missed-then q u (missed p s) h = spend-two left c (keep-miss q u) (keep-miss q u) (counted c (after-miss p s (more tt))) (more tt) refl (keep-keep q p u s (more tt .end)) h
-  missed-then q u (stuck p s) h = spend-within left (keep-miss q u) (record { count = c; end = stuck p s }) h
+  missed-then q u (stopped n p s) h = spend-within left (keep-miss q u) (record { count = c; end = stopped n p s }) h
 
 pub add-then : (a : Standing) (w : Walked State) (more : Unit {0} → Walked State) → add a (and-then w more) ≡ add (add a w) (more tt)
 unfolding add and-then
 add-then nothing w more = refl
 add-then spent w more = refl
-add-then (so-far left (stuck p s)) w more = refl
+add-then (so-far left (stopped n p u)) w more = refl
 add-then (so-far left fine) w more =
     by-test (ltb left (w .count))
     (λ above. let h = ltb-true _ _ above in spent-first left (w .count) more (λ x. x) (w .end) h ∙ ap (λ (x : Standing). add x (more tt)) (sym (spend-above left (λ x. x) w h)))
@@ -113,9 +114,9 @@ module _ (tally : List ℕ) (sized : length tally ≡ 67) where
   unfolding end-in
   end-missed h = pick-false (eqb (getD tally 0 0) 0) _ _ (ne-eqb (getD tally 0 0) 0 (λ e. omega arith)) ∙ pick-true (eqb (getD tally 0 0) 1) _ _ (eq-eqb _ _ h)
 
-  pub end-stuck : (getD tally 0 0 ≡ 0 → ⊥) → (getD tally 0 0 ≡ 1 → ⊥) → end-in tally ≡ stuck (getD tally 1 0) (drop 3 tally)
+  pub end-stopped : (getD tally 0 0 ≡ 0 → ⊥) → (getD tally 0 0 ≡ 1 → ⊥) → end-in tally ≡ stopped (getD tally 0 0) (getD tally 1 0) (in-state (drop 3 tally))
   unfolding end-in
-  end-stuck h g = pick-false (eqb (getD tally 0 0) 0) _ _ (ne-eqb _ _ h) ∙ pick-false (eqb (getD tally 0 0) 1) _ _ (ne-eqb _ _ g)
+  end-stopped h g = pick-false (eqb (getD tally 0 0) 0) _ _ (ne-eqb _ _ h) ∙ pick-false (eqb (getD tally 0 0) 1) _ _ (ne-eqb _ _ g)
 
   pub stands-fine : getD tally 0 0 ≡ 0 → standing tally ≡ so-far (getD tally 2 0) fine
   stands-fine h = stands-open (λ e. omega arith) ∙ ap (so-far (getD tally 2 0)) (end-fine h)
@@ -123,8 +124,9 @@ module _ (tally : List ℕ) (sized : length tally ≡ 67) where
   pub stands-missed : getD tally 0 0 ≡ 1 → standing tally ≡ so-far (getD tally 2 0) (missed (getD tally 1 0) (drop 3 tally))
   stands-missed h = stands-open (λ e. omega arith) ∙ ap (so-far (getD tally 2 0)) (end-missed h)
 
-  pub stands-stuck : getD tally 0 0 ≡ 2 → standing tally ≡ so-far (getD tally 2 0) (stuck (getD tally 1 0) (drop 3 tally))
-  stands-stuck h = stands-open (λ e. omega arith) ∙ ap (so-far (getD tally 2 0)) (end-stuck (λ e. omega arith) (λ e. omega arith))
+  pub stands-stopped : (getD tally 0 0 ≡ 3 → ⊥) → (getD tally 0 0 ≡ 0 → ⊥) → (getD tally 0 0 ≡ 1 → ⊥)
+      → standing tally ≡ so-far (getD tally 2 0) (stopped (getD tally 0 0) (getD tally 1 0) (in-state (drop 3 tally)))
+  stands-stopped within some other = stands-open within ∙ ap (so-far (getD tally 2 0)) (end-stopped some other)
 
 -- It says something.
 abbrev Says : Standing → Type 0
@@ -144,10 +146,14 @@ add-over tally h w =
     (λ s. let sized = eqb-true _ _ s in
     by-test (eqb (getD tally 0 0) 3)
     (λ t. let is = stands-spent tally sized (eqb-true _ _ t) in is ∙ ap (λ (a : Standing). add a w) (sym is))
-    (λ f. let is = stands-open tally sized (eqb-false _ _ f) ∙ ap (so-far (getD tally 2 0)) (end-stuck tally sized (λ e. h (omega arith)) (λ e. h (omega arith))) in is ∙ ap (λ (a : Standing). add a w) (sym is)))
+    (λ f. let is = stands-stopped tally sized (eqb-false _ _ f) (λ e. h (omega arith)) (λ e. h (omega arith)) in is ∙ ap (λ (a : Standing). add a w) (sym is)))
     (λ f. let is = unsized tally (eqb-false _ _ f) in is ∙ ap (λ (a : Standing). add a w) (sym is))
 
--- WHERE IT GOES ON, it stands so far, with nothing stuck.
+-- 0 or 1.
+pub up-to-one : (n : ℕ) → leb n 1 ≡ ltb n 2
+up-to-one n = sym (leb·suc-suc n 1)
+
+-- WHERE IT GOES ON, it stands so far, and nothing has stopped it.
 module _ (tally : List ℕ) (going : Going tally) where
   by-going : (C : End State → Type 0) → C fine → ((p : ℕ) (s : State) → C (missed p s)) → (standing tally ≡ so-far (getD tally 2 0) (end-in tally)) × C (end-in tally)
   by-going C f g =
@@ -161,14 +167,14 @@ module _ (tally : List ℕ) (going : Going tally) where
       few : (n : ℕ) → (n ≡ 0 → ⊥) → n < 2 → n ≡ 1
       few n a b = by-test (eqb n 1) (λ t. eqb-true _ _ t) (λ f. let c = eqb-false n 1 f in absurd (a (omega (arith, c))))
 
-  -- An item that can't be run.
-  pub add-stuck : (p : ℕ) (s : State) → so-far (getD tally 2 0) (stuck p s) ≡ add (standing tally) (stuck-at p s)
-  unfolding add stuck-at keep-miss
-  add-stuck p s =
-      let how = by-going (λ e. so-far (getD tally 2 0) (stuck p s) ≡ add (so-far (getD tally 2 0) e) (stuck-at p s))
-      (sym (spend-none (getD tally 2 0) (λ x. x) (stuck p s)))
-      (λ q u. sym (spend-none (getD tally 2 0) (keep-miss q u) (stuck p s))) in
-      how .1 ∙ ap (λ (a : Standing). add a (stuck-at p s)) (sym (how .0))
+  -- What stops it.
+  pub add-stopped : (n p : ℕ) (u : Concerned State) → so-far (getD tally 2 0) (stopped n p u) ≡ add (standing tally) (stopped-at n p u)
+  unfolding add stopped-at keep-miss
+  add-stopped n p u =
+      let how = by-going (λ e. so-far (getD tally 2 0) (stopped n p u) ≡ add (so-far (getD tally 2 0) e) (stopped-at n p u))
+      (sym (spend-none (getD tally 2 0) (λ x. x) (stopped n p u)))
+      (λ q s. sym (spend-none (getD tally 2 0) (keep-miss q s) (stopped n p u))) in
+      how .1 ∙ ap (λ (a : Standing). add a (stopped-at n p u)) (sym (how .0))
 
   -- The tally keeps its size, whatever is walked.
   pub sized-after : (w : Walked State) (after : List ℕ) → standing after ≡ add (standing tally) w → length after ≡ 67
@@ -228,19 +234,21 @@ module _ (tally : List ℕ) (going : Going tally) where
       stands-open next (length-set tally 2 (left - 1) ∙ sized) (λ e. omega arith) ∙ rw (fewer, same) (sym (how .1) ∙ ap (λ (a : Standing). add a one) (sym (how .0)))
 
 -- NOTED.
-pub noted : (tally : List ℕ) → Going tally → (number place : ℕ) → 1 ≤ number → number ≤ 2 → (marks after : List ℕ) → Held (set tally 0 number) place marks after → standing after ≡ so-far (getD tally 2 0) (end-by number place marks)
+pub notable : (number : ℕ) → 1 ≤ number → eqb number 3 ≡ false → Notable number
+notable number least other = record { some = least; within = eqb-false number 3 other }
+
+pub noted : (tally : List ℕ) → Going tally → (number place : ℕ) → Notable number → (marks after : List ℕ) → Held (set tally 0 number) place marks after → standing after ≡ so-far (getD tally 2 0) (end-by number place marks)
 unfolding end-by pick
-noted tally going number place least most marks after held =
+noted tally going number place notable marks after held =
     let sized = going .sized in
     let is : getD after 0 0 ≡ number = held .number ∙ getD-set-same tally 0 number 0 (omega arith) in
     let left : getD after 2 0 ≡ getD tally 2 0 = held .left ∙ getD-set-other tally 0 2 number 0 (λ e. omega arith) in
     let long : length after ≡ 67 = held .sized ∙ length-set tally 0 number ∙ sized in
     by-test (eqb number 1)
     (λ t. let one-is = eqb-true _ _ t in stands-missed after long (is ∙ one-is) ∙ rw (left, held .placed, held .marked, t))
-    (λ f. let n = eqb-false _ _ f in let two : number ≡ 2 = two-is number n least most in stands-stuck after long (is ∙ two) ∙ rw (left, held .placed, held .marked, f))
-  where
-    two-is : (n : ℕ) → (n ≡ 1 → ⊥) → 1 ≤ n → n ≤ 2 → n ≡ 2
-    two-is n h a b = by-test (eqb n 2) (λ t. eqb-true _ _ t) (λ f. absurd (eqb-false n 2 f (omega arith)))
+    (λ f.
+    let least = notable .some in
+    stands-stopped after long (λ e. notable .within (sym is ∙ e)) (λ e. omega (arith, least)) (λ e. eqb-false _ _ f (sym is ∙ e)) ∙ rw (is, left, held .placed, held .marked, f))
 
 -- OPENED.
 pub opens : (budget : ℕ) → standing (set (replicate 67 0) 2 budget) ≡ so-far budget fine

@@ -8,12 +8,13 @@ use lib.ListN.{length, getD}
 use lib.Dec.{ltb}
 use borrow.Author.Tests.{ltb-true, ltb-false}
 use Rattle.meaning.specs.Tests.{pick}
+use Rattle.meaning.specs.Limits
 use Rattle.meaning.specs.Requests.{Request}
 use Rattle.meaning.specs.Refusals
 use Rattle.meaning.specs.Refusals.{nowhere, at}
 use Rattle.meaning.specs.Lines.{sensing}
 use Rattle.meaning.specs.States.{State, can-be-run, state-after, unknown-sensed, readings, Outcome, outcome}
-use Rattle.meaning.specs.Walk.{fine, missed, Walked, stuck-at, counted, and-then, after-end, each-reading, run-action, table-step, missed-in, end-of, judged}
+use Rattle.meaning.specs.Walk.{in-state, fine, missed, Walked, stuck-at, counted, and-then, after-end, each-reading, Step, after-step, run-action, table-does, table-step, missed-in, end-of, judged}
 use Rattle.meaning.proofs.TestLaws.{pick-true, pick-false}
 use Rattle.reading.specs.Planned.{items-of}
 use Rattle.refusing.specs.InTable.{found}
@@ -28,7 +29,7 @@ use Rattle.steps.proofs.SensingLaws.{sensed-first, sensed-no-first}
 use Rattle.walking.specs.Standing.{Standing, so-far, add, one, standing, Going, end-by}
 use Rattle.walking.specs.Walks.{action-at, read-on, fork-from}
 use Rattle.walking.proofs.FallLaws.{action-there}
-use Rattle.walking.proofs.StandingLaws.{add-then, add-counted, add-over, add-stuck, sized-after, stands-fine, add-fine, add-kept}
+use Rattle.walking.proofs.StandingLaws.{add-then, add-counted, add-over, add-stopped, sized-after, stands-fine, add-fine, add-kept}
 
 -- GOING ON after a part, where the tally says so.
 going-again : (tally after : List ℕ) (w : Walked State) → Going tally → standing after ≡ add (standing tally) w → (on : Bool) → on ≡ ltb (getD after 0 0) 2 → on ≡ true → Going after
@@ -81,17 +82,19 @@ module _ (s t : List ℕ) (here : At-hand s t) (i : ℕ) (less : i < items-of (r
     (runs : Bool) (asked : runs ≡ can-be-run (request-in s .table) a state) where
   -- It can't be run.
   pub item-stuck : runs ≡ false → (after : List ℕ) → standing after ≡ so-far (getD tally 2 0) (end-by 2 p state) → standing after ≡ add (standing tally) (walk-from s i state)
-  unfolding run-action table-step end-by pick
+  unfolding run-action after-step table-step table-does end-by pick
   item-stuck no-run after noted =
-      noted ∙ add-stuck tally going p state
-      ∙ ap (add (standing tally)) (sym (action-walked s t here i less p placed-there other a is-action state ∙ pick-false _ _ _ (sym asked ∙ no-run)))
+      noted ∙ add-stopped tally going Limits.not-executable p (in-state state)
+      ∙ ap (add (standing tally))
+      (sym (action-walked s t here i less p placed-there other a is-action state ∙ ap (λ (x : Step State). after-step p x (walk-after s i)) (pick-false _ _ _ (sym asked ∙ no-run))))
 
   module _ (can : runs ≡ true) (counts : List ℕ) (one-more : standing counts ≡ add (standing tally) one) where
     -- It is run and counted; then each reading is followed by what follows the action.
     run-on : add (standing tally) (walk-from s i state) ≡ add (standing counts) (each-reading (outcome (request-in s .table) a state) (walk-after s i))
-    unfolding run-action table-step
+    unfolding run-action after-step table-step table-does
     run-on =
-        ap (add (standing tally)) (action-walked s t here i less p placed-there other a is-action state ∙ pick-true _ _ _ (sym asked ∙ can))
+        ap (add (standing tally))
+        (action-walked s t here i less p placed-there other a is-action state ∙ ap (λ (x : Step State). after-step p x (walk-after s i)) (pick-true _ _ _ (sym asked ∙ can)))
         ∙ add-counted (standing tally) (each-reading (outcome (request-in s .table) a state) (walk-after s i))
         ∙ ap (λ (b : Standing). add b (each-reading (outcome (request-in s .table) a state) (walk-after s i))) (sym one-more)
 
@@ -148,7 +151,7 @@ module _ (s t : List ℕ) (i : ℕ) (marks : State) (f : Found) (chosen : Chosen
   pub none-taken : Going tally → f ≡ Nowhere → (p : ℕ) → p ≡ getD t (0 + i) 0 → (after : List ℕ) → standing after ≡ so-far (getD tally 2 0) (end-by 2 p marks) → standing after ≡ add (standing tally) (walk-from s i marks)
   unfolding going-on end-by pick
   none-taken going is p place after noted =
-      noted ∙ add-stuck tally going p marks
+      noted ∙ add-stopped tally going Limits.not-executable p (in-state marks)
       ∙ ap (λ (q : ℕ). add (standing tally) (stuck-at q marks)) place
       ∙ ap (add (standing tally)) (sym (chosen .goes ∙ ap (going-on s (getD t (0 + i) 0) marks) is))
 

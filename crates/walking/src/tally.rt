@@ -1,12 +1,12 @@
 ghost use mathlib.Core.Path.{_≡_};
-ghost use Prim.Native.Nat.{_≤_, _<_};
+ghost use Prim.Native.Nat.{_<_};
 ghost use lib.ListN.{length, getD};
 ghost use lib.Dec.{ltb};
 ghost use Rattle.meaning.specs.Walk.{fine};
-ghost use Rattle.walking.specs.Standing.{so-far, add, one, standing, Going, end-by, Held};
+ghost use Rattle.walking.specs.Standing.{so-far, add, one, standing, Going, Notable, end-by, Held};
 
-// How a walk stands: the answer's number so far (3 once the budget is spent), the place that goes with it, the budget left,
-// and from slot 3 on the 64 marks of the state concerned.
+// How a walk stands: the answer's number so far (0, or 1 after a miss, while it goes on; else that of what stopped it, or 3 once
+// the budget is spent), the place that goes with it, the budget left, and from slot 3 on the 64 marks of the state concerned.
 pub type Tally = [u32; 67];
 
 pub const MISSED: u32 = 1;
@@ -25,11 +25,11 @@ pub fn opened(budget: u32) -> Tally
     tally
 }
 
-// The walk is neither stuck nor spent.
+// The walk is neither stopped nor spent.
 pub fn goes_on(tally: &Tally) -> bool
     ensures { λ r. ⌜ r ≡ ltb (getD (now (tally .entry)) 0 0) 2 ⌝ }
 {
-    tally[0] < STUCK
+    tally[0] <= MISSED
 }
 
 // One more is counted, or the budget is spent.
@@ -66,12 +66,11 @@ fn hold(tally: &mut Tally, place: usize, marks: &[u8; 64])
     tally[1] = place as u32;
 }
 
-// A miss, or an item that can't be run.
+// A miss, or what stops the walk.
 pub fn note(tally: &mut Tally, number: u32, place: usize, marks: &[u8; 64])
     requires { ⌜ Going (now tally) ⌝ }
     requires { ⌜ length (now marks) ≡ 64 ⌝ }
-    requires { ⌜ 1 ≤ number ⌝ }
-    requires { ⌜ number ≤ 2 ⌝ }
+    requires { ⌜ Notable number ⌝ }
     requires { ⌜ place < 65536 ⌝ }
     ensures { λ _. ⌜ standing (now (tally .exit)) ≡ so-far (getD (now (tally .entry)) 2 0) (end-by number place (now (marks .entry))) ⌝ }
 {

@@ -5,43 +5,42 @@ use Rattle.reading.proofs.sections.note_line.Statement.{statement}
 use Rattle.reading.proofs.sections.note_line.Tie as tie
 use Rattle.reading.proofs.sections.note_line.Reads as reads
 use Rattle.reading.proofs.sections.note_line.Lts as lts
-use Rattle.reading.proofs.table.note_effect.Reads as note-effect-reads
-use Rattle.reading.proofs.table.note_executability.Reads as note-executability-reads
+use Rattle.reading.proofs.table.append_line.Reads as append-line-reads
 use Rattle.reading.proofs.table.note_pair.Reads as note-pair-reads
 
--- src/sections.rt:46:41
+-- src/sections.rt:48:41
 enum-told : tie.Need-enum-told
 enum-told c = search needs
 
--- src/sections.rt:46:29
-note-effect-requires : tie.Need-note-effect-requires
-note-effect-requires c κs = search needs
+-- src/sections.rt:48:29
+append-line-requires : tie.Need-append-line-requires
+append-line-requires c κs = search needs
 
--- src/sections.rt:47:54
+-- src/sections.rt:49:47
 enum-told-2 : tie.Need-enum-told-2
 enum-told-2 c = search needs
 
--- src/sections.rt:47:35
-note-executability-requires : tie.Need-note-executability-requires
-note-executability-requires c κs = search needs
+-- src/sections.rt:49:35
+append-line-requires-2 : tie.Need-append-line-requires-2
+append-line-requires-2 c κs = search needs
 
--- src/sections.rt:48:41
+-- src/sections.rt:50:41
 enum-told-3 : tie.Need-enum-told-3
 enum-told-3 c = search needs
 
--- src/sections.rt:48:31
+-- src/sections.rt:50:31
 note-pair-requires : tie.Need-note-pair-requires
 note-pair-requires c κs = search knowledge-fits
 
--- src/sections.rt:38:1
+-- src/sections.rt:40:1
 returns : tie.Need-returns
 returns c = search noted-effect
 
--- src/sections.rt:38:1
+-- src/sections.rt:40:1
 returns-2 : tie.Need-returns-2
 returns-2 c = search noted-executability
 
--- src/sections.rt:38:1
+-- src/sections.rt:40:1
 returns-3 : tie.Need-returns-3
 returns-3 c = search noted-knowledge
 
@@ -50,9 +49,9 @@ note-line-spec =
     tie.close
     (tie.spec
     enum-told
-    note-effect-requires
+    append-line-requires
     enum-told-2
-    note-executability-requires
+    append-line-requires-2
     enum-told-3
     note-pair-requires
     returns

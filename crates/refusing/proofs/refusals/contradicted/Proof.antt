@@ -7,9 +7,9 @@ use Rattle.refusing.proofs.refusals.contradicted.Reads as reads
 use Rattle.refusing.proofs.refusals.contradicted.Lts as lts
 use Rattle.bytes.proofs.bytes.wide.Reads as wide-reads
 use Rattle.reading.proofs.marks.state_of.Reads as state-of-reads
+use Rattle.reading.proofs.table.line_place.Reads as line-place-reads
 use Rattle.refusing.proofs.refusals.contradicts.Reads as contradicts-reads
 use Rattle.refusing.proofs.refusals.pair_at.Reads as pair-at-reads
-use Rattle.refusing.proofs.refusals.place_of.Reads as place-of-reads
 
 abbrev Inv-loop : tie.InvT-loop
 Inv-loop s t same k number p pair last j₀ body held j = Sought s t k j
@@ -17,75 +17,75 @@ Inv-loop s t same k number p pair last j₀ body held j = Sought s t k j
 abbrev μ-loop : tie.MeasureT-loop
 μ-loop s t same k number p pair last j₀ body held j = j
 
--- src/refusals.rt:77:18
+-- src/refusals.rt:69:18
 add-number : tie.Need-add-number Inv-loop μ-loop
 add-number c = search needs
 
--- src/refusals.rt:78:9
-place-of-requires : tie.Need-place-of-requires Inv-loop μ-loop
-place-of-requires c κs = search needs
+-- src/refusals.rt:70:9
+line-place-requires : tie.Need-line-place-requires Inv-loop μ-loop
+line-place-requires c κs = search needs
 
--- src/refusals.rt:79:9
+-- src/refusals.rt:71:9
 pair-at-requires : tie.Need-pair-at-requires Inv-loop μ-loop
 pair-at-requires c κs = search (needs, new-fit)
 
--- src/refusals.rt:80:16
+-- src/refusals.rt:72:16
 add-last : tie.Need-add-last Inv-loop μ-loop
 add-last c = search last-fits
 
--- src/refusals.rt:81:22
+-- src/refusals.rt:73:22
 element-copy-out-wide : tie.Need-element-copy-out-wide Inv-loop μ-loop
 element-copy-out-wide c = search last-there
 
--- src/refusals.rt:81:9
+-- src/refusals.rt:73:9
 wide-requires : tie.Need-wide-requires Inv-loop μ-loop
 wide-requires c κs = search needs
 
--- src/refusals.rt:83:9
+-- src/refusals.rt:75:9
 returns : tie.Need-returns Inv-loop μ-loop
 returns c = search none-sought
 
--- src/refusals.rt:85:16
+-- src/refusals.rt:77:16
 add-body : tie.Need-add-body Inv-loop μ-loop
 add-body c = search body-fits
 
--- src/refusals.rt:86:16
+-- src/refusals.rt:78:16
 state-of-requires : tie.Need-state-of-requires Inv-loop μ-loop
 state-of-requires c κs = search (needs, body-here)
 
--- src/refusals.rt:87:5
+-- src/refusals.rt:79:5
 loop-holds : tie.Need-loop-holds Inv-loop μ-loop
 loop-holds c = search sought-starts
 
--- src/refusals.rt:88:13
-place-of-requires-2 : tie.Need-place-of-requires-2 Inv-loop μ-loop
-place-of-requires-2 c κs = search (needs, sought-below)
+-- src/refusals.rt:80:13
+line-place-requires-2 : tie.Need-line-place-requires-2 Inv-loop μ-loop
+line-place-requires-2 c κs = search (needs, sought-below)
 
--- src/refusals.rt:89:13
+-- src/refusals.rt:81:13
 contradicts-requires : tie.Need-contradicts-requires Inv-loop μ-loop
 contradicts-requires c κs = search (needs, new-fit, sought-fit, sought-paired)
 
--- src/refusals.rt:91:13
+-- src/refusals.rt:83:13
 returns-2 : tie.Need-returns-2 Inv-loop μ-loop
 returns-2 c = search sought-met
 
--- src/refusals.rt:93:18
+-- src/refusals.rt:85:18
 element-copy-out-wide-2 : tie.Need-element-copy-out-wide-2 Inv-loop μ-loop
 element-copy-out-wide-2 c = search sought-there
 
--- src/refusals.rt:93:9
+-- src/refusals.rt:85:9
 wide-requires-2 : tie.Need-wide-requires-2 Inv-loop μ-loop
 wide-requires-2 c κs = search needs
 
--- src/refusals.rt:87:5
+-- src/refusals.rt:79:5
 loop-less : tie.Need-loop-less Inv-loop μ-loop
 loop-less c = search sought-less
 
--- src/refusals.rt:87:5
+-- src/refusals.rt:79:5
 loop-again : tie.Need-loop-again Inv-loop μ-loop
 loop-again c = search sought-next
 
--- src/refusals.rt:71:1
+-- src/refusals.rt:63:1
 returns-3 : tie.Need-returns-3 Inv-loop μ-loop
 returns-3 c = search sought-done
 
@@ -96,7 +96,7 @@ contradicted-spec =
     Inv-loop
     μ-loop
     add-number
-    place-of-requires
+    line-place-requires
     pair-at-requires
     add-last
     element-copy-out-wide
@@ -105,7 +105,7 @@ contradicted-spec =
     add-body
     state-of-requires
     loop-holds
-    place-of-requires-2
+    line-place-requires-2
     contradicts-requires
     returns-2
     element-copy-out-wide-2

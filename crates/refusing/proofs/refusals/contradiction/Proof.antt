@@ -10,10 +10,10 @@ use Rattle.refusing.proofs.refusals.contradiction.Statement.{statement}
 use Rattle.refusing.proofs.refusals.contradiction.Tie as tie
 use Rattle.refusing.proofs.refusals.contradiction.Reads as reads
 use Rattle.refusing.proofs.refusals.contradiction.Lts as lts
+use Rattle.reading.proofs.table.line_place.Reads as line-place-reads
 use Rattle.refusing.proofs.refusals.contradicted.Reads as contradicted-reads
 use Rattle.refusing.proofs.refusals.link_pair.Reads as link-pair-reads
 use Rattle.refusing.proofs.refusals.pair_at.Reads as pair-at-reads
-use Rattle.refusing.proofs.refusals.place_of.Reads as place-of-reads
 
 abbrev Inv-loop : tie.InvT-loop
 Inv-loop s t count same₀ k₀ same k = Linked s t same k × (contradiction-in [] (effects-in s t 0 count) ≡ contradiction-in (effects-before s t k) (effects-in s t k (count - k)))
@@ -21,43 +21,43 @@ Inv-loop s t count same₀ k₀ same k = Linked s t same k × (contradiction-in 
 abbrev μ-loop : tie.MeasureT-loop
 μ-loop s t count same₀ k₀ same k = count - k
 
--- src/refusals.rt:106:5
+-- src/refusals.rt:98:5
 loop-holds : tie.Need-loop-holds Inv-loop μ-loop
 loop-holds c = search (linked-none, effects-start)
 
--- src/refusals.rt:107:13
+-- src/refusals.rt:99:13
 contradicted-requires : tie.Need-contradicted-requires Inv-loop μ-loop
 contradicted-requires c κs = search (needs, here-first)
 
--- src/refusals.rt:108:9
+-- src/refusals.rt:100:9
 add-k : tie.Need-add-k Inv-loop μ-loop
 add-k c = search needs
 
--- src/refusals.rt:109:13
-place-of-requires : tie.Need-place-of-requires Inv-loop μ-loop
-place-of-requires c κs = search needs
+-- src/refusals.rt:101:13
+line-place-requires : tie.Need-line-place-requires Inv-loop μ-loop
+line-place-requires c κs = search needs
 
--- src/refusals.rt:111:13
+-- src/refusals.rt:103:13
 returns : tie.Need-returns Inv-loop μ-loop
 returns c = search effects-met
 
--- src/refusals.rt:113:13
+-- src/refusals.rt:105:13
 pair-at-requires : tie.Need-pair-at-requires Inv-loop μ-loop
 pair-at-requires c κs = search (needs, line-here)
 
--- src/refusals.rt:114:9
+-- src/refusals.rt:106:9
 link-pair-requires : tie.Need-link-pair-requires Inv-loop μ-loop
 link-pair-requires c κs = search (needs, line-pair)
 
--- src/refusals.rt:106:5
+-- src/refusals.rt:98:5
 loop-less : tie.Need-loop-less Inv-loop μ-loop
 loop-less c = search needs
 
--- src/refusals.rt:106:5
+-- src/refusals.rt:98:5
 loop-again : tie.Need-loop-again Inv-loop μ-loop
 loop-again c = search (linked-next, effects-next)
 
--- src/refusals.rt:99:1
+-- src/refusals.rt:91:1
 returns-2 : tie.Need-returns-2 Inv-loop μ-loop
 returns-2 c = search effects-done
 
@@ -70,7 +70,7 @@ contradiction-spec =
     loop-holds
     contradicted-requires
     add-k
-    place-of-requires
+    line-place-requires
     returns
     pair-at-requires
     link-pair-requires

@@ -1,13 +1,13 @@
 -- At each turn no knowledge line before is of an action with effects.
 use Prim.Native.Nat.{_-_}
-use Rattle.refusing.proofs.RefusalLaws.{Looked, looked-starts, twice-fits, line-fits, line-there, slot-fits, slot-there, look-met, look-next, look-done}
+use Rattle.refusing.proofs.RefusalLaws.{Looked, looked-starts, twice-fits, line-fits, line-there, acts, look-met, look-next, look-done}
 use borrow.Author.Needs.{needs}
 use Rattle.refusing.proofs.refusals.mixed.Statement.{statement}
 use Rattle.refusing.proofs.refusals.mixed.Tie as tie
 use Rattle.refusing.proofs.refusals.mixed.Reads as reads
 use Rattle.refusing.proofs.refusals.mixed.Lts as lts
 use Rattle.bytes.proofs.bytes.wide.Reads as wide-reads
-use Rattle.reading.proofs.table.get.Reads as get-reads
+use Rattle.reading.proofs.table.first_line.Reads as first-line-reads
 
 abbrev Inv-loop : tie.InvT-loop
 Inv-loop s t start count k₀ k = Looked s t start count k
@@ -15,51 +15,47 @@ Inv-loop s t start count k₀ k = Looked s t start count k
 abbrev μ-loop : tie.MeasureT-loop
 μ-loop s t start count k₀ k = count - k
 
--- src/refusals.rt:126:5
+-- src/refusals.rt:117:5
 loop-holds : tie.Need-loop-holds Inv-loop μ-loop
 loop-holds c = search looked-starts
 
--- src/refusals.rt:127:21
+-- src/refusals.rt:118:21
 mul-twice : tie.Need-mul-twice Inv-loop μ-loop
 mul-twice c = search twice-fits
 
--- src/refusals.rt:128:17
+-- src/refusals.rt:119:17
 add-p : tie.Need-add-p Inv-loop μ-loop
 add-p c = search line-fits
 
--- src/refusals.rt:129:22
+-- src/refusals.rt:120:22
 shared-slice-read-wide : tie.Need-shared-slice-read-wide Inv-loop μ-loop
 shared-slice-read-wide c = search line-there
 
--- src/refusals.rt:129:13
+-- src/refusals.rt:120:13
 wide-requires : tie.Need-wide-requires Inv-loop μ-loop
 wide-requires c κs = search needs
 
--- src/refusals.rt:130:20
-add-slot : tie.Need-add-slot Inv-loop μ-loop
-add-slot c = search slot-fits
+-- src/refusals.rt:121:13
+first-line-requires : tie.Need-first-line-requires Inv-loop μ-loop
+first-line-requires c κs = search (needs, acts)
 
--- src/refusals.rt:131:13
-get-requires : tie.Need-get-requires Inv-loop μ-loop
-get-requires c κs = search (needs, slot-there)
-
--- src/refusals.rt:133:13
+-- src/refusals.rt:123:13
 returns : tie.Need-returns Inv-loop μ-loop
 returns c = search look-met
 
--- src/refusals.rt:135:9
+-- src/refusals.rt:125:9
 add-k : tie.Need-add-k Inv-loop μ-loop
 add-k c = search needs
 
--- src/refusals.rt:126:5
+-- src/refusals.rt:117:5
 loop-less : tie.Need-loop-less Inv-loop μ-loop
 loop-less c = search needs
 
--- src/refusals.rt:126:5
+-- src/refusals.rt:117:5
 loop-again : tie.Need-loop-again Inv-loop μ-loop
 loop-again c = search look-next
 
--- src/refusals.rt:121:1
+-- src/refusals.rt:112:1
 returns-2 : tie.Need-returns-2 Inv-loop μ-loop
 returns-2 c = search look-done
 
@@ -74,8 +70,7 @@ mixed-spec =
     add-p
     shared-slice-read-wide
     wide-requires
-    add-slot
-    get-requires
+    first-line-requires
     returns
     add-k
     loop-less

@@ -1,6 +1,6 @@
--- A turn undoes what the first effect of what is left of the action's chain may undo; what is left then gives what the whole gives, and
--- effect numbers fall along the chain.
-use Rattle.steps.proofs.ActionLaws.{Leaving, leaving-starts, leave-done, effect-slot-fits, effect-slot-there, effect-before-fits, effect-before-there, effect-less, effect-body, effect-body-fits, effect-one-fits, effect-one-there, effect-fluent, leave-other, leave-undone, leave-kept, mark-within}
+-- A turn undoes what the first of the action's effects that are left may undo; what is left then gives what the whole gives, and effect
+-- numbers rise in file order.
+use Rattle.steps.proofs.ActionLaws.{Leaving, leaving-starts, leave-done, line-few, line-less, to-go, effect-body, effect-body-fits, effect-one-fits, effect-one-there, effect-fluent, leave-other, leave-undone, leave-kept, mark-within}
 use borrow.Author.Needs.{needs}
 use Rattle.steps.proofs.actions.left.Statement.{statement}
 use Rattle.steps.proofs.actions.left.Tie as tie
@@ -9,81 +9,71 @@ use Rattle.steps.proofs.actions.left.Lts as lts
 use Rattle.bytes.proofs.bytes.wide.Reads as wide-reads
 use Rattle.reading.proofs.marks.each_holds.Reads as each-holds-reads
 use Rattle.reading.proofs.marks.mark_of.Reads as mark-of-reads
-use Rattle.reading.proofs.table.get.Reads as get-reads
+use Rattle.reading.proofs.table.first_line.Reads as first-line-reads
+use Rattle.reading.proofs.table.line_place.Reads as line-place-reads
+use Rattle.reading.proofs.table.next_line.Reads as next-line-reads
 
 abbrev Inv-loop : tie.InvT-loop
-Inv-loop s t a marks next₀ last k₀ next k = Leaving s t a marks next₀ next k
+Inv-loop s t a marks next₀ k₀ next k = Leaving s t a marks next₀ next k
 
 abbrev μ-loop : tie.MeasureT-loop
-μ-loop s t a marks next₀ last k₀ next k = k
-
--- src/actions.rt:42:16
-add-last : tie.Need-add-last Inv-loop μ-loop
-add-last c = search needs
+μ-loop s t a marks next₀ k₀ next k = to-go k
 
 -- src/actions.rt:43:9
-get-requires : tie.Need-get-requires Inv-loop μ-loop
-get-requires c κs = search needs
+first-line-requires : tie.Need-first-line-requires Inv-loop μ-loop
+first-line-requires c κs = search needs
 
 -- src/actions.rt:44:5
 loop-holds : tie.Need-loop-holds Inv-loop μ-loop
 loop-holds c = search leaving-starts
 
--- src/actions.rt:45:20
-add-slot : tie.Need-add-slot Inv-loop μ-loop
-add-slot c = search effect-slot-fits
+-- src/actions.rt:45:13
+line-place-requires : tie.Need-line-place-requires Inv-loop μ-loop
+line-place-requires c κs = search (needs, line-few)
 
--- src/actions.rt:46:13
-get-requires-2 : tie.Need-get-requires-2 Inv-loop μ-loop
-get-requires-2 c κs = search (needs, effect-slot-there)
+-- src/actions.rt:46:9
+next-line-requires : tie.Need-next-line-requires Inv-loop μ-loop
+next-line-requires c κs = search (needs, line-few)
 
--- src/actions.rt:47:22
-add-before : tie.Need-add-before Inv-loop μ-loop
-add-before c = search effect-before-fits
-
--- src/actions.rt:48:9
-get-requires-3 : tie.Need-get-requires-3 Inv-loop μ-loop
-get-requires-3 c κs = search (needs, effect-before-there)
-
--- src/actions.rt:49:19
+-- src/actions.rt:47:19
 add-one : tie.Need-add-one Inv-loop μ-loop
 add-one c = search effect-one-fits
 
--- src/actions.rt:50:22
+-- src/actions.rt:48:22
 shared-slice-read-wide : tie.Need-shared-slice-read-wide Inv-loop μ-loop
 shared-slice-read-wide c = search effect-one-there
 
--- src/actions.rt:50:13
+-- src/actions.rt:48:13
 wide-requires : tie.Need-wide-requires Inv-loop μ-loop
 wide-requires c κs = search needs
 
--- src/actions.rt:52:25
+-- src/actions.rt:50:25
 mark-of-requires : tie.Need-mark-of-requires Inv-loop μ-loop
 mark-of-requires c κs = search needs
 
--- src/actions.rt:52:21
+-- src/actions.rt:50:21
 sub-other : tie.Need-sub-other Inv-loop μ-loop
 sub-other c = search mark-within
 
--- src/actions.rt:53:12
+-- src/actions.rt:51:12
 array-read-if1 : tie.Need-array-read-if1 Inv-loop μ-loop
 array-read-if1 c = search effect-fluent
 
--- src/actions.rt:54:24
+-- src/actions.rt:52:24
 add-body : tie.Need-add-body Inv-loop μ-loop
 add-body c = search effect-body-fits
 
--- src/actions.rt:55:17
+-- src/actions.rt:53:17
 each-holds-requires : tie.Need-each-holds-requires Inv-loop μ-loop
 each-holds-requires c κs = search (needs, effect-body)
 
--- src/actions.rt:57:17
+-- src/actions.rt:55:17
 array-write-next : tie.Need-array-write-next Inv-loop μ-loop
 array-write-next c = search effect-fluent
 
 -- src/actions.rt:44:5
 loop-less : tie.Need-loop-less Inv-loop μ-loop
-loop-less c = search effect-less
+loop-less c = search line-less
 
 -- src/actions.rt:44:5
 loop-again : tie.Need-loop-again Inv-loop μ-loop
@@ -91,7 +81,7 @@ loop-again c = search leave-undone
 
 -- src/actions.rt:44:5
 loop-less-2 : tie.Need-loop-less-2 Inv-loop μ-loop
-loop-less-2 c = search effect-less
+loop-less-2 c = search line-less
 
 -- src/actions.rt:44:5
 loop-again-2 : tie.Need-loop-again-2 Inv-loop μ-loop
@@ -99,13 +89,13 @@ loop-again-2 c = search leave-kept
 
 -- src/actions.rt:44:5
 loop-less-3 : tie.Need-loop-less-3 Inv-loop μ-loop
-loop-less-3 c = search effect-less
+loop-less-3 c = search line-less
 
 -- src/actions.rt:44:5
 loop-again-3 : tie.Need-loop-again-3 Inv-loop μ-loop
 loop-again-3 c = search leave-other
 
--- src/actions.rt:36:1
+-- src/actions.rt:37:1
 returns : tie.Need-returns Inv-loop μ-loop
 returns c = search leave-done
 
@@ -115,13 +105,10 @@ left-spec =
     (tie.spec
     Inv-loop
     μ-loop
-    add-last
-    get-requires
+    first-line-requires
     loop-holds
-    add-slot
-    get-requires-2
-    add-before
-    get-requires-3
+    line-place-requires
+    next-line-requires
     add-one
     shared-slice-read-wide
     wide-requires

@@ -4,6 +4,7 @@ use Rattle.steps.proofs.SensingLaws.{first-marked, second-marked, after-marked}
 use Rattle.walking.proofs.FallLaws.{fork-falls, fork-walk-falls, walk-branching-falls, walk-fork-falls, branching-walk-falls, follow-falls, followed-position, chosen-position, marked-sized, opens-branching, is-branching, action-here}
 use Rattle.walking.proofs.WalkLaws.{going-after-fork, going-after-walk, going-after-one, walking-counted, action-low, item-stuck, run-spent, run-moves, run-forks, run-sees, branch-taken, none-taken, Walking, walking-starts, walking-there, walking-marked, walking-sized, walking-going, walking-later, walking-ends, walking-judged, walking-on}
 use Rattle.walking.proofs.ForkLaws.{fork-rises, fork-stops, fork-forks, last-stops, last-walks}
+use Rattle.walking.proofs.StandingLaws.{notable}
 use Rattle.walking.proofs.PlaceLaws.{item-fits}
 use Rattle.steps.proofs.OnwardLaws.{item-inside, action-small, place-fits, place-there}
 use borrow.Author.Needs.{needs}
@@ -204,7 +205,7 @@ pub +fork+walk+walk-branching-spec : {M : Type 1} → statement M
     (λ c. search follow-falls)
     (λ c. search (walking-on, walking-counted, after-marked, walking-marked, run-moves, walking-there, walking-going))
     (λ c. search (walking-ends, run-spent, walking-there, walking-going))
-    (λ c κs. (search walking-going, (search walking-sized, (search needs, (search needs, search (item-fits, walking-there))))))
+    (λ c κs. (search walking-going, (search walking-sized, (search (needs, notable), search (item-fits, walking-there)))))
     (λ c. search (walking-ends, item-stuck, walking-there, walking-going))
     (λ c κs. (search needs, (search walking-marked, search walking-going)))
     (λ c. search walking-judged))
@@ -227,5 +228,5 @@ pub +fork+walk+walk-branching-spec : {M : Type 1} → statement M
     (λ c. search needs)
     (λ c. search place-fits)
     (λ c κs. search place-there)
-    (λ c κs. (search needs, (search marked-sized, (search needs, (search needs, search item-fits)))))
+    (λ c κs. (search needs, (search marked-sized, (search (needs, notable), search item-fits))))
     (walk-branching-returns-2 t)

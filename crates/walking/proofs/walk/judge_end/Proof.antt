@@ -1,5 +1,6 @@
 -- One is counted, and the state is judged where the walk goes on and has missed nothing yet.
 use Rattle.walking.proofs.WalkLaws.{counts-going, judged-missed, judged-fine, judged-before}
+use Rattle.walking.proofs.StandingLaws.{notable}
 use Rattle.walking.proofs.PlaceLaws.{missed-fits}
 use borrow.Author.Needs.{needs}
 use Rattle.walking.proofs.walk.judge_end.Statement.{statement}
@@ -28,7 +29,7 @@ enum-known-p c = search needs
 
 -- src/walk.rt:40:17
 note-requires : tie.Need-note-requires
-note-requires c κs = (search counts-going, (search needs, (search needs, (search needs, search missed-fits))))
+note-requires c κs = (search counts-going, (search needs, (search (needs, notable), search missed-fits)))
 
 -- src/walk.rt:41:17
 returns : tie.Need-returns

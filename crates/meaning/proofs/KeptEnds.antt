@@ -1,0 +1,134 @@
+-- What is so of a walk's end: whatever is so of each miss in which what follows may end, of each refusal of a step, and of each branching that
+-- can't be run, is so of the end of the whole walk. A walk ends in one of these, and so this goes by induction on the plan. Assumes nothing.
+use Prim.Native.Nat.{ℕ}
+use mathlib.Core.Path.{_≡_, refl}
+use Rattle.meaning.specs.Limits
+use Rattle.meaning.specs.Requests.{Sequence, done, item, Item, act, branching, Branches, none, branch, Request}
+use Rattle.meaning.specs.Refusals.{Found, nowhere, at}
+use Rattle.meaning.specs.States.{State, Outcome, single, fork, outcome}
+use Rattle.meaning.specs.Walk.{Concerned, in-state, End, fine, missed, stopped, Walked, stopped-at, counted, keep-miss, after-miss, after-end, and-then, each-reading, Step, leads-to, refuses, Steps, after-step, run-action, walk, walk-item, walk-branch, table-does, table-step, missed-in, end-of, judged, walked}
+use Rattle.meaning.proofs.PickLaws.{pick-has}
+
+-- PLACES. Each item of a plan stands at such a place.
+module _ {L : Type 0} (Place : ℕ → Type 0) where
+  abbrev mutual
+    pub On-places : Sequence L → Type 0
+    On-places done = Unit {0}
+    On-places (item i rest) = On-places-item i × On-places rest
+
+    pub On-places-item : Item L → Type 0
+    On-places-item (act p a) = Place p
+    On-places-item (branching p bs) = Place p × On-places-below bs
+
+    pub On-places-below : Branches L → Type 0
+    On-places-below none = Unit {0}
+    On-places-below (branch c b bs) = On-places b × On-places-below bs
+
+  module _ (always : (p : ℕ) → Place p) where
+    mutual
+      pub on-places : (b : Sequence L) → On-places b
+      on-places done = tt
+      on-places (item i rest) = (on-places-item i, on-places rest)
+
+      on-places-item : (i : Item L) → On-places-item i
+      on-places-item (act p a) = always p
+      on-places-item (branching p bs) = (always p, on-places-below bs)
+
+      on-places-below : (bs : Branches L) → On-places-below bs
+      on-places-below none = tt
+      on-places-below (branch c b bs) = (on-places b, on-places-below bs)
+
+-- OUTCOMES. Each state of them.
+module _ {S : Type 0} (P : S → Type 0) where
+  abbrev pub Outcome-has : Outcome S → Type 0
+  Outcome-has (single s) = P s
+  Outcome-has (fork o p) = Outcome-has o × Outcome-has (p tt)
+
+pub any-outcome : {S : Type 0} (o : Outcome S) → Outcome-has (λ _. Unit {0}) o
+any-outcome (single s) = tt
+any-outcome (fork o p) = (any-outcome o, any-outcome (p tt))
+
+-- ENDS.
+module _ {S : Type 0} (Miss : ℕ → S → Type 0) (Stop : ℕ → ℕ → Concerned S → Type 0) where
+  abbrev pub End-so : End S → Type 0
+  End-so fine = Unit {0}
+  End-so (missed p s) = Miss p s
+  End-so (stopped n p u) = Stop n p u
+
+  keep-so : (p : ℕ) (s : S) → Miss p s → (e : End S) → End-so e → End-so (keep-miss p s e)
+  unfolding keep-miss
+  keep-so p s first fine then = first
+  keep-so p s first (missed q t) then = first
+  keep-so p s first (stopped n q u) then = then
+
+  after-end-so : (e : End S) (c : ℕ) (more : Unit {0} → Walked S) → End-so e → End-so (more tt .end) → End-so (after-end e c more .end)
+  unfolding after-end counted after-miss
+  after-end-so fine c more first then = then
+  after-end-so (missed p s) c more first then = keep-so p s first (more tt .end) then
+  after-end-so (stopped n p u) c more first then = first
+
+  -- THE WALK, from states that have P, where it ends so with what follows.
+  module _ (P : S → Type 0) where
+    abbrev pub Ends-so : (S → Walked S) → Type 0
+    Ends-so k = (s : S) → P s → End-so (k s .end)
+
+    each-so : (o : Outcome S) (k : S → Walked S) → Ends-so k → Outcome-has P o → End-so (each-reading o k .end)
+    unfolding each-reading and-then
+    each-so (single s) k ends has = ends s has
+    each-so (fork o p) k ends has =
+        after-end-so (each-reading o k .end) (each-reading o k .count) (λ _. each-reading (p tt) k) (each-so o k ends (has .0)) (each-so (p tt) k ends (has .1))
+
+    -- What a step does at such a place: its outcome has P, or its refusal is such a stop.
+    module _ (Place : ℕ → Type 0) where
+      abbrev pub Step-so : Step S → Type 0
+      Step-so (leads-to o) = Outcome-has P o
+      Step-so (refuses n u) = (p : ℕ) → Place p → Stop n p u
+
+      step-so : (p : ℕ) → Place p → (x : Step S) → Step-so x → (k : S → Walked S) → Ends-so k → End-so (after-step p x k .end)
+      unfolding after-step counted stopped-at
+      step-so p here (leads-to o) so k ends = each-so o k ends so
+      step-so p here (refuses n u) so k ends = so p here
+
+      module _ {L : Type 0} (step : Steps S L)
+          (does : (a : ℕ) (s : S) → P s → Step-so (step .does a s))
+          (none-known : (s : S) → P s → (p : ℕ) → Place p → Stop Limits.not-executable p (in-state s)) where
+        mutual
+          unfolding walk run-action stopped-at
+
+          pub walk-so : (b : Sequence L) → On-places Place b → (k : S → Walked S) → Ends-so k → Ends-so (walk step b k)
+          walk-so done on k ends s has = ends s has
+          walk-so (item i rest) on k ends s has = item-so i (on .0) (walk step rest k) (walk-so rest (on .1) k ends) s has
+
+          item-so : (i : Item L) → On-places-item Place i → (k : S → Walked S) → Ends-so k → Ends-so (walk-item step i k)
+          item-so (act p a) on k ends s has = step-so p on (step .does a s) (does a s has) k ends
+          item-so (branching p bs) on k ends s has = branch-so bs p (on .0) (on .1) k ends s has
+
+          branch-so : (bs : Branches L) (p : ℕ) → Place p → On-places-below Place bs → (k : S → Walked S) → Ends-so k → Ends-so (walk-branch step bs p k)
+          branch-so none p here on k ends s has = none-known s has p here
+          branch-so (branch c b bs) p here on k ends s has =
+              pick-has (λ (w : Walked S). End-so (w .end)) _ _ _ (λ _. walk-so b (on .0) k ends s has) (λ _. branch-so bs p here (on .1) k ends s has)
+
+-- OF A REQUEST, whose table's step refuses with 2 and the state.
+module _ (Miss : ℕ → State → Type 0) (Stop : ℕ → ℕ → Concerned State → Type 0) where
+  end-of-so : (f : Found) (s : State) → ((p : ℕ) → f ≡ at p → Miss p s) → End-so Miss Stop (end-of f s)
+  unfolding end-of
+  end-of-so nowhere s here = tt
+  end-of-so (at p) s here = here p refl
+
+  module _ (P : State → Type 0) (Place : ℕ → Type 0) (stuck : (s : State) → P s → (p : ℕ) → Place p → Stop Limits.not-executable p (in-state s)) where
+    pub walked-so : (r : Request) → ((a : ℕ) (s : State) → P s → Outcome-has P (outcome (r .table) a s)) → ((s : State) → P s → (p : ℕ) → missed-in r s ≡ at p → Miss p s)
+        → On-places Place (r .plan) → Ends-so Miss Stop P (walked r)
+    unfolding walked judged table-step table-does
+    walked-so r leads misses on =
+        walk-so Miss Stop P Place (table-step (r .table))
+        (λ a s has. pick-has (Step-so Miss Stop P Place) _ _ _ (λ _. leads a s has) (λ _. stuck s has))
+        stuck (r .plan) on (judged r) (λ s has. end-of-so (missed-in r s) s (misses s has))
+
+-- STOPS of a walk have the number 2, and the state in which the item can't be run.
+abbrev pub Stuck : End State → Type 0
+Stuck = End-so (λ _ _. Unit {0}) (λ n p u. (n ≡ Limits.not-executable) × ((s : State) × (u ≡ in-state s)))
+
+pub walked-stuck : (r : Request) (s : State) → Stuck (walked r s .end)
+walked-stuck r s =
+    walked-so (λ _ _. Unit {0}) _ (λ _. Unit {0}) (λ _. Unit {0}) (λ s _ p _. (refl, (s, refl))) r (λ a s _. any-outcome (outcome (r .table) a s)) (λ s _ p _. tt)
+    (on-places (λ _. Unit {0}) (λ _. tt) (r .plan)) s tt
