@@ -12,7 +12,7 @@ use super::lists::list_at;
 
 // A body, and a condition.
 pub fn body_at(n: usize, s: &[u8], p: usize) -> Passed
-    requires { ⌜ n ≤ 64 ⌝ }
+    requires { ⌜ n ≤ format .fluents ⌝ }
     ensures { λ r. ⌜ r ≡ passed (body-at format n (now (s .entry)) p) ⌝ }
 {
     list_at(Kind::Literals, n, limits::BODY, s, p)
@@ -20,7 +20,7 @@ pub fn body_at(n: usize, s: &[u8], p: usize) -> Passed
 
 // The body after what a line says of action a.
 fn action_with_body(a: usize, n: usize, s: &[u8], p: usize) -> Read
-    requires { ⌜ n ≤ 64 ⌝ }
+    requires { ⌜ n ≤ format .fluents ⌝ }
     ensures { λ r. ⌜ r ≡ action-before a (body-at format n (now (s .entry)) p) ⌝ }
 {
     match body_at(n, s, p) {
@@ -31,7 +31,7 @@ fn action_with_body(a: usize, n: usize, s: &[u8], p: usize) -> Read
 
 // An effect: its action.
 pub fn effect_at(n: usize, m: usize, s: &[u8], p: usize) -> Read
-    requires { ⌜ n ≤ 64 ⌝ }
+    requires { ⌜ n ≤ format .fluents ⌝ }
     ensures { λ r. ⌜ r ≡ effect-read (effect-at format n m (now (s .entry)) p) ⌝ }
 {
     match below_at(m, s, p) {
@@ -45,7 +45,7 @@ pub fn effect_at(n: usize, m: usize, s: &[u8], p: usize) -> Read
 
 // An executability line: its action.
 pub fn executability_at(n: usize, m: usize, s: &[u8], p: usize) -> Read
-    requires { ⌜ n ≤ 64 ⌝ }
+    requires { ⌜ n ≤ format .fluents ⌝ }
     ensures { λ r. ⌜ r ≡ executability-read (executability-at format n m (now (s .entry)) p) ⌝ }
 {
     match below_at(m, s, p) {

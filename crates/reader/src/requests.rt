@@ -17,7 +17,7 @@ use reading::table::Table;
 
 // All eight sections, from a place on.
 fn sections_at(s: &[u8], p: usize, t: &mut Table) -> Passed
-    requires { ⌜ length (now s) ≤ 16384 ⌝ }
+    requires { ⌜ length (now s) ≤ format .request ⌝ }
     ensures { λ r. ⌜ outcome r (now (t .exit)) ≡ noting request-noted (sections-read (now (s .entry)) p) (now (t .entry)) ⌝ }
 {
     match table_at(s, p, t) {
@@ -33,7 +33,7 @@ fn sections_at(s: &[u8], p: usize, t: &mut Table) -> Passed
 
 // The same, from where a reader stands.
 fn sections<'a>(r: Reader<'a>, t: &mut Table) -> Passed
-    requires { ⌜ length (now (r .src)) ≤ 16384 ⌝ }
+    requires { ⌜ length (now (r .src)) ≤ format .request ⌝ }
     ensures { λ x. ⌜ outcome x (now (t .exit)) ≡ noting request-noted (sections-read (now (r .entry .src)) (r .entry .at)) (now (t .entry)) ⌝ }
 {
     sections_at(r.src, r.at, t)
@@ -41,7 +41,7 @@ fn sections<'a>(r: Reader<'a>, t: &mut Table) -> Passed
 
 // All eight sections of an input, by way of a reader: who calls this needs none.
 fn read_sections(s: &[u8], t: &mut Table) -> Passed
-    requires { ⌜ length (now s) ≤ 16384 ⌝ }
+    requires { ⌜ length (now s) ≤ format .request ⌝ }
     ensures { λ x. ⌜ outcome x (now (t .exit)) ≡ noting request-noted (sections-read (now (s .entry)) 0) (now (t .entry)) ⌝ }
 {
     sections(new(s), t)

@@ -1,5 +1,5 @@
 ghost use mathlib.Core.Path.{_≡_};
-ghost use Prim.Native.Nat.{_+_, _≤_, _<_};
+ghost use Prim.Native.Nat.{_+_, _*_, _≤_, _<_};
 ghost use lib.ListN.{length, set};
 ghost use Rattle.meaning.specs.Limits.{format};
 ghost use Rattle.meaning.specs.Reading.{item-at, sequence-at, branching-at, plan-at};
@@ -28,9 +28,9 @@ fn after(left: usize, met: usize, up: usize) -> usize
 
 // The item with `met` items before it, and `more` up to its end.
 fn note_next(left: usize, met: usize, more: usize, up: usize, t: &mut Table)
-    requires { ⌜ met < 1024 ⌝ }
-    requires { ⌜ more ≤ 1024 ⌝ }
-    requires { ⌜ up ≤ 2048 ⌝ }
+    requires { ⌜ met < format .items ⌝ }
+    requires { ⌜ more ≤ format .items ⌝ }
+    requires { ⌜ up ≤ 2 * format .items ⌝ }
     ensures { λ _. ⌜ now (t .exit) ≡ set (now (t .entry)) (item-next + met) (number-after left more up) ⌝ }
 {
     put(t, table::ITEM_NEXT + met, after(left, more, up));
@@ -38,8 +38,8 @@ fn note_next(left: usize, met: usize, more: usize, up: usize, t: &mut Table)
 
 // A sequence of a branch is passed over by way of its first item.
 fn note_branch(first: usize, met: usize, p: usize, t: &mut Table)
-    requires { ⌜ met ≤ 1024 ⌝ }
-    requires { ⌜ p ≤ 32768 ⌝ }
+    requires { ⌜ met ≤ format .items ⌝ }
+    requires { ⌜ p ≤ format .derivation ⌝ }
     ensures { λ _. ⌜ now (t .exit) ≡ branch-noted first met p (now (t .entry)) ⌝ }
 {
     if met <= first {
@@ -60,10 +60,10 @@ fn sequence_at(
     up: usize,
     t: &mut Table,
 ) -> Read
-    requires { ⌜ n ≤ 64 ⌝ }
-    requires { ⌜ before ≤ 1024 ⌝ }
-    requires { ⌜ up ≤ 2048 ⌝ }
-    requires { ⌜ length (now s) ≤ 32768 ⌝ }
+    requires { ⌜ n ≤ format .fluents ⌝ }
+    requires { ⌜ before ≤ format .items ⌝ }
+    requires { ⌜ up ≤ 2 * format .items ⌝ }
+    requires { ⌜ length (now s) ≤ format .derivation ⌝ }
     ensures { λ r. ⌜ outcome-met r (now (t .exit)) ≡ noting-met (sequence-noted up before start (now (t .entry))) (sequence-at format n m (now (s .entry)) (branching-at format n m (now (s .entry)) deep) start before) ⌝ }
 {
     match two_bytes_at(s, start) {
@@ -93,8 +93,8 @@ fn sequence_at(
 
 // One item: the items met up to its end.
 fn item_at(n: usize, m: usize, deep: usize, s: &[u8], p: usize, met: usize, t: &mut Table) -> Read
-    requires { ⌜ n ≤ 64 ⌝ }
-    requires { ⌜ length (now s) ≤ 32768 ⌝ }
+    requires { ⌜ n ≤ format .fluents ⌝ }
+    requires { ⌜ length (now s) ≤ format .derivation ⌝ }
     ensures { λ r. ⌜ outcome-met r (now (t .exit)) ≡ noting-met (item-noted met (now (t .entry))) (item-at format n m (now (s .entry)) (branching-at format n m (now (s .entry)) deep) p met) ⌝ }
 {
     match byte_at(s, p) {
@@ -127,10 +127,10 @@ fn branching_at(
     i: usize,
     t: &mut Table,
 ) -> Read
-    requires { ⌜ n ≤ 64 ⌝ }
-    requires { ⌜ length (now s) ≤ 32768 ⌝ }
+    requires { ⌜ n ≤ format .fluents ⌝ }
+    requires { ⌜ length (now s) ≤ format .derivation ⌝ }
     requires { ⌜ start < length (now s) ⌝ }
-    requires { ⌜ i < 1024 ⌝ }
+    requires { ⌜ i < format .items ⌝ }
     ensures { λ r. ⌜ outcome-met r (now (t .exit)) ≡ noting-met (inside-noted i (now (t .entry))) (branching-at format n m (now (s .entry)) deep start (i + 1)) ⌝ }
 {
     if deep == 0 {
@@ -138,7 +138,7 @@ fn branching_at(
     }
     let inner = deep - 1;
     let count = start + 1;
-    let up = 1025 + i;
+    let up = table::AROUND + i;
     match count_at(1, limits::BRANCHES, s, count) {
         Read::Value(c, q) => {
             let mut left = c;
@@ -173,10 +173,10 @@ fn branch_at(
     up: usize,
     t: &mut Table,
 ) -> Read
-    requires { ⌜ n ≤ 64 ⌝ }
-    requires { ⌜ met ≤ 1024 ⌝ }
-    requires { ⌜ up ≤ 2048 ⌝ }
-    requires { ⌜ length (now s) ≤ 32768 ⌝ }
+    requires { ⌜ n ≤ format .fluents ⌝ }
+    requires { ⌜ met ≤ format .items ⌝ }
+    requires { ⌜ up ≤ 2 * format .items ⌝ }
+    requires { ⌜ length (now s) ≤ format .derivation ⌝ }
     ensures { λ r. ⌜ outcome-met r (now (t .exit)) ≡ branch-noting n m deep up (now (s .entry)) p met (now (t .entry)) ⌝ }
 {
     match body_at(n, s, p) {
@@ -187,9 +187,9 @@ fn branch_at(
 
 // The plan: how many items it has.
 pub fn plan_at(n: usize, m: usize, s: &[u8], start: usize, t: &mut Table) -> Read
-    requires { ⌜ n ≤ 64 ⌝ }
-    requires { ⌜ length (now s) ≤ 32768 ⌝ }
+    requires { ⌜ n ≤ format .fluents ⌝ }
+    requires { ⌜ length (now s) ≤ format .derivation ⌝ }
     ensures { λ r. ⌜ outcome-met r (now (t .exit)) ≡ noting-met (plan-noted start (now (t .entry))) (plan-at format n m (now (s .entry)) start) ⌝ }
 {
-    sequence_at(n, m, limits::NESTED, s, start, 0, 1024, t)
+    sequence_at(n, m, limits::NESTED, s, start, 0, limits::ITEMS, t)
 }

@@ -19,9 +19,9 @@ use bytes::lists::list_at;
 
 // Sections 2 to 5, over n fluents and m actions.
 fn facts_at(n: usize, m: usize, s: &[u8], p: usize, t: &mut Table) -> Passed
-    requires { ⌜ n ≤ 64 ⌝ }
-    requires { ⌜ m ≤ 64 ⌝ }
-    requires { ⌜ length (now s) ≤ 16384 ⌝ }
+    requires { ⌜ n ≤ format .fluents ⌝ }
+    requires { ⌜ m ≤ format .actions ⌝ }
+    requires { ⌜ length (now s) ≤ format .request ⌝ }
     ensures { λ r. ⌜ outcome r (now (t .exit)) ≡ facts-first n m (now (s .entry)) p (now (t .entry)) ⌝ }
 {
     match list_at(Kind::Literals, n, limits::LISTED, s, p) {
@@ -32,8 +32,8 @@ fn facts_at(n: usize, m: usize, s: &[u8], p: usize, t: &mut Table) -> Passed
 
 // Sections 1 to 5 after the fluents' count.
 fn actions_at(n: usize, s: &[u8], p: usize, t: &mut Table) -> Passed
-    requires { ⌜ n ≤ 64 ⌝ }
-    requires { ⌜ length (now s) ≤ 16384 ⌝ }
+    requires { ⌜ n ≤ format .fluents ⌝ }
+    requires { ⌜ length (now s) ≤ format .request ⌝ }
     ensures { λ r. ⌜ outcome r (now (t .exit)) ≡ actions-first n (now (s .entry)) p (now (t .entry)) ⌝ }
 {
     match count_at(1, limits::ACTIONS, s, p) {
@@ -44,7 +44,7 @@ fn actions_at(n: usize, s: &[u8], p: usize, t: &mut Table) -> Passed
 
 // Sections 1 to 5.
 pub fn table_at(s: &[u8], p: usize, t: &mut Table) -> Passed
-    requires { ⌜ length (now s) ≤ 16384 ⌝ }
+    requires { ⌜ length (now s) ≤ format .request ⌝ }
     ensures { λ r. ⌜ outcome r (now (t .exit)) ≡ noting table-noted (table-at format (now (s .entry)) p) (now (t .entry)) ⌝ }
 {
     match count_at(1, limits::FLUENTS, s, p) {
@@ -55,7 +55,7 @@ pub fn table_at(s: &[u8], p: usize, t: &mut Table) -> Passed
 
 // Sections 7 and 8, after a plan of so many items whose count stands at `plan`.
 fn goals_at(n: usize, s: &[u8], plan: usize, items: usize, p: usize, t: &mut Table) -> Passed
-    requires { ⌜ n ≤ 64 ⌝ }
+    requires { ⌜ n ≤ format .fluents ⌝ }
     requires { ⌜ plan < 65536 ⌝ }
     requires { ⌜ items < 65536 ⌝ }
     requires { ⌜ p < 65536 ⌝ }
@@ -74,8 +74,8 @@ fn goals_at(n: usize, s: &[u8], plan: usize, items: usize, p: usize, t: &mut Tab
 
 // Sections 6 to 8, over n fluents and m actions.
 pub fn request_at(n: usize, m: usize, s: &[u8], p: usize, t: &mut Table) -> Passed
-    requires { ⌜ n ≤ 64 ⌝ }
-    requires { ⌜ length (now s) ≤ 16384 ⌝ }
+    requires { ⌜ n ≤ format .fluents ⌝ }
+    requires { ⌜ length (now s) ≤ format .request ⌝ }
     ensures { λ r. ⌜ outcome r (now (t .exit)) ≡ plan-first n m (now (s .entry)) p (now (t .entry)) ⌝ }
 {
     match plan_at(n, m, s, p, t) {

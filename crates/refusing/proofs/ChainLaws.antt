@@ -13,28 +13,29 @@ use lib.Seq.{getD-set-same}
 use lib.Dec.{eqb, ltb}
 use borrow.Author.Tests.{eqb-true, eqb-false, lt-ltb, le-ltb}
 use Rattle.meaning.specs.Tests.{either, pick, some-of, those-of, Has}
+use Rattle.meaning.specs.Limits.{format}
 use Rattle.meaning.proofs.TestLaws.{by-test, pick-true, pick-false}
-use Rattle.reading.specs.Noted.{Section, Line, line-place, next-line, first-line, before, appended, action-in, note-line, none-yet, lines-noted, count-slot, section-noted}
+use Rattle.reading.specs.Noted.{Section, Line, line-place, next-line, first-line, before, appended, action-in, note-line, none-yet, lines-noted, count-slot, section-noted, run-lines, slots, line-numbers, line-slots}
 use Rattle.reading.specs.Ordered.{Chain, In-order}
 use Rattle.reading.proofs.TableLaws.{before-first, before-later, before-most}
 use Rattle.refusing.proofs.KeptLaws.{kept, Lasts, none-last, lasts-none, last-here, last-other, lasts-next, Outside, note-long}
 
 -- WHAT A LINE COMES AFTER: its action's last line, or the action's own number, which no line has.
-before-is : (last a : ℕ) → ((last ≡ 0) × (before last a ≡ 256 + a)) ⊎ ((0 < last) × (before last a ≡ last))
+before-is : (last a : ℕ) → ((last ≡ 0) × (before last a ≡ line-numbers + a)) ⊎ ((0 < last) × (before last a ≡ last))
 before-is last a = elim (ℕ-discrete last 0) [ yes e ↦ inl (e, sym (before-first last a e)) | no d ↦ inr (omega (arith, d), sym (before-later last a last d refl)) ]
 
 before-new : (k a : ℕ) → before (k + 1) a ≡ k + 1
 before-new k a = sym (before-later (k + 1) a (k + 1) (λ e. omega arith) refl)
 
-module _ (k : ℕ) (last : List ℕ) (few : k < 256) (lasts : Lasts k last) where
+module _ (k : ℕ) (last : List ℕ) (few : k < line-numbers) (lasts : Lasts k last) where
   -- It is none of the lines to come.
-  before-old : (b : ℕ) → b < 64 → (m : ℕ) → k < m → m < 256 → m ≡ before (getD last b 0) b → ⊥
+  before-old : (b : ℕ) → b < format .actions → (m : ℕ) → k < m → m < line-numbers → m ≡ before (getD last b 0) b → ⊥
   before-old b h m more less e =
       let most = lasts .most b h in
       ⊎-elim (λ w. omega (arith, w .1)) (λ w. omega (arith, w .1)) (before-is (getD last b 0) b)
 
   -- Lines of two actions come after two.
-  before-apart : (b d : ℕ) → b < 64 → d < 64 → before (getD last b 0) b ≡ before (getD last d 0) d → b ≡ d
+  before-apart : (b d : ℕ) → b < format .actions → d < format .actions → before (getD last b 0) b ≡ before (getD last d 0) d → b ≡ d
   before-apart b d h g e =
       let one = lasts .most b h in
       let two = lasts .most d g in
@@ -44,37 +45,37 @@ module _ (k : ℕ) (last : List ℕ) (few : k < 256) (lasts : Lasts k last) wher
       (before-is (getD last b 0) b)
 
 -- ONE KIND OF LINES.
-module _ (c : Section) (lines : ℕ) (room : lines ≤ 4672) (stands : Line c → ℕ)
+module _ (c : Section) (lines : ℕ) (room : lines ≤ run-lines) (stands : Line c → ℕ)
     (notes : (last k : ℕ) (x : Line c) (t : List ℕ) → note-line c last k x t ≡ appended lines last k (stands x) (action-in c x) t) where
   -- The places of the lines of action a, in file order.
   abbrev pub places : (a : ℕ) → List (Line c) → List ℕ
   places a xs = map stands (those-of (λ (x : Line c). eqb (action-in c x) a) xs)
 
   module _ (last k : ℕ) (x : Line c) (t : List ℕ) where
-    noted-kept : (j : ℕ) → (j ≡ lines + k → ⊥) → (j ≡ lines + 256 + before last (action-in c x) → ⊥) → getD (note-line c last k x t) j 0 ≡ getD t j 0
+    noted-kept : (j : ℕ) → (j ≡ lines + k → ⊥) → (j ≡ lines + line-numbers + before last (action-in c x) → ⊥) → getD (note-line c last k x t) j 0 ≡ getD t j 0
     unfolding appended
     noted-kept j place link =
         ap (λ (u : List ℕ). getD u j 0) (notes last k x t)
-        ∙ kept (set t (lines + k) (stands x)) (lines + 256 + before last (action-in c x)) j k link
+        ∙ kept (set t (lines + k) (stands x)) (lines + line-numbers + before last (action-in c x)) j k link
         ∙ kept t (lines + k) j (stands x) place
 
-    module _ (sized : length t ≡ 9480) (few : k < 256) where
+    module _ (sized : length t ≡ slots) (few : k < line-numbers) where
       noted-place : getD (note-line c last k x t) (lines + k) 0 ≡ stands x
       unfolding appended
       noted-place =
           ap (λ (u : List ℕ). getD u (lines + k) 0) (notes last k x t)
-          ∙ kept (set t (lines + k) (stands x)) (lines + 256 + before last (action-in c x)) (lines + k) k (λ e. omega arith)
+          ∙ kept (set t (lines + k) (stands x)) (lines + line-numbers + before last (action-in c x)) (lines + k) k (λ e. omega arith)
           ∙ getD-set-same t (lines + k) (stands x) 0 (omega arith)
 
-      noted-link : before last (action-in c x) < 320 → getD (note-line c last k x t) (lines + 256 + before last (action-in c x)) 0 ≡ k
+      noted-link : before last (action-in c x) < line-numbers + format .actions → getD (note-line c last k x t) (lines + line-numbers + before last (action-in c x)) 0 ≡ k
       unfolding appended
       noted-link less =
-          ap (λ (u : List ℕ). getD u (lines + 256 + before last (action-in c x)) 0) (notes last k x t)
-          ∙ getD-set-same (set t (lines + k) (stands x)) (lines + 256 + before last (action-in c x)) k 0 (omega (arith, length-set t (lines + k) (stands x)))
+          ap (λ (u : List ℕ). getD u (lines + line-numbers + before last (action-in c x)) 0) (notes last k x t)
+          ∙ getD-set-same (set t (lines + k) (stands x)) (lines + line-numbers + before last (action-in c x)) k 0 (omega (arith, length-set t (lines + k) (stands x)))
 
   -- LINES from number k + 1 on leave alone what is no slot of theirs and what none of them comes after.
-  later : (j k : ℕ) (last : List ℕ) (xs : List (Line c)) (t : List ℕ) → Lasts k last → k + length xs < 256 → ((x : Line c) → Has xs x → action-in c x < 64)
-      → ((m : ℕ) → k < m → m < 256 → (j ≡ lines + m → ⊥) × (j ≡ lines + 256 + m → ⊥)) → ((b : ℕ) → b < 64 → j ≡ lines + 256 + before (getD last b 0) b → ⊥)
+  later : (j k : ℕ) (last : List ℕ) (xs : List (Line c)) (t : List ℕ) → Lasts k last → k + length xs < line-numbers → ((x : Line c) → Has xs x → action-in c x < format .actions)
+      → ((m : ℕ) → k < m → m < line-numbers → (j ≡ lines + m → ⊥) × (j ≡ lines + line-numbers + m → ⊥)) → ((b : ℕ) → b < format .actions → j ≡ lines + line-numbers + before (getD last b 0) b → ⊥)
       → getD (lines-noted c k last xs t) j 0 ≡ getD t j 0
   unfolding lines-noted
   later j k last [] t lasts few good away ends = refl
@@ -82,12 +83,12 @@ module _ (c : Section) (lines : ℕ) (room : lines ≤ 4672) (stands : Line c �
       later j (k + 1) (set last (action-in c x) (k + 1)) xs (note-line c (getD last (action-in c x) 0) (k + 1) x t)
       (lasts-next k (action-in c x) last small lasts) (omega arith) (λ y has. good y (inr has)) (λ m more less. away m (omega arith) less)
       (λ b h. elim (ℕ-discrete b (action-in c x)) [
-        | yes e ↦ λ q. away (k + 1) (omega arith) (omega arith) .1 (q ∙ ap (λ (i : ℕ). lines + 256 + i) (rw (e, last-here k (action-in c x) last small lasts) (before-new k (action-in c x))))
-        | no d ↦ λ q. ends b h (q ∙ ap (λ (l : ℕ). lines + 256 + before l b) (last-other k (action-in c x) last small lasts b d))
+        | yes e ↦ λ q. away (k + 1) (omega arith) (omega arith) .1 (q ∙ ap (λ (i : ℕ). lines + line-numbers + i) (rw (e, last-here k (action-in c x) last small lasts) (before-new k (action-in c x))))
+        | no d ↦ λ q. ends b h (q ∙ ap (λ (l : ℕ). lines + line-numbers + before l b) (last-other k (action-in c x) last small lasts b d))
       ])
       ∙ noted-kept (getD last (action-in c x) 0) (k + 1) x t j (away (k + 1) (omega arith) (omega arith) .0) (ends (action-in c x) small)
     where
-      small : action-in c x < 64
+      small : action-in c x < format .actions
       small = good x (inl refl)
 
   -- After what comes before the next line of action a there stand those of its lines that are still to be noted.
@@ -96,7 +97,7 @@ module _ (c : Section) (lines : ℕ) (room : lines ≤ 4672) (stands : Line c �
     rises : 0 < next-line T lines i → k < next-line T lines i
 
   -- One line, of number k + 1, and those after it.
-  module _ (k : ℕ) (last : List ℕ) (x : Line c) (t : List ℕ) (sized : length t ≡ 9480) (lasts : Lasts k last) (acts : action-in c x < 64) (fits : k + 1 < 256) where
+  module _ (k : ℕ) (last : List ℕ) (x : Line c) (t : List ℕ) (sized : length t ≡ slots) (lasts : Lasts k last) (acts : action-in c x < format .actions) (fits : k + 1 < line-numbers) where
     noted : List ℕ
     noted = note-line c (getD last (action-in c x) 0) (k + 1) x t
 
@@ -116,25 +117,25 @@ module _ (c : Section) (lines : ℕ) (room : lines ≤ 4672) (stands : Line c �
     unfolding newest
     next-other b other = ap (λ (l : ℕ). before l b) (last-other k (action-in c x) last acts lasts b other)
 
-    module _ (fresh : (m : ℕ) → k < m → m < 256 → next-line t lines m ≡ 0) where
-      fresh-then : (m : ℕ) → k < m → m < 256 → next-line noted lines m ≡ 0
+    module _ (fresh : (m : ℕ) → k < m → m < line-numbers → next-line t lines m ≡ 0) where
+      fresh-then : (m : ℕ) → k < m → m < line-numbers → next-line noted lines m ≡ 0
       unfolding noted next-line
       fresh-then m more less =
-          noted-kept (getD last (action-in c x) 0) (k + 1) x t (lines + 256 + m) (λ e. omega arith) (λ e. before-old k last (omega arith) lasts (action-in c x) acts m more less (omega arith))
+          noted-kept (getD last (action-in c x) 0) (k + 1) x t (lines + line-numbers + m) (λ e. omega arith) (λ e. before-old k last (omega arith) lasts (action-in c x) acts m more less (omega arith))
           ∙ fresh m more less
 
       none-here : next-line noted lines (before (getD newest (action-in c x) 0) (action-in c x)) ≡ 0
       none-here = ap (next-line noted lines) next-here ∙ fresh-then (k + 1) (omega arith) fits
 
-    none-other : (b : ℕ) → b < 64 → (b ≡ action-in c x → ⊥) → next-line t lines (before (getD last b 0) b) ≡ 0 → next-line noted lines (before (getD newest b 0) b) ≡ 0
+    none-other : (b : ℕ) → b < format .actions → (b ≡ action-in c x → ⊥) → next-line t lines (before (getD last b 0) b) ≡ 0 → next-line noted lines (before (getD newest b 0) b) ≡ 0
     unfolding noted next-line
     none-other b small other none =
-        ap (λ (i : ℕ). getD noted (lines + 256 + i) 0) (next-other b other)
-        ∙ noted-kept (getD last (action-in c x) 0) (k + 1) x t (lines + 256 + before (getD last b 0) b) (λ e. omega arith)
+        ap (λ (i : ℕ). getD noted (lines + line-numbers + i) 0) (next-other b other)
+        ∙ noted-kept (getD last (action-in c x) 0) (k + 1) x t (lines + line-numbers + before (getD last b 0) b) (λ e. omega arith)
         (λ e. other (before-apart k last (omega arith) lasts b (action-in c x) small acts (omega arith)))
         ∙ none
 
-    module _ (xs : List (Line c)) (few : k + 1 + length xs < 256) (good : (y : Line c) → Has xs y → action-in c y < 64) where
+    module _ (xs : List (Line c)) (few : k + 1 + length xs < line-numbers) (good : (y : Line c) → Has xs y → action-in c y < format .actions) where
       after : List ℕ
       after = lines-noted c (k + 1) newest xs noted
 
@@ -148,7 +149,7 @@ module _ (c : Section) (lines : ℕ) (room : lines ≤ 4672) (stands : Line c �
       unfolding after noted next-line
       after-link =
           let most = lasts .most (action-in c x) acts in
-          later (lines + 256 + before (getD last (action-in c x) 0) (action-in c x)) (k + 1) newest xs noted newest-lasts few good
+          later (lines + line-numbers + before (getD last (action-in c x) 0) (action-in c x)) (k + 1) newest xs noted newest-lasts few good
           (λ m more less. (λ e. omega arith, λ e. before-old k last (omega arith) lasts (action-in c x) acts m (omega arith) less (omega arith)))
           (λ b h e. elim (ℕ-discrete b (action-in c x)) [
             | yes q ↦ before-old k last (omega arith) lasts (action-in c x) acts (k + 1) (omega arith) fits (omega (arith, rw q at e, next-here))
@@ -170,17 +171,17 @@ module _ (c : Section) (lines : ℕ) (room : lines ≤ 4672) (stands : Line c �
           let on : Follow after (k + 1) (before (getD last b 0) b) ps = subst (λ (i : ℕ). Follow after (k + 1) i ps) (next-other b other) rest in
           record { chain = on .chain; rises = λ h. let more = on .rises h in omega arith }
 
-  follow : (a : ℕ) → a < 64 → (k : ℕ) (last : List ℕ) (xs : List (Line c)) (t : List ℕ) → length t ≡ 9480 → Lasts k last → k + length xs < 256
-      → ((x : Line c) → Has xs x → action-in c x < 64) → ((m : ℕ) → k < m → m < 256 → next-line t lines m ≡ 0) → next-line t lines (before (getD last a 0) a) ≡ 0
+  follow : (a : ℕ) → a < format .actions → (k : ℕ) (last : List ℕ) (xs : List (Line c)) (t : List ℕ) → length t ≡ slots → Lasts k last → k + length xs < line-numbers
+      → ((x : Line c) → Has xs x → action-in c x < format .actions) → ((m : ℕ) → k < m → m < line-numbers → next-line t lines m ≡ 0) → next-line t lines (before (getD last a 0) a) ≡ 0
       → Follow (lines-noted c k last xs t) k (before (getD last a 0) a) (places a xs)
   unfolding lines-noted Chain those-of noted newest after
   follow a small k last [] t sized lasts few good fresh none = record { chain = none; rises = λ h. absurd (omega (arith, none)) }
   follow a small k last (x ∷ xs) t sized lasts few good fresh none =
       let acts = good x (inl refl) in
-      let fits : k + 1 < 256 = omega arith in
-      let fewer : k + 1 + length xs < 256 = omega arith in
-      let long : length (noted k last x t sized lasts acts fits) ≡ 9480 = note-long c (getD last (action-in c x) 0) (k + 1) x t ∙ sized in
-      let fresh′ : (m : ℕ) → k + 1 < m → m < 256 → next-line (noted k last x t sized lasts acts fits) lines m ≡ 0 = λ m more less. fresh-then k last x t sized lasts acts fits fresh m (omega arith) less in
+      let fits : k + 1 < line-numbers = omega arith in
+      let fewer : k + 1 + length xs < line-numbers = omega arith in
+      let long : length (noted k last x t sized lasts acts fits) ≡ slots = note-long c (getD last (action-in c x) 0) (k + 1) x t ∙ sized in
+      let fresh′ : (m : ℕ) → k + 1 < m → m < line-numbers → next-line (noted k last x t sized lasts acts fits) lines m ≡ 0 = λ m more less. fresh-then k last x t sized lasts acts fits fresh m (omega arith) less in
       by-test (eqb (action-in c x) a)
       (λ e.
       let is : action-in c x ≡ a = eqb-true _ _ e in
@@ -197,35 +198,35 @@ module _ (c : Section) (lines : ℕ) (room : lines ≤ 4672) (stands : Line c �
       (newest-lasts k last x t sized lasts acts fits) fewer (λ y has. good y (inr has)) fresh′ (none-other k last x t sized lasts acts fits a small other none))))
 
   -- THE SECTION, over a table that has nothing in its slots.
-  pub section-ordered : (a : ℕ) → a < 64 → (xs : List (Line c)) (u : List ℕ) → length u ≡ 9480 → length xs < 256 → ((x : Line c) → Has xs x → action-in c x < 64)
-      → Outside lines (count-slot c) → ((i : ℕ) → i < 576 → getD u (lines + i) 0 ≡ 0) → In-order (section-noted c xs u) lines a (places a xs)
+  pub section-ordered : (a : ℕ) → a < format .actions → (xs : List (Line c)) (u : List ℕ) → length u ≡ slots → length xs < line-numbers → ((x : Line c) → Has xs x → action-in c x < format .actions)
+      → Outside lines (count-slot c) → ((i : ℕ) → i < line-slots → getD u (lines + i) 0 ≡ 0) → In-order (section-noted c xs u) lines a (places a xs)
   unfolding section-noted In-order first-line next-line
   section-ordered a small xs u sized few good apart blank =
       let counted : List ℕ = set u (count-slot c) (length xs) in
-      let start : before (getD none-yet a 0) a ≡ 256 + a = sym (before-first (getD none-yet a 0) a (none-last a small)) in
-      let empty : (i : ℕ) → i < 320 → next-line counted lines i ≡ 0 = λ i less. empty-then u (length xs) apart blank i less in
+      let start : before (getD none-yet a 0) a ≡ line-numbers + a = sym (before-first (getD none-yet a 0) a (none-last a small)) in
+      let empty : (i : ℕ) → i < line-numbers + format .actions → next-line counted lines i ≡ 0 = λ i less. empty-then u (length xs) apart blank i less in
       subst (λ (i : ℕ). Chain (lines-noted c 0 none-yet xs counted) lines (next-line (lines-noted c 0 none-yet xs counted) lines i) (places a xs)) start
       (follow a small 0 none-yet xs counted (length-set u (count-slot c) (length xs) ∙ sized) lasts-none (omega arith) good (λ m _ less. empty m (omega arith))
-      (ap (next-line counted lines) start ∙ empty (256 + a) (omega arith)) .chain)
+      (ap (next-line counted lines) start ∙ empty (line-numbers + a) (omega arith)) .chain)
     where
-      empty-then : (u : List ℕ) (v : ℕ) → Outside lines (count-slot c) → ((i : ℕ) → i < 576 → getD u (lines + i) 0 ≡ 0) → (i : ℕ) → i < 320 → next-line (set u (count-slot c) v) lines i ≡ 0
+      empty-then : (u : List ℕ) (v : ℕ) → Outside lines (count-slot c) → ((i : ℕ) → i < line-slots → getD u (lines + i) 0 ≡ 0) → (i : ℕ) → i < line-numbers + format .actions → next-line (set u (count-slot c) v) lines i ≡ 0
       empty-then u v apart blank i less =
-          let same : lines + 256 + i ≡ lines + (256 + i) = omega arith in
-          kept u (count-slot c) (lines + 256 + i) v (λ e. apart (256 + i) (omega arith) (omega arith))
+          let same : lines + line-numbers + i ≡ lines + (line-numbers + i) = omega arith in
+          kept u (count-slot c) (lines + line-numbers + i) v (λ e. apart (line-numbers + i) (omega arith) (omega arith))
           ∙ ap (λ (slot : ℕ). getD u slot 0) same
-          ∙ blank (256 + i) (omega arith)
+          ∙ blank (line-numbers + i) (omega arith)
 
 -- A TABLE that agrees on the slots of a section has the same lines in it.
-module _ (lines : ℕ) (t u : List ℕ) (same : (i : ℕ) → i < 576 → getD u (lines + i) 0 ≡ getD t (lines + i) 0) where
-  same-place : (k : ℕ) → k < 256 → line-place u lines k ≡ line-place t lines k
+module _ (lines : ℕ) (t u : List ℕ) (same : (i : ℕ) → i < line-slots → getD u (lines + i) 0 ≡ getD t (lines + i) 0) where
+  same-place : (k : ℕ) → k < line-numbers → line-place u lines k ≡ line-place t lines k
   unfolding line-place
   same-place k less = same k (omega arith)
 
-  same-next : (i : ℕ) → i < 320 → next-line u lines i ≡ next-line t lines i
+  same-next : (i : ℕ) → i < line-numbers + format .actions → next-line u lines i ≡ next-line t lines i
   unfolding next-line
   same-next i less =
-      let slot : lines + 256 + i ≡ lines + (256 + i) = omega arith in
-      rw slot (same (256 + i) (omega arith))
+      let slot : lines + line-numbers + i ≡ lines + (line-numbers + i) = omega arith in
+      rw slot (same (line-numbers + i) (omega arith))
 
   chain-same : (j : ℕ) (ps : List ℕ) → Chain t lines j ps → Chain u lines j ps
   unfolding Chain
@@ -237,9 +238,9 @@ module _ (lines : ℕ) (t u : List ℕ) (same : (i : ℕ) → i < 576 → getD u
         subst (λ (i : ℕ). Chain u lines i ps) (sym on) (chain-same (next-line t lines j) ps (chain .1)),
       )
 
-  pub order-same : (a : ℕ) (ps : List ℕ) → a < 64 → In-order t lines a ps → In-order u lines a ps
+  pub order-same : (a : ℕ) (ps : List ℕ) → a < format .actions → In-order t lines a ps → In-order u lines a ps
   unfolding In-order first-line
-  order-same a ps small chain = subst (λ (j : ℕ). Chain u lines j ps) (sym (same-next (256 + a) (omega arith))) (chain-same (next-line t lines (256 + a)) ps chain)
+  order-same a ps small chain = subst (λ (j : ℕ). Chain u lines j ps) (sym (same-next (line-numbers + a) (omega arith))) (chain-same (next-line t lines (line-numbers + a)) ps chain)
 
 -- An action has a first line just where it has a line.
 module _ {A : Type 0} (stands : A → ℕ) (acts : A → Bool) (t : List ℕ) (lines : ℕ) where

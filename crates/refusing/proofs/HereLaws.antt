@@ -8,7 +8,7 @@ use lib.ListN.{length, getD}
 use lib.Dec.{eqb}
 use borrow.Author.Tests.{eqb-true}
 use Rattle.meaning.specs.Tests.{Has}
-use Rattle.meaning.specs.Limits.{format}
+use Rattle.meaning.specs.Limits.{format, all-literals}
 use Rattle.meaning.specs.Literals.{complement, among, exclusive}
 use Rattle.meaning.specs.Requests.{Effect}
 use Rattle.meaning.specs.Reading
@@ -85,7 +85,7 @@ list-apart n most s p xs q e =
     (λ f. f)
 
 -- LINES.
-module _ (n m : ℕ) (s : List ℕ) (few : n ≤ 64) (less : m ≤ 64) where
+module _ (n m : ℕ) (s : List ℕ) (few : n ≤ format .fluents) (less : m ≤ format .actions) where
   pub effect-here : (p : ℕ) (x : Effect) (q : ℕ) → effect-at format n m s p ≡ got x q → (effect-from s (x .place) ≡ x) × Effect-here s (x .place)
   unfolding effect-at effect-from body-at bound-of
   effect-here p x q e =
@@ -103,7 +103,7 @@ module _ (n m : ℕ) (s : List ℕ) (few : n ≤ 64) (less : m ≤ 64) where
         record {
           action = omega (arith, first .1, first .3);
           literal = rw (sym second) (omega (arith, then .1, then .3));
-          body = rw (sym third) (body .1 128 (omega arith));
+          body = rw (sym third) (body .1 all-literals (omega arith));
           apart = rw (sym third, body .0) (list-apart n 16 s j b k eb);
         },
       )

@@ -8,7 +8,7 @@ use lib.ListN.{length, getD, set}
 use lib.Seq.{getD-set-same}
 use Rattle.meaning.specs.Tests.{Has}
 use Rattle.meaning.specs.Requests.{Effect}
-use Rattle.reading.specs.Noted.{effects, line-place, before, appended, action-in, note-line, lines-noted}
+use Rattle.reading.specs.Noted.{effects, line-place, before, appended, action-in, note-line, lines-noted, effect-lines, slots, line-numbers}
 use Rattle.refusing.specs.InTable.{effect-from, Effect-here, place-in, effects-in}
 use Rattle.refusing.proofs.KeptLaws.{kept, note-long}
 
@@ -18,26 +18,26 @@ Placed-in t k [] = Unit {0}
 Placed-in t k (e ∷ es) = (place-in t (k + 1) ≡ e .place) × Placed-in t (k + 1) es
 
 -- The place of an effect stays where others are noted after it.
-place-kept : (i last k : ℕ) (e : Effect) (t : List ℕ) → i < 256 → k < 256 → (i ≡ k → ⊥) → place-in (note-line effects last k e t) i ≡ place-in t i
+place-kept : (i last k : ℕ) (e : Effect) (t : List ℕ) → i < line-numbers → k < line-numbers → (i ≡ k → ⊥) → place-in (note-line effects last k e t) i ≡ place-in t i
 unfolding note-line appended line-place
 place-kept i last k e t h g other =
-    kept (set t (4096 + k) (e .place)) (4096 + 256 + before last (e .action)) (4096 + i) k (λ q. omega arith)
-    ∙ kept t (4096 + k) (4096 + i) (e .place) (λ q. other (omega arith))
+    kept (set t (effect-lines + k) (e .place)) (effect-lines + line-numbers + before last (e .action)) (effect-lines + i) k (λ q. omega arith)
+    ∙ kept t (effect-lines + k) (effect-lines + i) (e .place) (λ q. other (omega arith))
 
-place-noted : (last k : ℕ) (e : Effect) (t : List ℕ) → length t ≡ 9480 → k < 256 → place-in (note-line effects last k e t) k ≡ e .place
+place-noted : (last k : ℕ) (e : Effect) (t : List ℕ) → length t ≡ slots → k < line-numbers → place-in (note-line effects last k e t) k ≡ e .place
 unfolding note-line appended line-place
 place-noted last k e t sized h =
-    kept (set t (4096 + k) (e .place)) (4096 + 256 + before last (e .action)) (4096 + k) k (λ q. omega arith)
-    ∙ getD-set-same t (4096 + k) (e .place) 0 (omega arith)
+    kept (set t (effect-lines + k) (e .place)) (effect-lines + line-numbers + before last (e .action)) (effect-lines + k) k (λ q. omega arith)
+    ∙ getD-set-same t (effect-lines + k) (e .place) 0 (omega arith)
 
-places-later : (i k : ℕ) (last : List ℕ) (es : List Effect) (t : List ℕ) → i ≤ k → k + length es < 256 → place-in (lines-noted effects k last es t) i ≡ place-in t i
+places-later : (i k : ℕ) (last : List ℕ) (es : List Effect) (t : List ℕ) → i ≤ k → k + length es < line-numbers → place-in (lines-noted effects k last es t) i ≡ place-in t i
 unfolding lines-noted action-in
 places-later i k last [] t h g = refl
 places-later i k last (e ∷ es) t h g =
     places-later i (k + 1) (set last (e .action) (k + 1)) es (note-line effects (getD last (e .action) 0) (k + 1) e t) (omega arith) (omega arith)
     ∙ place-kept i (getD last (e .action) 0) (k + 1) e t (omega arith) (omega arith) (λ q. omega arith)
 
-pub effects-placed : (k : ℕ) (last : List ℕ) (es : List Effect) (t : List ℕ) → length t ≡ 9480 → k + length es < 256 → Placed-in (lines-noted effects k last es t) k es
+pub effects-placed : (k : ℕ) (last : List ℕ) (es : List Effect) (t : List ℕ) → length t ≡ slots → k + length es < line-numbers → Placed-in (lines-noted effects k last es t) k es
 unfolding lines-noted action-in Placed-in
 effects-placed k last [] t sized h = tt
 effects-placed k last (e ∷ es) t sized h =

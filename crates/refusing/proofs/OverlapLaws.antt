@@ -8,12 +8,13 @@ use lib.ListN.{length, getD}
 use lib.Dec.{eqb}
 use borrow.Author.Tests.{eq-eqb, ne-eqb}
 use Rattle.meaning.specs.Tests.{both, fails, pick, each-of}
-use Rattle.meaning.specs.Limits.{format}
+use Rattle.meaning.specs.Limits.{format, all-literals}
 use Rattle.meaning.specs.Refusals
 use Rattle.meaning.specs.States.{State, state-of}
 use Rattle.meaning.proofs.TestLaws.{pick-true, pick-false}
 use Rattle.reading.specs.Listed.{listed, List-here, holds-as}
 use Rattle.reading.specs.declared.marks.Test.the-variants.{Possible}
+use Rattle.reading.specs.Noted.{branch-place, branch-item}
 use Rattle.refusing.specs.declared.refusals.Found.{Found}
 use Rattle.refusing.specs.declared.refusals.Found.the-variants.{Nowhere, At}
 use Rattle.refusing.specs.InTable.{found}
@@ -44,7 +45,7 @@ module _ (s : List ℕ) (p i q : ℕ) (here : Branch-here s p i) (at : q ≡ seq
     unfolding place-after
     place-empty e = rw at (sym (pick-true _ _ _ (sym here-test ∙ e)))
 
-    pub place-noted : none ≡ false → (x : ℕ) → x ≡ getD t (2048 + i) 0 → x ≡ place-after s t p i
+    pub place-noted : none ≡ false → (x : ℕ) → x ≡ getD t (branch-place + i) 0 → x ≡ place-after s t p i
     unfolding place-after
     place-noted e x is = is ∙ sym (pick-false _ _ _ (sym here-test ∙ e))
 
@@ -52,7 +53,7 @@ module _ (s : List ℕ) (p i q : ℕ) (here : Branch-here s p i) (at : q ≡ seq
     unfolding item-after
     item-empty e = sym (pick-true _ _ _ (sym here-test ∙ e))
 
-    pub item-noted : none ≡ false → (x : ℕ) → x ≡ getD t (3072 + i) 0 → x ≡ item-after s t p i
+    pub item-noted : none ≡ false → (x : ℕ) → x ≡ getD t (branch-item + i) 0 → x ≡ item-after s t p i
     unfolding item-after
     item-noted e x is = is ∙ sym (pick-false _ _ _ (sym here-test ∙ e))
 
@@ -77,7 +78,7 @@ module _ (s t : List ℕ) where
     pub branch-first : Branch-here s p i
     branch-first = branches-first left p i more here .0
 
-    pub condition-first : List-here 128 s p
+    pub condition-first : List-here all-literals s p
     condition-first = branch-first .condition
 
     pub branches-next : (q j : ℕ) → q ≡ place-after s t p i → j ≡ item-after s t p i → Branches-here s t (left - 1) q j

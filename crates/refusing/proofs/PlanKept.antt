@@ -8,28 +8,30 @@ use lib.ListN.{length, getD, set, length-set}
 use lib.Seq.{getD-set-same, getD-set-other}
 use lib.Dec.{ltb}
 use borrow.Author.Tests.{ltb-true, ltb-false}
+use Rattle.meaning.specs.Limits.{format}
 use Rattle.meaning.specs.Requests.{Sequence, done, item, Item, act, branching, Branches, none, branch}
 use Rattle.meaning.proofs.TestLaws.{by-test}
 use Rattle.reading.specs.Planned.{items-of, items-in, items-under, bytes-of, bytes-in, place-of, following, branch-noted, rest-noted, inside-noted, branches-noted, sequence-noted, plan-noted}
 use Rattle.refusing.specs.Plans.{Kept, Item-kept, Branches-kept}
 use Rattle.reading.proofs.NotingLaws.{branch-empty, branch-ended}
+use Rattle.reading.specs.Noted.{branch-place, branch-item, effect-lines, around}
 use Rattle.refusing.proofs.PlanOverlaps.{some-item}
 
-branch-made : (first met p : ℕ) (t : List ℕ) → first < met → branch-noted first met p t ≡ set (set t (2048 + first) p) (3072 + first) met
-branch-made first met p t h = sym (branch-ended first met p t (set t (2048 + first) p) (set (set t (2048 + first) p) (3072 + first) met) h refl refl)
+branch-made : (first met p : ℕ) (t : List ℕ) → first < met → branch-noted first met p t ≡ set (set t (branch-place + first) p) (branch-item + first) met
+branch-made first met p t h = sym (branch-ended first met p t (set t (branch-place + first) p) (set (set t (branch-place + first) p) (branch-item + first) met) h refl refl)
 
 branch-not : (first met p : ℕ) (t : List ℕ) → met ≤ first → branch-noted first met p t ≡ t
 branch-not first met p t h = sym (branch-empty first met p t h)
 
 -- The table after an item, before the rest of its sequence.
 abbrev after-item : (up met : ℕ) → List ℕ → Item ℕ → Sequence ℕ → List ℕ
-after-item up met t i rest = set (inside-noted met (set t (0 + met) (place-of i)) i) (1024 + met) (following up (met + items-in i) rest)
+after-item up met t i rest = set (inside-noted met (set t (0 + met) (place-of i)) i) (format .items + met) (following up (met + items-in i) rest)
 
 -- LENGTHS.
 branch-length : (first met p : ℕ) (t : List ℕ) → length (branch-noted first met p t) ≡ length t
 branch-length first met p t =
     by-test (ltb first met)
-    (λ e. rw (branch-made first met p t (ltb-true first met e)) (length-set (set t (2048 + first) p) (3072 + first) met ∙ length-set t (2048 + first) p))
+    (λ e. rw (branch-made first met p t (ltb-true first met e)) (length-set (set t (branch-place + first) p) (branch-item + first) met ∙ length-set t (branch-place + first) p))
     (λ e. rw (branch-not first met p t (ltb-false first met e)))
 
 mutual
@@ -39,13 +41,13 @@ mutual
   rest-length done up first met p t = branch-length first met p t
   rest-length (item i rest) up first met p t =
       rest-length rest up first (met + items-in i) (p + bytes-in i) (after-item up met t i rest)
-      ∙ length-set (inside-noted met (set t (0 + met) (place-of i)) i) (1024 + met) (following up (met + items-in i) rest)
+      ∙ length-set (inside-noted met (set t (0 + met) (place-of i)) i) (format .items + met) (following up (met + items-in i) rest)
       ∙ inside-length i met (set t (0 + met) (place-of i))
       ∙ length-set t (0 + met) (place-of i)
 
   pub inside-length : (i : Item ℕ) (met : ℕ) (t : List ℕ) → length (inside-noted met t i) ≡ length t
   inside-length (act p a) met t = refl
-  inside-length (branching p bs) met t = branches-length bs (1025 + met) (met + 1) (p + 2) t
+  inside-length (branching p bs) met t = branches-length bs (around + met) (met + 1) (p + 2) t
 
   branches-length : (bs : Branches ℕ) (up met p : ℕ) (t : List ℕ) → length (branches-noted up met p t bs) ≡ length t
   branches-length none up met p t = refl
@@ -55,39 +57,39 @@ mutual
 
 -- OTHER SLOTS than those of the items from lo up to hi.
 abbrev Off : (lo hi x : ℕ) → Type 0
-Off lo hi x = x < 4096 → lo ≤ x % 1024 → x % 1024 < hi → ⊥
+Off lo hi x = x < effect-lines → lo ≤ x % (format .items) → x % format .items < hi → ⊥
 
-off : (k lo hi j x : ℕ) → k < 4 → hi ≤ 1024 → lo ≤ j → j < hi → Off lo hi x → x ≡ 1024 * k + j → ⊥
+off : (k lo hi j x : ℕ) → k < 4 → hi ≤ format .items → lo ≤ j → j < hi → Off lo hi x → x ≡ format .items * k + j → ⊥
 off k lo hi j x four few from to apart e =
-    let own : x % 1024 ≡ j = omega (arith, e, few, to) in
+    let own : x % (format .items) ≡ j = omega (arith, e, few, to) in
     apart (omega (arith, e, four, few, to)) (omega (arith, own, from)) (omega (arith, own, to))
 
 mutual
   unfolding rest-noted inside-noted branches-noted items-of items-in items-under
 
-  pub rest-other : (b : Sequence ℕ) (up first met p : ℕ) (t : List ℕ) (x : ℕ) → met + items-of b ≤ 1024
-      → (first < met + items-of b → (x ≡ 2048 + first → ⊥) × (x ≡ 3072 + first → ⊥)) → Off met (met + items-of b) x
+  pub rest-other : (b : Sequence ℕ) (up first met p : ℕ) (t : List ℕ) (x : ℕ) → met + items-of b ≤ format .items
+      → (first < met + items-of b → (x ≡ branch-place + first → ⊥) × (x ≡ branch-item + first → ⊥)) → Off met (met + items-of b) x
       → getD (rest-noted up first met p t b) x 0 ≡ getD t x 0
   rest-other done up first met p t x few ends apart =
       by-test (ltb first met)
       (λ e.
       let h = ltb-true first met e in
       let far = ends (omega (arith, h)) in
-      rw (branch-made first met p t h) (getD-set-other (set t (2048 + first) p) (3072 + first) x met 0 (far .1) ∙ getD-set-other t (2048 + first) x p 0 (far .0)))
+      rw (branch-made first met p t h) (getD-set-other (set t (branch-place + first) p) (branch-item + first) x met 0 (far .1) ∙ getD-set-other t (branch-place + first) x p 0 (far .0)))
       (λ e. rw (branch-not first met p t (ltb-false first met e)))
   rest-other (item i rest) up first met p t x few ends apart =
       let some = some-item i in
       rest-other rest up first (met + items-in i) (p + bytes-in i) (after-item up met t i rest) x (omega (arith, few)) (λ h. ends (omega (arith, h))) (λ a d e. apart a (omega (arith, d)) (omega (arith, e)))
-      ∙ getD-set-other (inside-noted met (set t (0 + met) (place-of i)) i) (1024 + met) x (following up (met + items-in i) rest) 0
+      ∙ getD-set-other (inside-noted met (set t (0 + met) (place-of i)) i) (format .items + met) x (following up (met + items-in i) rest) 0
       (off 1 met (met + (items-in i + items-of rest)) met x (omega arith) few (omega arith) (omega (arith, some)) apart)
       ∙ inside-other i met (set t (0 + met) (place-of i)) x (omega (arith, few)) (λ a d e. apart a (omega (arith, d)) (omega (arith, e)))
       ∙ getD-set-other t (0 + met) x (place-of i) 0 (off 0 met (met + (items-in i + items-of rest)) met x (omega arith) few (omega arith) (omega (arith, some)) apart)
 
-  inside-other : (i : Item ℕ) (met : ℕ) (t : List ℕ) (x : ℕ) → met + items-in i ≤ 1024 → Off met (met + items-in i) x → getD (inside-noted met t i) x 0 ≡ getD t x 0
+  inside-other : (i : Item ℕ) (met : ℕ) (t : List ℕ) (x : ℕ) → met + items-in i ≤ format .items → Off met (met + items-in i) x → getD (inside-noted met t i) x 0 ≡ getD t x 0
   inside-other (act p a) met t x few apart = refl
-  inside-other (branching p bs) met t x few apart = branches-other bs (1025 + met) (met + 1) (p + 2) t x (omega (arith, few)) (λ a d e. apart a (omega (arith, d)) (omega (arith, e)))
+  inside-other (branching p bs) met t x few apart = branches-other bs (around + met) (met + 1) (p + 2) t x (omega (arith, few)) (λ a d e. apart a (omega (arith, d)) (omega (arith, e)))
 
-  pub branches-other : (bs : Branches ℕ) (up met p : ℕ) (t : List ℕ) (x : ℕ) → met + items-under bs ≤ 1024 → Off met (met + items-under bs) x → getD (branches-noted up met p t bs) x 0 ≡ getD t x 0
+  pub branches-other : (bs : Branches ℕ) (up met p : ℕ) (t : List ℕ) (x : ℕ) → met + items-under bs ≤ format .items → Off met (met + items-under bs) x → getD (branches-noted up met p t bs) x 0 ≡ getD t x 0
   branches-other none up met p t x few apart = refl
   branches-other (branch c b rest) up met p t x few apart =
       branches-other rest up (met + items-of b) (p + (1 + length c) + (2 + bytes-of b)) (rest-noted up met met (p + (1 + length c) + 2) t b) x (omega (arith, few)) (λ a d e. apart a (omega (arith, d)) (omega (arith, e)))
@@ -101,8 +103,8 @@ mutual
 -- TABLES THAT AGREE on the places of the items from lo up to hi, and on the ends of branches from `from` up to hi.
 pub record Agree (lo from hi : ℕ) (t u : List ℕ) : Type 0 where
   pub places : (j : ℕ) → lo ≤ j → j < hi → getD u (0 + j) 0 ≡ getD t (0 + j) 0
-  pub ends : (j : ℕ) → from ≤ j → j < hi → getD u (2048 + j) 0 ≡ getD t (2048 + j) 0
-  pub counts : (j : ℕ) → from ≤ j → j < hi → getD u (3072 + j) 0 ≡ getD t (3072 + j) 0
+  pub ends : (j : ℕ) → from ≤ j → j < hi → getD u (branch-place + j) 0 ≡ getD t (branch-place + j) 0
+  pub counts : (j : ℕ) → from ≤ j → j < hi → getD u (branch-item + j) 0 ≡ getD t (branch-item + j) 0
 
 agree-part : (lo from hi lo′ from′ hi′ : ℕ) (t u : List ℕ) → lo ≤ lo′ → from ≤ from′ → hi′ ≤ hi → Agree lo from hi t u → Agree lo′ from′ hi′ t u
 agree-part lo from hi lo′ from′ hi′ t u a b c same =
@@ -148,21 +150,21 @@ mutual
   )
 
 -- THE END OF A SEQUENCE.
-sequence-end : (b : Sequence ℕ) (up first met p : ℕ) (t : List ℕ) → first < met + items-of b → met + items-of b ≤ 1024 → first < 1024 → 4096 ≤ length t
-    → (getD (rest-noted up first met p t b) (2048 + first) 0 ≡ p + bytes-of b) × (getD (rest-noted up first met p t b) (3072 + first) 0 ≡ met + items-of b)
+sequence-end : (b : Sequence ℕ) (up first met p : ℕ) (t : List ℕ) → first < met + items-of b → met + items-of b ≤ format .items → first < format .items → effect-lines ≤ length t
+    → (getD (rest-noted up first met p t b) (branch-place + first) 0 ≡ p + bytes-of b) × (getD (rest-noted up first met p t b) (branch-item + first) 0 ≡ met + items-of b)
 unfolding rest-noted items-of bytes-of
 sequence-end done up first met p t h few low room =
     let same : p + 0 ≡ p = omega arith in
     let all : met + 0 ≡ met = omega arith in
-    let long : length (set t (2048 + first) p) ≡ length t = length-set t (2048 + first) p in
+    let long : length (set t (branch-place + first) p) ≡ length t = length-set t (branch-place + first) p in
     rw (branch-made first met p t (omega (arith, h)), same, all) (
-      getD-set-other (set t (2048 + first) p) (3072 + first) (2048 + first) met 0 (λ (q : 2048 + first ≡ 3072 + first). omega (arith, q))
-          ∙ getD-set-same t (2048 + first) p 0 (omega (arith, low, room)),
-      getD-set-same (set t (2048 + first) p) (3072 + first) met 0 (omega (arith, low, room, long)),
+      getD-set-other (set t (branch-place + first) p) (branch-item + first) (branch-place + first) met 0 (λ (q : branch-place + first ≡ branch-item + first). omega (arith, q))
+          ∙ getD-set-same t (branch-place + first) p 0 (omega (arith, low, room)),
+      getD-set-same (set t (branch-place + first) p) (branch-item + first) met 0 (omega (arith, low, room, long)),
     )
 sequence-end (item i rest) up first met p t h few low room =
     let size : length (after-item up met t i rest) ≡ length t =
-    length-set (inside-noted met (set t (0 + met) (place-of i)) i) (1024 + met) (following up (met + items-in i) rest)
+    length-set (inside-noted met (set t (0 + met) (place-of i)) i) (format .items + met) (following up (met + items-in i) rest)
     ∙ inside-length i met (set t (0 + met) (place-of i))
     ∙ length-set t (0 + met) (place-of i)
     in
@@ -170,31 +172,31 @@ sequence-end (item i rest) up first met p t h few low room =
     (on .0 ∙ omega arith, on .1 ∙ omega arith)
 
 -- WHAT IS NOTED is kept. An item's slots are not those of the rest.
-rest-agrees : (i : Item ℕ) (rest : Sequence ℕ) (up first met p : ℕ) (t : List ℕ) → first ≤ met → met + (items-in i + items-of rest) ≤ 1024
+rest-agrees : (i : Item ℕ) (rest : Sequence ℕ) (up first met p : ℕ) (t : List ℕ) → first ≤ met → met + (items-in i + items-of rest) ≤ format .items
     → Agree met (met + 1) (met + items-in i) (inside-noted met (set t (0 + met) (place-of i)) i) (rest-noted up first (met + items-in i) (p + bytes-in i) (after-item up met t i rest) rest)
 rest-agrees i rest up first met p t start few =
     record {
-      places = λ j h k. keeps (0 + j) (λ (q : 0 + j ≡ 2048 + first). omega (arith, q, k, few)) (λ (q : 0 + j ≡ 3072 + first). omega (arith, q, k, few)) (λ (q : 0 + j ≡ 1024 + met). omega (arith, q, k, few)) (λ a d e. omega (arith, d, k, few));
-      ends = λ j h k. keeps (2048 + j) (λ (q : 2048 + j ≡ 2048 + first). omega (arith, q, h, start)) (λ (q : 2048 + j ≡ 3072 + first). omega (arith, q, k, few)) (λ (q : 2048 + j ≡ 1024 + met). omega (arith, q, k, few, h)) (λ a d e. omega (arith, d, k, few));
-      counts = λ j h k. keeps (3072 + j) (λ (q : 3072 + j ≡ 2048 + first). omega (arith, q, h, start)) (λ (q : 3072 + j ≡ 3072 + first). omega (arith, q, h, start)) (λ (q : 3072 + j ≡ 1024 + met). omega (arith, q, k, few, h)) (λ a d e. omega (arith, d, k, few));
+      places = λ j h k. keeps (0 + j) (λ (q : 0 + j ≡ branch-place + first). omega (arith, q, k, few)) (λ (q : 0 + j ≡ branch-item + first). omega (arith, q, k, few)) (λ (q : 0 + j ≡ format .items + met). omega (arith, q, k, few)) (λ a d e. omega (arith, d, k, few));
+      ends = λ j h k. keeps (branch-place + j) (λ (q : branch-place + j ≡ branch-place + first). omega (arith, q, h, start)) (λ (q : branch-place + j ≡ branch-item + first). omega (arith, q, k, few)) (λ (q : branch-place + j ≡ format .items + met). omega (arith, q, k, few, h)) (λ a d e. omega (arith, d, k, few));
+      counts = λ j h k. keeps (branch-item + j) (λ (q : branch-item + j ≡ branch-place + first). omega (arith, q, h, start)) (λ (q : branch-item + j ≡ branch-item + first). omega (arith, q, h, start)) (λ (q : branch-item + j ≡ format .items + met). omega (arith, q, k, few, h)) (λ a d e. omega (arith, d, k, few));
     }
   where
-    keeps : (x : ℕ) → (x ≡ 2048 + first → ⊥) → (x ≡ 3072 + first → ⊥) → (x ≡ 1024 + met → ⊥) → Off (met + items-in i) (met + items-in i + items-of rest) x
+    keeps : (x : ℕ) → (x ≡ branch-place + first → ⊥) → (x ≡ branch-item + first → ⊥) → (x ≡ format .items + met → ⊥) → Off (met + items-in i) (met + items-in i + items-of rest) x
         → getD (rest-noted up first (met + items-in i) (p + bytes-in i) (after-item up met t i rest) rest) x 0 ≡ getD (inside-noted met (set t (0 + met) (place-of i)) i) x 0
     keeps x a d e apart =
         rest-other rest up first (met + items-in i) (p + bytes-in i) (after-item up met t i rest) x (omega (arith, few)) (λ _. (a, d)) apart
-        ∙ getD-set-other (inside-noted met (set t (0 + met) (place-of i)) i) (1024 + met) x (following up (met + items-in i) rest) 0 e
+        ∙ getD-set-other (inside-noted met (set t (0 + met) (place-of i)) i) (format .items + met) x (following up (met + items-in i) rest) 0 e
 
 mutual
   unfolding rest-noted inside-noted branches-noted Kept Item-kept Branches-kept items-of items-in items-under place-of
 
-  rest-kept : (b : Sequence ℕ) (up first met p : ℕ) (t : List ℕ) → first ≤ met → met + items-of b ≤ 1024 → 4096 ≤ length t → Kept (rest-noted up first met p t b) met b
+  rest-kept : (b : Sequence ℕ) (up first met p : ℕ) (t : List ℕ) → first ≤ met → met + items-of b ≤ format .items → effect-lines ≤ length t → Kept (rest-noted up first met p t b) met b
   rest-kept done up first met p t start few room = tt
   rest-kept (item i rest) up first met p t start few room =
       let some = some-item i in
       let placed : length (set t (0 + met) (place-of i)) ≡ length t = length-set t (0 + met) (place-of i) in
       let size : length (after-item up met t i rest) ≡ length t =
-      length-set (inside-noted met (set t (0 + met) (place-of i)) i) (1024 + met) (following up (met + items-in i) rest)
+      length-set (inside-noted met (set t (0 + met) (place-of i)) i) (format .items + met) (following up (met + items-in i) rest)
       ∙ inside-length i met (set t (0 + met) (place-of i))
       ∙ placed
       in (
@@ -204,19 +206,19 @@ mutual
         rest-kept rest up first (met + items-in i) (p + bytes-in i) (after-item up met t i rest) (omega (arith, start)) (omega (arith, few)) (rw size room),
       )
 
-  inside-kept : (i : Item ℕ) (met : ℕ) (t : List ℕ) → getD t (0 + met) 0 ≡ place-of i → met + items-in i ≤ 1024 → 4096 ≤ length t → Item-kept (inside-noted met t i) met i
+  inside-kept : (i : Item ℕ) (met : ℕ) (t : List ℕ) → getD t (0 + met) 0 ≡ place-of i → met + items-in i ≤ format .items → effect-lines ≤ length t → Item-kept (inside-noted met t i) met i
   inside-kept (act p a) met t here few room = here
   inside-kept (branching p bs) met t here few room = (
-    branches-other bs (1025 + met) (met + 1) (p + 2) t (0 + met) (omega (arith, few)) (λ a d e. omega (arith, d, few)) ∙ here,
-    branches-keep bs (1025 + met) (met + 1) (p + 2) t (omega (arith, few)) room,
+    branches-other bs (around + met) (met + 1) (p + 2) t (0 + met) (omega (arith, few)) (λ a d e. omega (arith, d, few)) ∙ here,
+    branches-keep bs (around + met) (met + 1) (p + 2) t (omega (arith, few)) room,
   )
 
-  branches-keep : (bs : Branches ℕ) (up met p : ℕ) (t : List ℕ) → met + items-under bs ≤ 1024 → 4096 ≤ length t → Branches-kept (branches-noted up met p t bs) met p bs
+  branches-keep : (bs : Branches ℕ) (up met p : ℕ) (t : List ℕ) → met + items-under bs ≤ format .items → effect-lines ≤ length t → Branches-kept (branches-noted up met p t bs) met p bs
   branches-keep none up met p t few room = tt
   branches-keep (branch c b rest) up met p t few room = (
     record {
-      place = λ some. branches-other rest up (met + items-of b) end after (2048 + met) (omega (arith, few)) (λ a d e. omega (arith, d, some, few)) ∙ closed some .0 ∙ omega arith;
-      count = λ some. branches-other rest up (met + items-of b) end after (3072 + met) (omega (arith, few)) (λ a d e. omega (arith, d, some, few)) ∙ closed some .1;
+      place = λ some. branches-other rest up (met + items-of b) end after (branch-place + met) (omega (arith, few)) (λ a d e. omega (arith, d, some, few)) ∙ closed some .0 ∙ omega arith;
+      count = λ some. branches-other rest up (met + items-of b) end after (branch-item + met) (omega (arith, few)) (λ a d e. omega (arith, d, some, few)) ∙ closed some .1;
     },
     kept-agree b met after (branches-noted up (met + items-of b) end after rest) agrees (rest-kept b up met met (p + (1 + length c) + 2) t (omega arith) (omega (arith, few)) room),
     branches-keep rest up (met + items-of b) end after (omega (arith, few)) (rw (rest-length b up met met (p + (1 + length c) + 2) t) room),
@@ -228,16 +230,16 @@ mutual
       after : List ℕ
       after = rest-noted up met met (p + (1 + length c) + 2) t b
 
-      closed : 0 < items-of b → (getD after (2048 + met) 0 ≡ p + (1 + length c) + 2 + bytes-of b) × (getD after (3072 + met) 0 ≡ met + items-of b)
+      closed : 0 < items-of b → (getD after (branch-place + met) 0 ≡ p + (1 + length c) + 2 + bytes-of b) × (getD after (branch-item + met) 0 ≡ met + items-of b)
       closed some = sequence-end b up met met (p + (1 + length c) + 2) t (omega (arith, some)) (omega (arith, few)) (omega (arith, some, few)) room
 
       agrees : Agree met (met + 1) (met + items-of b) after (branches-noted up (met + items-of b) end after rest)
       agrees = record {
         places = λ j h k. branches-other rest up (met + items-of b) end after (0 + j) (omega (arith, few)) (λ a d e. omega (arith, d, k, few));
-        ends = λ j h k. branches-other rest up (met + items-of b) end after (2048 + j) (omega (arith, few)) (λ a d e. omega (arith, d, k, few));
-        counts = λ j h k. branches-other rest up (met + items-of b) end after (3072 + j) (omega (arith, few)) (λ a d e. omega (arith, d, k, few));
+        ends = λ j h k. branches-other rest up (met + items-of b) end after (branch-place + j) (omega (arith, few)) (λ a d e. omega (arith, d, k, few));
+        counts = λ j h k. branches-other rest up (met + items-of b) end after (branch-item + j) (omega (arith, few)) (λ a d e. omega (arith, d, k, few));
       }
 
-pub plan-kept : (p : ℕ) (t : List ℕ) (b : Sequence ℕ) → items-of b ≤ 1024 → 4096 ≤ length t → Kept (plan-noted p t b) 0 b
+pub plan-kept : (p : ℕ) (t : List ℕ) (b : Sequence ℕ) → items-of b ≤ format .items → effect-lines ≤ length t → Kept (plan-noted p t b) 0 b
 unfolding plan-noted sequence-noted
-plan-kept p t b few room = rest-kept b 1024 0 0 (p + 2) t (omega arith) (omega (arith, few)) room
+plan-kept p t b few room = rest-kept b (format .items) 0 0 (p + 2) t (omega arith) (omega (arith, few)) room

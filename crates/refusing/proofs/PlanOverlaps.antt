@@ -10,7 +10,7 @@ use lib.ListN.{length, getD}
 use lib.Dec.{eqb, ltb}
 use borrow.Author.Tests.{eq-eqb, eqb-true, eqb-false, ltb-true, ltb-false}
 use Rattle.meaning.specs.Tests.{both, fails, pick, Has}
-use Rattle.meaning.specs.Limits.{format}
+use Rattle.meaning.specs.Limits.{format, all-literals}
 use Rattle.meaning.specs.Literals.{complement, among, exclusive}
 use Rattle.meaning.specs.Requests.{Sequence, done, item, Item, act, branching, Branches, none, branch}
 use Rattle.meaning.specs.Refusals.{Found, nowhere, at, or-else, conditions-of, all-exclusive, overlap-in, overlap-at, overlap-below}
@@ -64,7 +64,7 @@ module _ (s : List ℕ) where
   unfolding listed
   listed-below bound p here l h = bytes-below bound (getD s p 0) (p + 1) l (here .below) h
 
-pub clear-of : (c : List ℕ) → ((l : ℕ) → Has c l → l < 128) → exclusive c c ≡ false → Clear format c
+pub clear-of : (c : List ℕ) → ((l : ℕ) → Has c l → l < all-literals) → exclusive c c ≡ false → Clear format c
 unfolding exclusive among
 clear-of c below apart =
     record {
@@ -73,7 +73,7 @@ clear-of c below apart =
     }
 
 written-clear : (s : List ℕ) (p : ℕ) (c : List ℕ) (b : Sequence ℕ) → Branch-written s p c b → Clear format c
-written-clear s p c b w = clear-of c (λ l h. listed-below s 128 p (w .here) l (rw (w .condition) h)) (w .clear)
+written-clear s p c b w = clear-of c (λ l h. listed-below s all-literals p (w .here) l (rw (w .condition) h)) (w .clear)
 
 conditions-clear : (s : List ℕ) (p : ℕ) (bs : Branches ℕ) → Branches-written s p bs → (c : List ℕ) → Has (conditions-of bs) c → Clear format c
 unfolding Branches-written conditions-of
@@ -124,7 +124,7 @@ module _ (s t : List ℕ) where
       rw (place-is s t met p c b (w .0) (k .0), item-is s t met p c b (w .0) (k .0), w .0 .condition)
       (ap (λ (cs : List (List ℕ)). c ∷ cs) (conditions-are (met + items-of b) (p + (1 + length c) + (2 + bytes-of b)) rest (w .2) (k .2)))
 
-  branches-here : (met p : ℕ) (bs : Branches ℕ) → met + items-under bs ≤ 1024 → Branches-written s p bs → Branches-kept t met p bs → Branches-here s t (branches-in bs) p met
+  branches-here : (met p : ℕ) (bs : Branches ℕ) → met + items-under bs ≤ format .items → Branches-written s p bs → Branches-kept t met p bs → Branches-here s t (branches-in bs) p met
   unfolding Branches-written Branches-kept Branches-here branches-in items-under
   branches-here met p none few w k = tt
   branches-here met p (branch c b rest) few w k = (
@@ -134,7 +134,7 @@ module _ (s t : List ℕ) where
   )
 
   -- EACH ITEM stands there.
-  branching-here : (met p : ℕ) (bs : Branches ℕ) → met + (1 + items-under bs) ≤ 1024 → Opened s p bs → Branches-written s (p + 2) bs → Branches-kept t (met + 1) (p + 2) bs → Item-here s t met p
+  branching-here : (met p : ℕ) (bs : Branches ℕ) → met + (1 + items-under bs) ≤ format .items → Opened s p bs → Branches-written s (p + 2) bs → Branches-kept t (met + 1) (p + 2) bs → Item-here s t met p
   branching-here met p bs few o w k =
       record {
         there = let there = o .there in omega arith;
@@ -142,7 +142,7 @@ module _ (s t : List ℕ) where
         branches = λ _. record { counted = o .there; branches = rw (o .count) (branches-here (met + 1) (p + 2) bs (omega (arith, few)) w k) };
       }
 
-  act-here : (met p a : ℕ) → met + 1 ≤ 1024 → Act-written s p a → Item-here s t met p
+  act-here : (met p a : ℕ) → met + 1 ≤ format .items → Act-written s p a → Item-here s t met p
   act-here met p a few w =
       record {
         there = w .there;
@@ -153,14 +153,14 @@ module _ (s t : List ℕ) where
   mutual
     unfolding items-of Written Kept items-in Item-written Item-kept items-under Branches-written Branches-kept
 
-    sequence-here : (b : Sequence ℕ) (met : ℕ) → met + items-of b ≤ 1024 → Written s b → Kept t met b → (j : ℕ) → met ≤ j → j < met + items-of b → Item-here s t j (getD t (0 + j) 0)
+    sequence-here : (b : Sequence ℕ) (met : ℕ) → met + items-of b ≤ format .items → Written s b → Kept t met b → (j : ℕ) → met ≤ j → j < met + items-of b → Item-here s t j (getD t (0 + j) 0)
     sequence-here done met few w k j from to = absurd (omega (arith, from, to))
     sequence-here (item i rest) met few w k j from to =
         by-test (ltb j (met + items-in i))
         (λ u. item-here i met (omega (arith, few)) (w .0) (k .0) j from (ltb-true j (met + items-in i) u))
         (λ u. sequence-here rest (met + items-in i) (omega (arith, few)) (w .1) (k .1) j (ltb-false j (met + items-in i) u) (omega (arith, to)))
 
-    item-here : (i : Item ℕ) (met : ℕ) → met + items-in i ≤ 1024 → Item-written s i → Item-kept t met i → (j : ℕ) → met ≤ j → j < met + items-in i → Item-here s t j (getD t (0 + j) 0)
+    item-here : (i : Item ℕ) (met : ℕ) → met + items-in i ≤ format .items → Item-written s i → Item-kept t met i → (j : ℕ) → met ≤ j → j < met + items-in i → Item-here s t j (getD t (0 + j) 0)
     item-here (act p a) met few w k j from to =
         let here : j ≡ met = omega (arith, from, to) in
         rw (here, k) (act-here met p a few w)
@@ -169,7 +169,7 @@ module _ (s t : List ℕ) where
         (λ u. rw (eqb-true j met u, k .0) (branching-here met p bs few (w .0) (w .1) (k .1)))
         (λ u. let other = eqb-false j met u in branches-hold bs (met + 1) (p + 2) (omega (arith, few)) (w .1) (k .1) j (omega (arith, from, other)) (omega (arith, to)))
 
-    branches-hold : (bs : Branches ℕ) (met p : ℕ) → met + items-under bs ≤ 1024 → Branches-written s p bs → Branches-kept t met p bs → (j : ℕ) → met ≤ j → j < met + items-under bs → Item-here s t j (getD t (0 + j) 0)
+    branches-hold : (bs : Branches ℕ) (met p : ℕ) → met + items-under bs ≤ format .items → Branches-written s p bs → Branches-kept t met p bs → (j : ℕ) → met ≤ j → j < met + items-under bs → Item-here s t j (getD t (0 + j) 0)
     branches-hold none met p few w k j from to = absurd (omega (arith, from, to))
     branches-hold (branch c b rest) met p few w k j from to =
         by-test (ltb j (met + items-of b))

@@ -14,7 +14,7 @@ use Rattle.meaning.specs.Reading
 use Rattle.meaning.specs.Reading.{Got, got, fault, literals, byte-at, count-at, below-at, list-at, body-at, effect-at, executability-at, knowledge-at, repeated, section-at, plan-at, table-at, request-at, read-request}
 use Rattle.meaning.proofs.SettledLaws.{got-same}
 use Rattle.meaning.proofs.RangeLaws.{not-refused, after-got, count-within, section-read, repeated-length}
-use Rattle.reading.specs.Noted.{effects, executability, knowledge, effect-lines, run-lines, line-place, action-in, note-line, none-yet, count-slot, section-noted, table-noted}
+use Rattle.reading.specs.Noted.{effects, executability, knowledge, effect-lines, run-lines, line-place, action-in, note-line, none-yet, count-slot, section-noted, table-noted, branch-place, branch-item, sensed-from, sensed-to, plan-slot, items-slot, goals-slot, sensed, slots, effects-slot, executability-slot, knowledge-slot, line-numbers}
 use Rattle.reading.specs.Ordered.{In-order}
 use Rattle.reading.specs.Planned.{items-of, bytes-of, plan-noted}
 use Rattle.reading.specs.Requested.{goals-place, plan-place, places-noted, request-noted}
@@ -32,8 +32,8 @@ use Rattle.refusing.proofs.HoldsLaws.{Placed-in, effects-placed, placed
 
 -- THE PARTS of a table that was read up to p, and of a request with that table.
 pub record Table-parts (s : List ℕ) (t : Table) (p : ℕ) : Type 0 where
-  pub few : t .fluents ≤ 64
-  pub less : t .actions ≤ 64
+  pub few : t .fluents ≤ format .fluents
+  pub less : t .actions ≤ format .actions
   pub effects-at : ℕ
   pub effects-end : ℕ
   pub effects-read : section-at (effect-at format (t .fluents) (t .actions) s) s effects-at ≡ got (t .effects) effects-end
@@ -44,15 +44,15 @@ pub record Table-parts (s : List ℕ) (t : Table) (p : ℕ) : Type 0 where
 pub table-parts : (s : List ℕ) (t : Table) (p : ℕ) → table-at format s 0 ≡ got t p → Table-parts s t p
 unfolding table-at
 table-parts s t p e =
-    after-got (count-at 1 64 s 0) _ e λ n p₁ en u₁.
-    after-got (count-at 1 64 s p₁) _ u₁ λ m p₂ em u₂.
-    after-got (list-at literals n 64 s p₂) _ u₂ λ facts p₃ _ u₃.
+    after-got (count-at 1 (format .fluents) s 0) _ e λ n p₁ en u₁.
+    after-got (count-at 1 (format .actions) s p₁) _ u₁ λ m p₂ em u₂.
+    after-got (list-at literals n (format .listed) s p₂) _ u₂ λ facts p₃ _ u₃.
     after-got (section-at (effect-at format n m s) s p₃) _ u₃ λ es p₄ ees u₄.
     after-got (section-at (executability-at format n m s) s p₄) _ u₄ λ xs p₅ exs u₅.
     after-got (section-at (knowledge-at format n m s) s p₅) _ u₅ λ ks p₆ eks u₆.
     subst on u₆ (record {
-      few = count-within 1 64 s 0 n p₁ en;
-      less = count-within 1 64 s p₁ m p₂ em;
+      few = count-within 1 (format .fluents) s 0 n p₁ en;
+      less = count-within 1 (format .actions) s p₁ m p₂ em;
       effects-at = p₃;
       effects-end = p₄;
       effects-read = ees;
@@ -76,10 +76,10 @@ pub request-parts : (s : List ℕ) (t : Table) (p : ℕ) (y : Request) (q : ℕ)
 unfolding request-at plan-place goals-place plan-at
 request-parts s t p y q e =
     after-got (plan-at format (t .fluents) (t .actions) s p) _ e λ plan q₁ eplan v₁.
-    after-got (list-at literals (t .fluents) 64 s q₁) _ v₁ λ goals q₂ egoals v₂.
-    after-got (list-at Reading.fluents (t .fluents) 64 s q₂) _ v₂ λ whether q₃ _ v₃.
+    after-got (list-at literals (t .fluents) (format .listed) s q₁) _ v₁ λ goals q₂ egoals v₂.
+    after-got (list-at Reading.fluents (t .fluents) (format .listed) s q₂) _ v₂ λ whether q₃ _ v₃.
     let sized = sequence-read (t .fluents) (t .actions) s 8 p 0 (omega arith) .holds plan q₁ eplan in
-    let through = list-through s literals (t .fluents) 64 q₁ .holds goals q₂ egoals in
+    let through = list-through s literals (t .fluents) (format .listed) q₁ .holds goals q₂ egoals in
     let after = sized .through .after in
     let ends = through .after in
     let goals-at : q₂ - (1 + length goals) ≡ q₁ = omega arith in
@@ -138,14 +138,14 @@ module _ (s : List ℕ) (t : Table) (p : ℕ) (whole : Table-parts s t p) where
       let w = section-read (effect-at format (t .fluents) (t .actions) s) s (whole .effects-at) (t .effects) (whole .effects-end) (whole .effects-read) e has in
       effect-here (t .fluents) (t .actions) s (whole .few) (whole .less) (w .0) e (w .1) (w .2)
 
-  pub effect-acts : (e : Effect) → Has (t .effects) e → e .action < 64
+  pub effect-acts : (e : Effect) → Has (t .effects) e → e .action < format .actions
   effect-acts e has =
       let good = effect-good e has in
       let is : getD s (e .place) 0 ≡ e .action = acts s e (good .0) in
       let small = good .1 .action in
       omega arith
 
-  pub run-good : (r : Executability) → Has (t .executability) r → r .action < 64
+  pub run-good : (r : Executability) → Has (t .executability) r → r .action < format .actions
   unfolding executability-at
   run-good r has =
       let w = section-read (executability-at format (t .fluents) (t .actions) s) s (whole .effects-end) (t .executability) (whole .runs-end) (whole .runs-read) r has in
@@ -156,7 +156,7 @@ module _ (s : List ℕ) (t : Table) (p : ℕ) (whole : Table-parts s t p) where
       let is : a ≡ r .action = ap (λ (y : Executability). y .action) (got-same e₂) in
       omega arith
 
-  pub knowledge-good : (k : Knowledge) → Has (t .knowledge) k → k .action < 64
+  pub knowledge-good : (k : Knowledge) → Has (t .knowledge) k → k .action < format .actions
   unfolding knowledge-at
   knowledge-good k has =
       let w = section-read (knowledge-at format (t .fluents) (t .actions) s) s (whole .runs-end) (t .knowledge) p (whole .knowledge-read) k has in
@@ -169,12 +169,12 @@ module _ (s : List ℕ) (t : Table) (p : ℕ) (whole : Table-parts s t p) where
 
 -- THE SLOTS that nothing noted after the executability lines touches.
 pub record Apart (j : ℕ) : Type 0 where
-  pub plan : 4096 ≤ j
-  pub action : (a : ℕ) → a < 64 → (j ≡ 5248 + a → ⊥) × (j ≡ 5312 + a → ⊥)
-  pub sensed : j < 5384
-  pub other : (j ≡ 5380 → ⊥) × (j ≡ 5376 → ⊥) × (j ≡ 5377 → ⊥) × (j ≡ 5381 → ⊥)
+  pub plan : effect-lines ≤ j
+  pub action : (a : ℕ) → a < format .actions → (j ≡ sensed-from + a → ⊥) × (j ≡ sensed-to + a → ⊥)
+  pub sensed : j < sensed
+  pub other : (j ≡ knowledge-slot → ⊥) × (j ≡ plan-slot → ⊥) × (j ≡ items-slot → ⊥) × (j ≡ goals-slot → ⊥)
 
-lines-apart : (j : ℕ) → 4096 ≤ j → j < 5248 → Apart j
+lines-apart : (j : ℕ) → effect-lines ≤ j → j < sensed-from → Apart j
 lines-apart j far near = record {
   plan = far;
   action = λ a h. (λ e. omega arith, λ e. omega arith);
@@ -183,16 +183,16 @@ lines-apart j far near = record {
 }
 
 module _ (s : List ℕ) (bytes : (i : ℕ) → getD s i 0 < 256) (x : Request) (whole : Parts s x) (t : List ℕ) where
-  pub effects-few : length (x .table .effects) < 256
+  pub effects-few : length (x .table .effects) < line-numbers
   effects-few = rw (section-length (effect-at format (x .table .fluents) (x .table .actions) s) s (whole .of-table .effects-at) (x .table .effects) (whole .of-table .effects-end) (whole .of-table .effects-read)) (bytes (whole .of-table .effects-at))
 
-  pub runs-few : length (x .table .executability) < 256
+  pub runs-few : length (x .table .executability) < line-numbers
   runs-few = rw (section-length (executability-at format (x .table .fluents) (x .table .actions) s) s (whole .of-table .effects-end) (x .table .executability) (whole .of-table .runs-end) (whole .of-table .runs-read)) (bytes (whole .of-table .effects-end))
 
-  pub knowledge-few : length (x .table .knowledge) < 256
+  pub knowledge-few : length (x .table .knowledge) < line-numbers
   knowledge-few = rw (section-length (knowledge-at format (x .table .fluents) (x .table .actions) s) s (whole .of-table .runs-end) (x .table .knowledge) (whole .place) (whole .of-table .knowledge-read)) (bytes (whole .of-table .runs-end))
 
-  pub items-most : (whole .items ≡ items-of (x .plan)) × (items-of (x .plan) ≤ 1024)
+  pub items-most : (whole .items ≡ items-of (x .plan)) × (items-of (x .plan) ≤ format .items)
   unfolding plan-at
   items-most =
       let sized = sequence-read (x .table .fluents) (x .table .actions) s 8 (whole .place) 0 (omega arith) .holds (record { value = x .plan; items = whole .items }) (whole .plan-end) (whole .plan-read) in
@@ -230,82 +230,82 @@ module _ (s : List ℕ) (bytes : (i : ℕ) → getD s i 0 < 256) (x : Request) (
 
   -- EACH SECTION leaves alone what is none of its slots.
   module _ (u : List ℕ) (j : ℕ) where
-    pub effects-kept : Outside effect-lines j → (j ≡ 5378 → ⊥) → getD (section-noted effects (x .table .effects) u) j 0 ≡ getD u j 0
+    pub effects-kept : Outside effect-lines j → (j ≡ effects-slot → ⊥) → getD (section-noted effects (x .table .effects) u) j 0 ≡ getD u j 0
     unfolding note-line action-in count-slot
     effects-kept out other =
-        section-kept effects j (λ (e : Effect). e .action < 64)
+        section-kept effects j (λ (e : Effect). e .action < format .actions)
         (λ last k e v small less few. appended-kept j effect-lines last k (e .place) (e .action) v less few small out) (λ e small. small)
         (x .table .effects) u (effect-acts s (x .table) (whole .place) (whole .of-table)) effects-few other
 
-    pub runs-kept : Outside run-lines j → (j ≡ 5379 → ⊥) → getD (section-noted executability (x .table .executability) u) j 0 ≡ getD u j 0
+    pub runs-kept : Outside run-lines j → (j ≡ executability-slot → ⊥) → getD (section-noted executability (x .table .executability) u) j 0 ≡ getD u j 0
     unfolding note-line action-in count-slot
     runs-kept out other =
-        section-kept executability j (λ (r : Executability). r .action < 64)
+        section-kept executability j (λ (r : Executability). r .action < format .actions)
         (λ last k r v small less few. appended-kept j run-lines last k (r .place) (r .action) v less few small out) (λ r small. small)
         (x .table .executability) u (run-good s (x .table) (whole .place) (whole .of-table)) runs-few other
 
     knowledge-kept : Apart j → getD (section-noted knowledge (x .table .knowledge) u) j 0 ≡ getD u j 0
     unfolding note-line action-in count-slot
     knowledge-kept apart =
-        section-kept knowledge j (λ (l : Knowledge). l .action < 64)
+        section-kept knowledge j (λ (l : Knowledge). l .action < format .actions)
         (λ last k l v small _ _. pair-kept j (l .action) (l .fluent) v (apart .sensed) (apart .action (l .action) small .0) (apart .action (l .action) small .1)) (λ l small. small)
         (x .table .knowledge) u (knowledge-good s (x .table) (whole .place) (whole .of-table)) knowledge-few (apart .other .0)
 
   -- The plan and the places leave a slot as the table's sections left it.
-  pub after-sections : (j : ℕ) → 4096 ≤ j → (j ≡ 5376 → ⊥) → (j ≡ 5377 → ⊥) → (j ≡ 5381 → ⊥) → getD (request-noted x t) j 0 ≡ getD with-knowledge j 0
+  pub after-sections : (j : ℕ) → effect-lines ≤ j → (j ≡ plan-slot → ⊥) → (j ≡ items-slot → ⊥) → (j ≡ goals-slot → ⊥) → getD (request-noted x t) j 0 ≡ getD with-knowledge j 0
   unfolding request-noted places-noted table-noted with-knowledge with-runs with-effects
   after-sections j far a b c =
       let planned : List ℕ = plan-noted (plan-place x) (table-noted (x .table) t) (x .plan) in
-      kept (set (set planned 5376 (plan-place x)) 5377 (items-of (x .plan))) 5381 j (goals-place x) c
-      ∙ kept (set planned 5376 (plan-place x)) 5377 j (items-of (x .plan)) b
-      ∙ kept planned 5376 j (plan-place x) a
+      kept (set (set planned plan-slot (plan-place x)) items-slot (items-of (x .plan))) goals-slot j (goals-place x) c
+      ∙ kept (set planned plan-slot (plan-place x)) items-slot j (items-of (x .plan)) b
+      ∙ kept planned plan-slot j (plan-place x) a
       ∙ plan-kept j far (plan-place x) (table-noted (x .table) t) (x .plan) (items-most .1)
 
   after-runs : (j : ℕ) → Apart j → getD (request-noted x t) j 0 ≡ getD with-runs j 0
   unfolding with-knowledge
   after-runs j apart = after-sections j (apart .plan) (apart .other .1) (apart .other .2) (apart .other .3) ∙ knowledge-kept with-runs j apart
 
-  after-effects : (j : ℕ) → Apart j → Outside run-lines j → (j ≡ 5379 → ⊥) → getD (request-noted x t) j 0 ≡ getD with-effects j 0
+  after-effects : (j : ℕ) → Apart j → Outside run-lines j → (j ≡ executability-slot → ⊥) → getD (request-noted x t) j 0 ≡ getD with-effects j 0
   unfolding with-runs
   after-effects j apart out other = after-runs j apart ∙ runs-kept with-effects j out other
 
-  module _ (sized : length t ≡ 9480) where
-    pub knowledge-counted : getD (request-noted x t) 5380 0 ≡ length (x .table .knowledge)
+  module _ (sized : length t ≡ slots) where
+    pub knowledge-counted : getD (request-noted x t) knowledge-slot 0 ≡ length (x .table .knowledge)
     unfolding with-knowledge note-line action-in count-slot
     knowledge-counted =
-        after-sections 5380 (omega arith) (λ e. omega arith) (λ e. omega arith) (λ e. omega arith)
-        ∙ section-counted knowledge 5380 (λ (l : Knowledge). l .action < 64)
-        (λ last k l v small _ _. pair-kept 5380 (l .action) (l .fluent) v (omega arith) (λ e. omega arith) (λ e. omega arith)) (λ l small. small)
+        after-sections knowledge-slot (omega arith) (λ e. omega arith) (λ e. omega arith) (λ e. omega arith)
+        ∙ section-counted knowledge knowledge-slot (λ (l : Knowledge). l .action < format .actions)
+        (λ last k l v small _ _. pair-kept knowledge-slot (l .action) (l .fluent) v (omega arith) (λ e. omega arith) (λ e. omega arith)) (λ l small. small)
         (x .table .knowledge) with-runs (knowledge-good s (x .table) (whole .place) (whole .of-table)) knowledge-few refl (omega (arith, runs-long sized))
 
-    pub effects-counted : getD (request-noted x t) 5378 0 ≡ length (x .table .effects)
+    pub effects-counted : getD (request-noted x t) effects-slot 0 ≡ length (x .table .effects)
     unfolding with-effects note-line action-in count-slot
     effects-counted =
-        after-effects 5378 (record {
+        after-effects effects-slot (record {
           plan = omega arith;
           action = λ a h. (λ e. omega arith, λ e. omega arith);
           sensed = omega arith;
           other = (λ e. omega arith, λ e. omega arith, λ e. omega arith, λ e. omega arith);
         })
         (λ i h e. omega arith) (λ e. omega arith)
-        ∙ section-counted effects 5378 (λ (e : Effect). e .action < 64)
-        (λ last k e v small less few. appended-kept 5378 effect-lines last k (e .place) (e .action) v less few small (λ i h q. omega arith)) (λ e small. small)
+        ∙ section-counted effects effects-slot (λ (e : Effect). e .action < format .actions)
+        (λ last k e v small less few. appended-kept effects-slot effect-lines last k (e .place) (e .action) v less few small (λ i h q. omega arith)) (λ e small. small)
         (x .table .effects) t (effect-acts s (x .table) (whole .place) (whole .of-table)) effects-few refl (omega arith)
 
-    pub items-noted : getD (request-noted x t) 5377 0 ≡ items-of (x .plan)
+    pub items-noted : getD (request-noted x t) items-slot 0 ≡ items-of (x .plan)
     unfolding request-noted places-noted
     items-noted =
         let planned : List ℕ = plan-noted (plan-place x) (table-noted (x .table) t) (x .plan) in
-        kept (set (set planned 5376 (plan-place x)) 5377 (items-of (x .plan))) 5381 5377 (goals-place x) (λ e. omega arith)
-        ∙ getD-set-same (set planned 5376 (plan-place x)) 5377 (items-of (x .plan)) 0 (omega (arith, length-set planned 5376 (plan-place x), planned-long sized))
+        kept (set (set planned plan-slot (plan-place x)) items-slot (items-of (x .plan))) goals-slot items-slot (goals-place x) (λ e. omega arith)
+        ∙ getD-set-same (set planned plan-slot (plan-place x)) items-slot (items-of (x .plan)) 0 (omega (arith, length-set planned plan-slot (plan-place x), planned-long sized))
 
-    pub plan-noted-at : getD (request-noted x t) 5376 0 ≡ whole .place
+    pub plan-noted-at : getD (request-noted x t) plan-slot 0 ≡ whole .place
     unfolding request-noted places-noted
     plan-noted-at =
         let planned : List ℕ = plan-noted (plan-place x) (table-noted (x .table) t) (x .plan) in
-        kept (set (set planned 5376 (plan-place x)) 5377 (items-of (x .plan))) 5381 5376 (goals-place x) (λ e. omega arith)
-        ∙ kept (set planned 5376 (plan-place x)) 5377 5376 (items-of (x .plan)) (λ e. omega arith)
-        ∙ getD-set-same planned 5376 (plan-place x) 0 (omega (arith, planned-long sized))
+        kept (set (set planned plan-slot (plan-place x)) items-slot (items-of (x .plan))) goals-slot plan-slot (goals-place x) (λ e. omega arith)
+        ∙ kept (set planned plan-slot (plan-place x)) items-slot plan-slot (items-of (x .plan)) (λ e. omega arith)
+        ∙ getD-set-same planned plan-slot (plan-place x) 0 (omega (arith, planned-long sized))
         ∙ whole .placed
 
     -- 18 finds the plan.
@@ -315,10 +315,10 @@ module _ (s : List ℕ) (bytes : (i : ℕ) → getD s i 0 < 256) (x : Request) (
         let noted : List ℕ = table-noted (x .table) t in
         let planned : List ℕ = plan-noted (plan-place x) noted (x .plan) in
         let held = plan-held (x .table .fluents) (x .table .actions) s (whole .of-table .few) (whole .of-table .less) (whole .place) noted (record { value = x .plan; items = whole .items }) (whole .plan-end) (omega (arith, table-long)) (whole .plan-read) in
-        let same : (j : ℕ) → j < 4096 → getD (request-noted x t) j 0 ≡ getD planned j 0 = λ j near.
-        kept (set (set planned 5376 (plan-place x)) 5377 (items-of (x .plan))) 5381 j (goals-place x) (λ e. omega arith)
-        ∙ kept (set planned 5376 (plan-place x)) 5377 j (items-of (x .plan)) (λ e. omega arith)
-        ∙ kept planned 5376 j (plan-place x) (λ e. omega arith) in
+        let same : (j : ℕ) → j < effect-lines → getD (request-noted x t) j 0 ≡ getD planned j 0 = λ j near.
+        kept (set (set planned plan-slot (plan-place x)) items-slot (items-of (x .plan))) goals-slot j (goals-place x) (λ e. omega arith)
+        ∙ kept (set planned plan-slot (plan-place x)) items-slot j (items-of (x .plan)) (λ e. omega arith)
+        ∙ kept planned plan-slot j (plan-place x) (λ e. omega arith) in
         let few = held .few in
         record {
           few = few;
@@ -326,13 +326,13 @@ module _ (s : List ℕ) (bytes : (i : ℕ) → getD s i 0 < 256) (x : Request) (
           kept = kept-agree (x .plan) 0 planned (request-noted x t)
               (record {
                 places = λ j _ less. same (0 + j) (omega arith);
-                ends = λ j _ less. same (2048 + j) (omega arith);
-                counts = λ j _ less. same (3072 + j) (omega arith);
+                ends = λ j _ less. same (branch-place + j) (omega arith);
+                counts = λ j _ less. same (branch-item + j) (omega arith);
               })
               (subst (λ (p : ℕ). Kept (plan-noted p noted (x .plan)) 0 (x .plan)) (sym (whole .placed)) (held .kept));
         }
       where
-        table-long : length (table-noted (x .table) t) ≡ 9480
+        table-long : length (table-noted (x .table) t) ≡ slots
         table-long = tabled-long sized
 
     -- 16 finds the effects.
@@ -342,8 +342,8 @@ module _ (s : List ℕ) (bytes : (i : ℕ) → getD s i 0 < 256) (x : Request) (
         placed-same with-effects (request-noted x t) 0 (x .table .effects)
         (λ i less.
         let few = effects-few in
-        after-effects (4096 + i) (lines-apart (4096 + i) (omega arith) (omega arith)) (λ m h e. omega arith) (λ e. omega arith))
-        (effects-placed 0 none-yet (x .table .effects) (set t 5378 (length (x .table .effects))) (length-set t 5378 (length (x .table .effects)) ∙ sized) (omega (arith, effects-few)))
+        after-effects (effect-lines + i) (lines-apart (effect-lines + i) (omega arith) (omega arith)) (λ m h e. omega arith) (λ e. omega arith))
+        (effects-placed 0 none-yet (x .table .effects) (set t effects-slot (length (x .table .effects))) (length-set t effects-slot (length (x .table .effects)) ∙ sized) (omega (arith, effects-few)))
 
     pub effects-are : effects-in s (request-noted x t) 0 (length (x .table .effects)) ≡ x .table .effects
     effects-are = effects-found s (request-noted x t) 0 (x .table .effects) placed-effects (λ e has. effect-good s (x .table) (whole .place) (whole .of-table) e has .0)
@@ -357,37 +357,37 @@ module _ (s : List ℕ) (bytes : (i : ℕ) → getD s i 0 < 256) (x : Request) (
     }
 
     -- THE LINES OF AN ACTION, over a table that held nothing.
-    module _ (blank : (j : ℕ) → j < 9480 → getD t j 0 ≡ 0) (a : ℕ) (small : a < 64) where
+    module _ (blank : (j : ℕ) → j < slots → getD t j 0 ≡ 0) (a : ℕ) (small : a < format .actions) where
       pub effects-ordered : In-order (request-noted x t) effect-lines a (map (λ (e : Effect). e .place) (effects-of (x .table) a))
       unfolding with-effects note-line action-in count-slot effects-of
       effects-ordered =
           order-same effect-lines with-effects (request-noted x t)
-          (λ i less. after-effects (4096 + i) (lines-apart (4096 + i) (omega arith) (omega arith)) (λ m h e. omega arith) (λ e. omega arith))
+          (λ i less. after-effects (effect-lines + i) (lines-apart (effect-lines + i) (omega arith) (omega arith)) (λ m h e. omega arith) (λ e. omega arith))
           a (map (λ (e : Effect). e .place) (effects-of (x .table) a)) small
           (section-ordered effects effect-lines (omega arith) (λ (e : Effect). e .place) (λ last k e u. refl) a small (x .table .effects) t sized effects-few
-          (effect-acts s (x .table) (whole .place) (whole .of-table)) (λ i less e. omega arith) (λ i less. blank (4096 + i) (omega arith)))
+          (effect-acts s (x .table) (whole .place) (whole .of-table)) (λ i less e. omega arith) (λ i less. blank (effect-lines + i) (omega arith)))
 
       pub runs-ordered : In-order (request-noted x t) run-lines a (map (λ (r : Executability). r .place) (executability-of (x .table) a))
       unfolding with-runs with-effects note-line action-in count-slot executability-of
       runs-ordered =
           order-same run-lines with-runs (request-noted x t)
-          (λ i less. after-runs (4672 + i) (lines-apart (4672 + i) (omega arith) (omega arith)))
+          (λ i less. after-runs (run-lines + i) (lines-apart (run-lines + i) (omega arith) (omega arith)))
           a (map (λ (r : Executability). r .place) (executability-of (x .table) a)) small
           (section-ordered executability run-lines (omega arith) (λ (r : Executability). r .place) (λ last k r u. refl) a small (x .table .executability) with-effects (effects-long sized) runs-few
           (run-good s (x .table) (whole .place) (whole .of-table)) (λ i less e. omega arith)
-          (λ i less. effects-kept t (4672 + i) (λ m h e. omega arith) (λ e. omega arith) ∙ blank (4672 + i) (omega arith)))
+          (λ i less. effects-kept t (run-lines + i) (λ m h e. omega arith) (λ e. omega arith) ∙ blank (run-lines + i) (omega arith)))
 
     -- 17 finds the actions that have an effect.
-    pub acting : ((j : ℕ) → j < 9480 → getD t j 0 ≡ 0) → Acting (request-noted x t) (x .table .effects)
+    pub acting : ((j : ℕ) → j < slots → getD t j 0 ≡ 0) → Acting (request-noted x t) (x .table .effects)
     unfolding effects-of
     acting blank = record {
       slot = λ a small. order-some (λ (e : Effect). e .place) (λ (e : Effect). eqb (e .action) a) (request-noted x t) effect-lines a (x .table .effects) (effects-ordered blank a small);
     }
 
 -- KNOWLEDGE LINES stand one after another, two bytes each.
-module _ (n m : ℕ) (s : List ℕ) (less : m ≤ 64) where
+module _ (n m : ℕ) (s : List ℕ) (less : m ≤ format .actions) where
   lines-here : (left p : ℕ) (ks : List Knowledge) (q : ℕ) → repeated (knowledge-at format n m s) left p ≡ got ks q → (start k : ℕ) → start + 2 * k ≡ p → p ≤ length s
-      → (knowledge-in s start k left ≡ ks) × (q ≡ p + 2 * left) × (q ≤ length s) × ((i : ℕ) → i < left → getD s (p + 2 * i) 0 < 64)
+      → (knowledge-in s start k left ≡ ks) × (q ≡ p + 2 * left) × (q ≤ length s) × ((i : ℕ) → i < left → getD s (p + 2 * i) 0 < format .actions)
   unfolding repeated knowledge-in knowledge-at knowledge-from
   lines-here zero p ks q e start k at room = let ends = got-place e in (got-same e, omega arith, omega arith, λ i h. absurd (omega arith))
   lines-here (suc left) p ks q e start k at room =
@@ -411,9 +411,9 @@ module _ (n m : ℕ) (s : List ℕ) (less : m ≤ 64) where
         small p a i (first .1) (omega (arith, first .3)) third (rest .3),
       )
     where
-      small : (p a i : ℕ) → getD s p 0 ≡ a → a < 64 → p + 2 ≡ i → ((h : ℕ) → h < left → getD s (i + 2 * h) 0 < 64) → (h : ℕ) → h < suc left → getD s (p + 2 * h) 0 < 64
+      small : (p a i : ℕ) → getD s p 0 ≡ a → a < format .actions → p + 2 ≡ i → ((h : ℕ) → h < left → getD s (i + 2 * h) 0 < format .actions) → (h : ℕ) → h < suc left → getD s (p + 2 * h) 0 < format .actions
       small p a i is few after later zero h = let same : p + 2 * zero ≡ p = omega arith in rw (same, is) few
-      small p a i is few after later (suc g) h = let same : i + 2 * g ≡ p + 2 * suc g = omega arith in subst (λ (z : ℕ). getD s z 0 < 64) same (later g (omega arith))
+      small p a i is few after later (suc g) h = let same : i + 2 * g ≡ p + 2 * suc g = omega arith in subst (λ (z : ℕ). getD s z 0 < format .actions) same (later g (omega arith))
 
   pub knowledge-stands : (p : ℕ) (ks : List Knowledge) (q : ℕ) → section-at (knowledge-at format n m s) s p ≡ got ks q
       → (knowledge-in s (q - 2 * length ks) 0 (length ks) ≡ ks) × Knowledge-here s (q - 2 * length ks) (length ks) × (2 * length ks ≤ q)

@@ -14,7 +14,7 @@ use mir.Syntax.{w64}
 use mir.Val.{Fits}
 use borrow.Author.Tests.{eqb-true, eq-eqb, ne-eqb, lt-ltb, le-ltb}
 use Rattle.meaning.specs.Tests.{both, either, fails, pick, some-of, each-of, Has}
-use Rattle.meaning.specs.Limits.{format}
+use Rattle.meaning.specs.Limits.{format, all-literals}
 use Rattle.meaning.specs.Literals.{complement, fluent-of, among, exclusive}
 use Rattle.meaning.specs.Requests.{Effect}
 use Rattle.meaning.specs.States.{State, possible, state-of}
@@ -27,10 +27,10 @@ use Rattle.meaning.proofs.ToldLaws.{Clear, state-known}
 use Rattle.reading.specs.declared.marks.Test.the-variants.{Possible}
 use Rattle.refusing.specs.declared.refusals.Found.the-variants.{Nowhere, At}
 use Rattle.reading.specs.Listed.{bytes-from, listed, List-here, holds-as}
-use Rattle.refusing.specs.InTable.{found, knowledge-from, knowledge-in, Knowledge-here, Acting, Mixed-found, effect-from, Effect-here, place-in, effects-in, effects-before, Effects-here, pair-at, Last, Linked, pair-linked}
-use Rattle.reading.specs.Noted.{effect-lines, first-line}
+use Rattle.refusing.specs.InTable.{found, knowledge-from, knowledge-in, Knowledge-here, Acting, Mixed-found, effect-from, Effect-here, place-in, effects-in, effects-before, Effects-here, pair-at, Last, Linked, pair-linked, linked-slots}
+use Rattle.reading.specs.Noted.{effect-lines, first-line, line-numbers, pairs}
 
-pub pair-got : (s : List ℕ) (p x y : ℕ) → x ≡ getD s p 0 → y ≡ getD s (p + 1) 0 → 64 * x + y / 2 ≡ pair-at s p
+pub pair-got : (s : List ℕ) (p x y : ℕ) → x ≡ getD s p 0 → y ≡ getD s (p + 1) 0 → format .fluents * x + y / 2 ≡ pair-at s p
 unfolding pair-at
 pair-got s p x y ex ey = rw (ex, ey)
 
@@ -49,7 +49,7 @@ body-clear : (s : List ℕ) (p : ℕ) → Effect-here s p → Clear format (list
 unfolding listed exclusive among
 body-clear s p here =
     record {
-      within = λ l h. has-below s 128 (getD s (p + 2) 0) (p + 2 + 1) (here .body .below) l h;
+      within = λ l h. has-below s all-literals (getD s (p + 2) 0) (p + 2 + 1) (here .body .below) l h;
       consistent = λ l h c. clash (has-some _ (listed s (p + 2)) l h (has-some (eqb (complement l)) (listed s (p + 2)) (complement l) c (eq-eqb (complement l) (complement l) refl))) (here .apart);
     }
 
@@ -155,7 +155,7 @@ module _ (s t : List ℕ) (k : ℕ) where
     pub has : 0 < j → pair-at s (place-in t j) ≡ pair-at s New
     pub rest : Among k ≡ Among j
 
-pair-most : (s : List ℕ) (p pair : ℕ) → Effect-here s p → pair ≡ pair-at s p → pair < 4096
+pair-most : (s : List ℕ) (p pair : ℕ) → Effect-here s p → pair ≡ pair-at s p → pair < pairs
 unfolding pair-at
 pair-most s p pair here e = omega (arith, e, here .action, here .literal)
 
@@ -167,20 +167,20 @@ module _ (s t same : List ℕ) (k : ℕ) (here : Effects-here s t (k + 1)) (link
     pub new-fit : Effect-here s p
     new-fit = subst (Effect-here s) (sym at) new-here
 
-    pub body-here : List-here 128 s (p + 2)
+    pub body-here : List-here all-literals s (p + 2)
     body-here = new-fit .body
 
     pub body-fits : Fits w64 (length s) → Fits w64 (p + 2)
     body-fits room = let ends = new-fit .body .ends in let most = room .fits in record { fits = omega arith }
 
     module _ (pair : ℕ) (is : pair ≡ pair-at s p) where
-      pub last-there : 256 + pair < 4352
+      pub last-there : line-numbers + pair < linked-slots
       last-there = let most = pair-most s p pair new-fit is in omega arith
 
-      pub last-fits : Fits w64 (256 + pair)
+      pub last-fits : Fits w64 (line-numbers + pair)
       last-fits = let most = pair-most s p pair new-fit is in record { fits = omega arith }
 
-      module _ (j : ℕ) (read : j ≡ getD same (256 + pair) 0) where
+      module _ (j : ℕ) (read : j ≡ getD same (line-numbers + pair) 0) where
         last-is : Last s t k (pair-at s (New s t k)) j
         last-is = subst (λ (x : ℕ). Last s t k x j) (is ∙ ap (pair-at s) at) (subst (Last s t k pair) (sym read) (linked .last pair (pair-most s p pair new-fit is)))
 
@@ -191,10 +191,10 @@ module _ (s t same : List ℕ) (k : ℕ) (here : Effects-here s t (k + 1)) (link
         none-sought e = sym (sought-starts .rest ∙ among-none s t k j (omega arith))
 
   module _ (j : ℕ) (sought : Sought s t k j) where
-    pub sought-below : k < 255 → j < 256
+    pub sought-below : k < 255 → j < line-numbers
     sought-below h = let most = sought .most in omega arith
 
-    pub sought-there : k < 255 → j < 4352
+    pub sought-there : k < 255 → j < linked-slots
     sought-there h = let most = sought .most in omega arith
 
     pub sought-done : j ≤ 0 → false ≡ some-of (contradictory (effect-from s (place-in t (k + 1)))) (effects-before s t k)
@@ -243,34 +243,34 @@ module _ (s t same : List ℕ) (k : ℕ) (here : Effects-here s t (k + 1)) (link
               }
 
 -- ALL THE CHAINS, first empty.
-pub linked-none : (s t : List ℕ) → Linked s t (replicate 4352 0) 0
+pub linked-none : (s t : List ℕ) → Linked s t (replicate linked-slots 0) 0
 linked-none s t =
     record {
-      sized = length-replicate {A = ℕ} 4352 0;
+      sized = length-replicate {A = ℕ} linked-slots 0;
       line = λ i h. absurd (omega arith);
-      last = λ pair h. subst (Last s t 0 pair) (sym (getD-replicate {A = ℕ} 4352 (256 + pair) 0 0 (omega arith))) (record { most = omega arith; has = λ more. absurd (omega arith); none = λ m lo hi _. absurd (omega arith) });
+      last = λ pair h. subst (Last s t 0 pair) (sym (getD-replicate {A = ℕ} linked-slots (line-numbers + pair) 0 0 (omega arith))) (record { most = omega arith; has = λ more. absurd (omega arith); none = λ m lo hi _. absurd (omega arith) });
     }
 
 -- One more effect is linked.
-module _ (s t same : List ℕ) (k pair : ℕ) (room : k < 255) (below : pair < 4096) (linked : Linked s t same k) (is : pair ≡ pair-at s (place-in t (k + 1))) where
+module _ (s t same : List ℕ) (k pair : ℕ) (room : k < 255) (below : pair < pairs) (linked : Linked s t same k) (is : pair ≡ pair-at s (place-in t (k + 1))) where
   abbrev After : List ℕ
-  After = set (set same (k + 1) (getD same (256 + pair) 0)) (256 + pair) (k + 1)
+  After = set (set same (k + 1) (getD same (line-numbers + pair) 0)) (line-numbers + pair) (k + 1)
 
-  after-sized : length After ≡ 4352
-  after-sized = length-set (set same (k + 1) (getD same (256 + pair) 0)) (256 + pair) (k + 1) ∙ length-set same (k + 1) (getD same (256 + pair) 0) ∙ linked .sized
+  after-sized : length After ≡ linked-slots
+  after-sized = length-set (set same (k + 1) (getD same (line-numbers + pair) 0)) (line-numbers + pair) (k + 1) ∙ length-set same (k + 1) (getD same (line-numbers + pair) 0) ∙ linked .sized
 
-  after-new : getD After (k + 1) 0 ≡ getD same (256 + pair) 0
+  after-new : getD After (k + 1) 0 ≡ getD same (line-numbers + pair) 0
   after-new =
-      getD-set-other (set same (k + 1) (getD same (256 + pair) 0)) (256 + pair) (k + 1) (k + 1) 0 (λ q. omega arith)
-      ∙ getD-set-same same (k + 1) (getD same (256 + pair) 0) 0 (omega (arith, linked .sized))
+      getD-set-other (set same (k + 1) (getD same (line-numbers + pair) 0)) (line-numbers + pair) (k + 1) (k + 1) 0 (λ q. omega arith)
+      ∙ getD-set-same same (k + 1) (getD same (line-numbers + pair) 0) 0 (omega (arith, linked .sized))
 
-  after-last : getD After (256 + pair) 0 ≡ k + 1
-  after-last = getD-set-same (set same (k + 1) (getD same (256 + pair) 0)) (256 + pair) (k + 1) 0 (omega (arith, length-set same (k + 1) (getD same (256 + pair) 0), linked .sized))
+  after-last : getD After (line-numbers + pair) 0 ≡ k + 1
+  after-last = getD-set-same (set same (k + 1) (getD same (line-numbers + pair) 0)) (line-numbers + pair) (k + 1) 0 (omega (arith, length-set same (k + 1) (getD same (line-numbers + pair) 0), linked .sized))
 
-  after-other : (i : ℕ) → (i ≡ 256 + pair → ⊥) → (i ≡ k + 1 → ⊥) → getD After i 0 ≡ getD same i 0
+  after-other : (i : ℕ) → (i ≡ line-numbers + pair → ⊥) → (i ≡ k + 1 → ⊥) → getD After i 0 ≡ getD same i 0
   after-other i apart new =
-      getD-set-other (set same (k + 1) (getD same (256 + pair) 0)) (256 + pair) i (k + 1) 0 apart
-      ∙ getD-set-other same (k + 1) i (getD same (256 + pair) 0) 0 new
+      getD-set-other (set same (k + 1) (getD same (line-numbers + pair) 0)) (line-numbers + pair) i (k + 1) 0 apart
+      ∙ getD-set-other same (k + 1) i (getD same (line-numbers + pair) 0) 0 new
 
   after-line : (i : ℕ) → i < k + 1 → Last s t i (pair-at s (place-in t (i + 1))) (getD After (i + 1) 0)
   after-line i h =
@@ -279,13 +279,13 @@ module _ (s t same : List ℕ) (k pair : ℕ) (room : k < 255) (below : pair < 4
         | no d ↦ subst (Last s t i (pair-at s (place-in t (i + 1)))) (sym (after-other (i + 1) (λ q. omega arith) (λ q. omega arith))) (linked .line i (omega arith))
       ]
 
-  after-pair : (x : ℕ) → x < 4096 → Last s t (k + 1) x (getD After (256 + x) 0)
+  after-pair : (x : ℕ) → x < effect-lines → Last s t (k + 1) x (getD After (line-numbers + x) 0)
   after-pair x h =
       elim (ℕ-discrete x pair) [
         | yes e ↦ rw e (subst (Last s t (k + 1) pair) (sym after-last) (record { most = omega arith; has = λ _. sym is; none = λ m lo hi _. omega arith }))
         | no d ↦
             let old = linked .last x h in
-            subst (Last s t (k + 1) x) (sym (after-other (256 + x) (λ q. omega arith) (λ q. omega arith))) (
+            subst (Last s t (k + 1) x) (sym (after-other (line-numbers + x) (λ q. omega arith) (λ q. omega arith))) (
             record {
               most = let most = old .most in omega arith;
               has = old .has;
@@ -319,7 +319,7 @@ module _ (s t : List ℕ) (count k : ℕ) (most : count ≤ 255) (here : Effects
     line-here = subst (Effect-here s) (sym at) (here .line k more)
 
     module _ (pair : ℕ) (paired : pair ≡ pair-at s p) where
-      pub line-pair : pair < 4096
+      pub line-pair : pair < pairs
       line-pair = pair-most s p pair line-here paired
 
       pub linked-next : (same same′ : List ℕ) → Linked s t same k → same′ ≡ pair-linked pair (k + 1) same → Linked s t same′ (k + 1)
@@ -362,8 +362,8 @@ module _ (s : List ℕ) (start count : ℕ) (here : Knowledge-here s start count
   line-there = let ends = here .ends in omega arith
 
   module _ (a : ℕ) (read : a ≡ getD s (start + 2 * k) 0) where
-    pub acts : a < 64
-    acts = subst (λ (x : ℕ). x < 64) (sym read) (here .acts k more)
+    pub acts : a < format .actions
+    acts = subst (λ (x : ℕ). x < format .actions) (sym read) (here .acts k more)
 
     module _ (t : List ℕ) (looked : Looked s t start count k) (first : ℕ) (got : first ≡ first-line t effect-lines a) where
       look-is : (es : List Effect) → Acting t es → mixed-in es (knowledge-in s start 0 count) ≡ pick (ltb 0 first) (λ _. Refusals.Found.at (start + 2 * k)) (λ _. mixed-in es (knowledge-in s start (k + 1) (count - (k + 1))))

@@ -17,7 +17,7 @@ use Rattle.bytes.specs.declared.lists.Passed.the-variants.{To, Fault as Stop}
 use Rattle.refusing.specs.declared.refusals.Found.{Found}
 use Rattle.refusing.specs.declared.refusals.Found.the-variants.{Nowhere, At}
 use Rattle.bytes.specs.Read.{passed}
-use Rattle.reading.specs.Noted.{noting, outcome}
+use Rattle.reading.specs.Noted.{noting, outcome, plan-slot, items-slot, slots, effects-slot, knowledge-slot}
 use Rattle.reading.specs.Planned.{items-of}
 use Rattle.reading.specs.Requested.{request-noted}
 use Rattle.refusing.specs.InTable.{found, effects-in, Effects-here, knowledge-in, Knowledge-here, Acting, Mixed-found}
@@ -52,13 +52,13 @@ module _ (f : Refusals.Found) (r : Found) (is : r ≡ found f) where
   found-at p e = sym (back-found f) ∙ ap back (sym is ∙ e)
 
 -- A TABLE that held nothing.
-pub blank-long : length blank ≡ 9480
+pub blank-long : length blank ≡ slots
 unfolding blank
-blank-long = let none : ℕ = 0 in length-replicate 9480 none
+blank-long = let none : ℕ = 0 in length-replicate slots none
 
-pub blank-slot : (i : ℕ) → i < 9480 → getD blank i 0 ≡ 0
+pub blank-slot : (i : ℕ) → i < slots → getD blank i 0 ≡ 0
 unfolding blank
-blank-slot i h = let none : ℕ = 0 in getD-replicate 9480 i none none h
+blank-slot i h = let none : ℕ = 0 in getD-replicate slots i none none h
 
 module _ (s : List ℕ) (bytes : (i : ℕ) → Fits w8 (getD s i 0)) (t : List ℕ) (e : ℕ) (here : Read-here s t e) where
   small : (i : ℕ) → getD s i 0 < 256
@@ -71,9 +71,9 @@ module _ (s : List ℕ) (bytes : (i : ℕ) → Fits w8 (getD s i 0)) (t : List �
   slot-is j count is = is ∙ ap (λ (u : List ℕ). getD u j 0) (here .noted)
 
   -- 16.
-  module _ (count : ℕ) (is : count ≡ getD t 5378 0) where
+  module _ (count : ℕ) (is : count ≡ getD t effects-slot 0) where
     count-16 : count ≡ length (here .request .table .effects)
-    count-16 = slot-is 5378 count is ∙ effects-counted s small (here .request) whole blank blank-long
+    count-16 = slot-is effects-slot count is ∙ effects-counted s small (here .request) whole blank blank-long
 
     pub few-16 : count ≤ 255
     few-16 = let few = effects-few s small (here .request) whole blank in let c = count-16 in omega arith
@@ -100,12 +100,12 @@ module _ (s : List ℕ) (bytes : (i : ℕ) → Fits w8 (getD s i 0)) (t : List �
       past-16 r g h = h ∙ ap passed (rw (here .reads, found-none (contradiction-in [] (here .request .table .effects)) f sought-16 g))
 
   -- 17.
-  module _ (count plan : ℕ) (is : count ≡ getD t 5380 0) (at-plan : plan ≡ getD t 5376 0) where
+  module _ (count plan : ℕ) (is : count ≡ getD t knowledge-slot 0) (at-plan : plan ≡ getD t plan-slot 0) where
     count-17 : count ≡ length (here .request .table .knowledge)
-    count-17 = slot-is 5380 count is ∙ knowledge-counted s small (here .request) whole blank blank-long
+    count-17 = slot-is knowledge-slot count is ∙ knowledge-counted s small (here .request) whole blank blank-long
 
     plan-17 : plan ≡ whole .place
-    plan-17 = slot-is 5376 plan at-plan ∙ plan-noted-at s small (here .request) whole blank blank-long
+    plan-17 = slot-is plan-slot plan at-plan ∙ plan-noted-at s small (here .request) whole blank blank-long
 
     lines-17 : (knowledge-in s (plan - 2 * count) 0 count ≡ here .request .table .knowledge) × Knowledge-here s (plan - 2 * count) count × (2 * count ≤ plan)
     lines-17 =
@@ -139,9 +139,9 @@ module _ (s : List ℕ) (bytes : (i : ℕ) → Fits w8 (getD s i 0)) (t : List �
       past-17-too r g h = h ∙ ap passed (rw (here .reads, found-none (mixed-in (here .request .table .effects) (here .request .table .knowledge)) f sought-17 g))
 
   -- 18.
-  module _ (count : ℕ) (is : count ≡ getD t 5377 0) where
+  module _ (count : ℕ) (is : count ≡ getD t items-slot 0) where
     count-18 : items-of (here .request .plan) ≡ count
-    count-18 = sym (slot-is 5377 count is ∙ items-noted s small (here .request) whole blank blank-long)
+    count-18 = sym (slot-is items-slot count is ∙ items-noted s small (here .request) whole blank blank-long)
 
     held-18 : Plan-held s t (here .request .plan)
     held-18 = subst (λ (u : List ℕ). Plan-held s u (here .request .plan)) (sym (here .noted)) (request-held s small (here .request) whole blank blank-long)

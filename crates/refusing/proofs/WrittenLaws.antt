@@ -5,7 +5,7 @@ use mathlib.Core.Path.{_≡_, refl, sym, _∙_, ap, subst}
 use mathlib.Core.List.{List}
 use lib.ListN.{length, getD}
 use borrow.Author.Tests.{leb-false, eqb-true}
-use Rattle.meaning.specs.Limits.{format}
+use Rattle.meaning.specs.Limits.{format, all-literals}
 use Rattle.meaning.specs.Refusals.{overlap-in}
 use Rattle.meaning.specs.Requests.{Sequence}
 use Rattle.meaning.specs.Reading.{got, Met, byte-at, two-bytes-at, literals, bound-of, body-at, plan-at}
@@ -23,6 +23,7 @@ use Rattle.reading.proofs.SectionLaws.{byte-got, count-got}
 use Rattle.refusing.proofs.HereLaws.{list-here, list-apart}
 use Rattle.reading.proofs.PlanSizes.{body-through, sequence-read}
 use Rattle.reading.proofs.NotingLaws.{with-items, met-value}
+use Rattle.reading.specs.Noted.{effect-lines}
 use Rattle.refusing.proofs.PlanOverlaps.{listed-length}
 use Rattle.refusing.proofs.PlanKept.{plan-kept}
 
@@ -54,10 +55,10 @@ module _ (n m : ℕ) (s : List ℕ) where
     item = λ deep p met x e. Item-written s (x .value);
     items = λ deep left p met x e. Written s (x .value) × (own-items (x .value) ≡ left);
     sequence = λ deep p met x e. Sequence-got s p (x .value);
-    branches = λ deep left p met x e. met ≤ 1024 → Branches-written s p (x .value) × (branches-in (x .value) ≡ left);
+    branches = λ deep left p met x e. met ≤ format .items → Branches-written s p (x .value) × (branches-in (x .value) ≡ left);
   }
 
-  module _ (small : n ≤ 64) (few : m ≤ 64) where
+  module _ (small : n ≤ format .fluents) (few : m ≤ format .actions) where
     branch-written : (p : ℕ) (c : List ℕ) (q : ℕ) (b : Sequence ℕ) → body-at format n s p ≡ got c q → Sequence-got s q b → Branch-written s p c b
     unfolding body-at bound-of sequence-place
     branch-written p c q b read one =
@@ -66,7 +67,7 @@ module _ (n m : ℕ) (s : List ℕ) where
         let size : getD s p 0 ≡ length c = sym (listed-length s p) ∙ ap length (list .0) in
         let place : q ≡ p + 1 + getD s p 0 = omega arith in
         record {
-          here = list .1 128 (omega (arith, small));
+          here = list .1 all-literals (omega (arith, small));
           condition = list .0;
           clear = list-apart n 16 s p c q read;
           there = subst (λ (x : ℕ). x + 1 < length s) place (one .there);
@@ -81,7 +82,7 @@ module _ (n m : ℕ) (s : List ℕ) where
           let below = leb-false m x within in
           record { there = one .0; byte = one .1; below = omega (arith, below, few) };
       a-branching = λ deep p met x q c r bs e read met-few opens counted all.
-          let below = leb-false 1024 met met-few in
+          let below = leb-false (format .items) met met-few in
           let count = count-got 1 8 s (p + 1) c r counted in
           let rest = all (omega (arith, below)) in
           let after = count .2 in
@@ -102,7 +103,7 @@ module _ (n m : ℕ) (s : List ℕ) where
     }
 
     -- THE PLAN.
-    module _ (p : ℕ) (t : List ℕ) (x : Met (Sequence ℕ)) (e : ℕ) (room : 4096 ≤ length t) (read : plan-at format n m s p ≡ got x e) where
+    module _ (p : ℕ) (t : List ℕ) (x : Met (Sequence ℕ)) (e : ℕ) (room : effect-lines ≤ length t) (read : plan-at format n m s p ≡ got x e) where
       pub plan-items : items-of (x .value) ≡ x .items
       unfolding plan-at
       plan-items = let counted = sequence-read n m s 8 p 0 (omega arith) .holds x e read .counted in omega arith
@@ -112,7 +113,7 @@ module _ (n m : ℕ) (s : List ℕ) where
       plan-held =
           let all = sequence-read n m s 8 p 0 (omega arith) .holds x e read in
           let counted = all .counted in let most = all .most in
-          let small : items-of (x .value) ≤ 1024 = omega arith in
+          let small : items-of (x .value) ≤ (format .items) = omega arith in
           record {
             few = small;
             written = plan-on format n m s plan-there written-passed p .holds x e read .written;
@@ -124,7 +125,7 @@ module _ (n m : ℕ) (s : List ℕ) where
       plan-read u is = record { plan = x .value; held = rw is plan-held; items = plan-items }
 
     -- What the code that reads a plan answers, and what is then found.
-    module _ (p : ℕ) (t u : List ℕ) (r : Read) (count e : ℕ) (room : 4096 ≤ length t) (left : outcome-met r u ≡ noting-met (plan-noted p t) (plan-at format n m s p)) (is : r ≡ Value count e) where
+    module _ (p : ℕ) (t u : List ℕ) (r : Read) (count e : ℕ) (room : effect-lines ≤ length t) (left : outcome-met r u ≡ noting-met (plan-noted p t) (plan-at format n m s p)) (is : r ≡ Value count e) where
       pub plan-left : Some-plan s u count
       plan-left =
           let w = met-value (plan-noted p t) (plan-at format n m s p) r u count e left is in

@@ -6,7 +6,7 @@ use mathlib.Core.List.{List, [], _∷_}
 use lib.ListN.{length, getD}
 use lib.Dec.{eqb}
 use Rattle.meaning.specs.Tests.{both, fails, pick, each-of}
-use Rattle.meaning.specs.Limits.{format}
+use Rattle.meaning.specs.Limits.{format, all-literals}
 use Rattle.meaning.specs.States.{State, state-of}
 use Rattle.meaning.specs.Refusals.{Found, nowhere, at}
 use Rattle.reading.specs.Noted.{item-place, branch-place, branch-item}
@@ -53,9 +53,9 @@ first-overlap s t (suc left) i = pick (item-apart s t i (getD t (item-place + i)
 
 -- WHAT STANDS THERE.
 pub record Branch-here (s : List ℕ) (p i : ℕ) : Type 0 where
-  pub condition : List-here 128 s p
+  pub condition : List-here all-literals s p
   pub counted : sequence-place s p + 1 < length s
-  pub few : i ≤ 1024
+  pub few : i ≤ format .items
 
 unfoldable pub Branches-here : (s t : List ℕ) (left p i : ℕ) → Type 0
 Branches-here s t zero p i = Unit {0}
@@ -67,9 +67,9 @@ pub record Branching-here (s t : List ℕ) (i p : ℕ) : Type 0 where
 
 pub record Item-here (s t : List ℕ) (i p : ℕ) : Type 0 where
   pub there : p < length s
-  pub few : i < 1024
+  pub few : i < format .items
   pub branches : getD s p 0 ≡ 255 → Branching-here s t i p
 
 pub record Items-here (s t : List ℕ) (count : ℕ) : Type 0 where
-  pub few : count ≤ 1024
+  pub few : count ≤ format .items
   pub each : (i : ℕ) → i < count → Item-here s t i (getD t (item-place + i) 0)

@@ -4,6 +4,7 @@ use mathlib.Core.Path.{_≡_}
 use mathlib.Core.Bool.{false}
 use mathlib.Core.List.{List}
 use lib.ListN.{length, getD}
+use Rattle.meaning.specs.Limits.{format, all-literals}
 use Rattle.meaning.specs.Literals.{exclusive}
 use Rattle.meaning.specs.Refusals.{overlap-in}
 use Rattle.meaning.specs.Requests.{Sequence, done, item, Item, act, branching, Branches, none, branch}
@@ -37,7 +38,7 @@ pub record Opened (s : List ℕ) (p : ℕ) (bs : Branches ℕ) : Type 0 where
 
 -- A branch is a condition, in which no literal stands beside its complement, and a sequence's count (FORMAT 2.25, 2.26).
 pub record Branch-written (s : List ℕ) (p : ℕ) (c : List ℕ) (b : Sequence ℕ) : Type 0 where
-  pub here : List-here 128 s p
+  pub here : List-here all-literals s p
   pub condition : listed s p ≡ c
   pub clear : exclusive c c ≡ false
   pub there : sequence-place s p + 1 < length s
@@ -77,7 +78,7 @@ unfoldable mutual
 
 -- A plan, from its first item on.
 pub record Plan-held (s t : List ℕ) (b : Sequence ℕ) : Type 0 where
-  pub few : items-of b ≤ 1024
+  pub few : items-of b ≤ format .items
   pub written : Written s b
   pub kept : Kept t 0 b
 

@@ -9,10 +9,11 @@ use Rattle.meaning.specs.Requests.{Request}
 use Rattle.meaning.specs.Reading.{Got, got, next, read-request}
 use Rattle.meaning.specs.Refusals.{mixed-in, overlap-in, refuse}
 use Rattle.reading.specs.Requested.{request-noted}
+use Rattle.reading.specs.Noted.{slots}
 
 -- A table that holds nothing.
 unfoldable pub blank : List ℕ
-blank = replicate 9480 0
+blank = replicate slots 0
 
 -- A request was read up to e, into a table that held nothing before.
 pub record Read-here (s t : List ℕ) (e : ℕ) : Type 0 where

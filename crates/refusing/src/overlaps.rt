@@ -2,6 +2,7 @@ ghost use mathlib.Core.Path.{_≡_};
 ghost use Prim.Native.Nat.{_+_, _<_};
 ghost use lib.ListN.{length};
 ghost use Rattle.meaning.specs.Tests.{each-of};
+ghost use Rattle.meaning.specs.Limits.{all-literals};
 ghost use Rattle.reading.specs.Listed.{List-here};
 ghost use Rattle.refusing.specs.Plans.{Some-plan, Overlap-found};
 ghost use Rattle.refusing.specs.InTable.{found};
@@ -9,6 +10,7 @@ ghost use Rattle.refusing.specs.Branchings.{sequence-place, no-item, pla
 use super::refusals::Found;
 use bytes::bytes::wide;
 use bytes::limits;
+use reading::marks::Marks;
 use reading::marks::Test;
 use reading::marks::each_holds;
 use reading::marks::state_of;
@@ -18,7 +20,7 @@ use reading::table::get;
 
 // Where a sequence's count of items stands, after the list at p: a branch's condition, or a line's X.
 pub fn sequence_of(s: &[u8], p: usize) -> usize
-    requires { ⌜ List-here 128 (now s) p ⌝ }
+    requires { ⌜ List-here all-literals (now s) p ⌝ }
     ensures { λ r. ⌜ r ≡ sequence-place (now (s .entry)) p ⌝ }
 {
     let first = p + 1;
@@ -64,7 +66,7 @@ pub fn next_item(s: &[u8], t: &Table, p: usize, i: usize) -> usize
 }
 
 // The state rules out the conditions of so many branches.
-fn excludes(s: &[u8], t: &Table, held: &[u8; 64], count: usize, place: usize, item: usize) -> bool
+fn excludes(s: &[u8], t: &Table, held: &Marks, count: usize, place: usize, item: usize) -> bool
     requires { ⌜ Branches-here (now s) (now t) count place item ⌝ }
     ensures { λ r. ⌜ r ≡ each-of (rules-out (now (held .entry))) (conditions-from (now (s .entry)) (now (t .entry)) count place item) ⌝ }
 {

@@ -6,8 +6,11 @@ ghost use Rattle.meaning.specs.Refusals.{contradictory, contradiction-in};
 ghost use Rattle.meaning.specs.States.{state-of};
 ghost use mathlib.Core.List.{[]};
 ghost use Rattle.reading.specs.Listed.{listed};
+ghost use Rattle.reading.specs.Noted.{line-numbers, pairs};
 ghost use Rattle.refusing.specs.InTable.{found, Knowledge-here, Mixed-found, effect-from, Effect-here, place-in, effects-in, effects-before, Effects-here, pair-at, Linked, pair-linked};
 use bytes::bytes::wide;
+use bytes::limits;
+use reading::marks::Marks;
 use reading::marks::Test;
 use reading::marks::each_holds;
 use reading::marks::state_of;
@@ -22,28 +25,33 @@ pub enum Found {
     At(usize),
 }
 
+// For each effect, and for each pair of an action and a fluent, the last effect before it with the same pair.
+const LINKED_SLOTS: usize = limits::LINE_NUMBERS + table::PAIRS;
+
+type Links = [u8; LINKED_SLOTS];
+
 // The action and the fluent of the effect at p, as one number.
 fn pair_at(s: &[u8], p: usize) -> usize
     requires { ⌜ Effect-here (now s) p ⌝ }
     ensures { λ r. ⌜ r ≡ pair-at (now (s .entry)) p ⌝ }
 {
     let q = p + 1;
-    64 * wide(s[p]) + wide(s[q]) / 2
+    limits::FLUENTS * wide(s[p]) + wide(s[q]) / 2
 }
 
 // Effect k goes in front of the effects with its pair.
-fn link_pair(same: &mut [u8; 4352], pair: usize, k: usize)
-    requires { ⌜ pair < 4096 ⌝ }
-    requires { ⌜ k < 256 ⌝ }
+fn link_pair(same: &mut Links, pair: usize, k: usize)
+    requires { ⌜ pair < pairs ⌝ }
+    requires { ⌜ k < line-numbers ⌝ }
     ensures { λ _. ⌜ now (same .exit) ≡ pair-linked pair k (now (same .entry)) ⌝ }
 {
-    let last = 256 + pair;
+    let last = limits::LINE_NUMBERS + pair;
     same[k] = same[last];
     same[last] = k as u8;
 }
 
 // The effect at p, whose body the state holds, contradicts the one at q, which has its pair.
-fn contradicts(s: &[u8], held: &[u8; 64], p: usize, q: usize) -> bool
+fn contradicts(s: &[u8], held: &Marks, p: usize, q: usize) -> bool
     requires { ⌜ Effect-here (now s) p ⌝ }
     requires { ⌜ Effect-here (now s) q ⌝ }
     requires { ⌜ now held ≡ state-of format (listed (now s) (p + 2)) ⌝ }
@@ -60,7 +68,7 @@ fn contradicts(s: &[u8], held: &[u8; 64], p: usize, q: usize) -> bool
 }
 
 // Effect k + 1 contradicts one of the first k, sought among those with its pair.
-fn contradicted(s: &[u8], t: &Table, same: &[u8; 4352], k: usize) -> bool
+fn contradicted(s: &[u8], t: &Table, same: &Links, k: usize) -> bool
     requires { ⌜ k < 255 ⌝ }
     requires { ⌜ Effects-here (now s) (now t) (k + 1) ⌝ }
     requires { ⌜ Linked (now s) (now t) (now same) k ⌝ }
@@ -69,7 +77,7 @@ fn contradicted(s: &[u8], t: &Table, same: &[u8; 4352], k: usize) -> bool
     let number = k + 1;
     let p = line_place(t, table::EFFECTS, number);
     let pair = pair_at(s, p);
-    let last = 256 + pair;
+    let last = limits::LINE_NUMBERS + pair;
     let mut j = wide(same[last]);
     if j == 0 {
         return false;
@@ -93,7 +101,7 @@ pub fn contradiction(s: &[u8], t: &Table, count: usize) -> Found
     requires { ⌜ Effects-here (now s) (now t) count ⌝ }
     ensures { λ r. ⌜ r ≡ found (contradiction-in [] (effects-in (now (s .entry)) (now (t .entry)) 0 count)) ⌝ }
 {
-    let mut same = [0u8; 4352];
+    let mut same = [0u8; LINKED_SLOTS];
     let mut k = 0;
     while k < count {
         let met = contradicted(s, t, &same, k);
