@@ -1,10 +1,11 @@
 ghost use mathlib.Core.Path.{_≡_};
 ghost use Prim.Native.Nat.{_+_, _≤_, _<_};
 ghost use lib.ListN.{length, getD};
+ghost use Rattle.meaning.specs.Limits.{format, all-literals};
 ghost use Rattle.bytes.specs.Read.{passed};
 ghost use Rattle.reading.specs.Noted.{noting, outcome};
 ghost use Rattle.reading.specs.Listed.{List-here};
-ghost use Rattle.deriving.specs.DerivationRead.{derivation-noted, settled-derivation};
+ghost use Rattle.deriving.specs.DerivationRead.{derivation-noted, settled-derivation, plan-ends-slot, places-slots};
 ghost use Rattle.deriving.specs.Derived.{Some-lines, Line-found, Lines-found};
 use super::derivations;
 use super::derivations::Places;
@@ -24,7 +25,7 @@ use refusing::refusals::Found;
 
 // The place in slot k, which is that of line k.
 pub fn place_of(places: &Places, k: usize) -> usize
-    requires { ⌜ k < 2049 ⌝ }
+    requires { ⌜ k < places-slots ⌝ }
     ensures { λ r. ⌜ r ≡ getD (now (places .entry)) k 0 ⌝ }
 {
     widened(places[k])
@@ -32,8 +33,8 @@ pub fn place_of(places: &Places, k: usize) -> usize
 
 // Where the plan of line k ends.
 pub fn end_of(places: &Places, k: usize) -> usize
-    requires { ⌜ k < 1024 ⌝ }
-    ensures { λ r. ⌜ r ≡ getD (now (places .entry)) (1024 + k) 0 ⌝ }
+    requires { ⌜ k < format .lines ⌝ }
+    ensures { λ r. ⌜ r ≡ getD (now (places .entry)) (plan-ends-slot + k) 0 ⌝ }
 {
     let slot = derivations::PLAN_ENDS + k;
     place_of(places, slot)
@@ -41,10 +42,10 @@ pub fn end_of(places: &Places, k: usize) -> usize
 
 // 18 in the plan of the line at p. The plan is read again, without a fault, into a table that is of no use afterwards.
 fn overlap_in_line(n: usize, m: usize, s: &[u8], p: usize, t: &mut Table) -> Found
-    requires { ⌜ n ≤ 64 ⌝ }
-    requires { ⌜ m ≤ 64 ⌝ }
-    requires { ⌜ length (now s) ≤ 32768 ⌝ }
-    requires { ⌜ List-here 128 (now s) p ⌝ }
+    requires { ⌜ n ≤ format .fluents ⌝ }
+    requires { ⌜ m ≤ format .actions ⌝ }
+    requires { ⌜ length (now s) ≤ format .derivation ⌝ }
+    requires { ⌜ List-here all-literals (now s) p ⌝ }
     ensures { λ r. ⌜ Line-found n m (now (s .entry)) p r ⌝ }
 {
     let plan = sequence_of(s, p);
@@ -64,10 +65,10 @@ fn overlap_in_lines(
     places: &Places,
     count: usize,
 ) -> Found
-    requires { ⌜ n ≤ 64 ⌝ }
-    requires { ⌜ m ≤ 64 ⌝ }
-    requires { ⌜ length (now s) ≤ 32768 ⌝ }
-    requires { ⌜ count ≤ 1024 ⌝ }
+    requires { ⌜ n ≤ format .fluents ⌝ }
+    requires { ⌜ m ≤ format .actions ⌝ }
+    requires { ⌜ length (now s) ≤ format .derivation ⌝ }
+    requires { ⌜ count ≤ format .lines ⌝ }
     requires { ⌜ Some-lines n m (now s) (now places) count ⌝ }
     ensures { λ r. ⌜ Lines-found n m (now (s .entry)) (now (places .entry)) count r ⌝ }
 {
@@ -95,8 +96,8 @@ pub fn settle_derivation(
     t: &mut Table,
     places: &mut Places,
 ) -> Passed
-    requires { ⌜ n ≤ 64 ⌝ }
-    requires { ⌜ m ≤ 64 ⌝ }
+    requires { ⌜ n ≤ format .fluents ⌝ }
+    requires { ⌜ m ≤ format .actions ⌝ }
     ensures { λ r. ⌜ outcome r (now (places .exit)) ≡ noting derivation-noted (settled-derivation layout n m (now (s .entry))) (now (places .entry)) ⌝ }
 {
     derivations::sized(places);

@@ -150,9 +150,9 @@ module _ {M : Type 1} (𝓤 : URA M) (H : Heap 𝓤) (A : Atoms 𝓤) (W : Given
   abbrev to : LinesFrom 𝓤 H A mem run .Ghost
   to = ((κs, qs, tt, args, passed), tt)
 
-  module _ (few : n ≤ 64) (lines-few : c ≤ 1024) (room : length (d .src .now) ≤ 32768) where
+  module _ (few : n ≤ format .fluents) (lines-few : c ≤ format .lines) (room : length (d .src .now) ≤ format .derivation) where
     asked : ent 𝓤 (onEntry 𝓤 H A lines-from.signature κs qs args passed) (LinesFrom 𝓤 H A mem run .pre to)
-    asked = shows-all 𝓤 H A W (onEntry 𝓤 H A lines-from.signature κs qs args passed) (n ≤ 64) (c ≤ 1024) (length (d .src .now) ≤ 32768) few lines-few room
+    asked = shows-all 𝓤 H A W (onEntry 𝓤 H A lines-from.signature κs qs args passed) (n ≤ format .fluents) (c ≤ format .lines) (length (d .src .now) ≤ format .derivation) few lines-few room
 
     -- what the struct and the arrays' borrows own gives what the callee asks, and the struct's is kept
     apart : d .at < 2 ^ 64 → ent 𝓤 (onEntry 𝓤 H A lines.signature κs qs a at) (sep 𝓤 (LinesFrom 𝓤 H A mem run .pre to) (sem 𝓤 H A Own))
@@ -206,7 +206,7 @@ module _ {M : Type 1} (𝓤 : URA M) (H : Heap 𝓤) (A : Atoms 𝓤) (W : Given
   lines-walks C Λ fm known = walked 𝓤 H A lines.ended stayed (lines.clauses 𝓤 H A mem run) (WpFn 𝓤 H C Λ code.function)
       (λ κs. (LL.vals (T.the-type (namedLft 3 0 tt κs)) (T′.the-laws (namedLft 3 0 tt κs)), (EL.vals O.the-type O′.the-laws, (uint-vals w64, (uint-vals w64, (uint-vals w64, (ptr-vals, (ptr-vals, tt))))))))
       (λ κs. (LL.tells (T.the-type (namedLft 3 0 tt κs)) (T′.the-laws (namedLft 3 0 tt κs)), (EL.tells O.the-type O′.the-laws, (uint-tells w64, (uint-tells w64, (uint-tells w64, (mut-tells (named 1) (κs .1 .0) Slots, (mut-tells (named 2) (κs .1 .1 .0) Spots, tt))))))))
-      (λ κs qs bounds a g are. learns 𝓤 H A W _ (a .1 .1 .0 ≤ 64) (a .1 .1 .1 .1 .0 ≤ 1024) (length (a .0 .src .now) ≤ 32768) (λ few lines-few room.
+      (λ κs qs bounds a g are. learns 𝓤 H A W _ (a .1 .1 .0 ≤ format .fluents) (a .1 .1 .1 .1 .0 ≤ format .lines) (length (a .0 .src .now) ≤ format .derivation) (λ few lines-few room.
       walk 𝓤 H A W mem run (κs .0) (κs .1 .0) (κs .1 .1 .0) (qs .0) (qs .1 .0) (qs .1 .1 .0) (a .0) (a .1 .0) (a .1 .1 .0) (a .1 .1 .1 .0) (a .1 .1 .1 .1 .0) (a .1 .1 .1 .1 .1 .0) (a .1 .1 .1 .1 .1 .1 .0) (are .1 .0) (are .1 .1 .0 .1) (are .1 .1 .1 .0 .1) (are .1 .1 .1 .1 .0 .1) few lines-few room C Λ fm known
       (LL.lawful (T.the-type (namedLft 3 0 tt κs)) (T′.the-laws (namedLft 3 0 tt κs)) 𝓤 H A W .typed (a .0) _ (are .0) .0)))
 
