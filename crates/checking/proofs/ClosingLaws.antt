@@ -21,8 +21,8 @@ use Rattle.bytes.specs.declared.lists.Passed.the-variants.{To, Fault as Stop}
 use Rattle.bytes.specs.Read.{passed}
 use Rattle.reading.specs.Listed.{bytes-from, listed, List-here}
 use Rattle.reading.proofs.MarkLaws.{bytes-next, bytes-done}
-use Rattle.refusing.specs.Branchings.{sequence-place}
-use Rattle.refusing.proofs.PlanOverlaps.{listed-length}
+use Rattle.finding.specs.Branches.{sequence-place}
+use Rattle.finding.proofs.PlanHere.{listed-length}
 use Rattle.steps.specs.AtHand.{request-in, At-hand}
 use Rattle.comparing.specs.declared.spots.Spot.{Spot}
 use Rattle.comparing.specs.Stands.{Numbers-stand, Stands, spot-at, Lines-stand, Closing-stands}

@@ -22,10 +22,10 @@ use Rattle.reading.specs.Planned.{bytes-of}
 use Rattle.reading.specs.Requested.{goals-place, plan-place}
 use Rattle.reading.proofs.PlanSizes.{sequence-read, list-through}
 use Rattle.reading.proofs.RequestLaws.{placed-length}
-use Rattle.refusing.specs.Branchings.{sequence-place}
-use Rattle.refusing.specs.Settled.{blank}
-use Rattle.refusing.proofs.ReadLaws.{Parts, parts, plan-noted-at}
-use Rattle.refusing.proofs.SettleLaws.{blank-long}
+use Rattle.finding.specs.Branches.{sequence-place}
+use Rattle.finding.specs.ReadHere.{blank}
+use Rattle.finding.proofs.ReadLaws.{Parts, parts, plan-noted-at}
+use Rattle.finding.proofs.FoundLaws.{blank-long}
 use Rattle.steps.specs.AtHand.{request-in, At-hand}
 use Rattle.steps.specs.Lines.{goals-in, whether-in}
 use Rattle.steps.proofs.HandLaws.{request-is, starts}

@@ -18,11 +18,11 @@ use comparing::spots::spot_of;
 use deriving::derivations;
 use deriving::derivations::Places;
 use deriving::derived::place_of;
+use finding::branches::sequence_of;
 use meaning::Layout;
 use reading::table;
 use reading::table::Table;
 use reading::table::get;
-use refusing::overlaps::sequence_of;
 
 // What a line is asked to conclude: the goals of the request, or that a fluent is known whether.
 pub enum Asked {

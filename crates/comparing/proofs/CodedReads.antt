@@ -17,8 +17,8 @@ use Rattle.meaning.proofs.MovedPlans.{plan-copied}
 use Rattle.reading.specs.Listed.{bytes-from}
 use Rattle.reading.specs.Planned.{bytes-of}
 use Rattle.reading.proofs.PlanSizes.{sequence-read}
-use Rattle.refusing.specs.Plans.{own-items, branches-in}
-use Rattle.refusing.proofs.WrittenLaws.{two-is}
+use Rattle.finding.specs.PlansHeld.{own-items, branches-in}
+use Rattle.finding.proofs.WrittenLaws.{two-is}
 use Rattle.comparing.specs.Coded.{coded, coded-item, coded-branches, Tellable, Tellable-item, Tellable-branches}
 use Rattle.comparing.proofs.CodedLaws.{coded-length, own-most}
 

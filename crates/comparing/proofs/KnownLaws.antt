@@ -20,7 +20,8 @@ use Rattle.meaning.proofs.ToldLaws.{Clear, state-known}
 use Rattle.reading.specs.declared.marks.Test.the-variants.{Known}
 use Rattle.reading.specs.Listed.{bytes-from, listed, List-here, holds-as}
 use Rattle.reading.proofs.MarkLaws.{bytes-next, bytes-done}
-use Rattle.refusing.proofs.PlanOverlaps.{listed-below, clear-of}
+use Rattle.finding.proofs.PlanHere.{listed-below}
+use Rattle.refusing.proofs.PlanOverlaps.{clear-of}
 use Rattle.steps.specs.AtHand.{Marked}
 use Rattle.comparing.proofs.PartLaws.{drop-next}
 

@@ -12,7 +12,7 @@ use Rattle.meaning.specs.Derivations.{same-list, same-plan, join}
 use Rattle.meaning.proofs.TestLaws.{by-test}
 use Rattle.reading.specs.Listed.{bytes-from}
 use Rattle.reading.specs.Planned.{bytes-of}
-use Rattle.refusing.specs.Plans.{own-items}
+use Rattle.finding.specs.PlansHeld.{own-items}
 use Rattle.comparing.specs.Coded.{coded}
 use Rattle.comparing.specs.Stands.{Plan-stands}
 use Rattle.comparing.specs.Rules.{Items-stand, Same-plans, Joined-plans}

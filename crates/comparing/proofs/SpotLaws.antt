@@ -15,7 +15,7 @@ use Rattle.meaning.specs.Requests.{done}
 use Rattle.meaning.specs.Derivations.{Conclusion, knows, knows-whether, Line, concludes-fluent, same-list, same-conclusion}
 use Rattle.meaning.proofs.TestLaws.{by-test, clash, pick-true, pick-false}
 use Rattle.reading.specs.Listed.{listed, List-here}
-use Rattle.refusing.specs.Branchings.{sequence-place}
+use Rattle.finding.specs.Branches.{sequence-place}
 use Rattle.comparing.specs.declared.spots.Spot.{Spot}
 use Rattle.comparing.specs.Stands.{after-list, Conclusion-stands, Stands, spot-at}
 use Rattle.comparing.specs.Rules.{Some-concluded, Same-conclusions, Some-at, Some-lines}

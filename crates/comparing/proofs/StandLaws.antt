@@ -26,10 +26,10 @@ use Rattle.reading.specs.Planned.{bytes-of}
 use Rattle.deriving.specs.DerivationRead.{plan-end, derivation-noted, settled-derivation}
 use Rattle.deriving.specs.Derived.{Line-here, Lines-here}
 use Rattle.reading.proofs.SectionLaws.{got-place, byte-got, number-got, count-got, noting-got}
-use Rattle.refusing.proofs.HereLaws.{list-here, list-apart}
+use Rattle.finding.proofs.HereLaws.{list-here, list-apart}
 use Rattle.reading.proofs.PlanSizes.{list-through}
-use Rattle.refusing.proofs.PlanOverlaps.{listed-length}
-use Rattle.refusing.proofs.WrittenLaws.{two-is}
+use Rattle.finding.proofs.PlanHere.{listed-length}
+use Rattle.finding.proofs.WrittenLaws.{two-is}
 use Rattle.deriving.proofs.DerivationLaws.{plan-ends}
 use Rattle.deriving.proofs.DerivedLaws.{derived-here}
 use Rattle.comparing.specs.declared.spots.Spot.{Spot}

@@ -12,7 +12,7 @@ use Rattle.meaning.specs.Tests.{each-of}
 use Rattle.meaning.specs.Derivations.{Conclusion, Line, same-plan, join, same-conclusion, cited-by}
 use Rattle.reading.specs.Listed.{bytes-from}
 use Rattle.reading.specs.Planned.{bytes-of}
-use Rattle.refusing.specs.Plans.{own-items}
+use Rattle.finding.specs.PlansHeld.{own-items}
 use Rattle.deriving.specs.Derived.{Line-here}
 use Rattle.steps.specs.Small.{Small}
 use Rattle.comparing.specs.declared.spots.Spot.{Spot}

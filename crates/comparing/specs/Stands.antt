@@ -15,7 +15,7 @@ use Rattle.meaning.specs.Refusals.{nowhere}
 use Rattle.meaning.specs.Derivations.{Conclusion, knows, knows-whether, Line, Derivation, concludes-fluent, read-derivation, overlap-in-lines}
 use Rattle.reading.specs.Listed.{bytes-from, listed, List-here}
 use Rattle.reading.specs.Planned.{bytes-of}
-use Rattle.refusing.specs.Plans.{own-items}
+use Rattle.finding.specs.PlansHeld.{own-items}
 use Rattle.deriving.specs.DerivationRead.{settled-derivation}
 use Rattle.deriving.specs.Derived.{Lines-here}
 use Rattle.comparing.specs.declared.spots.Spot.{Spot}

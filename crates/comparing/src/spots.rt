@@ -9,8 +9,8 @@ use deriving::derivations::Places;
 use deriving::derivations::gives_fluent;
 use deriving::derived::end_of;
 use deriving::derived::place_of;
+use finding::branches::sequence_of;
 use meaning::Layout;
-use refusing::overlaps::sequence_of;
 
 // Where the parts of a line stand: the line with its list X, the end of its plan, its conclusion, the count of its citations. And its
 // rule, and whether its conclusion is a fluent.

@@ -21,26 +21,28 @@ use Rattle.bytes.specs.declared.bytes.Read.{Read}
 use Rattle.bytes.specs.declared.bytes.Read.the-variants.{Value, Fault}
 use Rattle.bytes.specs.declared.lists.Passed.{Passed}
 use Rattle.bytes.specs.declared.lists.Passed.the-variants.{To, Fault as Stop}
-use Rattle.refusing.specs.declared.refusals.Found.{Found}
-use Rattle.refusing.specs.declared.refusals.Found.the-variants.{Nowhere, At}
+use Rattle.finding.specs.declared.places.Found.{Found}
+use Rattle.finding.specs.declared.places.Found.the-variants.{Nowhere, At}
 use Rattle.reading.specs.Noted.{noting, outcome, slots}
 use Rattle.reading.specs.Listed.{List-here}
 use Rattle.reading.specs.Planned.{plan-noted, noting-met, outcome-met}
-use Rattle.refusing.specs.InTable.{found}
-use Rattle.refusing.specs.Branchings.{sequence-place}
-use Rattle.refusing.specs.Plans.{Some-plan, Overlap-found}
+use Rattle.finding.specs.Places.{found}
+use Rattle.finding.specs.Branches.{sequence-place}
+use Rattle.finding.specs.PlansHeld.{Some-plan}
+use Rattle.refusing.specs.Refusal18.{Overlap-found}
 use Rattle.deriving.specs.DerivationRead.{plan-end, places-noted, derivation-noted, settled-derivation, plan-ends-slot, lines-end, places-slots}
 use Rattle.deriving.specs.Derived.{Line-here, Lines-here, Some-lines, Derivation-here, Line-found, Lines-found}
 use Rattle.reading.proofs.SectionLaws.{noting-got, noting-fault}
 use Rattle.reading.proofs.PlanSizes.{list-through}
 use Rattle.reading.proofs.RequestLaws.{next-next, next-same}
 use Rattle.reading.proofs.NotingLaws.{met-fault, fault-met}
-use Rattle.refusing.proofs.HereLaws.{list-here}
-use Rattle.refusing.proofs.KeptLaws.{kept}
-use Rattle.refusing.proofs.PlanOverlaps.{listed-length}
+use Rattle.finding.proofs.HereLaws.{list-here}
+use Rattle.finding.proofs.KeptLaws.{kept}
+use Rattle.finding.proofs.PlanHere.{listed-length}
 use Rattle.deriving.proofs.DerivationLaws.{line-place}
-use Rattle.refusing.proofs.WrittenLaws.{two-is, plan-left, overlap-left}
-use Rattle.refusing.proofs.SettleLaws.{found-none, found-at}
+use Rattle.finding.proofs.WrittenLaws.{two-is, plan-left}
+use Rattle.refusing.proofs.PlanOverlaps.{overlap-left}
+use Rattle.finding.proofs.FoundLaws.{found-none, found-at}
 
 module _ (n m : ℕ) (s : List ℕ) where
   -- THE PLAN OF A LINE stands after its X.

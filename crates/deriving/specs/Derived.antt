@@ -8,8 +8,8 @@ use Rattle.meaning.specs.Limits.{format}
 use Rattle.meaning.specs.Reading.{got}
 use Rattle.meaning.specs.Refusals.{overlap-in}
 use Rattle.meaning.specs.Derivations.{Line, Derivation, line-at, read-derivation, overlap-in-lines}
-use Rattle.refusing.specs.InTable.{found}
-use Rattle.refusing.specs.declared.refusals.Found as Code
+use Rattle.finding.specs.Places.{found}
+use Rattle.finding.specs.declared.places.Found as Code
 use Rattle.deriving.specs.DerivationRead.{plan-end, plan-ends-slot, lines-end}
 
 -- In what follows the request has n fluents and m actions, and s is the derivation.

@@ -14,14 +14,14 @@ use bytes::bytes::Read;
 use bytes::bytes::two;
 use bytes::limits;
 use bytes::lists::Passed;
+use finding::branches::sequence_of;
+use finding::places::Found;
 use meaning::Layout;
 use reading::plan::plan_at;
 use reading::table;
 use reading::table::Table;
 use reading::table::widened;
-use refusing::overlaps::overlap;
-use refusing::overlaps::sequence_of;
-use refusing::refusals::Found;
+use refusing::refusal_18::overlap;
 
 // The place in slot k, which is that of line k.
 pub fn place_of(places: &Places, k: usize) -> usize

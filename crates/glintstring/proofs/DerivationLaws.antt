@@ -32,14 +32,14 @@ use Rattle.reading.specs.Requested.{goals-place, request-noted}
 use Rattle.reading.proofs.SectionLaws.{noting-got, noting-fault}
 use Rattle.reading.proofs.PlanSizes.{list-through}
 use Rattle.reading.proofs.RequestLaws.{placed-length}
-use Rattle.refusing.specs.Branchings.{sequence-place}
-use Rattle.refusing.proofs.PlanOverlaps.{listed-length}
+use Rattle.finding.specs.Branches.{sequence-place}
+use Rattle.finding.proofs.PlanHere.{listed-length}
 use Rattle.steps.specs.AtHand.{request-of, request-in, At-hand}
 use Rattle.steps.specs.Lines.{goals-in, whether-in}
 use Rattle.steps.proofs.HandLaws.{request-is}
 use Rattle.steps.proofs.Served.{ends-at-hand}
 use Rattle.steps.proofs.SlotLaws.{goals-noted}
-use Rattle.refusing.proofs.ReadLaws.{parts}
+use Rattle.finding.proofs.ReadLaws.{parts}
 use Rattle.glintstring.specs.Derivations.{too-many, check-at-hand}
 
 -- THE WHETHER LIST stands behind the goals.

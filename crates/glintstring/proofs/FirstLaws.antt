@@ -15,10 +15,10 @@ use Rattle.meaning.specs.Walk.{walked}
 use Rattle.meaning.proofs.TestLaws.{by-test, pick-true, pick-false}
 use Rattle.reading.specs.Listed.{listed}
 use Rattle.reading.specs.Planned.{items-of}
-use Rattle.refusing.specs.Settled.{blank}
-use Rattle.refusing.proofs.PlanOverlaps.{some-item}
-use Rattle.refusing.proofs.ReadLaws.{parts, items-noted}
-use Rattle.refusing.proofs.SettleLaws.{blank-long}
+use Rattle.finding.specs.ReadHere.{blank}
+use Rattle.finding.proofs.PlanHere.{some-item}
+use Rattle.finding.proofs.ReadLaws.{parts, items-noted}
+use Rattle.finding.proofs.FoundLaws.{blank-long}
 use Rattle.steps.specs.AtHand.{request-in, At-hand}
 use Rattle.steps.specs.Rests.{rest-in, rest-at, Position}
 use Rattle.steps.specs.Steps.{walk-from}

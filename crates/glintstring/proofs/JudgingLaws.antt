@@ -26,7 +26,7 @@ use Rattle.bytes.specs.declared.lists.Passed.the-variants.{To, Fault as Stop}
 use Rattle.reading.specs.Noted.{noting, outcome}
 use Rattle.reading.specs.Listed.{listed}
 use Rattle.reading.specs.Requested.{request-noted}
-use Rattle.refusing.specs.Settled.{blank}
+use Rattle.finding.specs.ReadHere.{blank}
 use Rattle.reading.proofs.SectionLaws.{noting-got, noting-fault}
 use Rattle.steps.specs.AtHand.{request-in, At-hand, Marked}
 use Rattle.steps.specs.Steps.{walk-from}

@@ -8,12 +8,12 @@ use super::answers;
 use bytes::bytes::wide;
 use bytes::lists::Passed;
 use checking::check::check_derivation;
+use finding::branches::sequence_of;
 use meaning::Answer;
 use meaning::Layout;
 use reading::table;
 use reading::table::Table;
 use reading::table::get;
-use refusing::overlaps::sequence_of;
 use refusing::settled::settle;
 
 // The layout does not speak of so many whether entries.

@@ -23,7 +23,7 @@ use Rattle.meaning.proofs.KeptEnds.{Stuck, walked-stuck}
 use Rattle.meaning.proofs.AnswerLaws.{Numbered-in, settled-numbered}
 use Rattle.meaning.proofs.SettledLaws.{settled-is}
 use Rattle.meaning.proofs.RangeLaws.{read-ranged}
-use Rattle.refusing.proofs.StartLaws.{request-starts}
+use Rattle.finding.proofs.StartLaws.{request-starts}
 use Rattle.steps.specs.AtHand.{Marked}
 use Rattle.glintstring.specs.Lent.{Writes, Blank-from, Written}
 use Rattle.glintstring.proofs.KeepingLaws.{Concerned-has, End-has, end-both}

@@ -3,28 +3,32 @@ use Prim.Native.Nat.{ℕ, _-_, _*_, _≤_, _<_}
 use native.Mathlib.Omega.{arith}
 use mathlib.Core.Path.{_≡_, refl, sym, _∙_, ap, subst}
 use mathlib.Core.List.{List, []}
-use lib.ListN.{length, getD, length-replicate, getD-replicate}
+use lib.ListN.{length, getD}
 use mir.Syntax.{w8, w64}
 use mir.Val.{Fits}
 use Rattle.meaning.specs.Limits.{format}
 use Rattle.meaning.specs.Requests.{Effect, Knowledge, Request}
 use Rattle.meaning.specs.Reading.{Got, got, fault, next, read-request}
-use Rattle.meaning.specs.Refusals
-use Rattle.meaning.specs.Refusals.{nowhere, at, contradiction-in, mixed-in, overlap-in, refuse, settled}
+use Rattle.meaning.specs.Refusals.{at, contradiction-in, mixed-in, overlap-in, refuse, settled}
 use Rattle.meaning.proofs.SettledLaws.{got-same, settled-is}
 use Rattle.bytes.specs.declared.lists.Passed.{Passed}
 use Rattle.bytes.specs.declared.lists.Passed.the-variants.{To, Fault as Stop}
-use Rattle.refusing.specs.declared.refusals.Found.{Found}
-use Rattle.refusing.specs.declared.refusals.Found.the-variants.{Nowhere, At}
+use Rattle.finding.specs.declared.places.Found.{Found}
+use Rattle.finding.specs.declared.places.Found.the-variants.{Nowhere, At}
 use Rattle.bytes.specs.Read.{passed}
-use Rattle.reading.specs.Noted.{noting, outcome, plan-slot, items-slot, slots, effects-slot, knowledge-slot}
+use Rattle.reading.specs.Noted.{noting, outcome, plan-slot, items-slot, effects-slot, knowledge-slot}
 use Rattle.reading.specs.Planned.{items-of}
 use Rattle.reading.specs.Requested.{request-noted}
-use Rattle.refusing.specs.InTable.{found, effects-in, Effects-here, knowledge-in, Knowledge-here, Acting, Mixed-found}
-use Rattle.refusing.specs.Settled.{blank, Read-here, past-17, past-18}
+use Rattle.finding.specs.Places.{found}
+use Rattle.finding.specs.LinesHere.{effects-in, Effects-here, knowledge-in, Knowledge-here, Acting}
+use Rattle.refusing.specs.Refusal17.{Mixed-found}
+use Rattle.finding.specs.ReadHere.{blank, Read-here}
+use Rattle.refusing.specs.Settled.{past-17, past-18}
 use Rattle.reading.proofs.SectionLaws.{noting-got, noting-fault}
-use Rattle.refusing.proofs.ReadLaws.{Parts, parts, effects-counted, effects-are, effects-stand, knowledge-counted, plan-noted-at, items-noted, acting, knowledge-stands, effects-few, knowledge-few, request-held}
-use Rattle.refusing.specs.Plans.{Plan-held, Some-plan, Overlap-found}
+use Rattle.finding.proofs.ReadLaws.{Parts, parts, effects-counted, effects-are, effects-stand, knowledge-counted, plan-noted-at, items-noted, acting, knowledge-stands, effects-few, knowledge-few, request-held}
+use Rattle.finding.specs.PlansHeld.{Plan-held, Some-plan}
+use Rattle.refusing.specs.Refusal18.{Overlap-found}
+use Rattle.finding.proofs.FoundLaws.{blank-long, blank-slot, found-at, found-none}
 
 -- The table is the same at every answer.
 module _ {A : Type 0} (note : A → List ℕ → List ℕ) where
@@ -32,33 +36,6 @@ module _ {A : Type 0} (note : A → List ℕ → List ℕ) where
   unfolding outcome passed noting next
   outcome-same (got y q) u t h = ap (λ (v : List ℕ). got v q) (h y q refl)
   outcome-same (fault n q) u t h = refl
-
--- What was found, by the definition.
-back : Found → Refusals.Found
-back r = elim r [ Nowhere ↦ nowhere | At p ↦ at p ]
-
-back-found : (f : Refusals.Found) → back (found f) ≡ f
-unfolding back found
-back-found nowhere = refl
-back-found (at p) = refl
-
-module _ (f : Refusals.Found) (r : Found) (is : r ≡ found f) where
-  pub found-none : r ≡ Nowhere → f ≡ nowhere
-  unfolding back
-  found-none e = sym (back-found f) ∙ ap back (sym is ∙ e)
-
-  pub found-at : (p : ℕ) → r ≡ At p → f ≡ at p
-  unfolding back
-  found-at p e = sym (back-found f) ∙ ap back (sym is ∙ e)
-
--- A TABLE that held nothing.
-pub blank-long : length blank ≡ slots
-unfolding blank
-blank-long = let none : ℕ = 0 in length-replicate slots none
-
-pub blank-slot : (i : ℕ) → i < slots → getD blank i 0 ≡ 0
-unfolding blank
-blank-slot i h = let none : ℕ = 0 in getD-replicate slots i none none h
 
 module _ (s : List ℕ) (bytes : (i : ℕ) → Fits w8 (getD s i 0)) (t : List ℕ) (e : ℕ) (here : Read-here s t e) where
   small : (i : ℕ) → getD s i 0 < 256

@@ -27,11 +27,11 @@ use Rattle.reading.specs.Listed.{listed, holds-as}
 use Rattle.reading.specs.Planned.{items-of, items-in, items-under, bytes-of, bytes-in, bytes-under, place-of, plan-noted, noting-met, outcome-met}
 use Rattle.reading.proofs.PlanSizes.{two-bytes-through}
 use Rattle.reading.proofs.NotingLaws.{with-items, met-value, met-fault, fault-met}
-use Rattle.refusing.specs.Branchings.{sequence-place, place-after, item-after, Branches-here}
-use Rattle.refusing.specs.Plans.{own-items, branches-in, Written, Item-written, Branches-written, Kept, Item-kept, Branches-kept, Plan-held}
-use Rattle.refusing.proofs.OverlapLaws.{branch-first}
-use Rattle.refusing.proofs.PlanOverlaps.{place-is, item-is}
-use Rattle.refusing.proofs.WrittenLaws.{plan-held}
+use Rattle.finding.specs.Branches.{sequence-place, place-after, item-after, Branches-here}
+use Rattle.finding.specs.PlansHeld.{own-items, branches-in, Written, Item-written, Branches-written, Kept, Item-kept, Branches-kept, Plan-held}
+use Rattle.finding.proofs.ByBranch.{branch-first}
+use Rattle.finding.proofs.PlanHere.{place-is, item-is}
+use Rattle.finding.proofs.WrittenLaws.{plan-held}
 use Rattle.deriving.specs.Derived.{Line-here}
 use Rattle.comparing.specs.declared.spots.Spot.{Spot}
 use Rattle.comparing.specs.Coded.{Tellable, Tellable-branches}

@@ -24,8 +24,8 @@ use Rattle.meaning.proofs.TestLaws.{by-test, both-left, both-right, pick-true, 
 use Rattle.meaning.proofs.ReadingsExact.{count-settled}
 use Rattle.reading.specs.Listed.{bytes-from, listed}
 use Rattle.reading.specs.Planned.{bytes-of}
-use Rattle.refusing.specs.Branchings.{sequence-place}
-use Rattle.refusing.specs.Plans.{own-items}
+use Rattle.finding.specs.Branches.{sequence-place}
+use Rattle.finding.specs.PlansHeld.{own-items}
 use Rattle.steps.specs.AtHand.{Marked}
 use Rattle.steps.specs.Small.{Small}
 use Rattle.steps.specs.Steps.{unknown-above, first-of}

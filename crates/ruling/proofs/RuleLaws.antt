@@ -20,9 +20,9 @@ use Rattle.meaning.specs.Derivations.{Conclusion, knows, knows-whether, Line, s
 use Rattle.meaning.proofs.TestLaws.{by-test, clash, same-test, both-left, both-right, both-true}
 use Rattle.reading.specs.Listed.{bytes-from, listed, List-here}
 use Rattle.reading.specs.Planned.{bytes-of}
-use Rattle.refusing.specs.Branchings.{sequence-place, no-item}
-use Rattle.refusing.specs.Plans.{own-items}
-use Rattle.refusing.proofs.PlanOverlaps.{count-zero}
+use Rattle.finding.specs.Branches.{sequence-place, no-item}
+use Rattle.finding.specs.PlansHeld.{own-items}
+use Rattle.finding.proofs.PlanHere.{count-zero}
 use Rattle.steps.specs.AtHand.{request-in, Marked}
 use Rattle.steps.specs.Small.{Small}
 use Rattle.steps.proofs.SensingLaws.{after-marked}

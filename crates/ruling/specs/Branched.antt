@@ -10,8 +10,8 @@ use Rattle.meaning.specs.States.{State, known}
 use Rattle.meaning.specs.Derivations.{same-plan, join}
 use Rattle.reading.specs.Listed.{bytes-from}
 use Rattle.reading.specs.Planned.{items-under, bytes-under}
-use Rattle.refusing.specs.Branchings.{place-after, item-after}
-use Rattle.refusing.specs.Plans.{branches-in, Branches-written, Branches-kept}
+use Rattle.finding.specs.Branches.{place-after, item-after}
+use Rattle.finding.specs.PlansHeld.{branches-in, Branches-written, Branches-kept}
 use Rattle.comparing.specs.Coded.{coded-branches, Tellable-branches}
 use Rattle.comparing.specs.Stands.{Plan-stands}
 use Rattle.comparing.specs.Rules.{Items-stand}

@@ -10,7 +10,7 @@ use Rattle.meaning.specs.Tests.{both, pick, each-of}
 use Rattle.meaning.specs.Requests.{Table, Sequence}
 use Rattle.meaning.specs.States.{State, readings}
 use Rattle.meaning.specs.Derivations.{Conclusion, Line, literals-of, says, states-of}
-use Rattle.refusing.specs.Branchings.{sequence-place}
+use Rattle.finding.specs.Branches.{sequence-place}
 use Rattle.steps.specs.Steps.{unknown-above}
 use Rattle.ruling.specs.declared.readings.Used.{Used}
 use Rattle.ruling.specs.declared.readings.Used.the-variants.{To, Fails}

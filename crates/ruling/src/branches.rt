@@ -1,7 +1,7 @@
 ghost use mathlib.Core.Path.{_≡_};
 ghost use Prim.Native.Nat.{_≤_};
 ghost use Rattle.meaning.specs.Derivations.{rule-4};
-ghost use Rattle.refusing.specs.Branchings.{Branches-here};
+ghost use Rattle.finding.specs.Branches.{Branches-here};
 ghost use Rattle.comparing.specs.Rules.{Some-plan, Some-line, Some-read, Read-by};
 ghost use Rattle.ruling.specs.Branched.{branches-end, Some-branched, Branch-taken};
 use bytes::bytes::Read;
@@ -12,15 +12,15 @@ use comparing::plans::count_of;
 use comparing::plans::joined_plans;
 use comparing::spots::Spot;
 use comparing::spots::same_conclusions;
+use finding::branches::next_item;
+use finding::branches::next_place;
+use finding::branches::sequence_of;
 use reading::marks::Test;
 use reading::marks::each_holds;
 use reading::marks::state_of;
 use reading::plan::plan_at;
 use reading::table;
 use reading::table::Table;
-use refusing::overlaps::next_item;
-use refusing::overlaps::next_place;
-use refusing::overlaps::sequence_of;
 
 // The place after so many branches, the first of which stands at `place` with `item` items before it.
 fn after_branches(d: &[u8], t: &Table, count: usize, place: usize, item: usize) -> usize

@@ -20,7 +20,7 @@ use Rattle.meaning.proofs.ToldLaws.{either-none, either-assoc}
 use Rattle.reading.specs.Noted.{effect-lines, run-lines, line-place, next-line, first-line}
 use Rattle.reading.specs.Ordered.{Line-in, Chain, In-order}
 use Rattle.reading.specs.Listed.{listed, List-here, holds-as}
-use Rattle.refusing.specs.InTable.{Effect-here}
+use Rattle.finding.specs.LinesHere.{Effect-here}
 use Rattle.reading.specs.declared.marks.Test.the-variants.{Known, Possible}
 use Rattle.reading.proofs.MarkLaws.{mark-other, mark-most}
 use Rattle.steps.specs.AtHand.{request-in, At-hand, Marked}

@@ -25,7 +25,7 @@ use Rattle.meaning.proofs.StateLaws.{known-true, known-false, after-length}
 use Rattle.meaning.proofs.ToldLaws.{either-none, either-assoc, told-here, told-elsewhere}
 use Rattle.meaning.proofs.PairLaws.{after-mark}
 use Rattle.reading.specs.Listed.{listed}
-use Rattle.refusing.specs.InTable.{Effect-here}
+use Rattle.finding.specs.LinesHere.{Effect-here}
 use Rattle.reading.proofs.MarkLaws.{mark-most}
 use Rattle.steps.specs.AtHand.{request-in, At-hand, Marked}
 use Rattle.steps.specs.Lines.{effect-places, given-at}

@@ -19,12 +19,12 @@ use Rattle.meaning.specs.Walk.{first-missed, missed-in}
 use Rattle.meaning.proofs.TestLaws.{by-test, pick-true, pick-false}
 use Rattle.meaning.proofs.StateLaws.{known-true, known-false}
 use Rattle.reading.specs.declared.marks.Test.the-variants.{Known}
-use Rattle.refusing.specs.declared.refusals.Found as Code
-use Rattle.refusing.specs.declared.refusals.Found.the-variants.{Nowhere, At}
-use Rattle.refusing.specs.InTable.{found}
+use Rattle.finding.specs.declared.places.Found as Code
+use Rattle.finding.specs.declared.places.Found.the-variants.{Nowhere, At}
+use Rattle.finding.specs.Places.{found}
 use Rattle.reading.specs.Listed.{bytes-from, listed, List-here, holds-as}
 use Rattle.reading.proofs.MarkLaws.{bytes-next, bytes-done}
-use Rattle.refusing.proofs.SettleLaws.{found-none, found-at}
+use Rattle.finding.proofs.FoundLaws.{found-none, found-at}
 use Rattle.steps.specs.declared.goals.Asked.{Asked}
 use Rattle.steps.specs.declared.goals.Asked.the-variants.{Goal, Whether}
 use Rattle.steps.specs.AtHand.{request-in, At-hand, Marked}

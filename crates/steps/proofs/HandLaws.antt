@@ -6,7 +6,7 @@ use Rattle.meaning.specs.Limits.{format}
 use Rattle.meaning.specs.Requests.{Request}
 use Rattle.meaning.specs.Reading.{got, read-request}
 use Rattle.reading.specs.Listed.{List-here}
-use Rattle.refusing.proofs.StartLaws.{Starts, request-starts}
+use Rattle.finding.proofs.StartLaws.{Starts, request-starts}
 use Rattle.steps.specs.AtHand.{request-of, request-in, At-hand}
 
 pub request-read : (s : List ℕ) (x : Request) (e : ℕ) → read-request format s ≡ got x e → request-in s ≡ x

@@ -12,13 +12,13 @@ use Rattle.meaning.specs.Derivations.{join}
 use Rattle.meaning.proofs.TestLaws.{by-test, pick-true, pick-false}
 use Rattle.reading.specs.Noted.{table-noted}
 use Rattle.reading.specs.Planned.{items-of, items-in, items-under, bytes-of, place-of, following, plan-noted}
-use Rattle.refusing.specs.Plans.{Written, Item-written, Branches-written, Kept, Item-kept, Branches-kept}
+use Rattle.finding.specs.PlansHeld.{Written, Item-written, Branches-written, Kept, Item-kept, Branches-kept}
 use Rattle.reading.specs.Requested.{goals-place, plan-place, places-noted, request-noted}
-use Rattle.refusing.specs.Settled.{blank}
-use Rattle.refusing.proofs.KeptLaws.{kept}
-use Rattle.refusing.proofs.PlanOverlaps.{some-item}
-use Rattle.refusing.proofs.ReadLaws.{Parts, parts, tabled-long, request-held}
-use Rattle.refusing.proofs.SettleLaws.{blank-long}
+use Rattle.finding.specs.ReadHere.{blank}
+use Rattle.finding.proofs.KeptLaws.{kept}
+use Rattle.finding.proofs.PlanHere.{some-item}
+use Rattle.finding.proofs.ReadLaws.{Parts, parts, tabled-long, request-held}
+use Rattle.finding.proofs.FoundLaws.{blank-long}
 use Rattle.steps.specs.AtHand.{request-in, At-hand}
 use Rattle.steps.specs.Small.{Small, Small-item, Small-under}
 use Rattle.steps.specs.Rests.{rest-in, rest-within, rest-under, rest-at, after-first, span, onward, Next, Branches-laid, Inside-laid, Item-laid}

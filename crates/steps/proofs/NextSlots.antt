@@ -8,8 +8,8 @@ use lib.ListN.{length, getD, set, length-set}
 use lib.Seq.{getD-set-same, getD-set-other}
 use Rattle.meaning.specs.Requests.{Sequence, done, item, Item, act, branching, Branches, none, branch}
 use Rattle.reading.specs.Planned.{items-of, items-in, items-under, bytes-of, bytes-in, place-of, following, rest-noted, inside-noted, branches-noted, sequence-noted, plan-noted}
-use Rattle.refusing.proofs.PlanKept.{rest-length, inside-length, rest-other, branches-other}
-use Rattle.refusing.proofs.PlanOverlaps.{some-item}
+use Rattle.finding.proofs.PlanKept.{rest-length, inside-length, rest-other, branches-other}
+use Rattle.finding.proofs.PlanHere.{some-item}
 
 -- IN THE TABLE, with `met` items before the part and `up` around its sequence.
 unfoldable mutual

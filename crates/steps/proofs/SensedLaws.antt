@@ -14,7 +14,7 @@ use Rattle.meaning.specs.Tests.{both, either, some-of, Has}
 use Rattle.meaning.specs.Requests.{Knowledge}
 use Rattle.meaning.proofs.TestLaws.{by-test, clash, same-test, both-left, both-right, both-true, either-left, either-right, either-split, pick-true, pick-false}
 use Rattle.reading.specs.Noted.{knowledge, raised, pair-noted, action-in, note-line, lines-noted}
-use Rattle.refusing.proofs.KeptLaws.{kept, raised-kept, raised-long, note-long}
+use Rattle.finding.proofs.KeptLaws.{kept, raised-kept, raised-long, note-long}
 
 raised-same : (slot v : ℕ) (t : List ℕ) → slot < length t → getD (raised slot v t) slot 0 ≡ max (getD t slot 0) v
 unfolding raised

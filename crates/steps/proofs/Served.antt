@@ -19,12 +19,12 @@ use Rattle.meaning.proofs.TestLaws.{same-test, some-has, has-some, some-those}
 use Rattle.reading.specs.Noted.{none-yet, count-slot, section-noted}
 use Rattle.reading.specs.Requested.{goals-place, request-noted}
 use Rattle.reading.specs.Listed.{listed, List-here}
-use Rattle.refusing.specs.InTable.{effect-from}
-use Rattle.refusing.specs.Settled.{blank}
-use Rattle.refusing.proofs.KeptLaws.{kept}
-use Rattle.refusing.proofs.HereLaws.{list-here}
-use Rattle.refusing.proofs.ReadLaws.{Parts, parts, effect-good, knowledge-good, with-runs, with-knowledge, runs-long, after-sections, effects-ordered, runs-ordered}
-use Rattle.refusing.proofs.SettleLaws.{blank-long, blank-slot}
+use Rattle.finding.specs.LinesHere.{effect-from}
+use Rattle.finding.specs.ReadHere.{blank}
+use Rattle.finding.proofs.KeptLaws.{kept}
+use Rattle.finding.proofs.HereLaws.{list-here}
+use Rattle.finding.proofs.ReadLaws.{Parts, parts, effect-good, knowledge-good, with-runs, with-knowledge, runs-long, after-sections, effects-ordered, runs-ordered}
+use Rattle.finding.proofs.FoundLaws.{blank-long, blank-slot}
 use Rattle.steps.specs.AtHand.{request-in, At-hand}
 use Rattle.steps.specs.Lines.{run-places, effect-places, allowed-at, given-at, Runs, Effects, Senses, goals-in, whether-in, Ends}
 use Rattle.steps.proofs.HandLaws.{request-read}

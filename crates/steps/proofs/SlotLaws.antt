@@ -9,9 +9,9 @@ use Rattle.meaning.specs.Requests.{Request}
 use Rattle.reading.specs.Noted.{table-noted}
 use Rattle.reading.specs.Planned.{items-of, plan-noted}
 use Rattle.reading.specs.Requested.{goals-place, plan-place, places-noted, request-noted}
-use Rattle.refusing.specs.Settled.{blank}
-use Rattle.refusing.proofs.ReadLaws.{Parts, planned-long, with-effects, with-runs, effects-kept, runs-kept}
-use Rattle.refusing.proofs.SettleLaws.{blank-long, blank-slot}
+use Rattle.finding.specs.ReadHere.{blank}
+use Rattle.finding.proofs.ReadLaws.{Parts, planned-long, with-effects, with-runs, effects-kept, runs-kept}
+use Rattle.finding.proofs.FoundLaws.{blank-long, blank-slot}
 
 module _ (s : List ℕ) (bytes : (i : ℕ) → getD s i 0 < 256) (x : Request) (whole : Parts s x) where
   pub sensed-empty : (j : ℕ) → 5248 ≤ j → j < 9480 → (j ≡ 5378 → ⊥) → (j ≡ 5379 → ⊥) → getD (with-runs s bytes x whole blank) j 0 ≡ 0

@@ -17,8 +17,8 @@ use Rattle.reading.specs.Listed.{listed, List-here}
 use Rattle.reading.proofs.SectionLaws.{number-got}
 use Rattle.reading.proofs.PlanSizes.{list-through}
 use Rattle.reading.proofs.RequestLaws.{placed-length}
-use Rattle.refusing.proofs.HereLaws.{bytes-length, list-here}
-use Rattle.refusing.proofs.ReadLaws.{Table-parts}
+use Rattle.finding.proofs.HereLaws.{bytes-length, list-here}
+use Rattle.finding.proofs.ReadLaws.{Table-parts}
 
 module _ (s : List ℕ) (t : Table) (p : ℕ) (whole : Table-parts s t p) where
   pub run-stands : (r : Executability) → Has (t .executability) r → (listed s (r .place + 1) ≡ r .body) × List-here 128 s (r .place + 1)

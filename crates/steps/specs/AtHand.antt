@@ -6,7 +6,7 @@ use lib.ListN.{length, getD}
 use Rattle.meaning.specs.Limits.{format}
 use Rattle.meaning.specs.Requests.{Sequence, Request}
 use Rattle.meaning.specs.Reading.{Got, got, fault, read-request}
-use Rattle.refusing.specs.Settled.{Read-here}
+use Rattle.finding.specs.ReadHere.{Read-here}
 
 -- What was read; a request that says nothing where a fault was met.
 unfoldable pub request-of : Got Request → Request

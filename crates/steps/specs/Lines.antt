@@ -12,7 +12,7 @@ use Rattle.meaning.specs.Lines.{effects-of, executability-of, knowledge-of, all
 use Rattle.reading.specs.Noted.{effect-lines, run-lines, sensed-from, sensed-to, sensed, goals-slot}
 use Rattle.reading.specs.Ordered.{In-order}
 use Rattle.reading.specs.Listed.{listed, List-here}
-use Rattle.refusing.specs.InTable.{Effect-here}
+use Rattle.finding.specs.LinesHere.{Effect-here}
 use Rattle.steps.specs.AtHand.{request-in}
 
 -- THE PLACES of an action's lines, in file order.

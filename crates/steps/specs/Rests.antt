@@ -9,7 +9,7 @@ use Rattle.meaning.specs.Requests.{Sequence, done, item, Item, act, branching, 
 use Rattle.meaning.specs.Derivations.{join}
 use Rattle.reading.specs.Noted.{item-place, item-next}
 use Rattle.reading.specs.Planned.{items-of, items-in, bytes-of, place-of}
-use Rattle.refusing.specs.Plans.{Item-written, Branch-kept}
+use Rattle.finding.specs.PlansHeld.{Item-written, Branch-kept}
 
 -- From item i on, in a part with `met` items before it and `after` behind it.
 unfoldable mutual

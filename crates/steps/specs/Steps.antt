@@ -9,9 +9,9 @@ use Rattle.meaning.specs.Lines.{knowledge-of}
 use Rattle.meaning.specs.States.{State, known, known-whether, unknown-from}
 use Rattle.meaning.specs.Walk.{Walked, stuck-at, walk, table-step, judged}
 use Rattle.reading.specs.Noted.{item-place}
-use Rattle.refusing.specs.Branchings.{sequence-place, no-item}
-use Rattle.refusing.specs.declared.refusals.Found as Code
-use Rattle.refusing.specs.declared.refusals.Found.the-variants.{Nowhere, At}
+use Rattle.finding.specs.Branches.{sequence-place, no-item}
+use Rattle.finding.specs.declared.places.Found as Code
+use Rattle.finding.specs.declared.places.Found.the-variants.{Nowhere, At}
 use Rattle.steps.specs.declared.goals.Asked.{Asked}
 use Rattle.steps.specs.declared.goals.Asked.the-variants.{Goal, Whether}
 use Rattle.steps.specs.AtHand.{request-in}

@@ -2,17 +2,17 @@ ghost use mathlib.Core.Path.{_≡_};
 ghost use Prim.Native.Nat.{_+_, _<_};
 ghost use Rattle.meaning.specs.Reading.{placed};
 ghost use Rattle.meaning.specs.Walk.{first-missed, missed-in};
-ghost use Rattle.refusing.specs.InTable.{found};
+ghost use Rattle.finding.specs.Places.{found};
 ghost use Rattle.reading.specs.Listed.{listed, List-here};
 ghost use Rattle.steps.specs.AtHand.{request-in, At-hand, Marked};
 ghost use Rattle.steps.specs.Steps.{met-as, bound-as};
 use bytes::bytes::wide;
+use finding::places::Found;
 use reading::marks::Test;
 use reading::marks::holds;
 use reading::table;
 use reading::table::Table;
 use reading::table::get;
-use refusing::refusals::Found;
 
 // What is asked at the end: that a literal is known, or that it is known whether a fluent is true.
 pub enum Asked {

@@ -1,21 +1,21 @@
 ghost use mathlib.Core.Path.{_≡_};
 ghost use Prim.Native.Nat.{_+_, _<_};
 ghost use lib.ListN.{getD};
-ghost use Rattle.refusing.specs.Branchings.{Branch-here};
+ghost use Rattle.finding.specs.Branches.{Branch-here};
 ghost use Rattle.reading.specs.Planned.{items-of};
 ghost use Rattle.steps.specs.AtHand.{request-in, At-hand};
 ghost use Rattle.steps.specs.Steps.{Followed, Into, Chosen};
 use bytes::bytes::wide;
+use finding::branches::empty;
+use finding::branches::next_item;
+use finding::branches::next_place;
+use finding::branches::sequence_of;
+use finding::places::Found;
 use reading::marks::Test;
 use reading::marks::each_holds;
 use reading::table;
 use reading::table::Table;
 use reading::table::get;
-use refusing::overlaps::empty;
-use refusing::overlaps::next_item;
-use refusing::overlaps::next_place;
-use refusing::overlaps::sequence_of;
-use refusing::refusals::Found;
 
 // The position after item i: the next item of its sequence, or else what follows the branchings that end with it.
 pub fn follow(s: &[u8], t: &Table, i: usize) -> usize

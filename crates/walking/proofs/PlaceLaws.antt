@@ -9,10 +9,10 @@ use Rattle.meaning.specs.States.{State}
 use Rattle.meaning.specs.Walk.{missed-in}
 use Rattle.meaning.proofs.PlaceLaws.{Found-below, Request-read, Request-held, missed-below, read-held}
 use Rattle.reading.specs.Planned.{items-of}
-use Rattle.refusing.specs.InTable.{found}
-use Rattle.refusing.specs.declared.refusals.Found.{Found}
-use Rattle.refusing.specs.declared.refusals.Found.the-variants.{At}
-use Rattle.refusing.proofs.SettleLaws.{found-at}
+use Rattle.finding.specs.Places.{found}
+use Rattle.finding.specs.declared.places.Found.{Found}
+use Rattle.finding.specs.declared.places.Found.the-variants.{At}
+use Rattle.finding.proofs.FoundLaws.{found-at}
 use Rattle.steps.specs.AtHand.{request-in, At-hand}
 use Rattle.steps.proofs.HandLaws.{request-is}
 use Rattle.steps.proofs.OnwardLaws.{item-inside}

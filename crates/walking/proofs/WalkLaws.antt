@@ -17,10 +17,10 @@ use Rattle.meaning.specs.States.{State, can-be-run, state-after, unknown-sensed
 use Rattle.meaning.specs.Walk.{in-state, fine, missed, Walked, stuck-at, counted, and-then, after-end, each-reading, Step, after-step, run-action, table-does, table-step, missed-in, end-of, judged}
 use Rattle.meaning.proofs.TestLaws.{pick-true, pick-false}
 use Rattle.reading.specs.Planned.{items-of}
-use Rattle.refusing.specs.InTable.{found}
-use Rattle.refusing.specs.declared.refusals.Found.{Found}
-use Rattle.refusing.specs.declared.refusals.Found.the-variants.{Nowhere, At}
-use Rattle.refusing.proofs.SettleLaws.{found-none, found-at}
+use Rattle.finding.specs.Places.{found}
+use Rattle.finding.specs.declared.places.Found.{Found}
+use Rattle.finding.specs.declared.places.Found.the-variants.{Nowhere, At}
+use Rattle.finding.proofs.FoundLaws.{found-none, found-at}
 use Rattle.steps.specs.AtHand.{request-in, At-hand, Marked}
 use Rattle.steps.specs.Rests.{Position}
 use Rattle.steps.specs.Steps.{walk-from, walk-after, first-of, unknown-above, Followed, Chosen, going-on}

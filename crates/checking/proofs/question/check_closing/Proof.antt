@@ -11,7 +11,7 @@ use Rattle.checking.proofs.question.check_fluents.Reads as check-fluent
 use Rattle.checking.proofs.question.names.Reads as names-reads
 use Rattle.deriving.proofs.derived.place_of.Reads as place-of-reads
 use Rattle.reading.proofs.table.get.Reads as get-reads
-use Rattle.refusing.proofs.overlaps.sequence_of.Reads as sequence-of-reads
+use Rattle.finding.proofs.branches.sequence_of.Reads as sequence-of-reads
 
 -- src/question.rt:140:9
 get-requires : tie.Need-get-requires

@@ -9,7 +9,7 @@ use Rattle.checking.proofs.question.from_the_facts.Lts as lts
 use Rattle.comparing.proofs.parts.same_lists.Reads as same-lists-reads
 use Rattle.comparing.proofs.plans.same_plans.Reads as same-plans-reads
 use Rattle.reading.proofs.table.get.Reads as get-reads
-use Rattle.refusing.proofs.overlaps.sequence_of.Reads as sequence-of-reads
+use Rattle.finding.proofs.branches.sequence_of.Reads as sequence-of-reads
 
 -- src/question.rt:40:9
 same-lists-requires : tie.Need-same-lists-requires

@@ -8,8 +8,8 @@ use Rattle.deriving.proofs.derived.overlap_in_line.Reads as reads
 use Rattle.deriving.proofs.derived.overlap_in_line.Lts as lts
 use Rattle.reading.proofs.plan.plan_at.Reads as plan-at-reads
 use Rattle.reading.proofs.table.sized.Reads as sized-reads
-use Rattle.refusing.proofs.overlaps.overlap.Reads as overlap-reads
-use Rattle.refusing.proofs.overlaps.sequence_of.Reads as sequence-of-reads
+use Rattle.refusing.proofs.refusal_18.overlap.Reads as overlap-reads
+use Rattle.finding.proofs.branches.sequence_of.Reads as sequence-of-reads
 
 -- src/derived.rt:50:9
 sequence-of-requires : tie.Need-sequence-of-requires

@@ -6,7 +6,7 @@ use Rattle.glintstring.proofs.derivations.check_at_hand.Tie as tie
 use Rattle.glintstring.proofs.derivations.check_at_hand.Reads as reads
 use Rattle.glintstring.proofs.derivations.check_at_hand.Lts as lts
 use Rattle.bytes.proofs.bytes.wide.Reads as wide-reads
-use Rattle.refusing.proofs.overlaps.sequence_of.Reads as sequence-of-reads
+use Rattle.finding.proofs.branches.sequence_of.Reads as sequence-of-reads
 use Rattle.checking.proofs.check.check_derivation.Reads as check-derivation-reads
 use Rattle.glintstring.proofs.derivations.is_beyond.Reads as is-beyond-reads
 use Rattle.reading.proofs.table.get.Reads as get-reads

@@ -1,7 +1,7 @@
 -- The place after all the branches is the place after those that are left; each branch says where the next one stands.
 use mathlib.Core.Path.{_≡_}
-use Rattle.refusing.specs.Branchings.{Branches-here}
-use Rattle.refusing.proofs.OverlapLaws.{branch-first, branches-next}
+use Rattle.finding.specs.Branches.{Branches-here}
+use Rattle.finding.proofs.ByBranch.{branch-first, branches-next}
 use Rattle.ruling.specs.Branched.{branches-end}
 use Rattle.ruling.proofs.BranchRuleLaws.{end-next, end-done}
 use borrow.Author.Needs.{needs}
@@ -9,8 +9,8 @@ use Rattle.ruling.proofs.branches.after_branches.Statement.{statement}
 use Rattle.ruling.proofs.branches.after_branches.Tie as tie
 use Rattle.ruling.proofs.branches.after_branches.Reads as reads
 use Rattle.ruling.proofs.branches.after_branches.Lts as lts
-use Rattle.refusing.proofs.overlaps.next_item.Reads as next-item-reads
-use Rattle.refusing.proofs.overlaps.next_place.Reads as next-place-reads
+use Rattle.finding.proofs.branches.next_item.Reads as next-item-reads
+use Rattle.finding.proofs.branches.next_place.Reads as next-place-reads
 
 abbrev Inv-loop : tie.InvT-loop
 Inv-loop d t count place item left₀ p₀ i₀ left p i = Branches-here d t left p i × (branches-end d t count place item ≡ branches-end d t left p i)

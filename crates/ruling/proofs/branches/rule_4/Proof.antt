@@ -13,7 +13,7 @@ use Rattle.comparing.proofs.spots.same_conclusions.Reads as same-conclusions-re
 use Rattle.reading.proofs.marks.state_of.Reads as state-of-reads
 use Rattle.reading.proofs.plan.plan_at.Reads as plan-at-reads
 use Rattle.reading.proofs.table.sized.Reads as sized-reads
-use Rattle.refusing.proofs.overlaps.sequence_of.Reads as sequence-of-reads
+use Rattle.finding.proofs.branches.sequence_of.Reads as sequence-of-reads
 use Rattle.ruling.proofs.branches.some_branch.Reads as some-branch-reads
 
 -- src/branches.rt:97:9

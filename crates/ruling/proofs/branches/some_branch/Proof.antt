@@ -1,7 +1,7 @@
 -- None of the branches before the one that is looked at is taken, so what all of them give is what those that are left give. The branch's items end
 -- where the next branch begins, and the rest begins after the last branch.
-use Rattle.refusing.specs.Branchings.{Branches-here}
-use Rattle.refusing.proofs.OverlapLaws.{branch-first, condition-first, branches-next}
+use Rattle.finding.specs.Branches.{Branches-here}
+use Rattle.finding.proofs.ByBranch.{branch-first, condition-first, branches-next}
 use Rattle.ruling.proofs.BranchRuleLaws.{Trying, second-there, second-fits, start-fits, branches-start, rest-there, trying-starts, trying-unknown, trying-other, branch-there, count-there, items-fit, taken-here, taken-none}
 use borrow.Author.Needs.{needs}
 use Rattle.ruling.proofs.branches.some_branch.Statement.{statement}
@@ -13,9 +13,9 @@ use Rattle.ruling.proofs.branches.after_branches.Reads as after-branche
 use Rattle.comparing.proofs.plans.count_of.Reads as count-of-reads
 use Rattle.comparing.proofs.plans.joined_plans.Reads as joined-plans-reads
 use Rattle.reading.proofs.marks.each_holds.Reads as each-holds-reads
-use Rattle.refusing.proofs.overlaps.next_item.Reads as next-item-reads
-use Rattle.refusing.proofs.overlaps.next_place.Reads as next-place-reads
-use Rattle.refusing.proofs.overlaps.sequence_of.Reads as sequence-of-reads
+use Rattle.finding.proofs.branches.next_item.Reads as next-item-reads
+use Rattle.finding.proofs.branches.next_place.Reads as next-place-reads
+use Rattle.finding.proofs.branches.sequence_of.Reads as sequence-of-reads
 
 abbrev Inv-loop : tie.InvT-loop
 Inv-loop d t held first cited yc y more second count start rest left₀ p₀ i₀ left p i = Branches-here d t left p i × Trying d t held first cited yc y more left p i

@@ -10,7 +10,7 @@ use Rattle.comparing.proofs.known.lists_known.Reads as lists-known-reads
 use Rattle.comparing.proofs.parts.same_part.Reads as same-part-reads
 use Rattle.comparing.proofs.plans.count_of.Reads as count-of-reads
 use Rattle.comparing.proofs.spots.same_conclusions.Reads as same-conclusions-reads
-use Rattle.refusing.proofs.overlaps.sequence_of.Reads as sequence-of-reads
+use Rattle.finding.proofs.branches.sequence_of.Reads as sequence-of-reads
 use Rattle.ruling.proofs.readings.one_less.Reads as one-less-reads
 
 -- src/readings.rt:55:9

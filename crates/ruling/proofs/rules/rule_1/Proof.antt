@@ -6,8 +6,8 @@ use Rattle.ruling.proofs.rules.rule_1.Tie as tie
 use Rattle.ruling.proofs.rules.rule_1.Reads as reads
 use Rattle.ruling.proofs.rules.rule_1.Lts as lts
 use Rattle.comparing.proofs.parts.same_lists.Reads as same-lists-reads
-use Rattle.refusing.proofs.overlaps.empty.Reads as empty-reads
-use Rattle.refusing.proofs.overlaps.sequence_of.Reads as sequence-of-reads
+use Rattle.finding.proofs.branches.empty.Reads as empty-reads
+use Rattle.finding.proofs.branches.sequence_of.Reads as sequence-of-reads
 
 -- src/rules.rt:30:9
 returns : tie.Need-returns

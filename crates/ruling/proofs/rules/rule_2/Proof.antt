@@ -11,7 +11,7 @@ use Rattle.bytes.proofs.bytes.wide.Reads as wide-reads
 use Rattle.comparing.proofs.known.lists_known.Reads as lists-known-reads
 use Rattle.comparing.proofs.plans.count_of.Reads as count-of-reads
 use Rattle.reading.proofs.marks.state_of.Reads as state-of-reads
-use Rattle.refusing.proofs.overlaps.sequence_of.Reads as sequence-of-reads
+use Rattle.finding.proofs.branches.sequence_of.Reads as sequence-of-reads
 use Rattle.steps.proofs.actions.can_be_run.Reads as can-be-run-reads
 use Rattle.steps.proofs.actions.state_after.Reads as state-after-reads
 use Rattle.steps.proofs.sensing.is_sensing.Reads as is-sensing-reads

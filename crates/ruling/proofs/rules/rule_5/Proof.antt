@@ -9,7 +9,7 @@ use Rattle.comparing.proofs.parts.same_lists.Reads as same-lists-reads
 use Rattle.comparing.proofs.plans.count_of.Reads as count-of-reads
 use Rattle.comparing.proofs.plans.joined_plans.Reads as joined-plans-reads
 use Rattle.comparing.proofs.spots.same_conclusions.Reads as same-conclusions-reads
-use Rattle.refusing.proofs.overlaps.sequence_of.Reads as sequence-of-reads
+use Rattle.finding.proofs.branches.sequence_of.Reads as sequence-of-reads
 
 -- src/rules.rt:84:9
 returns : tie.Need-returns

@@ -7,7 +7,7 @@ use Rattle.ruling.proofs.rules.rule_6.Reads as reads
 use Rattle.ruling.proofs.rules.rule_6.Lts as lts
 use Rattle.comparing.proofs.known.within.Reads as within-reads
 use Rattle.comparing.proofs.plans.same_plans.Reads as same-plans-reads
-use Rattle.refusing.proofs.overlaps.sequence_of.Reads as sequence-of-reads
+use Rattle.finding.proofs.branches.sequence_of.Reads as sequence-of-reads
 
 -- src/rules.rt:122:9
 returns : tie.Need-returns

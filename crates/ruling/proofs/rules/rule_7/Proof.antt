@@ -9,7 +9,7 @@ use Rattle.ruling.proofs.rules.rule_7.Lts as lts
 use Rattle.bytes.proofs.bytes.wide.Reads as wide-reads
 use Rattle.comparing.proofs.plans.count_of.Reads as count-of-reads
 use Rattle.reading.proofs.marks.state_of.Reads as state-of-reads
-use Rattle.refusing.proofs.overlaps.sequence_of.Reads as sequence-of-reads
+use Rattle.finding.proofs.branches.sequence_of.Reads as sequence-of-reads
 use Rattle.steps.proofs.actions.can_be_run.Reads as can-be-run-reads
 use Rattle.steps.proofs.sensing.looks_at.Reads as looks-at-reads
 

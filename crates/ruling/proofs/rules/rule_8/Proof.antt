@@ -10,7 +10,7 @@ use Rattle.ruling.proofs.rules.rule_8.Lts as lts
 use Rattle.bytes.proofs.bytes.wide.Reads as wide-reads
 use Rattle.comparing.proofs.parts.same_lists.Reads as same-lists-reads
 use Rattle.comparing.proofs.plans.same_plans.Reads as same-plans-reads
-use Rattle.refusing.proofs.overlaps.sequence_of.Reads as sequence-of-reads
+use Rattle.finding.proofs.branches.sequence_of.Reads as sequence-of-reads
 
 -- src/rules.rt:183:9
 returns : tie.Need-returns

@@ -3,7 +3,7 @@ use Prim.Native.Nat.{_+_, _-_, _≤_}
 use mathlib.Core.Path.{_≡_}
 use Rattle.meaning.specs.Reading.{placed}
 use Rattle.meaning.specs.Walk.{first-missed}
-use Rattle.refusing.specs.InTable.{found}
+use Rattle.finding.specs.Places.{found}
 use Rattle.reading.specs.Listed.{bytes-from, listed}
 use Rattle.steps.specs.Steps.{met-as}
 use Rattle.steps.proofs.EndLaws.{list-there, list-fits, missed-starts, entry-there, entry-fits, entry-below, missed-here, missed-next, missed-done}

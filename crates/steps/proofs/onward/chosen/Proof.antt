@@ -1,5 +1,5 @@
 -- No branch before the one that is looked at has its condition known true, so the walk from the branching is the walk by the branches that are left.
-use Rattle.refusing.proofs.OverlapLaws.{branch-first, condition-first}
+use Rattle.finding.proofs.ByBranch.{branch-first, condition-first}
 use Rattle.steps.proofs.OnwardLaws.{Choosing, place-fits, place-there, first-item-fits, second-there, second-fits, first-fits, choosing-starts, choosing-next, chosen-at, chosen-none}
 use borrow.Author.Needs.{needs}
 use Rattle.steps.proofs.onward.chosen.Statement.{statement}
@@ -8,8 +8,8 @@ use Rattle.steps.proofs.onward.chosen.Reads as reads
 use Rattle.steps.proofs.onward.chosen.Lts as lts
 use Rattle.bytes.proofs.bytes.wide.Reads as wide-reads
 use Rattle.reading.proofs.marks.each_holds.Reads as each-holds-reads
-use Rattle.refusing.proofs.overlaps.next_item.Reads as next-item-reads
-use Rattle.refusing.proofs.overlaps.next_place.Reads as next-place-reads
+use Rattle.finding.proofs.branches.next_item.Reads as next-item-reads
+use Rattle.finding.proofs.branches.next_place.Reads as next-place-reads
 use Rattle.reading.proofs.table.get.Reads as get-reads
 use Rattle.steps.proofs.onward.into.Reads as into-reads
 

@@ -5,8 +5,8 @@ use Rattle.steps.proofs.onward.into.Statement.{statement}
 use Rattle.steps.proofs.onward.into.Tie as tie
 use Rattle.steps.proofs.onward.into.Reads as reads
 use Rattle.steps.proofs.onward.into.Lts as lts
-use Rattle.refusing.proofs.overlaps.empty.Reads as empty-reads
-use Rattle.refusing.proofs.overlaps.sequence_of.Reads as sequence-of-reads
+use Rattle.finding.proofs.branches.empty.Reads as empty-reads
+use Rattle.finding.proofs.branches.sequence_of.Reads as sequence-of-reads
 use Rattle.steps.proofs.onward.follow.Reads as follow-reads
 
 -- src/onward.rt:43:9
