@@ -23,7 +23,8 @@ use Rattle.reading.specs.Listed.{listed, List-here, holds-as}
 use Rattle.refusing.specs.InTable.{Effect-here}
 use Rattle.reading.specs.declared.marks.Test.the-variants.{Known, Possible}
 use Rattle.reading.proofs.MarkLaws.{mark-other, mark-most}
-use Rattle.steps.specs.AtHand.{request-in, At-hand, Marked}
+use Rattle.steps.specs.Held.{table-in}
+use Rattle.steps.specs.AtHand.{At-hand, Marked}
 use Rattle.steps.specs.Lines.{run-places, effect-places, allowed-at}
 use Rattle.steps.specs.After.{undone, left-at}
 use Rattle.steps.proofs.Served.{runs-at-hand, effects-at-hand}
@@ -107,12 +108,12 @@ pub record Running (s t : List ℕ) (marks : State) (whole : Bool) (k : ℕ) : T
   pub ahead : Runs-ahead s t k
   pub same : whole ≡ allowed-at s (known marks) (ahead .rest)
 
-pub running-starts : (s t : List ℕ) (a : ℕ) (marks : State) (k : ℕ) → At-hand s t → a < 64 → k ≡ first-line t run-lines a → Running s t marks (can-be-run (request-in s .table) a marks) k
+pub running-starts : (s t : List ℕ) (a : ℕ) (marks : State) (k : ℕ) → At-hand s t → a < 64 → k ≡ first-line t run-lines a → Running s t marks (can-be-run (table-in s) a marks) k
 unfolding can-be-run ahead-starts
 running-starts s t a marks k here small at =
-    let runs = runs-at-hand s t here a small in
+    let runs = runs-at-hand s t here a in
     record {
-      ahead = ahead-starts (λ (p : ℕ). List-here 128 s (p + 1)) t run-lines a (run-places s a) (runs .order) (runs .lines) k at;
+      ahead = ahead-starts (λ (p : ℕ). List-here 128 s (p + 1)) t run-lines a (run-places s a) (here .runs a small) (runs .lines) k at;
       same = sym (runs .same (known marks));
     }
 
@@ -195,7 +196,7 @@ pub record Leaving (s t : List ℕ) (a : ℕ) (marks start next : State) (k : �
 
 module _ (s t : List ℕ) (a k : ℕ) (here : At-hand s t) (small : a < 64) (at : k ≡ first-line t effect-lines a) where
   abbrev all-ahead : Effects-ahead s t k
-  all-ahead = let all = effects-at-hand s t here a small in ahead-starts (Effect-here s) t effect-lines a (effect-places s a) (all .order) (all .lines) k at
+  all-ahead = ahead-starts (Effect-here s) t effect-lines a (effect-places s a) (here .effects a small) (effects-at-hand s t here a .lines) k at
 
   pub sweeping-starts : (marks : State) → Marked marks → Sweeping s t a marks marks false k
   unfolding either ahead-starts

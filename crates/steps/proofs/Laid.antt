@@ -1,29 +1,23 @@
--- The table that reading left leads through the plan: by induction on the plan's tree, where a part is given what is left of the whole plan
+-- The table of a request at hand leads through the plan: by induction on the plan's tree, where a part is given what is left of the whole plan
 -- from each of its items on, and what stands around and behind it. Assumes nothing.
 use Prim.Native.Nat.{ℕ, _+_, _-_, _≤_, _<_}
 use native.Mathlib.Omega.{arith}
 use mathlib.Core.Path.{_≡_, refl, sym, _∙_, ap, subst}
 use mathlib.Core.List.{List}
-use lib.ListN.{length, getD, set}
+use lib.ListN.{length, getD}
 use lib.Dec.{leb, ltb}
 use borrow.Author.Tests.{ltb-true, ltb-false, leb-true, leb-false, le-leb, lt-leb}
-use Rattle.meaning.specs.Requests.{Sequence, done, item, Item, act, branching, Branches, none, branch, Request}
+use Rattle.meaning.specs.Requests.{Sequence, done, item, Item, act, branching, Branches, none, branch}
 use Rattle.meaning.specs.Derivations.{join}
 use Rattle.meaning.proofs.TestLaws.{by-test, pick-true, pick-false}
-use Rattle.reading.specs.Noted.{table-noted}
-use Rattle.reading.specs.Planned.{items-of, items-in, items-under, bytes-of, place-of, following, plan-noted}
+use Rattle.reading.specs.Planned.{items-of, items-in, items-under, bytes-of, place-of, following}
 use Rattle.refusing.specs.Plans.{Written, Item-written, Branches-written, Kept, Item-kept, Branches-kept}
-use Rattle.reading.specs.Requested.{goals-place, plan-place, places-noted, request-noted}
-use Rattle.refusing.specs.Settled.{blank}
-use Rattle.refusing.proofs.KeptLaws.{kept}
 use Rattle.refusing.proofs.PlanOverlaps.{some-item}
-use Rattle.refusing.proofs.ReadLaws.{Parts, parts, tabled-long, request-held}
-use Rattle.refusing.proofs.SettleLaws.{blank-long}
-use Rattle.steps.specs.AtHand.{request-in, At-hand}
+use Rattle.steps.specs.Held.{table-in, plan-in, goals-in}
+use Rattle.steps.specs.AtHand.{At-hand}
 use Rattle.steps.specs.Small.{Small, Small-item, Small-under}
-use Rattle.steps.specs.Rests.{rest-in, rest-within, rest-under, rest-at, after-first, span, onward, Next, Branches-laid, Inside-laid, Item-laid}
-use Rattle.steps.proofs.HandLaws.{request-is}
-use Rattle.steps.proofs.NextSlots.{Nexts, Inside-nexts, Under-nexts, nexts-agree, plan-nexts}
+use Rattle.steps.specs.Rests.{rest-in, rest-within, rest-under, rest-at, after-first, span, onward, Nexts, Inside-nexts, Under-nexts, Next, Branches-laid, Inside-laid, Item-laid}
+use Rattle.steps.proofs.HandLaws.{sections}
 use Rattle.steps.proofs.SmallActions.{plan-small}
 use Rattle.steps.proofs.RestLaws.{rest-first, rest-inner, rest-later, under-here, under-later, rest-start, rest-past}
 
@@ -206,33 +200,9 @@ module _ (s t : List ℕ) (plan : Sequence ℕ) (most : items-of plan ≤ 1024) 
       (λ j lo hi. refl)
       i (omega arith) (omega (arith, less))
 
--- THE TABLE that reading left.
-module _ (s : List ℕ) (bytes : (i : ℕ) → getD s i 0 < 256) (x : Request) (whole : Parts s x) where
-  request-nexts : items-of (x .plan) ≤ 1024 → Nexts (request-noted x blank) 1024 0 (x .plan)
-  unfolding request-noted places-noted
-  request-nexts few =
-      let noted : List ℕ = table-noted (x .table) blank in
-      let planned : List ℕ = plan-noted (plan-place x) noted (x .plan) in
-      let long : length noted ≡ 9480 = tabled-long s bytes x whole blank blank-long in
-      nexts-agree (x .plan) 1024 0 planned (request-noted x blank)
-      (record {
-        slot = λ j _ less.
-            kept (set (set planned 5376 (plan-place x)) 5377 (items-of (x .plan))) 5381 (1024 + j) (goals-place x) (λ e. omega (arith, e, less, few))
-            ∙ kept (set planned 5376 (plan-place x)) 5377 (1024 + j) (items-of (x .plan)) (λ e. omega (arith, e, less, few))
-            ∙ kept planned 5376 (1024 + j) (plan-place x) (λ e. omega (arith, e, less, few));
-      })
-      (plan-nexts (plan-place x) noted (x .plan) few (omega (arith, long)))
-
-  request-laid : (i : ℕ) → i < items-of (x .plan) → Item-laid s (request-noted x blank) (x .plan) i
-  request-laid =
-      let held = request-held s bytes x whole blank blank-long in
-      plan-laid s (request-noted x blank) (x .plan) (held .few) (held .written) (held .kept) (request-nexts (held .few))
-      (plan-small (x .table .fluents) (x .table .actions) s (whole .of-table .less) (whole .place) (record { value = x .plan; items = whole .items }) (whole .plan-end) (whole .plan-read))
-
+-- AT HAND.
 module _ (s t : List ℕ) (here : At-hand s t) where
-  pub item-laid : (i : ℕ) → i < items-of (request-in s .plan) → Item-laid s t (request-in s .plan) i
+  pub item-laid : (i : ℕ) → i < items-of (plan-in s t) → Item-laid s t (plan-in s t) i
   item-laid =
-      let x = here .read .request in
-      subst (λ (y : Request). (i : ℕ) → i < items-of (y .plan) → Item-laid s t (y .plan) i) (sym (request-is s t here))
-      (subst (λ (u : List ℕ). (i : ℕ) → i < items-of (x .plan) → Item-laid s u (x .plan) i) (sym (here .read .noted))
-      (request-laid s (here .bytes) x (parts s x (here .end) (here .read .reads))))
+      plan-laid s t (plan-in s t) (here .held .few) (here .held .written) (here .held .kept) (here .nexts)
+      (plan-small (table-in s .fluents) (table-in s .actions) s (sections s t here .less) (getD t 5376 0) (record { value = plan-in s t; items = getD t 5377 0 }) (goals-in t) (here .plan))

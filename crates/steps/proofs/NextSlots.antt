@@ -10,20 +10,7 @@ use Rattle.meaning.specs.Requests.{Sequence, done, item, Item, act, branching, 
 use Rattle.reading.specs.Planned.{items-of, items-in, items-under, bytes-of, bytes-in, place-of, following, rest-noted, inside-noted, branches-noted, sequence-noted, plan-noted}
 use Rattle.refusing.proofs.PlanKept.{rest-length, inside-length, rest-other, branches-other}
 use Rattle.refusing.proofs.PlanOverlaps.{some-item}
-
--- IN THE TABLE, with `met` items before the part and `up` around its sequence.
-unfoldable mutual
-  pub Nexts : List ℕ → (up met : ℕ) → Sequence ℕ → Type 0
-  Nexts t up met done = Unit {0}
-  Nexts t up met (item i rest) = (getD t (1024 + met) 0 ≡ following up (met + items-in i) rest) × Inside-nexts t met i × Nexts t up (met + items-in i) rest
-
-  pub Inside-nexts : List ℕ → (met : ℕ) → Item ℕ → Type 0
-  Inside-nexts t met (act p a) = Unit {0}
-  Inside-nexts t met (branching p bs) = Under-nexts t (1025 + met) (met + 1) bs
-
-  pub Under-nexts : List ℕ → (up met : ℕ) → Branches ℕ → Type 0
-  Under-nexts t up met none = Unit {0}
-  Under-nexts t up met (branch c b rest) = Nexts t up met b × Under-nexts t up (met + items-of b) rest
+use Rattle.steps.specs.Rests.{Nexts, Inside-nexts, Under-nexts}
 
 -- TABLES THAT AGREE on what is next of the items from lo up to hi.
 pub record Same-nexts (lo hi : ℕ) (t u : List ℕ) : Type 0 where

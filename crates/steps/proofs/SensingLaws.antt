@@ -23,10 +23,10 @@ use Rattle.meaning.proofs.PickLaws.{pick-has}
 use Rattle.meaning.proofs.LiteralLaws.{fluent-true, fluent-false}
 use Rattle.meaning.proofs.StateLaws.{mark-true, mark-false, known-true, known-false, after-length}
 use Rattle.meaning.proofs.PairLaws.{after-mark}
-use Rattle.steps.specs.AtHand.{request-in, At-hand, Marked}
+use Rattle.steps.specs.Held.{table-in}
+use Rattle.steps.specs.AtHand.{At-hand, Marked}
 use Rattle.steps.specs.Lines.{Senses}
 use Rattle.steps.specs.Steps.{unknown-above, first-of}
-use Rattle.steps.proofs.Served.{senses-at-hand}
 
 -- MARKED STATES stay marked.
 pub marked-set : (marks : State) (f m : ℕ) → Marked marks → f < 64 → m ≤ 2 → Marked (set marks f m)
@@ -197,12 +197,12 @@ module _ (t : Table) (a : ℕ) (marks : State) (marked : Marked marks) where
 -- THE TABLE of what an action senses.
 module _ (s t : List ℕ) (a : ℕ) (here : At-hand s t) (small : a < 64) where
   abbrev served : Senses s t a
-  served = senses-at-hand s t here a small
+  served = here .senses a small
 
-  pub sensing-is : (end : ℕ) → end ≡ getD t (5312 + a) 0 → ltb 0 end ≡ sensing (request-in s .table) a
+  pub sensing-is : (end : ℕ) → end ≡ getD t (5312 + a) 0 → ltb 0 end ≡ sensing (table-in s) a
   sensing-is end at = ap (ltb 0) at ∙ served .any
 
-  pub looks-is : (f there : ℕ) → f < 64 → there ≡ getD t (5384 + (64 * a + f)) 0 → ltb 0 there ≡ senses (knowledge-of (request-in s .table) a) f
+  pub looks-is : (f there : ℕ) → f < 64 → there ≡ getD t (5384 + (64 * a + f)) 0 → ltb 0 there ≡ senses (knowledge-of (table-in s) a) f
   looks-is f there near at = ap (ltb 0) at ∙ served .slot f near
 
   module _ (end f : ℕ) (at : end ≡ getD t (5312 + a) 0) (more : f < end) where
@@ -221,32 +221,32 @@ module _ (s t : List ℕ) (a : ℕ) (here : At-hand s t) (small : a < 64) where
     pub sensed-there : 5384 + (64 * a + f) < 9480
     sensed-there = let near = fluent-near in omega arith
 
-    module _ (marks : State) (marked : Marked marks) (whole : ℕ) (so-far : whole ≡ first-of (unknown-above (request-in s .table) a marks f)) where
-      pub look-marked : (getD marks f 0 ≡ 0 → ⊥) → whole ≡ first-of (unknown-above (request-in s .table) a marks (f + 1))
-      look-marked some = so-far ∙ ap first-of (unknown-marked (request-in s .table) a marks marked f fluent-near some)
+    module _ (marks : State) (marked : Marked marks) (whole : ℕ) (so-far : whole ≡ first-of (unknown-above (table-in s) a marks f)) where
+      pub look-marked : (getD marks f 0 ≡ 0 → ⊥) → whole ≡ first-of (unknown-above (table-in s) a marks (f + 1))
+      look-marked some = so-far ∙ ap first-of (unknown-marked (table-in s) a marks marked f fluent-near some)
 
       module _ (x : ℕ) (read : x ≡ getD t (5384 + (64 * a + f)) 0) where
-        slot-is : ltb 0 x ≡ senses (knowledge-of (request-in s .table) a) f
+        slot-is : ltb 0 x ≡ senses (knowledge-of (table-in s) a) f
         slot-is = ap (ltb 0) read ∙ served .slot f fluent-near
 
         pub look-found : getD marks f 0 ≡ 0 → 0 < x → f ≡ whole
         unfolding first-of
-        look-found none some = sym (so-far ∙ ap first-of (unknown-here (request-in s .table) a marks marked f fluent-near (sym slot-is ∙ lt-ltb 0 x some) none))
+        look-found none some = sym (so-far ∙ ap first-of (unknown-here (table-in s) a marks marked f fluent-near (sym slot-is ∙ lt-ltb 0 x some) none))
 
-        pub look-unsensed : x ≤ 0 → whole ≡ first-of (unknown-above (request-in s .table) a marks (f + 1))
-        look-unsensed none = so-far ∙ ap first-of (unknown-unsensed (request-in s .table) a marks marked f fluent-near (sym slot-is ∙ le-ltb 0 x none))
+        pub look-unsensed : x ≤ 0 → whole ≡ first-of (unknown-above (table-in s) a marks (f + 1))
+        look-unsensed none = so-far ∙ ap first-of (unknown-unsensed (table-in s) a marks marked f fluent-near (sym slot-is ∙ le-ltb 0 x none))
 
   module _ (end f : ℕ) (at : end ≡ getD t (5312 + a) 0) (done : end ≤ f) where
-    pub look-done : (marks : State) (whole : ℕ) → whole ≡ first-of (unknown-above (request-in s .table) a marks f) → 64 ≡ whole
+    pub look-done : (marks : State) (whole : ℕ) → whole ≡ first-of (unknown-above (table-in s) a marks f) → 64 ≡ whole
     unfolding first-of unknown-above
     look-done marks whole so-far =
-        sym (so-far ∙ ap first-of (unknown-none-sensed (knowledge-of (request-in s .table) a) marks f (drop f marks) (λ g h. by-test _ (λ e. let less = served .to g e in absurd (omega arith)) (λ e. e))))
+        sym (so-far ∙ ap first-of (unknown-none-sensed (knowledge-of (table-in s) a) marks f (drop f marks) (λ g h. by-test _ (λ e. let less = served .to g e in absurd (omega arith)) (λ e. e))))
 
   module _ (back : ℕ) (at : back ≡ getD t (5248 + a) 0) where
     pub back-within : back ≤ 64
     back-within = let most = served .most in omega arith
 
-    pub first-from : (marks : State) (r : ℕ) → Marked marks → r ≡ first-of (unknown-above (request-in s .table) a marks (64 - back)) → r ≡ first-of (unknown-sensed (request-in s .table) a marks)
+    pub first-from : (marks : State) (r : ℕ) → Marked marks → r ≡ first-of (unknown-above (table-in s) a marks (64 - back)) → r ≡ first-of (unknown-sensed (table-in s) a marks)
     first-from marks r marked is =
-        is ∙ ap first-of (sym (unknown-all (request-in s .table) a marks ∙ unknown-skipped (request-in s .table) a marks marked (64 - back) (omega arith)
+        is ∙ ap first-of (sym (unknown-all (table-in s) a marks ∙ unknown-skipped (table-in s) a marks marked (64 - back) (omega arith)
         (λ g h. by-test _ (λ e. let from = served .from g e in absurd (omega arith)) (λ e. e))))

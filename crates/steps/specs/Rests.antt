@@ -8,7 +8,7 @@ use Rattle.meaning.specs.Tests.{pick}
 use Rattle.meaning.specs.Requests.{Sequence, done, item, Item, act, branching, Branches, none, branch}
 use Rattle.meaning.specs.Derivations.{join}
 use Rattle.reading.specs.Noted.{item-place, item-next}
-use Rattle.reading.specs.Planned.{items-of, items-in, bytes-of, place-of}
+use Rattle.reading.specs.Planned.{items-of, items-in, bytes-of, place-of, following}
 use Rattle.refusing.specs.Plans.{Item-written, Branch-kept}
 
 -- From item i on, in a part with `met` items before it and `after` behind it.
@@ -50,6 +50,20 @@ onward b c = pick (leb c 1024) (λ _. rest-at b c) (λ _. after-first (rest-at b
 pub record Position (b : Sequence ℕ) (at : ℕ) : Type 0 where
   pub most : at ≤ 1024
   pub there : (at ≡ 1024 → ⊥) → at < items-of b
+
+-- WHAT THE TABLE HAS as each item's next, with `met` items before the part and `up` around its sequence.
+unfoldable mutual
+  pub Nexts : List ℕ → (up met : ℕ) → Sequence ℕ → Type 0
+  Nexts t up met done = Unit {0}
+  Nexts t up met (item i rest) = (getD t (item-next + met) 0 ≡ following up (met + items-in i) rest) × Inside-nexts t met i × Nexts t up (met + items-in i) rest
+
+  pub Inside-nexts : List ℕ → (met : ℕ) → Item ℕ → Type 0
+  Inside-nexts t met (act p a) = Unit {0}
+  Inside-nexts t met (branching p bs) = Under-nexts t (1025 + met) (met + 1) bs
+
+  pub Under-nexts : List ℕ → (up met : ℕ) → Branches ℕ → Type 0
+  Under-nexts t up met none = Unit {0}
+  Under-nexts t up met (branch c b rest) = Nexts t up met b × Under-nexts t up (met + items-of b) rest
 
 -- WHAT STANDS THERE of item i of the plan b. What follows it is past all that is inside it, and so is the end of the branching around it.
 pub record Next (t : List ℕ) (b : Sequence ℕ) (i : ℕ) (after : Sequence ℕ) : Type 0 where

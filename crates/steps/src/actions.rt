@@ -1,7 +1,8 @@
 ghost use mathlib.Core.Path.{_≡_};
 ghost use Prim.Native.Nat.{_<_};
 ghost use Rattle.meaning.specs.States.{can-be-run, state-after};
-ghost use Rattle.steps.specs.AtHand.{request-in, At-hand, Marked};
+ghost use Rattle.steps.specs.Held.{table-in};
+ghost use Rattle.steps.specs.AtHand.{At-hand, Marked};
 ghost use Rattle.steps.specs.Lines.{effect-places};
 ghost use Rattle.steps.specs.After.{left-at};
 use bytes::bytes::wide;
@@ -18,7 +19,7 @@ use reading::table::next_line;
 pub fn can_be_run(s: &[u8], t: &Table, a: usize, marks: &[u8; 64]) -> bool
     requires { ⌜ At-hand (now s) (now t) ⌝ }
     requires { ⌜ a < 64 ⌝ }
-    ensures { λ r. ⌜ r ≡ can-be-run (request-in (now (s .entry)) .table) a (now (marks .entry)) ⌝ }
+    ensures { λ r. ⌜ r ≡ can-be-run (table-in (now (s .entry))) a (now (marks .entry)) ⌝ }
 {
     let mut k = first_line(t, table::EXECUTABILITY, a);
     while 0 < k {
@@ -65,7 +66,7 @@ pub fn state_after(s: &[u8], t: &Table, a: usize, marks: [u8; 64]) -> [u8; 64]
     requires { ⌜ At-hand (now s) (now t) ⌝ }
     requires { ⌜ a < 64 ⌝ }
     requires { ⌜ Marked marks ⌝ }
-    ensures { λ r. ⌜ r ≡ state-after (request-in (now (s .entry)) .table) a marks ⌝ }
+    ensures { λ r. ⌜ r ≡ state-after (table-in (now (s .entry))) a marks ⌝ }
 {
     let mut next = marks;
     let mut told = false;

@@ -4,7 +4,8 @@ ghost use Rattle.meaning.specs.Reading.{placed};
 ghost use Rattle.meaning.specs.Walk.{first-missed, missed-in};
 ghost use Rattle.refusing.specs.InTable.{found};
 ghost use Rattle.reading.specs.Listed.{listed, List-here};
-ghost use Rattle.steps.specs.AtHand.{request-in, At-hand, Marked};
+ghost use Rattle.steps.specs.Held.{request-in};
+ghost use Rattle.steps.specs.AtHand.{At-hand, Marked};
 ghost use Rattle.steps.specs.Steps.{met-as, bound-as};
 use bytes::bytes::wide;
 use reading::marks::Test;
@@ -55,7 +56,7 @@ fn first_missed(asked: Asked, marks: &[u8; 64], s: &[u8], p: usize) -> Found
 pub fn missed(s: &[u8], t: &Table, marks: &[u8; 64]) -> Found
     requires { ⌜ At-hand (now s) (now t) ⌝ }
     requires { ⌜ Marked (now marks) ⌝ }
-    ensures { λ r. ⌜ r ≡ found (missed-in (request-in (now (s .entry))) (now (marks .entry))) ⌝ }
+    ensures { λ r. ⌜ r ≡ found (missed-in (request-in (now (s .entry)) (now (t .entry))) (now (marks .entry))) ⌝ }
 {
     let goals = get(t, table::GOALS);
     match first_missed(Asked::Goal, marks, s, goals) {

@@ -2,7 +2,8 @@ ghost use mathlib.Core.Path.{_≡_};
 ghost use Prim.Native.Nat.{_<_};
 ghost use Rattle.meaning.specs.Lines.{knowledge-of, sensing, senses};
 ghost use Rattle.meaning.specs.States.{unknown-sensed};
-ghost use Rattle.steps.specs.AtHand.{request-in, At-hand, Marked};
+ghost use Rattle.steps.specs.Held.{table-in};
+ghost use Rattle.steps.specs.AtHand.{At-hand, Marked};
 ghost use Rattle.steps.specs.Steps.{unknown-above, first-of};
 use reading::table;
 use reading::table::Table;
@@ -12,7 +13,7 @@ use reading::table::get;
 pub fn is_sensing(s: &[u8], t: &Table, a: usize) -> bool
     requires { ⌜ At-hand (now s) (now t) ⌝ }
     requires { ⌜ a < 64 ⌝ }
-    ensures { λ r. ⌜ r ≡ sensing (request-in (now (s .entry)) .table) a ⌝ }
+    ensures { λ r. ⌜ r ≡ sensing (table-in (now (s .entry))) a ⌝ }
 {
     let slot = table::SENSED_TO + a;
     let end = get(t, slot);
@@ -24,7 +25,7 @@ pub fn looks_at(s: &[u8], t: &Table, a: usize, f: usize) -> bool
     requires { ⌜ At-hand (now s) (now t) ⌝ }
     requires { ⌜ a < 64 ⌝ }
     requires { ⌜ f < 64 ⌝ }
-    ensures { λ r. ⌜ r ≡ senses (knowledge-of (request-in (now (s .entry)) .table) a) f ⌝ }
+    ensures { λ r. ⌜ r ≡ senses (knowledge-of (table-in (now (s .entry))) a) f ⌝ }
 {
     let row = 64 * a;
     let pair = row + f;
@@ -38,7 +39,7 @@ pub fn next_unknown(s: &[u8], t: &Table, a: usize, from: usize, marks: &[u8; 64]
     requires { ⌜ At-hand (now s) (now t) ⌝ }
     requires { ⌜ a < 64 ⌝ }
     requires { ⌜ Marked (now marks) ⌝ }
-    ensures { λ r. ⌜ r ≡ first-of (unknown-above (request-in (now (s .entry)) .table) a (now (marks .entry)) from) ⌝ }
+    ensures { λ r. ⌜ r ≡ first-of (unknown-above (table-in (now (s .entry))) a (now (marks .entry)) from) ⌝ }
 {
     let last = table::SENSED_TO + a;
     let end = get(t, last);
@@ -64,7 +65,7 @@ pub fn first_unknown(s: &[u8], t: &Table, a: usize, marks: &[u8; 64]) -> usize
     requires { ⌜ At-hand (now s) (now t) ⌝ }
     requires { ⌜ a < 64 ⌝ }
     requires { ⌜ Marked (now marks) ⌝ }
-    ensures { λ r. ⌜ r ≡ first-of (unknown-sensed (request-in (now (s .entry)) .table) a (now (marks .entry))) ⌝ }
+    ensures { λ r. ⌜ r ≡ first-of (unknown-sensed (table-in (now (s .entry))) a (now (marks .entry))) ⌝ }
 {
     let slot = table::SENSED_FROM + a;
     let back = get(t, slot);
