@@ -14,7 +14,7 @@ use Rattle.meaning.proofs.TestLaws.{by-test}
 use Rattle.reading.specs.Planned.{items-of, items-in, items-under, bytes-of, bytes-in, place-of, following, branch-noted, rest-noted, inside-noted, branches-noted, sequence-noted, plan-noted}
 use Rattle.finding.specs.PlansHeld.{Kept, Item-kept, Branches-kept}
 use Rattle.reading.proofs.NotingLaws.{branch-empty, branch-ended}
-use Rattle.reading.specs.Noted.{branch-place, branch-item, effect-lines, around}
+use Rattle.reading.specs.Noted.{branch-place, branch-item, effect-lines, around-from}
 use Rattle.finding.proofs.PlanHere.{some-item}
 
 branch-made : (first met p : ℕ) (t : List ℕ) → first < met → branch-noted first met p t ≡ set (set t (branch-place + first) p) (branch-item + first) met
@@ -47,7 +47,7 @@ mutual
 
   pub inside-length : (i : Item ℕ) (met : ℕ) (t : List ℕ) → length (inside-noted met t i) ≡ length t
   inside-length (act p a) met t = refl
-  inside-length (branching p bs) met t = branches-length bs (around + met) (met + 1) (p + 2) t
+  inside-length (branching p bs) met t = branches-length bs (around-from + met) (met + 1) (p + 2) t
 
   branches-length : (bs : Branches ℕ) (up met p : ℕ) (t : List ℕ) → length (branches-noted up met p t bs) ≡ length t
   branches-length none up met p t = refl
@@ -87,7 +87,7 @@ mutual
 
   inside-other : (i : Item ℕ) (met : ℕ) (t : List ℕ) (x : ℕ) → met + items-in i ≤ format .items → Off met (met + items-in i) x → getD (inside-noted met t i) x 0 ≡ getD t x 0
   inside-other (act p a) met t x few apart = refl
-  inside-other (branching p bs) met t x few apart = branches-other bs (around + met) (met + 1) (p + 2) t x (omega (arith, few)) (λ a d e. apart a (omega (arith, d)) (omega (arith, e)))
+  inside-other (branching p bs) met t x few apart = branches-other bs (around-from + met) (met + 1) (p + 2) t x (omega (arith, few)) (λ a d e. apart a (omega (arith, d)) (omega (arith, e)))
 
   pub branches-other : (bs : Branches ℕ) (up met p : ℕ) (t : List ℕ) (x : ℕ) → met + items-under bs ≤ format .items → Off met (met + items-under bs) x → getD (branches-noted up met p t bs) x 0 ≡ getD t x 0
   branches-other none up met p t x few apart = refl
@@ -209,8 +209,8 @@ mutual
   inside-kept : (i : Item ℕ) (met : ℕ) (t : List ℕ) → getD t (0 + met) 0 ≡ place-of i → met + items-in i ≤ format .items → effect-lines ≤ length t → Item-kept (inside-noted met t i) met i
   inside-kept (act p a) met t here few room = here
   inside-kept (branching p bs) met t here few room = (
-    branches-other bs (around + met) (met + 1) (p + 2) t (0 + met) (omega (arith, few)) (λ a d e. omega (arith, d, few)) ∙ here,
-    branches-keep bs (around + met) (met + 1) (p + 2) t (omega (arith, few)) room,
+    branches-other bs (around-from + met) (met + 1) (p + 2) t (0 + met) (omega (arith, few)) (λ a d e. omega (arith, d, few)) ∙ here,
+    branches-keep bs (around-from + met) (met + 1) (p + 2) t (omega (arith, few)) room,
   )
 
   branches-keep : (bs : Branches ℕ) (up met p : ℕ) (t : List ℕ) → met + items-under bs ≤ format .items → effect-lines ≤ length t → Branches-kept (branches-noted up met p t bs) met p bs

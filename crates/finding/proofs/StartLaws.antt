@@ -20,7 +20,7 @@ pub record Starts (s : List ℕ) (t : Table) : Type 0 where
   pub here : List-here all-literals s 2
   pub facts : listed s 2 ≡ t .facts
 
-table-starts : (s : List ℕ) (t : Table) (p : ℕ) → table-at format s 0 ≡ got t p → Starts s t
+pub table-starts : (s : List ℕ) (t : Table) (p : ℕ) → table-at format s 0 ≡ got t p → Starts s t
 unfolding table-at bound-of
 table-starts s t p e =
     after-got (count-at 1 (format .fluents) s 0) _ e λ n p₁ en u₁.

@@ -20,7 +20,7 @@ use Rattle.bytes.proofs.ListLaws.{passed-to, passed-stop}
 use Rattle.reading.proofs.PlanSizes.{count-through, body-through, sequence-read}
 use Rattle.reading.proofs.NotingLaws.{Going, fault-met, met-value, noting-built, with-items}
 use Rattle.reading.proofs.SectionLaws.{fault-turned}
-use Rattle.reading.specs.Noted.{around}
+use Rattle.reading.specs.Noted.{around-from}
 
 -- BRANCHES.
 module _ (n m deep up : ℕ) (s : List ℕ) (p met : ℕ) (t : List ℕ) (body : Passed) (read : body ≡ passed (body-at format n s p)) where
@@ -45,7 +45,7 @@ module _ (n m deep : ℕ) (s : List ℕ) (start i : ℕ) (t : List ℕ) where
 
   abbrev pub branching-rest : (left p met : ℕ) → List ℕ → Got (Met (List ℕ))
   branching-rest left p met u =
-      noting-met (branches-noted (around + i) met p u) (branches-at format n m s (sequence-at format n m s (branching-at format n m s (deep - 1))) left p met)
+      noting-met (branches-noted (around-from + i) met p u) (branches-at format n m s (sequence-at format n m s (branching-at format n m s (deep - 1))) left p met)
 
 module _ (n m : ℕ) (s : List ℕ) (start i : ℕ) (t : List ℕ) (count : Read) (read : count ≡ number-read (count-at 1 8 s (start + 1))) where
   pub branching-fault : (deep k q : ℕ) (u : List ℕ) → (deep ≡ 0 → ⊥) → count ≡ Fault k q → outcome-met (Fault k q) u ≡ noting-met (inside-noted i t) (branching-at format n m s deep start (i + 1))
@@ -58,7 +58,7 @@ module _ (n m : ℕ) (s : List ℕ) (start i : ℕ) (t : List ℕ) (count : Read
   unfolding branching-at next inside-noted
   branching-opened deep c q given place =
       rw (given, sub-one) (noting-built (inside-noted i t) (branching start) (branches-at format n m s (sequence-at format n m s (branching-at format n m s deep)) c q (i + 1))
-      ∙ ap (λ (r : ℕ). noting-met (branches-noted (around + i) (i + 1) r t) (branches-at format n m s (sequence-at format n m s (branching-at format n m s deep)) c q (i + 1))) place)
+      ∙ ap (λ (r : ℕ). noting-met (branches-noted (around-from + i) (i + 1) r t) (branches-at format n m s (sequence-at format n m s (branching-at format n m s deep)) c q (i + 1))) place)
 
   pub branching-starts : (deep c q : ℕ) → (deep ≡ 0 → ⊥) → i < format .items → count ≡ Value c q
       → Going s (branching-whole n m deep s start i t) (branching-rest n m deep s start i t c q (i + 1) t) q (i + 1)

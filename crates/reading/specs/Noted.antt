@@ -19,12 +19,12 @@ use Rattle.bytes.specs.declared.lists.Passed.the-variants.{To, Fault as Stop}
 abbrev pub item-place : ℕ
 item-place = 0
 
--- Item i: the item after it in its sequence; after the last one the limit of items, or `around` and the number of the branching around it.
+-- Item i: the item after it in its sequence; after the last one the limit of items, or `around-from` and the number of the branching around it.
 abbrev pub item-next : ℕ
 item-next = format .items
 
-abbrev pub around : ℕ
-around = format .items + 1
+abbrev pub around-from : ℕ
+around-from = format .items + 1
 
 -- Item i that opens a branch: the place after the branch, and how many items are met up to there.
 abbrev pub branch-place : ℕ

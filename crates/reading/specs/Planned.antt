@@ -7,7 +7,7 @@ use Rattle.meaning.specs.Tests.{pick}
 use Rattle.meaning.specs.Limits.{format}
 use Rattle.meaning.specs.Requests.{Sequence, done, item, Item, act, branching, Branches, none, branch}
 use Rattle.meaning.specs.Reading.{Got, got, fault, next, Met, body-at, sequence-at, branching-at}
-use Rattle.reading.specs.Noted.{item-place, item-next, branch-place, branch-item, around}
+use Rattle.reading.specs.Noted.{item-place, item-next, branch-place, branch-item, around-from}
 use Rattle.bytes.specs.declared.bytes.Read.{Read}
 use Rattle.bytes.specs.declared.bytes.Read.the-variants.{Value, Fault}
 
@@ -68,7 +68,7 @@ unfoldable mutual
   -- What stands inside an item.
   pub inside-noted : (met : ℕ) → List ℕ → Item ℕ → List ℕ
   inside-noted met t (act p a) = t
-  inside-noted met t (branching p bs) = branches-noted (around + met) (met + 1) (p + 2) t bs
+  inside-noted met t (branching p bs) = branches-noted (around-from + met) (met + 1) (p + 2) t bs
 
   -- Branches from p on; a branch's sequence starts after its condition.
   pub branches-noted : (up met p : ℕ) → List ℕ → Branches ℕ → List ℕ

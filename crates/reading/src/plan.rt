@@ -138,7 +138,7 @@ fn branching_at(
     }
     let inner = deep - 1;
     let count = start + 1;
-    let up = table::AROUND + i;
+    let up = table::AROUND_FROM + i;
     match count_at(1, limits::BRANCHES, s, count) {
         Read::Value(c, q) => {
             let mut left = c;

@@ -12,7 +12,7 @@ pub const ITEM_PLACE: usize = 0;
 
 pub const ITEM_NEXT: usize = limits::ITEMS;
 
-pub const AROUND: usize = limits::ITEMS + 1;
+pub const AROUND_FROM: usize = limits::ITEMS + 1;
 
 pub const BRANCH_PLACE: usize = 2 * limits::ITEMS;
 

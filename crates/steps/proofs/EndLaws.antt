@@ -10,6 +10,7 @@ use mir.Syntax.{w64}
 use mir.Val.{Fits}
 use borrow.Author.Tests.{lt-ltb, le-ltb, eqb-true, eqb-false}
 use Rattle.meaning.specs.Tests.{either, pick}
+use Rattle.meaning.specs.Limits.{format, all-literals}
 use Rattle.meaning.specs.Requests.{Entry}
 use Rattle.meaning.specs.Refusals
 use Rattle.meaning.specs.Refusals.{or-else}
@@ -24,21 +25,22 @@ use Rattle.finding.specs.declared.places.Found.the-variants.{Nowhere, At}
 use Rattle.finding.specs.Places.{found}
 use Rattle.reading.specs.Listed.{bytes-from, listed, List-here, holds-as}
 use Rattle.reading.proofs.MarkLaws.{bytes-next, bytes-done}
+use Rattle.reading.specs.Noted.{goals-slot}
 use Rattle.finding.proofs.FoundLaws.{found-none, found-at}
 use Rattle.steps.specs.declared.goals.Asked.{Asked}
 use Rattle.steps.specs.declared.goals.Asked.the-variants.{Goal, Whether}
-use Rattle.steps.specs.AtHand.{request-in, At-hand, Marked}
-use Rattle.steps.specs.Lines.{goals-in, whether-in}
+use Rattle.steps.specs.Held.{goals-in, whether-in, request-in}
+use Rattle.steps.specs.AtHand.{At-hand, Marked}
 use Rattle.steps.specs.Steps.{bound-as, met-as}
-use Rattle.steps.proofs.Served.{ends-at-hand}
+use Rattle.steps.proofs.HandLaws.{goals-here, whether-here}
 
 -- ONE ENTRY.
 module _ (asked : Asked) (x : ℕ) (below : x < bound-as asked) where
-  pub goal-below : asked ≡ Goal → x < 128
+  pub goal-below : asked ≡ Goal → x < all-literals
   unfolding bound-as
   goal-below e = rw e at below
 
-  pub fluent-below : asked ≡ Whether → x < 64
+  pub fluent-below : asked ≡ Whether → x < format .fluents
   unfolding bound-as
   fluent-below e = rw e at below
 
@@ -109,14 +111,14 @@ module _ (whole : Code.Found) (test : ℕ → Bool) (s : List ℕ) (end i : ℕ)
   missed-done h = sym (so-far ∙ rw (bytes-done s end i h))
 
 -- THE GOALS, and then the whether entries.
-module _ (s t : List ℕ) (here : At-hand s t) (goals : ℕ) (is : goals ≡ getD t 5381 0) where
+module _ (s t : List ℕ) (here : At-hand s t) (goals : ℕ) (is : goals ≡ getD t goals-slot 0) where
   pub goals-there : List-here (bound-as Goal) s goals
   unfolding bound-as goals-in
-  goals-there = rw is (ends-at-hand s t here .goals-here)
+  goals-there = rw is (goals-here s t here)
 
-  goals-are : placed (goals + 1) (listed s goals) ≡ request-in s .goals
-  unfolding goals-in
-  goals-are = rw is (ends-at-hand s t here .goals-same)
+  goals-are : placed (goals + 1) (listed s goals) ≡ request-in s t .goals
+  unfolding request-in goals-in
+  goals-are = rw is
 
   pub goals-inside : goals < length s
   goals-inside = let ends = goals-there .ends in omega arith
@@ -128,29 +130,29 @@ module _ (s t : List ℕ) (here : At-hand s t) (goals : ℕ) (is : goals ≡ get
     pub whether-fits : Fits w64 (length s) → Fits w64 (goals + 1 + x)
     whether-fits room = let ends = goals-there .ends in let most = room .fits in record { fits = omega arith }
 
-    whether-is : placed (goals + 1 + x + 1) (listed s (goals + 1 + x)) ≡ request-in s .whether
-    unfolding goals-in whether-in
-    whether-is = rw (byte, is) (ends-at-hand s t here .whether-same)
+    whether-is : placed (goals + 1 + x + 1) (listed s (goals + 1 + x)) ≡ request-in s t .whether
+    unfolding request-in goals-in whether-in
+    whether-is = rw (byte, is)
 
     pub whether-there : List-here (bound-as Whether) s (goals + 1 + x)
     unfolding bound-as goals-in whether-in
-    whether-there = rw (byte, is) (ends-at-hand s t here .whether-here)
+    whether-there = rw (byte, is) (whether-here s t here)
 
   module _ (marks : State) (r : Code.Found) (looked : r ≡ found (first-missed (met-as Goal marks) (placed (goals + 1) (listed s goals)))) where
-    goals-looked : r ≡ found (first-missed (known marks) (request-in s .goals))
+    goals-looked : r ≡ found (first-missed (known marks) (request-in s t .goals))
     unfolding met-as
     goals-looked = looked ∙ ap (λ (es : List Entry). found (first-missed (known marks) es)) goals-are
 
-    pub goal-missed : (p : ℕ) → r ≡ At p → At p ≡ found (missed-in (request-in s) marks)
+    pub goal-missed : (p : ℕ) → r ≡ At p → At p ≡ found (missed-in (request-in s t) marks)
     unfolding missed-in or-else found
     goal-missed p e =
-        let is : first-missed (known marks) (request-in s .goals) ≡ Refusals.at p = found-at _ r goals-looked p e in
+        let is : first-missed (known marks) (request-in s t .goals) ≡ Refusals.at p = found-at _ r goals-looked p e in
         rw is
 
-    pub whether-missed : r ≡ Nowhere → (x : ℕ) → x ≡ getD s goals 0 → (q : Code.Found) → q ≡ found (first-missed (met-as Whether marks) (placed (goals + 1 + x + 1) (listed s (goals + 1 + x)))) → q ≡ found (missed-in (request-in s) marks)
+    pub whether-missed : r ≡ Nowhere → (x : ℕ) → x ≡ getD s goals 0 → (q : Code.Found) → q ≡ found (first-missed (met-as Whether marks) (placed (goals + 1 + x + 1) (listed s (goals + 1 + x)))) → q ≡ found (missed-in (request-in s t) marks)
     unfolding missed-in or-else met-as
     whether-missed e x byte q asked =
-        let is : first-missed (known marks) (request-in s .goals) ≡ Refusals.nowhere = found-none _ r goals-looked e in
+        let is : first-missed (known marks) (request-in s t .goals) ≡ Refusals.nowhere = found-none _ r goals-looked e in
         asked
         ∙ ap (λ (es : List Entry). found (first-missed (known-whether marks) es)) (whether-is x byte)
         ∙ rw is

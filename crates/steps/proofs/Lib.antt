@@ -1,10 +1,11 @@
+pub mod StandLaws
 pub mod HandLaws
 pub mod ToldMarks
 pub mod SlotLaws
-pub mod StandLaws
 pub mod SensedLaws
 pub mod Served
 pub mod NextSlots
+pub mod JustRead
 pub mod SmallActions
 pub mod RestLaws
 pub mod Laid

@@ -13,6 +13,7 @@ use mir.Syntax.{w64}
 use mir.Val.{Fits}
 use borrow.Author.Tests.{eqb-false, eq-eqb, lt-ltb, le-ltb}
 use Rattle.meaning.specs.Tests.{both, either, fails, pick}
+use Rattle.meaning.specs.Limits.{format}
 use Rattle.meaning.specs.Limits
 use Rattle.meaning.specs.Literals.{says-true, says-false}
 use Rattle.meaning.specs.Requests.{Knowledge, Table}
@@ -23,13 +24,14 @@ use Rattle.meaning.proofs.PickLaws.{pick-has}
 use Rattle.meaning.proofs.LiteralLaws.{fluent-true, fluent-false}
 use Rattle.meaning.proofs.StateLaws.{mark-true, mark-false, known-true, known-false, after-length}
 use Rattle.meaning.proofs.PairLaws.{after-mark}
-use Rattle.steps.specs.AtHand.{request-in, At-hand, Marked}
+use Rattle.reading.specs.Noted.{sensed-from, sensed-to, sensed, slots}
+use Rattle.steps.specs.Held.{table-in}
+use Rattle.steps.specs.AtHand.{At-hand, Marked}
 use Rattle.steps.specs.Lines.{Senses}
 use Rattle.steps.specs.Steps.{unknown-above, first-of}
-use Rattle.steps.proofs.Served.{senses-at-hand}
 
 -- MARKED STATES stay marked.
-pub marked-set : (marks : State) (f m : ℕ) → Marked marks → f < 64 → m ≤ 2 → Marked (set marks f m)
+pub marked-set : (marks : State) (f m : ℕ) → Marked marks → f < format .fluents → m ≤ 2 → Marked (set marks f m)
 marked-set marks f m marked near most = record {
   sized = length-set marks f m ∙ marked .sized;
   small = λ g. elim (ℕ-discrete g f) [
@@ -39,7 +41,7 @@ marked-set marks f m marked near most = record {
 }
 
 -- The two readings of a fluent, the second set over the first.
-module _ (f : ℕ) (marks : State) (small : f < 64) (marked : Marked marks) where
+module _ (f : ℕ) (marks : State) (small : f < format .fluents) (marked : Marked marks) where
   pub first-marked : Marked (set marks f 1)
   first-marked = marked-set marks f 1 marked small (omega arith)
 
@@ -116,17 +118,17 @@ module _ (t : Table) (a : ℕ) (marks : State) (marked : Marked marks) where
   abbrev reads : ℕ → Bool
   reads f = both (senses (knowledge-of t a) f) (fails (known-whether marks f))
 
-  unknown-step : (f : ℕ) → f < 64 → unknown-above t a marks f ≡ pick (reads f) (λ _. f ∷ unknown-above t a marks (f + 1)) (λ _. unknown-above t a marks (f + 1))
+  unknown-step : (f : ℕ) → f < format .fluents → unknown-above t a marks f ≡ pick (reads f) (λ _. f ∷ unknown-above t a marks (f + 1)) (λ _. unknown-above t a marks (f + 1))
   unfolding unknown-above unknown-from
   unknown-step f near =
       let up : suc f ≡ f + 1 = omega arith in
       ap (unknown-from (knowledge-of t a) marks f) (drop-cons marks f 0 (rw (marked .sized) near) ∙ ap (λ (k : ℕ). getD marks f 0 ∷ drop k marks) up)
 
-  unknown-far : (f : ℕ) → 64 ≤ f → unknown-above t a marks f ≡ []
+  unknown-far : (f : ℕ) → format .fluents ≤ f → unknown-above t a marks f ≡ []
   unfolding unknown-above unknown-from
   unknown-far f far = ap (unknown-from (knowledge-of t a) marks f) (drop-of-length-le marks {i = f} (rw (marked .sized) far))
 
-  module _ (f : ℕ) (near : f < 64) where
+  module _ (f : ℕ) (near : f < format .fluents) where
     unknown-here : senses (knowledge-of t a) f ≡ true → getD marks f 0 ≡ 0 → unknown-above t a marks f ≡ f ∷ unknown-above t a marks (f + 1)
     unknown-here sensed none = unknown-step f near ∙ pick-true _ _ _ (both-true _ _ sensed (fails-false _ (unmarked-unknown marks f none)))
 
@@ -137,7 +139,7 @@ module _ (t : Table) (a : ℕ) (marks : State) (marked : Marked marks) where
     unknown-marked : (getD marks f 0 ≡ 0 → ⊥) → unknown-above t a marks f ≡ unknown-above t a marks (f + 1)
     unknown-marked some = unknown-step f near ∙ pick-false _ _ _ (by-test (reads f) (λ e. clash (marked-known marks f marked some) (fails-true _ (both-right _ _ e))) (λ e. e))
 
-  unknown-skipped : (n : ℕ) → n ≤ 64 → ((g : ℕ) → g < n → senses (knowledge-of t a) g ≡ false) → unknown-above t a marks 0 ≡ unknown-above t a marks n
+  unknown-skipped : (n : ℕ) → n ≤ format .fluents → ((g : ℕ) → g < n → senses (knowledge-of t a) g ≡ false) → unknown-above t a marks 0 ≡ unknown-above t a marks n
   unknown-skipped zero most none = refl
   unknown-skipped (suc n) most none =
       let up : n + 1 ≡ suc n = omega arith in
@@ -148,12 +150,12 @@ module _ (t : Table) (a : ℕ) (marks : State) (marked : Marked marks) where
     fluent : ℕ
     is : unknown-above t a marks f ≡ fluent ∷ unknown-above t a marks (fluent + 1)
     above : f ≤ fluent
-    below : fluent < 64
+    below : fluent < format .fluents
 
-  unknown-cases : (n f : ℕ) → 64 ≤ f + n → (unknown-above t a marks f ≡ []) ⊎ Read-first f
+  unknown-cases : (n f : ℕ) → format .fluents ≤ f + n → (unknown-above t a marks f ≡ []) ⊎ Read-first f
   unknown-cases zero f far = inl (unknown-far f (omega arith))
   unknown-cases (suc n) f far =
-      elim (decLt f 64) [
+      elim (decLt f (format .fluents)) [
         | yes near ↦ by-test (reads f)
             (λ e. inr (record { fluent = f; is = unknown-step f near ∙ pick-true _ _ _ e; above = omega arith; below = near }))
             (λ e.
@@ -165,88 +167,88 @@ module _ (t : Table) (a : ℕ) (marks : State) (marked : Marked marks) where
       ]
 
   module _ (f g : ℕ) (first : g ≡ first-of (unknown-above t a marks f)) where
-    read-first : g < 64 → Read-first f
+    read-first : g < format .fluents → Read-first f
     unfolding first-of
-    read-first near = ⊎-elim (λ none. let far : g ≡ 64 = first ∙ ap first-of none in absurd (omega arith)) (λ r. r) (unknown-cases 64 f (omega arith))
+    read-first near = ⊎-elim (λ none. let far : g ≡ format .fluents = first ∙ ap first-of none in absurd (omega arith)) (λ r. r) (unknown-cases (format .fluents) f (omega arith))
 
-    first-is : (near : g < 64) → read-first near .fluent ≡ g
+    first-is : (near : g < format .fluents) → read-first near .fluent ≡ g
     unfolding first-of
     first-is near = sym (first ∙ ap first-of (read-first near .is))
 
-    pub unknown-first : g < 64 → unknown-above t a marks f ≡ g ∷ unknown-above t a marks (g + 1)
+    pub unknown-first : g < format .fluents → unknown-above t a marks f ≡ g ∷ unknown-above t a marks (g + 1)
     unknown-first near = read-first near .is ∙ ap (λ (h : ℕ). h ∷ unknown-above t a marks (h + 1)) (first-is near)
 
-    pub unknown-first-above : g < 64 → f ≤ g
+    pub unknown-first-above : g < format .fluents → f ≤ g
     unknown-first-above near = let above = read-first near .above in let e = first-is near in omega arith
 
-    pub unknown-no-first : 64 ≤ g → unknown-above t a marks f ≡ []
+    pub unknown-no-first : format .fluents ≤ g → unknown-above t a marks f ≡ []
     unfolding first-of
     unknown-no-first far =
-        ⊎-elim (λ none. none) (λ (r : Read-first f). let below = r .below in let e = first ∙ ap first-of (r .is) in absurd (omega arith)) (unknown-cases 64 f (omega arith))
+        ⊎-elim (λ none. none) (λ (r : Read-first f). let below = r .below in let e = first ∙ ap first-of (r .is) in absurd (omega arith)) (unknown-cases (format .fluents) f (omega arith))
 
   module _ (g : ℕ) (first : g ≡ first-of (unknown-sensed t a marks)) where
     from-none : g ≡ first-of (unknown-above t a marks 0)
     from-none = first ∙ ap first-of (unknown-all t a marks)
 
-    pub sensed-first : g < 64 → unknown-sensed t a marks ≡ g ∷ unknown-above t a marks (g + 1)
+    pub sensed-first : g < format .fluents → unknown-sensed t a marks ≡ g ∷ unknown-above t a marks (g + 1)
     sensed-first near = unknown-all t a marks ∙ unknown-first 0 g from-none near
 
-    pub sensed-no-first : 64 ≤ g → unknown-sensed t a marks ≡ []
+    pub sensed-no-first : format .fluents ≤ g → unknown-sensed t a marks ≡ []
     sensed-no-first far = unknown-all t a marks ∙ unknown-no-first 0 g from-none far
 
 -- THE TABLE of what an action senses.
-module _ (s t : List ℕ) (a : ℕ) (here : At-hand s t) (small : a < 64) where
+module _ (s t : List ℕ) (a : ℕ) (here : At-hand s t) (small : a < format .actions) where
   abbrev served : Senses s t a
-  served = senses-at-hand s t here a small
+  served = here .senses a small
 
-  pub sensing-is : (end : ℕ) → end ≡ getD t (5312 + a) 0 → ltb 0 end ≡ sensing (request-in s .table) a
+  pub sensing-is : (end : ℕ) → end ≡ getD t (sensed-to + a) 0 → ltb 0 end ≡ sensing (table-in s) a
   sensing-is end at = ap (ltb 0) at ∙ served .any
 
-  pub looks-is : (f there : ℕ) → f < 64 → there ≡ getD t (5384 + (64 * a + f)) 0 → ltb 0 there ≡ senses (knowledge-of (request-in s .table) a) f
+  pub looks-is : (f there : ℕ) → f < format .fluents → there ≡ getD t (sensed + (format .fluents * a + f)) 0 → ltb 0 there ≡ senses (knowledge-of (table-in s) a) f
   looks-is f there near at = ap (ltb 0) at ∙ served .slot f near
 
-  module _ (end f : ℕ) (at : end ≡ getD t (5312 + a) 0) (more : f < end) where
-    pub fluent-near : f < 64
+  module _ (end f : ℕ) (at : end ≡ getD t (sensed-to + a) 0) (more : f < end) where
+    pub fluent-near : f < format .fluents
     fluent-near = let last = served .last in omega arith
 
     pub fluent-next-fits : Fits w64 (f + 1)
     fluent-next-fits = let near = fluent-near in record { fits = omega arith }
 
-    pub pair-fits : Fits w64 (64 * a + f)
+    pub pair-fits : Fits w64 (format .fluents * a + f)
     pair-fits = let near = fluent-near in record { fits = omega arith }
 
-    pub sensed-fits : Fits w64 (5384 + (64 * a + f))
+    pub sensed-fits : Fits w64 (sensed + (format .fluents * a + f))
     sensed-fits = let near = fluent-near in record { fits = omega arith }
 
-    pub sensed-there : 5384 + (64 * a + f) < 9480
+    pub sensed-there : sensed + (format .fluents * a + f) < slots
     sensed-there = let near = fluent-near in omega arith
 
-    module _ (marks : State) (marked : Marked marks) (whole : ℕ) (so-far : whole ≡ first-of (unknown-above (request-in s .table) a marks f)) where
-      pub look-marked : (getD marks f 0 ≡ 0 → ⊥) → whole ≡ first-of (unknown-above (request-in s .table) a marks (f + 1))
-      look-marked some = so-far ∙ ap first-of (unknown-marked (request-in s .table) a marks marked f fluent-near some)
+    module _ (marks : State) (marked : Marked marks) (whole : ℕ) (so-far : whole ≡ first-of (unknown-above (table-in s) a marks f)) where
+      pub look-marked : (getD marks f 0 ≡ 0 → ⊥) → whole ≡ first-of (unknown-above (table-in s) a marks (f + 1))
+      look-marked some = so-far ∙ ap first-of (unknown-marked (table-in s) a marks marked f fluent-near some)
 
-      module _ (x : ℕ) (read : x ≡ getD t (5384 + (64 * a + f)) 0) where
-        slot-is : ltb 0 x ≡ senses (knowledge-of (request-in s .table) a) f
+      module _ (x : ℕ) (read : x ≡ getD t (sensed + (format .fluents * a + f)) 0) where
+        slot-is : ltb 0 x ≡ senses (knowledge-of (table-in s) a) f
         slot-is = ap (ltb 0) read ∙ served .slot f fluent-near
 
         pub look-found : getD marks f 0 ≡ 0 → 0 < x → f ≡ whole
         unfolding first-of
-        look-found none some = sym (so-far ∙ ap first-of (unknown-here (request-in s .table) a marks marked f fluent-near (sym slot-is ∙ lt-ltb 0 x some) none))
+        look-found none some = sym (so-far ∙ ap first-of (unknown-here (table-in s) a marks marked f fluent-near (sym slot-is ∙ lt-ltb 0 x some) none))
 
-        pub look-unsensed : x ≤ 0 → whole ≡ first-of (unknown-above (request-in s .table) a marks (f + 1))
-        look-unsensed none = so-far ∙ ap first-of (unknown-unsensed (request-in s .table) a marks marked f fluent-near (sym slot-is ∙ le-ltb 0 x none))
+        pub look-unsensed : x ≤ 0 → whole ≡ first-of (unknown-above (table-in s) a marks (f + 1))
+        look-unsensed none = so-far ∙ ap first-of (unknown-unsensed (table-in s) a marks marked f fluent-near (sym slot-is ∙ le-ltb 0 x none))
 
-  module _ (end f : ℕ) (at : end ≡ getD t (5312 + a) 0) (done : end ≤ f) where
-    pub look-done : (marks : State) (whole : ℕ) → whole ≡ first-of (unknown-above (request-in s .table) a marks f) → 64 ≡ whole
+  module _ (end f : ℕ) (at : end ≡ getD t (sensed-to + a) 0) (done : end ≤ f) where
+    pub look-done : (marks : State) (whole : ℕ) → whole ≡ first-of (unknown-above (table-in s) a marks f) → format .fluents ≡ whole
     unfolding first-of unknown-above
     look-done marks whole so-far =
-        sym (so-far ∙ ap first-of (unknown-none-sensed (knowledge-of (request-in s .table) a) marks f (drop f marks) (λ g h. by-test _ (λ e. let less = served .to g e in absurd (omega arith)) (λ e. e))))
+        sym (so-far ∙ ap first-of (unknown-none-sensed (knowledge-of (table-in s) a) marks f (drop f marks) (λ g h. by-test _ (λ e. let less = served .to g e in absurd (omega arith)) (λ e. e))))
 
-  module _ (back : ℕ) (at : back ≡ getD t (5248 + a) 0) where
-    pub back-within : back ≤ 64
+  module _ (back : ℕ) (at : back ≡ getD t (sensed-from + a) 0) where
+    pub back-within : back ≤ format .fluents
     back-within = let most = served .most in omega arith
 
-    pub first-from : (marks : State) (r : ℕ) → Marked marks → r ≡ first-of (unknown-above (request-in s .table) a marks (64 - back)) → r ≡ first-of (unknown-sensed (request-in s .table) a marks)
+    pub first-from : (marks : State) (r : ℕ) → Marked marks → r ≡ first-of (unknown-above (table-in s) a marks (format .fluents - back)) → r ≡ first-of (unknown-sensed (table-in s) a marks)
     first-from marks r marked is =
-        is ∙ ap first-of (sym (unknown-all (request-in s .table) a marks ∙ unknown-skipped (request-in s .table) a marks marked (64 - back) (omega arith)
+        is ∙ ap first-of (sym (unknown-all (table-in s) a marks ∙ unknown-skipped (table-in s) a marks marked (format .fluents - back) (omega arith)
         (λ g h. by-test _ (λ e. let from = served .from g e in absurd (omega arith)) (λ e. e))))

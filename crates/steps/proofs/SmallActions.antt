@@ -11,7 +11,7 @@ use Rattle.meaning.specs.Reading.{got, Met, plan-at}
 use Rattle.meaning.proofs.PlanReads.{Said, Passed-on, plan-on}
 use Rattle.steps.specs.Small.{Small, Small-item, Small-under}
 
-module _ (n m : ℕ) (s : List ℕ) (few : m ≤ 64) where
+module _ (n m : ℕ) (s : List ℕ) (few : m ≤ format .actions) where
   abbrev plan-few : Said
   plan-few = record {
     item = λ deep p met x e. Small-item (x .value);

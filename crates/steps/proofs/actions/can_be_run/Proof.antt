@@ -1,6 +1,6 @@
 -- A turn looks at the first of the action's lines that are left; what is left gives what the whole gives, and line numbers rise in file order.
 use Rattle.meaning.specs.States.{can-be-run}
-use Rattle.steps.specs.AtHand.{request-in}
+use Rattle.steps.specs.Held.{table-in}
 use Rattle.steps.proofs.ActionLaws.{Running, running-starts, running-done, line-few, line-less, to-go, run-body-fits, run-body, run-met, run-next}
 use borrow.Author.Needs.{needs}
 use Rattle.steps.proofs.actions.can_be_run.Statement.{statement}
@@ -13,7 +13,7 @@ use Rattle.reading.proofs.table.line_place.Reads as line-place-reads
 use Rattle.reading.proofs.table.next_line.Reads as next-line-reads
 
 abbrev Inv-loop : tie.InvT-loop
-Inv-loop s t a marks k₀ k = Running s t marks (can-be-run (request-in s .table) a marks) k
+Inv-loop s t a marks k₀ k = Running s t marks (can-be-run (table-in s) a marks) k
 
 abbrev μ-loop : tie.MeasureT-loop
 μ-loop s t a marks k₀ k = to-go k

@@ -8,7 +8,7 @@ use Rattle.steps.proofs.onward.follow.Lts as lts
 use Rattle.reading.proofs.table.get.Reads as get-reads
 
 abbrev Inv-loop : tie.InvT-loop
-Inv-loop s t i slot at₀ at = Going s i at
+Inv-loop s t i slot at₀ at = Going s t i at
 
 abbrev μ-loop : tie.MeasureT-loop
 μ-loop s t i slot at₀ at = at

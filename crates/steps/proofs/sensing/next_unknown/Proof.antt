@@ -1,7 +1,7 @@
 -- A turn that finds nothing leaves the first one where it was, and from the end that the table has no fluent is sensed.
 use Prim.Native.Nat.{_-_}
 use mathlib.Core.Path.{_≡_}
-use Rattle.steps.specs.AtHand.{request-in}
+use Rattle.steps.specs.Held.{table-in}
 use Rattle.steps.specs.Steps.{unknown-above, first-of}
 use Rattle.steps.proofs.SensingLaws.{fluent-near, fluent-next-fits, pair-fits, sensed-fits, sensed-there, look-found, look-unsensed, look-marked, look-done}
 use borrow.Author.Needs.{needs}
@@ -12,7 +12,7 @@ use Rattle.steps.proofs.sensing.next_unknown.Lts as lts
 use Rattle.reading.proofs.table.get.Reads as get-reads
 
 abbrev Inv-loop : tie.InvT-loop
-Inv-loop s t a from marks last end row f₀ f = first-of (unknown-above (request-in s .table) a marks from) ≡ first-of (unknown-above (request-in s .table) a marks f)
+Inv-loop s t a from marks last end row f₀ f = first-of (unknown-above (table-in s) a marks from) ≡ first-of (unknown-above (table-in s) a marks f)
 
 abbrev μ-loop : tie.MeasureT-loop
 μ-loop s t a from marks last end row f₀ f = end - f
