@@ -4,7 +4,8 @@ ghost use mathlib.Core.List.{[], _∷_};
 ghost use lib.ListN.{getD};
 ghost use Rattle.meaning.specs.Derivations.{rule-3};
 ghost use Rattle.meaning.specs.Limits.{format};
-ghost use Rattle.steps.specs.AtHand.{request-in, At-hand, Marked};
+ghost use Rattle.steps.specs.Held.{table-in};
+ghost use Rattle.steps.specs.AtHand.{At-hand, Marked};
 ghost use Rattle.comparing.specs.Stands.{spot-at};
 ghost use Rattle.comparing.specs.Rules.{Some-line, Some-lines, Cited-below, Ruled-by-all};
 ghost use Rattle.ruling.specs.Readings.{states-from, Stands-some, Some-follows, Says-reading, Some-rest, Uses};
@@ -131,7 +132,7 @@ fn each_reading(
     requires { ⌜ Marked marks ⌝ }
     requires { ⌜ i < lines ⌝ }
     requires { ⌜ Some-rest layout (now d) (now places) lines (spot-at layout (now d) (getD (now places) i 0) (getD (now places) (1024 + i) 0)) ⌝ }
-    ensures { λ r. ⌜ Uses layout (now (d .entry)) (now (places .entry)) (spot-at layout (now (d .entry)) (getD (now (places .entry)) i 0) (getD (now (places .entry)) (1024 + i) 0)) (states-from (request-in (now (s .entry)) .table) a marks f) k r ⌝ }
+    ensures { λ r. ⌜ Uses layout (now (d .entry)) (now (places .entry)) (spot-at layout (now (d .entry)) (getD (now (places .entry)) i 0) (getD (now (places .entry)) (1024 + i) 0)) (states-from (table-in (now (s .entry))) a marks f) k r ⌝ }
 {
     if f < limits::FLUENTS {
         let above = f + 1;
@@ -167,7 +168,7 @@ pub fn rule_3(
     requires { ⌜ i < lines ⌝ }
     requires { ⌜ l ≡ spot-at layout (now d) (getD (now places) i 0) (getD (now places) (1024 + i) 0) ⌝ }
     requires { ⌜ Cited-below (now d) l lines ⌝ }
-    ensures { λ r. ⌜ Ruled-by-all layout (now (d .entry)) (now (places .entry)) l (rule-3 format (request-in (now (s .entry)) .table)) r ⌝ }
+    ensures { λ r. ⌜ Ruled-by-all layout (now (d .entry)) (now (places .entry)) l (rule-3 format (table-in (now (s .entry)))) r ⌝ }
 {
     let p = l.line;
     let plan = sequence_of(d, p);

@@ -10,6 +10,7 @@ use Rattle.meaning.specs.Reading.{literals, bound-of, plan-at}
 use Rattle.reading.specs.Listed.{listed, List-here}
 use Rattle.reading.specs.Planned.{items-of}
 use Rattle.reading.proofs.PlanSizes.{sequence-read}
+use Rattle.refusing.specs.Branchings.{sequence-place}
 use Rattle.refusing.proofs.HereLaws.{list-here}
 use Rattle.refusing.proofs.ReadLaws.{Table-parts, table-parts}
 use Rattle.refusing.proofs.StartLaws.{Starts, table-starts}
@@ -35,14 +36,21 @@ module _ (s t : List ℕ) (here : At-hand s t) where
       let counted = sequence-read (table-in s .fluents) (table-in s .actions) s 8 (getD t 5376 0) 0 (omega arith) .holds (record { value = plan-in s t; items = getD t 5377 0 }) (goals-in t) (here .plan) .counted in
       omega arith
 
-  pub goals-here : List-here 128 s (goals-in t)
-  unfolding bound-of
-  goals-here =
-      let few = sections .few in
-      list-here literals (table-in s .fluents) s 64 (goals-in t) (listed s (goals-in t)) (whether-in s t) (here .goals) .1 128 (omega (arith, few))
+  -- The goals, and the whether entries behind them.
+  module _ (goals : ℕ) (slot : goals ≡ getD t 5381 0) where
+    pub goals-here : List-here 128 s goals
+    unfolding bound-of goals-in
+    goals-here =
+        let few = sections .few in
+        rw slot (list-here literals (table-in s .fluents) s 64 (goals-in t) (listed s (goals-in t)) (whether-in s t) (here .goals) .1 128 (omega (arith, few)))
 
-  pub whether-here : List-here 64 s (whether-in s t)
-  unfolding bound-of
-  whether-here =
-      let few = sections .few in
-      list-here Reading.fluents (table-in s .fluents) s 64 (whether-in s t) (listed s (whether-in s t)) (here .whether-end) (here .whether) .1 64 (omega (arith, few))
+    module _ (whether : ℕ) (after : whether ≡ sequence-place s goals) where
+      pub is-whether : whether ≡ whether-in s t
+      unfolding goals-in whether-in sequence-place
+      is-whether = rw (after, slot)
+
+      pub whether-here : List-here 64 s whether
+      unfolding bound-of
+      whether-here =
+          let few = sections .few in
+          rw is-whether (list-here Reading.fluents (table-in s .fluents) s 64 (whether-in s t) (listed s (whether-in s t)) (here .whether-end) (here .whether) .1 64 (omega (arith, few)))

@@ -7,7 +7,8 @@ use lib.ListN.{length, getD}
 use Rattle.meaning.specs.States.{State}
 use Rattle.refusing.specs.declared.refusals.Found.{Found}
 use Rattle.refusing.specs.declared.refusals.Found.the-variants.{At}
-use Rattle.steps.specs.AtHand.{request-in, Marked}
+use Rattle.steps.specs.Held.{plan-in}
+use Rattle.steps.specs.AtHand.{Marked}
 use Rattle.steps.specs.Rests.{Position}
 use Rattle.steps.specs.Steps.{Followed, Chosen}
 use Rattle.walking.specs.Walks.{action-at}
@@ -16,8 +17,8 @@ use Rattle.walking.specs.Walks.{action-at}
 pub fork-falls : (i f g μ : ℕ) → (1024 - i) * 65 + (64 - f) ≡ μ → f < g → g < 64 → (1024 - i) * 65 + (64 - g) < μ
 fork-falls i f g μ is rises near = omega arith
 
-pub fork-walk-falls : (s : List ℕ) (i f r μ : ℕ) → (1024 - i) * 65 + (64 - f) ≡ μ → f < 64 → Followed s i r → (1025 - r) * 65 < μ
-fork-walk-falls s i f r μ is small follows = let h = follows .later in omega arith
+pub fork-walk-falls : (s t : List ℕ) (i f r μ : ℕ) → (1024 - i) * 65 + (64 - f) ≡ μ → f < 64 → Followed s t i r → (1025 - r) * 65 < μ
+fork-walk-falls s t i f r μ is small follows = let h = follows .later in omega arith
 
 -- The walk from a position calls what walks an item from there on.
 pub walk-branching-falls : (start i μ : ℕ) → (1025 - start) * 65 ≡ μ → start ≤ i → i < 1024 → (1024 - i) * 65 + 64 < μ
@@ -29,14 +30,14 @@ walk-fork-falls start i f μ is later near = omega arith
 pub branching-walk-falls : (s t : List ℕ) (i : ℕ) (marks : State) (f : Found) (q μ : ℕ) → (1024 - i) * 65 + 64 ≡ μ → Chosen s t i marks f → f ≡ At q → (1025 - q) * 65 < μ
 branching-walk-falls s t i marks f q μ is chosen taken = let h = chosen .later q taken in omega arith
 
-pub follow-falls : (s : List ℕ) (i r : ℕ) → Followed s i r → i < 1024 → 1024 - r < 1024 - i
-follow-falls s i r follows near = let h = follows .later in omega arith
+pub follow-falls : (s t : List ℕ) (i r : ℕ) → Followed s t i r → i < 1024 → 1024 - r < 1024 - i
+follow-falls s t i r follows near = let h = follows .later in omega arith
 
 -- What the calls require.
-pub followed-position : (s : List ℕ) (i r : ℕ) → Followed s i r → Position (request-in s .plan) r
-followed-position s i r follows = follows .at
+pub followed-position : (s t : List ℕ) (i r : ℕ) → Followed s t i r → Position (plan-in s t) r
+followed-position s t i r follows = follows .at
 
-pub chosen-position : (s t : List ℕ) (i : ℕ) (marks : State) (f : Found) (q : ℕ) → Chosen s t i marks f → f ≡ At q → Position (request-in s .plan) q
+pub chosen-position : (s t : List ℕ) (i : ℕ) (marks : State) (f : Found) (q : ℕ) → Chosen s t i marks f → f ≡ At q → Position (plan-in s t) q
 chosen-position s t i marks f q chosen taken = chosen .at q taken
 
 pub marked-sized : (marks : State) → Marked marks → length marks ≡ 64

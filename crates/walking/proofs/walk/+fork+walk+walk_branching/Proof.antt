@@ -93,7 +93,7 @@ fork-returns : (t : ℕ) → fork-lts.Need-returns (
 fork-returns t c = search fork-forks
 
 abbrev walk-Inv-loop : walk-lts.InvT-loop
-walk-Inv-loop s t at tally₀ i₀ state₀ tally i state = Walking s at state₀ tally₀ tally i state
+walk-Inv-loop s t at tally₀ i₀ state₀ tally i state = Walking s t at state₀ tally₀ tally i state
 
 abbrev walk-μ-loop : walk-lts.MeasureT-loop
 walk-μ-loop s t at tally₀ i₀ state₀ tally i state = 1024 - i
@@ -147,7 +147,7 @@ pub +fork+walk+walk-branching-spec : {M : Type 1} → statement M
     (λ c κs. (search fork-walk-falls, (search needs, (search followed-position, (search first-marked, search needs)))))
     (λ c κs. search needs)
     (λ c. search needs)
-    (λ c κs. (search fork-walk-falls, (search needs, (search followed-position, (search second-marked, going-after-walk _ _ _ _ _ (search needs) (search needs) (c .before .before .before .before .walk .ensures) _ (c .before .before .goes-on2 .ensures) (c .before .if3 .taken))))))
+    (λ c κs. (search fork-walk-falls, (search needs, (search followed-position, (search second-marked, going-after-walk _ _ _ _ _ _ (search needs) (search needs) (c .before .before .before .before .walk .ensures) _ (c .before .before .goes-on2 .ensures) (c .before .if3 .taken))))))
     (λ c. search last-walks)
     (λ c. search last-stops))
     (λ t. walk-lts.spec (
