@@ -2,7 +2,8 @@ ghost use mathlib.Core.Path.{_≡_};
 ghost use Rattle.meaning.specs.Limits.{format};
 ghost use Rattle.meaning.specs.Derivations.{check-derivation};
 ghost use Rattle.bytes.specs.Read.{passed};
-ghost use Rattle.steps.specs.AtHand.{request-in, At-hand};
+ghost use Rattle.steps.specs.Held.{request-in};
+ghost use Rattle.steps.specs.AtHand.{At-hand};
 use super::lines::check_lines;
 use super::question::check_end;
 use bytes::bytes::two;
@@ -17,7 +18,7 @@ use reading::table::Table;
 // A derivation for a settled request: read, past 18, each line, the question.
 pub fn check_derivation(layout: Layout, s: &[u8], t: &Table, d: &[u8]) -> Passed
     requires { ⌜ At-hand (now s) (now t) ⌝ }
-    ensures { λ r. ⌜ r ≡ passed (check-derivation format layout (request-in (now (s .entry))) (now (d .entry))) ⌝ }
+    ensures { λ r. ⌜ r ≡ passed (check-derivation format layout (request-in (now (s .entry)) (now (t .entry))) (now (d .entry))) ⌝ }
 {
     let n = wide(s[0]);
     let m = wide(s[1]);

@@ -6,7 +6,8 @@ ghost use Rattle.meaning.specs.Limits.{format};
 ghost use Rattle.meaning.specs.Literals.{among};
 ghost use Rattle.meaning.specs.Derivations.{for-lists, citations-taken, a-rule, cited-by, given-by, check-lines};
 ghost use Rattle.bytes.specs.Read.{passed};
-ghost use Rattle.steps.specs.AtHand.{request-in, At-hand};
+ghost use Rattle.steps.specs.Held.{table-in};
+ghost use Rattle.steps.specs.AtHand.{At-hand};
 ghost use Rattle.checking.specs.Checked.{lines-in, line-in, spot-in, All-stand, Numbered, Cites-earlier, all-below, numbers-from, refused-by};
 use super::numbers;
 use bytes::bytes::two;
@@ -151,7 +152,7 @@ fn gives(
     requires { ⌜ l ≡ spot-in layout (now d) (now places) i ⌝ }
     requires { ⌜ rule ≡ for-lists (line-in layout n m (now d) i .rule) ⌝ }
     requires { ⌜ Cites-earlier layout n m (now d) i ⌝ }
-    ensures { λ r. ⌜ r ≡ given-by format (request-in (now (s .entry)) .table) rule (cited-by (lines-in layout n m (now (d .entry))) (line-in layout n m (now (d .entry)) i)) (line-in layout n m (now (d .entry)) i) ⌝ }
+    ensures { λ r. ⌜ r ≡ given-by format (table-in (now (s .entry))) rule (cited-by (lines-in layout n m (now (d .entry))) (line-in layout n m (now (d .entry)) i)) (line-in layout n m (now (d .entry)) i) ⌝ }
 {
     if rule == rules::EMPTY_RULE {
         return rule_1(d, l);
@@ -201,7 +202,7 @@ fn line_refused(
 ) -> u8
     requires { ⌜ At-hand (now s) (now t) ⌝ }
     requires { ⌜ Numbered layout n m (now d) (now places) lines i ⌝ }
-    ensures { λ r. ⌜ r ≡ refused-by layout (request-in (now (s .entry)) .table) (lines-in layout n m (now (d .entry))) i (line-in layout n m (now (d .entry)) i) ⌝ }
+    ensures { λ r. ⌜ r ≡ refused-by layout (table-in (now (s .entry))) (lines-in layout n m (now (d .entry))) i (line-in layout n m (now (d .entry)) i) ⌝ }
 {
     let l = spot_of(layout, d, places, lines, i);
     let known = is_rule(layout, l.rule);
@@ -241,7 +242,7 @@ pub fn check_lines(
 ) -> Passed
     requires { ⌜ At-hand (now s) (now t) ⌝ }
     requires { ⌜ All-stand layout n m (now d) (now places) lines ⌝ }
-    ensures { λ r. ⌜ r ≡ passed (check-lines format layout (request-in (now (s .entry)) .table) (lines-in layout n m (now (d .entry))) 0 (lines-in layout n m (now (d .entry)))) ⌝ }
+    ensures { λ r. ⌜ r ≡ passed (check-lines format layout (table-in (now (s .entry))) (lines-in layout n m (now (d .entry))) 0 (lines-in layout n m (now (d .entry)))) ⌝ }
 {
     let mut i = 0;
     while i < lines {

@@ -4,7 +4,8 @@ ghost use lib.ListN.{length, getD};
 ghost use Rattle.meaning.specs.declared.Layout.the-variants.{Closing};
 ghost use Rattle.meaning.specs.Derivations.{asks-for};
 ghost use Rattle.reading.specs.Listed.{List-here};
-ghost use Rattle.steps.specs.AtHand.{request-in, At-hand};
+ghost use Rattle.steps.specs.Held.{request-in};
+ghost use Rattle.steps.specs.AtHand.{At-hand};
 ghost use Rattle.comparing.specs.Rules.{Some-stands, Some-lines, Ruled};
 ghost use Rattle.checking.specs.Asked.{conclusion-asked, begins, Names, Some-derivation, Entries-checked, Closing-checked, End-checked};
 use super::numbers;
@@ -34,7 +35,7 @@ pub enum Asked {
 fn from_the_facts(s: &[u8], t: &Table, d: &[u8], l: Spot) -> bool
     requires { ⌜ At-hand (now s) (now t) ⌝ }
     requires { ⌜ Some-stands (now d) l ⌝ }
-    ensures { λ r. ⌜ Ruled (now (d .entry)) l (begins (request-in (now (s .entry)))) r ⌝ }
+    ensures { λ r. ⌜ Ruled (now (d .entry)) l (begins (request-in (now (s .entry)) (now (t .entry)))) r ⌝ }
 {
     let p = l.line;
     let starts = same_lists(d, p, s, 2);
@@ -52,7 +53,7 @@ fn from_the_facts(s: &[u8], t: &Table, d: &[u8], l: Spot) -> bool
 fn asks(s: &[u8], t: &Table, d: &[u8], l: Spot, asked: Asked) -> bool
     requires { ⌜ At-hand (now s) (now t) ⌝ }
     requires { ⌜ Some-stands (now d) l ⌝ }
-    ensures { λ r. ⌜ Ruled (now (d .entry)) l (asks-for (request-in (now (s .entry))) (conclusion-asked (request-in (now (s .entry))) asked)) r ⌝ }
+    ensures { λ r. ⌜ Ruled (now (d .entry)) l (asks-for (request-in (now (s .entry)) (now (t .entry))) (conclusion-asked (request-in (now (s .entry)) (now (t .entry))) asked)) r ⌝ }
 {
     let starts = from_the_facts(s, t, d, l);
     if starts {
@@ -89,7 +90,7 @@ fn names(
     requires { ⌜ At-hand (now s) (now t) ⌝ }
     requires { ⌜ Some-lines Closing (now d) (now places) lines ⌝ }
     requires { ⌜ at + 1 < length (now d) ⌝ }
-    ensures { λ r. ⌜ Names (request-in (now (s .entry))) (now (d .entry)) (now (places .entry)) lines at asked r ⌝ }
+    ensures { λ r. ⌜ Names (request-in (now (s .entry)) (now (t .entry))) (now (d .entry)) (now (places .entry)) lines at asked r ⌝ }
 {
     let second = at + 1;
     let number = two(d[at], d[second]);
@@ -114,7 +115,7 @@ fn check_fluents(
     requires { ⌜ Some-lines Closing (now d) (now places) lines ⌝ }
     requires { ⌜ List-here 64 (now s) whether ⌝ }
     requires { ⌜ first + 2 * getD (now s) whether 0 ≤ length (now d) ⌝ }
-    ensures { λ r. ⌜ Entries-checked (now (s .entry)) (now (d .entry)) (now (places .entry)) lines whether first r ⌝ }
+    ensures { λ r. ⌜ Entries-checked (now (s .entry)) (now (t .entry)) (now (d .entry)) (now (places .entry)) lines whether first r ⌝ }
 {
     let end = whether + wide(s[whether]);
     let mut i = whether;
@@ -135,7 +136,7 @@ fn check_fluents(
 fn check_closing(s: &[u8], t: &Table, d: &[u8], places: &Places, lines: usize) -> Passed
     requires { ⌜ At-hand (now s) (now t) ⌝ }
     requires { ⌜ Some-derivation Closing (now d) (now places) lines ⌝ }
-    ensures { λ r. ⌜ Closing-checked (request-in (now (s .entry))) (now (d .entry)) (now (places .entry)) lines r ⌝ }
+    ensures { λ r. ⌜ Closing-checked (request-in (now (s .entry)) (now (t .entry))) (now (d .entry)) (now (places .entry)) lines r ⌝ }
 {
     let goals = get(t, table::GOALS);
     let whether = sequence_of(s, goals);
@@ -166,7 +167,7 @@ pub fn check_end(
     requires { ⌜ At-hand (now s) (now t) ⌝ }
     requires { ⌜ Some-derivation layout (now d) (now places) lines ⌝ }
     requires { ⌜ 1 ≤ lines ⌝ }
-    ensures { λ r. ⌜ End-checked layout (request-in (now (s .entry))) (now (d .entry)) (now (places .entry)) lines r ⌝ }
+    ensures { λ r. ⌜ End-checked layout (request-in (now (s .entry)) (now (t .entry))) (now (d .entry)) (now (places .entry)) lines r ⌝ }
 {
     match layout {
         Layout::Plain => {

@@ -10,6 +10,7 @@ use lib.Seq.{drop-cons, take-append-seam, take-length, length-take-le}
 use lib.Dec.{eqb}
 use borrow.Author.Tests.{eq-eqb, ne-eqb}
 use Rattle.meaning.specs.Tests.{both}
+use Rattle.meaning.specs.Limits.{all-literals}
 use Rattle.meaning.specs.Derivations.{same-list}
 use Rattle.meaning.proofs.TestLaws.{by-test, clash}
 use Rattle.meaning.proofs.SetLaws.{same-list-is, same-list-self}
@@ -102,6 +103,6 @@ pub part-listed : (bound : ℕ) (s : List ℕ) (p x : ℕ) → List-here bound s
 unfolding listed
 part-listed bound s p x here byte = let ends = here .ends in part-is s (p + 1) x (omega (arith, ends, byte)) ∙ ap (bytes-from s (p + 1)) byte
 
-pub lists-same : (s : List ℕ) (p : ℕ) (u : List ℕ) (q x y : ℕ) (r : Bool) → List-here 128 s p → List-here 128 u q → x ≡ getD s p 0 → y ≡ getD u q 0
+pub lists-same : (s : List ℕ) (p : ℕ) (u : List ℕ) (q x y : ℕ) (r : Bool) → List-here all-literals s p → List-here all-literals u q → x ≡ getD s p 0 → y ≡ getD u q 0
     → r ≡ same-list (take (p + 1 + x - (p + 1)) (drop (p + 1) s)) (take (q + 1 + y - (q + 1)) (drop (q + 1) u)) → r ≡ same-list (listed s p) (listed u q)
-lists-same s p u q x y r here there first second is = is ∙ rw (part-listed 128 s p x here first, part-listed 128 u q y there second)
+lists-same s p u q x y r here there first second is = is ∙ rw (part-listed all-literals s p x here first, part-listed all-literals u q y there second)

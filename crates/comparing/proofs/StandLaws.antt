@@ -11,7 +11,7 @@ use mir.Val.{Fits}
 use borrow.Author.Tests.{ltb-false}
 use Rattle.meaning.specs.declared.Layout.{Layout}
 use Rattle.meaning.specs.declared.Layout.the-variants.{Plain, Closing}
-use Rattle.meaning.specs.Limits.{format}
+use Rattle.meaning.specs.Limits.{format, all-literals}
 use Rattle.meaning.specs.Requests.{Sequence}
 use Rattle.meaning.specs.Reading.{got, next, Met, literals, byte-at, two-bytes-at, count-at, below-at, bound-of, list-at, repeated, section-at, plan-at}
 use Rattle.meaning.specs.Refusals.{nowhere}
@@ -23,7 +23,7 @@ use Rattle.bytes.specs.declared.lists.Passed.{Passed}
 use Rattle.bytes.specs.declared.lists.Passed.the-variants.{To}
 use Rattle.reading.specs.Noted.{noting, outcome}
 use Rattle.reading.specs.Planned.{bytes-of}
-use Rattle.deriving.specs.DerivationRead.{plan-end, derivation-noted, settled-derivation}
+use Rattle.deriving.specs.DerivationRead.{plan-end, derivation-noted, settled-derivation, plan-ends-slot, places-slots}
 use Rattle.deriving.specs.Derived.{Line-here, Lines-here}
 use Rattle.reading.proofs.SectionLaws.{got-place, byte-got, number-got, count-got, noting-got}
 use Rattle.finding.proofs.HereLaws.{list-here, list-apart}
@@ -39,19 +39,19 @@ use Rattle.comparing.proofs.SpotLaws.{spot-fluent, spot-list, spot-line
 
 module _ (n m : ℕ) (d : List ℕ) where
   -- PARTS OF A LINE.
-  list-stands : n ≤ 64 → (p : ℕ) (xs : List ℕ) (q : ℕ) → list-at literals n 64 d p ≡ got xs q → List-stands d p xs
+  list-stands : n ≤ format .fluents → (p : ℕ) (xs : List ℕ) (q : ℕ) → list-at literals n (format .listed) d p ≡ got xs q → List-stands d p xs
   unfolding bound-of
   list-stands few p xs q e =
-      let list = list-here literals n d 64 p xs q e in
-      record { here = list .1 128 (omega arith); same = list .0; clear = list-apart n 64 d p xs q e }
+      let list = list-here literals n d (format .listed) p xs q e in
+      record { here = list .1 all-literals (omega arith); same = list .0; clear = list-apart n (format .listed) d p xs q e }
 
   list-size : (p : ℕ) (xs : List ℕ) → List-stands d p xs → getD d p 0 ≡ length xs
   list-size p xs list = sym (listed-length d p) ∙ ap length (list .same)
 
-  list-after : n ≤ 64 → (p : ℕ) (xs : List ℕ) (q : ℕ) → list-at literals n 64 d p ≡ got xs q → q ≡ after-list d p
+  list-after : n ≤ format .fluents → (p : ℕ) (xs : List ℕ) (q : ℕ) → list-at literals n (format .listed) d p ≡ got xs q → q ≡ after-list d p
   unfolding after-list
   list-after few p xs q e =
-      let after = list-through d literals n 64 p .holds xs q e .after in
+      let after = list-through d literals n (format .listed) p .holds xs q e .after in
       let size = list-size p xs (list-stands few p xs q e) in
       omega arith
 
@@ -68,14 +68,14 @@ module _ (n m : ℕ) (d : List ℕ) where
   record Cites-stand (t : ℕ) (xs : List ℕ) : Type 0 where
     counted : t < length d
     cited : getD d t 0 ≡ length xs
-    most : length xs ≤ 64
+    most : length xs ≤ format .citations
     cites : Numbers-stand d (t + 1) xs
 
-  cites-stand : (t k u : ℕ) (cites : List ℕ) (e : ℕ) → count-at 0 64 d t ≡ got k u → repeated (two-bytes-at d) k u ≡ got cites e → Cites-stand t cites
+  cites-stand : (t k u : ℕ) (cites : List ℕ) (e : ℕ) → count-at 0 (format .citations) d t ≡ got k u → repeated (two-bytes-at d) k u ≡ got cites e → Cites-stand t cites
   cites-stand t k u cites e first second =
-      let count = count-got 0 64 d t k u first in
+      let count = count-got 0 (format .citations) d t k u first in
       let size : length cites ≡ k = repeated-length (two-bytes-at d) k u cites e second in
-      let few = count-within 0 64 d t k u first in
+      let few = count-within 0 (format .citations) d t k u first in
       record {
         counted = count .0;
         cited = count .1 ∙ sym size;
@@ -89,13 +89,13 @@ module _ (n m : ℕ) (d : List ℕ) where
     rule : w .rule ≡ x .rule
     after : t ≡ w .cites
 
-  list-concludes : n ≤ 64 → (y : ℕ) (Y : Conclusion) (q : ℕ) → list-concluded format n d y ≡ got Y q → Conclusion-stands d false y Y × (q ≡ after-list d y)
+  list-concludes : n ≤ format .fluents → (y : ℕ) (Y : Conclusion) (q : ℕ) → list-concluded format n d y ≡ got Y q → Conclusion-stands d false y Y × (q ≡ after-list d y)
   unfolding list-concluded Conclusion-stands
   list-concludes few y Y q e =
-      after-got (list-at literals n 64 d y) _ e λ xs i list is.
+      after-got (list-at literals n (format .listed) d y) _ e λ xs i list is.
       (subst (Conclusion-stands d false y) (got-same is) (refl, list-stands few y xs i list), sym (got-place is) ∙ list-after few y xs i list)
 
-  fluent-concludes : n ≤ 64 → (y : ℕ) (Y : Conclusion) (q : ℕ) → fluent-concluded format n d y ≡ got Y q → Conclusion-stands d true y Y × (q ≡ y + 1)
+  fluent-concludes : n ≤ format .fluents → (y : ℕ) (Y : Conclusion) (q : ℕ) → fluent-concluded format n d y ≡ got Y q → Conclusion-stands d true y Y × (q ≡ y + 1)
   unfolding fluent-concluded Conclusion-stands
   fluent-concludes few y Y q e =
       after-got (below-at n d y) _ e λ f i below is.
@@ -103,7 +103,7 @@ module _ (n m : ℕ) (d : List ℕ) where
       let less = number .3 in
       (subst (Conclusion-stands d true y) (got-same is) (refl, number .0, number .1, omega arith), sym (got-place is) ∙ sym (number .2))
 
-  concluded-stands : n ≤ 64 → (layout : Layout) (p e : ℕ) (x : Concluded) (t : ℕ) → concluded-at format n d layout e ≡ got x t → Concluded-stands (spot-at layout d p e) x t
+  concluded-stands : n ≤ format .fluents → (layout : Layout) (p e : ℕ) (x : Concluded) (t : ℕ) → concluded-at format n d layout e ≡ got x t → Concluded-stands (spot-at layout d p e) x t
   unfolding concluded-at conclusion-at spot-at
   concluded-stands few Plain p e x t is =
       after-got (list-concluded format n d e) _ is λ Y q list is1.
@@ -148,13 +148,13 @@ module _ (n m : ℕ) (d : List ℕ) where
     ending : Concluded-stands (spot-at layout d p (parts .end)) (record { rule = l .rule; Y = l .Y }) after
     cited : Cites-stand after (l .cites)
 
-  line-read : n ≤ 64 → (layout : Layout) (p : ℕ) (l : Line) → Line-here n m d layout p l → Line-read layout p l
+  line-read : n ≤ format .fluents → (layout : Layout) (p : ℕ) (l : Line) → Line-here n m d layout p l → Line-read layout p l
   unfolding line-at
   line-read few layout p l here =
-      after-got (list-at literals n 64 d p) _ (here .reads) λ X q first is1.
+      after-got (list-at literals n (format .listed) d p) _ (here .reads) λ X q first is1.
       after-got (plan-at format n m d q) _ is1 λ plan r reads is2.
       after-got (concluded-at format n d layout r) _ is2 λ end t second is3.
-      after-got (count-at 0 64 d t) _ is3 λ k u count is4.
+      after-got (count-at 0 (format .citations) d t) _ is3 λ k u count is4.
       after-got (repeated (two-bytes-at d) k u) _ is4 λ cites i numbers is5.
       subst (Line-read layout p) (got-same is5)
       (record {
@@ -171,7 +171,7 @@ module _ (n m : ℕ) (d : List ℕ) where
         cited = cites-stand t k u cites i count numbers;
       })
 
-  pub line-parts : n ≤ 64 → (layout : Layout) (p : ℕ) (l : Line) → Line-here n m d layout p l → Line-parts p l
+  pub line-parts : n ≤ format .fluents → (layout : Layout) (p : ℕ) (l : Line) → Line-here n m d layout p l → Line-parts p l
   line-parts few layout p l here = line-read few layout p l here .parts
 
   -- Where the plan ends.
@@ -185,7 +185,7 @@ module _ (n m : ℕ) (d : List ℕ) where
       omega arith
 
   -- A LINE, where every byte is one.
-  module _ (small : (i : ℕ) → getD d i 0 < 256) (few : n ≤ 64) (less : m ≤ 64) where
+  module _ (small : (i : ℕ) → getD d i 0 < 256) (few : n ≤ format .fluents) (less : m ≤ format .actions) where
     pub plan-stands : (q : ℕ) (x : Met (Sequence ℕ)) (e : ℕ) → plan-at format n m d q ≡ got x e → Plan-stands d q e (x .value)
     plan-stands q x e reads =
         let w = plan-coded n m d small less q x e reads in
@@ -223,26 +223,26 @@ module _ (n m : ℕ) (d : List ℕ) where
   -- LINES. Line k stands where slot k says, and its plan ends where slot 1,024 + k says.
   module _ (layout : Layout) (places : List ℕ) where
     line-from : (k : ℕ) (ls : List Line) → Lines-here n m d layout places k ls → (i : ℕ) → i < length ls → (other : Line)
-        → Line-here n m d layout (getD places (k + i) 0) (getD ls i other) × (getD places (1024 + (k + i)) 0 ≡ plan-end (getD ls i other))
+        → Line-here n m d layout (getD places (k + i) 0) (getD ls i other) × (getD places (plan-ends-slot + (k + i)) 0 ≡ plan-end (getD ls i other))
     unfolding Lines-here
     line-from k [] here i h other = absurd (omega (arith, h))
     line-from k (l ∷ ls) here zero h other = let same : k + zero ≡ k = omega arith in rw same (here .0, here .1)
     line-from k (l ∷ ls) here (suc i) h other =
         let same : k + 1 + i ≡ k + suc i = omega arith in
-        subst (λ (j : ℕ). Line-here n m d layout (getD places j 0) (getD ls i other) × (getD places (1024 + j) 0 ≡ plan-end (getD ls i other))) same
+        subst (λ (j : ℕ). Line-here n m d layout (getD places j 0) (getD ls i other) × (getD places (plan-ends-slot + j) 0 ≡ plan-end (getD ls i other))) same
         (line-from (k + 1) ls (here .2) i (omega (arith, h)) other)
 
     line-there : (ls : List Line) → Lines-here n m d layout places 0 ls → (k : ℕ) → k < length ls → (other : Line)
-        → Line-here n m d layout (getD places k 0) (getD ls k other) × (getD places (1024 + k) 0 ≡ plan-end (getD ls k other))
+        → Line-here n m d layout (getD places k 0) (getD ls k other) × (getD places (plan-ends-slot + k) 0 ≡ plan-end (getD ls k other))
     line-there ls here k h other =
         let same : 0 + k ≡ k = omega arith in
-        subst (λ (j : ℕ). Line-here n m d layout (getD places j 0) (getD ls k other) × (getD places (1024 + j) 0 ≡ plan-end (getD ls k other))) same (line-from 0 ls here k h other)
+        subst (λ (j : ℕ). Line-here n m d layout (getD places j 0) (getD ls k other) × (getD places (plan-ends-slot + j) 0 ≡ plan-end (getD ls k other))) same (line-from 0 ls here k h other)
 
     pub line-number : (ls : List Line) → Lines-here n m d layout places 0 ls → (k : ℕ) → k < length ls → (other : Line) → Line-here n m d layout (getD places k 0) (getD ls k other)
     line-number ls here k h other = line-there ls here k h other .0
 
-    pub lines-stand : (bytes : (i : ℕ) → Fits w8 (getD d i 0)) → n ≤ 64 → m ≤ 64 → (lines : List Line) → Lines-here n m d layout places 0 lines
-        → length d ≤ 32768 → length lines ≤ 1024 → Lines-stand layout d places lines
+    pub lines-stand : (bytes : (i : ℕ) → Fits w8 (getD d i 0)) → n ≤ format .fluents → m ≤ format .actions → (lines : List Line) → Lines-here n m d layout places 0 lines
+        → length d ≤ format .derivation → length lines ≤ format .lines → Lines-stand layout d places lines
     lines-stand bytes few less lines here long most =
         record {
           long = long;
@@ -268,8 +268,8 @@ module _ (n m : ℕ) (d : List ℕ) where
     there : 1 < length d
     count : getD d 0 0 * 256 + getD d 1 0 ≡ length (x .lines)
     some : 1 ≤ length (x .lines)
-    few : length (x .lines) ≤ 1024
-    long : length d ≤ 32768
+    few : length (x .lines) ≤ format .lines
+    long : length d ≤ format .derivation
     closing : Closing-stands layout d (x .closing-place) (x .closing)
 
   counted : (layout : Layout) (x : Derivation) (e : ℕ) → read-derivation format n m d layout ≡ got x e → Counted layout x
@@ -283,7 +283,7 @@ module _ (n m : ℕ) (d : List ℕ) where
       let w = not-refused _ _ _ _ is3 in
       let number = two-is d 0 .holds c p two in
       let size : length ls ≡ c = repeated-length (line-at format n m d layout) c p ls q repeats in
-      let most : c ≤ 1024 = ltb-false 1024 c (by-test _ (λ t. clash (either-right _ _ t) (v .0)) (λ f. f)) in
+      let most : c ≤ (format .lines) = ltb-false (format .lines) c (by-test _ (λ t. clash (either-right _ _ t) (v .0)) (λ f. f)) in
       let least : 1 ≤ c = ltb-false c 1 (by-test _ (λ t. clash (either-left _ _ t) (v .0)) (λ f. f)) in
       subst (Counted layout) (got-same (w .1))
       (record {
@@ -291,7 +291,7 @@ module _ (n m : ℕ) (d : List ℕ) where
         count = number .is ∙ sym size;
         some = omega (arith, least, size);
         few = omega (arith, most, size);
-        long = ltb-false 32768 (length d) (u .0);
+        long = ltb-false (format .derivation) (length d) (u .0);
         closing = closing-stands layout q ks i closes;
       })
 
@@ -300,7 +300,7 @@ module _ (n m : ℕ) (d : List ℕ) where
   unfolding outcome noting next
   read-as layout t places x e whole put r is = rw (is, whole, put) refl
 
-  pub derived-whole : (layout : Layout) (t places : List ℕ) (r : Passed) → outcome r places ≡ noting derivation-noted (settled-derivation layout n m d) t → (e : ℕ) → r ≡ To e → length t ≡ 2049 → Some-derived layout n m d places e
+  pub derived-whole : (layout : Layout) (t places : List ℕ) (r : Passed) → outcome r places ≡ noting derivation-noted (settled-derivation layout n m d) t → (e : ℕ) → r ≡ To e → length t ≡ places-slots → Some-derived layout n m d places e
   unfolding settled-derivation
   derived-whole layout t places r read e is long =
       let w = noting-got derivation-noted (settled-derivation layout n m d) r t places read e is in
@@ -333,7 +333,7 @@ module _ (n m : ℕ) (d : List ℕ) where
     pub derived-count : length (x .lines) ≡ count
     derived-count = sym (is ∙ here .count)
 
-    pub derived-stand : (bytes : (i : ℕ) → Fits w8 (getD d i 0)) → n ≤ 64 → m ≤ 64 → Lines-stand layout d places (x .lines)
+    pub derived-stand : (bytes : (i : ℕ) → Fits w8 (getD d i 0)) → n ≤ format .fluents → m ≤ format .actions → Lines-stand layout d places (x .lines)
     derived-stand bytes few less = lines-stand layout places bytes few less (x .lines) (here .here) (here .long) (here .few)
 
   -- Whatever derivation this is, the first two bytes are there and say how many lines it has.
@@ -347,7 +347,7 @@ module _ (n m : ℕ) (d : List ℕ) where
     pub count-second : 1 < length d
     count-second = here .there
 
-    pub derived-long : length d ≤ 32768
+    pub derived-long : length d ≤ format .derivation
     derived-long = here .long
 
     module _ (count : ℕ) (is : count ≡ getD d 0 0 * 256 + getD d 1 0) where
@@ -357,5 +357,5 @@ module _ (n m : ℕ) (d : List ℕ) where
       pub derived-least : 1 ≤ count
       derived-least = let least = here .some in let size = same in omega arith
 
-      pub derived-few : count ≤ 1024
+      pub derived-few : count ≤ format .lines
       derived-few = let few = here .few in let size = same in omega arith

@@ -9,6 +9,7 @@ use lib.Dec.{ltb}
 use mathlib.Core.Bool.{true}
 use Rattle.meaning.specs.declared.Layout.{Layout}
 use Rattle.meaning.specs.Tests.{each-of}
+use Rattle.meaning.specs.Limits.{format}
 use Rattle.meaning.specs.Derivations.{Conclusion, Line, same-plan, join, same-conclusion, cited-by}
 use Rattle.reading.specs.Listed.{bytes-from}
 use Rattle.reading.specs.Planned.{bytes-of}
@@ -27,7 +28,7 @@ pub record Some-plan (d : List ℕ) (q e : ℕ) : Type 0 where
 -- So many items stand from a up to b.
 pub record Items-stand (d : List ℕ) (a b count : ℕ) (c : Sequence ℕ) : Type 0 where
   pub counted : count ≡ own-items c
-  pub few : count ≤ 1024
+  pub few : count ≤ format .lines
   pub ends : a + bytes-of c ≡ b
   pub inside : b ≤ length d
   pub sized : length (coded c) ≡ bytes-of c
@@ -65,7 +66,7 @@ pub record Some-stands (d : List ℕ) (w : Spot) : Type 0 where
 
 -- Besides, its actions are below 64.
 pub record Some-line (d : List ℕ) (w : Spot) : Type 0 where
-  pub long : length d ≤ 32768
+  pub long : length d ≤ format .derivation
   pub line : Line
   pub stands : Stands d w line
   pub small : Small (line .c)
@@ -79,7 +80,7 @@ pub record Ruled-by (d : List ℕ) (v w : Spot) (rule : Line → Line → Bool) 
 
 -- Where the line itself is read again, with n fluents and m actions.
 pub record Some-read (n m : ℕ) (d : List ℕ) (w : Spot) : Type 0 where
-  pub long : length d ≤ 32768
+  pub long : length d ≤ format .derivation
   pub layout : Layout
   pub line : Line
   pub here : Line-here n m d layout (w .line) line

@@ -1,6 +1,7 @@
 ghost use mathlib.Core.Path.{_≡_};
 ghost use Prim.Native.Nat.{_+_, _<_};
 ghost use lib.ListN.{getD};
+ghost use Rattle.deriving.specs.DerivationRead.{plan-ends-slot};
 ghost use Rattle.comparing.specs.Stands.{spot-at};
 ghost use Rattle.comparing.specs.Rules.{Some-at, Some-lines, Some-concluded, Same-conclusions};
 use super::parts::same_lists;
@@ -74,7 +75,7 @@ fn spot_at(layout: Layout, d: &[u8], p: usize, e: usize) -> Spot
 pub fn spot_of(layout: Layout, d: &[u8], places: &Places, lines: usize, k: usize) -> Spot
     requires { ⌜ Some-lines layout (now d) (now places) lines ⌝ }
     requires { ⌜ k < lines ⌝ }
-    ensures { λ r. ⌜ r ≡ spot-at layout (now (d .entry)) (getD (now (places .entry)) k 0) (getD (now (places .entry)) (1024 + k) 0) ⌝ }
+    ensures { λ r. ⌜ r ≡ spot-at layout (now (d .entry)) (getD (now (places .entry)) k 0) (getD (now (places .entry)) (plan-ends-slot + k) 0) ⌝ }
 {
     let p = place_of(places, k);
     let e = end_of(places, k);

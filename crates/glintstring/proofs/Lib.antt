@@ -2,6 +2,7 @@ pub mod TellingLaws
 pub mod KeepingLaws
 pub mod MarkedLaws
 pub mod FirstLaws
+pub mod SettledLaws
 pub mod JudgingLaws
 pub mod ShowingLaws
 pub mod PackingLaws

@@ -2,7 +2,8 @@ ghost use mathlib.Core.Path.{_≡_};
 ghost use Rattle.meaning.specs.declared.Layout.the-variants.{Plain, Closing};
 ghost use Rattle.meaning.specs.Derivations.{check};
 ghost use Rattle.meaning.specs.Limits.{format};
-ghost use Rattle.steps.specs.AtHand.{request-in, At-hand};
+ghost use Rattle.steps.specs.Held.{request-in};
+ghost use Rattle.steps.specs.AtHand.{At-hand};
 ghost use Rattle.glintstring.specs.Derivations.{too-many, check-at-hand};
 use super::answers;
 use bytes::bytes::wide;
@@ -29,7 +30,7 @@ fn is_beyond(layout: Layout, asked: usize) -> bool
 // 30, and then the derivation, of a settled request.
 fn check_at_hand(layout: Layout, request: &[u8], t: &Table, derivation: &[u8]) -> Answer
     requires { ⌜ At-hand (now request) (now t) ⌝ }
-    ensures { λ r. ⌜ r ≡ check-at-hand layout (request-in (now (request .entry))) (now (derivation .entry)) ⌝ }
+    ensures { λ r. ⌜ r ≡ check-at-hand layout (request-in (now (request .entry)) (now (t .entry))) (now (derivation .entry)) ⌝ }
 {
     let goals = get(t, table::GOALS);
     let whether = sequence_of(request, goals);

@@ -4,7 +4,8 @@ ghost use Rattle.meaning.specs.Limits.{format};
 ghost use Rattle.meaning.specs.States.{first-state};
 ghost use Rattle.meaning.specs.Walk.{walked};
 ghost use Rattle.meaning.specs.Judging.{within, judge};
-ghost use Rattle.steps.specs.AtHand.{request-in, At-hand};
+ghost use Rattle.steps.specs.Held.{table-in, request-in};
+ghost use Rattle.steps.specs.AtHand.{At-hand};
 ghost use Rattle.glintstring.specs.Telling.{start};
 use super::answers;
 use super::telling::tell;
@@ -29,7 +30,7 @@ fn start_of(items: usize) -> usize
 fn walk_plan(request: &[u8], t: &Table, state: &mut [u8], budget: u32) -> Answer
     requires { ⌜ At-hand (now request) (now t) ⌝ }
     requires { ⌜ length (now state) ≡ 64 ⌝ }
-    ensures { λ r. ⌜ record { answer = r; state = now (state .exit) } ≡ within (now (state .entry)) budget (walked (request-in (now (request .entry))) (first-state format (request-in (now (request .entry)) .table))) ⌝ }
+    ensures { λ r. ⌜ record { answer = r; state = now (state .exit) } ≡ within (now (state .entry)) budget (walked (request-in (now (request .entry)) (now (t .entry))) (first-state format (table-in (now (request .entry))))) ⌝ }
 {
     let marks = state_of(request, 2);
     let items = get(t, table::ITEMS);

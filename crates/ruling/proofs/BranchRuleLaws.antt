@@ -27,6 +27,7 @@ use Rattle.reading.specs.Listed.{listed, holds-as}
 use Rattle.reading.specs.Planned.{items-of, items-in, items-under, bytes-of, bytes-in, bytes-under, place-of, plan-noted, noting-met, outcome-met}
 use Rattle.reading.proofs.PlanSizes.{two-bytes-through}
 use Rattle.reading.proofs.NotingLaws.{with-items, met-value, met-fault, fault-met}
+use Rattle.reading.specs.Noted.{slots}
 use Rattle.finding.specs.Branches.{sequence-place, place-after, item-after, Branches-here}
 use Rattle.finding.specs.PlansHeld.{own-items, branches-in, Written, Item-written, Branches-written, Kept, Item-kept, Branches-kept, Plan-held}
 use Rattle.finding.proofs.ByBranch.{branch-first}
@@ -72,7 +73,7 @@ module _ (d t : List ℕ) where
       ∙ end-is rest (p + (1 + length c) + (2 + bytes-of b)) (i + items-of b) (w .2) (k .2)
       ∙ omega arith
 
-  held-here : (bs : Branches ℕ) (p i : ℕ) → i + items-under bs ≤ 1024 → Branches-written d p bs → Branches-kept t i p bs → Branches-here d t (branches-in bs) p i
+  held-here : (bs : Branches ℕ) (p i : ℕ) → i + items-under bs ≤ format .items → Branches-written d p bs → Branches-kept t i p bs → Branches-here d t (branches-in bs) p i
   unfolding Branches-here branches-in Branches-written Branches-kept items-under
   held-here none p i few w k = tt
   held-here (branch c b rest) p i few w k = (
@@ -414,12 +415,12 @@ module _ (n m : ℕ) (d : List ℕ) (w : Spot) where
             }
 
         -- THE PLAN READ AGAIN, which leaves it in the table.
-        module _ (byte : getD d (plan + 2) 0 ≡ 255) (few : n ≤ 64) (less : m ≤ 64) (t u : List ℕ) (r : Read) (read : outcome-met r u ≡ noting-met (plan-noted plan t) (plan-at format n m d plan)) where
+        module _ (byte : getD d (plan + 2) 0 ≡ 255) (few : n ≤ format .fluents) (less : m ≤ format .actions) (t u : List ℕ) (r : Read) (read : outcome-met r u ≡ noting-met (plan-noted plan t) (plan-at format n m d plan)) where
           again : (l : Line) (parts : Line-parts n m d (w .line) l) → plan-at format n m d plan ≡ got (parts .plan) (parts .end)
           unfolding sequence-place after-list
           again l parts = ap (plan-at format n m d) at ∙ parts .reads
 
-          module _ (long : length t ≡ 9480) (items e : ℕ) (is : r ≡ Value items e) where
+          module _ (long : length t ≡ slots) (items e : ℕ) (is : r ≡ Value items e) where
             begins : (layout : Layout) (l : Line) → Line-here n m d layout (w .line) l → Stands d w l → Begins d u (plan + 2) (w .end) (count - 1) l
             unfolding place-of
             begins layout l here sl =

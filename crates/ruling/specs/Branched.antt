@@ -5,6 +5,7 @@ use mathlib.Core.Bool.{Bool, false}
 use mathlib.Core.List.{List}
 use lib.ListN.{length, getD}
 use Rattle.meaning.specs.Tests.{both, either, each-of}
+use Rattle.meaning.specs.Limits.{format}
 use Rattle.meaning.specs.Requests.{Sequence, Branches, none, branch}
 use Rattle.meaning.specs.States.{State, known}
 use Rattle.meaning.specs.Derivations.{same-plan, join}
@@ -23,7 +24,7 @@ branches-end d t (suc left) p i = branches-end d t left (place-after d t p i) (i
 
 -- Branches from p on, with i items before them.
 pub record Branches-held (d t : List ℕ) (p i : ℕ) (bs : Branches ℕ) : Type 0 where
-  pub few : i + items-under bs ≤ 1024
+  pub few : i + items-under bs ≤ format .items
   pub inside : p + bytes-under bs ≤ length d
   pub written : Branches-written d p bs
   pub kept : Branches-kept t i p bs

@@ -1,5 +1,6 @@
 ghost use mathlib.Core.Path.{_≡_};
 ghost use Prim.Native.Nat.{_≤_};
+ghost use Rattle.meaning.specs.Limits.{format};
 ghost use Rattle.meaning.specs.Derivations.{rule-4};
 ghost use Rattle.finding.specs.Branches.{Branches-here};
 ghost use Rattle.comparing.specs.Rules.{Some-plan, Some-line, Some-read, Read-by};
@@ -15,6 +16,7 @@ use comparing::spots::same_conclusions;
 use finding::branches::next_item;
 use finding::branches::next_place;
 use finding::branches::sequence_of;
+use reading::marks::Marks;
 use reading::marks::Test;
 use reading::marks::each_holds;
 use reading::marks::state_of;
@@ -44,7 +46,7 @@ fn after_branches(d: &[u8], t: &Table, count: usize, place: usize, item: usize) 
 fn some_branch(
     d: &[u8],
     t: &Table,
-    held: &[u8; 64],
+    held: &Marks,
     first: usize,
     cited: usize,
     yc: usize,
@@ -86,8 +88,8 @@ fn some_branch(
 // Rules 4 and 12: a branching first, some condition of it within X; X, that branch joined with the rest and the line's own conclusion by the
 // line `cited`.
 pub fn rule_4(n: usize, m: usize, d: &[u8], t: &mut Table, cited: Spot, l: Spot) -> bool
-    requires { ⌜ n ≤ 64 ⌝ }
-    requires { ⌜ m ≤ 64 ⌝ }
+    requires { ⌜ n ≤ format .fluents ⌝ }
+    requires { ⌜ m ≤ format .actions ⌝ }
     requires { ⌜ Some-line (now d) cited ⌝ }
     requires { ⌜ Some-read n m (now d) l ⌝ }
     ensures { λ r. ⌜ Read-by n m (now (d .entry)) cited l rule-4 r ⌝ }

@@ -1,6 +1,7 @@
 ghost use Rattle.meaning.specs.Derivations.{rule-1, rule-2, rule-5, rule-6, rule-7, rule-8};
 ghost use Rattle.meaning.specs.Limits.{format};
-ghost use Rattle.steps.specs.AtHand.{request-in, At-hand};
+ghost use Rattle.steps.specs.Held.{table-in};
+ghost use Rattle.steps.specs.AtHand.{At-hand};
 ghost use Rattle.comparing.specs.Rules.{Some-line, Ruled, Ruled-by, Ruled-by-two};
 use bytes::bytes::wide;
 use bytes::limits;
@@ -43,7 +44,7 @@ pub fn rule_1(d: &[u8], l: Spot) -> bool
 pub fn rule_2(s: &[u8], t: &Table, d: &[u8], l: Spot) -> bool
     requires { ⌜ At-hand (now s) (now t) ⌝ }
     requires { ⌜ Some-line (now d) l ⌝ }
-    ensures { λ r. ⌜ Ruled (now (d .entry)) l (rule-2 format (request-in (now (s .entry)) .table)) r ⌝ }
+    ensures { λ r. ⌜ Ruled (now (d .entry)) l (rule-2 format (table-in (now (s .entry)))) r ⌝ }
 {
     if l.fluent {
         return false;
@@ -147,7 +148,7 @@ pub fn rule_6(d: &[u8], cited: Spot, l: Spot) -> bool
 pub fn rule_7(s: &[u8], t: &Table, d: &[u8], l: Spot) -> bool
     requires { ⌜ At-hand (now s) (now t) ⌝ }
     requires { ⌜ Some-line (now d) l ⌝ }
-    ensures { λ r. ⌜ Ruled (now (d .entry)) l (rule-7 format (request-in (now (s .entry)) .table)) r ⌝ }
+    ensures { λ r. ⌜ Ruled (now (d .entry)) l (rule-7 format (table-in (now (s .entry)))) r ⌝ }
 {
     if l.fluent {
         let p = l.line;

@@ -23,6 +23,7 @@ use Rattle.reading.specs.declared.marks.Test.the-variants.{Known}
 use Rattle.finding.specs.declared.places.Found as Code
 use Rattle.finding.specs.declared.places.Found.the-variants.{Nowhere, At}
 use Rattle.finding.specs.Places.{found}
+use Rattle.finding.specs.Branches.{sequence-place}
 use Rattle.reading.specs.Listed.{bytes-from, listed, List-here, holds-as}
 use Rattle.reading.proofs.MarkLaws.{bytes-next, bytes-done}
 use Rattle.reading.specs.Noted.{goals-slot}
@@ -113,8 +114,8 @@ module _ (whole : Code.Found) (test : ℕ → Bool) (s : List ℕ) (end i : ℕ)
 -- THE GOALS, and then the whether entries.
 module _ (s t : List ℕ) (here : At-hand s t) (goals : ℕ) (is : goals ≡ getD t goals-slot 0) where
   pub goals-there : List-here (bound-as Goal) s goals
-  unfolding bound-as goals-in
-  goals-there = rw is (goals-here s t here)
+  unfolding bound-as
+  goals-there = goals-here s t here goals is
 
   goals-are : placed (goals + 1) (listed s goals) ≡ request-in s t .goals
   unfolding request-in goals-in
@@ -135,8 +136,8 @@ module _ (s t : List ℕ) (here : At-hand s t) (goals : ℕ) (is : goals ≡ get
     whether-is = rw (byte, is)
 
     pub whether-there : List-here (bound-as Whether) s (goals + 1 + x)
-    unfolding bound-as goals-in whether-in
-    whether-there = rw (byte, is) (whether-here s t here)
+    unfolding bound-as sequence-place
+    whether-there = whether-here s t here goals is (goals + 1 + x) (ap (λ (y : ℕ). goals + 1 + y) byte)
 
   module _ (marks : State) (r : Code.Found) (looked : r ≡ found (first-missed (met-as Goal marks) (placed (goals + 1) (listed s goals)))) where
     goals-looked : r ≡ found (first-missed (known marks) (request-in s t .goals))

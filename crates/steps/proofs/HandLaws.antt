@@ -11,7 +11,8 @@ use Rattle.meaning.specs.Reading.{literals, bound-of, plan-at}
 use Rattle.reading.specs.Listed.{listed, List-here}
 use Rattle.reading.specs.Planned.{items-of}
 use Rattle.reading.proofs.PlanSizes.{sequence-read}
-use Rattle.reading.specs.Noted.{plan-slot, items-slot}
+use Rattle.reading.specs.Noted.{plan-slot, items-slot, goals-slot}
+use Rattle.finding.specs.Branches.{sequence-place}
 use Rattle.finding.proofs.HereLaws.{list-here}
 use Rattle.finding.proofs.ReadLaws.{Table-parts, table-parts}
 use Rattle.finding.proofs.StartLaws.{Starts, table-starts}
@@ -37,14 +38,21 @@ module _ (s t : List ℕ) (here : At-hand s t) where
       let counted = sequence-read (table-in s .fluents) (table-in s .actions) s 8 (getD t plan-slot 0) 0 (omega arith) .holds (record { value = plan-in s t; items = getD t items-slot 0 }) (goals-in t) (here .plan) .counted in
       omega arith
 
-  pub goals-here : List-here all-literals s (goals-in t)
-  unfolding bound-of
-  goals-here =
-      let few = sections .few in
-      list-here literals (table-in s .fluents) s (format .listed) (goals-in t) (listed s (goals-in t)) (whether-in s t) (here .goals) .1 all-literals (omega (arith, few))
+  -- The goals, and the whether entries behind them.
+  module _ (goals : ℕ) (slot : goals ≡ getD t goals-slot 0) where
+    pub goals-here : List-here all-literals s goals
+    unfolding bound-of goals-in
+    goals-here =
+        let few = sections .few in
+        rw slot (list-here literals (table-in s .fluents) s (format .listed) (goals-in t) (listed s (goals-in t)) (whether-in s t) (here .goals) .1 all-literals (omega (arith, few)))
 
-  pub whether-here : List-here (format .fluents) s (whether-in s t)
-  unfolding bound-of
-  whether-here =
-      let few = sections .few in
-      list-here Reading.fluents (table-in s .fluents) s (format .listed) (whether-in s t) (listed s (whether-in s t)) (here .whether-end) (here .whether) .1 (format .fluents) (omega (arith, few))
+    module _ (whether : ℕ) (after : whether ≡ sequence-place s goals) where
+      pub is-whether : whether ≡ whether-in s t
+      unfolding goals-in whether-in sequence-place
+      is-whether = rw (after, slot)
+
+      pub whether-here : List-here (format .fluents) s whether
+      unfolding bound-of
+      whether-here =
+          let few = sections .few in
+          rw is-whether (list-here Reading.fluents (table-in s .fluents) s (format .listed) (whether-in s t) (listed s (whether-in s t)) (here .whether-end) (here .whether) .1 (format .fluents) (omega (arith, few)))

@@ -4,7 +4,7 @@ use Prim.Native.Nat.{ℕ, _+_, _*_, _≤_, _<_}
 use native.Mathlib.Omega.{arith}
 use mathlib.Core.Path.{_≡_, refl, sym, _∙_, ap, subst}
 use mathlib.Core.Bool.{true, false, false≢true}
-use mathlib.Core.List.{List, map}
+use mathlib.Core.List.{List}
 use lib.ListN.{length, getD, set, length-set}
 use lib.Dec.{eqb, ltb}
 use borrow.Author.Tests.{ltb-true, lt-ltb, le-ltb, eq-eqb}
@@ -12,7 +12,7 @@ use Rattle.meaning.specs.Tests.{either}
 use Rattle.meaning.specs.Limits.{format}
 use Rattle.meaning.specs.Requests.{Knowledge, Table, Request}
 use Rattle.meaning.specs.Reading
-use Rattle.meaning.specs.Reading.{got, literals, list-at, plan-at, table-at, read-request}
+use Rattle.meaning.specs.Reading.{got, literals, plan-at, read-request}
 use Rattle.meaning.specs.Lines.{knowledge-of, sensing, senses}
 use Rattle.meaning.proofs.TestLaws.{same-test, some-has, has-some, some-those}
 use Rattle.meaning.proofs.PlaceLaws.{Request-held, read-held}

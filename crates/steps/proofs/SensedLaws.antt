@@ -1,6 +1,6 @@
 -- What an action senses after the knowledge lines are noted one by one: the slot of a pair, and the smallest and the largest fluent of the
 -- action. Noting a line touches the slots of its own pair and action alone, and the bounds only grow. Assumes nothing.
-use Prim.Native.Nat.{ℕ, _+_, _-_, _*_, _≤_, _<_, max}
+use Prim.Native.Nat.{max, ℕ, _+_, _-_, _*_, _≤_, _<_}
 use native.Mathlib.Omega.{arith}
 use mathlib.Core.Path.{_≡_, refl, sym, _∙_, ap, subst}
 use mathlib.Core.Bool.{Bool, true}

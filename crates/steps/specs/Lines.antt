@@ -5,14 +5,12 @@ use mathlib.Core.Bool.{Bool, true}
 use mathlib.Core.List.{List, map}
 use lib.ListN.{getD}
 use lib.Dec.{eqb, ltb}
-use Rattle.meaning.specs.Tests.{both, some-of, each-of, Has}
+use Rattle.meaning.specs.Tests.{both, some-of, each-of}
 use Rattle.meaning.specs.Limits.{format}
 use Rattle.meaning.specs.Requests.{Effect, Executability}
-use Rattle.meaning.specs.Lines.{effects-of, executability-of, knowledge-of, allowed, given, sensing, senses}
-use Rattle.reading.specs.Noted.{effect-lines, run-lines, sensed-from, sensed-to, sensed}
-use Rattle.reading.specs.Ordered.{In-order}
-use Rattle.reading.specs.Listed.{listed, List-here}
-use Rattle.finding.specs.LinesHere.{Effect-here}
+use Rattle.meaning.specs.Lines.{effects-of, executability-of, knowledge-of, sensing, senses}
+use Rattle.reading.specs.Noted.{sensed-from, sensed-to, sensed}
+use Rattle.reading.specs.Listed.{listed}
 use Rattle.steps.specs.Held.{table-in}
 
 -- THE PLACES of an action's lines, in file order.

@@ -1,6 +1,6 @@
 -- What all lines give is what those from line i on give, where each line before it follows.
 use Prim.Native.Nat.{_-_}
-use Rattle.steps.specs.AtHand.{request-in}
+use Rattle.steps.specs.Held.{table-in}
 use Rattle.checking.specs.Checked.{lines-in}
 use Rattle.checking.proofs.OrderLaws.{Checking, checking-start, line-numbered, index-few, checking-next, line-stops, lines-through}
 use borrow.Author.Needs.{needs}
@@ -12,7 +12,7 @@ use Rattle.checking.proofs.lines.line_refused.Reads as line-refused-rea
 use Rattle.deriving.proofs.derived.place_of.Reads as place-of-reads
 
 abbrev Inv-loop : tie.InvT-loop
-Inv-loop layout n m s t d u₀ places lines i₀ u i = Checking layout (request-in s .table) (lines-in layout n m d) i
+Inv-loop layout n m s t d u₀ places lines i₀ u i = Checking layout (table-in s) (lines-in layout n m d) i
 
 abbrev μ-loop : tie.MeasureT-loop
 μ-loop layout n m s t d u₀ places lines i₀ u i = lines - i

@@ -1,5 +1,6 @@
 -- After the start the conclusion is asked: as a list against the goals, or as a fluent by its byte; of another kind it is not what is asked.
-use Rattle.checking.proofs.QuestionLaws.{goals-here, own-list, own-byte, other-start, goals-not-fluent, goals-asked, fluent-not-list, fluent-asked}
+use Rattle.steps.proofs.HandLaws.{goals-here}
+use Rattle.checking.proofs.QuestionLaws.{own-list, own-byte, other-start, goals-not-fluent, goals-asked, fluent-not-list, fluent-asked}
 use borrow.Author.Needs.{needs}
 use Rattle.checking.proofs.question.asks.Statement.{statement}
 use Rattle.checking.proofs.question.asks.Tie as tie

@@ -10,7 +10,7 @@ use Rattle.bytes.proofs.bytes.wide.Reads as wide-reads
 use Rattle.checking.proofs.question.names.Reads as names-reads
 
 abbrev Inv-loop : tie.InvT-loop
-Inv-loop s t d places lines whether first end i₀ at₀ i at = So-far s d places lines whether first end i at
+Inv-loop s t d places lines whether first end i₀ at₀ i at = So-far s t d places lines whether first end i at
 
 abbrev μ-loop : tie.MeasureT-loop
 μ-loop s t d places lines whether first end i₀ at₀ i at = end - i

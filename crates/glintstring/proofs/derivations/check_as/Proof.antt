@@ -1,6 +1,6 @@
 -- The request is settled first, as the definition has it, and then it is at hand.
 use Rattle.glintstring.proofs.DerivationLaws.{check-settled-first, check-then}
-use Rattle.glintstring.proofs.JudgingLaws.{blank-is, judge-at-hand}
+use Rattle.glintstring.proofs.SettledLaws.{blank-is, settled-at-hand}
 use borrow.Author.Needs.{needs}
 use Rattle.glintstring.proofs.derivations.check_as.Statement.{statement}
 use Rattle.glintstring.proofs.derivations.check_as.Tie as tie
@@ -19,7 +19,7 @@ enum-told c = search needs
 
 -- src/derivations.rt:40:26
 check-at-hand-requires : tie.Need-check-at-hand-requires
-check-at-hand-requires c κs = search (judge-at-hand, blank-is)
+check-at-hand-requires c κs = search (settled-at-hand, blank-is)
 
 -- src/derivations.rt:41:23
 enum-known-k : tie.Need-enum-known-k
@@ -27,7 +27,7 @@ enum-known-k c = search needs
 
 -- src/derivations.rt:35:1
 returns : tie.Need-returns
-returns c = search check-then
+returns c = search (check-then, blank-is)
 
 -- src/derivations.rt:35:1
 returns-2 : tie.Need-returns-2

@@ -1,5 +1,6 @@
 -- The whether list's count stands after the goals, so 30 is told as defined; past it the answer is that of the derivation's check.
-use Rattle.glintstring.proofs.DerivationLaws.{goals-stand, whether-inside, check-30, check-accepts, check-refuses}
+use Rattle.steps.proofs.HandLaws.{goals-here}
+use Rattle.glintstring.proofs.DerivationLaws.{whether-inside, check-30, check-accepts, check-refuses}
 use borrow.Author.Needs.{needs}
 use Rattle.glintstring.proofs.derivations.check_at_hand.Statement.{statement}
 use Rattle.glintstring.proofs.derivations.check_at_hand.Tie as tie
@@ -15,7 +16,7 @@ get-requires : tie.Need-get-requires
 get-requires c κs = search needs
 
 sequence-of-requires : tie.Need-sequence-of-requires
-sequence-of-requires c κs = search goals-stand
+sequence-of-requires c κs = search goals-here
 
 shared-slice-read-wide : tie.Need-shared-slice-read-wide
 shared-slice-read-wide c = search whether-inside

@@ -1,6 +1,7 @@
 -- The three ways out: another length than 64, a refusal, and the walk of a settled request. Each is a case of the definition.
 use borrow.Author.Needs.{needs}
-use Rattle.glintstring.proofs.JudgingLaws.{blank-is, judge-9, judge-at-hand, judge-walked, judge-refused}
+use Rattle.glintstring.proofs.JudgingLaws.{judge-9, judge-walked, judge-refused}
+use Rattle.glintstring.proofs.SettledLaws.{blank-is, settled-at-hand}
 use Rattle.glintstring.proofs.judging.judge.Statement.{statement}
 use Rattle.glintstring.proofs.judging.judge.Tie as tie
 use Rattle.glintstring.proofs.judging.judge.Reads as reads
@@ -22,7 +23,7 @@ enum-told c = search needs
 
 -- src/judging.rt:49:26
 walk-plan-requires : tie.Need-walk-plan-requires
-walk-plan-requires c κs = (search (judge-at-hand, blank-is), search needs)
+walk-plan-requires c κs = (search (settled-at-hand, blank-is), search needs)
 
 -- src/judging.rt:50:23
 enum-known-k : tie.Need-enum-known-k
@@ -34,7 +35,7 @@ same-length c = search needs
 
 -- src/judging.rt:41:1
 returns-2 : tie.Need-returns-2
-returns-2 c = search judge-walked
+returns-2 c = search (judge-walked, blank-is)
 
 -- src/judging.rt:41:1
 returns-3 : tie.Need-returns-3

@@ -6,6 +6,7 @@ use borrow.Author.Needs.{needs}
 use Prim.Native.Nat.{ℕ, _-_, _<_}
 use borrow.Fn.Kinds.{In}
 use borrow.Fn.PlainCycle.{Measures, is, falls, and}
+use Rattle.meaning.specs.Limits.{format}
 use Rattle.ruling.proofs.readings.each_reading.Reads as each-reading
 use Rattle.ruling.proofs.readings.each_reading.Kinds as each-reading-kinds
 use Rattle.ruling.proofs.readings.+each_reading.Lts-each_reading as each-reading-lts
@@ -15,7 +16,7 @@ use Rattle.ruling.proofs.readings.+each_reading.{statement}
 use Rattle.ruling.proofs.readings.+each_reading.Tie.{close}
 
 abbrev μ-each-reading : Measures 4 each-reading-kinds.ps ℕ
-μ-each-reading κs a = 64 - a .1 .1 .1 .1 .1 .1 .0
+μ-each-reading κs a = format .fluents - a .1 .1 .1 .1 .1 .1 .0
 
 abbrev each-reading-at : ℕ → In 4 each-reading-kinds.ps
 each-reading-at t =
