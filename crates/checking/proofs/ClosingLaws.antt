@@ -206,7 +206,7 @@ pub last-below : (count : ℕ) → 1 ≤ count → count - 1 < count
 last-below count least = omega (arith, least)
 
 -- THE END, by the layout: the last line, or the closing list.
-module _ (layout : Layout) (r : Request) (d places : List ℕ) (count : ℕ) where
+module _ (layout : Layout) (d places : List ℕ) (count : ℕ) where
   module _ (plain : layout ≡ Plain) where
     pub plain-lines : Some-derivation layout d places count → Some-lines Plain d places count
     plain-lines given = subst (λ (y : Layout). Some-lines y d places count) plain (record { lines = given .derivation .lines; stand = given .stands .stand; size = given .stands .size })
@@ -215,7 +215,7 @@ module _ (layout : Layout) (r : Request) (d places : List ℕ) (count : ℕ) whe
       pub last-some : Some-derivation layout d places count → Some-stands d l
       last-some given = line-some Plain d places count (count - 1) (omega (arith, least)) l is (plain-lines given)
 
-      module _ (asked : Bool) (tested : Ruled d l (asks-for r (conclusion-asked r Goals)) asked) where
+      module _ (r : Request) (asked : Bool) (tested : Ruled d l (asks-for r (conclusion-asked r Goals)) asked) where
         last-is : (x : Derivation) → Derivation-stands layout d places count x → check-end layout r x ≡ pick asked (λ _. got tt 0) (λ _. fault 35 (l .line))
         unfolding check-end conclusion-asked
         last-is x stands =
@@ -237,9 +237,9 @@ module _ (layout : Layout) (r : Request) (d places : List ℕ) (count : ℕ) whe
     pub closing-stands : Some-derivation layout d places count → Some-derivation Closing d places count
     closing-stands = subst (λ (y : Layout). Some-derivation y d places count) closing
 
-    pub end-closes : (answer : Passed) → Closing-checked r d places count answer → End-checked layout r d places count answer
+    pub end-closes : (r : Request) (answer : Passed) → Closing-checked r d places count answer → End-checked layout r d places count answer
     unfolding check-end
-    end-closes answer checked =
+    end-closes r answer checked =
         record {
           holds = λ x stands.
               checked .holds x (subst (λ (y : Layout). Derivation-stands y d places count x) closing stands)
