@@ -12,6 +12,7 @@ use borrow.Author.Tests.{eq-eqb, ne-eqb}
 use Rattle.meaning.specs.declared.Layout.{Layout}
 use Rattle.meaning.specs.declared.Layout.the-variants.{Plain, Closing}
 use Rattle.meaning.specs.Tests.{pick}
+use Rattle.meaning.specs.Limits.{format}
 use Rattle.meaning.specs.Requests.{Request}
 use Rattle.meaning.specs.Reading.{Got, got, fault}
 use Rattle.meaning.specs.Derivations.{Conclusion, knows-whether, Line, Derivation, asks-for, goals-of, check-last, all-asked, names, check-entries, check-closing, check-end}
@@ -21,6 +22,8 @@ use Rattle.bytes.specs.declared.lists.Passed.the-variants.{To, Fault as Stop}
 use Rattle.bytes.specs.Read.{passed}
 use Rattle.reading.specs.Listed.{bytes-from, listed, List-here}
 use Rattle.reading.proofs.MarkLaws.{bytes-next, bytes-done}
+use Rattle.reading.specs.Noted.{goals-slot}
+use Rattle.deriving.specs.DerivationRead.{plan-ends-slot, lines-end}
 use Rattle.finding.specs.Branches.{sequence-place}
 use Rattle.finding.proofs.PlanHere.{listed-length}
 use Rattle.steps.specs.Held.{request-in}
@@ -48,7 +51,7 @@ names-past r Y [] k h = refl
 names-past r Y (l ∷ ls) zero h = absurd (omega (arith, h))
 names-past r Y (l ∷ ls) (suc k) h = names-past r Y ls k (omega (arith, h))
 
-module _ (layout : Layout) (d places : List ℕ) (count number : ℕ) (below : number < count) (l : Spot) (is : l ≡ spot-at layout d (getD places number 0) (getD places (1024 + number) 0)) where
+module _ (layout : Layout) (d places : List ℕ) (count number : ℕ) (below : number < count) (l : Spot) (is : l ≡ spot-at layout d (getD places number 0) (getD places (plan-ends-slot + number) 0)) where
   line-stands : (ls : List Line) → Lines-stand layout d places ls → length ls ≡ count → Stands d l (getD ls number no-line)
   line-stands ls stand size = subst (λ (w : Spot). Stands d w (getD ls number no-line)) (sym is) (stand .each number (omega (arith, below, size)) no-line)
 
@@ -56,7 +59,7 @@ module _ (layout : Layout) (d places : List ℕ) (count number : ℕ) (below : n
   line-some some = record { line = getD (some .lines) number no-line; stands = line-stands (some .lines) (some .stand) (some .size) }
 
 module _ (r : Request) (d places : List ℕ) (count at : ℕ) (asked : Asked) (number : ℕ) (read : number ≡ getD d at 0 * 256 + getD d (at + 1) 0) where
-  pub named : number < count → (l : Spot) → l ≡ spot-at Closing d (getD places number 0) (getD places (1024 + number) 0) → (answer : Bool) → Ruled d l (asks-for r (conclusion-asked r asked)) answer
+  pub named : number < count → (l : Spot) → l ≡ spot-at Closing d (getD places number 0) (getD places (plan-ends-slot + number) 0) → (answer : Bool) → Ruled d l (asks-for r (conclusion-asked r asked)) answer
       → Names r d places count at asked answer
   named below l is answer ruled =
       record {
@@ -97,7 +100,7 @@ pub record So-far (s t d places : List ℕ) (count whether first end i at : ℕ)
   pub holds : (ls : List Line) (ks : List ℕ) → Lines-stand Closing d places ls → length ls ≡ count → Numbers-stand d first ks → length ks ≡ length (listed s whether)
       → Left s t d ls end i at (passed (check-entries (request-in s t) ls first (map knows-whether (listed s whether)) ks))
 
-module _ (s : List ℕ) (whether : ℕ) (here : List-here 64 s whether) where
+module _ (s : List ℕ) (whether : ℕ) (here : List-here (format .fluents) s whether) where
   pub list-there : whether < length s
   list-there = let ends = here .ends in omega (arith, ends)
 
@@ -132,10 +135,10 @@ module _ (s t d places : List ℕ) (count whether first : ℕ) where
         }
 
     module _ (more : i < end) where
-      pub entry-there : List-here 64 s whether → i + 1 < length s
+      pub entry-there : List-here (format .fluents) s whether → i + 1 < length s
       entry-there here = let inside = here .ends in let ends = so-far .ends in omega (arith, inside, ends, more)
 
-      pub entry-fits : List-here 64 s whether → Fits w64 (length s) → Fits w64 (i + 1)
+      pub entry-fits : List-here (format .fluents) s whether → Fits w64 (length s) → Fits w64 (i + 1)
       entry-fits here long = let there = entry-there here in let most = long .fits in record { fits = omega (arith, there, most) }
 
       pub number-there : at + 1 < length d
@@ -206,16 +209,16 @@ pub last-below : (count : ℕ) → 1 ≤ count → count - 1 < count
 last-below count least = omega (arith, least)
 
 -- THE END, by the layout: the last line, or the closing list.
-module _ (layout : Layout) (r : Request) (d places : List ℕ) (count : ℕ) where
+module _ (layout : Layout) (d places : List ℕ) (count : ℕ) where
   module _ (plain : layout ≡ Plain) where
     pub plain-lines : Some-derivation layout d places count → Some-lines Plain d places count
     plain-lines given = subst (λ (y : Layout). Some-lines y d places count) plain (record { lines = given .derivation .lines; stand = given .stands .stand; size = given .stands .size })
 
-    module _ (least : 1 ≤ count) (l : Spot) (is : l ≡ spot-at Plain d (getD places (count - 1) 0) (getD places (1024 + (count - 1)) 0)) where
+    module _ (least : 1 ≤ count) (l : Spot) (is : l ≡ spot-at Plain d (getD places (count - 1) 0) (getD places (plan-ends-slot + (count - 1)) 0)) where
       pub last-some : Some-derivation layout d places count → Some-stands d l
       last-some given = line-some Plain d places count (count - 1) (omega (arith, least)) l is (plain-lines given)
 
-      module _ (asked : Bool) (tested : Ruled d l (asks-for r (conclusion-asked r Goals)) asked) where
+      module _ (r : Request) (asked : Bool) (tested : Ruled d l (asks-for r (conclusion-asked r Goals)) asked) where
         last-is : (x : Derivation) → Derivation-stands layout d places count x → check-end layout r x ≡ pick asked (λ _. got tt 0) (λ _. fault 35 (l .line))
         unfolding check-end conclusion-asked
         last-is x stands =
@@ -237,9 +240,9 @@ module _ (layout : Layout) (r : Request) (d places : List ℕ) (count : ℕ) whe
     pub closing-stands : Some-derivation layout d places count → Some-derivation Closing d places count
     closing-stands = subst (λ (y : Layout). Some-derivation y d places count) closing
 
-    pub end-closes : (answer : Passed) → Closing-checked r d places count answer → End-checked layout r d places count answer
+    pub end-closes : (r : Request) (answer : Passed) → Closing-checked r d places count answer → End-checked layout r d places count answer
     unfolding check-end
-    end-closes answer checked =
+    end-closes r answer checked =
         record {
           holds = λ x stands.
               checked .holds x (subst (λ (y : Layout). Derivation-stands y d places count x) closing stands)
@@ -253,7 +256,7 @@ pub closing-lines : (d places : List ℕ) (count : ℕ) → Some-derivation Clos
 closing-lines d places count given = record { lines = given .derivation .lines; stand = given .stands .stand; size = given .stands .size }
 
 -- THE CLOSING LIST, whose count stands at `closing`.
-module _ (d places : List ℕ) (count closing : ℕ) (at-closing : closing ≡ getD places 2048 0) where
+module _ (d places : List ℕ) (count closing : ℕ) (at-closing : closing ≡ getD places lines-end 0) where
   closes : (x : Derivation) → Derivation-stands Closing d places count x → (closing < length d) × (getD d closing 0 ≡ length (x .closing)) × Numbers-stand d (closing + 1) (x .closing)
   unfolding Closing-stands
   closes x stands =
@@ -286,7 +289,7 @@ module _ (d places : List ℕ) (count closing : ℕ) (at-closing : closing ≡ g
         fluents-numbers x byte = let inside = numbers-inside in omega (arith, inside, due, byte)
 
   -- What is asked of it by a request at hand.
-  module _ (s t : List ℕ) (here : At-hand s t) (goals : ℕ) (at-goals : goals ≡ getD t 5381 0) (whether : ℕ) (after : whether ≡ sequence-place s goals) (number : ℕ) (byte : number ≡ getD s whether 0) where
+  module _ (s t : List ℕ) (here : At-hand s t) (goals : ℕ) (at-goals : goals ≡ getD t goals-slot 0) (whether : ℕ) (after : whether ≡ sequence-place s goals) (number : ℕ) (byte : number ≡ getD s whether 0) where
     asked-are : all-asked (request-in s t) ≡ goals-of (request-in s t) ∷ map knows-whether (listed s whether)
     unfolding all-asked
     asked-are = ap (λ (Ys : List Conclusion). goals-of (request-in s t) ∷ Ys) (whether-asked s t here goals at-goals whether after)

@@ -19,6 +19,7 @@ use Rattle.meaning.specs.Requests.{Table}
 use Rattle.meaning.specs.Derivations.{Line, rule-1, rule-2, rule-3, rule-4, rule-5, rule-6, rule-7, rule-8, of-one, of-two, given-by, for-lists, follows, citations-taken, citations-of, a-rule, cited-by}
 use Rattle.meaning.proofs.TestLaws.{by-test, clash, both-left, both-right, fails-false, pick-true, pick-false, each-mono}
 use Rattle.deriving.specs.Derived.{Line-here}
+use Rattle.deriving.specs.DerivationRead.{plan-ends-slot}
 use Rattle.steps.specs.Small.{Small}
 use Rattle.steps.proofs.SmallActions.{plan-small}
 use Rattle.comparing.specs.declared.spots.Spot.{Spot}
@@ -278,7 +279,7 @@ unfolding Numbers-stand
 two-numbers d q [] h w = absurd (omega (arith, h))
 two-numbers d q (k ∷ ks) h w = rw (w .1) (ap (λ (js : List ℕ). k ∷ js) (one-number d (q + 2) ks (omega (arith, h)) (w .2)))
 
-line-small : (n m : ℕ) (d : List ℕ) → n ≤ 64 → m ≤ 64 → (layout : Layout) (p : ℕ) (l : Line) → Line-here n m d layout p l → Small (l .c)
+line-small : (n m : ℕ) (d : List ℕ) → n ≤ format .fluents → m ≤ format .actions → (layout : Layout) (p : ℕ) (l : Line) → Line-here n m d layout p l → Small (l .c)
 line-small n m d few less layout p l here =
     let parts = line-parts n m d few layout p l here in
     subst Small (parts .is) (plan-small n m d less (after-list d p) (parts .plan) (parts .end) (parts .reads))
@@ -287,7 +288,7 @@ module _ (layout : Layout) (n m : ℕ) (d places : List ℕ) (count i : ℕ) (he
   inside : (k : ℕ) → k < count → k < length (lines-in layout n m d)
   inside k h = let size = here .all .size in omega (arith, size, h)
 
-  pub own-few : i < 1024
+  pub own-few : i < format .lines
   own-few = let few = here .all .stand .few in let size = here .all .size in let below = here .below in omega (arith, few, size, below)
 
   -- Line k, of which another line is asked.
@@ -297,7 +298,7 @@ module _ (layout : Layout) (n m : ℕ) (d places : List ℕ) (count i : ℕ) (he
 
     reads-at : Line-here n m d layout (w .line) (getD (lines-in layout n m d) k other)
     reads-at =
-        let there : w .line ≡ getD places k 0 = ap (λ (v : Spot). v .line) is ∙ spot-line layout d (getD places k 0) (getD places (1024 + k) 0) in
+        let there : w .line ≡ getD places k 0 = ap (λ (v : Spot). v .line) is ∙ spot-line layout d (getD places k 0) (getD places (plan-ends-slot + k) 0) in
         rw there (line-number n m d layout places (lines-in layout n m d) (here .all .here) k (inside k h) other)
 
   some-at : (k : ℕ) → k < count → (w : Spot) → w ≡ spot-in layout d places k → Some-line d w
@@ -309,10 +310,10 @@ module _ (layout : Layout) (n m : ℕ) (d places : List ℕ) (count i : ℕ) (he
         small = line-small n m d (here .all .few) (here .all .less) layout (w .line) (getD (lines-in layout n m d) k no-line) (reads-at k h no-line w is);
       }
 
-  pub few-fluents : n ≤ 64
+  pub few-fluents : n ≤ format .fluents
   few-fluents = here .all .few
 
-  pub few-actions : m ≤ 64
+  pub few-actions : m ≤ format .actions
   few-actions = here .all .less
 
   pub lines-some : Some-lines layout d places count

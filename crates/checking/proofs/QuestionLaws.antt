@@ -8,12 +8,14 @@ use mathlib.Core.List.{List, [], _∷_, map}
 use lib.ListN.{length, getD}
 use lib.Dec.{eqb}
 use Rattle.meaning.specs.Tests.{both}
+use Rattle.meaning.specs.Limits.{format, all-literals}
 use Rattle.meaning.specs.Requests.{Entry, Request, values}
 use Rattle.meaning.specs.Reading.{placed}
 use Rattle.meaning.specs.Derivations.{Conclusion, knows, knows-whether, Line, same-list, same-plan, same-conclusion, says, asks-for, goals-of}
 use Rattle.meaning.proofs.TestLaws.{clash}
 use Rattle.meaning.proofs.ReadLines.{placed-values}
 use Rattle.reading.specs.Listed.{listed, List-here}
+use Rattle.reading.specs.Noted.{plan-slot, items-slot, goals-slot}
 use Rattle.finding.specs.Branches.{sequence-place}
 use Rattle.steps.specs.Held.{table-in, plan-in, goals-in, whether-in, request-in}
 use Rattle.steps.specs.AtHand.{At-hand}
@@ -45,28 +47,28 @@ module _ (s t : List ℕ) (here : At-hand s t) where
     pub fluents-are : n ≡ table-in s .fluents
     fluents-are = is ∙ starts s t here .front .fluents-are
 
-    pub fluents-few : n ≤ 64
+    pub fluents-few : n ≤ format .fluents
     fluents-few = let few = starts s t here .front .most in let same = fluents-are in omega (arith, few, same)
 
   module _ (m : ℕ) (is : m ≡ getD s 1 0) where
     pub actions-are : m ≡ table-in s .actions
     actions-are = is ∙ starts s t here .front .actions-are
 
-    pub actions-few : m ≤ 64
+    pub actions-few : m ≤ format .actions
     actions-few = let few = starts s t here .front .few in let same = actions-are in omega (arith, few, same)
 
-  module _ (goals : ℕ) (at-goals : goals ≡ getD t 5381 0) where
+  module _ (goals : ℕ) (at-goals : goals ≡ getD t goals-slot 0) where
     goals-same : listed s goals ≡ values (request-in s t .goals)
     unfolding request-in goals-in
-    goals-same = rw at-goals (sym (placed-values (getD t 5381 0 + 1) (listed s (getD t 5381 0))))
+    goals-same = rw at-goals (sym (placed-values (getD t goals-slot 0 + 1) (listed s (getD t goals-slot 0))))
 
-    module _ (asked : ℕ) (at-plan : asked ≡ getD t 5376 0) where
+    module _ (asked : ℕ) (at-plan : asked ≡ getD t plan-slot 0) where
       asked-stands : Plan-stands s asked goals (plan-in s t)
       unfolding goals-in
       asked-stands =
           let whole = sections s t here in
           rw (at-plan, at-goals)
-          (plan-stands (table-in s .fluents) (table-in s .actions) s (here .bytes) (whole .few) (whole .less) (getD t 5376 0) (record { value = plan-in s t; items = getD t 5377 0 }) (goals-in t) (here .plan))
+          (plan-stands (table-in s .fluents) (table-in s .actions) s (here .bytes) (whole .few) (whole .less) (getD t plan-slot 0) (record { value = plan-in s t; items = getD t items-slot 0 }) (goals-in t) (here .plan))
 
       pub asked-some : Some-plan s asked goals
       asked-some = record { plan = plan-in s t; stands = asked-stands }
@@ -88,7 +90,7 @@ module _ (s t : List ℕ) (here : At-hand s t) where
     unfolding begins request-in
     other-facts f = record { holds = λ l stands. no-left (same-list (l .X) (table-in s .facts)) _ (sym (facts-are l stands) ∙ f) }
 
-    pub same-facts : facts ≡ true → (q : ℕ) → q ≡ sequence-place d (w .line) → (asked : ℕ) → asked ≡ getD t 5376 0 → (goals : ℕ) → goals ≡ getD t 5381 0 → (r : Bool) → Same-plans d q (w .end) s asked goals r
+    pub same-facts : facts ≡ true → (q : ℕ) → q ≡ sequence-place d (w .line) → (asked : ℕ) → asked ≡ getD t plan-slot 0 → (goals : ℕ) → goals ≡ getD t goals-slot 0 → (r : Bool) → Same-plans d q (w .end) s asked goals r
         → Ruled d w (begins (request-in s t)) r
     unfolding begins request-in
     same-facts e q after asked at-plan goals at-goals r same =
@@ -106,7 +108,7 @@ module _ (d : List ℕ) (w : Spot) (some : Some-stands d w) where
   concluded : Some-concluded d w
   concluded = record { conclusion = some .line .Y; stands = some .stands .Y }
 
-  pub own-list : w .fluent ≡ false → List-here 128 d (w .conclusion)
+  pub own-list : w .fluent ≡ false → List-here all-literals d (w .conclusion)
   own-list list = concluded-list d w list concluded
 
   pub own-byte : w .conclusion < length d
@@ -196,5 +198,5 @@ module _ (r : Request) (d : List ℕ) (w : Spot) (asked : Asked) (begun : Bool) 
           }
 
 pub goals-asked : (s t : List ℕ) (here : At-hand s t) (d : List ℕ) (w : Spot) (asked : Asked) (begun : Bool) → Ruled d w (begins (request-in s t)) begun → begun ≡ true → asked ≡ Goals → w .fluent ≡ false
-    → (goals : ℕ) → goals ≡ getD t 5381 0 → (same : Bool) → same ≡ same-list (listed d (w .conclusion)) (listed s goals) → Ruled d w (asks-for (request-in s t) (conclusion-asked (request-in s t) asked)) same
+    → (goals : ℕ) → goals ≡ getD t goals-slot 0 → (same : Bool) → same ≡ same-list (listed d (w .conclusion)) (listed s goals) → Ruled d w (asks-for (request-in s t) (conclusion-asked (request-in s t) asked)) same
 goals-asked s t here d w asked begun first begin is list goals at-goals same said = goals-list (request-in s t) d w asked begun first begin is list (listed s goals) (goals-same s t here goals at-goals) same said

@@ -12,6 +12,7 @@ use Rattle.meaning.specs.Derivations.{Conclusion, knows-whether, Line, Derivati
 use Rattle.bytes.specs.declared.lists.Passed.{Passed}
 use Rattle.bytes.specs.Read.{passed}
 use Rattle.reading.specs.Listed.{listed}
+use Rattle.deriving.specs.DerivationRead.{lines-end}
 use Rattle.steps.specs.Held.{request-in}
 use Rattle.comparing.specs.Stands.{Numbers-stand, Lines-stand, Closing-stands}
 use Rattle.checking.specs.declared.question.Asked.{Asked}
@@ -38,7 +39,7 @@ pub record Entries-checked (s t d places : List ℕ) (count whether first : ℕ)
 pub record Derivation-stands (layout : Layout) (d places : List ℕ) (count : ℕ) (x : Derivation) : Type 0 where
   pub stand : Lines-stand layout d places (x .lines)
   pub size : length (x .lines) ≡ count
-  pub closes : getD places 2048 0 ≡ x .closing-place
+  pub closes : getD places lines-end 0 ≡ x .closing-place
   pub closing : Closing-stands layout d (x .closing-place) (x .closing)
 
 pub record Some-derivation (layout : Layout) (d places : List ℕ) (count : ℕ) : Type 0 where

@@ -10,9 +10,11 @@ use bytes::bytes::two;
 use bytes::bytes::wide;
 use bytes::lists::Passed;
 use deriving::derivations;
+use deriving::derivations::PLACES_SLOTS;
 use deriving::derivations::Places;
 use deriving::derived::settle_derivation;
 use meaning::Layout;
+use reading::table;
 use reading::table::Table;
 
 // A derivation for a settled request: read, past 18, each line, the question.
@@ -22,8 +24,8 @@ pub fn check_derivation(layout: Layout, s: &[u8], t: &Table, d: &[u8]) -> Passed
 {
     let n = wide(s[0]);
     let m = wide(s[1]);
-    let mut u: Table = [0u16; 9480];
-    let mut places: Places = [0u16; 2049];
+    let mut u: Table = [0u16; table::SLOTS];
+    let mut places: Places = [0u16; PLACES_SLOTS];
     derivations::sized(&places);
     match settle_derivation(layout, n, m, d, &mut u, &mut places) {
         Passed::To(_) => {

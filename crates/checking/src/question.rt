@@ -1,6 +1,7 @@
 ghost use mathlib.Core.Path.{_≡_};
 ghost use Prim.Native.Nat.{_+_, _*_, _≤_, _<_};
 ghost use lib.ListN.{length, getD};
+ghost use Rattle.meaning.specs.Limits.{format};
 ghost use Rattle.meaning.specs.declared.Layout.the-variants.{Closing};
 ghost use Rattle.meaning.specs.Derivations.{asks-for};
 ghost use Rattle.reading.specs.Listed.{List-here};
@@ -113,7 +114,7 @@ fn check_fluents(
 ) -> Passed
     requires { ⌜ At-hand (now s) (now t) ⌝ }
     requires { ⌜ Some-lines Closing (now d) (now places) lines ⌝ }
-    requires { ⌜ List-here 64 (now s) whether ⌝ }
+    requires { ⌜ List-here (format .fluents) (now s) whether ⌝ }
     requires { ⌜ first + 2 * getD (now s) whether 0 ≤ length (now d) ⌝ }
     ensures { λ r. ⌜ Entries-checked (now (s .entry)) (now (t .entry)) (now (d .entry)) (now (places .entry)) lines whether first r ⌝ }
 {

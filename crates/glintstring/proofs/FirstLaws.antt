@@ -15,6 +15,7 @@ use Rattle.meaning.specs.Walk.{walked}
 use Rattle.meaning.proofs.TestLaws.{by-test, pick-true, pick-false}
 use Rattle.reading.specs.Listed.{listed}
 use Rattle.reading.specs.Planned.{items-of}
+use Rattle.reading.specs.Noted.{items-slot}
 use Rattle.finding.proofs.PlanHere.{some-item}
 use Rattle.steps.specs.Held.{table-in, plan-in, request-in}
 use Rattle.steps.specs.AtHand.{At-hand}
@@ -24,7 +25,7 @@ use Rattle.steps.proofs.HandLaws.{starts, few-items, items-are}
 use Rattle.glintstring.specs.Telling.{start}
 
 -- THE START.
-pub start-end : (items : ℕ) → items ≡ 0 → 1024 ≡ start items
+pub start-end : (items : ℕ) → items ≡ 0 → format .items ≡ start items
 unfolding start
 start-end items none = sym (pick-true _ _ _ (eq-eqb _ _ none))
 
@@ -53,7 +54,7 @@ module _ (s t : List ℕ) (here : At-hand s t) where
     unfolding first-state
     first-is = is ∙ ap (state-of format) (starts s t here .facts)
 
-  module _ (items at : ℕ) (counted : items ≡ getD t 5377 0) (starts : at ≡ start items) where
+  module _ (items at : ℕ) (counted : items ≡ getD t items-slot 0) (starts : at ≡ start items) where
     counted-are : items ≡ items-of (plan-in s t)
     counted-are = counted ∙ items-are s t here
 

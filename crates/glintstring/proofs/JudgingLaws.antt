@@ -21,7 +21,7 @@ use Rattle.meaning.proofs.TestLaws.{by-test, pick-true, pick-false}
 use Rattle.meaning.proofs.KeptEnds.{Stuck, walked-stuck}
 use Rattle.bytes.specs.declared.lists.Passed.{Passed}
 use Rattle.bytes.specs.declared.lists.Passed.the-variants.{To, Fault as Stop}
-use Rattle.reading.specs.Noted.{noting, outcome}
+use Rattle.reading.specs.Noted.{noting, outcome, items-slot}
 use Rattle.reading.specs.Listed.{listed}
 use Rattle.reading.specs.Requested.{request-noted}
 use Rattle.finding.specs.ReadHere.{blank}
@@ -29,7 +29,7 @@ use Rattle.reading.proofs.SectionLaws.{noting-fault}
 use Rattle.steps.specs.Held.{table-in, request-in}
 use Rattle.steps.specs.AtHand.{At-hand, Marked}
 use Rattle.steps.specs.Steps.{walk-from}
-use Rattle.walking.specs.Standing.{Standing, nothing, spent, so-far, spend, add, end-in, standing, Going}
+use Rattle.walking.specs.Standing.{Standing, nothing, spent, so-far, spend, add, end-in, standing, Going, tally-slots}
 use Rattle.walking.proofs.StandingLaws.{stands-open, end-missed, end-stopped, sized-after}
 use Rattle.glintstring.specs.Telling.{start, told, Tallied}
 use Rattle.glintstring.proofs.MarkedLaws.{End-marked, first-marked, walked-marked}
@@ -82,7 +82,7 @@ module _ (budget : ℕ) (w : Walked State) where
       ap (told lent budget) (spends-within below) ∙ ap (λ (c : ℕ). ended lent c (w .end)) counted ∙ sym (pick-false (ltb budget (w .count)) _ _ below))
 
   -- The tally after it.
-  module _ (tally : List ℕ) (sized : length tally ≡ 67) (stands : standing tally ≡ spend budget (λ e. e) w) where
+  module _ (tally : List ℕ) (sized : length tally ≡ tally-slots) (stands : standing tally ≡ spend budget (λ e. e) w) where
     within-is : (getD tally 0 0 ≡ 3 → ⊥) → so-far (getD tally 2 0) (end-in tally) ≡ so-far (budget - w .count) (w .end)
     within-is going =
         let is = sym (stands-open tally sized going) ∙ stands in
@@ -113,7 +113,7 @@ module _ (budget : ℕ) (w : Walked State) where
     }
 
 -- THE WALK of a request at hand, from its first state.
-module _ (s t : List ℕ) (here : At-hand s t) (items at : ℕ) (counted : items ≡ getD t 5377 0) (starts : at ≡ start items)
+module _ (s t : List ℕ) (here : At-hand s t) (items at : ℕ) (counted : items ≡ getD t items-slot 0) (starts : at ≡ start items)
     (marks : State) (is : marks ≡ state-of format (listed s 2)) (budget : ℕ) (before after : List ℕ)
     (opens : standing before ≡ so-far budget fine) (going : Going before) (walks : standing after ≡ add (standing before) (walk-from s t at marks)) where
   whole : Walked State
@@ -137,12 +137,12 @@ module _ (s t : List ℕ) (here : At-hand s t) (items at : ℕ) (counted : items
 
 -- THE CALL.
 module _ (s lent : List ℕ) (budget : ℕ) where
-  pub judge-9 : (length lent ≡ 64 → ⊥) → record { answer = record { number = 9; input = 0; place = 0; count = 0 }; state = lent } ≡ judge format s lent budget
+  pub judge-9 : (length lent ≡ format .state → ⊥) → record { answer = record { number = 9; input = 0; place = 0; count = 0 }; state = lent } ≡ judge format s lent budget
   unfolding judge
   judge-9 other = sym (pick-false _ _ _ (ne-eqb _ _ other))
 
   module _ (t u : List ℕ) (r : Passed) (settles : outcome r u ≡ noting request-noted (settled format s) t) where
-    pub judge-walked : (e : ℕ) → r ≡ To e → ((i : ℕ) → Fits w8 (getD s i 0)) → t ≡ blank → length lent ≡ 64 → (answer : Answer) (left : List ℕ)
+    pub judge-walked : (e : ℕ) → r ≡ To e → ((i : ℕ) → Fits w8 (getD s i 0)) → t ≡ blank → length lent ≡ format .state → (answer : Answer) (left : List ℕ)
         → record { answer = answer; state = left } ≡ within lent budget (walked (request-in s u) (first-state format (table-in s)))
         → record { answer = answer; state = left } ≡ judge format s lent budget
     unfolding judge judge-settled request-in
@@ -151,6 +151,6 @@ module _ (s lent : List ℕ) (budget : ℕ) where
         ∙ ap (λ (x : Request). within lent budget (walked x (first-state format (x .table)))) (settled-held s t u r settles e passes bytes empty)
         ∙ sym (pick-true _ _ _ (eq-eqb _ _ sized) ∙ ap (judge-settled format lent budget) (settled-got s t u r settles e passes .1))
 
-    pub judge-refused : (k p : ℕ) → r ≡ Stop k p → length lent ≡ 64 → record { answer = record { number = k; input = 1; place = p; count = 0 }; state = lent } ≡ judge format s lent budget
+    pub judge-refused : (k p : ℕ) → r ≡ Stop k p → length lent ≡ format .state → record { answer = record { number = k; input = 1; place = p; count = 0 }; state = lent } ≡ judge format s lent budget
     unfolding judge judge-settled
     judge-refused k p stops sized = sym (pick-true _ _ _ (eq-eqb _ _ sized) ∙ ap (judge-settled format lent budget) (noting-fault request-noted (settled format s) r t u settles k p stops))

@@ -12,7 +12,7 @@ use Rattle.meaning.specs.Refusals.{settled}
 use Rattle.meaning.proofs.SettledLaws.{settled-is}
 use Rattle.bytes.specs.declared.lists.Passed.{Passed}
 use Rattle.bytes.specs.declared.lists.Passed.the-variants.{To}
-use Rattle.reading.specs.Noted.{noting, outcome}
+use Rattle.reading.specs.Noted.{noting, outcome, slots}
 use Rattle.reading.specs.Requested.{request-noted}
 use Rattle.reading.proofs.SectionLaws.{noting-got}
 use Rattle.finding.specs.ReadHere.{blank}
@@ -20,7 +20,7 @@ use Rattle.steps.specs.Held.{request-in}
 use Rattle.steps.specs.AtHand.{At-hand}
 use Rattle.steps.proofs.JustRead.{read-at-hand, request-read}
 
-pub blank-is : replicate 9480 0 ≡ blank
+pub blank-is : replicate slots 0 ≡ blank
 unfolding blank
 blank-is = refl
 

@@ -64,7 +64,7 @@ fn check_at_hand(layout: Layout, request: &[u8], t: &Table, derivation: &[u8]) -
 fn check_as(layout: Layout, request: &[u8], derivation: &[u8]) -> Answer
     ensures { λ r. ⌜ r ≡ check format layout (now (request .entry)) (now (derivation .entry)) ⌝ }
 {
-    let mut t: Table = [0u16; 9480];
+    let mut t: Table = [0u16; table::SLOTS];
     match settle(request, &mut t) {
         Passed::To(_) => check_at_hand(layout, request, &t, derivation),
         Passed::Fault(k, p) => Answer {

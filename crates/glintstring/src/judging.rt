@@ -29,7 +29,7 @@ fn start_of(items: usize) -> usize
 // The walk of a settled request.
 fn walk_plan(request: &[u8], t: &Table, state: &mut [u8], budget: u32) -> Answer
     requires { ⌜ At-hand (now request) (now t) ⌝ }
-    requires { ⌜ length (now state) ≡ 64 ⌝ }
+    requires { ⌜ length (now state) ≡ format .state ⌝ }
     ensures { λ r. ⌜ record { answer = r; state = now (state .exit) } ≡ within (now (state .entry)) budget (walked (request-in (now (request .entry)) (now (t .entry))) (first-state format (table-in (now (request .entry))))) ⌝ }
 {
     let marks = state_of(request, 2);
@@ -44,7 +44,7 @@ fn walk_plan(request: &[u8], t: &Table, state: &mut [u8], budget: u32) -> Answer
 pub fn judge(request: &[u8], state: &mut [u8], budget: u32) -> Answer
     ensures { λ r. ⌜ record { answer = r; state = now (state .exit) } ≡ judge format (now (request .entry)) (now (state .entry)) budget ⌝ }
 {
-    if state.len() != 64 {
+    if state.len() != limits::FLUENTS {
         return Answer {
             number: answers::STATE_LENGTH,
             input: answers::NEITHER_INPUT,
@@ -52,7 +52,7 @@ pub fn judge(request: &[u8], state: &mut [u8], budget: u32) -> Answer
             count: 0,
         };
     }
-    let mut t: Table = [0u16; 9480];
+    let mut t: Table = [0u16; table::SLOTS];
     match settle(request, &mut t) {
         Passed::To(_) => walk_plan(request, &t, state, budget),
         Passed::Fault(k, p) => Answer {

@@ -113,7 +113,7 @@ module _ (κs : Lfts 2) (given : Dens κs ps) where
     sound = JudgePromises.sound request lent budget (unpacked n) (left exit) judges
 
     -- Demand 2 (FORMAT 11.5), of a settled request with 64 lent bytes.
-    module _ (x : Request) (e : ℕ) (lent-length : length lent ≡ 64) (past : settled format request ≡ got x e) where
+    module _ (x : Request) (e : ℕ) (lent-length : length lent ≡ format .state) (past : settled format request ≡ got x e) where
       -- The answer and the lent bytes are what the list of paths says, in its order.
       pub in-order : record { answer = unpacked n; state = left exit } ≡ within lent budget (walked-along (missed-in x) (paths (table-step (x .table)) (x .plan) (first-state format (x .table))))
       in-order = JudgePromises.in-order request lent budget (unpacked n) (left exit) judges x e lent-length past

@@ -57,7 +57,7 @@ module _ (request lent : List ℕ) (budget : ℕ) (answer : Answer) (left : List
   pub place-within : Placed (length request) (answer .number) (answer .place)
   place-within = subst (λ (j : Judgement). Placed (length request) (j .answer .number) (j .answer .place)) (sym is) (Demands.place-within format request lent budget)
 
-  module _ (x : Request) (e : ℕ) (lent-length : length lent ≡ 64) (past : settled format request ≡ got x e) where
+  module _ (x : Request) (e : ℕ) (lent-length : length lent ≡ format .state) (past : settled format request ≡ got x e) where
     pub in-order : record { answer = answer; state = left } ≡ within lent budget (walked-along (missed-in x) (paths (table-step (x .table)) (x .plan) (first-state format (x .table))))
     in-order = is ∙ Demands.in-order format format-room request lent budget x e lent-length past
 

@@ -13,47 +13,47 @@ Inv-loop d cites count i left₀ at₀ left at = Earlier d cites count i left at
 abbrev μ-loop : tie.MeasureT-loop
 μ-loop d cites count i left₀ at₀ left at = left
 
--- src/lines.rt:122:5
+-- src/lines.rt:123:5
 loop-holds : tie.Need-loop-holds Inv-loop μ-loop
 loop-holds c = search earlier-start
 
--- src/lines.rt:123:22
+-- src/lines.rt:124:22
 add-second : tie.Need-add-second Inv-loop μ-loop
 add-second c = search number-fits
 
--- src/lines.rt:124:26
+-- src/lines.rt:125:26
 shared-slice-read-two : tie.Need-shared-slice-read-two Inv-loop μ-loop
 shared-slice-read-two c = search number-first
 
--- src/lines.rt:124:33
+-- src/lines.rt:125:33
 shared-slice-read-two-2 : tie.Need-shared-slice-read-two-2 Inv-loop μ-loop
 shared-slice-read-two-2 c = search number-second
 
--- src/lines.rt:124:13
+-- src/lines.rt:125:13
 two-requires : tie.Need-two-requires Inv-loop μ-loop
 two-requires c κs = search needs
 
--- src/lines.rt:126:13
+-- src/lines.rt:127:13
 returns : tie.Need-returns Inv-loop μ-loop
 returns c = search earlier-not
 
--- src/lines.rt:128:9
+-- src/lines.rt:129:9
 add-at : tie.Need-add-at Inv-loop μ-loop
 add-at c = search next-fits
 
--- src/lines.rt:129:9
+-- src/lines.rt:130:9
 sub-left : tie.Need-sub-left Inv-loop μ-loop
 sub-left c = search needs
 
--- src/lines.rt:122:5
+-- src/lines.rt:123:5
 loop-less : tie.Need-loop-less Inv-loop μ-loop
 loop-less c = search needs
 
--- src/lines.rt:122:5
+-- src/lines.rt:123:5
 loop-again : tie.Need-loop-again Inv-loop μ-loop
 loop-again c = search earlier-next
 
--- src/lines.rt:116:1
+-- src/lines.rt:117:1
 returns-2 : tie.Need-returns-2 Inv-loop μ-loop
 returns-2 c = search earlier-done
 

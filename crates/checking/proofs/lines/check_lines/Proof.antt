@@ -17,35 +17,35 @@ Inv-loop layout n m s t d u₀ places lines i₀ u i = Checking layout (table-in
 abbrev μ-loop : tie.MeasureT-loop
 μ-loop layout n m s t d u₀ places lines i₀ u i = lines - i
 
--- src/lines.rt:247:5
+-- src/lines.rt:248:5
 loop-holds : tie.Need-loop-holds Inv-loop μ-loop
 loop-holds c = search checking-start
 
--- src/lines.rt:248:13
+-- src/lines.rt:249:13
 line-refused-requires : tie.Need-line-refused-requires Inv-loop μ-loop
 line-refused-requires c κs = (search needs, search line-numbered)
 
--- src/lines.rt:250:17
+-- src/lines.rt:251:17
 place-of-requires : tie.Need-place-of-requires Inv-loop μ-loop
 place-of-requires c κs = search index-few
 
--- src/lines.rt:251:13
+-- src/lines.rt:252:13
 returns : tie.Need-returns Inv-loop μ-loop
 returns c = search line-stops
 
--- src/lines.rt:253:9
+-- src/lines.rt:254:9
 add-i : tie.Need-add-i Inv-loop μ-loop
 add-i c = search needs
 
--- src/lines.rt:247:5
+-- src/lines.rt:248:5
 loop-less : tie.Need-loop-less Inv-loop μ-loop
 loop-less c = search needs
 
--- src/lines.rt:247:5
+-- src/lines.rt:248:5
 loop-again : tie.Need-loop-again Inv-loop μ-loop
 loop-again c = search checking-next
 
--- src/lines.rt:231:1
+-- src/lines.rt:232:1
 returns-2 : tie.Need-returns-2 Inv-loop μ-loop
 returns-2 c = search lines-through
 

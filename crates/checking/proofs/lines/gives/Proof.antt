@@ -16,63 +16,63 @@ use Rattle.ruling.proofs.rules.rule_6.Reads as rule-6-reads
 use Rattle.ruling.proofs.rules.rule_7.Reads as rule-7-reads
 use Rattle.ruling.proofs.rules.rule_8.Reads as rule-8-reads
 
--- src/lines.rt:157:9
+-- src/lines.rt:158:9
 rule-1-requires : tie.Need-rule-1-requires
 rule-1-requires c κs = search own-some
 
--- src/lines.rt:157:9
+-- src/lines.rt:158:9
 returns : tie.Need-returns
 returns c = search by-empty
 
--- src/lines.rt:160:9
+-- src/lines.rt:161:9
 rule-2-requires : tie.Need-rule-2-requires
 rule-2-requires c κs = (search needs, search own-some)
 
--- src/lines.rt:160:9
+-- src/lines.rt:161:9
 returns-2 : tie.Need-returns-2
 returns-2 c = search by-action
 
--- src/lines.rt:163:9
+-- src/lines.rt:164:9
 rule-3-requires : tie.Need-rule-3-requires
 rule-3-requires c κs = (search needs, (search own-some, (search lines-some, search cited-below)))
 
--- src/lines.rt:163:9
+-- src/lines.rt:164:9
 returns-3 : tie.Need-returns-3
 returns-3 c = search by-sensing
 
--- src/lines.rt:166:9
+-- src/lines.rt:167:9
 rule-7-requires : tie.Need-rule-7-requires
 rule-7-requires c κs = (search needs, search own-some)
 
--- src/lines.rt:166:9
+-- src/lines.rt:167:9
 returns-4 : tie.Need-returns-4
 returns-4 c = search by-look
 
--- src/lines.rt:169:16
+-- src/lines.rt:170:16
 add-high : tie.Need-add-high
 add-high c = search cites-fit
 
--- src/lines.rt:170:15
+-- src/lines.rt:171:15
 add-low : tie.Need-add-low
 add-low c = search cites-fit-2
 
--- src/lines.rt:171:19
+-- src/lines.rt:172:19
 shared-slice-read-two : tie.Need-shared-slice-read-two
 shared-slice-read-two c = search first-high
 
--- src/lines.rt:171:28
+-- src/lines.rt:172:28
 shared-slice-read-two-2 : tie.Need-shared-slice-read-two-2
 shared-slice-read-two-2 c = search first-low
 
--- src/lines.rt:171:9
+-- src/lines.rt:172:9
 two-requires : tie.Need-two-requires
 two-requires c κs = search needs
 
--- src/lines.rt:172:9
+-- src/lines.rt:173:9
 spot-of-requires : tie.Need-spot-of-requires
 spot-of-requires c κs = (search lines-some, search one-below)
 
--- src/lines.rt:174:9
+-- src/lines.rt:175:9
 rule-4-requires : tie.Need-rule-4-requires
 rule-4-requires c κs =
     let spot = c .before .before in
@@ -85,35 +85,35 @@ rule-4-requires c κs =
     let citing = pre .1 .1 .1 .1 in
     (search few-fluents, (search few-actions, (one-some _ _ _ _ _ _ _ (pre .1 .0) _ (pre .1 .1 .0) citing _ (pre .1 .1 .1 .0) (first .if1 .left) (second .if2 .left) (third .if3 .left) (seventh .if4 .left) _ (number .two .ensures) _ (spot .spot-of .ensures), search own-read)))
 
--- src/lines.rt:174:9
+-- src/lines.rt:175:9
 returns-5 : tie.Need-returns-5
 returns-5 c = search by-branching
 
--- src/lines.rt:177:20
+-- src/lines.rt:178:20
 add-next : tie.Need-add-next
 add-next c = search cites-fit-3
 
--- src/lines.rt:178:20
+-- src/lines.rt:179:20
 add-last : tie.Need-add-last
 add-last c = search cites-fit-4
 
--- src/lines.rt:179:25
+-- src/lines.rt:180:25
 shared-slice-read-two-3 : tie.Need-shared-slice-read-two-3
 shared-slice-read-two-3 c = search second-high
 
--- src/lines.rt:179:34
+-- src/lines.rt:180:34
 shared-slice-read-two-4 : tie.Need-shared-slice-read-two-4
 shared-slice-read-two-4 c = search second-low
 
--- src/lines.rt:179:13
+-- src/lines.rt:180:13
 two-requires-2 : tie.Need-two-requires-2
 two-requires-2 c κs = search needs
 
--- src/lines.rt:180:13
+-- src/lines.rt:181:13
 spot-of-requires-2 : tie.Need-spot-of-requires-2
 spot-of-requires-2 c κs = (search lines-some, search other-below)
 
--- src/lines.rt:181:9
+-- src/lines.rt:182:9
 rule-5-requires : tie.Need-rule-5-requires
 rule-5-requires c κs =
     let other = c .before in
@@ -132,7 +132,7 @@ rule-5-requires c κs =
     let cited-too = other-some _ _ _ _ _ _ _ (pre .1 .0) _ (pre .1 .1 .0) citing _ (pre .1 .1 .1 .0) (fifth .if6 .taken) _ (other .two2 .ensures) _ (c .spot-of2 .ensures) in
     (cited, (cited-too, search own-some))
 
--- src/lines.rt:181:9
+-- src/lines.rt:182:9
 returns-6 : tie.Need-returns-6
 returns-6 c =
     let other = c .before .before in
@@ -147,7 +147,7 @@ returns-6 c =
     let citing = pre .1 .1 .1 .1 in
     by-composition _ _ _ _ _ _ _ (pre .1 .0) _ (pre .1 .1 .0) citing _ (pre .1 .1 .1 .0) (first .if1 .left) (second .if2 .left) (third .if3 .left) (seventh .if4 .left) _ (number .two .ensures) _ (spot .spot-of .ensures) (fifth .if6 .taken) _ (other .two2 .ensures) _ (c .before .spot-of2 .ensures) _ _ (c .rule-5 .ensures)
 
--- src/lines.rt:184:9
+-- src/lines.rt:185:9
 rule-6-requires : tie.Need-rule-6-requires
 rule-6-requires c κs =
     let spot = c .before .before .before in
@@ -160,11 +160,11 @@ rule-6-requires c κs =
     let citing = pre .1 .1 .1 .1 in
     (one-some _ _ _ _ _ _ _ (pre .1 .0) _ (pre .1 .1 .0) citing _ (pre .1 .1 .1 .0) (first .if1 .left) (second .if2 .left) (third .if3 .left) (seventh .if4 .left) _ (number .two .ensures) _ (spot .spot-of .ensures), search own-some)
 
--- src/lines.rt:184:9
+-- src/lines.rt:185:9
 returns-7 : tie.Need-returns-7
 returns-7 c = search by-consequence
 
--- src/lines.rt:186:5
+-- src/lines.rt:187:5
 rule-8-requires : tie.Need-rule-8-requires
 rule-8-requires c κs =
     let spot = c .before .before .before in
@@ -177,7 +177,7 @@ rule-8-requires c κs =
     let citing = pre .1 .1 .1 .1 in
     (one-some _ _ _ _ _ _ _ (pre .1 .0) _ (pre .1 .1 .0) citing _ (pre .1 .1 .1 .0) (first .if1 .left) (second .if2 .left) (third .if3 .left) (seventh .if4 .left) _ (number .two .ensures) _ (spot .spot-of .ensures), search own-some)
 
--- src/lines.rt:135:1
+-- src/lines.rt:136:1
 returns-8 : tie.Need-returns-8
 returns-8 c = search by-literal
 

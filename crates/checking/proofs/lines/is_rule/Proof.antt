@@ -6,31 +6,31 @@ use Rattle.checking.proofs.lines.is_rule.Tie as tie
 use Rattle.checking.proofs.lines.is_rule.Reads as reads
 use Rattle.checking.proofs.lines.is_rule.Lts as lts
 
--- src/lines.rt:36:9
+-- src/lines.rt:37:9
 returns : tie.Need-returns
 returns c = search no-rule
 
--- src/lines.rt:39:26
+-- src/lines.rt:40:26
 enum-told : tie.Need-enum-told
 enum-told c = search needs
 
--- src/lines.rt:41:16
+-- src/lines.rt:42:16
 enum-told-2 : tie.Need-enum-told-2
 enum-told-2 c = search needs
 
--- src/lines.rt:42:17
+-- src/lines.rt:43:17
 returns-2 : tie.Need-returns-2
 returns-2 c = search early-rule
 
--- src/lines.rt:45:17
+-- src/lines.rt:46:17
 returns-3 : tie.Need-returns-3
 returns-3 c = search between-rules
 
--- src/lines.rt:32:1
+-- src/lines.rt:33:1
 returns-4 : tie.Need-returns-4
 returns-4 c = search plain-rule
 
--- src/lines.rt:32:1
+-- src/lines.rt:33:1
 returns-5 : tie.Need-returns-5
 returns-5 c = search late-rule
 

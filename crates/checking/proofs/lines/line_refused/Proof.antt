@@ -13,59 +13,59 @@ use Rattle.checking.proofs.lines.rule_for_lists.Reads as rule-for-lists
 use Rattle.checking.proofs.lines.takes.Reads as takes-reads
 use Rattle.comparing.proofs.spots.spot_of.Reads as spot-of-reads
 
--- src/lines.rt:206:9
+-- src/lines.rt:207:9
 spot-of-requires : tie.Need-spot-of-requires
 spot-of-requires c κs = search needs
 
--- src/lines.rt:207:9
+-- src/lines.rt:208:9
 is-rule-requires : tie.Need-is-rule-requires
 is-rule-requires c κs = search needs
 
--- src/lines.rt:209:13
+-- src/lines.rt:210:13
 rule-for-lists-requires : tie.Need-rule-for-lists-requires
 rule-for-lists-requires c κs = search needs
 
--- src/lines.rt:211:26
+-- src/lines.rt:212:26
 shared-slice-read-wide : tie.Need-shared-slice-read-wide
 shared-slice-read-wide c = search cited-there
 
--- src/lines.rt:211:13
+-- src/lines.rt:212:13
 wide-requires : tie.Need-wide-requires
 wide-requires c κs = search needs
 
--- src/lines.rt:212:13
+-- src/lines.rt:213:13
 takes-requires : tie.Need-takes-requires
 takes-requires c κs = search needs
 
--- src/lines.rt:214:25
+-- src/lines.rt:215:25
 add-cites : tie.Need-add-cites
 add-cites c = search cites-fit
 
--- src/lines.rt:215:17
+-- src/lines.rt:216:17
 all-earlier-requires : tie.Need-all-earlier-requires
 all-earlier-requires c κs = search cites-room
 
--- src/lines.rt:217:21
+-- src/lines.rt:218:21
 gives-requires : tie.Need-gives-requires
 gives-requires c κs = (search needs, (search needs, (search needs, (search rule-mapped, search cites-earlier))))
 
--- src/lines.rt:219:21
+-- src/lines.rt:220:21
 returns : tie.Need-returns
 returns c = search following
 
--- src/lines.rt:221:17
+-- src/lines.rt:222:17
 returns-2 : tie.Need-returns-2
 returns-2 c = search not-following
 
--- src/lines.rt:223:13
+-- src/lines.rt:224:13
 returns-3 : tie.Need-returns-3
 returns-3 c = search not-earlier
 
--- src/lines.rt:225:9
+-- src/lines.rt:226:9
 returns-4 : tie.Need-returns-4
 returns-4 c = search not-taken
 
--- src/lines.rt:190:1
+-- src/lines.rt:191:1
 returns-5 : tie.Need-returns-5
 returns-5 c = search not-known
 

@@ -5,31 +5,31 @@ use Rattle.checking.proofs.lines.readings.Tie as tie
 use Rattle.checking.proofs.lines.readings.Reads as reads
 use Rattle.checking.proofs.lines.readings.Lts as lts
 
--- src/lines.rt:73:9
+-- src/lines.rt:74:9
 returns : tie.Need-returns
 returns c = search reads-one
 
--- src/lines.rt:76:9
+-- src/lines.rt:77:9
 returns-2 : tie.Need-returns-2
 returns-2 c = search reads-two
 
--- src/lines.rt:79:9
+-- src/lines.rt:80:9
 returns-3 : tie.Need-returns-3
 returns-3 c = search reads-four
 
--- src/lines.rt:82:9
+-- src/lines.rt:83:9
 returns-4 : tie.Need-returns-4
 returns-4 c = search reads-eight
 
--- src/lines.rt:85:9
+-- src/lines.rt:86:9
 returns-5 : tie.Need-returns-5
 returns-5 c = search reads-sixteen
 
--- src/lines.rt:88:9
+-- src/lines.rt:89:9
 returns-6 : tie.Need-returns-6
 returns-6 c = search reads-thirty-two
 
--- src/lines.rt:69:1
+-- src/lines.rt:70:1
 returns-7 : tie.Need-returns-7
 returns-7 c = search reads-last
 

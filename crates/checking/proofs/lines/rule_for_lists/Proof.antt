@@ -5,19 +5,19 @@ use Rattle.checking.proofs.lines.rule_for_lists.Tie as tie
 use Rattle.checking.proofs.lines.rule_for_lists.Reads as reads
 use Rattle.checking.proofs.lines.rule_for_lists.Lts as lts
 
--- src/lines.rt:57:9
+-- src/lines.rt:58:9
 returns : tie.Need-returns
 returns c = search lists-sensing
 
--- src/lines.rt:60:9
+-- src/lines.rt:61:9
 returns-2 : tie.Need-returns-2
 returns-2 c = search lists-composition
 
--- src/lines.rt:63:9
+-- src/lines.rt:64:9
 returns-3 : tie.Need-returns-3
 returns-3 c = search lists-branching
 
--- src/lines.rt:53:1
+-- src/lines.rt:54:1
 returns-4 : tie.Need-returns-4
 returns-4 c = search lists-same
 

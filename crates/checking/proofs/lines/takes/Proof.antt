@@ -7,31 +7,31 @@ use Rattle.checking.proofs.lines.takes.Reads as reads
 use Rattle.checking.proofs.lines.takes.Lts as lts
 use Rattle.checking.proofs.lines.readings.Reads as readings-reads
 
--- src/lines.rt:98:9
+-- src/lines.rt:99:9
 returns : tie.Need-returns
 returns c = search takes-empty
 
--- src/lines.rt:101:9
+-- src/lines.rt:102:9
 returns-2 : tie.Need-returns-2
 returns-2 c = search takes-action
 
--- src/lines.rt:104:9
+-- src/lines.rt:105:9
 readings-requires : tie.Need-readings-requires
 readings-requires c κs = search needs
 
--- src/lines.rt:104:9
+-- src/lines.rt:105:9
 returns-3 : tie.Need-returns-3
 returns-3 c = search takes-sensing
 
--- src/lines.rt:107:9
+-- src/lines.rt:108:9
 returns-4 : tie.Need-returns-4
 returns-4 c = search takes-composition
 
--- src/lines.rt:110:9
+-- src/lines.rt:111:9
 returns-5 : tie.Need-returns-5
 returns-5 c = search takes-look
 
--- src/lines.rt:94:1
+-- src/lines.rt:95:1
 returns-6 : tie.Need-returns-6
 returns-6 c = search takes-one
 

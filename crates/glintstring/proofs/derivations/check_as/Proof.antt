@@ -9,27 +9,27 @@ use Rattle.glintstring.proofs.derivations.check_as.Lts as lts
 use Rattle.glintstring.proofs.derivations.check_at_hand.Reads as check-at-hand-reads
 use Rattle.refusing.proofs.settled.settle.Reads as settle-reads
 
--- src/derivations.rt:39:11
+-- src/derivations.rt:40:11
 settle-requires : tie.Need-settle-requires
 settle-requires c κs = search blank-is
 
--- src/derivations.rt:40:49
+-- src/derivations.rt:41:49
 enum-told : tie.Need-enum-told
 enum-told c = search needs
 
--- src/derivations.rt:40:26
+-- src/derivations.rt:41:26
 check-at-hand-requires : tie.Need-check-at-hand-requires
 check-at-hand-requires c κs = search (settled-at-hand, blank-is)
 
--- src/derivations.rt:41:23
+-- src/derivations.rt:42:23
 enum-known-k : tie.Need-enum-known-k
 enum-known-k c = search needs
 
--- src/derivations.rt:35:1
+-- src/derivations.rt:36:1
 returns : tie.Need-returns
 returns c = search (check-then, blank-is)
 
--- src/derivations.rt:35:1
+-- src/derivations.rt:36:1
 returns-2 : tie.Need-returns-2
 returns-2 c = search check-settled-first
 

@@ -6,19 +6,19 @@ use Rattle.glintstring.proofs.derivations.is_beyond.Tie as tie
 use Rattle.glintstring.proofs.derivations.is_beyond.Reads as reads
 use Rattle.glintstring.proofs.derivations.is_beyond.Lts as lts
 
--- src/derivations.rt:24:26
+-- src/derivations.rt:25:26
 enum-told : tie.Need-enum-told
 enum-told c = search needs
 
--- src/derivations.rt:25:28
+-- src/derivations.rt:26:28
 enum-told-2 : tie.Need-enum-told-2
 enum-told-2 c = search needs
 
--- src/derivations.rt:20:1
+-- src/derivations.rt:21:1
 returns : tie.Need-returns
 returns c = search plain-beyond
 
--- src/derivations.rt:20:1
+-- src/derivations.rt:21:1
 returns-2 : tie.Need-returns-2
 returns-2 c = search closing-beyond
 
