@@ -1,8 +1,8 @@
 // Checks the derivation in one file against the request in another, and says so on standard output (FORMAT 12.8 to 12.12, 17.44).
 ghost use Rattle.programs.specs.Input.{Within};
 use comparing::parts::same_part;
-use glintstring::derivations::check;
-use glintstring::derivations::check_whether;
+use glintstring::check_calls::check;
+use glintstring::check_calls::check_whether;
 use libc::STDOUT_FILENO;
 use meaning::Answer;
 use programs::DERIVATION_ROOM;

@@ -25,7 +25,7 @@ use Rattle.steps.specs.AtHand.{At-hand}
 use Rattle.comparing.specs.Stands.{Lines-stand, Some-derived}
 use Rattle.checking.specs.Checked.{derivation-of, derivation-in, lines-in, All-stand}
 use Rattle.checking.specs.Asked.{Derivation-stands, Some-derivation, End-checked}
-use Rattle.comparing.proofs.StandLaws.{derived-whole, derived-count, derived-stand, count-first, count-second, derived-least}
+use Rattle.comparing.proofs.LinesStand.{derived-whole, derived-count, derived-stand, count-first, count-second, derived-least}
 use Rattle.checking.proofs.QuestionLaws.{fluents-are, actions-are}
 
 -- In what follows the places were `start` before.

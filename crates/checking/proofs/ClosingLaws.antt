@@ -30,12 +30,12 @@ use Rattle.steps.specs.Held.{request-in}
 use Rattle.steps.specs.AtHand.{At-hand}
 use Rattle.comparing.specs.declared.spots.Spot.{Spot}
 use Rattle.comparing.specs.Stands.{Numbers-stand, Stands, spot-at, Lines-stand, Closing-stands}
-use Rattle.comparing.specs.Rules.{Some-stands, Some-lines, Ruled}
+use Rattle.comparing.specs.RuleAnswers.{Some-stands, Some-lines, Ruled}
 use Rattle.checking.specs.declared.question.Asked.{Asked}
 use Rattle.checking.specs.declared.question.Asked.the-variants.{Goals, Fluent}
 use Rattle.checking.specs.Checked.{no-line}
 use Rattle.checking.specs.Asked.{conclusion-asked, Names, Entries-checked, Derivation-stands, Some-derivation, Closing-checked, End-checked}
-use Rattle.checking.proofs.LineLaws.{numbers-room}
+use Rattle.checking.proofs.EachLineLaws.{numbers-room}
 use Rattle.checking.proofs.QuestionLaws.{whether-asked}
 
 -- A LINE BY ITS NUMBER.

@@ -21,7 +21,7 @@ use Rattle.bytes.specs.Read.{passed}
 use Rattle.deriving.specs.DerivationRead.{plan-ends-slot, places-slots}
 use Rattle.comparing.proofs.SpotLaws.{spot-line}
 use Rattle.checking.specs.Checked.{lines-in, no-line, line-in, spot-in, All-stand, Numbered, refused-by}
-use Rattle.checking.proofs.LineLaws.{own-few, own}
+use Rattle.checking.proofs.EachLineLaws.{own-few, own}
 
 -- ONE LINE: refused by its number, or passed over.
 chosen : (a b c e : Bool) (p : ℕ) (rest : Got (Unit {0}))

@@ -1,5 +1,5 @@
 -- Where the parts of a request at hand stand that the question is made of: its counts at places 0 and 1, its facts at place 2, its plan and its
--- goals where the table says, and its whether entries after the goals. And what is asked of one line. Assumes nothing.
+-- goals where the notes say, and its whether entries after the goals. And what is asked of one line. Assumes nothing.
 use Prim.Native.Nat.{ℕ, _+_, _-_, _≤_, _<_}
 use native.Mathlib.Omega.{arith}
 use mathlib.Core.Path.{_≡_, refl, sym, _∙_, ap, ap₂}
@@ -22,12 +22,12 @@ use Rattle.steps.specs.AtHand.{At-hand}
 use Rattle.steps.proofs.HandLaws.{starts, sections, is-whether}
 use Rattle.comparing.specs.declared.spots.Spot.{Spot}
 use Rattle.comparing.specs.Stands.{Plan-stands, Conclusion-stands, Stands}
-use Rattle.comparing.specs.Rules.{Some-plan, Same-plans, Some-concluded, Some-stands, Ruled}
+use Rattle.comparing.specs.RuleAnswers.{Some-plan, Same-plans, Some-concluded, Some-stands, Ruled}
 use Rattle.checking.specs.declared.question.Asked.{Asked}
 use Rattle.checking.specs.declared.question.Asked.the-variants.{Goals, Fluent}
 use Rattle.checking.specs.Asked.{conclusion-asked, begins}
 use Rattle.comparing.proofs.SpotLaws.{concluded-there, concluded-list}
-use Rattle.comparing.proofs.StandLaws.{plan-stands}
+use Rattle.comparing.proofs.LinesStand.{plan-stands}
 use Rattle.ruling.proofs.RuleLaws.{no-left, yes-left, plan-of}
 
 placed-asked : (p : ℕ) (xs : List ℕ) → map (λ (w : Entry). knows-whether (w .value)) (placed p xs) ≡ map knows-whether xs

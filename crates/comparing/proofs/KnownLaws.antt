@@ -23,7 +23,7 @@ use Rattle.reading.proofs.MarkLaws.{bytes-next, bytes-done}
 use Rattle.finding.proofs.PlanHere.{listed-below}
 use Rattle.refusing.proofs.PlanOverlaps.{clear-of}
 use Rattle.steps.specs.AtHand.{Marked}
-use Rattle.comparing.proofs.PartLaws.{drop-next}
+use Rattle.comparing.proofs.SamePartLaws.{drop-next}
 
 -- A LIST in which none stands beside its complement is just what its state knows.
 pub listed-clear : (s : List ℕ) (p : ℕ) → List-here all-literals s p → exclusive (listed s p) (listed s p) ≡ false → Clear format (listed s p)

@@ -20,7 +20,7 @@ use Rattle.deriving.specs.DerivationRead.{plan-ends-slot}
 use Rattle.finding.specs.Branches.{sequence-place}
 use Rattle.comparing.specs.declared.spots.Spot.{Spot}
 use Rattle.comparing.specs.Stands.{after-list, Conclusion-stands, Stands, spot-at}
-use Rattle.comparing.specs.Rules.{Some-concluded, Same-conclusions, Some-at, Some-lines}
+use Rattle.comparing.specs.RuleAnswers.{Some-concluded, Same-conclusions, Some-at, Some-lines}
 
 -- A CONCLUSION at y, whatever it is.
 module _ (d : List ℕ) (fluent : Bool) (y : ℕ) where

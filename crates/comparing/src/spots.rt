@@ -3,7 +3,7 @@ ghost use Prim.Native.Nat.{_+_, _<_};
 ghost use lib.ListN.{getD};
 ghost use Rattle.deriving.specs.DerivationRead.{plan-ends-slot};
 ghost use Rattle.comparing.specs.Stands.{spot-at};
-ghost use Rattle.comparing.specs.Rules.{Some-at, Some-lines, Some-concluded, Same-conclusions};
+ghost use Rattle.comparing.specs.RuleAnswers.{Some-at, Some-lines, Some-concluded, Same-conclusions};
 use super::parts::same_lists;
 use bytes::bytes::wide;
 use deriving::derivations::Places;

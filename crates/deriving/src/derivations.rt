@@ -7,7 +7,7 @@ ghost use Rattle.meaning.specs.Derivations.{concludes-fluent, conclusion-at, co
 ghost use Rattle.bytes.specs.Read.{passed};
 ghost use Rattle.reading.specs.Noted.{noting, outcome};
 ghost use Rattle.deriving.specs.DerivationRead.{places-noted, derivation-noted, citing, ending, planned, lined, places-slots};
-use super::numbers;
+use super::rule_numbers;
 use bytes::bytes::Read;
 use bytes::bytes::below_at;
 use bytes::bytes::byte_at;
@@ -21,8 +21,8 @@ use meaning::Layout;
 use reader::Reader;
 use reader::moved;
 use reader::new;
+use reading::notes::Notes;
 use reading::plan::plan_at;
-use reading::table::Table;
 
 // Slot k holds the place of line k, slot 1,024 + k the place where its plan ends, and slot 2,048 the place where the lines end.
 pub type Places = [u16; PLACES_SLOTS];
@@ -33,7 +33,7 @@ pub const LINES_END: usize = 2 * limits::LINES;
 
 pub const PLACES_SLOTS: usize = LINES_END + 1;
 
-// There is a slot for each of these places, as for the table's slots.
+// There is a slot for each of these places, as for the notes' slots.
 pub fn sized(places: &Places)
     ensures { λ _. ⌜ length (now (places .entry)) ≡ places-slots ⌝ }
 {
@@ -74,19 +74,19 @@ fn cites_at(s: &[u8], p: usize) -> Passed
 pub fn gives_fluent(rule: usize) -> bool
     ensures { λ r. ⌜ r ≡ concludes-fluent rule ⌝ }
 {
-    if rule == numbers::LOOK_RULE {
+    if rule == rule_numbers::LOOK_RULE {
         return true;
     }
-    if rule == numbers::LITERAL_RULE {
+    if rule == rule_numbers::LITERAL_RULE {
         return true;
     }
-    if rule == numbers::SENSING_WHETHER_RULE {
+    if rule == rule_numbers::SENSING_WHETHER_RULE {
         return true;
     }
-    if rule == numbers::COMPOSITION_WHETHER_RULE {
+    if rule == rule_numbers::COMPOSITION_WHETHER_RULE {
         return true;
     }
-    rule == numbers::BRANCHING_WHETHER_RULE
+    rule == rule_numbers::BRANCHING_WHETHER_RULE
 }
 
 // The conclusion after the rule byte: a fluent, or a list.
@@ -145,8 +145,8 @@ pub enum Lined {
     Fault(u8, usize),
 }
 
-// The plan, by way of a table that is of no use afterwards, and what follows it.
-fn plan_first(layout: Layout, n: usize, m: usize, s: &[u8], p: usize, t: &mut Table) -> Lined
+// The plan, by way of notes that are of no use afterwards, and what follows it.
+fn plan_first(layout: Layout, n: usize, m: usize, s: &[u8], p: usize, t: &mut Notes) -> Lined
     requires { ⌜ n ≤ format .fluents ⌝ }
     requires { ⌜ length (now s) ≤ format .derivation ⌝ }
     ensures { λ r. ⌜ r ≡ planned layout n m (now (s .entry)) p ⌝ }
@@ -161,7 +161,7 @@ fn plan_first(layout: Layout, n: usize, m: usize, s: &[u8], p: usize, t: &mut Ta
 }
 
 // A line.
-pub fn line_at(layout: Layout, n: usize, m: usize, s: &[u8], p: usize, t: &mut Table) -> Lined
+pub fn line_at(layout: Layout, n: usize, m: usize, s: &[u8], p: usize, t: &mut Notes) -> Lined
     requires { ⌜ n ≤ format .fluents ⌝ }
     requires { ⌜ length (now s) ≤ format .derivation ⌝ }
     ensures { λ r. ⌜ r ≡ lined (line-at format n m (now (s .entry)) layout p) ⌝ }
@@ -188,7 +188,7 @@ fn lines_from(
     s: &[u8],
     count: usize,
     start: usize,
-    t: &mut Table,
+    t: &mut Notes,
     places: &mut Places,
 ) -> Passed
     requires { ⌜ n ≤ format .fluents ⌝ }
@@ -222,7 +222,7 @@ fn lines<'a>(
     n: usize,
     m: usize,
     count: usize,
-    t: &mut Table,
+    t: &mut Notes,
     places: &mut Places,
 ) -> Passed
     requires { ⌜ n ≤ format .fluents ⌝ }
@@ -241,7 +241,7 @@ fn read_lines(
     s: &[u8],
     count: usize,
     start: usize,
-    t: &mut Table,
+    t: &mut Notes,
     places: &mut Places,
 ) -> Passed
     requires { ⌜ n ≤ format .fluents ⌝ }
@@ -271,7 +271,7 @@ pub fn read_derivation(
     n: usize,
     m: usize,
     s: &[u8],
-    t: &mut Table,
+    t: &mut Notes,
     places: &mut Places,
 ) -> Passed
     requires { ⌜ n ≤ format .fluents ⌝ }

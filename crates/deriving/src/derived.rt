@@ -17,10 +17,10 @@ use bytes::lists::Passed;
 use finding::branches::sequence_of;
 use finding::places::Found;
 use meaning::Layout;
+use reading::notes;
+use reading::notes::Notes;
+use reading::notes::widened;
 use reading::plan::plan_at;
-use reading::table;
-use reading::table::Table;
-use reading::table::widened;
 use refusing::refusal_18::overlap;
 
 // The place in slot k, which is that of line k.
@@ -40,8 +40,8 @@ pub fn end_of(places: &Places, k: usize) -> usize
     place_of(places, slot)
 }
 
-// 18 in the plan of the line at p. The plan is read again, without a fault, into a table that is of no use afterwards.
-fn overlap_in_line(n: usize, m: usize, s: &[u8], p: usize, t: &mut Table) -> Found
+// 18 in the plan of the line at p. The plan is read again, without a fault, into notes that are of no use afterwards.
+fn overlap_in_line(n: usize, m: usize, s: &[u8], p: usize, t: &mut Notes) -> Found
     requires { ⌜ n ≤ format .fluents ⌝ }
     requires { ⌜ m ≤ format .actions ⌝ }
     requires { ⌜ length (now s) ≤ format .derivation ⌝ }
@@ -49,7 +49,7 @@ fn overlap_in_line(n: usize, m: usize, s: &[u8], p: usize, t: &mut Table) -> Fou
     ensures { λ r. ⌜ Line-found n m (now (s .entry)) p r ⌝ }
 {
     let plan = sequence_of(s, p);
-    table::sized(t);
+    notes::sized(t);
     match plan_at(n, m, s, plan, t) {
         Read::Value(count, e) => overlap(s, t, count),
         Read::Fault(k, e) => Found::Nowhere,
@@ -61,7 +61,7 @@ fn overlap_in_lines(
     n: usize,
     m: usize,
     s: &[u8],
-    t: &mut Table,
+    t: &mut Notes,
     places: &Places,
     count: usize,
 ) -> Found
@@ -93,7 +93,7 @@ pub fn settle_derivation(
     n: usize,
     m: usize,
     s: &[u8],
-    t: &mut Table,
+    t: &mut Notes,
     places: &mut Places,
 ) -> Passed
     requires { ⌜ n ≤ format .fluents ⌝ }

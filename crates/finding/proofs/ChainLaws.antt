@@ -17,7 +17,7 @@ use Rattle.meaning.specs.Limits.{format}
 use Rattle.meaning.proofs.TestLaws.{by-test, pick-true, pick-false}
 use Rattle.reading.specs.Noted.{Section, Line, line-place, next-line, first-line, before, appended, action-in, note-line, none-yet, lines-noted, count-slot, section-noted, run-lines, slots, line-numbers, line-slots}
 use Rattle.reading.specs.Ordered.{Chain, In-order}
-use Rattle.reading.proofs.TableLaws.{before-first, before-later, before-most}
+use Rattle.reading.proofs.NotesLaws.{before-first, before-later, before-most}
 use Rattle.finding.proofs.KeptLaws.{kept, Lasts, none-last, lasts-none, last-here, last-other, lasts-next, Outside, note-long}
 
 -- WHAT A LINE COMES AFTER: its action's last line, or the action's own number, which no line has.
@@ -197,7 +197,7 @@ module _ (c : Section) (lines : ℕ) (room : lines ≤ run-lines) (stands : Line
       (follow a small (k + 1) (newest k last x t sized lasts acts fits) xs (noted k last x t sized lasts acts fits) long
       (newest-lasts k last x t sized lasts acts fits) fewer (λ y has. good y (inr has)) fresh′ (none-other k last x t sized lasts acts fits a small other none))))
 
-  -- THE SECTION, over a table that has nothing in its slots.
+  -- THE SECTION, over notes that have nothing in its slots.
   pub section-ordered : (a : ℕ) → a < format .actions → (xs : List (Line c)) (u : List ℕ) → length u ≡ slots → length xs < line-numbers → ((x : Line c) → Has xs x → action-in c x < format .actions)
       → Outside lines (count-slot c) → ((i : ℕ) → i < line-slots → getD u (lines + i) 0 ≡ 0) → In-order (section-noted c xs u) lines a (places a xs)
   unfolding section-noted In-order first-line next-line

@@ -1,4 +1,4 @@
--- What the table holds of the effects once they are noted. Assumes nothing.
+-- What the notes hold of the effects once they are noted. Assumes nothing.
 use Prim.Native.Nat.{ℕ, zero, suc, _+_, _≤_, _<_}
 use native.Mathlib.Omega.{arith}
 use mathlib.Core.Path.{_≡_, refl, _∙_, ap, subst}
@@ -12,7 +12,7 @@ use Rattle.reading.specs.Noted.{effects, line-place, before, appended, action-i
 use Rattle.finding.specs.LinesHere.{effect-from, Effect-here, place-in, effects-in}
 use Rattle.finding.proofs.KeptLaws.{kept, note-long}
 
--- The table has the places of these effects, from number k + 1 on.
+-- The notes have the places of these effects, from number k + 1 on.
 unfoldable pub Placed-in : List ℕ → ℕ → List Effect → Type 0
 Placed-in t k [] = Unit {0}
 Placed-in t k (e ∷ es) = (place-in t (k + 1) ≡ e .place) × Placed-in t (k + 1) es
@@ -47,7 +47,7 @@ effects-placed k last (e ∷ es) t sized h =
       effects-placed (k + 1) newest es noted (note-long effects (getD last (e .action) 0) (k + 1) e t ∙ sized) (omega arith),
     )
 
--- A table that agrees on the places has them too.
+-- Notes that agree on the places have them too.
 pub placed-same : (t u : List ℕ) (k : ℕ) (es : List Effect) → ((i : ℕ) → i ≤ k + length es → place-in u i ≡ place-in t i) → Placed-in t k es → Placed-in u k es
 unfolding Placed-in
 placed-same t u k [] same h = tt

@@ -13,11 +13,11 @@ use Rattle.meaning.specs.Limits.{format}
 use Rattle.meaning.specs.Requests.{Sequence}
 use Rattle.meaning.proofs.TestLaws.{by-test, pick-true, pick-false}
 use Rattle.reading.specs.Noted.{Section, effects, executability, knowledge, Line, effect-lines, run-lines, before, appended, raised, pair-noted, action-in, note-line, none-yet, lines-noted, count-slot, section-noted, sensed-from, sensed-to, sensed, line-numbers, line-slots}
-use Rattle.reading.proofs.TableLaws.{before-most}
+use Rattle.reading.proofs.NotesLaws.{before-most}
 use Rattle.reading.specs.Planned.{items-of, plan-noted, sequence-noted}
 use Rattle.finding.proofs.PlanKept.{rest-length, rest-other}
 
--- A slot that another one's value does not touch, and the table's length.
+-- A slot that another one's value does not touch, and the notes' length.
 pub kept : (t : List ℕ) (i j v : ℕ) → (j ≡ i → ⊥) → getD (set t i v) j 0 ≡ getD t j 0
 kept t i j v h = getD-set-other t i j v 0 h
 
@@ -125,7 +125,7 @@ module _ (c : Section) (j : ℕ) (Good : Line c → Type 0)
       lines-kept 0 none-yet xs (set u (count-slot c) (length xs)) lasts-none good (omega arith)
       ∙ rw (sym is) (getD-set-same u j (length xs) 0 within)
 
--- No noting changes the table's length.
+-- No noting changes the notes' length.
 pub raised-long : (slot v : ℕ) (t : List ℕ) → length (raised slot v t) ≡ length t
 unfolding raised
 raised-long slot v t =

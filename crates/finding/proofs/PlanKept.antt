@@ -1,4 +1,4 @@
--- What noting a plan leaves in the table is kept: each part changes slots of its own items alone, and what is kept of a part stands in slots
+-- What noting a plan leaves in the notes are kept: each part changes slots of its own items alone, and what is kept of a part stands in slots
 -- that no later part changes. Assumes nothing.
 use Prim.Native.Nat.{ℕ, _+_, _*_, _%_, _≤_, _<_}
 use native.Mathlib.Omega.{arith}
@@ -23,7 +23,7 @@ branch-made first met p t h = sym (branch-ended first met p t (set t (branch-pla
 branch-not : (first met p : ℕ) (t : List ℕ) → met ≤ first → branch-noted first met p t ≡ t
 branch-not first met p t h = sym (branch-empty first met p t h)
 
--- The table after an item, before the rest of its sequence.
+-- The notes after an item, before the rest of its sequence.
 abbrev after-item : (up met : ℕ) → List ℕ → Item ℕ → Sequence ℕ → List ℕ
 after-item up met t i rest = set (inside-noted met (set t (0 + met) (place-of i)) i) (format .items + met) (following up (met + items-in i) rest)
 

@@ -1,4 +1,4 @@
--- What a request that was read leaves in the table, for what is refused after reading. Assumes nothing.
+-- What a request that was read leaves in the notes, for what is refused after reading. Assumes nothing.
 use Prim.Native.Nat.{ℕ, zero, suc, _+_, _-_, _*_, _≤_, _<_}
 use native.Mathlib.Omega.{arith}
 use mathlib.Core.Path.{_≡_, refl, sym, _∙_, ap, subst}
@@ -211,7 +211,7 @@ module _ (s : List ℕ) (bytes : (i : ℕ) → getD s i 0 < 256) (x : Request) (
   pub planned-long : {n : ℕ} → length t ≡ n → length (plan-noted (plan-place x) (table-noted (x .table) t) (x .plan)) ≡ n
   planned-long sized = plan-long (plan-place x) (table-noted (x .table) t) (x .plan) ∙ tabled-long sized
 
-  -- The table after one section, two and three.
+  -- The notes after one section, two and three.
   unfoldable pub with-effects : List ℕ
   with-effects = section-noted effects (x .table .effects) t
 
@@ -357,7 +357,7 @@ module _ (s : List ℕ) (bytes : (i : ℕ) → getD s i 0 < 256) (x : Request) (
           (effects-fit s (request-noted x t) 0 (x .table .effects) placed-effects (λ e has. effect-good s (x .table) (whole .place) (whole .of-table) e has .1) i less);
     }
 
-    -- THE LINES OF AN ACTION, over a table that held nothing.
+    -- THE LINES OF AN ACTION, over notes that held nothing.
     module _ (blank : (j : ℕ) → j < slots → getD t j 0 ≡ 0) (a : ℕ) (small : a < format .actions) where
       pub effects-ordered : In-order (request-noted x t) effect-lines a (map (λ (e : Effect). e .place) (effects-of (x .table) a))
       unfolding with-effects note-line action-in count-slot effects-of

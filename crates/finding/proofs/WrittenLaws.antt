@@ -1,4 +1,4 @@
--- A plan that was read is held: its tree says what stands in the input, and the table keeps what was noted of it. Assumes nothing.
+-- A plan that was read is held: its tree says what stands in the input, and the notes keep what was noted of it. Assumes nothing.
 use Prim.Native.Nat.{ℕ, suc, _+_, _*_, _≤_, _<_}
 use native.Mathlib.Omega.{arith}
 use mathlib.Core.Path.{_≡_, refl, sym, _∙_, ap, subst}
@@ -118,7 +118,7 @@ module _ (n m : ℕ) (s : List ℕ) where
             kept = plan-kept p t (x .value) small room;
           }
 
-      -- The table that reading left.
+      -- The notes that reading left.
       pub plan-read : (u : List ℕ) → u ≡ plan-noted p t (x .value) → Some-plan s u (x .items)
       plan-read u is = record { plan = x .value; held = rw is plan-held; items = plan-items }
 

@@ -48,6 +48,6 @@ pub record Knowledge-here (s : List ℕ) (start count : ℕ) : Type 0 where
   pub ends : start + 2 * count ≤ length s
   pub acts : (k : ℕ) → k < count → getD s (start + 2 * k) 0 < format .actions
 
--- The table has a first effect of an action just where one of the effects is of that action.
+-- The notes have a first effect of an action just where one of the effects is of that action.
 pub record Acting (t : List ℕ) (es : List Effect) : Type 0 where
   pub slot : (a : ℕ) → a < format .actions → ltb 0 (first-line t effect-lines a) ≡ some-of (λ (e : Effect). eqb (e .action) a) es

@@ -1,4 +1,4 @@
--- What it means that the input and the table hold a plan.
+-- What it means that the input and the notes hold a plan.
 use Prim.Native.Nat.{ℕ, suc, _+_, _*_, _≤_, _<_}
 use mathlib.Core.Path.{_≡_}
 use mathlib.Core.Bool.{false}

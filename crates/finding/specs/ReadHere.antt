@@ -9,11 +9,11 @@ use Rattle.meaning.specs.Reading.{got, read-request}
 use Rattle.reading.specs.Requested.{request-noted}
 use Rattle.reading.specs.Noted.{slots}
 
--- A table that holds nothing.
+-- Notes that hold nothing.
 unfoldable pub blank : List ℕ
 blank = replicate slots 0
 
--- A request was read up to e, into a table that held nothing before.
+-- A request was read up to e, into notes that held nothing before.
 pub record Read-here (s t : List ℕ) (e : ℕ) : Type 0 where
   pub request : Request
   pub reads : read-request format s ≡ got request e

@@ -5,9 +5,9 @@ ghost use Rattle.meaning.specs.Limits.{all-literals};
 ghost use Rattle.reading.specs.Listed.{List-here};
 ghost use Rattle.finding.specs.Branches.{sequence-place, no-item, place-after, item-after, Branch-here};
 use bytes::bytes::wide;
-use reading::table;
-use reading::table::Table;
-use reading::table::get;
+use reading::notes;
+use reading::notes::Notes;
+use reading::notes::get;
 
 // Where a sequence's count of items stands, after the list at p: a branch's condition, or a line's X.
 pub fn sequence_of(s: &[u8], p: usize) -> usize
@@ -31,7 +31,7 @@ pub fn empty(s: &[u8], q: usize) -> bool
 }
 
 // The branch after the one at p, which has i items before it.
-pub fn next_place(s: &[u8], t: &Table, p: usize, i: usize) -> usize
+pub fn next_place(s: &[u8], t: &Notes, p: usize, i: usize) -> usize
     requires { ⌜ Branch-here (now s) p i ⌝ }
     ensures { λ r. ⌜ r ≡ place-after (now (s .entry)) (now (t .entry)) p i ⌝ }
 {
@@ -40,11 +40,11 @@ pub fn next_place(s: &[u8], t: &Table, p: usize, i: usize) -> usize
     if none {
         return q + 2;
     }
-    get(t, table::BRANCH_PLACE + i)
+    get(t, notes::BRANCH_PLACE + i)
 }
 
 // How many items are before that one.
-pub fn next_item(s: &[u8], t: &Table, p: usize, i: usize) -> usize
+pub fn next_item(s: &[u8], t: &Notes, p: usize, i: usize) -> usize
     requires { ⌜ Branch-here (now s) p i ⌝ }
     ensures { λ r. ⌜ r ≡ item-after (now (s .entry)) (now (t .entry)) p i ⌝ }
 {
@@ -53,5 +53,5 @@ pub fn next_item(s: &[u8], t: &Table, p: usize, i: usize) -> usize
     if none {
         return i;
     }
-    get(t, table::BRANCH_ITEM + i)
+    get(t, notes::BRANCH_ITEM + i)
 }

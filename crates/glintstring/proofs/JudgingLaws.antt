@@ -34,7 +34,7 @@ use Rattle.walking.proofs.StandingLaws.{stands-open, end-missed, end-stopped, s
 use Rattle.glintstring.specs.Telling.{start, told, Tallied}
 use Rattle.glintstring.proofs.MarkedLaws.{End-marked, first-marked, walked-marked}
 use Rattle.glintstring.proofs.FirstLaws.{walks-first}
-use Rattle.glintstring.proofs.SettledLaws.{settled-got, settled-held}
+use Rattle.glintstring.proofs.SettledAtHand.{settled-got, settled-held}
 
 -- STANDINGS.
 so-far≢spent : {l : ℕ} {e : End State} → so-far l e ≡ spent → ⊥

@@ -2,8 +2,8 @@ pub mod TellingLaws
 pub mod KeepingLaws
 pub mod MarkedLaws
 pub mod FirstLaws
-pub mod SettledLaws
+pub mod SettledAtHand
 pub mod JudgingLaws
 pub mod ShowingLaws
 pub mod PackingLaws
-pub mod DerivationLaws
+pub mod CheckCallLaws

@@ -27,7 +27,7 @@ use Rattle.meaning.proofs.Exact.{format-room}
 use Rattle.meaning.proofs.Demands
 use Rattle.meaning.proofs.Table.{checking, answered, Row, table}
 use Rattle.glintstring.specs.Packing.{packed, unpacked}
-use Rattle.promises.proofs.TablePromises.{row-holds}
+use Rattle.promises.proofs.CasePromises.{row-holds}
 use Rattle.promises.proofs.UnpackingLaws.{number-back, input-back, place-back, count-back, unpacks, check-small}
 
 module _ (layout : Layout) (request derivation : List ℕ) where

@@ -27,8 +27,8 @@ use Rattle.meaning.specs.AnswerParts.{Check-input, Placed, named}
 use Rattle.meaning.specs.Tests.{Has}
 use Rattle.meaning.proofs.Table.{checking, answered, Row, table}
 use Rattle.promises.proofs.CheckPromises
-use Rattle.glintstring.proofs.derivations.check.Kinds.{ps, r}
-use Rattle.glintstring.proofs.derivations.check.Reads.{Pre, Post}
+use Rattle.glintstring.proofs.check_calls.check.Kinds.{ps, r}
+use Rattle.glintstring.proofs.check_calls.check.Reads.{Pre, Post}
 
 -- WHAT THE CALL IS GIVEN, by the values of its two parameters.
 module _ (κs : Lfts 2) (given : Dens κs ps) where
@@ -59,7 +59,7 @@ module _ (κs : Lfts 2) (given : Dens κs ps) where
     pub numbered : among (answer .number) (check-answers Plain) ≡ true
     numbered = CheckPromises.numbered Plain request derivation _ number-is
 
-    -- The proved table (FORMAT 15.12): given a row's inputs, it answers what the row says.
+    -- The proved cases (FORMAT 15.12): given a row's inputs, it answers what the row says.
     pub answers-the-table : (row : Row) → Has table row → row .call ≡ checking Plain request derivation → row .gives ≡ answered answer
     answers-the-table = CheckPromises.answers-the-table Plain request derivation answer meets
 

@@ -77,7 +77,7 @@ module _ (κs : Lfts 2) (given : Dens κs ps) where
     pub numbered : among (n % 256) (check-answers Plain) ≡ true
     numbered = CheckPromises.numbered Plain request derivation _ (sym number-is)
 
-    -- The proved table (FORMAT 15.12): given a row's inputs, it answers what the row says.
+    -- The proved cases (FORMAT 15.12): given a row's inputs, it answers what the row says.
     pub answers-the-table : (row : Row) → Has table row → row .call ≡ checking Plain request derivation → row .gives ≡ answered (unpacked n)
     answers-the-table = CheckPromises.answers-the-table Plain request derivation (unpacked n) unpacked-is
 

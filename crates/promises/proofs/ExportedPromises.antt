@@ -91,7 +91,7 @@ module _ (κs : Lfts 2) (given : Dens κs ps) where
     unfolding unpacked
     numbered = JudgePromises.numbered request lent budget (unpacked n) (left exit) judges
 
-    -- The proved table (FORMAT 15.12): given a row's inputs, it answers what the row says.
+    -- The proved cases (FORMAT 15.12): given a row's inputs, it answers what the row says.
     pub answers-the-table : (row : Row) → Has table row → row .call ≡ judging request lent budget → row .gives ≡ judged (record { answer = unpacked n; state = left exit })
     answers-the-table = JudgePromises.answers-the-table request lent budget (unpacked n) (left exit) judges
 

@@ -15,7 +15,7 @@ use Rattle.meaning.specs.Showing.{Part, show}
 use Rattle.meaning.specs.Tests.{Has}
 use Rattle.meaning.proofs.DerivationCases.{Shown, showings}
 use Rattle.glintstring.specs.Packing.{packed, unpacked}
-use Rattle.promises.proofs.TablePromises.{showing-holds}
+use Rattle.promises.proofs.CasePromises.{showing-holds}
 use Rattle.promises.proofs.UnpackingLaws.{Small, unpacks, answer-small, check-small}
 use Rattle.glintstring.proofs.exports.glintstring_show.Kinds.{ps, r}
 use Rattle.glintstring.proofs.exports.glintstring_show.Reads.{Pre, Post}

@@ -25,9 +25,9 @@ use Rattle.meaning.specs.Tests.{Has}
 use Rattle.meaning.proofs.Exact.{format-room}
 use Rattle.meaning.proofs.Demands
 use Rattle.meaning.proofs.Table.{judging, judged, Row, table}
-use Rattle.glintstring.specs.Lent.{Writes, Written}
+use Rattle.glintstring.specs.LentState.{Writes, Written}
 use Rattle.promises.proofs.LentLaws.{judge-kept, judge-written}
-use Rattle.promises.proofs.TablePromises.{row-holds}
+use Rattle.promises.proofs.CasePromises.{row-holds}
 
 module _ (request lent : List ℕ) (budget : ℕ) (answer : Answer) (left : List ℕ) (is : record { answer = answer; state = left } ≡ judge format request lent budget) where
   number-is : judge format request lent budget .answer .number ≡ answer .number

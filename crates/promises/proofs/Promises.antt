@@ -68,7 +68,7 @@ module _ (κs : Lfts 2) (given : Dens κs ps) where
     pub numbered : among (answer .number) answers ≡ true
     numbered = JudgePromises.numbered request lent budget answer (left exit) meets
 
-    -- The proved table (FORMAT 15.12): given a row's inputs, it answers what the row says.
+    -- The proved cases (FORMAT 15.12): given a row's inputs, it answers what the row says.
     pub answers-the-table : (row : Row) → Has table row → row .call ≡ judging request lent budget → row .gives ≡ judged (record { answer = answer; state = left exit })
     answers-the-table = JudgePromises.answers-the-table request lent budget answer (left exit) meets
 

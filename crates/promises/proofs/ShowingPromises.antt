@@ -16,9 +16,9 @@ use Rattle.meaning.specs.Tests.{Has}
 use Rattle.meaning.proofs.TestLaws.{clash}
 use Rattle.meaning.proofs.PickLaws.{has-picked}
 use Rattle.meaning.proofs.DerivationCases.{Shown, showings}
-use Rattle.glintstring.specs.Showing.{chosen}
+use Rattle.glintstring.specs.ShownPart.{chosen}
 use Rattle.glintstring.proofs.ShowingLaws.{chosen-request, chosen-derivation}
-use Rattle.promises.proofs.TablePromises.{showing-holds}
+use Rattle.promises.proofs.CasePromises.{showing-holds}
 use Rattle.glintstring.proofs.showing.show.Kinds.{ps, r}
 use Rattle.glintstring.proofs.showing.show.Reads.{Pre, Post}
 

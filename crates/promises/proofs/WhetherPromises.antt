@@ -27,8 +27,8 @@ use Rattle.meaning.specs.AnswerParts.{Check-input, Placed, named}
 use Rattle.meaning.specs.Tests.{Has}
 use Rattle.meaning.proofs.Table.{checking, answered, Row, table}
 use Rattle.promises.proofs.CheckPromises
-use Rattle.glintstring.proofs.derivations.check_whether.Kinds.{ps, r}
-use Rattle.glintstring.proofs.derivations.check_whether.Reads.{Pre, Post}
+use Rattle.glintstring.proofs.check_calls.check_whether.Kinds.{ps, r}
+use Rattle.glintstring.proofs.check_calls.check_whether.Reads.{Pre, Post}
 
 -- WHAT THE CALL IS GIVEN, by the values of its two parameters.
 module _ (κs : Lfts 2) (given : Dens κs ps) where
@@ -59,7 +59,7 @@ module _ (κs : Lfts 2) (given : Dens κs ps) where
     pub numbered : among (answer .number) (check-answers Closing) ≡ true
     numbered = CheckPromises.numbered Closing request derivation _ number-is
 
-    -- The proved table (FORMAT 15.12): given a row's inputs, it answers what the row says.
+    -- The proved cases (FORMAT 15.12): given a row's inputs, it answers what the row says.
     pub answers-the-table : (row : Row) → Has table row → row .call ≡ checking Closing request derivation → row .gives ≡ answered answer
     answers-the-table = CheckPromises.answers-the-table Closing request derivation answer meets
 

@@ -1,4 +1,4 @@
--- Reading with the table: what follows an item, the end of a sequence, and what an answer says of the definition and of the table. Assumes nothing.
+-- Reading with the notes: what follows an item, the end of a sequence, and what an answer says of the definition and of the notes. Assumes nothing.
 use Prim.Native.Nat.{ℕ, _+_, _≤_, _<_, _*_}
 use native.Mathlib.Omega.{arith}
 use mathlib.Core.Path.{_≡_, refl, sym, _∙_, ap}
@@ -45,7 +45,7 @@ pub branch-ended : (first met p : ℕ) (t u v : List ℕ) → first < met → u 
 unfolding branch-noted
 branch-ended first met p t u v h placed counted = counted ∙ ap (λ (w : List ℕ). set w (branch-item + first) met) placed ∙ sym (pick-true _ _ _ (lt-ltb first met h))
 
--- WHAT A READER ANSWERED tells what the definition gives, and the table.
+-- WHAT A READER ANSWERED tells what the definition gives, and the notes.
 module _ {A : Type 0} where
   abbrev pub with-items : A → ℕ → Met A
   with-items x k = record { value = x; items = k }

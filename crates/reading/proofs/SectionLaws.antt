@@ -108,7 +108,7 @@ module _ {A : Type 0} (number : A → ℕ) (read : Got A → Read) (of-got : (x 
       let is : i ≡ n = omega arith in
       rw (is, ap place-of same)
 
--- A line of action a at place p, as what the table notes of it.
+-- A line of action a at place p, as what is noted of it.
 record Stands (c : Section) (n m : ℕ) (s : List ℕ) (p a : ℕ) (l : Line c) : Type 0 where
   second : p + 1 < length s
   acts : a < m
@@ -206,7 +206,7 @@ module _ (c : Section) where
   one-more k last x (fault n p) t = refl
 
 module _ (c : Section) (n m : ℕ) (s : List ℕ) where
-  -- What the table notes of so many lines from place p on, when k are noted and `last` has the last of each action.
+  -- What is noted of so many lines from place p on, when k are noted and `last` has the last of each action.
   abbrev From : (left p k : ℕ) → (last t : List ℕ) → Got (List ℕ)
   From left p k last t = noting (lines-noted c k last) (repeated (line-at c n m s) left p) t
 

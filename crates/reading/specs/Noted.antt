@@ -1,4 +1,4 @@
--- What reading leaves in its one table, as a function of what the definitions read. Lines are numbered from 1 in file order, so that 0 is no line; items from 0.
+-- What reading leaves in its notes, as a function of what the definitions read. Lines are numbered from 1 in file order, so that 0 is no line; items from 0.
 use Prim.Native.Nat.{ℕ, _+_, _-_, _*_}
 use mathlib.Core.List.{List, [], _∷_}
 use lib.ListN.{length, getD, set, replicate}
@@ -95,7 +95,7 @@ pairs = format .actions * format .fluents
 abbrev pub slots : ℕ
 slots = sensed + pairs
 
--- READING WITH THE TABLE. What was read and the table afterwards; at a fault the table is of no use.
+-- READING WITH THE NOTES. What was read and the notes afterwards; at a fault the notes are of no use.
 module _ {A : Type 0} where
   unfoldable pub noting : (A → List ℕ → List ℕ) → Got A → List ℕ → Got (List ℕ)
   noting note g t = next g λ x p. got (note x t) p
@@ -119,7 +119,7 @@ raised slot v t = pick (ltb (getD t slot 0) v) (λ _. set t slot v) (λ _. t)
 unfoldable pub pair-noted : (action fluent : ℕ) → List ℕ → List ℕ
 pair-noted a f t = raised (sensed-to + a) (f + 1) (raised (sensed-from + a) (format .fluents - f) (set t (sensed + (format .fluents * a + f)) 1))
 
--- A section of lines, what a line of it is, and what the table notes of line k.
+-- A section of lines, what a line of it is, and what is noted of line k.
 pub data Section : Type 0 where
   effects executability knowledge : Section
 
@@ -152,7 +152,7 @@ line-read effects = effect-read
 line-read executability = executability-read
 line-read knowledge = knowledge-read
 
--- What the table notes of line k, of action a, at place p; f is the byte after the action.
+-- What is noted of line k, of action a, at place p; f is the byte after the action.
 unfoldable pub line-noted : Section → (last k p a f : ℕ) → List ℕ → List ℕ
 line-noted effects last k p a f = appended effect-lines last k p a
 line-noted executability last k p a f = appended run-lines last k p a

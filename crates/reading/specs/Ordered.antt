@@ -1,4 +1,4 @@
--- An action's lines in file order, as the table leads from each to the next. One definition is for effects and for executability lines:
+-- An action's lines in file order, as the notes lead from each to the next. One definition is for effects and for executability lines:
 -- `lines` is where the slots of the section start.
 use Prim.Native.Nat.{ℕ, _<_}
 use mathlib.Core.Path.{_≡_}

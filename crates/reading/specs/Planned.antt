@@ -1,4 +1,4 @@
--- What reading a plan leaves in the table, as a function of the plan as a tree. The table stands before the tree in each definition.
+-- What reading a plan leaves in the notes, as a function of the plan as a tree. The notes stand before the tree in each definition.
 use Prim.Native.Nat.{ℕ, _+_}
 use mathlib.Core.List.{List}
 use lib.ListN.{length, set}
@@ -88,7 +88,7 @@ sequence-noted up met p t b = rest-noted up met met (p + 2) t b
 unfoldable pub plan-noted : (p : ℕ) → List ℕ → Sequence ℕ → List ℕ
 plan-noted p t b = sequence-noted (format .items) 0 p t b
 
--- READING WITH THE TABLE. The table afterwards and the items met; at a fault the table is of no use.
+-- READING WITH THE NOTES. The notes afterwards and the items met; at a fault the notes are of no use.
 module _ {A : Type 0} where
   unfoldable pub noting-met : (A → List ℕ) → Got (Met A) → Got (Met (List ℕ))
   noting-met note g = next g λ x e. got (record { value = note (x .value); items = x .items }) e

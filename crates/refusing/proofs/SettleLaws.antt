@@ -30,7 +30,7 @@ use Rattle.finding.specs.PlansHeld.{Plan-held, Some-plan}
 use Rattle.refusing.specs.Refusal18.{Overlap-found}
 use Rattle.finding.proofs.FoundLaws.{blank-long, blank-slot, found-at, found-none}
 
--- The table is the same at every answer.
+-- The notes are the same at every answer.
 module _ {A : Type 0} (note : A → List ℕ → List ℕ) where
   pub outcome-same : (g : Got A) (u t : List ℕ) → ((y : A) (q : ℕ) → g ≡ got y q → u ≡ note y t) → outcome (passed g) u ≡ noting note g t
   unfolding outcome passed noting next

@@ -17,12 +17,12 @@ use reading::marks::Marks;
 use reading::marks::Test;
 use reading::marks::each_holds;
 use reading::marks::state_of;
-use reading::table;
-use reading::table::Table;
-use reading::table::line_place;
+use reading::notes;
+use reading::notes::Notes;
+use reading::notes::line_place;
 
 // For each effect, and for each pair of an action and a fluent, the last effect before it with the same pair.
-const LINKED_SLOTS: usize = limits::LINE_NUMBERS + table::PAIRS;
+const LINKED_SLOTS: usize = limits::LINE_NUMBERS + notes::PAIRS;
 
 type Links = [u8; LINKED_SLOTS];
 
@@ -64,14 +64,14 @@ fn contradicts(s: &[u8], held: &Marks, p: usize, q: usize) -> bool
 }
 
 // Effect k + 1 contradicts one of the first k, sought among those with its pair.
-fn contradicted(s: &[u8], t: &Table, same: &Links, k: usize) -> bool
+fn contradicted(s: &[u8], t: &Notes, same: &Links, k: usize) -> bool
     requires { ⌜ k < 255 ⌝ }
     requires { ⌜ Effects-here (now s) (now t) (k + 1) ⌝ }
     requires { ⌜ Linked (now s) (now t) (now same) k ⌝ }
     ensures { λ r. ⌜ r ≡ some-of (contradictory (effect-from (now (s .entry)) (place-in (now (t .entry)) (k + 1)))) (effects-before (now (s .entry)) (now (t .entry)) k) ⌝ }
 {
     let number = k + 1;
-    let p = line_place(t, table::EFFECTS, number);
+    let p = line_place(t, notes::EFFECTS, number);
     let pair = pair_at(s, p);
     let last = limits::LINE_NUMBERS + pair;
     let mut j = wide(same[last]);
@@ -81,7 +81,7 @@ fn contradicted(s: &[u8], t: &Table, same: &Links, k: usize) -> bool
     let body = p + 2;
     let held = state_of(s, body);
     while 0 < j {
-        let q = line_place(t, table::EFFECTS, j);
+        let q = line_place(t, notes::EFFECTS, j);
         let found = contradicts(s, &held, p, q);
         if found {
             return true;
@@ -92,7 +92,7 @@ fn contradicted(s: &[u8], t: &Table, same: &Links, k: usize) -> bool
 }
 
 // 16: the first effect that contradicts one before it.
-pub fn contradiction(s: &[u8], t: &Table, count: usize) -> Found
+pub fn contradiction(s: &[u8], t: &Notes, count: usize) -> Found
     requires { ⌜ count ≤ 255 ⌝ }
     requires { ⌜ Effects-here (now s) (now t) count ⌝ }
     ensures { λ r. ⌜ r ≡ found (contradiction-in [] (effects-in (now (s .entry)) (now (t .entry)) 0 count)) ⌝ }
@@ -102,7 +102,7 @@ pub fn contradiction(s: &[u8], t: &Table, count: usize) -> Found
     while k < count {
         let met = contradicted(s, t, &same, k);
         k += 1;
-        let p = line_place(t, table::EFFECTS, k);
+        let p = line_place(t, notes::EFFECTS, k);
         if met {
             return Found::At(p);
         }

@@ -3,12 +3,12 @@ ghost use Rattle.finding.specs.LinesHere.{Knowledge-here};
 ghost use Rattle.refusing.specs.Refusal17.{Mixed-found};
 use bytes::bytes::wide;
 use finding::places::Found;
-use reading::table;
-use reading::table::Table;
-use reading::table::first_line;
+use reading::notes;
+use reading::notes::Notes;
+use reading::notes::first_line;
 
 // 17: the first knowledge line whose action has an effect too.
-pub fn mixed(s: &[u8], t: &Table, start: usize, count: usize) -> Found
+pub fn mixed(s: &[u8], t: &Notes, start: usize, count: usize) -> Found
     requires { ⌜ Knowledge-here (now s) start count ⌝ }
     ensures { λ r. ⌜ Mixed-found (now (s .entry)) (now (t .entry)) start count r ⌝ }
 {
@@ -17,7 +17,7 @@ pub fn mixed(s: &[u8], t: &Table, start: usize, count: usize) -> Found
         let twice = 2 * k;
         let p = start + twice;
         let a = wide(s[p]);
-        let first = first_line(t, table::EFFECTS, a);
+        let first = first_line(t, notes::EFFECTS, a);
         if 0 < first {
             return Found::At(p);
         }

@@ -14,12 +14,12 @@ use reading::marks::Marks;
 use reading::marks::Test;
 use reading::marks::each_holds;
 use reading::marks::state_of;
-use reading::table;
-use reading::table::Table;
-use reading::table::get;
+use reading::notes;
+use reading::notes::Notes;
+use reading::notes::get;
 
 // The state rules out the conditions of so many branches.
-fn excludes(s: &[u8], t: &Table, held: &Marks, count: usize, place: usize, item: usize) -> bool
+fn excludes(s: &[u8], t: &Notes, held: &Marks, count: usize, place: usize, item: usize) -> bool
     requires { ⌜ Branches-here (now s) (now t) count place item ⌝ }
     ensures { λ r. ⌜ r ≡ each-of (rules-out (now (held .entry))) (conditions-from (now (s .entry)) (now (t .entry)) count place item) ⌝ }
 {
@@ -41,7 +41,7 @@ fn excludes(s: &[u8], t: &Table, held: &Marks, count: usize, place: usize, item:
 }
 
 // Every two conditions of so many branches are exclusive.
-fn all_exclusive(s: &[u8], t: &Table, count: usize, place: usize, item: usize) -> bool
+fn all_exclusive(s: &[u8], t: &Notes, count: usize, place: usize, item: usize) -> bool
     requires { ⌜ Branches-here (now s) (now t) count place item ⌝ }
     ensures { λ r. ⌜ r ≡ all-apart (conditions-from (now (s .entry)) (now (t .entry)) count place item) ⌝ }
 {
@@ -66,7 +66,7 @@ fn all_exclusive(s: &[u8], t: &Table, count: usize, place: usize, item: usize) -
 }
 
 // Item i, at p, is no branching with two conditions that are not exclusive.
-fn apart(s: &[u8], t: &Table, i: usize, p: usize) -> bool
+fn apart(s: &[u8], t: &Notes, i: usize, p: usize) -> bool
     requires { ⌜ Item-here (now s) (now t) i p ⌝ }
     ensures { λ r. ⌜ r ≡ item-apart (now (s .entry)) (now (t .entry)) i p ⌝ }
 {
@@ -81,13 +81,13 @@ fn apart(s: &[u8], t: &Table, i: usize, p: usize) -> bool
 }
 
 // The first item that is such a branching.
-fn first_overlap(s: &[u8], t: &Table, count: usize) -> Found
+fn first_overlap(s: &[u8], t: &Notes, count: usize) -> Found
     requires { ⌜ Items-here (now s) (now t) count ⌝ }
     ensures { λ r. ⌜ r ≡ found (first-overlap (now (s .entry)) (now (t .entry)) count 0) ⌝ }
 {
     let mut i = 0;
     while i < count {
-        let p = get(t, table::ITEM_PLACE + i);
+        let p = get(t, notes::ITEM_PLACE + i);
         let good = apart(s, t, i, p);
         i += 1;
         if good {
@@ -99,7 +99,7 @@ fn first_overlap(s: &[u8], t: &Table, count: usize) -> Found
 }
 
 // 18: the first branching with two conditions that are not exclusive, of a plan with so many items.
-pub fn overlap(s: &[u8], t: &Table, count: usize) -> Found
+pub fn overlap(s: &[u8], t: &Notes, count: usize) -> Found
     requires { ⌜ Some-plan (now s) (now t) count ⌝ }
     ensures { λ r. ⌜ Overlap-found (now (s .entry)) (now (t .entry)) count r ⌝ }
 {

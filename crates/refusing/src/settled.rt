@@ -12,17 +12,17 @@ use super::refusal_18::overlap;
 use bytes::limits;
 use bytes::lists::Passed;
 use finding::places::Found;
-use reader::requests::read_request;
-use reading::table;
-use reading::table::Table;
-use reading::table::get;
+use reader::whole::read_request;
+use reading::notes;
+use reading::notes::Notes;
+use reading::notes::get;
 
 // 18, of a request that was read up to e.
-fn refused_from_18(s: &[u8], t: &Table, e: usize) -> Passed
+fn refused_from_18(s: &[u8], t: &Notes, e: usize) -> Passed
     requires { ⌜ Read-here (now s) (now t) e ⌝ }
     ensures { λ r. ⌜ r ≡ passed (past-18 (now (s .entry))) ⌝ }
 {
-    let count = get(t, table::ITEMS);
+    let count = get(t, notes::ITEMS);
     match overlap(s, t, count) {
         Found::Nowhere => Passed::To(e),
         Found::At(p) => Passed::Fault(limits::NOT_EXCLUSIVE, p),
@@ -30,12 +30,12 @@ fn refused_from_18(s: &[u8], t: &Table, e: usize) -> Passed
 }
 
 // 17 and 18, of a request that was read up to e.
-fn refused_from_17(s: &[u8], t: &Table, e: usize) -> Passed
+fn refused_from_17(s: &[u8], t: &Notes, e: usize) -> Passed
     requires { ⌜ Read-here (now s) (now t) e ⌝ }
     ensures { λ r. ⌜ r ≡ passed (past-17 (now (s .entry))) ⌝ }
 {
-    let count = get(t, table::COUNT_OF_KNOWLEDGE);
-    let plan = get(t, table::PLAN);
+    let count = get(t, notes::COUNT_OF_KNOWLEDGE);
+    let plan = get(t, notes::PLAN);
     let bytes = 2 * count;
     let start = plan - bytes;
     match mixed(s, t, start, count) {
@@ -45,19 +45,19 @@ fn refused_from_17(s: &[u8], t: &Table, e: usize) -> Passed
 }
 
 // 16 to 18, of a request that was read up to e.
-fn refused_from_16(s: &[u8], t: &Table, e: usize) -> Passed
+fn refused_from_16(s: &[u8], t: &Notes, e: usize) -> Passed
     requires { ⌜ Read-here (now s) (now t) e ⌝ }
     ensures { λ r. ⌜ r ≡ passed (settled format (now (s .entry))) ⌝ }
 {
-    let count = get(t, table::COUNT_OF_EFFECTS);
+    let count = get(t, notes::COUNT_OF_EFFECTS);
     match contradiction(s, t, count) {
         Found::Nowhere => refused_from_17(s, t, e),
         Found::At(p) => Passed::Fault(limits::CONTRADICTORY_EFFECTS, p),
     }
 }
 
-// A request settled: read without a fault, and past 16, 17 and 18. The table holds nothing before.
-pub fn settle(s: &[u8], t: &mut Table) -> Passed
+// A request settled: read without a fault, and past 16, 17 and 18. The notes hold nothing before.
+pub fn settle(s: &[u8], t: &mut Notes) -> Passed
     requires { ⌜ now t ≡ blank ⌝ }
     ensures { λ r. ⌜ outcome r (now (t .exit)) ≡ noting request-noted (settled format (now (s .entry))) (now (t .entry)) ⌝ }
 {

@@ -37,12 +37,12 @@ use Rattle.deriving.specs.Derived.{Line-here}
 use Rattle.comparing.specs.declared.spots.Spot.{Spot}
 use Rattle.comparing.specs.Coded.{Tellable, Tellable-branches}
 use Rattle.comparing.specs.Stands.{after-list, Plan-stands, Stands}
-use Rattle.comparing.specs.Rules.{Some-plan, Items-stand, Some-items, Joined-plans, Same-conclusions, Some-read, Read-by}
+use Rattle.comparing.specs.RuleAnswers.{Some-plan, Items-stand, Some-items, Joined-plans, Same-conclusions, Some-read, Read-by}
 use Rattle.ruling.specs.Branched.{branches-end, Branches-held, Branched, Some-branched, takes-known, Branch-taken}
 use Rattle.comparing.proofs.CodedLaws.{coded-length, own-most, none-done}
 use Rattle.comparing.proofs.CodedPlaces.{branch-coded, act-there, Branching-coded, branching-there}
 use Rattle.comparing.proofs.KnownLaws.{listed-clear}
-use Rattle.comparing.proofs.StandLaws.{Line-parts, line-parts}
+use Rattle.comparing.proofs.LinesStand.{Line-parts, line-parts}
 use Rattle.ruling.proofs.RuleLaws.{X-same, plan-of, item-bytes, own-count}
 
 -- THE PLACE after so many branches.
@@ -414,7 +414,7 @@ module _ (n m : ℕ) (d : List ℕ) (w : Spot) where
                   sym (ap (branches-first c l) (act-there d (plan + 2) (l .c) (own-some l sl) (there .tellable) (there .bytes) other .is));
             }
 
-        -- THE PLAN READ AGAIN, which leaves it in the table.
+        -- THE PLAN READ AGAIN, which leaves it in the notes.
         module _ (byte : getD d (plan + 2) 0 ≡ 255) (few : n ≤ format .fluents) (less : m ≤ format .actions) (t u : List ℕ) (r : Read) (read : outcome-met r u ≡ noting-met (plan-noted plan t) (plan-at format n m d plan)) where
           again : (l : Line) (parts : Line-parts n m d (w .line) l) → plan-at format n m d plan ≡ got (parts .plan) (parts .end)
           unfolding sequence-place after-list

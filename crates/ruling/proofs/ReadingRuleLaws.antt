@@ -30,14 +30,14 @@ use Rattle.finding.specs.PlansHeld.{own-items}
 use Rattle.steps.specs.AtHand.{Marked}
 use Rattle.steps.specs.Small.{Small}
 use Rattle.steps.specs.Steps.{unknown-above, first-of}
-use Rattle.steps.proofs.SensingLaws.{first-marked, second-marked, told-true, told-false, unknown-after-set, unknown-first, unknown-first-above, unknown-no-first, sensed-first, sensed-no-first}
+use Rattle.steps.proofs.LookLaws.{first-marked, second-marked, told-true, told-false, unknown-after-set, unknown-first, unknown-first-above, unknown-no-first, sensed-first, sensed-no-first}
 use Rattle.steps.proofs.ToldMarks.{marked-as}
 use Rattle.ruling.specs.declared.readings.Used.{Used}
 use Rattle.ruling.specs.declared.readings.Used.the-variants.{To, Fails}
 use Rattle.comparing.specs.declared.spots.Spot.{Spot}
 use Rattle.comparing.specs.Coded.{coded}
 use Rattle.comparing.specs.Stands.{Plan-stands, Numbers-stand, Stands, spot-at, Lines-stand}
-use Rattle.comparing.specs.Rules.{Items-stand, Same-conclusions, Some-line, Some-lines, Cited-below, Ruled-by-all}
+use Rattle.comparing.specs.RuleAnswers.{Items-stand, Same-conclusions, Some-line, Some-lines, Cited-below, Ruled-by-all}
 use Rattle.ruling.specs.Readings.{lines-at, reads-at, used, fluents-from, states-from, Stands-some, rest-first, rest-items, Follows, Some-follows, Says-reading, Rest-stands, Some-rest, Uses}
 use Rattle.comparing.proofs.CodedLaws.{same-own, same-coded, none-done, coded-length}
 use Rattle.comparing.proofs.CodedPlaces.{Act-there, act-there, branching-there}

@@ -27,12 +27,12 @@ use Rattle.finding.proofs.PlanHere.{count-zero}
 use Rattle.steps.specs.Held.{table-in}
 use Rattle.steps.specs.AtHand.{Marked}
 use Rattle.steps.specs.Small.{Small}
-use Rattle.steps.proofs.SensingLaws.{after-marked}
+use Rattle.steps.proofs.LookLaws.{after-marked}
 use Rattle.steps.proofs.ToldMarks.{marked-as}
 use Rattle.comparing.specs.declared.spots.Spot.{Spot}
 use Rattle.comparing.specs.Coded.{Tellable}
 use Rattle.comparing.specs.Stands.{after-list, Plan-stands, Conclusion-stands, Stands}
-use Rattle.comparing.specs.Rules.{Some-plan, Items-stand, Some-items, Same-plans, Joined-plans, Same-conclusions, Some-line, Ruled, Ruled-by, Ruled-by-two}
+use Rattle.comparing.specs.RuleAnswers.{Some-plan, Items-stand, Some-items, Same-plans, Joined-plans, Same-conclusions, Some-line, Ruled, Ruled-by, Ruled-by-two}
 use Rattle.comparing.proofs.CodedLaws.{same-own, same-bytes, coded-same, tellable-join, none-done, same-done}
 use Rattle.comparing.proofs.CodedPlaces.{act-there, Branching-there, branching-there}
 

@@ -1,4 +1,4 @@
--- The branching with which a line's plan begins, in the input and in the table that reading the plan again left, and what rules 4 and 12 ask of it.
+-- The branching with which a line's plan begins, in the input and in the notes that reading the plan again left, and what rules 4 and 12 ask of it.
 use Prim.Native.Nat.{ℕ, zero, suc, _+_, _≤_, _<_}
 use mathlib.Core.Path.{_≡_}
 use mathlib.Core.Bool.{Bool, false}
@@ -15,7 +15,7 @@ use Rattle.finding.specs.Branches.{place-after, item-after}
 use Rattle.finding.specs.PlansHeld.{branches-in, Branches-written, Branches-kept}
 use Rattle.comparing.specs.Coded.{coded-branches, Tellable-branches}
 use Rattle.comparing.specs.Stands.{Plan-stands}
-use Rattle.comparing.specs.Rules.{Items-stand}
+use Rattle.comparing.specs.RuleAnswers.{Items-stand}
 
 -- The place after so many branches, the first of which stands at p with i items before it.
 unfoldable pub branches-end : (d t : List ℕ) (left p i : ℕ) → ℕ

@@ -17,7 +17,7 @@ use Rattle.ruling.specs.declared.readings.Used.{Used}
 use Rattle.ruling.specs.declared.readings.Used.the-variants.{To, Fails}
 use Rattle.comparing.specs.declared.spots.Spot.{Spot}
 use Rattle.comparing.specs.Stands.{Numbers-stand, Conclusion-stands, Stands, Lines-stand}
-use Rattle.comparing.specs.Rules.{Items-stand}
+use Rattle.comparing.specs.RuleAnswers.{Items-stand}
 
 -- The lines with these numbers; another line where there is none.
 unfoldable pub lines-at : List Line → (other : Line) → List ℕ → List Line

@@ -3,7 +3,7 @@ ghost use Prim.Native.Nat.{_≤_};
 ghost use Rattle.meaning.specs.Limits.{format};
 ghost use Rattle.meaning.specs.Derivations.{rule-4};
 ghost use Rattle.finding.specs.Branches.{Branches-here};
-ghost use Rattle.comparing.specs.Rules.{Some-plan, Some-line, Some-read, Read-by};
+ghost use Rattle.comparing.specs.RuleAnswers.{Some-plan, Some-line, Some-read, Read-by};
 ghost use Rattle.ruling.specs.Branched.{branches-end, Some-branched, Branch-taken};
 use bytes::bytes::Read;
 use bytes::bytes::wide;
@@ -20,12 +20,12 @@ use reading::marks::Marks;
 use reading::marks::Test;
 use reading::marks::each_holds;
 use reading::marks::state_of;
+use reading::notes;
+use reading::notes::Notes;
 use reading::plan::plan_at;
-use reading::table;
-use reading::table::Table;
 
 // The place after so many branches, the first of which stands at `place` with `item` items before it.
-fn after_branches(d: &[u8], t: &Table, count: usize, place: usize, item: usize) -> usize
+fn after_branches(d: &[u8], t: &Notes, count: usize, place: usize, item: usize) -> usize
     requires { ⌜ Branches-here (now d) (now t) count place item ⌝ }
     ensures { λ r. ⌜ r ≡ branches-end (now (d .entry)) (now (t .entry)) count place item ⌝ }
 {
@@ -45,7 +45,7 @@ fn after_branches(d: &[u8], t: &Table, count: usize, place: usize, item: usize) 
 // Some branch of the branching at first has its condition known, and joined with the rest, up to y, is the plan with its count at cited.
 fn some_branch(
     d: &[u8],
-    t: &Table,
+    t: &Notes,
     held: &Marks,
     first: usize,
     cited: usize,
@@ -87,7 +87,7 @@ fn some_branch(
 
 // Rules 4 and 12: a branching first, some condition of it within X; X, that branch joined with the rest and the line's own conclusion by the
 // line `cited`.
-pub fn rule_4(n: usize, m: usize, d: &[u8], t: &mut Table, cited: Spot, l: Spot) -> bool
+pub fn rule_4(n: usize, m: usize, d: &[u8], t: &mut Notes, cited: Spot, l: Spot) -> bool
     requires { ⌜ n ≤ format .fluents ⌝ }
     requires { ⌜ m ≤ format .actions ⌝ }
     requires { ⌜ Some-line (now d) cited ⌝ }
@@ -107,7 +107,7 @@ pub fn rule_4(n: usize, m: usize, d: &[u8], t: &mut Table, cited: Spot, l: Spot)
             }
             let first = plan + 2;
             if d[first] == limits::BRANCHING_BYTE {
-                table::sized(t);
+                notes::sized(t);
                 match plan_at(n, m, d, plan, t) {
                     Read::Value(_, _) => {
                         let held = state_of(d, p);

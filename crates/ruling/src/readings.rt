@@ -8,7 +8,7 @@ ghost use Rattle.deriving.specs.DerivationRead.{plan-ends-slot};
 ghost use Rattle.steps.specs.Held.{table-in};
 ghost use Rattle.steps.specs.AtHand.{At-hand, Marked};
 ghost use Rattle.comparing.specs.Stands.{spot-at};
-ghost use Rattle.comparing.specs.Rules.{Some-line, Some-lines, Cited-below, Ruled-by-all};
+ghost use Rattle.comparing.specs.RuleAnswers.{Some-line, Some-lines, Cited-below, Ruled-by-all};
 ghost use Rattle.ruling.specs.Readings.{states-from, Stands-some, Some-follows, Says-reading, Some-rest, Uses};
 use bytes::bytes::two;
 use bytes::bytes::wide;
@@ -24,7 +24,7 @@ use finding::branches::sequence_of;
 use meaning::Layout;
 use reading::marks::Marks;
 use reading::marks::state_of;
-use reading::table::Table;
+use reading::notes::Notes;
 use steps::actions::can_be_run;
 use steps::sensing::first_unknown;
 use steps::sensing::is_sensing;
@@ -119,7 +119,7 @@ fn one_reading(
 fn each_reading(
     layout: Layout,
     s: &[u8],
-    t: &Table,
+    t: &Notes,
     d: &[u8],
     places: &Places,
     a: usize,
@@ -157,7 +157,7 @@ fn each_reading(
 pub fn rule_3(
     layout: Layout,
     s: &[u8],
-    t: &Table,
+    t: &Notes,
     d: &[u8],
     places: &Places,
     lines: usize,

@@ -26,11 +26,11 @@ use Rattle.reading.specs.declared.marks.Test.the-variants.{Known, Possible}
 use Rattle.reading.proofs.MarkLaws.{mark-other, mark-most}
 use Rattle.steps.specs.Held.{table-in}
 use Rattle.steps.specs.AtHand.{At-hand, Marked}
-use Rattle.steps.specs.Lines.{run-places, effect-places, allowed-at}
+use Rattle.steps.specs.LinesFound.{run-places, effect-places, allowed-at}
 use Rattle.steps.specs.After.{undone, left-at}
 use Rattle.steps.proofs.Served.{runs-at-hand, effects-at-hand}
 use Rattle.steps.proofs.Sweeps.{known-possible, mark-some, swept-one, tells-one, swept-at, tells-at}
-use Rattle.steps.proofs.SensingLaws.{marked-set}
+use Rattle.steps.proofs.LookLaws.{marked-set}
 
 -- HOW FAR the lines go on from line k: numbers rise from line to line and stay below 256, and 0 is no line.
 unfoldable pub to-go : ℕ → ℕ

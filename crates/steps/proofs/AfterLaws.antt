@@ -30,11 +30,11 @@ use Rattle.finding.specs.LinesHere.{Effect-here}
 use Rattle.reading.proofs.MarkLaws.{mark-most}
 use Rattle.steps.specs.Held.{table-in}
 use Rattle.steps.specs.AtHand.{At-hand, Marked}
-use Rattle.steps.specs.Lines.{effect-places, given-at}
+use Rattle.steps.specs.LinesFound.{effect-places, given-at}
 use Rattle.steps.specs.After.{undone, left-at}
 use Rattle.steps.proofs.Served.{effects-at-hand}
 use Rattle.steps.proofs.Sweeps.{known-one, known-possible, mark-some, swept-one, tells-one, swept-at, tells-at}
-use Rattle.steps.proofs.SensingLaws.{marked-set}
+use Rattle.steps.proofs.LookLaws.{marked-set}
 use Rattle.steps.proofs.ActionLaws.{Sweeping, sweep-done, sweep-tells}
 
 -- ONE LITERAL.

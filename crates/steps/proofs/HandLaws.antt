@@ -1,5 +1,5 @@
--- A request at hand: its counts and its facts stand where every request's do, its goals and whether entries where the table says, and the
--- table has the number of its items. Each follows from how the section was read. Assumes nothing.
+-- A request at hand: its counts and its facts stand where every request's do, its goals and whether entries where the notes say, and the
+-- notes have the number of its items. Each follows from how the section was read. Assumes nothing.
 use Prim.Native.Nat.{ℕ, _≤_}
 use native.Mathlib.Omega.{arith}
 use mathlib.Core.Path.{_≡_}

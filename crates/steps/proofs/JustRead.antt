@@ -1,4 +1,4 @@
--- A request that was read from the start of the input, into a table that held nothing, is at hand: its sections stand where they were read, the
+-- A request that was read from the start of the input, into notes that held nothing, is at hand: its sections stand where they were read, the
 -- order of its lines, the slots of what is sensed and of the plan, and the places are as their sections left them. Assumes nothing.
 use Prim.Native.Nat.{ℕ, _+_, _*_, _≤_, _<_}
 use native.Mathlib.Omega.{arith}
@@ -27,11 +27,11 @@ use Rattle.finding.proofs.HereLaws.{list-here}
 use Rattle.finding.proofs.ReadLaws.{Parts, parts, knowledge-good, tabled-long, with-runs, with-knowledge, runs-long, after-sections, effects-ordered, runs-ordered, items-noted, plan-noted-at, request-held}
 use Rattle.finding.proofs.FoundLaws.{blank-long, blank-slot}
 use Rattle.steps.specs.Held.{table-of, plan-of, table-in, plan-in, goals-in, whether-in, request-in}
-use Rattle.steps.specs.Lines.{run-places, effect-places, Senses}
+use Rattle.steps.specs.LinesFound.{run-places, effect-places, Senses}
 use Rattle.steps.specs.Rests.{Nexts}
 use Rattle.steps.specs.AtHand.{At-hand}
 use Rattle.steps.proofs.SlotLaws.{sensed-empty, goals-noted}
-use Rattle.steps.proofs.StandLaws.{knowledge-small, Sections-read, sections-read, list-after}
+use Rattle.steps.proofs.SectionsStand.{knowledge-small, Sections-read, sections-read, list-after}
 use Rattle.steps.proofs.SensedLaws.{Sensed, says, seen-after, seen-some, lines-sensed}
 use Rattle.steps.proofs.NextSlots.{nexts-agree, plan-nexts}
 
@@ -194,7 +194,7 @@ module _ (s : List ℕ) (bytes : (i : ℕ) → getD s i 0 < 256) (x : Request) (
         whether = rw (table-is, whether-at, whether-listed) (each .whether);
       }
 
--- The table that reading left.
+-- The notes that reading left.
 module _ (s : List ℕ) (bytes : (i : ℕ) → getD s i 0 < 256) (x : Request) (e : ℕ) (reads : read-request format s ≡ got x e) (t : List ℕ) (noted : t ≡ request-noted x blank) where
   pub read-at-hand : At-hand s t
   read-at-hand = subst (At-hand s) (sym noted) (at-hand s bytes x e reads)

@@ -1,4 +1,4 @@
--- The table of a request at hand leads through the plan: by induction on the plan's tree, where a part is given what is left of the whole plan
+-- The notes of a request at hand lead through the plan: by induction on the plan's tree, where a part is given what is left of the whole plan
 -- from each of its items on, and what stands around and behind it. Assumes nothing.
 use Prim.Native.Nat.{ℕ, _+_, _-_, _≤_, _<_}
 use native.Mathlib.Omega.{arith}

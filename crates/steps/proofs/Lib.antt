@@ -1,4 +1,4 @@
-pub mod StandLaws
+pub mod SectionsStand
 pub mod HandLaws
 pub mod ToldMarks
 pub mod SlotLaws
@@ -9,9 +9,9 @@ pub mod JustRead
 pub mod SmallActions
 pub mod RestLaws
 pub mod Laid
-pub mod EndLaws
+pub mod MissLaws
 pub mod OnwardLaws
 pub mod Sweeps
-pub mod SensingLaws
+pub mod LookLaws
 pub mod ActionLaws
 pub mod AfterLaws

@@ -1,4 +1,4 @@
--- Where the walk goes on: after an item, into a branch, and what a walk from there gives. The plan is held in the input and the table, item by item.
+-- Where the walk goes on: after an item, into a branch, and what a walk from there gives. The plan is held in the input and the notes, item by item.
 -- Assumes nothing.
 use Prim.Native.Nat.{ℕ, _+_, _-_, _≤_, _<_}
 use native.Mathlib.Omega.{arith}
@@ -60,7 +60,7 @@ module _ (s t : List ℕ) (here : At-hand s t) where
     unfolding span
     span-some = rw (laid .rest) (some-item (laid .this))
 
--- AFTER AN ITEM. What the table has leads on to what is left after item i.
+-- AFTER AN ITEM. What the notes have leads on to what is left after item i.
 module _ (b : Sequence ℕ) (at : ℕ) where
   onward-item : at ≤ format .items → onward b at ≡ rest-at b at
   unfolding onward

@@ -1,4 +1,4 @@
--- The lines of an action stand in the input where the table of the request has them: they are fit to be read, and what is asked of the bytes there
+-- The lines of an action stand in the input where the notes of the request have them: they are fit to be read, and what is asked of the bytes there
 -- is what is asked of the lines. Assumes nothing.
 use Prim.Native.Nat.{ℕ, _+_}
 use mathlib.Core.Path.{_≡_, refl, ap}
@@ -16,9 +16,9 @@ use Rattle.finding.specs.LinesHere.{effect-from, Effect-here}
 use Rattle.finding.proofs.ReadLaws.{effect-good}
 use Rattle.steps.specs.Held.{table-in}
 use Rattle.steps.specs.AtHand.{At-hand}
-use Rattle.steps.specs.Lines.{run-places, effect-places, allowed-at, given-at}
+use Rattle.steps.specs.LinesFound.{run-places, effect-places, allowed-at, given-at}
 use Rattle.steps.proofs.HandLaws.{sections}
-use Rattle.steps.proofs.StandLaws.{run-stands}
+use Rattle.steps.proofs.SectionsStand.{run-stands}
 
 -- THE PLACES of the lines that pass a test: each is that of a line, and what some place passes some line passes, where the two tests agree.
 module _ {A : Type 0} (stands : A → ℕ) (acts : A → Bool) where

@@ -1,5 +1,5 @@
--- A request at hand: the input has each section of it where the table says, and the table leads to its lines and through its plan. How the
--- table came to be, and what the input has behind the whether list, is not asked.
+-- A request at hand: the input has each section of it where the notes say, and the notes lead to its lines and through its plan. How the
+-- notes came to be, and what the input has behind the whether list, is not asked.
 use Prim.Native.Nat.{ℕ, _≤_, _<_}
 use mathlib.Core.Path.{_≡_}
 use mathlib.Core.List.{List}
@@ -11,19 +11,19 @@ use Rattle.reading.specs.Ordered.{In-order}
 use Rattle.reading.specs.Listed.{listed}
 use Rattle.finding.specs.PlansHeld.{Plan-held}
 use Rattle.steps.specs.Held.{table-in, plan-in, goals-in, whether-in}
-use Rattle.steps.specs.Lines.{run-places, effect-places, Senses}
+use Rattle.steps.specs.LinesFound.{run-places, effect-places, Senses}
 use Rattle.steps.specs.Rests.{Nexts}
 
 pub record At-hand (s t : List ℕ) : Type 0 where
   pub bytes : (i : ℕ) → getD s i 0 < 256
   pub short : length s ≤ format .request
-  -- Sections 1 to 5 stand at the start, and the table leads to each action's lines in file order and to what it senses.
+  -- Sections 1 to 5 stand at the start, and the notes lead to each action's lines in file order and to what it senses.
   pub table-end : ℕ
   pub table : table-at format s 0 ≡ got (table-in s) table-end
   pub effects : (a : ℕ) → a < format .actions → In-order t effect-lines a (effect-places s a)
   pub runs : (a : ℕ) → a < format .actions → In-order t run-lines a (run-places s a)
   pub senses : (a : ℕ) → a < format .actions → Senses s t a
-  -- The plan stands from its slot up to the goals, and the table leads from item to item.
+  -- The plan stands from its slot up to the goals, and the notes lead from item to item.
   pub plan : plan-at format (table-in s .fluents) (table-in s .actions) s (getD t plan-slot 0) ≡ got (record { value = plan-in s t; items = getD t items-slot 0 }) (goals-in t)
   pub held : Plan-held s t (plan-in s t)
   pub nexts : Nexts t (format .items) 0 (plan-in s t)

@@ -1,6 +1,6 @@
 pub mod Held
 pub mod Small
-pub mod Lines
+pub mod LinesFound
 pub mod Rests
 pub mod AtHand
 pub mod Steps

@@ -43,7 +43,7 @@ unfoldable pub span : Sequence ℕ → ℕ
 span done = 0
 span (item x b) = items-in x
 
--- By what the table has as an item's next: an item, 1024, or 1025 and the number of a branching (see the table's slots).
+-- By what the notes have as an item's next: an item, 1024, or 1025 and the number of a branching (see the notes' slots).
 unfoldable pub onward : Sequence ℕ → ℕ → Sequence ℕ
 onward b c = pick (leb c (format .items)) (λ _. rest-at b c) (λ _. after-first (rest-at b (c - around-from)))
 

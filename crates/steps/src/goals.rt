@@ -12,9 +12,9 @@ use finding::places::Found;
 use reading::marks::Marks;
 use reading::marks::Test;
 use reading::marks::holds;
-use reading::table;
-use reading::table::Table;
-use reading::table::get;
+use reading::notes;
+use reading::notes::Notes;
+use reading::notes::get;
 
 // What is asked at the end: that a literal is known, or that it is known whether a fluent is true.
 pub enum Asked {
@@ -54,12 +54,12 @@ fn first_missed(asked: Asked, marks: &Marks, s: &[u8], p: usize) -> Found
 }
 
 // The first goal or whether entry that an end state misses.
-pub fn missed(s: &[u8], t: &Table, marks: &Marks) -> Found
+pub fn missed(s: &[u8], t: &Notes, marks: &Marks) -> Found
     requires { ⌜ At-hand (now s) (now t) ⌝ }
     requires { ⌜ Marked (now marks) ⌝ }
     ensures { λ r. ⌜ r ≡ found (missed-in (request-in (now (s .entry)) (now (t .entry))) (now (marks .entry))) ⌝ }
 {
-    let goals = get(t, table::GOALS);
+    let goals = get(t, notes::GOALS);
     match first_missed(Asked::Goal, marks, s, goals) {
         Found::At(p) => Found::At(p),
         Found::Nowhere => {

@@ -16,28 +16,28 @@ use finding::places::Found;
 use reading::marks::Marks;
 use reading::marks::Test;
 use reading::marks::each_holds;
-use reading::table;
-use reading::table::Table;
-use reading::table::get;
+use reading::notes;
+use reading::notes::Notes;
+use reading::notes::get;
 
 // The position after item i: the next item of its sequence, or else what follows the branchings that end with it.
-pub fn follow(s: &[u8], t: &Table, i: usize) -> usize
+pub fn follow(s: &[u8], t: &Notes, i: usize) -> usize
     requires { ⌜ At-hand (now s) (now t) ⌝ }
     requires { ⌜ i < items-of (plan-in (now s) (now t)) ⌝ }
     ensures { λ r. ⌜ Followed (now (s .entry)) (now (t .entry)) i r ⌝ }
 {
-    let slot = table::ITEM_NEXT + i;
+    let slot = notes::ITEM_NEXT + i;
     let mut at = get(t, slot);
     while limits::ITEMS < at {
-        let around = at - table::AROUND_FROM;
-        let next = table::ITEM_NEXT + around;
+        let around = at - notes::AROUND_FROM;
+        let next = notes::ITEM_NEXT + around;
         at = get(t, next);
     }
     at
 }
 
 // Where the branch begins that has its condition at p and `item` items before it; with no item of its own, after branching i.
-fn into(s: &[u8], t: &Table, i: usize, p: usize, item: usize) -> usize
+fn into(s: &[u8], t: &Notes, i: usize, p: usize, item: usize) -> usize
     requires { ⌜ At-hand (now s) (now t) ⌝ }
     requires { ⌜ i < items-of (plan-in (now s) (now t)) ⌝ }
     requires { ⌜ Branch-here (now s) p item ⌝ }
@@ -52,13 +52,13 @@ fn into(s: &[u8], t: &Table, i: usize, p: usize, item: usize) -> usize
 }
 
 // Where the walk goes on from the branching that is item i: in the branch whose condition is known true.
-pub fn chosen(s: &[u8], t: &Table, i: usize, marks: &Marks) -> Found
+pub fn chosen(s: &[u8], t: &Notes, i: usize, marks: &Marks) -> Found
     requires { ⌜ At-hand (now s) (now t) ⌝ }
     requires { ⌜ i < items-of (plan-in (now s) (now t)) ⌝ }
     requires { ⌜ getD (now s) (getD (now t) (0 + i) 0) 0 ≡ 255 ⌝ }
     ensures { λ r. ⌜ Chosen (now (s .entry)) (now (t .entry)) i (now (marks .entry)) r ⌝ }
 {
-    let slot = table::ITEM_PLACE + i;
+    let slot = notes::ITEM_PLACE + i;
     let start = get(t, slot);
     let second = start + 1;
     let mut left = wide(s[second]);

@@ -8,23 +8,23 @@ ghost use Rattle.steps.specs.AtHand.{At-hand, Marked};
 ghost use Rattle.steps.specs.Steps.{unknown-above, first-of};
 use bytes::limits;
 use reading::marks::Marks;
-use reading::table;
-use reading::table::Table;
-use reading::table::get;
+use reading::notes;
+use reading::notes::Notes;
+use reading::notes::get;
 
 // The action has a knowledge line.
-pub fn is_sensing(s: &[u8], t: &Table, a: usize) -> bool
+pub fn is_sensing(s: &[u8], t: &Notes, a: usize) -> bool
     requires { ⌜ At-hand (now s) (now t) ⌝ }
     requires { ⌜ a < format .actions ⌝ }
     ensures { λ r. ⌜ r ≡ sensing (table-in (now (s .entry))) a ⌝ }
 {
-    let slot = table::SENSED_TO + a;
+    let slot = notes::SENSED_TO + a;
     let end = get(t, slot);
     0 < end
 }
 
 // The action has a knowledge line for the fluent.
-pub fn looks_at(s: &[u8], t: &Table, a: usize, f: usize) -> bool
+pub fn looks_at(s: &[u8], t: &Notes, a: usize, f: usize) -> bool
     requires { ⌜ At-hand (now s) (now t) ⌝ }
     requires { ⌜ a < format .actions ⌝ }
     requires { ⌜ f < format .fluents ⌝ }
@@ -32,19 +32,19 @@ pub fn looks_at(s: &[u8], t: &Table, a: usize, f: usize) -> bool
 {
     let row = limits::FLUENTS * a;
     let pair = row + f;
-    let slot = table::SENSED + pair;
+    let slot = notes::SENSED + pair;
     let sensed = get(t, slot);
     0 < sensed
 }
 
 // The first fluent from `from` up that the action senses and that is unknown; 64 where there is none.
-pub fn next_unknown(s: &[u8], t: &Table, a: usize, from: usize, marks: &Marks) -> usize
+pub fn next_unknown(s: &[u8], t: &Notes, a: usize, from: usize, marks: &Marks) -> usize
     requires { ⌜ At-hand (now s) (now t) ⌝ }
     requires { ⌜ a < format .actions ⌝ }
     requires { ⌜ Marked (now marks) ⌝ }
     ensures { λ r. ⌜ r ≡ first-of (unknown-above (table-in (now (s .entry))) a (now (marks .entry)) from) ⌝ }
 {
-    let last = table::SENSED_TO + a;
+    let last = notes::SENSED_TO + a;
     let end = get(t, last);
     let row = limits::FLUENTS * a;
     let mut f = from;
@@ -53,7 +53,7 @@ pub fn next_unknown(s: &[u8], t: &Table, a: usize, from: usize, marks: &Marks) -
         f += 1;
         if marks[here] == 0 {
             let pair = row + here;
-            let slot = table::SENSED + pair;
+            let slot = notes::SENSED + pair;
             let sensed = get(t, slot);
             if 0 < sensed {
                 return here;
@@ -64,13 +64,13 @@ pub fn next_unknown(s: &[u8], t: &Table, a: usize, from: usize, marks: &Marks) -
 }
 
 // The first of all that it senses and that is unknown.
-pub fn first_unknown(s: &[u8], t: &Table, a: usize, marks: &Marks) -> usize
+pub fn first_unknown(s: &[u8], t: &Notes, a: usize, marks: &Marks) -> usize
     requires { ⌜ At-hand (now s) (now t) ⌝ }
     requires { ⌜ a < format .actions ⌝ }
     requires { ⌜ Marked (now marks) ⌝ }
     ensures { λ r. ⌜ r ≡ first-of (unknown-sensed (table-in (now (s .entry))) a (now (marks .entry))) ⌝ }
 {
-    let slot = table::SENSED_FROM + a;
+    let slot = notes::SENSED_FROM + a;
     let back = get(t, slot);
     let from = limits::FLUENTS - back;
     next_unknown(s, t, a, from, marks)

@@ -16,11 +16,11 @@ use Rattle.steps.specs.Held.{table-in}
 use Rattle.steps.specs.AtHand.{Marked}
 use Rattle.steps.specs.Steps.{walk-from, walk-after, first-of, unknown-above, Followed}
 use Rattle.steps.proofs.OnwardLaws.{followed-walks}
-use Rattle.steps.proofs.SensingLaws.{first-marked, second-marked, told-true, told-false, unknown-after-set, unknown-first, unknown-first-above, unknown-no-first}
+use Rattle.steps.proofs.LookLaws.{first-marked, second-marked, told-true, told-false, unknown-after-set, unknown-first, unknown-first-above, unknown-no-first}
 use Rattle.walking.specs.Standing.{Standing, add, standing}
 use Rattle.walking.specs.Walks.{action-at, read-on, fork-from}
 use Rattle.walking.proofs.StandingLaws.{add-then}
-use Rattle.walking.proofs.WalkLaws.{over}
+use Rattle.walking.proofs.WalkArms.{over}
 
 module _ (s t : List ℕ) (i f : ℕ) (marks : State) (small : f < format .fluents) (marked : Marked marks) where
   -- The first reading and then the second.

@@ -18,9 +18,9 @@ use bytes::bytes::wide;
 use bytes::limits;
 use finding::places::Found;
 use reading::marks::Marks;
-use reading::table;
-use reading::table::Table;
-use reading::table::get;
+use reading::notes;
+use reading::notes::Notes;
+use reading::notes::get;
 use steps::actions::can_be_run;
 use steps::actions::state_after;
 use steps::goals::missed;
@@ -31,7 +31,7 @@ use steps::sensing::is_sensing;
 use steps::sensing::next_unknown;
 
 // An end state is judged.
-fn judge_end(s: &[u8], t: &Table, marks: &Marks, tally: &mut Tally)
+fn judge_end(s: &[u8], t: &Notes, marks: &Marks, tally: &mut Tally)
     requires { ⌜ At-hand (now s) (now t) ⌝ }
     requires { ⌜ Marked (now marks) ⌝ }
     requires { ⌜ Going (now tally) ⌝ }
@@ -52,7 +52,7 @@ fn judge_end(s: &[u8], t: &Table, marks: &Marks, tally: &mut Tally)
 }
 
 // The plan from a position on.
-pub fn walk(s: &[u8], t: &Table, at: usize, marks: Marks, tally: &mut Tally)
+pub fn walk(s: &[u8], t: &Notes, at: usize, marks: Marks, tally: &mut Tally)
     requires { ⌜ At-hand (now s) (now t) ⌝ }
     requires { ⌜ Position (plan-in (now s) (now t)) at ⌝ }
     requires { ⌜ Marked marks ⌝ }
@@ -62,7 +62,7 @@ pub fn walk(s: &[u8], t: &Table, at: usize, marks: Marks, tally: &mut Tally)
     let mut i = at;
     let mut state = marks;
     while i < limits::ITEMS {
-        let slot = table::ITEM_PLACE + i;
+        let slot = notes::ITEM_PLACE + i;
         let p = get(t, slot);
         if s[p] == limits::BRANCHING_BYTE {
             walk_branching(s, t, i, state, tally);
@@ -97,7 +97,7 @@ pub fn walk(s: &[u8], t: &Table, at: usize, marks: Marks, tally: &mut Tally)
 }
 
 // The branching that is item i.
-fn walk_branching(s: &[u8], t: &Table, i: usize, marks: Marks, tally: &mut Tally)
+fn walk_branching(s: &[u8], t: &Notes, i: usize, marks: Marks, tally: &mut Tally)
     requires { ⌜ At-hand (now s) (now t) ⌝ }
     requires { ⌜ i < items-of (plan-in (now s) (now t)) ⌝ }
     requires { ⌜ action-at (now s) (now t) i ≡ 255 ⌝ }
@@ -111,7 +111,7 @@ fn walk_branching(s: &[u8], t: &Table, i: usize, marks: Marks, tally: &mut Tally
             return;
         }
         Found::Nowhere => {
-            let slot = table::ITEM_PLACE + i;
+            let slot = notes::ITEM_PLACE + i;
             let p = get(t, slot);
             note(tally, tally::STUCK, p, &marks);
             return;
@@ -120,7 +120,7 @@ fn walk_branching(s: &[u8], t: &Table, i: usize, marks: Marks, tally: &mut Tally
 }
 
 // The readings of fluent f and of the unknown ones above it that the action senses, which is item i; then what follows it.
-fn fork(s: &[u8], t: &Table, i: usize, f: usize, marks: Marks, tally: &mut Tally)
+fn fork(s: &[u8], t: &Notes, i: usize, f: usize, marks: Marks, tally: &mut Tally)
     requires { ⌜ At-hand (now s) (now t) ⌝ }
     requires { ⌜ i < items-of (plan-in (now s) (now t)) ⌝ }
     requires { ⌜ action-at (now s) (now t) i < format .actions ⌝ }
@@ -129,7 +129,7 @@ fn fork(s: &[u8], t: &Table, i: usize, f: usize, marks: Marks, tally: &mut Tally
     requires { ⌜ Going (now tally) ⌝ }
     ensures { λ _. ⌜ standing (now (tally .exit)) ≡ add (standing (now (tally .entry))) (fork-from (now (s .entry)) (now (t .entry)) i f marks) ⌝ }
 {
-    let slot = table::ITEM_PLACE + i;
+    let slot = notes::ITEM_PLACE + i;
     let p = get(t, slot);
     let a = wide(s[p]);
     let above = f + 1;

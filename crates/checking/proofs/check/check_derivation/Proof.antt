@@ -8,7 +8,7 @@ use Rattle.checking.proofs.check.check_derivation.Reads as reads
 use Rattle.checking.proofs.check.check_derivation.Lts as lts
 use Rattle.bytes.proofs.bytes.two.Reads as two-reads
 use Rattle.bytes.proofs.bytes.wide.Reads as wide-reads
-use Rattle.checking.proofs.lines.check_lines.Reads as check-lines-reads
+use Rattle.checking.proofs.each_line.check_lines.Reads as check-lines-reads
 use Rattle.checking.proofs.question.check_end.Reads as check-end-reads
 use Rattle.deriving.proofs.derivations.sized.Reads as sized-reads
 use Rattle.deriving.proofs.derived.settle_derivation.Reads as settle-derivation-reads

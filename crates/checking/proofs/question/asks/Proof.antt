@@ -8,7 +8,7 @@ use Rattle.checking.proofs.question.asks.Reads as reads
 use Rattle.checking.proofs.question.asks.Lts as lts
 use Rattle.checking.proofs.question.from_the_facts.Reads as from-the-facts-reads
 use Rattle.comparing.proofs.parts.same_lists.Reads as same-lists-reads
-use Rattle.reading.proofs.table.get.Reads as get-reads
+use Rattle.reading.proofs.notes.get.Reads as get-reads
 
 -- src/question.rt:58:9
 from-the-facts-requires : tie.Need-from-the-facts-requires

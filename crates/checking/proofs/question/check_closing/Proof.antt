@@ -10,7 +10,7 @@ use Rattle.bytes.proofs.bytes.wide.Reads as wide-reads
 use Rattle.checking.proofs.question.check_fluents.Reads as check-fluents-reads
 use Rattle.checking.proofs.question.names.Reads as names-reads
 use Rattle.deriving.proofs.derived.place_of.Reads as place-of-reads
-use Rattle.reading.proofs.table.get.Reads as get-reads
+use Rattle.reading.proofs.notes.get.Reads as get-reads
 use Rattle.finding.proofs.branches.sequence_of.Reads as sequence-of-reads
 
 -- src/question.rt:141:9

@@ -1,4 +1,4 @@
--- The facts stand at place 2 of the request, and its plan up to its goals where the table says.
+-- The facts stand at place 2 of the request, and its plan up to its goals where the notes say.
 use Rattle.steps.proofs.HandLaws.{facts-here}
 use Rattle.checking.proofs.QuestionLaws.{asked-some, other-facts, same-facts, own-plan}
 use borrow.Author.Needs.{needs}
@@ -8,7 +8,7 @@ use Rattle.checking.proofs.question.from_the_facts.Reads as reads
 use Rattle.checking.proofs.question.from_the_facts.Lts as lts
 use Rattle.comparing.proofs.parts.same_lists.Reads as same-lists-reads
 use Rattle.comparing.proofs.plans.same_plans.Reads as same-plans-reads
-use Rattle.reading.proofs.table.get.Reads as get-reads
+use Rattle.reading.proofs.notes.get.Reads as get-reads
 use Rattle.finding.proofs.branches.sequence_of.Reads as sequence-of-reads
 
 -- src/question.rt:41:9

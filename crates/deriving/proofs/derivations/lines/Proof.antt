@@ -1,4 +1,4 @@
--- `lines` meets its contract: a walk of its MIR, by hand. The struct is taken apart, and slice, number and both arrays go to `lines_from`, of which nothing is known here but that it meets its contract.
+-- `lines` meets its contract: a proof by hand through its MIR. The struct is taken apart, and slice, number and both arrays go to `lines_from`, of which nothing is known here but that it meets its contract.
 -- The struct can be copied, so what it owns is had twice: one copy is left for the exit, and of the other the slice's part goes to the callee. The arrays' borrows go there at their own lifetimes, shares and names, and for good: what the callee says of the last places under that name is what is said at exit.
 -- The layout owns only facts, as a number does: what it owns is had for nothing, from the relation that is known at entry.
 -- Assumes nothing.
@@ -55,11 +55,11 @@ use Rattle.bytes.proofs.lists.Passed as P
 use Rattle.bytes.proofs.lists.Passed.Laws as P′
 use Rattle.reading.specs.Noted.{noting, outcome}
 use Rattle.reader.specs.declared.Reader.{Reader}
-use Rattle.reader.proofs.Lent.{Slots}
+use Rattle.reader.proofs.LentArrays.{Slots}
 use Rattle.reader.proofs.Reader as T
 use Rattle.reader.proofs.Reader.Laws as T′
 use Rattle.deriving.specs.DerivationRead.{places-noted}
-use Rattle.deriving.proofs.Walked.{Spots, learns, shows-all}
+use Rattle.deriving.proofs.ByHand.{Spots, learns, shows-all}
 use Rattle.deriving.proofs.derivations.lines_from as lines-from
 use Rattle.deriving.proofs.derivations.lines_from.Symbol as lines-from-def
 use Rattle.deriving.proofs.derivations.lines_from.Symbol.{name as #deriving·derivations·lines-from}
@@ -94,7 +94,7 @@ module _ {M : Type 1} (𝓤 : URA M) (H : Heap 𝓤) (A : Atoms 𝓤) (W : Given
   abbrev vo : Val
   vo = EL.val O.the-type O′.the-laws o
 
-  -- the machine values of src, of the table's borrow and of the places'
+  -- the machine values of src, of the notes' borrow and of the places'
   abbrev v : Val
   v = sliceVal (d .src .ptr) (length (d .src .now))
 
@@ -123,7 +123,7 @@ module _ {M : Type 1} (𝓤 : URA M) (H : Heap 𝓤) (A : Atoms 𝓤) (W : Given
   abbrev Own : Fml
   Own = B κs .own d (mach ∷ [])
 
-  -- what says the last table and the last places
+  -- what says the last notes and the last places
   abbrev Last : List ℕ → List ℕ → Fml
   Last ws zs = fsep (fres (x .name) (Slots .coded .code ws)) (fsep (fres (y .name) (Spots .coded .code zs)) ftrue)
 

@@ -1,4 +1,4 @@
--- `read_lines` meets its contract: a walk of its MIR, by hand. What `new` returns, and then what `moved` returns, is held in a local, and the latter is handed to `lines`, with both arrays; of the three nothing is known here but that they meet their contracts. `new` and `moved` say that the slice is the one passed and the place the number passed, so what `lines` says of the struct is what is promised of the slice and the number.
+-- `read_lines` meets its contract: a proof by hand through its MIR. What `new` returns, and then what `moved` returns, is held in a local, and the latter is handed to `lines`, with both arrays; of the three nothing is known here but that they meet their contracts. `new` and `moved` say that the slice is the one passed and the place the number passed, so what `lines` says of the struct is what is promised of the slice and the number.
 -- A local's type has its lifetime erased, so each struct's machine value is shown to have that type too. The arrays' borrows go to `lines` for good, and what that says of the last places is what is said at exit.
 -- The layout owns only facts, as a number does: what it owns is had for nothing, from the relation that is known at entry.
 -- Assumes nothing.
@@ -50,7 +50,7 @@ use Rattle.bytes.proofs.lists.Passed as P
 use Rattle.bytes.proofs.lists.Passed.Laws as P′
 use Rattle.reading.specs.Noted.{noting, outcome}
 use Rattle.reader.specs.declared.Reader.{Reader}
-use Rattle.reader.proofs.Lent.{Slots}
+use Rattle.reader.proofs.LentArrays.{Slots}
 use Rattle.reader.proofs.Reader as T
 use Rattle.reader.proofs.Reader.Laws as T′
 use Rattle.reader.proofs.new as new
@@ -62,7 +62,7 @@ use Rattle.reader.proofs.moved.Symbol as moved-def
 use Rattle.reader.proofs.moved.Symbol.{name as #reader·moved}
 use Rattle.reader.proofs.moved.Met as moved-thm
 use Rattle.deriving.specs.DerivationRead.{places-noted}
-use Rattle.deriving.proofs.Walked.{Spots, learns, shows-all}
+use Rattle.deriving.proofs.ByHand.{Spots, learns, shows-all}
 use Rattle.deriving.proofs.derivations.lines as lines
 use Rattle.deriving.proofs.derivations.lines.Symbol as lines-def
 use Rattle.deriving.proofs.derivations.lines.Symbol.{name as #deriving·derivations·lines}
@@ -104,7 +104,7 @@ module _ {M : Type 1} (𝓤 : URA M) (H : Heap 𝓤) (A : Atoms 𝓤) (W : Given
   abbrev vo : Val
   vo = EL.val O.the-type O′.the-laws o
 
-  -- the machine values of s, of the table's borrow and of the places'
+  -- the machine values of s, of the notes' borrow and of the places'
   abbrev v : Val
   v = sliceVal (s .ptr) (length (s .now))
 

@@ -7,7 +7,7 @@ use Rattle.finding.proofs.branches.next_place.Reads as reads
 use Rattle.finding.proofs.branches.next_place.Lts as lts
 use Rattle.finding.proofs.branches.empty.Reads as empty-reads
 use Rattle.finding.proofs.branches.sequence_of.Reads as sequence-of-reads
-use Rattle.reading.proofs.table.get.Reads as get-reads
+use Rattle.reading.proofs.notes.get.Reads as get-reads
 
 -- src/overlaps.rt:47:9
 sequence-of-requires : tie.Need-sequence-of-requires

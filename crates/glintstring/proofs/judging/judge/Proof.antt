@@ -1,7 +1,7 @@
 -- The three ways out: another length than 64, a refusal, and the walk of a settled request. Each is a case of the definition.
 use borrow.Author.Needs.{needs}
 use Rattle.glintstring.proofs.JudgingLaws.{judge-9, judge-walked, judge-refused}
-use Rattle.glintstring.proofs.SettledLaws.{blank-is, settled-at-hand}
+use Rattle.glintstring.proofs.SettledAtHand.{blank-is, settled-at-hand}
 use Rattle.glintstring.proofs.judging.judge.Statement.{statement}
 use Rattle.glintstring.proofs.judging.judge.Tie as tie
 use Rattle.glintstring.proofs.judging.judge.Reads as reads

@@ -12,7 +12,7 @@ use Rattle.glintstring.proofs.judging.walk_plan.Lts as lts
 use Rattle.glintstring.proofs.judging.start_of.Reads as start-of-reads
 use Rattle.glintstring.proofs.telling.tell.Reads as tell-reads
 use Rattle.reading.proofs.marks.state_of.Reads as state-of-reads
-use Rattle.reading.proofs.table.get.Reads as get-reads
+use Rattle.reading.proofs.notes.get.Reads as get-reads
 use Rattle.walking.proofs.tally.opened.Reads as opened-reads
 use Rattle.walking.proofs.walk.walk.Reads as walk-reads
 

@@ -7,7 +7,7 @@ use Rattle.refusing.proofs.refusal_16.contradicted.Reads as reads
 use Rattle.refusing.proofs.refusal_16.contradicted.Lts as lts
 use Rattle.bytes.proofs.bytes.wide.Reads as wide-reads
 use Rattle.reading.proofs.marks.state_of.Reads as state-of-reads
-use Rattle.reading.proofs.table.line_place.Reads as line-place-reads
+use Rattle.reading.proofs.notes.line_place.Reads as line-place-reads
 use Rattle.refusing.proofs.refusal_16.contradicts.Reads as contradicts-reads
 use Rattle.refusing.proofs.refusal_16.pair_at.Reads as pair-at-reads
 

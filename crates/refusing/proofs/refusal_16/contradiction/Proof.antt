@@ -11,7 +11,7 @@ use Rattle.refusing.proofs.refusal_16.contradiction.Statement.{statemen
 use Rattle.refusing.proofs.refusal_16.contradiction.Tie as tie
 use Rattle.refusing.proofs.refusal_16.contradiction.Reads as reads
 use Rattle.refusing.proofs.refusal_16.contradiction.Lts as lts
-use Rattle.reading.proofs.table.line_place.Reads as line-place-reads
+use Rattle.reading.proofs.notes.line_place.Reads as line-place-reads
 use Rattle.refusing.proofs.refusal_16.contradicted.Reads as contradicted-reads
 use Rattle.refusing.proofs.refusal_16.link_pair.Reads as link-pair-reads
 use Rattle.refusing.proofs.refusal_16.pair_at.Reads as pair-at-reads

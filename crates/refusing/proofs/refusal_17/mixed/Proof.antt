@@ -7,7 +7,7 @@ use Rattle.refusing.proofs.refusal_17.mixed.Tie as tie
 use Rattle.refusing.proofs.refusal_17.mixed.Reads as reads
 use Rattle.refusing.proofs.refusal_17.mixed.Lts as lts
 use Rattle.bytes.proofs.bytes.wide.Reads as wide-reads
-use Rattle.reading.proofs.table.first_line.Reads as first-line-reads
+use Rattle.reading.proofs.notes.first_line.Reads as first-line-reads
 
 abbrev Inv-loop : tie.InvT-loop
 Inv-loop s t start count k₀ k = Looked s t start count k

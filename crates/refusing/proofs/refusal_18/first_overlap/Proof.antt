@@ -11,7 +11,7 @@ use Rattle.refusing.proofs.refusal_18.first_overlap.Tie as tie
 use Rattle.refusing.proofs.refusal_18.first_overlap.Reads as reads
 use Rattle.refusing.proofs.refusal_18.first_overlap.Lts as lts
 use Rattle.refusing.proofs.refusal_18.apart.Reads as apart-reads
-use Rattle.reading.proofs.table.get.Reads as get-reads
+use Rattle.reading.proofs.notes.get.Reads as get-reads
 
 abbrev Inv-loop : tie.InvT-loop
 Inv-loop s t count i₀ i = found (first-overlap s t count 0) ≡ found (first-overlap s t (count - i) i)

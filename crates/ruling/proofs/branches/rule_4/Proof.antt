@@ -1,5 +1,5 @@
 -- X and the conclusions are compared first, so that the plans are left. The line's plan, which was read before, is read again without a fault, and
--- the table then holds its branching. No other plan has a branching first.
+-- the notes then hold its branching. No other plan has a branching first.
 use Rattle.ruling.proofs.RuleLaws.{some-plan}
 use Rattle.ruling.proofs.BranchRuleLaws.{starts-other, ends-other, plan-counted, first-fits, count-none, first-there, other-first, branching-first, rule-by-branch, read-again}
 use borrow.Author.Needs.{needs}
@@ -12,7 +12,7 @@ use Rattle.comparing.proofs.plans.count_of.Reads as count-of-reads
 use Rattle.comparing.proofs.spots.same_conclusions.Reads as same-conclusions-reads
 use Rattle.reading.proofs.marks.state_of.Reads as state-of-reads
 use Rattle.reading.proofs.plan.plan_at.Reads as plan-at-reads
-use Rattle.reading.proofs.table.sized.Reads as sized-reads
+use Rattle.reading.proofs.notes.sized.Reads as sized-reads
 use Rattle.finding.proofs.branches.sequence_of.Reads as sequence-of-reads
 use Rattle.ruling.proofs.branches.some_branch.Reads as some-branch-reads
 

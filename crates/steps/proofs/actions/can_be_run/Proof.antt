@@ -8,9 +8,9 @@ use Rattle.steps.proofs.actions.can_be_run.Tie as tie
 use Rattle.steps.proofs.actions.can_be_run.Reads as reads
 use Rattle.steps.proofs.actions.can_be_run.Lts as lts
 use Rattle.reading.proofs.marks.each_holds.Reads as each-holds-reads
-use Rattle.reading.proofs.table.first_line.Reads as first-line-reads
-use Rattle.reading.proofs.table.line_place.Reads as line-place-reads
-use Rattle.reading.proofs.table.next_line.Reads as next-line-reads
+use Rattle.reading.proofs.notes.first_line.Reads as first-line-reads
+use Rattle.reading.proofs.notes.line_place.Reads as line-place-reads
+use Rattle.reading.proofs.notes.next_line.Reads as next-line-reads
 
 abbrev Inv-loop : tie.InvT-loop
 Inv-loop s t a marks k₀ k = Running s t marks (can-be-run (table-in s) a marks) k

@@ -9,9 +9,9 @@ use Rattle.steps.proofs.actions.left.Lts as lts
 use Rattle.bytes.proofs.bytes.wide.Reads as wide-reads
 use Rattle.reading.proofs.marks.each_holds.Reads as each-holds-reads
 use Rattle.reading.proofs.marks.mark_of.Reads as mark-of-reads
-use Rattle.reading.proofs.table.first_line.Reads as first-line-reads
-use Rattle.reading.proofs.table.line_place.Reads as line-place-reads
-use Rattle.reading.proofs.table.next_line.Reads as next-line-reads
+use Rattle.reading.proofs.notes.first_line.Reads as first-line-reads
+use Rattle.reading.proofs.notes.line_place.Reads as line-place-reads
+use Rattle.reading.proofs.notes.next_line.Reads as next-line-reads
 
 abbrev Inv-loop : tie.InvT-loop
 Inv-loop s t a marks next₀ k₀ next k = Leaving s t a marks next₀ next k

@@ -10,9 +10,9 @@ use Rattle.steps.proofs.actions.state_after.Lts as lts
 use Rattle.bytes.proofs.bytes.wide.Reads as wide-reads
 use Rattle.reading.proofs.marks.each_holds.Reads as each-holds-reads
 use Rattle.reading.proofs.marks.mark_of.Reads as mark-of-reads
-use Rattle.reading.proofs.table.first_line.Reads as first-line-reads
-use Rattle.reading.proofs.table.line_place.Reads as line-place-reads
-use Rattle.reading.proofs.table.next_line.Reads as next-line-reads
+use Rattle.reading.proofs.notes.first_line.Reads as first-line-reads
+use Rattle.reading.proofs.notes.line_place.Reads as line-place-reads
+use Rattle.reading.proofs.notes.next_line.Reads as next-line-reads
 use Rattle.steps.proofs.actions.left.Reads as left-reads
 
 abbrev Inv-loop : tie.InvT-loop

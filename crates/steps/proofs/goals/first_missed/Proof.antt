@@ -6,7 +6,7 @@ use Rattle.meaning.specs.Walk.{first-missed}
 use Rattle.finding.specs.Places.{found}
 use Rattle.reading.specs.Listed.{bytes-from, listed}
 use Rattle.steps.specs.Steps.{met-as}
-use Rattle.steps.proofs.EndLaws.{list-there, list-fits, missed-starts, entry-there, entry-fits, entry-below, missed-here, missed-next, missed-done}
+use Rattle.steps.proofs.MissLaws.{list-there, list-fits, missed-starts, entry-there, entry-fits, entry-below, missed-here, missed-next, missed-done}
 use borrow.Author.Needs.{needs}
 use Rattle.steps.proofs.goals.first_missed.Statement.{statement}
 use Rattle.steps.proofs.goals.first_missed.Tie as tie

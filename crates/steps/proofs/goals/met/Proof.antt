@@ -1,5 +1,5 @@
 -- A goal is looked up as a literal known true; a whether entry by its mark, which is 1 or 2 where it is above 0.
-use Rattle.steps.proofs.EndLaws.{goal-below, fluent-below, goal-met, whether-met}
+use Rattle.steps.proofs.MissLaws.{goal-below, fluent-below, goal-met, whether-met}
 use borrow.Author.Needs.{needs}
 use Rattle.steps.proofs.goals.met.Statement.{statement}
 use Rattle.steps.proofs.goals.met.Tie as tie

@@ -1,12 +1,12 @@
--- The goals stand where the table says and the whether entries after them; the first that one of the two lists misses is what is missed.
-use Rattle.steps.proofs.EndLaws.{goals-there, goals-inside, after-fits, whether-fits, whether-there, goal-missed, whether-missed}
+-- The goals stand where the notes say and the whether entries after them; the first that one of the two lists misses is what is missed.
+use Rattle.steps.proofs.MissLaws.{goals-there, goals-inside, after-fits, whether-fits, whether-there, goal-missed, whether-missed}
 use borrow.Author.Needs.{needs}
 use Rattle.steps.proofs.goals.missed.Statement.{statement}
 use Rattle.steps.proofs.goals.missed.Tie as tie
 use Rattle.steps.proofs.goals.missed.Reads as reads
 use Rattle.steps.proofs.goals.missed.Lts as lts
 use Rattle.bytes.proofs.bytes.wide.Reads as wide-reads
-use Rattle.reading.proofs.table.get.Reads as get-reads
+use Rattle.reading.proofs.notes.get.Reads as get-reads
 use Rattle.steps.proofs.goals.first_missed.Reads as first-missed-reads
 
 -- src/goals.rt:61:9

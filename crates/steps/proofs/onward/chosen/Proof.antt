@@ -10,7 +10,7 @@ use Rattle.bytes.proofs.bytes.wide.Reads as wide-reads
 use Rattle.reading.proofs.marks.each_holds.Reads as each-holds-reads
 use Rattle.finding.proofs.branches.next_item.Reads as next-item-reads
 use Rattle.finding.proofs.branches.next_place.Reads as next-place-reads
-use Rattle.reading.proofs.table.get.Reads as get-reads
+use Rattle.reading.proofs.notes.get.Reads as get-reads
 use Rattle.steps.proofs.onward.into.Reads as into-reads
 
 abbrev Inv-loop : tie.InvT-loop

@@ -1,11 +1,11 @@
--- What the table has as the item's next, and then as the next of each branching around it, leads on to what is left after the item.
+-- What the notes have as the item's next, and then as the next of each branching around it, leads on to what is left after the item.
 use Rattle.steps.proofs.OnwardLaws.{Going, slot-fits, slot-there, going-starts, goes-there, around-fits, around-there, going-less, going-on-around}
 use borrow.Author.Needs.{needs}
 use Rattle.steps.proofs.onward.follow.Statement.{statement}
 use Rattle.steps.proofs.onward.follow.Tie as tie
 use Rattle.steps.proofs.onward.follow.Reads as reads
 use Rattle.steps.proofs.onward.follow.Lts as lts
-use Rattle.reading.proofs.table.get.Reads as get-reads
+use Rattle.reading.proofs.notes.get.Reads as get-reads
 
 abbrev Inv-loop : tie.InvT-loop
 Inv-loop s t i slot at₀ at = Going s t i at

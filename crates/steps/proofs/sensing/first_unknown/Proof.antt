@@ -1,11 +1,11 @@
 -- No fluent is sensed below the one that it starts from.
-use Rattle.steps.proofs.SensingLaws.{back-within, first-from}
+use Rattle.steps.proofs.LookLaws.{back-within, first-from}
 use borrow.Author.Needs.{needs}
 use Rattle.steps.proofs.sensing.first_unknown.Statement.{statement}
 use Rattle.steps.proofs.sensing.first_unknown.Tie as tie
 use Rattle.steps.proofs.sensing.first_unknown.Reads as reads
 use Rattle.steps.proofs.sensing.first_unknown.Lts as lts
-use Rattle.reading.proofs.table.get.Reads as get-reads
+use Rattle.reading.proofs.notes.get.Reads as get-reads
 use Rattle.steps.proofs.sensing.next_unknown.Reads as next-unknown-reads
 
 -- src/sensing.rt:56:16

@@ -1,11 +1,11 @@
--- The table has a slot for each action and fluent, which is marked just where a knowledge line says so.
-use Rattle.steps.proofs.SensingLaws.{looks-is}
+-- The notes have a slot for each action and fluent, which is marked just where a knowledge line says so.
+use Rattle.steps.proofs.LookLaws.{looks-is}
 use borrow.Author.Needs.{needs}
 use Rattle.steps.proofs.sensing.looks_at.Statement.{statement}
 use Rattle.steps.proofs.sensing.looks_at.Tie as tie
 use Rattle.steps.proofs.sensing.looks_at.Reads as reads
 use Rattle.steps.proofs.sensing.looks_at.Lts as lts
-use Rattle.reading.proofs.table.get.Reads as get-reads
+use Rattle.reading.proofs.notes.get.Reads as get-reads
 
 -- src/sensing.rt:30:15
 mul-row : tie.Need-mul-row

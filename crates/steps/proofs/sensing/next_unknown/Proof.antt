@@ -1,15 +1,15 @@
--- A turn that finds nothing leaves the first one where it was, and from the end that the table has no fluent is sensed.
+-- A turn that finds nothing leaves the first one where it was, and from the end that the notes have no fluent is sensed.
 use Prim.Native.Nat.{_-_}
 use mathlib.Core.Path.{_≡_}
 use Rattle.steps.specs.Held.{table-in}
 use Rattle.steps.specs.Steps.{unknown-above, first-of}
-use Rattle.steps.proofs.SensingLaws.{fluent-near, fluent-next-fits, pair-fits, sensed-fits, sensed-there, look-found, look-unsensed, look-marked, look-done}
+use Rattle.steps.proofs.LookLaws.{fluent-near, fluent-next-fits, pair-fits, sensed-fits, sensed-there, look-found, look-unsensed, look-marked, look-done}
 use borrow.Author.Needs.{needs}
 use Rattle.steps.proofs.sensing.next_unknown.Statement.{statement}
 use Rattle.steps.proofs.sensing.next_unknown.Tie as tie
 use Rattle.steps.proofs.sensing.next_unknown.Reads as reads
 use Rattle.steps.proofs.sensing.next_unknown.Lts as lts
-use Rattle.reading.proofs.table.get.Reads as get-reads
+use Rattle.reading.proofs.notes.get.Reads as get-reads
 
 abbrev Inv-loop : tie.InvT-loop
 Inv-loop s t a from marks last end row f₀ f = first-of (unknown-above (table-in s) a marks from) ≡ first-of (unknown-above (table-in s) a marks f)

@@ -1,11 +1,11 @@
 -- Each return is one law that adds what was walked to how the walk stood. At each call the position rises, or in a fork the fluent does, so
 -- the cycle ends.
-use Rattle.steps.proofs.SensingLaws.{first-marked, second-marked, after-marked}
+use Rattle.steps.proofs.LookLaws.{first-marked, second-marked, after-marked}
 use Rattle.walking.proofs.FallLaws.{walk-measure, branching-measure, fork-measure, fork-falls, fork-walk-falls, walk-branching-falls, walk-fork-falls, branching-walk-falls, follow-falls, followed-position, chosen-position, marked-sized, opens-branching, is-branching, action-here}
-use Rattle.walking.proofs.WalkLaws.{going-after-fork, going-after-walk, going-after-one, walking-counted, action-low, item-stuck, run-spent, run-moves, run-forks, run-sees, branch-taken, none-taken, Walking, walking-starts, walking-there, walking-marked, walking-sized, walking-going, walking-later, walking-ends, walking-judged, walking-on}
+use Rattle.walking.proofs.WalkArms.{going-after-fork, going-after-walk, going-after-one, walking-counted, action-low, item-stuck, run-spent, run-moves, run-forks, run-sees, branch-taken, none-taken, Walking, walking-starts, walking-there, walking-marked, walking-sized, walking-going, walking-later, walking-ends, walking-judged, walking-on}
 use Rattle.walking.proofs.ForkLaws.{fork-rises, fork-stops, fork-forks, last-stops, last-walks}
 use Rattle.walking.proofs.StandingLaws.{notable}
-use Rattle.walking.proofs.PlaceLaws.{item-fits}
+use Rattle.walking.proofs.PlacesFit.{item-fits}
 use Rattle.steps.proofs.OnwardLaws.{item-inside, action-small, place-fits, place-there}
 use borrow.Author.Needs.{needs}
 use Prim.Native.Nat.{ℕ, _+_, _-_, _*_, _<_}
@@ -22,7 +22,7 @@ use Rattle.walking.proofs.walk.walk_branching.Reads as walk-branching
 use Rattle.walking.proofs.walk.walk_branching.Kinds as walk-branching-kinds
 use Rattle.walking.proofs.walk.+fork+walk+walk_branching.Lts-walk_branching as walk-branching-lts
 use Rattle.bytes.proofs.bytes.wide.Reads as wide-reads
-use Rattle.reading.proofs.table.get.Reads as get-reads
+use Rattle.reading.proofs.notes.get.Reads as get-reads
 use Rattle.steps.proofs.actions.can_be_run.Reads as can-be-run-reads
 use Rattle.steps.proofs.actions.state_after.Reads as state-after-reads
 use Rattle.steps.proofs.onward.chosen.Reads as chosen-reads

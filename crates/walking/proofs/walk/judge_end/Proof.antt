@@ -1,7 +1,7 @@
 -- One is counted, and the state is judged where the walk goes on and has missed nothing yet.
-use Rattle.walking.proofs.WalkLaws.{counts-going, judged-missed, judged-fine, judged-before}
+use Rattle.walking.proofs.WalkArms.{counts-going, judged-missed, judged-fine, judged-before}
 use Rattle.walking.proofs.StandingLaws.{notable}
-use Rattle.walking.proofs.PlaceLaws.{missed-fits}
+use Rattle.walking.proofs.PlacesFit.{missed-fits}
 use borrow.Author.Needs.{needs}
 use Rattle.walking.proofs.walk.judge_end.Statement.{statement}
 use Rattle.walking.proofs.walk.judge_end.Tie as tie
