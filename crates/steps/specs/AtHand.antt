@@ -15,6 +15,7 @@ use Rattle.steps.specs.LinesFound.{run-places, effect-places, Senses}
 use Rattle.steps.specs.Rests.{Nexts}
 
 pub record At-hand (s t : List ℕ) : Type 0 where
+  -- The input has bytes, and no more of them than a request may have.
   pub bytes : (i : ℕ) → getD s i 0 < 256
   pub short : length s ≤ format .request
   -- Sections 1 to 5 stand at the start, and the notes lead to each action's lines in file order and to what it senses.
