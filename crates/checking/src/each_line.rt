@@ -20,7 +20,7 @@ use deriving::derived::place_of;
 use deriving::rule_numbers as rules;
 use meaning::Layout;
 use reading::notes::Notes;
-use ruling::branches::rule_4;
+use ruling::branchings::rule_4;
 use ruling::readings::rule_3;
 use ruling::rules::rule_1;
 use ruling::rules::rule_2;

@@ -7,7 +7,7 @@ use Rattle.checking.proofs.each_line.gives.Reads as reads
 use Rattle.checking.proofs.each_line.gives.Lts as lts
 use Rattle.bytes.proofs.bytes.two.Reads as two-reads
 use Rattle.comparing.proofs.spots.spot_of.Reads as spot-of-reads
-use Rattle.ruling.proofs.branches.rule_4.Reads as rule-4-reads
+use Rattle.ruling.proofs.branchings.rule_4.Reads as rule-4-reads
 use Rattle.ruling.proofs.readings.rule_3.Reads as rule-3-reads
 use Rattle.ruling.proofs.rules.rule_1.Reads as rule-1-reads
 use Rattle.ruling.proofs.rules.rule_2.Reads as rule-2-reads

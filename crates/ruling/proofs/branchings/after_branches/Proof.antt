@@ -5,10 +5,10 @@ use Rattle.finding.proofs.ByBranch.{branch-first, branches-next}
 use Rattle.ruling.specs.Branched.{branches-end}
 use Rattle.ruling.proofs.BranchRuleLaws.{end-next, end-done}
 use borrow.Author.Needs.{needs}
-use Rattle.ruling.proofs.branches.after_branches.Statement.{statement}
-use Rattle.ruling.proofs.branches.after_branches.Tie as tie
-use Rattle.ruling.proofs.branches.after_branches.Reads as reads
-use Rattle.ruling.proofs.branches.after_branches.Lts as lts
+use Rattle.ruling.proofs.branchings.after_branches.Statement.{statement}
+use Rattle.ruling.proofs.branchings.after_branches.Tie as tie
+use Rattle.ruling.proofs.branchings.after_branches.Reads as reads
+use Rattle.ruling.proofs.branchings.after_branches.Lts as lts
 use Rattle.finding.proofs.branches.next_item.Reads as next-item-reads
 use Rattle.finding.proofs.branches.next_place.Reads as next-place-reads
 
@@ -18,31 +18,31 @@ Inv-loop d t count place item left₀ p₀ i₀ left p i = Branches-here d t lef
 abbrev μ-loop : tie.MeasureT-loop
 μ-loop d t count place item left₀ p₀ i₀ left p i = left
 
--- src/branches.rt:33:5
+-- src/branchings.rt:33:5
 loop-holds : tie.Need-loop-holds Inv-loop μ-loop
 loop-holds c = search needs
 
--- src/branches.rt:34:13
+-- src/branchings.rt:34:13
 next-place-requires : tie.Need-next-place-requires Inv-loop μ-loop
 next-place-requires c κs = search (needs, branch-first)
 
--- src/branches.rt:35:13
+-- src/branchings.rt:35:13
 next-item-requires : tie.Need-next-item-requires Inv-loop μ-loop
 next-item-requires c κs = search (needs, branch-first)
 
--- src/branches.rt:38:9
+-- src/branchings.rt:38:9
 sub-left : tie.Need-sub-left Inv-loop μ-loop
 sub-left c = search needs
 
--- src/branches.rt:33:5
+-- src/branchings.rt:33:5
 loop-less : tie.Need-loop-less Inv-loop μ-loop
 loop-less c = search needs
 
--- src/branches.rt:33:5
+-- src/branchings.rt:33:5
 loop-again : tie.Need-loop-again Inv-loop μ-loop
 loop-again c = search (needs, branches-next, end-next)
 
--- src/branches.rt:26:1
+-- src/branchings.rt:26:1
 returns : tie.Need-returns Inv-loop μ-loop
 returns c = search end-done
 

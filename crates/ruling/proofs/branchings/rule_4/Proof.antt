@@ -3,10 +3,10 @@
 use Rattle.ruling.proofs.RuleLaws.{some-plan}
 use Rattle.ruling.proofs.BranchRuleLaws.{starts-other, ends-other, plan-counted, first-fits, count-none, first-there, other-first, branching-first, rule-by-branch, read-again}
 use borrow.Author.Needs.{needs}
-use Rattle.ruling.proofs.branches.rule_4.Statement.{statement}
-use Rattle.ruling.proofs.branches.rule_4.Tie as tie
-use Rattle.ruling.proofs.branches.rule_4.Reads as reads
-use Rattle.ruling.proofs.branches.rule_4.Lts as lts
+use Rattle.ruling.proofs.branchings.rule_4.Statement.{statement}
+use Rattle.ruling.proofs.branchings.rule_4.Tie as tie
+use Rattle.ruling.proofs.branchings.rule_4.Reads as reads
+use Rattle.ruling.proofs.branchings.rule_4.Lts as lts
 use Rattle.comparing.proofs.parts.same_lists.Reads as same-lists-reads
 use Rattle.comparing.proofs.plans.count_of.Reads as count-of-reads
 use Rattle.comparing.proofs.spots.same_conclusions.Reads as same-conclusions-reads
@@ -14,61 +14,61 @@ use Rattle.reading.proofs.marks.state_of.Reads as state-of-reads
 use Rattle.reading.proofs.plan.plan_at.Reads as plan-at-reads
 use Rattle.reading.proofs.notes.sized.Reads as sized-reads
 use Rattle.finding.proofs.branches.sequence_of.Reads as sequence-of-reads
-use Rattle.ruling.proofs.branches.some_branch.Reads as some-branch-reads
+use Rattle.ruling.proofs.branchings.some_branch.Reads as some-branch-reads
 
--- src/branches.rt:97:9
+-- src/branchings.rt:97:9
 same-lists-requires : tie.Need-same-lists-requires
 same-lists-requires c κs = search needs
 
--- src/branches.rt:99:13
+-- src/branchings.rt:99:13
 same-conclusions-requires : tie.Need-same-conclusions-requires
 same-conclusions-requires c κs = search needs
 
--- src/branches.rt:101:17
+-- src/branchings.rt:101:17
 sequence-of-requires : tie.Need-sequence-of-requires
 sequence-of-requires c κs = search needs
 
--- src/branches.rt:102:17
+-- src/branchings.rt:102:17
 count-of-requires : tie.Need-count-of-requires
 count-of-requires c κs = search plan-counted
 
--- src/branches.rt:104:17
+-- src/branchings.rt:104:17
 returns : tie.Need-returns
 returns c = search count-none
 
--- src/branches.rt:106:25
+-- src/branchings.rt:106:25
 add-first : tie.Need-add-first
 add-first c = search first-fits
 
--- src/branches.rt:107:16
+-- src/branchings.rt:107:16
 shared-slice-read-if4 : tie.Need-shared-slice-read-if4
 shared-slice-read-if4 c = search first-there
 
--- src/branches.rt:108:17
+-- src/branchings.rt:108:17
 sized-requires : tie.Need-sized-requires
 sized-requires c κs = search needs
 
--- src/branches.rt:109:23
+-- src/branchings.rt:109:23
 plan-at-requires : tie.Need-plan-at-requires
 plan-at-requires c κs = search needs
 
--- src/branches.rt:111:36
+-- src/branchings.rt:111:36
 enum-told : tie.Need-enum-told
 enum-told c = search needs
 
--- src/branches.rt:111:36
+-- src/branchings.rt:111:36
 state-of-requires : tie.Need-state-of-requires
 state-of-requires c κs = search needs
 
--- src/branches.rt:112:29
+-- src/branchings.rt:112:29
 sequence-of-requires-2 : tie.Need-sequence-of-requires-2
 sequence-of-requires-2 c κs = search needs
 
--- src/branches.rt:113:36
+-- src/branchings.rt:113:36
 sub-more : tie.Need-sub-more
 sub-more c = search needs
 
--- src/branches.rt:116:25
+-- src/branchings.rt:116:25
 some-branch-requires : tie.Need-some-branch-requires
 some-branch-requires c κs =
     let matched = c .before .before .before .before in
@@ -86,7 +86,7 @@ some-branch-requires c κs =
     let place = c .before .before .sequence-of2 .ensures in
     (branching-first _ _ _ _ _ at _ count some byte (pre .0) (pre .1 .0) _ _ _ read long _ _ value (pre .1 .1 .1), some-plan _ _ _ place (pre .1 .1 .0))
 
--- src/branches.rt:116:25
+-- src/branchings.rt:116:25
 returns-2 : tie.Need-returns-2
 returns-2 c =
     let stated = c .before .before .before in
@@ -112,23 +112,23 @@ returns-2 c =
     let pre = same .before .before .before .before .before .pre in
     rule-by-branch _ _ _ _ _ at _ count some byte (pre .0) (pre .1 .0) _ _ _ read long _ _ value _ _ _ starts yes ends also _ told _ place _ taken
 
--- src/branches.rt:119:25
+-- src/branchings.rt:119:25
 enum-told-2 : tie.Need-enum-told-2
 enum-told-2 c = search needs
 
--- src/branches.rt:119:25
+-- src/branchings.rt:119:25
 returns-3 : tie.Need-returns-3
 returns-3 c = search read-again
 
--- src/branches.rt:123:13
+-- src/branchings.rt:123:13
 returns-4 : tie.Need-returns-4
 returns-4 c = search other-first
 
--- src/branches.rt:125:9
+-- src/branchings.rt:125:9
 returns-5 : tie.Need-returns-5
 returns-5 c = search ends-other
 
--- src/branches.rt:88:1
+-- src/branchings.rt:88:1
 returns-6 : tie.Need-returns-6
 returns-6 c = search starts-other
 
