@@ -220,7 +220,7 @@ module _ (n m : ℕ) (d : List ℕ) where
           cites = cited .cites;
         })
 
-  -- LINES. Line k stands where slot k says, and its plan ends where slot 1,024 + k says.
+  -- LINES. Line k stands where slot k says, and its plan ends where slot `plan-ends-slot` + k says.
   module _ (layout : Layout) (places : List ℕ) where
     line-from : (k : ℕ) (ls : List Line) → Lines-here n m d layout places k ls → (i : ℕ) → i < length ls → (other : Line)
         → Line-here n m d layout (getD places (k + i) 0) (getD ls i other) × (getD places (plan-ends-slot + (k + i)) 0 ≡ plan-end (getD ls i other))

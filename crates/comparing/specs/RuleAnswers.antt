@@ -64,7 +64,7 @@ pub record Some-stands (d : List ℕ) (w : Spot) : Type 0 where
   pub line : Line
   pub stands : Stands d w line
 
--- Besides, its actions are below 64.
+-- Besides, its actions are within the limit.
 pub record Some-line (d : List ℕ) (w : Spot) : Type 0 where
   pub long : length d ≤ format .derivation
   pub line : Line

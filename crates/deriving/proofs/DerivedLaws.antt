@@ -187,7 +187,7 @@ places-long k (l ∷ ls) t =
     places-long (k + 1) ls (set (set t k (l .place)) (plan-ends-slot + k) (plan-end l)) ∙ length-set (set t k (l .place)) (plan-ends-slot + k) (plan-end l) ∙ length-set t k (l .place)
 
 module _ (n m : ℕ) (s : List ℕ) (layout : Layout) where
-  -- Whatever stands in slot 2,048.
+  -- Whatever stands in slot `lines-end`.
   lines-placed : (left p k : ℕ) (ls : List Line) (e : ℕ) (t u : List ℕ) → repeated (line-at format n m s layout) left p ≡ got ls e → k + left ≤ format .lines → length t ≡ places-slots
       → ((j : ℕ) → j < lines-end → getD u j 0 ≡ getD (places-noted k ls t) j 0) → Lines-here n m s layout u k ls
   unfolding repeated places-noted Lines-here

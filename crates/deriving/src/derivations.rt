@@ -24,7 +24,7 @@ use reader::new;
 use reading::notes::Notes;
 use reading::plan::plan_at;
 
-// Slot k holds the place of line k, slot 1,024 + k the place where its plan ends, and slot 2,048 the place where the lines end.
+// Slot k holds the place of line k, slot PLAN_ENDS + k the place where its plan ends, and slot LINES_END the place where the lines end.
 pub type Places = [u16; PLACES_SLOTS];
 
 pub const PLAN_ENDS: usize = limits::LINES;

@@ -162,7 +162,7 @@ pub plan-long : (p : ℕ) (t : List ℕ) (b : Sequence ℕ) → length (plan-not
 unfolding plan-noted sequence-noted
 plan-long p t b = rest-length b (format .items) 0 0 (p + 2) t
 
--- THE PLAN, of at most 1,024 items, touches no slot of the lines.
+-- THE PLAN touches no slot of the lines.
 pub plan-kept : (j : ℕ) → effect-lines ≤ j → (p : ℕ) (t : List ℕ) (b : Sequence ℕ) → items-of b ≤ format .items → getD (plan-noted p t b) j 0 ≡ getD t j 0
 unfolding plan-noted sequence-noted
 plan-kept j far p t b h = rest-other b (format .items) 0 0 (p + 2) t j (omega arith) (λ some. (λ e. omega arith, λ e. omega arith)) (λ near _ _. omega arith)

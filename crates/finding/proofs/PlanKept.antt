@@ -1,4 +1,4 @@
--- What noting a plan leaves in the notes are kept: each part changes slots of its own items alone, and what is kept of a part stands in slots
+-- What noting a plan leaves in the notes is kept: each part changes slots of its own items alone, and what is kept of a part stands in slots
 -- that no later part changes. Assumes nothing.
 use Prim.Native.Nat.{ℕ, _+_, _*_, _%_, _≤_, _<_}
 use native.Mathlib.Omega.{arith}

@@ -132,7 +132,7 @@ acts : (s : List ℕ) (e : Effect) → effect-from s (e .place) ≡ e → getD s
 unfolding effect-from
 acts s e is = ap (λ (y : Effect). y .action) is
 
--- WHAT THE LINES SAY: actions below 64, and where each stands.
+-- WHAT THE LINES SAY: actions within the limit, and where each stands.
 module _ (s : List ℕ) (t : Table) (p : ℕ) (whole : Table-parts s t p) where
   pub effect-good : (e : Effect) → Has (t .effects) e → (effect-from s (e .place) ≡ e) × Effect-here s (e .place)
   effect-good e has =

@@ -20,7 +20,7 @@ Writes n = (n ≡ Limits.goal-missed) ⊎ (n ≡ Limits.not-executable)
 abbrev pub Blank-from : ℕ → State → Type 0
 Blank-from n s = (f : ℕ) → n ≤ f → getD s f 0 ≡ 0
 
--- Such an answer is of a settled request, with n fluents by its first byte. It leaves 64 marks, and none of them from n up.
+-- Such an answer is of a settled request, with n fluents by its first byte. It leaves as many marks as a state has, and none of them from n up.
 abbrev pub Written : (request left : List ℕ) → Type 0
 Written request left =
     (x : Request) × (e : ℕ) × (settled format request ≡ got x e) × (getD request 0 0 ≡ x .table .fluents) × Marked left × Blank-from (x .table .fluents) left

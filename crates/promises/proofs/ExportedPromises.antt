@@ -100,7 +100,7 @@ module _ (κs : Lfts 2) (given : Dens κs ps) where
     unfolding unpacked
     kept = JudgePromises.kept request lent budget (unpacked n) (left exit) judges
 
-    -- Those two are of a settled request, whose first byte is its number of fluents. They leave 64 bytes of marks 0, 1 and 2, and 0 in every
+    -- Those two are of a settled request, whose first byte is its number of fluents. They leave marks 0, 1 and 2, and 0 in every
     -- byte from that number up (FORMAT 4.47, 4.48).
     pub written : (n % 256 ≡ Limits.goal-missed) ⊎ (n % 256 ≡ Limits.not-executable)
         → (x : Request) × (e : ℕ) × (settled format request ≡ got x e) × (getD request 0 0 ≡ x .table .fluents) × Marked (left exit) × ((f : ℕ) → x .table .fluents ≤ f → getD (left exit) f 0 ≡ 0)
@@ -112,7 +112,7 @@ module _ (κs : Lfts 2) (given : Dens κs ps) where
     unfolding unpacked
     sound = JudgePromises.sound request lent budget (unpacked n) (left exit) judges
 
-    -- Demand 2 (FORMAT 11.5), of a settled request with 64 lent bytes.
+    -- Demand 2 (FORMAT 11.5), of a settled request with as many lent bytes as a state has.
     module _ (x : Request) (e : ℕ) (lent-length : length lent ≡ format .state) (past : settled format request ≡ got x e) where
       -- The answer and the lent bytes are what the list of paths says, in its order.
       pub in-order : record { answer = unpacked n; state = left exit } ≡ within lent budget (walked-along (missed-in x) (paths (table-step (x .table)) (x .plan) (first-state format (x .table))))

@@ -76,7 +76,7 @@ module _ (κs : Lfts 2) (given : Dens κs ps) where
     pub kept : (answer .number ≡ Limits.goal-missed → ⊥) → (answer .number ≡ Limits.not-executable → ⊥) → left exit ≡ lent
     kept = JudgePromises.kept request lent budget answer (left exit) meets
 
-    -- Those two are of a settled request, whose first byte is its number of fluents n. They leave 64 bytes of marks 0, 1 and 2, and 0 in every
+    -- Those two are of a settled request, whose first byte is its number of fluents n. They leave marks 0, 1 and 2, and 0 in every
     -- byte from n up (FORMAT 4.47, 4.48).
     pub written : (answer .number ≡ Limits.goal-missed) ⊎ (answer .number ≡ Limits.not-executable)
         → (x : Request) × (e : ℕ) × (settled format request ≡ got x e) × (getD request 0 0 ≡ x .table .fluents) × Marked (left exit) × ((f : ℕ) → x .table .fluents ≤ f → getD (left exit) f 0 ≡ 0)
@@ -86,7 +86,7 @@ module _ (κs : Lfts 2) (given : Dens κs ps) where
     pub sound : answer .number ≡ Limits.verified → (x : Request) × (e : ℕ) × (settled format request ≡ got x e) × Carried-out x
     sound = JudgePromises.sound request lent budget answer (left exit) meets
 
-    -- Demand 2 (FORMAT 11.5), of a settled request with 64 lent bytes.
+    -- Demand 2 (FORMAT 11.5), of a settled request with as many lent bytes as a state has.
     module _ (x : Request) (e : ℕ) (lent-length : length lent ≡ format .state) (past : settled format request ≡ got x e) where
       -- The answer and the lent bytes are what the list of paths says, in its order.
       pub in-order : record { answer = answer; state = left exit } ≡ within lent budget (walked-along (missed-in x) (paths (table-step (x .table)) (x .plan) (first-state format (x .table))))

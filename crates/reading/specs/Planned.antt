@@ -84,7 +84,7 @@ item-noted met t i = inside-noted met (set t (item-place + met) (place-of i)) i
 unfoldable pub sequence-noted : (up met p : ℕ) → List ℕ → Sequence ℕ → List ℕ
 sequence-noted up met p t b = rest-noted up met met (p + 2) t b
 
--- The plan, whose count stands at p; after its last item stands 1024 (FORMAT 2.17).
+-- The plan, whose count stands at p; after its last item comes the limit of items (FORMAT 2.17).
 unfoldable pub plan-noted : (p : ℕ) → List ℕ → Sequence ℕ → List ℕ
 plan-noted p t b = sequence-noted (format .items) 0 p t b
 

@@ -32,7 +32,7 @@ unfoldable pub used : Sequence ℕ → Conclusion → List Line → (other : Lin
 used rest Y cited other [] k = To k
 used rest Y cited other (s ∷ ss) k = pick (reads-at rest Y cited other s k) (λ _. used rest Y cited other ss (k + 1)) (λ _. Fails)
 
--- The unknown sensed fluents where the first of them is f; none where it is 64.
+-- The unknown sensed fluents where the first of them is f; none where it is the limit of fluents.
 unfoldable pub fluents-from : Table → ℕ → State → (f : ℕ) → List ℕ
 fluents-from t a marks f = pick (ltb f (format .fluents)) (λ _. f ∷ unknown-above t a marks (f + 1)) (λ _. [])
 

@@ -114,8 +114,8 @@ fn one_reading(
     Used::Fails
 }
 
-// The readings of fluent f and of the unknown ones above it that action a senses, in order, by the citations of line i from k on. At 64
-// there is none, and the state is a reading.
+// The readings of fluent f and of the unknown ones above it that action a senses, in order, by the citations of line i from k on. At the
+// limit of fluents there is none, and the state is a reading.
 fn each_reading(
     layout: Layout,
     s: &[u8],

@@ -1,4 +1,4 @@
--- What the notes hold of the goals, and where it holds nothing before the knowledge lines are noted. Assumes nothing.
+-- What the notes hold of the goals, and where they hold nothing before the knowledge lines are noted. Assumes nothing.
 use Prim.Native.Nat.{ℕ, _≤_, _<_}
 use native.Mathlib.Omega.{arith}
 use mathlib.Core.Path.{_≡_, _∙_}

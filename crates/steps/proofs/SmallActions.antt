@@ -1,5 +1,5 @@
--- Each action of a plan that was read is below 64: an item is read as an action only where its byte is below the actions' count, which is at
--- most 64. Assumes nothing.
+-- Each action of a plan that was read is within the limit: an item is read as an action only where its byte is below the actions' count, which is
+-- within it. Assumes nothing.
 use Prim.Native.Nat.{ℕ, _≤_}
 use native.Mathlib.Omega.{arith}
 use mathlib.Core.Path.{_≡_}

@@ -28,7 +28,7 @@ allowed-at s test = some-of (λ (p : ℕ). each-of test (listed s (p + 1)))
 unfoldable pub given-at : List ℕ → (ℕ → Bool) → List ℕ → ℕ → Bool
 given-at s test places l = some-of (λ (p : ℕ). both (eqb (getD s (p + 1) 0) l) (each-of test (listed s (p + 2)))) places
 
--- WHAT IT SENSES, with the smallest fluent as 64 less it and the largest as one more.
+-- WHAT IT SENSES, with the smallest fluent as the limit less it and the largest as one more.
 pub record Senses (s t : List ℕ) (a : ℕ) : Type 0 where
   pub slot : (f : ℕ) → f < format .fluents → ltb 0 (getD t (sensed + (format .fluents * a + f)) 0) ≡ senses (knowledge-of (table-in s) a) f
   pub most : getD t (sensed-from + a) 0 ≤ format .fluents

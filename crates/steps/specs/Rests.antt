@@ -30,7 +30,7 @@ unfoldable mutual
   rest-under (branch c b bs) met i after =
       pick (ltb i (met + items-of b)) (λ _. rest-in b met i after) (λ _. rest-under bs (met + items-of b) i after)
 
--- Of the whole plan; there is nothing left from 1024 on.
+-- Of the whole plan; there is nothing left from the limit of items on.
 unfoldable pub rest-at : Sequence ℕ → ℕ → Sequence ℕ
 rest-at b i = rest-in b 0 i done
 
@@ -43,7 +43,7 @@ unfoldable pub span : Sequence ℕ → ℕ
 span done = 0
 span (item x b) = items-in x
 
--- By what the notes have as an item's next: an item, 1024, or 1025 and the number of a branching (see the notes' slots).
+-- By what the notes have as an item's next: an item, the limit of items, or `around-from` and the number of a branching (see the notes' slots).
 unfoldable pub onward : Sequence ℕ → ℕ → Sequence ℕ
 onward b c = pick (leb c (format .items)) (λ _. rest-at b c) (λ _. after-first (rest-at b (c - around-from)))
 

@@ -1,4 +1,4 @@
--- A plan each of whose actions is below 64.
+-- A plan each of whose actions is within the limit.
 use Prim.Native.Nat.{ℕ, _<_}
 use Rattle.meaning.specs.Limits.{format}
 use Rattle.meaning.specs.Requests.{Sequence, done, item, Item, act, branching, Branches, none, branch}

@@ -22,12 +22,12 @@ use Rattle.steps.specs.Rests.{rest-at, after-first, Position}
 unfoldable pub unknown-above : Table → ℕ → State → (f : ℕ) → List ℕ
 unknown-above t a marks f = unknown-from (knowledge-of t a) marks f (drop f marks)
 
--- The first of them, or 64.
+-- The first of them, or the limit of fluents.
 unfoldable pub first-of : List ℕ → ℕ
 first-of [] = format .fluents
 first-of (f ∷ fs) = f
 
--- Literals are below 128, fluents below 64.
+-- What a literal is below, and a fluent.
 unfoldable pub bound-as : Asked → ℕ
 bound-as asked = elim asked [ Goal ↦ all-literals | Whether ↦ format .fluents ]
 

@@ -37,7 +37,7 @@ pub fn looks_at(s: &[u8], t: &Notes, a: usize, f: usize) -> bool
     0 < sensed
 }
 
-// The first fluent from `from` up that the action senses and that is unknown; 64 where there is none.
+// The first fluent from `from` up that the action senses and that is unknown; the limit of fluents where there is none.
 pub fn next_unknown(s: &[u8], t: &Notes, a: usize, from: usize, marks: &Marks) -> usize
     requires { ⌜ At-hand (now s) (now t) ⌝ }
     requires { ⌜ a < format .actions ⌝ }

@@ -1,4 +1,4 @@
--- A place that the tally takes is in the input, which has at most 16,384 bytes. Assumes nothing.
+-- A place that the tally takes is in the input, whose length has a limit. Assumes nothing.
 use Prim.Native.Nat.{ℕ, _+_, _<_}
 use native.Mathlib.Omega.{arith}
 use mathlib.Core.Path.{_≡_, refl, subst}

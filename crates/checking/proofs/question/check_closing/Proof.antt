@@ -1,4 +1,4 @@
--- The whether entries stand after the goals, and the closing list where slot 2,048 says: a number for the goals, then one for each entry.
+-- The whether entries stand after the goals, and the closing list where its slot says: a number for the goals, then one for each entry.
 use Rattle.steps.proofs.HandLaws.{goals-here, whether-here}
 use Rattle.checking.proofs.ClosingLaws.{list-there, sum-fits, closing-lines, closing-there, closing-fits, goals-number, fluents-fit, fluents-numbers, closing-not-due, goals-wrong, goals-right}
 use borrow.Author.Needs.{needs}

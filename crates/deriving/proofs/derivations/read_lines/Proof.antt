@@ -221,7 +221,7 @@ module _ {M : Type 1} (𝓤 : URA M) (H : Heap 𝓤) (A : Atoms 𝓤) (W : Given
         -- [what `lines` asks; what s owns; _12; …; _11; …; _10; …; _9; …; _8; …; _7; …; _6; …; _5; …; _4; …; _3; …; _2; …; _1; …; room for _0; …]
         calls-at ! fm (Lines 𝓤 H A mem run) known-lines (to-lines r₁ u₁) (and-then ! (load ! (from ! (stop !)) (look ! 8 refl)) (and-then ! (load ! (from ! (stop !)) (look ! 24 refl)) (and-then ! (load ! (from ! (stop !)) (look ! 22 refl)) (and-then ! (load ! (from ! (stop !)) (look ! 20 refl)) (and-then ! (load ! (from ! (stop !)) (look ! 16 refl)) (and-then ! (load ! (from ! (stop !)) (look ! 4 refl)) (and-then ! (load ! (from ! (stop !)) (look ! 2 refl)) (no-more !)))))))) (λ w.
         use1 W (later (some (λ (t : Passed). ((‵ (flft κ q) ⊛ ‵ (flft κ₁ q₁) ⊛ ‵ (flft κ₂ q₂) ⊛ ‵ ftrue) ⊛ ‵ (P.the-row .own t (w ∷ []))) ⊛ raw (ensured 𝓤 H A lines.ended (lines.clauses 𝓤 H A mem run) κs (args r₁) tt t)))) (id⊢ 𝓤 _) $ await ! tt $ pick ! (λ t.
-        -- what `lines` ensures, at some last table and places
+        -- what `lines` ensures, at some last notes and places
         split ! $ move ! (1 ∷ []) $ use1 W (some (λ (zs : Unit {0} × (Unit {0} × (Unit {0} × (Unit {0} × (Unit {0} × (List ℕ × (List ℕ × Unit {0}))))))). ‵ (lasts lines.ended κs (args r₁) zs) ⊛ raw (fact 𝓤 (Told (r₁ .src) (r₁ .at) t (zs .1 .1 .1 .1 .1 .1 .0))))) (id⊢ 𝓤 _) $ pick ! (λ zs.
         split ! $ move ! (1 ∷ []) $ heard ! (Told (r₁ .src) (r₁ .at) t (zs .1 .1 .1 .1 .1 .1 .0)) (λ e₂. fsplit ! $ drop ! $ fsplit ! $ drop ! $ fsplit ! $ drop ! $ fsplit ! $ drop ! $ fsplit ! $ drop ! $ move ! (1 ∷ []) $ split ! $ move ! (1 ∷ []) $
         -- [the result; the tokens; the last arrays; what s owns; _12; …; _0; …]

@@ -1,4 +1,4 @@
--- The three ways out: another length than 64, a refusal, and the walk of a settled request. Each is a case of the definition.
+-- The three ways out: another length than a state's, a refusal, and the walk of a settled request. Each is a case of the definition.
 use borrow.Author.Needs.{needs}
 use Rattle.glintstring.proofs.JudgingLaws.{judge-9, judge-walked, judge-refused}
 use Rattle.glintstring.proofs.SettledAtHand.{blank-is, settled-at-hand}

@@ -1,4 +1,4 @@
--- The loop has handed over the marks below its fluent; after 64 of them the lent bytes are the marks.
+-- The loop has handed over the marks below its fluent; after all of them the lent bytes are the marks.
 use borrow.Author.Needs.{needs}
 use Prim.Native.Nat.{_-_}
 use Rattle.meaning.specs.Limits.{format}

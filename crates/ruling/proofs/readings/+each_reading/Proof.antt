@@ -1,5 +1,5 @@
 -- The readings with the first unknown fluent true are used up, and then those with it false from there on; where none is unknown, the state is the
--- one reading. The next unknown fluent is above the first, or is 64.
+-- one reading. The next unknown fluent is above the first, or is the limit of fluents.
 use Rattle.steps.proofs.LookLaws.{first-marked, second-marked}
 use Rattle.ruling.proofs.ReadingRuleLaws.{next-falls, first-fails, both-read, read-whole}
 use borrow.Author.Needs.{needs}

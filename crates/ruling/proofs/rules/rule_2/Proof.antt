@@ -1,4 +1,4 @@
--- A plan of one item whose byte is no 255 is that action, which is below 64; the marks are the state of X, and those after it the state that
+-- A plan of one item whose byte is no 255 is that action, which is within the limit; the marks are the state of X, and those after it the state that
 -- Y is compared with. A fluent is no list.
 use Rattle.steps.proofs.ToldMarks.{marked-as}
 use Rattle.ruling.proofs.RuleLaws.{Y-here, plan-counted, items-fit, next-marked, action-whether, not-one-item, item-there, item-branches, action-small, action-senses, action-stuck, action-leads}

@@ -1,4 +1,4 @@
--- A plan of one item whose byte is no 255 is that action, which is below 64; the byte of the conclusion is the fluent, and the marks are the
+-- A plan of one item whose byte is no 255 is that action, which is within the limit; the byte of the conclusion is the fluent, and the marks are the
 -- state of X. A list is no fluent.
 use Rattle.ruling.proofs.RuleLaws.{fluent-there, fluent-small, plan-counted, items-fit, item-there, action-small, look-lists, not-one-looked, look-branches, looks-elsewhere, looks-there}
 use borrow.Author.Needs.{needs}
