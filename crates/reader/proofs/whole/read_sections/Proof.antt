@@ -191,4 +191,4 @@ read-sections-spec 𝓤 H 𝓜 𝓖 𝓡 =
     (tables 𝓤 H 𝓜 𝓡 code.env .C) (tables 𝓤 H 𝓜 𝓡 code.env .Λ) #reader·requests·read-sections code.function (code.unfolded 𝓤 H 𝓜 𝓡)
     (read-sections-meets 𝓤 H (𝓖 .A) (givenOf 𝓤 H 𝓜 𝓖) (𝓜 .mem) (𝓡 .run) (tablesOf 𝓤 H 𝓜 (tables 𝓤 H 𝓜 𝓡 code.env))
     (cited 𝓤 H (New 𝓤 H (𝓖 .A) (𝓜 .mem) (𝓡 .run)) 𝓜 𝓡 code.env #reader·new new-def.routine code.calls-reader·new (new-thm.met 𝓤 H 𝓜 𝓖 𝓡))
-    (cited 𝓤 H (Sections 𝓤 H (𝓖 .A) (𝓜 .mem) (𝓡 .run)) 𝓜 𝓡 code.env #reader·requests·sections sections-def.routine code.calls-reader·requests·sections (sections-thm.met 𝓤 H 𝓜 𝓖 𝓡)))
+    (cited 𝓤 H (Sections 𝓤 H (𝓖 .A) (𝓜 .mem) (𝓡 .run)) 𝓜 𝓡 code.env #reader·requests·sections sections-def.routine code.calls-reader·whole·sections (sections-thm.met 𝓤 H 𝓜 𝓖 𝓡)))
