@@ -26,7 +26,7 @@ const SPAN: u128 = 400_000;
 const LONGEST: u128 = 1_500_000_000;
 const FEWEST: u128 = 21;
 
-/// The stack for the walk: see docs/STACK.md.
+/// The stack for the walk: see docs/MEASURED.md.
 const STACK: usize = 64 << 20;
 
 /// The table that the proved reader fills, and two of its slots.

@@ -1,4 +1,4 @@
-//! The requests on which the walk goes deepest (tests/gate/stack), on a thread with just the stack that docs/STACK.md asks for.
+//! The requests on which the walk goes deepest (tests/gate/stack), on a thread with exactly the stack that docs/MEASURED.md asks for.
 
 use std::{fs, thread};
 

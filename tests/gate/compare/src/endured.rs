@@ -12,13 +12,15 @@ use crate::checks::Layout;
 use crate::hostile::{self, Input, Named};
 use crate::{checks, derivations, generated, whether};
 
-/// What a call may take, and what it may take for each count more: seven times what was seen beside other work (docs/HOSTILE.md).
+/// What a call may take, and what it may take for each count more: far more than was ever seen (docs/MEASURED.md).
 const A: Duration = Duration::from_millis(100);
 const B: Duration = Duration::from_micros(200);
 /// How often a call is made that takes longer: the shortest time is its own.
 const TRIES: usize = 3;
 /// From so large a count on, the time for each is told.
 const LARGE: u64 = 500;
+/// Rows of the table.
+const SHOWN: usize = 16;
 /// The stream of random numbers of what stands around the lent bytes.
 const FENCES: u64 = 11;
 /// Random requests, derivations, and those in the closing layout, of each.
@@ -89,17 +91,25 @@ impl Largest {
     }
 }
 
-fn run(inputs: &[Named], slower: u32, largest: &mut Largest, print: bool) -> Result<(), String> {
+fn run(inputs: &[Named], slower: u32, largest: &mut Largest) -> Result<Vec<(String, Taken)>, String> {
+    let mut all = Vec::new();
     for (index, (name, input)) in inputs.iter().enumerate() {
         let taken = endured(&mut Rng::new(1, FENCES, index as u64), input, slower).map_err(|why| format!("{name}: {why}"))?;
         largest.note(name, &taken);
-        if print {
-            let [number, _, place, count] = taken.answer;
-            let each = taken.each().map_or(String::new(), |each| each.to_string());
-            println!("| {name} | {number} | {place} | {count} | {} | {each} |", taken.took.as_micros());
-        }
+        all.push((name.clone(), taken));
     }
-    Ok(())
+    Ok(all)
+}
+
+/// The calls that took longest.
+fn table(mut all: Vec<(String, Taken)>) {
+    all.sort_by_key(|(_, taken)| std::cmp::Reverse(taken.took));
+    println!("| input | number | place | count | time, us | ns for each count |\n|---|---|---|---|---|---|");
+    for (name, taken) in all.iter().take(SHOWN) {
+        let [number, _, place, count] = taken.answer;
+        let each = taken.each().map_or(String::new(), |each| each.to_string());
+        println!("| {name} | {number} | {place} | {count} | {} | {each} |", taken.took.as_micros());
+    }
 }
 
 /// Every input by name, with the deepest walks of a folder, and random ones; or only the one that takes minutes. The calls may be so many times
@@ -111,9 +121,8 @@ pub fn compare(folder: Option<&str>, slower: u32) -> Result<String, String> {
         Some(folder) => (hostile::named(folder)?, hostile::random(1, RANDOM)),
         None => (hostile::longest(), Vec::new()),
     };
-    println!("| input | number | place | count | time, us | ns for each count |\n|---|---|---|---|---|---|");
-    run(&named, slower, &mut largest, true)?;
-    run(&random, slower, &mut largest, false)?;
+    table(run(&named, slower, &mut largest)?);
+    run(&random, slower, &mut largest)?;
     let [(whole, slowest), (each, slowest_each)] = [largest.without_count, largest.each];
     let (a, b, total) = ((A * slower).as_micros(), (B * slower).as_nanos(), named.len() + random.len());
     println!("  a: {a} us allowed; without a count at most {} us: {slowest}", whole / 1_000);
