@@ -278,10 +278,10 @@ fn long_plans() -> (Request, Vec<Line>) {
     (request, lines)
 }
 
-/// 16 facts, and an action with 255 executability lines, of which the first can always be met, and each other but for its last literal.
+/// 16 facts, and an action with 255 executability lines, of which the last can always be met, and each other one except for its last literal.
 pub fn barred() -> Request {
     let body = [literals(0..15), vec![31]].concat();
-    let allowances = [vec![always(0)], vec![Allowance { action: 0, body }; SECTION - 1]].concat();
+    let allowances = [vec![Allowance { action: 0, body }; SECTION - 1], vec![always(0)]].concat();
     Request { facts: literals(0..16), allowances, ..wide() }
 }
 

@@ -141,13 +141,13 @@ fn weakened() -> (Request, Vec<Line>) {
     (request, lines.collect())
 }
 
-/// An action that 255 executability lines are gone through for: the first can always be met, and each other but for its last literal.
+/// An action that 255 executability lines are gone through for: the last can always be met, and each other one except for its last literal.
 pub fn barred() -> Request {
     let facts: Vec<u8> = (0..BODY).map(|fluent| 2 * fluent).collect();
     let mut body = facts.clone();
     body[usize::from(BODY) - 1] += 1;
-    let mut allowances = vec![Allowance { action: 0, body: Vec::new() }];
-    allowances.resize(SECTION, Allowance { action: 0, body });
+    let mut allowances = vec![Allowance { action: 0, body }; SECTION - 1];
+    allowances.push(Allowance { action: 0, body: Vec::new() });
     Request { fluents: 64, actions: 1, facts: facts.clone(), goals: facts, allowances, plan: vec![Item::act(0)], ..Request::default() }
 }
 
