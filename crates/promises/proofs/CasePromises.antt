@@ -9,7 +9,7 @@ use Rattle.meaning.specs.declared.Answer.{Answer}
 use Rattle.meaning.specs.Showing.{Part, show}
 use Rattle.meaning.specs.Tests.{Has}
 use Rattle.meaning.proofs.DerivationCases.{Shown, showings, showings-hold}
-use Rattle.meaning.proofs.Table.{Call, outcome-of, Row, table, table-holds}
+use Rattle.meaning.proofs.ProvedCases.{Call, outcome-of, Row, proved-cases, proved-cases-hold}
 
 module _ {A B : Type 0} (f g : A → B) where
   entry-same : (xs : List A) → map f xs ≡ map g xs → (x : A) → Has xs x → f x ≡ g x
@@ -18,8 +18,8 @@ module _ {A B : Type 0} (f g : A → B) where
   entry-same (y ∷ ys) same x (inr later) = entry-same ys (ap (drop 1) same) x later
 
 -- A ROW of the proved cases, whose call is this one: what the definition gives of the call is what the row says.
-pub row-holds : (row : Row) → Has table row → (call : Call) → row .call ≡ call → row .gives ≡ outcome-of call
-row-holds row has call is = sym (entry-same (λ (r : Row). outcome-of (r .call)) (λ (r : Row). r .gives) table table-holds row has) ∙ ap outcome-of is
+pub row-holds : (row : Row) → Has proved-cases row → (call : Call) → row .call ≡ call → row .gives ≡ outcome-of call
+row-holds row has call is = sym (entry-same (λ (r : Row). outcome-of (r .call)) (λ (r : Row). r .gives) proved-cases proved-cases-hold row has) ∙ ap outcome-of is
 
 -- A row of the showing call, whose inputs are these.
 pub showing-holds : (row : Shown) → Has showings row → (a : Answer) (request derivation : List ℕ) → row .answer ≡ a → row .request ≡ request → row .derivation ≡ derivation → row .part ≡ show a request derivation

@@ -26,7 +26,7 @@ use Rattle.meaning.specs.Worlds.{Carried-out}
 use Rattle.meaning.specs.Answers.{answers}
 use Rattle.meaning.specs.AnswerParts.{Walk-input, Walk-count, Placed}
 use Rattle.meaning.specs.Tests.{Has}
-use Rattle.meaning.proofs.Table.{judging, judged, Row, table}
+use Rattle.meaning.proofs.ProvedCases.{judging, judged, Row, proved-cases}
 use Rattle.steps.specs.AtHand.{Marked}
 use Rattle.glintstring.specs.Packing.{packed, unpacked}
 use Rattle.promises.proofs.UnpackingLaws.{number-back, input-back, place-back, count-back, unpacks, answer-small}
@@ -92,8 +92,8 @@ module _ (κs : Lfts 2) (given : Dens κs ps) where
     numbered = JudgePromises.numbered request lent budget (unpacked n) (left exit) judges
 
     -- The proved cases (FORMAT 15.12): given a row's inputs, it answers what the row says.
-    pub answers-the-table : (row : Row) → Has table row → row .call ≡ judging request lent budget → row .gives ≡ judged (record { answer = unpacked n; state = left exit })
-    answers-the-table = JudgePromises.answers-the-table request lent budget (unpacked n) (left exit) judges
+    pub answers-the-cases : (row : Row) → Has proved-cases row → row .call ≡ judging request lent budget → row .gives ≡ judged (record { answer = unpacked n; state = left exit })
+    answers-the-cases = JudgePromises.answers-the-cases request lent budget (unpacked n) (left exit) judges
 
     -- The lent bytes are written by answers 1 and 2 and by no other (FORMAT 4.45, 4.49).
     pub kept : (n % 256 ≡ Limits.goal-missed → ⊥) → (n % 256 ≡ Limits.not-executable → ⊥) → left exit ≡ lent

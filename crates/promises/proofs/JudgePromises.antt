@@ -24,7 +24,7 @@ use Rattle.meaning.specs.AnswerParts.{Walk-input, Walk-count, Placed}
 use Rattle.meaning.specs.Tests.{Has}
 use Rattle.meaning.proofs.Exact.{format-room}
 use Rattle.meaning.proofs.Demands
-use Rattle.meaning.proofs.Table.{judging, judged, Row, table}
+use Rattle.meaning.proofs.ProvedCases.{judging, judged, Row, proved-cases}
 use Rattle.glintstring.specs.LentState.{Writes, Written}
 use Rattle.promises.proofs.LentLaws.{judge-kept, judge-written}
 use Rattle.promises.proofs.CasePromises.{row-holds}
@@ -36,8 +36,8 @@ module _ (request lent : List ℕ) (budget : ℕ) (answer : Answer) (left : List
   pub numbered : among (answer .number) answers ≡ true
   numbered = subst (λ (n : ℕ). among n answers ≡ true) number-is (Demands.numbered format request lent budget)
 
-  pub answers-the-table : (row : Row) → Has table row → row .call ≡ judging request lent budget → row .gives ≡ judged (record { answer = answer; state = left })
-  answers-the-table row has call = row-holds row has (judging request lent budget) call ∙ ap judged (sym is)
+  pub answers-the-cases : (row : Row) → Has proved-cases row → row .call ≡ judging request lent budget → row .gives ≡ judged (record { answer = answer; state = left })
+  answers-the-cases row has call = row-holds row has (judging request lent budget) call ∙ ap judged (sym is)
 
   pub kept : (answer .number ≡ Limits.goal-missed → ⊥) → (answer .number ≡ Limits.not-executable → ⊥) → left ≡ lent
   kept one two = ap (λ (j : Judgement). j .state) is ∙ judge-kept format lent budget request (λ e. one (sym number-is ∙ e)) (λ e. two (sym number-is ∙ e))

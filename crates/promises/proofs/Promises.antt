@@ -27,7 +27,7 @@ use Rattle.meaning.specs.Worlds.{Carried-out}
 use Rattle.meaning.specs.Answers.{answers}
 use Rattle.meaning.specs.AnswerParts.{Walk-input, Walk-count, Placed}
 use Rattle.meaning.specs.Tests.{Has}
-use Rattle.meaning.proofs.Table.{judging, judged, Row, table}
+use Rattle.meaning.proofs.ProvedCases.{judging, judged, Row, proved-cases}
 use Rattle.steps.specs.AtHand.{Marked}
 use Rattle.promises.proofs.JudgePromises
 use Rattle.glintstring.proofs.judging.judge.Kinds.{ps, r}
@@ -69,8 +69,8 @@ module _ (κs : Lfts 2) (given : Dens κs ps) where
     numbered = JudgePromises.numbered request lent budget answer (left exit) meets
 
     -- The proved cases (FORMAT 15.12): given a row's inputs, it answers what the row says.
-    pub answers-the-table : (row : Row) → Has table row → row .call ≡ judging request lent budget → row .gives ≡ judged (record { answer = answer; state = left exit })
-    answers-the-table = JudgePromises.answers-the-table request lent budget answer (left exit) meets
+    pub answers-the-cases : (row : Row) → Has proved-cases row → row .call ≡ judging request lent budget → row .gives ≡ judged (record { answer = answer; state = left exit })
+    answers-the-cases = JudgePromises.answers-the-cases request lent budget answer (left exit) meets
 
     -- The lent bytes are written by answers 1 and 2 and by no other (FORMAT 4.45, 4.49).
     pub kept : (answer .number ≡ Limits.goal-missed → ⊥) → (answer .number ≡ Limits.not-executable → ⊥) → left exit ≡ lent

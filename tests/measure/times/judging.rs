@@ -4,12 +4,12 @@ use std::hint::black_box;
 
 use crate::model::Request;
 use crate::walk::Verdict;
-use crate::{literals, reader, section, sequence, settle, times, walk, Slice, Table, FILE_A};
+use crate::{literals, reader, section, sequence, settle, times, walk, Notes, Slice, FILE_A, SLOTS};
 
 const BUDGET: u32 = 100_000;
 
 extern "C" {
-    fn proved_settle(s: &Slice, t: &mut Table) -> usize;
+    fn proved_settle(s: &Slice, t: &mut Notes) -> usize;
     fn proved_judge(request: &Slice, lent: &Slice, budget: u32) -> u64;
 }
 
@@ -17,7 +17,7 @@ extern "C" {
 type Answer = (u64, u64, u64, [u8; 64]);
 
 fn proved_open(bytes: &[u8]) -> usize {
-    unsafe { proved_settle(&Slice(bytes.as_ptr(), bytes.len()), &mut [0; 9480]) }
+    unsafe { proved_settle(&Slice(bytes.as_ptr(), bytes.len()), &mut [0; SLOTS]) }
 }
 
 fn proved(bytes: &[u8]) -> Answer {

@@ -29,8 +29,9 @@ const FEWEST: u128 = 21;
 /// The stack for the walk: see docs/MEASURED.md.
 const STACK: usize = 64 << 20;
 
-/// The table that the proved reader fills, and two of its slots.
-type Table = [u16; 9480];
+/// The notes that the proved reader leaves, and two of their slots.
+const SLOTS: usize = 9480;
+type Notes = [u16; SLOTS];
 const ITEMS: usize = 5377;
 const EFFECTS: usize = 5378;
 
@@ -39,12 +40,12 @@ const EFFECTS: usize = 5378;
 struct Slice(*const u8, usize);
 
 extern "C" {
-    fn proved_read(s: &Slice, t: &mut Table) -> usize;
+    fn proved_read(s: &Slice, t: &mut Notes) -> usize;
 }
 
 /// The place after the request, or 65,536 times the fault's number plus its place.
-fn proved(bytes: &[u8], table: &mut Table) -> usize {
-    unsafe { proved_read(&Slice(bytes.as_ptr(), bytes.len()), table) }
+fn proved(bytes: &[u8], notes: &mut Notes) -> usize {
+    unsafe { proved_read(&Slice(bytes.as_ptr(), bytes.len()), notes) }
 }
 
 /// The same of the independent reader, which reads all bytes or finds a fault.
@@ -112,13 +113,13 @@ const FILE_A: [u8; 48] = [
 
 /// How many effects and items both find in it, without fault; on each of its beginnings they agree too.
 fn agreed(name: &str, bytes: &[u8]) -> (usize, usize) {
-    let mut table = [0; 9480];
-    assert_eq!(proved(bytes, &mut table), bytes.len(), "{name}: fault");
+    let mut notes = [0; SLOTS];
+    assert_eq!(proved(bytes, &mut notes), bytes.len(), "{name}: fault");
     let request = reader::read_request(bytes).expect(name);
     let found = (request.effects.len(), model::item_count(&request.plan));
-    assert_eq!((table[EFFECTS].into(), table[ITEMS].into()), found, "{name}");
+    assert_eq!((notes[EFFECTS].into(), notes[ITEMS].into()), found, "{name}");
     for part in (0..bytes.len()).map(|end| &bytes[..end]) {
-        assert_eq!(proved(part, &mut [0; 9480]), independent(part), "{name}: {} bytes", part.len());
+        assert_eq!(proved(part, &mut [0; SLOTS]), independent(part), "{name}: {} bytes", part.len());
     }
     found
 }
@@ -148,13 +149,13 @@ fn times<const N: usize>(calls: [&dyn Fn(); N]) -> [u128; N] {
     std::array::from_fn(|i| median(turns.iter().map(|turn| turn[i]).collect()))
 }
 
-/// The times of both readers; each call of the proved one has a new table of zeros.
+/// The times of both readers; each call of the proved one has new notes of zeros.
 fn readers() {
     println!("| request | bytes | effects | items | proved reader, ns | independent reader, ns | ratio |\n|---|---|---|---|---|---|---|");
     let (a, b, c, d) = (largest(), effects(), items(), FILE_A.to_vec());
     for (name, bytes) in [("the largest", a), ("255 effects of one action", b), ("1,024 items, 8 deep", c), ("File A", d)] {
         let (effects, items) = agreed(name, &bytes);
-        let one = || _ = black_box(proved(black_box(&bytes), black_box(&mut [0; 9480])));
+        let one = || _ = black_box(proved(black_box(&bytes), black_box(&mut [0; SLOTS])));
         let other = || _ = black_box(reader::read_request(black_box(&bytes)));
         let [one, other] = times([&one, &other]);
         let ratio = one as f64 / other as f64;

@@ -1,5 +1,5 @@
--- The proved table: the cases of the walk call, of the derivation call and of the whether call, one statement over one table. Its parts were
--- computed where they stand. Assumes nothing.
+-- The proved cases of the walk call, of the derivation call and of the whether call, one statement over one list. Its parts were computed where
+-- they are. Assumes nothing.
 use Prim.Native.Nat.{ℕ}
 use mathlib.Core.Path.{_≡_, sym, _∙_, ap, ap₂}
 use mathlib.Core.List.{List, _++_, map, map-map, map-append}
@@ -38,8 +38,8 @@ abbrev checking-row : DerivationCases.Case → Row
 checking-row c = record { call = checking (c .layout) (c .request) (c .derivation); gives = answered (c .gives) }
 
 -- Cases 1 to 13 and the rows beside them, then case 14 and the rows beside it, then those of the closing layout.
-pub table : List Row
-table = map judging-row cases ++ (map checking-row derivations ++ map checking-row whethers)
+pub proved-cases : List Row
+proved-cases = map judging-row cases ++ (map checking-row derivations ++ map checking-row whethers)
 
 -- Each row's call gives what the row says.
 abbrev Hold : List Row → Type 0
@@ -64,8 +64,8 @@ checkings cs hold =
     ∙ map-map answered (λ (c : DerivationCases.Case). c .gives) cs
     ∙ sym (map-map _ checking-row cs)
 
-pub table-holds : map (λ (r : Row). outcome-of (r .call)) table ≡ map (λ (r : Row). r .gives) table
-unfolding table
-table-holds =
+pub proved-cases-hold : map (λ (r : Row). outcome-of (r .call)) proved-cases ≡ map (λ (r : Row). r .gives) proved-cases
+unfolding proved-cases
+proved-cases-hold =
     hold-both (map judging-row cases) (map checking-row derivations ++ map checking-row whethers) judgings
     (hold-both (map checking-row derivations) (map checking-row whethers) (checkings derivations derivations-hold) (checkings whethers whethers-hold))
