@@ -280,7 +280,7 @@ module _ (s t same : List ℕ) (k pair : ℕ) (room : k < 255) (below : pair < p
         | no d ↦ subst (Last s t i (pair-at s (place-in t (i + 1)))) (sym (after-other (i + 1) (λ q. omega arith) (λ q. omega arith))) (linked .line i (omega arith))
       ]
 
-  after-pair : (x : ℕ) → x < effect-lines → Last s t (k + 1) x (getD After (line-numbers + x) 0)
+  after-pair : (x : ℕ) → x < pairs → Last s t (k + 1) x (getD After (line-numbers + x) 0)
   after-pair x h =
       elim (ℕ-discrete x pair) [
         | yes e ↦ rw e (subst (Last s t (k + 1) pair) (sym after-last) (record { most = omega arith; has = λ _. sym is; none = λ m lo hi _. omega arith }))
