@@ -29,7 +29,7 @@ extern "C" {
 #define GLINTSTRING_REQUEST_LIMIT 16384
 #define GLINTSTRING_DERIVATION_LIMIT 32768
 
-/* Bytes of free stack that a call may need: 6 MiB (docs/STACK.md, for the walk call; the others need less). */
+/* Bytes of free stack that a call may need: 6 MiB (docs/MEASURED.md, for the walk call; the others need less). */
 #define GLINTSTRING_STACK_NEEDED 6291456
 
 /* The marks of a fluent in a state. */

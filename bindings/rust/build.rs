@@ -78,7 +78,7 @@ fn no_library() -> Option<String> {
     (machine != "x86_64" || system != "linux").then(|| {
         format!(
             "there is no {ARCHIVE} for {machine} {system}: the proved library is for x86-64 Linux. Set {VARIABLE} to a folder that has one; \
-             in the repository `{VARIABLE}=$(tests/library)` compiles the sources as they stand for the machine at hand, unproved"
+             in the repository `{VARIABLE}=$(tests/helpers/library)` compiles the sources as they stand for the machine at hand, unproved"
         )
     })
 }

@@ -57,7 +57,7 @@ pub const REQUEST_LIMIT: usize = 16_384;
 /// Bytes that a derivation may have, in the same way.
 pub const DERIVATION_LIMIT: usize = 32_768;
 
-/// Bytes of free stack that a walk may need (docs/STACK.md): 6 MiB.
+/// Bytes of free stack that a walk may need (docs/MEASURED.md): 6 MiB.
 pub const STACK_NEEDED: usize = 6 << 20;
 
 /// The stack of [`judge`]'s thread: what is needed, and 1 MiB for the thread itself.

@@ -1,11 +1,13 @@
 // Checks the derivation in one file against the request in another, and says so on standard output (FORMAT 12.8 to 12.12, 17.44).
 ghost use Rattle.programs.specs.Input.{Within};
 use comparing::parts::same_part;
-use glintstring::derivations::check;
-use glintstring::derivations::check_whether;
+use glintstring::check_calls::check;
+use glintstring::check_calls::check_whether;
 use libc::STDOUT_FILENO;
 use meaning::Answer;
+use programs::DERIVATION_ROOM;
 use programs::Input;
+use programs::REQUEST_ROOM;
 use programs::put_line;
 use programs::read_file;
 
@@ -51,7 +53,7 @@ fn put_answer(whether: bool, request: &[u8], derivation: &[u8]) {
 // The derivation that argument i names, once the request is read.
 fn audit(whether: bool, request: &[u8], i: usize) {
     // One byte more than a derivation may have: a longer one is refused whatever it holds.
-    let mut bytes = [0u8; 32769];
+    let mut bytes = [0u8; DERIVATION_ROOM];
     match read_argument(i, &mut bytes) {
         Input::Bytes(n) => put_answer(whether, request, &bytes[..n]),
         Input::Unreadable => return,
@@ -61,7 +63,7 @@ fn audit(whether: bool, request: &[u8], i: usize) {
 // The request that argument i names, and the derivation that argument j names.
 fn audit_files(whether: bool, i: usize, j: usize) {
     // One byte more than a request may have.
-    let mut bytes = [0u8; 16385];
+    let mut bytes = [0u8; REQUEST_ROOM];
     match read_argument(i, &mut bytes) {
         Input::Bytes(n) => audit(whether, &bytes[..n], j),
         Input::Unreadable => return,

@@ -1,3 +1,3 @@
 pub mod ByteLaws
 pub mod ListLaws
-pub mod LineLaws
+pub mod LineReaderLaws

@@ -10,6 +10,7 @@ use mathlib.Core.List.{List, _∷_}
 use lib.Dec.{eqb, ltb}
 use borrow.Author.Tests.{ne-eqb, lt-ltb, le-ltb, ltb-true}
 use Rattle.meaning.specs.Tests.{both, pick}
+use Rattle.meaning.specs.Limits.{format, all-literals}
 use Rattle.meaning.specs.Literals.{complement}
 use Rattle.meaning.specs.Reading
 use Rattle.meaning.specs.Reading.{Got, got, fault, next, count-at, below-at, bound-of, have-complements, entry-at, entries-at, list-at}
@@ -136,12 +137,12 @@ entry-below kind n s p floor x q e =
     pick-cases _ _ _ g (λ _ f. absurd (fault≢got f)) λ _ i.
     subst (λ (y : ℕ). y < bound-of kind n) (got-same i) (below-bound (bound-of kind n) s p (w .0) (w .1) (w .2))
 
-bound-most : (kind : Reading.Kind) (n : ℕ) → n ≤ 64 → bound-of kind n ≤ 128
+bound-most : (kind : Reading.Kind) (n : ℕ) → n ≤ format .fluents → bound-of kind n ≤ all-literals
 unfolding bound-of
 bound-most Reading.Kind.literals n h = omega arith
 bound-most Reading.Kind.fluents n h = omega arith
 
-pub entry-fits : (k : Kind) (n : ℕ) (s : List ℕ) (p floor x q : ℕ) (number : Read) → n ≤ 64 → number ≡ number-read (entry-at (kind-of k) n s p floor) → number ≡ Value x q → Fits w64 (x + 1)
+pub entry-fits : (k : Kind) (n : ℕ) (s : List ℕ) (p floor x q : ℕ) (number : Read) → n ≤ format .fluents → number ≡ number-read (entry-at (kind-of k) n s p floor) → number ≡ Value x q → Fits w64 (x + 1)
 entry-fits k n s p floor x q number h read is =
     let e = read-value (entry-at (kind-of k) n s p floor) number x q read is in
     let below = entry-below (kind-of k) n s p floor x q e in

@@ -2,4 +2,4 @@
 pub mod limits; // every limit, refusal and mark
 pub mod bytes; // bytes, numbers and counts
 pub mod lists; // lists of literals and of fluents
-pub mod lines; // the lines of sections 3 to 5
+pub mod table_lines; // the lines of sections 3 to 5

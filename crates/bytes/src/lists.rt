@@ -1,5 +1,6 @@
 ghost use mathlib.Core.Path.{_≡_};
 ghost use Prim.Native.Nat.{_≤_};
+ghost use Rattle.meaning.specs.Limits.{format};
 ghost use Rattle.meaning.specs.Reading.{bound-of, entry-at, entries-at, list-at};
 ghost use Rattle.bytes.specs.Read.{number-read, passed, kind-of, beside-floor};
 use super::bytes::Read;
@@ -21,7 +22,7 @@ pub enum Passed {
 
 // The first number that is too large, over n fluents.
 fn first_too_large(kind: Kind, n: usize) -> usize
-    requires { ⌜ n ≤ 64 ⌝ }
+    requires { ⌜ n ≤ format .fluents ⌝ }
     ensures { λ r. ⌜ r ≡ bound-of (kind-of kind) n ⌝ }
 {
     match kind {
@@ -48,7 +49,7 @@ fn beside(kind: Kind, floor: usize, x: usize) -> bool
 
 // One entry. `floor` is 0 at the first entry, and else one more than the entry before.
 fn entry_at(kind: Kind, n: usize, s: &[u8], p: usize, floor: usize) -> Read
-    requires { ⌜ n ≤ 64 ⌝ }
+    requires { ⌜ n ≤ format .fluents ⌝ }
     ensures { λ r. ⌜ r ≡ number-read (entry-at (kind-of kind) n (now (s .entry)) p floor) ⌝ }
 {
     match below_at(first_too_large(kind, n), s, p) {
@@ -67,7 +68,7 @@ fn entry_at(kind: Kind, n: usize, s: &[u8], p: usize, floor: usize) -> Read
 
 // So many entries from `start` on.
 fn entries_at(kind: Kind, n: usize, s: &[u8], count: usize, start: usize) -> Passed
-    requires { ⌜ n ≤ 64 ⌝ }
+    requires { ⌜ n ≤ format .fluents ⌝ }
     ensures { λ r. ⌜ r ≡ passed (entries-at (kind-of kind) n (now (s .entry)) count start 0) ⌝ }
 {
     let mut left = count;
@@ -90,7 +91,7 @@ fn entries_at(kind: Kind, n: usize, s: &[u8], count: usize, start: usize) -> Pas
 
 // A list of at most `most` entries.
 pub fn list_at(kind: Kind, n: usize, most: usize, s: &[u8], p: usize) -> Passed
-    requires { ⌜ n ≤ 64 ⌝ }
+    requires { ⌜ n ≤ format .fluents ⌝ }
     ensures { λ r. ⌜ r ≡ passed (list-at (kind-of kind) n most (now (s .entry)) p) ⌝ }
 {
     match count_at(0, most, s, p) {

@@ -17,14 +17,15 @@ use Rattle.bytes.specs.Read.{passed}
 use Rattle.bytes.proofs.ListLaws.{passed-to, passed-stop}
 use Rattle.reading.specs.Noted.{noting, outcome}
 use Rattle.reading.proofs.SectionLaws.{noting-fault}
-use Rattle.deriving.specs.DerivationRead.{derivation-noted, settled-derivation}
+use Rattle.deriving.specs.DerivationRead.{derivation-noted, settled-derivation, places-slots}
 use Rattle.deriving.specs.Derived.{Lines-here}
 use Rattle.deriving.proofs.DerivedLaws.{check-begins}
-use Rattle.steps.specs.AtHand.{request-in, At-hand}
+use Rattle.steps.specs.Held.{table-in, request-in}
+use Rattle.steps.specs.AtHand.{At-hand}
 use Rattle.comparing.specs.Stands.{Lines-stand, Some-derived}
 use Rattle.checking.specs.Checked.{derivation-of, derivation-in, lines-in, All-stand}
 use Rattle.checking.specs.Asked.{Derivation-stands, Some-derivation, End-checked}
-use Rattle.comparing.proofs.StandLaws.{derived-whole, derived-count, derived-stand, count-first, count-second, derived-least}
+use Rattle.comparing.proofs.LinesStand.{derived-whole, derived-count, derived-stand, count-first, count-second, derived-least}
 use Rattle.checking.proofs.QuestionLaws.{fluents-are, actions-are}
 
 -- In what follows the places were `start` before.
@@ -37,7 +38,7 @@ module _ (layout : Layout) (n m : ℕ) (d start places : List ℕ) (r : Passed) 
   unfolding rest
   begins x fluents actions = check-begins layout x d ∙ ap₂ {C = Got (Unit {0})} (λ (a b : ℕ). next (settled-derivation layout a b d) (λ y _. rest x y)) (sym fluents) (sym actions)
 
-  module _ (room : length start ≡ 2049) (e : ℕ) (is : r ≡ To e) where
+  module _ (room : length start ≡ places-slots) (e : ℕ) (is : r ≡ To e) where
     some : Some-derived layout n m d places e
     some = derived-whole n m d layout start places r read e is room
 
@@ -66,7 +67,7 @@ module _ (layout : Layout) (n m : ℕ) (d start places : List ℕ) (r : Passed) 
       pub settled-least : 1 ≤ count
       settled-least = derived-least n m d layout places e some count counted
 
-      module _ (bytes : (i : ℕ) → Fits w8 (getD d i 0)) (few : n ≤ 64) (less : m ≤ 64) where
+      module _ (bytes : (i : ℕ) → Fits w8 (getD d i 0)) (few : n ≤ format .fluents) (less : m ≤ format .actions) where
         lines-stand : Lines-stand layout d places (some .derivation .lines)
         lines-stand = derived-stand n m d layout places (some .derivation) e (some .derived) count counted bytes few less
 
@@ -95,27 +96,27 @@ module _ (layout : Layout) (n m : ℕ) (d start places : List ℕ) (r : Passed) 
 
   -- For a request at hand.
   module _ (s t : List ℕ) (here : At-hand s t) (fluents : n ≡ getD s 0 0) (actions : m ≡ getD s 1 0) where
-    pub settled-fault : (k q : ℕ) → r ≡ Stop k q → Stop k q ≡ passed (check-derivation format layout (request-in s) d)
-    unfolding passed next
+    pub settled-fault : (k q : ℕ) → r ≡ Stop k q → Stop k q ≡ passed (check-derivation format layout (request-in s t) d)
+    unfolding passed next request-in
     settled-fault k q is =
         let met : settled-derivation layout n m d ≡ fault k q = noting-fault derivation-noted (settled-derivation layout n m d) r start places read k q is in
-        sym (ap passed (begins (request-in s) (fluents-are s t here n fluents) (actions-are s t here m actions) ∙ ap (λ (g : Got Derivation). next g (λ y _. rest (request-in s) y)) met))
+        sym (ap passed (begins (request-in s t) (fluents-are s t here n fluents) (actions-are s t here m actions) ∙ ap (λ (g : Got Derivation). next g (λ y _. rest (request-in s t) y)) met))
 
-    module _ (room : length start ≡ 2049) (e : ℕ) (is : r ≡ To e) (lines : Passed) (in-order : lines ≡ passed (check-lines format layout (request-in s .table) (lines-in layout n m d) 0 (lines-in layout n m d))) where
-      whole : check-derivation format layout (request-in s) d
-          ≡ next (check-lines format layout (request-in s .table) (lines-in layout n m d) 0 (lines-in layout n m d)) (λ _ _. check-end layout (request-in s) (derivation-in layout n m d))
-      unfolding rest lines-in
-      whole = whole-is room e is (request-in s) (fluents-are s t here n fluents) (actions-are s t here m actions)
+    module _ (room : length start ≡ places-slots) (e : ℕ) (is : r ≡ To e) (lines : Passed) (in-order : lines ≡ passed (check-lines format layout (table-in s) (lines-in layout n m d) 0 (lines-in layout n m d))) where
+      whole : check-derivation format layout (request-in s t) d
+          ≡ next (check-lines format layout (table-in s) (lines-in layout n m d) 0 (lines-in layout n m d)) (λ _ _. check-end layout (request-in s t) (derivation-in layout n m d))
+      unfolding rest lines-in request-in
+      whole = whole-is room e is (request-in s t) (fluents-are s t here n fluents) (actions-are s t here m actions)
 
-      pub lines-fault : (k q : ℕ) → lines ≡ Stop k q → Stop k q ≡ passed (check-derivation format layout (request-in s) d)
+      pub lines-fault : (k q : ℕ) → lines ≡ Stop k q → Stop k q ≡ passed (check-derivation format layout (request-in s t) d)
       unfolding passed next
       lines-fault k q stopped =
-          let met = passed-stop (check-lines format layout (request-in s .table) (lines-in layout n m d) 0 (lines-in layout n m d)) k q (sym in-order ∙ stopped) in
-          sym (ap passed (whole ∙ ap (λ (g : Got (Unit {0})). next g (λ _ _. check-end layout (request-in s) (derivation-in layout n m d))) met))
+          let met = passed-stop (check-lines format layout (table-in s) (lines-in layout n m d) 0 (lines-in layout n m d)) k q (sym in-order ∙ stopped) in
+          sym (ap passed (whole ∙ ap (λ (g : Got (Unit {0})). next g (λ _ _. check-end layout (request-in s t) (derivation-in layout n m d))) met))
 
-      pub lines-checked : (q : ℕ) → lines ≡ To q → (count : ℕ) → count ≡ getD d 0 0 * 256 + getD d 1 0 → ((i : ℕ) → Fits w8 (getD d i 0)) → n ≤ 64 → m ≤ 64 → (a : Passed) → End-checked layout (request-in s) d places count a
-          → a ≡ passed (check-derivation format layout (request-in s) d)
+      pub lines-checked : (q : ℕ) → lines ≡ To q → (count : ℕ) → count ≡ getD d 0 0 * 256 + getD d 1 0 → ((i : ℕ) → Fits w8 (getD d i 0)) → n ≤ format .fluents → m ≤ format .actions → (a : Passed) → End-checked layout (request-in s t) d places count a
+          → a ≡ passed (check-derivation format layout (request-in s t) d)
       unfolding next
       lines-checked q through count counted bytes few less a checked =
-          let all = passed-to (check-lines format layout (request-in s .table) (lines-in layout n m d) 0 (lines-in layout n m d)) q (sym in-order ∙ through) in
-          end-is room e is count counted bytes few less (request-in s) a checked ∙ sym (ap passed (whole ∙ rw (all .1) refl))
+          let all = passed-to (check-lines format layout (table-in s) (lines-in layout n m d) 0 (lines-in layout n m d)) q (sym in-order ∙ through) in
+          end-is room e is count counted bytes few less (request-in s t) a checked ∙ sym (ap passed (whole ∙ rw (all .1) refl))

@@ -1,4 +1,4 @@
-pub mod LineLaws
+pub mod EachLineLaws
 pub mod OrderLaws
 pub mod QuestionLaws
 pub mod ClosingLaws

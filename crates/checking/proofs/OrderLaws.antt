@@ -18,9 +18,10 @@ use Rattle.meaning.specs.Derivations.{Line, follows, citations-of, a-rule, cite
 use Rattle.meaning.proofs.TestLaws.{pick-true, pick-false}
 use Rattle.bytes.specs.declared.lists.Passed.the-variants.{To, Fault as Stop}
 use Rattle.bytes.specs.Read.{passed}
+use Rattle.deriving.specs.DerivationRead.{plan-ends-slot, places-slots}
 use Rattle.comparing.proofs.SpotLaws.{spot-line}
 use Rattle.checking.specs.Checked.{lines-in, no-line, line-in, spot-in, All-stand, Numbered, refused-by}
-use Rattle.checking.proofs.LineLaws.{own-few, own}
+use Rattle.checking.proofs.EachLineLaws.{own-few, own}
 
 -- ONE LINE: refused by its number, or passed over.
 chosen : (a b c e : Bool) (p : ℕ) (rest : Got (Unit {0}))
@@ -58,7 +59,7 @@ module _ (layout : Layout) (n m : ℕ) (d places : List ℕ) (count : ℕ) (all 
   pub line-numbered : (i : ℕ) → i < count → Numbered layout n m d places count i
   line-numbered i h = record { all = all; below = h }
 
-  pub index-few : (i : ℕ) → i < count → i < 2049
+  pub index-few : (i : ℕ) → i < count → i < places-slots
   index-few i h = let few = own-few layout n m d places count i (line-numbered i h) in omega (arith, few)
 
   module _ (t : Table) (i : ℕ) (so-far : Checking layout t (lines-in layout n m d) i) where
@@ -85,7 +86,7 @@ module _ (layout : Layout) (n m : ℕ) (d places : List ℕ) (count : ℕ) (all 
 
         stopped : 0 < number → (p : ℕ) → p ≡ getD places i 0 → check-lines format layout t (lines-in layout n m d) 0 (lines-in layout n m d) ≡ fault number p
         stopped h p place =
-            let there : line-in layout n m d i .place ≡ p = own layout n m d places count i (line-numbered i more) (spot-in layout d places i) refl .place ∙ spot-line layout d (getD places i 0) (getD places (1024 + i) 0) ∙ sym place in
+            let there : line-in layout n m d i .place ≡ p = own layout n m d places count i (line-numbered i more) (spot-in layout d places i) refl .place ∙ spot-line layout d (getD places i 0) (getD places (plan-ends-slot + i) 0) ∙ sym place in
             on ∙ line-refused layout t (lines-in layout n m d) i (line-in layout n m d i) (drop (i + 1) (lines-in layout n m d)) (subst (λ (j : ℕ). 0 < j) is h) ∙ rw (sym is, there) refl
 
         pub line-stops : 0 < number → (p : ℕ) → p ≡ getD places i 0 → Stop number p ≡ passed (check-lines format layout t (lines-in layout n m d) 0 (lines-in layout n m d))

@@ -1,75 +1,34 @@
 -- Where the parts of a request at hand stand that the question is made of: its counts at places 0 and 1, its facts at place 2, its plan and its
--- goals where the table says, and its whether entries after the goals. And what is asked of one line. Assumes nothing.
+-- goals where the notes say, and its whether entries after the goals. And what is asked of one line. Assumes nothing.
 use Prim.Native.Nat.{ℕ, _+_, _-_, _≤_, _<_}
 use native.Mathlib.Omega.{arith}
-use mathlib.Core.Path.{_≡_, refl, sym, _∙_, ap, ap₂, subst}
+use mathlib.Core.Path.{_≡_, refl, sym, _∙_, ap, ap₂}
 use mathlib.Core.Bool.{Bool, true, false}
 use mathlib.Core.List.{List, [], _∷_, map}
 use lib.ListN.{length, getD}
 use lib.Dec.{eqb}
 use Rattle.meaning.specs.Tests.{both}
-use Rattle.meaning.specs.Limits.{format}
-use Rattle.meaning.specs.Requests.{Table, Sequence, Entry, Request, values}
-use Rattle.meaning.specs.Reading
-use Rattle.meaning.specs.Reading.{Got, got, fault, Met, literals, list-at, table-at, plan-at, placed, request-at, read-request}
+use Rattle.meaning.specs.Limits.{format, all-literals}
+use Rattle.meaning.specs.Requests.{Entry, Request, values}
+use Rattle.meaning.specs.Reading.{placed}
 use Rattle.meaning.specs.Derivations.{Conclusion, knows, knows-whether, Line, same-list, same-plan, same-conclusion, says, asks-for, goals-of}
 use Rattle.meaning.proofs.TestLaws.{clash}
-use Rattle.meaning.proofs.SettledLaws.{got-same}
-use Rattle.meaning.proofs.RangeLaws.{not-refused, after-got}
 use Rattle.meaning.proofs.ReadLines.{placed-values}
 use Rattle.reading.specs.Listed.{listed, List-here}
-use Rattle.reading.specs.Planned.{bytes-of}
-use Rattle.reading.specs.Requested.{goals-place, plan-place}
-use Rattle.reading.proofs.PlanSizes.{sequence-read, list-through}
-use Rattle.reading.proofs.RequestLaws.{placed-length}
-use Rattle.refusing.specs.Branchings.{sequence-place}
-use Rattle.refusing.specs.Settled.{blank}
-use Rattle.refusing.proofs.ReadLaws.{Parts, parts, plan-noted-at}
-use Rattle.refusing.proofs.SettleLaws.{blank-long}
-use Rattle.steps.specs.AtHand.{request-in, At-hand}
-use Rattle.steps.specs.Lines.{goals-in, whether-in}
-use Rattle.steps.proofs.HandLaws.{request-is, starts}
-use Rattle.steps.proofs.SlotLaws.{goals-noted}
-use Rattle.steps.proofs.Served.{ends-at-hand}
+use Rattle.reading.specs.Noted.{plan-slot, items-slot, goals-slot}
+use Rattle.finding.specs.Branches.{sequence-place}
+use Rattle.steps.specs.Held.{table-in, plan-in, goals-in, whether-in, request-in}
+use Rattle.steps.specs.AtHand.{At-hand}
+use Rattle.steps.proofs.HandLaws.{starts, sections, is-whether}
 use Rattle.comparing.specs.declared.spots.Spot.{Spot}
 use Rattle.comparing.specs.Stands.{Plan-stands, Conclusion-stands, Stands}
-use Rattle.comparing.specs.Rules.{Some-plan, Same-plans, Some-concluded, Some-stands, Ruled}
+use Rattle.comparing.specs.RuleAnswers.{Some-plan, Same-plans, Some-concluded, Some-stands, Ruled}
 use Rattle.checking.specs.declared.question.Asked.{Asked}
 use Rattle.checking.specs.declared.question.Asked.the-variants.{Goals, Fluent}
 use Rattle.checking.specs.Asked.{conclusion-asked, begins}
 use Rattle.comparing.proofs.SpotLaws.{concluded-there, concluded-list}
-use Rattle.comparing.proofs.StandLaws.{plan-stands}
+use Rattle.comparing.proofs.LinesStand.{plan-stands}
 use Rattle.ruling.proofs.RuleLaws.{no-left, yes-left, plan-of}
-
--- THE PLAN stands up to the goals.
-record Planned (s : List ℕ) (x : Request) : Type 0 where
-  plan : Met (Sequence ℕ)
-  reads : plan-at format (x .table .fluents) (x .table .actions) s (plan-place x) ≡ got plan (goals-place x)
-  value : plan .value ≡ x .plan
-
-request-planned : (s : List ℕ) (t : Table) (p : ℕ) (y : Request) (q : ℕ) → request-at format s t p ≡ got y q → Planned s y
-unfolding request-at plan-place goals-place plan-at
-request-planned s t p y q e =
-    after-got (plan-at format (t .fluents) (t .actions) s p) _ e λ plan q₁ eplan v₁.
-    after-got (list-at literals (t .fluents) 64 s q₁) _ v₁ λ goals q₂ egoals v₂.
-    after-got (list-at Reading.fluents (t .fluents) 64 s q₂) _ v₂ λ whether q₃ _ v₃.
-    let after = sequence-read (t .fluents) (t .actions) s 8 p 0 (omega arith) .holds plan q₁ eplan .through .after in
-    let ends = list-through s literals (t .fluents) 64 q₁ .holds goals q₂ egoals .after in
-    let sized = placed-length (q₁ + 1) goals in
-    let goals-at : q₂ - (1 + length (placed (q₁ + 1) goals)) ≡ q₁ = omega arith in
-    let plan-at-p : q₁ - (2 + bytes-of (plan .value)) ≡ p = omega arith in
-    subst on v₃ (record { plan = plan; reads = rw (goals-at, plan-at-p) eplan; value = refl })
-  where
-    on : Got Request → Type 0
-    on (got x i) = Planned s x
-    on (fault n i) = Unit {0}
-
-planned : (s : List ℕ) (x : Request) (e : ℕ) → read-request format s ≡ got x e → Planned s x
-unfolding read-request
-planned s x e read =
-    after-got (table-at format s 0) _ (not-refused _ _ _ _ read .1) λ t p et e₁.
-    after-got (request-at format s t p) _ e₁ λ y q ey e₂.
-    subst (Planned s) (got-same (not-refused _ _ _ _ e₂ .1)) (request-planned s t p y q ey)
 
 placed-asked : (p : ℕ) (xs : List ℕ) → map (λ (w : Entry). knows-whether (w .value)) (placed p xs) ≡ map knows-whether xs
 unfolding placed
@@ -78,9 +37,6 @@ placed-asked p (x ∷ xs) = ap (λ (Ys : List Conclusion). knows-whether x ∷ Y
 
 -- A REQUEST at hand.
 module _ (s t : List ℕ) (here : At-hand s t) where
-  x : Request
-  x = here .read .request
-
   pub first-there : 0 < length s
   first-there = let there = starts s t here .front .second in omega (arith, there)
 
@@ -88,76 +44,60 @@ module _ (s t : List ℕ) (here : At-hand s t) where
   second-there = starts s t here .front .second
 
   module _ (n : ℕ) (is : n ≡ getD s 0 0) where
-    pub fluents-are : n ≡ request-in s .table .fluents
+    pub fluents-are : n ≡ table-in s .fluents
     fluents-are = is ∙ starts s t here .front .fluents-are
 
-    pub fluents-few : n ≤ 64
+    pub fluents-few : n ≤ format .fluents
     fluents-few = let few = starts s t here .front .most in let same = fluents-are in omega (arith, few, same)
 
   module _ (m : ℕ) (is : m ≡ getD s 1 0) where
-    pub actions-are : m ≡ request-in s .table .actions
+    pub actions-are : m ≡ table-in s .actions
     actions-are = is ∙ starts s t here .front .actions-are
 
-    pub actions-few : m ≤ 64
+    pub actions-few : m ≤ format .actions
     actions-few = let few = starts s t here .front .few in let same = actions-are in omega (arith, few, same)
 
-  module _ (goals : ℕ) (at-goals : goals ≡ getD t 5381 0) where
-    pub goals-here : List-here 128 s goals
-    unfolding goals-in
-    goals-here = rw at-goals (ends-at-hand s t here .goals-here)
+  module _ (goals : ℕ) (at-goals : goals ≡ getD t goals-slot 0) where
+    goals-same : listed s goals ≡ values (request-in s t .goals)
+    unfolding request-in goals-in
+    goals-same = rw at-goals (sym (placed-values (getD t goals-slot 0 + 1) (listed s (getD t goals-slot 0))))
 
-    goals-same : listed s goals ≡ values (request-in s .goals)
-    unfolding goals-in
-    goals-same = rw at-goals (sym (placed-values (getD t 5381 0 + 1) (listed s (getD t 5381 0))) ∙ ap values (ends-at-hand s t here .goals-same))
-
-    module _ (asked : ℕ) (at-plan : asked ≡ getD t 5376 0) where
-      asked-stands : Plan-stands s asked goals (request-in s .plan)
-      unfolding x
+    module _ (asked : ℕ) (at-plan : asked ≡ getD t plan-slot 0) where
+      asked-stands : Plan-stands s asked goals (plan-in s t)
+      unfolding goals-in
       asked-stands =
-          let whole : Parts s x = parts s x (here .end) (here .read .reads) in
-          let w = planned s x (here .end) (here .read .reads) in
-          let plan-is : asked ≡ plan-place x =
-          at-plan ∙ ap (λ (u : List ℕ). getD u 5376 0) (here .read .noted) ∙ plan-noted-at s (here .bytes) x whole blank blank-long ∙ sym (whole .placed)
-          in
-          let goals-are : goals ≡ goals-place x = at-goals ∙ ap (λ (u : List ℕ). getD u 5381 0) (here .read .noted) ∙ goals-noted s (here .bytes) x whole in
-          let stands = plan-stands (x .table .fluents) (x .table .actions) s (here .bytes) (whole .of-table .few) (whole .of-table .less) (plan-place x) (w .plan) (goals-place x) (w .reads) in
-          rw (plan-is, goals-are, request-is s t here) (subst (Plan-stands s (plan-place x) (goals-place x)) (w .value) stands)
+          let whole = sections s t here in
+          rw (at-plan, at-goals)
+          (plan-stands (table-in s .fluents) (table-in s .actions) s (here .bytes) (whole .few) (whole .less) (getD t plan-slot 0) (record { value = plan-in s t; items = getD t items-slot 0 }) (goals-in t) (here .plan))
 
       pub asked-some : Some-plan s asked goals
-      asked-some = record { plan = request-in s .plan; stands = asked-stands }
+      asked-some = record { plan = plan-in s t; stands = asked-stands }
 
     -- THE WHETHER ENTRIES.
     module _ (whether : ℕ) (after : whether ≡ sequence-place s goals) where
-      whether-at : whether ≡ whether-in s t
-      unfolding goals-in whether-in sequence-place
-      whether-at = rw (after, at-goals) refl
-
-      pub whether-here : List-here 64 s whether
-      whether-here = subst (List-here 64 s) (sym whether-at) (ends-at-hand s t here .whether-here)
-
-      pub whether-asked : map (λ (w : Entry). knows-whether (w .value)) (request-in s .whether) ≡ map knows-whether (listed s whether)
+      pub whether-asked : map (λ (w : Entry). knows-whether (w .value)) (request-in s t .whether) ≡ map knows-whether (listed s whether)
+      unfolding request-in
       whether-asked =
-          ap (map (λ (w : Entry). knows-whether (w .value))) (sym (ends-at-hand s t here .whether-same))
-          ∙ placed-asked (whether-in s t + 1) (listed s (whether-in s t))
-          ∙ ap (λ (p : ℕ). map knows-whether (listed s p)) (sym whether-at)
+          placed-asked (whether-in s t + 1) (listed s (whether-in s t))
+          ∙ ap (λ (p : ℕ). map knows-whether (listed s p)) (sym (is-whether s t here goals at-goals whether after))
 
   -- THE START of a line at a spot: the facts, then the plan.
   module _ (d : List ℕ) (w : Spot) (facts : Bool) (first : facts ≡ same-list (listed d (w .line)) (listed s 2)) where
-    facts-are : (l : Line) → Stands d w l → facts ≡ same-list (l .X) (request-in s .table .facts)
+    facts-are : (l : Line) → Stands d w l → facts ≡ same-list (l .X) (table-in s .facts)
     facts-are l stands = first ∙ ap₂ {C = Bool} same-list (stands .X .same) (starts s t here .facts)
 
-    pub other-facts : facts ≡ false → Ruled d w (begins (request-in s)) false
-    unfolding begins
-    other-facts f = record { holds = λ l stands. no-left (same-list (l .X) (request-in s .table .facts)) _ (sym (facts-are l stands) ∙ f) }
+    pub other-facts : facts ≡ false → Ruled d w (begins (request-in s t)) false
+    unfolding begins request-in
+    other-facts f = record { holds = λ l stands. no-left (same-list (l .X) (table-in s .facts)) _ (sym (facts-are l stands) ∙ f) }
 
-    pub same-facts : facts ≡ true → (q : ℕ) → q ≡ sequence-place d (w .line) → (asked : ℕ) → asked ≡ getD t 5376 0 → (goals : ℕ) → goals ≡ getD t 5381 0 → (r : Bool) → Same-plans d q (w .end) s asked goals r
-        → Ruled d w (begins (request-in s)) r
-    unfolding begins
+    pub same-facts : facts ≡ true → (q : ℕ) → q ≡ sequence-place d (w .line) → (asked : ℕ) → asked ≡ getD t plan-slot 0 → (goals : ℕ) → goals ≡ getD t goals-slot 0 → (r : Bool) → Same-plans d q (w .end) s asked goals r
+        → Ruled d w (begins (request-in s t)) r
+    unfolding begins request-in
     same-facts e q after asked at-plan goals at-goals r same =
         record {
           holds = λ l stands.
-              same .holds (l .c) (request-in s .plan) (plan-of d w q after l stands) (asked-stands goals at-goals asked at-plan)
-              ∙ sym (yes-left (same-list (l .X) (request-in s .table .facts)) _ (sym (facts-are l stands) ∙ e));
+              same .holds (l .c) (plan-in s t) (plan-of d w q after l stands) (asked-stands goals at-goals asked at-plan)
+              ∙ sym (yes-left (same-list (l .X) (table-in s .facts)) _ (sym (facts-are l stands) ∙ e));
         }
 
 -- A LINE at a spot.
@@ -168,7 +108,7 @@ module _ (d : List ℕ) (w : Spot) (some : Some-stands d w) where
   concluded : Some-concluded d w
   concluded = record { conclusion = some .line .Y; stands = some .stands .Y }
 
-  pub own-list : w .fluent ≡ false → List-here 128 d (w .conclusion)
+  pub own-list : w .fluent ≡ false → List-here all-literals d (w .conclusion)
   own-list list = concluded-list d w list concluded
 
   pub own-byte : w .conclusion < length d
@@ -257,6 +197,6 @@ module _ (r : Request) (d : List ℕ) (w : Spot) (asked : Asked) (begun : Bool) 
             holds = λ l stands. sym (asks-as (knows-whether f) is-fluent l stands ∙ fluent-as d (w .conclusion) (w .fluent) e (l .Y) (stands .Y) f);
           }
 
-pub goals-asked : (s t : List ℕ) (here : At-hand s t) (d : List ℕ) (w : Spot) (asked : Asked) (begun : Bool) → Ruled d w (begins (request-in s)) begun → begun ≡ true → asked ≡ Goals → w .fluent ≡ false
-    → (goals : ℕ) → goals ≡ getD t 5381 0 → (same : Bool) → same ≡ same-list (listed d (w .conclusion)) (listed s goals) → Ruled d w (asks-for (request-in s) (conclusion-asked (request-in s) asked)) same
-goals-asked s t here d w asked begun first begin is list goals at-goals same said = goals-list (request-in s) d w asked begun first begin is list (listed s goals) (goals-same s t here goals at-goals) same said
+pub goals-asked : (s t : List ℕ) (here : At-hand s t) (d : List ℕ) (w : Spot) (asked : Asked) (begun : Bool) → Ruled d w (begins (request-in s t)) begun → begun ≡ true → asked ≡ Goals → w .fluent ≡ false
+    → (goals : ℕ) → goals ≡ getD t goals-slot 0 → (same : Bool) → same ≡ same-list (listed d (w .conclusion)) (listed s goals) → Ruled d w (asks-for (request-in s t) (conclusion-asked (request-in s t) asked)) same
+goals-asked s t here d w asked begun first begin is list goals at-goals same said = goals-list (request-in s t) d w asked begun first begin is list (listed s goals) (goals-same s t here goals at-goals) same said

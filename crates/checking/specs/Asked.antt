@@ -12,7 +12,8 @@ use Rattle.meaning.specs.Derivations.{Conclusion, knows-whether, Line, Derivati
 use Rattle.bytes.specs.declared.lists.Passed.{Passed}
 use Rattle.bytes.specs.Read.{passed}
 use Rattle.reading.specs.Listed.{listed}
-use Rattle.steps.specs.AtHand.{request-in}
+use Rattle.deriving.specs.DerivationRead.{lines-end}
+use Rattle.steps.specs.Held.{request-in}
 use Rattle.comparing.specs.Stands.{Numbers-stand, Lines-stand, Closing-stands}
 use Rattle.checking.specs.declared.question.Asked.{Asked}
 use Rattle.checking.specs.declared.question.Asked.the-variants.{Goals, Fluent}
@@ -30,15 +31,15 @@ pub record Names (r : Request) (d places : List ℕ) (count at : ℕ) (asked : A
   pub holds : (lines : List Line) → Lines-stand Closing d places lines → length lines ≡ count → answer ≡ names r lines (getD d at 0 * 256 + getD d (at + 1) 0) (conclusion-asked r asked)
 
 -- Whatever lines and numbers stand there, one for each fluent of the list at `whether`.
-pub record Entries-checked (s d places : List ℕ) (count whether first : ℕ) (answer : Passed) : Type 0 where
+pub record Entries-checked (s t d places : List ℕ) (count whether first : ℕ) (answer : Passed) : Type 0 where
   pub holds : (lines : List Line) (ks : List ℕ) → Lines-stand Closing d places lines → length lines ≡ count → Numbers-stand d first ks → length ks ≡ length (listed s whether)
-      → answer ≡ passed (check-entries (request-in s) lines first (map knows-whether (listed s whether)) ks)
+      → answer ≡ passed (check-entries (request-in s t) lines first (map knows-whether (listed s whether)) ks)
 
 -- The lines of a derivation, so many, and what closes it stand where the places say.
 pub record Derivation-stands (layout : Layout) (d places : List ℕ) (count : ℕ) (x : Derivation) : Type 0 where
   pub stand : Lines-stand layout d places (x .lines)
   pub size : length (x .lines) ≡ count
-  pub closes : getD places 2048 0 ≡ x .closing-place
+  pub closes : getD places lines-end 0 ≡ x .closing-place
   pub closing : Closing-stands layout d (x .closing-place) (x .closing)
 
 pub record Some-derivation (layout : Layout) (d places : List ℕ) (count : ℕ) : Type 0 where

@@ -14,6 +14,7 @@ use Rattle.meaning.specs.Requests.{Table, done}
 use Rattle.meaning.specs.Reading.{Got, got, fault}
 use Rattle.meaning.specs.Derivations.{knows, Line, Derivation, read-derivation, follows, citations-of, a-rule, cited-by}
 use Rattle.deriving.specs.Derived.{Lines-here}
+use Rattle.deriving.specs.DerivationRead.{plan-ends-slot}
 use Rattle.comparing.specs.declared.spots.Spot.{Spot}
 use Rattle.comparing.specs.Stands.{spot-at, Lines-stand}
 
@@ -37,12 +38,12 @@ line-in layout n m d i = getD (lines-in layout n m d) i no-line
 
 -- Where its parts stand.
 abbrev pub spot-in : Layout → (d places : List ℕ) → ℕ → Spot
-spot-in layout d places i = spot-at layout d (getD places i 0) (getD places (1024 + i) 0)
+spot-in layout d places i = spot-at layout d (getD places i 0) (getD places (plan-ends-slot + i) 0)
 
 -- There are so many, and each stands where its slots say.
 pub record All-stand (layout : Layout) (n m : ℕ) (d places : List ℕ) (count : ℕ) : Type 0 where
-  pub few : n ≤ 64
-  pub less : m ≤ 64
+  pub few : n ≤ format .fluents
+  pub less : m ≤ format .actions
   pub here : Lines-here n m d layout places 0 (lines-in layout n m d)
   pub stand : Lines-stand layout d places (lines-in layout n m d)
   pub size : length (lines-in layout n m d) ≡ count

@@ -13,9 +13,9 @@ use Rattle.meaning.specs.Requests.{Sequence, done, item, Item, act, branching, 
 use Rattle.meaning.specs.Derivations.{same-list, same-plan, same-item, same-branches, join}
 use Rattle.meaning.proofs.TestLaws.{same-test, both-left, both-right, both-true}
 use Rattle.meaning.proofs.SetLaws.{same-list-is}
-use Rattle.refusing.specs.Plans.{own-items, branches-in}
+use Rattle.finding.specs.PlansHeld.{own-items, branches-in}
 use Rattle.reading.specs.Planned.{items-of, bytes-of, bytes-in, bytes-under}
-use Rattle.comparing.proofs.PartLaws.{same-list-equal}
+use Rattle.comparing.proofs.SamePartLaws.{same-list-equal}
 use Rattle.comparing.specs.Coded.{coded, coded-item, coded-branches, Tellable, Tellable-item, Tellable-branches}
 
 -- LISTS of numbers.

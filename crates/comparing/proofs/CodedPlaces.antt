@@ -8,9 +8,9 @@ use lib.ListN.{length, length-append, getD}
 use Rattle.meaning.specs.Tests.{both}
 use Rattle.meaning.specs.Requests.{Sequence, done, item, act, branching, Branches, branch}
 use Rattle.reading.specs.Listed.{bytes-from, listed}
-use Rattle.refusing.specs.Branchings.{sequence-place}
+use Rattle.finding.specs.Branches.{sequence-place}
 use Rattle.reading.specs.Planned.{bytes-of, bytes-under}
-use Rattle.refusing.specs.Plans.{own-items, branches-in}
+use Rattle.finding.specs.PlansHeld.{own-items, branches-in}
 use Rattle.comparing.specs.Coded.{coded, coded-branches, Tellable, Tellable-branches}
 use Rattle.comparing.proofs.CodedLaws.{heads, tails, coded-length, branches-length}
 

@@ -17,8 +17,8 @@ use Rattle.meaning.proofs.MovedPlans.{plan-copied}
 use Rattle.reading.specs.Listed.{bytes-from}
 use Rattle.reading.specs.Planned.{bytes-of}
 use Rattle.reading.proofs.PlanSizes.{sequence-read}
-use Rattle.refusing.specs.Plans.{own-items, branches-in}
-use Rattle.refusing.proofs.WrittenLaws.{two-is}
+use Rattle.finding.specs.PlansHeld.{own-items, branches-in}
+use Rattle.finding.proofs.WrittenLaws.{two-is}
 use Rattle.comparing.specs.Coded.{coded, coded-item, coded-branches, Tellable, Tellable-item, Tellable-branches}
 use Rattle.comparing.proofs.CodedLaws.{coded-length, own-most}
 
@@ -56,7 +56,7 @@ mutual
       rw (items-same b, written-coded b, branches-coded rest) (sym (append-assoc (length c ∷ c) (own-items b / 256 ∷ own-items b % 256 ∷ coded b) (coded-branches rest)))
 
 -- WHAT WAS READ CAN BE TOLD: an action is below the actions' count, and a count has two bytes.
-module _ (n m : ℕ) (s : List ℕ) (bytes : Bytes s) (few : m ≤ 64) where
+module _ (n m : ℕ) (s : List ℕ) (bytes : Bytes s) (few : m ≤ format .actions) where
   abbrev plan-told : Said
   plan-told = record {
     item = λ deep p met x e. Tellable-item (x .value);
@@ -88,9 +88,9 @@ pub record Plan-coded (s : List ℕ) (p : ℕ) (b : Sequence ℕ) (e : ℕ) : Ty
   pub there : p + 1 < length s
   pub inside : e ≤ length s
   pub tellable : Tellable b
-  pub few : own-items b ≤ 1024
+  pub few : own-items b ≤ format .items
 
-pub plan-coded : (n m : ℕ) (s : List ℕ) → ((i : ℕ) → getD s i 0 < 256) → m ≤ 64 → (p : ℕ) (x : Met (Sequence ℕ)) (e : ℕ) → plan-at format n m s p ≡ got x e → Plan-coded s p (x .value) e
+pub plan-coded : (n m : ℕ) (s : List ℕ) → ((i : ℕ) → getD s i 0 < 256) → m ≤ format .actions → (p : ℕ) (x : Met (Sequence ℕ)) (e : ℕ) → plan-at format n m s p ≡ got x e → Plan-coded s p (x .value) e
 unfolding plan-at plan-written number-written
 plan-coded n m s small few p x e read =
     let st = plan-copied format n m s small p .holds x e read .there in

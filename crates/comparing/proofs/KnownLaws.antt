@@ -10,7 +10,7 @@ use mir.Syntax.{w64}
 use mir.Val.{Fits}
 use borrow.Author.Tests.{eqb-true, eqb-false, eq-eqb, ne-eqb}
 use Rattle.meaning.specs.Tests.{both, pick, each-of}
-use Rattle.meaning.specs.Limits.{format}
+use Rattle.meaning.specs.Limits.{format, all-literals}
 use Rattle.meaning.specs.Literals.{says-true, says-false, among, exclusive}
 use Rattle.meaning.specs.States.{State, known, state-of}
 use Rattle.meaning.specs.Derivations.{same-list, included, known-from, literals-of}
@@ -20,15 +20,16 @@ use Rattle.meaning.proofs.ToldLaws.{Clear, state-known}
 use Rattle.reading.specs.declared.marks.Test.the-variants.{Known}
 use Rattle.reading.specs.Listed.{bytes-from, listed, List-here, holds-as}
 use Rattle.reading.proofs.MarkLaws.{bytes-next, bytes-done}
-use Rattle.refusing.proofs.PlanOverlaps.{listed-below, clear-of}
+use Rattle.finding.proofs.PlanHere.{listed-below}
+use Rattle.refusing.proofs.PlanOverlaps.{clear-of}
 use Rattle.steps.specs.AtHand.{Marked}
-use Rattle.comparing.proofs.PartLaws.{drop-next}
+use Rattle.comparing.proofs.SamePartLaws.{drop-next}
 
 -- A LIST in which none stands beside its complement is just what its state knows.
-pub listed-clear : (s : List ℕ) (p : ℕ) → List-here 128 s p → exclusive (listed s p) (listed s p) ≡ false → Clear format (listed s p)
-listed-clear s p here apart = clear-of (listed s p) (listed-below s 128 p here) apart
+pub listed-clear : (s : List ℕ) (p : ℕ) → List-here all-literals s p → exclusive (listed s p) (listed s p) ≡ false → Clear format (listed s p)
+listed-clear s p here apart = clear-of (listed s p) (listed-below s all-literals p here) apart
 
-pub within-is : (s : List ℕ) (p : ℕ) (u : List ℕ) (q : ℕ) (marks : State) (r : Bool) → List-here 128 u q → exclusive (listed u q) (listed u q) ≡ false
+pub within-is : (s : List ℕ) (p : ℕ) (u : List ℕ) (q : ℕ) (marks : State) (r : Bool) → List-here all-literals u q → exclusive (listed u q) (listed u q) ≡ false
     → marks ≡ state-of format (listed u q) → r ≡ each-of (holds-as Known marks) (listed s p) → r ≡ included (listed s p) (listed u q)
 unfolding included holds-as
 within-is s p u q marks r here apart told is =
@@ -40,11 +41,11 @@ abbrev known-above : State → ℕ → List ℕ
 known-above marks f = known-from marks f (drop f marks)
 
 module _ (marks : State) (marked : Marked marks) (f : ℕ) where
-  known-far : 64 ≤ f → known-above marks f ≡ []
+  known-far : format .fluents ≤ f → known-above marks f ≡ []
   unfolding known-from
   known-far far = ap (known-from marks f) (drop-of-length-le marks {i = f} (rw (marked .sized) far))
 
-  module _ (near : f < 64) where
+  module _ (near : f < format .fluents) where
     known-step : known-above marks f
         ≡ pick (known marks (says-true f)) (λ _. says-true f ∷ known-above marks (f + 1)) (λ _. pick (known marks (says-false f)) (λ _. says-false f ∷ known-above marks (f + 1)) (λ _. known-above marks (f + 1)))
     unfolding known-from
@@ -69,7 +70,7 @@ module _ (marks : State) (marked : Marked marks) (f : ℕ) where
         known-step ∙ pick-false _ _ _ (known-true marks f ∙ u) ∙ pick-true _ _ _ (known-false marks f ∙ eq-eqb _ _ two) ∙ ap (λ (l : ℕ). l ∷ known-above marks (f + 1)) is)
 
 -- THE LOOP over the fluents: the entries left against the literals left.
-pub list-ends : (s : List ℕ) (p x end : ℕ) → List-here 128 s p → x ≡ getD s p 0 → end ≡ p + x → end < length s
+pub list-ends : (s : List ℕ) (p x end : ℕ) → List-here all-literals s p → x ≡ getD s p 0 → end ≡ p + x → end < length s
 list-ends s p x end here byte is = let ends = here .ends in omega (arith, ends, byte, is)
 
 pub known-starts : (marks : State) (s : List ℕ) (p x end : ℕ) → x ≡ getD s p 0 → end ≡ p + x
@@ -83,10 +84,10 @@ module _ (marks : State) (marked : Marked marks) (f mark : ℕ) (at : mark ≡ g
   mark-small : mark ≤ 2
   mark-small = let most = marked .small f in omega (arith, at, most)
 
-  pub literal-fits : f < 64 → Fits w64 (2 * f + mark)
+  pub literal-fits : f < format .fluents → Fits w64 (2 * f + mark)
   literal-fits near = let most = mark-small in record { fits = omega (arith, near, most) }
 
-  module _ (near : f < 64) (whole : Bool) (s : List ℕ) (end i : ℕ) (so-far : whole ≡ same-list (bytes-from s (i + 1) (end - i)) (known-from marks f (drop f marks))) where
+  module _ (near : f < format .fluents) (whole : Bool) (s : List ℕ) (end i : ℕ) (so-far : whole ≡ same-list (bytes-from s (i + 1) (end - i)) (known-from marks f (drop f marks))) where
     pub known-none : mark ≡ 0 → whole ≡ same-list (bytes-from s (i + 1) (end - i)) (known-from marks (f + 1) (drop (f + 1) marks))
     known-none none = so-far ∙ ap (same-list (bytes-from s (i + 1) (end - i))) (unmarked-step marks marked f near (sym at ∙ none))
 
@@ -112,7 +113,7 @@ module _ (marks : State) (marked : Marked marks) (f mark : ℕ) (at : mark ≡ g
         known-same e = first-is ∙ rw (eq-eqb _ _ e)
 
 pub known-done : (marks : State) → Marked marks → (f : ℕ) (whole : Bool) (s : List ℕ) (end i : ℕ) → whole ≡ same-list (bytes-from s (i + 1) (end - i)) (known-from marks f (drop f marks))
-    → i ≤ end → 64 ≤ f → eqb i end ≡ whole
+    → i ≤ end → format .fluents ≤ f → eqb i end ≡ whole
 unfolding same-list
 known-done marks marked f whole s end i so-far most far =
     by-test (eqb i end)

@@ -1,8 +1,8 @@
 pub mod CodedLaws
 pub mod CodedReads
 pub mod SpotLaws
-pub mod StandLaws
+pub mod LinesStand
 pub mod CodedPlaces
-pub mod PartLaws
+pub mod SamePartLaws
 pub mod KnownLaws
 pub mod PlanLaws

@@ -12,12 +12,12 @@ use Rattle.meaning.specs.Derivations.{same-list, same-plan, join}
 use Rattle.meaning.proofs.TestLaws.{by-test}
 use Rattle.reading.specs.Listed.{bytes-from}
 use Rattle.reading.specs.Planned.{bytes-of}
-use Rattle.refusing.specs.Plans.{own-items}
+use Rattle.finding.specs.PlansHeld.{own-items}
 use Rattle.comparing.specs.Coded.{coded}
 use Rattle.comparing.specs.Stands.{Plan-stands}
-use Rattle.comparing.specs.Rules.{Items-stand, Same-plans, Joined-plans}
+use Rattle.comparing.specs.RuleAnswers.{Items-stand, Same-plans, Joined-plans}
 use Rattle.comparing.proofs.CodedLaws.{same-own, same-coded, own-join, same-to-joined}
-use Rattle.comparing.proofs.PartLaws.{part-bytes}
+use Rattle.comparing.proofs.SamePartLaws.{part-bytes}
 
 -- PARTS. What stands after a plan's count, up to its end, is its items; and so are items that stand by themselves.
 pub plan-part : (d : List ℕ) (q e : ℕ) (c : Sequence ℕ) → Plan-stands d q e c → take (e - (q + 2)) (drop (q + 2) d) ≡ coded c

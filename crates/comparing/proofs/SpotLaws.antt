@@ -7,6 +7,7 @@ use mathlib.Core.Bool.{Bool, true, false}
 use mathlib.Core.List.{List, []}
 use lib.ListN.{length, getD}
 use lib.Dec.{eqb}
+use Rattle.meaning.specs.Limits.{all-literals}
 use mir.Syntax.{w64}
 use mir.Val.{Fits}
 use Rattle.meaning.specs.declared.Layout.{Layout}
@@ -15,14 +16,15 @@ use Rattle.meaning.specs.Requests.{done}
 use Rattle.meaning.specs.Derivations.{Conclusion, knows, knows-whether, Line, concludes-fluent, same-list, same-conclusion}
 use Rattle.meaning.proofs.TestLaws.{by-test, clash, pick-true, pick-false}
 use Rattle.reading.specs.Listed.{listed, List-here}
-use Rattle.refusing.specs.Branchings.{sequence-place}
+use Rattle.deriving.specs.DerivationRead.{plan-ends-slot}
+use Rattle.finding.specs.Branches.{sequence-place}
 use Rattle.comparing.specs.declared.spots.Spot.{Spot}
 use Rattle.comparing.specs.Stands.{after-list, Conclusion-stands, Stands, spot-at}
-use Rattle.comparing.specs.Rules.{Some-concluded, Same-conclusions, Some-at, Some-lines}
+use Rattle.comparing.specs.RuleAnswers.{Some-concluded, Same-conclusions, Some-at, Some-lines}
 
 -- A CONCLUSION at y, whatever it is.
 module _ (d : List ℕ) (fluent : Bool) (y : ℕ) where
-  list-there : (Y : Conclusion) → Conclusion-stands d fluent y Y → fluent ≡ false → List-here 128 d y
+  list-there : (Y : Conclusion) → Conclusion-stands d fluent y Y → fluent ≡ false → List-here all-literals d y
   unfolding Conclusion-stands
   list-there (knows Y) w f = w .1 .here
   list-there (knows-whether g) w f = clash (w .0) f
@@ -62,7 +64,7 @@ module _ (layout : Layout) (d : List ℕ) (p e : ℕ) where
     plainly : (some : Some-at layout d p e) → Stands d (spot-at Plain d p e) (some .line)
     plainly some = subst (λ (x : Layout). Stands d (spot-at x d p e) (some .line)) plain (some .stands)
 
-    pub plain-list : Some-at layout d p e → List-here 128 d e
+    pub plain-list : Some-at layout d p e → List-here all-literals d e
     unfolding spot-at
     plain-list some = list-there d false e (some .line .Y) (plainly some .Y) refl
 
@@ -113,7 +115,7 @@ module _ (layout : Layout) (d : List ℕ) (p e : ℕ) where
         fluent-spot = rw (closing, spot-fluent d p e (kind is), read) refl
 
       module _ (is : fluent ≡ false) where
-        pub closing-list : Some-at layout d p e → List-here 128 d (e + 1)
+        pub closing-list : Some-at layout d p e → List-here all-literals d (e + 1)
         closing-list some = list-there d false (e + 1) (some .line .Y) (by-list some (kind is) .Y) refl
 
         pub list-spot : (cites : ℕ) → cites ≡ sequence-place d (e + 1) → record { line = p; end = e; conclusion = e + 1; cites = cites; rule = rule; fluent = false } ≡ spot-at layout d p e
@@ -124,20 +126,20 @@ module _ (layout : Layout) (d : List ℕ) (p e : ℕ) where
 no-line : Line
 no-line = record { place = 0; X = []; c = done; Y = knows []; rule = 0; cites = [] }
 
-module _ (layout : Layout) (d places : List ℕ) (k p e : ℕ) (place : p ≡ getD places k 0) (end : e ≡ getD places (1024 + k) 0) where
+module _ (layout : Layout) (d places : List ℕ) (k p e : ℕ) (place : p ≡ getD places k 0) (end : e ≡ getD places (plan-ends-slot + k) 0) where
   pub some-at : (count : ℕ) → Some-lines layout d places count → k < count → Some-at layout d p e
   some-at count some less =
       let size = some .size in
       record { line = getD (some .lines) k no-line; stands = rw (place, end) (some .stand .each k (omega (arith, less, size)) no-line) }
 
-  pub spot-is : (w : Spot) → w ≡ spot-at layout d p e → w ≡ spot-at layout d (getD places k 0) (getD places (1024 + k) 0)
+  pub spot-is : (w : Spot) → w ≡ spot-at layout d p e → w ≡ spot-at layout d (getD places k 0) (getD places (plan-ends-slot + k) 0)
   spot-is w is = is ∙ rw (place, end) refl
 
 -- TWO CONCLUSIONS: of two kinds they differ, and of one kind they are what stands there.
 pub concluded-there : (d : List ℕ) (w : Spot) → Some-concluded d w → w .conclusion < length d
 concluded-there d w some = byte-there d (w .fluent) (w .conclusion) (some .conclusion) (some .stands)
 
-pub concluded-list : (d : List ℕ) (w : Spot) → w .fluent ≡ false → Some-concluded d w → List-here 128 d (w .conclusion)
+pub concluded-list : (d : List ℕ) (w : Spot) → w .fluent ≡ false → Some-concluded d w → List-here all-literals d (w .conclusion)
 concluded-list d w f some = list-there d (w .fluent) (w .conclusion) (some .conclusion) (some .stands) f
 
 module _ (d : List ℕ) (one other : Spot) where

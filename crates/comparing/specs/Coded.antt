@@ -3,7 +3,7 @@ use Prim.Native.Nat.{ℕ, _/_, _%_, _<_}
 use mathlib.Core.List.{List, [], _∷_, _++_}
 use lib.ListN.{length}
 use Rattle.meaning.specs.Requests.{Sequence, done, item, Item, act, branching, Branches, none, branch}
-use Rattle.refusing.specs.Plans.{own-items, branches-in}
+use Rattle.finding.specs.PlansHeld.{own-items, branches-in}
 
 -- Of a sequence the items alone, after its count.
 unfoldable mutual

@@ -1,3 +1,3 @@
 pub mod Coded
 pub mod Stands
-pub mod Rules
+pub mod RuleAnswers

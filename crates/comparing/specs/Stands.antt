@@ -7,7 +7,7 @@ use lib.ListN.{length, getD}
 use Rattle.meaning.specs.declared.Layout.{Layout}
 use Rattle.meaning.specs.declared.Layout.the-variants.{Plain, Closing}
 use Rattle.meaning.specs.Tests.{pick}
-use Rattle.meaning.specs.Limits.{format}
+use Rattle.meaning.specs.Limits.{format, all-literals}
 use Rattle.meaning.specs.Literals.{exclusive}
 use Rattle.meaning.specs.Requests.{Sequence}
 use Rattle.meaning.specs.Reading.{got}
@@ -15,8 +15,8 @@ use Rattle.meaning.specs.Refusals.{nowhere}
 use Rattle.meaning.specs.Derivations.{Conclusion, knows, knows-whether, Line, Derivation, concludes-fluent, read-derivation, overlap-in-lines}
 use Rattle.reading.specs.Listed.{bytes-from, listed, List-here}
 use Rattle.reading.specs.Planned.{bytes-of}
-use Rattle.refusing.specs.Plans.{own-items}
-use Rattle.deriving.specs.DerivationRead.{settled-derivation}
+use Rattle.finding.specs.PlansHeld.{own-items}
+use Rattle.deriving.specs.DerivationRead.{settled-derivation, plan-ends-slot, lines-end}
 use Rattle.deriving.specs.Derived.{Lines-here}
 use Rattle.comparing.specs.declared.spots.Spot.{Spot}
 use Rattle.comparing.specs.Coded.{coded, Tellable}
@@ -27,7 +27,7 @@ after-list d p = p + 1 + getD d p 0
 
 -- A list, in which no literal stands beside its complement.
 pub record List-stands (d : List ℕ) (p : ℕ) (xs : List ℕ) : Type 0 where
-  pub here : List-here 128 d p
+  pub here : List-here all-literals d p
   pub same : listed d p ≡ xs
   pub clear : exclusive xs xs ≡ false
 
@@ -35,7 +35,7 @@ pub record List-stands (d : List ℕ) (p : ℕ) (xs : List ℕ) : Type 0 where
 pub record Plan-stands (d : List ℕ) (q e : ℕ) (c : Sequence ℕ) : Type 0 where
   pub counted : q + 1 < length d
   pub count : getD d q 0 * 256 + getD d (q + 1) 0 ≡ own-items c
-  pub few : own-items c ≤ 1024
+  pub few : own-items c ≤ format .items
   pub ends : q + 2 + bytes-of c ≡ e
   pub inside : e ≤ length d
   pub sized : length (coded c) ≡ bytes-of c
@@ -50,7 +50,7 @@ Numbers-stand d p (k ∷ ks) = (p + 1 < length d) × (getD d p 0 * 256 + getD d 
 -- A conclusion at y: a list, or a fluent.
 unfoldable pub Conclusion-stands : List ℕ → (fluent : Bool) (y : ℕ) → Conclusion → Type 0
 Conclusion-stands d fluent y (knows Y) = (fluent ≡ false) × List-stands d y Y
-Conclusion-stands d fluent y (knows-whether f) = (fluent ≡ true) × (y < length d) × (getD d y 0 ≡ f) × (f < 64)
+Conclusion-stands d fluent y (knows-whether f) = (fluent ≡ true) × (y < length d) × (getD d y 0 ≡ f) × (f < format .fluents)
 
 -- A line whose parts stand where the spot says.
 pub record Stands (d : List ℕ) (w : Spot) (l : Line) : Type 0 where
@@ -61,7 +61,7 @@ pub record Stands (d : List ℕ) (w : Spot) (l : Line) : Type 0 where
   pub rule : w .rule ≡ l .rule
   pub counted : w .cites < length d
   pub cited : getD d (w .cites) 0 ≡ length (l .cites)
-  pub most : length (l .cites) ≤ 64
+  pub most : length (l .cites) ≤ format .citations
   pub cites : Numbers-stand d (w .cites + 1) (l .cites)
 
 -- The parts of the line at p whose plan ends at e, by the layout (FORMAT 10.3, 17.4 to 17.6).
@@ -74,9 +74,9 @@ spot-at Closing d p e =
 
 -- Every line stands where its slots say.
 pub record Lines-stand (layout : Layout) (d places : List ℕ) (lines : List Line) : Type 0 where
-  pub long : length d ≤ 32768
-  pub few : length lines ≤ 1024
-  pub each : (k : ℕ) → k < length lines → (other : Line) → Stands d (spot-at layout d (getD places k 0) (getD places (1024 + k) 0)) (getD lines k other)
+  pub long : length d ≤ format .derivation
+  pub few : length lines ≤ format .lines
+  pub each : (k : ℕ) → k < length lines → (other : Line) → Stands d (spot-at layout d (getD places k 0) (getD places (plan-ends-slot + k) 0)) (getD lines k other)
 
 -- What closes a derivation stands at p: nothing, or a count and as many line numbers (FORMAT 17.7).
 unfoldable pub Closing-stands : Layout → List ℕ → ℕ → List ℕ → Type 0
@@ -92,9 +92,9 @@ pub record Derived (layout : Layout) (n m : ℕ) (d places : List ℕ) (x : Deri
   pub there : 1 < length d
   pub count : getD d 0 0 * 256 + getD d 1 0 ≡ length (x .lines)
   pub some : 1 ≤ length (x .lines)
-  pub few : length (x .lines) ≤ 1024
-  pub long : length d ≤ 32768
-  pub closes : getD places 2048 0 ≡ x .closing-place
+  pub few : length (x .lines) ≤ format .lines
+  pub long : length d ≤ format .derivation
+  pub closes : getD places lines-end 0 ≡ x .closing-place
   pub closing : Closing-stands layout d (x .closing-place) (x .closing)
 
 -- Whatever derivation this is.

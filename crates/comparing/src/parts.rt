@@ -1,5 +1,6 @@
 ghost use mathlib.Core.Path.{_≡_};
 ghost use mathlib.Core.List.{_++_};
+ghost use Rattle.meaning.specs.Limits.{all-literals};
 ghost use Rattle.meaning.specs.Derivations.{same-list};
 ghost use Rattle.reading.specs.Listed.{listed, List-here};
 use bytes::bytes::wide;
@@ -38,8 +39,8 @@ pub fn same_joined(whole: &[u8], first: &[u8], rest: &[u8]) -> bool
 
 // The lists at p and at q have the same entries.
 pub fn same_lists(s: &[u8], p: usize, u: &[u8], q: usize) -> bool
-    requires { ⌜ List-here 128 (now s) p ⌝ }
-    requires { ⌜ List-here 128 (now u) q ⌝ }
+    requires { ⌜ List-here all-literals (now s) p ⌝ }
+    requires { ⌜ List-here all-literals (now u) q ⌝ }
     ensures { λ r. ⌜ r ≡ same-list (listed (now (s .entry)) p) (listed (now (u .entry)) q) ⌝ }
 {
     let one = p + 1;

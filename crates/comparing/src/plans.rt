@@ -1,7 +1,7 @@
 ghost use mathlib.Core.Path.{_≡_};
 ghost use Prim.Native.Nat.{_+_, _*_, _<_};
 ghost use lib.ListN.{length, getD};
-ghost use Rattle.comparing.specs.Rules.{Some-plan, Some-items, Same-plans, Joined-plans};
+ghost use Rattle.comparing.specs.RuleAnswers.{Some-plan, Some-items, Same-plans, Joined-plans};
 use super::parts::same_joined;
 use super::parts::same_part;
 use bytes::bytes::two;

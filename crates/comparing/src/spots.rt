@@ -1,16 +1,17 @@
 ghost use mathlib.Core.Path.{_≡_};
 ghost use Prim.Native.Nat.{_+_, _<_};
 ghost use lib.ListN.{getD};
+ghost use Rattle.deriving.specs.DerivationRead.{plan-ends-slot};
 ghost use Rattle.comparing.specs.Stands.{spot-at};
-ghost use Rattle.comparing.specs.Rules.{Some-at, Some-lines, Some-concluded, Same-conclusions};
+ghost use Rattle.comparing.specs.RuleAnswers.{Some-at, Some-lines, Some-concluded, Same-conclusions};
 use super::parts::same_lists;
 use bytes::bytes::wide;
 use deriving::derivations::Places;
 use deriving::derivations::gives_fluent;
 use deriving::derived::end_of;
 use deriving::derived::place_of;
+use finding::branches::sequence_of;
 use meaning::Layout;
-use refusing::overlaps::sequence_of;
 
 // Where the parts of a line stand: the line with its list X, the end of its plan, its conclusion, the count of its citations. And its
 // rule, and whether its conclusion is a fluent.
@@ -74,7 +75,7 @@ fn spot_at(layout: Layout, d: &[u8], p: usize, e: usize) -> Spot
 pub fn spot_of(layout: Layout, d: &[u8], places: &Places, lines: usize, k: usize) -> Spot
     requires { ⌜ Some-lines layout (now d) (now places) lines ⌝ }
     requires { ⌜ k < lines ⌝ }
-    ensures { λ r. ⌜ r ≡ spot-at layout (now (d .entry)) (getD (now (places .entry)) k 0) (getD (now (places .entry)) (1024 + k) 0) ⌝ }
+    ensures { λ r. ⌜ r ≡ spot-at layout (now (d .entry)) (getD (now (places .entry)) k 0) (getD (now (places .entry)) (plan-ends-slot + k) 0) ⌝ }
 {
     let p = place_of(places, k);
     let e = end_of(places, k);

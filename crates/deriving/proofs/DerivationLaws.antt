@@ -29,7 +29,7 @@ use Rattle.deriving.specs.declared.derivations.Lined.the-variants.{To as
 use Rattle.bytes.specs.Read.{number-read, passed, kind-of}
 use Rattle.reading.specs.Noted.{noting, outcome}
 use Rattle.reading.specs.Planned.{bytes-of, plan-noted, noting-met, outcome-met}
-use Rattle.deriving.specs.DerivationRead.{plan-end, places-noted, derivation-noted, citing, ending, ended-at, planned, lined}
+use Rattle.deriving.specs.DerivationRead.{plan-end, places-noted, derivation-noted, citing, ending, ended-at, planned, lined, plan-ends-slot, lines-end}
 use Rattle.bytes.proofs.ByteLaws.{read-value, read-fault}
 use Rattle.bytes.proofs.ListLaws.{passed-same, passed-to, passed-stop}
 use Rattle.reading.proofs.PlanSizes.{two-bytes-through, count-through, list-through, sequence-read}
@@ -56,14 +56,14 @@ module _ (s : List ℕ) (p : ℕ) (whole : Passed) where
   citations-next (suc left) x q number w h read is =
       w ∙ rw (read-value (two-bytes-at s p) number x q read is, sub-one) (passed-same (repeated (two-bytes-at s) left q) (λ xs. x ∷ xs))
 
-module _ (s : List ℕ) (p : ℕ) (count : Read) (read : count ≡ number-read (count-at 0 64 s p)) where
+module _ (s : List ℕ) (p : ℕ) (count : Read) (read : count ≡ number-read (count-at 0 (format .citations) s p)) where
   pub cites-fault : (k r : ℕ) → count ≡ Fault k r → Stop k r ≡ passed (citing s p)
   unfolding citing next passed
-  cites-fault k r is = rw (read-fault (count-at 0 64 s p) count k r read is)
+  cites-fault k r is = rw (read-fault (count-at 0 (format .citations) s p) count k r read is)
 
   pub cites-whole : (c r : ℕ) (end : Passed) → count ≡ Value c r → end ≡ passed (repeated (two-bytes-at s) c r) → end ≡ passed (citing s p)
   unfolding citing next
-  cites-whole c r end is e = rw (read-value (count-at 0 64 s p) count c r read is) e
+  cites-whole c r end is e = rw (read-value (count-at 0 (format .citations) s p) count c r read is) e
 
 -- THE CONCLUSION. The rules that conclude a fluent, in their order.
 module _ (rule : ℕ) where
@@ -105,25 +105,25 @@ module _ (n : ℕ) (s : List ℕ) (rule p : ℕ) (fluent : Bool) (which : fluent
     unfolding fluent-concluded next passed
     fluent-fault k q v = rw (by-fluent, read-fault (below-at n s p) number k q read v)
 
-  pub list-whole : (r : Passed) → fluent ≡ false → r ≡ passed (list-at (kind-of Literals) n 64 s p) → r ≡ passed (conclusion-at format n s rule p)
+  pub list-whole : (r : Passed) → fluent ≡ false → r ≡ passed (list-at (kind-of Literals) n (format .listed) s p) → r ≡ passed (conclusion-at format n s rule p)
   unfolding conclusion-at list-concluded kind-of
-  list-whole r is read = read ∙ sym (ap passed (pick-false _ _ _ (sym which ∙ is)) ∙ passed-same (list-at literals n 64 s p) knows)
+  list-whole r is read = read ∙ sym (ap passed (pick-false _ _ _ (sym which ∙ is)) ∙ passed-same (list-at literals n (format .listed) s p) knows)
 
 -- With the rule byte, in the layout's order.
 module _ (layout : Layout) (n : ℕ) (s : List ℕ) (p : ℕ) where
-  module _ (list : Passed) (plain : layout ≡ Plain) (read : list ≡ passed (list-at (kind-of Literals) n 64 s p)) where
+  module _ (list : Passed) (plain : layout ≡ Plain) (read : list ≡ passed (list-at (kind-of Literals) n (format .listed) s p)) where
     pub listed-fault : (k q : ℕ) → list ≡ Stop k q → Stop k q ≡ passed (concluded-at format n s layout p)
     unfolding concluded-at list-concluded next passed kind-of
-    listed-fault k q is = rw (plain, passed-stop (list-at literals n 64 s p) k q (sym read ∙ is))
+    listed-fault k q is = rw (plain, passed-stop (list-at literals n (format .listed) s p) k q (sym read ∙ is))
 
     module _ (q : ℕ) (is : list ≡ To q) (rule : Read) (read-too : rule ≡ number-read (byte-at s q)) where
       pub ruled-fault : (k e : ℕ) → rule ≡ Fault k e → Stop k e ≡ passed (concluded-at format n s layout p)
       unfolding concluded-at list-concluded next passed kind-of
-      ruled-fault k e f = rw (plain, passed-to (list-at literals n 64 s p) q (sym read ∙ is) .1, read-fault (byte-at s q) rule k e read-too f)
+      ruled-fault k e f = rw (plain, passed-to (list-at literals n (format .listed) s p) q (sym read ∙ is) .1, read-fault (byte-at s q) rule k e read-too f)
 
       pub ruled-whole : (x e : ℕ) → rule ≡ Value x e → To e ≡ passed (concluded-at format n s layout p)
       unfolding concluded-at list-concluded next passed kind-of
-      ruled-whole x e v = rw (plain, passed-to (list-at literals n 64 s p) q (sym read ∙ is) .1, read-value (byte-at s q) rule x e read-too v)
+      ruled-whole x e v = rw (plain, passed-to (list-at literals n (format .listed) s p) q (sym read ∙ is) .1, read-value (byte-at s q) rule x e read-too v)
 
   module _ (rule : Read) (closing : layout ≡ Closing) (read : rule ≡ number-read (byte-at s p)) where
     pub rule-fault : (k q : ℕ) → rule ≡ Fault k q → Stop k q ≡ passed (concluded-at format n s layout p)
@@ -183,28 +183,28 @@ by-got (got x p) f h = f x p refl
 by-got (fault k p) f h = h k p refl
 
 module _ (layout : Layout) (n m : ℕ) (s : List ℕ) (p : ℕ) where
-  line-parts : (X : List ℕ) (q : ℕ) → list-at literals n 64 s p ≡ got X q → lined (line-at format n m s layout p) ≡ planned layout n m s q
+  line-parts : (X : List ℕ) (q : ℕ) → list-at literals n (format .listed) s p ≡ got X q → lined (line-at format n m s layout p) ≡ planned layout n m s q
   unfolding line-at lined planned ending citing next plan-end
   line-parts X q list =
       by-got (plan-at format n m s q)
       (λ plan r is.
-      let starts = list-through s literals n 64 p .holds X q list .after in
+      let starts = list-through s literals n (format .listed) p .holds X q list .after in
       let ends = plan-ends n m s q plan r is .0 in
       rw (list, is) (
       lined-next r (concluded-at format n s layout r) _ _ λ end t.
-      lined-next r (count-at 0 64 s t) _ _ λ k u.
+      lined-next r (count-at 0 (format .citations) s t) _ _ λ k u.
       lined-last r (repeated (two-bytes-at s) k u) _ λ cites. omega arith
       ))
       (λ k r is. rw (list, is))
 
-  module _ (list : Passed) (read : list ≡ passed (list-at (kind-of Literals) n 64 s p)) where
+  module _ (list : Passed) (read : list ≡ passed (list-at (kind-of Literals) n (format .listed) s p)) where
     pub line-fault : (k q : ℕ) → list ≡ Stop k q → Break k q ≡ lined (line-at format n m s layout p)
     unfolding line-at next lined kind-of
-    line-fault k q is = rw (passed-stop (list-at literals n 64 s p) k q (sym read ∙ is))
+    line-fault k q is = rw (passed-stop (list-at literals n (format .listed) s p) k q (sym read ∙ is))
 
     pub line-whole : (q : ℕ) (r : Lined) → list ≡ To q → r ≡ planned layout n m s q → r ≡ lined (line-at format n m s layout p)
     unfolding kind-of
-    line-whole q r is e = let w = passed-to (list-at literals n 64 s p) q (sym read ∙ is) in e ∙ sym (line-parts (w .0) q (w .1))
+    line-whole q r is e = let w = passed-to (list-at literals n (format .listed) s p) q (sym read ∙ is) in e ∙ sym (line-parts (w .0) q (w .1))
 
 -- LINES. One that was read stands where it was read, and it and its plan end within the input.
 module _ {A : Type 0} (s : List ℕ) where
@@ -226,15 +226,15 @@ module _ (layout : Layout) (n m : ℕ) (s : List ℕ) where
   line-within : (p : ℕ) (l : Line) (e : ℕ) → line-at format n m s layout p ≡ got l e → Line-within s p l e
   unfolding line-at list-at plan-end
   line-within p l e is =
-      after-got (list-at literals n 64 s p) _ is λ X q list is1.
-      after-got (count-at 0 64 s p) _ list λ c i count _.
+      after-got (list-at literals n (format .listed) s p) _ is λ X q list is1.
+      after-got (count-at 0 (format .citations) s p) _ list λ c i count _.
       after-got (plan-at format n m s q) _ is1 λ plan r reads is2.
       after-got (concluded-at format n s layout r) _ is2 λ end t _ is3.
-      after-got (count-at 0 64 s t) _ is3 λ k u counts is4.
+      after-got (count-at 0 (format .citations) s t) _ is3 λ k u counts is4.
       after-got (repeated (two-bytes-at s) k u) _ is4 λ cites v numbers is5.
-      let first = count-through s 0 64 p .holds c i count in
+      let first = count-through s 0 (format .citations) p .holds c i count in
       let a = first .after in let b = first .inside in
-      let starts = list-through s literals n 64 p .holds X q list .after in
+      let starts = list-through s literals n (format .listed) p .holds X q list .after in
       let ends = plan-ends n m s q plan r reads in
       let after = ends .0 in let inside = ends .1 in
       subst (λ (x : Line). Line-within s p x e) (got-same is5)
@@ -243,7 +243,7 @@ module _ (layout : Layout) (n m : ℕ) (s : List ℕ) where
         starts = omega arith;
         plan = omega arith;
         ends = subst (λ (j : ℕ). j ≤ length s) (got-place is5)
-            (repeated-inside s (two-bytes-at s) (λ j x w two. two-bytes-through s j .holds x w two .inside) k u cites v (count-through s 0 64 t .holds k u counts .inside) numbers);
+            (repeated-inside s (two-bytes-at s) (λ j x w two. two-bytes-through s j .holds x w two .inside) k u cites v (count-through s 0 (format .citations) t .holds k u counts .inside) numbers);
       })
 
   pub line-place : (p : ℕ) (l : Line) (e : ℕ) → line-at format n m s layout p ≡ got l e → l .place ≡ p
@@ -254,7 +254,7 @@ module _ (layout : Layout) (n m : ℕ) (s : List ℕ) where
   Places-from left p k t = noting (places-noted k) (repeated (line-at format n m s layout) left p) t
 
   place-first : (k : ℕ) (l : Line) (g : Got (List Line)) (t : List ℕ)
-      → noting (places-noted k) (next g (λ ls r. got (l ∷ ls) r)) t ≡ noting (places-noted (k + 1)) g (set (set t k (l .place)) (1024 + k) (plan-end l))
+      → noting (places-noted k) (next g (λ ls r. got (l ∷ ls) r)) t ≡ noting (places-noted (k + 1)) g (set (set t k (l .place)) (plan-ends-slot + k) (plan-end l))
   unfolding noting next places-noted
   place-first k l (got ls p) t = refl
   place-first k l (fault i p) t = refl
@@ -289,7 +289,7 @@ module _ (layout : Layout) (n m : ℕ) (s : List ℕ) where
             let is : i ≡ k = omega arith in
             rw (is, ap (λ (x : Lined). ended x .0) same)
 
-    module _ (q e : ℕ) (is : r ≡ Through q e) (long : length s ≤ 32768) where
+    module _ (q e : ℕ) (is : r ≡ Through q e) (long : length s ≤ format .derivation) where
       pub line-fits : p < 65536
       line-fits = let w = line-to q e is in let there = line-within p (w .0) e (w .1) .starts in omega arith
 
@@ -308,7 +308,7 @@ module _ (layout : Layout) (n m : ℕ) (s : List ℕ) where
     unfolding outcome noting next repeated
     places-fault r j q more read is = sym (so-far ∙ rw (places-left more, line-stop p r read j q is))
 
-    pub places-next : (u v : List ℕ) (q e : ℕ) (r : Lined) → u ≡ set t k p → v ≡ set u (1024 + k) q → k < count → r ≡ lined (line-at format n m s layout p) → r ≡ Through q e
+    pub places-next : (u v : List ℕ) (q e : ℕ) (r : Lined) → u ≡ set t k p → v ≡ set u (plan-ends-slot + k) q → k < count → r ≡ lined (line-at format n m s layout p) → r ≡ Through q e
         → whole ≡ Places-from (count - (k + 1)) e (k + 1) v
     unfolding repeated next
     places-next u v q e r put ended more read is =
@@ -316,7 +316,7 @@ module _ (layout : Layout) (n m : ℕ) (s : List ℕ) where
         let first : set t k (w .0 .place) ≡ u = ap (set t k) (line-place p (w .0) e (w .1)) ∙ sym put in
         so-far ∙ rw (places-left more, w .1) (
         place-first k (w .0) (repeated (line-at format n m s layout) (count - (k + 1)) e) t
-        ∙ ap (Places-from (count - (k + 1)) e (k + 1)) (ap (λ (x : List ℕ). set x (1024 + k) (plan-end (w .0))) first ∙ ap (set u (1024 + k)) (w .2) ∙ sym ended)
+        ∙ ap (Places-from (count - (k + 1)) e (k + 1)) (ap (λ (x : List ℕ). set x (plan-ends-slot + k) (plan-end (w .0))) first ∙ ap (set u (plan-ends-slot + k)) (w .2) ∙ sym ended)
         )
 
 -- WHAT CLOSES A DERIVATION.
@@ -346,33 +346,33 @@ module _ (layout : Layout) (n m : ℕ) (s : List ℕ) where
     abbrev Whole : Got (List ℕ)
     Whole = noting derivation-noted (read-derivation format n m s layout) t
 
-    pub derivation-long : (u : List ℕ) → 32768 < length s → outcome (Stop 10 0) u ≡ Whole
+    pub derivation-long : (u : List ℕ) → format .derivation < length s → outcome (Stop 10 0) u ≡ Whole
     unfolding outcome noting next read-derivation
-    derivation-long u h = sym (ap (λ g. noting derivation-noted g t) (pick-true _ _ _ (lt-ltb 32768 (length s) h)))
+    derivation-long u h = sym (ap (λ g. noting derivation-noted g t) (pick-true _ _ _ (lt-ltb (format .derivation) (length s) h)))
 
-    module _ (count : Read) (short : length s ≤ 32768) (read : count ≡ number-read (two-bytes-at s 0)) where
+    module _ (count : Read) (short : length s ≤ format .derivation) (read : count ≡ number-read (two-bytes-at s 0)) where
       pub derivation-fault : (k q : ℕ) (u : List ℕ) → count ≡ Fault k q → outcome (Stop k q) u ≡ Whole
       unfolding outcome noting next read-derivation
       derivation-fault k q u is =
-          sym (ap (λ g. noting derivation-noted g t) (pick-false _ _ _ (le-ltb 32768 (length s) short)) ∙ rw (read-fault (two-bytes-at s 0) count k q read is))
+          sym (ap (λ g. noting derivation-noted g t) (pick-false _ _ _ (le-ltb (format .derivation) (length s) short)) ∙ rw (read-fault (two-bytes-at s 0) count k q read is))
 
       module _ (c p : ℕ) (is : count ≡ Value c p) where
-        derivation-rest : read-derivation format n m s layout ≡ pick (either (ltb c 1) (ltb 1024 c)) (λ _. fault 12 0) (λ _. next (repeated (line-at format n m s layout) c p) closed-from)
+        derivation-rest : read-derivation format n m s layout ≡ pick (either (ltb c 1) (ltb (format .lines) c)) (λ _. fault 12 0) (λ _. next (repeated (line-at format n m s layout) c p) closed-from)
         unfolding read-derivation next
-        derivation-rest = pick-false _ _ _ (le-ltb 32768 (length s) short) ∙ rw (read-value (two-bytes-at s 0) count c p read is)
+        derivation-rest = pick-false _ _ _ (le-ltb (format .derivation) (length s) short) ∙ rw (read-value (two-bytes-at s 0) count c p read is)
 
         pub derivation-none : (u : List ℕ) → c < 1 → outcome (Stop 12 0) u ≡ Whole
         unfolding outcome noting next
         derivation-none u h = sym (ap (λ g. noting derivation-noted g t) (derivation-rest ∙ pick-true _ _ _ (either-left _ _ (lt-ltb c 1 h))))
 
-        pub derivation-many : (u : List ℕ) → 1024 < c → outcome (Stop 12 0) u ≡ Whole
+        pub derivation-many : (u : List ℕ) → format .lines < c → outcome (Stop 12 0) u ≡ Whole
         unfolding outcome noting next
-        derivation-many u h = sym (ap (λ g. noting derivation-noted g t) (derivation-rest ∙ pick-true _ _ _ (either-right _ _ (lt-ltb 1024 c h))))
+        derivation-many u h = sym (ap (λ g. noting derivation-noted g t) (derivation-rest ∙ pick-true _ _ _ (either-right _ _ (lt-ltb (format .lines) c h))))
 
-        module _ (lines : Passed) (v : List ℕ) (some : 1 ≤ c) (most : c ≤ 1024) (read-too : outcome lines v ≡ Places-from layout n m s c p 0 t) where
+        module _ (lines : Passed) (v : List ℕ) (some : 1 ≤ c) (most : c ≤ format .lines) (read-too : outcome lines v ≡ Places-from layout n m s c p 0 t) where
           derivation-lines : read-derivation format n m s layout ≡ next (repeated (line-at format n m s layout) c p) closed-from
           unfolding either
-          derivation-lines = derivation-rest ∙ pick-false _ _ _ (rw (le-ltb c 1 some) (le-ltb 1024 c most))
+          derivation-lines = derivation-rest ∙ pick-false _ _ _ (rw (le-ltb c 1 some) (le-ltb (format .lines) c most))
 
           pub lines-fault : (k q : ℕ) (u : List ℕ) → lines ≡ Stop k q → outcome (Stop k q) u ≡ Whole
           unfolding outcome noting next
@@ -411,8 +411,8 @@ module _ (layout : Layout) (n m : ℕ) (s : List ℕ) where
                 unfolding outcome noting next
                 closing-before u h = sym (ap (λ g. noting derivation-noted g t) (closing-closed ∙ pick-true _ _ _ (lt-ltb e (length s) h)))
 
-                pub closing-whole : length s ≤ e → w ≡ set v 2048 q → outcome (To e) w ≡ Whole
+                pub closing-whole : length s ≤ e → w ≡ set v lines-end q → outcome (To e) w ≡ Whole
                 unfolding outcome noting next derivation-noted
                 closing-whole h put =
-                    ap (λ (x : List ℕ). got x e) (put ∙ ap (λ (x : List ℕ). set x 2048 q) (lines-read .2))
+                    ap (λ (x : List ℕ). got x e) (put ∙ ap (λ (x : List ℕ). set x lines-end q) (lines-read .2))
                     ∙ sym (ap (λ (g : Got Derivation). noting derivation-noted g t) (closing-closed ∙ pick-false _ _ _ (le-ltb e (length s) h)))

@@ -8,7 +8,7 @@ use lib.ListN.{length, getD, set, length-set}
 use lib.Seq.{getD-set-same}
 use borrow.Author.Tests.{ltb-false}
 use Rattle.meaning.specs.declared.Layout.{Layout}
-use Rattle.meaning.specs.Limits.{format}
+use Rattle.meaning.specs.Limits.{format, all-literals}
 use Rattle.meaning.specs.Requests.{Sequence, Request}
 use Rattle.meaning.specs.Reading.{Got, got, fault, next, Met, literals, two-bytes-at, count-at, bound-of, list-at, repeated, plan-at}
 use Rattle.meaning.specs.Refusals
@@ -21,65 +21,67 @@ use Rattle.bytes.specs.declared.bytes.Read.{Read}
 use Rattle.bytes.specs.declared.bytes.Read.the-variants.{Value, Fault}
 use Rattle.bytes.specs.declared.lists.Passed.{Passed}
 use Rattle.bytes.specs.declared.lists.Passed.the-variants.{To, Fault as Stop}
-use Rattle.refusing.specs.declared.refusals.Found.{Found}
-use Rattle.refusing.specs.declared.refusals.Found.the-variants.{Nowhere, At}
-use Rattle.reading.specs.Noted.{noting, outcome}
+use Rattle.finding.specs.declared.places.Found.{Found}
+use Rattle.finding.specs.declared.places.Found.the-variants.{Nowhere, At}
+use Rattle.reading.specs.Noted.{noting, outcome, slots}
 use Rattle.reading.specs.Listed.{List-here}
 use Rattle.reading.specs.Planned.{plan-noted, noting-met, outcome-met}
-use Rattle.refusing.specs.InTable.{found}
-use Rattle.refusing.specs.Branchings.{sequence-place}
-use Rattle.refusing.specs.Plans.{Some-plan, Overlap-found}
-use Rattle.deriving.specs.DerivationRead.{plan-end, places-noted, derivation-noted, settled-derivation}
+use Rattle.finding.specs.Places.{found}
+use Rattle.finding.specs.Branches.{sequence-place}
+use Rattle.finding.specs.PlansHeld.{Some-plan}
+use Rattle.refusing.specs.Refusal18.{Overlap-found}
+use Rattle.deriving.specs.DerivationRead.{plan-end, places-noted, derivation-noted, settled-derivation, plan-ends-slot, lines-end, places-slots}
 use Rattle.deriving.specs.Derived.{Line-here, Lines-here, Some-lines, Derivation-here, Line-found, Lines-found}
 use Rattle.reading.proofs.SectionLaws.{noting-got, noting-fault}
 use Rattle.reading.proofs.PlanSizes.{list-through}
 use Rattle.reading.proofs.RequestLaws.{next-next, next-same}
 use Rattle.reading.proofs.NotingLaws.{met-fault, fault-met}
-use Rattle.refusing.proofs.HereLaws.{list-here}
-use Rattle.refusing.proofs.KeptLaws.{kept}
-use Rattle.refusing.proofs.PlanOverlaps.{listed-length}
+use Rattle.finding.proofs.HereLaws.{list-here}
+use Rattle.finding.proofs.KeptLaws.{kept}
+use Rattle.finding.proofs.PlanHere.{listed-length}
 use Rattle.deriving.proofs.DerivationLaws.{line-place}
-use Rattle.refusing.proofs.WrittenLaws.{two-is, plan-left, overlap-left}
-use Rattle.refusing.proofs.SettleLaws.{found-none, found-at}
+use Rattle.finding.proofs.WrittenLaws.{two-is, plan-left}
+use Rattle.refusing.proofs.PlanOverlaps.{overlap-left}
+use Rattle.finding.proofs.FoundLaws.{found-none, found-at}
 
 module _ (n m : ℕ) (s : List ℕ) where
   -- THE PLAN OF A LINE stands after its X.
   record Line-plan (p : ℕ) (l : Line) : Type 0 where
-    first : List-here 128 s p
+    first : List-here all-literals s p
     plan : Met (Sequence ℕ)
     end : ℕ
     reads : plan-at format n m s (sequence-place s p) ≡ got plan end
     is : plan .value ≡ l .c
 
-  line-plan : n ≤ 64 → (layout : Layout) (p : ℕ) (l : Line) → Line-here n m s layout p l → Line-plan p l
+  line-plan : n ≤ format .fluents → (layout : Layout) (p : ℕ) (l : Line) → Line-here n m s layout p l → Line-plan p l
   unfolding line-at sequence-place bound-of
   line-plan few layout p l here =
-      after-got (list-at literals n 64 s p) _ (here .reads) λ X q first is1.
+      after-got (list-at literals n (format .listed) s p) _ (here .reads) λ X q first is1.
       after-got (plan-at format n m s q) _ is1 λ plan r reads is2.
       after-got (concluded-at format n s layout r) _ is2 λ end t _ is3.
-      after-got (count-at 0 64 s t) _ is3 λ k u _ is4.
+      after-got (count-at 0 (format .citations) s t) _ is3 λ k u _ is4.
       after-got (repeated (two-bytes-at s) k u) _ is4 λ cites i _ is5.
-      let list = list-here literals n s 64 p X q first in
-      let after = list-through s literals n 64 p .holds X q first .after in
+      let list = list-here literals n s (format .listed) p X q first in
+      let after = list-through s literals n (format .listed) p .holds X q first .after in
       let size : getD s p 0 ≡ length X = sym (listed-length s p) ∙ ap length (list .0) in
       let place : q ≡ p + 1 + getD s p 0 = omega arith in
       record {
-        first = list .1 128 (omega arith);
+        first = list .1 all-literals (omega arith);
         plan = plan;
         end = r;
         reads = subst (λ (j : ℕ). plan-at format n m s j ≡ got plan r) place reads;
         is = ap (λ (x : Line). x .c) (got-same is5);
       }
 
-  module _ (few : n ≤ 64) (less : m ≤ 64) (plan : ℕ) (t u : List ℕ) (r : Read) (read : outcome-met r u ≡ noting-met (plan-noted plan t) (plan-at format n m s plan)) where
-    pub line-held : (count e : ℕ) → length t ≡ 9480 → r ≡ Value count e → Some-plan s u count
+  module _ (few : n ≤ format .fluents) (less : m ≤ format .actions) (plan : ℕ) (t u : List ℕ) (r : Read) (read : outcome-met r u ≡ noting-met (plan-noted plan t) (plan-at format n m s plan)) where
+    pub line-held : (count e : ℕ) → length t ≡ slots → r ≡ Value count e → Some-plan s u count
     line-held count e room is = plan-left n m s few less plan t u r count e (omega arith) read is
 
     module _ (p : ℕ) (after : plan ≡ sequence-place s p) where
       there : (l : Line) → (w : Line-plan p l) → plan-at format n m s plan ≡ got (w .plan) (w .end)
       there l w = ap (plan-at format n m s) after ∙ w .reads
 
-      pub line-sought : (count e : ℕ) (f : Found) → length t ≡ 9480 → r ≡ Value count e → Overlap-found s u count f → Line-found n m s p f
+      pub line-sought : (count e : ℕ) (f : Found) → length t ≡ slots → r ≡ Value count e → Overlap-found s u count f → Line-found n m s p f
       line-sought count e f room is all =
           record {
             holds = λ layout l here.
@@ -139,10 +141,10 @@ module _ (n m : ℕ) (s : List ℕ) where
             split ls (l ∷ rest) here size same = record { line = l; rest = rest; first = here .0; then = here .2; size = omega (arith, more, size); same = same }
 
         module _ (p : ℕ) (place : p ≡ getD places k 0) where
-          pub line-list : n ≤ 64 → Some-lines n m s places count → List-here 128 s p
+          pub line-list : n ≤ format .fluents → Some-lines n m s places count → List-here all-literals s p
           line-list few some =
               let w = next-line (some .layout) (some .lines) (some .here) (some .size) in
-              subst (List-here 128 s) (sym place) (line-plan few (some .layout) (getD places k 0) (w .line) (w .first) .first)
+              subst (List-here all-literals s) (sym place) (line-plan few (some .layout) (getD places k 0) (w .line) (w .first) .first)
 
           module _ (f : Found) (answer : Line-found n m s p f) where
             first-found : (layout : Layout) (l : Line) → Line-here n m s layout (getD places k 0) l → f ≡ found (overlap-in (l .c))
@@ -169,46 +171,46 @@ module _ (n m : ℕ) (s : List ℕ) where
                 }
 
 -- THE PLACES, as they were noted from number k on. Slots of other lines are left alone.
-places-kept : (k : ℕ) (ls : List Line) (t : List ℕ) (j : ℕ) → k + length ls ≤ 1024 → ((i : ℕ) → k ≤ i → i < 1024 → (j ≡ i → ⊥) × (j ≡ 1024 + i → ⊥)) → getD (places-noted k ls t) j 0 ≡ getD t j 0
+places-kept : (k : ℕ) (ls : List Line) (t : List ℕ) (j : ℕ) → k + length ls ≤ format .lines → ((i : ℕ) → k ≤ i → i < format .lines → (j ≡ i → ⊥) × (j ≡ plan-ends-slot + i → ⊥)) → getD (places-noted k ls t) j 0 ≡ getD t j 0
 unfolding places-noted
 places-kept k [] t j h apart = refl
 places-kept k (l ∷ ls) t j h apart =
     let own = apart k (omega arith) (omega (arith, h)) in
-    places-kept (k + 1) ls (set (set t k (l .place)) (1024 + k) (plan-end l)) j (omega (arith, h)) (λ i least most. apart i (omega (arith, least)) most)
-    ∙ kept (set t k (l .place)) (1024 + k) j (plan-end l) (own .1)
+    places-kept (k + 1) ls (set (set t k (l .place)) (plan-ends-slot + k) (plan-end l)) j (omega (arith, h)) (λ i least most. apart i (omega (arith, least)) most)
+    ∙ kept (set t k (l .place)) (plan-ends-slot + k) j (plan-end l) (own .1)
     ∙ kept t k j (l .place) (own .0)
 
 places-long : (k : ℕ) (ls : List Line) (t : List ℕ) → length (places-noted k ls t) ≡ length t
 unfolding places-noted
 places-long k [] t = refl
 places-long k (l ∷ ls) t =
-    places-long (k + 1) ls (set (set t k (l .place)) (1024 + k) (plan-end l)) ∙ length-set (set t k (l .place)) (1024 + k) (plan-end l) ∙ length-set t k (l .place)
+    places-long (k + 1) ls (set (set t k (l .place)) (plan-ends-slot + k) (plan-end l)) ∙ length-set (set t k (l .place)) (plan-ends-slot + k) (plan-end l) ∙ length-set t k (l .place)
 
 module _ (n m : ℕ) (s : List ℕ) (layout : Layout) where
-  -- Whatever stands in slot 2,048.
-  lines-placed : (left p k : ℕ) (ls : List Line) (e : ℕ) (t u : List ℕ) → repeated (line-at format n m s layout) left p ≡ got ls e → k + left ≤ 1024 → length t ≡ 2049
-      → ((j : ℕ) → j < 2048 → getD u j 0 ≡ getD (places-noted k ls t) j 0) → Lines-here n m s layout u k ls
+  -- Whatever stands in slot `lines-end`.
+  lines-placed : (left p k : ℕ) (ls : List Line) (e : ℕ) (t u : List ℕ) → repeated (line-at format n m s layout) left p ≡ got ls e → k + left ≤ format .lines → length t ≡ places-slots
+      → ((j : ℕ) → j < lines-end → getD u j 0 ≡ getD (places-noted k ls t) j 0) → Lines-here n m s layout u k ls
   unfolding repeated places-noted Lines-here
   lines-placed zero p k ls e t u is few long same = subst (Lines-here n m s layout u k) (got-same is) tt
   lines-placed (suc left) p k ls e t u is few long same =
       after-got (line-at format n m s layout p) _ is λ l q first is1.
       after-got (repeated (line-at format n m s layout) left q) _ is1 λ rest r more is2.
       let one : List ℕ = set t k (l .place) in
-      let two : List ℕ = set one (1024 + k) (plan-end l) in
+      let two : List ℕ = set one (plan-ends-slot + k) (plan-end l) in
       let size : length rest ≡ left = repeated-length (line-at format n m s layout) left q rest r more in
       let long-one : length one ≡ length t = length-set t k (l .place) in
-      let long-two : length two ≡ length one = length-set one (1024 + k) (plan-end l) in
-      let agrees : (j : ℕ) → j < 2048 → getD u j 0 ≡ getD (places-noted (k + 1) rest two) j 0 = subst (λ (xs : List Line). (j : ℕ) → j < 2048 → getD u j 0 ≡ getD (places-noted k xs t) j 0) (sym (got-same is2)) same in
+      let long-two : length two ≡ length one = length-set one (plan-ends-slot + k) (plan-end l) in
+      let agrees : (j : ℕ) → j < lines-end → getD u j 0 ≡ getD (places-noted (k + 1) rest two) j 0 = subst (λ (xs : List Line). (j : ℕ) → j < lines-end → getD u j 0 ≡ getD (places-noted k xs t) j 0) (sym (got-same is2)) same in
       let starts : getD u k 0 ≡ p =
       agrees k (omega (arith, few))
       ∙ places-kept (k + 1) rest two k (omega (arith, few, size)) (λ i least most. (λ f. omega (arith, f, least), λ f. omega (arith, f, least)))
-      ∙ kept one (1024 + k) k (plan-end l) (λ f. omega (arith, f))
+      ∙ kept one (plan-ends-slot + k) k (plan-end l) (λ f. omega (arith, f))
       ∙ getD-set-same t k (l .place) 0 (omega (arith, few, long))
       ∙ line-place layout n m s p l q first in
-      let ends : getD u (1024 + k) 0 ≡ plan-end l =
-      agrees (1024 + k) (omega (arith, few))
-      ∙ places-kept (k + 1) rest two (1024 + k) (omega (arith, few, size)) (λ i least most. (λ f. omega (arith, f, most), λ f. omega (arith, f, least)))
-      ∙ getD-set-same one (1024 + k) (plan-end l) 0 (omega (arith, few, long, long-one)) in
+      let ends : getD u (plan-ends-slot + k) 0 ≡ plan-end l =
+      agrees (plan-ends-slot + k) (omega (arith, few))
+      ∙ places-kept (k + 1) rest two (plan-ends-slot + k) (omega (arith, few, size)) (λ i least most. (λ f. omega (arith, f, most), λ f. omega (arith, f, least)))
+      ∙ getD-set-same one (plan-ends-slot + k) (plan-end l) 0 (omega (arith, few, long, long-one)) in
       subst (Lines-here n m s layout u k) (got-same is2) (
         subst (λ (j : ℕ). Line-here n m s layout j l) (sym starts) (record { end = q; reads = first }),
         ends,
@@ -217,10 +219,10 @@ module _ (n m : ℕ) (s : List ℕ) (layout : Layout) where
 
   -- THE PARTS of a derivation that was read.
   record Parts (d : Derivation) : Type 0 where
-    short : length s ≤ 32768
+    short : length s ≤ format .derivation
     there : 1 < length s
     count : getD s 0 0 * 256 + getD s 1 0 ≡ length (d .lines)
-    most : length (d .lines) ≤ 1024
+    most : length (d .lines) ≤ format .lines
     start : ℕ
     repeats : repeated (line-at format n m s layout) (length (d .lines)) start ≡ got (d .lines) (d .closing-place)
 
@@ -235,10 +237,10 @@ module _ (n m : ℕ) (s : List ℕ) (layout : Layout) where
       let w = not-refused _ _ _ _ is3 in
       let number = two-is s 0 .holds c p two in
       let size : length ls ≡ c = repeated-length (line-at format n m s layout) c p ls q repeats in
-      let few : c ≤ 1024 = ltb-false 1024 c (by-test _ (λ t. clash (either-right _ _ t) (v .0)) (λ f. f)) in
+      let few : c ≤ (format .lines) = ltb-false (format .lines) c (by-test _ (λ t. clash (either-right _ _ t) (v .0)) (λ f. f)) in
       subst Parts (got-same (w .1))
       (record {
-        short = ltb-false 32768 (length s) (u .0);
+        short = ltb-false (format .derivation) (length s) (u .0);
         there = number .there;
         count = number .is ∙ sym size;
         most = omega (arith, few, size);
@@ -266,18 +268,18 @@ module _ (n m : ℕ) (s : List ℕ) (layout : Layout) where
       pub count-second : 1 < length s
       count-second = whole .there
 
-      pub derivation-short : length s ≤ 32768
+      pub derivation-short : length s ≤ format .derivation
       derivation-short = whole .short
 
-      lines-there : length t ≡ 2049 → Lines-here n m s layout u 0 (read-got .0 .lines)
+      lines-there : length t ≡ places-slots → Lines-here n m s layout u 0 (read-got .0 .lines)
       unfolding derivation-noted
       lines-there long =
           let d = read-got .0 in
           let few = whole .most in
           lines-placed (length (d .lines)) (whole .start) 0 (d .lines) (d .closing-place) t u (whole .repeats) (omega (arith, few)) long
-          (λ j h. ap (λ (v : List ℕ). getD v j 0) (read-got .2) ∙ kept (places-noted 0 (d .lines) t) 2048 j (d .closing-place) (λ f. omega (arith, f, h)))
+          (λ j h. ap (λ (v : List ℕ). getD v j 0) (read-got .2) ∙ kept (places-noted 0 (d .lines) t) lines-end j (d .closing-place) (λ f. omega (arith, f, h)))
 
-      pub derived-here : length t ≡ 2049 → Derivation-here n m s layout u e
+      pub derived-here : length t ≡ places-slots → Derivation-here n m s layout u e
       unfolding derivation-noted
       derived-here long =
           let d = read-got .0 in
@@ -286,7 +288,7 @@ module _ (n m : ℕ) (s : List ℕ) (layout : Layout) where
             derivation = d;
             reads = read-got .1;
             here = lines-there long;
-            closes = ap (λ (v : List ℕ). getD v 2048 0) (read-got .2) ∙ getD-set-same (places-noted 0 (d .lines) t) 2048 (d .closing-place) 0 (omega (arith, long, size));
+            closes = ap (λ (v : List ℕ). getD v lines-end 0) (read-got .2) ∙ getD-set-same (places-noted 0 (d .lines) t) lines-end (d .closing-place) 0 (omega (arith, long, size));
           }
 
       -- 18.
@@ -294,13 +296,13 @@ module _ (n m : ℕ) (s : List ℕ) (layout : Layout) where
         counted : length (read-got .0 .lines) ≡ count
         counted = sym (counts ∙ whole .count)
 
-        pub lines-few : count ≤ 1024
+        pub lines-few : count ≤ format .lines
         lines-few = let few = whole .most in let c = counted in omega arith
 
-        pub lines-stand : length t ≡ 2049 → Some-lines n m s u count
+        pub lines-stand : length t ≡ places-slots → Some-lines n m s u count
         lines-stand long = record { layout = layout; lines = read-got .0 .lines; here = lines-there long; size = counted }
 
-        module _ (long : length t ≡ 2049) (f : Found) (answer : Lines-found n m s u count f) where
+        module _ (long : length t ≡ places-slots) (f : Found) (answer : Lines-found n m s u count f) where
           sought-18 : f ≡ found (overlap-in-lines (read-got .0 .lines))
           sought-18 = answer .holds layout (read-got .0 .lines) (lines-there long) counted
 

@@ -1,3 +1,3 @@
 pub mod DerivationLaws
 pub mod DerivedLaws
-pub mod Walked
+pub mod ByHand

@@ -1,5 +1,5 @@
 -- What reading a derivation leaves behind, and the parts of a line one after another, without what they hold.
-use Prim.Native.Nat.{ℕ, _+_}
+use Prim.Native.Nat.{ℕ, _+_, _*_}
 use mathlib.Core.List.{List, [], _∷_}
 use lib.ListN.{length, set}
 use Rattle.meaning.specs.declared.Layout.{Layout}
@@ -17,14 +17,24 @@ use Rattle.deriving.specs.declared.derivations.Lined.the-variants.{To, F
 unfoldable pub plan-end : Line → ℕ
 plan-end l = l .place + 1 + length (l .X) + 2 + bytes-of (l .c)
 
--- Slot k has the place of line k, and slot 1,024 + k has the end of its plan; these are the lines from number k on (FORMAT 10.2).
+-- THE SLOTS. Slot k has the place of line k, slot `plan-ends-slot` + k the end of its plan, and slot `lines-end` the place where the lines end.
+abbrev pub plan-ends-slot : ℕ
+plan-ends-slot = format .lines
+
+abbrev pub lines-end : ℕ
+lines-end = 2 * format .lines
+
+abbrev pub places-slots : ℕ
+places-slots = lines-end + 1
+
+-- The lines from number k on (FORMAT 10.2).
 unfoldable pub places-noted : (k : ℕ) → List Line → List ℕ → List ℕ
 places-noted k [] t = t
-places-noted k (l ∷ ls) t = places-noted (k + 1) ls (set (set t k (l .place)) (1024 + k) (plan-end l))
+places-noted k (l ∷ ls) t = places-noted (k + 1) ls (set (set t k (l .place)) (plan-ends-slot + k) (plan-end l))
 
--- Slot 2,048 has the place where the lines end.
+-- All lines, and the place where they end.
 unfoldable pub derivation-noted : Derivation → List ℕ → List ℕ
-derivation-noted d t = set (places-noted 0 (d .lines) t) 2048 (d .closing-place)
+derivation-noted d t = set (places-noted 0 (d .lines) t) lines-end (d .closing-place)
 
 -- The citations (FORMAT 5.24, 10.3).
 unfoldable pub citing : List ℕ → ℕ → Got (List ℕ)

@@ -8,9 +8,9 @@ use Rattle.meaning.specs.Limits.{format}
 use Rattle.meaning.specs.Reading.{got}
 use Rattle.meaning.specs.Refusals.{overlap-in}
 use Rattle.meaning.specs.Derivations.{Line, Derivation, line-at, read-derivation, overlap-in-lines}
-use Rattle.refusing.specs.InTable.{found}
-use Rattle.refusing.specs.declared.refusals.Found as Code
-use Rattle.deriving.specs.DerivationRead.{plan-end}
+use Rattle.finding.specs.Places.{found}
+use Rattle.finding.specs.declared.places.Found as Code
+use Rattle.deriving.specs.DerivationRead.{plan-end, plan-ends-slot, lines-end}
 
 -- In what follows the request has n fluents and m actions, and s is the derivation.
 module _ (n m : ℕ) (s : List ℕ) where
@@ -19,10 +19,10 @@ module _ (n m : ℕ) (s : List ℕ) where
     pub end : ℕ
     pub reads : line-at format n m s layout p ≡ got l end
 
-  -- Lines stand where slot k and those after it say, and their plans end where slot 1,024 + k and those after it say.
+  -- Lines stand where slot k and those after it say, and their plans end where slot `plan-ends-slot` + k and those after it say.
   unfoldable pub Lines-here : Layout → (places : List ℕ) (k : ℕ) → List Line → Type 0
   Lines-here layout places k [] = Unit {0}
-  Lines-here layout places k (l ∷ ls) = Line-here layout (getD places k 0) l × (getD places (1024 + k) 0 ≡ plan-end l) × Lines-here layout places (k + 1) ls
+  Lines-here layout places k (l ∷ ls) = Line-here layout (getD places k 0) l × (getD places (plan-ends-slot + k) 0 ≡ plan-end l) × Lines-here layout places (k + 1) ls
 
   pub record Some-lines (places : List ℕ) (count : ℕ) : Type 0 where
     pub layout : Layout
@@ -35,7 +35,7 @@ module _ (n m : ℕ) (s : List ℕ) where
     pub derivation : Derivation
     pub reads : read-derivation format n m s layout ≡ got derivation e
     pub here : Lines-here layout places 0 (derivation .lines)
-    pub closes : getD places 2048 0 ≡ derivation .closing-place
+    pub closes : getD places lines-end 0 ≡ derivation .closing-place
 
   -- What is found is the first overlap in the plan of whatever line stands at p, in either layout (FORMAT 4.40).
   pub record Line-found (p : ℕ) (r : Code.Found) : Type 0 where

@@ -6,8 +6,8 @@ ghost use Rattle.meaning.specs.Reading.{repeated, two-bytes-at};
 ghost use Rattle.meaning.specs.Derivations.{concludes-fluent, conclusion-at, concluded-at, line-at, closing-at, read-derivation};
 ghost use Rattle.bytes.specs.Read.{passed};
 ghost use Rattle.reading.specs.Noted.{noting, outcome};
-ghost use Rattle.deriving.specs.DerivationRead.{places-noted, derivation-noted, citing, ending, planned, lined};
-use super::numbers;
+ghost use Rattle.deriving.specs.DerivationRead.{places-noted, derivation-noted, citing, ending, planned, lined, places-slots};
+use super::rule_numbers;
 use bytes::bytes::Read;
 use bytes::bytes::below_at;
 use bytes::bytes::byte_at;
@@ -21,19 +21,21 @@ use meaning::Layout;
 use reader::Reader;
 use reader::moved;
 use reader::new;
+use reading::notes::Notes;
 use reading::plan::plan_at;
-use reading::table::Table;
 
-// Slot k holds the place of line k, slot 1,024 + k the place where its plan ends, and slot 2,048 the place where the lines end.
-pub type Places = [u16; 2049];
+// Slot k holds the place of line k, slot PLAN_ENDS + k the place where its plan ends, and slot LINES_END the place where the lines end.
+pub type Places = [u16; PLACES_SLOTS];
 
-pub const PLAN_ENDS: usize = 1024;
+pub const PLAN_ENDS: usize = limits::LINES;
 
-pub const LINES_END: usize = 2048;
+pub const LINES_END: usize = 2 * limits::LINES;
 
-// There is a slot for each of these places, as for the table's slots.
+pub const PLACES_SLOTS: usize = LINES_END + 1;
+
+// There is a slot for each of these places, as for the notes' slots.
 pub fn sized(places: &Places)
-    ensures { λ _. ⌜ length (now (places .entry)) ≡ 2049 ⌝ }
+    ensures { λ _. ⌜ length (now (places .entry)) ≡ places-slots ⌝ }
 {
     let slots: &[u16] = places;
 }
@@ -72,24 +74,24 @@ fn cites_at(s: &[u8], p: usize) -> Passed
 pub fn gives_fluent(rule: usize) -> bool
     ensures { λ r. ⌜ r ≡ concludes-fluent rule ⌝ }
 {
-    if rule == numbers::LOOK_RULE {
+    if rule == rule_numbers::LOOK_RULE {
         return true;
     }
-    if rule == numbers::LITERAL_RULE {
+    if rule == rule_numbers::LITERAL_RULE {
         return true;
     }
-    if rule == numbers::SENSING_WHETHER_RULE {
+    if rule == rule_numbers::SENSING_WHETHER_RULE {
         return true;
     }
-    if rule == numbers::COMPOSITION_WHETHER_RULE {
+    if rule == rule_numbers::COMPOSITION_WHETHER_RULE {
         return true;
     }
-    rule == numbers::BRANCHING_WHETHER_RULE
+    rule == rule_numbers::BRANCHING_WHETHER_RULE
 }
 
 // The conclusion after the rule byte: a fluent, or a list.
 fn conclusion_at(n: usize, s: &[u8], rule: usize, p: usize) -> Passed
-    requires { ⌜ n ≤ 64 ⌝ }
+    requires { ⌜ n ≤ format .fluents ⌝ }
     ensures { λ r. ⌜ r ≡ passed (conclusion-at format n (now (s .entry)) rule p) ⌝ }
 {
     let fluent = gives_fluent(rule);
@@ -108,7 +110,7 @@ fn conclusion_at(n: usize, s: &[u8], rule: usize, p: usize) -> Passed
 
 // The conclusion and the rule byte, in the layout's order.
 fn concluded_at(layout: Layout, n: usize, s: &[u8], p: usize) -> Passed
-    requires { ⌜ n ≤ 64 ⌝ }
+    requires { ⌜ n ≤ format .fluents ⌝ }
     ensures { λ r. ⌜ r ≡ passed (concluded-at format n (now (s .entry)) layout p) ⌝ }
 {
     match layout {
@@ -128,7 +130,7 @@ fn concluded_at(layout: Layout, n: usize, s: &[u8], p: usize) -> Passed
 
 // The conclusion, the rule byte and the citations.
 fn end_at(layout: Layout, n: usize, s: &[u8], p: usize) -> Passed
-    requires { ⌜ n ≤ 64 ⌝ }
+    requires { ⌜ n ≤ format .fluents ⌝ }
     ensures { λ r. ⌜ r ≡ passed (ending layout n (now (s .entry)) p) ⌝ }
 {
     match concluded_at(layout, n, s, p) {
@@ -143,10 +145,10 @@ pub enum Lined {
     Fault(u8, usize),
 }
 
-// The plan, by way of a table that is of no use afterwards, and what follows it.
-fn plan_first(layout: Layout, n: usize, m: usize, s: &[u8], p: usize, t: &mut Table) -> Lined
-    requires { ⌜ n ≤ 64 ⌝ }
-    requires { ⌜ length (now s) ≤ 32768 ⌝ }
+// The plan, by way of notes that are of no use afterwards, and what follows it.
+fn plan_first(layout: Layout, n: usize, m: usize, s: &[u8], p: usize, t: &mut Notes) -> Lined
+    requires { ⌜ n ≤ format .fluents ⌝ }
+    requires { ⌜ length (now s) ≤ format .derivation ⌝ }
     ensures { λ r. ⌜ r ≡ planned layout n m (now (s .entry)) p ⌝ }
 {
     match plan_at(n, m, s, p, t) {
@@ -159,9 +161,9 @@ fn plan_first(layout: Layout, n: usize, m: usize, s: &[u8], p: usize, t: &mut Ta
 }
 
 // A line.
-pub fn line_at(layout: Layout, n: usize, m: usize, s: &[u8], p: usize, t: &mut Table) -> Lined
-    requires { ⌜ n ≤ 64 ⌝ }
-    requires { ⌜ length (now s) ≤ 32768 ⌝ }
+pub fn line_at(layout: Layout, n: usize, m: usize, s: &[u8], p: usize, t: &mut Notes) -> Lined
+    requires { ⌜ n ≤ format .fluents ⌝ }
+    requires { ⌜ length (now s) ≤ format .derivation ⌝ }
     ensures { λ r. ⌜ r ≡ lined (line-at format n m (now (s .entry)) layout p) ⌝ }
 {
     match list_at(Kind::Literals, n, limits::LISTED, s, p) {
@@ -171,7 +173,7 @@ pub fn line_at(layout: Layout, n: usize, m: usize, s: &[u8], p: usize, t: &mut T
 }
 
 pub fn note_place(k: usize, p: usize, places: &mut Places)
-    requires { ⌜ k < 2049 ⌝ }
+    requires { ⌜ k < places-slots ⌝ }
     requires { ⌜ p < 65536 ⌝ }
     ensures { λ _. ⌜ now (places .exit) ≡ set (now (places .entry)) k p ⌝ }
 {
@@ -186,12 +188,12 @@ fn lines_from(
     s: &[u8],
     count: usize,
     start: usize,
-    t: &mut Table,
+    t: &mut Notes,
     places: &mut Places,
 ) -> Passed
-    requires { ⌜ n ≤ 64 ⌝ }
-    requires { ⌜ count ≤ 1024 ⌝ }
-    requires { ⌜ length (now s) ≤ 32768 ⌝ }
+    requires { ⌜ n ≤ format .fluents ⌝ }
+    requires { ⌜ count ≤ format .lines ⌝ }
+    requires { ⌜ length (now s) ≤ format .derivation ⌝ }
     ensures { λ r. ⌜ outcome r (now (places .exit)) ≡ noting (places-noted 0) (repeated (line-at format n m (now (s .entry)) layout) count start) (now (places .entry)) ⌝ }
 {
     let mut k = 0;
@@ -220,12 +222,12 @@ fn lines<'a>(
     n: usize,
     m: usize,
     count: usize,
-    t: &mut Table,
+    t: &mut Notes,
     places: &mut Places,
 ) -> Passed
-    requires { ⌜ n ≤ 64 ⌝ }
-    requires { ⌜ count ≤ 1024 ⌝ }
-    requires { ⌜ length (now (r .src)) ≤ 32768 ⌝ }
+    requires { ⌜ n ≤ format .fluents ⌝ }
+    requires { ⌜ count ≤ format .lines ⌝ }
+    requires { ⌜ length (now (r .src)) ≤ format .derivation ⌝ }
     ensures { λ x. ⌜ outcome x (now (places .exit)) ≡ noting (places-noted 0) (repeated (line-at format n m (now (r .entry .src)) layout) count (r .entry .at)) (now (places .entry)) ⌝ }
 {
     lines_from(layout, n, m, r.src, count, r.at, t, places)
@@ -239,12 +241,12 @@ fn read_lines(
     s: &[u8],
     count: usize,
     start: usize,
-    t: &mut Table,
+    t: &mut Notes,
     places: &mut Places,
 ) -> Passed
-    requires { ⌜ n ≤ 64 ⌝ }
-    requires { ⌜ count ≤ 1024 ⌝ }
-    requires { ⌜ length (now s) ≤ 32768 ⌝ }
+    requires { ⌜ n ≤ format .fluents ⌝ }
+    requires { ⌜ count ≤ format .lines ⌝ }
+    requires { ⌜ length (now s) ≤ format .derivation ⌝ }
     ensures { λ x. ⌜ outcome x (now (places .exit)) ≡ noting (places-noted 0) (repeated (line-at format n m (now (s .entry)) layout) count start) (now (places .entry)) ⌝ }
 {
     lines(moved(new(s), start), layout, n, m, count, t, places)
@@ -269,10 +271,10 @@ pub fn read_derivation(
     n: usize,
     m: usize,
     s: &[u8],
-    t: &mut Table,
+    t: &mut Notes,
     places: &mut Places,
 ) -> Passed
-    requires { ⌜ n ≤ 64 ⌝ }
+    requires { ⌜ n ≤ format .fluents ⌝ }
     ensures { λ r. ⌜ outcome r (now (places .exit)) ≡ noting derivation-noted (read-derivation format n m (now (s .entry)) layout) (now (places .entry)) ⌝ }
 {
     if limits::DERIVATION < s.len() {

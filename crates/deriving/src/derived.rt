@@ -1,10 +1,11 @@
 ghost use mathlib.Core.Path.{_≡_};
 ghost use Prim.Native.Nat.{_+_, _≤_, _<_};
 ghost use lib.ListN.{length, getD};
+ghost use Rattle.meaning.specs.Limits.{format, all-literals};
 ghost use Rattle.bytes.specs.Read.{passed};
 ghost use Rattle.reading.specs.Noted.{noting, outcome};
 ghost use Rattle.reading.specs.Listed.{List-here};
-ghost use Rattle.deriving.specs.DerivationRead.{derivation-noted, settled-derivation};
+ghost use Rattle.deriving.specs.DerivationRead.{derivation-noted, settled-derivation, plan-ends-slot, places-slots};
 ghost use Rattle.deriving.specs.Derived.{Some-lines, Line-found, Lines-found};
 use super::derivations;
 use super::derivations::Places;
@@ -13,18 +14,18 @@ use bytes::bytes::Read;
 use bytes::bytes::two;
 use bytes::limits;
 use bytes::lists::Passed;
+use finding::branches::sequence_of;
+use finding::places::Found;
 use meaning::Layout;
+use reading::notes;
+use reading::notes::Notes;
+use reading::notes::widened;
 use reading::plan::plan_at;
-use reading::table;
-use reading::table::Table;
-use reading::table::widened;
-use refusing::overlaps::overlap;
-use refusing::overlaps::sequence_of;
-use refusing::refusals::Found;
+use refusing::refusal_18::overlap;
 
 // The place in slot k, which is that of line k.
 pub fn place_of(places: &Places, k: usize) -> usize
-    requires { ⌜ k < 2049 ⌝ }
+    requires { ⌜ k < places-slots ⌝ }
     ensures { λ r. ⌜ r ≡ getD (now (places .entry)) k 0 ⌝ }
 {
     widened(places[k])
@@ -32,23 +33,23 @@ pub fn place_of(places: &Places, k: usize) -> usize
 
 // Where the plan of line k ends.
 pub fn end_of(places: &Places, k: usize) -> usize
-    requires { ⌜ k < 1024 ⌝ }
-    ensures { λ r. ⌜ r ≡ getD (now (places .entry)) (1024 + k) 0 ⌝ }
+    requires { ⌜ k < format .lines ⌝ }
+    ensures { λ r. ⌜ r ≡ getD (now (places .entry)) (plan-ends-slot + k) 0 ⌝ }
 {
     let slot = derivations::PLAN_ENDS + k;
     place_of(places, slot)
 }
 
-// 18 in the plan of the line at p. The plan is read again, without a fault, into a table that is of no use afterwards.
-fn overlap_in_line(n: usize, m: usize, s: &[u8], p: usize, t: &mut Table) -> Found
-    requires { ⌜ n ≤ 64 ⌝ }
-    requires { ⌜ m ≤ 64 ⌝ }
-    requires { ⌜ length (now s) ≤ 32768 ⌝ }
-    requires { ⌜ List-here 128 (now s) p ⌝ }
+// 18 in the plan of the line at p. The plan is read again, without a fault, into notes that are of no use afterwards.
+fn overlap_in_line(n: usize, m: usize, s: &[u8], p: usize, t: &mut Notes) -> Found
+    requires { ⌜ n ≤ format .fluents ⌝ }
+    requires { ⌜ m ≤ format .actions ⌝ }
+    requires { ⌜ length (now s) ≤ format .derivation ⌝ }
+    requires { ⌜ List-here all-literals (now s) p ⌝ }
     ensures { λ r. ⌜ Line-found n m (now (s .entry)) p r ⌝ }
 {
     let plan = sequence_of(s, p);
-    table::sized(t);
+    notes::sized(t);
     match plan_at(n, m, s, plan, t) {
         Read::Value(count, e) => overlap(s, t, count),
         Read::Fault(k, e) => Found::Nowhere,
@@ -60,14 +61,14 @@ fn overlap_in_lines(
     n: usize,
     m: usize,
     s: &[u8],
-    t: &mut Table,
+    t: &mut Notes,
     places: &Places,
     count: usize,
 ) -> Found
-    requires { ⌜ n ≤ 64 ⌝ }
-    requires { ⌜ m ≤ 64 ⌝ }
-    requires { ⌜ length (now s) ≤ 32768 ⌝ }
-    requires { ⌜ count ≤ 1024 ⌝ }
+    requires { ⌜ n ≤ format .fluents ⌝ }
+    requires { ⌜ m ≤ format .actions ⌝ }
+    requires { ⌜ length (now s) ≤ format .derivation ⌝ }
+    requires { ⌜ count ≤ format .lines ⌝ }
     requires { ⌜ Some-lines n m (now s) (now places) count ⌝ }
     ensures { λ r. ⌜ Lines-found n m (now (s .entry)) (now (places .entry)) count r ⌝ }
 {
@@ -92,11 +93,11 @@ pub fn settle_derivation(
     n: usize,
     m: usize,
     s: &[u8],
-    t: &mut Table,
+    t: &mut Notes,
     places: &mut Places,
 ) -> Passed
-    requires { ⌜ n ≤ 64 ⌝ }
-    requires { ⌜ m ≤ 64 ⌝ }
+    requires { ⌜ n ≤ format .fluents ⌝ }
+    requires { ⌜ m ≤ format .actions ⌝ }
     ensures { λ r. ⌜ outcome r (now (places .exit)) ≡ noting derivation-noted (settled-derivation layout n m (now (s .entry))) (now (places .entry)) ⌝ }
 {
     derivations::sized(places);

@@ -8,26 +8,24 @@ use lib.ListN.{getD}
 use lib.Dec.{eqb}
 use borrow.Author.Tests.{eqb-true, eqb-false, eq-eqb, ne-eqb, le-leb}
 use Rattle.meaning.specs.Limits.{format}
-use Rattle.meaning.specs.Requests.{Sequence, done, item, Request}
+use Rattle.meaning.specs.Requests.{Sequence, done, item}
 use Rattle.meaning.specs.Derivations.{join}
 use Rattle.meaning.specs.States.{State, state-of, first-state}
 use Rattle.meaning.specs.Walk.{walked}
 use Rattle.meaning.proofs.TestLaws.{by-test, pick-true, pick-false}
 use Rattle.reading.specs.Listed.{listed}
 use Rattle.reading.specs.Planned.{items-of}
-use Rattle.refusing.specs.Settled.{blank}
-use Rattle.refusing.proofs.PlanOverlaps.{some-item}
-use Rattle.refusing.proofs.ReadLaws.{parts, items-noted}
-use Rattle.refusing.proofs.SettleLaws.{blank-long}
-use Rattle.steps.specs.AtHand.{request-in, At-hand}
+use Rattle.reading.specs.Noted.{items-slot}
+use Rattle.finding.proofs.PlanHere.{some-item}
+use Rattle.steps.specs.Held.{table-in, plan-in, request-in}
+use Rattle.steps.specs.AtHand.{At-hand}
 use Rattle.steps.specs.Rests.{rest-in, rest-at, Position}
 use Rattle.steps.specs.Steps.{walk-from}
-use Rattle.steps.proofs.HandLaws.{request-is, starts}
-use Rattle.steps.proofs.OnwardLaws.{few-items}
+use Rattle.steps.proofs.HandLaws.{starts, few-items, items-are}
 use Rattle.glintstring.specs.Telling.{start}
 
 -- THE START.
-pub start-end : (items : ℕ) → items ≡ 0 → 1024 ≡ start items
+pub start-end : (items : ℕ) → items ≡ 0 → format .items ≡ start items
 unfolding start
 start-end items none = sym (pick-true _ _ _ (eq-eqb _ _ none))
 
@@ -52,23 +50,18 @@ rest-first (item x b) =
 -- A REQUEST at hand.
 module _ (s t : List ℕ) (here : At-hand s t) where
   module _ (marks : State) (is : marks ≡ state-of format (listed s 2)) where
-    first-is : marks ≡ first-state format (request-in s .table)
+    first-is : marks ≡ first-state format (table-in s)
     unfolding first-state
     first-is = is ∙ ap (state-of format) (starts s t here .facts)
 
-  module _ (items at : ℕ) (counted : items ≡ getD t 5377 0) (starts : at ≡ start items) where
-    items-are : items ≡ items-of (request-in s .plan)
-    items-are =
-        let x : Request = here .read .request in
-        counted
-        ∙ ap (λ (u : List ℕ). getD u 5377 0) (here .read .noted)
-        ∙ items-noted s (here .bytes) x (parts s x (here .end) (here .read .reads)) blank blank-long
-        ∙ ap (λ (y : Request). items-of (y .plan)) (sym (request-is s t here))
+  module _ (items at : ℕ) (counted : items ≡ getD t items-slot 0) (starts : at ≡ start items) where
+    counted-are : items ≡ items-of (plan-in s t)
+    counted-are = counted ∙ items-are s t here
 
-    at-is : at ≡ start (items-of (request-in s .plan))
-    at-is = starts ∙ ap start items-are
+    at-is : at ≡ start (items-of (plan-in s t))
+    at-is = starts ∙ ap start counted-are
 
-    pub starts-there : Position (request-in s .plan) at
+    pub starts-there : Position (plan-in s t) at
     starts-there =
         let few = few-items s t here in
         by-test (eqb items 0)
@@ -76,11 +69,11 @@ module _ (s t : List ℕ) (here : At-hand s t) where
         (λ e.
         let some = eqb-false items 0 e in
         let is = starts ∙ sym (start-first items some) in
-        record { most = omega (arith, is); there = λ _. omega (arith, is, items-are, some) })
+        record { most = omega (arith, is); there = λ _. omega (arith, is, counted-are, some) })
 
-    walks-all : (marks : State) → walk-from s at marks ≡ walked (request-in s) marks
-    unfolding walk-from walked
-    walks-all marks = rw (at-is, rest-first (request-in s .plan))
+    walks-all : (marks : State) → walk-from s t at marks ≡ walked (request-in s t) marks
+    unfolding walk-from walked request-in
+    walks-all marks = rw (at-is, rest-first (plan-in s t))
 
-    pub walks-first : (marks : State) → marks ≡ state-of format (listed s 2) → walk-from s at marks ≡ walked (request-in s) (first-state format (request-in s .table))
-    walks-first marks is = walks-all marks ∙ ap (walked (request-in s)) (first-is marks is)
+    pub walks-first : (marks : State) → marks ≡ state-of format (listed s 2) → walk-from s t at marks ≡ walked (request-in s t) (first-state format (table-in s))
+    walks-first marks is = walks-all marks ∙ ap (walked (request-in s t)) (first-is marks is)

@@ -2,10 +2,10 @@
 -- budget does, so what is told of it is what the definition says of the walk within the budget. Assumes nothing.
 use Prim.Native.Nat.{ℕ, _-_, _≤_, _<_}
 use native.Mathlib.Omega.{arith}
-use mathlib.Core.Path.{_≡_, refl, sym, _∙_, ap, subst}
+use mathlib.Core.Path.{_≡_, sym, _∙_, ap, subst}
 use mathlib.Core.Bool.{true, false}
 use mathlib.Core.List.{List}
-use lib.ListN.{length, getD, drop, replicate}
+use lib.ListN.{length, getD, drop}
 use lib.Dec.{eqb, ltb}
 use mir.Syntax.{w8}
 use mir.Val.{Fits}
@@ -13,29 +13,28 @@ use borrow.Author.Tests.{eqb-true, eqb-false, eq-eqb, ne-eqb, ltb-false}
 use Rattle.meaning.specs.declared.Answer.{Answer}
 use Rattle.meaning.specs.Limits.{format}
 use Rattle.meaning.specs.Requests.{Request}
-use Rattle.meaning.specs.Reading.{got}
 use Rattle.meaning.specs.Refusals.{settled}
 use Rattle.meaning.specs.States.{State, state-of, first-state}
 use Rattle.meaning.specs.Walk.{End, fine, Walked, walked}
 use Rattle.meaning.specs.Judging.{ended, within, judge-settled, judge}
 use Rattle.meaning.proofs.TestLaws.{by-test, pick-true, pick-false}
-use Rattle.meaning.proofs.SettledLaws.{settled-is}
 use Rattle.meaning.proofs.KeptEnds.{Stuck, walked-stuck}
 use Rattle.bytes.specs.declared.lists.Passed.{Passed}
 use Rattle.bytes.specs.declared.lists.Passed.the-variants.{To, Fault as Stop}
-use Rattle.reading.specs.Noted.{noting, outcome}
+use Rattle.reading.specs.Noted.{noting, outcome, items-slot}
 use Rattle.reading.specs.Listed.{listed}
 use Rattle.reading.specs.Requested.{request-noted}
-use Rattle.refusing.specs.Settled.{blank}
-use Rattle.reading.proofs.SectionLaws.{noting-got, noting-fault}
-use Rattle.steps.specs.AtHand.{request-in, At-hand, Marked}
+use Rattle.finding.specs.ReadHere.{blank}
+use Rattle.reading.proofs.SectionLaws.{noting-fault}
+use Rattle.steps.specs.Held.{table-in, request-in}
+use Rattle.steps.specs.AtHand.{At-hand, Marked}
 use Rattle.steps.specs.Steps.{walk-from}
-use Rattle.walking.specs.Standing.{Standing, nothing, spent, so-far, spend, add, end-in, standing, Going}
+use Rattle.walking.specs.Standing.{Standing, nothing, spent, so-far, spend, add, end-in, standing, Going, tally-slots}
 use Rattle.walking.proofs.StandingLaws.{stands-open, end-missed, end-stopped, sized-after}
-use Rattle.steps.proofs.HandLaws.{request-read}
 use Rattle.glintstring.specs.Telling.{start, told, Tallied}
 use Rattle.glintstring.proofs.MarkedLaws.{End-marked, first-marked, walked-marked}
 use Rattle.glintstring.proofs.FirstLaws.{walks-first}
+use Rattle.glintstring.proofs.SettledAtHand.{settled-got, settled-held}
 
 -- STANDINGS.
 so-far≢spent : {l : ℕ} {e : End State} → so-far l e ≡ spent → ⊥
@@ -83,7 +82,7 @@ module _ (budget : ℕ) (w : Walked State) where
       ap (told lent budget) (spends-within below) ∙ ap (λ (c : ℕ). ended lent c (w .end)) counted ∙ sym (pick-false (ltb budget (w .count)) _ _ below))
 
   -- The tally after it.
-  module _ (tally : List ℕ) (sized : length tally ≡ 67) (stands : standing tally ≡ spend budget (λ e. e) w) where
+  module _ (tally : List ℕ) (sized : length tally ≡ tally-slots) (stands : standing tally ≡ spend budget (λ e. e) w) where
     within-is : (getD tally 0 0 ≡ 3 → ⊥) → so-far (getD tally 2 0) (end-in tally) ≡ so-far (budget - w .count) (w .end)
     within-is going =
         let is = sym (stands-open tally sized going) ∙ stands in
@@ -114,63 +113,44 @@ module _ (budget : ℕ) (w : Walked State) where
     }
 
 -- THE WALK of a request at hand, from its first state.
-module _ (s t : List ℕ) (here : At-hand s t) (items at : ℕ) (counted : items ≡ getD t 5377 0) (starts : at ≡ start items)
+module _ (s t : List ℕ) (here : At-hand s t) (items at : ℕ) (counted : items ≡ getD t items-slot 0) (starts : at ≡ start items)
     (marks : State) (is : marks ≡ state-of format (listed s 2)) (budget : ℕ) (before after : List ℕ)
-    (opens : standing before ≡ so-far budget fine) (going : Going before) (walks : standing after ≡ add (standing before) (walk-from s at marks)) where
+    (opens : standing before ≡ so-far budget fine) (going : Going before) (walks : standing after ≡ add (standing before) (walk-from s t at marks)) where
   whole : Walked State
-  whole = walked (request-in s) (first-state format (request-in s .table))
+  whole = walked (request-in s t) (first-state format (table-in s))
 
   stands-so : standing after ≡ spend budget (λ e. e) whole
   unfolding add whole
-  stands-so = walks ∙ ap (λ (a : Standing). add a (walk-from s at marks)) opens ∙ ap (spend budget (λ e. e)) (walks-first s t here items at counted starts marks is)
+  stands-so = walks ∙ ap (λ (a : Standing). add a (walk-from s t at marks)) opens ∙ ap (spend budget (λ e. e)) (walks-first s t here items at counted starts marks is)
 
   pub plan-tallied : Tallied after budget
   unfolding whole first-state
   plan-tallied =
-      tallied budget whole after (sized-after before going (walk-from s at marks) after walks) stands-so
-      (walked-marked (request-in s) (first-state format (request-in s .table)) (first-marked (request-in s .table)))
-      (walked-stuck (request-in s) (first-state format (request-in s .table)))
+      tallied budget whole after (sized-after before going (walk-from s t at marks) after walks) stands-so
+      (walked-marked (request-in s t) (first-state format (table-in s)) (first-marked (table-in s)))
+      (walked-stuck (request-in s t) (first-state format (table-in s)))
 
   pub plan-judged : (lent left : List ℕ) (answer : Answer) → record { answer = answer; state = left } ≡ told lent budget (standing after)
-      → record { answer = answer; state = left } ≡ within lent budget (walked (request-in s) (first-state format (request-in s .table)))
+      → record { answer = answer; state = left } ≡ within lent budget (walked (request-in s t) (first-state format (table-in s)))
   unfolding whole
   plan-judged lent left answer says = says ∙ ap (told lent budget) stands-so ∙ told-within budget whole lent
 
 -- THE CALL.
-pub blank-is : replicate 9480 0 ≡ blank
-unfolding blank
-blank-is = refl
-
 module _ (s lent : List ℕ) (budget : ℕ) where
-  pub judge-9 : (length lent ≡ 64 → ⊥) → record { answer = record { number = 9; input = 0; place = 0; count = 0 }; state = lent } ≡ judge format s lent budget
+  pub judge-9 : (length lent ≡ format .state → ⊥) → record { answer = record { number = 9; input = 0; place = 0; count = 0 }; state = lent } ≡ judge format s lent budget
   unfolding judge
   judge-9 other = sym (pick-false _ _ _ (ne-eqb _ _ other))
 
   module _ (t u : List ℕ) (r : Passed) (settles : outcome r u ≡ noting request-noted (settled format s) t) where
-    module _ (e : ℕ) (passes : r ≡ To e) where
-      settled-got : (x : Request) × (settled format s ≡ got x e) × (u ≡ request-noted x t)
-      settled-got = noting-got request-noted (settled format s) r t u settles e passes
+    pub judge-walked : (e : ℕ) → r ≡ To e → ((i : ℕ) → Fits w8 (getD s i 0)) → t ≡ blank → length lent ≡ format .state → (answer : Answer) (left : List ℕ)
+        → record { answer = answer; state = left } ≡ within lent budget (walked (request-in s u) (first-state format (table-in s)))
+        → record { answer = answer; state = left } ≡ judge format s lent budget
+    unfolding judge judge-settled request-in
+    judge-walked e passes bytes empty sized answer left is =
+        is
+        ∙ ap (λ (x : Request). within lent budget (walked x (first-state format (x .table)))) (settled-held s t u r settles e passes bytes empty)
+        ∙ sym (pick-true _ _ _ (eq-eqb _ _ sized) ∙ ap (judge-settled format lent budget) (settled-got s t u r settles e passes .1))
 
-      pub judge-at-hand : ((i : ℕ) → Fits w8 (getD s i 0)) → t ≡ blank → At-hand s u
-      judge-at-hand bytes empty = record {
-        bytes = λ i. bytes i .fits;
-        end = e;
-        read = record {
-          request = settled-got .0;
-          reads = settled-is format s (settled-got .0) e (settled-got .1) .reads;
-          noted = settled-got .2 ∙ ap (request-noted (settled-got .0)) empty;
-        };
-      }
-
-      request-is : request-in s ≡ settled-got .0
-      request-is = request-read s (settled-got .0) e (settled-is format s (settled-got .0) e (settled-got .1) .reads)
-
-      pub judge-walked : length lent ≡ 64 → (answer : Answer) (left : List ℕ)
-          → record { answer = answer; state = left } ≡ within lent budget (walked (request-in s) (first-state format (request-in s .table)))
-          → record { answer = answer; state = left } ≡ judge format s lent budget
-      unfolding judge judge-settled
-      judge-walked sized answer left is = is ∙ rw request-is (sym (pick-true _ _ _ (eq-eqb _ _ sized) ∙ ap (judge-settled format lent budget) (settled-got .1)))
-
-    pub judge-refused : (k p : ℕ) → r ≡ Stop k p → length lent ≡ 64 → record { answer = record { number = k; input = 1; place = p; count = 0 }; state = lent } ≡ judge format s lent budget
+    pub judge-refused : (k p : ℕ) → r ≡ Stop k p → length lent ≡ format .state → record { answer = record { number = k; input = 1; place = p; count = 0 }; state = lent } ≡ judge format s lent budget
     unfolding judge judge-settled
     judge-refused k p stops sized = sym (pick-true _ _ _ (eq-eqb _ _ sized) ∙ ap (judge-settled format lent budget) (noting-fault request-noted (settled format s) r t u settles k p stops))

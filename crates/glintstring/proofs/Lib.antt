@@ -2,7 +2,8 @@ pub mod TellingLaws
 pub mod KeepingLaws
 pub mod MarkedLaws
 pub mod FirstLaws
+pub mod SettledAtHand
 pub mod JudgingLaws
 pub mod ShowingLaws
 pub mod PackingLaws
-pub mod DerivationLaws
+pub mod CheckCallLaws

@@ -6,7 +6,7 @@ use Rattle.meaning.specs.Requests.{Table, Request}
 use Rattle.meaning.specs.States.{State, first-state}
 use Rattle.meaning.specs.Walk.{End, walked}
 use Rattle.steps.specs.AtHand.{Marked}
-use Rattle.steps.proofs.SensingLaws.{marked-after}
+use Rattle.steps.proofs.LookLaws.{marked-after}
 use Rattle.steps.proofs.ToldMarks.{told-marked, state-marked}
 use Rattle.glintstring.proofs.KeepingLaws.{End-has, Kept-by, Keeps, walked-kept}
 

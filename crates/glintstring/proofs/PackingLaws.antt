@@ -25,7 +25,7 @@ place-small s lent budget = let most = place-limited format s lent budget in ome
 pub check-place-small : (layout : Layout) (s d : List ℕ) → check format layout s d .place < 65536
 check-place-small layout s d =
     let most = check-place-limited format layout s d in
-    let limit : limit-of format (check format layout s d) ≤ 32768 = pick-has (λ (n : ℕ). n ≤ 32768) _ _ _ (λ _. omega arith) (λ _. omega arith) in
+    let limit : limit-of format (check format layout s d) ≤ (format .derivation) = pick-has (λ (n : ℕ). n ≤ format .derivation) _ _ _ (λ _. omega arith) (λ _. omega arith) in
     omega (arith, most, limit)
 
 -- WHAT THE EXPORTED WALK CALL RETURNS, where the walk call has given an answer and left these bytes.

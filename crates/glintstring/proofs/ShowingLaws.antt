@@ -12,7 +12,7 @@ use Rattle.meaning.specs.Limits
 use Rattle.meaning.specs.Showing.{Part, part-from, show}
 use Rattle.meaning.proofs.TestLaws.{pick-true, pick-false}
 use Rattle.glintstring.specs.Packing.{unpacked}
-use Rattle.glintstring.specs.Showing.{chosen}
+use Rattle.glintstring.specs.ShownPart.{chosen}
 
 -- What is left from a place on, as the code takes it.
 pub rest-bytes : (s : List ℕ) (place : ℕ) → take (length s - place) (drop place s) ≡ drop place s

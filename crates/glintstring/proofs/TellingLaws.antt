@@ -8,27 +8,28 @@ use lib.ListN.{length, getD, set, drop, length-set, length-drop}
 use lib.Seq.{getD-set-same, getD-set-other, getD-drop, ext-getD}
 use lib.Dec.{eqb}
 use borrow.Author.Tests.{eqb-true, eqb-false}
+use Rattle.meaning.specs.Limits.{format}
 use Rattle.meaning.specs.Judging.{written-over, reported, ended}
 use Rattle.meaning.proofs.TestLaws.{by-test}
 use Rattle.steps.specs.AtHand.{Marked}
-use Rattle.walking.specs.Standing.{standing}
+use Rattle.walking.specs.Standing.{standing, tally-slots}
 use Rattle.walking.proofs.StandingLaws.{stands-spent, stands-fine, stands-missed, stands-stopped}
 use Rattle.glintstring.specs.Telling.{told, Tallied}
 
 -- HANDED OVER below fluent f.
 pub record Handing (tally state : List ℕ) (f : ℕ) : Type 0 where
-  pub sized : length state ≡ 64
-  pub few : f ≤ 64
+  pub sized : length state ≡ format .state
+  pub few : f ≤ format .fluents
   pub done : (j : ℕ) → j < f → getD state j 0 ≡ getD tally (3 + j) 0
 
-pub handing-starts : (tally state : List ℕ) → length state ≡ 64 → Handing tally state 0
+pub handing-starts : (tally state : List ℕ) → length state ≡ format .state → Handing tally state 0
 handing-starts tally state sized = record { sized = sized; few = omega arith; done = λ j h. absurd (omega arith) }
 
 pub mark-small : (tally : List ℕ) (f : ℕ) → Marked (drop 3 tally) → getD tally (3 + f) 0 < 256
 mark-small tally f marked = let small = marked .small f in let same = getD-drop 3 tally f 0 in omega (arith, small, same)
 
 module _ (tally state : List ℕ) (f : ℕ) (handing : Handing tally state f) where
-  pub handing-next : f < 64 → (v : ℕ) → v ≡ getD tally (3 + f) 0 → Handing tally (set state f v) (f + 1)
+  pub handing-next : f < format .fluents → (v : ℕ) → v ≡ getD tally (3 + f) 0 → Handing tally (set state f v) (f + 1)
   handing-next more v is =
       let sized = handing .sized in
       record {
@@ -40,7 +41,7 @@ module _ (tally state : List ℕ) (f : ℕ) (handing : Handing tally state f) wh
             (λ n. let other = eqb-false j f n in getD-set-other state f j v 0 (λ e. other (omega arith)) ∙ handing .done j (omega (arith, other)));
       }
 
-  pub handing-done : 64 ≤ f → length tally ≡ 67 → state ≡ drop 3 tally
+  pub handing-done : format .fluents ≤ f → length tally ≡ tally-slots → state ≡ drop 3 tally
   handing-done all was =
       let sized = handing .sized in
       let short = length-drop 3 tally in

@@ -1,5 +1,5 @@
 pub mod Telling
-pub mod Lent
-pub mod Showing
+pub mod LentState
+pub mod ShownPart
 pub mod Packing
-pub mod Derivations
+pub mod CheckCalls

@@ -5,14 +5,15 @@ use mathlib.Core.List.{List}
 use lib.ListN.{length, getD, drop}
 use lib.Dec.{eqb}
 use Rattle.meaning.specs.Tests.{pick}
+use Rattle.meaning.specs.Limits.{format}
 use Rattle.meaning.specs.Limits
 use Rattle.meaning.specs.Judging.{Judgement, ended}
 use Rattle.steps.specs.AtHand.{Marked}
-use Rattle.walking.specs.Standing.{Standing, nothing, spent, so-far}
+use Rattle.walking.specs.Standing.{Standing, nothing, spent, so-far, tally-slots}
 
 -- The walk starts at the first item; a plan without items is at its end.
 unfoldable pub start : (items : ℕ) → ℕ
-start items = pick (eqb items 0) (λ _. 1024) (λ _. 0)
+start items = pick (eqb items 0) (λ _. format .items) (λ _. 0)
 
 -- How the walk stands once it is over, of a budget: what is not left was counted.
 unfoldable pub told : (lent : List ℕ) → (budget : ℕ) → Standing → Judgement
@@ -22,7 +23,7 @@ told lent budget (so-far left end) = ended lent (budget - left) end
 
 -- A tally that can be told: no more is left than the budget, its number is a byte, and the state concerned is one.
 pub record Tallied (tally : List ℕ) (budget : ℕ) : Type 0 where
-  pub sized : length tally ≡ 67
+  pub sized : length tally ≡ tally-slots
   pub fewer : (getD tally 0 0 ≡ 3 → ⊥) → getD tally 2 0 ≤ budget
   pub small : (getD tally 0 0 ≡ 3 → ⊥) → getD tally 0 0 < 256
   pub marked : (getD tally 0 0 ≡ 3 → ⊥) → (getD tally 0 0 ≡ 0 → ⊥) → Marked (drop 3 tally)

@@ -8,8 +8,8 @@ ghost use Rattle.meaning.specs.Derivations.{check};
 ghost use Rattle.meaning.specs.Showing.{show};
 ghost use Rattle.glintstring.specs.Packing.{packed, unpacked};
 use super::answers;
-use super::derivations::check;
-use super::derivations::check_whether;
+use super::check_calls::check;
+use super::check_calls::check_whether;
 use super::judging::judge;
 use meaning::Answer;
 

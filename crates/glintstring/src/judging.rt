@@ -4,7 +4,8 @@ ghost use Rattle.meaning.specs.Limits.{format};
 ghost use Rattle.meaning.specs.States.{first-state};
 ghost use Rattle.meaning.specs.Walk.{walked};
 ghost use Rattle.meaning.specs.Judging.{within, judge};
-ghost use Rattle.steps.specs.AtHand.{request-in, At-hand};
+ghost use Rattle.steps.specs.Held.{table-in, request-in};
+ghost use Rattle.steps.specs.AtHand.{At-hand};
 ghost use Rattle.glintstring.specs.Telling.{start};
 use super::answers;
 use super::telling::tell;
@@ -12,9 +13,9 @@ use bytes::limits;
 use bytes::lists::Passed;
 use meaning::Answer;
 use reading::marks::state_of;
-use reading::table;
-use reading::table::Table;
-use reading::table::get;
+use reading::notes;
+use reading::notes::Notes;
+use reading::notes::get;
 use refusing::settled::settle;
 use walking::tally::opened;
 use walking::walk::walk;
@@ -26,13 +27,13 @@ fn start_of(items: usize) -> usize
 }
 
 // The walk of a settled request.
-fn walk_plan(request: &[u8], t: &Table, state: &mut [u8], budget: u32) -> Answer
+fn walk_plan(request: &[u8], t: &Notes, state: &mut [u8], budget: u32) -> Answer
     requires { ⌜ At-hand (now request) (now t) ⌝ }
-    requires { ⌜ length (now state) ≡ 64 ⌝ }
-    ensures { λ r. ⌜ record { answer = r; state = now (state .exit) } ≡ within (now (state .entry)) budget (walked (request-in (now (request .entry))) (first-state format (request-in (now (request .entry)) .table))) ⌝ }
+    requires { ⌜ length (now state) ≡ format .state ⌝ }
+    ensures { λ r. ⌜ record { answer = r; state = now (state .exit) } ≡ within (now (state .entry)) budget (walked (request-in (now (request .entry)) (now (t .entry))) (first-state format (table-in (now (request .entry))))) ⌝ }
 {
     let marks = state_of(request, 2);
-    let items = get(t, table::ITEMS);
+    let items = get(t, notes::ITEMS);
     let at = start_of(items);
     let mut tally = opened(budget);
     walk(request, t, at, marks, &mut tally);
@@ -43,7 +44,7 @@ fn walk_plan(request: &[u8], t: &Table, state: &mut [u8], budget: u32) -> Answer
 pub fn judge(request: &[u8], state: &mut [u8], budget: u32) -> Answer
     ensures { λ r. ⌜ record { answer = r; state = now (state .exit) } ≡ judge format (now (request .entry)) (now (state .entry)) budget ⌝ }
 {
-    if state.len() != 64 {
+    if state.len() != limits::FLUENTS {
         return Answer {
             number: answers::STATE_LENGTH,
             input: answers::NEITHER_INPUT,
@@ -51,7 +52,7 @@ pub fn judge(request: &[u8], state: &mut [u8], budget: u32) -> Answer
             count: 0,
         };
     }
-    let mut t: Table = [0u16; 9480];
+    let mut t: Notes = [0u16; notes::SLOTS];
     match settle(request, &mut t) {
         Passed::To(_) => walk_plan(request, &t, state, budget),
         Passed::Fault(k, p) => Answer {

@@ -4,4 +4,4 @@ pub mod exports; // the calls as other languages link them
 pub mod judging; // the walk call
 pub mod telling; // what a walk's tally says
 pub mod showing; // the showing call
-pub mod derivations; // the derivation call
+pub mod check_calls; // the derivation call

@@ -3,7 +3,7 @@ ghost use Prim.Native.Nat.{_+_, min};
 ghost use lib.ListN.{length, drop};
 ghost use mathlib.Core.List.{[]};
 ghost use Rattle.meaning.specs.Showing.{show};
-ghost use Rattle.glintstring.specs.Showing.{chosen};
+ghost use Rattle.glintstring.specs.ShownPart.{chosen};
 use super::answers;
 use meaning::Answer;
 

@@ -1,10 +1,12 @@
 ghost use mathlib.Core.Path.{_≡_};
 ghost use Prim.Native.Nat.{_<_};
 ghost use lib.ListN.{length, drop};
+ghost use Rattle.meaning.specs.Limits.{format};
 ghost use Rattle.steps.specs.AtHand.{Marked};
-ghost use Rattle.walking.specs.Standing.{standing};
+ghost use Rattle.walking.specs.Standing.{standing, tally-slots};
 ghost use Rattle.glintstring.specs.Telling.{told, Tallied};
 use super::answers;
+use bytes::limits;
 use meaning::Answer;
 use walking::tally::SPENT;
 use walking::tally::Tally;
@@ -25,13 +27,13 @@ fn byte_of(x: u32) -> u8
 
 // The tally's state goes over the lent one.
 fn hand_over(tally: &Tally, state: &mut [u8])
-    requires { ⌜ length (now state) ≡ 64 ⌝ }
-    requires { ⌜ length (now tally) ≡ 67 ⌝ }
+    requires { ⌜ length (now state) ≡ format .state ⌝ }
+    requires { ⌜ length (now tally) ≡ tally-slots ⌝ }
     requires { ⌜ Marked (drop 3 (now tally)) ⌝ }
     ensures { λ _. ⌜ now (state .exit) ≡ drop 3 (now (tally .entry)) ⌝ }
 {
     let mut f = 0;
-    while f < 64 {
+    while f < limits::FLUENTS {
         let slot = 3 + f;
         state[f] = byte_of(tally[slot]);
         f += 1;
@@ -40,7 +42,7 @@ fn hand_over(tally: &Tally, state: &mut [u8])
 
 // What the tally says once the walk is over. A miss and whatever stopped the walk are told in one way.
 pub(crate) fn tell(tally: &Tally, state: &mut [u8], budget: u32) -> Answer
-    requires { ⌜ length (now state) ≡ 64 ⌝ }
+    requires { ⌜ length (now state) ≡ format .state ⌝ }
     requires { ⌜ Tallied (now tally) budget ⌝ }
     ensures { λ r. ⌜ record { answer = r; state = now (state .exit) } ≡ told (now (state .entry)) budget (standing (now (tally .entry))) ⌝ }
 {

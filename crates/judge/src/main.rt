@@ -1,10 +1,12 @@
 // Judges the request on standard input, and says so on standard output (FORMAT 12.1 to 12.6, 12.13).
+use bytes::limits;
 use glintstring::answers;
 use glintstring::judging::judge;
 use libc::STDIN_FILENO;
 use libc::STDOUT_FILENO;
 use programs::Asked;
 use programs::Input;
+use programs::REQUEST_ROOM;
 use programs::number_of;
 use programs::put_line;
 use programs::put_state;
@@ -28,7 +30,7 @@ fn budget_asked() -> Asked {
 
 // The answer, and for 1 and 2 the state. The first byte of a request that gets one of these is its fluent count.
 fn answer_to(request: &[u8], budget: u32) -> bool {
-    let mut state = [0u8; 64];
+    let mut state = [0u8; limits::FLUENTS];
     let answer = judge(request, &mut state, budget);
     if !put_line(
         STDOUT_FILENO,
@@ -46,7 +48,7 @@ fn answer_to(request: &[u8], budget: u32) -> bool {
 
 fn judge_input(budget: u32) {
     // One byte more than a request may have: a longer one is refused whatever it holds.
-    let mut bytes = [0u8; 16385];
+    let mut bytes = [0u8; REQUEST_ROOM];
     match read_all(STDIN_FILENO, &mut bytes) {
         Input::Bytes(n) => {
             if !answer_to(&bytes[..n], budget) {

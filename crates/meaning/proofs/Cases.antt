@@ -23,9 +23,9 @@ row request lent budget number input place count state = record {
   gives = record { answer = record { number = number; input = input; place = place; count = count }; state = state };
 }
 
--- What is lent unless a row says otherwise: 64 bytes that are no marks.
-abbrev lent-64 : List ℕ
-lent-64 = replicate 64 9
+-- What is lent unless a row says otherwise: as many bytes as a state has, which are no marks.
+abbrev lent-room : List ℕ
+lent-room = replicate (format .state) 9
 
 -- The budget of the program `judge`.
 abbrev usual : ℕ
@@ -33,19 +33,19 @@ usual = 100000
 
 -- Rows by their answer. The marks are those of the fluents from 0 up; zeros follow.
 abbrev verified : (request : List ℕ) → (count : ℕ) → Case
-verified request count = row request lent-64 usual 0 0 0 count lent-64
+verified request count = row request lent-room usual 0 0 0 count lent-room
 
 abbrev marked : List ℕ → List ℕ
-marked marks = marks ++ replicate (64 - length marks) 0
+marked marks = marks ++ replicate (format .state - length marks) 0
 
 abbrev missed : (request : List ℕ) → (place count : ℕ) → (marks : List ℕ) → Case
-missed request place count marks = row request lent-64 usual 1 1 place count (marked marks)
+missed request place count marks = row request lent-room usual 1 1 place count (marked marks)
 
 abbrev stuck : (request : List ℕ) → (place count : ℕ) → (marks : List ℕ) → Case
-stuck request place count marks = row request lent-64 usual 2 1 place count (marked marks)
+stuck request place count marks = row request lent-room usual 2 1 place count (marked marks)
 
 abbrev refused : (request : List ℕ) → (number place : ℕ) → Case
-refused request number place = row request lent-64 usual number 1 place 0 lent-64
+refused request number place = row request lent-room usual number 1 place 0 lent-room
 
 -- File A: its bytes 0 to 28, and those from 29 on.
 unfoldable pub table-A : List ℕ
@@ -75,8 +75,8 @@ cases =
     -- Case 3.
     stuck (table-A ++ (0 ∷ 1 ∷ 255 ∷ 2 ∷ 1 ∷ 1 ∷ 0 ∷ 2 ∷ 1 ∷ 2 ∷ 1 ∷ 0 ∷ 0 ∷ 0 ∷ 1 ∷ 7 ∷ 1 ∷ 2 ∷ [])) 31 0 (0 ∷ 2 ∷ 2 ∷ 2 ∷ []) ∷
     -- Case 4.
-    row file-A lent-64 4 3 0 0 4 lent-64 ∷
-    row file-A lent-64 5 0 0 0 5 lent-64 ∷
+    row file-A lent-room 4 3 0 0 4 lent-room ∷
+    row file-A lent-room 5 0 0 0 5 lent-room ∷
     -- Case 5.
     verified (table-A ++ (0 ∷ 0 ∷ 0 ∷ 0 ∷ [])) 1 ∷
     -- Case 6.
@@ -149,8 +149,8 @@ cases =
     -- Two conditions of a branching inside another may both hold: its own byte is the place (FORMAT 4.16).
     refused (2 ∷ 1 ∷ 0 ∷ 0 ∷ 0 ∷ 0 ∷ 0 ∷ 1 ∷ 255 ∷ 1 ∷ 0 ∷ 0 ∷ 1 ∷ 255 ∷ 2 ∷ 1 ∷ 0 ∷ 0 ∷ 0 ∷ 1 ∷ 2 ∷ 0 ∷ 0 ∷ 0 ∷ 0 ∷ []) 18 13 ∷
     -- D18
-    row (table-A ++ (0 ∷ 1 ∷ 2 ∷ 0 ∷ 0 ∷ [])) lent-64 0 2 1 31 0 (marked (0 ∷ 2 ∷ 2 ∷ 2 ∷ [])) ∷
-    row (table-A ++ (0 ∷ 0 ∷ 0 ∷ 0 ∷ [])) lent-64 0 3 0 0 0 lent-64 ∷
+    row (table-A ++ (0 ∷ 1 ∷ 2 ∷ 0 ∷ 0 ∷ [])) lent-room 0 2 1 31 0 (marked (0 ∷ 2 ∷ 2 ∷ 2 ∷ [])) ∷
+    row (table-A ++ (0 ∷ 0 ∷ 0 ∷ 0 ∷ [])) lent-room 0 3 0 0 0 lent-room ∷
     -- D21
     missed (2 ∷ 1 ∷ 0 ∷ 0 ∷ 1 ∷ 0 ∷ 0 ∷ 2 ∷ 0 ∷ 1 ∷ 0 ∷ 0 ∷ 0 ∷ 1 ∷ 0 ∷ 1 ∷ 2 ∷ 0 ∷ []) 16 5 (1 ∷ 2 ∷ []) ∷
     -- D23

@@ -33,7 +33,7 @@ pub use Rattle.meaning.proofs.Exact.{spent-exactly, stuck-exactly, veri
 -- What answers 1 and 2 report (FORMAT 11.13 to 11.16).
 pub use Rattle.meaning.proofs.ReportLaws.{missed-in-an-end-state, missed-there, stopped-there}
 -- Demand 2, its second sentence (FORMAT 11.6, 17.39), and demand 1 of the derivation call and of the whether call (17.38).
-pub use Rattle.meaning.proofs.Accepted.{accepted-exactly}
+pub use Rattle.meaning.proofs.AcceptedExactly.{accepted-exactly}
 pub use Rattle.meaning.proofs.Passed.{every-check-numbered}
 -- Demand 1 of input, place and count (FORMAT 11.4): they are what the number says.
 pub use Rattle.meaning.proofs.PartLaws.{input-exactly, count-exactly, place-within, check-input-exactly, check-count-exactly, check-place-within}

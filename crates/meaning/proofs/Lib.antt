@@ -39,9 +39,9 @@ pub mod CoverLaws
 pub mod Exact
 pub mod ReportLaws
 pub mod Passed
-pub mod Accepted
+pub mod AcceptedExactly
 pub mod LayoutLaws
 pub mod DerivationSound
-pub mod Table
+pub mod ProvedCases
 pub mod NotEmpty
 pub mod Demands

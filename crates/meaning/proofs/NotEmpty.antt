@@ -80,7 +80,7 @@ moved-to-true u = by-value (u 1) (u 0)
     by-value true x = refl
     by-value false x = refl
 
-pub case-10-missed : judge format case-10 (replicate 64 0) 100000 .answer .number ≡ 1
+pub case-10-missed : judge format case-10 (replicate (format .state) 0) 100000 .answer .number ≡ 1
 unfolding all-open
 case-10-missed = refl
 

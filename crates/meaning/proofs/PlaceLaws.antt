@@ -81,7 +81,7 @@ module _ (size : ℕ) where
     closing : Closed layout (d .closing-place) (d .closing)
 
   -- THE LATER REFUSALS.
-  or-below : (f : Found) (k : Unit {0} → Found) → Found-below f → Found-below (k tt) → Found-below (or-else f k)
+  pub or-below : (f : Found) (k : Unit {0} → Found) → Found-below f → Found-below (k tt) → Found-below (or-else f k)
   unfolding or-else
   or-below nowhere k first then = then
   or-below (at p) k first then = first
@@ -116,7 +116,12 @@ module _ (size : ℕ) where
   overlap-lines-below [] h = tt
   overlap-lines-below (l ∷ ls) h = or-below (overlap-in (l .c)) _ (overlap-in-below (l .c) (h .0 .plan)) (overlap-lines-below ls (h .1))
 
-  first-missed-below : (test : ℕ → Bool) (es : List Entry) → Each-below (λ (e : Entry). e .place) es → Found-below (first-missed test es)
+  pub placed-below : (p : ℕ) (xs : List ℕ) → p + length xs ≤ size → Each-below (λ (e : Entry). e .place) (placed p xs)
+  unfolding placed
+  placed-below p [] fits = tt
+  placed-below p (x ∷ xs) fits = (omega (arith, fits), placed-below (p + 1) xs (omega (arith, fits)))
+
+  pub first-missed-below : (test : ℕ → Bool) (es : List Entry) → Each-below (λ (e : Entry). e .place) es → Found-below (first-missed test es)
   unfolding first-missed
   first-missed-below test [] h = tt
   first-missed-below test (e ∷ es) h = pick-has Found-below _ _ _ (λ _. first-missed-below test es (h .1)) (λ _. h .0)
@@ -341,11 +346,6 @@ module _ (s : List ℕ) (Bad : ℕ → ℕ → Type 0) where
         (h .0, omega (arith, is, h .0, h .1))
 
     -- The table, and the rest after it.
-    placed-below : (p : ℕ) (xs : List ℕ) → p + length xs ≤ length s → Each-below (length s) (λ (e : Entry). e .place) (placed p xs)
-    unfolding placed
-    placed-below p [] fits = tt
-    placed-below p (x ∷ xs) fits = (omega (arith, fits), placed-below _ xs (omega (arith, fits)))
-
     module _ (lim : Limits) where
       table-held : (p : ℕ) → Held (λ (t : Table) (q : ℕ). Table-below (length s) t) (table-at lim s p)
       unfolding table-at
@@ -368,8 +368,8 @@ module _ (s : List ℕ) (Bad : ℕ → ℕ → Type 0) where
             record {
               table = table;
               plan = plan;
-              goals = placed-below (p + 1) gs (omega (arith, fits, goals));
-              whether = placed-below (q + 1) ws (omega (arith, fits₂, whether));
+              goals = placed-below (length s) (p + 1) gs (omega (arith, fits, goals));
+              whether = placed-below (length s) (q + 1) ws (omega (arith, fits₂, whether));
               whether-place = omega (arith, fits₂, whether);
             },
           )

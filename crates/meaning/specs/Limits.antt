@@ -1,5 +1,5 @@
 -- Every limit, answer, input and mark, named once (FORMAT sections 3 and 4).
-use Prim.Native.Nat.{ℕ}
+use Prim.Native.Nat.{ℕ, _*_}
 
 -- What the inputs may hold. The definitions take the limits as a parameter.
 pub record Limits : Type 0 where
@@ -32,6 +32,10 @@ format = record {
   lines = 1024;
   citations = 64;
 }
+
+-- Its literals are below twice its fluents (FORMAT 2.2, 2.3).
+abbrev pub all-literals : ℕ
+all-literals = 2 * format .fluents
 
 -- The byte that opens a branching (FORMAT 2.24).
 abbrev pub branching-byte : ℕ

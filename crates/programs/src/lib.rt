@@ -3,8 +3,17 @@
 ghost use Prim.Native.Nat.{_≤_};
 ghost use lib.ListN.{length};
 ghost use Rattle.programs.specs.Input.{Within};
+use bytes::limits;
 use libc::STDERR_FILENO;
 use libc::STDOUT_FILENO;
+
+// Room for a request and for a derivation, with a byte more, by which one that is too long is seen.
+pub const REQUEST_ROOM: usize = limits::REQUEST + 1;
+
+pub const DERIVATION_ROOM: usize = limits::DERIVATION + 1;
+
+// A sign for each fluent, and the end of the line.
+const SIGNS: usize = limits::FLUENTS + 1;
 
 // How many bytes were read, or that they can't be.
 pub enum Input {
@@ -130,11 +139,11 @@ fn sign(mark: u8) -> u8 {
     }
 }
 
-// The line with a sign for each fluent. A request has at most 64.
-pub fn put_state(state: &[u8; 64], fluents: u8) -> bool {
-    let mut line = [b'\n'; 65];
+// The line with a sign for each fluent.
+pub fn put_state(state: &[u8; limits::FLUENTS], fluents: u8) -> bool {
+    let mut line = [b'\n'; SIGNS];
     let mut f = 0;
-    while f < 64 {
+    while f < limits::FLUENTS {
         if f >= fluents as usize {
             break;
         }

@@ -22,7 +22,7 @@ use Rattle.meaning.proofs.RangeLaws.{Ranged}
 use Rattle.meaning.proofs.StateLaws.{known-true, known-false, unknown-mark, after-length}
 use Rattle.meaning.proofs.PairLaws.{given-pair, after-mark, caused-within}
 use Rattle.meaning.proofs.SensingLaws.{sensed-within, read-is}
-use Rattle.glintstring.specs.Lent.{Blank-from}
+use Rattle.glintstring.specs.LentState.{Blank-from}
 use Rattle.glintstring.proofs.KeepingLaws.{End-has, Kept-by, walked-kept}
 
 module _ (n : ℕ) where
@@ -40,7 +40,7 @@ module _ (n : ℕ) where
 module _ (t : Table) (ranged : Ranged format t) where
   first-blank : Blank-from (t .fluents) (first-state format t)
   unfolding first-state state-of
-  first-blank = told-all-blank (t .fluents) (t .facts) (ranged .facts) (replicate 64 0) (λ f _. unknown-mark 64 f)
+  first-blank = told-all-blank (t .fluents) (t .facts) (ranged .facts) (replicate (format .state) 0) (λ f _. unknown-mark (format .state) f)
 
   -- AN ACTION gives no literal from there up, and what was not known is not known after it.
   still-unknown : (a : ℕ) (s : State) (l : ℕ) → 2 * t .fluents ≤ l → known s l ≡ false → known-after (effects-of t a) s l ≡ false

@@ -22,12 +22,12 @@ use Rattle.meaning.specs.Accepted.{Accepted}
 use Rattle.meaning.specs.Answers.{check-answers}
 use Rattle.meaning.specs.AnswerParts.{Check-input, Placed, named}
 use Rattle.meaning.specs.Tests.{Has}
-use Rattle.meaning.proofs.Accepted.{format-citations}
+use Rattle.meaning.proofs.AcceptedExactly.{format-citations}
 use Rattle.meaning.proofs.Exact.{format-room}
 use Rattle.meaning.proofs.Demands
-use Rattle.meaning.proofs.Table.{checking, answered, Row, table}
+use Rattle.meaning.proofs.ProvedCases.{checking, answered, Row, proved-cases}
 use Rattle.glintstring.specs.Packing.{packed, unpacked}
-use Rattle.promises.proofs.TablePromises.{row-holds}
+use Rattle.promises.proofs.CasePromises.{row-holds}
 use Rattle.promises.proofs.UnpackingLaws.{number-back, input-back, place-back, count-back, unpacks, check-small}
 
 module _ (layout : Layout) (request derivation : List ℕ) where
@@ -46,8 +46,8 @@ module _ (layout : Layout) (request derivation : List ℕ) where
     sound passes = Demands.sound-derivation format format-room layout request derivation (is ∙ passes)
 
   -- THE ANSWER that the definition gives.
-  pub answers-the-table : (answer : Answer) → answer ≡ check format layout request derivation → (row : Row) → Has table row → row .call ≡ checking layout request derivation → row .gives ≡ answered answer
-  answers-the-table answer is row has call = row-holds row has (checking layout request derivation) call ∙ ap answered (sym is)
+  pub answers-the-cases : (answer : Answer) → answer ≡ check format layout request derivation → (row : Row) → Has proved-cases row → row .call ≡ checking layout request derivation → row .gives ≡ answered answer
+  answers-the-cases answer is row has call = row-holds row has (checking layout request derivation) call ∙ ap answered (sym is)
 
   -- A NUMBER that packs the definition's answer gives it back.
   module _ (n : ℕ) (packs : n ≡ packed (check format layout request derivation)) where

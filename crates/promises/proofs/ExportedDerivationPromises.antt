@@ -25,7 +25,7 @@ use Rattle.meaning.specs.Accepted.{Accepted}
 use Rattle.meaning.specs.Answers.{check-answers}
 use Rattle.meaning.specs.AnswerParts.{Check-input, Placed, named}
 use Rattle.meaning.specs.Tests.{Has}
-use Rattle.meaning.proofs.Table.{checking, answered, Row, table}
+use Rattle.meaning.proofs.ProvedCases.{checking, answered, Row, proved-cases}
 use Rattle.glintstring.specs.Packing.{packed, unpacked}
 use Rattle.promises.proofs.CheckPromises
 use Rattle.glintstring.proofs.exports.glintstring_check.Kinds.{ps, r}
@@ -77,9 +77,9 @@ module _ (κs : Lfts 2) (given : Dens κs ps) where
     pub numbered : among (n % 256) (check-answers Plain) ≡ true
     numbered = CheckPromises.numbered Plain request derivation _ (sym number-is)
 
-    -- The proved table (FORMAT 15.12): given a row's inputs, it answers what the row says.
-    pub answers-the-table : (row : Row) → Has table row → row .call ≡ checking Plain request derivation → row .gives ≡ answered (unpacked n)
-    answers-the-table = CheckPromises.answers-the-table Plain request derivation (unpacked n) unpacked-is
+    -- The proved cases (FORMAT 15.12): given a row's inputs, it answers what the row says.
+    pub answers-the-cases : (row : Row) → Has proved-cases row → row .call ≡ checking Plain request derivation → row .gives ≡ answered (unpacked n)
+    answers-the-cases = CheckPromises.answers-the-cases Plain request derivation (unpacked n) unpacked-is
 
     -- Demand 2 (FORMAT 11.6): accepted, exactly where neither input is refused, no whether is asked, each line follows from those that it
     -- cites, and the last line is the question.

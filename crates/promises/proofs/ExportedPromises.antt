@@ -26,7 +26,7 @@ use Rattle.meaning.specs.Worlds.{Carried-out}
 use Rattle.meaning.specs.Answers.{answers}
 use Rattle.meaning.specs.AnswerParts.{Walk-input, Walk-count, Placed}
 use Rattle.meaning.specs.Tests.{Has}
-use Rattle.meaning.proofs.Table.{judging, judged, Row, table}
+use Rattle.meaning.proofs.ProvedCases.{judging, judged, Row, proved-cases}
 use Rattle.steps.specs.AtHand.{Marked}
 use Rattle.glintstring.specs.Packing.{packed, unpacked}
 use Rattle.promises.proofs.UnpackingLaws.{number-back, input-back, place-back, count-back, unpacks, answer-small}
@@ -91,16 +91,16 @@ module _ (κs : Lfts 2) (given : Dens κs ps) where
     unfolding unpacked
     numbered = JudgePromises.numbered request lent budget (unpacked n) (left exit) judges
 
-    -- The proved table (FORMAT 15.12): given a row's inputs, it answers what the row says.
-    pub answers-the-table : (row : Row) → Has table row → row .call ≡ judging request lent budget → row .gives ≡ judged (record { answer = unpacked n; state = left exit })
-    answers-the-table = JudgePromises.answers-the-table request lent budget (unpacked n) (left exit) judges
+    -- The proved cases (FORMAT 15.12): given a row's inputs, it answers what the row says.
+    pub answers-the-cases : (row : Row) → Has proved-cases row → row .call ≡ judging request lent budget → row .gives ≡ judged (record { answer = unpacked n; state = left exit })
+    answers-the-cases = JudgePromises.answers-the-cases request lent budget (unpacked n) (left exit) judges
 
     -- The lent bytes are written by answers 1 and 2 and by no other (FORMAT 4.45, 4.49).
     pub kept : (n % 256 ≡ Limits.goal-missed → ⊥) → (n % 256 ≡ Limits.not-executable → ⊥) → left exit ≡ lent
     unfolding unpacked
     kept = JudgePromises.kept request lent budget (unpacked n) (left exit) judges
 
-    -- Those two are of a settled request, whose first byte is its number of fluents. They leave 64 bytes of marks 0, 1 and 2, and 0 in every
+    -- Those two are of a settled request, whose first byte is its number of fluents. They leave marks 0, 1 and 2, and 0 in every
     -- byte from that number up (FORMAT 4.47, 4.48).
     pub written : (n % 256 ≡ Limits.goal-missed) ⊎ (n % 256 ≡ Limits.not-executable)
         → (x : Request) × (e : ℕ) × (settled format request ≡ got x e) × (getD request 0 0 ≡ x .table .fluents) × Marked (left exit) × ((f : ℕ) → x .table .fluents ≤ f → getD (left exit) f 0 ≡ 0)
@@ -112,8 +112,8 @@ module _ (κs : Lfts 2) (given : Dens κs ps) where
     unfolding unpacked
     sound = JudgePromises.sound request lent budget (unpacked n) (left exit) judges
 
-    -- Demand 2 (FORMAT 11.5), of a settled request with 64 lent bytes.
-    module _ (x : Request) (e : ℕ) (lent-length : length lent ≡ 64) (past : settled format request ≡ got x e) where
+    -- Demand 2 (FORMAT 11.5), of a settled request with as many lent bytes as a state has.
+    module _ (x : Request) (e : ℕ) (lent-length : length lent ≡ format .state) (past : settled format request ≡ got x e) where
       -- The answer and the lent bytes are what the list of paths says, in its order.
       pub in-order : record { answer = unpacked n; state = left exit } ≡ within lent budget (walked-along (missed-in x) (paths (table-step (x .table)) (x .plan) (first-state format (x .table))))
       in-order = JudgePromises.in-order request lent budget (unpacked n) (left exit) judges x e lent-length past

@@ -15,7 +15,7 @@ use Rattle.meaning.specs.Showing.{Part, show}
 use Rattle.meaning.specs.Tests.{Has}
 use Rattle.meaning.proofs.DerivationCases.{Shown, showings}
 use Rattle.glintstring.specs.Packing.{packed, unpacked}
-use Rattle.promises.proofs.TablePromises.{showing-holds}
+use Rattle.promises.proofs.CasePromises.{showing-holds}
 use Rattle.promises.proofs.UnpackingLaws.{Small, unpacks, answer-small, check-small}
 use Rattle.glintstring.proofs.exports.glintstring_show.Kinds.{ps, r}
 use Rattle.glintstring.proofs.exports.glintstring_show.Reads.{Pre, Post}
@@ -56,5 +56,5 @@ module _ (κs : Lfts 2) (given : Dens κs ps) where
     of-derivation layout s d = of-packed (check format layout s d) (check-small layout s d)
 
     -- Given a row's inputs, with the answer in one number, it is the start of the row's part.
-    pub answers-the-table : (row : Shown) → Has showings row → row .answer ≡ unpacked answer → row .request ≡ request → row .derivation ≡ derivation → n ≡ row .part .start
-    answers-the-table row has same-answer same-request same-derivation = meets ∙ sym (ap (λ (p : Part). p .start) (showing-holds row has (unpacked answer) request derivation same-answer same-request same-derivation))
+    pub answers-the-cases : (row : Shown) → Has showings row → row .answer ≡ unpacked answer → row .request ≡ request → row .derivation ≡ derivation → n ≡ row .part .start
+    answers-the-cases row has same-answer same-request same-derivation = meets ∙ sym (ap (λ (p : Part). p .start) (showing-holds row has (unpacked answer) request derivation same-answer same-request same-derivation))

@@ -24,10 +24,10 @@ use Rattle.meaning.specs.AnswerParts.{Walk-input, Walk-count, Placed}
 use Rattle.meaning.specs.Tests.{Has}
 use Rattle.meaning.proofs.Exact.{format-room}
 use Rattle.meaning.proofs.Demands
-use Rattle.meaning.proofs.Table.{judging, judged, Row, table}
-use Rattle.glintstring.specs.Lent.{Writes, Written}
+use Rattle.meaning.proofs.ProvedCases.{judging, judged, Row, proved-cases}
+use Rattle.glintstring.specs.LentState.{Writes, Written}
 use Rattle.promises.proofs.LentLaws.{judge-kept, judge-written}
-use Rattle.promises.proofs.TablePromises.{row-holds}
+use Rattle.promises.proofs.CasePromises.{row-holds}
 
 module _ (request lent : List ℕ) (budget : ℕ) (answer : Answer) (left : List ℕ) (is : record { answer = answer; state = left } ≡ judge format request lent budget) where
   number-is : judge format request lent budget .answer .number ≡ answer .number
@@ -36,8 +36,8 @@ module _ (request lent : List ℕ) (budget : ℕ) (answer : Answer) (left : List
   pub numbered : among (answer .number) answers ≡ true
   numbered = subst (λ (n : ℕ). among n answers ≡ true) number-is (Demands.numbered format request lent budget)
 
-  pub answers-the-table : (row : Row) → Has table row → row .call ≡ judging request lent budget → row .gives ≡ judged (record { answer = answer; state = left })
-  answers-the-table row has call = row-holds row has (judging request lent budget) call ∙ ap judged (sym is)
+  pub answers-the-cases : (row : Row) → Has proved-cases row → row .call ≡ judging request lent budget → row .gives ≡ judged (record { answer = answer; state = left })
+  answers-the-cases row has call = row-holds row has (judging request lent budget) call ∙ ap judged (sym is)
 
   pub kept : (answer .number ≡ Limits.goal-missed → ⊥) → (answer .number ≡ Limits.not-executable → ⊥) → left ≡ lent
   kept one two = ap (λ (j : Judgement). j .state) is ∙ judge-kept format lent budget request (λ e. one (sym number-is ∙ e)) (λ e. two (sym number-is ∙ e))
@@ -57,7 +57,7 @@ module _ (request lent : List ℕ) (budget : ℕ) (answer : Answer) (left : List
   pub place-within : Placed (length request) (answer .number) (answer .place)
   place-within = subst (λ (j : Judgement). Placed (length request) (j .answer .number) (j .answer .place)) (sym is) (Demands.place-within format request lent budget)
 
-  module _ (x : Request) (e : ℕ) (lent-length : length lent ≡ 64) (past : settled format request ≡ got x e) where
+  module _ (x : Request) (e : ℕ) (lent-length : length lent ≡ format .state) (past : settled format request ≡ got x e) where
     pub in-order : record { answer = answer; state = left } ≡ within lent budget (walked-along (missed-in x) (paths (table-step (x .table)) (x .plan) (first-state format (x .table))))
     in-order = is ∙ Demands.in-order format format-room request lent budget x e lent-length past
 

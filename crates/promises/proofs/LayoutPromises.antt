@@ -21,10 +21,10 @@ use Rattle.promises.proofs.DerivationPromises
 use Rattle.promises.proofs.WhetherPromises
 use Rattle.promises.proofs.ExportedDerivationPromises
 use Rattle.promises.proofs.ExportedWhetherPromises
-use Rattle.glintstring.proofs.derivations.check.Kinds as plain-kinds
-use Rattle.glintstring.proofs.derivations.check.Reads as plain-reads
-use Rattle.glintstring.proofs.derivations.check_whether.Kinds as closing-kinds
-use Rattle.glintstring.proofs.derivations.check_whether.Reads as closing-reads
+use Rattle.glintstring.proofs.check_calls.check.Kinds as plain-kinds
+use Rattle.glintstring.proofs.check_calls.check.Reads as plain-reads
+use Rattle.glintstring.proofs.check_calls.check_whether.Kinds as closing-kinds
+use Rattle.glintstring.proofs.check_calls.check_whether.Reads as closing-reads
 use Rattle.glintstring.proofs.exports.glintstring_check.Kinds as plain-export-kinds
 use Rattle.glintstring.proofs.exports.glintstring_check.Reads as plain-export-reads
 use Rattle.glintstring.proofs.exports.glintstring_check_whether.Kinds as closing-export-kinds

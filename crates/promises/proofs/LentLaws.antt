@@ -23,9 +23,9 @@ use Rattle.meaning.proofs.KeptEnds.{Stuck, walked-stuck}
 use Rattle.meaning.proofs.AnswerLaws.{Numbered-in, settled-numbered}
 use Rattle.meaning.proofs.SettledLaws.{settled-is}
 use Rattle.meaning.proofs.RangeLaws.{read-ranged}
-use Rattle.refusing.proofs.StartLaws.{request-starts}
+use Rattle.finding.proofs.StartLaws.{request-starts}
 use Rattle.steps.specs.AtHand.{Marked}
-use Rattle.glintstring.specs.Lent.{Writes, Blank-from, Written}
+use Rattle.glintstring.specs.LentState.{Writes, Blank-from, Written}
 use Rattle.glintstring.proofs.KeepingLaws.{Concerned-has, End-has, end-both}
 use Rattle.glintstring.proofs.MarkedLaws.{first-marked, walked-marked}
 use Rattle.promises.proofs.BeyondLaws.{walked-blank}

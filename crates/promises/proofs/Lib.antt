@@ -1,7 +1,7 @@
 pub mod UnpackingLaws
 pub mod BeyondLaws
 pub mod LentLaws
-pub mod TablePromises
+pub mod CasePromises
 pub mod JudgePromises
 pub mod Promises
 pub mod ExportedPromises

@@ -27,7 +27,7 @@ use Rattle.meaning.specs.Worlds.{Carried-out}
 use Rattle.meaning.specs.Answers.{answers}
 use Rattle.meaning.specs.AnswerParts.{Walk-input, Walk-count, Placed}
 use Rattle.meaning.specs.Tests.{Has}
-use Rattle.meaning.proofs.Table.{judging, judged, Row, table}
+use Rattle.meaning.proofs.ProvedCases.{judging, judged, Row, proved-cases}
 use Rattle.steps.specs.AtHand.{Marked}
 use Rattle.promises.proofs.JudgePromises
 use Rattle.glintstring.proofs.judging.judge.Kinds.{ps, r}
@@ -68,15 +68,15 @@ module _ (κs : Lfts 2) (given : Dens κs ps) where
     pub numbered : among (answer .number) answers ≡ true
     numbered = JudgePromises.numbered request lent budget answer (left exit) meets
 
-    -- The proved table (FORMAT 15.12): given a row's inputs, it answers what the row says.
-    pub answers-the-table : (row : Row) → Has table row → row .call ≡ judging request lent budget → row .gives ≡ judged (record { answer = answer; state = left exit })
-    answers-the-table = JudgePromises.answers-the-table request lent budget answer (left exit) meets
+    -- The proved cases (FORMAT 15.12): given a row's inputs, it answers what the row says.
+    pub answers-the-cases : (row : Row) → Has proved-cases row → row .call ≡ judging request lent budget → row .gives ≡ judged (record { answer = answer; state = left exit })
+    answers-the-cases = JudgePromises.answers-the-cases request lent budget answer (left exit) meets
 
     -- The lent bytes are written by answers 1 and 2 and by no other (FORMAT 4.45, 4.49).
     pub kept : (answer .number ≡ Limits.goal-missed → ⊥) → (answer .number ≡ Limits.not-executable → ⊥) → left exit ≡ lent
     kept = JudgePromises.kept request lent budget answer (left exit) meets
 
-    -- Those two are of a settled request, whose first byte is its number of fluents n. They leave 64 bytes of marks 0, 1 and 2, and 0 in every
+    -- Those two are of a settled request, whose first byte is its number of fluents n. They leave marks 0, 1 and 2, and 0 in every
     -- byte from n up (FORMAT 4.47, 4.48).
     pub written : (answer .number ≡ Limits.goal-missed) ⊎ (answer .number ≡ Limits.not-executable)
         → (x : Request) × (e : ℕ) × (settled format request ≡ got x e) × (getD request 0 0 ≡ x .table .fluents) × Marked (left exit) × ((f : ℕ) → x .table .fluents ≤ f → getD (left exit) f 0 ≡ 0)
@@ -86,8 +86,8 @@ module _ (κs : Lfts 2) (given : Dens κs ps) where
     pub sound : answer .number ≡ Limits.verified → (x : Request) × (e : ℕ) × (settled format request ≡ got x e) × Carried-out x
     sound = JudgePromises.sound request lent budget answer (left exit) meets
 
-    -- Demand 2 (FORMAT 11.5), of a settled request with 64 lent bytes.
-    module _ (x : Request) (e : ℕ) (lent-length : length lent ≡ 64) (past : settled format request ≡ got x e) where
+    -- Demand 2 (FORMAT 11.5), of a settled request with as many lent bytes as a state has.
+    module _ (x : Request) (e : ℕ) (lent-length : length lent ≡ format .state) (past : settled format request ≡ got x e) where
       -- The answer and the lent bytes are what the list of paths says, in its order.
       pub in-order : record { answer = answer; state = left exit } ≡ within lent budget (walked-along (missed-in x) (paths (table-step (x .table)) (x .plan) (first-state format (x .table))))
       in-order = JudgePromises.in-order request lent budget answer (left exit) meets x e lent-length past

@@ -16,9 +16,9 @@ use Rattle.meaning.specs.Tests.{Has}
 use Rattle.meaning.proofs.TestLaws.{clash}
 use Rattle.meaning.proofs.PickLaws.{has-picked}
 use Rattle.meaning.proofs.DerivationCases.{Shown, showings}
-use Rattle.glintstring.specs.Showing.{chosen}
+use Rattle.glintstring.specs.ShownPart.{chosen}
 use Rattle.glintstring.proofs.ShowingLaws.{chosen-request, chosen-derivation}
-use Rattle.promises.proofs.TablePromises.{showing-holds}
+use Rattle.promises.proofs.CasePromises.{showing-holds}
 use Rattle.glintstring.proofs.showing.show.Kinds.{ps, r}
 use Rattle.glintstring.proofs.showing.show.Reads.{Pre, Post}
 
@@ -73,11 +73,11 @@ module _ (κs : Lfts 1) (given : Dens κs ps) where
         (part .ptr .0 ≡ input .ptr .0) × (part .ptr .1 ≡ input .ptr .1 + show answer (now request) (now derivation) .start)
     starts-in input block at = (meets .1 .0 ∙ sym block, meets .1 .1 ∙ ap (λ (p : ℕ). p + show answer (now request) (now derivation) .start) (sym at))
 
-    pub answers-the-table :
+    pub answers-the-cases :
         (now part ≡ row .part .bytes)
         × (row .part .input ≡ Limits.the-request → (part .ptr .0 ≡ request .ptr .0) × (part .ptr .1 ≡ request .ptr .1 + row .part .start))
         × (row .part .input ≡ Limits.the-derivation → (part .ptr .0 ≡ derivation .ptr .0) × (part .ptr .1 ≡ derivation .ptr .1 + row .part .start))
-    answers-the-table = rw part-is (
+    answers-the-cases = rw part-is (
       meets .0,
       λ is.
           let named = in-request answer (now request) (now derivation) is in

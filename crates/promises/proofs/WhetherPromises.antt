@@ -25,10 +25,10 @@ use Rattle.meaning.specs.Accepted.{Accepted}
 use Rattle.meaning.specs.Answers.{check-answers}
 use Rattle.meaning.specs.AnswerParts.{Check-input, Placed, named}
 use Rattle.meaning.specs.Tests.{Has}
-use Rattle.meaning.proofs.Table.{checking, answered, Row, table}
+use Rattle.meaning.proofs.ProvedCases.{checking, answered, Row, proved-cases}
 use Rattle.promises.proofs.CheckPromises
-use Rattle.glintstring.proofs.derivations.check_whether.Kinds.{ps, r}
-use Rattle.glintstring.proofs.derivations.check_whether.Reads.{Pre, Post}
+use Rattle.glintstring.proofs.check_calls.check_whether.Kinds.{ps, r}
+use Rattle.glintstring.proofs.check_calls.check_whether.Reads.{Pre, Post}
 
 -- WHAT THE CALL IS GIVEN, by the values of its two parameters.
 module _ (κs : Lfts 2) (given : Dens κs ps) where
@@ -59,9 +59,9 @@ module _ (κs : Lfts 2) (given : Dens κs ps) where
     pub numbered : among (answer .number) (check-answers Closing) ≡ true
     numbered = CheckPromises.numbered Closing request derivation _ number-is
 
-    -- The proved table (FORMAT 15.12): given a row's inputs, it answers what the row says.
-    pub answers-the-table : (row : Row) → Has table row → row .call ≡ checking Closing request derivation → row .gives ≡ answered answer
-    answers-the-table = CheckPromises.answers-the-table Closing request derivation answer meets
+    -- The proved cases (FORMAT 15.12): given a row's inputs, it answers what the row says.
+    pub answers-the-cases : (row : Row) → Has proved-cases row → row .call ≡ checking Closing request derivation → row .gives ≡ answered answer
+    answers-the-cases = CheckPromises.answers-the-cases Closing request derivation answer meets
 
     -- Demand 2 (FORMAT 17.39): accepted, exactly where neither input is refused, each line follows from those that it cites, and the closing
     -- list names the goals' line and a line for each whether entry.

@@ -1,2 +1,2 @@
 pub mod WholeLaws
-pub mod Lent
+pub mod LentArrays

@@ -26,28 +26,28 @@ pub record Front (s : List ℕ) (p : ℕ) (x : Table) : Type 0 where
   pub second : p + 1 < length s
   pub fluents-are : getD s p 0 ≡ x .fluents
   pub actions-are : getD s (p + 1) 0 ≡ x .actions
-  pub most : x .fluents ≤ 64
-  pub few : x .actions ≤ 64
+  pub most : x .fluents ≤ format .fluents
+  pub few : x .actions ≤ format .actions
 
 pub front : (s : List ℕ) (p : ℕ) (x : Table) (e : ℕ) → table-at format s p ≡ got x e → Front s p x
 unfolding table-at
 front s p x e is =
-    after-got (count-at 1 64 s p) _ is λ n q en e₁.
-    after-got (count-at 1 64 s q) _ e₁ λ m r em e₂.
-    after-got (list-at literals n 64 s r) _ e₂ λ facts i _ e₃.
+    after-got (count-at 1 (format .fluents) s p) _ is λ n q en e₁.
+    after-got (count-at 1 (format .actions) s q) _ e₁ λ m r em e₂.
+    after-got (list-at literals n (format .listed) s r) _ e₂ λ facts i _ e₃.
     after-got (section-at (effect-at format n m s) s i) _ e₃ λ es j _ e₄.
     after-got (section-at (executability-at format n m s) s j) _ e₄ λ xs k _ e₅.
     after-got (section-at (knowledge-at format n m s) s k) _ e₅ λ ks l _ e₆.
     let same = got-same e₆ in
-    let first = count-got 1 64 s p n q en in
-    let then = count-got 1 64 s q m r em in
+    let first = count-got 1 (format .fluents) s p n q en in
+    let then = count-got 1 (format .actions) s q m r em in
     let after : q ≡ p + 1 = sym (first .2) in
     record {
       second = subst (λ (y : ℕ). y < length s) after (then .0);
       fluents-are = first .1 ∙ ap (λ (y : Table). y .fluents) same;
       actions-are = ap (λ (y : ℕ). getD s y 0) (sym after) ∙ then .1 ∙ ap (λ (y : Table). y .actions) same;
-      most = subst (λ (y : ℕ). y ≤ 64) (ap (λ (y : Table). y .fluents) same) (count-within 1 64 s p n q en);
-      few = subst (λ (y : ℕ). y ≤ 64) (ap (λ (y : Table). y .actions) same) (count-within 1 64 s q m r em);
+      most = subst (λ (y : ℕ). y ≤ format .fluents) (ap (λ (y : Table). y .fluents) same) (count-within 1 (format .fluents) s p n q en);
+      few = subst (λ (y : ℕ). y ≤ format .actions) (ap (λ (y : Table). y .actions) same) (count-within 1 (format .actions) s q m r em);
     }
 
 module _ (s : List ℕ) (p : ℕ) (t u : List ℕ) (first : Passed) (read : outcome first u ≡ noting table-noted (table-at format s p) t) where
@@ -68,10 +68,10 @@ module _ (s : List ℕ) (p : ℕ) (t u : List ℕ) (first : Passed) (read : outc
     pub second-there : p + 1 < length s
     second-there = stands-first .second
 
-    pub second-fits : length s ≤ 16384 → p + 1 < 2 ^ 64
+    pub second-fits : length s ≤ format .request → p + 1 < 2 ^ 64
     second-fits h = let a = stands-first .second in omega arith
 
-    pub fluents-most : (n : ℕ) → n ≡ getD s p 0 → n ≤ 64
+    pub fluents-most : (n : ℕ) → n ≡ getD s p 0 → n ≤ format .fluents
     fluents-most n e = let a = stands-first .fluents-are in let b = stands-first .most in omega arith
 
     pub sections-there : (n m : ℕ) (r : Passed) (w : List ℕ) → n ≡ getD s p 0 → m ≡ getD s (p + 1) 0 → outcome r w ≡ plan-first n m s q u → outcome r w ≡ noting request-noted (sections-read s p) t
@@ -85,11 +85,11 @@ module _ (s : List ℕ) (p : ℕ) (t u : List ℕ) (first : Passed) (read : outc
         rw (table-got .1) (e ∙ same ∙ plan-whole s x q t)
 
 -- THE REQUEST.
-pub request-long : (s t u : List ℕ) → 16384 < length s → outcome (Stop 10 0) u ≡ noting request-noted (read-request format s) t
+pub request-long : (s t u : List ℕ) → format .request < length s → outcome (Stop 10 0) u ≡ noting request-noted (read-request format s) t
 unfolding read-request outcome noting next
-request-long s t u h = rw (pick-true (ltb 16384 (length s)) (λ _. fault 10 0) (λ _. next (table-at format s 0) (λ x p. next (request-at format s x p) (λ r e. pick (ltb e (length s)) (λ _. fault 20 e) (λ _. got r e)))) (lt-ltb _ _ h))
+request-long s t u h = rw (pick-true (ltb (format .request) (length s)) (λ _. fault 10 0) (λ _. next (table-at format s 0) (λ x p. next (request-at format s x p) (λ r e. pick (ltb e (length s)) (λ _. fault 20 e) (λ _. got r e)))) (lt-ltb _ _ h))
 
-module _ (s t u : List ℕ) (room : length s ≤ 16384) (all : Passed) (read : outcome all u ≡ noting request-noted (sections-read s 0) t) where
+module _ (s t u : List ℕ) (room : length s ≤ format .request) (all : Passed) (read : outcome all u ≡ noting request-noted (sections-read s 0) t) where
   within-limit : read-request format s ≡ next (sections-read s 0) (λ r e. pick (ltb e (length s)) (λ _. fault 20 e) (λ _. got r e))
   unfolding read-request sections-read
   within-limit = pick-false _ _ _ (le-ltb _ _ room) ∙ sym (next-next (table-at format s 0) _ _)

@@ -1,8 +1,8 @@
-// An input and a position in it, held by one struct. Each function over it is proved by a walk of its MIR, by hand, and leaves
+// An input and a position in it, held by one struct. Each function over it is proved by a proof by hand through its MIR, and leaves
 // the work to a covered function on the slice and the number.
 ghost use mathlib.Core.Path.{_≡_};
 
-pub mod requests; // requests, from the left
+pub mod whole; // requests, from the left
 
 pub struct Reader<'a> {
     pub src: &'a [u8],

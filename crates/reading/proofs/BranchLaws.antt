@@ -20,6 +20,7 @@ use Rattle.bytes.proofs.ListLaws.{passed-to, passed-stop}
 use Rattle.reading.proofs.PlanSizes.{count-through, body-through, sequence-read}
 use Rattle.reading.proofs.NotingLaws.{Going, fault-met, met-value, noting-built, with-items}
 use Rattle.reading.proofs.SectionLaws.{fault-turned}
+use Rattle.reading.specs.Noted.{around-from}
 
 -- BRANCHES.
 module _ (n m deep up : ℕ) (s : List ℕ) (p met : ℕ) (t : List ℕ) (body : Passed) (read : body ≡ passed (body-at format n s p)) where
@@ -44,7 +45,7 @@ module _ (n m deep : ℕ) (s : List ℕ) (start i : ℕ) (t : List ℕ) where
 
   abbrev pub branching-rest : (left p met : ℕ) → List ℕ → Got (Met (List ℕ))
   branching-rest left p met u =
-      noting-met (branches-noted (1025 + i) met p u) (branches-at format n m s (sequence-at format n m s (branching-at format n m s (deep - 1))) left p met)
+      noting-met (branches-noted (around-from + i) met p u) (branches-at format n m s (sequence-at format n m s (branching-at format n m s (deep - 1))) left p met)
 
 module _ (n m : ℕ) (s : List ℕ) (start i : ℕ) (t : List ℕ) (count : Read) (read : count ≡ number-read (count-at 1 8 s (start + 1))) where
   pub branching-fault : (deep k q : ℕ) (u : List ℕ) → (deep ≡ 0 → ⊥) → count ≡ Fault k q → outcome-met (Fault k q) u ≡ noting-met (inside-noted i t) (branching-at format n m s deep start (i + 1))
@@ -57,9 +58,9 @@ module _ (n m : ℕ) (s : List ℕ) (start i : ℕ) (t : List ℕ) (count : Read
   unfolding branching-at next inside-noted
   branching-opened deep c q given place =
       rw (given, sub-one) (noting-built (inside-noted i t) (branching start) (branches-at format n m s (sequence-at format n m s (branching-at format n m s deep)) c q (i + 1))
-      ∙ ap (λ (r : ℕ). noting-met (branches-noted (1025 + i) (i + 1) r t) (branches-at format n m s (sequence-at format n m s (branching-at format n m s deep)) c q (i + 1))) place)
+      ∙ ap (λ (r : ℕ). noting-met (branches-noted (around-from + i) (i + 1) r t) (branches-at format n m s (sequence-at format n m s (branching-at format n m s deep)) c q (i + 1))) place)
 
-  pub branching-starts : (deep c q : ℕ) → (deep ≡ 0 → ⊥) → i < 1024 → count ≡ Value c q
+  pub branching-starts : (deep c q : ℕ) → (deep ≡ 0 → ⊥) → i < format .items → count ≡ Value c q
       → Going s (branching-whole n m deep s start i t) (branching-rest n m deep s start i t c q (i + 1) t) q (i + 1)
   branching-starts zero c q h k is = absurd (h refl)
   branching-starts (suc deep) c q h k is =
@@ -106,7 +107,7 @@ module _ (n m deep up : ℕ) (s : List ℕ) (whole : Got (Met (List ℕ))) where
       sym (w .same ∙ ap (noting-met (branches-noted up met p t)) (branch-stops (body-at format n s p) (λ q. one-sequence q met) (λ q. sequence-noted up met q t) _ k e fails))
 
   -- One branch, and the rest from where it ends.
-  branches-step : (p met : ℕ) (t : List ℕ) (left more e : ℕ) (u c : List ℕ) (q : ℕ) (x : Sequence ℕ) → met ≤ 1024
+  branches-step : (p met : ℕ) (t : List ℕ) (left more e : ℕ) (u c : List ℕ) (q : ℕ) (x : Sequence ℕ) → met ≤ format .items
       → body-at format n s p ≡ got c q → one-sequence q met ≡ got (with-items x more) e → u ≡ sequence-noted up met q t x
       → branches-left p met t (suc left) ≡ branches-left e more u left
   unfolding branches-at next branches-noted sequence-noted

@@ -1,4 +1,4 @@
-pub mod TableLaws
+pub mod NotesLaws
 pub mod SectionLaws
 pub mod MarkLaws
 pub mod PlanSizes

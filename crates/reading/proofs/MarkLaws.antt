@@ -10,7 +10,7 @@ use mir.Syntax.{w64}
 use mir.Val.{Fits}
 use borrow.Author.Tests.{eq-eqb, ne-eqb}
 use Rattle.meaning.specs.Tests.{both, fails, each-of}
-use Rattle.meaning.specs.Limits.{format}
+use Rattle.meaning.specs.Limits.{format, all-literals}
 use Rattle.meaning.specs.Literals.{positive, complement, fluent-of}
 use Rattle.meaning.specs.States.{State, mark-of, known, possible, told, told-all, state-of}
 use Rattle.meaning.proofs.TestLaws.{pick-true, pick-false}
@@ -58,7 +58,7 @@ module _ (test : Test) (marks : State) (l mark : ℕ) (is : mark ≡ mark-of l) 
   holds-possible e other = rw e (sym (possible-is ∙ ap fails (ne-eqb _ _ other)))
 
 -- A LIST at p, read to its end.
-module _ (s : List ℕ) (p : ℕ) (here : List-here 128 s p) where
+module _ (s : List ℕ) (p : ℕ) (here : List-here all-literals s p) where
   pub count-there : p < length s
   count-there = let ends = here .ends in omega arith
 
@@ -82,9 +82,9 @@ module _ (s : List ℕ) (p : ℕ) (here : List-here 128 s p) where
     pub each-starts : (test : ℕ → Bool) → each-of test (listed s p) ≡ each-of test (bytes-from s (p + 1) (end - (p + 1)))
     each-starts test = ap (each-of test) (sym list-starts)
 
-    pub state-starts : state-of format (listed s p) ≡ told-all (bytes-from s (p + 1) (end - (p + 1))) (replicate 64 0)
+    pub state-starts : state-of format (listed s p) ≡ told-all (bytes-from s (p + 1) (end - (p + 1))) (replicate (format .state) 0)
     unfolding state-of
-    state-starts = ap (λ (ls : List ℕ). told-all ls (replicate 64 0)) (sym list-starts)
+    state-starts = ap (λ (ls : List ℕ). told-all ls (replicate (format .state) 0)) (sym list-starts)
 
     module _ (i : ℕ) (from : p < i) (more : i < end) where
       pub entry-there : i < length s
@@ -93,13 +93,13 @@ module _ (s : List ℕ) (p : ℕ) (here : List-here 128 s p) where
       pub entry-fits : Fits w64 (length s) → Fits w64 (i + 1)
       entry-fits room = let there = entry-there in let most = room .fits in record { fits = omega arith }
 
-      pub entry-below : (l : ℕ) → l ≡ getD s i 0 → l < 128
+      pub entry-below : (l : ℕ) → l ≡ getD s i 0 → l < all-literals
       entry-below l e =
           let ends = ends-at in
           let same : p + 1 + (i - (p + 1)) ≡ i = omega arith in
-          subst (λ (y : ℕ). y < 128) (ap (λ (j : ℕ). getD s j 0) same ∙ sym e) (here .below (i - (p + 1)) (omega arith))
+          subst (λ (y : ℕ). y < all-literals) (ap (λ (j : ℕ). getD s j 0) same ∙ sym e) (here .below (i - (p + 1)) (omega arith))
 
-      pub fluent-below : (l : ℕ) → l ≡ getD s i 0 → l / 2 < 64
+      pub fluent-below : (l : ℕ) → l ≡ getD s i 0 → l / 2 < format .fluents
       fluent-below l e = let below = entry-below l e in omega arith
 
 module _ (s : List ℕ) (end i : ℕ) (more : i < end) where

@@ -1,11 +1,12 @@
--- Reading with the table: what follows an item, the end of a sequence, and what an answer says of the definition and of the table. Assumes nothing.
-use Prim.Native.Nat.{ℕ, _+_, _≤_, _<_}
+-- Reading with the notes: what follows an item, the end of a sequence, and what an answer says of the definition and of the notes. Assumes nothing.
+use Prim.Native.Nat.{ℕ, _+_, _≤_, _<_, _*_}
 use native.Mathlib.Omega.{arith}
 use mathlib.Core.Path.{_≡_, refl, sym, _∙_, ap}
 use mathlib.Core.List.{List}
 use lib.ListN.{length, set}
 use lib.Dec.{eqb}
 use borrow.Author.Tests.{eq-eqb, ne-eqb, lt-ltb, le-ltb}
+use Rattle.meaning.specs.Limits.{format}
 use Rattle.meaning.specs.Requests.{item}
 use Rattle.meaning.specs.Reading.{Got, got, fault, next, Met}
 use Rattle.meaning.proofs.TestLaws.{by-test, pick-true, pick-false}
@@ -14,6 +15,7 @@ use Rattle.bytes.specs.declared.bytes.Read.{Read}
 use Rattle.bytes.specs.declared.bytes.Read.the-variants.{Value, Fault}
 use Rattle.reading.proofs.SectionLaws.{got-place, fault-first}
 use Rattle.reading.specs.Planned.{number-after, branch-noted, noting-met, outcome-met}
+use Rattle.reading.specs.Noted.{item-next, branch-place, branch-item}
 
 -- WHAT FOLLOWS AN ITEM.
 pub after-last : (left met up : ℕ) → left ≡ 1 → up ≡ number-after left met up
@@ -24,26 +26,26 @@ pub after-other : (left met up : ℕ) → (left ≡ 1 → ⊥) → met ≡ numbe
 unfolding number-after
 after-other left met up h = sym (pick-false _ _ _ (ne-eqb left 1 h))
 
-after-within : (left met up : ℕ) → met ≤ 1024 → up ≤ 2048 → number-after left met up < 65536
+after-within : (left met up : ℕ) → met ≤ format .items → up ≤ 2 * format .items → number-after left met up < 65536
 unfolding number-after
 after-within left met up h k = by-test (eqb left 1) (λ t. rw (pick-true (eqb left 1) (λ _. up) (λ _. met) t) (omega arith)) (λ f. rw (pick-false (eqb left 1) (λ _. up) (λ _. met) f) (omega arith))
 
-pub next-fits : (left more up x : ℕ) → more ≤ 1024 → up ≤ 2048 → x ≡ number-after left more up → x < 65536
+pub next-fits : (left more up x : ℕ) → more ≤ format .items → up ≤ 2 * format .items → x ≡ number-after left more up → x < 65536
 next-fits left more up x k l e = rw e (after-within left more up k l)
 
-pub next-noted : (met left more up x : ℕ) (t u : List ℕ) → x ≡ number-after left more up → u ≡ set t (1024 + met) x → u ≡ set t (1024 + met) (number-after left more up)
-next-noted met left more up x t u e f = f ∙ ap (set t (1024 + met)) e
+pub next-noted : (met left more up x : ℕ) (t u : List ℕ) → x ≡ number-after left more up → u ≡ set t (item-next + met) x → u ≡ set t (item-next + met) (number-after left more up)
+next-noted met left more up x t u e f = f ∙ ap (set t (item-next + met)) e
 
 -- THE END OF A SEQUENCE.
 pub branch-empty : (first met p : ℕ) (t : List ℕ) → met ≤ first → t ≡ branch-noted first met p t
 unfolding branch-noted
 branch-empty first met p t h = sym (pick-false _ _ _ (le-ltb first met h))
 
-pub branch-ended : (first met p : ℕ) (t u v : List ℕ) → first < met → u ≡ set t (2048 + first) p → v ≡ set u (3072 + first) met → v ≡ branch-noted first met p t
+pub branch-ended : (first met p : ℕ) (t u v : List ℕ) → first < met → u ≡ set t (branch-place + first) p → v ≡ set u (branch-item + first) met → v ≡ branch-noted first met p t
 unfolding branch-noted
-branch-ended first met p t u v h placed counted = counted ∙ ap (λ (w : List ℕ). set w (3072 + first) met) placed ∙ sym (pick-true _ _ _ (lt-ltb first met h))
+branch-ended first met p t u v h placed counted = counted ∙ ap (λ (w : List ℕ). set w (branch-item + first) met) placed ∙ sym (pick-true _ _ _ (lt-ltb first met h))
 
--- WHAT A READER ANSWERED tells what the definition gives, and the table.
+-- WHAT A READER ANSWERED tells what the definition gives, and the notes.
 module _ {A : Type 0} where
   abbrev pub with-items : A → ℕ → Met A
   with-items x k = record { value = x; items = k }
@@ -86,4 +88,4 @@ module _ {A B : Type 0} where
 pub record Going (s : List ℕ) (whole rest : Got (Met (List ℕ))) (p met : ℕ) : Type 0 where
   pub same : whole ≡ rest
   pub inside : p ≤ length s
-  pub most : met ≤ 1024
+  pub most : met ≤ format .items

@@ -52,23 +52,23 @@ module _ (s : List ℕ) where
 pub record Counted (s : List ℕ) (p met own bytes items q : ℕ) : Type 0 where
   pub through : Through s p bytes q
   pub counted : items ≡ met + own
-  pub most : items ≤ 1024
+  pub most : items ≤ format .items
 
 pub record ItemRead (s : List ℕ) (p met : ℕ) (i : Item ℕ) (items q : ℕ) : Type 0 where
   pub sized : Counted s p met (items-in i) (bytes-in i) items q
-  pub below : met < 1024
+  pub below : met < format .items
   pub place : place-of i ≡ p
 
 module _ (n m : ℕ) (s : List ℕ) where
   abbrev plan-sized : Said
   plan-sized = record {
     item = λ deep p met x e. ItemRead s p met (x .value) (x .items) e;
-    items = λ deep left p met x e. p ≤ length s → met ≤ 1024 → Counted s p met (items-of (x .value)) (bytes-of (x .value)) (x .items) e;
-    sequence = λ deep p met x e. met ≤ 1024 → Counted s p met (items-of (x .value)) (2 + bytes-of (x .value)) (x .items) e;
-    branches = λ deep left p met x e. p ≤ length s → met ≤ 1024 → Counted s p met (items-under (x .value)) (bytes-under (x .value)) (x .items) e;
+    items = λ deep left p met x e. p ≤ length s → met ≤ format .items → Counted s p met (items-of (x .value)) (bytes-of (x .value)) (x .items) e;
+    sequence = λ deep p met x e. met ≤ format .items → Counted s p met (items-of (x .value)) (2 + bytes-of (x .value)) (x .items) e;
+    branches = λ deep left p met x e. p ≤ length s → met ≤ format .items → Counted s p met (items-under (x .value)) (bytes-under (x .value)) (x .items) e;
   }
 
-  nothing-counted : (p met : ℕ) → p ≤ length s → met ≤ 1024 → Counted s p met 0 0 met p
+  nothing-counted : (p met : ℕ) → p ≤ length s → met ≤ format .items → Counted s p met 0 0 met p
   nothing-counted p met here few = record { through = record { after = omega arith; inside = here }; counted = omega arith; most = few }
 
   both-counted : (p met own bytes k q own′ bytes′ l e : ℕ) → Counted s p met own bytes k q → Counted s q k own′ bytes′ l e → Counted s p met (own + own′) (bytes + bytes′) l e
@@ -81,10 +81,10 @@ module _ (n m : ℕ) (s : List ℕ) where
   unfolding items-of items-in items-under bytes-of bytes-in bytes-under place-of
   sizes-passed = record {
     an-action = λ deep p met x q read few _ _.
-        let below = leb-false 1024 met few in
+        let below = leb-false (format .items) met few in
         record { sized = record { through = byte-through s p .holds x q read; counted = refl; most = omega arith }; below = below; place = refl };
     a-branching = λ deep p met x q c r bs e read few _ counted all.
-        let below = leb-false 1024 met few in
+        let below = leb-false (format .items) met few in
         let count = count-through s 1 8 (p + 1) .holds c r counted in
         let rest = all (count .inside) (omega arith) in
         let a = count .after in let b = rest .through .after in let d = rest .counted in
@@ -109,6 +109,6 @@ module _ (n m : ℕ) (s : List ℕ) where
   pub item-read : (deep p met : ℕ) → On (item-at format n m s (branching-at format n m s deep) p met) (λ x q. ItemRead s p met (x .value) (x .items) q)
   item-read = item-on format n m s plan-sized sizes-passed
 
-  pub sequence-read : (deep p met : ℕ) → met ≤ 1024
+  pub sequence-read : (deep p met : ℕ) → met ≤ format .items
       → On (sequence-at format n m s (branching-at format n m s deep) p met) (λ x q. Counted s p met (items-of (x .value)) (2 + bytes-of (x .value)) (x .items) q)
   sequence-read deep p met few = record { holds = λ x q e. sequence-on format n m s plan-sized sizes-passed deep p met .holds x q e few }

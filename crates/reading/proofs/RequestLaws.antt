@@ -37,19 +37,19 @@ module _ {A B : Type 0} where
   next-same (fault n p) e = refl
 
 -- SECTIONS 2 TO 5.
-module _ (n m : ℕ) (s : List ℕ) (p : ℕ) (t : List ℕ) (facts : Passed) (read : facts ≡ passed (list-at (kind-of Literals) n 64 s p)) where
+module _ (n m : ℕ) (s : List ℕ) (p : ℕ) (t : List ℕ) (facts : Passed) (read : facts ≡ passed (list-at (kind-of Literals) n (format .listed) s p)) where
   pub facts-fault : (k q : ℕ) (v : List ℕ) → facts ≡ Stop k q → outcome (Stop k q) v ≡ facts-first n m s p t
   unfolding facts-first next outcome kind-of
-  facts-fault k q v is = rw (passed-stop (list-at literals n 64 s p) k q (sym read ∙ is))
+  facts-fault k q v is = rw (passed-stop (list-at literals n (format .listed) s p) k q (sym read ∙ is))
 
   pub facts-passed : (q : ℕ) (r : Passed) (w : List ℕ) → facts ≡ To q → outcome r w ≡ three-sections n m s q t → outcome r w ≡ facts-first n m s p t
   unfolding facts-first next kind-of
-  facts-passed q r w is e = rw (passed-to (list-at literals n 64 s p) q (sym read ∙ is) .1) e
+  facts-passed q r w is e = rw (passed-to (list-at literals n (format .listed) s p) q (sym read ∙ is) .1) e
 
 -- Noting at the end, or as each part is read.
 after-fluents : (n : ℕ) (s : List ℕ) (p : ℕ) (t : List ℕ) → actions-first n s p t ≡ next (
-    next (count-at 1 64 s p) λ m q.
-    next (list-at literals n 64 s q) λ facts r.
+    next (count-at 1 (format .actions) s p) λ m q.
+    next (list-at literals n (format .listed) s q) λ facts r.
     next (section-at (effect-at format n m s) s r) λ es u.
     next (section-at (executability-at format n m s) s u) λ xs v.
     next (section-at (knowledge-at format n m s) s v) λ ks e.
@@ -57,38 +57,37 @@ after-fluents : (n : ℕ) (s : List ℕ) (p : ℕ) (t : List ℕ) → actions-fi
     ) (λ x e. got (table-noted x t) e)
 unfolding actions-first facts-first three-sections table-noted line-at next
 after-fluents n s p t =
-    next-same (count-at 1 64 s p) (λ m q.
-    next-same (list-at literals n 64 s q) (λ facts r.
+    next-same (count-at 1 (format .actions) s p) (λ m q.
+    next-same (list-at literals n (format .listed) s q) (λ facts r.
     next-same (section-at (effect-at format n m s) s r) (λ es u.
     next-same (section-at (executability-at format n m s) s u) (λ xs v. sym (next-next (section-at (knowledge-at format n m s) s v) _ _))
     ∙ sym (next-next (section-at (executability-at format n m s) s u) _ _))
     ∙ sym (next-next (section-at (effect-at format n m s) s r) _ _))
-    ∙ sym (next-next (list-at literals n 64 s q) _ _))
-    ∙ sym (next-next (count-at 1 64 s p) _ _)
+    ∙ sym (next-next (list-at literals n (format .listed) s q) _ _))
+    ∙ sym (next-next (count-at 1 (format .actions) s p) _ _)
 
-module _ (s : List ℕ) (p : ℕ) (count : Read) (read : count ≡ number-read (count-at 1 64 s p)) where
-  pub count-most : (n q : ℕ) → count ≡ Value n q → n ≤ 64
-  count-most n q is = count-within 1 64 s p n q (read-value (count-at 1 64 s p) count n q read is)
+pub count-most : (most : ℕ) (s : List ℕ) (p : ℕ) (count : Read) → count ≡ number-read (count-at 1 most s p) → (n q : ℕ) → count ≡ Value n q → n ≤ most
+count-most most s p count read n q is = count-within 1 most s p n q (read-value (count-at 1 most s p) count n q read is)
 
-  -- The actions' count.
-  module _ (n : ℕ) (t : List ℕ) where
-    pub actions-fault : (k q : ℕ) (v : List ℕ) → count ≡ Fault k q → outcome (Stop k q) v ≡ actions-first n s p t
-    unfolding actions-first next outcome
-    actions-fault k q v is = rw (read-fault (count-at 1 64 s p) count k q read is)
+-- The actions' count.
+module _ (n : ℕ) (s : List ℕ) (p : ℕ) (t : List ℕ) (count : Read) (read : count ≡ number-read (count-at 1 (format .actions) s p)) where
+  pub actions-fault : (k q : ℕ) (v : List ℕ) → count ≡ Fault k q → outcome (Stop k q) v ≡ actions-first n s p t
+  unfolding actions-first next outcome
+  actions-fault k q v is = rw (read-fault (count-at 1 (format .actions) s p) count k q read is)
 
-    pub actions-there : (m q : ℕ) (r : Passed) (w : List ℕ) → count ≡ Value m q → outcome r w ≡ facts-first n m s q t → outcome r w ≡ actions-first n s p t
-    unfolding actions-first next
-    actions-there m q r w is e = rw (read-value (count-at 1 64 s p) count m q read is) e
+  pub actions-there : (m q : ℕ) (r : Passed) (w : List ℕ) → count ≡ Value m q → outcome r w ≡ facts-first n m s q t → outcome r w ≡ actions-first n s p t
+  unfolding actions-first next
+  actions-there m q r w is e = rw (read-value (count-at 1 (format .actions) s p) count m q read is) e
 
-  -- The fluents' count.
-  module _ (t : List ℕ) where
-    pub fluents-fault : (k q : ℕ) (v : List ℕ) → count ≡ Fault k q → outcome (Stop k q) v ≡ noting table-noted (table-at format s p) t
-    unfolding table-at noting next outcome
-    fluents-fault k q v is = rw (read-fault (count-at 1 64 s p) count k q read is)
+-- The fluents' count.
+module _ (s : List ℕ) (p : ℕ) (t : List ℕ) (count : Read) (read : count ≡ number-read (count-at 1 (format .fluents) s p)) where
+  pub fluents-fault : (k q : ℕ) (v : List ℕ) → count ≡ Fault k q → outcome (Stop k q) v ≡ noting table-noted (table-at format s p) t
+  unfolding table-at noting next outcome
+  fluents-fault k q v is = rw (read-fault (count-at 1 (format .fluents) s p) count k q read is)
 
-    pub fluents-there : (n q : ℕ) (r : Passed) (w : List ℕ) → count ≡ Value n q → outcome r w ≡ actions-first n s q t → outcome r w ≡ noting table-noted (table-at format s p) t
-    unfolding table-at noting next
-    fluents-there n q r w is e = rw (read-value (count-at 1 64 s p) count n q read is) (e ∙ after-fluents n s q t)
+  pub fluents-there : (n q : ℕ) (r : Passed) (w : List ℕ) → count ≡ Value n q → outcome r w ≡ actions-first n s q t → outcome r w ≡ noting table-noted (table-at format s p) t
+  unfolding table-at noting next
+  fluents-there n q r w is e = rw (read-value (count-at 1 (format .fluents) s p) count n q read is) (e ∙ after-fluents n s q t)
 
 -- SECTIONS 7 AND 8.
 passed-outcome : {A : Type 0} (g : Got A) (u : List ℕ) → outcome (passed g) u ≡ next g (λ _ e. got u e)
@@ -96,18 +95,18 @@ unfolding outcome passed next
 passed-outcome (got x p) u = refl
 passed-outcome (fault n p) u = refl
 
-module _ (n : ℕ) (s : List ℕ) (plan items p : ℕ) (t : List ℕ) (goals : Passed) (read : goals ≡ passed (list-at (kind-of Literals) n 64 s p)) where
+module _ (n : ℕ) (s : List ℕ) (plan items p : ℕ) (t : List ℕ) (goals : Passed) (read : goals ≡ passed (list-at (kind-of Literals) n (format .listed) s p)) where
   pub goals-fault : (k q : ℕ) (v : List ℕ) → goals ≡ Stop k q → outcome (Stop k q) v ≡ goals-first n s plan items p t
   unfolding goals-first next outcome kind-of
-  goals-fault k q v is = rw (passed-stop (list-at literals n 64 s p) k q (sym read ∙ is))
+  goals-fault k q v is = rw (passed-stop (list-at literals n (format .listed) s p) k q (sym read ∙ is))
 
   pub goals-passed : (q : ℕ) (whether : Passed) (u v w : List ℕ) → goals ≡ To q → u ≡ set t plan-slot plan → v ≡ set u items-slot items → w ≡ set v goals-slot p
-      → whether ≡ passed (list-at (kind-of Fluents) n 64 s q) → outcome whether w ≡ goals-first n s plan items p t
+      → whether ≡ passed (list-at (kind-of Fluents) n (format .listed) s q) → outcome whether w ≡ goals-first n s plan items p t
   unfolding goals-first places-noted next kind-of
   goals-passed q whether u v w is eu ev ew last =
       let noted : w ≡ places-noted plan items p t = ew ∙ ap (λ (x : List ℕ). set x goals-slot p) (ev ∙ ap (λ (x : List ℕ). set x items-slot items) eu) in
-      rw (passed-to (list-at literals n 64 s p) q (sym read ∙ is) .1)
-      (ap (λ (x : Passed). outcome x w) last ∙ passed-outcome (list-at fluents n 64 s q) w ∙ ap (λ (x : List ℕ). next (list-at fluents n 64 s q) (λ _ e. got x e)) noted)
+      rw (passed-to (list-at literals n (format .listed) s p) q (sym read ∙ is) .1)
+      (ap (λ (x : Passed). outcome x w) last ∙ passed-outcome (list-at fluents n (format .listed) s q) w ∙ ap (λ (x : List ℕ). next (list-at fluents n (format .listed) s q) (λ _ e. got x e)) noted)
 
 -- SECTIONS 6 TO 8.
 module _ (n m : ℕ) (s : List ℕ) (p : ℕ) (t u : List ℕ) (plan : Read) (read : outcome-met plan u ≡ noting-met (plan-noted p t) (plan-at format n m s p)) where
@@ -124,13 +123,13 @@ module _ (n m : ℕ) (s : List ℕ) (p : ℕ) (t u : List ℕ) (plan : Read) (re
     unfolding plan-at
     plan-counted = sequence-read n m s 8 p 0 (omega arith) .holds (with-items (plan-got .0) items) q (plan-got .1)
 
-    pub plan-place-fits : length s ≤ 16384 → p < 65536
+    pub plan-place-fits : length s ≤ format .request → p < 65536
     plan-place-fits h = let a = plan-counted .through .after in let b = plan-counted .through .inside in omega arith
 
     pub plan-items-fit : items < 65536
     plan-items-fit = let a = plan-counted .most in omega arith
 
-    pub plan-end-fits : length s ≤ 16384 → q < 65536
+    pub plan-end-fits : length s ≤ format .request → q < 65536
     plan-end-fits h = let b = plan-counted .through .inside in omega arith
 
     pub plan-there : (r : Passed) (w : List ℕ) → outcome r w ≡ goals-first n s p items q u → outcome r w ≡ plan-first n m s p t
@@ -151,13 +150,13 @@ module _ {A B : Type 0} where
 
 module _ (s : List ℕ) (x : Table) (p : ℕ) (t : List ℕ) where
   places-same : (plan : Met (Sequence ℕ)) (q : ℕ) → plan-at format (x .fluents) (x .actions) s p ≡ got plan q
-      → (goals : List ℕ) (r : ℕ) → list-at literals (x .fluents) 64 s q ≡ got goals r → (whether : List ℕ)
+      → (goals : List ℕ) (r : ℕ) → list-at literals (x .fluents) (format .listed) s q ≡ got goals r → (whether : List ℕ)
       → places-noted p (plan .items) q (plan-noted p (table-noted x t) (plan .value))
       ≡ request-noted (record { table = x; plan = plan .value; goals = placed (q + 1) goals; whether = placed (r + 1) whether; whether-place = r }) t
   unfolding plan-at request-noted goals-place plan-place
   places-same plan q e goals r eg whether =
       let sized = sequence-read (x .fluents) (x .actions) s 8 p 0 (omega arith) .holds plan q e in
-      let through = list-through s literals (x .fluents) 64 q .holds goals r eg in
+      let through = list-through s literals (x .fluents) (format .listed) q .holds goals r eg in
       let after = sized .through .after in
       let counted = sized .counted in
       let ends = through .after in
@@ -170,8 +169,8 @@ module _ (s : List ℕ) (x : Table) (p : ℕ) (t : List ℕ) where
   unfolding plan-first goals-first noting request-at next
   plan-whole =
       next-where (plan-at format (x .fluents) (x .actions) s p) (λ plan q e.
-      next-where (list-at literals (x .fluents) 64 s q) (λ goals r eg.
-      next-where (list-at fluents (x .fluents) 64 s r) (λ whether i _. ap (λ (u : List ℕ). got u i) (places-same plan q e goals r eg whether))
-      ∙ sym (next-next (list-at fluents (x .fluents) 64 s r) _ _))
-      ∙ sym (next-next (list-at literals (x .fluents) 64 s q) _ _))
+      next-where (list-at literals (x .fluents) (format .listed) s q) (λ goals r eg.
+      next-where (list-at fluents (x .fluents) (format .listed) s r) (λ whether i _. ap (λ (u : List ℕ). got u i) (places-same plan q e goals r eg whether))
+      ∙ sym (next-next (list-at fluents (x .fluents) (format .listed) s r) _ _))
+      ∙ sym (next-next (list-at literals (x .fluents) (format .listed) s q) _ _))
       ∙ sym (next-next (plan-at format (x .fluents) (x .actions) s p) _ _)

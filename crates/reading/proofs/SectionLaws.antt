@@ -21,7 +21,7 @@ use Rattle.reading.specs.declared.sections.Section as Code
 use Rattle.reading.specs.declared.sections.Section.the-variants.{Effects, Executability as Runs, Knowledge as Senses}
 use Rattle.bytes.specs.Read.{effect-read, executability-read, knowledge-read}
 use Rattle.bytes.proofs.ByteLaws.{byte-none, byte-is}
-use Rattle.reading.specs.Noted.{Section, effects, executability, knowledge, section-of, Line, line-at, line-read, line-noted, action-in, note-line, none-yet, lines-noted, count-slot, section-noted, three-sections, noting, outcome, effect-lines, run-lines, appended, pair-noted}
+use Rattle.reading.specs.Noted.{Section, effects, executability, knowledge, section-of, Line, line-at, line-read, line-noted, action-in, note-line, none-yet, lines-noted, count-slot, section-noted, three-sections, noting, outcome, effect-lines, run-lines, appended, pair-noted, slots, effects-slot, executability-slot, knowledge-slot}
 
 -- ONE OF THE THREE SECTIONS.
 module _ (c : Code.Section) (n m : ℕ) (s : List ℕ) (p : ℕ) (r : Read) where
@@ -50,7 +50,7 @@ module _ (c : Code.Section) (last k p a f : ℕ) (t u : List ℕ) where
   unfolding line-noted section-of
   noted-knowledge e h = rw e h
 
-pub knowledge-fits : (c : Code.Section) (f : ℕ) → c ≡ Senses → (section-of c ≡ knowledge → f < 64) → f < 64
+pub knowledge-fits : (c : Code.Section) (f : ℕ) → c ≡ Senses → (section-of c ≡ knowledge → f < format .fluents) → f < format .fluents
 unfolding section-of
 knowledge-fits c f e h = h (rw e)
 
@@ -108,7 +108,7 @@ module _ {A : Type 0} (number : A → ℕ) (read : Got A → Read) (of-got : (x 
       let is : i ≡ n = omega arith in
       rw (is, ap place-of same)
 
--- A line of action a at place p, as what the table notes of it.
+-- A line of action a at place p, as what is noted of it.
 record Stands (c : Section) (n m : ℕ) (s : List ℕ) (p a : ℕ) (l : Line c) : Type 0 where
   second : p + 1 < length s
   acts : a < m
@@ -206,11 +206,11 @@ module _ (c : Section) where
   one-more k last x (fault n p) t = refl
 
 module _ (c : Section) (n m : ℕ) (s : List ℕ) where
-  -- What the table notes of so many lines from place p on, when k are noted and `last` has the last of each action.
+  -- What is noted of so many lines from place p on, when k are noted and `last` has the last of each action.
   abbrev From : (left p k : ℕ) → (last t : List ℕ) → Got (List ℕ)
   From left p k last t = noting (lines-noted c k last) (repeated (line-at c n m s) left p) t
 
-  pub lines-start : (count end p : ℕ) (t : List ℕ) → end ≡ count → From count p 0 none-yet t ≡ From (end - 0) p 0 (replicate 64 0) t
+  pub lines-start : (count end p : ℕ) (t : List ℕ) → end ≡ count → From count p 0 none-yet t ≡ From (end - 0) p 0 (replicate (format .actions) 0) t
   unfolding none-yet
   lines-start count end p t e = let same : end - 0 ≡ count = omega arith in rw same
 
@@ -247,16 +247,16 @@ module _ (c : Section) (n m : ℕ) (s : List ℕ) where
     pub second-there : p + 1 < length s
     second-there = here .second
 
-    pub second-fits : length s ≤ 16384 → Fits w64 (p + 1)
+    pub second-fits : length s ≤ format .request → Fits w64 (p + 1)
     second-fits h = let there = second-there in omega arith
 
-    pub place-fits : length s ≤ 16384 → p < 65536
+    pub place-fits : length s ≤ format .request → p < 65536
     place-fits h = let there = second-there in omega arith
 
-    pub action-fits : m ≤ 64 → a < 64
+    pub action-fits : m ≤ format .actions → a < format .actions
     action-fits h = let there = here .acts in omega arith
 
-    pub fluent-fits : (f : ℕ) → n ≤ 64 → f ≡ getD s (p + 1) 0 → c ≡ knowledge → f < 64
+    pub fluent-fits : (f : ℕ) → n ≤ format .fluents → f ≡ getD s (p + 1) 0 → c ≡ knowledge → f < format .fluents
     fluent-fits f h ef ec = let there = here .senses ec in omega arith
 
   -- THE COUNT BYTE.
@@ -276,28 +276,28 @@ module _ (c : Section) (n m : ℕ) (s : List ℕ) where
   section-there p t u v r h put e =
       rw (byte-is s p h) (e ∙ ap (From (getD s p 0) (p + 1) 0 none-yet) put ∙ counted (getD s p 0) (p + 1) t (count-slot c) _ refl)
 
-pub slot-effects : (c : Code.Section) → c ≡ Effects → 5378 ≡ count-slot (section-of c)
+pub slot-effects : (c : Code.Section) → c ≡ Effects → effects-slot ≡ count-slot (section-of c)
 unfolding count-slot section-of
 slot-effects c e = rw e
 
-pub slot-executability : (c : Code.Section) → c ≡ Runs → 5379 ≡ count-slot (section-of c)
+pub slot-executability : (c : Code.Section) → c ≡ Runs → executability-slot ≡ count-slot (section-of c)
 unfolding count-slot section-of
 slot-executability c e = rw e
 
-pub slot-knowledge : (c : Code.Section) → c ≡ Senses → 5380 ≡ count-slot (section-of c)
+pub slot-knowledge : (c : Code.Section) → c ≡ Senses → knowledge-slot ≡ count-slot (section-of c)
 unfolding count-slot section-of
 slot-knowledge c e = rw e
 
 pub count-noted : (c : Code.Section) (count x slot : ℕ) (t u : List ℕ) → slot ≡ count-slot (section-of c) → x ≡ count → u ≡ set t slot x → u ≡ set t (count-slot (section-of c)) count
 count-noted c count x slot t u at-slot is e = e ∙ rw (at-slot, is)
 
-slot-most : (c : Section) → count-slot c < 9480
+slot-most : (c : Section) → count-slot c < slots
 unfolding count-slot
 slot-most effects = omega arith
 slot-most executability = omega arith
 slot-most knowledge = omega arith
 
-pub slot-fits : (c : Code.Section) (slot : ℕ) → slot ≡ count-slot (section-of c) → slot < 9480
+pub slot-fits : (c : Code.Section) (slot : ℕ) → slot ≡ count-slot (section-of c) → slot < slots
 slot-fits c slot e = rw e (slot-most (section-of c))
 
 -- A fault before anything was built.

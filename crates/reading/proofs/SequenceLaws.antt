@@ -39,7 +39,7 @@ module _ (n m deep up : ℕ) (s : List ℕ) where
     unfolding sequence-at next sequence-noted noting-met
     sequence-opened c q given place = rw (given, place) refl
 
-    pub sequence-starts : (c q : ℕ) → before ≤ 1024 → count ≡ Value c q → Going s (sequence-whole start before t) (sequence-rest before q before t c) q before
+    pub sequence-starts : (c q : ℕ) → before ≤ format .items → count ≡ Value c q → Going s (sequence-whole start before t) (sequence-rest before q before t c) q before
     sequence-starts c q h is =
         let given = read-value (two-bytes-at s start) count c q read is in
         let two = two-bytes-through s start .holds c q given in
@@ -96,15 +96,15 @@ module _ (n m deep up : ℕ) (s : List ℕ) where
     item-was-read : (i : Item ℕ) × ItemRead s p met i more e
     item-was-read = let g = met-value (item-noted met t) (one-item p met) r u more e read is in (g .0, item-read n m s deep p met .holds (with-items (g .0) more) e (g .1))
 
-    pub item-was-below : met < 1024
+    pub item-was-below : met < format .items
     item-was-below = item-was-read .1 .below
 
-    pub item-most : more ≤ 1024
+    pub item-most : more ≤ format .items
     item-most = item-was-read .1 .sized .most
 
 -- THE PLAN.
 pub plan-whole : (n m : ℕ) (s : List ℕ) (start : ℕ) (t : List ℕ) (r : Read) (u : List ℕ)
-    → outcome-met r u ≡ noting-met (sequence-noted 1024 0 start t) (sequence-at format n m s (branching-at format n m s 8) start 0)
+    → outcome-met r u ≡ noting-met (sequence-noted (format .items) 0 start t) (sequence-at format n m s (branching-at format n m s 8) start 0)
     → outcome-met r u ≡ noting-met (plan-noted start t) (plan-at format n m s start)
 unfolding plan-noted plan-at
 plan-whole n m s start t r u e = e

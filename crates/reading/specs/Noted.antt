@@ -1,4 +1,4 @@
--- What reading leaves in its one table, as a function of what the definitions read. Lines are numbered from 1 in file order, so that 0 is no line; items from 0.
+-- What reading leaves in its notes, as a function of what the definitions read. Lines are numbered from 1 in file order, so that 0 is no line; items from 0.
 use Prim.Native.Nat.{ℕ, _+_, _-_, _*_}
 use mathlib.Core.List.{List, [], _∷_}
 use lib.ListN.{length, getD, set, replicate}
@@ -19,57 +19,83 @@ use Rattle.bytes.specs.declared.lists.Passed.the-variants.{To, Fault as Stop}
 abbrev pub item-place : ℕ
 item-place = 0
 
--- Item i: the item after it in its sequence; after the last one 1024, or 1025 and the number of the branching around it.
+-- Item i: the item after it in its sequence; after the last one the limit of items, or `around-from` and the number of the branching around it.
 abbrev pub item-next : ℕ
-item-next = 1024
+item-next = format .items
+
+abbrev pub around-from : ℕ
+around-from = format .items + 1
 
 -- Item i that opens a branch: the place after the branch, and how many items are met up to there.
 abbrev pub branch-place : ℕ
-branch-place = 2048
+branch-place = 2 * format .items
 
 abbrev pub branch-item : ℕ
-branch-item = 3072
+branch-item = 3 * format .items
 
--- Where the slots of the effects start, and those of the executability lines. From there on stand the places of the lines' first bytes;
--- from 256 slots on, for each line, the next one of the same action in file order, or 0; from 512 slots on the first line of each action,
--- or 0. So the first line of action a stands where that after a line with number 256 + a would.
+-- A line's number in its section is a byte.
+abbrev pub line-numbers : ℕ
+line-numbers = 256
+
+-- The slots of a section of lines: for each line the place of its first byte; for each line the next one of the same action in file order,
+-- or 0; for each action its first line, or 0. So the first line of action a is where that after a line with number 256 + a would be.
+abbrev pub line-slots : ℕ
+line-slots = 2 * line-numbers + format .actions
+
+-- Where the slots of the effects start, and those of the executability lines.
 abbrev pub effect-lines : ℕ
-effect-lines = 4096
+effect-lines = 4 * format .items
 
 abbrev pub run-lines : ℕ
-run-lines = 4672
+run-lines = effect-lines + line-slots
 
 unfoldable pub line-place : (t : List ℕ) (lines k : ℕ) → ℕ
 line-place t lines k = getD t (lines + k) 0
 
 unfoldable pub next-line : (t : List ℕ) (lines i : ℕ) → ℕ
-next-line t lines i = getD t (lines + 256 + i) 0
+next-line t lines i = getD t (lines + line-numbers + i) 0
 
 unfoldable pub first-line : (t : List ℕ) (lines a : ℕ) → ℕ
-first-line t lines a = next-line t lines (256 + a)
+first-line t lines a = next-line t lines (line-numbers + a)
 
--- Action a: what it senses, from the smallest fluent (as 64 less it) to the largest (as one more).
+-- Action a: what it senses, from the smallest fluent (as the limit of fluents less it) to the largest (as one more).
 abbrev pub sensed-from : ℕ
-sensed-from = 5248
+sensed-from = run-lines + line-slots
 
 abbrev pub sensed-to : ℕ
-sensed-to = 5312
+sensed-to = sensed-from + format .actions
 
--- The place of the plan, how many items it has, and the place of the goals.
+-- The place of the plan, how many items it has, how many lines each section has, and the place of the goals.
 abbrev pub plan-slot : ℕ
-plan-slot = 5376
+plan-slot = sensed-to + format .actions
 
 abbrev pub items-slot : ℕ
-items-slot = 5377
+items-slot = plan-slot + 1
+
+abbrev pub effects-slot : ℕ
+effects-slot = plan-slot + 2
+
+abbrev pub executability-slot : ℕ
+executability-slot = plan-slot + 3
+
+abbrev pub knowledge-slot : ℕ
+knowledge-slot = plan-slot + 4
 
 abbrev pub goals-slot : ℕ
-goals-slot = 5381
+goals-slot = plan-slot + 5
 
--- Action a and fluent f, at 64 times a and f: 1 where a knowledge line has both.
+-- Action a and fluent f, with a row of fluents for each action: 1 where a knowledge line has both.
 abbrev pub sensed : ℕ
-sensed = 5384
+sensed = plan-slot + 8
 
--- READING WITH THE TABLE. What was read and the table afterwards; at a fault the table is of no use.
+abbrev pub pairs : ℕ
+pairs = format .actions * format .fluents
+
+-- How many slots there are.
+abbrev pub slots : ℕ
+slots = sensed + pairs
+
+-- READING WITH THE NOTES. What was read and the notes afterwards; at a fault the notes are of no use.
 module _ {A : Type 0} where
   unfoldable pub noting : (A → List ℕ → List ℕ) → Got A → List ℕ → Got (List ℕ)
   noting note g t = next g λ x p. got (note x t) p
@@ -79,20 +105,21 @@ outcome r t = elim r [ To p ↦ got t p | Stop n p ↦ fault n p ]
 
 -- LINES. What a new line of an action comes after, by its last line so far.
 unfoldable pub before : (last action : ℕ) → ℕ
-before last a = pick (eqb last 0) (λ _. 256 + a) (λ _. last)
+before last a = pick (eqb last 0) (λ _. line-numbers + a) (λ _. last)
 
 -- Line k comes after the others of its action.
 unfoldable pub appended : (lines last k place action : ℕ) → List ℕ → List ℕ
-appended lines last k p a t = set (set t (lines + k) p) (lines + 256 + before last a) k
+appended lines last k p a t = set (set t (lines + k) p) (lines + line-numbers + before last a) k
 
--- The pair is 64 times the action and the fluent. From the smallest fluent that the action senses (as 64 less it) to the largest (as one more).
+-- The slot holds at least the value.
 unfoldable pub raised : (slot value : ℕ) → List ℕ → List ℕ
 raised slot v t = pick (ltb (getD t slot 0) v) (λ _. set t slot v) (λ _. t)
 
+-- An action senses a fluent.
 unfoldable pub pair-noted : (action fluent : ℕ) → List ℕ → List ℕ
-pair-noted a f t = raised (sensed-to + a) (f + 1) (raised (sensed-from + a) (64 - f) (set t (sensed + (64 * a + f)) 1))
+pair-noted a f t = raised (sensed-to + a) (f + 1) (raised (sensed-from + a) (format .fluents - f) (set t (sensed + (format .fluents * a + f)) 1))
 
--- A section of lines, what a line of it is, and what the table notes of line k.
+-- A section of lines, what a line of it is, and what is noted of line k.
 pub data Section : Type 0 where
   effects executability knowledge : Section
 
@@ -125,7 +152,7 @@ line-read effects = effect-read
 line-read executability = executability-read
 line-read knowledge = knowledge-read
 
--- What the table notes of line k, of action a, at place p; f is the byte after the action.
+-- What is noted of line k, of action a, at place p; f is the byte after the action.
 unfoldable pub line-noted : Section → (last k p a f : ℕ) → List ℕ → List ℕ
 line-noted effects last k p a f = appended effect-lines last k p a
 line-noted executability last k p a f = appended run-lines last k p a
@@ -137,13 +164,13 @@ lines-noted c k last [] t = t
 lines-noted c k last (x ∷ xs) t = lines-noted c (k + 1) (set last (action-in c x) (k + 1)) xs (note-line c (getD last (action-in c x) 0) (k + 1) x t)
 
 unfoldable pub none-yet : List ℕ
-none-yet = replicate 64 0
+none-yet = replicate (format .actions) 0
 
 -- How many lines each section has.
 unfoldable pub count-slot : Section → ℕ
-count-slot effects = 5378
-count-slot executability = 5379
-count-slot knowledge = 5380
+count-slot effects = effects-slot
+count-slot executability = executability-slot
+count-slot knowledge = knowledge-slot
 
 unfoldable pub section-noted : (c : Section) → List (Line c) → List ℕ → List ℕ
 section-noted c xs t = lines-noted c 0 none-yet xs (set t (count-slot c) (length xs))

@@ -1,14 +1,14 @@
--- An action's lines in file order, as the table leads from each to the next. One definition is for effects and for executability lines:
+-- An action's lines in file order, as the notes lead from each to the next. One definition is for effects and for executability lines:
 -- `lines` is where the slots of the section start.
 use Prim.Native.Nat.{ℕ, _<_}
 use mathlib.Core.Path.{_≡_}
 use mathlib.Core.List.{List, [], _∷_}
-use Rattle.reading.specs.Noted.{line-place, next-line, first-line}
+use Rattle.reading.specs.Noted.{line-place, next-line, first-line, line-numbers}
 
 -- Line j stands at p, and what comes after it is a line further on, or none.
 pub record Line-in (t : List ℕ) (lines j p : ℕ) : Type 0 where
   pub some : 0 < j
-  pub few : j < 256
+  pub few : j < line-numbers
   pub stands : line-place t lines j ≡ p
   pub rises : 0 < next-line t lines j → j < next-line t lines j
 

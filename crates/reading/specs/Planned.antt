@@ -1,4 +1,4 @@
--- What reading a plan leaves in the table, as a function of the plan as a tree. The table stands before the tree in each definition.
+-- What reading a plan leaves in the notes, as a function of the plan as a tree. The notes stand before the tree in each definition.
 use Prim.Native.Nat.{ℕ, _+_}
 use mathlib.Core.List.{List}
 use lib.ListN.{length, set}
@@ -7,7 +7,7 @@ use Rattle.meaning.specs.Tests.{pick}
 use Rattle.meaning.specs.Limits.{format}
 use Rattle.meaning.specs.Requests.{Sequence, done, item, Item, act, branching, Branches, none, branch}
 use Rattle.meaning.specs.Reading.{Got, got, fault, next, Met, body-at, sequence-at, branching-at}
-use Rattle.reading.specs.Noted.{item-place, item-next, branch-place, branch-item}
+use Rattle.reading.specs.Noted.{item-place, item-next, branch-place, branch-item, around-from}
 use Rattle.bytes.specs.declared.bytes.Read.{Read}
 use Rattle.bytes.specs.declared.bytes.Read.the-variants.{Value, Fault}
 
@@ -68,7 +68,7 @@ unfoldable mutual
   -- What stands inside an item.
   pub inside-noted : (met : ℕ) → List ℕ → Item ℕ → List ℕ
   inside-noted met t (act p a) = t
-  inside-noted met t (branching p bs) = branches-noted (1025 + met) (met + 1) (p + 2) t bs
+  inside-noted met t (branching p bs) = branches-noted (around-from + met) (met + 1) (p + 2) t bs
 
   -- Branches from p on; a branch's sequence starts after its condition.
   pub branches-noted : (up met p : ℕ) → List ℕ → Branches ℕ → List ℕ
@@ -84,11 +84,11 @@ item-noted met t i = inside-noted met (set t (item-place + met) (place-of i)) i
 unfoldable pub sequence-noted : (up met p : ℕ) → List ℕ → Sequence ℕ → List ℕ
 sequence-noted up met p t b = rest-noted up met met (p + 2) t b
 
--- The plan, whose count stands at p; after its last item stands 1024 (FORMAT 2.17).
+-- The plan, whose count stands at p; after its last item comes the limit of items (FORMAT 2.17).
 unfoldable pub plan-noted : (p : ℕ) → List ℕ → Sequence ℕ → List ℕ
-plan-noted p t b = sequence-noted 1024 0 p t b
+plan-noted p t b = sequence-noted (format .items) 0 p t b
 
--- READING WITH THE TABLE. The table afterwards and the items met; at a fault the table is of no use.
+-- READING WITH THE NOTES. The notes afterwards and the items met; at a fault the notes are of no use.
 module _ {A : Type 0} where
   unfoldable pub noting-met : (A → List ℕ) → Got (Met A) → Got (Met (List ℕ))
   noting-met note g = next g λ x e. got (record { value = note (x .value); items = x .items }) e

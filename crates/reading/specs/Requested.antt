@@ -1,4 +1,4 @@
--- What reading a request leaves in the table, as a function of the request.
+-- What reading a request leaves in the notes, as a function of the request.
 use Prim.Native.Nat.{ℕ, _+_, _-_}
 use mathlib.Core.List.{List}
 use lib.ListN.{length, set}

@@ -1,11 +1,14 @@
 ghost use mathlib.Core.Path.{_≡_};
 ghost use Prim.Native.Nat.{_<_};
 ghost use Rattle.meaning.specs.Tests.{each-of};
-ghost use Rattle.meaning.specs.Limits.{format};
+ghost use Rattle.meaning.specs.Limits.{format, all-literals};
 ghost use Rattle.meaning.specs.States.{mark-of, state-of};
 ghost use Rattle.reading.specs.Listed.{listed, List-here, holds-as};
 use bytes::bytes::wide;
 use bytes::limits;
+
+// A partial state: a mark for each fluent.
+pub type Marks = [u8; limits::FLUENTS];
 
 // What is asked of a literal in a partial state: that it is known true, or that it is not known false.
 pub enum Test {
@@ -23,8 +26,8 @@ pub fn mark_of(l: usize) -> u8
     }
 }
 
-pub fn holds(test: Test, marks: &[u8; 64], l: usize) -> bool
-    requires { ⌜ l < 128 ⌝ }
+pub fn holds(test: Test, marks: &Marks, l: usize) -> bool
+    requires { ⌜ l < all-literals ⌝ }
     ensures { λ r. ⌜ r ≡ holds-as test (now (marks .entry)) l ⌝ }
 {
     let f = l / 2;
@@ -42,8 +45,8 @@ pub fn holds(test: Test, marks: &[u8; 64], l: usize) -> bool
 }
 
 // Each literal of the list at p.
-pub fn each_holds(test: Test, marks: &[u8; 64], s: &[u8], p: usize) -> bool
-    requires { ⌜ List-here 128 (now s) p ⌝ }
+pub fn each_holds(test: Test, marks: &Marks, s: &[u8], p: usize) -> bool
+    requires { ⌜ List-here all-literals (now s) p ⌝ }
     ensures { λ r. ⌜ r ≡ each-of (holds-as test (now (marks .entry))) (listed (now (s .entry)) p) ⌝ }
 {
     let first = p + 1;
@@ -62,11 +65,11 @@ pub fn each_holds(test: Test, marks: &[u8; 64], s: &[u8], p: usize) -> bool
 }
 
 // The state that holds the literals of the list at p and nothing else.
-pub fn state_of(s: &[u8], p: usize) -> [u8; 64]
-    requires { ⌜ List-here 128 (now s) p ⌝ }
+pub fn state_of(s: &[u8], p: usize) -> Marks
+    requires { ⌜ List-here all-literals (now s) p ⌝ }
     ensures { λ r. ⌜ r ≡ state-of format (listed (now (s .entry)) p) ⌝ }
 {
-    let mut marks = [limits::UNKNOWN_MARK; 64];
+    let mut marks = [limits::UNKNOWN_MARK; limits::FLUENTS];
     let first = p + 1;
     let end = first + wide(s[p]);
     let mut i = first;

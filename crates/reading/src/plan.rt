@@ -1,20 +1,20 @@
 ghost use mathlib.Core.Path.{_≡_};
-ghost use Prim.Native.Nat.{_+_, _≤_, _<_};
+ghost use Prim.Native.Nat.{_+_, _*_, _≤_, _<_};
 ghost use lib.ListN.{length, set};
 ghost use Rattle.meaning.specs.Limits.{format};
 ghost use Rattle.meaning.specs.Reading.{item-at, sequence-at, branching-at, plan-at};
 ghost use Rattle.reading.specs.Noted.{item-next};
 ghost use Rattle.reading.specs.Planned.{number-after, branch-noted, item-noted, inside-noted, sequence-noted, plan-noted, noting-met, outcome-met, branch-noting};
-use super::table;
-use super::table::Table;
-use super::table::put;
+use super::notes;
+use super::notes::Notes;
+use super::notes::put;
 use bytes::bytes::Read;
 use bytes::bytes::byte_at;
 use bytes::bytes::count_at;
 use bytes::bytes::two_bytes_at;
 use bytes::limits;
-use bytes::lines::body_at;
 use bytes::lists::Passed;
+use bytes::table_lines::body_at;
 
 // What follows an item: the item met next, or where it is the last of its sequence what stands around the sequence.
 fn after(left: usize, met: usize, up: usize) -> usize
@@ -27,26 +27,26 @@ fn after(left: usize, met: usize, up: usize) -> usize
 }
 
 // The item with `met` items before it, and `more` up to its end.
-fn note_next(left: usize, met: usize, more: usize, up: usize, t: &mut Table)
-    requires { ⌜ met < 1024 ⌝ }
-    requires { ⌜ more ≤ 1024 ⌝ }
-    requires { ⌜ up ≤ 2048 ⌝ }
+fn note_next(left: usize, met: usize, more: usize, up: usize, t: &mut Notes)
+    requires { ⌜ met < format .items ⌝ }
+    requires { ⌜ more ≤ format .items ⌝ }
+    requires { ⌜ up ≤ 2 * format .items ⌝ }
     ensures { λ _. ⌜ now (t .exit) ≡ set (now (t .entry)) (item-next + met) (number-after left more up) ⌝ }
 {
-    put(t, table::ITEM_NEXT + met, after(left, more, up));
+    put(t, notes::ITEM_NEXT + met, after(left, more, up));
 }
 
 // A sequence of a branch is passed over by way of its first item.
-fn note_branch(first: usize, met: usize, p: usize, t: &mut Table)
-    requires { ⌜ met ≤ 1024 ⌝ }
-    requires { ⌜ p ≤ 32768 ⌝ }
+fn note_branch(first: usize, met: usize, p: usize, t: &mut Notes)
+    requires { ⌜ met ≤ format .items ⌝ }
+    requires { ⌜ p ≤ format .derivation ⌝ }
     ensures { λ _. ⌜ now (t .exit) ≡ branch-noted first met p (now (t .entry)) ⌝ }
 {
     if met <= first {
         return;
     }
-    put(t, table::BRANCH_PLACE + first, p);
-    put(t, table::BRANCH_ITEM + first, met);
+    put(t, notes::BRANCH_PLACE + first, p);
+    put(t, notes::BRANCH_ITEM + first, met);
 }
 
 // A sequence with `before` items before it, in which `deep` branchings may stand one inside another: the items met up to its end.
@@ -58,12 +58,12 @@ fn sequence_at(
     start: usize,
     before: usize,
     up: usize,
-    t: &mut Table,
+    t: &mut Notes,
 ) -> Read
-    requires { ⌜ n ≤ 64 ⌝ }
-    requires { ⌜ before ≤ 1024 ⌝ }
-    requires { ⌜ up ≤ 2048 ⌝ }
-    requires { ⌜ length (now s) ≤ 32768 ⌝ }
+    requires { ⌜ n ≤ format .fluents ⌝ }
+    requires { ⌜ before ≤ format .items ⌝ }
+    requires { ⌜ up ≤ 2 * format .items ⌝ }
+    requires { ⌜ length (now s) ≤ format .derivation ⌝ }
     ensures { λ r. ⌜ outcome-met r (now (t .exit)) ≡ noting-met (sequence-noted up before start (now (t .entry))) (sequence-at format n m (now (s .entry)) (branching-at format n m (now (s .entry)) deep) start before) ⌝ }
 {
     match two_bytes_at(s, start) {
@@ -92,9 +92,9 @@ fn sequence_at(
 }
 
 // One item: the items met up to its end.
-fn item_at(n: usize, m: usize, deep: usize, s: &[u8], p: usize, met: usize, t: &mut Table) -> Read
-    requires { ⌜ n ≤ 64 ⌝ }
-    requires { ⌜ length (now s) ≤ 32768 ⌝ }
+fn item_at(n: usize, m: usize, deep: usize, s: &[u8], p: usize, met: usize, t: &mut Notes) -> Read
+    requires { ⌜ n ≤ format .fluents ⌝ }
+    requires { ⌜ length (now s) ≤ format .derivation ⌝ }
     ensures { λ r. ⌜ outcome-met r (now (t .exit)) ≡ noting-met (item-noted met (now (t .entry))) (item-at format n m (now (s .entry)) (branching-at format n m (now (s .entry)) deep) p met) ⌝ }
 {
     match byte_at(s, p) {
@@ -103,13 +103,13 @@ fn item_at(n: usize, m: usize, deep: usize, s: &[u8], p: usize, met: usize, t: &
                 return Read::Fault(limits::TOO_MANY_ITEMS, p);
             }
             if x == limits::BRANCHING_BYTE as usize {
-                put(t, table::ITEM_PLACE + met, p);
+                put(t, notes::ITEM_PLACE + met, p);
                 return branching_at(n, m, deep, s, p, met, t);
             }
             if m <= x {
                 return Read::Fault(limits::TOO_LARGE, p);
             }
-            put(t, table::ITEM_PLACE + met, p);
+            put(t, notes::ITEM_PLACE + met, p);
             let more = met + 1;
             Read::Value(more, q)
         }
@@ -125,12 +125,12 @@ fn branching_at(
     s: &[u8],
     start: usize,
     i: usize,
-    t: &mut Table,
+    t: &mut Notes,
 ) -> Read
-    requires { ⌜ n ≤ 64 ⌝ }
-    requires { ⌜ length (now s) ≤ 32768 ⌝ }
+    requires { ⌜ n ≤ format .fluents ⌝ }
+    requires { ⌜ length (now s) ≤ format .derivation ⌝ }
     requires { ⌜ start < length (now s) ⌝ }
-    requires { ⌜ i < 1024 ⌝ }
+    requires { ⌜ i < format .items ⌝ }
     ensures { λ r. ⌜ outcome-met r (now (t .exit)) ≡ noting-met (inside-noted i (now (t .entry))) (branching-at format n m (now (s .entry)) deep start (i + 1)) ⌝ }
 {
     if deep == 0 {
@@ -138,7 +138,7 @@ fn branching_at(
     }
     let inner = deep - 1;
     let count = start + 1;
-    let up = 1025 + i;
+    let up = notes::AROUND_FROM + i;
     match count_at(1, limits::BRANCHES, s, count) {
         Read::Value(c, q) => {
             let mut left = c;
@@ -171,12 +171,12 @@ fn branch_at(
     p: usize,
     met: usize,
     up: usize,
-    t: &mut Table,
+    t: &mut Notes,
 ) -> Read
-    requires { ⌜ n ≤ 64 ⌝ }
-    requires { ⌜ met ≤ 1024 ⌝ }
-    requires { ⌜ up ≤ 2048 ⌝ }
-    requires { ⌜ length (now s) ≤ 32768 ⌝ }
+    requires { ⌜ n ≤ format .fluents ⌝ }
+    requires { ⌜ met ≤ format .items ⌝ }
+    requires { ⌜ up ≤ 2 * format .items ⌝ }
+    requires { ⌜ length (now s) ≤ format .derivation ⌝ }
     ensures { λ r. ⌜ outcome-met r (now (t .exit)) ≡ branch-noting n m deep up (now (s .entry)) p met (now (t .entry)) ⌝ }
 {
     match body_at(n, s, p) {
@@ -186,10 +186,10 @@ fn branch_at(
 }
 
 // The plan: how many items it has.
-pub fn plan_at(n: usize, m: usize, s: &[u8], start: usize, t: &mut Table) -> Read
-    requires { ⌜ n ≤ 64 ⌝ }
-    requires { ⌜ length (now s) ≤ 32768 ⌝ }
+pub fn plan_at(n: usize, m: usize, s: &[u8], start: usize, t: &mut Notes) -> Read
+    requires { ⌜ n ≤ format .fluents ⌝ }
+    requires { ⌜ length (now s) ≤ format .derivation ⌝ }
     ensures { λ r. ⌜ outcome-met r (now (t .exit)) ≡ noting-met (plan-noted start (now (t .entry))) (plan-at format n m (now (s .entry)) start) ⌝ }
 {
-    sequence_at(n, m, limits::NESTED, s, start, 0, 1024, t)
+    sequence_at(n, m, limits::NESTED, s, start, 0, limits::ITEMS, t)
 }

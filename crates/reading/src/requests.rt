@@ -5,11 +5,11 @@ ghost use Rattle.meaning.specs.Limits.{format};
 ghost use Rattle.meaning.specs.Reading.{table-at};
 ghost use Rattle.reading.specs.Noted.{facts-first, actions-first, table-noted, noting, outcome};
 ghost use Rattle.reading.specs.Requested.{goals-first, plan-first};
+use super::notes;
+use super::notes::Notes;
+use super::notes::put;
 use super::plan::plan_at;
 use super::sections::three_sections;
-use super::table;
-use super::table::Table;
-use super::table::put;
 use bytes::bytes::Read;
 use bytes::bytes::count_at;
 use bytes::limits;
@@ -18,10 +18,10 @@ use bytes::lists::Passed;
 use bytes::lists::list_at;
 
 // Sections 2 to 5, over n fluents and m actions.
-fn facts_at(n: usize, m: usize, s: &[u8], p: usize, t: &mut Table) -> Passed
-    requires { ⌜ n ≤ 64 ⌝ }
-    requires { ⌜ m ≤ 64 ⌝ }
-    requires { ⌜ length (now s) ≤ 16384 ⌝ }
+fn facts_at(n: usize, m: usize, s: &[u8], p: usize, t: &mut Notes) -> Passed
+    requires { ⌜ n ≤ format .fluents ⌝ }
+    requires { ⌜ m ≤ format .actions ⌝ }
+    requires { ⌜ length (now s) ≤ format .request ⌝ }
     ensures { λ r. ⌜ outcome r (now (t .exit)) ≡ facts-first n m (now (s .entry)) p (now (t .entry)) ⌝ }
 {
     match list_at(Kind::Literals, n, limits::LISTED, s, p) {
@@ -31,9 +31,9 @@ fn facts_at(n: usize, m: usize, s: &[u8], p: usize, t: &mut Table) -> Passed
 }
 
 // Sections 1 to 5 after the fluents' count.
-fn actions_at(n: usize, s: &[u8], p: usize, t: &mut Table) -> Passed
-    requires { ⌜ n ≤ 64 ⌝ }
-    requires { ⌜ length (now s) ≤ 16384 ⌝ }
+fn actions_at(n: usize, s: &[u8], p: usize, t: &mut Notes) -> Passed
+    requires { ⌜ n ≤ format .fluents ⌝ }
+    requires { ⌜ length (now s) ≤ format .request ⌝ }
     ensures { λ r. ⌜ outcome r (now (t .exit)) ≡ actions-first n (now (s .entry)) p (now (t .entry)) ⌝ }
 {
     match count_at(1, limits::ACTIONS, s, p) {
@@ -43,8 +43,8 @@ fn actions_at(n: usize, s: &[u8], p: usize, t: &mut Table) -> Passed
 }
 
 // Sections 1 to 5.
-pub fn table_at(s: &[u8], p: usize, t: &mut Table) -> Passed
-    requires { ⌜ length (now s) ≤ 16384 ⌝ }
+pub fn table_at(s: &[u8], p: usize, t: &mut Notes) -> Passed
+    requires { ⌜ length (now s) ≤ format .request ⌝ }
     ensures { λ r. ⌜ outcome r (now (t .exit)) ≡ noting table-noted (table-at format (now (s .entry)) p) (now (t .entry)) ⌝ }
 {
     match count_at(1, limits::FLUENTS, s, p) {
@@ -54,8 +54,8 @@ pub fn table_at(s: &[u8], p: usize, t: &mut Table) -> Passed
 }
 
 // Sections 7 and 8, after a plan of so many items whose count stands at `plan`.
-fn goals_at(n: usize, s: &[u8], plan: usize, items: usize, p: usize, t: &mut Table) -> Passed
-    requires { ⌜ n ≤ 64 ⌝ }
+fn goals_at(n: usize, s: &[u8], plan: usize, items: usize, p: usize, t: &mut Notes) -> Passed
+    requires { ⌜ n ≤ format .fluents ⌝ }
     requires { ⌜ plan < 65536 ⌝ }
     requires { ⌜ items < 65536 ⌝ }
     requires { ⌜ p < 65536 ⌝ }
@@ -63,9 +63,9 @@ fn goals_at(n: usize, s: &[u8], plan: usize, items: usize, p: usize, t: &mut Tab
 {
     match list_at(Kind::Literals, n, limits::LISTED, s, p) {
         Passed::To(q) => {
-            put(t, table::PLAN, plan);
-            put(t, table::ITEMS, items);
-            put(t, table::GOALS, p);
+            put(t, notes::PLAN, plan);
+            put(t, notes::ITEMS, items);
+            put(t, notes::GOALS, p);
             list_at(Kind::Fluents, n, limits::LISTED, s, q)
         }
         Passed::Fault(k, q) => Passed::Fault(k, q),
@@ -73,9 +73,9 @@ fn goals_at(n: usize, s: &[u8], plan: usize, items: usize, p: usize, t: &mut Tab
 }
 
 // Sections 6 to 8, over n fluents and m actions.
-pub fn request_at(n: usize, m: usize, s: &[u8], p: usize, t: &mut Table) -> Passed
-    requires { ⌜ n ≤ 64 ⌝ }
-    requires { ⌜ length (now s) ≤ 16384 ⌝ }
+pub fn request_at(n: usize, m: usize, s: &[u8], p: usize, t: &mut Notes) -> Passed
+    requires { ⌜ n ≤ format .fluents ⌝ }
+    requires { ⌜ length (now s) ≤ format .request ⌝ }
     ensures { λ r. ⌜ outcome r (now (t .exit)) ≡ plan-first n m (now (s .entry)) p (now (t .entry)) ⌝ }
 {
     match plan_at(n, m, s, p, t) {

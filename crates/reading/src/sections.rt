@@ -1,21 +1,22 @@
 ghost use mathlib.Core.Path.{_≡_};
 ghost use Prim.Native.Nat.{_≤_, _<_};
 ghost use lib.ListN.{length, set};
+ghost use Rattle.meaning.specs.Limits.{format};
 ghost use Rattle.meaning.specs.Reading.{repeated, section-at};
 ghost use Rattle.reading.specs.Noted;
-ghost use Rattle.reading.specs.Noted.{section-of, line-at, line-read, line-noted, none-yet, lines-noted, count-slot, section-noted, three-sections, noting, outcome};
-use super::table;
-use super::table::Table;
-use super::table::append_line;
-use super::table::note_pair;
-use super::table::put;
+ghost use Rattle.reading.specs.Noted.{section-of, line-at, line-read, line-noted, none-yet, lines-noted, count-slot, section-noted, three-sections, noting, outcome, line-numbers};
+use super::notes;
+use super::notes::Notes;
+use super::notes::append_line;
+use super::notes::note_pair;
+use super::notes::put;
 use bytes::bytes::Read;
 use bytes::bytes::wide;
 use bytes::limits;
-use bytes::lines::effect_at;
-use bytes::lines::executability_at;
-use bytes::lines::knowledge_at;
 use bytes::lists::Passed;
+use bytes::table_lines::effect_at;
+use bytes::table_lines::executability_at;
+use bytes::table_lines::knowledge_at;
 
 // Sections 3, 4 and 5.
 pub enum Section {
@@ -26,7 +27,7 @@ pub enum Section {
 
 // A line: its action.
 fn line_at(c: Section, n: usize, m: usize, s: &[u8], p: usize) -> Read
-    requires { ⌜ n ≤ 64 ⌝ }
+    requires { ⌜ n ≤ format .fluents ⌝ }
     ensures { λ r. ⌜ r ≡ line-read (section-of c) (line-at (section-of c) n m (now (s .entry)) p) ⌝ }
 {
     match c {
@@ -37,16 +38,16 @@ fn line_at(c: Section, n: usize, m: usize, s: &[u8], p: usize) -> Read
 }
 
 // Line k, of action a, stands at p; `last` is the action's last line so far, and f is the byte after the action.
-fn note_line(c: Section, last: u8, k: usize, p: usize, a: usize, f: usize, t: &mut Table)
-    requires { ⌜ k < 256 ⌝ }
+fn note_line(c: Section, last: u8, k: usize, p: usize, a: usize, f: usize, t: &mut Notes)
+    requires { ⌜ k < line-numbers ⌝ }
     requires { ⌜ p < 65536 ⌝ }
-    requires { ⌜ a < 64 ⌝ }
-    requires { ⌜ (section-of c ≡ Noted.Section.knowledge → f < 64) ⌝ }
+    requires { ⌜ a < format .actions ⌝ }
+    requires { ⌜ (section-of c ≡ Noted.Section.knowledge → f < format .fluents) ⌝ }
     ensures { λ _. ⌜ now (t .exit) ≡ line-noted (section-of c) last k p a f (now (t .entry)) ⌝ }
 {
     match c {
-        Section::Effects => append_line(t, table::EFFECTS, last, k, p, a),
-        Section::Executability => append_line(t, table::EXECUTABILITY, last, k, p, a),
+        Section::Effects => append_line(t, notes::EFFECTS, last, k, p, a),
+        Section::Executability => append_line(t, notes::EXECUTABILITY, last, k, p, a),
         Section::Knowledge => note_pair(t, a, f),
     }
 }
@@ -59,17 +60,17 @@ fn lines_from(
     s: &[u8],
     count: u8,
     start: usize,
-    t: &mut Table,
+    t: &mut Notes,
 ) -> Passed
-    requires { ⌜ n ≤ 64 ⌝ }
-    requires { ⌜ m ≤ 64 ⌝ }
-    requires { ⌜ length (now s) ≤ 16384 ⌝ }
+    requires { ⌜ n ≤ format .fluents ⌝ }
+    requires { ⌜ m ≤ format .actions ⌝ }
+    requires { ⌜ length (now s) ≤ format .request ⌝ }
     ensures { λ r. ⌜ outcome r (now (t .exit)) ≡ noting (lines-noted (section-of c) 0 none-yet) (repeated (line-at (section-of c) n m (now (s .entry))) count start) (now (t .entry)) ⌝ }
 {
     let end = wide(count);
     let mut k = 0;
     let mut p = start;
-    let mut last = [0u8; 64];
+    let mut last = [0u8; limits::ACTIONS];
     while k < end {
         match line_at(c, n, m, s, p) {
             Read::Value(a, e) => {
@@ -92,13 +93,13 @@ fn count_slot(c: Section) -> usize
     ensures { λ r. ⌜ r ≡ count-slot (section-of c) ⌝ }
 {
     match c {
-        Section::Effects => table::COUNT_OF_EFFECTS,
-        Section::Executability => table::COUNT_OF_EXECUTABILITY,
-        Section::Knowledge => table::COUNT_OF_KNOWLEDGE,
+        Section::Effects => notes::COUNT_OF_EFFECTS,
+        Section::Executability => notes::COUNT_OF_EXECUTABILITY,
+        Section::Knowledge => notes::COUNT_OF_KNOWLEDGE,
     }
 }
 
-fn note_count(c: Section, count: u8, t: &mut Table)
+fn note_count(c: Section, count: u8, t: &mut Notes)
     ensures { λ _. ⌜ now (t .exit) ≡ set (now (t .entry)) (count-slot (section-of c)) count ⌝ }
 {
     let slot = count_slot(c);
@@ -106,10 +107,10 @@ fn note_count(c: Section, count: u8, t: &mut Table)
 }
 
 // A section: a count byte, then as many lines.
-pub fn section_at(c: Section, n: usize, m: usize, s: &[u8], p: usize, t: &mut Table) -> Passed
-    requires { ⌜ n ≤ 64 ⌝ }
-    requires { ⌜ m ≤ 64 ⌝ }
-    requires { ⌜ length (now s) ≤ 16384 ⌝ }
+pub fn section_at(c: Section, n: usize, m: usize, s: &[u8], p: usize, t: &mut Notes) -> Passed
+    requires { ⌜ n ≤ format .fluents ⌝ }
+    requires { ⌜ m ≤ format .actions ⌝ }
+    requires { ⌜ length (now s) ≤ format .request ⌝ }
     ensures { λ r. ⌜ outcome r (now (t .exit)) ≡ noting (section-noted (section-of c)) (section-at (line-at (section-of c) n m (now (s .entry))) (now (s .entry)) p) (now (t .entry)) ⌝ }
 {
     if s.len() <= p {
@@ -121,10 +122,10 @@ pub fn section_at(c: Section, n: usize, m: usize, s: &[u8], p: usize, t: &mut Ta
 }
 
 // Sections 3 to 5.
-pub fn three_sections(n: usize, m: usize, s: &[u8], p: usize, t: &mut Table) -> Passed
-    requires { ⌜ n ≤ 64 ⌝ }
-    requires { ⌜ m ≤ 64 ⌝ }
-    requires { ⌜ length (now s) ≤ 16384 ⌝ }
+pub fn three_sections(n: usize, m: usize, s: &[u8], p: usize, t: &mut Notes) -> Passed
+    requires { ⌜ n ≤ format .fluents ⌝ }
+    requires { ⌜ m ≤ format .actions ⌝ }
+    requires { ⌜ length (now s) ≤ format .request ⌝ }
     ensures { λ r. ⌜ outcome r (now (t .exit)) ≡ three-sections n m (now (s .entry)) p (now (t .entry)) ⌝ }
 {
     match section_at(Section::Effects, n, m, s, p, t) {

@@ -1,12 +1,5 @@
-pub mod RefusalLaws
-pub mod HereLaws
-pub mod PlanKept
-pub mod KeptLaws
-pub mod ChainLaws
-pub mod HoldsLaws
-pub mod OverlapLaws
+pub mod Laws16
+pub mod Laws17
+pub mod Laws18
 pub mod PlanOverlaps
-pub mod WrittenLaws
-pub mod ReadLaws
-pub mod StartLaws
 pub mod SettleLaws

@@ -3,62 +3,39 @@ use Prim.Native.Nat.{ℕ, _-_, _*_, _≤_, _<_}
 use native.Mathlib.Omega.{arith}
 use mathlib.Core.Path.{_≡_, refl, sym, _∙_, ap, subst}
 use mathlib.Core.List.{List, []}
-use lib.ListN.{length, getD, length-replicate, getD-replicate}
+use lib.ListN.{length, getD}
 use mir.Syntax.{w8, w64}
 use mir.Val.{Fits}
 use Rattle.meaning.specs.Limits.{format}
 use Rattle.meaning.specs.Requests.{Effect, Knowledge, Request}
 use Rattle.meaning.specs.Reading.{Got, got, fault, next, read-request}
-use Rattle.meaning.specs.Refusals
-use Rattle.meaning.specs.Refusals.{nowhere, at, contradiction-in, mixed-in, overlap-in, refuse, settled}
+use Rattle.meaning.specs.Refusals.{at, contradiction-in, mixed-in, overlap-in, refuse, settled}
 use Rattle.meaning.proofs.SettledLaws.{got-same, settled-is}
 use Rattle.bytes.specs.declared.lists.Passed.{Passed}
 use Rattle.bytes.specs.declared.lists.Passed.the-variants.{To, Fault as Stop}
-use Rattle.refusing.specs.declared.refusals.Found.{Found}
-use Rattle.refusing.specs.declared.refusals.Found.the-variants.{Nowhere, At}
+use Rattle.finding.specs.declared.places.Found.{Found}
+use Rattle.finding.specs.declared.places.Found.the-variants.{Nowhere, At}
 use Rattle.bytes.specs.Read.{passed}
-use Rattle.reading.specs.Noted.{noting, outcome}
+use Rattle.reading.specs.Noted.{noting, outcome, plan-slot, items-slot, effects-slot, knowledge-slot}
 use Rattle.reading.specs.Planned.{items-of}
 use Rattle.reading.specs.Requested.{request-noted}
-use Rattle.refusing.specs.InTable.{found, effects-in, Effects-here, knowledge-in, Knowledge-here, Acting, Mixed-found}
-use Rattle.refusing.specs.Settled.{blank, Read-here, past-17, past-18}
+use Rattle.finding.specs.Places.{found}
+use Rattle.finding.specs.LinesHere.{effects-in, Effects-here, knowledge-in, Knowledge-here, Acting}
+use Rattle.refusing.specs.Refusal17.{Mixed-found}
+use Rattle.finding.specs.ReadHere.{blank, Read-here}
+use Rattle.refusing.specs.Settled.{past-17, past-18}
 use Rattle.reading.proofs.SectionLaws.{noting-got, noting-fault}
-use Rattle.refusing.proofs.ReadLaws.{Parts, parts, effects-counted, effects-are, effects-stand, knowledge-counted, plan-noted-at, items-noted, acting, knowledge-stands, effects-few, knowledge-few, request-held}
-use Rattle.refusing.specs.Plans.{Plan-held, Some-plan, Overlap-found}
+use Rattle.finding.proofs.ReadLaws.{Parts, parts, effects-counted, effects-are, effects-stand, knowledge-counted, plan-noted-at, items-noted, acting, knowledge-stands, effects-few, knowledge-few, request-held}
+use Rattle.finding.specs.PlansHeld.{Plan-held, Some-plan}
+use Rattle.refusing.specs.Refusal18.{Overlap-found}
+use Rattle.finding.proofs.FoundLaws.{blank-long, blank-slot, found-at, found-none}
 
--- The table is the same at every answer.
+-- The notes are the same at every answer.
 module _ {A : Type 0} (note : A → List ℕ → List ℕ) where
   pub outcome-same : (g : Got A) (u t : List ℕ) → ((y : A) (q : ℕ) → g ≡ got y q → u ≡ note y t) → outcome (passed g) u ≡ noting note g t
   unfolding outcome passed noting next
   outcome-same (got y q) u t h = ap (λ (v : List ℕ). got v q) (h y q refl)
   outcome-same (fault n q) u t h = refl
-
--- What was found, by the definition.
-back : Found → Refusals.Found
-back r = elim r [ Nowhere ↦ nowhere | At p ↦ at p ]
-
-back-found : (f : Refusals.Found) → back (found f) ≡ f
-unfolding back found
-back-found nowhere = refl
-back-found (at p) = refl
-
-module _ (f : Refusals.Found) (r : Found) (is : r ≡ found f) where
-  pub found-none : r ≡ Nowhere → f ≡ nowhere
-  unfolding back
-  found-none e = sym (back-found f) ∙ ap back (sym is ∙ e)
-
-  pub found-at : (p : ℕ) → r ≡ At p → f ≡ at p
-  unfolding back
-  found-at p e = sym (back-found f) ∙ ap back (sym is ∙ e)
-
--- A TABLE that held nothing.
-pub blank-long : length blank ≡ 9480
-unfolding blank
-blank-long = let none : ℕ = 0 in length-replicate 9480 none
-
-pub blank-slot : (i : ℕ) → i < 9480 → getD blank i 0 ≡ 0
-unfolding blank
-blank-slot i h = let none : ℕ = 0 in getD-replicate 9480 i none none h
 
 module _ (s : List ℕ) (bytes : (i : ℕ) → Fits w8 (getD s i 0)) (t : List ℕ) (e : ℕ) (here : Read-here s t e) where
   small : (i : ℕ) → getD s i 0 < 256
@@ -71,9 +48,9 @@ module _ (s : List ℕ) (bytes : (i : ℕ) → Fits w8 (getD s i 0)) (t : List �
   slot-is j count is = is ∙ ap (λ (u : List ℕ). getD u j 0) (here .noted)
 
   -- 16.
-  module _ (count : ℕ) (is : count ≡ getD t 5378 0) where
+  module _ (count : ℕ) (is : count ≡ getD t effects-slot 0) where
     count-16 : count ≡ length (here .request .table .effects)
-    count-16 = slot-is 5378 count is ∙ effects-counted s small (here .request) whole blank blank-long
+    count-16 = slot-is effects-slot count is ∙ effects-counted s small (here .request) whole blank blank-long
 
     pub few-16 : count ≤ 255
     few-16 = let few = effects-few s small (here .request) whole blank in let c = count-16 in omega arith
@@ -100,12 +77,12 @@ module _ (s : List ℕ) (bytes : (i : ℕ) → Fits w8 (getD s i 0)) (t : List �
       past-16 r g h = h ∙ ap passed (rw (here .reads, found-none (contradiction-in [] (here .request .table .effects)) f sought-16 g))
 
   -- 17.
-  module _ (count plan : ℕ) (is : count ≡ getD t 5380 0) (at-plan : plan ≡ getD t 5376 0) where
+  module _ (count plan : ℕ) (is : count ≡ getD t knowledge-slot 0) (at-plan : plan ≡ getD t plan-slot 0) where
     count-17 : count ≡ length (here .request .table .knowledge)
-    count-17 = slot-is 5380 count is ∙ knowledge-counted s small (here .request) whole blank blank-long
+    count-17 = slot-is knowledge-slot count is ∙ knowledge-counted s small (here .request) whole blank blank-long
 
     plan-17 : plan ≡ whole .place
-    plan-17 = slot-is 5376 plan at-plan ∙ plan-noted-at s small (here .request) whole blank blank-long
+    plan-17 = slot-is plan-slot plan at-plan ∙ plan-noted-at s small (here .request) whole blank blank-long
 
     lines-17 : (knowledge-in s (plan - 2 * count) 0 count ≡ here .request .table .knowledge) × Knowledge-here s (plan - 2 * count) count × (2 * count ≤ plan)
     lines-17 =
@@ -139,9 +116,9 @@ module _ (s : List ℕ) (bytes : (i : ℕ) → Fits w8 (getD s i 0)) (t : List �
       past-17-too r g h = h ∙ ap passed (rw (here .reads, found-none (mixed-in (here .request .table .effects) (here .request .table .knowledge)) f sought-17 g))
 
   -- 18.
-  module _ (count : ℕ) (is : count ≡ getD t 5377 0) where
+  module _ (count : ℕ) (is : count ≡ getD t items-slot 0) where
     count-18 : items-of (here .request .plan) ≡ count
-    count-18 = sym (slot-is 5377 count is ∙ items-noted s small (here .request) whole blank blank-long)
+    count-18 = sym (slot-is items-slot count is ∙ items-noted s small (here .request) whole blank blank-long)
 
     held-18 : Plan-held s t (here .request .plan)
     held-18 = subst (λ (u : List ℕ). Plan-held s u (here .request .plan)) (sym (here .noted)) (request-held s small (here .request) whole blank blank-long)

@@ -1,4 +1,4 @@
-pub mod InTable
+pub mod Refusal16
+pub mod Refusal17
+pub mod Refusal18
 pub mod Settled
-pub mod Branchings
-pub mod Plans

@@ -6,14 +6,17 @@ use super::printing::put_known;
 use super::printing::put_numbers;
 use super::printing::put_part;
 use super::words::put_words;
+use bytes::limits;
 use comparing::parts::same_part;
 use glintstring::answers;
-use glintstring::derivations::check;
-use glintstring::derivations::check_whether;
+use glintstring::check_calls::check;
+use glintstring::check_calls::check_whether;
 use glintstring::judging::judge;
 use libc::STDIN_FILENO;
 use meaning::Answer;
+use programs::DERIVATION_ROOM;
 use programs::Input;
+use programs::REQUEST_ROOM;
 use programs::put;
 use programs::read_all;
 use programs::read_file;
@@ -65,7 +68,7 @@ fn outcome_of(number: u8, written: bool) -> Outcome {
 
 // What a walk answers is never about a derivation, so that the request stands for one.
 fn judge_request(name: &[u8], request: &[u8], budget: u32) -> Outcome {
-    let mut state = [0u8; 64];
+    let mut state = [0u8; limits::FLUENTS];
     let answer = judge(request, &mut state, budget);
     let number = answer.number;
     let written = put_name(name)
@@ -80,7 +83,7 @@ fn judge_request(name: &[u8], request: &[u8], budget: u32) -> Outcome {
 
 fn judge_file(name: &[u8], budget: u32) -> Outcome {
     // One byte more than a request may have: a longer one is refused whatever it holds.
-    let mut bytes = [0u8; 16385];
+    let mut bytes = [0u8; REQUEST_ROOM];
     match read_named(name, &mut bytes) {
         Input::Bytes(n) => judge_request(name, &bytes[..n], budget),
         Input::Unreadable => Outcome::Unanswered,
@@ -126,8 +129,8 @@ fn check_inputs<'a>(whether: bool, request: &'a [u8], derivation: &'a [u8]) -> O
 // Both files are read, so that each that can't be is told.
 fn check_files(whether: bool, request_name: &[u8], derivation_name: &[u8]) -> Outcome {
     // One byte more than an input may have.
-    let mut request = [0u8; 16385];
-    let mut derivation = [0u8; 32769];
+    let mut request = [0u8; REQUEST_ROOM];
+    let mut derivation = [0u8; DERIVATION_ROOM];
     let first = read_named(request_name, &mut request);
     let second = read_named(derivation_name, &mut derivation);
     match first {

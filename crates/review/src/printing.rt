@@ -1,4 +1,5 @@
 // The lines that an answer is told by, below the one with its words (FORMAT 12.35 to 12.37).
+use bytes::limits;
 use glintstring::answers;
 use glintstring::showing::show;
 use meaning::Answer;
@@ -20,7 +21,7 @@ pub fn put_numbers(answer: Answer) -> bool {
 }
 
 // The state, for answers 1 and 2. The first byte of a request that gets one of these is its fluent count.
-pub fn put_known(number: u8, state: &[u8; 64], request: &[u8]) -> bool {
+pub fn put_known(number: u8, state: &[u8; limits::FLUENTS], request: &[u8]) -> bool {
     if number == answers::GOAL_MISSED || number == answers::NOT_EXECUTABLE {
         if request.len() == 0 {
             return false;

@@ -27,21 +27,22 @@ use Rattle.reading.specs.Listed.{listed, holds-as}
 use Rattle.reading.specs.Planned.{items-of, items-in, items-under, bytes-of, bytes-in, bytes-under, place-of, plan-noted, noting-met, outcome-met}
 use Rattle.reading.proofs.PlanSizes.{two-bytes-through}
 use Rattle.reading.proofs.NotingLaws.{with-items, met-value, met-fault, fault-met}
-use Rattle.refusing.specs.Branchings.{sequence-place, place-after, item-after, Branches-here}
-use Rattle.refusing.specs.Plans.{own-items, branches-in, Written, Item-written, Branches-written, Kept, Item-kept, Branches-kept, Plan-held}
-use Rattle.refusing.proofs.OverlapLaws.{branch-first}
-use Rattle.refusing.proofs.PlanOverlaps.{place-is, item-is}
-use Rattle.refusing.proofs.WrittenLaws.{plan-held}
+use Rattle.reading.specs.Noted.{slots}
+use Rattle.finding.specs.Branches.{sequence-place, place-after, item-after, Branches-here}
+use Rattle.finding.specs.PlansHeld.{own-items, branches-in, Written, Item-written, Branches-written, Kept, Item-kept, Branches-kept, Plan-held}
+use Rattle.finding.proofs.ByBranch.{branch-first}
+use Rattle.finding.proofs.PlanHere.{place-is, item-is}
+use Rattle.finding.proofs.WrittenLaws.{plan-held}
 use Rattle.deriving.specs.Derived.{Line-here}
 use Rattle.comparing.specs.declared.spots.Spot.{Spot}
 use Rattle.comparing.specs.Coded.{Tellable, Tellable-branches}
 use Rattle.comparing.specs.Stands.{after-list, Plan-stands, Stands}
-use Rattle.comparing.specs.Rules.{Some-plan, Items-stand, Some-items, Joined-plans, Same-conclusions, Some-read, Read-by}
+use Rattle.comparing.specs.RuleAnswers.{Some-plan, Items-stand, Some-items, Joined-plans, Same-conclusions, Some-read, Read-by}
 use Rattle.ruling.specs.Branched.{branches-end, Branches-held, Branched, Some-branched, takes-known, Branch-taken}
 use Rattle.comparing.proofs.CodedLaws.{coded-length, own-most, none-done}
 use Rattle.comparing.proofs.CodedPlaces.{branch-coded, act-there, Branching-coded, branching-there}
 use Rattle.comparing.proofs.KnownLaws.{listed-clear}
-use Rattle.comparing.proofs.StandLaws.{Line-parts, line-parts}
+use Rattle.comparing.proofs.LinesStand.{Line-parts, line-parts}
 use Rattle.ruling.proofs.RuleLaws.{X-same, plan-of, item-bytes, own-count}
 
 -- THE PLACE after so many branches.
@@ -72,7 +73,7 @@ module _ (d t : List ℕ) where
       ∙ end-is rest (p + (1 + length c) + (2 + bytes-of b)) (i + items-of b) (w .2) (k .2)
       ∙ omega arith
 
-  held-here : (bs : Branches ℕ) (p i : ℕ) → i + items-under bs ≤ 1024 → Branches-written d p bs → Branches-kept t i p bs → Branches-here d t (branches-in bs) p i
+  held-here : (bs : Branches ℕ) (p i : ℕ) → i + items-under bs ≤ format .items → Branches-written d p bs → Branches-kept t i p bs → Branches-here d t (branches-in bs) p i
   unfolding Branches-here branches-in Branches-written Branches-kept items-under
   held-here none p i few w k = tt
   held-here (branch c b rest) p i few w k = (
@@ -413,13 +414,13 @@ module _ (n m : ℕ) (d : List ℕ) (w : Spot) where
                   sym (ap (branches-first c l) (act-there d (plan + 2) (l .c) (own-some l sl) (there .tellable) (there .bytes) other .is));
             }
 
-        -- THE PLAN READ AGAIN, which leaves it in the table.
-        module _ (byte : getD d (plan + 2) 0 ≡ 255) (few : n ≤ 64) (less : m ≤ 64) (t u : List ℕ) (r : Read) (read : outcome-met r u ≡ noting-met (plan-noted plan t) (plan-at format n m d plan)) where
+        -- THE PLAN READ AGAIN, which leaves it in the notes.
+        module _ (byte : getD d (plan + 2) 0 ≡ 255) (few : n ≤ format .fluents) (less : m ≤ format .actions) (t u : List ℕ) (r : Read) (read : outcome-met r u ≡ noting-met (plan-noted plan t) (plan-at format n m d plan)) where
           again : (l : Line) (parts : Line-parts n m d (w .line) l) → plan-at format n m d plan ≡ got (parts .plan) (parts .end)
           unfolding sequence-place after-list
           again l parts = ap (plan-at format n m d) at ∙ parts .reads
 
-          module _ (long : length t ≡ 9480) (items e : ℕ) (is : r ≡ Value items e) where
+          module _ (long : length t ≡ slots) (items e : ℕ) (is : r ≡ Value items e) where
             begins : (layout : Layout) (l : Line) → Line-here n m d layout (w .line) l → Stands d w l → Begins d u (plan + 2) (w .end) (count - 1) l
             unfolding place-of
             begins layout l here sl =

@@ -24,19 +24,20 @@ use Rattle.meaning.proofs.TestLaws.{by-test, both-left, both-right, pick-true, 
 use Rattle.meaning.proofs.ReadingsExact.{count-settled}
 use Rattle.reading.specs.Listed.{bytes-from, listed}
 use Rattle.reading.specs.Planned.{bytes-of}
-use Rattle.refusing.specs.Branchings.{sequence-place}
-use Rattle.refusing.specs.Plans.{own-items}
+use Rattle.deriving.specs.DerivationRead.{plan-ends-slot}
+use Rattle.finding.specs.Branches.{sequence-place}
+use Rattle.finding.specs.PlansHeld.{own-items}
 use Rattle.steps.specs.AtHand.{Marked}
 use Rattle.steps.specs.Small.{Small}
 use Rattle.steps.specs.Steps.{unknown-above, first-of}
-use Rattle.steps.proofs.SensingLaws.{first-marked, second-marked, told-true, told-false, unknown-after-set, unknown-first, unknown-first-above, unknown-no-first, sensed-first, sensed-no-first}
+use Rattle.steps.proofs.LookLaws.{first-marked, second-marked, told-true, told-false, unknown-after-set, unknown-first, unknown-first-above, unknown-no-first, sensed-first, sensed-no-first}
 use Rattle.steps.proofs.ToldMarks.{marked-as}
 use Rattle.ruling.specs.declared.readings.Used.{Used}
 use Rattle.ruling.specs.declared.readings.Used.the-variants.{To, Fails}
 use Rattle.comparing.specs.declared.spots.Spot.{Spot}
 use Rattle.comparing.specs.Coded.{coded}
 use Rattle.comparing.specs.Stands.{Plan-stands, Numbers-stand, Stands, spot-at, Lines-stand}
-use Rattle.comparing.specs.Rules.{Items-stand, Same-conclusions, Some-line, Some-lines, Cited-below, Ruled-by-all}
+use Rattle.comparing.specs.RuleAnswers.{Items-stand, Same-conclusions, Some-line, Some-lines, Cited-below, Ruled-by-all}
 use Rattle.ruling.specs.Readings.{lines-at, reads-at, used, fluents-from, states-from, Stands-some, rest-first, rest-items, Follows, Some-follows, Says-reading, Rest-stands, Some-rest, Uses}
 use Rattle.comparing.proofs.CodedLaws.{same-own, same-coded, none-done, coded-length}
 use Rattle.comparing.proofs.CodedPlaces.{Act-there, act-there, branching-there}
@@ -115,7 +116,7 @@ module _ (d : List ℕ) (marks : State) (w v : Spot) (starts : Bool) (first : st
 
 -- Where the slots of a line say that its parts stand.
 abbrev slot-spot : Layout → (d places : List ℕ) → ℕ → Spot
-slot-spot layout d places i = spot-at layout d (getD places i 0) (getD places (1024 + i) 0)
+slot-spot layout d places i = spot-at layout d (getD places i 0) (getD places (plan-ends-slot + i) 0)
 
 -- CITATION k. Two bytes say its number.
 number-stands : (d cites : List ℕ) (p k : ℕ) → Numbers-stand d p cites → k < length cites
@@ -272,12 +273,12 @@ module _ (t : Table) (a : ℕ) (marks : State) (marked : Marked marks) (f : ℕ)
   fluents-next : (m : State) → Marked m → (g : ℕ) → g ≡ first-of (unknown-above t a m (f + 1)) → fluents-from t a m g ≡ unknown-above t a m (f + 1)
   unfolding fluents-from
   fluents-next m good g next =
-      elim (decLt g 64) [
-        | yes near ↦ pick-true _ _ _ (lt-ltb g 64 near) ∙ sym (unknown-first t a m good (f + 1) g next near)
-        | no far ↦ pick-false _ _ _ (le-ltb g 64 (omega arith)) ∙ sym (unknown-no-first t a m good (f + 1) g next (omega arith))
+      elim (decLt g (format .fluents)) [
+        | yes near ↦ pick-true _ _ _ (lt-ltb g (format .fluents) near) ∙ sym (unknown-first t a m good (f + 1) g next near)
+        | no far ↦ pick-false _ _ _ (le-ltb g (format .fluents) (omega arith)) ∙ sym (unknown-no-first t a m good (f + 1) g next (omega arith))
       ]
 
-  module _ (small : f < 64) (g : ℕ) (next : g ≡ first-of (unknown-above t a (set marks f 1) (f + 1))) where
+  module _ (small : f < format .fluents) (g : ℕ) (next : g ≡ first-of (unknown-above t a (set marks f 1) (f + 1))) where
     second-next : g ≡ first-of (unknown-above t a (set (set marks f 1) f 2) (f + 1))
     second-next = next ∙ ap first-of (sym (unknown-after-set t a (set marks f 1) f 2))
 
@@ -288,13 +289,13 @@ module _ (t : Table) (a : ℕ) (marks : State) (marked : Marked marks) (f : ℕ)
         let one : fluents-from t a (set marks f 1) g ≡ above = fluents-next (set marks f 1) (first-marked f marks small marked) g next ∙ unknown-after-set t a marks f 1 in
         let two : fluents-from t a (set (set marks f 1) f 2) g ≡ above =
         fluents-next (set (set marks f 1) f 2) (second-marked f marks small marked) g second-next ∙ unknown-after-set t a (set marks f 1) f 2 ∙ unknown-after-set t a marks f 1 in
-        let all : fluents-from t a marks f ≡ f ∷ above = pick-true _ _ _ (lt-ltb f 64 small) in
+        let all : fluents-from t a marks f ≡ f ∷ above = pick-true _ _ _ (lt-ltb f (format .fluents) small) in
         ap (λ (fs : List ℕ). states-of (readings fs marks)) all
         ∙ rw (one, two, told-true f marks, told-false f marks, set-set marks f 1 2)
 
-    pub next-falls : (μ : ℕ) → 64 - f ≡ μ → 64 - g < μ
+    pub next-falls : (μ : ℕ) → format .fluents - f ≡ μ → format .fluents - g < μ
     next-falls μ is =
-        elim (decLt g 64) [
+        elim (decLt g (format .fluents)) [
           | yes near ↦ let h = unknown-first-above t a (set marks f 1) (first-marked f marks small marked) (f + 1) g next near in omega (arith, h, near, is)
           | no far ↦ omega (arith, far, small, is)
         ]
@@ -322,11 +323,11 @@ module _ (t : Table) (a : ℕ) (marks : State) (marked : Marked marks) (f : ℕ)
           }
 
 -- There is none.
-pub read-whole : (t : Table) (a : ℕ) (marks : State) (f : ℕ) → 64 ≤ f → (layout : Layout) (d places : List ℕ) (v : Spot) (k : ℕ) (answer : Used)
+pub read-whole : (t : Table) (a : ℕ) (marks : State) (f : ℕ) → format .fluents ≤ f → (layout : Layout) (d places : List ℕ) (v : Spot) (k : ℕ) (answer : Used)
     → Uses layout d places v (marks ∷ []) k answer → Uses layout d places v (states-from t a marks f) k answer
 unfolding states-from fluents-from readings states-of
 read-whole t a marks f far layout d places v k answer uses =
-    subst (λ (fs : List ℕ). Uses layout d places v (states-of (readings fs marks)) k answer) (sym (pick-false _ _ _ (le-ltb f 64 far))) uses
+    subst (λ (fs : List ℕ). Uses layout d places v (states-of (readings fs marks)) k answer) (sym (pick-false _ _ _ (le-ltb f (format .fluents) far))) uses
 
 -- USED UP: each line says its reading just where the citations used are all.
 abbrev all-used : ℕ → Used → Bool
@@ -373,9 +374,9 @@ sensed-states : (t : Table) (a : ℕ) (marks : State) → Marked marks → (f : 
 unfolding states-from fluents-from
 sensed-states t a marks marked f first =
     ap (λ (fs : List ℕ). states-of (readings fs marks))
-    (elim (decLt f 64) [
-      | yes near ↦ pick-true _ _ _ (lt-ltb f 64 near) ∙ sym (sensed-first t a marks marked f first near)
-      | no far ↦ pick-false _ _ _ (le-ltb f 64 (omega arith)) ∙ sym (sensed-no-first t a marks marked f first (omega arith))
+    (elim (decLt f (format .fluents)) [
+      | yes near ↦ pick-true _ _ _ (lt-ltb f (format .fluents) near) ∙ sym (sensed-first t a marks marked f first near)
+      | no far ↦ pick-false _ _ _ (le-ltb f (format .fluents) (omega arith)) ∙ sym (sensed-no-first t a marks marked f first (omega arith))
     ])
 
 -- THE LINE itself, at the spot w, whose plan's count stands at q.
@@ -432,7 +433,7 @@ module _ (d : List ℕ) (w : Spot) (q count : ℕ) (after : q ≡ sequence-place
           }
 
       module _ (a : ℕ) (byte : a ≡ getD d (q + 2) 0) where
-        pub action-small : Some-line d w → a < 64
+        pub action-small : Some-line d w → a < format .actions
         unfolding Small
         action-small some = rw byte (subst Small (first-act (some .line) (some .stands) .is) (some .small) .0)
 

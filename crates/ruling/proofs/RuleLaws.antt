@@ -11,7 +11,7 @@ use mir.Syntax.{w64}
 use mir.Val.{Fits}
 use borrow.Author.Tests.{eqb-true, eq-eqb}
 use Rattle.meaning.specs.Tests.{both, fails}
-use Rattle.meaning.specs.Limits.{format}
+use Rattle.meaning.specs.Limits.{format, all-literals}
 use Rattle.meaning.specs.Literals.{exclusive, fluent-of}
 use Rattle.meaning.specs.Requests.{Table, Sequence, done, item, act, branching, Branches}
 use Rattle.meaning.specs.Lines.{knowledge-of, sensing, senses}
@@ -20,17 +20,19 @@ use Rattle.meaning.specs.Derivations.{Conclusion, knows, knows-whether, Line, s
 use Rattle.meaning.proofs.TestLaws.{by-test, clash, same-test, both-left, both-right, both-true}
 use Rattle.reading.specs.Listed.{bytes-from, listed, List-here}
 use Rattle.reading.specs.Planned.{bytes-of}
-use Rattle.refusing.specs.Branchings.{sequence-place, no-item}
-use Rattle.refusing.specs.Plans.{own-items}
-use Rattle.refusing.proofs.PlanOverlaps.{count-zero}
-use Rattle.steps.specs.AtHand.{request-in, Marked}
+use Rattle.reading.specs.Noted.{sensed}
+use Rattle.finding.specs.Branches.{sequence-place, no-item}
+use Rattle.finding.specs.PlansHeld.{own-items}
+use Rattle.finding.proofs.PlanHere.{count-zero}
+use Rattle.steps.specs.Held.{table-in}
+use Rattle.steps.specs.AtHand.{Marked}
 use Rattle.steps.specs.Small.{Small}
-use Rattle.steps.proofs.SensingLaws.{after-marked}
+use Rattle.steps.proofs.LookLaws.{after-marked}
 use Rattle.steps.proofs.ToldMarks.{marked-as}
 use Rattle.comparing.specs.declared.spots.Spot.{Spot}
 use Rattle.comparing.specs.Coded.{Tellable}
 use Rattle.comparing.specs.Stands.{after-list, Plan-stands, Conclusion-stands, Stands}
-use Rattle.comparing.specs.Rules.{Some-plan, Items-stand, Some-items, Same-plans, Joined-plans, Same-conclusions, Some-line, Ruled, Ruled-by, Ruled-by-two}
+use Rattle.comparing.specs.RuleAnswers.{Some-plan, Items-stand, Some-items, Same-plans, Joined-plans, Same-conclusions, Some-line, Ruled, Ruled-by, Ruled-by-two}
 use Rattle.comparing.proofs.CodedLaws.{same-own, same-bytes, coded-same, tellable-join, none-done, same-done}
 use Rattle.comparing.proofs.CodedPlaces.{act-there, Branching-there, branching-there}
 
@@ -89,13 +91,13 @@ X-clear d w some = let x = some .stands .X in subst (λ (xs : List ℕ). exclusi
 -- A CONCLUSION is the list that stands at its place, or the fluent there.
 record Lists (d : List ℕ) (y : ℕ) (Y : Conclusion) : Type 0 where
   is : Y ≡ knows (listed d y)
-  here : List-here 128 d y
+  here : List-here all-literals d y
   clear : exclusive (listed d y) (listed d y) ≡ false
 
 record Tells (d : List ℕ) (y : ℕ) (Y : Conclusion) : Type 0 where
   is : Y ≡ knows-whether (getD d y 0)
   there : y < length d
-  small : getD d y 0 < 64
+  small : getD d y 0 < format .fluents
 
 module _ (d : List ℕ) (y : ℕ) (fluent : Bool) where
   lists : (Y : Conclusion) → Conclusion-stands d fluent y Y → fluent ≡ false → Lists d y Y
@@ -118,7 +120,7 @@ module _ (d : List ℕ) (w : Spot) where
     Y-lists : (l : Line) → Stands d w l → Lists d (w .conclusion) (l .Y)
     Y-lists l sl = lists d (w .conclusion) (w .fluent) (l .Y) (sl .Y) list
 
-    pub Y-here : Some-line d w → List-here 128 d (w .conclusion)
+    pub Y-here : Some-line d w → List-here all-literals d (w .conclusion)
     Y-here some = Y-lists (some .line) (some .stands) .here
 
     pub Y-clear : Some-line d w → exclusive (listed d (w .conclusion)) (listed d (w .conclusion)) ≡ false
@@ -136,7 +138,7 @@ module _ (d : List ℕ) (w : Spot) where
     pub fluent-there : Some-line d w → w .conclusion < length d
     fluent-there some = Y-tells (some .line) (some .stands) .there
 
-    pub fluent-small : (f : ℕ) → f ≡ getD d (w .conclusion) 0 → Some-line d w → f < 64
+    pub fluent-small : (f : ℕ) → f ≡ getD d (w .conclusion) 0 → Some-line d w → f < format .fluents
     fluent-small f is some = let small = Y-tells (some .line) (some .stands) .small in omega (arith, is, small)
 
     Y-other : (l : Line) → Stands d w l → (xs : List ℕ) → same-conclusion (l .Y) (knows xs) ≡ false
@@ -381,8 +383,8 @@ module _ (d : List ℕ) (u v w : Spot) where
 
 -- STATES.
 module _ (d : List ℕ) (p : ℕ) (marks : State) (first : marks ≡ state-of format (listed d p)) where
-  pub next-marked : (s : List ℕ) (a : ℕ) (next : State) → next ≡ state-after (request-in s .table) a marks → Marked next
-  next-marked s a next then = after-marked (request-in s .table) a marks next (marked-as (listed d p) marks first) then
+  pub next-marked : (s : List ℕ) (a : ℕ) (next : State) → next ≡ state-after (table-in s) a marks → Marked next
+  next-marked s a next then = after-marked (table-in s) a marks next (marked-as (listed d p) marks first) then
 
 -- RULES 2 and 7. An item takes a byte.
 pub item-bytes : (c : Sequence ℕ) → 0 < own-items c → 0 < bytes-of c
@@ -444,23 +446,23 @@ record One-act (c : Sequence ℕ) (a : ℕ) : Type 0 where
 
 -- The conclusion is of the other kind.
 module _ (d : List ℕ) (w : Spot) (s : List ℕ) where
-  pub action-whether : w .fluent ≡ true → Ruled d w (rule-2 format (request-in s .table)) false
+  pub action-whether : w .fluent ≡ true → Ruled d w (rule-2 format (table-in s)) false
   unfolding rule-2 acts
   action-whether whether =
       record {
         holds = λ l sl.
-            acts-never (request-in s .table) l
-            (λ a. no-right (fails (sensing (request-in s .table) a)) _ (sym (no-right (can-be-run (request-in s .table) a (state-of format (l .X))) _ (Y-other d w whether l sl _))))
+            acts-never (table-in s) l
+            (λ a. no-right (fails (sensing (table-in s) a)) _ (sym (no-right (can-be-run (table-in s) a (state-of format (l .X))) _ (Y-other d w whether l sl _))))
             (l .c);
       }
 
-  pub look-lists : w .fluent ≡ false → Ruled d w (rule-7 format (request-in s .table)) false
+  pub look-lists : w .fluent ≡ false → Ruled d w (rule-7 format (table-in s)) false
   unfolding rule-7 looks-for
   look-lists list =
       record {
         holds = λ l sl.
-            looks-never (request-in s .table) l
-            (λ a. sym (ap (λ (Y : Conclusion). looks-for format (request-in s .table) Y a (state-of format (l .X))) (Y-lists d w list l sl .is)))
+            looks-never (table-in s) l
+            (λ a. sym (ap (λ (Y : Conclusion). looks-for format (table-in s) Y a (state-of format (l .X))) (Y-lists d w list l sl .is)))
             (l .c);
       }
 
@@ -476,13 +478,13 @@ module _ (d : List ℕ) (w : Spot) (q : ℕ) (after : q ≡ sequence-place d (w 
       let ends = there .ends in let inside = there .inside in
       omega (arith, size, ends, inside)
 
-  pub not-one-item : (s : List ℕ) → (count ≡ 1 → ⊥) → Ruled d w (rule-2 format (request-in s .table)) false
+  pub not-one-item : (s : List ℕ) → (count ≡ 1 → ⊥) → Ruled d w (rule-2 format (table-in s)) false
   unfolding rule-2
-  not-one-item s other = record { holds = λ l sl. not-one (request-in s .table) l (l .c) (λ e. other (own-count l sl ∙ e)) }
+  not-one-item s other = record { holds = λ l sl. not-one (table-in s) l (l .c) (λ e. other (own-count l sl ∙ e)) }
 
-  pub not-one-looked : (s : List ℕ) → (count ≡ 1 → ⊥) → Ruled d w (rule-7 format (request-in s .table)) false
+  pub not-one-looked : (s : List ℕ) → (count ≡ 1 → ⊥) → Ruled d w (rule-7 format (table-in s)) false
   unfolding rule-7
-  not-one-looked s other = record { holds = λ l sl. not-one-look (request-in s .table) l (l .c) (λ e. other (own-count l sl ∙ e)) }
+  not-one-looked s other = record { holds = λ l sl. not-one-look (table-in s) l (l .c) (λ e. other (own-count l sl ∙ e)) }
 
   module _ (one : count ≡ 1) where
     own-one : (l : Line) → Stands d w l → own-items (l .c) ≡ 1
@@ -499,22 +501,22 @@ module _ (d : List ℕ) (w : Spot) (q : ℕ) (after : q ≡ sequence-place d (w 
           let there = plan-of d w q after l sl in
           branching-there d (q + 2) (l .c) (omega (arith, own)) (there .tellable) (there .bytes) is
 
-      pub item-branches : (s : List ℕ) → Ruled d w (rule-2 format (request-in s .table)) false
+      pub item-branches : (s : List ℕ) → Ruled d w (rule-2 format (table-in s)) false
       unfolding rule-2
       item-branches s =
           record {
             holds = λ l sl.
                 let b = one-branches l sl in
-                one-branching (request-in s .table) l (b .place) (b .branches) (b .rest) ∙ ap (one-action format (request-in s .table) l) (sym (b .is));
+                one-branching (table-in s) l (b .place) (b .branches) (b .rest) ∙ ap (one-action format (table-in s) l) (sym (b .is));
           }
 
-      pub look-branches : (s : List ℕ) → Ruled d w (rule-7 format (request-in s .table)) false
+      pub look-branches : (s : List ℕ) → Ruled d w (rule-7 format (table-in s)) false
       unfolding rule-7
       look-branches s =
           record {
             holds = λ l sl.
                 let b = one-branches l sl in
-                look-branching (request-in s .table) l (b .place) (b .branches) (b .rest) ∙ ap (one-look format (request-in s .table) l) (sym (b .is));
+                look-branching (table-in s) l (b .place) (b .branches) (b .rest) ∙ ap (one-look format (table-in s) l) (sym (b .is));
           }
 
     -- An action a.
@@ -528,30 +530,30 @@ module _ (d : List ℕ) (w : Spot) (q : ℕ) (after : q ≡ sequence-place d (w 
           let rest : b .rest ≡ done = none-done (b .rest) (omega (arith, own, sum)) in
           record { place = b .place; is = b .is ∙ ap₂ {C = Sequence ℕ} (λ x z. item (act (b .place) x) z) (sym byte) rest }
 
-      pub action-small : Some-line d w → a < 64
+      pub action-small : Some-line d w → a < format .actions
       unfolding Small
       action-small some = subst Small (one-act (some .line) (some .stands) .is) (some .small) .0
 
-      module _ (s : List ℕ) (sensed : Bool) (tested : sensed ≡ sensing (request-in s .table) a) where
+      module _ (s : List ℕ) (sensed : Bool) (tested : sensed ≡ sensing (table-in s) a) where
         abbrev table : Table
-        table = request-in s .table
+        table = table-in s
 
         acts-is : (l : Line) → Stands d w l → rule-2 format table l ≡ acts format table l a (state-of format (l .X))
         unfolding rule-2
         acts-is l sl = let b = one-act l sl in ap (one-action format table l) (b .is) ∙ one-acts table l (b .place) a
 
-        pub action-senses : sensed ≡ true → Ruled d w (rule-2 format (request-in s .table)) false
+        pub action-senses : sensed ≡ true → Ruled d w (rule-2 format (table-in s)) false
         unfolding acts fails
         action-senses t = record { holds = λ l sl. no-left (fails (sensing table a)) _ (ap fails (sym tested ∙ t)) ∙ sym (acts-is l sl) }
 
-        module _ (f : sensed ≡ false) (marks : State) (first : marks ≡ state-of format (listed d (w .line))) (runs : Bool) (run : runs ≡ can-be-run (request-in s .table) a marks) where
+        module _ (f : sensed ≡ false) (marks : State) (first : marks ≡ state-of format (listed d (w .line))) (runs : Bool) (run : runs ≡ can-be-run (table-in s) a marks) where
           marks-are : (l : Line) → Stands d w l → marks ≡ state-of format (l .X)
           marks-are l sl = first ∙ ap (state-of format) (sl .X .same)
 
           runs-is : (l : Line) → Stands d w l → runs ≡ can-be-run table a (state-of format (l .X))
           runs-is l sl = run ∙ ap (can-be-run table a) (marks-are l sl)
 
-          pub action-stuck : runs ≡ false → Ruled d w (rule-2 format (request-in s .table)) false
+          pub action-stuck : runs ≡ false → Ruled d w (rule-2 format (table-in s)) false
           unfolding acts
           action-stuck e =
               record {
@@ -560,8 +562,8 @@ module _ (d : List ℕ) (w : Spot) (q : ℕ) (after : q ≡ sequence-place d (w 
                     ∙ sym (acts-is l sl);
               }
 
-          pub action-leads : w .fluent ≡ false → runs ≡ true → (next : State) → next ≡ state-after (request-in s .table) a marks
-              → (r : Bool) → r ≡ same-list (listed d (w .conclusion)) (literals-of next) → Ruled d w (rule-2 format (request-in s .table)) r
+          pub action-leads : w .fluent ≡ false → runs ≡ true → (next : State) → next ≡ state-after (table-in s) a marks
+              → (r : Bool) → r ≡ same-list (listed d (w .conclusion)) (literals-of next) → Ruled d w (rule-2 format (table-in s)) r
           unfolding acts fails
           action-leads list t next then r is =
               record {
@@ -575,25 +577,25 @@ module _ (d : List ℕ) (w : Spot) (q : ℕ) (after : q ≡ sequence-place d (w 
               }
 
       -- It looks at the fluent f.
-      module _ (whether : w .fluent ≡ true) (s : List ℕ) (f : ℕ) (told : f ≡ getD d (w .conclusion) 0) (looks : Bool) (looked : looks ≡ senses (knowledge-of (request-in s .table) a) f) where
-        looks-is : (l : Line) → Stands d w l → rule-7 format (request-in s .table) l ≡ both looks (can-be-run (request-in s .table) a (state-of format (l .X)))
+      module _ (whether : w .fluent ≡ true) (s : List ℕ) (f : ℕ) (told : f ≡ getD d (w .conclusion) 0) (looks : Bool) (looked : looks ≡ senses (knowledge-of (table-in s) a) f) where
+        looks-is : (l : Line) → Stands d w l → rule-7 format (table-in s) l ≡ both looks (can-be-run (table-in s) a (state-of format (l .X)))
         unfolding rule-7 looks-for
         looks-is l sl =
             let b = one-act l sl in
-            ap (one-look format (request-in s .table) l) (b .is)
-            ∙ one-looks (request-in s .table) l (b .place) a
-            ∙ ap (λ (Y : Conclusion). looks-for format (request-in s .table) Y a (state-of format (l .X))) (Y-tells d w whether l sl .is)
-            ∙ ap (λ (x : Bool). both x (can-be-run (request-in s .table) a (state-of format (l .X)))) (ap (senses (knowledge-of (request-in s .table) a)) (sym told) ∙ sym looked)
+            ap (one-look format (table-in s) l) (b .is)
+            ∙ one-looks (table-in s) l (b .place) a
+            ∙ ap (λ (Y : Conclusion). looks-for format (table-in s) Y a (state-of format (l .X))) (Y-tells d w whether l sl .is)
+            ∙ ap (λ (x : Bool). both x (can-be-run (table-in s) a (state-of format (l .X)))) (ap (senses (knowledge-of (table-in s) a)) (sym told) ∙ sym looked)
 
-        pub looks-elsewhere : looks ≡ false → Ruled d w (rule-7 format (request-in s .table)) false
+        pub looks-elsewhere : looks ≡ false → Ruled d w (rule-7 format (table-in s)) false
         looks-elsewhere e = record { holds = λ l sl. no-left looks _ e ∙ sym (looks-is l sl) }
 
-        pub looks-there : looks ≡ true → (marks : State) → marks ≡ state-of format (listed d (w .line)) → (r : Bool) → r ≡ can-be-run (request-in s .table) a marks → Ruled d w (rule-7 format (request-in s .table)) r
+        pub looks-there : looks ≡ true → (marks : State) → marks ≡ state-of format (listed d (w .line)) → (r : Bool) → r ≡ can-be-run (table-in s) a marks → Ruled d w (rule-7 format (table-in s)) r
         looks-there t marks first r run =
             record {
               holds = λ l sl.
                   run
-                  ∙ ap (can-be-run (request-in s .table) a) (first ∙ ap (state-of format) (sl .X .same))
+                  ∙ ap (can-be-run (table-in s) a) (first ∙ ap (state-of format) (sl .X .same))
                   ∙ sym (yes-left looks _ t)
                   ∙ sym (looks-is l sl);
             }

@@ -1,20 +1,21 @@
--- The branching with which a line's plan begins, in the input and in the table that reading the plan again left, and what rules 4 and 12 ask of it.
+-- The branching with which a line's plan begins, in the input and in the notes that reading the plan again left, and what rules 4 and 12 ask of it.
 use Prim.Native.Nat.{ℕ, zero, suc, _+_, _≤_, _<_}
 use mathlib.Core.Path.{_≡_}
 use mathlib.Core.Bool.{Bool, false}
 use mathlib.Core.List.{List}
 use lib.ListN.{length, getD}
 use Rattle.meaning.specs.Tests.{both, either, each-of}
+use Rattle.meaning.specs.Limits.{format}
 use Rattle.meaning.specs.Requests.{Sequence, Branches, none, branch}
 use Rattle.meaning.specs.States.{State, known}
 use Rattle.meaning.specs.Derivations.{same-plan, join}
 use Rattle.reading.specs.Listed.{bytes-from}
 use Rattle.reading.specs.Planned.{items-under, bytes-under}
-use Rattle.refusing.specs.Branchings.{place-after, item-after}
-use Rattle.refusing.specs.Plans.{branches-in, Branches-written, Branches-kept}
+use Rattle.finding.specs.Branches.{place-after, item-after}
+use Rattle.finding.specs.PlansHeld.{branches-in, Branches-written, Branches-kept}
 use Rattle.comparing.specs.Coded.{coded-branches, Tellable-branches}
 use Rattle.comparing.specs.Stands.{Plan-stands}
-use Rattle.comparing.specs.Rules.{Items-stand}
+use Rattle.comparing.specs.RuleAnswers.{Items-stand}
 
 -- The place after so many branches, the first of which stands at p with i items before it.
 unfoldable pub branches-end : (d t : List ℕ) (left p i : ℕ) → ℕ
@@ -23,7 +24,7 @@ branches-end d t (suc left) p i = branches-end d t left (place-after d t p i) (i
 
 -- Branches from p on, with i items before them.
 pub record Branches-held (d t : List ℕ) (p i : ℕ) (bs : Branches ℕ) : Type 0 where
-  pub few : i + items-under bs ≤ 1024
+  pub few : i + items-under bs ≤ format .items
   pub inside : p + bytes-under bs ≤ length d
   pub written : Branches-written d p bs
   pub kept : Branches-kept t i p bs

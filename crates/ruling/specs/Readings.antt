@@ -7,16 +7,17 @@ use lib.ListN.{length, getD}
 use lib.Dec.{ltb}
 use Rattle.meaning.specs.declared.Layout.{Layout}
 use Rattle.meaning.specs.Tests.{both, pick, each-of}
+use Rattle.meaning.specs.Limits.{format}
 use Rattle.meaning.specs.Requests.{Table, Sequence}
 use Rattle.meaning.specs.States.{State, readings}
 use Rattle.meaning.specs.Derivations.{Conclusion, Line, literals-of, says, states-of}
-use Rattle.refusing.specs.Branchings.{sequence-place}
+use Rattle.finding.specs.Branches.{sequence-place}
 use Rattle.steps.specs.Steps.{unknown-above}
 use Rattle.ruling.specs.declared.readings.Used.{Used}
 use Rattle.ruling.specs.declared.readings.Used.the-variants.{To, Fails}
 use Rattle.comparing.specs.declared.spots.Spot.{Spot}
 use Rattle.comparing.specs.Stands.{Numbers-stand, Conclusion-stands, Stands, Lines-stand}
-use Rattle.comparing.specs.Rules.{Items-stand}
+use Rattle.comparing.specs.RuleAnswers.{Items-stand}
 
 -- The lines with these numbers; another line where there is none.
 unfoldable pub lines-at : List Line → (other : Line) → List ℕ → List Line
@@ -31,16 +32,16 @@ unfoldable pub used : Sequence ℕ → Conclusion → List Line → (other : Lin
 used rest Y cited other [] k = To k
 used rest Y cited other (s ∷ ss) k = pick (reads-at rest Y cited other s k) (λ _. used rest Y cited other ss (k + 1)) (λ _. Fails)
 
--- The unknown sensed fluents where the first of them is f; none where it is 64.
+-- The unknown sensed fluents where the first of them is f; none where it is the limit of fluents.
 unfoldable pub fluents-from : Table → ℕ → State → (f : ℕ) → List ℕ
-fluents-from t a marks f = pick (ltb f 64) (λ _. f ∷ unknown-above t a marks (f + 1)) (λ _. [])
+fluents-from t a marks f = pick (ltb f (format .fluents)) (λ _. f ∷ unknown-above t a marks (f + 1)) (λ _. [])
 
 unfoldable pub states-from : Table → ℕ → State → (f : ℕ) → List State
 states-from t a marks f = states-of (readings (fluents-from t a marks f) marks)
 
 -- A line stands where the spot says.
 pub record Stands-some (d : List ℕ) (w : Spot) : Type 0 where
-  pub long : length d ≤ 32768
+  pub long : length d ≤ format .derivation
   pub line : Line
   pub stands : Stands d w line
 
@@ -70,7 +71,7 @@ pub record Rest-stands (layout : Layout) (d places : List ℕ) (w : Spot) (lines
   pub stand : Lines-stand layout d places lines
   pub follows : Follows d w rest Y
   pub counted : getD d (w .cites) 0 ≡ length cites
-  pub most : length cites ≤ 64
+  pub most : length cites ≤ format .citations
   pub numbers : Numbers-stand d (w .cites + 1) cites
   pub below : each-of (λ (k : ℕ). ltb k (length lines)) cites ≡ true
 

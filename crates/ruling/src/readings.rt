@@ -4,9 +4,11 @@ ghost use mathlib.Core.List.{[], _∷_};
 ghost use lib.ListN.{getD};
 ghost use Rattle.meaning.specs.Derivations.{rule-3};
 ghost use Rattle.meaning.specs.Limits.{format};
-ghost use Rattle.steps.specs.AtHand.{request-in, At-hand, Marked};
+ghost use Rattle.deriving.specs.DerivationRead.{plan-ends-slot};
+ghost use Rattle.steps.specs.Held.{table-in};
+ghost use Rattle.steps.specs.AtHand.{At-hand, Marked};
 ghost use Rattle.comparing.specs.Stands.{spot-at};
-ghost use Rattle.comparing.specs.Rules.{Some-line, Some-lines, Cited-below, Ruled-by-all};
+ghost use Rattle.comparing.specs.RuleAnswers.{Some-line, Some-lines, Cited-below, Ruled-by-all};
 ghost use Rattle.ruling.specs.Readings.{states-from, Stands-some, Some-follows, Says-reading, Some-rest, Uses};
 use bytes::bytes::two;
 use bytes::bytes::wide;
@@ -18,10 +20,11 @@ use comparing::spots::Spot;
 use comparing::spots::same_conclusions;
 use comparing::spots::spot_of;
 use deriving::derivations::Places;
+use finding::branches::sequence_of;
 use meaning::Layout;
+use reading::marks::Marks;
 use reading::marks::state_of;
-use reading::table::Table;
-use refusing::overlaps::sequence_of;
+use reading::notes::Notes;
 use steps::actions::can_be_run;
 use steps::sensing::first_unknown;
 use steps::sensing::is_sensing;
@@ -44,7 +47,7 @@ fn one_less(n: usize) -> usize
 }
 
 // The line `cited` says what the state knows, what follows the first item of the line `own`, and that line's conclusion.
-fn says_reading(d: &[u8], marks: &[u8; 64], own: Spot, cited: Spot) -> bool
+fn says_reading(d: &[u8], marks: &Marks, own: Spot, cited: Spot) -> bool
     requires { ⌜ Marked (now marks) ⌝ }
     requires { ⌜ Stands-some (now d) cited ⌝ }
     requires { ⌜ Stands-some (now d) own ⌝ }
@@ -82,15 +85,15 @@ fn one_reading(
     layout: Layout,
     d: &[u8],
     places: &Places,
-    marks: &[u8; 64],
+    marks: &Marks,
     lines: usize,
     i: usize,
     k: usize,
 ) -> Used
     requires { ⌜ Marked (now marks) ⌝ }
     requires { ⌜ i < lines ⌝ }
-    requires { ⌜ Some-rest layout (now d) (now places) lines (spot-at layout (now d) (getD (now places) i 0) (getD (now places) (1024 + i) 0)) ⌝ }
-    ensures { λ r. ⌜ Uses layout (now (d .entry)) (now (places .entry)) (spot-at layout (now (d .entry)) (getD (now (places .entry)) i 0) (getD (now (places .entry)) (1024 + i) 0)) (now (marks .entry) ∷ []) k r ⌝ }
+    requires { ⌜ Some-rest layout (now d) (now places) lines (spot-at layout (now d) (getD (now places) i 0) (getD (now places) (plan-ends-slot + i) 0)) ⌝ }
+    ensures { λ r. ⌜ Uses layout (now (d .entry)) (now (places .entry)) (spot-at layout (now (d .entry)) (getD (now (places .entry)) i 0) (getD (now (places .entry)) (plan-ends-slot + i) 0)) (now (marks .entry) ∷ []) k r ⌝ }
 {
     let own = spot_of(layout, d, places, lines, i);
     let counted = own.cites;
@@ -111,27 +114,27 @@ fn one_reading(
     Used::Fails
 }
 
-// The readings of fluent f and of the unknown ones above it that action a senses, in order, by the citations of line i from k on. At 64
-// there is none, and the state is a reading.
+// The readings of fluent f and of the unknown ones above it that action a senses, in order, by the citations of line i from k on. At the
+// limit of fluents there is none, and the state is a reading.
 fn each_reading(
     layout: Layout,
     s: &[u8],
-    t: &Table,
+    t: &Notes,
     d: &[u8],
     places: &Places,
     a: usize,
     f: usize,
-    marks: [u8; 64],
+    marks: Marks,
     lines: usize,
     i: usize,
     k: usize,
 ) -> Used
     requires { ⌜ At-hand (now s) (now t) ⌝ }
-    requires { ⌜ a < 64 ⌝ }
+    requires { ⌜ a < format .actions ⌝ }
     requires { ⌜ Marked marks ⌝ }
     requires { ⌜ i < lines ⌝ }
-    requires { ⌜ Some-rest layout (now d) (now places) lines (spot-at layout (now d) (getD (now places) i 0) (getD (now places) (1024 + i) 0)) ⌝ }
-    ensures { λ r. ⌜ Uses layout (now (d .entry)) (now (places .entry)) (spot-at layout (now (d .entry)) (getD (now (places .entry)) i 0) (getD (now (places .entry)) (1024 + i) 0)) (states-from (request-in (now (s .entry)) .table) a marks f) k r ⌝ }
+    requires { ⌜ Some-rest layout (now d) (now places) lines (spot-at layout (now d) (getD (now places) i 0) (getD (now places) (plan-ends-slot + i) 0)) ⌝ }
+    ensures { λ r. ⌜ Uses layout (now (d .entry)) (now (places .entry)) (spot-at layout (now (d .entry)) (getD (now (places .entry)) i 0) (getD (now (places .entry)) (plan-ends-slot + i) 0)) (states-from (table-in (now (s .entry))) a marks f) k r ⌝ }
 {
     if f < limits::FLUENTS {
         let above = f + 1;
@@ -154,7 +157,7 @@ fn each_reading(
 pub fn rule_3(
     layout: Layout,
     s: &[u8],
-    t: &Table,
+    t: &Notes,
     d: &[u8],
     places: &Places,
     lines: usize,
@@ -165,9 +168,9 @@ pub fn rule_3(
     requires { ⌜ Some-line (now d) l ⌝ }
     requires { ⌜ Some-lines layout (now d) (now places) lines ⌝ }
     requires { ⌜ i < lines ⌝ }
-    requires { ⌜ l ≡ spot-at layout (now d) (getD (now places) i 0) (getD (now places) (1024 + i) 0) ⌝ }
+    requires { ⌜ l ≡ spot-at layout (now d) (getD (now places) i 0) (getD (now places) (plan-ends-slot + i) 0) ⌝ }
     requires { ⌜ Cited-below (now d) l lines ⌝ }
-    ensures { λ r. ⌜ Ruled-by-all layout (now (d .entry)) (now (places .entry)) l (rule-3 format (request-in (now (s .entry)) .table)) r ⌝ }
+    ensures { λ r. ⌜ Ruled-by-all layout (now (d .entry)) (now (places .entry)) l (rule-3 format (table-in (now (s .entry)))) r ⌝ }
 {
     let p = l.line;
     let plan = sequence_of(d, p);

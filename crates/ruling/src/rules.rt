@@ -1,7 +1,8 @@
 ghost use Rattle.meaning.specs.Derivations.{rule-1, rule-2, rule-5, rule-6, rule-7, rule-8};
 ghost use Rattle.meaning.specs.Limits.{format};
-ghost use Rattle.steps.specs.AtHand.{request-in, At-hand};
-ghost use Rattle.comparing.specs.Rules.{Some-line, Ruled, Ruled-by, Ruled-by-two};
+ghost use Rattle.steps.specs.Held.{table-in};
+ghost use Rattle.steps.specs.AtHand.{At-hand};
+ghost use Rattle.comparing.specs.RuleAnswers.{Some-line, Ruled, Ruled-by, Ruled-by-two};
 use bytes::bytes::wide;
 use bytes::limits;
 use comparing::known::lists_known;
@@ -12,10 +13,10 @@ use comparing::plans::joined_plans;
 use comparing::plans::same_plans;
 use comparing::spots::Spot;
 use comparing::spots::same_conclusions;
+use finding::branches::empty;
+use finding::branches::sequence_of;
 use reading::marks::state_of;
-use reading::table::Table;
-use refusing::overlaps::empty;
-use refusing::overlaps::sequence_of;
+use reading::notes::Notes;
 use steps::actions::can_be_run;
 use steps::actions::state_after;
 use steps::sensing::is_sensing;
@@ -40,10 +41,10 @@ pub fn rule_1(d: &[u8], l: Spot) -> bool
 }
 
 // Rule 2: one action without knowledge lines that can be run in X, and Y is the state after it.
-pub fn rule_2(s: &[u8], t: &Table, d: &[u8], l: Spot) -> bool
+pub fn rule_2(s: &[u8], t: &Notes, d: &[u8], l: Spot) -> bool
     requires { ⌜ At-hand (now s) (now t) ⌝ }
     requires { ⌜ Some-line (now d) l ⌝ }
-    ensures { λ r. ⌜ Ruled (now (d .entry)) l (rule-2 format (request-in (now (s .entry)) .table)) r ⌝ }
+    ensures { λ r. ⌜ Ruled (now (d .entry)) l (rule-2 format (table-in (now (s .entry)))) r ⌝ }
 {
     if l.fluent {
         return false;
@@ -144,10 +145,10 @@ pub fn rule_6(d: &[u8], cited: Spot, l: Spot) -> bool
 }
 
 // Rule 7: one action that can be run in X and has a knowledge line for the fluent.
-pub fn rule_7(s: &[u8], t: &Table, d: &[u8], l: Spot) -> bool
+pub fn rule_7(s: &[u8], t: &Notes, d: &[u8], l: Spot) -> bool
     requires { ⌜ At-hand (now s) (now t) ⌝ }
     requires { ⌜ Some-line (now d) l ⌝ }
-    ensures { λ r. ⌜ Ruled (now (d .entry)) l (rule-7 format (request-in (now (s .entry)) .table)) r ⌝ }
+    ensures { λ r. ⌜ Ruled (now (d .entry)) l (rule-7 format (table-in (now (s .entry)))) r ⌝ }
 {
     if l.fluent {
         let p = l.line;

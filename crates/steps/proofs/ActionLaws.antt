@@ -11,31 +11,33 @@ use mir.Syntax.{w64}
 use mir.Val.{Fits}
 use borrow.Author.Tests.{eq-eqb, ne-eqb}
 use Rattle.meaning.specs.Tests.{both, either, fails, pick, some-of, each-of, Has}
+use Rattle.meaning.specs.Limits.{format, all-literals}
 use Rattle.meaning.specs.Literals.{fluent-of, complement}
 use Rattle.meaning.specs.States.{State, mark-of, known, possible, told, can-be-run}
 use Rattle.meaning.proofs.TestLaws.{by-test, clash, either-right, each-mono, pick-true, pick-false}
 use Rattle.meaning.proofs.PickLaws.{pick-has}
 use Rattle.meaning.proofs.LiteralLaws.{fluent-complement}
 use Rattle.meaning.proofs.ToldLaws.{either-none, either-assoc}
-use Rattle.reading.specs.Noted.{effect-lines, run-lines, line-place, next-line, first-line}
+use Rattle.reading.specs.Noted.{effect-lines, run-lines, line-place, next-line, first-line, line-numbers}
 use Rattle.reading.specs.Ordered.{Line-in, Chain, In-order}
 use Rattle.reading.specs.Listed.{listed, List-here, holds-as}
-use Rattle.refusing.specs.InTable.{Effect-here}
+use Rattle.finding.specs.LinesHere.{Effect-here}
 use Rattle.reading.specs.declared.marks.Test.the-variants.{Known, Possible}
 use Rattle.reading.proofs.MarkLaws.{mark-other, mark-most}
-use Rattle.steps.specs.AtHand.{request-in, At-hand, Marked}
-use Rattle.steps.specs.Lines.{run-places, effect-places, allowed-at}
+use Rattle.steps.specs.Held.{table-in}
+use Rattle.steps.specs.AtHand.{At-hand, Marked}
+use Rattle.steps.specs.LinesFound.{run-places, effect-places, allowed-at}
 use Rattle.steps.specs.After.{undone, left-at}
 use Rattle.steps.proofs.Served.{runs-at-hand, effects-at-hand}
 use Rattle.steps.proofs.Sweeps.{known-possible, mark-some, swept-one, tells-one, swept-at, tells-at}
-use Rattle.steps.proofs.SensingLaws.{marked-set}
+use Rattle.steps.proofs.LookLaws.{marked-set}
 
 -- HOW FAR the lines go on from line k: numbers rise from line to line and stay below 256, and 0 is no line.
 unfoldable pub to-go : ℕ → ℕ
 to-go zero = 0
-to-go (suc k) = 256 - k
+to-go (suc k) = line-numbers - k
 
-goes-on : (k j : ℕ) → 0 < k → k < 256 → (0 < j → k < j) → to-go j < to-go k
+goes-on : (k j : ℕ) → 0 < k → k < line-numbers → (0 < j → k < j) → to-go j < to-go k
 unfolding to-go
 goes-on zero j some few rises = absurd (omega arith)
 goes-on (suc k) zero some few rises = omega arith
@@ -78,7 +80,7 @@ module _ (Fit : ℕ → Type 0) (t : List ℕ) (lines : ℕ) where
           first [] e chain = absurd (omega arith)
           first (p ∷ ps) e chain = record { place = p; others = ps; is = e; line = chain .0; chain = chain .1 }
 
-      pub line-few : k < 256
+      pub line-few : k < line-numbers
       line-few = ahead-first .line .few
 
       module _ (j : ℕ) (onward : j ≡ next-line t lines k) where
@@ -101,18 +103,18 @@ module _ (Fit : ℕ → Type 0) (t : List ℕ) (lines : ℕ) where
 
 -- EXECUTABILITY LINES.
 abbrev pub Runs-ahead : (s t : List ℕ) (k : ℕ) → Type 0
-Runs-ahead s t k = Ahead (λ (p : ℕ). List-here 128 s (p + 1)) t run-lines k
+Runs-ahead s t k = Ahead (λ (p : ℕ). List-here all-literals s (p + 1)) t run-lines k
 
 pub record Running (s t : List ℕ) (marks : State) (whole : Bool) (k : ℕ) : Type 0 where
   pub ahead : Runs-ahead s t k
   pub same : whole ≡ allowed-at s (known marks) (ahead .rest)
 
-pub running-starts : (s t : List ℕ) (a : ℕ) (marks : State) (k : ℕ) → At-hand s t → a < 64 → k ≡ first-line t run-lines a → Running s t marks (can-be-run (request-in s .table) a marks) k
+pub running-starts : (s t : List ℕ) (a : ℕ) (marks : State) (k : ℕ) → At-hand s t → a < format .actions → k ≡ first-line t run-lines a → Running s t marks (can-be-run (table-in s) a marks) k
 unfolding can-be-run ahead-starts
 running-starts s t a marks k here small at =
-    let runs = runs-at-hand s t here a small in
+    let runs = runs-at-hand s t here a in
     record {
-      ahead = ahead-starts (λ (p : ℕ). List-here 128 s (p + 1)) t run-lines a (run-places s a) (runs .order) (runs .lines) k at;
+      ahead = ahead-starts (λ (p : ℕ). List-here all-literals s (p + 1)) t run-lines a (run-places s a) (here .runs a small) (runs .lines) k at;
       same = sym (runs .same (known marks));
     }
 
@@ -123,10 +125,10 @@ module _ (s t : List ℕ) (marks : State) (whole : Bool) (k : ℕ) (run : Runnin
 
   module _ (more : 0 < k) (p : ℕ) (at : p ≡ line-place t run-lines k) where
     others : List ℕ
-    others = ahead-first (λ (q : ℕ). List-here 128 s (q + 1)) t run-lines k (run .ahead) more .others
+    others = ahead-first (λ (q : ℕ). List-here all-literals s (q + 1)) t run-lines k (run .ahead) more .others
 
-    pub run-body : List-here 128 s (p + 1)
-    run-body = line-fit (λ (q : ℕ). List-here 128 s (q + 1)) t run-lines k (run .ahead) more p at
+    pub run-body : List-here all-literals s (p + 1)
+    run-body = line-fit (λ (q : ℕ). List-here all-literals s (q + 1)) t run-lines k (run .ahead) more p at
 
     pub run-body-fits : Fits w64 (length s) → Fits w64 (p + 1)
     run-body-fits room = let ends = run-body .ends in let most = room .fits in record { fits = omega arith }
@@ -156,7 +158,7 @@ module _ (s t : List ℕ) (k : ℕ) (ahead : Effects-ahead s t k) (more : 0 < k)
   effect-line : Effect-here s p
   effect-line = line-fit (Effect-here s) t effect-lines k ahead more p at
 
-  pub effect-body : List-here 128 s (p + 2)
+  pub effect-body : List-here all-literals s (p + 2)
   effect-body = effect-line .body
 
   pub effect-one-there : p + 1 < length s
@@ -169,7 +171,7 @@ module _ (s t : List ℕ) (k : ℕ) (ahead : Effects-ahead s t k) (more : 0 < k)
     pub effect-one-fits : Fits w64 (p + 1)
     effect-one-fits = let ends = effect-line .body .ends in let most = room .fits in record { fits = omega arith }
 
-  pub effect-fluent : (l : ℕ) → l ≡ getD s (p + 1) 0 → l / 2 < 64
+  pub effect-fluent : (l : ℕ) → l ≡ getD s (p + 1) 0 → l / 2 < format .fluents
   effect-fluent l e = let below = effect-line .literal in omega arith
 
 pub mark-within : (l mark : ℕ) → mark ≡ mark-of l → mark ≤ 3
@@ -193,9 +195,9 @@ pub record Leaving (s t : List ℕ) (a : ℕ) (marks start next : State) (k : �
   pub ahead : Effects-ahead s t k
   pub same : left-at s marks (effect-places s a) start ≡ left-at s marks (ahead .rest) next
 
-module _ (s t : List ℕ) (a k : ℕ) (here : At-hand s t) (small : a < 64) (at : k ≡ first-line t effect-lines a) where
+module _ (s t : List ℕ) (a k : ℕ) (here : At-hand s t) (small : a < format .actions) (at : k ≡ first-line t effect-lines a) where
   abbrev all-ahead : Effects-ahead s t k
-  all-ahead = let all = effects-at-hand s t here a small in ahead-starts (Effect-here s) t effect-lines a (effect-places s a) (all .order) (all .lines) k at
+  all-ahead = ahead-starts (Effect-here s) t effect-lines a (effect-places s a) (here .effects a small) (effects-at-hand s t here a .lines) k at
 
   pub sweeping-starts : (marks : State) → Marked marks → Sweeping s t a marks marks false k
   unfolding either ahead-starts
@@ -251,7 +253,7 @@ module _ (s t : List ℕ) (a : ℕ) (marks next : State) (b : Bool) (k : ℕ) (s
       mark-small : mark ≤ 2
       mark-small = let most = mark-most l in omega arith
 
-      fluent-there : l / 2 < 64
+      fluent-there : l / 2 < format .fluents
       fluent-there = effect-fluent s t k (sweeps .ahead) more p at l is
 
       nothing-against : getD next (l / 2) 0 ≡ 0 → getD next (l / 2) 0 ≡ 3 - mark → ⊥

@@ -13,6 +13,7 @@ use lib.Seq.{getD-set-same, getD-set-other, ext-getD}
 use lib.Dec.{eqb}
 use borrow.Author.Tests.{eqb-true, eqb-false, eq-eqb, ne-eqb}
 use Rattle.meaning.specs.Tests.{both, either, fails, pick, some-of, each-of, Has}
+use Rattle.meaning.specs.Limits.{format}
 use Rattle.meaning.specs.Limits
 use Rattle.meaning.specs.Literals.{says-true, says-false, fluent-of, complement}
 use Rattle.meaning.specs.Requests.{Table}
@@ -25,14 +26,15 @@ use Rattle.meaning.proofs.StateLaws.{known-true, known-false, after-length}
 use Rattle.meaning.proofs.ToldLaws.{either-none, either-assoc, told-here, told-elsewhere}
 use Rattle.meaning.proofs.PairLaws.{after-mark}
 use Rattle.reading.specs.Listed.{listed}
-use Rattle.refusing.specs.InTable.{Effect-here}
+use Rattle.finding.specs.LinesHere.{Effect-here}
 use Rattle.reading.proofs.MarkLaws.{mark-most}
-use Rattle.steps.specs.AtHand.{request-in, At-hand, Marked}
-use Rattle.steps.specs.Lines.{effect-places, given-at}
+use Rattle.steps.specs.Held.{table-in}
+use Rattle.steps.specs.AtHand.{At-hand, Marked}
+use Rattle.steps.specs.LinesFound.{effect-places, given-at}
 use Rattle.steps.specs.After.{undone, left-at}
 use Rattle.steps.proofs.Served.{effects-at-hand}
 use Rattle.steps.proofs.Sweeps.{known-one, known-possible, mark-some, swept-one, tells-one, swept-at, tells-at}
-use Rattle.steps.proofs.SensingLaws.{marked-set}
+use Rattle.steps.proofs.LookLaws.{marked-set}
 use Rattle.steps.proofs.ActionLaws.{Sweeping, sweep-done, sweep-tells}
 
 -- ONE LITERAL.
@@ -106,7 +108,7 @@ module _ (s : List ℕ) (p : ℕ) (line : Effect-here s p) (next : State) (marke
   unfolding fluent-of
   fluent-within = let below = line .literal in rw (marked .sized) (omega arith)
 
-  fluent-small : fluent-of gives < 64
+  fluent-small : fluent-of gives < format .fluents
   unfolding fluent-of
   fluent-small = let below = line .literal in omega arith
 
@@ -322,16 +324,16 @@ module _ (s : List ℕ) (marks : State) (marked : Marked marks) (ps : List ℕ) 
   twice-after : left-at s marks ps (swept-at s marks ps marks) ≡ state-after t a marks
   twice-after = state-is _ (left-at-marked s marks ps lines _ swept-fine) twice-known
 
-module _ (s t : List ℕ) (a : ℕ) (marks next : State) (b : Bool) (k : ℕ) (here : At-hand s t) (small : a < 64) (marked : Marked marks) (sweeps : Sweeping s t a marks next b k) (h : k ≤ 0) where
-  pub after-once : b ≡ false → next ≡ state-after (request-in s .table) a marks
+module _ (s t : List ℕ) (a : ℕ) (marks next : State) (b : Bool) (k : ℕ) (here : At-hand s t) (small : a < format .actions) (marked : Marked marks) (sweeps : Sweeping s t a marks next b k) (h : k ≤ 0) where
+  pub after-once : b ≡ false → next ≡ state-after (table-in s) a marks
   after-once e =
-      let all = effects-at-hand s t here a small in
+      let all = effects-at-hand s t here a in
       sym (sweep-done s t a marks next b k sweeps h)
-      ∙ once-after s marks marked (effect-places s a) (all .lines) (request-in s .table) a (all .same) (sweep-tells s t a marks next b k sweeps h ∙ e)
+      ∙ once-after s marks marked (effect-places s a) (all .lines) (table-in s) a (all .same) (sweep-tells s t a marks next b k sweeps h ∙ e)
 
-  pub after-twice : (r : State) → r ≡ left-at s marks (effect-places s a) next → r ≡ state-after (request-in s .table) a marks
+  pub after-twice : (r : State) → r ≡ left-at s marks (effect-places s a) next → r ≡ state-after (table-in s) a marks
   after-twice r left =
-      let all = effects-at-hand s t here a small in
+      let all = effects-at-hand s t here a in
       left
       ∙ ap (left-at s marks (effect-places s a)) (sym (sweep-done s t a marks next b k sweeps h))
-      ∙ twice-after s marks marked (effect-places s a) (all .lines) (request-in s .table) a (all .same)
+      ∙ twice-after s marks marked (effect-places s a) (all .lines) (table-in s) a (all .same)

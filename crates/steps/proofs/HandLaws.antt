@@ -1,24 +1,58 @@
--- A request at hand is the one that was read, so its counts and its facts stand where every request's do. Assumes nothing.
-use Prim.Native.Nat.{ℕ}
-use mathlib.Core.Path.{_≡_, ap}
+-- A request at hand: its counts and its facts stand where every request's do, its goals and whether entries where the notes say, and the
+-- notes have the number of its items. Each follows from how the section was read. Assumes nothing.
+use Prim.Native.Nat.{ℕ, _≤_}
+use native.Mathlib.Omega.{arith}
+use mathlib.Core.Path.{_≡_}
 use mathlib.Core.List.{List}
-use Rattle.meaning.specs.Limits.{format}
-use Rattle.meaning.specs.Requests.{Request}
-use Rattle.meaning.specs.Reading.{got, read-request}
-use Rattle.reading.specs.Listed.{List-here}
-use Rattle.refusing.proofs.StartLaws.{Starts, request-starts}
-use Rattle.steps.specs.AtHand.{request-of, request-in, At-hand}
-
-pub request-read : (s : List ℕ) (x : Request) (e : ℕ) → read-request format s ≡ got x e → request-in s ≡ x
-unfolding request-in request-of
-request-read s x e reads = ap request-of reads
+use lib.ListN.{getD}
+use Rattle.meaning.specs.Limits.{format, all-literals}
+use Rattle.meaning.specs.Reading
+use Rattle.meaning.specs.Reading.{literals, bound-of, plan-at}
+use Rattle.reading.specs.Listed.{listed, List-here}
+use Rattle.reading.specs.Planned.{items-of}
+use Rattle.reading.proofs.PlanSizes.{sequence-read}
+use Rattle.reading.specs.Noted.{plan-slot, items-slot, goals-slot}
+use Rattle.finding.specs.Branches.{sequence-place}
+use Rattle.finding.proofs.HereLaws.{list-here}
+use Rattle.finding.proofs.ReadLaws.{Table-parts, table-parts}
+use Rattle.finding.proofs.StartLaws.{Starts, table-starts}
+use Rattle.steps.specs.Held.{table-in, plan-in, goals-in, whether-in}
+use Rattle.steps.specs.AtHand.{At-hand}
 
 module _ (s t : List ℕ) (here : At-hand s t) where
-  pub request-is : request-in s ≡ here .read .request
-  request-is = request-read s (here .read .request) (here .end) (here .read .reads)
+  pub starts : Starts s (table-in s)
+  starts = table-starts s (table-in s) (here .table-end) (here .table)
 
-  pub starts : Starts s (request-in s .table)
-  starts = rw request-is (request-starts s (here .read .request) (here .end) (here .read .reads))
-
-  pub facts-here : List-here 128 s 2
+  pub facts-here : List-here all-literals s 2
   facts-here = starts .here
+
+  pub sections : Table-parts s (table-in s) (here .table-end)
+  sections = table-parts s (table-in s) (here .table-end) (here .table)
+
+  pub few-items : items-of (plan-in s t) ≤ format .items
+  few-items = here .held .few
+
+  pub items-are : getD t items-slot 0 ≡ items-of (plan-in s t)
+  unfolding plan-at
+  items-are =
+      let counted = sequence-read (table-in s .fluents) (table-in s .actions) s 8 (getD t plan-slot 0) 0 (omega arith) .holds (record { value = plan-in s t; items = getD t items-slot 0 }) (goals-in t) (here .plan) .counted in
+      omega arith
+
+  -- The goals, and the whether entries behind them.
+  module _ (goals : ℕ) (slot : goals ≡ getD t goals-slot 0) where
+    pub goals-here : List-here all-literals s goals
+    unfolding bound-of goals-in
+    goals-here =
+        let few = sections .few in
+        rw slot (list-here literals (table-in s .fluents) s (format .listed) (goals-in t) (listed s (goals-in t)) (whether-in s t) (here .goals) .1 all-literals (omega (arith, few)))
+
+    module _ (whether : ℕ) (after : whether ≡ sequence-place s goals) where
+      pub is-whether : whether ≡ whether-in s t
+      unfolding goals-in whether-in sequence-place
+      is-whether = rw (after, slot)
+
+      pub whether-here : List-here (format .fluents) s whether
+      unfolding bound-of
+      whether-here =
+          let few = sections .few in
+          rw is-whether (list-here Reading.fluents (table-in s .fluents) s (format .listed) (whether-in s t) (listed s (whether-in s t)) (here .whether-end) (here .whether) .1 (format .fluents) (omega (arith, few)))

@@ -1,42 +1,38 @@
--- The table that reading left leads through the plan: by induction on the plan's tree, where a part is given what is left of the whole plan
+-- The notes of a request at hand lead through the plan: by induction on the plan's tree, where a part is given what is left of the whole plan
 -- from each of its items on, and what stands around and behind it. Assumes nothing.
 use Prim.Native.Nat.{ℕ, _+_, _-_, _≤_, _<_}
 use native.Mathlib.Omega.{arith}
-use mathlib.Core.Path.{_≡_, refl, sym, _∙_, ap, subst}
+use mathlib.Core.Path.{_≡_, refl, _∙_, ap, subst}
 use mathlib.Core.List.{List}
-use lib.ListN.{length, getD, set}
+use lib.ListN.{length, getD}
 use lib.Dec.{leb, ltb}
 use borrow.Author.Tests.{ltb-true, ltb-false, leb-true, leb-false, le-leb, lt-leb}
-use Rattle.meaning.specs.Requests.{Sequence, done, item, Item, act, branching, Branches, none, branch, Request}
+use Rattle.meaning.specs.Limits.{format}
+use Rattle.meaning.specs.Requests.{Sequence, done, item, Item, act, branching, Branches, none, branch}
 use Rattle.meaning.specs.Derivations.{join}
 use Rattle.meaning.proofs.TestLaws.{by-test, pick-true, pick-false}
-use Rattle.reading.specs.Noted.{table-noted}
-use Rattle.reading.specs.Planned.{items-of, items-in, items-under, bytes-of, place-of, following, plan-noted}
-use Rattle.refusing.specs.Plans.{Written, Item-written, Branches-written, Kept, Item-kept, Branches-kept}
-use Rattle.reading.specs.Requested.{goals-place, plan-place, places-noted, request-noted}
-use Rattle.refusing.specs.Settled.{blank}
-use Rattle.refusing.proofs.KeptLaws.{kept}
-use Rattle.refusing.proofs.PlanOverlaps.{some-item}
-use Rattle.refusing.proofs.ReadLaws.{Parts, parts, tabled-long, request-held}
-use Rattle.refusing.proofs.SettleLaws.{blank-long}
-use Rattle.steps.specs.AtHand.{request-in, At-hand}
+use Rattle.reading.specs.Planned.{items-of, items-in, items-under, bytes-of, place-of, following}
+use Rattle.reading.specs.Noted.{item-next, plan-slot, items-slot, around-from}
+use Rattle.finding.specs.PlansHeld.{Written, Item-written, Branches-written, Kept, Item-kept, Branches-kept}
+use Rattle.finding.proofs.PlanHere.{some-item}
+use Rattle.steps.specs.Held.{table-in, plan-in, goals-in}
+use Rattle.steps.specs.AtHand.{At-hand}
 use Rattle.steps.specs.Small.{Small, Small-item, Small-under}
-use Rattle.steps.specs.Rests.{rest-in, rest-within, rest-under, rest-at, after-first, span, onward, Next, Branches-laid, Inside-laid, Item-laid}
-use Rattle.steps.proofs.HandLaws.{request-is}
-use Rattle.steps.proofs.NextSlots.{Nexts, Inside-nexts, Under-nexts, nexts-agree, plan-nexts}
+use Rattle.steps.specs.Rests.{rest-in, rest-within, rest-under, rest-at, after-first, span, onward, Nexts, Inside-nexts, Under-nexts, Next, Branches-laid, Inside-laid, Item-laid}
+use Rattle.steps.proofs.HandLaws.{sections}
 use Rattle.steps.proofs.SmallActions.{plan-small}
 use Rattle.steps.proofs.RestLaws.{rest-first, rest-inner, rest-later, under-here, under-later, rest-start, rest-past}
 
-module _ (s t : List ℕ) (plan : Sequence ℕ) (most : items-of plan ≤ 1024) where
+module _ (s t : List ℕ) (plan : Sequence ℕ) (most : items-of plan ≤ format .items) where
   -- What is left of the plan from each item from lo up to hi.
   abbrev Left : (lo hi : ℕ) → (ℕ → Sequence ℕ) → Type 0
   Left lo hi f = (i : ℕ) → lo ≤ i → i < hi → rest-at plan i ≡ f i
 
   -- What stands around a sequence with `met` items before it, which ends before item hi, and what is behind it.
   record Around (up met hi : ℕ) (after : Sequence ℕ) : Type 0 where
-    top : up ≤ 1024 → up ≡ 1024
-    around : 1024 < up → up < 1025 + met
-    within : 1024 < up → hi ≤ up - 1025 + span (rest-at plan (up - 1025))
+    top : up ≤ format .items → up ≡ format .items
+    around : format .items < up → up < around-from + met
+    within : format .items < up → hi ≤ up - around-from + span (rest-at plan (up - around-from))
     rest : onward plan up ≡ after
 
   around-part : (up met hi met′ hi′ : ℕ) (after : Sequence ℕ) → met ≤ met′ → hi′ ≤ hi → Around up met hi after → Around up met′ hi′ after
@@ -49,20 +45,20 @@ module _ (s t : List ℕ) (plan : Sequence ℕ) (most : items-of plan ≤ 1024) 
       }
 
   -- The items inside a branching have it around them.
-  around-inside : (p : ℕ) (bs : Branches ℕ) (met : ℕ) (after : Sequence ℕ) → rest-at plan met ≡ item (branching p bs) after → Around (1025 + met) (met + 1) (met + 1 + items-under bs) after
+  around-inside : (p : ℕ) (bs : Branches ℕ) (met : ℕ) (after : Sequence ℕ) → rest-at plan met ≡ item (branching p bs) after → Around (around-from + met) (met + 1) (met + 1 + items-under bs) after
   unfolding onward after-first span items-in
   around-inside p bs met after this =
-      let back : 1025 + met - 1025 ≡ met = omega arith in
+      let back : around-from + met - around-from ≡ met = omega arith in
       record {
         top = λ h. absurd (omega (arith, h));
         around = λ h. omega arith;
         within = λ h. rw (back, this) (omega arith);
-        rest = pick-false _ _ _ (lt-leb (1025 + met) 1024 (omega arith)) ∙ rw (back, this);
+        rest = pick-false _ _ _ (lt-leb (around-from + met) (format .items) (omega arith)) ∙ rw (back, this);
       }
 
   -- WHAT IS NEXT.
   next-laid : (x : Item ℕ) (b : Sequence ℕ) (up met : ℕ) (after : Sequence ℕ) → met + (items-in x + items-of b) ≤ items-of plan
-      → getD t (1024 + met) 0 ≡ following up (met + items-in x) b
+      → getD t (item-next + met) 0 ≡ following up (met + items-in x) b
       → Around up met (met + (items-in x + items-of b)) after
       → rest-at plan met ≡ item x (join b after)
       → Left (met + items-in x) (met + items-in x + items-of b) (λ i. rest-in b (met + items-in x) i after)
@@ -88,7 +84,7 @@ module _ (s t : List ℕ) (plan : Sequence ℕ) (most : items-of plan ≤ 1024) 
         around = λ h. absurd (omega (arith, h, slot, room, most));
         within = λ h. absurd (omega (arith, h, slot, room, most));
         rest = rw slot (
-            pick-true _ _ _ (le-leb (met + items-in x) 1024 (omega (arith, room, most)))
+            pick-true _ _ _ (le-leb (met + items-in x) (format .items) (omega (arith, room, most)))
             ∙ left (met + items-in x) (omega arith) (omega (arith, some))
             ∙ rest-first y b (met + items-in x) after
             );
@@ -170,7 +166,7 @@ module _ (s t : List ℕ) (plan : Sequence ℕ) (most : items-of plan ≤ 1024) 
         → (i : ℕ) → met < i → i < met + items-in x → Item-laid s t plan i
     laid-within (act p a) met after room w k n small this left i from to = absurd (omega (arith, from, to))
     laid-within (branching p bs) met after room w k n small this left i from to =
-        laid-under bs (1025 + met) (met + 1) (p + 2) after (omega (arith, room)) (w .1) (k .1) n small
+        laid-under bs (around-from + met) (met + 1) (p + 2) after (omega (arith, room)) (w .1) (k .1) n small
         (around-inside p bs met after this)
         (λ j lo hi. left j lo (omega (arith, hi)))
         i (omega (arith, from)) (omega (arith, to))
@@ -193,46 +189,22 @@ module _ (s t : List ℕ) (plan : Sequence ℕ) (most : items-of plan ≤ 1024) 
         i (ltb-false i (met + items-of b) e) (omega (arith, to)))
 
   -- The whole plan has nothing behind it.
-  plan-laid : Written s plan → Kept t 0 plan → Nexts t 1024 0 plan → Small plan → (i : ℕ) → i < items-of plan → Item-laid s t plan i
+  plan-laid : Written s plan → Kept t 0 plan → Nexts t (format .items) 0 plan → Small plan → (i : ℕ) → i < items-of plan → Item-laid s t plan i
   unfolding rest-at onward
   plan-laid w k n small i less =
-      laid-in plan 1024 0 done (omega arith) w k n small
+      laid-in plan (format .items) 0 done (omega arith) w k n small
       (record {
         top = λ h. refl;
         around = λ h. absurd (omega (arith, h));
         within = λ h. absurd (omega (arith, h));
-        rest = pick-true _ _ _ (le-leb 1024 1024 (omega arith)) ∙ rest-past plan 0 1024 done (omega (arith, most));
+        rest = pick-true _ _ _ (le-leb (format .items) (format .items) (omega arith)) ∙ rest-past plan 0 (format .items) done (omega (arith, most));
       })
       (λ j lo hi. refl)
       i (omega arith) (omega (arith, less))
 
--- THE TABLE that reading left.
-module _ (s : List ℕ) (bytes : (i : ℕ) → getD s i 0 < 256) (x : Request) (whole : Parts s x) where
-  request-nexts : items-of (x .plan) ≤ 1024 → Nexts (request-noted x blank) 1024 0 (x .plan)
-  unfolding request-noted places-noted
-  request-nexts few =
-      let noted : List ℕ = table-noted (x .table) blank in
-      let planned : List ℕ = plan-noted (plan-place x) noted (x .plan) in
-      let long : length noted ≡ 9480 = tabled-long s bytes x whole blank blank-long in
-      nexts-agree (x .plan) 1024 0 planned (request-noted x blank)
-      (record {
-        slot = λ j _ less.
-            kept (set (set planned 5376 (plan-place x)) 5377 (items-of (x .plan))) 5381 (1024 + j) (goals-place x) (λ e. omega (arith, e, less, few))
-            ∙ kept (set planned 5376 (plan-place x)) 5377 (1024 + j) (items-of (x .plan)) (λ e. omega (arith, e, less, few))
-            ∙ kept planned 5376 (1024 + j) (plan-place x) (λ e. omega (arith, e, less, few));
-      })
-      (plan-nexts (plan-place x) noted (x .plan) few (omega (arith, long)))
-
-  request-laid : (i : ℕ) → i < items-of (x .plan) → Item-laid s (request-noted x blank) (x .plan) i
-  request-laid =
-      let held = request-held s bytes x whole blank blank-long in
-      plan-laid s (request-noted x blank) (x .plan) (held .few) (held .written) (held .kept) (request-nexts (held .few))
-      (plan-small (x .table .fluents) (x .table .actions) s (whole .of-table .less) (whole .place) (record { value = x .plan; items = whole .items }) (whole .plan-end) (whole .plan-read))
-
+-- AT HAND.
 module _ (s t : List ℕ) (here : At-hand s t) where
-  pub item-laid : (i : ℕ) → i < items-of (request-in s .plan) → Item-laid s t (request-in s .plan) i
+  pub item-laid : (i : ℕ) → i < items-of (plan-in s t) → Item-laid s t (plan-in s t) i
   item-laid =
-      let x = here .read .request in
-      subst (λ (y : Request). (i : ℕ) → i < items-of (y .plan) → Item-laid s t (y .plan) i) (sym (request-is s t here))
-      (subst (λ (u : List ℕ). (i : ℕ) → i < items-of (x .plan) → Item-laid s u (x .plan) i) (sym (here .read .noted))
-      (request-laid s (here .bytes) x (parts s x (here .end) (here .read .reads))))
+      plan-laid s t (plan-in s t) (here .held .few) (here .held .written) (here .held .kept) (here .nexts)
+      (plan-small (table-in s .fluents) (table-in s .actions) s (sections s t here .less) (getD t plan-slot 0) (record { value = plan-in s t; items = getD t items-slot 0 }) (goals-in t) (here .plan))

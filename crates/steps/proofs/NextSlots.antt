@@ -6,28 +6,17 @@ use mathlib.Core.Path.{_≡_, _∙_}
 use mathlib.Core.List.{List}
 use lib.ListN.{length, getD, set, length-set}
 use lib.Seq.{getD-set-same, getD-set-other}
+use Rattle.meaning.specs.Limits.{format}
 use Rattle.meaning.specs.Requests.{Sequence, done, item, Item, act, branching, Branches, none, branch}
 use Rattle.reading.specs.Planned.{items-of, items-in, items-under, bytes-of, bytes-in, place-of, following, rest-noted, inside-noted, branches-noted, sequence-noted, plan-noted}
-use Rattle.refusing.proofs.PlanKept.{rest-length, inside-length, rest-other, branches-other}
-use Rattle.refusing.proofs.PlanOverlaps.{some-item}
-
--- IN THE TABLE, with `met` items before the part and `up` around its sequence.
-unfoldable mutual
-  pub Nexts : List ℕ → (up met : ℕ) → Sequence ℕ → Type 0
-  Nexts t up met done = Unit {0}
-  Nexts t up met (item i rest) = (getD t (1024 + met) 0 ≡ following up (met + items-in i) rest) × Inside-nexts t met i × Nexts t up (met + items-in i) rest
-
-  pub Inside-nexts : List ℕ → (met : ℕ) → Item ℕ → Type 0
-  Inside-nexts t met (act p a) = Unit {0}
-  Inside-nexts t met (branching p bs) = Under-nexts t (1025 + met) (met + 1) bs
-
-  pub Under-nexts : List ℕ → (up met : ℕ) → Branches ℕ → Type 0
-  Under-nexts t up met none = Unit {0}
-  Under-nexts t up met (branch c b rest) = Nexts t up met b × Under-nexts t up (met + items-of b) rest
+use Rattle.reading.specs.Noted.{item-next, branch-place, branch-item, effect-lines, around-from}
+use Rattle.finding.proofs.PlanKept.{rest-length, inside-length, rest-other, branches-other}
+use Rattle.finding.proofs.PlanHere.{some-item}
+use Rattle.steps.specs.Rests.{Nexts, Inside-nexts, Under-nexts}
 
 -- TABLES THAT AGREE on what is next of the items from lo up to hi.
 pub record Same-nexts (lo hi : ℕ) (t u : List ℕ) : Type 0 where
-  pub slot : (j : ℕ) → lo ≤ j → j < hi → getD u (1024 + j) 0 ≡ getD t (1024 + j) 0
+  pub slot : (j : ℕ) → lo ≤ j → j < hi → getD u (item-next + j) 0 ≡ getD t (item-next + j) 0
 
 same-part : (lo hi lo′ hi′ : ℕ) (t u : List ℕ) → lo ≤ lo′ → hi′ ≤ hi → Same-nexts lo hi t u → Same-nexts lo′ hi′ t u
 same-part lo hi lo′ hi′ t u a b same = record { slot = λ j h k. same .slot j (omega (arith, a, h)) (omega (arith, b, k)) }
@@ -49,7 +38,7 @@ mutual
   inside-agree : (i : Item ℕ) (met : ℕ) (t u : List ℕ) → Same-nexts (met + 1) (met + items-in i) t u → Inside-nexts t met i → Inside-nexts u met i
   inside-agree (act p a) met t u same n = tt
   inside-agree (branching p bs) met t u same n =
-      under-agree bs (1025 + met) (met + 1) t u (same-part (met + 1) (met + (1 + items-under bs)) (met + 1) (met + 1 + items-under bs) t u (omega arith) (omega arith) same) n
+      under-agree bs (around-from + met) (met + 1) t u (same-part (met + 1) (met + (1 + items-under bs)) (met + 1) (met + 1 + items-under bs) t u (omega arith) (omega arith) same) n
 
   under-agree : (bs : Branches ℕ) (up met : ℕ) (t u : List ℕ) → Same-nexts met (met + items-under bs) t u → Under-nexts t up met bs → Under-nexts u up met bs
   under-agree none up met t u same n = tt
@@ -64,15 +53,15 @@ mutual
 mutual
   unfolding rest-noted inside-noted branches-noted Nexts Inside-nexts Under-nexts items-of items-in items-under
 
-  rest-nexts : (b : Sequence ℕ) (up first met p : ℕ) (t : List ℕ) → met + items-of b ≤ 1024 → 4096 ≤ length t → Nexts (rest-noted up first met p t b) up met b
+  rest-nexts : (b : Sequence ℕ) (up first met p : ℕ) (t : List ℕ) → met + items-of b ≤ format .items → effect-lines ≤ length t → Nexts (rest-noted up first met p t b) up met b
   rest-nexts done up first met p t few room = tt
   rest-nexts (item i rest) up first met p t few room = (
-    keeps met (omega (arith, some)) ∙ getD-set-same inside (1024 + met) (following up (met + items-in i) rest) 0 (omega (arith, some, few, room, size)),
+    keeps met (omega (arith, some)) ∙ getD-set-same inside (format .items + met) (following up (met + items-in i) rest) 0 (omega (arith, some, few, room, size)),
     inside-agree i met inside (rest-noted up first (met + items-in i) (p + bytes-in i) after rest)
-        (record { slot = λ j h k. keeps j k ∙ getD-set-other inside (1024 + met) (1024 + j) (following up (met + items-in i) rest) 0 (λ (q : 1024 + j ≡ 1024 + met). omega (arith, q, h)) })
+        (record { slot = λ j h k. keeps j k ∙ getD-set-other inside (format .items + met) (format .items + j) (following up (met + items-in i) rest) 0 (λ (q : format .items + j ≡ format .items + met). omega (arith, q, h)) })
         (inside-next i met (set t (0 + met) (place-of i)) (omega (arith, few)) (rw (length-set t (0 + met) (place-of i)) room)),
     rest-nexts rest up first (met + items-in i) (p + bytes-in i) after (omega (arith, few))
-        (rw (length-set inside (1024 + met) (following up (met + items-in i) rest), size) room),
+        (rw (length-set inside (item-next + met) (following up (met + items-in i) rest), size) room),
   )
     where
       some : 0 < items-in i
@@ -85,23 +74,23 @@ mutual
       size = inside-length i met (set t (0 + met) (place-of i)) ∙ length-set t (0 + met) (place-of i)
 
       after : List ℕ
-      after = set inside (1024 + met) (following up (met + items-in i) rest)
+      after = set inside (item-next + met) (following up (met + items-in i) rest)
 
-      keeps : (j : ℕ) → j < met + items-in i → getD (rest-noted up first (met + items-in i) (p + bytes-in i) after rest) (1024 + j) 0 ≡ getD after (1024 + j) 0
+      keeps : (j : ℕ) → j < met + items-in i → getD (rest-noted up first (met + items-in i) (p + bytes-in i) after rest) (format .items + j) 0 ≡ getD after (item-next + j) 0
       keeps j k =
-          rest-other rest up first (met + items-in i) (p + bytes-in i) after (1024 + j) (omega (arith, few))
-          (λ _. (λ (q : 1024 + j ≡ 2048 + first). omega (arith, q, k, few), λ (q : 1024 + j ≡ 3072 + first). omega (arith, q, k, few)))
+          rest-other rest up first (met + items-in i) (p + bytes-in i) after (format .items + j) (omega (arith, few))
+          (λ _. (λ (q : format .items + j ≡ branch-place + first). omega (arith, q, k, few), λ (q : format .items + j ≡ branch-item + first). omega (arith, q, k, few)))
           (λ a d e. omega (arith, d, k, few))
 
-  inside-next : (i : Item ℕ) (met : ℕ) (t : List ℕ) → met + items-in i ≤ 1024 → 4096 ≤ length t → Inside-nexts (inside-noted met t i) met i
+  inside-next : (i : Item ℕ) (met : ℕ) (t : List ℕ) → met + items-in i ≤ format .items → effect-lines ≤ length t → Inside-nexts (inside-noted met t i) met i
   inside-next (act p a) met t few room = tt
-  inside-next (branching p bs) met t few room = under-nexts bs (1025 + met) (met + 1) (p + 2) t (omega (arith, few)) room
+  inside-next (branching p bs) met t few room = under-nexts bs (around-from + met) (met + 1) (p + 2) t (omega (arith, few)) room
 
-  under-nexts : (bs : Branches ℕ) (up met p : ℕ) (t : List ℕ) → met + items-under bs ≤ 1024 → 4096 ≤ length t → Under-nexts (branches-noted up met p t bs) up met bs
+  under-nexts : (bs : Branches ℕ) (up met p : ℕ) (t : List ℕ) → met + items-under bs ≤ format .items → effect-lines ≤ length t → Under-nexts (branches-noted up met p t bs) up met bs
   under-nexts none up met p t few room = tt
   under-nexts (branch c b rest) up met p t few room = (
     nexts-agree b up met after (branches-noted up (met + items-of b) end after rest)
-        (record { slot = λ j h k. branches-other rest up (met + items-of b) end after (1024 + j) (omega (arith, few)) (λ a d e. omega (arith, d, k, few)) })
+        (record { slot = λ j h k. branches-other rest up (met + items-of b) end after (format .items + j) (omega (arith, few)) (λ a d e. omega (arith, d, k, few)) })
         (rest-nexts b up met met (p + (1 + length c) + 2) t (omega (arith, few)) room),
     under-nexts rest up (met + items-of b) end after (omega (arith, few)) (rw (rest-length b up met met (p + (1 + length c) + 2) t) room),
   )
@@ -112,6 +101,6 @@ mutual
       after : List ℕ
       after = rest-noted up met met (p + (1 + length c) + 2) t b
 
-pub plan-nexts : (p : ℕ) (t : List ℕ) (b : Sequence ℕ) → items-of b ≤ 1024 → 4096 ≤ length t → Nexts (plan-noted p t b) 1024 0 b
+pub plan-nexts : (p : ℕ) (t : List ℕ) (b : Sequence ℕ) → items-of b ≤ format .items → effect-lines ≤ length t → Nexts (plan-noted p t b) (format .items) 0 b
 unfolding plan-noted sequence-noted
-plan-nexts p t b few room = rest-nexts b 1024 0 0 (p + 2) t (omega (arith, few)) room
+plan-nexts p t b few room = rest-nexts b (format .items) 0 0 (p + 2) t (omega (arith, few)) room

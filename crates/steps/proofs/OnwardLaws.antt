@@ -1,4 +1,4 @@
--- Where the walk goes on: after an item, into a branch, and what a walk from there gives. The plan is held in the input and the table, item by item.
+-- Where the walk goes on: after an item, into a branch, and what a walk from there gives. The plan is held in the input and the notes, item by item.
 -- Assumes nothing.
 use Prim.Native.Nat.{ℕ, _+_, _-_, _≤_, _<_}
 use native.Mathlib.Omega.{arith}
@@ -11,27 +11,27 @@ use mir.Val.{Fits}
 use lib.Dec.{leb}
 use borrow.Author.Tests.{le-leb, lt-leb, leb-true, leb-false}
 use Rattle.meaning.specs.Tests.{each-of}
-use Rattle.meaning.specs.Requests.{Sequence, done, item, Item, act, branching, Branches, none, branch, Request}
+use Rattle.meaning.specs.Limits.{format}
+use Rattle.meaning.specs.Requests.{Sequence, done, item, Item, act, branching, Branches, none, branch}
 use Rattle.meaning.specs.Derivations.{join}
 use Rattle.meaning.specs.States.{State, known}
 use Rattle.meaning.specs.Walk.{Walked, Steps, run-action, walk, walk-item, walk-branch, table-step, judged}
 use Rattle.meaning.proofs.TestLaws.{by-test, clash, pick-true, pick-false}
 use Rattle.reading.specs.Listed.{listed, holds-as}
 use Rattle.reading.specs.declared.marks.Test.the-variants.{Known}
-use Rattle.refusing.specs.declared.refusals.Found as Code
-use Rattle.refusing.specs.declared.refusals.Found.the-variants.{Nowhere, At}
+use Rattle.finding.specs.declared.places.Found as Code
+use Rattle.finding.specs.declared.places.Found.the-variants.{Nowhere, At}
 use Rattle.reading.specs.Planned.{items-of, bytes-of, place-of}
-use Rattle.refusing.specs.Plans.{own-items, branches-in, Item-written, Branches-written, Plan-held}
-use Rattle.refusing.specs.Branchings.{sequence-place, no-item, place-after, item-after, Branches-here, Item-here}
-use Rattle.refusing.specs.Settled.{blank}
-use Rattle.refusing.proofs.ReadLaws.{parts, request-held}
-use Rattle.refusing.proofs.SettleLaws.{blank-long}
-use Rattle.refusing.proofs.OverlapLaws.{branch-first, branches-next}
-use Rattle.refusing.proofs.PlanOverlaps.{count-zero, count-some, some-item, place-is, item-is, plan-here}
-use Rattle.steps.specs.AtHand.{request-in, At-hand}
+use Rattle.reading.specs.Noted.{item-next, slots, around-from}
+use Rattle.finding.specs.PlansHeld.{own-items, branches-in, Item-written, Branches-written}
+use Rattle.finding.specs.Branches.{sequence-place, no-item, place-after, item-after, Branches-here, Item-here}
+use Rattle.finding.proofs.ByBranch.{branch-first, branches-next}
+use Rattle.finding.proofs.PlanHere.{count-zero, count-some, some-item, place-is, item-is, plan-here}
+use Rattle.steps.specs.Held.{table-in, plan-in, request-in}
+use Rattle.steps.specs.AtHand.{At-hand}
 use Rattle.steps.specs.Rests.{rest-at, after-first, span, onward, Position, Branches-laid, Inside-laid, Item-laid}
 use Rattle.steps.specs.Steps.{walk-from, walk-after, Followed, Into, going-on, Chosen}
-use Rattle.steps.proofs.HandLaws.{request-is}
+use Rattle.steps.proofs.HandLaws.{few-items}
 use Rattle.steps.proofs.RestLaws.{rest-past}
 use Rattle.steps.proofs.Laid.{item-laid}
 
@@ -44,57 +44,48 @@ module _ {S L : Type 0} (step : Steps S L) where
 
 -- THE PLAN is held.
 module _ (s t : List ℕ) (here : At-hand s t) where
-  held : Plan-held s t (request-in s .plan)
-  held =
-      let x : Request = here .read .request in
-      rw (request-is s t here)
-      (subst (λ (u : List ℕ). Plan-held s u (x .plan)) (sym (here .read .noted)) (request-held s (here .bytes) x (parts s x (here .end) (here .read .reads)) blank blank-long))
-
-  pub few-items : items-of (request-in s .plan) ≤ 1024
-  few-items = held .few
-
   -- AN ITEM of it.
-  module _ (i : ℕ) (less : i < items-of (request-in s .plan)) where
+  module _ (i : ℕ) (less : i < items-of (plan-in s t)) where
     pub item-there : Item-here s t i (getD t (0 + i) 0)
-    item-there = plan-here s t (request-in s .plan) (items-of (request-in s .plan)) held refl .each i less
+    item-there = plan-here s t (plan-in s t) (items-of (plan-in s t)) (here .held) refl .each i less
 
-    laid : Item-laid s t (request-in s .plan) i
+    laid : Item-laid s t (plan-in s t) i
     laid = item-laid s t here i less
 
-    after-is : after-first (rest-at (request-in s .plan) i) ≡ laid .after
+    after-is : after-first (rest-at (plan-in s t) i) ≡ laid .after
     unfolding after-first
     after-is = rw (laid .rest)
 
-    span-some : 0 < span (rest-at (request-in s .plan) i)
+    span-some : 0 < span (rest-at (plan-in s t) i)
     unfolding span
     span-some = rw (laid .rest) (some-item (laid .this))
 
--- AFTER AN ITEM. What the table has leads on to what is left after item i.
+-- AFTER AN ITEM. What the notes have leads on to what is left after item i.
 module _ (b : Sequence ℕ) (at : ℕ) where
-  onward-item : at ≤ 1024 → onward b at ≡ rest-at b at
+  onward-item : at ≤ format .items → onward b at ≡ rest-at b at
   unfolding onward
-  onward-item h = pick-true _ _ _ (le-leb at 1024 h)
+  onward-item h = pick-true _ _ _ (le-leb at (format .items) h)
 
-  onward-around : 1024 < at → onward b at ≡ after-first (rest-at b (at - 1025))
+  onward-around : format .items < at → onward b at ≡ after-first (rest-at b (at - around-from))
   unfolding onward
-  onward-around h = pick-false _ _ _ (lt-leb at 1024 h)
+  onward-around h = pick-false _ _ _ (lt-leb at (format .items) h)
 
-pub record Going (s : List ℕ) (i at : ℕ) : Type 0 where
-  pub later : at ≤ 1024 → i < at
-  pub position : at ≤ 1024 → Position (request-in s .plan) at
-  pub inside : 1024 < at → at - 1025 < items-of (request-in s .plan)
-  pub within : 1024 < at → i < at - 1025 + span (rest-at (request-in s .plan) (at - 1025))
-  pub rest : onward (request-in s .plan) at ≡ after-first (rest-at (request-in s .plan) i)
+pub record Going (s t : List ℕ) (i at : ℕ) : Type 0 where
+  pub later : at ≤ format .items → i < at
+  pub position : at ≤ format .items → Position (plan-in s t) at
+  pub inside : format .items < at → at - around-from < items-of (plan-in s t)
+  pub within : format .items < at → i < at - around-from + span (rest-at (plan-in s t) (at - around-from))
+  pub rest : onward (plan-in s t) at ≡ after-first (rest-at (plan-in s t) i)
 
 module _ (s t : List ℕ) (here : At-hand s t) (i : ℕ) where
-  module _ (less : i < items-of (request-in s .plan)) where
-    pub slot-fits : Fits w64 (1024 + i)
+  module _ (less : i < items-of (plan-in s t)) where
+    pub slot-fits : Fits w64 (format .items + i)
     slot-fits = let few = few-items s t here in record { fits = omega (arith, less, few) }
 
-    pub slot-there : 1024 + i < 9480
+    pub slot-there : format .items + i < slots
     slot-there = let few = few-items s t here in omega (arith, less, few)
 
-    pub going-starts : (at : ℕ) → at ≡ getD t (1024 + i) 0 → Going s i at
+    pub going-starts : (at : ℕ) → at ≡ getD t (item-next + i) 0 → Going s t i at
     going-starts at is =
         let some = span-some s t here i less in
         let on = laid s t here i less .next in
@@ -107,54 +98,54 @@ module _ (s t : List ℕ) (here : At-hand s t) (i : ℕ) where
           rest = on .rest ∙ sym (after-is s t here i less);
         })
 
-  module _ (at : ℕ) (going : Going s i at) where
-    pub goes-there : at ≤ 1024 → Followed s i at
-    goes-there h = record { later = going .later h; at = going .position h; rest = sym (onward-item (request-in s .plan) at h) ∙ going .rest }
+  module _ (at : ℕ) (going : Going s t i at) where
+    pub goes-there : at ≤ format .items → Followed s t i at
+    goes-there h = record { later = going .later h; at = going .position h; rest = sym (onward-item (plan-in s t) at h) ∙ going .rest }
 
-    module _ (more : 1024 < at) where
-      pub around-fits : Fits w64 (1024 + (at - 1025))
+    module _ (more : format .items < at) where
+      pub around-fits : Fits w64 (format .items + (at - around-from))
       around-fits = let few = few-items s t here in let inside = going .inside more in record { fits = omega (arith, inside, few) }
 
-      pub around-there : 1024 + (at - 1025) < 9480
+      pub around-there : format .items + (at - around-from) < slots
       around-there = let few = few-items s t here in let inside = going .inside more in omega (arith, inside, few)
 
-      module _ (next : ℕ) (is : next ≡ getD t (1024 + (at - 1025)) 0) where
+      module _ (next : ℕ) (is : next ≡ getD t (item-next + (at - around-from)) 0) where
         pub going-less : next < at
         going-less =
-            let on = laid s t here (at - 1025) (going .inside more) .next in
-            by-test (leb next 1024)
-            (λ u. let small = leb-true next 1024 u in omega (arith, small, more))
-            (λ u. let large = leb-false next 1024 u in let around = on .around (subst (λ (n : ℕ). 1024 < n) is large) in omega (arith, around, is, more))
+            let on = laid s t here (at - around-from) (going .inside more) .next in
+            by-test (leb next (format .items))
+            (λ u. let small = leb-true next (format .items) u in omega (arith, small, more))
+            (λ u. let large = leb-false next (format .items) u in let around = on .around (subst (λ (n : ℕ). format .items < n) is large) in omega (arith, around, is, more))
 
-        pub going-on-around : Going s i next
+        pub going-on-around : Going s t i next
         going-on-around =
             let inside = going .inside more in
             let within = going .within more in
-            let on = laid s t here (at - 1025) inside .next in
+            let on = laid s t here (at - around-from) inside .next in
             rw is
             (record {
               later = λ h. let past = on .later h in omega (arith, past, within);
               position = on .at;
               inside = λ h. let around = on .around h in omega (arith, inside, around, h);
               within = λ h. let past = on .within h in omega (arith, past, within);
-              rest = on .rest ∙ sym (after-is s t here (at - 1025) inside) ∙ sym (onward-around (request-in s .plan) at more) ∙ going .rest;
+              rest = on .rest ∙ sym (after-is s t here (at - around-from) inside) ∙ sym (onward-around (plan-in s t) at more) ∙ going .rest;
             })
 
 -- INTO A BRANCH whose sequence has an item, or none.
-module _ (s : List ℕ) (i p met q : ℕ) (at : q ≡ sequence-place s p) (empty : Bool) (tested : empty ≡ no-item s q) where
+module _ (s t : List ℕ) (i p met q : ℕ) (at : q ≡ sequence-place s p) (empty : Bool) (tested : empty ≡ no-item s q) where
   tested-there : no-item s (sequence-place s p) ≡ empty
   tested-there = sym (tested ∙ ap (no-item s) at)
 
-  pub into-empty : empty ≡ true → (r : ℕ) → Followed s i r → Into s i p met r
+  pub into-empty : empty ≡ true → (r : ℕ) → Followed s t i r → Into s t i p met r
   into-empty e r follows = record { empty = λ _. follows; other = λ some. clash (tested-there ∙ e) some }
 
-  pub into-item : empty ≡ false → Into s i p met met
+  pub into-item : empty ≡ false → Into s t i p met met
   into-item e = record { empty = λ bare. clash bare (tested-there ∙ e); other = λ _. refl }
 
 -- WHERE A BRANCHING GOES ON. Its walk is the walk by these branches, and then by what is after it.
 abbrev pub Walks-by : (s t : List ℕ) (i : ℕ) → State → Sequence ℕ → Branches ℕ → Type 0
 Walks-by s t i marks after branches =
-    walk-from s i marks ≡ walk-branch (table-step (request-in s .table)) branches (getD t (0 + i) 0) (walk (table-step (request-in s .table)) after (judged (request-in s))) marks
+    walk-from s t i marks ≡ walk-branch (table-step (table-in s)) branches (getD t (0 + i) 0) (walk (table-step (table-in s)) after (judged (request-in s t))) marks
 
 -- None of the branches before p has a condition known true; those from there on are `branches`.
 pub record Choosing (s t : List ℕ) (i : ℕ) (marks : State) (left p met : ℕ) : Type 0 where
@@ -163,16 +154,16 @@ pub record Choosing (s t : List ℕ) (i : ℕ) (marks : State) (left p met : ℕ
   pub here : Branches-here s t left p met
   pub count : left ≡ branches-in branches
   pub written : Branches-written s p branches
-  pub laid : Branches-laid t (request-in s .plan) met p after branches
+  pub laid : Branches-laid t (plan-in s t) met p after branches
   pub beyond : i < met
-  pub follows : after-first (rest-at (request-in s .plan) i) ≡ after
+  pub follows : after-first (rest-at (plan-in s t) i) ≡ after
   pub goes : Walks-by s t i marks after branches
 
-module _ (s t : List ℕ) (here : At-hand s t) (i : ℕ) (less : i < items-of (request-in s .plan)) where
+module _ (s t : List ℕ) (here : At-hand s t) (i : ℕ) (less : i < items-of (plan-in s t)) where
   pub place-fits : Fits w64 (0 + i)
   place-fits = let few = few-items s t here in record { fits = omega (arith, less, few) }
 
-  pub place-there : 0 + i < 9480
+  pub place-there : 0 + i < slots
   place-there = let few = few-items s t here in omega (arith, less, few)
 
   pub first-item-fits : Fits w64 (i + 1)
@@ -193,7 +184,7 @@ module _ (s t : List ℕ) (here : At-hand s t) (i : ℕ) (less : i < items-of (r
       first-fits room = let there = second-there in let most = room .fits in record { fits = omega arith }
 
     module _ (marks : State) where
-      opened : (this : Item ℕ) (after : Sequence ℕ) → rest-at (request-in s .plan) i ≡ item this after → getD t (0 + i) 0 ≡ place-of this → Item-written s this → Inside-laid t (request-in s .plan) i after this
+      opened : (this : Item ℕ) (after : Sequence ℕ) → rest-at (plan-in s t) i ≡ item this after → getD t (0 + i) 0 ≡ place-of this → Item-written s this → Inside-laid t (plan-in s t) i after this
           → Choosing s t i marks (getD s (getD t (0 + i) 0 + 1) 0) (getD t (0 + i) 0 + 2) (i + 1)
       unfolding place-of Item-written Inside-laid after-first walk walk-from
       opened (act p a) after rest place w inside =
@@ -225,13 +216,13 @@ Nowhere≢At : (a : ℕ) → Nowhere ≡ At a → ⊥
 Nowhere≢At a e = false≢true (ap (λ (r : Code.Found). elim r [ Nowhere ↦ false | At p ↦ true ]) e)
 
 module _ (s t : List ℕ) (i : ℕ) (marks : State) where
-  chosen-there : (r : ℕ) → walk-from s i marks ≡ walk-from s r marks → i < r → Position (request-in s .plan) r → Chosen s t i marks (At r)
+  chosen-there : (r : ℕ) → walk-from s t i marks ≡ walk-from s t r marks → i < r → Position (plan-in s t) r → Chosen s t i marks (At r)
   unfolding going-on
   chosen-there r goes later position =
       record {
         goes = goes;
         later = λ at e. subst (λ (n : ℕ). i < n) (At-same r at e) later;
-        at = λ at e. subst (Position (request-in s .plan)) (At-same r at e) position;
+        at = λ at e. subst (Position (plan-in s t)) (At-same r at e) position;
       }
 
   module _ (left p met : ℕ) (choosing : Choosing s t i marks left p met) where
@@ -244,7 +235,7 @@ module _ (s t : List ℕ) (i : ℕ) (marks : State) where
       unfolding branches-in Branches-written Branches-laid walk-branch table-step
       choosing-next fails q j placed counted = step (choosing .branches) (choosing .count) (choosing .written) (choosing .laid) (choosing .goes)
         where
-          step : (bs : Branches ℕ) → left ≡ branches-in bs → Branches-written s p bs → Branches-laid t (request-in s .plan) met p (choosing .after) bs
+          step : (bs : Branches ℕ) → left ≡ branches-in bs → Branches-written s p bs → Branches-laid t (plan-in s t) met p (choosing .after) bs
               → Walks-by s t i marks (choosing .after) bs
               → Choosing s t i marks (left - 1) q j
           step none count w l goes = absurd (omega (arith, more, count))
@@ -264,11 +255,11 @@ module _ (s t : List ℕ) (i : ℕ) (marks : State) where
                 goes = goes ∙ pick-false _ _ _ (condition-is c (w .0 .condition) ∙ fails);
               }
 
-      pub chosen-at : known-here ≡ true → (r : ℕ) → Into s i p met r → Chosen s t i marks (At r)
+      pub chosen-at : known-here ≡ true → (r : ℕ) → Into s t i p met r → Chosen s t i marks (At r)
       unfolding branches-in Branches-written Branches-laid walk-branch table-step walk-from own-items items-of
       chosen-at holds r into = by-branch (choosing .branches) (choosing .count) (choosing .written) (choosing .laid) (choosing .goes)
         where
-          by-branch : (bs : Branches ℕ) → left ≡ branches-in bs → Branches-written s p bs → Branches-laid t (request-in s .plan) met p (choosing .after) bs
+          by-branch : (bs : Branches ℕ) → left ≡ branches-in bs → Branches-written s p bs → Branches-laid t (plan-in s t) met p (choosing .after) bs
               → Walks-by s t i marks (choosing .after) bs
               → Chosen s t i marks (At r)
           by-branch none count w l goes = absurd (omega (arith, more, count))
@@ -286,7 +277,7 @@ module _ (s t : List ℕ) (i : ℕ) (marks : State) where
               (chosen-there met
               (goes
               ∙ pick-true _ _ _ (condition-is c (w .0 .condition) ∙ holds)
-              ∙ sym (walk-join (table-step (request-in s .table)) (item x d) (choosing .after) (judged (request-in s)) marks)
+              ∙ sym (walk-join (table-step (table-in s)) (item x d) (choosing .after) (judged (request-in s t)) marks)
               ∙ rw (l .0 .rest some))
               beyond
               (record { most = branch-first s t left p met more (choosing .here) .few; there = λ _. l .0 .there some }))
@@ -297,25 +288,25 @@ module _ (s t : List ℕ) (i : ℕ) (marks : State) where
       where
         by-branch : (bs : Branches ℕ) → left ≡ branches-in bs
             → Walks-by s t i marks (choosing .after) bs
-            → walk-from s i marks ≡ going-on s (getD t (0 + i) 0) marks Nowhere
+            → walk-from s t i marks ≡ going-on s t (getD t (0 + i) 0) marks Nowhere
         by-branch none count goes = goes
         by-branch (branch c d bs) count goes = absurd (omega (arith, over, count))
 
 -- FROM A POSITION. Nothing is left from the plan's end on.
 module _ (s t : List ℕ) (here : At-hand s t) where
-  pub end-judged : (marks : State) → walk-from s 1024 marks ≡ judged (request-in s) marks
+  pub end-judged : (marks : State) → walk-from s t (format .items) marks ≡ judged (request-in s t) marks
   unfolding walk-from rest-at walk
-  end-judged marks = let few = few-items s t here in rw (rest-past (request-in s .plan) 0 1024 done (omega (arith, few)))
+  end-judged marks = let few = few-items s t here in rw (rest-past (plan-in s t) 0 (format .items) done (omega (arith, few)))
 
-  module _ (i : ℕ) (less : i < items-of (request-in s .plan)) (p : ℕ) (is : p ≡ getD t (0 + i) 0) where
+  module _ (i : ℕ) (less : i < items-of (plan-in s t)) (p : ℕ) (is : p ≡ getD t (0 + i) 0) where
     pub item-inside : p < length s
     item-inside = rw is (item-there s t here i less .there)
 
     module _ (other : getD s p 0 ≡ 255 → ⊥) where
       An-act : Type 0
-      An-act = (after : Sequence ℕ) × (rest-at (request-in s .plan) i ≡ item (act p (getD s p 0)) after) × (getD s p 0 < 64)
+      An-act = (after : Sequence ℕ) × (rest-at (plan-in s t) i ≡ item (act p (getD s p 0)) after) × (getD s p 0 < format .actions)
 
-      an-act : (this : Item ℕ) (after : Sequence ℕ) → rest-at (request-in s .plan) i ≡ item this after → getD t (0 + i) 0 ≡ place-of this → Item-written s this → Inside-laid t (request-in s .plan) i after this → An-act
+      an-act : (this : Item ℕ) (after : Sequence ℕ) → rest-at (plan-in s t) i ≡ item this after → getD t (0 + i) 0 ≡ place-of this → Item-written s this → Inside-laid t (plan-in s t) i after this → An-act
       unfolding place-of Item-written Inside-laid An-act
       an-act (act q a) after rest place w inside =
           let at : p ≡ q = is ∙ place in
@@ -328,15 +319,15 @@ module _ (s t : List ℕ) (here : At-hand s t) where
       the-act = let l = laid s t here i less in an-act (l .this) (l .after) (l .rest) (l .place) (l .written) (l .inside)
 
       module _ (a : ℕ) (byte : a ≡ getD s p 0) where
-        pub action-small : a < 64
+        pub action-small : a < format .actions
         unfolding An-act
         action-small = rw byte (the-act .2)
 
-        pub action-walked : (marks : State) → walk-from s i marks ≡ run-action (table-step (request-in s .table)) p a (walk-after s i) marks
+        pub action-walked : (marks : State) → walk-from s t i marks ≡ run-action (table-step (table-in s)) p a (walk-after s t i) marks
         unfolding An-act walk-from walk-after walk after-first
         action-walked marks = rw (the-act .1, byte)
 
 -- From the position after an item on, what follows the item is walked.
-pub followed-walks : (s : List ℕ) (i r : ℕ) → Followed s i r → (marks : State) → walk-after s i marks ≡ walk-from s r marks
+pub followed-walks : (s t : List ℕ) (i r : ℕ) → Followed s t i r → (marks : State) → walk-after s t i marks ≡ walk-from s t r marks
 unfolding walk-from walk-after
-followed-walks s i r follows marks = rw (follows .rest)
+followed-walks s t i r follows marks = rw (follows .rest)

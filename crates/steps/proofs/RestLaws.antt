@@ -9,7 +9,7 @@ use Rattle.meaning.specs.Requests.{Sequence, done, item, Item, Branches, branch
 use Rattle.meaning.specs.Derivations.{join}
 use Rattle.meaning.proofs.TestLaws.{pick-true, pick-false}
 use Rattle.reading.specs.Planned.{items-of, items-in}
-use Rattle.refusing.proofs.PlanOverlaps.{some-item}
+use Rattle.finding.proofs.PlanHere.{some-item}
 use Rattle.steps.specs.Rests.{rest-in, rest-within, rest-under}
 
 module _ (x : Item ℕ) (b : Sequence ℕ) (met : ℕ) (after : Sequence ℕ) where

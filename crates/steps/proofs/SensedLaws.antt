@@ -1,6 +1,6 @@
 -- What an action senses after the knowledge lines are noted one by one: the slot of a pair, and the smallest and the largest fluent of the
 -- action. Noting a line touches the slots of its own pair and action alone, and the bounds only grow. Assumes nothing.
-use Prim.Native.Nat.{ℕ, _+_, _-_, _*_, _≤_, _<_, max}
+use Prim.Native.Nat.{max, ℕ, _+_, _-_, _*_, _≤_, _<_}
 use native.Mathlib.Omega.{arith}
 use mathlib.Core.Path.{_≡_, refl, sym, _∙_, ap, subst}
 use mathlib.Core.Bool.{Bool, true}
@@ -11,10 +11,11 @@ use lib.Seq.{getD-set-same}
 use lib.Dec.{eqb, ltb}
 use borrow.Author.Tests.{eqb-true, eqb-false, eq-eqb, ltb-true, ltb-false, lt-ltb}
 use Rattle.meaning.specs.Tests.{both, either, some-of, Has}
+use Rattle.meaning.specs.Limits.{format}
 use Rattle.meaning.specs.Requests.{Knowledge}
 use Rattle.meaning.proofs.TestLaws.{by-test, clash, same-test, both-left, both-right, both-true, either-left, either-right, either-split, pick-true, pick-false}
-use Rattle.reading.specs.Noted.{knowledge, raised, pair-noted, action-in, note-line, lines-noted}
-use Rattle.refusing.proofs.KeptLaws.{kept, raised-kept, raised-long, note-long}
+use Rattle.reading.specs.Noted.{knowledge, raised, pair-noted, action-in, note-line, lines-noted, sensed-from, sensed-to, sensed, slots}
+use Rattle.finding.proofs.KeptLaws.{kept, raised-kept, raised-long, note-long}
 
 raised-same : (slot v : ℕ) (t : List ℕ) → slot < length t → getD (raised slot v t) slot 0 ≡ max (getD t slot 0) v
 unfolding raised
@@ -28,71 +29,71 @@ raised-same slot v t inside =
     rw (pick-false (ltb (getD t slot 0) v) (λ _. set t slot v) (λ _. t) e) (omega arith))
 
 -- ONE LINE of action b and fluent g.
-module _ (b g : ℕ) (acts : b < 64) (fits : g < 64) (t : List ℕ) (sized : length t ≡ 9480) where
+module _ (b g : ℕ) (acts : b < format .actions) (fits : g < format .fluents) (t : List ℕ) (sized : length t ≡ slots) where
   one : List ℕ
-  one = set t (5384 + (64 * b + g)) 1
+  one = set t (sensed + (format .fluents * b + g)) 1
 
-  one-long : length one ≡ 9480
+  one-long : length one ≡ slots
   unfolding one
-  one-long = length-set t (5384 + (64 * b + g)) 1 ∙ sized
+  one-long = length-set t (sensed + (format .fluents * b + g)) 1 ∙ sized
 
-  two-long : length (raised (5248 + b) (64 - g) one) ≡ 9480
-  two-long = raised-long (5248 + b) (64 - g) one ∙ one-long
+  two-long : length (raised (sensed-from + b) (format .fluents - g) one) ≡ slots
+  two-long = raised-long (sensed-from + b) (format .fluents - g) one ∙ one-long
 
-  pair-slot : (j : ℕ) → 5384 ≤ j → getD (pair-noted b g t) j 0 ≡ getD one j 0
+  pair-slot : (j : ℕ) → sensed ≤ j → getD (pair-noted b g t) j 0 ≡ getD one j 0
   unfolding pair-noted one
-  pair-slot j far = raised-kept j (5312 + b) (g + 1) (raised (5248 + b) (64 - g) one) (λ e. omega arith) ∙ raised-kept j (5248 + b) (64 - g) one (λ e. omega arith)
+  pair-slot j far = raised-kept j (sensed-to + b) (g + 1) (raised (sensed-from + b) (format .fluents - g) one) (λ e. omega arith) ∙ raised-kept j (sensed-from + b) (format .fluents - g) one (λ e. omega arith)
 
-  pair-same : getD (pair-noted b g t) (5384 + (64 * b + g)) 0 ≡ 1
+  pair-same : getD (pair-noted b g t) (sensed + (format .fluents * b + g)) 0 ≡ 1
   unfolding one
-  pair-same = pair-slot (5384 + (64 * b + g)) (omega arith) ∙ getD-set-same t (5384 + (64 * b + g)) 1 0 (omega arith)
+  pair-same = pair-slot (sensed + (format .fluents * b + g)) (omega arith) ∙ getD-set-same t (sensed + (format .fluents * b + g)) 1 0 (omega arith)
 
-  pair-other : (a f : ℕ) → a < 64 → f < 64 → (b ≡ a → g ≡ f → ⊥) → getD (pair-noted b g t) (5384 + (64 * a + f)) 0 ≡ getD t (5384 + (64 * a + f)) 0
+  pair-other : (a f : ℕ) → a < format .actions → f < format .fluents → (b ≡ a → g ≡ f → ⊥) → getD (pair-noted b g t) (sensed + (format .fluents * a + f)) 0 ≡ getD t (sensed + (format .fluents * a + f)) 0
   unfolding one
   pair-other a f small low other =
-      pair-slot (5384 + (64 * a + f)) (omega arith)
-      ∙ kept t (5384 + (64 * b + g)) (5384 + (64 * a + f)) 1 (λ e. other (omega arith) (omega arith))
+      pair-slot (sensed + (format .fluents * a + f)) (omega arith)
+      ∙ kept t (sensed + (format .fluents * b + g)) (sensed + (format .fluents * a + f)) 1 (λ e. other (omega arith) (omega arith))
 
-  from-slot : (a : ℕ) → a < 64 → getD (pair-noted b g t) (5248 + a) 0 ≡ getD (raised (5248 + b) (64 - g) one) (5248 + a) 0
+  from-slot : (a : ℕ) → a < format .actions → getD (pair-noted b g t) (sensed-from + a) 0 ≡ getD (raised (sensed-from + b) (format .fluents - g) one) (sensed-from + a) 0
   unfolding pair-noted one
-  from-slot a small = raised-kept (5248 + a) (5312 + b) (g + 1) (raised (5248 + b) (64 - g) one) (λ e. omega arith)
+  from-slot a small = raised-kept (sensed-from + a) (sensed-to + b) (g + 1) (raised (sensed-from + b) (format .fluents - g) one) (λ e. omega arith)
 
-  from-same : getD (pair-noted b g t) (5248 + b) 0 ≡ max (getD t (5248 + b) 0) (64 - g)
+  from-same : getD (pair-noted b g t) (sensed-from + b) 0 ≡ max (getD t (sensed-from + b) 0) (format .fluents - g)
   unfolding one
   from-same =
       from-slot b acts
-      ∙ raised-same (5248 + b) (64 - g) one (omega (arith, one-long))
-      ∙ ap (λ (v : ℕ). max v (64 - g)) (kept t (5384 + (64 * b + g)) (5248 + b) 1 (λ e. omega arith))
+      ∙ raised-same (sensed-from + b) (format .fluents - g) one (omega (arith, one-long))
+      ∙ ap (λ (v : ℕ). max v (format .fluents - g)) (kept t (sensed + (format .fluents * b + g)) (sensed-from + b) 1 (λ e. omega arith))
 
-  from-other : (a : ℕ) → a < 64 → (b ≡ a → ⊥) → getD (pair-noted b g t) (5248 + a) 0 ≡ getD t (5248 + a) 0
+  from-other : (a : ℕ) → a < format .actions → (b ≡ a → ⊥) → getD (pair-noted b g t) (sensed-from + a) 0 ≡ getD t (sensed-from + a) 0
   unfolding one
   from-other a small other =
       from-slot a small
-      ∙ raised-kept (5248 + a) (5248 + b) (64 - g) one (λ e. other (omega arith))
-      ∙ kept t (5384 + (64 * b + g)) (5248 + a) 1 (λ e. omega arith)
+      ∙ raised-kept (sensed-from + a) (sensed-from + b) (format .fluents - g) one (λ e. other (omega arith))
+      ∙ kept t (sensed + (format .fluents * b + g)) (sensed-from + a) 1 (λ e. omega arith)
 
-  to-below : (a : ℕ) → a < 64 → getD (raised (5248 + b) (64 - g) one) (5312 + a) 0 ≡ getD t (5312 + a) 0
+  to-below : (a : ℕ) → a < format .actions → getD (raised (sensed-from + b) (format .fluents - g) one) (sensed-to + a) 0 ≡ getD t (sensed-to + a) 0
   unfolding one
-  to-below a small = raised-kept (5312 + a) (5248 + b) (64 - g) one (λ e. omega arith) ∙ kept t (5384 + (64 * b + g)) (5312 + a) 1 (λ e. omega arith)
+  to-below a small = raised-kept (sensed-to + a) (sensed-from + b) (format .fluents - g) one (λ e. omega arith) ∙ kept t (sensed + (format .fluents * b + g)) (sensed-to + a) 1 (λ e. omega arith)
 
-  to-same : getD (pair-noted b g t) (5312 + b) 0 ≡ max (getD t (5312 + b) 0) (g + 1)
+  to-same : getD (pair-noted b g t) (sensed-to + b) 0 ≡ max (getD t (sensed-to + b) 0) (g + 1)
   unfolding pair-noted one
   to-same =
-      raised-same (5312 + b) (g + 1) (raised (5248 + b) (64 - g) one) (omega (arith, two-long))
+      raised-same (sensed-to + b) (g + 1) (raised (sensed-from + b) (format .fluents - g) one) (omega (arith, two-long))
       ∙ ap (λ (v : ℕ). max v (g + 1)) (to-below b acts)
 
-  to-other : (a : ℕ) → a < 64 → (b ≡ a → ⊥) → getD (pair-noted b g t) (5312 + a) 0 ≡ getD t (5312 + a) 0
+  to-other : (a : ℕ) → a < format .actions → (b ≡ a → ⊥) → getD (pair-noted b g t) (sensed-to + a) 0 ≡ getD t (sensed-to + a) 0
   unfolding pair-noted one
-  to-other a small other = raised-kept (5312 + a) (5312 + b) (g + 1) (raised (5248 + b) (64 - g) one) (λ e. other (omega arith)) ∙ to-below a small
+  to-other a small other = raised-kept (sensed-to + a) (sensed-to + b) (g + 1) (raised (sensed-from + b) (format .fluents - g) one) (λ e. other (omega arith)) ∙ to-below a small
 
 -- WHAT THE TABLE SAYS of an action that senses just the fluents of `seen`.
 pub record Sensed (t : List ℕ) (a : ℕ) (seen : ℕ → Bool) : Type 0 where
-  pub slot : (f : ℕ) → f < 64 → ltb 0 (getD t (5384 + (64 * a + f)) 0) ≡ seen f
-  pub most : getD t (5248 + a) 0 ≤ 64
-  pub from : (f : ℕ) → seen f ≡ true → 64 - getD t (5248 + a) 0 ≤ f
-  pub to : (f : ℕ) → seen f ≡ true → f < getD t (5312 + a) 0
-  pub last : getD t (5312 + a) 0 ≤ 64
-  pub some : 0 < getD t (5312 + a) 0 → (f : ℕ) × (seen f ≡ true)
+  pub slot : (f : ℕ) → f < format .fluents → ltb 0 (getD t (sensed + (format .fluents * a + f)) 0) ≡ seen f
+  pub most : getD t (sensed-from + a) 0 ≤ format .fluents
+  pub from : (f : ℕ) → seen f ≡ true → format .fluents - getD t (sensed-from + a) 0 ≤ f
+  pub to : (f : ℕ) → seen f ≡ true → f < getD t (sensed-to + a) 0
+  pub last : getD t (sensed-to + a) 0 ≤ format .fluents
+  pub some : 0 < getD t (sensed-to + a) 0 → (f : ℕ) × (seen f ≡ true)
 
 module _ (a : ℕ) where
   -- A line says that the action senses the fluent.
@@ -108,7 +109,7 @@ module _ (a : ℕ) where
   seen-some seen [] f = by-test (seen f) (λ e. rw e) (λ e. rw e)
   seen-some seen (l ∷ ls) f = seen-some (λ g. either (seen g) (says l g)) ls f ∙ by-test (seen f) (λ e. rw e) (λ e. rw e)
 
-  module _ (small : a < 64) (l : Knowledge) (acts : l .action < 64) (fits : l .fluent < 64) (t : List ℕ) (sized : length t ≡ 9480) (seen : ℕ → Bool) (before : Sensed t a seen) where
+  module _ (small : a < format .actions) (l : Knowledge) (acts : l .action < format .actions) (fits : l .fluent < format .fluents) (t : List ℕ) (sized : length t ≡ slots) (seen : ℕ → Bool) (before : Sensed t a seen) where
     -- Of another action: the slots of action a stay.
     other-noted : (l .action ≡ a → ⊥) → Sensed (pair-noted (l .action) (l .fluent) t) a (λ f. either (seen f) (says l f))
     unfolding says
@@ -133,15 +134,15 @@ module _ (a : ℕ) where
     own-noted : l .action ≡ a → Sensed (pair-noted (l .action) (l .fluent) t) a (λ f. either (seen f) (says l f))
     unfolding says
     own-noted is =
-        let from-is : getD (pair-noted (l .action) (l .fluent) t) (5248 + a) 0 ≡ max (getD t (5248 + a) 0) (64 - l .fluent) = subst (λ (b : ℕ). getD (pair-noted (l .action) (l .fluent) t) (5248 + b) 0 ≡ max (getD t (5248 + b) 0) (64 - l .fluent)) is (from-same (l .action) (l .fluent) acts fits t sized) in
-        let to-is : getD (pair-noted (l .action) (l .fluent) t) (5312 + a) 0 ≡ max (getD t (5312 + a) 0) (l .fluent + 1) = subst (λ (b : ℕ). getD (pair-noted (l .action) (l .fluent) t) (5312 + b) 0 ≡ max (getD t (5312 + b) 0) (l .fluent + 1)) is (to-same (l .action) (l .fluent) acts fits t sized) in
+        let from-is : getD (pair-noted (l .action) (l .fluent) t) (sensed-from + a) 0 ≡ max (getD t (sensed-from + a) 0) (format .fluents - l .fluent) = subst (λ (b : ℕ). getD (pair-noted (l .action) (l .fluent) t) (sensed-from + b) 0 ≡ max (getD t (sensed-from + b) 0) (format .fluents - l .fluent)) is (from-same (l .action) (l .fluent) acts fits t sized) in
+        let to-is : getD (pair-noted (l .action) (l .fluent) t) (sensed-to + a) 0 ≡ max (getD t (sensed-to + a) 0) (l .fluent + 1) = subst (λ (b : ℕ). getD (pair-noted (l .action) (l .fluent) t) (sensed-to + b) 0 ≡ max (getD t (sensed-to + b) 0) (l .fluent + 1)) is (to-same (l .action) (l .fluent) acts fits t sized) in
         let most = before .most in let last = before .last in
         record {
           slot = λ f low.
               by-test (eqb (l .fluent) f)
               (λ e.
-              ap (ltb 0) (subst (λ (b : ℕ). getD (pair-noted (l .action) (l .fluent) t) (5384 + (64 * b + f)) 0 ≡ 1) is
-              (subst (λ (g : ℕ). getD (pair-noted (l .action) (l .fluent) t) (5384 + (64 * l .action + g)) 0 ≡ 1) (eqb-true _ _ e) (pair-same (l .action) (l .fluent) acts fits t sized)))
+              ap (ltb 0) (subst (λ (b : ℕ). getD (pair-noted (l .action) (l .fluent) t) (sensed + (format .fluents * b + f)) 0 ≡ 1) is
+              (subst (λ (g : ℕ). getD (pair-noted (l .action) (l .fluent) t) (sensed + (format .fluents * l .action + g)) 0 ≡ 1) (eqb-true _ _ e) (pair-same (l .action) (l .fluent) acts fits t sized)))
               ∙ lt-ltb 0 1 (omega arith)
               ∙ sym (either-right _ _ (both-true _ _ (eq-eqb _ _ is) e)))
               (λ e.
@@ -168,7 +169,7 @@ module _ (a : ℕ) where
     line-sensed = by-test (eqb (l .action) a) (λ e. own-noted (eqb-true _ _ e)) (λ e. other-noted (eqb-false _ _ e))
 
   -- ALL LINES.
-  pub lines-sensed : a < 64 → (k : ℕ) (last : List ℕ) (ls : List Knowledge) (t : List ℕ) (seen : ℕ → Bool) → length t ≡ 9480 → ((l : Knowledge) → Has ls l → (l .action < 64) × (l .fluent < 64)) → Sensed t a seen
+  pub lines-sensed : a < format .actions → (k : ℕ) (last : List ℕ) (ls : List Knowledge) (t : List ℕ) (seen : ℕ → Bool) → length t ≡ slots → ((l : Knowledge) → Has ls l → (l .action < format .actions) × (l .fluent < format .fluents)) → Sensed t a seen
       → Sensed (lines-noted knowledge k last ls t) a (seen-after seen ls)
   unfolding lines-noted action-in seen-after note-line
   lines-sensed small k last [] t seen sized good before = before

@@ -1,4 +1,4 @@
--- What the table holds of the goals, and where it holds nothing before the knowledge lines are noted. Assumes nothing.
+-- What the notes hold of the goals, and where they hold nothing before the knowledge lines are noted. Assumes nothing.
 use Prim.Native.Nat.{ℕ, _≤_, _<_}
 use native.Mathlib.Omega.{arith}
 use mathlib.Core.Path.{_≡_, _∙_}
@@ -6,15 +6,15 @@ use mathlib.Core.List.{List}
 use lib.ListN.{getD, set, length-set}
 use lib.Seq.{getD-set-same}
 use Rattle.meaning.specs.Requests.{Request}
-use Rattle.reading.specs.Noted.{table-noted}
+use Rattle.reading.specs.Noted.{table-noted, sensed-from, plan-slot, items-slot, goals-slot, slots, effects-slot, executability-slot}
 use Rattle.reading.specs.Planned.{items-of, plan-noted}
 use Rattle.reading.specs.Requested.{goals-place, plan-place, places-noted, request-noted}
-use Rattle.refusing.specs.Settled.{blank}
-use Rattle.refusing.proofs.ReadLaws.{Parts, planned-long, with-effects, with-runs, effects-kept, runs-kept}
-use Rattle.refusing.proofs.SettleLaws.{blank-long, blank-slot}
+use Rattle.finding.specs.ReadHere.{blank}
+use Rattle.finding.proofs.ReadLaws.{Parts, planned-long, with-effects, with-runs, effects-kept, runs-kept}
+use Rattle.finding.proofs.FoundLaws.{blank-long, blank-slot}
 
 module _ (s : List ℕ) (bytes : (i : ℕ) → getD s i 0 < 256) (x : Request) (whole : Parts s x) where
-  pub sensed-empty : (j : ℕ) → 5248 ≤ j → j < 9480 → (j ≡ 5378 → ⊥) → (j ≡ 5379 → ⊥) → getD (with-runs s bytes x whole blank) j 0 ≡ 0
+  pub sensed-empty : (j : ℕ) → sensed-from ≤ j → j < slots → (j ≡ effects-slot → ⊥) → (j ≡ executability-slot → ⊥) → getD (with-runs s bytes x whole blank) j 0 ≡ 0
   unfolding with-runs with-effects
   sensed-empty j far near a b =
       runs-kept s bytes x whole blank (with-effects s bytes x whole blank) j (λ i h e. omega arith) b
@@ -22,9 +22,9 @@ module _ (s : List ℕ) (bytes : (i : ℕ) → getD s i 0 < 256) (x : Request) (
       ∙ blank-slot j near
 
   -- The place of the goals.
-  pub goals-noted : getD (request-noted x blank) 5381 0 ≡ goals-place x
+  pub goals-noted : getD (request-noted x blank) goals-slot 0 ≡ goals-place x
   unfolding request-noted places-noted
   goals-noted =
       let planned : List ℕ = plan-noted (plan-place x) (table-noted (x .table) blank) (x .plan) in
-      getD-set-same (set (set planned 5376 (plan-place x)) 5377 (items-of (x .plan))) 5381 (goals-place x) 0
-      (omega (arith, length-set (set planned 5376 (plan-place x)) 5377 (items-of (x .plan)), length-set planned 5376 (plan-place x), planned-long s bytes x whole blank blank-long))
+      getD-set-same (set (set planned plan-slot (plan-place x)) items-slot (items-of (x .plan))) goals-slot (goals-place x) 0
+      (omega (arith, length-set (set planned plan-slot (plan-place x)) items-slot (items-of (x .plan)), length-set planned plan-slot (plan-place x), planned-long s bytes x whole blank blank-long))

@@ -1,5 +1,5 @@
--- Each action of a plan that was read is below 64: an item is read as an action only where its byte is below the actions' count, which is at
--- most 64. Assumes nothing.
+-- Each action of a plan that was read is within the limit: an item is read as an action only where its byte is below the actions' count, which is
+-- within it. Assumes nothing.
 use Prim.Native.Nat.{ℕ, _≤_}
 use native.Mathlib.Omega.{arith}
 use mathlib.Core.Path.{_≡_}
@@ -11,7 +11,7 @@ use Rattle.meaning.specs.Reading.{got, Met, plan-at}
 use Rattle.meaning.proofs.PlanReads.{Said, Passed-on, plan-on}
 use Rattle.steps.specs.Small.{Small, Small-item, Small-under}
 
-module _ (n m : ℕ) (s : List ℕ) (few : m ≤ 64) where
+module _ (n m : ℕ) (s : List ℕ) (few : m ≤ format .actions) where
   abbrev plan-few : Said
   plan-few = record {
     item = λ deep p met x e. Small-item (x .value);

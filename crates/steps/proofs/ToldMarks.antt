@@ -31,12 +31,12 @@ unfolding told-all
 told-all-marked [] s marked = marked
 told-all-marked (l ∷ ls) s marked = told-all-marked ls (told l s) (told-marked l s marked)
 
-unknown-marked : Marked (replicate 64 0)
+unknown-marked : Marked (replicate (format .state) 0)
 unknown-marked = record {
-  sized = let none : ℕ = 0 in length-replicate 64 none;
-  small = λ f. let none : ℕ = 0 in elim (decLt f 64) [
-    | yes near ↦ rw (getD-replicate 64 f none none near) (omega arith)
-    | no far ↦ rw (List·getD-eq-default (replicate 64 none) 0 {n = f} (rw (length-replicate 64 none) (omega arith))) (omega arith)
+  sized = let none : ℕ = 0 in length-replicate (format .state) none;
+  small = λ f. let none : ℕ = 0 in elim (decLt f (format .fluents)) [
+    | yes near ↦ rw (getD-replicate (format .state) f none none near) (omega arith)
+    | no far ↦ rw (List·getD-eq-default (replicate (format .state) none) 0 {n = f} (rw (length-replicate (format .state) none) (omega arith))) (omega arith)
   ];
 }
 

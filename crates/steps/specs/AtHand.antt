@@ -1,33 +1,39 @@
--- A request at hand: the input that holds it, and the table that its reading left.
+-- A request at hand: the input has each section of it where the notes say, and the notes lead to its lines and through its plan. How the
+-- notes came to be, and what the input has behind the whether list, is not asked.
 use Prim.Native.Nat.{ℕ, _≤_, _<_}
 use mathlib.Core.Path.{_≡_}
-use mathlib.Core.List.{List, []}
+use mathlib.Core.List.{List}
 use lib.ListN.{length, getD}
 use Rattle.meaning.specs.Limits.{format}
-use Rattle.meaning.specs.Requests.{Sequence, Request}
-use Rattle.meaning.specs.Reading.{Got, got, fault, read-request}
-use Rattle.refusing.specs.Settled.{Read-here}
-
--- What was read; a request that says nothing where a fault was met.
-unfoldable pub request-of : Got Request → Request
-request-of (got x e) = x
-request-of (fault n p) = record {
-  table = record { fluents = 0; actions = 0; facts = []; effects = []; executability = []; knowledge = [] };
-  plan = Sequence.done;
-  goals = [];
-  whether = [];
-  whether-place = 0;
-}
-
-unfoldable pub request-in : List ℕ → Request
-request-in s = request-of (read-request format s)
+use Rattle.meaning.specs.Reading.{got, literals, fluents, list-at, plan-at, table-at}
+use Rattle.reading.specs.Noted.{effect-lines, run-lines, plan-slot, items-slot}
+use Rattle.reading.specs.Ordered.{In-order}
+use Rattle.reading.specs.Listed.{listed}
+use Rattle.finding.specs.PlansHeld.{Plan-held}
+use Rattle.steps.specs.Held.{table-in, plan-in, goals-in, whether-in}
+use Rattle.steps.specs.LinesFound.{run-places, effect-places, Senses}
+use Rattle.steps.specs.Rests.{Nexts}
 
 pub record At-hand (s t : List ℕ) : Type 0 where
+  -- The input has bytes, and no more of them than a request may have.
   pub bytes : (i : ℕ) → getD s i 0 < 256
-  pub end : ℕ
-  pub read : Read-here s t end
+  pub short : length s ≤ format .request
+  -- Sections 1 to 5 stand at the start, and the notes lead to each action's lines in file order and to what it senses.
+  pub table-end : ℕ
+  pub table : table-at format s 0 ≡ got (table-in s) table-end
+  pub effects : (a : ℕ) → a < format .actions → In-order t effect-lines a (effect-places s a)
+  pub runs : (a : ℕ) → a < format .actions → In-order t run-lines a (run-places s a)
+  pub senses : (a : ℕ) → a < format .actions → Senses s t a
+  -- The plan stands from its slot up to the goals, and the notes lead from item to item.
+  pub plan : plan-at format (table-in s .fluents) (table-in s .actions) s (getD t plan-slot 0) ≡ got (record { value = plan-in s t; items = getD t items-slot 0 }) (goals-in t)
+  pub held : Plan-held s t (plan-in s t)
+  pub nexts : Nexts t (format .items) 0 (plan-in s t)
+  -- The goals stand where their slot says, and the whether entries behind them.
+  pub goals : list-at literals (table-in s .fluents) (format .listed) s (goals-in t) ≡ got (listed s (goals-in t)) (whether-in s t)
+  pub whether-end : ℕ
+  pub whether : list-at fluents (table-in s .fluents) (format .listed) s (whether-in s t) ≡ got (listed s (whether-in s t)) whether-end
 
 -- Each of the marks is one of the three.
 pub record Marked (marks : List ℕ) : Type 0 where
-  pub sized : length marks ≡ 64
+  pub sized : length marks ≡ format .state
   pub small : (f : ℕ) → getD marks f 0 ≤ 2

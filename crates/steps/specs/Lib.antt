@@ -1,6 +1,7 @@
-pub mod AtHand
+pub mod Held
 pub mod Small
-pub mod Lines
+pub mod LinesFound
 pub mod Rests
+pub mod AtHand
 pub mod Steps
 pub mod After

@@ -5,11 +5,12 @@ use mathlib.Core.List.{List}
 use lib.ListN.{length, getD}
 use lib.Dec.{leb, ltb}
 use Rattle.meaning.specs.Tests.{pick}
+use Rattle.meaning.specs.Limits.{format}
 use Rattle.meaning.specs.Requests.{Sequence, done, item, Item, act, branching, Branches, none, branch}
 use Rattle.meaning.specs.Derivations.{join}
-use Rattle.reading.specs.Noted.{item-place, item-next}
-use Rattle.reading.specs.Planned.{items-of, items-in, bytes-of, place-of}
-use Rattle.refusing.specs.Plans.{Item-written, Branch-kept}
+use Rattle.reading.specs.Noted.{item-place, item-next, around-from}
+use Rattle.reading.specs.Planned.{items-of, items-in, bytes-of, place-of, following}
+use Rattle.finding.specs.PlansHeld.{Item-written, Branch-kept}
 
 -- From item i on, in a part with `met` items before it and `after` behind it.
 unfoldable mutual
@@ -29,7 +30,7 @@ unfoldable mutual
   rest-under (branch c b bs) met i after =
       pick (ltb i (met + items-of b)) (λ _. rest-in b met i after) (λ _. rest-under bs (met + items-of b) i after)
 
--- Of the whole plan; there is nothing left from 1024 on.
+-- Of the whole plan; there is nothing left from the limit of items on.
 unfoldable pub rest-at : Sequence ℕ → ℕ → Sequence ℕ
 rest-at b i = rest-in b 0 i done
 
@@ -42,21 +43,35 @@ unfoldable pub span : Sequence ℕ → ℕ
 span done = 0
 span (item x b) = items-in x
 
--- By what the table has as an item's next: an item, 1024, or 1025 and the number of a branching (see the table's slots).
+-- By what the notes have as an item's next: an item, the limit of items, or `around-from` and the number of a branching (see the notes' slots).
 unfoldable pub onward : Sequence ℕ → ℕ → Sequence ℕ
-onward b c = pick (leb c 1024) (λ _. rest-at b c) (λ _. after-first (rest-at b (c - 1025)))
+onward b c = pick (leb c (format .items)) (λ _. rest-at b c) (λ _. after-first (rest-at b (c - around-from)))
 
 -- An item of the plan, or the plan's end.
 pub record Position (b : Sequence ℕ) (at : ℕ) : Type 0 where
-  pub most : at ≤ 1024
-  pub there : (at ≡ 1024 → ⊥) → at < items-of b
+  pub most : at ≤ format .items
+  pub there : (at ≡ format .items → ⊥) → at < items-of b
+
+-- WHAT THE TABLE HAS as each item's next, with `met` items before the part and `up` around its sequence.
+unfoldable mutual
+  pub Nexts : List ℕ → (up met : ℕ) → Sequence ℕ → Type 0
+  Nexts t up met done = Unit {0}
+  Nexts t up met (item i rest) = (getD t (item-next + met) 0 ≡ following up (met + items-in i) rest) × Inside-nexts t met i × Nexts t up (met + items-in i) rest
+
+  pub Inside-nexts : List ℕ → (met : ℕ) → Item ℕ → Type 0
+  Inside-nexts t met (act p a) = Unit {0}
+  Inside-nexts t met (branching p bs) = Under-nexts t (around-from + met) (met + 1) bs
+
+  pub Under-nexts : List ℕ → (up met : ℕ) → Branches ℕ → Type 0
+  Under-nexts t up met none = Unit {0}
+  Under-nexts t up met (branch c b rest) = Nexts t up met b × Under-nexts t up (met + items-of b) rest
 
 -- WHAT STANDS THERE of item i of the plan b. What follows it is past all that is inside it, and so is the end of the branching around it.
 pub record Next (t : List ℕ) (b : Sequence ℕ) (i : ℕ) (after : Sequence ℕ) : Type 0 where
-  pub later : getD t (item-next + i) 0 ≤ 1024 → i + span (rest-at b i) ≤ getD t (item-next + i) 0
-  pub at : getD t (item-next + i) 0 ≤ 1024 → Position b (getD t (item-next + i) 0)
-  pub around : 1024 < getD t (item-next + i) 0 → getD t (item-next + i) 0 < 1025 + i
-  pub within : 1024 < getD t (item-next + i) 0 → i + span (rest-at b i) ≤ getD t (item-next + i) 0 - 1025 + span (rest-at b (getD t (item-next + i) 0 - 1025))
+  pub later : getD t (item-next + i) 0 ≤ format .items → i + span (rest-at b i) ≤ getD t (item-next + i) 0
+  pub at : getD t (item-next + i) 0 ≤ format .items → Position b (getD t (item-next + i) 0)
+  pub around : format .items < getD t (item-next + i) 0 → getD t (item-next + i) 0 < around-from + i
+  pub within : format .items < getD t (item-next + i) 0 → i + span (rest-at b i) ≤ getD t (item-next + i) 0 - around-from + span (rest-at b (getD t (item-next + i) 0 - around-from))
   pub rest : onward b (getD t (item-next + i) 0) ≡ after
 
 -- One branch with `met` items before it, whose sequence is d and which ends at p.
@@ -71,7 +86,7 @@ Branches-laid t b met p after (branch c d bs) =
     Branch-laid t b met (p + (1 + length c) + (2 + bytes-of d)) d after × Branches-laid t b (met + items-of d) (p + (1 + length c) + (2 + bytes-of d)) after bs
 
 unfoldable pub Inside-laid : (t : List ℕ) (b : Sequence ℕ) (i : ℕ) (after : Sequence ℕ) → Item ℕ → Type 0
-Inside-laid t b i after (act p a) = a < 64
+Inside-laid t b i after (act p a) = a < format .actions
 Inside-laid t b i after (branching p bs) = Branches-laid t b (i + 1) (p + 2) after bs
 
 pub record Item-laid (s t : List ℕ) (b : Sequence ℕ) (i : ℕ) : Type 0 where

@@ -4,60 +4,61 @@ use mathlib.Core.Path.{_≡_}
 use mathlib.Core.List.{List, [], _∷_}
 use mathlib.Core.Bool.{Bool, true, false}
 use lib.ListN.{getD, drop}
+use Rattle.meaning.specs.Limits.{format, all-literals}
 use Rattle.meaning.specs.Requests.{Table}
 use Rattle.meaning.specs.Lines.{knowledge-of}
 use Rattle.meaning.specs.States.{State, known, known-whether, unknown-from}
 use Rattle.meaning.specs.Walk.{Walked, stuck-at, walk, table-step, judged}
 use Rattle.reading.specs.Noted.{item-place}
-use Rattle.refusing.specs.Branchings.{sequence-place, no-item}
-use Rattle.refusing.specs.declared.refusals.Found as Code
-use Rattle.refusing.specs.declared.refusals.Found.the-variants.{Nowhere, At}
+use Rattle.finding.specs.Branches.{sequence-place, no-item}
+use Rattle.finding.specs.declared.places.Found as Code
+use Rattle.finding.specs.declared.places.Found.the-variants.{Nowhere, At}
 use Rattle.steps.specs.declared.goals.Asked.{Asked}
 use Rattle.steps.specs.declared.goals.Asked.the-variants.{Goal, Whether}
-use Rattle.steps.specs.AtHand.{request-in}
+use Rattle.steps.specs.Held.{table-in, plan-in, request-in}
 use Rattle.steps.specs.Rests.{rest-at, after-first, Position}
 
 -- The sensed fluents from f up that are unknown.
 unfoldable pub unknown-above : Table → ℕ → State → (f : ℕ) → List ℕ
 unknown-above t a marks f = unknown-from (knowledge-of t a) marks f (drop f marks)
 
--- The first of them, or 64.
+-- The first of them, or the limit of fluents.
 unfoldable pub first-of : List ℕ → ℕ
-first-of [] = 64
+first-of [] = format .fluents
 first-of (f ∷ fs) = f
 
--- Literals are below 128, fluents below 64.
+-- What a literal is below, and a fluent.
 unfoldable pub bound-as : Asked → ℕ
-bound-as asked = elim asked [ Goal ↦ 128 | Whether ↦ 64 ]
+bound-as asked = elim asked [ Goal ↦ all-literals | Whether ↦ format .fluents ]
 
 -- A goal is known, a whether entry is known whether.
 unfoldable pub met-as : Asked → State → ℕ → Bool
 met-as asked = elim asked [ Goal ↦ known | Whether ↦ known-whether ]
 
 -- The walk from a position of the plan on.
-unfoldable pub walk-from : List ℕ → (at : ℕ) → State → Walked State
-walk-from s at = walk (table-step (request-in s .table)) (rest-at (request-in s .plan) at) (judged (request-in s))
+unfoldable pub walk-from : (s t : List ℕ) → (at : ℕ) → State → Walked State
+walk-from s t at = walk (table-step (table-in s)) (rest-at (plan-in s t) at) (judged (request-in s t))
 
 -- What follows item i.
-unfoldable pub walk-after : List ℕ → (i : ℕ) → State → Walked State
-walk-after s i = walk (table-step (request-in s .table)) (after-first (rest-at (request-in s .plan) i)) (judged (request-in s))
+unfoldable pub walk-after : (s t : List ℕ) → (i : ℕ) → State → Walked State
+walk-after s t i = walk (table-step (table-in s)) (after-first (rest-at (plan-in s t) i)) (judged (request-in s t))
 
 -- The position after item i.
-pub record Followed (s : List ℕ) (i r : ℕ) : Type 0 where
+pub record Followed (s t : List ℕ) (i r : ℕ) : Type 0 where
   pub later : i < r
-  pub at : Position (request-in s .plan) r
-  pub rest : rest-at (request-in s .plan) r ≡ after-first (rest-at (request-in s .plan) i)
+  pub at : Position (plan-in s t) r
+  pub rest : rest-at (plan-in s t) r ≡ after-first (rest-at (plan-in s t) i)
 
 -- Where a branch begins, whose condition stands at p, with `item` items before it: there, or with no item of its own after item i.
-pub record Into (s : List ℕ) (i p item r : ℕ) : Type 0 where
-  pub empty : no-item s (sequence-place s p) ≡ true → Followed s i r
+pub record Into (s t : List ℕ) (i p item r : ℕ) : Type 0 where
+  pub empty : no-item s (sequence-place s p) ≡ true → Followed s t i r
   pub other : no-item s (sequence-place s p) ≡ false → r ≡ item
 
 -- The position where the walk goes on from the branching that is item i, or none.
-unfoldable pub going-on : List ℕ → (place : ℕ) → State → Code.Found → Walked State
-going-on s p marks r = elim r [ Nowhere ↦ stuck-at p marks | At at ↦ walk-from s at marks ]
+unfoldable pub going-on : (s t : List ℕ) → (place : ℕ) → State → Code.Found → Walked State
+going-on s t p marks r = elim r [ Nowhere ↦ stuck-at p marks | At at ↦ walk-from s t at marks ]
 
 pub record Chosen (s t : List ℕ) (i : ℕ) (marks : State) (r : Code.Found) : Type 0 where
-  pub goes : walk-from s i marks ≡ going-on s (getD t (item-place + i) 0) marks r
+  pub goes : walk-from s t i marks ≡ going-on s t (getD t (item-place + i) 0) marks r
   pub later : (at : ℕ) → r ≡ At at → i < at
-  pub at : (at : ℕ) → r ≡ At at → Position (request-in s .plan) at
+  pub at : (at : ℕ) → r ≡ At at → Position (plan-in s t) at

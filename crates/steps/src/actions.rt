@@ -1,49 +1,52 @@
 ghost use mathlib.Core.Path.{_≡_};
 ghost use Prim.Native.Nat.{_<_};
+ghost use Rattle.meaning.specs.Limits.{format};
 ghost use Rattle.meaning.specs.States.{can-be-run, state-after};
-ghost use Rattle.steps.specs.AtHand.{request-in, At-hand, Marked};
-ghost use Rattle.steps.specs.Lines.{effect-places};
+ghost use Rattle.steps.specs.Held.{table-in};
+ghost use Rattle.steps.specs.AtHand.{At-hand, Marked};
+ghost use Rattle.steps.specs.LinesFound.{effect-places};
 ghost use Rattle.steps.specs.After.{left-at};
 use bytes::bytes::wide;
+use reading::marks::Marks;
 use reading::marks::Test;
 use reading::marks::each_holds;
 use reading::marks::mark_of;
-use reading::table;
-use reading::table::Table;
-use reading::table::first_line;
-use reading::table::line_place;
-use reading::table::next_line;
+use reading::notes;
+use reading::notes::Notes;
+use reading::notes::first_line;
+use reading::notes::line_place;
+use reading::notes::next_line;
 
 // Some executability line of the action has its whole body known true.
-pub fn can_be_run(s: &[u8], t: &Table, a: usize, marks: &[u8; 64]) -> bool
+pub fn can_be_run(s: &[u8], t: &Notes, a: usize, marks: &Marks) -> bool
     requires { ⌜ At-hand (now s) (now t) ⌝ }
-    requires { ⌜ a < 64 ⌝ }
-    ensures { λ r. ⌜ r ≡ can-be-run (request-in (now (s .entry)) .table) a (now (marks .entry)) ⌝ }
+    requires { ⌜ a < format .actions ⌝ }
+    ensures { λ r. ⌜ r ≡ can-be-run (table-in (now (s .entry))) a (now (marks .entry)) ⌝ }
 {
-    let mut k = first_line(t, table::EXECUTABILITY, a);
+    let mut k = first_line(t, notes::EXECUTABILITY, a);
     while 0 < k {
-        let p = line_place(t, table::EXECUTABILITY, k);
+        let p = line_place(t, notes::EXECUTABILITY, k);
         let body = p + 1;
         let known = each_holds(Test::Known, marks, s, body);
         if known {
             return true;
         }
-        k = next_line(t, table::EXECUTABILITY, k);
+        k = next_line(t, notes::EXECUTABILITY, k);
     }
     false
 }
 
 // The state less what the action's effects may undo by bodies that are possible.
-fn left(s: &[u8], t: &Table, a: usize, marks: &[u8; 64], start: [u8; 64]) -> [u8; 64]
+fn left(s: &[u8], t: &Notes, a: usize, marks: &Marks, start: Marks) -> Marks
     requires { ⌜ At-hand (now s) (now t) ⌝ }
-    requires { ⌜ a < 64 ⌝ }
+    requires { ⌜ a < format .actions ⌝ }
     ensures { λ r. ⌜ r ≡ left-at (now (s .entry)) (now (marks .entry)) (effect-places (now (s .entry)) a) start ⌝ }
 {
     let mut next = start;
-    let mut k = first_line(t, table::EFFECTS, a);
+    let mut k = first_line(t, notes::EFFECTS, a);
     while 0 < k {
-        let p = line_place(t, table::EFFECTS, k);
-        k = next_line(t, table::EFFECTS, k);
+        let p = line_place(t, notes::EFFECTS, k);
+        k = next_line(t, notes::EFFECTS, k);
         let one = p + 1;
         let l = wide(s[one]);
         let f = l / 2;
@@ -61,18 +64,18 @@ fn left(s: &[u8], t: &Table, a: usize, marks: &[u8; 64], start: [u8; 64]) -> [u8
 
 // The state after an action that is not a sensing one. Each effect in turn undoes what it may or tells what it gives; what is told may yet
 // be undone by an effect whose turn is over, so `left` follows if anything was. A body is looked at only where the mark could change.
-pub fn state_after(s: &[u8], t: &Table, a: usize, marks: [u8; 64]) -> [u8; 64]
+pub fn state_after(s: &[u8], t: &Notes, a: usize, marks: Marks) -> Marks
     requires { ⌜ At-hand (now s) (now t) ⌝ }
-    requires { ⌜ a < 64 ⌝ }
+    requires { ⌜ a < format .actions ⌝ }
     requires { ⌜ Marked marks ⌝ }
-    ensures { λ r. ⌜ r ≡ state-after (request-in (now (s .entry)) .table) a marks ⌝ }
+    ensures { λ r. ⌜ r ≡ state-after (table-in (now (s .entry))) a marks ⌝ }
 {
     let mut next = marks;
     let mut told = false;
-    let mut k = first_line(t, table::EFFECTS, a);
+    let mut k = first_line(t, notes::EFFECTS, a);
     while 0 < k {
-        let p = line_place(t, table::EFFECTS, k);
-        k = next_line(t, table::EFFECTS, k);
+        let p = line_place(t, notes::EFFECTS, k);
+        k = next_line(t, notes::EFFECTS, k);
         let one = p + 1;
         let l = wide(s[one]);
         let f = l / 2;

@@ -2,17 +2,19 @@ ghost use mathlib.Core.Path.{_≡_};
 ghost use Prim.Native.Nat.{_+_, _<_};
 ghost use Rattle.meaning.specs.Reading.{placed};
 ghost use Rattle.meaning.specs.Walk.{first-missed, missed-in};
-ghost use Rattle.refusing.specs.InTable.{found};
+ghost use Rattle.finding.specs.Places.{found};
 ghost use Rattle.reading.specs.Listed.{listed, List-here};
-ghost use Rattle.steps.specs.AtHand.{request-in, At-hand, Marked};
+ghost use Rattle.steps.specs.Held.{request-in};
+ghost use Rattle.steps.specs.AtHand.{At-hand, Marked};
 ghost use Rattle.steps.specs.Steps.{met-as, bound-as};
 use bytes::bytes::wide;
+use finding::places::Found;
+use reading::marks::Marks;
 use reading::marks::Test;
 use reading::marks::holds;
-use reading::table;
-use reading::table::Table;
-use reading::table::get;
-use refusing::refusals::Found;
+use reading::notes;
+use reading::notes::Notes;
+use reading::notes::get;
 
 // What is asked at the end: that a literal is known, or that it is known whether a fluent is true.
 pub enum Asked {
@@ -20,7 +22,7 @@ pub enum Asked {
     Whether,
 }
 
-fn met(asked: Asked, marks: &[u8; 64], x: usize) -> bool
+fn met(asked: Asked, marks: &Marks, x: usize) -> bool
     requires { ⌜ x < bound-as asked ⌝ }
     requires { ⌜ Marked (now marks) ⌝ }
     ensures { λ r. ⌜ r ≡ met-as asked (now (marks .entry)) x ⌝ }
@@ -32,7 +34,7 @@ fn met(asked: Asked, marks: &[u8; 64], x: usize) -> bool
 }
 
 // The first entry of the list at p that is not met.
-fn first_missed(asked: Asked, marks: &[u8; 64], s: &[u8], p: usize) -> Found
+fn first_missed(asked: Asked, marks: &Marks, s: &[u8], p: usize) -> Found
     requires { ⌜ List-here (bound-as asked) (now s) p ⌝ }
     requires { ⌜ Marked (now marks) ⌝ }
     ensures { λ r. ⌜ r ≡ found (first-missed (met-as asked (now (marks .entry))) (placed (p + 1) (listed (now (s .entry)) p))) ⌝ }
@@ -52,12 +54,12 @@ fn first_missed(asked: Asked, marks: &[u8; 64], s: &[u8], p: usize) -> Found
 }
 
 // The first goal or whether entry that an end state misses.
-pub fn missed(s: &[u8], t: &Table, marks: &[u8; 64]) -> Found
+pub fn missed(s: &[u8], t: &Notes, marks: &Marks) -> Found
     requires { ⌜ At-hand (now s) (now t) ⌝ }
     requires { ⌜ Marked (now marks) ⌝ }
-    ensures { λ r. ⌜ r ≡ found (missed-in (request-in (now (s .entry))) (now (marks .entry))) ⌝ }
+    ensures { λ r. ⌜ r ≡ found (missed-in (request-in (now (s .entry)) (now (t .entry))) (now (marks .entry))) ⌝ }
 {
-    let goals = get(t, table::GOALS);
+    let goals = get(t, notes::GOALS);
     match first_missed(Asked::Goal, marks, s, goals) {
         Found::At(p) => Found::At(p),
         Found::Nowhere => {

@@ -1,4 +1,4 @@
-// What the walk asks of a request that was read: by way of the table that its reading left.
+// What the walk asks of a request at hand, by its notes.
 pub mod actions; // whether an action can be run, and the state after it
 pub mod sensing; // what a sensing action forks
 pub mod goals; // what an end state misses

@@ -1,73 +1,77 @@
 ghost use mathlib.Core.Path.{_≡_};
 ghost use Prim.Native.Nat.{_<_};
+ghost use Rattle.meaning.specs.Limits.{format};
 ghost use Rattle.meaning.specs.Lines.{knowledge-of, sensing, senses};
 ghost use Rattle.meaning.specs.States.{unknown-sensed};
-ghost use Rattle.steps.specs.AtHand.{request-in, At-hand, Marked};
+ghost use Rattle.steps.specs.Held.{table-in};
+ghost use Rattle.steps.specs.AtHand.{At-hand, Marked};
 ghost use Rattle.steps.specs.Steps.{unknown-above, first-of};
-use reading::table;
-use reading::table::Table;
-use reading::table::get;
+use bytes::limits;
+use reading::marks::Marks;
+use reading::notes;
+use reading::notes::Notes;
+use reading::notes::get;
 
 // The action has a knowledge line.
-pub fn is_sensing(s: &[u8], t: &Table, a: usize) -> bool
+pub fn is_sensing(s: &[u8], t: &Notes, a: usize) -> bool
     requires { ⌜ At-hand (now s) (now t) ⌝ }
-    requires { ⌜ a < 64 ⌝ }
-    ensures { λ r. ⌜ r ≡ sensing (request-in (now (s .entry)) .table) a ⌝ }
+    requires { ⌜ a < format .actions ⌝ }
+    ensures { λ r. ⌜ r ≡ sensing (table-in (now (s .entry))) a ⌝ }
 {
-    let slot = table::SENSED_TO + a;
+    let slot = notes::SENSED_TO + a;
     let end = get(t, slot);
     0 < end
 }
 
 // The action has a knowledge line for the fluent.
-pub fn looks_at(s: &[u8], t: &Table, a: usize, f: usize) -> bool
+pub fn looks_at(s: &[u8], t: &Notes, a: usize, f: usize) -> bool
     requires { ⌜ At-hand (now s) (now t) ⌝ }
-    requires { ⌜ a < 64 ⌝ }
-    requires { ⌜ f < 64 ⌝ }
-    ensures { λ r. ⌜ r ≡ senses (knowledge-of (request-in (now (s .entry)) .table) a) f ⌝ }
+    requires { ⌜ a < format .actions ⌝ }
+    requires { ⌜ f < format .fluents ⌝ }
+    ensures { λ r. ⌜ r ≡ senses (knowledge-of (table-in (now (s .entry))) a) f ⌝ }
 {
-    let row = 64 * a;
+    let row = limits::FLUENTS * a;
     let pair = row + f;
-    let slot = table::SENSED + pair;
+    let slot = notes::SENSED + pair;
     let sensed = get(t, slot);
     0 < sensed
 }
 
-// The first fluent from `from` up that the action senses and that is unknown; 64 where there is none.
-pub fn next_unknown(s: &[u8], t: &Table, a: usize, from: usize, marks: &[u8; 64]) -> usize
+// The first fluent from `from` up that the action senses and that is unknown; the limit of fluents where there is none.
+pub fn next_unknown(s: &[u8], t: &Notes, a: usize, from: usize, marks: &Marks) -> usize
     requires { ⌜ At-hand (now s) (now t) ⌝ }
-    requires { ⌜ a < 64 ⌝ }
+    requires { ⌜ a < format .actions ⌝ }
     requires { ⌜ Marked (now marks) ⌝ }
-    ensures { λ r. ⌜ r ≡ first-of (unknown-above (request-in (now (s .entry)) .table) a (now (marks .entry)) from) ⌝ }
+    ensures { λ r. ⌜ r ≡ first-of (unknown-above (table-in (now (s .entry))) a (now (marks .entry)) from) ⌝ }
 {
-    let last = table::SENSED_TO + a;
+    let last = notes::SENSED_TO + a;
     let end = get(t, last);
-    let row = 64 * a;
+    let row = limits::FLUENTS * a;
     let mut f = from;
     while f < end {
         let here = f;
         f += 1;
         if marks[here] == 0 {
             let pair = row + here;
-            let slot = table::SENSED + pair;
+            let slot = notes::SENSED + pair;
             let sensed = get(t, slot);
             if 0 < sensed {
                 return here;
             }
         }
     }
-    64
+    limits::FLUENTS
 }
 
 // The first of all that it senses and that is unknown.
-pub fn first_unknown(s: &[u8], t: &Table, a: usize, marks: &[u8; 64]) -> usize
+pub fn first_unknown(s: &[u8], t: &Notes, a: usize, marks: &Marks) -> usize
     requires { ⌜ At-hand (now s) (now t) ⌝ }
-    requires { ⌜ a < 64 ⌝ }
+    requires { ⌜ a < format .actions ⌝ }
     requires { ⌜ Marked (now marks) ⌝ }
-    ensures { λ r. ⌜ r ≡ first-of (unknown-sensed (request-in (now (s .entry)) .table) a (now (marks .entry))) ⌝ }
+    ensures { λ r. ⌜ r ≡ first-of (unknown-sensed (table-in (now (s .entry))) a (now (marks .entry))) ⌝ }
 {
-    let slot = table::SENSED_FROM + a;
+    let slot = notes::SENSED_FROM + a;
     let back = get(t, slot);
-    let from = 64 - back;
+    let from = limits::FLUENTS - back;
     next_unknown(s, t, a, from, marks)
 }

@@ -1,6 +1,6 @@
 pub mod StandingLaws
 pub mod TallyLaws
-pub mod PlaceLaws
+pub mod PlacesFit
 pub mod FallLaws
-pub mod WalkLaws
+pub mod WalkArms
 pub mod ForkLaws

@@ -16,7 +16,7 @@ use Rattle.meaning.specs.Refusals.{nowhere, at}
 use Rattle.meaning.specs.States.{State}
 use Rattle.meaning.specs.Walk.{Concerned, in-state, End, fine, missed, stopped, Walked, stopped-at, counted, keep-miss, after-miss, after-end, and-then, end-of}
 use Rattle.meaning.proofs.TestLaws.{by-test, pick-true, pick-false}
-use Rattle.walking.specs.Standing.{Standing, nothing, spent, so-far, spend, add, one, end-in, standing, Going, Notable, end-by, Held}
+use Rattle.walking.specs.Standing.{Standing, nothing, spent, so-far, spend, add, one, end-in, standing, Going, Notable, end-by, Held, tally-slots}
 
 -- SPENDING. A walk within what is left, or above it.
 spend-within : (left : ℕ) (then : End State → End State) (w : Walked State) → w .count ≤ left → spend left then w ≡ so-far (left - w .count) (then (w .end))
@@ -93,11 +93,11 @@ unfolding and-then after-end one
 add-counted a w = add-then a one (λ _. w)
 
 -- THE TALLY.
-unsized : (tally : List ℕ) → (length tally ≡ 67 → ⊥) → standing tally ≡ nothing
+unsized : (tally : List ℕ) → (length tally ≡ tally-slots → ⊥) → standing tally ≡ nothing
 unfolding standing
 unsized tally h = pick-false _ _ _ (ne-eqb _ _ h)
 
-module _ (tally : List ℕ) (sized : length tally ≡ 67) where
+module _ (tally : List ℕ) (sized : length tally ≡ tally-slots) where
   pub stands-open : (getD tally 0 0 ≡ 3 → ⊥) → standing tally ≡ so-far (getD tally 2 0) (end-in tally)
   unfolding standing
   stands-open h = pick-true _ _ _ (eq-eqb _ _ sized) ∙ pick-false _ _ _ (ne-eqb _ _ h)
@@ -142,7 +142,7 @@ spend-says left then w = by-test (ltb left (w .count)) (λ t. subst Says (sym (p
 pub add-over : (tally : List ℕ) → (getD tally 0 0 < 2 → ⊥) → (w : Walked State) → standing tally ≡ add (standing tally) w
 unfolding add
 add-over tally h w =
-    by-test (eqb (length tally) 67)
+    by-test (eqb (length tally) tally-slots)
     (λ s. let sized = eqb-true _ _ s in
     by-test (eqb (getD tally 0 0) 3)
     (λ t. let is = stands-spent tally sized (eqb-true _ _ t) in is ∙ ap (λ (a : Standing). add a w) (sym is))
@@ -177,22 +177,22 @@ module _ (tally : List ℕ) (going : Going tally) where
       how .1 ∙ ap (λ (a : Standing). add a (stopped-at n p u)) (sym (how .0))
 
   -- The tally keeps its size, whatever is walked.
-  pub sized-after : (w : Walked State) (after : List ℕ) → standing after ≡ add (standing tally) w → length after ≡ 67
+  pub sized-after : (w : Walked State) (after : List ℕ) → standing after ≡ add (standing tally) w → length after ≡ tally-slots
   unfolding add
   sized-after w after is =
       let how = by-going (λ e. Says (add (so-far (getD tally 2 0) e) w))
       (spend-says (getD tally 2 0) (λ x. x) w)
       (λ q u. spend-says (getD tally 2 0) (keep-miss q u) w) in
-      by-test (eqb (length after) 67)
+      by-test (eqb (length after) tally-slots)
       (λ t. eqb-true _ _ t)
       (λ f. absurd (subst Says (ap (λ (a : Standing). add a w) (sym (how .0)) ∙ sym is ∙ unsized after (eqb-false _ _ f)) (how .1)))
 
 -- What an end state adds once it is counted: where nothing was missed before, its end; else nothing.
-pub add-fine : (tally : List ℕ) → length tally ≡ 67 → getD tally 0 0 ≡ 0 → (e : End State) → add (standing tally) (record { count = 0; end = e }) ≡ so-far (getD tally 2 0) e
+pub add-fine : (tally : List ℕ) → length tally ≡ tally-slots → getD tally 0 0 ≡ 0 → (e : End State) → add (standing tally) (record { count = 0; end = e }) ≡ so-far (getD tally 2 0) e
 unfolding add
 add-fine tally sized none e = ap (λ (a : Standing). add a (record { count = 0; end = e })) (stands-fine tally sized none) ∙ spend-none (getD tally 2 0) (λ x. x) e
 
-pub add-kept : (tally : List ℕ) → length tally ≡ 67 → (getD tally 0 0 ≡ 0 → ⊥) → (f : Refusals.Found) (s : State) → standing tally ≡ add (standing tally) (record { count = 0; end = end-of f s })
+pub add-kept : (tally : List ℕ) → length tally ≡ tally-slots → (getD tally 0 0 ≡ 0 → ⊥) → (f : Refusals.Found) (s : State) → standing tally ≡ add (standing tally) (record { count = 0; end = end-of f s })
 unfolding add end-of keep-miss
 add-kept tally sized some f s =
     by-test (eqb (getD tally 0 0) 1)
@@ -243,7 +243,7 @@ noted tally going number place notable marks after held =
     let sized = going .sized in
     let is : getD after 0 0 ≡ number = held .number ∙ getD-set-same tally 0 number 0 (omega arith) in
     let left : getD after 2 0 ≡ getD tally 2 0 = held .left ∙ getD-set-other tally 0 2 number 0 (λ e. omega arith) in
-    let long : length after ≡ 67 = held .sized ∙ length-set tally 0 number ∙ sized in
+    let long : length after ≡ tally-slots = held .sized ∙ length-set tally 0 number ∙ sized in
     by-test (eqb number 1)
     (λ t. let one-is = eqb-true _ _ t in stands-missed after long (is ∙ one-is) ∙ rw (left, held .placed, held .marked, t))
     (λ f.
@@ -251,9 +251,9 @@ noted tally going number place notable marks after held =
     stands-stopped after long (λ e. notable .within (sym is ∙ e)) (λ e. omega (arith, least)) (λ e. eqb-false _ _ f (sym is ∙ e)) ∙ rw (is, left, held .placed, held .marked, f))
 
 -- OPENED.
-pub opens : (budget : ℕ) → standing (set (replicate 67 0) 2 budget) ≡ so-far budget fine
+pub opens : (budget : ℕ) → standing (set (replicate tally-slots 0) 2 budget) ≡ so-far budget fine
 unfolding standing end-in pick
 opens budget = refl
 
-pub opens-going : (budget : ℕ) → Going (set (replicate 67 0) 2 budget)
+pub opens-going : (budget : ℕ) → Going (set (replicate tally-slots 0) 2 budget)
 opens-going budget = record { sized = refl; on = omega arith }

@@ -1,10 +1,11 @@
 -- How a walk stands within its budget, and what the walk of a part adds to that. The defined walk knows no budget; this ties the two.
-use Prim.Native.Nat.{ℕ, _-_, _≤_, _<_}
+use Prim.Native.Nat.{ℕ, _+_, _-_, _≤_, _<_}
 use mathlib.Core.Path.{_≡_}
 use mathlib.Core.List.{List}
 use lib.ListN.{length, getD, drop}
 use lib.Dec.{eqb, ltb}
 use Rattle.meaning.specs.Tests.{pick}
+use Rattle.meaning.specs.Limits.{format}
 use Rattle.meaning.specs.Limits
 use Rattle.meaning.specs.States.{State}
 use Rattle.meaning.specs.Walk.{in-state, End, fine, missed, stopped, Walked, keep-miss}
@@ -33,6 +34,9 @@ one = record { count = 1; end = fine }
 
 -- THE TALLY holds it: the answer's number so far, the place that goes with it, the budget left, and the marks of the state concerned. A number
 -- that is neither 0 nor 1 is that of what stopped the walk.
+abbrev pub tally-slots : ℕ
+tally-slots = 3 + format .state
+
 unfoldable pub end-in : List ℕ → End State
 end-in tally =
     pick (eqb (getD tally 0 0) Limits.verified) (λ _. fine) λ _.
@@ -41,13 +45,13 @@ end-in tally =
 
 unfoldable pub standing : List ℕ → Standing
 standing tally =
-    pick (eqb (length tally) 67)
+    pick (eqb (length tally) tally-slots)
     (λ _. pick (eqb (getD tally 0 0) Limits.budget-spent) (λ _. spent) (λ _. so-far (getD tally 2 0) (end-in tally)))
     (λ _. nothing)
 
 -- Neither stopped nor spent: the number is 0 or 1.
 pub record Going (tally : List ℕ) : Type 0 where
-  pub sized : length tally ≡ 67
+  pub sized : length tally ≡ tally-slots
   pub on : getD tally 0 0 < 2
 
 -- What may be noted: not 0, by which nothing is missed, and not 3, by which the budget is spent.

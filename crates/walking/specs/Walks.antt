@@ -5,7 +5,7 @@ use lib.ListN.{getD}
 use Rattle.meaning.specs.States.{State, readings}
 use Rattle.meaning.specs.Walk.{Walked, each-reading}
 use Rattle.reading.specs.Noted.{item-place}
-use Rattle.steps.specs.AtHand.{request-in}
+use Rattle.steps.specs.Held.{table-in}
 use Rattle.steps.specs.Steps.{unknown-above, walk-after}
 
 -- The action that is item i.
@@ -13,9 +13,9 @@ unfoldable pub action-at : (s t : List ℕ) → ℕ → ℕ
 action-at s t i = getD s (getD t (item-place + i) 0) 0
 
 -- The readings of these fluents, each followed by what follows the sensing action that is item i.
-unfoldable pub read-on : List ℕ → (i : ℕ) → List ℕ → State → Walked State
-read-on s i fs marks = each-reading (readings fs marks) (walk-after s i)
+unfoldable pub read-on : (s t : List ℕ) → (i : ℕ) → List ℕ → State → Walked State
+read-on s t i fs marks = each-reading (readings fs marks) (walk-after s t i)
 
 -- The readings of fluent f and of the unknown ones above it that the action senses.
 unfoldable pub fork-from : (s t : List ℕ) → (i f : ℕ) → State → Walked State
-fork-from s t i f marks = read-on s i (f ∷ unknown-above (request-in s .table) (action-at s t i) marks (f + 1)) marks
+fork-from s t i f marks = read-on s t i (f ∷ unknown-above (table-in s) (action-at s t i) marks (f + 1)) marks

@@ -2,12 +2,17 @@ ghost use mathlib.Core.Path.{_≡_};
 ghost use Prim.Native.Nat.{_<_};
 ghost use lib.ListN.{length, getD};
 ghost use lib.Dec.{ltb};
+ghost use Rattle.meaning.specs.Limits.{format};
 ghost use Rattle.meaning.specs.Walk.{fine};
-ghost use Rattle.walking.specs.Standing.{so-far, add, one, standing, Going, Notable, end-by, Held};
+ghost use Rattle.walking.specs.Standing.{so-far, add, one, standing, Going, Notable, end-by, Held, tally-slots};
+use bytes::limits;
+use reading::marks::Marks;
 
 // How a walk stands: the answer's number so far (0, or 1 after a miss, while it goes on; else that of what stopped it, or 3 once
-// the budget is spent), the place that goes with it, the budget left, and from slot 3 on the 64 marks of the state concerned.
-pub type Tally = [u32; 67];
+// the budget is spent), the place that goes with it, the budget left, and from slot 3 on the marks of the state concerned.
+pub const TALLY_SLOTS: usize = 3 + limits::FLUENTS;
+
+pub type Tally = [u32; TALLY_SLOTS];
 
 pub const MISSED: u32 = 1;
 
@@ -20,7 +25,7 @@ pub fn opened(budget: u32) -> Tally
     ensures stands { λ r. ⌜ standing r ≡ so-far budget fine ⌝ }
     ensures going { λ r. ⌜ Going r ⌝ }
 {
-    let mut tally = [0u32; 67];
+    let mut tally = [0u32; TALLY_SLOTS];
     tally[2] = budget;
     tally
 }
@@ -51,14 +56,14 @@ fn widened(x: u8) -> u32
 }
 
 // The state concerned, and the place that goes with it.
-fn hold(tally: &mut Tally, place: usize, marks: &[u8; 64])
-    requires { ⌜ length (now tally) ≡ 67 ⌝ }
-    requires { ⌜ length (now marks) ≡ 64 ⌝ }
+fn hold(tally: &mut Tally, place: usize, marks: &Marks)
+    requires { ⌜ length (now tally) ≡ tally-slots ⌝ }
+    requires { ⌜ length (now marks) ≡ format .state ⌝ }
     requires { ⌜ place < 65536 ⌝ }
     ensures { λ _. ⌜ Held (now (tally .entry)) place (now (marks .entry)) (now (tally .exit)) ⌝ }
 {
     let mut f = 0;
-    while f < 64 {
+    while f < limits::FLUENTS {
         let slot = 3 + f;
         tally[slot] = widened(marks[f]);
         f += 1;
@@ -67,9 +72,9 @@ fn hold(tally: &mut Tally, place: usize, marks: &[u8; 64])
 }
 
 // A miss, or what stops the walk.
-pub fn note(tally: &mut Tally, number: u32, place: usize, marks: &[u8; 64])
+pub fn note(tally: &mut Tally, number: u32, place: usize, marks: &Marks)
     requires { ⌜ Going (now tally) ⌝ }
-    requires { ⌜ length (now marks) ≡ 64 ⌝ }
+    requires { ⌜ length (now marks) ≡ format .state ⌝ }
     requires { ⌜ Notable number ⌝ }
     requires { ⌜ place < 65536 ⌝ }
     ensures { λ _. ⌜ standing (now (tally .exit)) ≡ so-far (getD (now (tally .entry)) 2 0) (end-by number place (now (marks .entry))) ⌝ }

@@ -1,8 +1,10 @@
 ghost use mathlib.Core.Path.{_≡_};
 ghost use Prim.Native.Nat.{_<_};
+ghost use Rattle.meaning.specs.Limits.{format};
 ghost use Rattle.meaning.specs.Walk.{judged};
 ghost use Rattle.reading.specs.Planned.{items-of};
-ghost use Rattle.steps.specs.AtHand.{request-in, At-hand, Marked};
+ghost use Rattle.steps.specs.Held.{plan-in, request-in};
+ghost use Rattle.steps.specs.AtHand.{At-hand, Marked};
 ghost use Rattle.steps.specs.Rests.{Position};
 ghost use Rattle.steps.specs.Steps.{walk-from};
 ghost use Rattle.walking.specs.Standing.{add, standing, Going};
@@ -14,10 +16,11 @@ use super::tally::goes_on;
 use super::tally::note;
 use bytes::bytes::wide;
 use bytes::limits;
-use reading::table;
-use reading::table::Table;
-use reading::table::get;
-use refusing::refusals::Found;
+use finding::places::Found;
+use reading::marks::Marks;
+use reading::notes;
+use reading::notes::Notes;
+use reading::notes::get;
 use steps::actions::can_be_run;
 use steps::actions::state_after;
 use steps::goals::missed;
@@ -28,11 +31,11 @@ use steps::sensing::is_sensing;
 use steps::sensing::next_unknown;
 
 // An end state is judged.
-fn judge_end(s: &[u8], t: &Table, marks: &[u8; 64], tally: &mut Tally)
+fn judge_end(s: &[u8], t: &Notes, marks: &Marks, tally: &mut Tally)
     requires { ⌜ At-hand (now s) (now t) ⌝ }
     requires { ⌜ Marked (now marks) ⌝ }
     requires { ⌜ Going (now tally) ⌝ }
-    ensures { λ _. ⌜ standing (now (tally .exit)) ≡ add (standing (now (tally .entry))) (judged (request-in (now (s .entry))) (now (marks .entry))) ⌝ }
+    ensures { λ _. ⌜ standing (now (tally .exit)) ≡ add (standing (now (tally .entry))) (judged (request-in (now (s .entry)) (now (t .entry))) (now (marks .entry))) ⌝ }
 {
     count_one(tally);
     if tally[0] == 0 {
@@ -49,17 +52,17 @@ fn judge_end(s: &[u8], t: &Table, marks: &[u8; 64], tally: &mut Tally)
 }
 
 // The plan from a position on.
-pub fn walk(s: &[u8], t: &Table, at: usize, marks: [u8; 64], tally: &mut Tally)
+pub fn walk(s: &[u8], t: &Notes, at: usize, marks: Marks, tally: &mut Tally)
     requires { ⌜ At-hand (now s) (now t) ⌝ }
-    requires { ⌜ Position (request-in (now s) .plan) at ⌝ }
+    requires { ⌜ Position (plan-in (now s) (now t)) at ⌝ }
     requires { ⌜ Marked marks ⌝ }
     requires { ⌜ Going (now tally) ⌝ }
-    ensures { λ _. ⌜ standing (now (tally .exit)) ≡ add (standing (now (tally .entry))) (walk-from (now (s .entry)) at marks) ⌝ }
+    ensures { λ _. ⌜ standing (now (tally .exit)) ≡ add (standing (now (tally .entry))) (walk-from (now (s .entry)) (now (t .entry)) at marks) ⌝ }
 {
     let mut i = at;
     let mut state = marks;
     while i < limits::ITEMS {
-        let slot = table::ITEM_PLACE + i;
+        let slot = notes::ITEM_PLACE + i;
         let p = get(t, slot);
         if s[p] == limits::BRANCHING_BYTE {
             walk_branching(s, t, i, state, tally);
@@ -94,13 +97,13 @@ pub fn walk(s: &[u8], t: &Table, at: usize, marks: [u8; 64], tally: &mut Tally)
 }
 
 // The branching that is item i.
-fn walk_branching(s: &[u8], t: &Table, i: usize, marks: [u8; 64], tally: &mut Tally)
+fn walk_branching(s: &[u8], t: &Notes, i: usize, marks: Marks, tally: &mut Tally)
     requires { ⌜ At-hand (now s) (now t) ⌝ }
-    requires { ⌜ i < items-of (request-in (now s) .plan) ⌝ }
+    requires { ⌜ i < items-of (plan-in (now s) (now t)) ⌝ }
     requires { ⌜ action-at (now s) (now t) i ≡ 255 ⌝ }
     requires { ⌜ Marked marks ⌝ }
     requires { ⌜ Going (now tally) ⌝ }
-    ensures { λ _. ⌜ standing (now (tally .exit)) ≡ add (standing (now (tally .entry))) (walk-from (now (s .entry)) i marks) ⌝ }
+    ensures { λ _. ⌜ standing (now (tally .exit)) ≡ add (standing (now (tally .entry))) (walk-from (now (s .entry)) (now (t .entry)) i marks) ⌝ }
 {
     match chosen(s, t, i, &marks) {
         Found::At(at) => {
@@ -108,7 +111,7 @@ fn walk_branching(s: &[u8], t: &Table, i: usize, marks: [u8; 64], tally: &mut Ta
             return;
         }
         Found::Nowhere => {
-            let slot = table::ITEM_PLACE + i;
+            let slot = notes::ITEM_PLACE + i;
             let p = get(t, slot);
             note(tally, tally::STUCK, p, &marks);
             return;
@@ -117,16 +120,16 @@ fn walk_branching(s: &[u8], t: &Table, i: usize, marks: [u8; 64], tally: &mut Ta
 }
 
 // The readings of fluent f and of the unknown ones above it that the action senses, which is item i; then what follows it.
-fn fork(s: &[u8], t: &Table, i: usize, f: usize, marks: [u8; 64], tally: &mut Tally)
+fn fork(s: &[u8], t: &Notes, i: usize, f: usize, marks: Marks, tally: &mut Tally)
     requires { ⌜ At-hand (now s) (now t) ⌝ }
-    requires { ⌜ i < items-of (request-in (now s) .plan) ⌝ }
-    requires { ⌜ action-at (now s) (now t) i < 64 ⌝ }
-    requires { ⌜ f < 64 ⌝ }
+    requires { ⌜ i < items-of (plan-in (now s) (now t)) ⌝ }
+    requires { ⌜ action-at (now s) (now t) i < format .actions ⌝ }
+    requires { ⌜ f < format .fluents ⌝ }
     requires { ⌜ Marked marks ⌝ }
     requires { ⌜ Going (now tally) ⌝ }
     ensures { λ _. ⌜ standing (now (tally .exit)) ≡ add (standing (now (tally .entry))) (fork-from (now (s .entry)) (now (t .entry)) i f marks) ⌝ }
 {
-    let slot = table::ITEM_PLACE + i;
+    let slot = notes::ITEM_PLACE + i;
     let p = get(t, slot);
     let a = wide(s[p]);
     let above = f + 1;

@@ -1,10 +1,11 @@
--- The fluent of the loop is at most 64, so its sign and the newline lie within the line.
+-- The fluent of the loop is at most the limit, so its sign and the newline lie within the line.
 use borrow.Author.Needs.{needs}
-use Prim.Native.Nat.{_-_, _≤_}
+use Prim.Native.Nat.{_+_, _-_, _≤_}
 use native.Mathlib.Omega.{arith}
 use mathlib.Core.Path.{_≡_, sym}
 use lib.Seq.{length-take-le}
 use lib.ListN.{length}
+use Rattle.meaning.specs.Limits.{format}
 use Rattle.programs.proofs.put_state.Statement.{statement}
 use Rattle.programs.proofs.put_state.Tie as tie
 use Rattle.programs.proofs.put_state.Reads as reads
@@ -13,10 +14,10 @@ use Rattle.programs.proofs.put.Reads as put-reads
 use Rattle.programs.proofs.sign.Reads as sign-reads
 
 abbrev Inv-loop : tie.InvT-loop
-Inv-loop state fluents line₀ f₀ line f = (f ≤ 64) × (length line ≡ 65)
+Inv-loop state fluents line₀ f₀ line f = (f ≤ format .fluents) × (length line ≡ format .fluents + 1)
 
 abbrev μ-loop : tie.MeasureT-loop
-μ-loop state fluents line₀ f₀ line f = 64 - f
+μ-loop state fluents line₀ f₀ line f = format .fluents - f
 
 -- src/lib.rt:137:5
 loop-holds : tie.Need-loop-holds Inv-loop μ-loop

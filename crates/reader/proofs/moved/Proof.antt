@@ -1,4 +1,4 @@
--- `moved` meets its contract: a walk of its MIR, by hand. A second struct is made of the first one's slice and of the number that was passed.
+-- `moved` meets its contract: a proof by hand through its MIR. A second struct is made of the first one's slice and of the number that was passed.
 -- The struct can be copied, so what it owns is had twice: one copy is left for the parameter at exit, and in the other what is known of the new number takes the place of what was known of the old one.
 -- Assumes nothing.
 use mathlib.Core.Path.{refl}

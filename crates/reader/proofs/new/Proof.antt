@@ -1,4 +1,4 @@
--- `new` meets its contract: a walk of its MIR, by hand. The struct is made in the result's local, of the slice that was passed and of 0.
+-- `new` meets its contract: a proof by hand through its MIR. The struct is made in the result's local, of the slice that was passed and of 0.
 -- A shared slice can be copied, so what it owns is had twice: one copy is left for the parameter at exit, and the other goes into the result, beside what is known of 0.
 -- Assumes nothing.
 use mathlib.Core.Path.{refl}

@@ -1,5 +1,6 @@
 -- After the start the conclusion is asked: as a list against the goals, or as a fluent by its byte; of another kind it is not what is asked.
-use Rattle.checking.proofs.QuestionLaws.{goals-here, own-list, own-byte, other-start, goals-not-fluent, goals-asked, fluent-not-list, fluent-asked}
+use Rattle.steps.proofs.HandLaws.{goals-here}
+use Rattle.checking.proofs.QuestionLaws.{own-list, own-byte, other-start, goals-not-fluent, goals-asked, fluent-not-list, fluent-asked}
 use borrow.Author.Needs.{needs}
 use Rattle.checking.proofs.question.asks.Statement.{statement}
 use Rattle.checking.proofs.question.asks.Tie as tie
@@ -7,49 +8,49 @@ use Rattle.checking.proofs.question.asks.Reads as reads
 use Rattle.checking.proofs.question.asks.Lts as lts
 use Rattle.checking.proofs.question.from_the_facts.Reads as from-the-facts-reads
 use Rattle.comparing.proofs.parts.same_lists.Reads as same-lists-reads
-use Rattle.reading.proofs.table.get.Reads as get-reads
+use Rattle.reading.proofs.notes.get.Reads as get-reads
 
--- src/question.rt:57:9
+-- src/question.rt:58:9
 from-the-facts-requires : tie.Need-from-the-facts-requires
 from-the-facts-requires c κs = search needs
 
--- src/question.rt:62:20
+-- src/question.rt:63:20
 enum-told : tie.Need-enum-told
 enum-told c = search needs
 
--- src/question.rt:63:21
+-- src/question.rt:64:21
 returns : tie.Need-returns
 returns c = search goals-not-fluent
 
--- src/question.rt:65:21
+-- src/question.rt:66:21
 get-requires : tie.Need-get-requires
 get-requires c κs = search needs
 
--- src/question.rt:66:17
+-- src/question.rt:67:17
 same-lists-requires : tie.Need-same-lists-requires
 same-lists-requires c κs = (search own-list, search goals-here)
 
--- src/question.rt:66:17
+-- src/question.rt:67:17
 returns-2 : tie.Need-returns-2
 returns-2 c = search goals-asked
 
--- src/question.rt:68:27
+-- src/question.rt:69:27
 enum-known-asked : tie.Need-enum-known-asked
 enum-known-asked c = search needs
 
--- src/question.rt:70:28
+-- src/question.rt:71:28
 shared-slice-read-result : tie.Need-shared-slice-read-result
 shared-slice-read-result c = search own-byte
 
--- src/question.rt:70:21
+-- src/question.rt:71:21
 returns-3 : tie.Need-returns-3
 returns-3 c = search fluent-asked
 
--- src/question.rt:72:17
+-- src/question.rt:73:17
 returns-4 : tie.Need-returns-4
 returns-4 c = search fluent-not-list
 
--- src/question.rt:52:1
+-- src/question.rt:53:1
 returns-5 : tie.Need-returns-5
 returns-5 c = search other-start
 

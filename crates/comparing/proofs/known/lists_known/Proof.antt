@@ -7,6 +7,7 @@ use Rattle.reading.specs.Listed.{bytes-from, listed}
 use Rattle.reading.proofs.MarkLaws.{count-there, list-fits}
 use Rattle.comparing.proofs.KnownLaws.{list-ends, known-starts, literal-fits, known-none, known-short, known-differs, known-same, known-done}
 use borrow.Author.Needs.{needs}
+use Rattle.meaning.specs.Limits.{format}
 use Rattle.comparing.proofs.known.lists_known.Statement.{statement}
 use Rattle.comparing.proofs.known.lists_known.Tie as tie
 use Rattle.comparing.proofs.known.lists_known.Reads as reads
@@ -20,7 +21,7 @@ Inv-loop marks s p end i₀ f₀ i f =
     × (same-list (listed s p) (literals-of marks) ≡ same-list (bytes-from s (i + 1) (end - i)) (known-from marks f (drop f marks)))
 
 abbrev μ-loop : tie.MeasureT-loop
-μ-loop marks s p end i₀ f₀ i f = 64 - f
+μ-loop marks s p end i₀ f₀ i f = format .fluents - f
 
 -- src/known.rt:29:24
 shared-slice-read-wide : tie.Need-shared-slice-read-wide Inv-loop μ-loop

@@ -1,6 +1,6 @@
 -- Where the part begins with the first of the two, what is left of it is compared with the other; and where it does not, or is shorter,
 -- it is not the two.
-use Rattle.comparing.proofs.PartLaws.{joined-longer, joined-fits, joined-not, joined-rest}
+use Rattle.comparing.proofs.SamePartLaws.{joined-longer, joined-fits, joined-not, joined-rest}
 use borrow.Author.Needs.{needs}
 use Rattle.comparing.proofs.parts.same_joined.Statement.{statement}
 use Rattle.comparing.proofs.parts.same_joined.Tie as tie

@@ -1,5 +1,5 @@
 -- What stands after each count, up to the list's end, is the list.
-use Rattle.comparing.proofs.PartLaws.{lists-same}
+use Rattle.comparing.proofs.SamePartLaws.{lists-same}
 use borrow.Author.Needs.{needs}
 use Rattle.comparing.proofs.parts.same_lists.Statement.{statement}
 use Rattle.comparing.proofs.parts.same_lists.Tie as tie

@@ -3,7 +3,7 @@ use Prim.Native.Nat.{_-_}
 use mathlib.Core.Path.{_≡_}
 use lib.ListN.{length, drop}
 use Rattle.meaning.specs.Derivations.{same-list}
-use Rattle.comparing.proofs.PartLaws.{lengths-differ, other-there, entry-differs, entry-same, parts-same}
+use Rattle.comparing.proofs.SamePartLaws.{lengths-differ, other-there, entry-differs, entry-same, parts-same}
 use borrow.Author.Needs.{needs}
 use Rattle.comparing.proofs.parts.same_part.Statement.{statement}
 use Rattle.comparing.proofs.parts.same_part.Tie as tie

@@ -7,7 +7,7 @@ use Rattle.comparing.proofs.spots.spot_at.Reads as reads
 use Rattle.comparing.proofs.spots.spot_at.Lts as lts
 use Rattle.bytes.proofs.bytes.wide.Reads as wide-reads
 use Rattle.deriving.proofs.derivations.gives_fluent.Reads as gives-fluent-reads
-use Rattle.refusing.proofs.overlaps.sequence_of.Reads as sequence-of-reads
+use Rattle.finding.proofs.branches.sequence_of.Reads as sequence-of-reads
 
 -- src/spots.rt:33:17
 enum-told : tie.Need-enum-told

@@ -1,4 +1,4 @@
--- `lines` meets its contract: a walk of its MIR, by hand. The struct is taken apart, and slice, number and both arrays go to `lines_from`, of which nothing is known here but that it meets its contract.
+-- `lines` meets its contract: a proof by hand through its MIR. The struct is taken apart, and slice, number and both arrays go to `lines_from`, of which nothing is known here but that it meets its contract.
 -- The struct can be copied, so what it owns is had twice: one copy is left for the exit, and of the other the slice's part goes to the callee. The arrays' borrows go there at their own lifetimes, shares and names, and for good: what the callee says of the last places under that name is what is said at exit.
 -- The layout owns only facts, as a number does: what it owns is had for nothing, from the relation that is known at entry.
 -- Assumes nothing.
@@ -55,11 +55,11 @@ use Rattle.bytes.proofs.lists.Passed as P
 use Rattle.bytes.proofs.lists.Passed.Laws as P′
 use Rattle.reading.specs.Noted.{noting, outcome}
 use Rattle.reader.specs.declared.Reader.{Reader}
-use Rattle.reader.proofs.Lent.{Slots}
+use Rattle.reader.proofs.LentArrays.{Slots}
 use Rattle.reader.proofs.Reader as T
 use Rattle.reader.proofs.Reader.Laws as T′
 use Rattle.deriving.specs.DerivationRead.{places-noted}
-use Rattle.deriving.proofs.Walked.{Spots, learns, shows-all}
+use Rattle.deriving.proofs.ByHand.{Spots, learns, shows-all}
 use Rattle.deriving.proofs.derivations.lines_from as lines-from
 use Rattle.deriving.proofs.derivations.lines_from.Symbol as lines-from-def
 use Rattle.deriving.proofs.derivations.lines_from.Symbol.{name as #deriving·derivations·lines-from}
@@ -94,7 +94,7 @@ module _ {M : Type 1} (𝓤 : URA M) (H : Heap 𝓤) (A : Atoms 𝓤) (W : Given
   abbrev vo : Val
   vo = EL.val O.the-type O′.the-laws o
 
-  -- the machine values of src, of the table's borrow and of the places'
+  -- the machine values of src, of the notes' borrow and of the places'
   abbrev v : Val
   v = sliceVal (d .src .ptr) (length (d .src .now))
 
@@ -123,7 +123,7 @@ module _ {M : Type 1} (𝓤 : URA M) (H : Heap 𝓤) (A : Atoms 𝓤) (W : Given
   abbrev Own : Fml
   Own = B κs .own d (mach ∷ [])
 
-  -- what says the last table and the last places
+  -- what says the last notes and the last places
   abbrev Last : List ℕ → List ℕ → Fml
   Last ws zs = fsep (fres (x .name) (Slots .coded .code ws)) (fsep (fres (y .name) (Spots .coded .code zs)) ftrue)
 
@@ -150,9 +150,9 @@ module _ {M : Type 1} (𝓤 : URA M) (H : Heap 𝓤) (A : Atoms 𝓤) (W : Given
   abbrev to : LinesFrom 𝓤 H A mem run .Ghost
   to = ((κs, qs, tt, args, passed), tt)
 
-  module _ (few : n ≤ 64) (lines-few : c ≤ 1024) (room : length (d .src .now) ≤ 32768) where
+  module _ (few : n ≤ format .fluents) (lines-few : c ≤ format .lines) (room : length (d .src .now) ≤ format .derivation) where
     asked : ent 𝓤 (onEntry 𝓤 H A lines-from.signature κs qs args passed) (LinesFrom 𝓤 H A mem run .pre to)
-    asked = shows-all 𝓤 H A W (onEntry 𝓤 H A lines-from.signature κs qs args passed) (n ≤ 64) (c ≤ 1024) (length (d .src .now) ≤ 32768) few lines-few room
+    asked = shows-all 𝓤 H A W (onEntry 𝓤 H A lines-from.signature κs qs args passed) (n ≤ format .fluents) (c ≤ format .lines) (length (d .src .now) ≤ format .derivation) few lines-few room
 
     -- what the struct and the arrays' borrows own gives what the callee asks, and the struct's is kept
     apart : d .at < 2 ^ 64 → ent 𝓤 (onEntry 𝓤 H A lines.signature κs qs a at) (sep 𝓤 (LinesFrom 𝓤 H A mem run .pre to) (sem 𝓤 H A Own))
@@ -190,7 +190,7 @@ module _ {M : Type 1} (𝓤 : URA M) (H : Heap 𝓤) (A : Atoms 𝓤) (W : Given
           move ! (24 ∷ []) $ use1 W (raw (LinesFrom 𝓤 H A mem run .pre to) ⊛ ‵ Own) (apart (wt .1 .1 .0 .fits)) $ split ! $
           calls-at ! fm (LinesFrom 𝓤 H A mem run) known to (and-then ! (load ! (from ! (stop !)) (look ! 20 refl)) (and-then ! (load ! (from ! (stop !)) (look ! 18 refl)) (and-then ! (load ! (from ! (stop !)) (look ! 16 refl)) (and-then ! (load ! (from ! (stop !)) (look ! 8 refl)) (and-then ! (load ! (from ! (stop !)) (look ! 14 refl)) (and-then ! (load ! (from ! (stop !)) (look ! 6 refl)) (and-then ! (load ! (from ! (stop !)) (look ! 4 refl)) (and-then ! (load ! (from ! (stop !)) (look ! 2 refl)) (no-more !))))))))) (λ u.
           use1 W (later (some (λ (r : Passed). ((‵ (flft κ q) ⊛ ‵ (flft κ₁ q₁) ⊛ ‵ (flft κ₂ q₂) ⊛ ‵ ftrue) ⊛ ‵ (P.the-row .own r (u ∷ []))) ⊛ raw (ensured 𝓤 H A lines-from.ended (lines-from.clauses 𝓤 H A mem run) κs args tt r)))) (id⊢ 𝓤 _) $ await ! tt $ pick ! (λ r.
-          -- what `lines_from` ensures, at some last table and places
+          -- what `lines_from` ensures, at some last notes and places
           split ! $ move ! (1 ∷ []) $ use1 W (some (λ (zs : Unit {0} × (Unit {0} × (Unit {0} × (Unit {0} × (Unit {0} × (Unit {0} × (List ℕ × (List ℕ × Unit {0})))))))). ‵ (lasts lines-from.ended κs args zs) ⊛ raw (fact 𝓤 (Told r (zs .1 .1 .1 .1 .1 .1 .1 .0))))) (id⊢ 𝓤 _) $ pick ! (λ zs.
           split ! $ move ! (1 ∷ []) $ heard ! (Told r (zs .1 .1 .1 .1 .1 .1 .1 .0)) (λ e. fsplit ! $ drop ! $ fsplit ! $ drop ! $ fsplit ! $ drop ! $ fsplit ! $ drop ! $ fsplit ! $ drop ! $ fsplit ! $ drop ! $ move ! (1 ∷ []) $ split ! $ move ! (1 ∷ []) $
           -- [the result; the tokens; the last arrays; what the struct owns; _11; …; _0; …]
@@ -206,7 +206,7 @@ module _ {M : Type 1} (𝓤 : URA M) (H : Heap 𝓤) (A : Atoms 𝓤) (W : Given
   lines-walks C Λ fm known = walked 𝓤 H A lines.ended stayed (lines.clauses 𝓤 H A mem run) (WpFn 𝓤 H C Λ code.function)
       (λ κs. (LL.vals (T.the-type (namedLft 3 0 tt κs)) (T′.the-laws (namedLft 3 0 tt κs)), (EL.vals O.the-type O′.the-laws, (uint-vals w64, (uint-vals w64, (uint-vals w64, (ptr-vals, (ptr-vals, tt))))))))
       (λ κs. (LL.tells (T.the-type (namedLft 3 0 tt κs)) (T′.the-laws (namedLft 3 0 tt κs)), (EL.tells O.the-type O′.the-laws, (uint-tells w64, (uint-tells w64, (uint-tells w64, (mut-tells (named 1) (κs .1 .0) Slots, (mut-tells (named 2) (κs .1 .1 .0) Spots, tt))))))))
-      (λ κs qs bounds a g are. learns 𝓤 H A W _ (a .1 .1 .0 ≤ 64) (a .1 .1 .1 .1 .0 ≤ 1024) (length (a .0 .src .now) ≤ 32768) (λ few lines-few room.
+      (λ κs qs bounds a g are. learns 𝓤 H A W _ (a .1 .1 .0 ≤ format .fluents) (a .1 .1 .1 .1 .0 ≤ format .lines) (length (a .0 .src .now) ≤ format .derivation) (λ few lines-few room.
       walk 𝓤 H A W mem run (κs .0) (κs .1 .0) (κs .1 .1 .0) (qs .0) (qs .1 .0) (qs .1 .1 .0) (a .0) (a .1 .0) (a .1 .1 .0) (a .1 .1 .1 .0) (a .1 .1 .1 .1 .0) (a .1 .1 .1 .1 .1 .0) (a .1 .1 .1 .1 .1 .1 .0) (are .1 .0) (are .1 .1 .0 .1) (are .1 .1 .1 .0 .1) (are .1 .1 .1 .1 .0 .1) few lines-few room C Λ fm known
       (LL.lawful (T.the-type (namedLft 3 0 tt κs)) (T′.the-laws (namedLft 3 0 tt κs)) 𝓤 H A W .typed (a .0) _ (are .0) .0)))
 

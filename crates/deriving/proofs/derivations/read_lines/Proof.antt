@@ -1,4 +1,4 @@
--- `read_lines` meets its contract: a walk of its MIR, by hand. What `new` returns, and then what `moved` returns, is held in a local, and the latter is handed to `lines`, with both arrays; of the three nothing is known here but that they meet their contracts. `new` and `moved` say that the slice is the one passed and the place the number passed, so what `lines` says of the struct is what is promised of the slice and the number.
+-- `read_lines` meets its contract: a proof by hand through its MIR. What `new` returns, and then what `moved` returns, is held in a local, and the latter is handed to `lines`, with both arrays; of the three nothing is known here but that they meet their contracts. `new` and `moved` say that the slice is the one passed and the place the number passed, so what `lines` says of the struct is what is promised of the slice and the number.
 -- A local's type has its lifetime erased, so each struct's machine value is shown to have that type too. The arrays' borrows go to `lines` for good, and what that says of the last places is what is said at exit.
 -- The layout owns only facts, as a number does: what it owns is had for nothing, from the relation that is known at entry.
 -- Assumes nothing.
@@ -50,7 +50,7 @@ use Rattle.bytes.proofs.lists.Passed as P
 use Rattle.bytes.proofs.lists.Passed.Laws as P′
 use Rattle.reading.specs.Noted.{noting, outcome}
 use Rattle.reader.specs.declared.Reader.{Reader}
-use Rattle.reader.proofs.Lent.{Slots}
+use Rattle.reader.proofs.LentArrays.{Slots}
 use Rattle.reader.proofs.Reader as T
 use Rattle.reader.proofs.Reader.Laws as T′
 use Rattle.reader.proofs.new as new
@@ -62,7 +62,7 @@ use Rattle.reader.proofs.moved.Symbol as moved-def
 use Rattle.reader.proofs.moved.Symbol.{name as #reader·moved}
 use Rattle.reader.proofs.moved.Met as moved-thm
 use Rattle.deriving.specs.DerivationRead.{places-noted}
-use Rattle.deriving.proofs.Walked.{Spots, learns, shows-all}
+use Rattle.deriving.proofs.ByHand.{Spots, learns, shows-all}
 use Rattle.deriving.proofs.derivations.lines as lines
 use Rattle.deriving.proofs.derivations.lines.Symbol as lines-def
 use Rattle.deriving.proofs.derivations.lines.Symbol.{name as #deriving·derivations·lines}
@@ -104,7 +104,7 @@ module _ {M : Type 1} (𝓤 : URA M) (H : Heap 𝓤) (A : Atoms 𝓤) (W : Given
   abbrev vo : Val
   vo = EL.val O.the-type O′.the-laws o
 
-  -- the machine values of s, of the table's borrow and of the places'
+  -- the machine values of s, of the notes' borrow and of the places'
   abbrev v : Val
   v = sliceVal (s .ptr) (length (s .now))
 
@@ -180,8 +180,8 @@ module _ {M : Type 1} (𝓤 : URA M) (H : Heap 𝓤) (A : Atoms 𝓤) (W : Given
   abbrev to-lines : Reader → Val → Lines 𝓤 H A mem run .Ghost
   to-lines r u = ((κs, qs, tt, args r, passed u), tt)
 
-  goes-lines : (r : Reader) (u : Val) → n ≤ 64 → c ≤ 1024 → length (r .src .now) ≤ 32768 → ent 𝓤 (onEntry 𝓤 H A lines.signature κs qs (args r) (passed u)) (Lines 𝓤 H A mem run .pre (to-lines r u))
-  goes-lines r u few lines-few room = shows-all 𝓤 H A W (onEntry 𝓤 H A lines.signature κs qs (args r) (passed u)) (n ≤ 64) (c ≤ 1024) (length (r .src .now) ≤ 32768) few lines-few room
+  goes-lines : (r : Reader) (u : Val) → n ≤ format .fluents → c ≤ format .lines → length (r .src .now) ≤ format .derivation → ent 𝓤 (onEntry 𝓤 H A lines.signature κs qs (args r) (passed u)) (Lines 𝓤 H A mem run .pre (to-lines r u))
+  goes-lines r u few lines-few room = shows-all 𝓤 H A W (onEntry 𝓤 H A lines.signature κs qs (args r) (passed u)) (n ≤ format .fluents) (c ≤ format .lines) (length (r .src .now) ≤ format .derivation) few lines-few room
 
   exits : (r : Passed) (u : Val) (ws zs : List ℕ) → Told s p r zs → ent 𝓤 (⋆ 𝓤 H A (‵ (P.the-row .own r (u ∷ [])) ∷ (‵ (flft κ q) ⊛ ‵ (flft κ₁ q₁) ⊛ ‵ (flft κ₂ q₂) ⊛ ‵ ftrue) ∷ ‵ (Last ws zs) ∷ ‵ Own ∷ [])) (Post u)
   exits r u ws zs e =
@@ -191,7 +191,7 @@ module _ {M : Type 1} (𝓤 : URA M) (H : Heap 𝓤) (A : Atoms 𝓤) (W : Given
       owned ! usize (Is usize) (uint-makes 𝓤 H A W w64) m _ (refl, m-fits) $ fjoin ! $ owned ! usize (Is usize) (uint-makes 𝓤 H A W w64) n _ (refl, n-fits) $ fjoin ! $ owned ! O.the-row (Is O.the-row) (EL.makes O.the-type O′.the-plain 𝓤 H A) o _ is-o $ fjoin ! $ frame ! $ done !
 
   module _ (C : Calls 𝓤 H) (Λ : Loops 𝓤 H) (fm : FmC 𝓤 H (W .laws) C) (known-new : Triple 𝓤 (C #reader·new) (New 𝓤 H A mem run)) (known-moved : Triple 𝓤 (C #reader·moved) (Moved 𝓤 H A mem run)) (known-lines : Triple 𝓤 (C #deriving·derivations·lines) (Lines 𝓤 H A mem run)) where
-    walk : Is (ShrSlice (named 0) κ u8) s (v ∷ []) → n ≤ 64 → c ≤ 1024 → length (s .now) ≤ 32768 → ent 𝓤 (onEntry 𝓤 H A read-lines.signature κs qs a at) (WpFn 𝓤 H C Λ code.function (vo ∷ vint w64 n ∷ vint w64 m ∷ v ∷ vint w64 c ∷ vint w64 p ∷ vx ∷ vy ∷ []) Post)
+    walk : Is (ShrSlice (named 0) κ u8) s (v ∷ []) → n ≤ format .fluents → c ≤ format .lines → length (s .now) ≤ format .derivation → ent 𝓤 (onEntry 𝓤 H A read-lines.signature κs qs a at) (WpFn 𝓤 H C Λ code.function (vo ∷ vint w64 n ∷ vint w64 m ∷ v ∷ vint w64 c ∷ vint w64 p ∷ vx ∷ vy ∷ []) Post)
     walk is-s few lines-few room =
         qed W (raw (onEntry 𝓤 H A read-lines.signature κs qs a at) ∷ []) ∵ enter ! C Λ code.function (vo ∷ vint w64 n ∷ vint w64 m ∷ v ∷ vint w64 c ∷ vint w64 p ∷ vx ∷ vy ∷ []) _ $
         alloc1 ! (λ l₀. alloc1 ! (λ l₁. alloc1 ! (λ l₂. alloc1 ! (λ l₃. alloc1 ! (λ l₄. alloc1 ! (λ l₅. alloc1 ! (λ l₆. alloc1 ! (λ l₇. alloc1 ! (λ l₈. alloc1 ! (λ l₉. alloc1 ! (λ l₁₀. alloc1 ! (λ l₁₁. alloc1 ! (λ l₁₂. alloc0 ! $ params1 ! $
@@ -217,11 +217,11 @@ module _ {M : Type 1} (𝓤 : URA M) (H : Heap 𝓤) (A : Atoms 𝓤) (W : Given
         -- `lines`
         owned ! usize (Is usize) (uint-makes 𝓤 H A W w64) c _ (refl, c-fits) $ move ! (0 ∷ 3 ∷ []) $ fjoin ! $ owned ! usize (Is usize) (uint-makes 𝓤 H A W w64) m _ (refl, m-fits) $ fjoin ! $ owned ! usize (Is usize) (uint-makes 𝓤 H A W w64) n _ (refl, n-fits) $ fjoin ! $ owned ! O.the-row (Is O.the-row) (EL.makes O.the-type O′.the-plain 𝓤 H A) o _ is-o $ fjoin ! $ move ! (1 ∷ 0 ∷ []) $ fjoin ! $
         move ! (1 ∷ []) $ split ! $ move ! (1 ∷ []) $ drop ! $ move ! (0 ∷ 2 ∷ []) $ join ! $
-        use2 W (raw (Lines 𝓤 H A mem run .pre (to-lines r₁ u₁))) (goes-lines r₁ u₁ few lines-few (subst (λ (z : RefT (List ℕ)). length (now z) ≤ 32768) (sym (e₁ .0 ∙ e .0)) room)) $
+        use2 W (raw (Lines 𝓤 H A mem run .pre (to-lines r₁ u₁))) (goes-lines r₁ u₁ few lines-few (subst (λ (z : RefT (List ℕ)). length (now z) ≤ format .derivation) (sym (e₁ .0 ∙ e .0)) room)) $
         -- [what `lines` asks; what s owns; _12; …; _11; …; _10; …; _9; …; _8; …; _7; …; _6; …; _5; …; _4; …; _3; …; _2; …; _1; …; room for _0; …]
         calls-at ! fm (Lines 𝓤 H A mem run) known-lines (to-lines r₁ u₁) (and-then ! (load ! (from ! (stop !)) (look ! 8 refl)) (and-then ! (load ! (from ! (stop !)) (look ! 24 refl)) (and-then ! (load ! (from ! (stop !)) (look ! 22 refl)) (and-then ! (load ! (from ! (stop !)) (look ! 20 refl)) (and-then ! (load ! (from ! (stop !)) (look ! 16 refl)) (and-then ! (load ! (from ! (stop !)) (look ! 4 refl)) (and-then ! (load ! (from ! (stop !)) (look ! 2 refl)) (no-more !)))))))) (λ w.
         use1 W (later (some (λ (t : Passed). ((‵ (flft κ q) ⊛ ‵ (flft κ₁ q₁) ⊛ ‵ (flft κ₂ q₂) ⊛ ‵ ftrue) ⊛ ‵ (P.the-row .own t (w ∷ []))) ⊛ raw (ensured 𝓤 H A lines.ended (lines.clauses 𝓤 H A mem run) κs (args r₁) tt t)))) (id⊢ 𝓤 _) $ await ! tt $ pick ! (λ t.
-        -- what `lines` ensures, at some last table and places
+        -- what `lines` ensures, at some last notes and places
         split ! $ move ! (1 ∷ []) $ use1 W (some (λ (zs : Unit {0} × (Unit {0} × (Unit {0} × (Unit {0} × (Unit {0} × (List ℕ × (List ℕ × Unit {0}))))))). ‵ (lasts lines.ended κs (args r₁) zs) ⊛ raw (fact 𝓤 (Told (r₁ .src) (r₁ .at) t (zs .1 .1 .1 .1 .1 .1 .0))))) (id⊢ 𝓤 _) $ pick ! (λ zs.
         split ! $ move ! (1 ∷ []) $ heard ! (Told (r₁ .src) (r₁ .at) t (zs .1 .1 .1 .1 .1 .1 .0)) (λ e₂. fsplit ! $ drop ! $ fsplit ! $ drop ! $ fsplit ! $ drop ! $ fsplit ! $ drop ! $ fsplit ! $ drop ! $ move ! (1 ∷ []) $ split ! $ move ! (1 ∷ []) $
         -- [the result; the tokens; the last arrays; what s owns; _12; …; _0; …]
@@ -237,7 +237,7 @@ module _ {M : Type 1} (𝓤 : URA M) (H : Heap 𝓤) (A : Atoms 𝓤) (W : Given
   read-lines-walks C Λ fm known-new known-moved known-lines = walked 𝓤 H A read-lines.ended stayed (read-lines.clauses 𝓤 H A mem run) (WpFn 𝓤 H C Λ code.function)
       (λ κs. (EL.vals O.the-type O′.the-laws, (uint-vals w64, (uint-vals w64, (slice-vals, (uint-vals w64, (uint-vals w64, (ptr-vals, (ptr-vals, tt)))))))))
       (λ κs. (EL.tells O.the-type O′.the-laws, (uint-tells w64, (uint-tells w64, (shr-slice-tells (named 0) (κs .0) u8, (uint-tells w64, (uint-tells w64, (mut-tells (named 1) (κs .1 .0) Slots, (mut-tells (named 2) (κs .1 .1 .0) Spots, tt)))))))))
-      (λ κs qs bounds a g are. learns 𝓤 H A W _ (a .1 .0 ≤ 64) (a .1 .1 .1 .1 .0 ≤ 1024) (length (a .1 .1 .1 .0 .now) ≤ 32768) (λ few lines-few room.
+      (λ κs qs bounds a g are. learns 𝓤 H A W _ (a .1 .0 ≤ format .fluents) (a .1 .1 .1 .1 .0 ≤ format .lines) (length (a .1 .1 .1 .0 .now) ≤ format .derivation) (λ few lines-few room.
       walk 𝓤 H A W mem run (κs .0) (κs .1 .0) (κs .1 .1 .0) (qs .0) (qs .1 .0) (qs .1 .1 .0) (a .0) (a .1 .0) (a .1 .1 .0) (a .1 .1 .1 .0) (a .1 .1 .1 .1 .0) (a .1 .1 .1 .1 .1 .0) (a .1 .1 .1 .1 .1 .1 .0) (a .1 .1 .1 .1 .1 .1 .1 .0) (are .0) (are .1 .0 .1) (are .1 .1 .0 .1) (are .1 .1 .1 .1 .0 .1) (are .1 .1 .1 .1 .1 .0 .1) C Λ fm known-new known-moved known-lines
       (are .1 .1 .1 .0) few lines-few room))
 

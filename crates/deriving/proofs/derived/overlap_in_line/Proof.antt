@@ -1,4 +1,4 @@
--- X is a list, so the plan's count stands after it. The plan is read there into the table, which then holds it, and the search over the table
+-- X is a list, so the plan's count stands after it. The plan is read there into the notes, which then hold it, and the search over the notes
 -- finds the first overlap of just that plan. A plan that was read before is read again without a fault.
 use Rattle.deriving.proofs.DerivedLaws.{line-held, line-sought, line-read}
 use borrow.Author.Needs.{needs}
@@ -7,9 +7,9 @@ use Rattle.deriving.proofs.derived.overlap_in_line.Tie as tie
 use Rattle.deriving.proofs.derived.overlap_in_line.Reads as reads
 use Rattle.deriving.proofs.derived.overlap_in_line.Lts as lts
 use Rattle.reading.proofs.plan.plan_at.Reads as plan-at-reads
-use Rattle.reading.proofs.table.sized.Reads as sized-reads
-use Rattle.refusing.proofs.overlaps.overlap.Reads as overlap-reads
-use Rattle.refusing.proofs.overlaps.sequence_of.Reads as sequence-of-reads
+use Rattle.reading.proofs.notes.sized.Reads as sized-reads
+use Rattle.refusing.proofs.refusal_18.overlap.Reads as overlap-reads
+use Rattle.finding.proofs.branches.sequence_of.Reads as sequence-of-reads
 
 -- src/derived.rt:50:9
 sequence-of-requires : tie.Need-sequence-of-requires

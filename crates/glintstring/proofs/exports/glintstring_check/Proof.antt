@@ -5,7 +5,7 @@ use Rattle.glintstring.proofs.exports.glintstring_check.Statement.{stat
 use Rattle.glintstring.proofs.exports.glintstring_check.Tie as tie
 use Rattle.glintstring.proofs.exports.glintstring_check.Reads as reads
 use Rattle.glintstring.proofs.exports.glintstring_check.Lts as lts
-use Rattle.glintstring.proofs.derivations.check.Reads as check-reads
+use Rattle.glintstring.proofs.check_calls.check.Reads as check-reads
 use Rattle.glintstring.proofs.exports.pack.Reads as pack-reads
 
 check-requires : tie.Need-check-requires

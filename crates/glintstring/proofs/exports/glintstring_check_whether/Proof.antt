@@ -5,7 +5,7 @@ use Rattle.glintstring.proofs.exports.glintstring_check_whether.Stateme
 use Rattle.glintstring.proofs.exports.glintstring_check_whether.Tie as tie
 use Rattle.glintstring.proofs.exports.glintstring_check_whether.Reads as reads
 use Rattle.glintstring.proofs.exports.glintstring_check_whether.Lts as lts
-use Rattle.glintstring.proofs.derivations.check_whether.Reads as check-whether-reads
+use Rattle.glintstring.proofs.check_calls.check_whether.Reads as check-whether-reads
 use Rattle.glintstring.proofs.exports.pack.Reads as pack-reads
 
 check-whether-requires : tie.Need-check-whether-requires

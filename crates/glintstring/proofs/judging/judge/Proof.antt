@@ -1,6 +1,7 @@
--- The three ways out: another length than 64, a refusal, and the walk of a settled request. Each is a case of the definition.
+-- The three ways out: another length than a state's, a refusal, and the walk of a settled request. Each is a case of the definition.
 use borrow.Author.Needs.{needs}
-use Rattle.glintstring.proofs.JudgingLaws.{blank-is, judge-9, judge-at-hand, judge-walked, judge-refused}
+use Rattle.glintstring.proofs.JudgingLaws.{judge-9, judge-walked, judge-refused}
+use Rattle.glintstring.proofs.SettledAtHand.{blank-is, settled-at-hand}
 use Rattle.glintstring.proofs.judging.judge.Statement.{statement}
 use Rattle.glintstring.proofs.judging.judge.Tie as tie
 use Rattle.glintstring.proofs.judging.judge.Reads as reads
@@ -8,35 +9,35 @@ use Rattle.glintstring.proofs.judging.judge.Lts as lts
 use Rattle.glintstring.proofs.judging.walk_plan.Reads as walk-plan-reads
 use Rattle.refusing.proofs.settled.settle.Reads as settle-reads
 
--- src/judging.rt:45:9
+-- src/judging.rt:46:9
 returns : tie.Need-returns
 returns c = search judge-9
 
--- src/judging.rt:48:11
+-- src/judging.rt:49:11
 settle-requires : tie.Need-settle-requires
 settle-requires c κs = search blank-is
 
--- src/judging.rt:49:45
+-- src/judging.rt:50:45
 enum-told : tie.Need-enum-told
 enum-told c = search needs
 
--- src/judging.rt:49:26
+-- src/judging.rt:50:26
 walk-plan-requires : tie.Need-walk-plan-requires
-walk-plan-requires c κs = (search (judge-at-hand, blank-is), search needs)
+walk-plan-requires c κs = (search (settled-at-hand, blank-is), search needs)
 
--- src/judging.rt:50:23
+-- src/judging.rt:51:23
 enum-known-k : tie.Need-enum-known-k
 enum-known-k c = search needs
 
--- src/judging.rt:41:1
+-- src/judging.rt:42:1
 same-length : tie.Need-same-length
 same-length c = search needs
 
--- src/judging.rt:41:1
+-- src/judging.rt:42:1
 returns-2 : tie.Need-returns-2
-returns-2 c = search judge-walked
+returns-2 c = search (judge-walked, blank-is)
 
--- src/judging.rt:41:1
+-- src/judging.rt:42:1
 returns-3 : tie.Need-returns-3
 returns-3 c = search judge-refused
 

@@ -5,11 +5,11 @@ use Rattle.glintstring.proofs.judging.start_of.Tie as tie
 use Rattle.glintstring.proofs.judging.start_of.Reads as reads
 use Rattle.glintstring.proofs.judging.start_of.Lts as lts
 
--- src/judging.rt:20:1
+-- src/judging.rt:21:1
 returns : tie.Need-returns
 returns c = search start-end
 
--- src/judging.rt:20:1
+-- src/judging.rt:21:1
 returns-2 : tie.Need-returns-2
 returns-2 c = search start-first
 

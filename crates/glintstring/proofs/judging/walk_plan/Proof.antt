@@ -12,39 +12,39 @@ use Rattle.glintstring.proofs.judging.walk_plan.Lts as lts
 use Rattle.glintstring.proofs.judging.start_of.Reads as start-of-reads
 use Rattle.glintstring.proofs.telling.tell.Reads as tell-reads
 use Rattle.reading.proofs.marks.state_of.Reads as state-of-reads
-use Rattle.reading.proofs.table.get.Reads as get-reads
+use Rattle.reading.proofs.notes.get.Reads as get-reads
 use Rattle.walking.proofs.tally.opened.Reads as opened-reads
 use Rattle.walking.proofs.walk.walk.Reads as walk-reads
 
--- src/judging.rt:32:9
+-- src/judging.rt:33:9
 state-of-requires : tie.Need-state-of-requires
 state-of-requires c κs = search facts-here
 
--- src/judging.rt:33:9
+-- src/judging.rt:34:9
 get-requires : tie.Need-get-requires
 get-requires c κs = search needs
 
--- src/judging.rt:34:9
+-- src/judging.rt:35:9
 start-of-requires : tie.Need-start-of-requires
 start-of-requires c κs = search needs
 
--- src/judging.rt:35:21
+-- src/judging.rt:36:21
 opened-requires : tie.Need-opened-requires
 opened-requires c κs = search needs
 
--- src/judging.rt:36:5
+-- src/judging.rt:37:5
 walk-requires : tie.Need-walk-requires
 walk-requires c κs = (search needs, (search starts-there, (search marked-as, search needs)))
 
--- src/judging.rt:37:5
+-- src/judging.rt:38:5
 tell-requires : tie.Need-tell-requires
 tell-requires c κs = (search needs, search plan-tallied)
 
--- src/judging.rt:27:1
+-- src/judging.rt:28:1
 same-length : tie.Need-same-length
 same-length c = search needs
 
--- src/judging.rt:27:1
+-- src/judging.rt:28:1
 returns : tie.Need-returns
 returns c = search plan-judged
 

@@ -1,6 +1,7 @@
--- The loop has handed over the marks below its fluent; after 64 of them the lent bytes are the marks.
+-- The loop has handed over the marks below its fluent; after all of them the lent bytes are the marks.
 use borrow.Author.Needs.{needs}
 use Prim.Native.Nat.{_-_}
+use Rattle.meaning.specs.Limits.{format}
 use Rattle.glintstring.proofs.TellingLaws.{Handing, handing-starts, mark-small, handing-next, handing-done}
 use Rattle.glintstring.proofs.telling.hand_over.Statement.{statement}
 use Rattle.glintstring.proofs.telling.hand_over.Tie as tie
@@ -12,7 +13,7 @@ abbrev Inv-loop : tie.InvT-loop
 Inv-loop tally state₀ f₀ state f = Handing tally state f
 
 abbrev μ-loop : tie.MeasureT-loop
-μ-loop tally state₀ f₀ state f = 64 - f
+μ-loop tally state₀ f₀ state f = format .fluents - f
 
 -- src/telling.rt:34:5
 loop-holds : tie.Need-loop-holds Inv-loop μ-loop

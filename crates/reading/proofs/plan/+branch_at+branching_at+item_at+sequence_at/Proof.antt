@@ -1,5 +1,5 @@
--- Each of the four readers answers what its definition gives and leaves the table that the definition's tree says: a loop's whole is at every
--- step what the rest gives from the table now, and each return is one law. A branch is one branching less deep, so the cycle ends.
+-- Each of the four readers answers what its definition gives and leaves the notes that the definition's tree says: a loop's whole is at every
+-- step what the rest gives from the notes now, and each return is one law. A branch is one branching less deep, so the cycle ends.
 use borrow.Author.Needs.{needs}
 use Rattle.reading.proofs.NotingLaws.{Going}
 use Rattle.reading.proofs.ItemLaws.{item-many, item-inside, item-fits, item-branching, item-large, item-act, item-fault}
@@ -23,10 +23,10 @@ use Rattle.reading.proofs.plan.+branch_at+branching_at+item_at+sequence
 use Rattle.bytes.proofs.bytes.byte_at.Reads as byte-at-reads
 use Rattle.bytes.proofs.bytes.count_at.Reads as count-at-reads
 use Rattle.bytes.proofs.bytes.two_bytes_at.Reads as two-bytes-at-reads
-use Rattle.bytes.proofs.lines.body_at.Reads as body-at-reads
+use Rattle.bytes.proofs.table_lines.body_at.Reads as body-at-reads
 use Rattle.reading.proofs.plan.note_branch.Reads as note-branch-reads
 use Rattle.reading.proofs.plan.note_next.Reads as note-next-reads
-use Rattle.reading.proofs.table.put.Reads as put-reads
+use Rattle.reading.proofs.notes.put.Reads as put-reads
 use Rattle.reading.proofs.plan.+branch_at+branching_at+item_at+sequence_at.{statement}
 use Rattle.reading.proofs.plan.+branch_at+branching_at+item_at+sequence_at.Tie.{close}
 

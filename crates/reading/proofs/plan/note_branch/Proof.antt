@@ -5,7 +5,7 @@ use Rattle.reading.proofs.plan.note_branch.Statement.{statement}
 use Rattle.reading.proofs.plan.note_branch.Tie as tie
 use Rattle.reading.proofs.plan.note_branch.Reads as reads
 use Rattle.reading.proofs.plan.note_branch.Lts as lts
-use Rattle.reading.proofs.table.put.Reads as put-reads
+use Rattle.reading.proofs.notes.put.Reads as put-reads
 
 -- src/plan.rt:44:9
 returns : tie.Need-returns

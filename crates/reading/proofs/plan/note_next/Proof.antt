@@ -7,7 +7,7 @@ use Rattle.reading.proofs.plan.note_next.Tie as tie
 use Rattle.reading.proofs.plan.note_next.Reads as reads
 use Rattle.reading.proofs.plan.note_next.Lts as lts
 use Rattle.reading.proofs.plan.after.Reads as after-reads
-use Rattle.reading.proofs.table.put.Reads as put-reads
+use Rattle.reading.proofs.notes.put.Reads as put-reads
 
 -- src/plan.rt:34:12
 add-put : tie.Need-add-put

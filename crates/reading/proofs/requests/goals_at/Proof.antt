@@ -6,7 +6,7 @@ use Rattle.reading.proofs.requests.goals_at.Tie as tie
 use Rattle.reading.proofs.requests.goals_at.Reads as reads
 use Rattle.reading.proofs.requests.goals_at.Lts as lts
 use Rattle.bytes.proofs.lists.list_at.Reads as list-at-reads
-use Rattle.reading.proofs.table.put.Reads as put-reads
+use Rattle.reading.proofs.notes.put.Reads as put-reads
 
 -- src/requests.rt:63:11
 list-at-requires : tie.Need-list-at-requires

@@ -1,4 +1,4 @@
--- At each turn what the section's lines give is what the lines left give, and the table has noted those read.
+-- At each turn what the section's lines give is what the lines left give, and the notes have those read.
 use borrow.Author.Needs.{needs}
 use Prim.Native.Nat.{_-_}
 use mathlib.Core.Path.{_≡_}

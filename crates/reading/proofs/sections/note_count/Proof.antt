@@ -7,7 +7,7 @@ use Rattle.reading.proofs.sections.note_count.Reads as reads
 use Rattle.reading.proofs.sections.note_count.Lts as lts
 use Rattle.bytes.proofs.bytes.wide.Reads as wide-reads
 use Rattle.reading.proofs.sections.count_slot.Reads as count-slot-reads
-use Rattle.reading.proofs.table.put.Reads as put-reads
+use Rattle.reading.proofs.notes.put.Reads as put-reads
 
 -- src/sections.rt:102:9
 count-slot-requires : tie.Need-count-slot-requires

@@ -5,8 +5,8 @@ use Rattle.reading.proofs.sections.note_line.Statement.{statement}
 use Rattle.reading.proofs.sections.note_line.Tie as tie
 use Rattle.reading.proofs.sections.note_line.Reads as reads
 use Rattle.reading.proofs.sections.note_line.Lts as lts
-use Rattle.reading.proofs.table.append_line.Reads as append-line-reads
-use Rattle.reading.proofs.table.note_pair.Reads as note-pair-reads
+use Rattle.reading.proofs.notes.append_line.Reads as append-line-reads
+use Rattle.reading.proofs.notes.note_pair.Reads as note-pair-reads
 
 -- src/sections.rt:48:41
 enum-told : tie.Need-enum-told

@@ -5,9 +5,9 @@ use Rattle.refusing.proofs.settled.refused_from_16.Statement.{statement
 use Rattle.refusing.proofs.settled.refused_from_16.Tie as tie
 use Rattle.refusing.proofs.settled.refused_from_16.Reads as reads
 use Rattle.refusing.proofs.settled.refused_from_16.Lts as lts
-use Rattle.refusing.proofs.refusals.contradiction.Reads as contradiction-reads
+use Rattle.refusing.proofs.refusal_16.contradiction.Reads as contradiction-reads
 use Rattle.refusing.proofs.settled.refused_from_17.Reads as refused-from-17-reads
-use Rattle.reading.proofs.table.get.Reads as get-reads
+use Rattle.reading.proofs.notes.get.Reads as get-reads
 
 -- src/settled.rt:50:9
 get-requires : tie.Need-get-requires

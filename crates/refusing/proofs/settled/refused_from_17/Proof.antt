@@ -5,9 +5,9 @@ use Rattle.refusing.proofs.settled.refused_from_17.Statement.{statement
 use Rattle.refusing.proofs.settled.refused_from_17.Tie as tie
 use Rattle.refusing.proofs.settled.refused_from_17.Reads as reads
 use Rattle.refusing.proofs.settled.refused_from_17.Lts as lts
-use Rattle.refusing.proofs.refusals.mixed.Reads as mixed-reads
+use Rattle.refusing.proofs.refusal_17.mixed.Reads as mixed-reads
 use Rattle.refusing.proofs.settled.refused_from_18.Reads as refused-from-18-reads
-use Rattle.reading.proofs.table.get.Reads as get-reads
+use Rattle.reading.proofs.notes.get.Reads as get-reads
 
 -- src/settled.rt:35:9
 get-requires : tie.Need-get-requires

@@ -5,8 +5,8 @@ use Rattle.refusing.proofs.settled.refused_from_18.Statement.{statement
 use Rattle.refusing.proofs.settled.refused_from_18.Tie as tie
 use Rattle.refusing.proofs.settled.refused_from_18.Reads as reads
 use Rattle.refusing.proofs.settled.refused_from_18.Lts as lts
-use Rattle.refusing.proofs.overlaps.overlap.Reads as overlap-reads
-use Rattle.reading.proofs.table.get.Reads as get-reads
+use Rattle.refusing.proofs.refusal_18.overlap.Reads as overlap-reads
+use Rattle.reading.proofs.notes.get.Reads as get-reads
 
 -- src/settled.rt:23:9
 get-requires : tie.Need-get-requires

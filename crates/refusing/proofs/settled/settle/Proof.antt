@@ -5,7 +5,7 @@ use Rattle.refusing.proofs.settled.settle.Statement.{statement}
 use Rattle.refusing.proofs.settled.settle.Tie as tie
 use Rattle.refusing.proofs.settled.settle.Reads as reads
 use Rattle.refusing.proofs.settled.settle.Lts as lts
-use Rattle.reader.proofs.requests.read_request.Reads as read-request-reads
+use Rattle.reader.proofs.whole.read_request.Reads as read-request-reads
 use Rattle.refusing.proofs.settled.refused_from_16.Reads as refused-from-16-reads
 
 -- src/settled.rt:62:11

@@ -1,11 +1,12 @@
 -- The readings with the first unknown fluent true are used up, and then those with it false from there on; where none is unknown, the state is the
--- one reading. The next unknown fluent is above the first, or is 64.
-use Rattle.steps.proofs.SensingLaws.{first-marked, second-marked}
+-- one reading. The next unknown fluent is above the first, or is the limit of fluents.
+use Rattle.steps.proofs.LookLaws.{first-marked, second-marked}
 use Rattle.ruling.proofs.ReadingRuleLaws.{next-falls, first-fails, both-read, read-whole}
 use borrow.Author.Needs.{needs}
 use Prim.Native.Nat.{ℕ, _-_, _<_}
 use borrow.Fn.Kinds.{In}
 use borrow.Fn.PlainCycle.{Measures, is, falls, and}
+use Rattle.meaning.specs.Limits.{format}
 use Rattle.ruling.proofs.readings.each_reading.Reads as each-reading
 use Rattle.ruling.proofs.readings.each_reading.Kinds as each-reading-kinds
 use Rattle.ruling.proofs.readings.+each_reading.Lts-each_reading as each-reading-lts
@@ -15,7 +16,7 @@ use Rattle.ruling.proofs.readings.+each_reading.{statement}
 use Rattle.ruling.proofs.readings.+each_reading.Tie.{close}
 
 abbrev μ-each-reading : Measures 4 each-reading-kinds.ps ℕ
-μ-each-reading κs a = 64 - a .1 .1 .1 .1 .1 .1 .0
+μ-each-reading κs a = format .fluents - a .1 .1 .1 .1 .1 .1 .0
 
 abbrev each-reading-at : ℕ → In 4 each-reading-kinds.ps
 each-reading-at t =
@@ -29,7 +30,7 @@ each-reading-below t =
     (falls 4 each-reading-kinds.ps _<_ μ-each-reading t)
     each-reading.Pre
 
--- src/readings.rt:144:17
+-- src/readings.rt:145:17
 each-reading-returns : (t : ℕ) → each-reading-lts.Need-returns (
   next-unknown-reads.Asked,
   next-unknown-reads.Learnt,

@@ -1,4 +1,4 @@
--- A plan of one item whose byte is no 255 is that action, which is below 64; the marks are the state of X, and those after it the state that
+-- A plan of one item whose byte is no 255 is that action, which is within the limit; the marks are the state of X, and those after it the state that
 -- Y is compared with. A fluent is no list.
 use Rattle.steps.proofs.ToldMarks.{marked-as}
 use Rattle.ruling.proofs.RuleLaws.{Y-here, plan-counted, items-fit, next-marked, action-whether, not-one-item, item-there, item-branches, action-small, action-senses, action-stuck, action-leads}
@@ -11,76 +11,76 @@ use Rattle.bytes.proofs.bytes.wide.Reads as wide-reads
 use Rattle.comparing.proofs.known.lists_known.Reads as lists-known-reads
 use Rattle.comparing.proofs.plans.count_of.Reads as count-of-reads
 use Rattle.reading.proofs.marks.state_of.Reads as state-of-reads
-use Rattle.refusing.proofs.overlaps.sequence_of.Reads as sequence-of-reads
+use Rattle.finding.proofs.branches.sequence_of.Reads as sequence-of-reads
 use Rattle.steps.proofs.actions.can_be_run.Reads as can-be-run-reads
 use Rattle.steps.proofs.actions.state_after.Reads as state-after-reads
 use Rattle.steps.proofs.sensing.is_sensing.Reads as is-sensing-reads
 
--- src/rules.rt:49:9
+-- src/rules.rt:50:9
 returns : tie.Need-returns
 returns c = search action-whether
 
--- src/rules.rt:53:9
+-- src/rules.rt:54:9
 sequence-of-requires : tie.Need-sequence-of-requires
 sequence-of-requires c κs = search needs
 
--- src/rules.rt:54:9
+-- src/rules.rt:55:9
 count-of-requires : tie.Need-count-of-requires
 count-of-requires c κs = search plan-counted
 
--- src/rules.rt:56:9
+-- src/rules.rt:57:9
 returns-2 : tie.Need-returns-2
 returns-2 c = search not-one-item
 
--- src/rules.rt:58:17
+-- src/rules.rt:59:17
 add-first : tie.Need-add-first
 add-first c = search items-fit
 
--- src/rules.rt:59:8
+-- src/rules.rt:60:8
 shared-slice-read-if3 : tie.Need-shared-slice-read-if3
 shared-slice-read-if3 c = search item-there
 
--- src/rules.rt:60:9
+-- src/rules.rt:61:9
 returns-3 : tie.Need-returns-3
 returns-3 c = search item-branches
 
--- src/rules.rt:62:18
+-- src/rules.rt:63:18
 shared-slice-read-wide : tie.Need-shared-slice-read-wide
 shared-slice-read-wide c = search item-there
 
--- src/rules.rt:62:9
+-- src/rules.rt:63:9
 wide-requires : tie.Need-wide-requires
 wide-requires c κs = search needs
 
--- src/rules.rt:63:9
+-- src/rules.rt:64:9
 is-sensing-requires : tie.Need-is-sensing-requires
 is-sensing-requires c κs = (search needs, search action-small)
 
--- src/rules.rt:65:9
+-- src/rules.rt:66:9
 returns-4 : tie.Need-returns-4
 returns-4 c = search action-senses
 
--- src/rules.rt:67:17
+-- src/rules.rt:68:17
 state-of-requires : tie.Need-state-of-requires
 state-of-requires c κs = search needs
 
--- src/rules.rt:68:9
+-- src/rules.rt:69:9
 can-be-run-requires : tie.Need-can-be-run-requires
 can-be-run-requires c κs = (search needs, search action-small)
 
--- src/rules.rt:70:21
+-- src/rules.rt:71:21
 state-after-requires : tie.Need-state-after-requires
 state-after-requires c κs = (search needs, (search action-small, search marked-as))
 
--- src/rules.rt:71:9
+-- src/rules.rt:72:9
 lists-known-requires : tie.Need-lists-known-requires
 lists-known-requires c κs = (search next-marked, search Y-here)
 
--- src/rules.rt:71:9
+-- src/rules.rt:72:9
 returns-5 : tie.Need-returns-5
 returns-5 c = search action-leads
 
--- src/rules.rt:43:1
+-- src/rules.rt:44:1
 returns-6 : tie.Need-returns-6
 returns-6 c = search action-stuck
 

@@ -10,37 +10,37 @@ use Rattle.ruling.proofs.rules.rule_8.Lts as lts
 use Rattle.bytes.proofs.bytes.wide.Reads as wide-reads
 use Rattle.comparing.proofs.parts.same_lists.Reads as same-lists-reads
 use Rattle.comparing.proofs.plans.same_plans.Reads as same-plans-reads
-use Rattle.refusing.proofs.overlaps.sequence_of.Reads as sequence-of-reads
+use Rattle.finding.proofs.branches.sequence_of.Reads as sequence-of-reads
 
--- src/rules.rt:183:9
+-- src/rules.rt:184:9
 returns : tie.Need-returns
 returns c = search settled-by-whether
 
--- src/rules.rt:188:22
+-- src/rules.rt:189:22
 shared-slice-read-wide : tie.Need-shared-slice-read-wide
 shared-slice-read-wide c = search fluent-there
 
--- src/rules.rt:188:13
+-- src/rules.rt:189:13
 wide-requires : tie.Need-wide-requires
 wide-requires c κs = search needs
 
--- src/rules.rt:189:29
+-- src/rules.rt:190:29
 shared-slice-read-wide-2 : tie.Need-shared-slice-read-wide-2
 shared-slice-read-wide-2 c = search literals-there
 
--- src/rules.rt:189:13
+-- src/rules.rt:190:13
 wide-requires-2 : tie.Need-wide-requires-2
 wide-requires-2 c κs = search needs
 
--- src/rules.rt:191:13
+-- src/rules.rt:192:13
 returns-2 : tie.Need-returns-2
 returns-2 c = search not-one-literal
 
--- src/rules.rt:193:21
+-- src/rules.rt:194:21
 add-first : tie.Need-add-first
 add-first c = search literal-fits
 
--- src/rules.rt:194:28
+-- src/rules.rt:195:28
 shared-slice-read-wide-3 : tie.Need-shared-slice-read-wide-3
 shared-slice-read-wide-3 c =
     let list = c .before .before .before .before .before .before .before in
@@ -49,39 +49,39 @@ shared-slice-read-wide-3 c =
     let one = c .before .if3 .left in
     omega (arith, ends, counted, one)
 
--- src/rules.rt:194:13
+-- src/rules.rt:195:13
 wide-requires-3 : tie.Need-wide-requires-3
 wide-requires-3 c κs = search needs
 
--- src/rules.rt:196:13
+-- src/rules.rt:197:13
 returns-3 : tie.Need-returns-3
 returns-3 c = search other-fluent
 
--- src/rules.rt:200:13
+-- src/rules.rt:201:13
 same-lists-requires : tie.Need-same-lists-requires
 same-lists-requires c κs = search needs
 
--- src/rules.rt:202:17
+-- src/rules.rt:203:17
 sequence-of-requires : tie.Need-sequence-of-requires
 sequence-of-requires c κs = search needs
 
--- src/rules.rt:203:17
+-- src/rules.rt:204:17
 sequence-of-requires-2 : tie.Need-sequence-of-requires-2
 sequence-of-requires-2 c κs = search needs
 
--- src/rules.rt:206:13
+-- src/rules.rt:207:13
 same-plans-requires : tie.Need-same-plans-requires
 same-plans-requires c κs = (search some-plan, search some-plan)
 
--- src/rules.rt:206:13
+-- src/rules.rt:207:13
 returns-4 : tie.Need-returns-4
 returns-4 c = search settled
 
--- src/rules.rt:208:9
+-- src/rules.rt:209:9
 returns-5 : tie.Need-returns-5
 returns-5 c = search settled-elsewhere
 
--- src/rules.rt:177:1
+-- src/rules.rt:178:1
 returns-6 : tie.Need-returns-6
 returns-6 c = search list-settled
 

@@ -1,6 +1,6 @@
 -- A turn looks at the first of the action's lines that are left; what is left gives what the whole gives, and line numbers rise in file order.
 use Rattle.meaning.specs.States.{can-be-run}
-use Rattle.steps.specs.AtHand.{request-in}
+use Rattle.steps.specs.Held.{table-in}
 use Rattle.steps.proofs.ActionLaws.{Running, running-starts, running-done, line-few, line-less, to-go, run-body-fits, run-body, run-met, run-next}
 use borrow.Author.Needs.{needs}
 use Rattle.steps.proofs.actions.can_be_run.Statement.{statement}
@@ -8,53 +8,53 @@ use Rattle.steps.proofs.actions.can_be_run.Tie as tie
 use Rattle.steps.proofs.actions.can_be_run.Reads as reads
 use Rattle.steps.proofs.actions.can_be_run.Lts as lts
 use Rattle.reading.proofs.marks.each_holds.Reads as each-holds-reads
-use Rattle.reading.proofs.table.first_line.Reads as first-line-reads
-use Rattle.reading.proofs.table.line_place.Reads as line-place-reads
-use Rattle.reading.proofs.table.next_line.Reads as next-line-reads
+use Rattle.reading.proofs.notes.first_line.Reads as first-line-reads
+use Rattle.reading.proofs.notes.line_place.Reads as line-place-reads
+use Rattle.reading.proofs.notes.next_line.Reads as next-line-reads
 
 abbrev Inv-loop : tie.InvT-loop
-Inv-loop s t a marks k₀ k = Running s t marks (can-be-run (request-in s .table) a marks) k
+Inv-loop s t a marks k₀ k = Running s t marks (can-be-run (table-in s) a marks) k
 
 abbrev μ-loop : tie.MeasureT-loop
 μ-loop s t a marks k₀ k = to-go k
 
--- src/actions.rt:23:9
+-- src/actions.rt:24:9
 first-line-requires : tie.Need-first-line-requires Inv-loop μ-loop
 first-line-requires c κs = search needs
 
--- src/actions.rt:24:5
+-- src/actions.rt:25:5
 loop-holds : tie.Need-loop-holds Inv-loop μ-loop
 loop-holds c = search running-starts
 
--- src/actions.rt:25:13
+-- src/actions.rt:26:13
 line-place-requires : tie.Need-line-place-requires Inv-loop μ-loop
 line-place-requires c κs = search (needs, line-few)
 
--- src/actions.rt:26:20
+-- src/actions.rt:27:20
 add-body : tie.Need-add-body Inv-loop μ-loop
 add-body c = search run-body-fits
 
--- src/actions.rt:27:13
+-- src/actions.rt:28:13
 each-holds-requires : tie.Need-each-holds-requires Inv-loop μ-loop
 each-holds-requires c κs = search (needs, run-body)
 
--- src/actions.rt:29:13
+-- src/actions.rt:30:13
 returns : tie.Need-returns Inv-loop μ-loop
 returns c = search run-met
 
--- src/actions.rt:31:9
+-- src/actions.rt:32:9
 next-line-requires : tie.Need-next-line-requires Inv-loop μ-loop
 next-line-requires c κs = search (needs, line-few)
 
--- src/actions.rt:24:5
+-- src/actions.rt:25:5
 loop-less : tie.Need-loop-less Inv-loop μ-loop
 loop-less c = search line-less
 
--- src/actions.rt:24:5
+-- src/actions.rt:25:5
 loop-again : tie.Need-loop-again Inv-loop μ-loop
 loop-again c = search run-next
 
--- src/actions.rt:18:1
+-- src/actions.rt:19:1
 returns-2 : tie.Need-returns-2 Inv-loop μ-loop
 returns-2 c = search running-done
 

@@ -3,10 +3,10 @@ use Prim.Native.Nat.{_+_, _-_, _≤_}
 use mathlib.Core.Path.{_≡_}
 use Rattle.meaning.specs.Reading.{placed}
 use Rattle.meaning.specs.Walk.{first-missed}
-use Rattle.refusing.specs.InTable.{found}
+use Rattle.finding.specs.Places.{found}
 use Rattle.reading.specs.Listed.{bytes-from, listed}
 use Rattle.steps.specs.Steps.{met-as}
-use Rattle.steps.proofs.EndLaws.{list-there, list-fits, missed-starts, entry-there, entry-fits, entry-below, missed-here, missed-next, missed-done}
+use Rattle.steps.proofs.MissLaws.{list-there, list-fits, missed-starts, entry-there, entry-fits, entry-below, missed-here, missed-next, missed-done}
 use borrow.Author.Needs.{needs}
 use Rattle.steps.proofs.goals.first_missed.Statement.{statement}
 use Rattle.steps.proofs.goals.first_missed.Tie as tie
@@ -21,51 +21,51 @@ Inv-loop asked marks s p end i₀ i = (p ≤ i) × (found (first-missed (met-as 
 abbrev μ-loop : tie.MeasureT-loop
 μ-loop asked marks s p end i₀ i = end - i
 
--- src/goals.rt:40:24
+-- src/goals.rt:41:24
 shared-slice-read-wide : tie.Need-shared-slice-read-wide Inv-loop μ-loop
 shared-slice-read-wide c = search list-there
 
--- src/goals.rt:40:19
+-- src/goals.rt:41:19
 wide-requires : tie.Need-wide-requires Inv-loop μ-loop
 wide-requires c κs = search needs
 
--- src/goals.rt:40:15
+-- src/goals.rt:41:15
 add-end : tie.Need-add-end Inv-loop μ-loop
 add-end c = search list-fits
 
--- src/goals.rt:42:5
+-- src/goals.rt:43:5
 loop-holds : tie.Need-loop-holds Inv-loop μ-loop
 loop-holds c = search (needs, missed-starts)
 
--- src/goals.rt:43:9
+-- src/goals.rt:44:9
 add-i : tie.Need-add-i Inv-loop μ-loop
 add-i c = search entry-fits
 
--- src/goals.rt:44:22
+-- src/goals.rt:45:22
 shared-slice-read-wide-2 : tie.Need-shared-slice-read-wide-2 Inv-loop μ-loop
 shared-slice-read-wide-2 c = search entry-there
 
--- src/goals.rt:44:13
+-- src/goals.rt:45:13
 wide-requires-2 : tie.Need-wide-requires-2 Inv-loop μ-loop
 wide-requires-2 c κs = search needs
 
--- src/goals.rt:45:13
+-- src/goals.rt:46:13
 met-requires : tie.Need-met-requires Inv-loop μ-loop
 met-requires c κs = search (needs, entry-below)
 
--- src/goals.rt:42:5
+-- src/goals.rt:43:5
 loop-less : tie.Need-loop-less Inv-loop μ-loop
 loop-less c = search needs
 
--- src/goals.rt:42:5
+-- src/goals.rt:43:5
 loop-again : tie.Need-loop-again Inv-loop μ-loop
 loop-again c = search (needs, missed-next)
 
--- src/goals.rt:49:9
+-- src/goals.rt:50:9
 returns : tie.Need-returns Inv-loop μ-loop
 returns c = search missed-here
 
--- src/goals.rt:35:1
+-- src/goals.rt:36:1
 returns-2 : tie.Need-returns-2 Inv-loop μ-loop
 returns-2 c = search missed-done
 

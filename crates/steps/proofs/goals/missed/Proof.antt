@@ -1,55 +1,55 @@
--- The goals stand where the table says and the whether entries after them; the first that one of the two lists misses is what is missed.
-use Rattle.steps.proofs.EndLaws.{goals-there, goals-inside, after-fits, whether-fits, whether-there, goal-missed, whether-missed}
+-- The goals stand where the notes say and the whether entries after them; the first that one of the two lists misses is what is missed.
+use Rattle.steps.proofs.MissLaws.{goals-there, goals-inside, after-fits, whether-fits, whether-there, goal-missed, whether-missed}
 use borrow.Author.Needs.{needs}
 use Rattle.steps.proofs.goals.missed.Statement.{statement}
 use Rattle.steps.proofs.goals.missed.Tie as tie
 use Rattle.steps.proofs.goals.missed.Reads as reads
 use Rattle.steps.proofs.goals.missed.Lts as lts
 use Rattle.bytes.proofs.bytes.wide.Reads as wide-reads
-use Rattle.reading.proofs.table.get.Reads as get-reads
+use Rattle.reading.proofs.notes.get.Reads as get-reads
 use Rattle.steps.proofs.goals.first_missed.Reads as first-missed-reads
 
--- src/goals.rt:60:9
+-- src/goals.rt:61:9
 get-requires : tie.Need-get-requires
 get-requires c κs = search needs
 
--- src/goals.rt:61:11
+-- src/goals.rt:62:11
 first-missed-requires : tie.Need-first-missed-requires
 first-missed-requires c κs = search (needs, goals-there)
 
--- src/goals.rt:62:19
+-- src/goals.rt:63:19
 enum-known-p : tie.Need-enum-known-p
 enum-known-p c = search needs
 
--- src/goals.rt:64:25
+-- src/goals.rt:65:25
 enum-told : tie.Need-enum-told
 enum-told c = search needs
 
--- src/goals.rt:64:25
+-- src/goals.rt:65:25
 add-after : tie.Need-add-after
 add-after c = search after-fits
 
--- src/goals.rt:65:40
+-- src/goals.rt:66:40
 shared-slice-read-wide : tie.Need-shared-slice-read-wide
 shared-slice-read-wide c = search goals-inside
 
--- src/goals.rt:65:35
+-- src/goals.rt:66:35
 wide-requires : tie.Need-wide-requires
 wide-requires c κs = search needs
 
--- src/goals.rt:65:27
+-- src/goals.rt:66:27
 add-whether : tie.Need-add-whether
 add-whether c = search whether-fits
 
--- src/goals.rt:66:13
+-- src/goals.rt:67:13
 first-missed-requires-2 : tie.Need-first-missed-requires-2
 first-missed-requires-2 c κs = search (needs, whether-there)
 
--- src/goals.rt:55:1
+-- src/goals.rt:56:1
 returns : tie.Need-returns
 returns c = search goal-missed
 
--- src/goals.rt:55:1
+-- src/goals.rt:56:1
 returns-2 : tie.Need-returns-2
 returns-2 c = search whether-missed
 

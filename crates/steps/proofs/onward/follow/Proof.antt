@@ -1,51 +1,51 @@
--- What the table has as the item's next, and then as the next of each branching around it, leads on to what is left after the item.
+-- What the notes have as the item's next, and then as the next of each branching around it, leads on to what is left after the item.
 use Rattle.steps.proofs.OnwardLaws.{Going, slot-fits, slot-there, going-starts, goes-there, around-fits, around-there, going-less, going-on-around}
 use borrow.Author.Needs.{needs}
 use Rattle.steps.proofs.onward.follow.Statement.{statement}
 use Rattle.steps.proofs.onward.follow.Tie as tie
 use Rattle.steps.proofs.onward.follow.Reads as reads
 use Rattle.steps.proofs.onward.follow.Lts as lts
-use Rattle.reading.proofs.table.get.Reads as get-reads
+use Rattle.reading.proofs.notes.get.Reads as get-reads
 
 abbrev Inv-loop : tie.InvT-loop
-Inv-loop s t i slot at₀ at = Going s i at
+Inv-loop s t i slot at₀ at = Going s t i at
 
 abbrev μ-loop : tie.MeasureT-loop
 μ-loop s t i slot at₀ at = at
 
--- src/onward.rt:26:16
+-- src/onward.rt:27:16
 add-slot : tie.Need-add-slot Inv-loop μ-loop
 add-slot c = search slot-fits
 
--- src/onward.rt:27:9
+-- src/onward.rt:28:9
 get-requires : tie.Need-get-requires Inv-loop μ-loop
 get-requires c κs = search slot-there
 
--- src/onward.rt:28:5
+-- src/onward.rt:29:5
 loop-holds : tie.Need-loop-holds Inv-loop μ-loop
 loop-holds c = search going-starts
 
--- src/onward.rt:29:22
+-- src/onward.rt:30:22
 sub-around : tie.Need-sub-around Inv-loop μ-loop
 sub-around c = search needs
 
--- src/onward.rt:30:20
+-- src/onward.rt:31:20
 add-next : tie.Need-add-next Inv-loop μ-loop
 add-next c = search around-fits
 
--- src/onward.rt:31:9
+-- src/onward.rt:32:9
 get-requires-2 : tie.Need-get-requires-2 Inv-loop μ-loop
 get-requires-2 c κs = search around-there
 
--- src/onward.rt:28:5
+-- src/onward.rt:29:5
 loop-less : tie.Need-loop-less Inv-loop μ-loop
 loop-less c = search going-less
 
--- src/onward.rt:28:5
+-- src/onward.rt:29:5
 loop-again : tie.Need-loop-again Inv-loop μ-loop
 loop-again c = search going-on-around
 
--- src/onward.rt:21:1
+-- src/onward.rt:22:1
 returns : tie.Need-returns Inv-loop μ-loop
 returns c = search goes-there
 

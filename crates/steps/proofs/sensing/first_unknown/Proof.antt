@@ -1,30 +1,30 @@
 -- No fluent is sensed below the one that it starts from.
-use Rattle.steps.proofs.SensingLaws.{back-within, first-from}
+use Rattle.steps.proofs.LookLaws.{back-within, first-from}
 use borrow.Author.Needs.{needs}
 use Rattle.steps.proofs.sensing.first_unknown.Statement.{statement}
 use Rattle.steps.proofs.sensing.first_unknown.Tie as tie
 use Rattle.steps.proofs.sensing.first_unknown.Reads as reads
 use Rattle.steps.proofs.sensing.first_unknown.Lts as lts
-use Rattle.reading.proofs.table.get.Reads as get-reads
+use Rattle.reading.proofs.notes.get.Reads as get-reads
 use Rattle.steps.proofs.sensing.next_unknown.Reads as next-unknown-reads
 
--- src/sensing.rt:55:16
+-- src/sensing.rt:56:16
 add-slot : tie.Need-add-slot
 add-slot c = search needs
 
--- src/sensing.rt:56:9
+-- src/sensing.rt:57:9
 get-requires : tie.Need-get-requires
 get-requires c κs = search needs
 
--- src/sensing.rt:57:16
+-- src/sensing.rt:58:16
 sub-from : tie.Need-sub-from
 sub-from c = search back-within
 
--- src/sensing.rt:58:5
+-- src/sensing.rt:59:5
 next-unknown-requires : tie.Need-next-unknown-requires
 next-unknown-requires c κs = search needs
 
--- src/sensing.rt:49:1
+-- src/sensing.rt:50:1
 returns : tie.Need-returns
 returns c = search first-from
 

@@ -1,21 +1,21 @@
--- The table has a largest sensed fluent just where the action has a knowledge line.
-use Rattle.steps.proofs.SensingLaws.{sensing-is}
+-- The notes have a largest sensed fluent just where the action has a knowledge line.
+use Rattle.steps.proofs.LookLaws.{sensing-is}
 use borrow.Author.Needs.{needs}
 use Rattle.steps.proofs.sensing.is_sensing.Statement.{statement}
 use Rattle.steps.proofs.sensing.is_sensing.Tie as tie
 use Rattle.steps.proofs.sensing.is_sensing.Reads as reads
 use Rattle.steps.proofs.sensing.is_sensing.Lts as lts
-use Rattle.reading.proofs.table.get.Reads as get-reads
+use Rattle.reading.proofs.notes.get.Reads as get-reads
 
--- src/sensing.rt:17:16
+-- src/sensing.rt:18:16
 add-slot : tie.Need-add-slot
 add-slot c = search needs
 
--- src/sensing.rt:18:9
+-- src/sensing.rt:19:9
 get-requires : tie.Need-get-requires
 get-requires c κs = search needs
 
--- src/sensing.rt:12:1
+-- src/sensing.rt:13:1
 returns : tie.Need-returns
 returns c = search sensing-is
 

@@ -1,29 +1,29 @@
--- The table has a slot for each action and fluent, which is marked just where a knowledge line says so.
-use Rattle.steps.proofs.SensingLaws.{looks-is}
+-- The notes have a slot for each action and fluent, which is marked just where a knowledge line says so.
+use Rattle.steps.proofs.LookLaws.{looks-is}
 use borrow.Author.Needs.{needs}
 use Rattle.steps.proofs.sensing.looks_at.Statement.{statement}
 use Rattle.steps.proofs.sensing.looks_at.Tie as tie
 use Rattle.steps.proofs.sensing.looks_at.Reads as reads
 use Rattle.steps.proofs.sensing.looks_at.Lts as lts
-use Rattle.reading.proofs.table.get.Reads as get-reads
+use Rattle.reading.proofs.notes.get.Reads as get-reads
 
--- src/sensing.rt:29:15
+-- src/sensing.rt:30:15
 mul-row : tie.Need-mul-row
 mul-row c = search needs
 
--- src/sensing.rt:30:16
+-- src/sensing.rt:31:16
 add-pair : tie.Need-add-pair
 add-pair c = search needs
 
--- src/sensing.rt:31:16
+-- src/sensing.rt:32:16
 add-slot : tie.Need-add-slot
 add-slot c = search needs
 
--- src/sensing.rt:32:9
+-- src/sensing.rt:33:9
 get-requires : tie.Need-get-requires
 get-requires c κs = search needs
 
--- src/sensing.rt:23:1
+-- src/sensing.rt:24:1
 returns : tie.Need-returns
 returns c = search looks-is
 

@@ -1,79 +1,79 @@
--- A turn that finds nothing leaves the first one where it was, and from the end that the table has no fluent is sensed.
+-- A turn that finds nothing leaves the first one where it was, and from the end that the notes have no fluent is sensed.
 use Prim.Native.Nat.{_-_}
 use mathlib.Core.Path.{_≡_}
-use Rattle.steps.specs.AtHand.{request-in}
+use Rattle.steps.specs.Held.{table-in}
 use Rattle.steps.specs.Steps.{unknown-above, first-of}
-use Rattle.steps.proofs.SensingLaws.{fluent-near, fluent-next-fits, pair-fits, sensed-fits, sensed-there, look-found, look-unsensed, look-marked, look-done}
+use Rattle.steps.proofs.LookLaws.{fluent-near, fluent-next-fits, pair-fits, sensed-fits, sensed-there, look-found, look-unsensed, look-marked, look-done}
 use borrow.Author.Needs.{needs}
 use Rattle.steps.proofs.sensing.next_unknown.Statement.{statement}
 use Rattle.steps.proofs.sensing.next_unknown.Tie as tie
 use Rattle.steps.proofs.sensing.next_unknown.Reads as reads
 use Rattle.steps.proofs.sensing.next_unknown.Lts as lts
-use Rattle.reading.proofs.table.get.Reads as get-reads
+use Rattle.reading.proofs.notes.get.Reads as get-reads
 
 abbrev Inv-loop : tie.InvT-loop
-Inv-loop s t a from marks last end row f₀ f = first-of (unknown-above (request-in s .table) a marks from) ≡ first-of (unknown-above (request-in s .table) a marks f)
+Inv-loop s t a from marks last end row f₀ f = first-of (unknown-above (table-in s) a marks from) ≡ first-of (unknown-above (table-in s) a marks f)
 
 abbrev μ-loop : tie.MeasureT-loop
 μ-loop s t a from marks last end row f₀ f = end - f
 
--- src/sensing.rt:29:16
+-- src/sensing.rt:30:16
 add-last : tie.Need-add-last Inv-loop μ-loop
 add-last c = search needs
 
--- src/sensing.rt:30:9
+-- src/sensing.rt:31:9
 get-requires : tie.Need-get-requires Inv-loop μ-loop
 get-requires c κs = search needs
 
--- src/sensing.rt:31:15
+-- src/sensing.rt:32:15
 mul-row : tie.Need-mul-row Inv-loop μ-loop
 mul-row c = search needs
 
--- src/sensing.rt:33:5
+-- src/sensing.rt:34:5
 loop-holds : tie.Need-loop-holds Inv-loop μ-loop
 loop-holds c = search needs
 
--- src/sensing.rt:35:9
+-- src/sensing.rt:36:9
 add-f : tie.Need-add-f Inv-loop μ-loop
 add-f c = search fluent-next-fits
 
--- src/sensing.rt:36:12
+-- src/sensing.rt:37:12
 element-copy-out-if1 : tie.Need-element-copy-out-if1 Inv-loop μ-loop
 element-copy-out-if1 c = search fluent-near
 
--- src/sensing.rt:37:24
+-- src/sensing.rt:38:24
 add-pair : tie.Need-add-pair Inv-loop μ-loop
 add-pair c = search pair-fits
 
--- src/sensing.rt:38:24
+-- src/sensing.rt:39:24
 add-slot : tie.Need-add-slot Inv-loop μ-loop
 add-slot c = search sensed-fits
 
--- src/sensing.rt:39:17
+-- src/sensing.rt:40:17
 get-requires-2 : tie.Need-get-requires-2 Inv-loop μ-loop
 get-requires-2 c κs = search (needs, sensed-there)
 
--- src/sensing.rt:41:17
+-- src/sensing.rt:42:17
 returns : tie.Need-returns Inv-loop μ-loop
 returns c = search look-found
 
--- src/sensing.rt:33:5
+-- src/sensing.rt:34:5
 loop-less : tie.Need-loop-less Inv-loop μ-loop
 loop-less c = search needs
 
--- src/sensing.rt:33:5
+-- src/sensing.rt:34:5
 loop-again : tie.Need-loop-again Inv-loop μ-loop
 loop-again c = search look-unsensed
 
--- src/sensing.rt:33:5
+-- src/sensing.rt:34:5
 loop-less-2 : tie.Need-loop-less-2 Inv-loop μ-loop
 loop-less-2 c = search needs
 
--- src/sensing.rt:33:5
+-- src/sensing.rt:34:5
 loop-again-2 : tie.Need-loop-again-2 Inv-loop μ-loop
 loop-again-2 c = search look-marked
 
--- src/sensing.rt:23:1
+-- src/sensing.rt:24:1
 returns-2 : tie.Need-returns-2 Inv-loop μ-loop
 returns-2 c = search look-done
 

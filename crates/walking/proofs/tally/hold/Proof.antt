@@ -2,6 +2,7 @@
 use Rattle.walking.proofs.TallyLaws.{Holding, holding-starts, holding-next, holding-done}
 use borrow.Author.Needs.{needs}
 use Prim.Native.Nat.{_-_}
+use Rattle.meaning.specs.Limits.{format}
 use Rattle.walking.proofs.tally.hold.Statement.{statement}
 use Rattle.walking.proofs.tally.hold.Tie as tie
 use Rattle.walking.proofs.tally.hold.Reads as reads
@@ -12,7 +13,7 @@ abbrev Inv-loop : tie.InvT-loop
 Inv-loop tally₀ place marks f₀ tally f = Holding tally₀ marks tally f
 
 abbrev μ-loop : tie.MeasureT-loop
-μ-loop tally₀ place marks f₀ tally f = 64 - f
+μ-loop tally₀ place marks f₀ tally f = format .fluents - f
 
 -- src/tally.rt:61:5
 loop-holds : tie.Need-loop-holds Inv-loop μ-loop

@@ -1,16 +1,17 @@
 -- Each return is one law that adds what was walked to how the walk stood. At each call the position rises, or in a fork the fluent does, so
 -- the cycle ends.
-use Rattle.steps.proofs.SensingLaws.{first-marked, second-marked, after-marked}
-use Rattle.walking.proofs.FallLaws.{fork-falls, fork-walk-falls, walk-branching-falls, walk-fork-falls, branching-walk-falls, follow-falls, followed-position, chosen-position, marked-sized, opens-branching, is-branching, action-here}
-use Rattle.walking.proofs.WalkLaws.{going-after-fork, going-after-walk, going-after-one, walking-counted, action-low, item-stuck, run-spent, run-moves, run-forks, run-sees, branch-taken, none-taken, Walking, walking-starts, walking-there, walking-marked, walking-sized, walking-going, walking-later, walking-ends, walking-judged, walking-on}
+use Rattle.steps.proofs.LookLaws.{first-marked, second-marked, after-marked}
+use Rattle.walking.proofs.FallLaws.{walk-measure, branching-measure, fork-measure, fork-falls, fork-walk-falls, walk-branching-falls, walk-fork-falls, branching-walk-falls, follow-falls, followed-position, chosen-position, marked-sized, opens-branching, is-branching, action-here}
+use Rattle.walking.proofs.WalkArms.{going-after-fork, going-after-walk, going-after-one, walking-counted, action-low, item-stuck, run-spent, run-moves, run-forks, run-sees, branch-taken, none-taken, Walking, walking-starts, walking-there, walking-marked, walking-sized, walking-going, walking-later, walking-ends, walking-judged, walking-on}
 use Rattle.walking.proofs.ForkLaws.{fork-rises, fork-stops, fork-forks, last-stops, last-walks}
 use Rattle.walking.proofs.StandingLaws.{notable}
-use Rattle.walking.proofs.PlaceLaws.{item-fits}
+use Rattle.walking.proofs.PlacesFit.{item-fits}
 use Rattle.steps.proofs.OnwardLaws.{item-inside, action-small, place-fits, place-there}
 use borrow.Author.Needs.{needs}
 use Prim.Native.Nat.{ℕ, _+_, _-_, _*_, _<_}
 use borrow.Fn.Kinds.{In}
 use borrow.Fn.PlainCycle.{Measures, is, falls, and}
+use Rattle.meaning.specs.Limits.{format}
 use Rattle.walking.proofs.walk.fork.Reads as fork
 use Rattle.walking.proofs.walk.fork.Kinds as fork-kinds
 use Rattle.walking.proofs.walk.+fork+walk+walk_branching.Lts-fork as fork-lts
@@ -21,7 +22,7 @@ use Rattle.walking.proofs.walk.walk_branching.Reads as walk-branching
 use Rattle.walking.proofs.walk.walk_branching.Kinds as walk-branching-kinds
 use Rattle.walking.proofs.walk.+fork+walk+walk_branching.Lts-walk_branching as walk-branching-lts
 use Rattle.bytes.proofs.bytes.wide.Reads as wide-reads
-use Rattle.reading.proofs.table.get.Reads as get-reads
+use Rattle.reading.proofs.notes.get.Reads as get-reads
 use Rattle.steps.proofs.actions.can_be_run.Reads as can-be-run-reads
 use Rattle.steps.proofs.actions.state_after.Reads as state-after-reads
 use Rattle.steps.proofs.onward.chosen.Reads as chosen-reads
@@ -37,13 +38,13 @@ use Rattle.walking.proofs.walk.+fork+walk+walk_branching.{statement}
 use Rattle.walking.proofs.walk.+fork+walk+walk_branching.Tie.{close}
 
 abbrev μ-fork : Measures 3 fork-kinds.ps ℕ
-μ-fork κs a = (1024 - a .1 .1 .0) * 65 + (64 - a .1 .1 .1 .0)
+μ-fork κs a = fork-measure (a .1 .1 .0) (a .1 .1 .1 .0)
 
 abbrev μ-walk : Measures 3 walk-kinds.ps ℕ
-μ-walk κs a = (1025 - a .1 .1 .0) * 65
+μ-walk κs a = walk-measure (a .1 .1 .0)
 
 abbrev μ-walk-branching : Measures 3 walk-branching-kinds.ps ℕ
-μ-walk-branching κs a = (1024 - a .1 .1 .0) * 65 + 64
+μ-walk-branching κs a = branching-measure (a .1 .1 .0)
 
 abbrev fork-at : ℕ → In 3 fork-kinds.ps
 fork-at t = and 3 fork-kinds.ps (is 3 fork-kinds.ps μ-fork t) fork.Pre
@@ -73,7 +74,7 @@ walk-branching-below t =
     (falls 3 walk-branching-kinds.ps _<_ μ-walk-branching t)
     walk-branching.Pre
 
--- src/walk.rt:141:13
+-- src/walk.rt:142:13
 fork-returns : (t : ℕ) → fork-lts.Need-returns (
   get-reads.Asked,
   get-reads.Learnt,
@@ -93,12 +94,12 @@ fork-returns : (t : ℕ) → fork-lts.Need-returns (
 fork-returns t c = search fork-forks
 
 abbrev walk-Inv-loop : walk-lts.InvT-loop
-walk-Inv-loop s t at tally₀ i₀ state₀ tally i state = Walking s at state₀ tally₀ tally i state
+walk-Inv-loop s t at tally₀ i₀ state₀ tally i state = Walking s t at state₀ tally₀ tally i state
 
 abbrev walk-μ-loop : walk-lts.MeasureT-loop
-walk-μ-loop s t at tally₀ i₀ state₀ tally i state = 1024 - i
+walk-μ-loop s t at tally₀ i₀ state₀ tally i state = format .items - i
 
--- src/walk.rt:113:13
+-- src/walk.rt:114:13
 walk-branching-returns-2 : (t : ℕ) → walk-branching-lts.Need-returns-2 (
   chosen-reads.Asked,
   chosen-reads.Learnt,
@@ -147,7 +148,7 @@ pub +fork+walk+walk-branching-spec : {M : Type 1} → statement M
     (λ c κs. (search fork-walk-falls, (search needs, (search followed-position, (search first-marked, search needs)))))
     (λ c κs. search needs)
     (λ c. search needs)
-    (λ c κs. (search fork-walk-falls, (search needs, (search followed-position, (search second-marked, going-after-walk _ _ _ _ _ (search needs) (search needs) (c .before .before .before .before .walk .ensures) _ (c .before .before .goes-on2 .ensures) (c .before .if3 .taken))))))
+    (λ c κs. (search fork-walk-falls, (search needs, (search followed-position, (search second-marked, going-after-walk _ _ _ _ _ _ (search needs) (search needs) (c .before .before .before .before .walk .ensures) _ (c .before .before .goes-on2 .ensures) (c .before .if3 .taken))))))
     (λ c. search last-walks)
     (λ c. search last-stops))
     (λ t. walk-lts.spec (

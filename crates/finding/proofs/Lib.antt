@@ -1,0 +1,11 @@
+pub mod HereLaws
+pub mod FoundLaws
+pub mod ByBranch
+pub mod PlanHere
+pub mod PlanKept
+pub mod KeptLaws
+pub mod ChainLaws
+pub mod HoldsLaws
+pub mod WrittenLaws
+pub mod ReadLaws
+pub mod StartLaws

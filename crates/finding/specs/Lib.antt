@@ -1,0 +1,5 @@
+pub mod Places
+pub mod LinesHere
+pub mod Branches
+pub mod PlansHeld
+pub mod ReadHere

@@ -1,0 +1,5 @@
+// The place of the first thing sought, or none.
+pub enum Found {
+    Nowhere,
+    At(usize),
+}

@@ -1,0 +1,71 @@
+-- The proved cases of the walk call, of the derivation call and of the whether call, one statement over one list. Its parts were computed where
+-- they are. Assumes nothing.
+use Prim.Native.Nat.{ℕ}
+use mathlib.Core.Path.{_≡_, sym, _∙_, ap, ap₂}
+use mathlib.Core.List.{List, _++_, map, map-map, map-append}
+use Rattle.meaning.specs.declared.Answer.{Answer}
+use Rattle.meaning.specs.declared.Layout.{Layout}
+use Rattle.meaning.specs.Limits.{format}
+use Rattle.meaning.specs.Judging.{Judgement, judge}
+use Rattle.meaning.specs.Derivations.{check}
+use Rattle.meaning.proofs.Cases
+use Rattle.meaning.proofs.Cases.{cases, cases-hold}
+use Rattle.meaning.proofs.DerivationCases
+use Rattle.meaning.proofs.DerivationCases.{derivations, derivations-hold}
+use Rattle.meaning.proofs.WhetherCases.{whethers, whethers-hold}
+
+-- A call, and what it gives. A derivation in the plain layout is put to the derivation call, and one in the closing layout to the whether call.
+pub data Call : Type 0 where
+  judging : (request lent : List ℕ) → (budget : ℕ) → Call
+  checking : Layout → (request derivation : List ℕ) → Call
+
+pub data Given : Type 0 where
+  judged : Judgement → Given
+  answered : Answer → Given
+
+abbrev pub outcome-of : Call → Given
+outcome-of (judging request lent budget) = judged (judge format request lent budget)
+outcome-of (checking layout request derivation) = answered (check format layout request derivation)
+
+pub record Row : Type 0 where
+  pub call : Call
+  pub gives : Given
+
+abbrev judging-row : Cases.Case → Row
+judging-row c = record { call = judging (c .request) (c .lent) (c .budget); gives = judged (c .gives) }
+
+abbrev checking-row : DerivationCases.Case → Row
+checking-row c = record { call = checking (c .layout) (c .request) (c .derivation); gives = answered (c .gives) }
+
+-- Cases 1 to 13 and the rows beside them, then case 14 and the rows beside it, then those of the closing layout.
+pub proved-cases : List Row
+proved-cases = map judging-row cases ++ (map checking-row derivations ++ map checking-row whethers)
+
+-- Each row's call gives what the row says.
+abbrev Hold : List Row → Type 0
+Hold rows = map (λ (r : Row). outcome-of (r .call)) rows ≡ map (λ (r : Row). r .gives) rows
+
+hold-both : (xs ys : List Row) → Hold xs → Hold ys → Hold (xs ++ ys)
+hold-both xs ys h k = map-append _ xs ys ∙ ap₂ {C = List Given} (λ gs hs. gs ++ hs) h k ∙ sym (map-append _ xs ys)
+
+judgings : Hold (map judging-row cases)
+judgings =
+    map-map _ judging-row cases
+    ∙ sym (map-map judged (λ (c : Cases.Case). judge format (c .request) (c .lent) (c .budget)) cases)
+    ∙ ap (map judged) cases-hold
+    ∙ map-map judged (λ (c : Cases.Case). c .gives) cases
+    ∙ sym (map-map _ judging-row cases)
+
+checkings : (cs : List DerivationCases.Case) → map (λ (c : DerivationCases.Case). check format (c .layout) (c .request) (c .derivation)) cs ≡ map (λ (c : DerivationCases.Case). c .gives) cs → Hold (map checking-row cs)
+checkings cs hold =
+    map-map _ checking-row cs
+    ∙ sym (map-map answered (λ (c : DerivationCases.Case). check format (c .layout) (c .request) (c .derivation)) cs)
+    ∙ ap (map answered) hold
+    ∙ map-map answered (λ (c : DerivationCases.Case). c .gives) cs
+    ∙ sym (map-map _ checking-row cs)
+
+pub proved-cases-hold : map (λ (r : Row). outcome-of (r .call)) proved-cases ≡ map (λ (r : Row). r .gives) proved-cases
+unfolding proved-cases
+proved-cases-hold =
+    hold-both (map judging-row cases) (map checking-row derivations ++ map checking-row whethers) judgings
+    (hold-both (map checking-row derivations) (map checking-row whethers) (checkings derivations derivations-hold) (checkings whethers whethers-hold))

@@ -1,0 +1,44 @@
+-- Two slots are set, as the definition's link has it.
+use Rattle.refusing.specs.Refusal16.{pair-linked}
+use mathlib.Core.Path.{refl}
+use borrow.Author.Needs.{needs}
+use Rattle.refusing.proofs.refusal_16.link_pair.Statement.{statement}
+use Rattle.refusing.proofs.refusal_16.link_pair.Tie as tie
+use Rattle.refusing.proofs.refusal_16.link_pair.Reads as reads
+use Rattle.refusing.proofs.refusal_16.link_pair.Lts as lts
+
+-- src/refusal_16.rt:49:16
+add-last : tie.Need-add-last
+add-last c = search needs
+
+-- src/refusal_16.rt:50:15
+element-copy-out-same : tie.Need-element-copy-out-same
+element-copy-out-same c = search needs
+
+-- src/refusal_16.rt:50:5
+element-write-same : tie.Need-element-write-same
+element-write-same c = search needs
+
+-- src/refusal_16.rt:51:18
+cast-same : tie.Need-cast-same
+cast-same c = search needs
+
+-- src/refusal_16.rt:51:5
+element-write-same-2 : tie.Need-element-write-same-2
+element-write-same-2 c = search needs
+
+-- src/refusal_16.rt:44:1
+returns : tie.Need-returns
+unfolding pair-linked
+returns c = refl
+
+pub link-pair-spec : {M : Type 1} → statement M
+link-pair-spec =
+    tie.close
+    (tie.spec
+    add-last
+    element-copy-out-same
+    element-write-same
+    cast-same
+    element-write-same-2
+    returns)

@@ -1,0 +1,53 @@
+-- The action and the literal stand at p, and small enough for their number to fit.
+use Rattle.refusing.proofs.Laws16.{pair-got}
+use borrow.Author.Needs.{needs}
+use Rattle.refusing.proofs.refusal_16.pair_at.Statement.{statement}
+use Rattle.refusing.proofs.refusal_16.pair_at.Tie as tie
+use Rattle.refusing.proofs.refusal_16.pair_at.Reads as reads
+use Rattle.refusing.proofs.refusal_16.pair_at.Lts as lts
+use Rattle.bytes.proofs.bytes.wide.Reads as wide-reads
+
+-- src/refusal_16.rt:39:13
+add-q : tie.Need-add-q
+add-q c = search needs
+
+-- src/refusal_16.rt:40:15
+shared-slice-read-wide : tie.Need-shared-slice-read-wide
+shared-slice-read-wide c = search needs
+
+-- src/refusal_16.rt:40:10
+wide-requires : tie.Need-wide-requires
+wide-requires c κs = search needs
+
+-- src/refusal_16.rt:40:5
+mul-result : tie.Need-mul-result
+mul-result c = search needs
+
+-- src/refusal_16.rt:40:28
+shared-slice-read-wide-2 : tie.Need-shared-slice-read-wide-2
+shared-slice-read-wide-2 c = search needs
+
+-- src/refusal_16.rt:40:23
+wide-requires-2 : tie.Need-wide-requires-2
+wide-requires-2 c κs = search needs
+
+-- src/refusal_16.rt:40:5
+add-result : tie.Need-add-result
+add-result c = search needs
+
+-- src/refusal_16.rt:35:1
+returns : tie.Need-returns
+returns c = search pair-got
+
+pub pair-at-spec : {M : Type 1} → statement M
+pair-at-spec =
+    tie.close
+    (tie.spec
+    add-q
+    shared-slice-read-wide
+    wide-requires
+    mul-result
+    shared-slice-read-wide-2
+    wide-requires-2
+    add-result
+    returns)

@@ -1,0 +1,73 @@
+-- At each turn the state rules out every condition just where it rules out those left.
+use mathlib.Core.Path.{_≡_}
+use Rattle.meaning.specs.Tests.{each-of}
+use Rattle.finding.specs.Branches.{conditions-from, Branches-here}
+use Rattle.refusing.specs.Refusal18.{rules-out}
+use Rattle.finding.proofs.ByBranch.{branch-first, condition-first, branches-next}
+use Rattle.refusing.proofs.Laws18.{out-not, out-next, out-done}
+use borrow.Author.Needs.{needs}
+use Rattle.refusing.proofs.refusal_18.excludes.Statement.{statement}
+use Rattle.refusing.proofs.refusal_18.excludes.Tie as tie
+use Rattle.refusing.proofs.refusal_18.excludes.Reads as reads
+use Rattle.refusing.proofs.refusal_18.excludes.Lts as lts
+use Rattle.reading.proofs.marks.each_holds.Reads as each-holds-reads
+use Rattle.finding.proofs.branches.next_item.Reads as next-item-reads
+use Rattle.finding.proofs.branches.next_place.Reads as next-place-reads
+
+abbrev Inv-loop : tie.InvT-loop
+Inv-loop s t held count place item left₀ p₀ i₀ left p i = (Branches-here s t left p i) × (each-of (rules-out held) (conditions-from s t count place item) ≡ each-of (rules-out held) (conditions-from s t left p i))
+
+abbrev μ-loop : tie.MeasureT-loop
+μ-loop s t held count place item left₀ p₀ i₀ left p i = left
+
+-- src/refusal_18.rt:83:5
+loop-holds : tie.Need-loop-holds Inv-loop μ-loop
+loop-holds c = search needs
+
+-- src/refusal_18.rt:84:13
+each-holds-requires : tie.Need-each-holds-requires Inv-loop μ-loop
+each-holds-requires c κs = search (needs, condition-first)
+
+-- src/refusal_18.rt:86:13
+returns : tie.Need-returns Inv-loop μ-loop
+returns c = search out-not
+
+-- src/refusal_18.rt:88:13
+next-place-requires : tie.Need-next-place-requires Inv-loop μ-loop
+next-place-requires c κs = search (needs, branch-first)
+
+-- src/refusal_18.rt:89:13
+next-item-requires : tie.Need-next-item-requires Inv-loop μ-loop
+next-item-requires c κs = search (needs, branch-first)
+
+-- src/refusal_18.rt:92:9
+sub-left : tie.Need-sub-left Inv-loop μ-loop
+sub-left c = search needs
+
+-- src/refusal_18.rt:83:5
+loop-less : tie.Need-loop-less Inv-loop μ-loop
+loop-less c = search needs
+
+-- src/refusal_18.rt:83:5
+loop-again : tie.Need-loop-again Inv-loop μ-loop
+loop-again c = search (needs, branches-next, out-next)
+
+-- src/refusal_18.rt:69:1
+returns-2 : tie.Need-returns-2 Inv-loop μ-loop
+returns-2 c = search out-done
+
+pub excludes-spec : {M : Type 1} → statement M
+excludes-spec =
+    tie.close
+    (tie.spec
+    Inv-loop
+    μ-loop
+    loop-holds
+    each-holds-requires
+    returns
+    next-place-requires
+    next-item-requires
+    sub-left
+    loop-less
+    loop-again
+    returns-2)

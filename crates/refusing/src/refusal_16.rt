@@ -1,0 +1,113 @@
+ghost use mathlib.Core.Path.{_≡_};
+ghost use Prim.Native.Nat.{_+_, _≤_, _<_};
+ghost use Rattle.meaning.specs.Tests.{some-of};
+ghost use Rattle.meaning.specs.Limits.{format};
+ghost use Rattle.meaning.specs.Refusals.{contradictory, contradiction-in};
+ghost use Rattle.meaning.specs.States.{state-of};
+ghost use mathlib.Core.List.{[]};
+ghost use Rattle.reading.specs.Listed.{listed};
+ghost use Rattle.reading.specs.Noted.{line-numbers, pairs};
+ghost use Rattle.finding.specs.Places.{found};
+ghost use Rattle.finding.specs.LinesHere.{effect-from, Effect-here, place-in, effects-in, Effects-here};
+ghost use Rattle.refusing.specs.Refusal16.{effects-before, pair-at, Linked, pair-linked};
+use bytes::bytes::wide;
+use bytes::limits;
+use finding::places::Found;
+use reading::marks::Marks;
+use reading::marks::Test;
+use reading::marks::each_holds;
+use reading::marks::state_of;
+use reading::notes;
+use reading::notes::Notes;
+use reading::notes::line_place;
+
+// For each effect, and for each pair of an action and a fluent, the last effect before it with the same pair.
+const LINKED_SLOTS: usize = limits::LINE_NUMBERS + notes::PAIRS;
+
+type Links = [u8; LINKED_SLOTS];
+
+// The action and the fluent of the effect at p, as one number.
+fn pair_at(s: &[u8], p: usize) -> usize
+    requires { ⌜ Effect-here (now s) p ⌝ }
+    ensures { λ r. ⌜ r ≡ pair-at (now (s .entry)) p ⌝ }
+{
+    let q = p + 1;
+    limits::FLUENTS * wide(s[p]) + wide(s[q]) / 2
+}
+
+// Effect k goes in front of the effects with its pair.
+fn link_pair(same: &mut Links, pair: usize, k: usize)
+    requires { ⌜ pair < pairs ⌝ }
+    requires { ⌜ k < line-numbers ⌝ }
+    ensures { λ _. ⌜ now (same .exit) ≡ pair-linked pair k (now (same .entry)) ⌝ }
+{
+    let last = limits::LINE_NUMBERS + pair;
+    same[k] = same[last];
+    same[last] = k as u8;
+}
+
+// The effect at p, whose body the state holds, contradicts the one at q, which has its pair.
+fn contradicts(s: &[u8], held: &Marks, p: usize, q: usize) -> bool
+    requires { ⌜ Effect-here (now s) p ⌝ }
+    requires { ⌜ Effect-here (now s) q ⌝ }
+    requires { ⌜ now held ≡ state-of format (listed (now s) (p + 2)) ⌝ }
+    requires { ⌜ pair-at (now s) q ≡ pair-at (now s) p ⌝ }
+    ensures { λ r. ⌜ r ≡ contradictory (effect-from (now (s .entry)) p) (effect-from (now (s .entry)) q) ⌝ }
+{
+    let one = p + 1;
+    let other = q + 1;
+    if s[one] == s[other] {
+        return false;
+    }
+    let body = q + 2;
+    each_holds(Test::Possible, held, s, body)
+}
+
+// Effect k + 1 contradicts one of the first k, sought among those with its pair.
+fn contradicted(s: &[u8], t: &Notes, same: &Links, k: usize) -> bool
+    requires { ⌜ k < 255 ⌝ }
+    requires { ⌜ Effects-here (now s) (now t) (k + 1) ⌝ }
+    requires { ⌜ Linked (now s) (now t) (now same) k ⌝ }
+    ensures { λ r. ⌜ r ≡ some-of (contradictory (effect-from (now (s .entry)) (place-in (now (t .entry)) (k + 1)))) (effects-before (now (s .entry)) (now (t .entry)) k) ⌝ }
+{
+    let number = k + 1;
+    let p = line_place(t, notes::EFFECTS, number);
+    let pair = pair_at(s, p);
+    let last = limits::LINE_NUMBERS + pair;
+    let mut j = wide(same[last]);
+    if j == 0 {
+        return false;
+    }
+    let body = p + 2;
+    let held = state_of(s, body);
+    while 0 < j {
+        let q = line_place(t, notes::EFFECTS, j);
+        let found = contradicts(s, &held, p, q);
+        if found {
+            return true;
+        }
+        j = wide(same[j]);
+    }
+    false
+}
+
+// 16: the first effect that contradicts one before it.
+pub fn contradiction(s: &[u8], t: &Notes, count: usize) -> Found
+    requires { ⌜ count ≤ 255 ⌝ }
+    requires { ⌜ Effects-here (now s) (now t) count ⌝ }
+    ensures { λ r. ⌜ r ≡ found (contradiction-in [] (effects-in (now (s .entry)) (now (t .entry)) 0 count)) ⌝ }
+{
+    let mut same = [0u8; LINKED_SLOTS];
+    let mut k = 0;
+    while k < count {
+        let met = contradicted(s, t, &same, k);
+        k += 1;
+        let p = line_place(t, notes::EFFECTS, k);
+        if met {
+            return Found::At(p);
+        }
+        let pair = pair_at(s, p);
+        link_pair(&mut same, pair, k);
+    }
+    Found::Nowhere
+}

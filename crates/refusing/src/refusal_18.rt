@@ -1,0 +1,107 @@
+ghost use mathlib.Core.Path.{_≡_};
+ghost use Prim.Native.Nat.{_+_, _<_};
+ghost use Rattle.meaning.specs.Tests.{each-of};
+ghost use Rattle.finding.specs.PlansHeld.{Some-plan};
+ghost use Rattle.refusing.specs.Refusal18.{Overlap-found, rules-out, all-apart, item-apart, first-overlap};
+ghost use Rattle.finding.specs.Places.{found};
+ghost use Rattle.finding.specs.Branches.{conditions-from, Branches-here, Item-here, Items-here};
+use bytes::bytes::wide;
+use bytes::limits;
+use finding::branches::next_item;
+use finding::branches::next_place;
+use finding::places::Found;
+use reading::marks::Marks;
+use reading::marks::Test;
+use reading::marks::each_holds;
+use reading::marks::state_of;
+use reading::notes;
+use reading::notes::Notes;
+use reading::notes::get;
+
+// The state rules out the conditions of so many branches.
+fn excludes(s: &[u8], t: &Notes, held: &Marks, count: usize, place: usize, item: usize) -> bool
+    requires { ⌜ Branches-here (now s) (now t) count place item ⌝ }
+    ensures { λ r. ⌜ r ≡ each-of (rules-out (now (held .entry))) (conditions-from (now (s .entry)) (now (t .entry)) count place item) ⌝ }
+{
+    let mut left = count;
+    let mut p = place;
+    let mut i = item;
+    while 0 < left {
+        let meets = each_holds(Test::Possible, held, s, p);
+        if meets {
+            return false;
+        }
+        let q = next_place(s, t, p, i);
+        let j = next_item(s, t, p, i);
+        p = q;
+        i = j;
+        left -= 1;
+    }
+    true
+}
+
+// Every two conditions of so many branches are exclusive.
+fn all_exclusive(s: &[u8], t: &Notes, count: usize, place: usize, item: usize) -> bool
+    requires { ⌜ Branches-here (now s) (now t) count place item ⌝ }
+    ensures { λ r. ⌜ r ≡ all-apart (conditions-from (now (s .entry)) (now (t .entry)) count place item) ⌝ }
+{
+    let mut left = count;
+    let mut p = place;
+    let mut i = item;
+    while 0 < left {
+        let held = state_of(s, p);
+        let q = next_place(s, t, p, i);
+        let j = next_item(s, t, p, i);
+        let others = left - 1;
+        let apart = excludes(s, t, &held, others, q, j);
+        if apart {
+            p = q;
+            i = j;
+            left = others;
+            continue;
+        }
+        return false;
+    }
+    true
+}
+
+// Item i, at p, is no branching with two conditions that are not exclusive.
+fn apart(s: &[u8], t: &Notes, i: usize, p: usize) -> bool
+    requires { ⌜ Item-here (now s) (now t) i p ⌝ }
+    ensures { λ r. ⌜ r ≡ item-apart (now (s .entry)) (now (t .entry)) i p ⌝ }
+{
+    if s[p] == limits::BRANCHING_BYTE {
+        let second = p + 1;
+        let count = wide(s[second]);
+        let first = p + 2;
+        let item = i + 1;
+        return all_exclusive(s, t, count, first, item);
+    }
+    true
+}
+
+// The first item that is such a branching.
+fn first_overlap(s: &[u8], t: &Notes, count: usize) -> Found
+    requires { ⌜ Items-here (now s) (now t) count ⌝ }
+    ensures { λ r. ⌜ r ≡ found (first-overlap (now (s .entry)) (now (t .entry)) count 0) ⌝ }
+{
+    let mut i = 0;
+    while i < count {
+        let p = get(t, notes::ITEM_PLACE + i);
+        let good = apart(s, t, i, p);
+        i += 1;
+        if good {
+            continue;
+        }
+        return Found::At(p);
+    }
+    Found::Nowhere
+}
+
+// 18: the first branching with two conditions that are not exclusive, of a plan with so many items.
+pub fn overlap(s: &[u8], t: &Notes, count: usize) -> Found
+    requires { ⌜ Some-plan (now s) (now t) count ⌝ }
+    ensures { λ r. ⌜ Overlap-found (now (s .entry)) (now (t .entry)) count r ⌝ }
+{
+    first_overlap(s, t, count)
+}

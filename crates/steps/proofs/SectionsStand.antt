@@ -1,0 +1,105 @@
+-- What the lines say, by the bytes where they stand: each was read there, and reading keeps its place; and where each section of a request stands.
+-- Assumes nothing.
+use Prim.Native.Nat.{ℕ, _+_, _-_, _<_}
+use native.Mathlib.Omega.{arith}
+use mathlib.Core.Path.{_≡_, refl, sym, _∙_, ap, subst}
+use mathlib.Core.List.{List}
+use lib.ListN.{length, getD}
+use Rattle.meaning.specs.Tests.{Has}
+use Rattle.meaning.specs.Limits.{format, all-literals}
+use Rattle.meaning.specs.Requests.{Executability, Knowledge, Table, Request}
+use Rattle.meaning.specs.Reading
+use Rattle.meaning.specs.Reading.{Got, got, fault, literals, bound-of, below-at, list-at, body-at, executability-at, knowledge-at, placed, plan-at, table-at, request-at, read-request}
+use Rattle.meaning.proofs.SettledLaws.{got-same}
+use Rattle.meaning.proofs.RangeLaws.{not-refused, after-got, section-read}
+use Rattle.reading.specs.Planned.{bytes-of}
+use Rattle.reading.specs.Requested.{goals-place, plan-place}
+use Rattle.reading.specs.Listed.{listed, List-here}
+use Rattle.reading.proofs.SectionLaws.{number-got}
+use Rattle.reading.proofs.PlanSizes.{sequence-read, list-through}
+use Rattle.reading.proofs.RequestLaws.{placed-length}
+use Rattle.finding.proofs.HereLaws.{bytes-length, list-here}
+use Rattle.finding.proofs.ReadLaws.{Table-parts}
+
+module _ (s : List ℕ) (t : Table) (p : ℕ) (whole : Table-parts s t p) where
+  pub run-stands : (r : Executability) → Has (t .executability) r → (listed s (r .place + 1) ≡ r .body) × List-here all-literals s (r .place + 1)
+  unfolding executability-at body-at bound-of
+  run-stands r has =
+      let w = section-read (executability-at format (t .fluents) (t .actions) s) s (whole .effects-end) (t .executability) (whole .runs-end) (whole .runs-read) r has in
+      after-got (below-at (t .actions) s (w .0)) _ (w .2) λ a i ea e₁.
+      after-got (body-at format (t .fluents) s i) _ e₁ λ b j eb e₂.
+      let after : w .0 + 1 ≡ i = number-got (t .actions) s (w .0) a i ea .2 in
+      let body = list-here literals (t .fluents) s 16 i b j eb in
+      let few = whole .few in
+      let is : record { place = w .0; action = a; body = b } ≡ r = got-same e₂ in
+      subst (λ (y : Executability). (listed s (y .place + 1) ≡ y .body) × List-here all-literals s (y .place + 1)) is
+      (rw after (body .0, body .1 all-literals (omega arith)))
+
+  pub knowledge-small : (k : Knowledge) → Has (t .knowledge) k → k .fluent < format .fluents
+  unfolding knowledge-at
+  knowledge-small k has =
+      let w = section-read (knowledge-at format (t .fluents) (t .actions) s) s (whole .runs-end) (t .knowledge) p (whole .knowledge-read) k has in
+      after-got (below-at (t .actions) s (w .0)) _ (w .2) λ a i ea e₁.
+      after-got (below-at (t .fluents) s i) _ e₁ λ f j ef e₂.
+      let small = number-got (t .fluents) s i f j ef .3 in
+      let few = whole .few in
+      let is : f ≡ k .fluent = ap (λ (y : Knowledge). y .fluent) (got-same e₂) in
+      omega arith
+
+-- EACH SECTION of a request that was read, from where it stands.
+pub record Sections-read (s : List ℕ) (x : Request) : Type 0 where
+  pub table-end : ℕ
+  pub table : table-at format s 0 ≡ got (x .table) table-end
+  pub items : ℕ
+  pub plan : plan-at format (x .table .fluents) (x .table .actions) s (plan-place x) ≡ got (record { value = x .plan; items = items }) (goals-place x)
+  pub goals-list : List ℕ
+  pub goals : list-at literals (x .table .fluents) (format .listed) s (goals-place x) ≡ got goals-list (x .whether-place)
+  pub goals-are : x .goals ≡ placed (goals-place x + 1) goals-list
+  pub whether-list : List ℕ
+  pub whether-end : ℕ
+  pub whether : list-at Reading.fluents (x .table .fluents) (format .listed) s (x .whether-place) ≡ got whether-list whether-end
+  pub whether-are : x .whether ≡ placed (x .whether-place + 1) whether-list
+
+request-sections : (s : List ℕ) (t : Table) (p : ℕ) (y : Request) (q : ℕ) → table-at format s 0 ≡ got t p → request-at format s t p ≡ got y q → Sections-read s y
+unfolding request-at plan-place goals-place plan-at
+request-sections s t p y q first e =
+    after-got (plan-at format (t .fluents) (t .actions) s p) _ e λ plan q₁ eplan v₁.
+    after-got (list-at literals (t .fluents) (format .listed) s q₁) _ v₁ λ goals q₂ egoals v₂.
+    after-got (list-at Reading.fluents (t .fluents) (format .listed) s q₂) _ v₂ λ whether q₃ ewhether v₃.
+    let after = sequence-read (t .fluents) (t .actions) s 8 p 0 (omega arith) .holds plan q₁ eplan .through .after in
+    let ends = list-through s literals (t .fluents) (format .listed) q₁ .holds goals q₂ egoals .after in
+    let sized = placed-length (q₁ + 1) goals in
+    let at : q₂ - (1 + length (placed (q₁ + 1) goals)) ≡ q₁ = omega arith in
+    let plan-stands : q₁ - (2 + bytes-of (plan .value)) ≡ p = omega arith in
+    subst on v₃ (record {
+      table-end = p;
+      table = first;
+      items = plan .items;
+      plan = rw (at, plan-stands) eplan;
+      goals-list = goals;
+      goals = rw at egoals;
+      goals-are = ap (λ (i : ℕ). placed (i + 1) goals) (sym at);
+      whether-list = whether;
+      whether-end = q₃;
+      whether = ewhether;
+      whether-are = refl;
+    })
+  where
+    on : Got Request → Type 0
+    on (got x i) = Sections-read s x
+    on (fault n i) = Unit {0}
+
+pub sections-read : (s : List ℕ) (x : Request) (e : ℕ) → read-request format s ≡ got x e → Sections-read s x
+unfolding read-request
+sections-read s x e read =
+    after-got (table-at format s 0) _ (not-refused _ _ _ _ read .1) λ t p et e₁.
+    after-got (request-at format s t p) _ e₁ λ y q ey e₂.
+    subst (Sections-read s) (got-same (not-refused _ _ _ _ e₂ .1)) (request-sections s t p y q et ey)
+
+-- A list that was read, and the place after it.
+pub list-after : (kind : Reading.Kind) (n most : ℕ) (s : List ℕ) (p : ℕ) (xs : List ℕ) (q : ℕ) → list-at kind n most s p ≡ got xs q → q ≡ p + 1 + getD s p 0
+unfolding listed
+list-after kind n most s p xs q e =
+    let ends = list-through s kind n most p .holds xs q e .after in
+    let sized : length xs ≡ getD s p 0 = ap length (sym (list-here kind n s most p xs q e .0)) ∙ bytes-length s (getD s p 0) (p + 1) in
+    omega arith

@@ -1,0 +1,38 @@
+-- What the notes say of an action's lines, as the code finds it.
+use Prim.Native.Nat.{ℕ, _+_, _-_, _*_, _≤_, _<_}
+use mathlib.Core.Path.{_≡_}
+use mathlib.Core.Bool.{Bool, true}
+use mathlib.Core.List.{List, map}
+use lib.ListN.{getD}
+use lib.Dec.{eqb, ltb}
+use Rattle.meaning.specs.Tests.{both, some-of, each-of}
+use Rattle.meaning.specs.Limits.{format}
+use Rattle.meaning.specs.Requests.{Effect, Executability}
+use Rattle.meaning.specs.Lines.{effects-of, executability-of, knowledge-of, sensing, senses}
+use Rattle.reading.specs.Noted.{sensed-from, sensed-to, sensed}
+use Rattle.reading.specs.Listed.{listed}
+use Rattle.steps.specs.Held.{table-in}
+
+-- THE PLACES of an action's lines, in file order.
+unfoldable pub run-places : List ℕ → (a : ℕ) → List ℕ
+run-places s a = map (λ (r : Executability). r .place) (executability-of (table-in s) a)
+
+unfoldable pub effect-places : List ℕ → (a : ℕ) → List ℕ
+effect-places s a = map (λ (e : Effect). e .place) (effects-of (table-in s) a)
+
+-- Some executability line has a body each of whose literals passes the test.
+unfoldable pub allowed-at : List ℕ → (ℕ → Bool) → List ℕ → Bool
+allowed-at s test = some-of (λ (p : ℕ). each-of test (listed s (p + 1)))
+
+-- Some effect gives the literal by a body each of whose literals passes the test.
+unfoldable pub given-at : List ℕ → (ℕ → Bool) → List ℕ → ℕ → Bool
+given-at s test places l = some-of (λ (p : ℕ). both (eqb (getD s (p + 1) 0) l) (each-of test (listed s (p + 2)))) places
+
+-- WHAT IT SENSES, with the smallest fluent as the limit less it and the largest as one more.
+pub record Senses (s t : List ℕ) (a : ℕ) : Type 0 where
+  pub slot : (f : ℕ) → f < format .fluents → ltb 0 (getD t (sensed + (format .fluents * a + f)) 0) ≡ senses (knowledge-of (table-in s) a) f
+  pub most : getD t (sensed-from + a) 0 ≤ format .fluents
+  pub from : (f : ℕ) → senses (knowledge-of (table-in s) a) f ≡ true → format .fluents - getD t (sensed-from + a) 0 ≤ f
+  pub to : (f : ℕ) → senses (knowledge-of (table-in s) a) f ≡ true → f < getD t (sensed-to + a) 0
+  pub last : getD t (sensed-to + a) 0 ≤ format .fluents
+  pub any : ltb 0 (getD t (sensed-to + a) 0) ≡ sensing (table-in s) a

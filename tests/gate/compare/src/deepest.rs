@@ -1,0 +1,36 @@
+//! The requests on which the walk goes deepest (tests/gate/stack), on a thread with exactly the stack that docs/MEASURED.md asks for.
+
+use std::{fs, thread};
+
+use oracle::rng::Rng;
+
+use crate::calls::{expect, exported, independent, Call};
+
+/// The requests of a folder, of which the file `list` has a line each: file, budget, items, name.
+pub fn requests(folder: &str) -> Result<Vec<(String, Call)>, String> {
+    let read = |name: &str| fs::read(format!("{folder}/{name}")).map_err(|error| format!("{folder}/{name}: {error}"));
+    let list = String::from_utf8(read("list")?).map_err(|error| error.to_string())?;
+    let request = |line: &str| {
+        let words: Vec<&str> = line.splitn(4, ' ').collect();
+        let [file, budget, _, name] = words[..] else { return Err(format!("a line that is none: {line}")) };
+        let budget = budget.parse().map_err(|_| format!("a budget that is none: {line}"))?;
+        Ok((name.to_string(), Call { request: read(file)?, lent: vec![9; glintstring::STATE_LENGTH], budget }))
+    };
+    match list.lines().map(request).collect::<Result<Vec<_>, String>>()? {
+        none if none.is_empty() => Err("no deep request".to_string()),
+        some => Ok(some),
+    }
+}
+
+/// Compares them.
+pub fn compare(folder: &str) -> Result<String, String> {
+    let requests = requests(folder)?;
+    for (index, (name, call)) in requests.iter().enumerate() {
+        let on_thread = thread::scope(|scope| {
+            let calling = || exported(&mut Rng::new(1, 6, index as u64), call);
+            thread::Builder::new().stack_size(glintstring::STACK_NEEDED).spawn_scoped(scope, calling).expect("a thread").join().expect("a call")
+        });
+        on_thread.and_then(|one| expect(&one, &independent(call), "the independent program")).map_err(|why| format!("{name}: {why}; {call}"))?;
+    }
+    Ok(format!("{} deep requests agree, on a thread of {} bytes of stack", requests.len(), glintstring::STACK_NEEDED))
+}

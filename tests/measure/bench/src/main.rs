@@ -1,0 +1,48 @@
+//! The exported calls timed beside two walks in Rust, on the same requests within one run; and the two walks against the independent program.
+
+mod answers;
+mod best;
+#[allow(dead_code)]
+#[path = "../../../gate/compare/src/calls.rs"]
+mod calls;
+mod check;
+mod classes;
+mod clock;
+#[path = "../../../gate/compare/src/crowded.rs"]
+mod crowded;
+mod derivations;
+#[allow(dead_code)]
+#[path = "../../../gate/compare/src/fence.rs"]
+mod fence;
+#[allow(dead_code)]
+#[path = "../../../gate/compare/src/generated.rs"]
+mod generated;
+mod plain;
+mod programs;
+mod walks;
+mod whether;
+#[path = "../../../gate/compare/src/words.rs"]
+mod words;
+
+use std::process::ExitCode;
+
+use words::{number, obey, Failure};
+
+/// Enough for the deepest walks of the plain program, which has a copy of the state in each call of itself.
+const STACK: usize = 256 << 20;
+
+const HELP: &str = "usage: bench check SEED COUNT | bench walks SEED ROUNDS COUNT | bench derivations SEED ROUNDS | \
+     bench only PROGRAM CLASS whole|reading COUNT PASSES";
+
+fn main() -> ExitCode {
+    obey("bench", STACK, |words| {
+        let told = match *words {
+            ["check", seed, count] => check::check(number(seed)?, number(count)?),
+            ["walks", seed, rounds, count] => walks::time(number(seed)?, number(rounds)?, number(count)?),
+            ["derivations", seed, rounds] => derivations::time(number(seed)?, number(rounds)?),
+            ["only", program, class, part, count, passes] => walks::only(program, class, part, number(count)?, number(passes)?),
+            _ => return Err(Failure::Usage(HELP.to_string())),
+        };
+        told.map_err(Failure::Found)
+    })
+}

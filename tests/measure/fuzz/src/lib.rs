@@ -1,0 +1,62 @@
+//! One input of the fuzzer is one call, made by the exported calls and by the independent program.
+
+#[allow(dead_code)]
+#[path = "../../../gate/compare/src/answered.rs"]
+mod answered;
+#[allow(dead_code)]
+#[path = "../../../gate/compare/src/calls.rs"]
+mod calls;
+#[allow(dead_code)]
+#[path = "../../../gate/compare/src/cases.rs"]
+mod cases;
+#[path = "../../../gate/compare/src/checks.rs"]
+mod checks;
+#[path = "../../../gate/compare/src/crowded.rs"]
+mod crowded;
+#[allow(dead_code)]
+#[path = "../../../gate/compare/src/derivations.rs"]
+mod derivations;
+#[path = "../../../gate/compare/src/fence.rs"]
+mod fence;
+#[allow(dead_code)]
+#[path = "../../../gate/compare/src/generated.rs"]
+mod generated;
+pub mod input;
+#[path = "../../../gate/compare/src/spoiled.rs"]
+mod spoiled;
+#[allow(dead_code)]
+#[path = "../../../gate/compare/src/whether.rs"]
+mod whether;
+#[allow(dead_code)]
+#[path = "../../../gate/compare/src/whether_cases.rs"]
+mod whether_cases;
+
+use input::{given, Given};
+use oracle::rng::Rng;
+
+/// The stream of random numbers of what stands around the inputs.
+const FENCES: u64 = 11;
+
+/// Number, input, place and count that both programs give; or how they differ.
+pub fn agreed(bytes: &[u8]) -> Result<[u64; 4], String> {
+    let mut rng = Rng::new(1, FENCES, bytes.len() as u64);
+    match given(bytes) {
+        Given::Walk(call) => calls::agreed(&mut rng, &call).map(|left| left.answer).map_err(|why| format!("{why}; {call}")),
+        Given::Derivation(check) => checks::agreed(&mut rng, &check).map_err(|why| format!("{why}; {check}")),
+    }
+}
+
+/// What the fuzzer calls with each input; a difference ends the process.
+///
+/// # Safety
+///
+/// The pointer is to be good for reading so many bytes.
+#[no_mangle]
+pub unsafe extern "C" fn LLVMFuzzerTestOneInput(start: *const u8, length: usize) -> i32 {
+    let bytes = if length == 0 { &[][..] } else { std::slice::from_raw_parts(start, length) };
+    if let Err(difference) = agreed(bytes) {
+        eprintln!("fuzz: DIFFERENCE: {difference}");
+        std::process::abort();
+    }
+    0
+}
