@@ -29,7 +29,7 @@ use Rattle.reading.specs.Listed.{bytes-from, listed, List-here, holds-as}
 use Rattle.finding.specs.Places.{found}
 use Rattle.finding.specs.LinesHere.{effect-from, Effect-here, place-in, effects-in, Effects-here}
 use Rattle.refusing.specs.Refusal16.{effects-before, pair-at, Last, Linked, pair-linked, linked-slots}
-use Rattle.reading.specs.Noted.{effect-lines, line-numbers, pairs}
+use Rattle.reading.specs.Noted.{line-numbers, pairs}
 
 pub pair-got : (s : List ℕ) (p x y : ℕ) → x ≡ getD s p 0 → y ≡ getD s (p + 1) 0 → format .fluents * x + y / 2 ≡ pair-at s p
 unfolding pair-at
