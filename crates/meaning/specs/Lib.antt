@@ -9,6 +9,7 @@ pub mod States
 pub mod Walk
 pub mod Judging
 pub mod Worlds
+pub mod Values
 pub mod Approximation
 pub mod Paths
 pub mod Reported
