@@ -10,7 +10,9 @@ use Rattle.meaning.specs.Tests.{fails}
 use Rattle.meaning.specs.Limits.{format}
 use Rattle.meaning.specs.Requests.{Effect-over, Table-over, Sequence, done, item, act, Entry-over, Request-over}
 use Rattle.meaning.specs.Judging.{Judgement, within}
-use Rattle.meaning.specs.Values.{Literals, first-state, walked, exclusive, contradictory, Carried-out}
+use Rattle.meaning.specs.Values.{Literals, exclusive, contradictory}
+use Rattle.meaning.specs.ValueStates.{first-state, walked}
+use Rattle.meaning.specs.ValueWorlds.{Carried-out}
 use Rattle.meaning.proofs.Compute.{all-open}
 use Rattle.meaning.proofs.ValueSound.{walk-sound}
 

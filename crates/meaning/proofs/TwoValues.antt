@@ -22,7 +22,10 @@ use Rattle.meaning.specs.States.{State, Outcome, single, fork, mark-of, 
 use Rattle.meaning.specs.Walk.{in-state, Walked, Step, leads-to, refuses, Steps, walk, table-does, table-step, first-missed, missed-in, end-of, judged, walked}
 use Rattle.meaning.specs.Worlds.{World, holds, may-be-run, moved, shown, table-domain}
 use Rattle.meaning.specs.Values
-use Rattle.meaning.specs.Values.{flags, numbers, first-such, mark-left, is-known, each-value, values-of, known-as, fits, set-by, disagree}
+use Rattle.meaning.specs.ValueStates
+use Rattle.meaning.specs.ValueWorlds
+use Rattle.meaning.specs.Values.{flags, numbers, first-such, values-of, fits, set-by, disagree}
+use Rattle.meaning.specs.ValueStates.{mark-left, is-known, each-value, known-as}
 use Rattle.meaning.proofs.TestLaws.{by-test, clash, same-test, both-left, both-right, both-true, either-left, either-right, either-split, fails-true, fails-false, pick-true, pick-false, pick-map, some-has, has-some, each-has, has-each}
 use Rattle.meaning.proofs.LiteralLaws.{positive-true, positive-false, fluent-true, fluent-false, complement-true, complement-false, complement-twice, by-literal, one-of-two, fluent-complement, same-fluent, among-has, has-among}
 use Rattle.meaning.proofs.StateLaws.{mark-true, mark-false, known-true, known-false, nothing-told, unknown-mark}
@@ -125,15 +128,15 @@ known-0-only s f test p q = sym (known-by-two s f test ∙ first-only _ _ _ _ p 
 known-1-only : (s : State) (f : ℕ) (test : ℕ → Bool) → test 0 ≡ false → test 1 ≡ true → known s (says-false f) ≡ known-as flags s f test
 known-1-only s f test p q = sym (known-by-two s f test ∙ second-only _ _ _ _ p q)
 
-pub same-known : (s : State) (l : ℕ) → known s l ≡ Values.known flags s l
-unfolding Values.known fails
+pub same-known : (s : State) (l : ℕ) → known s l ≡ ValueStates.known flags s l
+unfolding ValueStates.known fails
 same-known s =
     by-literal (λ l. known s l ≡ known-as flags s (fluent-of l) (flags .satisfied l))
     (λ f. rw (fluent-true f) (known-0-only s f (flags .satisfied (says-true f)) (says-0 f 0) (says-0 f 1)))
     (λ f. rw (fluent-false f) (known-1-only s f (flags .satisfied (says-false f)) (says-not-0 f 0) (says-not-0 f 1)))
 
-pub same-possible : (s : State) (l : ℕ) → possible s l ≡ Values.possible flags s l
-unfolding possible Values.possible fails
+pub same-possible : (s : State) (l : ℕ) → possible s l ≡ ValueStates.possible flags s l
+unfolding possible ValueStates.possible fails
 same-possible s l =
     ap fails
     (by-literal (λ k. known s (complement k) ≡ known-as flags s (fluent-of k) (λ v. fails (flags .satisfied k v)))
@@ -146,12 +149,12 @@ unfolding both
 both-yes true = refl
 both-yes false = refl
 
-pub same-known-whether : (s : State) (f : ℕ) → known-whether s f ≡ Values.known-whether flags s f
-unfolding known-whether Values.known-whether
+pub same-known-whether : (s : State) (f : ℕ) → known-whether s f ≡ ValueStates.known-whether flags s f
+unfolding known-whether ValueStates.known-whether
 same-known-whether s f = sym (known-by-two s f (λ v. true) ∙ ap₂ either (both-yes _) (both-yes _))
 
-pub same-told : (l : ℕ) (s : State) → told l s ≡ Values.told (fluent-of l) (flags .sets l) s
-unfolding told Values.told
+pub same-told : (l : ℕ) (s : State) → told l s ≡ ValueStates.told (fluent-of l) (flags .sets l) s
+unfolding told ValueStates.told
 same-told l s = ap (set s (fluent-of l)) (mark-is l)
   where
     mark-is : (k : ℕ) → mark-of k ≡ flags .sets k + 1
@@ -160,18 +163,18 @@ same-told l s = ap (set s (fluent-of l)) (mark-is l)
         (λ f. mark-true f ∙ ap (λ (v : ℕ). v + 1) (sym (sets-true f)))
         (λ f. mark-false f ∙ ap (λ (v : ℕ). v + 1) (sym (sets-false f)))
 
-told-true : (f : ℕ) (s : State) → told (says-true f) s ≡ Values.told f 0 s
+told-true : (f : ℕ) (s : State) → told (says-true f) s ≡ ValueStates.told f 0 s
 told-true f s = same-told (says-true f) s ∙ rw (fluent-true f, sets-true f)
 
-told-false : (f : ℕ) (s : State) → told (says-false f) s ≡ Values.told f 1 s
+told-false : (f : ℕ) (s : State) → told (says-false f) s ≡ ValueStates.told f 1 s
 told-false f s = same-told (says-false f) s ∙ rw (fluent-false f, sets-false f)
 
 -- THE STEP.
-known-is : known ≡ Values.known flags
+known-is : known ≡ ValueStates.known flags
 known-is = fun-ext (λ s. fun-ext (same-known s))
 
-pub same-can-be-run : (t : Table) (a : ℕ) (s : State) → can-be-run t a s ≡ Values.can-be-run flags t a s
-unfolding can-be-run Values.can-be-run
+pub same-can-be-run : (t : Table) (a : ℕ) (s : State) → can-be-run t a s ≡ ValueStates.can-be-run flags t a s
+unfolding can-be-run ValueStates.can-be-run
 same-can-be-run t a s = ap (λ (test : ℕ → Bool). allowed test (executability-of t a)) (fun-ext (same-known s))
 
 pub same-given : (test : ℕ → Bool) (es : List Effect) (l : ℕ) → given test es l ≡ set-by flags test (eqb (flags .sets l)) es (fluent-of l)
@@ -182,65 +185,65 @@ pub same-given-other : (test : ℕ → Bool) (es : List Effect) (l : ℕ) → gi
 unfolding given set-by
 same-given-other test es l = ap (λ (p : Effect → Bool). some-of p es) (fun-ext (λ (e : Effect). ap (λ (b : Bool). both b (each-of test (e .body))) (other-literal (e .literal) l)))
 
-pub same-known-after : (es : List Effect) (s : State) (l : ℕ) → known-after es s l ≡ Values.known-after flags es s (fluent-of l) (flags .sets l)
-unfolding known-after Values.known-after
+pub same-known-after : (es : List Effect) (s : State) (l : ℕ) → known-after es s l ≡ ValueStates.known-after flags es s (fluent-of l) (flags .sets l)
+unfolding known-after ValueStates.known-after
 same-known-after es s l =
     ap₂ both
     (ap₂ either (known-value s l) (same-given (known s) es l ∙ ap (λ (p : ℕ → Bool). set-by flags p (eqb (flags .sets l)) es (fluent-of l)) (fun-ext (same-known s))))
     (ap fails (same-given-other (possible s) es l ∙ ap (λ (p : ℕ → Bool). set-by flags p (λ u. fails (eqb (flags .sets l) u)) es (fluent-of l)) (fun-ext (same-possible s))))
 
-pub same-mark-after : (es : List Effect) (s : State) (f : ℕ) → mark-after es s f ≡ Values.mark-after flags es s f
-unfolding mark-after Values.mark-after values-of numbers first-such
+pub same-mark-after : (es : List Effect) (s : State) (f : ℕ) → mark-after es s f ≡ ValueStates.mark-after flags es s f
+unfolding mark-after ValueStates.mark-after values-of numbers first-such
 same-mark-after es s f =
     rw (same-known-after es s (says-true f), same-known-after es s (says-false f), fluent-true f, fluent-false f, sets-true f, sets-false f)
 
-same-marks-after : (es : List Effect) (s : State) (f : ℕ) (ms : List ℕ) → marks-after es s f ms ≡ map (Values.mark-after flags es s) (numbers f (length ms))
+same-marks-after : (es : List Effect) (s : State) (f : ℕ) (ms : List ℕ) → marks-after es s f ms ≡ map (ValueStates.mark-after flags es s) (numbers f (length ms))
 unfolding marks-after numbers
 same-marks-after es s f [] = refl
 same-marks-after es s f (m ∷ ms) = ap₂ {C = List ℕ} (λ x xs. x ∷ xs) (same-mark-after es s f) (same-marks-after es s (f + 1) ms)
 
-pub same-state-after : (t : Table) (a : ℕ) (s : State) → state-after t a s ≡ Values.state-after flags t a s
-unfolding state-after Values.state-after
+pub same-state-after : (t : Table) (a : ℕ) (s : State) → state-after t a s ≡ ValueStates.state-after flags t a s
+unfolding state-after ValueStates.state-after
 same-state-after t a s = same-marks-after (effects-of t a) s 0 s
 
 same-unknown : (ks : List Knowledge) (s : State) (f : ℕ) (ms : List ℕ)
-    → unknown-from ks s f ms ≡ those-of (λ (i : ℕ). both (senses ks i) (fails (Values.known-whether flags s i))) (numbers f (length ms))
+    → unknown-from ks s f ms ≡ those-of (λ (i : ℕ). both (senses ks i) (fails (ValueStates.known-whether flags s i))) (numbers f (length ms))
 unfolding unknown-from numbers those-of
 same-unknown ks s f [] = refl
 same-unknown ks s f (m ∷ ms) = rw (same-unknown ks s (f + 1) ms, same-known-whether s f)
 
-pub same-unknown-sensed : (t : Table) (a : ℕ) (s : State) → unknown-sensed t a s ≡ Values.unknown-sensed flags t a s
-unfolding unknown-sensed Values.unknown-sensed
+pub same-unknown-sensed : (t : Table) (a : ℕ) (s : State) → unknown-sensed t a s ≡ ValueStates.unknown-sensed flags t a s
+unfolding unknown-sensed ValueStates.unknown-sensed
 same-unknown-sensed t a s = same-unknown (knowledge-of t a) s 0 s
 
-pub same-readings : (fs : List ℕ) (s : State) → readings fs s ≡ Values.readings flags fs s
-unfolding readings Values.readings values-of numbers each-value
+pub same-readings : (fs : List ℕ) (s : State) → readings fs s ≡ ValueStates.readings flags fs s
+unfolding readings ValueStates.readings values-of numbers each-value
 same-readings [] s = refl
 same-readings (f ∷ fs) s =
     ap₂ {C = Outcome State} (λ o p. fork o (λ _. p))
-    (ap (readings fs) (told-true f s) ∙ same-readings fs (Values.told f 0 s))
-    (ap (readings fs) (told-false f s) ∙ same-readings fs (Values.told f 1 s))
+    (ap (readings fs) (told-true f s) ∙ same-readings fs (ValueStates.told f 0 s))
+    (ap (readings fs) (told-false f s) ∙ same-readings fs (ValueStates.told f 1 s))
 
-pub same-outcome : (t : Table) (a : ℕ) (s : State) → outcome t a s ≡ Values.outcome flags t a s
-unfolding outcome Values.outcome
-same-outcome t a s = rw (same-unknown-sensed t a s, same-readings (Values.unknown-sensed flags t a s) s, same-state-after t a s)
+pub same-outcome : (t : Table) (a : ℕ) (s : State) → outcome t a s ≡ ValueStates.outcome flags t a s
+unfolding outcome ValueStates.outcome
+same-outcome t a s = rw (same-unknown-sensed t a s, same-readings (ValueStates.unknown-sensed flags t a s) s, same-state-after t a s)
 
-pub same-table-does : (t : Table) (a : ℕ) (s : State) → table-does t a s ≡ Values.table-does flags t a s
-unfolding table-does Values.table-does
+pub same-table-does : (t : Table) (a : ℕ) (s : State) → table-does t a s ≡ ValueStates.table-does flags t a s
+unfolding table-does ValueStates.table-does
 same-table-does t a s = rw (same-can-be-run t a s, same-outcome t a s)
 
-pub same-table-step : (t : Table) → table-step t ≡ Values.table-step flags t
-unfolding table-step Values.table-step
+pub same-table-step : (t : Table) → table-step t ≡ ValueStates.table-step flags t
+unfolding table-step ValueStates.table-step
 same-table-step t = λ i. record { does = fun-ext (λ (a : ℕ). fun-ext (same-table-does t a)) i; knows = known-is i }
 
 -- THE WALK.
-pub same-judged : (r : Request) (s : State) → judged r s ≡ Values.judged flags r s
-unfolding judged Values.judged missed-in Values.missed-in
+pub same-judged : (r : Request) (s : State) → judged r s ≡ ValueStates.judged flags r s
+unfolding judged ValueStates.judged missed-in ValueStates.missed-in
 same-judged r s =
     rw (fun-ext (same-known s), fun-ext (same-known-whether s))
 
-pub same-walked : (r : Request) (s : State) → walked r s ≡ Values.walked flags r s
-unfolding walked Values.walked
+pub same-walked : (r : Request) (s : State) → walked r s ≡ ValueStates.walked flags r s
+unfolding walked ValueStates.walked
 same-walked r s = rw (same-table-step (r .table), fun-ext (same-judged r))
 
 -- REFUSALS.
@@ -306,7 +309,7 @@ same-all-exclusive (c ∷ cs) = ap₂ both (ap (λ (p : List ℕ → Bool). each
 abbrev number : Bool → ℕ
 number b = pick b (λ _. 0) (λ _. 1)
 
-unfoldable pub valued : World → Values.World
+unfoldable pub valued : World → ValueWorlds.World
 valued w f = number (w f)
 
 pub valued-same : (w u : World) (f : ℕ) → valued w f ≡ valued u f → w f ≡ u f
@@ -324,11 +327,11 @@ unfolding pick
 is-0 true = refl
 is-0 false = refl
 
-pub same-holds : (w : World) (l : ℕ) → holds w l ≡ Values.holds flags (valued w) l
-unfolding holds Values.holds valued
+pub same-holds : (w : World) (l : ℕ) → holds w l ≡ ValueWorlds.holds flags (valued w) l
+unfolding holds ValueWorlds.holds valued
 same-holds w l = rw (is-0 (w (fluent-of l)))
 
-pub valued-within : (w : World) → Values.Within flags (valued w)
+pub valued-within : (w : World) → ValueWorlds.Within flags (valued w)
 unfolding valued pick
 valued-within w f = go (w f)
   where
@@ -343,16 +346,16 @@ set-to true down b = refl
 set-to false true b = refl
 set-to false false b = refl
 
-pub same-moved : (t : Table) (a : ℕ) (w : World) → valued (moved t a w) ≡ Values.moved flags t a (valued w)
-unfolding moved Values.moved valued values-of numbers first-such pick
+pub same-moved : (t : Table) (a : ℕ) (w : World) → valued (moved t a w) ≡ ValueWorlds.moved flags t a (valued w)
+unfolding moved ValueWorlds.moved valued values-of numbers first-such pick
 same-moved t a w =
     fun-ext λ (f : ℕ).
-    rw (fun-ext (same-holds w), same-given (Values.holds flags (valued w)) (effects-of t a) (says-true f), same-given (Values.holds flags (valued w)) (effects-of t a) (says-false f), fluent-true f, fluent-false f, sets-true f, sets-false f)
-    (set-to (set-by flags (Values.holds flags (valued w)) (eqb 0) (effects-of t a) f) (set-by flags (Values.holds flags (valued w)) (eqb 1) (effects-of t a) f) (w f))
+    rw (fun-ext (same-holds w), same-given (ValueWorlds.holds flags (valued w)) (effects-of t a) (says-true f), same-given (ValueWorlds.holds flags (valued w)) (effects-of t a) (says-false f), fluent-true f, fluent-false f, sets-true f, sets-false f)
+    (set-to (set-by flags (ValueWorlds.holds flags (valued w)) (eqb 0) (effects-of t a) f) (set-by flags (ValueWorlds.holds flags (valued w)) (eqb 1) (effects-of t a) f) (w f))
 
 -- The domain of a table is seen through that of values.
-pub same-domain : (t : Table) → Seen (table-domain t) (Values.table-domain flags t) valued
-unfolding table-domain Values.table-domain may-be-run Values.may-be-run shown Values.shown valued
+pub same-domain : (t : Table) → Seen (table-domain t) (ValueWorlds.table-domain flags t) valued
+unfolding table-domain ValueWorlds.table-domain may-be-run ValueWorlds.may-be-run shown ValueWorlds.shown valued
 same-domain t =
     record {
       may-be-run = λ a w. ap (λ (test : ℕ → Bool). allowed test (executability-of t a)) (fun-ext (same-holds w));
@@ -456,8 +459,8 @@ same-mark ls n f near apart =
     not-both : among (says-true f) ls ≡ true → among (says-false f) ls ≡ true → ⊥
     not-both t u = apart (says-true f) (among-has _ ls t) (subst (Has ls) (sym (complement-true f)) (among-has _ ls u))
 
-pub same-first-state : (lim : Limits) (t : Table) → Consistent (t .facts) → first-state lim t ≡ Values.first-state flags lim t
-unfolding first-state state-of Values.first-state
+pub same-first-state : (lim : Limits) (t : Table) → Consistent (t .facts) → first-state lim t ≡ ValueStates.first-state flags lim t
+unfolding first-state state-of ValueStates.first-state
 same-first-state lim t apart =
     ext-getD Limits.unknown-mark (state-of lim (t .facts)) _
     (state-length lim (t .facts) ∙ sym (numbered-length _ 0 (lim .state)))

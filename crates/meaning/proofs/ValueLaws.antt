@@ -14,7 +14,8 @@ use borrow.Author.Tests.{eqb-true}
 use Rattle.meaning.specs.Tests.{pick, those-of, Has}
 use Rattle.meaning.specs.Limits
 use Rattle.meaning.specs.States.{State, Outcome}
-use Rattle.meaning.specs.Values.{numbers, first-such, mark-left, told, is-known, each-value}
+use Rattle.meaning.specs.Values.{numbers, first-such}
+use Rattle.meaning.specs.ValueStates.{mark-left, told, is-known, each-value}
 use Rattle.meaning.proofs.TestLaws.{by-test, clash, pick-true, pick-false}
 use Rattle.meaning.proofs.Sound.{Some-state}
 

@@ -20,7 +20,9 @@ use Rattle.meaning.specs.Lines.{effects-of, executability-of, knowledge-
 use Rattle.meaning.specs.States.{State, Outcome, single}
 use Rattle.meaning.specs.Walk.{fine, Verified, Step, leads-to, refuses, end-of}
 use Rattle.meaning.specs.Worlds.{Domain, Worlds, Carried}
-use Rattle.meaning.specs.Values.{Literals, numbers, first-such, mark-left, told, is-known, each-value, World, shown, values-of, known-as, known, possible, known-whether, fits, first-state, can-be-run, set-by, known-after, mark-after, state-after, unknown-sensed, readings, outcome, table-does, table-step, missed-in, judged, walked, disagree, exclusive, contradictory, all-exclusive, Within, holds, may-be-run, moved, table-domain, Facts, Reached, Carried-out}
+use Rattle.meaning.specs.Values.{Literals, numbers, first-such, values-of, fits, set-by, disagree, exclusive, contradictory, all-exclusive}
+use Rattle.meaning.specs.ValueStates.{mark-left, told, is-known, each-value, known-as, known, possible, known-whether, first-state, can-be-run, known-after, mark-after, state-after, unknown-sensed, readings, outcome, table-does, table-step, missed-in, judged, walked}
+use Rattle.meaning.specs.ValueWorlds.{World, shown, Within, holds, may-be-run, moved, table-domain, Facts, Reached, Carried-out}
 use Rattle.meaning.proofs.TestLaws.{by-test, clash, both-left, both-right, both-true, either-split, fails-true, fails-false, pick-true, pick-false, pick-cases, some-has, has-some, each-has, has-each, some-mono, each-mono, some-those}
 use Rattle.meaning.proofs.WalkLaws.{On-conditions}
 use Rattle.meaning.proofs.SettledLaws.{or-else-nowhere}

@@ -17,6 +17,8 @@ use Rattle.meaning.specs.States.{State, first-state}
 use Rattle.meaning.specs.Walk.{Walked, Verified, walked}
 use Rattle.meaning.specs.Worlds.{World, holds, table-domain, Facts, Reached, Carried-out}
 use Rattle.meaning.specs.Values
+use Rattle.meaning.specs.ValueStates
+use Rattle.meaning.specs.ValueWorlds
 use Rattle.meaning.specs.Values.{flags, set-by}
 use Rattle.meaning.proofs.RefusalLaws.{past-16}
 use Rattle.meaning.proofs.RangeLaws.{read-ranged}
@@ -26,7 +28,7 @@ use Rattle.meaning.proofs.ValueSound
 use Rattle.meaning.proofs.ValueSound.{same-map, seen-walk-sound}
 use Rattle.meaning.proofs.TwoValues.{valued, valued-same, valued-within, same-given, same-given-other, same-walked, same-first-state, same-contradictory, same-all-exclusive, same-holds, same-domain}
 
-holds-is : (w : World) → holds w ≡ Values.holds flags (valued w)
+holds-is : (w : World) → holds w ≡ ValueWorlds.holds flags (valued w)
 holds-is w = fun-ext (same-holds w)
 
 -- THE WALK IS SOUND.
@@ -46,7 +48,7 @@ walk-sound lim b r e past fine-end =
     passed : Settled lim b r e
     passed = settled-is lim b r e past
 
-    same-walk : walked r (first-state lim (r .table)) ≡ Values.walked flags r (Values.first-state flags lim (r .table))
+    same-walk : walked r (first-state lim (r .table)) ≡ ValueStates.walked flags r (ValueStates.first-state flags lim (r .table))
     same-walk = same-walked r _ ∙ rw (same-first-state lim (r .table) (read-ranged lim b r e (passed .reads) .consistent))
 
 -- A WORLD'S MOVE IS SINGLE-VALUED where 16 has passed: no effects whose bodies hold give a literal and its complement.
