@@ -1,12 +1,12 @@
 -- The format's requests are the instance with two values: what States, Refusals, Walk and Worlds define is what Values defines for `flags`.
 -- By the two literals of a fluent: the mark of each is its value and 1 more, and the values are 0 and 1. Assumes nothing.
-use Prim.Native.Nat.{ℕ, _+_, _*_, _≤_, _<_}
+use Prim.Native.Nat.{ℕ, _+_, _<_}
 use native.Mathlib.Omega.{arith}
 use native.Mathlib.Decide.{ℕ-discrete}
 use mathlib.Core.Path.{_≡_, refl, sym, _∙_, ap, ap₂, subst, fun-ext}
 use mathlib.Core.Bool.{Bool, true, false, false≢true}
 use mathlib.Core.List.{List, [], _∷_, map}
-use mathlib.Core.Logic.{_⊎_, inl, inr, ⊎-elim}
+use mathlib.Core.Logic.{inl, inr, ⊎-elim}
 use lib.ListN.{length, getD, set, length-set, length-replicate}
 use lib.Seq.{getD-set-same, getD-set-other, ext-getD}
 use lib.Dec.{eqb}
@@ -14,25 +14,24 @@ use borrow.Author.Tests.{eqb-true, eq-eqb, ne-eqb}
 use Rattle.meaning.specs.Tests.{both, either, fails, pick, some-of, each-of, those-of, Has}
 use Rattle.meaning.specs.Limits
 use Rattle.meaning.specs.Limits.{Limits}
-use Rattle.meaning.specs.Literals.{says-true, says-false, fluent-of, positive, complement, among, exclusive}
+use Rattle.meaning.specs.Literals.{says-true, says-false, fluent-of, complement, among, exclusive}
 use Rattle.meaning.specs.Requests.{Effect, Knowledge, Table, Request}
 use Rattle.meaning.specs.Refusals.{contradictory, all-exclusive}
 use Rattle.meaning.specs.Lines.{effects-of, executability-of, knowledge-of, allowed, given, sensing, senses}
-use Rattle.meaning.specs.States.{State, Outcome, single, fork, mark-of, known, possible, known-whether, told, told-all, state-of, first-state, can-be-run, known-after, mark-after, marks-after, state-after, unknown-from, unknown-sensed, readings, outcome}
-use Rattle.meaning.specs.Walk.{in-state, Walked, Step, leads-to, refuses, Steps, walk, table-does, table-step, first-missed, missed-in, end-of, judged, walked}
+use Rattle.meaning.specs.States.{State, Outcome, fork, mark-of, known, possible, known-whether, told, told-all, state-of, first-state, can-be-run, known-after, mark-after, marks-after, state-after, unknown-from, unknown-sensed, readings, outcome}
+use Rattle.meaning.specs.Walk.{table-does, table-step, missed-in, judged, walked}
 use Rattle.meaning.specs.Worlds.{World, holds, may-be-run, moved, shown, table-domain}
 use Rattle.meaning.specs.Values
 use Rattle.meaning.specs.ValueStates
 use Rattle.meaning.specs.ValueWorlds
 use Rattle.meaning.specs.Values.{flags, numbers, first-such, values-of, fits, set-by, disagree}
 use Rattle.meaning.specs.ValueStates.{mark-left, is-known, each-value, known-as}
-use Rattle.meaning.proofs.TestLaws.{by-test, clash, same-test, both-left, both-right, both-true, either-left, either-right, either-split, fails-true, fails-false, pick-true, pick-false, pick-map, some-has, has-some, each-has, has-each}
+use Rattle.meaning.proofs.TestLaws.{by-test, clash, same-test, both-left, both-right, both-true, either-left, either-right, either-split, fails-true, fails-false, pick-true, pick-false, some-has, has-some, each-has, has-each, map-same, same-map}
 use Rattle.meaning.proofs.LiteralLaws.{positive-true, positive-false, fluent-true, fluent-false, complement-true, complement-false, complement-twice, by-literal, one-of-two, fluent-complement, same-fluent, among-has, has-among}
 use Rattle.meaning.proofs.StateLaws.{mark-true, mark-false, known-true, known-false, nothing-told, unknown-mark}
 use Rattle.meaning.proofs.ToldLaws.{either-none, state-length}
 use Rattle.meaning.proofs.Sound.{Seen}
 use Rattle.meaning.proofs.ValueLaws.{numbered-at, numbered-length}
-use Rattle.meaning.proofs.ValueSound.{map-same, same-map}
 
 -- THE TWO VALUES.
 some-value : (p : ℕ → Bool) (f : ℕ) → some-of p (values-of flags f) ≡ either (p 0) (p 1)

@@ -11,12 +11,12 @@ use mathlib.Core.Logic.{inl, inr, ⊎-elim}
 use lib.ListN.{length, getD, set, List·getD-eq-default}
 use lib.Seq.{getD-set-same, getD-set-other, set-out}
 use borrow.Author.Tests.{eqb-true}
-use Rattle.meaning.specs.Tests.{pick, those-of, Has}
+use Rattle.meaning.specs.Tests.{Has}
 use Rattle.meaning.specs.Limits
 use Rattle.meaning.specs.States.{State, Outcome}
 use Rattle.meaning.specs.Values.{numbers, first-such}
 use Rattle.meaning.specs.ValueStates.{mark-left, told, is-known, each-value}
-use Rattle.meaning.proofs.TestLaws.{by-test, clash, pick-true, pick-false}
+use Rattle.meaning.proofs.TestLaws.{by-test, pick-true, pick-false}
 use Rattle.meaning.proofs.Sound.{Some-state}
 
 -- NUMBERS IN A ROW.
@@ -69,28 +69,6 @@ first-such-cases test made (m ∷ ms) otherwise found none =
     (λ u. first-such-cases test made ms otherwise
     (λ n h t q. found n (inr h) t (pick-false _ _ _ u ∙ q))
     (λ no-n q. none (λ n h. ⊎-elim (λ p. rw p u) (no-n n) h) (pick-false _ _ _ u ∙ q)))
-
--- Those that pass a test do.
-pub those-has : {A : Type 0} (p : A → Bool) (xs : List A) (x : A) → Has (those-of p xs) x → Has xs x × (p x ≡ true)
-unfolding those-of pick
-those-has p [] x h = absurd h
-those-has {A} p (y ∷ ys) x h = go (p y) refl h (those-has p ys x)
-  where
-    go : (b : Bool) → p y ≡ b → Has (pick b (λ _. y ∷ those-of p ys) (λ _. those-of p ys)) x → (Has (those-of p ys) x → Has ys x × (p x ≡ true)) → Has (y ∷ ys) x × (p x ≡ true)
-    go true q (inl e) ih = (inl e, rw e q)
-    go true q (inr m) ih = (inr (ih m .0), ih m .1)
-    go false q m ih = (inr (ih m .0), ih m .1)
-
-pub has-those : {A : Type 0} (p : A → Bool) (xs : List A) (x : A) → Has xs x → p x ≡ true → Has (those-of p xs) x
-unfolding those-of pick
-has-those p [] x h e = absurd h
-has-those {A} p (y ∷ ys) x h e = go (p y) refl h (λ m. has-those p ys x m e)
-  where
-    go : (b : Bool) → p y ≡ b → Has (y ∷ ys) x → (Has ys x → Has (those-of p ys) x) → Has (pick b (λ _. y ∷ those-of p ys) (λ _. those-of p ys)) x
-    go true q (inl i) ih = inl i
-    go true q (inr m) ih = inr (ih m)
-    go false q (inl i) ih = clash (rw i at e) q
-    go false q (inr m) ih = ih m
 
 -- A value known because it is the only one left is the one.
 pub one-left : (vs : List ℕ) (v x : ℕ) → mark-left vs ≡ v + 1 → Has vs x → x ≡ v

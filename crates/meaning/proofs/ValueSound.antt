@@ -4,30 +4,30 @@
 use Prim.Native.Nat.{ℕ, _+_, _<_}
 use native.Mathlib.Omega.{arith}
 use native.Mathlib.Decide.{decLt, ℕ-discrete}
-use mathlib.Core.Path.{_≡_, refl, sym, _∙_, ap, ap₂, subst}
+use mathlib.Core.Path.{_≡_, refl, sym, _∙_, ap, subst}
 use mathlib.Core.Bool.{Bool, true, false}
-use mathlib.Core.List.{List, [], _∷_, map}
+use mathlib.Core.List.{List, [], _∷_}
 use mathlib.Core.Logic.{_⊎_, inl, inr, ⊎-elim}
-use lib.ListN.{length, getD, drop}
+use lib.ListN.{length}
 use lib.Dec.{eqb}
 use borrow.Author.Tests.{eqb-true, eq-eqb, ne-eqb}
-use Rattle.meaning.specs.Tests.{both, either, fails, pick, some-of, each-of, those-of, Has}
+use Rattle.meaning.specs.Tests.{either, fails, each-of, those-of, Has}
 use Rattle.meaning.specs.Limits
 use Rattle.meaning.specs.Limits.{Limits}
 use Rattle.meaning.specs.Requests.{Effect-over, Executability-over, Knowledge, Table-over, Request-over, values}
 use Rattle.meaning.specs.Refusals.{Found, nowhere, at}
 use Rattle.meaning.specs.Lines.{effects-of, executability-of, knowledge-of, allowed, sensing, senses}
-use Rattle.meaning.specs.States.{State, Outcome, single}
+use Rattle.meaning.specs.States.{State, Outcome}
 use Rattle.meaning.specs.Walk.{fine, Verified, Step, leads-to, refuses, end-of}
 use Rattle.meaning.specs.Worlds.{Domain, Worlds, Carried}
-use Rattle.meaning.specs.Values.{Literals, numbers, first-such, values-of, fits, set-by, disagree, exclusive, contradictory, all-exclusive}
-use Rattle.meaning.specs.ValueStates.{mark-left, told, is-known, each-value, known-as, known, possible, known-whether, first-state, can-be-run, known-after, mark-after, state-after, unknown-sensed, readings, outcome, table-does, table-step, missed-in, judged, walked}
+use Rattle.meaning.specs.Values.{Literals, numbers, values-of, fits, set-by, disagree, exclusive, contradictory, all-exclusive}
+use Rattle.meaning.specs.ValueStates.{mark-left, told, is-known, known-as, known, possible, known-whether, first-state, can-be-run, known-after, mark-after, state-after, unknown-sensed, readings, outcome, table-does, table-step, missed-in, judged, walked}
 use Rattle.meaning.specs.ValueWorlds.{World, shown, Within, holds, may-be-run, moved, table-domain, Facts, Reached, Carried-out}
-use Rattle.meaning.proofs.TestLaws.{by-test, clash, both-left, both-right, both-true, either-split, fails-true, fails-false, pick-true, pick-false, pick-cases, some-has, has-some, each-has, has-each, some-mono, each-mono, some-those}
+use Rattle.meaning.proofs.TestLaws.{by-test, clash, both-left, both-right, both-true, either-split, fails-true, fails-false, pick-true, pick-false, pick-cases, some-has, has-some, each-has, has-each, some-mono, each-mono, those-has, has-those, some-those, map-same, same-map}
 use Rattle.meaning.proofs.WalkLaws.{On-conditions}
 use Rattle.meaning.proofs.SettledLaws.{or-else-nowhere}
 use Rattle.meaning.proofs.EndLaws.{none-missed}
-use Rattle.meaning.proofs.ValueLaws.{has-numbers, numbers-has, known-there, first-such-cases, those-has, has-those, one-left, told-elsewhere, told-there, told-far, some-value}
+use Rattle.meaning.proofs.ValueLaws.{has-numbers, numbers-has, known-there, first-such-cases, one-left, told-elsewhere, told-there, told-far, some-value}
 use Rattle.meaning.proofs.Sound.{Some-state, some-state-map, missed≢fine, Sound-step, Seen, seen-sound, plan-sound}
 
 -- A state missed nothing where it ends fine.
@@ -35,16 +35,6 @@ fine-nowhere : (f : Found) (s : State) → end-of f s ≡ fine → f ≡ nowhere
 unfolding end-of
 fine-nowhere nowhere s e = refl
 fine-nowhere (at p) s e = absurd (missed≢fine e)
-
--- Functions that are the same on a list are the same on each of its entries.
-pub map-same : {A B : Type 0} (g h : A → B) (xs : List A) (x : A) → map g xs ≡ map h xs → Has xs x → g x ≡ h x
-map-same g h [] x e m = absurd m
-map-same g h (y ∷ ys) x e m =
-    ⊎-elim (λ p. ap g p ∙ ap (λ (zs : List _). getD zs 0 (g y)) e ∙ ap h (sym p)) (map-same g h ys x (ap (drop 1) e)) m
-
-pub same-map : {A B : Type 0} (g h : A → B) (xs : List A) → ((x : A) → Has xs x → g x ≡ h x) → map g xs ≡ map h xs
-same-map g h [] same = refl
-same-map {B = B} g h (x ∷ xs) same = ap₂ {C = List B} (λ y ys. y ∷ ys) (same x (inl refl)) (same-map g h xs (λ y m. same y (inr m)))
 
 -- Worlds in which an action shows the same agree on each fluent that it senses.
 shown-same : {L : Type 0} (t : Table-over L) (a : ℕ) (w v : World) (f : ℕ) → shown t a w ≡ shown t a v → senses (knowledge-of t a) f ≡ true → w f ≡ v f

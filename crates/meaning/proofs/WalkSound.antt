@@ -5,27 +5,26 @@ use Prim.Native.Nat.{ℕ}
 use mathlib.Core.Path.{_≡_, sym, _∙_, subst, fun-ext}
 use mathlib.Core.Bool.{Bool, true}
 use mathlib.Core.List.{List, []}
-use lib.Dec.{eqb}
-use Rattle.meaning.specs.Tests.{fails, each-of}
 use Rattle.meaning.specs.Limits.{Limits}
 use Rattle.meaning.specs.Literals.{fluent-of, complement}
 use Rattle.meaning.specs.Requests.{Table, Request, values}
 use Rattle.meaning.specs.Reading.{got}
-use Rattle.meaning.specs.Refusals.{nowhere, contradiction-in, all-exclusive, settled}
+use Rattle.meaning.specs.Refusals.{nowhere, contradiction-in, settled}
 use Rattle.meaning.specs.Lines.{effects-of, given}
-use Rattle.meaning.specs.States.{State, first-state}
-use Rattle.meaning.specs.Walk.{Walked, Verified, walked}
+use Rattle.meaning.specs.States.{first-state}
+use Rattle.meaning.specs.Walk.{Verified, walked}
 use Rattle.meaning.specs.Worlds.{World, holds, table-domain, Facts, Reached, Carried-out}
 use Rattle.meaning.specs.Values
 use Rattle.meaning.specs.ValueStates
 use Rattle.meaning.specs.ValueWorlds
-use Rattle.meaning.specs.Values.{flags, set-by}
+use Rattle.meaning.specs.Values.{flags}
+use Rattle.meaning.proofs.TestLaws.{same-map}
 use Rattle.meaning.proofs.RefusalLaws.{past-16}
 use Rattle.meaning.proofs.RangeLaws.{read-ranged}
 use Rattle.meaning.proofs.SettledLaws.{Settled, settled-is, fit}
 use Rattle.meaning.proofs.WalkLaws.{On-conditions}
 use Rattle.meaning.proofs.ValueSound
-use Rattle.meaning.proofs.ValueSound.{same-map, seen-walk-sound}
+use Rattle.meaning.proofs.ValueSound.{seen-walk-sound}
 use Rattle.meaning.proofs.TwoValues.{valued, valued-same, valued-within, same-given, same-given-other, same-walked, same-first-state, same-contradictory, same-all-exclusive, same-holds, same-domain}
 
 holds-is : (w : World) → holds w ≡ ValueWorlds.holds flags (valued w)
