@@ -1,18 +1,19 @@
 -- A second instance: a fluent with three values, and literals that say "is v" or "is not v". Its rows are computed by the definitions of Values,
 -- and demand 3 of it is the general theorem. Assumes nothing.
-use Prim.Native.Nat.{ℕ}
-use mathlib.Core.Path.{_≡_, refl}
+use Prim.Native.Nat.{ℕ, _<_}
+use native.Mathlib.Omega.{arith}
+use mathlib.Core.Path.{_≡_, refl, ap}
 use mathlib.Core.Bool.{true, false}
 use mathlib.Core.List.{List, [], _∷_}
-use lib.ListN.{replicate}
+use lib.ListN.{getD, replicate}
 use lib.Dec.{eqb}
 use Rattle.meaning.specs.Tests.{fails}
 use Rattle.meaning.specs.Limits.{format}
-use Rattle.meaning.specs.Requests.{Effect-over, Table-over, Sequence, done, item, act, Entry-over, Request-over}
+use Rattle.meaning.specs.Requests.{Effect-over, Table-over, Sequence, done, item, act, Entry-over, Request-over, values}
 use Rattle.meaning.specs.Judging.{Judgement, within}
 use Rattle.meaning.specs.Values.{Literals, exclusive, contradictory}
 use Rattle.meaning.specs.ValueStates.{first-state, walked}
-use Rattle.meaning.specs.ValueWorlds.{Carried-out}
+use Rattle.meaning.specs.ValueWorlds.{World, Facts, Carried-out}
 use Rattle.meaning.proofs.Compute.{all-open}
 use Rattle.meaning.proofs.ValueSound.{walk-sound}
 
@@ -58,6 +59,17 @@ traffic-light-verified = refl
 pub traffic-light-carried-out : Carried-out colours traffic-light
 unfolding all-open
 traffic-light-carried-out = walk-sound colours format traffic-light (tt, tt) refl
+
+-- Without the look it is not: worlds with two colours are possible at the end.
+pub unseen-not-carried-out : Carried-out colours (asked light done [] (record { place = 10; value = 0 } ∷ [])) → ⊥
+unfolding all-open values
+unseen-not-carried-out c = let same : _≡_ {A = ℕ} 0 1 = ap (λ (xs : List ℕ). getD xs 0 0) (c (all 0) (has 0 (omega arith)) .whether (all 0) (all 1) (has 0 (omega arith)) (has 1 (omega arith))) in omega arith
+  where
+    all : ℕ → World
+    all v f = v
+
+    has : (v : ℕ) → v < 3 → Facts colours light (all v)
+    has v low = (λ f. low, refl)
 
 -- With the goal "is 0" instead, the first miss is where the colour is 1: its mark is 2.
 pub traffic-light-missed : judged (asked light (item (act 1 0) done) (record { place = 8; value = is 0 0 } ∷ []) [])

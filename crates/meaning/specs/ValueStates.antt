@@ -1,5 +1,5 @@
--- Partial states of fluents with any number of values: 0 or v + 1 for each fluent. When an action can be run in one, what comes after it, and the
--- walk (FORMAT sections 7 and 8).
+-- Partial states of fluents with any number of values, 0 or v + 1 for each fluent; when an action can be run in one, what comes after it, and the
+-- walk (FORMAT sections 7 and 8). What States and Walk say of flags is said here of values, under the same names.
 use Prim.Native.Nat.{ℕ, _+_}
 use mathlib.Core.Bool.{Bool, true}
 use mathlib.Core.List.{List, [], _∷_, map}
@@ -56,7 +56,7 @@ module _ {L : Type 0} (ls : Literals L) where
   unfoldable pub first-state : Limits → Table-over L → State
   first-state lim t = map (λ (f : ℕ). mark-left (those-of (fits ls (t .facts) f) (values-of ls f))) (numbers 0 (lim .state))
 
-  -- FORMAT 7.8, 7.9.
+  -- Some executability line of the action has a body known true (FORMAT 7.8, 7.9).
   unfoldable pub can-be-run : Table-over L → ℕ → State → Bool
   can-be-run t a s = allowed (known s) (executability-of t a)
 
@@ -64,7 +64,7 @@ module _ {L : Type 0} (ls : Literals L) where
   unfoldable pub known-after : List (Effect-over L) → State → (fluent value : ℕ) → Bool
   known-after es s f v = both (either (is-known s f v) (set-by ls (known s) (eqb v) es f)) (fails (set-by ls (possible s) (λ u. fails (eqb v u)) es f))
 
-  -- FORMAT 7.20 to 7.22.
+  -- The mark of a fluent afterwards, and with it the state (FORMAT 7.20 to 7.22).
   unfoldable pub mark-after : List (Effect-over L) → State → ℕ → ℕ
   mark-after es s f = first-such (known-after es s f) (λ v. v + 1) (values-of ls f) Limits.unknown-mark
 
@@ -80,21 +80,25 @@ module _ {L : Type 0} (ls : Literals L) where
   readings [] s = single s
   readings (f ∷ fs) s = each-value (values-of ls f) (λ v. readings fs (told f v s)) s
 
+  -- A sensing action leads to readings, and any other to one state (FORMAT 7.10 to 7.24).
   unfoldable pub outcome : Table-over L → ℕ → State → Outcome State
   outcome t a s = pick (sensing t a) (λ _. readings (unknown-sensed t a s) s) (λ _. single (state-after t a s))
 
+  -- The step of a table. An action that can't be run is refused (FORMAT 7.8, 8.12).
   unfoldable pub table-does : Table-over L → ℕ → State → Step State
   table-does t a s = pick (can-be-run t a s) (λ _. leads-to (outcome t a s)) (λ _. refuses Limits.not-executable (in-state s))
 
   unfoldable pub table-step : Table-over L → Steps State L
   table-step t = record { does = table-does t; knows = known }
 
-  -- An end state is judged: goals in order, then whether entries in order (FORMAT 4.36, 8.5 to 8.7).
+  -- An end state is judged: goals in order, then whether entries in order (FORMAT 4.36, 8.6, 8.7).
   unfoldable pub missed-in : Request-over L → State → Found
   missed-in r s = or-else (first-missed (known s) (r .goals)) (λ _. first-missed (known-whether s) (r .whether))
 
+  -- FORMAT 8.5, 8.9.
   unfoldable pub judged : Request-over L → State → Walked State
   judged r s = record { count = 1; end = end-of (missed-in r s) s }
 
+  -- The whole walk of a request's plan from a state.
   unfoldable pub walked : Request-over L → State → Walked State
   walked r = walk (table-step (r .table)) (r .plan) (judged r)

@@ -1,4 +1,5 @@
 -- Worlds of fluents with any number of values, and carrying a plan out in them (FORMAT section 9). Nothing here is taken from partial states.
+-- What Worlds says of flags is said here of values, under the same names.
 use Prim.Native.Nat.{ℕ, _<_}
 use mathlib.Core.Path.{_≡_}
 use mathlib.Core.Bool.{Bool, true}
@@ -23,9 +24,11 @@ module _ {L : Type 0} (ls : Literals L) where
   abbrev pub Within : World → Type 0
   Within w = (f : ℕ) → w f < ls .count f
 
+  -- The literal's fluent has a value that satisfies it.
   unfoldable pub holds : World → L → Bool
   holds w l = ls .satisfied l (w (ls .fluent l))
 
+  -- Some executability line of the action has a body that holds (FORMAT 9.4).
   unfoldable pub may-be-run : Table-over L → ℕ → World → Bool
   may-be-run t a w = allowed (holds w) (executability-of t a)
 
@@ -36,7 +39,7 @@ module _ {L : Type 0} (ls : Literals L) where
   unfoldable pub table-domain : Table-over L → Domain World L (List ℕ)
   table-domain t = record { may-be-run = may-be-run t; sensing = sensing t; shows = shown t; moved = moved t; holds = holds }
 
-  -- The worlds that have all the initial facts (FORMAT 9.2).
+  -- The worlds that give each fluent one of its values and have all the initial facts (FORMAT 9.2).
   abbrev pub Facts : Table-over L → Worlds World
   Facts t w = Within w × (each-of (holds w) (t .facts) ≡ true)
 
