@@ -11,19 +11,24 @@ use Rattle.meaning.specs.Tests.{either, pick, some-of}
 use Rattle.meaning.specs.Limits
 use Rattle.meaning.specs.Limits.{Limits}
 use Rattle.meaning.specs.Literals.{among}
-use Rattle.meaning.specs.Requests.{Request}
+use Rattle.meaning.specs.Requests.{Request-over, Request}
 use Rattle.meaning.specs.Reading.{Got, got, fault}
 use Rattle.meaning.specs.Refusals.{settled}
 use Rattle.meaning.specs.States.{State, first-state}
 use Rattle.meaning.specs.Walk.{End, fine, missed, stopped, Walked, Verified, walked}
 use Rattle.meaning.specs.Judging.{reported, ended, within, judge-settled, judge}
 use Rattle.meaning.specs.Worlds.{Carried-out}
+use Rattle.meaning.specs.Values.{Literals, all-exclusive}
+use Rattle.meaning.specs.ValueStates
+use Rattle.meaning.specs.ValueWorlds
 use Rattle.meaning.specs.Derivations.{check}
 use Rattle.meaning.specs.Answers.{refusals, answers}
 use Rattle.meaning.proofs.TestLaws.{by-test, clash}
+use Rattle.meaning.proofs.WalkLaws.{On-conditions}
 use Rattle.meaning.proofs.KeptEnds.{Stuck, walked-stuck}
 use Rattle.meaning.proofs.AnswerLaws
 use Rattle.meaning.proofs.DerivationSound
+use Rattle.meaning.proofs.ValueSound
 use Rattle.meaning.proofs.AnswerLaws.{Numbered-in, settled-numbered}
 use Rattle.meaning.proofs.Passed.{passed-exactly}
 use Rattle.meaning.proofs.WalkSound.{walk-sound}
@@ -79,6 +84,11 @@ pub sound : (lim : Limits) (request lent : List ℕ) (budget : ℕ) → judge li
 sound lim request lent budget q =
     let m = verified-means lim request lent budget q in
     (m .0, m .1, m .2, walk-sound lim request (m .0) (m .1) (m .2) (m .3))
+
+-- Demand 3 for fluents with any number of values, over any structure of literals; the demand above is of the instance with two.
+pub sound-for-values : {L : Type 0} (ls : Literals L) (lim : Limits) (r : Request-over L) → On-conditions (λ cs. all-exclusive ls cs ≡ true) (r .plan)
+    → Verified (ValueStates.walked ls r (ValueStates.first-state ls lim (r .table))) → ValueWorlds.Carried-out ls r
+sound-for-values = ValueSound.walk-sound
 
 -- Theorems 3.1 and 3.3 of Zhao and Shen, for the plain layout and for the closing one: what an accepted derivation asks is verified by the walk
 -- without a budget, the whether entries included (FORMAT 17.40). (With a budget it need not be: `DerivationCases.beyond-a-budget` has a

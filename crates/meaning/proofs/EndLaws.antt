@@ -6,7 +6,7 @@ use mathlib.Core.List.{List, [], _∷_, _++_, append-assoc}
 use mathlib.Core.Logic.{_⊎_, inl, inr, ⊎-elim, _↔_}
 use mathlib.Core.Bool.{Bool, true}
 use Rattle.meaning.specs.Tests.{each-of, Has}
-use Rattle.meaning.specs.Requests.{Entry, values}
+use Rattle.meaning.specs.Requests.{Entry-over, values}
 use Rattle.meaning.specs.Refusals.{Found, nowhere, at}
 use Rattle.meaning.specs.Walk.{Concerned, no-state, in-state, End, fine, missed, stopped, first-missed}
 use Rattle.meaning.specs.Paths.{Ending, arrives, stops, Path, first-ran, goes-on, go-on, stop-of, first-stop, miss-of, first-miss, stop-or-miss, walked-along}
@@ -231,7 +231,7 @@ module _ {S : Type 0} (miss : S → Found) where
       by-both (stopped n p u) w stop says = stop
 
 -- MISSES. Nothing in a list of entries is missed exactly where each of its values passes.
-pub none-missed : (test : ℕ → Bool) (es : List Entry) → (first-missed test es ≡ nowhere) ↔ (each-of test (values es) ≡ true)
+pub none-missed : {A : Type 0} (test : A → Bool) (es : List (Entry-over A)) → (first-missed test es ≡ nowhere) ↔ (each-of test (values es) ≡ true)
 unfolding first-missed each-of values
 none-missed test [] = (λ _. refl, λ _. refl)
 none-missed test (e ∷ es) = (

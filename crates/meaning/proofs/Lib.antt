@@ -11,7 +11,10 @@ pub mod LineLaws
 pub mod DerivationLines
 pub mod SettledLaws
 pub mod Sound
-pub mod TableSound
+pub mod ValueLaws
+pub mod ValueSound
+pub mod TwoValues
+pub mod ThreeValues
 pub mod WalkSound
 pub mod PickLaws
 pub mod GotLaws

@@ -1,8 +1,8 @@
 -- Whatever a walk verifies is carried out as demand 3 says, for any states, worlds, literals and readings, from a record of what one step must
 -- satisfy. The induction keeps that every possible world agrees with the state and that the true world is among them. Assumes nothing.
 use Prim.Native.Nat.{ℕ}
-use mathlib.Core.Path.{_≡_, refl, sym, subst}
-use mathlib.Core.Bool.{true, false}
+use mathlib.Core.Path.{_≡_, refl, sym, _∙_, ap, subst}
+use mathlib.Core.Bool.{Bool, true, false}
 use mathlib.Core.List.{List, _∷_}
 use mathlib.Core.Logic.{_⊎_, inl, inr, ⊎-elim}
 use Rattle.meaning.specs.Tests.{pick, each-of, Has}
@@ -84,8 +84,32 @@ module _ {S W L R : Type 0} where
         → Some-state o (λ u. (w : W) → Agrees w s → d .shows a w ≡ d .shows a v → Agrees w u)
     -- a branching is sound: what is known holds, and conditions that are apart don't hold together
     pub knows : (l : L) (w : W) (s : S) → Agrees w s → step .knows s l ≡ true → d .holds w l ≡ true
-    pub apart : (c : List L) (cs : List (List L)) → Apart (c ∷ cs) → (w : W) → each-of (d .holds w) c ≡ true → (e : List L) → Has cs e → each-of (d .holds w) e ≡ true → ⊥
+    pub apart : (c : List L) (cs : List (List L)) → Apart (c ∷ cs) → (w : W) (s : S) → Agrees w s → each-of (d .holds w) c ≡ true → (e : List L) → Has cs e → each-of (d .holds w) e ≡ true → ⊥
     pub others : (c : List L) (cs : List (List L)) → Apart (c ∷ cs) → Apart cs
+
+-- A DOMAIN SEEN THROUGH ANOTHER: its worlds are some of the other's, they move there as here and have the same literals, and where they show the
+-- same here, they do there.
+pub record Seen {U W L Q R : Type 0} (d : Domain U L Q) (other : Domain W L R) (seen : U → W) : Type 0 where
+  pub may-be-run : (a : ℕ) (v : U) → d .may-be-run a v ≡ other .may-be-run a (seen v)
+  pub sensing : (a : ℕ) → d .sensing a ≡ other .sensing a
+  pub shows : (a : ℕ) (v u : U) → d .shows a v ≡ d .shows a u → other .shows a (seen v) ≡ other .shows a (seen u)
+  pub moved : (a : ℕ) (v : U) → seen (d .moved a v) ≡ other .moved a (seen v)
+  pub holds : (v : U) → d .holds v ≡ other .holds (seen v)
+
+-- A step that is sound for the other is sound for it.
+pub seen-sound : {S U W L Q R : Type 0} (step : Steps S L) (d : Domain U L Q) (other : Domain W L R) (seen : U → W) (Apart : List (List L) → Type 0) (Agrees : W → S → Type 0)
+    → Seen d other seen → Sound-step step other Apart Agrees → Sound-step step d Apart (λ v s. Agrees (seen v) s)
+seen-sound {L = L} step d other seen Apart Agrees same sound =
+    record {
+      runs = λ a s o is v g. same .may-be-run a v ∙ sound .runs a s o is (seen v) g;
+      moves = λ a s o is off.
+          some-state-map (λ u h v g. rw (same .moved a v) (h (seen v) g)) o (sound .moves a s o is (sym (same .sensing a) ∙ off));
+      reads = λ a s o is v on g.
+          some-state-map (λ u h w agree shows. h (seen w) agree (same .shows a w v shows)) o (sound .reads a s o is (seen v) (sym (same .sensing a) ∙ on) g);
+      knows = λ l v s g k. ap (λ (h : L → Bool). h l) (same .holds v) ∙ sound .knows l (seen v) s g k;
+      apart = λ c cs x v s g hc e m he. sound .apart c cs x (seen v) s g (rw (same .holds v) at hc) e m (rw (same .holds v) at he);
+      others = sound .others;
+    }
 
 module _ {S W L R : Type 0} (step : Steps S L) (d : Domain W L R) (Apart : List (List L) → Type 0) (Agrees : W → S → Type 0) (sound : Sound-step step d Apart Agrees) where
   -- Every possible world agrees with the state, and the true one is among them.
@@ -156,10 +180,10 @@ module _ {S W L R : Type 0} (step : Steps S L) (d : Domain W L R) (Apart : List 
         by-test (each-of (step .knows s) c)
         (λ q.
         let here = sure c g q in
-        inl (here, none-sure P v bs (g .actual) (sound .apart c (conditions-of bs) apart v (here v (g .actual))), plan-sound b (fit .0) k K then s v P g (rw (q, pick) at e)))
+        inl (here, none-sure P v bs (g .actual) (sound .apart c (conditions-of bs) apart v s (g .agree v (g .actual)) (here v (g .actual))), plan-sound b (fit .0) k K then s v P g (rw (q, pick) at e)))
         (λ q.
         let later : Verified (walk-branch step bs p k s) = rw (q, pick) at e in
         inr (
-          λ sc. none-followed k bs p g later (sound .apart c (conditions-of bs) apart v (sc v (g .actual))),
+          λ sc. none-followed k bs p g later (sound .apart c (conditions-of bs) apart v s (g .agree v (g .actual)) (sc v (g .actual))),
           branches-sound bs (sound .others c (conditions-of bs) apart) (fit .1) p k K then s v P g later,
         ))

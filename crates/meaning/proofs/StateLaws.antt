@@ -61,7 +61,7 @@ none-known n =
     (λ f. known-false (nothing-told n) f ∙ rw (unknown-mark n f))
 
 -- THE STEP. A mark after an action, and the length of the state, which it keeps.
-pub marks-length : (es : List Effect) (s : State) (f : ℕ) (ms : List ℕ) → length (marks-after es s f ms) ≡ length ms
+marks-length : (es : List Effect) (s : State) (f : ℕ) (ms : List ℕ) → length (marks-after es s f ms) ≡ length ms
 unfolding marks-after
 marks-length es s f [] = refl
 marks-length es s f (m ∷ ms) = ap suc (marks-length es s (f + 1) ms)

@@ -1,8 +1,9 @@
 -- The laws of the tests: what a test that came out true or false says of its parts. Assumes nothing.
-use mathlib.Core.Path.{_≡_, refl, sym, _∙_, ap}
+use mathlib.Core.Path.{_≡_, refl, sym, _∙_, ap, ap₂}
 use mathlib.Core.Bool.{Bool, true, false, false≢true}
 use mathlib.Core.List.{List, [], _∷_, _++_, map}
 use mathlib.Core.Logic.{_⊎_, inl, inr, ⊎-elim}
+use lib.ListN.{getD, drop}
 use Rattle.meaning.specs.Tests.{both, either, fails, pick, some-of, each-of, those-of, Has}
 
 -- By the two values of a test, with the equation in hand.
@@ -136,6 +137,28 @@ module _ {A : Type 0} where
   pub each-mono : (p q : A → Bool) → ((x : A) → p x ≡ true → q x ≡ true) → (xs : List A) → each-of p xs ≡ true → each-of q xs ≡ true
   each-mono p q h xs e = has-each q xs (λ x m. h x (each-has p xs x e m))
 
+  -- The entries that pass a test are those of the list that do.
+  pub those-has : (p : A → Bool) (xs : List A) (x : A) → Has (those-of p xs) x → Has xs x × (p x ≡ true)
+  unfolding those-of pick
+  those-has p [] x h = absurd h
+  those-has p (y ∷ ys) x h = go (p y) refl h (those-has p ys x)
+    where
+      go : (b : Bool) → p y ≡ b → Has (pick b (λ _. y ∷ those-of p ys) (λ _. those-of p ys)) x → (Has (those-of p ys) x → Has ys x × (p x ≡ true)) → Has (y ∷ ys) x × (p x ≡ true)
+      go true q (inl e) ih = (inl e, rw e q)
+      go true q (inr m) ih = (inr (ih m .0), ih m .1)
+      go false q m ih = (inr (ih m .0), ih m .1)
+
+  pub has-those : (p : A → Bool) (xs : List A) (x : A) → Has xs x → p x ≡ true → Has (those-of p xs) x
+  unfolding those-of pick
+  has-those p [] x h e = absurd h
+  has-those p (y ∷ ys) x h e = go (p y) refl h (λ m. has-those p ys x m e)
+    where
+      go : (b : Bool) → p y ≡ b → Has (y ∷ ys) x → (Has ys x → Has (those-of p ys) x) → Has (pick b (λ _. y ∷ those-of p ys) (λ _. those-of p ys)) x
+      go true q (inl i) ih = inl i
+      go true q (inr m) ih = inr (ih m)
+      go false q (inl i) ih = clash (rw i at e) q
+      go false q (inr m) ih = ih m
+
   -- Some entry of those that pass p passes q.
   pub some-those : (p q : A → Bool) (xs : List A) → some-of q (those-of p xs) ≡ some-of (λ (x : A). both (p x) (q x)) xs
   unfolding some-of those-of both pick either
@@ -158,3 +181,13 @@ module _ {A B : Type 0} (g : A → B) where
   map-has [] z h = absurd h
   map-has (y ∷ ys) z (inl q) = (y, inl refl, q)
   map-has (y ∷ ys) z (inr h) = let w = map-has ys z h in (w .0, inr (w .1), w .2)
+
+-- Functions that are the same on a list are the same on each of its entries.
+module _ {A B : Type 0} (g h : A → B) where
+  pub map-same : (xs : List A) (x : A) → map g xs ≡ map h xs → Has xs x → g x ≡ h x
+  map-same [] x e m = absurd m
+  map-same (y ∷ ys) x e m = ⊎-elim (λ p. ap g p ∙ ap (λ (zs : List B). getD zs 0 (g y)) e ∙ ap h (sym p)) (map-same ys x (ap (drop 1) e)) m
+
+  pub same-map : (xs : List A) → ((x : A) → Has xs x → g x ≡ h x) → map g xs ≡ map h xs
+  same-map [] same = refl
+  same-map (x ∷ xs) same = ap₂ {C = List B} (λ y ys. y ∷ ys) (same x (inl refl)) (same-map xs (λ y m. same y (inr m)))

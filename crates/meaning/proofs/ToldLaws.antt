@@ -8,7 +8,7 @@ use mathlib.Core.Bool.{Bool, true, false}
 use mathlib.Core.List.{List, [], _∷_}
 use mathlib.Core.Logic.{inl, inr, ⊎-elim}
 use lib.ListN.{length, length-set, length-replicate}
-use lib.Seq.{getD-set-same, getD-set-other, set-out}
+use lib.Seq.{getD-set-same, getD-set-other}
 use lib.Dec.{eqb}
 use borrow.Author.Tests.{eq-eqb, ne-eqb}
 use Rattle.meaning.specs.Tests.{either, some-of, Has}
@@ -35,16 +35,12 @@ unfolding either
 either-assoc true b c = refl
 either-assoc false b c = refl
 
-pub told-far : (l : ℕ) (s : State) → length s ≤ fluent-of l → told l s ≡ s
-unfolding told
-told-far l s far = set-out s (fluent-of l) (mark-of l) far
-
 module _ (l : ℕ) (s : State) (within : fluent-of l < length s) where
   pub told-here : known (told l s) l ≡ true
   unfolding known told
   told-here = eq-eqb _ (mark-of l) (getD-set-same s (fluent-of l) (mark-of l) Limits.unknown-mark within)
 
-  pub told-beside : known (told l s) (complement l) ≡ false
+  told-beside : known (told l s) (complement l) ≡ false
   unfolding known told
   told-beside = ne-eqb _ (mark-of (complement l)) (rw (fluent-complement l, getD-set-same s (fluent-of l) (mark-of l) Limits.unknown-mark within) (mark-complement l))
 

@@ -9,6 +9,9 @@ pub mod States
 pub mod Walk
 pub mod Judging
 pub mod Worlds
+pub mod Values
+pub mod ValueStates
+pub mod ValueWorlds
 pub mod Approximation
 pub mod Paths
 pub mod Reported

@@ -5,7 +5,7 @@ use mathlib.Core.Bool.{Bool}
 use mathlib.Core.List.{List, [], _∷_}
 use Rattle.meaning.specs.Tests.{pick, each-of}
 use Rattle.meaning.specs.Limits
-use Rattle.meaning.specs.Requests.{Table, Sequence, done, item, Item, act, branching, Branches, none, branch, Entry, Request}
+use Rattle.meaning.specs.Requests.{Table, Sequence, done, item, Item, act, branching, Branches, none, branch, Entry-over, Request}
 use Rattle.meaning.specs.Refusals.{Found, nowhere, at, or-else}
 use Rattle.meaning.specs.States.{State, known, known-whether, can-be-run, Outcome, single, fork, outcome}
 
@@ -106,7 +106,7 @@ unfoldable pub table-step : Table → Steps State ℕ
 table-step t = record { does = table-does t; knows = known }
 
 -- The first entry that fails the test (FORMAT 4.36).
-unfoldable pub first-missed : (ℕ → Bool) → List Entry → Found
+unfoldable pub first-missed : {A : Type 0} → (A → Bool) → List (Entry-over A) → Found
 first-missed test [] = nowhere
 first-missed test (e ∷ es) = pick (test (e .value)) (λ _. first-missed test es) (λ _. at (e .place))
 
