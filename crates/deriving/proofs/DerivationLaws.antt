@@ -227,12 +227,12 @@ module _ (layout : Layout) (n m : ℕ) (s : List ℕ) where
   unfolding line-at list-at plan-end
   line-within p l e is =
       after-got (list-at literals n (format .listed) s p) _ is λ X q list is1.
-      after-got (count-at 0 (format .citations) s p) _ list λ c i count _.
+      after-got (count-at 0 (format .listed) s p) _ list λ c i count _.
       after-got (plan-at format n m s q) _ is1 λ plan r reads is2.
       after-got (concluded-at format n s layout r) _ is2 λ end t _ is3.
       after-got (count-at 0 (format .citations) s t) _ is3 λ k u counts is4.
       after-got (repeated (two-bytes-at s) k u) _ is4 λ cites v numbers is5.
-      let first = count-through s 0 (format .citations) p .holds c i count in
+      let first = count-through s 0 (format .listed) p .holds c i count in
       let a = first .after in let b = first .inside in
       let starts = list-through s literals n (format .listed) p .holds X q list .after in
       let ends = plan-ends n m s q plan r reads in
