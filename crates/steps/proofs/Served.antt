@@ -2,15 +2,16 @@
 -- is what is asked of the lines. Assumes nothing.
 use Prim.Native.Nat.{ℕ, _+_}
 use mathlib.Core.Path.{_≡_, refl, ap}
-use mathlib.Core.Bool.{Bool, true, false}
+use mathlib.Core.Bool.{Bool}
 use mathlib.Core.List.{List, [], _∷_, map}
-use mathlib.Core.Logic.{_⊎_, inl, inr}
+use mathlib.Core.Logic.{inl, inr}
 use lib.ListN.{getD}
 use lib.Dec.{eqb}
-use Rattle.meaning.specs.Tests.{both, pick, some-of, each-of, those-of, Has}
+use Rattle.meaning.specs.Tests.{both, some-of, each-of, those-of, Has}
 use Rattle.meaning.specs.Limits.{all-literals}
 use Rattle.meaning.specs.Requests.{Effect, Executability}
 use Rattle.meaning.specs.Lines.{effects-of, executability-of, allowed, given}
+use Rattle.meaning.proofs.TestLaws.{those-has}
 use Rattle.reading.specs.Listed.{listed, List-here}
 use Rattle.finding.specs.LinesHere.{effect-from, Effect-here}
 use Rattle.finding.proofs.ReadLaws.{effect-good}
@@ -22,23 +23,13 @@ use Rattle.steps.proofs.SectionsStand.{run-stands}
 
 -- THE PLACES of the lines that pass a test: each is that of a line, and what some place passes some line passes, where the two tests agree.
 module _ {A : Type 0} (stands : A → ℕ) (acts : A → Bool) where
-  those-has : (xs : List A) (x : A) → Has (those-of acts xs) x → Has xs x
-  unfolding those-of pick
-  those-has [] x has = has
-  those-has (y ∷ ys) x has = step (acts y) (those-has ys x) has
-    where
-      step : (b : Bool) → (Has (those-of acts ys) x → Has ys x) → Has (pick b (λ _. y ∷ those-of acts ys) (λ _. those-of acts ys)) x → (x ≡ y) ⊎ Has ys x
-      step true rest (inl e) = inl e
-      step true rest (inr h) = inr (rest h)
-      step false rest h = inr (rest h)
-
   placed-has : (ys : List A) (p : ℕ) → Has (map stands ys) p → (y : A) × Has ys y × (p ≡ stands y)
   placed-has [] p has = absurd has
   placed-has (y ∷ ys) p (inl e) = (y, inl refl, e)
   placed-has (y ∷ ys) p (inr h) = let w = placed-has ys p h in (w .0, inr (w .1), w .2)
 
   those-placed : (xs : List A) (p : ℕ) → Has (map stands (those-of acts xs)) p → (x : A) × Has xs x × (p ≡ stands x)
-  those-placed xs p has = let w = placed-has (those-of acts xs) p has in (w .0, those-has xs (w .0) (w .1), w .2)
+  those-placed xs p has = let w = placed-has (those-of acts xs) p has in (w .0, those-has acts xs (w .0) (w .1) .0, w .2)
 
   placed-same : (test : ℕ → Bool) (g : A → Bool) (ys : List A) → ((y : A) → Has ys y → test (stands y) ≡ g y) → some-of test (map stands ys) ≡ some-of g ys
   unfolding some-of
@@ -46,7 +37,7 @@ module _ {A : Type 0} (stands : A → ℕ) (acts : A → Bool) where
   placed-same test g (y ∷ ys) same = rw (same y (inl refl), placed-same test g ys (λ z has. same z (inr has)))
 
   those-same : (test : ℕ → Bool) (g : A → Bool) (xs : List A) → ((x : A) → Has xs x → test (stands x) ≡ g x) → some-of test (map stands (those-of acts xs)) ≡ some-of g (those-of acts xs)
-  those-same test g xs same = placed-same test g (those-of acts xs) (λ y has. same y (those-has xs y has))
+  those-same test g xs same = placed-same test g (those-of acts xs) (λ y has. same y (those-has acts xs y has .0))
 
 -- THE LINES OF AN ACTION.
 pub record Runs (s : List ℕ) (a : ℕ) : Type 0 where

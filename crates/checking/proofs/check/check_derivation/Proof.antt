@@ -13,47 +13,47 @@ use Rattle.checking.proofs.question.check_end.Reads as check-end-reads
 use Rattle.deriving.proofs.derivations.sized.Reads as sized-reads
 use Rattle.deriving.proofs.derived.settle_derivation.Reads as settle-derivation-reads
 
--- src/check.rt:23:18
+-- src/check.rt:25:18
 shared-slice-read-wide : tie.Need-shared-slice-read-wide
 shared-slice-read-wide c = search first-there
 
--- src/check.rt:23:9
+-- src/check.rt:25:9
 wide-requires : tie.Need-wide-requires
 wide-requires c κs = search needs
 
--- src/check.rt:24:18
+-- src/check.rt:26:18
 shared-slice-read-wide-2 : tie.Need-shared-slice-read-wide-2
 shared-slice-read-wide-2 c = search second-there
 
--- src/check.rt:24:9
+-- src/check.rt:26:9
 wide-requires-2 : tie.Need-wide-requires-2
 wide-requires-2 c κs = search needs
 
--- src/check.rt:27:5
+-- src/check.rt:29:5
 sized-requires : tie.Need-sized-requires
 sized-requires c κs = search needs
 
--- src/check.rt:28:11
+-- src/check.rt:30:11
 settle-derivation-requires : tie.Need-settle-derivation-requires
 settle-derivation-requires c κs = (search fluents-few, search actions-few)
 
--- src/check.rt:30:29
+-- src/check.rt:32:29
 enum-told : tie.Need-enum-told
 enum-told c = search needs
 
--- src/check.rt:30:29
+-- src/check.rt:32:29
 shared-slice-read-two : tie.Need-shared-slice-read-two
 shared-slice-read-two c = search settled-first
 
--- src/check.rt:30:35
+-- src/check.rt:32:35
 shared-slice-read-two-2 : tie.Need-shared-slice-read-two-2
 shared-slice-read-two-2 c = search settled-second
 
--- src/check.rt:30:17
+-- src/check.rt:32:17
 two-requires : tie.Need-two-requires
 two-requires c κs = search needs
 
--- src/check.rt:31:19
+-- src/check.rt:33:19
 check-lines-requires : tie.Need-check-lines-requires
 check-lines-requires c κs =
     let counted = c .before .before in
@@ -68,11 +68,11 @@ check-lines-requires c κs =
     let less = actions-few _ _ pre _ (second .wide2 .ensures) in
     (search needs, settled-stand _ _ _ _ _ _ _ (settled .settle-derivation .ensures) (long .sized .ensures) _ (matched .enum-told .given .1) _ (counted .two .ensures) (known .shared-slice-known2 .given) few less)
 
--- src/check.rt:32:61
+-- src/check.rt:34:61
 enum-told-2 : tie.Need-enum-told-2
 enum-told-2 c = search needs
 
--- src/check.rt:32:34
+-- src/check.rt:34:34
 check-end-requires : tie.Need-check-end-requires
 check-end-requires c κs =
     let counted = c .before .before .before .before .before .before in
@@ -91,15 +91,15 @@ check-end-requires c κs =
     let count = counted .two .ensures in
     (search needs, (settled-some _ _ _ _ _ _ _ read room _ value _ count (known .shared-slice-known2 .given) few less, settled-least _ _ _ _ _ _ _ read room _ value _ count))
 
--- src/check.rt:33:31
+-- src/check.rt:35:31
 enum-known-k : tie.Need-enum-known-k
 enum-known-k c = search needs
 
--- src/check.rt:36:23
+-- src/check.rt:38:23
 enum-known-k-2 : tie.Need-enum-known-k-2
 enum-known-k-2 c = search needs
 
--- src/check.rt:19:1
+-- src/check.rt:21:1
 returns : tie.Need-returns
 returns c =
     let passing = c .before .before in
@@ -117,11 +117,11 @@ returns c =
     let bytes = known .shared-slice-known2 .given in
     lines-checked _ _ _ _ _ _ _ (settled .settle-derivation .ensures) _ _ pre n m (long .sized .ensures) _ (matched .enum-told .given .1) _ (lines .check-lines .ensures) _ (passing .enum-told2 .given .1) _ (counted .two .ensures) bytes (fluents-few _ _ pre _ n) (actions-few _ _ pre _ m) _ (c .check-end .ensures)
 
--- src/check.rt:19:1
+-- src/check.rt:21:1
 returns-2 : tie.Need-returns-2
 returns-2 c = search lines-fault
 
--- src/check.rt:19:1
+-- src/check.rt:21:1
 returns-3 : tie.Need-returns-3
 returns-3 c = search settled-fault
 

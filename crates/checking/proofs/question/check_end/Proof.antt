@@ -9,39 +9,39 @@ use Rattle.checking.proofs.question.asks.Reads as asks-reads
 use Rattle.checking.proofs.question.check_closing.Reads as check-closing-reads
 use Rattle.comparing.proofs.spots.spot_of.Reads as spot-of-reads
 
--- src/question.rt:174:24
+-- src/question.rt:175:24
 enum-told : tie.Need-enum-told
 enum-told c = search needs
 
--- src/question.rt:174:24
+-- src/question.rt:175:24
 sub-last : tie.Need-sub-last
 sub-last c = search needs
 
--- src/question.rt:175:17
+-- src/question.rt:176:17
 spot-of-requires : tie.Need-spot-of-requires
 spot-of-requires c κs = (search plain-lines, search last-below)
 
--- src/question.rt:176:17
+-- src/question.rt:177:17
 asks-requires : tie.Need-asks-requires
 asks-requires c κs = (search needs, search last-some)
 
--- src/question.rt:178:17
+-- src/question.rt:179:17
 returns : tie.Need-returns
 returns c = search last-asks
 
--- src/question.rt:182:28
+-- src/question.rt:183:28
 enum-told-2 : tie.Need-enum-told-2
 enum-told-2 c = search needs
 
--- src/question.rt:182:28
+-- src/question.rt:183:28
 check-closing-requires : tie.Need-check-closing-requires
 check-closing-requires c κs = (search needs, search closing-stands)
 
--- src/question.rt:159:1
+-- src/question.rt:160:1
 returns-2 : tie.Need-returns-2
 returns-2 c = search last-other
 
--- src/question.rt:159:1
+-- src/question.rt:160:1
 returns-3 : tie.Need-returns-3
 returns-3 c = search end-closes
 

@@ -9,35 +9,35 @@ use Rattle.bytes.proofs.bytes.two.Reads as two-reads
 use Rattle.checking.proofs.question.asks.Reads as asks-reads
 use Rattle.comparing.proofs.spots.spot_of.Reads as spot-of-reads
 
--- src/question.rt:95:18
+-- src/question.rt:96:18
 add-second : tie.Need-add-second
 add-second c = search needs
 
--- src/question.rt:96:22
+-- src/question.rt:97:22
 shared-slice-read-two : tie.Need-shared-slice-read-two
 shared-slice-read-two c = search needs
 
--- src/question.rt:96:29
+-- src/question.rt:97:29
 shared-slice-read-two-2 : tie.Need-shared-slice-read-two-2
 shared-slice-read-two-2 c = search needs
 
--- src/question.rt:96:9
+-- src/question.rt:97:9
 two-requires : tie.Need-two-requires
 two-requires c κs = search needs
 
--- src/question.rt:98:13
+-- src/question.rt:99:13
 spot-of-requires : tie.Need-spot-of-requires
 spot-of-requires c κs = search needs
 
--- src/question.rt:99:9
+-- src/question.rt:100:9
 asks-requires : tie.Need-asks-requires
 asks-requires c κs = (search needs, search line-some)
 
--- src/question.rt:99:9
+-- src/question.rt:100:9
 returns : tie.Need-returns
 returns c = search named
 
--- src/question.rt:81:1
+-- src/question.rt:82:1
 returns-2 : tie.Need-returns-2
 returns-2 c = search not-named
 

@@ -8,15 +8,15 @@ use Rattle.comparing.proofs.known.within.Lts as lts
 use Rattle.reading.proofs.marks.each_holds.Reads as each-holds-reads
 use Rattle.reading.proofs.marks.state_of.Reads as state-of-reads
 
--- src/known.rt:19:17
+-- src/known.rt:22:17
 state-of-requires : tie.Need-state-of-requires
 state-of-requires c κs = search needs
 
--- src/known.rt:20:5
+-- src/known.rt:23:5
 each-holds-requires : tie.Need-each-holds-requires
 each-holds-requires c κs = search needs
 
--- src/known.rt:13:1
+-- src/known.rt:16:1
 returns : tie.Need-returns
 returns c = search within-is
 

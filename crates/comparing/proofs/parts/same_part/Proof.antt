@@ -16,39 +16,39 @@ Inv-loop one other i₀ i = (length one ≡ length other) × (same-list one othe
 abbrev μ-loop : tie.MeasureT-loop
 μ-loop one other i₀ i = length one - i
 
--- src/parts.rt:12:9
+-- src/parts.rt:13:9
 returns : tie.Need-returns Inv-loop μ-loop
 returns c = search lengths-differ
 
--- src/parts.rt:15:5
+-- src/parts.rt:16:5
 loop-holds : tie.Need-loop-holds Inv-loop μ-loop
 loop-holds c = search needs
 
--- src/parts.rt:16:12
+-- src/parts.rt:17:12
 shared-slice-read-if2 : tie.Need-shared-slice-read-if2 Inv-loop μ-loop
 shared-slice-read-if2 c = search needs
 
--- src/parts.rt:16:22
+-- src/parts.rt:17:22
 shared-slice-read-if2-2 : tie.Need-shared-slice-read-if2-2 Inv-loop μ-loop
 shared-slice-read-if2-2 c = search other-there
 
--- src/parts.rt:17:13
+-- src/parts.rt:18:13
 returns-2 : tie.Need-returns-2 Inv-loop μ-loop
 returns-2 c = search entry-differs
 
--- src/parts.rt:19:9
+-- src/parts.rt:20:9
 add-i : tie.Need-add-i Inv-loop μ-loop
 add-i c = search needs
 
--- src/parts.rt:15:5
+-- src/parts.rt:16:5
 loop-less : tie.Need-loop-less Inv-loop μ-loop
 loop-less c = search needs
 
--- src/parts.rt:15:5
+-- src/parts.rt:16:5
 loop-again : tie.Need-loop-again Inv-loop μ-loop
 loop-again c = search (needs, entry-same)
 
--- src/parts.rt:8:1
+-- src/parts.rt:9:1
 returns-3 : tie.Need-returns-3 Inv-loop μ-loop
 returns-3 c = search parts-same
 

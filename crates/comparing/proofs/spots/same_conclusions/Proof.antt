@@ -6,31 +6,31 @@ use Rattle.comparing.proofs.spots.same_conclusions.Reads as reads
 use Rattle.comparing.proofs.spots.same_conclusions.Lts as lts
 use Rattle.comparing.proofs.parts.same_lists.Reads as same-lists-reads
 
--- src/spots.rt:94:20
+-- src/spots.rt:95:20
 shared-slice-read-result : tie.Need-shared-slice-read-result
 shared-slice-read-result c = search concluded-there
 
--- src/spots.rt:94:28
+-- src/spots.rt:95:28
 shared-slice-read-result-2 : tie.Need-shared-slice-read-result-2
 shared-slice-read-result-2 c = search concluded-there
 
--- src/spots.rt:94:13
+-- src/spots.rt:95:13
 returns : tie.Need-returns
 returns c = search fluents-same
 
--- src/spots.rt:96:9
+-- src/spots.rt:97:9
 returns-2 : tie.Need-returns-2
 returns-2 c = search fluent-to-list
 
--- src/spots.rt:99:9
+-- src/spots.rt:100:9
 returns-3 : tie.Need-returns-3
 returns-3 c = search list-to-fluent
 
--- src/spots.rt:101:5
+-- src/spots.rt:102:5
 same-lists-requires : tie.Need-same-lists-requires
 same-lists-requires c κs = search concluded-list
 
--- src/spots.rt:85:1
+-- src/spots.rt:86:1
 returns-4 : tie.Need-returns-4
 returns-4 c = search concluded-same
 

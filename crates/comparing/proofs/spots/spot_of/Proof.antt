@@ -9,19 +9,19 @@ use Rattle.comparing.proofs.spots.spot_at.Reads as spot-at-reads
 use Rattle.deriving.proofs.derived.end_of.Reads as end-of-reads
 use Rattle.deriving.proofs.derived.place_of.Reads as place-of-reads
 
--- src/spots.rt:79:9
+-- src/spots.rt:80:9
 place-of-requires : tie.Need-place-of-requires
 place-of-requires c κs = search needs
 
--- src/spots.rt:80:9
+-- src/spots.rt:81:9
 end-of-requires : tie.Need-end-of-requires
 end-of-requires c κs = search needs
 
--- src/spots.rt:81:5
+-- src/spots.rt:82:5
 spot-at-requires : tie.Need-spot-at-requires
 spot-at-requires c κs = search some-at
 
--- src/spots.rt:74:1
+-- src/spots.rt:75:1
 returns : tie.Need-returns
 returns c = search spot-is
 

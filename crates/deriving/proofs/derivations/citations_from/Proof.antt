@@ -16,39 +16,39 @@ Inv-loop s count start left₀ p₀ left p = passed (repeated (two-bytes-at s) c
 abbrev μ-loop : tie.MeasureT-loop
 μ-loop s count start left₀ p₀ left p = left
 
--- src/derivations.rt:47:5
+-- src/derivations.rt:49:5
 loop-holds : tie.Need-loop-holds Inv-loop μ-loop
 loop-holds c = refl
 
--- src/derivations.rt:48:15
+-- src/derivations.rt:50:15
 two-bytes-at-requires : tie.Need-two-bytes-at-requires Inv-loop μ-loop
 two-bytes-at-requires c κs = search needs
 
--- src/derivations.rt:49:25
+-- src/derivations.rt:51:25
 enum-known-x : tie.Need-enum-known-x Inv-loop μ-loop
 enum-known-x c = search needs
 
--- src/derivations.rt:51:17
+-- src/derivations.rt:53:17
 sub-left : tie.Need-sub-left Inv-loop μ-loop
 sub-left c = search needs
 
--- src/derivations.rt:47:5
+-- src/derivations.rt:49:5
 loop-less : tie.Need-loop-less Inv-loop μ-loop
 loop-less c = search needs
 
--- src/derivations.rt:47:5
+-- src/derivations.rt:49:5
 loop-again : tie.Need-loop-again Inv-loop μ-loop
 loop-again c = search citations-next
 
--- src/derivations.rt:53:25
+-- src/derivations.rt:55:25
 enum-known-k : tie.Need-enum-known-k Inv-loop μ-loop
 enum-known-k c = search needs
 
--- src/derivations.rt:54:17
+-- src/derivations.rt:56:17
 returns : tie.Need-returns Inv-loop μ-loop
 returns c = search citations-fault
 
--- src/derivations.rt:42:1
+-- src/derivations.rt:44:1
 returns-2 : tie.Need-returns-2 Inv-loop μ-loop
 returns-2 c = search citations-done
 

@@ -9,71 +9,71 @@ use Rattle.bytes.proofs.bytes.byte_at.Reads as byte-at-reads
 use Rattle.bytes.proofs.lists.list_at.Reads as list-at-reads
 use Rattle.deriving.proofs.derivations.conclusion_at.Reads as conclusion-at-reads
 
--- src/derivations.rt:115:40
+-- src/derivations.rt:117:40
 enum-told : tie.Need-enum-told
 enum-told c = search needs
 
--- src/derivations.rt:115:32
+-- src/derivations.rt:117:32
 list-at-requires : tie.Need-list-at-requires
 list-at-requires c κs = search needs
 
--- src/derivations.rt:116:24
+-- src/derivations.rt:118:24
 enum-known-q : tie.Need-enum-known-q
 enum-known-q c = search needs
 
--- src/derivations.rt:116:36
+-- src/derivations.rt:118:36
 byte-at-requires : tie.Need-byte-at-requires
 byte-at-requires c κs = search needs
 
--- src/derivations.rt:117:32
+-- src/derivations.rt:119:32
 enum-known-e : tie.Need-enum-known-e
 enum-known-e c = search needs
 
--- src/derivations.rt:118:29
+-- src/derivations.rt:120:29
 enum-known-k : tie.Need-enum-known-k
 enum-known-k c = search needs
 
--- src/derivations.rt:120:27
+-- src/derivations.rt:122:27
 enum-known-k-2 : tie.Need-enum-known-k-2
 enum-known-k-2 c = search needs
 
--- src/derivations.rt:122:34
+-- src/derivations.rt:124:34
 enum-told-2 : tie.Need-enum-told-2
 enum-told-2 c = search needs
 
--- src/derivations.rt:122:34
+-- src/derivations.rt:124:34
 byte-at-requires-2 : tie.Need-byte-at-requires-2
 byte-at-requires-2 c κs = search needs
 
--- src/derivations.rt:123:25
+-- src/derivations.rt:125:25
 enum-known-rule : tie.Need-enum-known-rule
 enum-known-rule c = search needs
 
--- src/derivations.rt:123:37
+-- src/derivations.rt:125:37
 conclusion-at-requires : tie.Need-conclusion-at-requires
 conclusion-at-requires c κs = search needs
 
--- src/derivations.rt:124:25
+-- src/derivations.rt:126:25
 enum-known-k-3 : tie.Need-enum-known-k-3
 enum-known-k-3 c = search needs
 
--- src/derivations.rt:110:1
+-- src/derivations.rt:112:1
 returns : tie.Need-returns
 returns c = search ruled-whole
 
--- src/derivations.rt:110:1
+-- src/derivations.rt:112:1
 returns-2 : tie.Need-returns-2
 returns-2 c = search ruled-fault
 
--- src/derivations.rt:110:1
+-- src/derivations.rt:112:1
 returns-3 : tie.Need-returns-3
 returns-3 c = search listed-fault
 
--- src/derivations.rt:110:1
+-- src/derivations.rt:112:1
 returns-4 : tie.Need-returns-4
 returns-4 c = search rule-whole
 
--- src/derivations.rt:110:1
+-- src/derivations.rt:112:1
 returns-5 : tie.Need-returns-5
 returns-5 c = search rule-fault
 

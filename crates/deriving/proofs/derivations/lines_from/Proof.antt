@@ -21,51 +21,51 @@ Inv-loop layout n m s count start t₀ places₀ k₀ p₀ t places k p = noting
 abbrev μ-loop : tie.MeasureT-loop
 μ-loop layout n m s count start t₀ places₀ k₀ p₀ t places k p = count - k
 
--- src/derivations.rt:199:5
+-- src/derivations.rt:201:5
 loop-holds : tie.Need-loop-holds Inv-loop μ-loop
 loop-holds c = search places-start
 
--- src/derivations.rt:200:15
+-- src/derivations.rt:202:15
 line-at-requires : tie.Need-line-at-requires Inv-loop μ-loop
 line-at-requires c κs = search needs
 
--- src/derivations.rt:201:23
+-- src/derivations.rt:203:23
 enum-known-q : tie.Need-enum-known-q Inv-loop μ-loop
 enum-known-q c = search needs
 
--- src/derivations.rt:202:28
+-- src/derivations.rt:204:28
 add-slot : tie.Need-add-slot Inv-loop μ-loop
 add-slot c = search needs
 
--- src/derivations.rt:203:17
+-- src/derivations.rt:205:17
 note-place-requires : tie.Need-note-place-requires Inv-loop μ-loop
 note-place-requires c κs = search (needs, line-fits)
 
--- src/derivations.rt:204:17
+-- src/derivations.rt:206:17
 note-place-requires-2 : tie.Need-note-place-requires-2 Inv-loop μ-loop
 note-place-requires-2 c κs = search (needs, end-fits)
 
--- src/derivations.rt:205:17
+-- src/derivations.rt:207:17
 add-k : tie.Need-add-k Inv-loop μ-loop
 add-k c = search needs
 
--- src/derivations.rt:199:5
+-- src/derivations.rt:201:5
 loop-less : tie.Need-loop-less Inv-loop μ-loop
 loop-less c = search needs
 
--- src/derivations.rt:199:5
+-- src/derivations.rt:201:5
 loop-again : tie.Need-loop-again Inv-loop μ-loop
 loop-again c = places-next _ _ _ _ _ _ _ _ _ (c .before .before .before .before .before .before .before .before .before .before .loop .inv) _ _ _ _ _ (c .before .before .note-place .ensures) (c .note-place2 .ensures) (c .before .before .before .before .before .before .before .before .before .loop-test .taken) (c .before .before .before .before .before .before .before .line-at .ensures) (c .before .before .before .before .before .q .given .1)
 
--- src/derivations.rt:208:26
+-- src/derivations.rt:210:26
 enum-known-number : tie.Need-enum-known-number Inv-loop μ-loop
 enum-known-number c = search needs
 
--- src/derivations.rt:209:17
+-- src/derivations.rt:211:17
 returns : tie.Need-returns Inv-loop μ-loop
 returns c = search places-fault
 
--- src/derivations.rt:182:1
+-- src/derivations.rt:184:1
 returns-2 : tie.Need-returns-2 Inv-loop μ-loop
 returns-2 c = search places-done
 

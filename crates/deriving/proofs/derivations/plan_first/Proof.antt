@@ -8,39 +8,39 @@ use Rattle.deriving.proofs.derivations.plan_first.Lts as lts
 use Rattle.deriving.proofs.derivations.end_at.Reads as end-at-reads
 use Rattle.reading.proofs.plan.plan_at.Reads as plan-at-reads
 
--- src/derivations.rt:152:11
+-- src/derivations.rt:154:11
 plan-at-requires : tie.Need-plan-at-requires
 plan-at-requires c κs = search needs
 
--- src/derivations.rt:153:24
+-- src/derivations.rt:155:24
 enum-known-q : tie.Need-enum-known-q
 enum-known-q c = search needs
 
--- src/derivations.rt:153:36
+-- src/derivations.rt:155:36
 end-at-requires : tie.Need-end-at-requires
 end-at-requires c κs = search needs
 
--- src/derivations.rt:154:24
+-- src/derivations.rt:156:24
 enum-known-e : tie.Need-enum-known-e
 enum-known-e c = search needs
 
--- src/derivations.rt:155:27
+-- src/derivations.rt:157:27
 enum-known-k : tie.Need-enum-known-k
 enum-known-k c = search needs
 
--- src/derivations.rt:157:21
+-- src/derivations.rt:159:21
 enum-known-k-2 : tie.Need-enum-known-k-2
 enum-known-k-2 c = search needs
 
--- src/derivations.rt:147:1
+-- src/derivations.rt:149:1
 returns : tie.Need-returns
 returns c = search plan-whole
 
--- src/derivations.rt:147:1
+-- src/derivations.rt:149:1
 returns-2 : tie.Need-returns-2
 returns-2 c = search plan-then-fault
 
--- src/derivations.rt:147:1
+-- src/derivations.rt:149:1
 returns-3 : tie.Need-returns-3
 returns-3 c = search plan-fault
 

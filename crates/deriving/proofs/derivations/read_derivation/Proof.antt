@@ -11,75 +11,75 @@ use Rattle.deriving.proofs.derivations.closing_at.Reads as closing-at-r
 use Rattle.deriving.proofs.derivations.note_place.Reads as note-place-reads
 use Rattle.deriving.proofs.derivations.read_lines.Reads as read-lines-reads
 
--- src/derivations.rt:279:9
+-- src/derivations.rt:281:9
 returns : tie.Need-returns
 returns c = search derivation-long
 
--- src/derivations.rt:281:11
+-- src/derivations.rt:283:11
 two-bytes-at-requires : tie.Need-two-bytes-at-requires
 two-bytes-at-requires c κs = search needs
 
--- src/derivations.rt:282:21
+-- src/derivations.rt:284:21
 enum-known-c : tie.Need-enum-known-c
 enum-known-c c = search needs
 
--- src/derivations.rt:284:17
+-- src/derivations.rt:286:17
 returns-2 : tie.Need-returns-2
 returns-2 c = search derivation-none
 
--- src/derivations.rt:287:17
+-- src/derivations.rt:289:17
 returns-3 : tie.Need-returns-3
 returns-3 c = search derivation-many
 
--- src/derivations.rt:289:19
+-- src/derivations.rt:291:19
 read-lines-requires : tie.Need-read-lines-requires
 read-lines-requires c κs = search needs
 
--- src/derivations.rt:290:28
+-- src/derivations.rt:292:28
 enum-known-q : tie.Need-enum-known-q
 enum-known-q c = search needs
 
--- src/derivations.rt:291:21
+-- src/derivations.rt:293:21
 note-place-requires : tie.Need-note-place-requires
 note-place-requires c κs = search (needs, lines-fit)
 
--- src/derivations.rt:292:27
+-- src/derivations.rt:294:27
 closing-at-requires : tie.Need-closing-at-requires
 closing-at-requires c κs = search needs
 
--- src/derivations.rt:293:36
+-- src/derivations.rt:295:36
 enum-known-e : tie.Need-enum-known-e
 enum-known-e c = search needs
 
--- src/derivations.rt:295:33
+-- src/derivations.rt:297:33
 returns-4 : tie.Need-returns-4
 returns-4 c = search closing-before
 
--- src/derivations.rt:299:39
+-- src/derivations.rt:301:39
 enum-known-k : tie.Need-enum-known-k
 enum-known-k c = search needs
 
--- src/derivations.rt:302:31
+-- src/derivations.rt:304:31
 enum-known-k-2 : tie.Need-enum-known-k-2
 enum-known-k-2 c = search needs
 
--- src/derivations.rt:305:21
+-- src/derivations.rt:307:21
 enum-known-k-3 : tie.Need-enum-known-k-3
 enum-known-k-3 c = search needs
 
--- src/derivations.rt:267:1
+-- src/derivations.rt:269:1
 returns-5 : tie.Need-returns-5
 returns-5 c = search closing-whole
 
--- src/derivations.rt:267:1
+-- src/derivations.rt:269:1
 returns-6 : tie.Need-returns-6
 returns-6 c = search closing-fault
 
--- src/derivations.rt:267:1
+-- src/derivations.rt:269:1
 returns-7 : tie.Need-returns-7
 returns-7 c = search lines-fault
 
--- src/derivations.rt:267:1
+-- src/derivations.rt:269:1
 returns-8 : tie.Need-returns-8
 returns-8 c = search derivation-fault
 

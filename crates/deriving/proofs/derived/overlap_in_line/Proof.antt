@@ -11,35 +11,35 @@ use Rattle.reading.proofs.notes.sized.Reads as sized-reads
 use Rattle.refusing.proofs.refusal_18.overlap.Reads as overlap-reads
 use Rattle.finding.proofs.branches.sequence_of.Reads as sequence-of-reads
 
--- src/derived.rt:50:9
+-- src/derived.rt:51:9
 sequence-of-requires : tie.Need-sequence-of-requires
 sequence-of-requires c κs = search needs
 
--- src/derived.rt:51:5
+-- src/derived.rt:52:5
 sized-requires : tie.Need-sized-requires
 sized-requires c κs = search needs
 
--- src/derived.rt:52:11
+-- src/derived.rt:53:11
 plan-at-requires : tie.Need-plan-at-requires
 plan-at-requires c κs = search needs
 
--- src/derived.rt:53:21
+-- src/derived.rt:54:21
 enum-known-count : tie.Need-enum-known-count
 enum-known-count c = search needs
 
--- src/derived.rt:53:34
+-- src/derived.rt:54:34
 overlap-requires : tie.Need-overlap-requires
 overlap-requires c κs = search (needs, line-held)
 
--- src/derived.rt:54:21
+-- src/derived.rt:55:21
 enum-known-k : tie.Need-enum-known-k
 enum-known-k c = search needs
 
--- src/derived.rt:43:1
+-- src/derived.rt:44:1
 returns : tie.Need-returns
 returns c = search line-sought
 
--- src/derived.rt:43:1
+-- src/derived.rt:44:1
 returns-2 : tie.Need-returns-2
 returns-2 c = search line-read
 

@@ -16,43 +16,43 @@ Inv-loop n m s t₀ places count k₀ t k = Sought n m s places count k
 abbrev μ-loop : tie.MeasureT-loop
 μ-loop n m s t₀ places count k₀ t k = count - k
 
--- src/derived.rt:75:5
+-- src/derived.rt:76:5
 loop-holds : tie.Need-loop-holds Inv-loop μ-loop
 loop-holds c = search sought-start
 
--- src/derived.rt:76:13
+-- src/derived.rt:77:13
 place-of-requires : tie.Need-place-of-requires Inv-loop μ-loop
 place-of-requires c κs = search needs
 
--- src/derived.rt:77:15
+-- src/derived.rt:78:15
 overlap-in-line-requires : tie.Need-overlap-in-line-requires Inv-loop μ-loop
 overlap-in-line-requires c κs = (search needs, (search needs, (search needs, search line-list)))
 
--- src/derived.rt:79:17
+-- src/derived.rt:80:17
 enum-told : tie.Need-enum-told Inv-loop μ-loop
 enum-told c = search needs
 
--- src/derived.rt:79:17
+-- src/derived.rt:80:17
 add-k : tie.Need-add-k Inv-loop μ-loop
 add-k c = search needs
 
--- src/derived.rt:75:5
+-- src/derived.rt:76:5
 loop-less : tie.Need-loop-less Inv-loop μ-loop
 loop-less c = search needs
 
--- src/derived.rt:75:5
+-- src/derived.rt:76:5
 loop-again : tie.Need-loop-again Inv-loop μ-loop
 loop-again c = search sought-next
 
--- src/derived.rt:81:23
+-- src/derived.rt:82:23
 enum-known-q : tie.Need-enum-known-q Inv-loop μ-loop
 enum-known-q c = search needs
 
--- src/derived.rt:82:17
+-- src/derived.rt:83:17
 returns : tie.Need-returns Inv-loop μ-loop
 returns c = search sought-at
 
--- src/derived.rt:59:1
+-- src/derived.rt:60:1
 returns-2 : tie.Need-returns-2 Inv-loop μ-loop
 returns-2 c = search sought-done
 

@@ -9,47 +9,47 @@ use Rattle.glintstring.proofs.telling.byte_of.Reads as byte-of-reads
 use Rattle.glintstring.proofs.telling.hand_over.Reads as hand-over-reads
 use Rattle.glintstring.proofs.telling.widened.Reads as widened-reads
 
--- src/telling.rt:47:18
+-- src/telling.rt:49:18
 element-copy-out-number : tie.Need-element-copy-out-number
 element-copy-out-number c = search needs
 
--- src/telling.rt:49:9
+-- src/telling.rt:51:9
 returns : tie.Need-returns
 returns c = search tell-spent
 
--- src/telling.rt:56:26
+-- src/telling.rt:58:26
 element-copy-out-count : tie.Need-element-copy-out-count
 element-copy-out-count c = search needs
 
--- src/telling.rt:56:17
+-- src/telling.rt:58:17
 sub-count : tie.Need-sub-count
 sub-count c = search left-within
 
--- src/telling.rt:58:9
+-- src/telling.rt:60:9
 returns-2 : tie.Need-returns-2
 returns-2 c = search tell-fine
 
--- src/telling.rt:65:16
+-- src/telling.rt:67:16
 byte-of-requires : tie.Need-byte-of-requires
 byte-of-requires c κs = search number-small
 
--- src/telling.rt:66:25
+-- src/telling.rt:68:25
 element-copy-out-widened : tie.Need-element-copy-out-widened
 element-copy-out-widened c = search needs
 
--- src/telling.rt:66:17
+-- src/telling.rt:68:17
 widened-requires : tie.Need-widened-requires
 widened-requires c κs = search needs
 
--- src/telling.rt:67:5
+-- src/telling.rt:69:5
 hand-over-requires : tie.Need-hand-over-requires
 hand-over-requires c κs = (search needs, (search needs, search state-marked))
 
--- src/telling.rt:42:1
+-- src/telling.rt:44:1
 same-length : tie.Need-same-length
 same-length c = search needs
 
--- src/telling.rt:42:1
+-- src/telling.rt:44:1
 returns-3 : tie.Need-returns-3
 returns-3 c = search tell-reported
 

@@ -20,71 +20,71 @@ Inv-loop c n m s count start t₀ end k₀ p₀ last₀ t k p last =
 abbrev μ-loop : tie.MeasureT-loop
 μ-loop c n m s count start t₀ end k₀ p₀ last₀ t k p last = end - k
 
--- src/sections.rt:69:9
+-- src/sections.rt:70:9
 wide-requires : tie.Need-wide-requires Inv-loop μ-loop
 wide-requires c κs = search needs
 
--- src/sections.rt:73:5
+-- src/sections.rt:74:5
 loop-holds : tie.Need-loop-holds Inv-loop μ-loop
 loop-holds c = search lines-start
 
--- src/sections.rt:74:15
+-- src/sections.rt:75:15
 line-at-requires : tie.Need-line-at-requires Inv-loop μ-loop
 line-at-requires c κs = search needs
 
--- src/sections.rt:75:25
+-- src/sections.rt:76:25
 enum-known-a : tie.Need-enum-known-a Inv-loop μ-loop
 enum-known-a c = search needs
 
--- src/sections.rt:76:25
+-- src/sections.rt:77:25
 add-q : tie.Need-add-q Inv-loop μ-loop
 add-q c = search second-fits
 
--- src/sections.rt:77:30
+-- src/sections.rt:78:30
 shared-slice-read-wide : tie.Need-shared-slice-read-wide Inv-loop μ-loop
 shared-slice-read-wide c = search second-there
 
--- src/sections.rt:77:21
+-- src/sections.rt:78:21
 wide-requires-2 : tie.Need-wide-requires-2 Inv-loop μ-loop
 wide-requires-2 c κs = search needs
 
--- src/sections.rt:78:17
+-- src/sections.rt:79:17
 add-k : tie.Need-add-k Inv-loop μ-loop
 add-k c = search needs
 
--- src/sections.rt:79:30
+-- src/sections.rt:80:30
 array-read-note-line : tie.Need-array-read-note-line Inv-loop μ-loop
 array-read-note-line c = search action-fits
 
--- src/sections.rt:79:17
+-- src/sections.rt:80:17
 note-line-requires : tie.Need-note-line-requires Inv-loop μ-loop
 note-line-requires c κs = search (needs, place-fits, action-fits, fluent-fits)
 
--- src/sections.rt:80:27
+-- src/sections.rt:81:27
 cast-last : tie.Need-cast-last Inv-loop μ-loop
 cast-last c = search needs
 
--- src/sections.rt:80:17
+-- src/sections.rt:81:17
 array-write-last : tie.Need-array-write-last Inv-loop μ-loop
 array-write-last c = search action-fits
 
--- src/sections.rt:73:5
+-- src/sections.rt:74:5
 loop-less : tie.Need-loop-less Inv-loop μ-loop
 loop-less c = search needs
 
--- src/sections.rt:73:5
+-- src/sections.rt:74:5
 loop-again : tie.Need-loop-again Inv-loop μ-loop
 loop-again c = search lines-next
 
--- src/sections.rt:83:25
+-- src/sections.rt:84:25
 enum-known-number : tie.Need-enum-known-number Inv-loop μ-loop
 enum-known-number c = search needs
 
--- src/sections.rt:84:17
+-- src/sections.rt:85:17
 returns : tie.Need-returns Inv-loop μ-loop
 returns c = search lines-fault
 
--- src/sections.rt:55:1
+-- src/sections.rt:56:1
 returns-2 : tie.Need-returns-2 Inv-loop μ-loop
 returns-2 c = search lines-done
 

@@ -22,43 +22,43 @@ Inv-loop s t count same₀ k₀ same k = Linked s t same k × (contradiction-in 
 abbrev μ-loop : tie.MeasureT-loop
 μ-loop s t count same₀ k₀ same k = count - k
 
--- src/refusal_16.rt:98:5
+-- src/refusal_16.rt:102:5
 loop-holds : tie.Need-loop-holds Inv-loop μ-loop
 loop-holds c = search (linked-none, effects-start)
 
--- src/refusal_16.rt:99:13
+-- src/refusal_16.rt:103:13
 contradicted-requires : tie.Need-contradicted-requires Inv-loop μ-loop
 contradicted-requires c κs = search (needs, here-first)
 
--- src/refusal_16.rt:100:9
+-- src/refusal_16.rt:104:9
 add-k : tie.Need-add-k Inv-loop μ-loop
 add-k c = search needs
 
--- src/refusal_16.rt:101:13
+-- src/refusal_16.rt:105:13
 line-place-requires : tie.Need-line-place-requires Inv-loop μ-loop
 line-place-requires c κs = search needs
 
--- src/refusal_16.rt:103:13
+-- src/refusal_16.rt:107:13
 returns : tie.Need-returns Inv-loop μ-loop
 returns c = search effects-met
 
--- src/refusal_16.rt:105:13
+-- src/refusal_16.rt:109:13
 pair-at-requires : tie.Need-pair-at-requires Inv-loop μ-loop
 pair-at-requires c κs = search (needs, line-here)
 
--- src/refusal_16.rt:106:9
+-- src/refusal_16.rt:110:9
 link-pair-requires : tie.Need-link-pair-requires Inv-loop μ-loop
 link-pair-requires c κs = search (needs, line-pair)
 
--- src/refusal_16.rt:98:5
+-- src/refusal_16.rt:102:5
 loop-less : tie.Need-loop-less Inv-loop μ-loop
 loop-less c = search needs
 
--- src/refusal_16.rt:98:5
+-- src/refusal_16.rt:102:5
 loop-again : tie.Need-loop-again Inv-loop μ-loop
 loop-again c = search (linked-next, effects-next)
 
--- src/refusal_16.rt:91:1
+-- src/refusal_16.rt:95:1
 returns-2 : tie.Need-returns-2 Inv-loop μ-loop
 returns-2 c = search effects-done
 

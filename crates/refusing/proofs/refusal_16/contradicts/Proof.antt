@@ -7,35 +7,35 @@ use Rattle.refusing.proofs.refusal_16.contradicts.Reads as reads
 use Rattle.refusing.proofs.refusal_16.contradicts.Lts as lts
 use Rattle.reading.proofs.marks.each_holds.Reads as each-holds-reads
 
--- src/refusal_16.rt:61:15
+-- src/refusal_16.rt:65:15
 add-one : tie.Need-add-one
 add-one c = search needs
 
--- src/refusal_16.rt:62:17
+-- src/refusal_16.rt:66:17
 add-other : tie.Need-add-other
 add-other c = search needs
 
--- src/refusal_16.rt:63:8
+-- src/refusal_16.rt:67:8
 shared-slice-read-if1 : tie.Need-shared-slice-read-if1
 shared-slice-read-if1 c = search needs
 
--- src/refusal_16.rt:63:18
+-- src/refusal_16.rt:67:18
 shared-slice-read-if1-2 : tie.Need-shared-slice-read-if1-2
 shared-slice-read-if1-2 c = search needs
 
--- src/refusal_16.rt:64:9
+-- src/refusal_16.rt:68:9
 returns : tie.Need-returns
 returns c = search literal-same
 
--- src/refusal_16.rt:66:16
+-- src/refusal_16.rt:70:16
 add-body : tie.Need-add-body
 add-body c = search needs
 
--- src/refusal_16.rt:67:5
+-- src/refusal_16.rt:71:5
 each-holds-requires : tie.Need-each-holds-requires
 each-holds-requires c κs = search needs
 
--- src/refusal_16.rt:54:1
+-- src/refusal_16.rt:58:1
 returns-2 : tie.Need-returns-2
 returns-2 c = search literal-other
 

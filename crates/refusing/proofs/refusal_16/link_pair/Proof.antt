@@ -7,27 +7,27 @@ use Rattle.refusing.proofs.refusal_16.link_pair.Tie as tie
 use Rattle.refusing.proofs.refusal_16.link_pair.Reads as reads
 use Rattle.refusing.proofs.refusal_16.link_pair.Lts as lts
 
--- src/refusal_16.rt:49:16
+-- src/refusal_16.rt:53:16
 add-last : tie.Need-add-last
 add-last c = search needs
 
--- src/refusal_16.rt:50:15
+-- src/refusal_16.rt:54:15
 element-copy-out-same : tie.Need-element-copy-out-same
 element-copy-out-same c = search needs
 
--- src/refusal_16.rt:50:5
+-- src/refusal_16.rt:54:5
 element-write-same : tie.Need-element-write-same
 element-write-same c = search needs
 
--- src/refusal_16.rt:51:18
+-- src/refusal_16.rt:55:18
 cast-same : tie.Need-cast-same
 cast-same c = search needs
 
--- src/refusal_16.rt:51:5
+-- src/refusal_16.rt:55:5
 element-write-same-2 : tie.Need-element-write-same-2
 element-write-same-2 c = search needs
 
--- src/refusal_16.rt:44:1
+-- src/refusal_16.rt:48:1
 returns : tie.Need-returns
 unfolding pair-linked
 returns c = refl

@@ -15,47 +15,47 @@ Inv-loop s t start count k₀ k = Looked s t start count k
 abbrev μ-loop : tie.MeasureT-loop
 μ-loop s t start count k₀ k = count - k
 
--- src/refusal_17.rt:117:5
+-- src/refusal_17.rt:16:5
 loop-holds : tie.Need-loop-holds Inv-loop μ-loop
 loop-holds c = search looked-starts
 
--- src/refusal_17.rt:118:21
+-- src/refusal_17.rt:17:21
 mul-twice : tie.Need-mul-twice Inv-loop μ-loop
 mul-twice c = search twice-fits
 
--- src/refusal_17.rt:119:17
+-- src/refusal_17.rt:18:17
 add-p : tie.Need-add-p Inv-loop μ-loop
 add-p c = search line-fits
 
--- src/refusal_17.rt:120:22
+-- src/refusal_17.rt:19:22
 shared-slice-read-wide : tie.Need-shared-slice-read-wide Inv-loop μ-loop
 shared-slice-read-wide c = search line-there
 
--- src/refusal_17.rt:120:13
+-- src/refusal_17.rt:19:13
 wide-requires : tie.Need-wide-requires Inv-loop μ-loop
 wide-requires c κs = search needs
 
--- src/refusal_17.rt:121:13
+-- src/refusal_17.rt:20:13
 first-line-requires : tie.Need-first-line-requires Inv-loop μ-loop
 first-line-requires c κs = search (needs, acts)
 
--- src/refusal_17.rt:123:13
+-- src/refusal_17.rt:22:13
 returns : tie.Need-returns Inv-loop μ-loop
 returns c = search look-met
 
--- src/refusal_17.rt:125:9
+-- src/refusal_17.rt:24:9
 add-k : tie.Need-add-k Inv-loop μ-loop
 add-k c = search needs
 
--- src/refusal_17.rt:117:5
+-- src/refusal_17.rt:16:5
 loop-less : tie.Need-loop-less Inv-loop μ-loop
 loop-less c = search needs
 
--- src/refusal_17.rt:117:5
+-- src/refusal_17.rt:16:5
 loop-again : tie.Need-loop-again Inv-loop μ-loop
 loop-again c = search look-next
 
--- src/refusal_17.rt:112:1
+-- src/refusal_17.rt:11:1
 returns-2 : tie.Need-returns-2 Inv-loop μ-loop
 returns-2 c = search look-done
 

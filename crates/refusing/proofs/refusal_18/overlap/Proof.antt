@@ -12,7 +12,7 @@ use Rattle.refusing.proofs.refusal_18.first_overlap.Reads as first-over
 first-overlap-requires : tie.Need-first-overlap-requires
 first-overlap-requires c κs = search (needs, some-here)
 
--- src/refusal_18.rt:150:1
+-- src/refusal_18.rt:105:1
 returns : tie.Need-returns
 returns c = search overlap-found
 

@@ -8,27 +8,27 @@ use Rattle.refusing.proofs.settled.settle.Lts as lts
 use Rattle.reader.proofs.whole.read_request.Reads as read-request-reads
 use Rattle.refusing.proofs.settled.refused_from_16.Reads as refused-from-16-reads
 
--- src/settled.rt:62:11
+-- src/settled.rt:63:11
 read-request-requires : tie.Need-read-request-requires
 read-request-requires c κs = search needs
 
--- src/settled.rt:63:20
+-- src/settled.rt:64:20
 enum-known-e : tie.Need-enum-known-e
 enum-known-e c = search needs
 
--- src/settled.rt:63:26
+-- src/settled.rt:64:26
 refused-from-16-requires : tie.Need-refused-from-16-requires
 refused-from-16-requires c κs = search settle-here
 
--- src/settled.rt:64:23
+-- src/settled.rt:65:23
 enum-known-k : tie.Need-enum-known-k
 enum-known-k c = search needs
 
--- src/settled.rt:58:1
+-- src/settled.rt:59:1
 returns : tie.Need-returns
 returns c = search settle-there
 
--- src/settled.rt:58:1
+-- src/settled.rt:59:1
 returns-2 : tie.Need-returns-2
 returns-2 c = search settle-fault
 

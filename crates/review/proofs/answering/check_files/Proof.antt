@@ -9,75 +9,75 @@ use Rattle.review.proofs.answering.check_inputs.Reads as check-inputs-r
 use Rattle.review.proofs.answering.put_names.Reads as put-names-reads
 use Rattle.review.proofs.answering.read_named.Reads as read-named-reads
 
--- src/answering.rt:131:42
+-- src/answering.rt:134:42
 slice-aggregate-read-named : tie.Need-slice-aggregate-read-named
 slice-aggregate-read-named c = search needs
 
--- src/answering.rt:131:9
+-- src/answering.rt:134:9
 read-named-requires : tie.Need-read-named-requires
 read-named-requires c κs = search needs
 
--- src/answering.rt:132:46
+-- src/answering.rt:135:46
 slice-aggregate-read-named-2 : tie.Need-slice-aggregate-read-named-2
 slice-aggregate-read-named-2 c = search needs
 
--- src/answering.rt:132:9
+-- src/answering.rt:135:9
 read-named-requires-2 : tie.Need-read-named-requires-2
 read-named-requires-2 c κs = search needs
 
--- src/answering.rt:134:22
+-- src/answering.rt:137:22
 enum-known-first : tie.Need-enum-known-first
 enum-known-first c = search needs
 
--- src/answering.rt:135:26
+-- src/answering.rt:138:26
 enum-known-second : tie.Need-enum-known-second
 enum-known-second c = search needs
 
--- src/answering.rt:136:21
+-- src/answering.rt:139:21
 put-names-requires : tie.Need-put-names-requires
 put-names-requires c κs = search needs
 
--- src/answering.rt:137:21
+-- src/answering.rt:140:21
 returns : tie.Need-returns
 returns c = search needs
 
--- src/answering.rt:139:39
+-- src/answering.rt:142:39
 array-share-prefix-request : tie.Need-array-share-prefix-request
 array-share-prefix-request c = search read-within
 
--- src/answering.rt:139:39
+-- src/answering.rt:142:39
 slice-aggregate-check-inputs : tie.Need-slice-aggregate-check-inputs
 slice-aggregate-check-inputs c = search read-counted
 
--- src/answering.rt:139:54
+-- src/answering.rt:142:54
 array-share-prefix-derivation : tie.Need-array-share-prefix-derivation
 array-share-prefix-derivation c = search read-within
 
--- src/answering.rt:139:54
+-- src/answering.rt:142:54
 slice-aggregate-check-inputs-2 : tie.Need-slice-aggregate-check-inputs-2
 slice-aggregate-check-inputs-2 c = search read-counted
 
--- src/answering.rt:139:17
+-- src/answering.rt:142:17
 check-inputs-requires : tie.Need-check-inputs-requires
 check-inputs-requires c κs = search needs
 
--- src/answering.rt:141:34
+-- src/answering.rt:144:34
 enum-told : tie.Need-enum-told
 enum-told c = search needs
 
--- src/answering.rt:143:30
+-- src/answering.rt:146:30
 enum-told-2 : tie.Need-enum-told-2
 enum-told-2 c = search needs
 
--- src/answering.rt:127:1
+-- src/answering.rt:130:1
 returns-2 : tie.Need-returns-2
 returns-2 c = search needs
 
--- src/answering.rt:127:1
+-- src/answering.rt:130:1
 returns-3 : tie.Need-returns-3
 returns-3 c = search needs
 
--- src/answering.rt:127:1
+-- src/answering.rt:130:1
 returns-4 : tie.Need-returns-4
 returns-4 c = search needs
 

@@ -18,31 +18,31 @@ Inv-loop d t count place item left₀ p₀ i₀ left p i = Branches-here d t lef
 abbrev μ-loop : tie.MeasureT-loop
 μ-loop d t count place item left₀ p₀ i₀ left p i = left
 
--- src/branchings.rt:33:5
+-- src/branchings.rt:35:5
 loop-holds : tie.Need-loop-holds Inv-loop μ-loop
 loop-holds c = search needs
 
--- src/branchings.rt:34:13
+-- src/branchings.rt:36:13
 next-place-requires : tie.Need-next-place-requires Inv-loop μ-loop
 next-place-requires c κs = search (needs, branch-first)
 
--- src/branchings.rt:35:13
+-- src/branchings.rt:37:13
 next-item-requires : tie.Need-next-item-requires Inv-loop μ-loop
 next-item-requires c κs = search (needs, branch-first)
 
--- src/branchings.rt:38:9
+-- src/branchings.rt:40:9
 sub-left : tie.Need-sub-left Inv-loop μ-loop
 sub-left c = search needs
 
--- src/branchings.rt:33:5
+-- src/branchings.rt:35:5
 loop-less : tie.Need-loop-less Inv-loop μ-loop
 loop-less c = search needs
 
--- src/branchings.rt:33:5
+-- src/branchings.rt:35:5
 loop-again : tie.Need-loop-again Inv-loop μ-loop
 loop-again c = search (needs, branches-next, end-next)
 
--- src/branchings.rt:26:1
+-- src/branchings.rt:28:1
 returns : tie.Need-returns Inv-loop μ-loop
 returns c = search end-done
 

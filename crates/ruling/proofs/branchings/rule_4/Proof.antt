@@ -16,59 +16,59 @@ use Rattle.reading.proofs.notes.sized.Reads as sized-reads
 use Rattle.finding.proofs.branches.sequence_of.Reads as sequence-of-reads
 use Rattle.ruling.proofs.branchings.some_branch.Reads as some-branch-reads
 
--- src/branchings.rt:97:9
+-- src/branchings.rt:99:9
 same-lists-requires : tie.Need-same-lists-requires
 same-lists-requires c κs = search needs
 
--- src/branchings.rt:99:13
+-- src/branchings.rt:101:13
 same-conclusions-requires : tie.Need-same-conclusions-requires
 same-conclusions-requires c κs = search needs
 
--- src/branchings.rt:101:17
+-- src/branchings.rt:103:17
 sequence-of-requires : tie.Need-sequence-of-requires
 sequence-of-requires c κs = search needs
 
--- src/branchings.rt:102:17
+-- src/branchings.rt:104:17
 count-of-requires : tie.Need-count-of-requires
 count-of-requires c κs = search plan-counted
 
--- src/branchings.rt:104:17
+-- src/branchings.rt:106:17
 returns : tie.Need-returns
 returns c = search count-none
 
--- src/branchings.rt:106:25
+-- src/branchings.rt:108:25
 add-first : tie.Need-add-first
 add-first c = search first-fits
 
--- src/branchings.rt:107:16
+-- src/branchings.rt:109:16
 shared-slice-read-if4 : tie.Need-shared-slice-read-if4
 shared-slice-read-if4 c = search first-there
 
--- src/branchings.rt:108:17
+-- src/branchings.rt:110:17
 sized-requires : tie.Need-sized-requires
 sized-requires c κs = search needs
 
--- src/branchings.rt:109:23
+-- src/branchings.rt:111:23
 plan-at-requires : tie.Need-plan-at-requires
 plan-at-requires c κs = search needs
 
--- src/branchings.rt:111:36
+-- src/branchings.rt:113:36
 enum-told : tie.Need-enum-told
 enum-told c = search needs
 
--- src/branchings.rt:111:36
+-- src/branchings.rt:113:36
 state-of-requires : tie.Need-state-of-requires
 state-of-requires c κs = search needs
 
--- src/branchings.rt:112:29
+-- src/branchings.rt:114:29
 sequence-of-requires-2 : tie.Need-sequence-of-requires-2
 sequence-of-requires-2 c κs = search needs
 
--- src/branchings.rt:113:36
+-- src/branchings.rt:115:36
 sub-more : tie.Need-sub-more
 sub-more c = search needs
 
--- src/branchings.rt:116:25
+-- src/branchings.rt:118:25
 some-branch-requires : tie.Need-some-branch-requires
 some-branch-requires c κs =
     let matched = c .before .before .before .before in
@@ -86,7 +86,7 @@ some-branch-requires c κs =
     let place = c .before .before .sequence-of2 .ensures in
     (branching-first _ _ _ _ _ at _ count some byte (pre .0) (pre .1 .0) _ _ _ read long _ _ value (pre .1 .1 .1), some-plan _ _ _ place (pre .1 .1 .0))
 
--- src/branchings.rt:116:25
+-- src/branchings.rt:118:25
 returns-2 : tie.Need-returns-2
 returns-2 c =
     let stated = c .before .before .before in
@@ -112,23 +112,23 @@ returns-2 c =
     let pre = same .before .before .before .before .before .pre in
     rule-by-branch _ _ _ _ _ at _ count some byte (pre .0) (pre .1 .0) _ _ _ read long _ _ value _ _ _ starts yes ends also _ told _ place _ taken
 
--- src/branchings.rt:119:25
+-- src/branchings.rt:121:25
 enum-told-2 : tie.Need-enum-told-2
 enum-told-2 c = search needs
 
--- src/branchings.rt:119:25
+-- src/branchings.rt:121:25
 returns-3 : tie.Need-returns-3
 returns-3 c = search read-again
 
--- src/branchings.rt:123:13
+-- src/branchings.rt:125:13
 returns-4 : tie.Need-returns-4
 returns-4 c = search other-first
 
--- src/branchings.rt:125:9
+-- src/branchings.rt:127:9
 returns-5 : tie.Need-returns-5
 returns-5 c = search ends-other
 
--- src/branchings.rt:88:1
+-- src/branchings.rt:90:1
 returns-6 : tie.Need-returns-6
 returns-6 c = search starts-other
 

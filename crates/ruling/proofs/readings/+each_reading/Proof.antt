@@ -30,7 +30,7 @@ each-reading-below t =
     (falls 4 each-reading-kinds.ps _<_ μ-each-reading t)
     each-reading.Pre
 
--- src/readings.rt:145:17
+-- src/readings.rt:147:17
 each-reading-returns : (t : ℕ) → each-reading-lts.Need-returns (
   next-unknown-reads.Asked,
   next-unknown-reads.Learnt,

@@ -18,43 +18,43 @@ Inv-loop s t a marks k₀ k = Running s t marks (can-be-run (table-in s) a marks
 abbrev μ-loop : tie.MeasureT-loop
 μ-loop s t a marks k₀ k = to-go k
 
--- src/actions.rt:24:9
+-- src/actions.rt:26:9
 first-line-requires : tie.Need-first-line-requires Inv-loop μ-loop
 first-line-requires c κs = search needs
 
--- src/actions.rt:25:5
+-- src/actions.rt:27:5
 loop-holds : tie.Need-loop-holds Inv-loop μ-loop
 loop-holds c = search running-starts
 
--- src/actions.rt:26:13
+-- src/actions.rt:28:13
 line-place-requires : tie.Need-line-place-requires Inv-loop μ-loop
 line-place-requires c κs = search (needs, line-few)
 
--- src/actions.rt:27:20
+-- src/actions.rt:29:20
 add-body : tie.Need-add-body Inv-loop μ-loop
 add-body c = search run-body-fits
 
--- src/actions.rt:28:13
+-- src/actions.rt:30:13
 each-holds-requires : tie.Need-each-holds-requires Inv-loop μ-loop
 each-holds-requires c κs = search (needs, run-body)
 
--- src/actions.rt:30:13
+-- src/actions.rt:32:13
 returns : tie.Need-returns Inv-loop μ-loop
 returns c = search run-met
 
--- src/actions.rt:32:9
+-- src/actions.rt:34:9
 next-line-requires : tie.Need-next-line-requires Inv-loop μ-loop
 next-line-requires c κs = search (needs, line-few)
 
--- src/actions.rt:25:5
+-- src/actions.rt:27:5
 loop-less : tie.Need-loop-less Inv-loop μ-loop
 loop-less c = search line-less
 
--- src/actions.rt:25:5
+-- src/actions.rt:27:5
 loop-again : tie.Need-loop-again Inv-loop μ-loop
 loop-again c = search run-next
 
--- src/actions.rt:19:1
+-- src/actions.rt:21:1
 returns-2 : tie.Need-returns-2 Inv-loop μ-loop
 returns-2 c = search running-done
 

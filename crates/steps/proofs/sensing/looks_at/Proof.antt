@@ -7,23 +7,23 @@ use Rattle.steps.proofs.sensing.looks_at.Reads as reads
 use Rattle.steps.proofs.sensing.looks_at.Lts as lts
 use Rattle.reading.proofs.notes.get.Reads as get-reads
 
--- src/sensing.rt:30:15
+-- src/sensing.rt:33:15
 mul-row : tie.Need-mul-row
 mul-row c = search needs
 
--- src/sensing.rt:31:16
+-- src/sensing.rt:34:16
 add-pair : tie.Need-add-pair
 add-pair c = search needs
 
--- src/sensing.rt:32:16
+-- src/sensing.rt:35:16
 add-slot : tie.Need-add-slot
 add-slot c = search needs
 
--- src/sensing.rt:33:9
+-- src/sensing.rt:36:9
 get-requires : tie.Need-get-requires
 get-requires c κs = search needs
 
--- src/sensing.rt:24:1
+-- src/sensing.rt:27:1
 returns : tie.Need-returns
 returns c = search looks-is
 
