@@ -46,5 +46,6 @@ pub mod AcceptedExactly
 pub mod LayoutLaws
 pub mod DerivationSound
 pub mod ProvedCases
+pub mod WiderReads
 pub mod NotEmpty
 pub mod Demands
