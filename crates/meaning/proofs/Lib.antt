@@ -47,5 +47,8 @@ pub mod LayoutLaws
 pub mod DerivationSound
 pub mod ProvedCases
 pub mod WiderReads
+pub mod MappedWalk
+pub mod WiderStates
+pub mod WiderLimits
 pub mod NotEmpty
 pub mod Demands
