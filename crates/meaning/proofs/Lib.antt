@@ -50,5 +50,6 @@ pub mod WiderReads
 pub mod MappedWalk
 pub mod WiderStates
 pub mod WiderLimits
+pub mod WiderDerivations
 pub mod NotEmpty
 pub mod Demands

@@ -44,12 +44,16 @@ module _ {A : Type 0} where
   alike-count false b p k f = inr (pick-false b _ _ (by-test b (λ t. clash (f t) refl) (λ e. e)))
 
 module _ {A B : Type 0} where
-  pub alike-next : (g h : Got A) (k j : A → ℕ → Got B) → Alike g h → ((x : A) (p : ℕ) → Alike (k x p) (j x p)) → Alike (next g k) (next h j)
+  -- What follows may know what was read.
+  pub alike-read : (g h : Got A) (k j : A → ℕ → Got B) → Alike g h → ((x : A) (p : ℕ) → g ≡ got x p → Alike (k x p) (j x p)) → Alike (next g k) (next h j)
   unfolding next
-  alike-next (got x p) h k j (inl o) f = absurd o
-  alike-next (got x p) h k j (inr e) f = rw e (f x p)
-  alike-next (fault n p) h k j (inl o) f = inl o
-  alike-next (fault n p) h k j (inr e) f = inr (rw e refl)
+  alike-read (got x p) h k j (inl o) f = absurd o
+  alike-read (got x p) h k j (inr e) f = rw e (f x p refl)
+  alike-read (fault n p) h k j (inl o) f = inl o
+  alike-read (fault n p) h k j (inr e) f = inr (rw e refl)
+
+  pub alike-next : (g h : Got A) (k j : A → ℕ → Got B) → Alike g h → ((x : A) (p : ℕ) → Alike (k x p) (j x p)) → Alike (next g k) (next h j)
+  alike-next g h k j alike f = alike-read g h k j alike (λ x p _. f x p)
 
   -- After what is read without limits.
   pub alike-after : (g : Got A) (k j : A → ℕ → Got B) → ((x : A) (p : ℕ) → Alike (k x p) (j x p)) → Alike (next g k) (next g j)
