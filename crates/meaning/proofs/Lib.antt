@@ -49,7 +49,7 @@ pub mod ProvedCases
 pub mod WiderReads
 pub mod MappedWalk
 pub mod WiderStates
-pub mod WiderLimits
+pub mod WiderJudging
 pub mod WiderDerivations
 pub mod NotEmpty
 pub mod Demands

@@ -1,10 +1,8 @@
 -- Two steps that do the same, seen through a function from states to states, walk every plan to the same count and to the same end, seen
 -- through it. By induction over the plan; what follows an item is carried through as such a pair of walks. Assumes nothing.
 use Prim.Native.Nat.{ℕ}
-use mathlib.Core.Path.{_≡_, refl, _∙_, ap}
-use mathlib.Core.Bool.{Bool}
-use mathlib.Core.List.{List, [], _∷_, _++_, map}
-use Rattle.meaning.specs.Tests.{pick, each-of}
+use mathlib.Core.Path.{_≡_, refl, ap}
+use Rattle.meaning.specs.Tests.{each-of}
 use Rattle.meaning.specs.Requests.{Sequence, done, item, Item, act, branching, Branches, none, branch}
 use Rattle.meaning.specs.States.{Outcome, single, fork}
 use Rattle.meaning.specs.Walk.{Concerned, no-state, in-state, End, fine, missed, stopped, Walked, stopped-at, counted, keep-miss, after-miss, after-end, and-then, each-reading, Step, leads-to, refuses, Steps, after-step, run-action, walk, walk-item, walk-branch}

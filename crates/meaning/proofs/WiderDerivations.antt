@@ -1,24 +1,24 @@
 -- Wider limits give the derivation call and the whether call the same answer, unless the narrower refuse a count by 12: both inputs are read alike,
 -- and the rules that ask for a state ask it of the padded one, in which the same literals are known. Assumes nothing.
-use Prim.Native.Nat.{ℕ, _+_, _-_, _*_, _^_, _≤_, _<_}
+use Prim.Native.Nat.{ℕ, _+_, _-_, _*_, _≤_, _<_}
 use native.Mathlib.Omega.{arith}
 use mathlib.Core.Path.{_≡_, refl, sym, _∙_, ap}
 use mathlib.Core.Bool.{Bool, true, false}
-use mathlib.Core.List.{List, [], _∷_, _++_, map, map-append}
+use mathlib.Core.List.{List, [], _∷_, map, map-append}
 use mathlib.Core.Logic.{inl, inr}
 use lib.ListN.{length}
-use lib.Dec.{ltb, eqb}
+use lib.Dec.{ltb}
 use Rattle.meaning.specs.declared.Answer.{Answer}
 use Rattle.meaning.specs.declared.Layout.{Layout}
 use Rattle.meaning.specs.declared.Layout.the-variants.{Plain, Closing}
-use Rattle.meaning.specs.Tests.{both, either, pick, Has}
+use Rattle.meaning.specs.Tests.{either, pick, Has}
 use Rattle.meaning.specs.Limits
 use Rattle.meaning.specs.Limits.{Limits}
 use Rattle.meaning.specs.Requests.{Table, Sequence, done, item, act, branching, Request}
 use Rattle.meaning.specs.Reading.{Got, got, fault, next, byte-at, two-bytes-at, count-at, literals, list-at, repeated, plan-at}
 use Rattle.meaning.specs.Refusals.{refuse, settled}
-use Rattle.meaning.specs.States.{State, known, state-of, can-be-run, state-after, unknown-sensed, Outcome, single, fork, readings}
-use Rattle.meaning.specs.Derivations.{Conclusion, knows, knows-whether, Line, Derivation, list-concluded, fluent-concluded, conclusion-at, concludes-fluent, concluded-at, closing-at, line-at, read-derivation, overlap-in-lines, literals-of, says, states-of, each-reads, acts, one-action, rule-2, reads, senses-first, rule-3, looks-for, one-look, rule-7, given-by, follows, check-lines, check-end, check-derivation, answer, accepted-if, beyond, check-settled, check}
+use Rattle.meaning.specs.States.{State, state-of, state-after, unknown-sensed, Outcome, single, fork, readings}
+use Rattle.meaning.specs.Derivations.{Conclusion, knows, knows-whether, Line, list-concluded, fluent-concluded, conclusion-at, concludes-fluent, concluded-at, line-at, read-derivation, overlap-in-lines, literals-of, states-of, each-reads, acts, one-action, rule-2, reads, senses-first, rule-3, looks-for, one-look, rule-7, given-by, follows, check-lines, check-end, check-derivation, answer, accepted-if, beyond, check-settled, check}
 use Rattle.meaning.specs.Wider.{Wider, padded}
 use Rattle.meaning.proofs.SettledLaws.{settled-is}
 use Rattle.meaning.proofs.RangeLaws.{Ranged, read-ranged}

@@ -12,8 +12,8 @@ use borrow.Author.Tests.{ltb-true, lt-ltb}
 use Rattle.meaning.specs.Tests.{either, pick}
 use Rattle.meaning.specs.Limits
 use Rattle.meaning.specs.Limits.{Limits}
-use Rattle.meaning.specs.Requests.{Table, Sequence, Item, Branches, Request}
-use Rattle.meaning.specs.Reading.{Got, got, fault, next, byte-at, two-bytes-at, count-at, below-at, Kind, literals, fluents, entries-at, list-at, repeated, section-at, body-at, effect-at, executability-at, knowledge-at, Met, Part, item-at, items-at, sequence-at, branches-at, branching-at, plan-at, table-at, request-at, read-request}
+use Rattle.meaning.specs.Requests.{Table, Sequence, Item}
+use Rattle.meaning.specs.Reading.{Got, got, fault, next, byte-at, two-bytes-at, count-at, below-at, Kind, literals, fluents, list-at, repeated, section-at, body-at, effect-at, executability-at, knowledge-at, Part, item-at, items-at, sequence-at, branches-at, branching-at, plan-at, table-at, request-at, read-request}
 use Rattle.meaning.specs.Refusals.{settled}
 use Rattle.meaning.specs.Wider.{Wider}
 use Rattle.meaning.proofs.TestLaws.{by-test, clash, either-left, either-right, either-split, pick-false}

@@ -3,22 +3,22 @@
 use Prim.Native.Nat.{ℕ, zero, suc, _+_, _-_, _*_, _≤_, _<_}
 use native.Mathlib.Omega.{arith}
 use mathlib.Core.Path.{_≡_, refl, sym, _∙_, ap, ap₂, fun-ext}
-use mathlib.Core.Bool.{Bool, true, false}
-use mathlib.Core.List.{List, [], _∷_, _++_}
+use mathlib.Core.Bool.{Bool, false}
+use mathlib.Core.List.{List, [], _∷_}
 use mathlib.Core.Logic.{inl, inr}
 use lib.ListN.{length, getD, replicate, length-set, length-replicate, replicate-append-replicate}
 use lib.Seq.{set-append-left}
 use lib.Dec.{eqb}
-use Rattle.meaning.specs.Tests.{both, either, fails, pick, Has}
+use Rattle.meaning.specs.Tests.{both, either, fails, Has}
 use Rattle.meaning.specs.Limits
 use Rattle.meaning.specs.Limits.{Limits}
 use Rattle.meaning.specs.Literals.{says-true, says-false, fluent-of, complement}
 use Rattle.meaning.specs.Requests.{Effect, Knowledge, Table, Request}
 use Rattle.meaning.specs.Lines.{effects-of, executability-of, knowledge-of, allowed, given, sensing, senses}
-use Rattle.meaning.specs.States.{State, mark-of, known, possible, known-whether, told, told-all, state-of, can-be-run, known-after, mark-after, marks-after, state-after, unknown-from, unknown-sensed, Outcome, single, fork, readings, outcome}
+use Rattle.meaning.specs.States.{State, mark-of, known, possible, known-whether, told, told-all, state-of, can-be-run, known-after, mark-after, marks-after, state-after, unknown-from, unknown-sensed, Outcome, fork, readings, outcome}
 use Rattle.meaning.specs.Walk.{missed-in}
 use Rattle.meaning.specs.Wider.{Wider, padded}
-use Rattle.meaning.proofs.TestLaws.{by-test, clash, pick-map, pick-false}
+use Rattle.meaning.proofs.TestLaws.{by-test, pick-map, pick-false}
 use Rattle.meaning.proofs.PickLaws.{pick-has}
 use Rattle.meaning.proofs.LiteralLaws.{fluent-true, fluent-false}
 use Rattle.meaning.proofs.RangeLaws.{Ranged}

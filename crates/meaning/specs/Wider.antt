@@ -1,9 +1,9 @@
 -- Wider limits: which of them may grow, and what the two answers then have in common.
-use Prim.Native.Nat.{ℕ, _-_, _≤_}
+use Prim.Native.Nat.{ℕ, _≤_}
 use mathlib.Core.Path.{_≡_}
 use mathlib.Core.List.{List, _++_}
 use mathlib.Core.Logic.{_⊎_}
-use lib.ListN.{replicate}
+use lib.ListN.{length, replicate}
 use Rattle.meaning.specs.Limits
 use Rattle.meaning.specs.Limits.{Limits}
 use Rattle.meaning.specs.States.{State}
@@ -29,9 +29,9 @@ pub record Wider (lim big : Limits) : Type 0 where
 unfoldable pub padded : (more : ℕ) → State → State
 padded more s = s ++ replicate more Limits.unknown-mark
 
--- Two judgements with one answer, of which the first was lent `small` and the second `large`. With 1 and 2 the second leaves what the first
--- leaves, padded; with every other number each leaves what it was lent.
+-- Two judgements with one answer, of which the first was lent `small` and the second `large`. With 1 and 2 the first leaves a state of the length
+-- that it was lent, and the second that state, padded; with every other number each leaves what it was lent.
 pub record Same-judgement (more : ℕ) (small large : List ℕ) (j h : Judgement) : Type 0 where
   pub answer : h .answer ≡ j .answer
-  pub told : (j .answer .number ≡ Limits.goal-missed) ⊎ (j .answer .number ≡ Limits.not-executable) → h .state ≡ padded more (j .state)
+  pub told : (j .answer .number ≡ Limits.goal-missed) ⊎ (j .answer .number ≡ Limits.not-executable) → (length (j .state) ≡ length small) × (h .state ≡ padded more (j .state))
   pub untold : (j .answer .number ≡ Limits.goal-missed → ⊥) → (j .answer .number ≡ Limits.not-executable → ⊥) → (j .state ≡ small) × (h .state ≡ large)

@@ -5,19 +5,19 @@ use native.Mathlib.Omega.{arith}
 use mathlib.Core.Path.{_≡_, refl, sym, _∙_, ap}
 use mathlib.Core.Bool.{Bool, true, false}
 use mathlib.Core.List.{List}
-use mathlib.Core.Logic.{_⊎_, inl, inr, ⊎-elim}
+use mathlib.Core.Logic.{inl, inr, ⊎-elim}
 use lib.ListN.{length}
-use lib.Dec.{ltb, eqb}
+use lib.Dec.{ltb}
 use borrow.Author.Tests.{eq-eqb}
 use Rattle.meaning.specs.Tests.{either, pick, some-of}
 use Rattle.meaning.specs.Limits
 use Rattle.meaning.specs.Limits.{Limits}
 use Rattle.meaning.specs.Literals.{among}
-use Rattle.meaning.specs.Requests.{Table, Request}
+use Rattle.meaning.specs.Requests.{Request}
 use Rattle.meaning.specs.Reading.{Got, got, fault}
 use Rattle.meaning.specs.Refusals.{Found, nowhere, at, settled}
-use Rattle.meaning.specs.States.{State, known, can-be-run, outcome, first-state}
-use Rattle.meaning.specs.Walk.{in-state, End, fine, missed, stopped, Walked, Step, leads-to, refuses, table-does, table-step, missed-in, end-of, judged, walked}
+use Rattle.meaning.specs.States.{State, can-be-run, outcome, first-state}
+use Rattle.meaning.specs.Walk.{in-state, End, fine, missed, stopped, Walked, leads-to, refuses, table-does, table-step, missed-in, end-of, judged, walked}
 use Rattle.meaning.specs.Judging.{Judgement, written-over, reported, ended, within, judge-settled, judge, number}
 use Rattle.meaning.specs.Answers.{refusals}
 use Rattle.meaning.specs.Wider.{Wider, padded, Same-judgement}
@@ -26,7 +26,7 @@ use Rattle.meaning.proofs.PickLaws.{pick-has}
 use Rattle.meaning.proofs.SettledLaws.{settled-is}
 use Rattle.meaning.proofs.RangeLaws.{Ranged, read-ranged}
 use Rattle.meaning.proofs.ToldLaws.{first-length}
-use Rattle.meaning.proofs.KeptEnds.{Stuck, walked-stuck}
+use Rattle.meaning.proofs.KeptEnds.{on-places, End-so, walked-so}
 use Rattle.meaning.proofs.AnswerLaws.{Numbered-in, settled-numbered}
 use Rattle.meaning.proofs.MappedWalk.{mapped-step, mapped-end, mapped-walk, Keeps, walks-same}
 use Rattle.meaning.proofs.WiderReads.{Alike, settled-alike}
@@ -36,6 +36,15 @@ use Rattle.meaning.proofs.WiderStates.{padded-known, padded-runs, padde
 fitting : (lim : Limits) (request lent : List ℕ) (budget : ℕ) → length lent ≡ lim .state → judge lim request lent budget ≡ judge-settled lim lent budget (settled lim request)
 unfolding judge
 fitting lim request lent budget fits = pick-true _ _ _ (eq-eqb _ _ fits)
+
+-- A walk ends in a state of the length that it began with, and stops with 2 only.
+abbrev Sized-end : ℕ → End State → Type 0
+Sized-end size = End-so (λ _ s. length s ≡ size) (λ n p u. (n ≡ Limits.not-executable) × ((s : State) × (u ≡ in-state s) × (length s ≡ size)))
+
+walked-sized : (size : ℕ) (r : Request) (s : State) → length s ≡ size → Sized-end size (walked r s .end)
+walked-sized size r s sized =
+    walked-so (λ _ s. length s ≡ size) _ (λ (u : State). length u ≡ size) (λ _. Unit {0}) (λ s has p _. (refl, (s, refl, has))) r (outcome-kept size (r .table)) (λ s has p _. has)
+    (on-places (λ _. Unit {0}) (λ _. tt) (r .plan)) s sized
 
 -- THE JUDGEMENTS of two walks, of which the second has every state padded.
 module _ (more : ℕ) (small large : List ℕ) where
@@ -47,18 +56,18 @@ module _ (more : ℕ) (small large : List ℕ) where
   picked-same true f g h k first second = first
   picked-same false f g h k first second = second
 
-  ended-same : (c : ℕ) (e : End State) → Stuck e → Same (ended small c e) (ended large c (mapped-end (padded more) e))
+  ended-same : (c : ℕ) (e : End State) → Sized-end (length small) e → Same (ended small c e) (ended large c (mapped-end (padded more) e))
   unfolding ended reported written-over
-  ended-same c fine stuck = record { answer = refl; told = ⊎-elim (λ q. absurd (omega (arith, q))) (λ q. absurd (omega (arith, q))); untold = λ _ _. (refl, refl) }
-  ended-same c (missed p s) stuck = record { answer = refl; told = λ _. refl; untold = λ no _. absurd (no refl) }
-  ended-same c (stopped n p u) stuck = rw (stuck .1 .1) (record { answer = refl; told = λ _. refl; untold = λ _ no. absurd (no (stuck .0)) })
+  ended-same c fine sized = record { answer = refl; told = ⊎-elim (λ q. absurd (omega (arith, q))) (λ q. absurd (omega (arith, q))); untold = λ _ _. (refl, refl) }
+  ended-same c (missed p s) sized = record { answer = refl; told = λ _. (sized, refl); untold = λ no _. absurd (no refl) }
+  ended-same c (stopped n p u) sized = rw (sized .1 .1) (record { answer = refl; told = λ _. (sized .1 .2, refl); untold = λ _ no. absurd (no (sized .0)) })
 
-  within-same : (budget : ℕ) (w : Walked State) → Stuck (w .end) → Same (within small budget w) (within large budget (mapped-walk (padded more) w))
+  within-same : (budget : ℕ) (w : Walked State) → Sized-end (length small) (w .end) → Same (within small budget w) (within large budget (mapped-walk (padded more) w))
   unfolding within
-  within-same budget w stuck =
+  within-same budget w sized =
       picked-same (ltb budget (w .count)) _ _ _ _
       (record { answer = refl; told = ⊎-elim (λ q. absurd (omega (arith, q))) (λ q. absurd (omega (arith, q))); untold = λ _ _. (refl, refl) })
-      (ended-same (w .count) (w .end) stuck)
+      (ended-same (w .count) (w .end) sized)
 
   -- A refusal is none of a walk's answers.
   refused-same : (n p c : ℕ) (i : ℕ) → among n refusals ≡ true
@@ -109,19 +118,19 @@ module _ (lim big : Limits) (wider : Wider lim big) where
             (r .plan) (judged r) (judged r) (λ s _. judged-same s) (first-state lim (r .table)) (first-length lim (r .table))
 
   -- THE WALK CALL.
-  module _ (small large : List ℕ) (budget : ℕ) where
+  module _ (small large : List ℕ) (fits : length small ≡ lim .state) (fits-wider : length large ≡ big .state) (budget : ℕ) where
     settled-same : (g h : Got Request) → Alike g h → ((r : Request) (e : ℕ) → g ≡ got r e → Ranged lim (r .table)) → Numbered-in refusals g
         → (judge-settled lim small budget g .answer .number ≡ Limits.count-outside → ⊥) → Same-judgement more small large (judge-settled lim small budget g) (judge-settled big large budget h)
     unfolding judge-settled
     settled-same (got r e) h (inl o) ranged numbered other = absurd o
     settled-same (got r e) h (inr q) ranged numbered other =
-        rw (q, walked-same r (ranged r e refl)) (within-same more small large budget (walked r (first-state lim (r .table))) (walked-stuck r (first-state lim (r .table))))
+        rw (q, walked-same r (ranged r e refl)) (within-same more small large budget (walked r (first-state lim (r .table))) (walked-sized (length small) r (first-state lim (r .table)) (first-length lim (r .table) ∙ sym fits)))
     settled-same (fault n p) h (inl o) ranged numbered other = absurd (other o)
     settled-same (fault n p) h (inr q) ranged numbered other = rw q (refused-same more small large n p 0 Limits.the-request numbered)
 
-    pub same-judgement : (request : List ℕ) → length small ≡ lim .state → length large ≡ big .state → (number lim request small budget ≡ Limits.count-outside → ⊥)
+    pub same-judgement : (request : List ℕ) → (number lim request small budget ≡ Limits.count-outside → ⊥)
         → Same-judgement more small large (judge lim request small budget) (judge big request large budget)
-    same-judgement request fits fits-wider other =
+    same-judgement request other =
         rw (narrow, wide)
         (settled-same (settled lim request) (settled big request) (settled-alike lim big wider request) (λ r e q. read-ranged lim request r e (settled-is lim request r e q .reads))
         (settled-numbered lim request) (λ q. other (ap (λ (j : Judgement). j .answer .number) narrow ∙ q)))
