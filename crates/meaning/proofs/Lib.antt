@@ -51,5 +51,6 @@ pub mod MappedWalk
 pub mod WiderStates
 pub mod WiderJudging
 pub mod WiderDerivations
+pub mod WiderCases
 pub mod NotEmpty
 pub mod Demands
