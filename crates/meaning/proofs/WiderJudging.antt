@@ -110,7 +110,7 @@ module _ (lim big : Limits) (wider : Wider lim big) where
         by-found nowhere = refl
         by-found (at p) = refl
 
-    pub walked-same : walked r (first-state big (r .table)) ≡ mapped-walk (padded more) (walked r (first-state lim (r .table)))
+    walked-same : walked r (first-state big (r .table)) ≡ mapped-walk (padded more) (walked r (first-state lim (r .table)))
     unfolding walked table-step
     walked-same =
         ap (walked r) first-padded

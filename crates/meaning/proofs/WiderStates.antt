@@ -61,7 +61,7 @@ module _ (more : ℕ) where
   padded-mark-after es s f = rw (padded-known s, padded-possible s)
 
   -- WHAT IS TOLD, of fluents within the state.
-  pub padded-told : (l : ℕ) (s : State) → fluent-of l < length s → told l (padded more s) ≡ padded more (told l s)
+  padded-told : (l : ℕ) (s : State) → fluent-of l < length s → told l (padded more s) ≡ padded more (told l s)
   unfolding told padded
   padded-told l s within = set-append-left s _ (fluent-of l) (mark-of l) within
 
