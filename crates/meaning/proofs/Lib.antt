@@ -46,5 +46,11 @@ pub mod AcceptedExactly
 pub mod LayoutLaws
 pub mod DerivationSound
 pub mod ProvedCases
+pub mod WiderReads
+pub mod MappedWalk
+pub mod WiderStates
+pub mod WiderJudging
+pub mod WiderDerivations
+pub mod WiderCases
 pub mod NotEmpty
 pub mod Demands

@@ -23,3 +23,4 @@ pub mod Answers
 pub mod Showing
 pub mod Layouts
 pub mod AnswerParts
+pub mod Wider
