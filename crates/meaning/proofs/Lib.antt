@@ -25,6 +25,7 @@ pub mod PartLaws
 pub mod AnswerLaws
 pub mod PathLaws
 pub mod RangeLaws
+pub mod DepthLaws
 pub mod MovedReads
 pub mod MovedPlans
 pub mod PlacelessLaws
