@@ -25,7 +25,7 @@ module _ {S L : Type 0} (step : Steps S L) (over : Outcome S → (S → ℕ) →
 
   -- Each step keeps it with one item more.
   pub record Keeps : Type 0 where
-    pub by-action : (left a : ℕ) (k : S → ℕ) → Within left k → (s : S) (o : Outcome S) → step .does a s ≡ leads-to o → over o k ≤ bound (suc left) s
+    pub by-action : (left a : ℕ) (k : S → ℕ) → Within left k → (s : S) → step-deep step over taken (step .does a s) k ≤ bound (suc left) s
     pub by-branch : (left d : ℕ) (s : S) → d ≤ bound left s → taken d ≤ bound (suc left) s
     pub by-none : (left : ℕ) (s : S) → bound left s ≤ bound (suc left) s
 
@@ -41,11 +41,6 @@ module _ {S L : Type 0} (step : Steps S L) (over : Outcome S → (S → ℕ) →
     at-least : (left total d : ℕ) (s : S) → left ≤ total → d ≤ bound left s → d ≤ bound total s
     at-least left total d s few h = more-left (total - left) left total d s (omega arith) h
 
-    by-step : (left a : ℕ) (k : S → ℕ) → Within left k → (s : S) (x : Step S) → step .does a s ≡ x → step-deep step over taken x k ≤ bound (suc left) s
-    unfolding step-deep
-    by-step left a k within s (leads-to o) e = keeps .by-action left a k within s o e
-    by-step left a k within s (refuses n u) e = omega arith
-
     mutual
       unfolding deep most-items
 
@@ -55,7 +50,7 @@ module _ {S L : Type 0} (step : Steps S L) (over : Outcome S → (S → ℕ) →
           at-least (most-in i + (most-items rest + left)) _ _ s (omega arith) (item-within i (most-items rest + left) (deep step over taken rest k) (deep-within rest left k within) s)
 
       item-within : (i : Item L) (left : ℕ) (k : S → ℕ) → Within left k → Within (most-in i + left) (deep-item step over taken i k)
-      item-within (act p a) left k within s = at-least (suc left) _ _ s (omega arith) (by-step left a k within s (step .does a s) refl)
+      item-within (act p a) left k within s = at-least (suc left) _ _ s (omega arith) (keeps .by-action left a k within s)
       item-within (branching p bs) left k within s = at-least (suc (most-below bs + left)) _ _ s (omega arith) (branch-within bs left k within s)
 
       branch-within : (bs : Branches L) (left : ℕ) (k : S → ℕ) → Within left k → Within (suc (most-below bs + left)) (deep-branch step over taken bs k)
@@ -131,9 +126,14 @@ module _ {S L : Type 0} (step : Steps S L) where
   walks-within left k within (single s) = let h = within s in omega arith
   walks-within left k within (fork o p) = let h = deepest-within left k within (fork o p) in omega arith
 
+  step-within : (left : ℕ) (k : S → ℕ) → ((s : S) → k s ≤ left) → (x : Step S) → step-deep step walks-over suc x k ≤ suc left
+  unfolding step-deep
+  step-within left k within (leads-to o) = walks-within left k within o
+  step-within left k within (refuses n u) = omega arith
+
   walks-kept : Keeps step walks-over suc items-left
   walks-kept = record {
-    by-action = λ left a k within s o _. walks-within left k within o;
+    by-action = λ left a k within s. step-within left k within (step .does a s);
     by-branch = λ left d s h. omega arith;
     by-none = λ left s. omega arith;
   }

@@ -34,6 +34,7 @@ pub mod PairLaws
 pub mod ToldLaws
 pub mod EndLaws
 pub mod SensingLaws
+pub mod UnknownLaws
 pub mod SetLaws
 pub mod RulesExact
 pub mod ReadingsExact
