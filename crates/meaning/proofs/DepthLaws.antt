@@ -38,7 +38,7 @@ module _ {S L : Type 0} (step : Steps S L) (over : Outcome S → (S → ℕ) →
         let f = keeps .by-none (more + left) s in
         subst (λ (n : ℕ). d ≤ bound n s) {x = suc (more + left)} (omega arith) (omega arith)
 
-    at-least : (left total d : ℕ) (s : S) → left ≤ total → d ≤ bound left s → d ≤ bound total s
+    pub at-least : (left total d : ℕ) (s : S) → left ≤ total → d ≤ bound left s → d ≤ bound total s
     at-least left total d s few h = more-left (total - left) left total d s (omega arith) h
 
     mutual
