@@ -6,28 +6,27 @@ use native.Mathlib.Omega.{arith}
 use mathlib.Core.Path.{_≡_, refl, _∙_, subst}
 use mathlib.Core.List.{List}
 use borrow.Author.Tests.{leb-false}
-use Rattle.meaning.specs.Limits.{Limits, format}
+use Rattle.meaning.specs.Limits.{Limits}
 use Rattle.meaning.specs.Requests.{Sequence, done, item, Item, act, branching, Branches, none, branch, Request}
 use Rattle.meaning.specs.Reading.{got, Met, plan-at, read-request, request-at, table-at, list-at, literals, fluents}
-use Rattle.meaning.specs.States.{State, Outcome, single, fork}
+use Rattle.meaning.specs.States.{Outcome, single, fork}
 use Rattle.meaning.specs.Walk.{Step, leads-to, refuses, Steps}
-use Rattle.meaning.specs.Depth.{deepest, walks-over, step-deep, deep, deep-item, deep-branch, walks-deep, most-items, most-in, most-below}
+use Rattle.meaning.specs.Depth.{forked, outcome-deep, step-deep, deep, deep-item, deep-branch, depth, walks-deep, most-items, most-in, most-below}
 use Rattle.meaning.proofs.PickLaws.{pick-has}
 use Rattle.meaning.proofs.PlanReads.{Said, Passed-on, plan-on}
 use Rattle.meaning.proofs.SettledLaws.{got-same}
 use Rattle.meaning.proofs.RangeLaws.{not-refused, after-got}
 
--- A BOUND by the items left and the state, for any depth.
-module _ {S L : Type 0} (step : Steps S L) (over : Outcome S → (S → ℕ) → ℕ) (taken : ℕ → ℕ) (bound : ℕ → S → ℕ) where
+-- A BOUND by the items left and the state.
+module _ {S L : Type 0} (reading walk : ℕ) (step : Steps S L) (bound : ℕ → S → ℕ) where
   -- What follows with so many items left is within the bound.
   abbrev pub Within : ℕ → (S → ℕ) → Type 0
   Within left k = (s : S) → k s ≤ bound left s
 
   -- Each step keeps it with one item more.
   pub record Keeps : Type 0 where
-    pub by-action : (left a : ℕ) (k : S → ℕ) → Within left k → (s : S) → step-deep step over taken (step .does a s) k ≤ bound (suc left) s
-    pub by-branch : (left d : ℕ) (s : S) → d ≤ bound left s → taken d ≤ bound (suc left) s
-    pub by-none : (left : ℕ) (s : S) → bound left s ≤ bound (suc left) s
+    pub by-action : (left a : ℕ) (k : S → ℕ) → Within left k → (s : S) → step-deep reading walk (step .does a s) k ≤ bound (suc left) s
+    pub by-branch : (left : ℕ) (s : S) → walk + bound left s ≤ bound (suc left) s
 
   module _ (keeps : Keeps) where
     -- More items left allow no less.
@@ -35,7 +34,7 @@ module _ {S L : Type 0} (step : Steps S L) (over : Outcome S → (S → ℕ) →
     more-left zero left total d s q h = subst (λ (n : ℕ). d ≤ bound n s) (omega arith) h
     more-left (suc more) left total d s q h =
         let g = more-left more left (more + left) d s refl h in
-        let f = keeps .by-none (more + left) s in
+        let f = keeps .by-branch (more + left) s in
         subst (λ (n : ℕ). d ≤ bound n s) {x = suc (more + left)} (omega arith) (omega arith)
 
     pub at-least : (left total d : ℕ) (s : S) → left ≤ total → d ≤ bound left s → d ≤ bound total s
@@ -44,20 +43,21 @@ module _ {S L : Type 0} (step : Steps S L) (over : Outcome S → (S → ℕ) →
     mutual
       unfolding deep most-items
 
-      pub deep-within : (p : Sequence L) (left : ℕ) (k : S → ℕ) → Within left k → Within (most-items p + left) (deep step over taken p k)
+      pub deep-within : (p : Sequence L) (left : ℕ) (k : S → ℕ) → Within left k → Within (most-items p + left) (deep reading walk step p k)
       deep-within done left k within s = at-least left _ _ s (omega arith) (within s)
       deep-within (item i rest) left k within s =
-          at-least (most-in i + (most-items rest + left)) _ _ s (omega arith) (item-within i (most-items rest + left) (deep step over taken rest k) (deep-within rest left k within) s)
+          at-least (most-in i + (most-items rest + left)) _ _ s (omega arith)
+          (item-within i (most-items rest + left) (deep reading walk step rest k) (deep-within rest left k within) s)
 
-      item-within : (i : Item L) (left : ℕ) (k : S → ℕ) → Within left k → Within (most-in i + left) (deep-item step over taken i k)
+      item-within : (i : Item L) (left : ℕ) (k : S → ℕ) → Within left k → Within (most-in i + left) (deep-item reading walk step i k)
       item-within (act p a) left k within s = at-least (suc left) _ _ s (omega arith) (keeps .by-action left a k within s)
       item-within (branching p bs) left k within s = at-least (suc (most-below bs + left)) _ _ s (omega arith) (branch-within bs left k within s)
 
-      branch-within : (bs : Branches L) (left : ℕ) (k : S → ℕ) → Within left k → Within (suc (most-below bs + left)) (deep-branch step over taken bs k)
+      branch-within : (bs : Branches L) (left : ℕ) (k : S → ℕ) → Within left k → Within (suc (most-below bs + left)) (deep-branch reading walk step bs k)
       branch-within none left k within s = omega arith
       branch-within (branch c b bs) left k within s =
           pick-has (λ (d : ℕ). d ≤ bound (suc (max (most-items b) (most-below bs) + left)) s) _ _ _
-          (λ _. at-least (suc (most-items b + left)) _ _ s (omega arith) (keeps .by-branch (most-items b + left) _ s (deep-within b left k within s)))
+          (λ _. at-least (suc (most-items b + left)) _ _ s (omega arith) (let h = deep-within b left k within s in let g = keeps .by-branch (most-items b + left) s in omega arith))
           (λ _. at-least (suc (most-below bs + left)) _ _ s (omega arith) (branch-within bs left k within s))
 
 -- THE ITEMS of a part that was read: those on a path are no more than those met, and all met are within the limit.
@@ -116,32 +116,29 @@ module _ {S L : Type 0} (step : Steps S L) where
   abbrev items-left : ℕ → S → ℕ
   items-left left s = left
 
-  deepest-within : (left : ℕ) (k : S → ℕ) → ((s : S) → k s ≤ left) → (o : Outcome S) → deepest o k ≤ left
-  unfolding deepest
-  deepest-within left k within (single s) = within s
-  deepest-within left k within (fork o p) = let f = deepest-within left k within o in let g = deepest-within left k within (p tt) in omega arith
+  module _ (left : ℕ) (k : S → ℕ) (within : (s : S) → k s ≤ left) where
+    forked-within : (o : Outcome S) → forked 0 1 o k ≤ left
+    unfolding forked
+    forked-within (single s) = within s
+    forked-within (fork o p) = let f = forked-within o in let g = forked-within (p tt) in omega arith
 
-  walks-within : (left : ℕ) (k : S → ℕ) → ((s : S) → k s ≤ left) → (o : Outcome S) → walks-over o k ≤ suc left
-  unfolding walks-over
-  walks-within left k within (single s) = let h = within s in omega arith
-  walks-within left k within (fork o p) = let h = deepest-within left k within (fork o p) in omega arith
+    outcome-within : (o : Outcome S) → outcome-deep 0 1 o k ≤ suc left
+    unfolding outcome-deep
+    outcome-within (single s) = let h = within s in omega arith
+    outcome-within (fork o p) = let h = forked-within (fork o p) in omega arith
 
-  step-within : (left : ℕ) (k : S → ℕ) → ((s : S) → k s ≤ left) → (x : Step S) → step-deep step walks-over suc x k ≤ suc left
-  unfolding step-deep
-  step-within left k within (leads-to o) = walks-within left k within o
-  step-within left k within (refuses n u) = omega arith
+    step-within : (x : Step S) → step-deep 0 1 x k ≤ suc left
+    unfolding step-deep
+    step-within (leads-to o) = outcome-within o
+    step-within (refuses n u) = omega arith
 
-  walks-kept : Keeps step walks-over suc items-left
-  walks-kept = record {
-    by-action = λ left a k within s. step-within left k within (step .does a s);
-    by-branch = λ left d s h. omega arith;
-    by-none = λ left s. omega arith;
-  }
+  walks-kept : Keeps 0 1 step items-left
+  walks-kept = record { by-action = λ left a k within s. step-within left k within (step .does a s); by-branch = λ left s. omega arith }
 
   -- One for the start, and at most one for each item on a path.
   pub walks-by-items : (p : Sequence L) (s : S) → walks-deep step p s ≤ most-items p + 1
-  unfolding walks-deep
-  walks-by-items p s = let h = deep-within step walks-over suc items-left walks-kept p 0 (λ _. 0) (λ _. omega arith) s in omega arith
+  unfolding depth
+  walks-by-items p s = let h = deep-within 0 1 step items-left walks-kept p 0 (λ _. 0) (λ _. omega arith) s in omega arith
 
 -- Of a request that was read, from whatever state: at most one more than its items may be.
 pub few-walks : {S : Type 0} (step : Steps S ℕ) (lim : Limits) (b : List ℕ) (r : Request) (e : ℕ) → read-request lim b ≡ got r e

@@ -35,7 +35,7 @@ pub mod ToldLaws
 pub mod EndLaws
 pub mod SensingLaws
 pub mod UnknownLaws
-pub mod ReadingsDeep
+pub mod DepthBound
 pub mod SetLaws
 pub mod RulesExact
 pub mod ReadingsExact
