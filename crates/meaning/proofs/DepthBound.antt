@@ -179,8 +179,8 @@ module _ (reading walk others : ℕ) (light : walk ≤ reading * others) (n : �
         let u = unknown-most n s in
         let f = by-twos reading walk others light q (2 * q) (unknown-below n s) refl (omega arith) in
         let r : reading * (1 + q * others) ≡ reading + reading * others * q =
-            mul-add reading 1 (q * others) ∙ ap (λ (x : ℕ). x + reading * (q * others)) (mul-one reading) ∙ ap (λ (x : ℕ). reading + reading * x) (mul-comm q others)
-            ∙ ap (λ (x : ℕ). reading + x) (sym (mul-assoc reading others q)) in
+        mul-add reading 1 (q * others) ∙ ap (λ (x : ℕ). x + reading * (q * others)) (mul-one reading) ∙ ap (λ (x : ℕ). reading + reading * x) (mul-comm q others)
+        ∙ ap (λ (x : ℕ). reading + x) (sym (mul-assoc reading others q)) in
         let w = mul-add walk q 2 in
         omega arith
 

@@ -36,6 +36,7 @@ pub mod EndLaws
 pub mod SensingLaws
 pub mod UnknownLaws
 pub mod DepthBound
+pub mod DepthMet
 pub mod SetLaws
 pub mod RulesExact
 pub mod ReadingsExact

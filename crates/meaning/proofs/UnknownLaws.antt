@@ -1,23 +1,23 @@
 -- How many fluents are unknown: a reading makes one known, and an action that doesn't sense makes none unknown where all are known. For then a
 -- body that is possible is known true, and by refusal 16 no two bodies known true give a literal and its complement. Assumes nothing.
-use Prim.Native.Nat.{ℕ, zero, suc, _+_, _*_, _≤_, _<_}
+use Prim.Native.Nat.{ℕ, zero, suc, _*_, _≤_, _<_}
 use native.Mathlib.Omega.{arith}
 use native.Mathlib.Decide.{ℕ-discrete, decLt}
 use native.Mathlib.Nat.{not-suc-le-zero}
 use mathlib.Core.Path.{_≡_, refl, sym, _∙_, ap, subst}
 use mathlib.Core.Bool.{Bool, true, false}
-use mathlib.Core.List.{List, []}
+use mathlib.Core.List.{[]}
 use mathlib.Core.Logic.{_⊎_, inl, inr, ⊎-elim}
 use lib.ListN.{length, getD}
 use lib.Dec.{eqb}
 use borrow.Author.Tests.{eqb-true, eq-eqb}
-use Rattle.meaning.specs.Tests.{both, either, fails, pick, each-of, Has}
+use Rattle.meaning.specs.Tests.{either, pick, Has}
 use Rattle.meaning.specs.Limits
 use Rattle.meaning.specs.Literals.{says-true, says-false, fluent-of, complement, exclusive}
 use Rattle.meaning.specs.Requests.{Effect, Table}
 use Rattle.meaning.specs.Refusals.{nowhere, contradictory, contradiction-in}
 use Rattle.meaning.specs.Lines.{effects-of, given}
-use Rattle.meaning.specs.States.{State, mark-of, known, possible, known-whether, told, known-after, mark-after, state-after}
+use Rattle.meaning.specs.States.{State, known, possible, known-whether, told, known-after, mark-after, state-after}
 use Rattle.meaning.proofs.TestLaws.{by-test, clash, both-left, both-right, both-true, either-left, either-right, either-split, fails-true, fails-false, pick-true, pick-false, some-has, has-some, each-has, has-each, those-has}
 use Rattle.meaning.proofs.PickLaws.{pick-has}
 use Rattle.meaning.proofs.LiteralLaws.{by-literal, complement-true, complement-false, fluent-true, fluent-false, fluent-complement}
@@ -125,12 +125,12 @@ module _ (t : Table) (n : ℕ) (bodies : (e : Effect) → Has (t .effects) e →
       let le : e .0 .literal ≡ says-true f = eqb-true _ _ (both-left _ _ (e .2)) in
       let lg : g .0 .literal ≡ says-false f = eqb-true _ _ (both-left _ _ (g .2)) in
       let apart : exclusive (e .0 .body) (g .0 .body) ≡ false =
-          by-test _ (λ x. absurd (exclusive-clash (known s) (known-apart s) (e .0 .body) (g .0 .body) x (both-right _ _ (e .2)) (both-right _ _ (g .2)))) (λ x. x) in
+      by-test _ (λ x. absurd (exclusive-clash (known s) (known-apart s) (e .0 .body) (g .0 .body) x (both-right _ _ (e .2)) (both-right _ _ (g .2)))) (λ x. x) in
       let ae : e .0 .action ≡ a = eqb-true _ _ (he .1) in
       let ag : g .0 .action ≡ a = eqb-true _ _ (hg .1) in
       let against : contradictory (e .0) (g .0) ≡ true =
-          both-true _ _ (eq-eqb (e .0 .action) (g .0 .action) (ae ∙ sym ag))
-          (both-true _ _ (eq-eqb (g .0 .literal) (complement (e .0 .literal)) (lg ∙ sym (complement-true f) ∙ ap complement (sym le))) (fails-false _ apart)) in
+      both-true _ _ (eq-eqb (e .0 .action) (g .0 .action) (ae ∙ sym ag))
+      (both-true _ _ (eq-eqb (g .0 .literal) (complement (e .0 .literal)) (lg ∙ sym (complement-true f) ∙ ap complement (sym le))) (fails-false _ apart)) in
       clash against (past-16 (t .effects) passed (e .0) (g .0) (he .0) (hg .0))
 
   module _ (all : (f : ℕ) → f < n → known-whether s f ≡ true) where
