@@ -25,6 +25,7 @@ pub mod PartLaws
 pub mod AnswerLaws
 pub mod PathLaws
 pub mod RangeLaws
+pub mod DepthLaws
 pub mod MovedReads
 pub mod MovedPlans
 pub mod PlacelessLaws
@@ -33,6 +34,9 @@ pub mod PairLaws
 pub mod ToldLaws
 pub mod EndLaws
 pub mod SensingLaws
+pub mod UnknownLaws
+pub mod DepthBound
+pub mod DepthMet
 pub mod SetLaws
 pub mod RulesExact
 pub mod ReadingsExact

@@ -134,13 +134,14 @@ module _ {A : Type 0} (line : ℕ → Got A) where
   section-read s p xs q e = after-got (byte-at s p) _ e λ c i _ e′. line-read c i xs q e′
 
 module _ (lim : Limits) (n m : ℕ) (s : List ℕ) where
-  effect-within : (p : ℕ) (x : Effect) (q : ℕ) → effect-at lim n m s p ≡ got x q → x .literal < 2 * n
-  unfolding effect-at
+  effect-within : (p : ℕ) (x : Effect) (q : ℕ) → effect-at lim n m s p ≡ got x q → (x .literal < 2 * n) × ((l : ℕ) → Has (x .body) l → l < 2 * n)
+  unfolding effect-at body-at
   effect-within p x q e =
       after-got (below-at m s p) _ e λ a i _ e′.
       after-got (below-at (2 * n) s i) _ e′ λ l j below e″.
-      after-got (body-at lim n s j) _ e″ λ b k _ same.
-      subst (λ (y : Effect). y .literal < 2 * n) (got-same same) (below-bound (2 * n) s i l j below)
+      after-got (body-at lim n s j) _ e″ λ b k eb same.
+      subst (λ (y : Effect). (y .literal < 2 * n) × ((l : ℕ) → Has (y .body) l → l < 2 * n)) (got-same same)
+      (below-bound (2 * n) s i l j below, list-within n (lim .body) s j b k eb)
 
   knowledge-within : (p : ℕ) (x : Knowledge) (q : ℕ) → knowledge-at lim n m s p ≡ got x q → x .fluent < n
   unfolding knowledge-at
@@ -155,6 +156,7 @@ pub record Ranged (lim : Limits) (t : Table) : Type 0 where
   pub facts : (l : ℕ) → Has (t .facts) l → l < 2 * t .fluents
   pub consistent : (l : ℕ) → Has (t .facts) l → Has (t .facts) (complement l) → ⊥
   pub effects : (e : Effect) → Has (t .effects) e → e .literal < 2 * t .fluents
+  pub bodies : (e : Effect) → Has (t .effects) e → (l : ℕ) → Has (e .body) l → l < 2 * t .fluents
   pub knowledge : (k : Knowledge) → Has (t .knowledge) k → k .fluent < t .fluents
 
 table-ranged : (lim : Limits) (s : List ℕ) (p : ℕ) (t : Table) (q : ℕ) → table-at lim s p ≡ got t q → Ranged lim t
@@ -171,7 +173,8 @@ table-ranged lim s p t q e =
       fluents = count-within 1 (lim .fluents) s p n p₁ en;
       facts = list-within n (lim .listed) s p₂ facts p₃ ef;
       consistent = list-consistent n (lim .listed) s p₂ facts p₃ ef;
-      effects = λ g h. let w = section-read (effect-at lim n m s) s p₃ effects p₄ ee g h in effect-within lim n m s (w .0) g (w .1) (w .2);
+      effects = λ g h. let w = section-read (effect-at lim n m s) s p₃ effects p₄ ee g h in effect-within lim n m s (w .0) g (w .1) (w .2) .0;
+      bodies = λ g h. let w = section-read (effect-at lim n m s) s p₃ effects p₄ ee g h in effect-within lim n m s (w .0) g (w .1) (w .2) .1;
       knowledge = λ k h. let w = section-read (knowledge-at lim n m s) s p₅ knowledge p₆ ek k h in knowledge-within lim n m s (w .0) k (w .1) (w .2);
     })
 

@@ -27,7 +27,7 @@ use Rattle.meaning.proofs.PairLaws.{true-in-true, true-in-false, pair-d
 use Rattle.meaning.proofs.LiteralLaws.{complement-other, fluent-true, fluent-false, by-literal, one-of-two, fluent-complement}
 
 -- THE FLUENTS READ. No fluent stands twice.
-abbrev Distinct : List ℕ → Type 0
+abbrev pub Distinct : List ℕ → Type 0
 Distinct [] = Unit {0}
 Distinct (f ∷ fs) = (Has fs f → ⊥) × Distinct fs
 
@@ -68,7 +68,7 @@ module _ (ks : List Knowledge) (s : State) where
       further : (g ≡ f → ⊥) → Unread ks s (f + 1) (f + 1 + length ms) g
       further q = record { above = omega arith; below = omega arith; sensed = u .sensed; unknown = u .unknown }
 
-  unknown-distinct : (f : ℕ) (ms : List ℕ) → Distinct (unknown-from ks s f ms)
+  pub unknown-distinct : (f : ℕ) (ms : List ℕ) → Distinct (unknown-from ks s f ms)
   unfolding unknown-from
   unknown-distinct f [] = tt
   unknown-distinct f (m ∷ ms) =

@@ -14,6 +14,7 @@ pub mod ValueStates
 pub mod ValueWorlds
 pub mod Approximation
 pub mod Paths
+pub mod Depth
 pub mod Reported
 pub mod SameLines
 pub mod Derivations
