@@ -1,7 +1,7 @@
 -- How deep the walk of a settled request goes. Each reading makes an unknown fluent known, and only an action that doesn't sense makes fluents
 -- unknown again, and none where all are known. So one fluent stays unknown, and two items, one that forgets and one that looks, are at most as
 -- many readings as there are other fluents, and one walk; and that weighs no less than two walks. By a bound that each step keeps. Assumes nothing.
-use Prim.Native.Nat.{ℕ, zero, suc, _+_, _-_, _*_, _≤_, _<_, max}
+use Prim.Native.Nat.{ℕ, zero, suc, _+_, _-_, _*_, _/_, _≤_, _<_, max}
 use native.Mathlib.Omega.{arith}
 use native.Mathlib.Nat.{mul-add, mul-suc, mul-one, mul-zero, mul-comm, mul-assoc, mul-le-mul-left}
 use mathlib.Core.Path.{_≡_, refl, sym, _∙_, ap, subst}
@@ -202,14 +202,17 @@ few-readings lim b r e past q even s = let h = deep-enough lim b r e past q even
 
 -- BY THE FORMAT'S LIMITS, from the first state: at most 511 × 63 + 64 readings, at most 1,025 walks, and together no more than these readings
 -- and 514 walks.
+abbrev pub most-readings : ℕ
+most-readings = (format .items / 2 - 1) * (format .fluents - 1) + format .fluents
+
 pub record Format-deep (r : Request) : Type 0 where
-  pub readings : readings-deep (table-step (r .table)) (r .plan) (first-state format (r .table)) ≤ 511 * 63 + 64
-  pub walks : walks-deep (table-step (r .table)) (r .plan) (first-state format (r .table)) ≤ 1025
-  pub together : (reading walk : ℕ) → walk ≤ reading * 63 → depth reading walk (table-step (r .table)) (r .plan) (first-state format (r .table)) ≤ reading * (511 * 63 + 64) + walk * 514
+  pub readings : readings-deep (table-step (r .table)) (r .plan) (first-state format (r .table)) ≤ most-readings
+  pub walks : walks-deep (table-step (r .table)) (r .plan) (first-state format (r .table)) ≤ format .items + 1
+  pub together : (reading walk : ℕ) → walk ≤ reading * (format .fluents - 1) → depth reading walk (table-step (r .table)) (r .plan) (first-state format (r .table)) ≤ reading * most-readings + walk * (format .items / 2 + 2)
 
 pub format-deep : (b : List ℕ) (r : Request) (e : ℕ) → settled format b ≡ got r e → Format-deep r
 format-deep b r e past = record {
-  readings = few-readings format b r e past 512 refl (first-state format (r .table));
+  readings = few-readings format b r e past (format .items / 2) refl (first-state format (r .table));
   walks = few-walks (table-step (r .table)) format b r e (settled-is format b r e past .reads) (first-state format (r .table));
-  together = λ reading walk light. deep-enough format b r e past 512 refl reading walk light (first-state format (r .table));
+  together = λ reading walk light. deep-enough format b r e past (format .items / 2) refl reading walk light (first-state format (r .table));
 }
