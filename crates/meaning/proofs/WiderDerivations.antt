@@ -93,8 +93,13 @@ module _ (lim big : Limits) (wider : Wider lim big) where
     reads-same : (cited : List Line) (l : Line) (a : ℕ) (rest : Sequence ℕ) (s : State) → t .fluents ≤ length s → reads big t cited l a rest (padded more s) ≡ reads lim t cited l a rest s
     unfolding reads
     reads-same cited l a rest s room =
-        rw (padded-runs more t a s, padded-readings more lim t ranged a s room, padded-unknown more lim t ranged a s room,
-        states-padded more (readings (unknown-sensed t a s) s), each-reads-padded more rest (l .Y) (states-of (readings (unknown-sensed t a s) s)) cited)
+        rw (
+          padded-runs more t a s,
+          padded-readings more lim t ranged a s room,
+          padded-unknown more lim t ranged a s room,
+          states-padded more (readings (unknown-sensed t a s) s),
+          each-reads-padded more rest (l .Y) (states-of (readings (unknown-sensed t a s) s)) cited,
+        )
 
     looks-for-same : (Y : Conclusion) (a : ℕ) (s : State) → looks-for big t Y a (padded more s) ≡ looks-for lim t Y a s
     unfolding looks-for

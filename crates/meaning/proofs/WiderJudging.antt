@@ -115,7 +115,7 @@ module _ (lim big : Limits) (wider : Wider lim big) where
     walked-same =
         ap (walked r) first-padded
         ∙ walks-same (padded more) (λ (u : State). length u ≡ lim .state) (table-step (r .table)) (table-step (r .table)) does-keep does-same (padded-known more)
-            (r .plan) (judged r) (judged r) (λ s _. judged-same s) (first-state lim (r .table)) (first-length lim (r .table))
+        (r .plan) (judged r) (judged r) (λ s _. judged-same s) (first-state lim (r .table)) (first-length lim (r .table))
 
   -- THE WALK CALL.
   module _ (small large : List ℕ) (fits : length small ≡ lim .state) (fits-wider : length large ≡ big .state) (budget : ℕ) where
