@@ -66,7 +66,7 @@ fn entry_at(kind: Kind, n: usize, s: &[u8], p: usize, floor: usize) -> Read
     }
 }
 
-// So many entries from `start` on.
+// A given number of entries from `start` on.
 fn entries_at(kind: Kind, n: usize, s: &[u8], count: usize, start: usize) -> Passed
     requires { ⌜ n ≤ format .fluents ⌝ }
     ensures { λ r. ⌜ r ≡ passed (entries-at (kind-of kind) n (now (s .entry)) count start 0) ⌝ }

@@ -26,7 +26,7 @@ conclusion-asked r a = elim a [ Goals ↦ goals-of r | Fluent f ↦ knows-whethe
 unfoldable pub begins : Request → Line → Bool
 begins r l = both (same-list (l .X) (r .table .facts)) (same-plan (l .c) (r .plan))
 
--- Whatever lines stand there, so many: the number at `at` names one that asks for it.
+-- Whatever lines stand there, of the given number: the number at `at` names one that asks for it.
 pub record Names (r : Request) (d places : List ℕ) (count at : ℕ) (asked : Asked) (answer : Bool) : Type 0 where
   pub holds : (lines : List Line) → Lines-stand Closing d places lines → length lines ≡ count → answer ≡ names r lines (getD d at 0 * 256 + getD d (at + 1) 0) (conclusion-asked r asked)
 
@@ -35,7 +35,7 @@ pub record Entries-checked (s t d places : List ℕ) (count whether first : ℕ)
   pub holds : (lines : List Line) (ks : List ℕ) → Lines-stand Closing d places lines → length lines ≡ count → Numbers-stand d first ks → length ks ≡ length (listed s whether)
       → answer ≡ passed (check-entries (request-in s t) lines first (map knows-whether (listed s whether)) ks)
 
--- The lines of a derivation, so many, and what closes it stand where the places say.
+-- The lines of a derivation, of the given number, and what closes it stand where the places say.
 pub record Derivation-stands (layout : Layout) (d places : List ℕ) (count : ℕ) (x : Derivation) : Type 0 where
   pub stand : Lines-stand layout d places (x .lines)
   pub size : length (x .lines) ≡ count

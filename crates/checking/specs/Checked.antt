@@ -40,7 +40,7 @@ line-in layout n m d i = getD (lines-in layout n m d) i no-line
 abbrev pub spot-in : Layout → (d places : List ℕ) → ℕ → Spot
 spot-in layout d places i = spot-at layout d (getD places i 0) (getD places (plan-ends-slot + i) 0)
 
--- There are so many, and each stands where its slots say.
+-- Their number is the given one, and each stands where its slots say.
 pub record All-stand (layout : Layout) (n m : ℕ) (d places : List ℕ) (count : ℕ) : Type 0 where
   pub few : n ≤ format .fluents
   pub less : m ≤ format .actions
@@ -63,7 +63,7 @@ pub record Cites-earlier (layout : Layout) (n m : ℕ) (d : List ℕ) (i : ℕ) 
 unfoldable pub all-below : ℕ → List ℕ → Bool
 all-below i ks = each-of (λ (k : ℕ). ltb k i) ks
 
--- So many two-byte numbers from p on.
+-- A given number of two-byte numbers from p on.
 unfoldable pub numbers-from : List ℕ → ℕ → ℕ → List ℕ
 numbers-from d p zero = []
 numbers-from d p (suc k) = (getD d p 0 * 256 + getD d (p + 1) 0) ∷ numbers-from d (p + 2) k

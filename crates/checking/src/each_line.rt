@@ -91,7 +91,7 @@ fn readings(count: usize) -> bool
     count == 64
 }
 
-// The rule, one for lists or 7 or 8, takes so many citations.
+// The rule, one for lists or 7 or 8, takes this number of citations.
 fn takes(rule: usize, count: usize) -> bool
     ensures { λ r. ⌜ r ≡ among count (citations-taken rule) ⌝ }
 {
@@ -113,7 +113,7 @@ fn takes(rule: usize, count: usize) -> bool
     count == 1
 }
 
-// Each of so many numbers from `cites` on is below i.
+// Each of the numbers from `cites` on is below i.
 fn all_earlier(d: &[u8], cites: usize, count: usize, i: usize) -> bool
     requires { ⌜ cites + 2 * count ≤ length (now d) ⌝ }
     ensures { λ r. ⌜ r ≡ all-below i (numbers-from (now (d .entry)) cites count) ⌝ }

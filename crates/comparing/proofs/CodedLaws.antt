@@ -117,7 +117,7 @@ mutual
       let rest = branches-tell bs cs (both-right _ _ (both-right _ _ e)) in
       (ap suc (rest .0), rw (condition, body .0, body .1, rest .1) refl)
 
--- EQUALITY. Plans are the same just where their counts and their items' bytes are.
+-- EQUALITY. Plans are the same exactly where their counts and their items' bytes are.
 pub coded-same : (b d : Sequence ℕ) → Tellable b → Tellable d → own-items b ≡ own-items d → coded b ≡ coded d → same-plan b d ≡ true
 coded-same b d t u h e = told-sequence b d h t u [] [] (ap (λ (xs : List ℕ). xs ++ []) e) .0
 

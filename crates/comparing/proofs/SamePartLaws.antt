@@ -1,4 +1,4 @@
--- Parts of an input compared entry by entry: what the whole gives is what the rest gives; and a part of so many bytes from a place is
+-- Parts of an input compared entry by entry: what the whole gives is what the rest gives; and a part of a given number of bytes from a place is
 -- the bytes from there. Assumes nothing.
 use Prim.Native.Nat.{ℕ, zero, suc, _+_, _-_, _≤_, _<_}
 use native.Mathlib.Omega.{arith}

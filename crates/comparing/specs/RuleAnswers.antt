@@ -25,7 +25,7 @@ pub record Some-plan (d : List ℕ) (q e : ℕ) : Type 0 where
   pub plan : Sequence ℕ
   pub stands : Plan-stands d q e plan
 
--- So many items stand from a up to b.
+-- A given number of items stand from a up to b.
 pub record Items-stand (d : List ℕ) (a b count : ℕ) (c : Sequence ℕ) : Type 0 where
   pub counted : count ≡ own-items c
   pub few : count ≤ format .lines
@@ -93,7 +93,7 @@ pub record Read-by (n m : ℕ) (d : List ℕ) (v w : Spot) (rule : Line → Line
 pub record Ruled-by-two (d : List ℕ) (u v w : Spot) (rule : Line → Line → Line → Bool) (answer : Bool) : Type 0 where
   pub holds : (b c l : Line) → Stands d u b → Stands d v c → Stands d w l → answer ≡ rule b c l
 
--- All lines stand, whatever lines these are, and there are so many.
+-- All lines stand, whatever lines these are, and their number is the given one.
 pub record Some-lines (layout : Layout) (d places : List ℕ) (count : ℕ) : Type 0 where
   pub lines : List Line
   pub stand : Lines-stand layout d places lines
@@ -103,6 +103,6 @@ pub record Some-lines (layout : Layout) (d places : List ℕ) (count : ℕ) : Ty
 pub record Ruled-by-all (layout : Layout) (d places : List ℕ) (w : Spot) (rule : List Line → Line → Bool) (answer : Bool) : Type 0 where
   pub holds : (lines : List Line) (l : Line) → Lines-stand layout d places lines → Stands d w l → each-of (λ (k : ℕ). ltb k (length lines)) (l .cites) ≡ true → answer ≡ rule (cited-by lines l) l
 
--- Each number that the line cites is that of one of so many lines.
+-- Each number that the line cites is that of one of the lines.
 pub record Cited-below (d : List ℕ) (w : Spot) (count : ℕ) : Type 0 where
   pub holds : (l : Line) → Stands d w l → each-of (λ (k : ℕ). ltb k count) (l .cites) ≡ true

@@ -71,7 +71,7 @@ fn spot_at(layout: Layout, d: &[u8], p: usize, e: usize) -> Spot
     }
 }
 
-// The parts of line k, one of so many.
+// The parts of line k, which is one of the lines.
 pub fn spot_of(layout: Layout, d: &[u8], places: &Places, lines: usize, k: usize) -> Spot
     requires { ⌜ Some-lines layout (now d) (now places) lines ⌝ }
     requires { ⌜ k < lines ⌝ }

@@ -249,7 +249,7 @@ module _ (layout : Layout) (n m : ℕ) (s : List ℕ) where
   pub line-place : (p : ℕ) (l : Line) (e : ℕ) → line-at format n m s layout p ≡ got l e → l .place ≡ p
   line-place p l e is = line-within p l e is .place
 
-  -- The places of so many lines from p on, the first of which has number k.
+  -- The places of a given number of lines from p on, the first of which has number k.
   abbrev Places-from : (left p k : ℕ) → List ℕ → Got (List ℕ)
   Places-from left p k t = noting (places-noted k) (repeated (line-at format n m s layout) left p) t
 

@@ -41,6 +41,6 @@ module _ (n m : ℕ) (s : List ℕ) where
   pub record Line-found (p : ℕ) (r : Code.Found) : Type 0 where
     pub holds : (layout : Layout) (l : Line) → Line-here layout p l → r ≡ found (overlap-in (l .c))
 
-  -- What is found is the first overlap in the plans of whatever lines, so many, stand there (FORMAT 5.25).
+  -- What is found is the first overlap in the plans of whatever lines of the given number stand there (FORMAT 5.25).
   pub record Lines-found (places : List ℕ) (count : ℕ) (r : Code.Found) : Type 0 where
     pub holds : (layout : Layout) (ls : List Line) → Lines-here layout places 0 ls → length ls ≡ count → r ≡ found (overlap-in-lines ls)

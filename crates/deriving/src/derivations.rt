@@ -40,7 +40,7 @@ pub fn sized(places: &Places)
     let slots: &[u16] = places;
 }
 
-// So many citations from `start` on.
+// A given number of citations from `start` on.
 fn citations_from(s: &[u8], count: usize, start: usize) -> Passed
     ensures { λ r. ⌜ r ≡ passed (repeated (two-bytes-at (now (s .entry))) count start) ⌝ }
 {
@@ -145,7 +145,7 @@ pub enum Lined {
     Fault(u8, usize),
 }
 
-// The plan, by way of notes that are of no use afterwards, and what follows it.
+// The plan, with notes that are of no use afterwards, and what follows it.
 fn plan_first(layout: Layout, n: usize, m: usize, s: &[u8], p: usize, t: &mut Notes) -> Lined
     requires { ⌜ n ≤ format .fluents ⌝ }
     requires { ⌜ length (now s) ≤ format .derivation ⌝ }
@@ -180,7 +180,7 @@ pub fn note_place(k: usize, p: usize, places: &mut Places)
     places[k] = p as u16;
 }
 
-// So many lines from `start` on.
+// A given number of lines from `start` on.
 fn lines_from(
     layout: Layout,
     n: usize,
@@ -233,7 +233,7 @@ fn lines<'a>(
     lines_from(layout, n, m, r.src, count, r.at, t, places)
 }
 
-// So many lines from `start` on, by way of a reader: who calls this needs none.
+// A given number of lines from `start` on, through a reader; whoever calls this needs none.
 fn read_lines(
     layout: Layout,
     n: usize,

@@ -56,7 +56,7 @@ fn overlap_in_line(n: usize, m: usize, s: &[u8], p: usize, t: &mut Notes) -> Fou
     }
 }
 
-// 18: the first branching with two conditions that are not exclusive, over so many lines in order.
+// 18: the first branching with two conditions that are not exclusive, over a given number of lines in order.
 fn overlap_in_lines(
     n: usize,
     m: usize,

@@ -242,7 +242,7 @@ module _ (lines : ℕ) (t u : List ℕ) (same : (i : ℕ) → i < line-slots →
   unfolding In-order first-line
   order-same a ps small chain = subst (λ (j : ℕ). Chain u lines j ps) (sym (same-next (line-numbers + a) (omega arith))) (chain-same (next-line t lines (line-numbers + a)) ps chain)
 
--- An action has a first line just where it has a line.
+-- An action has a first line exactly where it has a line.
 module _ {A : Type 0} (stands : A → ℕ) (acts : A → Bool) (t : List ℕ) (lines : ℕ) where
   chain-some : (ys : List A) (j : ℕ) → Chain t lines j (map stands ys) → ltb 0 j ≡ some-of (λ (y : A). true) ys
   unfolding Chain some-of either

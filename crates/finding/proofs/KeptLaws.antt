@@ -97,7 +97,7 @@ module _ (j : ℕ) where
       ∙ raised-kept (sensed-from + a) (format .fluents - f) one from
       ∙ kept t (sensed + (format .fluents * a + f)) j 1 (λ e. omega arith)
 
--- So many lines of a section, each of which is good for it.
+-- A given number of lines of a section, each of which is good for it.
 module _ (c : Section) (j : ℕ) (Good : Line c → Type 0)
     (keeps : (last k : ℕ) (x : Line c) (t : List ℕ) → Good x → last < line-numbers → k < line-numbers → getD (note-line c last k x t) j 0 ≡ getD t j 0)
     (acts : (x : Line c) → Good x → action-in c x < format .actions) where

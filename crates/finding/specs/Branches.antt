@@ -26,7 +26,7 @@ place-after s t p i = pick (no-item s (sequence-place s p)) (λ _. sequence-plac
 unfoldable pub item-after : (s t : List ℕ) (p i : ℕ) → ℕ
 item-after s t p i = pick (no-item s (sequence-place s p)) (λ _. i) (λ _. getD t (branch-item + i) 0)
 
--- The conditions of so many branches.
+-- The conditions of a given number of branches.
 unfoldable pub conditions-from : (s t : List ℕ) (left p i : ℕ) → List (List ℕ)
 conditions-from s t zero p i = []
 conditions-from s t (suc left) p i = listed s p ∷ conditions-from s t left (place-after s t p i) (item-after s t p i)

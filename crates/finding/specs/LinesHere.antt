@@ -27,7 +27,7 @@ pub record Effect-here (s : List ℕ) (p : ℕ) : Type 0 where
 abbrev pub place-in : List ℕ → ℕ → ℕ
 place-in t j = line-place t effect-lines j
 
--- So many effects from number k + 1 on, in file order.
+-- A given number of effects from number k + 1 on, in file order.
 unfoldable pub effects-in : List ℕ → List ℕ → (k left : ℕ) → List Effect
 effects-in s t k zero = []
 effects-in s t k (suc left) = effect-from s (place-in t (k + 1)) ∷ effects-in s t (k + 1) left
@@ -36,7 +36,7 @@ effects-in s t k (suc left) = effect-from s (place-in t (k + 1)) ∷ effects-in 
 pub record Effects-here (s t : List ℕ) (k : ℕ) : Type 0 where
   pub line : (i : ℕ) → i < k → Effect-here s (place-in t (i + 1))
 
--- The knowledge line that stands at p; so many of them from number k on, two bytes each, where number 0 stands at the start.
+-- The knowledge line that stands at p; a given number of them from number k on, two bytes each, where number 0 stands at the start.
 unfoldable pub knowledge-from : List ℕ → ℕ → Knowledge
 knowledge-from s p = record { place = p; action = getD s p 0; fluent = getD s (p + 1) 0 }
 
@@ -48,6 +48,6 @@ pub record Knowledge-here (s : List ℕ) (start count : ℕ) : Type 0 where
   pub ends : start + 2 * count ≤ length s
   pub acts : (k : ℕ) → k < count → getD s (start + 2 * k) 0 < format .actions
 
--- The notes have a first effect of an action just where one of the effects is of that action.
+-- The notes have a first effect of an action exactly where one of the effects is of that action.
 pub record Acting (t : List ℕ) (es : List Effect) : Type 0 where
   pub slot : (a : ℕ) → a < format .actions → ltb 0 (first-line t effect-lines a) ≡ some-of (λ (e : Effect). eqb (e .action) a) es

@@ -11,7 +11,7 @@ use Rattle.meaning.specs.Requests.{Request}
 use Rattle.meaning.specs.Reading.{got}
 use Rattle.meaning.specs.Derivations.{check-settled}
 
--- So many whether entries are more than the layout speaks of (FORMAT 4.20, 17.9).
+-- This number of whether entries is more than the layout covers (FORMAT 4.20, 17.9).
 unfoldable pub too-many : Layout → ℕ → Bool
 too-many Plain asked = ltb 0 asked
 too-many Closing asked = false

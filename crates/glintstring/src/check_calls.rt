@@ -17,7 +17,7 @@ use reading::notes::Notes;
 use reading::notes::get;
 use refusing::settled::settle;
 
-// The layout does not speak of so many whether entries.
+// The layout does not cover this number of whether entries.
 fn is_beyond(layout: Layout, asked: usize) -> bool
     ensures { λ r. ⌜ r ≡ too-many layout asked ⌝ }
 {

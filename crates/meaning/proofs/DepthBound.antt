@@ -27,7 +27,7 @@ use Rattle.meaning.proofs.SensingLaws.{Distinct, unknown-distinct, sens
 use Rattle.meaning.proofs.UnknownLaws.{unknown-below, unknown-most, whether-elsewhere, one-known, still-known}
 use Rattle.meaning.proofs.DepthLaws.{Keeps, at-least, deep-within, read-few, few-walks}
 
--- So many of one weight: parts of a number weigh no more than it.
+-- Parts of a number weigh no more than it, at one weight.
 parts-weigh : (w j u v : ℕ) → j + u ≤ v → w * j + w * u ≤ w * v
 parts-weigh w j u v h = let e = mul-add w j u in let g = mul-le-mul-left w h in omega arith
 
@@ -119,7 +119,7 @@ module _ (reading walk others : ℕ) (light : walk ≤ reading * others) (n : �
   most-in-state left s = most reading walk others light left (unknown-below n s)
 
   module _ (left : ℕ) (k : State → ℕ) (follows : (s : State) → k s ≤ most-in-state left s) where
-    -- After j readings, where so many were unknown before them.
+    -- After j readings, where this many were unknown before them.
     forked-within : (fs : List ℕ) (s : State) → Readable n s fs → (j before : ℕ) → j + unknown-below n s ≤ before
         → reading * j + walk + forked reading walk (readings fs s) k ≤ most reading walk others light (suc left) before
     unfolding forked readings

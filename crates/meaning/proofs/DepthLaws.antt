@@ -19,7 +19,7 @@ use Rattle.meaning.proofs.RangeLaws.{not-refused, after-got}
 
 -- A BOUND by the items left and the state.
 module _ {S L : Type 0} (reading walk : ℕ) (step : Steps S L) (bound : ℕ → S → ℕ) where
-  -- What follows with so many items left is within the bound.
+  -- What follows with a given number of items left is within the bound.
   abbrev pub Within : ℕ → (S → ℕ) → Type 0
   Within left k = (s : S) → k s ≤ bound left s
 

@@ -49,7 +49,7 @@ derivation-3-1 = 0 ∷ 7 ∷ 3 ∷ 1 ∷ 3 ∷ 5 ∷ 0 ∷ 1 ∷ 2 ∷ 3 ∷ 0 �
 unfoldable pub sensing-seven : List ℕ
 sensing-seven = 7 ∷ 1 ∷ 0 ∷ 0 ∷ 1 ∷ 0 ∷ 0 ∷ 7 ∷ 0 ∷ 0 ∷ 0 ∷ 1 ∷ 0 ∷ 2 ∷ 0 ∷ 3 ∷ 0 ∷ 4 ∷ 0 ∷ 5 ∷ 0 ∷ 6 ∷ 0 ∷ 1 ∷ 0 ∷ 0 ∷ 0 ∷ []
 
--- The literals of reading k, from fluent f on, and one line for each of so many readings, from k on: X the reading, nothing to do, nothing
+-- The literals of reading k, from fluent f on, and one line for each of a given number of readings, from k on: X the reading, nothing to do, nothing
 -- wanted, by rule 6 from line 0.
 reading : (left k f : ℕ) → List ℕ
 reading zero k f = []

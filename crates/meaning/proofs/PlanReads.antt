@@ -13,7 +13,7 @@ use Rattle.meaning.specs.Reading.{got, byte-at, two-bytes-at, count-at, 
 use Rattle.meaning.proofs.PickLaws.{pick-has}
 use Rattle.meaning.proofs.GotLaws.{On, Held, Faulty, held-on, held-then, next-held, any-fault}
 
--- What is said of a part that was read: from place p, where so many items were met before it, and up to e.
+-- What is said of a part that was read: from place p, with the number of items met before it, and up to e.
 abbrev pub About : Type 0 → Type 1
 About A = (p met : ℕ) (x : Met A) (e : ℕ) → Type 0
 

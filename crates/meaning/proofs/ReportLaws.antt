@@ -30,7 +30,7 @@ use Rattle.meaning.proofs.PairLaws.{true-in-pair, runs-pair}
 use Rattle.meaning.proofs.CoverLaws.{knows-pair}
 use Rattle.meaning.proofs.Exact.{walk-end, met, whether-pair, whether-in, least-initial, leads, ranged, fits, says, judged-by-walk, missed-exactly}
 
--- ENTRIES. One list of them, where each is met just where its value passes a test.
+-- ENTRIES. One list of them, where each is met exactly where its value passes a test.
 module _ (σ : Pair) (test : ℕ → Bool) (asks : Entry → Asked) (same : (e : Entry) → met-in σ (asks e) ≡ test (e .value)) (stands : (e : Entry) → asked-at (asks e) ≡ e .place) where
   first-in : (es : List Entry) (p : ℕ) → first-missed test es ≡ at p → First (λ a. met-in σ a ≡ true) (λ a. (met-in σ a ≡ false) × (asked-at a ≡ p)) (map asks es)
   unfolding first-missed

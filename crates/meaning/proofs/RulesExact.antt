@@ -1,4 +1,4 @@
--- Each rule's test is its relation. The lists of lines that were read ascend, so lists are equal just where they are the same set; plans are
+-- Each rule's test is its relation. The lists of lines that were read ascend, so lists are equal exactly where they are the same set; plans are
 -- compared as they are without their places; and the state of X is the a-state that X determines. Assumes nothing.
 use Prim.Native.Nat.{ℕ, _*_, _<_}
 use native.Mathlib.Omega.{arith}

@@ -425,7 +425,7 @@ told-mark (l ∷ ls) s f near apart =
         ∙ false-stays (among (says-true f) ls) (among (says-false f) ls) no-true
         ∙ sym (rw (ne-eqb (says-true f) l (λ p. true≢false f (p ∙ q)), no-true, eq-eqb (says-false f) l (sym q)))
 
--- The value of a literal fits a list just where the list has not its complement.
+-- The value of a literal fits a list exactly where the list has not its complement.
 fits-unless : (b : List ℕ) (l : ℕ) → fits flags b (fluent-of l) (flags .sets l) ≡ fails (among (complement l) b)
 fits-unless b l =
     same-test _ _

@@ -45,7 +45,7 @@ shown-same t a w v f e s =
     ap w (sym q) ∙ map-same (λ (j : Knowledge). w (j .fluent)) (λ (j : Knowledge). v (j .fluent)) (knowledge-of t a) (k .0) e (k .1) ∙ ap v q
 
 module _ {L : Type 0} (ls : Literals L) where
-  -- A value is one of its fluent's just where it is below their number.
+  -- A value is one of its fluent's exactly where it is below their number.
   has-value : (f v : ℕ) → v < ls .count f → Has (values-of ls f) v
   unfolding values-of
   has-value f v h = has-numbers 0 (ls .count f) v (omega arith) (omega (arith, h))

@@ -26,7 +26,7 @@ flags = record {
   count = λ f. 2;
 }
 
--- So many numbers, ascending from the first.
+-- Ascending numbers, a given number of them from the first on.
 unfoldable pub numbers : (first many : ℕ) → List ℕ
 numbers first zero = []
 numbers first (suc many) = first ∷ numbers (first + 1) many

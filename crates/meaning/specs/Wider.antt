@@ -25,7 +25,7 @@ pub record Wider (lim big : Limits) : Type 0 where
   pub citations : big .citations ≡ lim .citations
   pub room : lim .fluents ≤ lim .state
 
--- A state with so many unknown marks behind it.
+-- A state with a given number of unknown marks behind it.
 unfoldable pub padded : (more : ℕ) → State → State
 padded more s = s ++ replicate more Limits.unknown-mark
 

@@ -39,7 +39,7 @@ fn sections<'a>(r: Reader<'a>, t: &mut Notes) -> Passed
     sections_at(r.src, r.at, t)
 }
 
-// All eight sections of an input, by way of a reader: who calls this needs none.
+// All eight sections of an input, through a reader; whoever calls this needs none.
 fn read_sections(s: &[u8], t: &mut Notes) -> Passed
     requires { ⌜ length (now s) ≤ format .request ⌝ }
     ensures { λ x. ⌜ outcome x (now (t .exit)) ≡ noting request-noted (sections-read (now (s .entry)) 0) (now (t .entry)) ⌝ }

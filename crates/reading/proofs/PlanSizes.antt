@@ -15,7 +15,7 @@ use Rattle.meaning.proofs.PlaceLaws.{byte-held, two-bytes-held, count-held, lis
 use Rattle.meaning.proofs.PlanReads.{Said, Passed-on, item-on, sequence-on}
 use Rattle.reading.specs.Planned.{items-of, items-in, items-under, bytes-of, bytes-in, bytes-under, place-of}
 
--- So many bytes were read, and they were there.
+-- A given number of bytes was read, and they were there.
 pub record Through (s : List ℕ) (p bytes q : ℕ) : Type 0 where
   pub after : q ≡ p + bytes
   pub inside : q ≤ length s
@@ -48,7 +48,7 @@ module _ (s : List ℕ) where
   unfolding body-at
   body-through n p = list-through Reading.Kind.literals n 16 p
 
--- A part with so many items and so many bytes.
+-- A part with a given number of items and of bytes.
 pub record Counted (s : List ℕ) (p met own bytes items q : ℕ) : Type 0 where
   pub through : Through s p bytes q
   pub counted : items ≡ met + own
@@ -105,7 +105,7 @@ module _ (n m : ℕ) (s : List ℕ) where
         record { through = record { after = omega arith; inside = all .through .inside }; counted = all .counted; most = all .most };
   }
 
-  -- With so many branchings one inside another.
+  -- With a given number of branchings one inside another.
   pub item-read : (deep p met : ℕ) → On (item-at format n m s (branching-at format n m s deep) p met) (λ x q. ItemRead s p met (x .value) (x .items) q)
   item-read = item-on format n m s plan-sized sizes-passed
 

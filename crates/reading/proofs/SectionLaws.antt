@@ -197,7 +197,7 @@ module _ (n m : ℕ) (s : List ℕ) where
   stops executability p k q e = fault-by (λ (x : Executability). x .action) executability-read (λ x i. refl) (λ k i. refl) (executability-at format n m s p) k q e
   stops knowledge p k q e = fault-by (λ (x : Knowledge). x .action) knowledge-read (λ x i. refl) (λ k i. refl) (knowledge-at format n m s p) k q e
 
--- THE LOOP. What is noted of so many lines from place p on, the first of which has number k + 1.
+-- THE LOOP. What is noted of a given number of lines from place p on, the first of which has number k + 1.
 module _ (c : Section) where
   one-more : (k : ℕ) (last : List ℕ) (x : Line c) (g : Got (List (Line c))) (t : List ℕ)
       → noting (lines-noted c k last) (next g (λ rest r. got (x ∷ rest) r)) t ≡ noting (lines-noted c (k + 1) (set last (action-in c x) (k + 1))) g (note-line c (getD last (action-in c x) 0) (k + 1) x t)
@@ -206,7 +206,7 @@ module _ (c : Section) where
   one-more k last x (fault n p) t = refl
 
 module _ (c : Section) (n m : ℕ) (s : List ℕ) where
-  -- What is noted of so many lines from place p on, when k are noted and `last` has the last of each action.
+  -- What is noted of a given number of lines from place p on, when k are noted and `last` has the last of each action.
   abbrev From : (left p k : ℕ) → (last t : List ℕ) → Got (List ℕ)
   From left p k last t = noting (lines-noted c k last) (repeated (line-at c n m s) left p) t
 

@@ -7,7 +7,7 @@ use Rattle.meaning.specs.States.{State, known, possible}
 use Rattle.reading.specs.declared.marks.Test.{Test}
 use Rattle.reading.specs.declared.marks.Test.the-variants.{Known, Possible}
 
--- So many bytes from place p on.
+-- A given number of bytes from place p on.
 unfoldable pub bytes-from : List ℕ → ℕ → ℕ → List ℕ
 bytes-from s p zero = []
 bytes-from s p (suc k) = getD s p 0 ∷ bytes-from s (p + 1) k

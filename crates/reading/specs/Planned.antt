@@ -53,7 +53,7 @@ following up met (item i rest) = met
 unfoldable pub number-after : (left met up : ℕ) → ℕ
 number-after left met up = pick (eqb left 1) (λ _. up) (λ _. met)
 
--- A sequence that ends at p, by way of its first item, where it has one.
+-- A sequence that ends at p, told by its first item, where it has one.
 unfoldable pub branch-noted : (first met p : ℕ) → List ℕ → List ℕ
 branch-noted first met p t = pick (ltb first met) (λ _. set (set t (branch-place + first) p) (branch-item + first) met) (λ _. t)
 

@@ -36,7 +36,7 @@ fn note_next(left: usize, met: usize, more: usize, up: usize, t: &mut Notes)
     put(t, notes::ITEM_NEXT + met, after(left, more, up));
 }
 
-// A sequence of a branch is passed over by way of its first item.
+// A sequence of a branch is passed over through its first item.
 fn note_branch(first: usize, met: usize, p: usize, t: &mut Notes)
     requires { ⌜ met ≤ format .items ⌝ }
     requires { ⌜ p ≤ format .derivation ⌝ }

@@ -53,7 +53,7 @@ pub fn table_at(s: &[u8], p: usize, t: &mut Notes) -> Passed
     }
 }
 
-// Sections 7 and 8, after a plan of so many items whose count stands at `plan`.
+// Sections 7 and 8, after a plan of a given number of items whose count stands at `plan`.
 fn goals_at(n: usize, s: &[u8], plan: usize, items: usize, p: usize, t: &mut Notes) -> Passed
     requires { ⌜ n ≤ format .fluents ⌝ }
     requires { ⌜ plan < 65536 ⌝ }

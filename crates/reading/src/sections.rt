@@ -52,7 +52,7 @@ fn note_line(c: Section, last: u8, k: usize, p: usize, a: usize, f: usize, t: &m
     }
 }
 
-// So many lines from a place on. Each action's last line so far is in `last`; once the section is read nobody asks for it.
+// A given number of lines from a place on. Each action's last line so far is in `last`; once the section is read nobody asks for it.
 fn lines_from(
     c: Section,
     n: usize,

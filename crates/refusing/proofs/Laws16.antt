@@ -54,7 +54,7 @@ body-clear s p here =
       consistent = λ l h c. clash (has-some _ (listed s (p + 2)) l h (has-some (eqb (complement l)) (listed s (p + 2)) (complement l) c (eq-eqb (complement l) (complement l) refl))) (here .apart);
     }
 
--- A body is excluded just where its state rules out a literal of the other.
+-- A body is excluded exactly where its state rules out a literal of the other.
 fails-either : (x y : Bool) → both (fails x) (fails y) ≡ fails (either x y)
 unfolding both either fails
 fails-either true y = refl

@@ -33,11 +33,11 @@ all-apart (c ∷ cs) = both (each-of (rules-out (state-of format c)) cs) (all-ap
 unfoldable pub item-apart : (s t : List ℕ) (i p : ℕ) → Bool
 item-apart s t i p = pick (eqb (getD s p 0) 255) (λ _. all-apart (conditions-from s t (getD s (p + 1) 0) (p + 2) (i + 1))) (λ _. true)
 
--- The first of so many items from item i on that is a branching with conditions that are not apart.
+-- The first of a given number of items from item i on that is a branching with conditions that are not apart.
 unfoldable pub first-overlap : (s t : List ℕ) (left i : ℕ) → Found
 first-overlap s t zero i = nowhere
 first-overlap s t (suc left) i = pick (item-apart s t i (getD t (item-place + i) 0)) (λ _. first-overlap s t left (i + 1)) (λ _. at (getD t (item-place + i) 0))
 
--- What is found is the first overlap of whatever plan with so many items is held (FORMAT 4.40).
+-- What is found is the first overlap of whatever plan with a given number of items is held (FORMAT 4.40).
 pub record Overlap-found (s t : List ℕ) (count : ℕ) (r : Code.Found) : Type 0 where
   pub holds : (b : Sequence ℕ) → Plan-held s t b → items-of b ≡ count → r ≡ found (overlap-in b)

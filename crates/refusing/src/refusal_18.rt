@@ -18,7 +18,7 @@ use reading::notes;
 use reading::notes::Notes;
 use reading::notes::get;
 
-// The state rules out the conditions of so many branches.
+// The state rules out the conditions of a given number of branches.
 fn excludes(s: &[u8], t: &Notes, held: &Marks, count: usize, place: usize, item: usize) -> bool
     requires { ⌜ Branches-here (now s) (now t) count place item ⌝ }
     ensures { λ r. ⌜ r ≡ each-of (rules-out (now (held .entry))) (conditions-from (now (s .entry)) (now (t .entry)) count place item) ⌝ }
@@ -40,7 +40,7 @@ fn excludes(s: &[u8], t: &Notes, held: &Marks, count: usize, place: usize, item:
     true
 }
 
-// Every two conditions of so many branches are exclusive.
+// Every two conditions of a given number of branches are exclusive.
 fn all_exclusive(s: &[u8], t: &Notes, count: usize, place: usize, item: usize) -> bool
     requires { ⌜ Branches-here (now s) (now t) count place item ⌝ }
     ensures { λ r. ⌜ r ≡ all-apart (conditions-from (now (s .entry)) (now (t .entry)) count place item) ⌝ }
@@ -98,7 +98,7 @@ fn first_overlap(s: &[u8], t: &Notes, count: usize) -> Found
     Found::Nowhere
 }
 
-// 18: the first branching with two conditions that are not exclusive, of a plan with so many items.
+// 18: the first branching with two conditions that are not exclusive, of a plan with a given number of items.
 pub fn overlap(s: &[u8], t: &Notes, count: usize) -> Found
     requires { ⌜ Some-plan (now s) (now t) count ⌝ }
     ensures { λ r. ⌜ Overlap-found (now (s .entry)) (now (t .entry)) count r ⌝ }

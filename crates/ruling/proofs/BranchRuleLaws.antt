@@ -45,7 +45,7 @@ use Rattle.comparing.proofs.KnownLaws.{listed-clear}
 use Rattle.comparing.proofs.LinesStand.{Line-parts, line-parts}
 use Rattle.ruling.proofs.RuleLaws.{X-same, plan-of, item-bytes, own-count}
 
--- THE PLACE after so many branches.
+-- THE PLACE after a given number of branches.
 module _ (d t : List ℕ) where
   end-first : (left p i : ℕ) → 0 < left → branches-end d t left p i ≡ branches-end d t (left - 1) (place-after d t p i) (item-after d t p i)
   unfolding branches-end
@@ -333,7 +333,7 @@ module _ (n m : ℕ) (s : List ℕ) where
   plan-first : (p : ℕ) (x : Met (Sequence ℕ)) (e : ℕ) → plan-at format n m s p ≡ got x e → First-at (p + 2) (x .value)
   plan-first p = plan-on format n m s plan-begun begun-passed p .holds
 
--- A LINE whose plan begins with a branching at `first`, and so many items after it up to y.
+-- A LINE whose plan begins with a branching at `first`, and a given number of items after it up to y.
 record Begins (d u : List ℕ) (first y more : ℕ) (l : Line) : Type 0 where
   place : ℕ
   branches : Branches ℕ

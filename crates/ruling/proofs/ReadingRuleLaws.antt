@@ -1,4 +1,4 @@
--- Rules 3 and 10: a citation says a reading just where its list, its count, its items' bytes and its conclusion do; the readings of the first unknown
+-- Rules 3 and 10: a citation says a reading exactly where its list, its count, its items' bytes and its conclusion do; the readings of the first unknown
 -- fluent are those with it true and then those with it false, and the citations are used up in that order. As many lines are used as there are
 -- readings, so that how many are cited need not be asked beforehand. Assumes nothing.
 use Prim.Native.Nat.{ℕ, zero, suc, _+_, _-_, _*_, _≤_, _<_}
@@ -329,7 +329,7 @@ unfolding states-from fluents-from readings states-of
 read-whole t a marks f far layout d places v k answer uses =
     subst (λ (fs : List ℕ). Uses layout d places v (states-of (readings fs marks)) k answer) (sym (pick-false _ _ _ (le-ltb f (format .fluents) far))) uses
 
--- USED UP: each line says its reading just where the citations used are all.
+-- USED UP: each line says its reading exactly where the citations used are all.
 abbrev all-used : ℕ → Used → Bool
 all-used n u = elim u [ To j ↦ eqb j n | Fails ↦ false ]
 

@@ -17,7 +17,7 @@ use Rattle.comparing.specs.Coded.{coded-branches, Tellable-branches}
 use Rattle.comparing.specs.Stands.{Plan-stands}
 use Rattle.comparing.specs.RuleAnswers.{Items-stand}
 
--- The place after so many branches, the first of which stands at p with i items before it.
+-- The place after a given number of branches, the first of which stands at p with i items before it.
 unfoldable pub branches-end : (d t : List ℕ) (left p i : ℕ) → ℕ
 branches-end d t zero p i = p
 branches-end d t (suc left) p i = branches-end d t left (place-after d t p i) (item-after d t p i)
@@ -31,7 +31,7 @@ pub record Branches-held (d t : List ℕ) (p i : ℕ) (bs : Branches ℕ) : Type
   pub bytes : bytes-from d p (bytes-under bs) ≡ coded-branches bs
   pub tellable : Tellable-branches bs
 
--- A branching at `first` as the first item, and after it so many items up to y.
+-- A branching at `first` as the first item, and after it a given number of items up to y.
 pub record Branched (d t : List ℕ) (first y more : ℕ) (bs : Branches ℕ) (rest : Sequence ℕ) : Type 0 where
   pub there : first + 1 < length d
   pub count : getD d (first + 1) 0 ≡ branches-in bs

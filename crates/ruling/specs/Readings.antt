@@ -75,7 +75,7 @@ pub record Rest-stands (layout : Layout) (d places : List ℕ) (w : Spot) (lines
   pub numbers : Numbers-stand d (w .cites + 1) cites
   pub below : each-of (λ (k : ℕ). ltb k (length lines)) cites ≡ true
 
--- Whatever these are; there are so many lines.
+-- Whatever these are; the lines have the given number.
 pub record Some-rest (layout : Layout) (d places : List ℕ) (total : ℕ) (w : Spot) : Type 0 where
   pub lines : List Line
   pub size : length lines ≡ total

@@ -24,7 +24,7 @@ use reading::notes;
 use reading::notes::Notes;
 use reading::plan::plan_at;
 
-// The place after so many branches, the first of which stands at `place` with `item` items before it.
+// The place after a given number of branches, the first of which stands at `place` with `item` items before it.
 fn after_branches(d: &[u8], t: &Notes, count: usize, place: usize, item: usize) -> usize
     requires { ⌜ Branches-here (now d) (now t) count place item ⌝ }
     ensures { λ r. ⌜ r ≡ branches-end (now (d .entry)) (now (t .entry)) count place item ⌝ }

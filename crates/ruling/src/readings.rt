@@ -30,7 +30,7 @@ use steps::sensing::first_unknown;
 use steps::sensing::is_sensing;
 use steps::sensing::next_unknown;
 
-// So many citations are used; or a cited line is not what its reading asks, or there is none left.
+// This number of citations is used; or a cited line is not what its reading asks, or there is none left.
 pub enum Used {
     To(usize),
     Fails,
@@ -79,7 +79,7 @@ fn says_reading(d: &[u8], marks: &Marks, own: Spot, cited: Spot) -> bool
     false
 }
 
-// Citation k of line i, one of so many in the layout, says the reading that the state has. Where the parts of line i stand is looked up each
+// Citation k of line i says the reading that the state has. Where the parts of line i stand is looked up each
 // time: to hand that on through the readings takes longer.
 fn one_reading(
     layout: Layout,

@@ -1,4 +1,4 @@
--- Literals beside each other are complements just where the lower is even; fluents never are.
+-- Literals beside each other are complements exactly where the lower is even; fluents never are.
 use Rattle.bytes.proofs.ListLaws.{beside-even, beside-odd, beside-never}
 use borrow.Author.Needs.{needs}
 use Rattle.bytes.proofs.lists.beside.Statement.{statement}

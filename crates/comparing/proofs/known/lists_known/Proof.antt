@@ -1,4 +1,4 @@
--- The entries left are the literals left just where the list is what the state knows; each known fluent takes one entry.
+-- The entries left are the literals left exactly where the list is what the state knows; each known fluent takes one entry.
 use Prim.Native.Nat.{_+_, _-_, _≤_, _<_}
 use mathlib.Core.Path.{_≡_}
 use lib.ListN.{length, drop}

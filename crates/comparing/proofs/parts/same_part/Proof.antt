@@ -1,4 +1,4 @@
--- The rests of the two parts are the same just where the parts are; the first entry that differs, or a length that does, settles it.
+-- The rests of the two parts are the same exactly where the parts are; the first entry that differs, or a length that does, settles it.
 use Prim.Native.Nat.{_-_}
 use mathlib.Core.Path.{_≡_}
 use lib.ListN.{length, drop}

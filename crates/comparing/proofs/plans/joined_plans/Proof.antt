@@ -1,4 +1,4 @@
--- A plan with another count than the two parts together is not their join; with that count it is just where its items have the bytes of
+-- A plan with another count than the two parts together is not their join; with that count it is exactly where its items have the bytes of
 -- both, one after the other.
 use Rattle.comparing.proofs.PlanLaws.{joined-other, joined-parts}
 use borrow.Author.Needs.{needs}

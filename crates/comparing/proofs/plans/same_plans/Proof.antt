@@ -1,4 +1,4 @@
--- Plans with other counts are not the same; with the same count they are just where their items have the same bytes.
+-- Plans with other counts are not the same; with the same count they are exactly where their items have the same bytes.
 use Rattle.comparing.proofs.PlanLaws.{plans-other, plans-parts}
 use borrow.Author.Needs.{needs}
 use Rattle.comparing.proofs.plans.same_plans.Statement.{statement}

@@ -1,4 +1,4 @@
--- A sequence is empty just where both bytes of its count are 0.
+-- A sequence is empty exactly where both bytes of its count are 0.
 use Rattle.finding.proofs.ByBranch.{first-zero, first-other}
 use borrow.Author.Needs.{needs}
 use Rattle.finding.proofs.branches.empty.Statement.{statement}

@@ -1,4 +1,4 @@
--- Two literals of one fluent are equal or complements; and a body is possible where another is held just where the two are not exclusive.
+-- Two literals of one fluent are equal or complements; and a body is possible where another is held exactly where the two are not exclusive.
 use Rattle.refusing.proofs.Laws16.{literal-same, literal-other}
 use borrow.Author.Needs.{needs}
 use Rattle.refusing.proofs.refusal_16.contradicts.Statement.{statement}

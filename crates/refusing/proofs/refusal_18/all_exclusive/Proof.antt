@@ -1,4 +1,4 @@
--- At each turn every two conditions are exclusive just where every two of those left are.
+-- At each turn every two conditions are exclusive exactly where every two of those left are.
 use mathlib.Core.Path.{_≡_}
 use Rattle.finding.specs.Branches.{conditions-from, Branches-here}
 use Rattle.refusing.specs.Refusal18.{all-apart}

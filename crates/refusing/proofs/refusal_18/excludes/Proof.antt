@@ -1,4 +1,4 @@
--- At each turn the state rules out every condition just where it rules out those left.
+-- At each turn the state rules out every condition exactly where it rules out those left.
 use mathlib.Core.Path.{_≡_}
 use Rattle.meaning.specs.Tests.{each-of}
 use Rattle.finding.specs.Branches.{conditions-from, Branches-here}

@@ -1,4 +1,4 @@
--- The first item is told by its byte; where it is a sensing action that can be run, each reading is said by its line just where the citations used
+-- The first item is told by its byte; where it is a sensing action that can be run, each reading is said by its line exactly where the citations used
 -- are all, and then they are as many as the readings.
 use Rattle.steps.proofs.ToldMarks.{marked-as}
 use Rattle.ruling.proofs.RuleLaws.{plan-counted, items-fit, items-there}

@@ -1,4 +1,4 @@
--- The line says the reading just where its list X is what the state knows, its count and its items' bytes are those of what follows the action,
+-- The line says the reading exactly where its list X is what the state knows, its count and its items' bytes are those of what follows the action,
 -- and its conclusion is the same.
 use Rattle.ruling.proofs.ReadingRuleLaws.{cited-counted, cited-fits, cited-ends, starts-other, count-other, items-other, items-same}
 use borrow.Author.Needs.{needs}

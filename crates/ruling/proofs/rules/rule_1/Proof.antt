@@ -1,4 +1,4 @@
--- The plan is empty just where its count is 0, and each list is what stands at its place. A fluent is no list.
+-- The plan is empty exactly where its count is 0, and each list is what stands at its place. A fluent is no list.
 use Rattle.ruling.proofs.RuleLaws.{Y-here, plan-counted, empty-whether, empty-same, not-empty}
 use borrow.Author.Needs.{needs}
 use Rattle.ruling.proofs.rules.rule_1.Statement.{statement}

@@ -1,4 +1,4 @@
--- The lists are what stands at their places, and the plan is the join of the two just where the plan that stands there is. A fluent is no list.
+-- The lists are what stands at their places, and the plan is the join of the two exactly where the plan that stands there is. A fluent is no list.
 use Rattle.ruling.proofs.RuleLaws.{Y-here, some-plan, plan-counted, items-fit, some-items, first-whether, starts-apart, meets-apart, ends-apart, composed}
 use borrow.Author.Needs.{needs}
 use Rattle.ruling.proofs.rules.rule_5.Statement.{statement}

@@ -1,4 +1,4 @@
--- The lists are what stands at their places, and the plans are the same just where the plans that stand there are. A fluent is no list.
+-- The lists are what stands at their places, and the plans are the same exactly where the plans that stand there are. A fluent is no list.
 use Rattle.ruling.proofs.RuleLaws.{X-clear, Y-here, Y-clear, some-plan, part-of-whether, whether-in-part, not-within, other-plan, ends-within}
 use borrow.Author.Needs.{needs}
 use Rattle.ruling.proofs.rules.rule_6.Statement.{statement}

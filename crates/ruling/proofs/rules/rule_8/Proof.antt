@@ -1,4 +1,4 @@
--- The cited list has one literal just where its count is 1, and this is of the fluent just where half of it is the conclusion's byte. The lists X
+-- The cited list has one literal exactly where its count is 1, and this is of the fluent exactly where half of it is the conclusion's byte. The lists X
 -- and the plans are compared as they stand.
 use native.Mathlib.Omega.{arith}
 use Rattle.ruling.proofs.RuleLaws.{Y-here, fluent-there, some-plan, settled-by-whether, list-settled, literals-there, literal-fits, not-one-literal, other-fluent, settled-elsewhere, settled}

@@ -1,4 +1,4 @@
--- The notes have a largest sensed fluent just where the action has a knowledge line.
+-- The notes have a largest sensed fluent exactly where the action has a knowledge line.
 use Rattle.steps.proofs.LookLaws.{sensing-is}
 use borrow.Author.Needs.{needs}
 use Rattle.steps.proofs.sensing.is_sensing.Statement.{statement}

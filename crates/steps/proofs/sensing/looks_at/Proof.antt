@@ -1,4 +1,4 @@
--- The notes have a slot for each action and fluent, which is marked just where a knowledge line says so.
+-- The notes have a slot for each action and fluent, which is marked exactly where a knowledge line says so.
 use Rattle.steps.proofs.LookLaws.{looks-is}
 use borrow.Author.Needs.{needs}
 use Rattle.steps.proofs.sensing.looks_at.Statement.{statement}

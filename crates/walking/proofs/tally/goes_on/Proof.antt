@@ -1,4 +1,4 @@
--- The walk goes on just where its number is 0 or 1.
+-- The walk goes on exactly where its number is 0 or 1.
 use Rattle.walking.proofs.StandingLaws.{up-to-one}
 use borrow.Author.Needs.{needs}
 use Rattle.walking.proofs.tally.goes_on.Statement.{statement}
