@@ -45,7 +45,7 @@ impl Known {
         (0..FLUENT_LIMIT as u8)
             .filter_map(|fluent| match self.mark(fluent) {
                 0 => None,
-                mark => Some(2 * fluent + mark - 1),
+                mark => Some(2 * fluent + (mark - 1)),
             })
             .collect()
     }

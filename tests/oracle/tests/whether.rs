@@ -5,9 +5,9 @@ mod common;
 
 use common::*;
 use oracle::encode::{encode_derivation, encode_proof, encode_request, proof_place};
-use oracle::model::{Branch, Conclusion, Item, Proof, ProofLine, Request};
+use oracle::model::{Allowance, Branch, Conclusion, Effect, Item, Proof, ProofLine, Request};
 use oracle::reader::{read_derivation, FLUENT_LIMIT};
-use oracle::whether::prove::{many_whether, natural_proof, pad_proof};
+use oracle::whether::prove::{many_whether, pad_proof};
 use oracle::whether::translate::{as_lines, as_proof};
 use oracle::{check, check_whether, Answer};
 use Conclusion::{Fluent, List};
@@ -845,17 +845,41 @@ fn the_last_line_need_not_be_named() {
 
 #[test]
 fn as_many_entries_as_there_can_be() {
+    // An action makes every fluent known; lines that start with all of it would be too long.
     let entries = FLUENT_LIMIT;
     let fluents = entries as u8;
+    let all: Vec<u8> = (0..fluents).map(|fluent| 2 * fluent + fluent % 2).collect();
+    let effect = |&literal: &u8| Effect {
+        place: 0,
+        action: 0,
+        literal,
+        body: Vec::new(),
+    };
     let request = Request {
         fluents,
         actions: 1,
-        facts: (0..fluents).map(|fluent| 2 * fluent + fluent % 2).collect(),
+        effects: all.iter().map(effect).collect(),
+        allowances: vec![Allowance {
+            action: 0,
+            body: Vec::new(),
+        }],
+        plan: acts(&[0]),
+        goals: all.clone(),
         whether: (0..fluents).collect(),
         ..Request::default()
     };
-    let mut proof = natural_proof(&request).expect("a derivation");
-    assert_eq!(proof.closing.len(), entries + 1);
+    let mut lines = vec![known(&[], &acts(&[0]), 2, &all, &[])];
+    for fluent in 0..fluents {
+        let alone = lines.len() as u16;
+        let literal = all[usize::from(fluent)];
+        lines.push(known(&[], &acts(&[0]), 6, &[literal], &[0]));
+        lines.push(whether(&[], &acts(&[0]), 8, fluent, &[alone]));
+    }
+    let mut proof = Proof {
+        lines,
+        closing_place: 0,
+        closing: (0..=entries as u16).map(|entry| 2 * entry).collect(),
+    };
     let bytes = encode_request(&request).bytes;
     let check = |proof: &Proof| check_whether(&bytes, &encode_proof(proof).bytes);
     assert_eq!(check(&proof), answer(0, 0, 0, 0));

@@ -9,7 +9,7 @@ const BRANCHING: u8 = 255;
 const FLUENTS: usize = 64;
 const ACTIONS: usize = 64;
 const ENTRIES: u8 = 64;
-/// A set of fluents. The narrowest type with so many bits: a wider one would cost time in every step.
+/// A set of fluents, which widens with their limit: more bits than there are fluents would cost time in every step.
 type Mask = u64;
 const _: () = assert!(Mask::BITS as usize == FLUENTS);
 const LINES: usize = 256;
