@@ -3,7 +3,7 @@
 use std::error::Error;
 
 use glintstring::{check, check_packed, check_whether, check_whether_packed, judge, judge_here, judge_packed, show, show_start};
-use glintstring::{Answer, Input, Mark, NotVerified, Packed, State};
+use glintstring::{Answer, Input, Mark, NotVerified, Packed, State, STATE_LENGTH};
 
 const FILE_A: [u8; 48] = [
     4, 3, 3, 3, 5, 7, 3, 1, 2, 0, 1, 6, 1, 0, 2, 4, 0, 3, 0, 0, 1, 1, 3, 2, 1, 2, 1, 0, 0, 0, 2, 0, 255, 2, 1, 1, 0, 2, 1, 2, 1, 0, 0, 0,
@@ -31,7 +31,7 @@ fn a_missed_goal_has_its_state() {
     assert_eq!((place, count), (33, 2));
     assert_eq!(state.line(4), "?+-?");
     assert_eq!(state.marks()[..4], [Mark::Unknown, Mark::True, Mark::False, Mark::Unknown]);
-    let mut lent = [9; 64];
+    let mut lent = [9; STATE_LENGTH];
     assert_eq!(judge_packed(&request, &mut lent, 100_000), answer.packed());
     assert_eq!(state.bytes(), lent);
     assert_eq!(answer.state(), State::from_bytes(&lent).as_ref());
@@ -41,15 +41,15 @@ fn a_missed_goal_has_its_state() {
 #[test]
 fn other_answers_leave_the_lent_bytes() {
     let lending = |request: &[u8], lent: &mut [u8], budget| Answer::unpack(judge_packed(request, lent, budget), lent);
-    for length in [0, 1, 63, 65, 200] {
+    for length in [0, 1, STATE_LENGTH - 1, STATE_LENGTH + 1, 200] {
         let mut lent = vec![9; length];
         assert_eq!(lending(&FILE_A, &mut lent, 100_000), Answer::StateLength);
         assert_eq!(lent, vec![9; length]);
     }
-    let mut lent = [9; 64];
+    let mut lent = [9; STATE_LENGTH];
     assert_eq!(lending(&vec![1; 16_385], &mut lent, 0), Answer::TooLong { input: Input::Request });
     assert_eq!(lending(&from_29(&[0, 0, 0, 0]), &mut lent, 0), Answer::BudgetSpent { budget: 0 });
-    assert_eq!(lent, [9; 64]);
+    assert_eq!(lent, [9; STATE_LENGTH]);
 }
 
 /// The thread of a test has 2 MiB, which this walk does not fit in.
@@ -81,7 +81,7 @@ fn only_zero_passes_the_question_mark() {
 fn zero_alone_is_verified() {
     for number in (0..=3).chain(9..=21) {
         let input = u64::from(!matches!(number, 0 | 3 | 9));
-        let answer = Answer::unpack(Packed(number + (input << 8)), &[0; 64]);
+        let answer = Answer::unpack(Packed(number + (input << 8)), &[0; STATE_LENGTH]);
         assert_eq!((answer.is_verified(), answer.verified().is_ok()), (number == 0, number == 0), "{answer}");
     }
     for number in (30..=35).chain([0]) {
@@ -98,7 +98,7 @@ fn each_number_is_packed_as_it_came() {
         let place = if input == 1 && number != 10 { 16_383 } else { 0 };
         let count = if number <= 3 { u64::from(u32::MAX) } else { 0 };
         let packed = Packed(number + (input << 8) + (place << 16) + (count << 32));
-        let answer = Answer::unpack(packed, &[0; 64]);
+        let answer = Answer::unpack(packed, &[0; STATE_LENGTH]);
         assert_eq!(answer.packed(), packed);
         assert_eq!(u64::from(answer.number()), number);
         assert_eq!(answer.state().is_some(), matches!(number, 1 | 2));
@@ -111,21 +111,21 @@ fn each_number_is_packed_as_it_came() {
 fn what_is_no_answer_is_refused() {
     let refused = |packed: u64, lent: &[u8]| std::panic::catch_unwind(|| Answer::unpack(Packed(packed), lent)).is_err();
     for number in (4..=8).chain(22..=255) {
-        assert!(refused(number, &[0; 64]), "number {number}");
+        assert!(refused(number, &[0; STATE_LENGTH]), "number {number}");
     }
-    assert!(refused(1 << 8, &[0; 64]), "verified, in the request");
-    assert!(refused(1 << 16, &[0; 64]), "verified, at a place");
-    assert!(refused(11 + (1 << 8) + (1 << 32), &[0; 64]), "a refusal with a count");
-    assert!(refused(11, &[0; 64]), "a refusal of neither input");
-    assert!(refused(1 + (1 << 8), &[3; 64]), "a mark 3");
-    assert!(refused(1 + (1 << 8), &[0; 63]), "a state of 63 bytes");
+    assert!(refused(1 << 8, &[0; STATE_LENGTH]), "verified, in the request");
+    assert!(refused(1 << 16, &[0; STATE_LENGTH]), "verified, at a place");
+    assert!(refused(11 + (1 << 8) + (1 << 32), &[0; STATE_LENGTH]), "a refusal with a count");
+    assert!(refused(11, &[0; STATE_LENGTH]), "a refusal of neither input");
+    assert!(refused(1 + (1 << 8), &[3; STATE_LENGTH]), "a mark 3");
+    assert!(refused(1 + (1 << 8), &[0; STATE_LENGTH - 1]), "a state that is a byte short");
 }
 
 #[test]
 fn packed_and_named_are_the_same_call() {
     for end in 0..=FILE_A.len() {
         let request = &FILE_A[..end];
-        let packed = judge_packed(request, &mut [9; 64], 7);
+        let packed = judge_packed(request, &mut [9; STATE_LENGTH], 7);
         assert_eq!(judge_here(request, 7).packed(), packed);
         assert_eq!(judge(request, 7).expect("a thread").packed(), packed);
     }

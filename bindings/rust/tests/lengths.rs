@@ -42,6 +42,10 @@ fn largest_closing() -> (Vec<u8>, Vec<u8>) {
     (request, [vec![4, 0], same.repeat(1_023), last, vec![1, 3, 255]].concat())
 }
 
+/// Lent states up to this length, and bytes on either side of them.
+const LONGEST: usize = 2 * STATE_LENGTH + 2;
+const FENCE: usize = 64;
+
 #[test]
 fn requests_and_lent_states() {
     let (largest, place) = largest_request();
@@ -50,15 +54,16 @@ fn requests_and_lent_states() {
     let rows: [(&[u8], (u8, u8, usize, u32)); 5] =
         [(&[], (11, 1, 0, 0)), (&[0], (12, 1, 0, 0)), (&[1], (11, 1, 1, 0)), (&largest, (2, 1, place, 0)), (&longer, (10, 1, 0, 0))];
     for (request, answer) in rows {
-        for length in 0..=130 {
-            let mut around = [9; 130 + 128];
-            let packed = judge_packed(request, &mut around[64..64 + length], 7);
+        for length in 0..=LONGEST {
+            let mut around = [9; FENCE + LONGEST + FENCE];
+            let packed = judge_packed(request, &mut around[FENCE..FENCE + length], 7);
             assert_eq!(numbers(packed), if length == STATE_LENGTH { answer } else { (9, 0, 0, 0) }, "{} bytes, {length} lent", request.len());
             if length == STATE_LENGTH && answer.0 == 2 {
-                assert_eq!(around[64..128], [0; 64]);
-                around[64..128].fill(9);
+                let state = &mut around[FENCE..FENCE + STATE_LENGTH];
+                assert_eq!(state, [0; STATE_LENGTH]);
+                state.fill(9);
             }
-            assert_eq!(around, [9; 130 + 128], "{} bytes, {length} lent", request.len());
+            assert_eq!(around, [9; FENCE + LONGEST + FENCE], "{} bytes, {length} lent", request.len());
         }
     }
 }

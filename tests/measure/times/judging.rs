@@ -3,8 +3,9 @@
 use std::hint::black_box;
 
 use crate::model::Request;
+use crate::reader::FLUENT_LIMIT;
 use crate::walk::Verdict;
-use crate::{literals, reader, section, sequence, settle, times, walk, Notes, Slice, FILE_A, SLOTS};
+use crate::{literals, reader, section, sequence, settle, times, walk, Notes, Slice, FILE_A, FLUENTS, SLOTS};
 
 const BUDGET: u32 = 100_000;
 
@@ -14,14 +15,14 @@ extern "C" {
 }
 
 /// Number, place and count, and the lent state afterwards.
-type Answer = (u64, u64, u64, [u8; 64]);
+type Answer = (u64, u64, u64, [u8; FLUENT_LIMIT]);
 
 fn proved_open(bytes: &[u8]) -> usize {
     unsafe { proved_settle(&Slice(bytes.as_ptr(), bytes.len()), &mut [0; SLOTS]) }
 }
 
 fn proved(bytes: &[u8]) -> Answer {
-    let mut lent = [9; 64];
+    let mut lent = [9; FLUENT_LIMIT];
     let packed = unsafe { proved_judge(&Slice(bytes.as_ptr(), bytes.len()), &Slice(lent.as_mut_ptr(), lent.len()), BUDGET) };
     (packed % 256, packed >> 16 & 65535, packed >> 32, lent)
 }
@@ -35,10 +36,10 @@ fn independent_open(bytes: &[u8]) -> Request {
 
 fn independent(bytes: &[u8]) -> Answer {
     match walk::walk(&independent_open(bytes), BUDGET) {
-        Verdict::Verified { count } => (0, 0, count, [9; 64]),
-        Verdict::Missed { place, count, state } => (1, place as u64, count, std::array::from_fn(|f| state.mark(f))),
-        Verdict::Stuck { place, count, state } => (2, place as u64, count, std::array::from_fn(|f| state.mark(f))),
-        Verdict::Over => (3, 0, BUDGET.into(), [9; 64]),
+        Verdict::Verified { count } => (0, 0, count, [9; FLUENT_LIMIT]),
+        Verdict::Missed { place, count, state } => (1, place as u64, count, std::array::from_fn(|f| state.mark(f as u8))),
+        Verdict::Stuck { place, count, state } => (2, place as u64, count, std::array::from_fn(|f| state.mark(f as u8))),
+        Verdict::Over => (3, 0, BUDGET.into(), [9; FLUENT_LIMIT]),
     }
 }
 
@@ -50,17 +51,17 @@ fn long_plan(items: usize) -> Vec<u8> {
 
 /// The same over the most effects with the longest bodies, all of them possible and none known true.
 fn crowded(items: usize) -> Vec<u8> {
-    let effects = section(255, |i| [vec![0, 2 * (i as u8 % 64) + 1], literals(16, i)].concat());
-    [vec![64, 1, 0], effects, vec![1, 0, 0, 0], sequence(&vec![vec![0]; items]), vec![0, 0]].concat()
+    let effects = section(255, |i| [vec![0, 2 * (i as u8 % FLUENTS) + 1], literals(16, i)].concat());
+    [vec![FLUENTS, 1, 0], effects, vec![1, 0, 0, 0], sequence(&vec![vec![0]; items]), vec![0, 0]].concat()
 }
 
 /// The same in a state that knows the complement of all that is given, with bodies known true but for their last literal, which is known
 /// false: each has to be looked through.
 fn barred(items: usize) -> Vec<u8> {
-    let facts = section(64, |i| vec![2 * i as u8 + u8::from(i == 15)]);
+    let facts = section(FLUENT_LIMIT, |i| vec![2 * i as u8 + u8::from(i == 15)]);
     let body = section(16, |i| vec![2 * i as u8]);
-    let effects = section(255, |i| [vec![0, 2 * (16 + i as u8 % 48) + 1], body.clone()].concat());
-    [vec![64, 1], facts, effects, vec![1, 0, 0, 0], sequence(&vec![vec![0]; items]), vec![0, 0]].concat()
+    let effects = section(255, |i| [vec![0, 2 * (16 + i as u8 % (FLUENTS - 16)) + 1], body.clone()].concat());
+    [vec![FLUENTS, 1], facts, effects, vec![1, 0, 0, 0], sequence(&vec![vec![0]; items]), vec![0, 0]].concat()
 }
 
 /// So many looks, each at a fluent of its own, so that each doubles the paths.
@@ -70,11 +71,12 @@ fn looks(count: u8) -> Vec<u8> {
     [vec![count, count, 0, 0], each(|i| vec![i, 0]), each(|i| vec![i, i]), sequence(&plan), vec![0], each(|i| vec![i])].concat()
 }
 
-/// Looks at 63 fluents, each followed by an action that makes all of them unknown by way of the last one: the deepest walk.
+/// Looks at all fluents but one, each followed by an action that makes all of them unknown by way of the last one: the deepest walk.
 fn deep() -> Vec<u8> {
-    let effects = section(126, |i| vec![1, i as u8, 1, 127 - (i as u8 % 2)]);
+    let sensed = FLUENT_LIMIT - 1;
+    let effects = section(2 * sensed, |i| vec![1, i as u8, 1, (2 * sensed + 1 - i % 2) as u8]);
     let plan = vec![[vec![0], vec![1]]; 512].concat();
-    [vec![64, 2, 0], effects, vec![2, 0, 0, 1, 0], section(63, |i| vec![0, i as u8]), sequence(&plan), vec![0, 0]].concat()
+    [vec![FLUENTS, 2, 0], effects, vec![2, 0, 0, 1, 0], section(sensed, |i| vec![0, i as u8]), sequence(&plan), vec![0, 0]].concat()
 }
 
 /// Prints the table, and panics where the two differ in an answer or a state.

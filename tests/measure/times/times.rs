@@ -19,6 +19,8 @@ use std::hint::black_box;
 use std::thread;
 use std::time::Instant;
 
+use reader::{ACTION_LIMIT, FLUENT_LIMIT};
+
 /// How often each call is timed, in turns, and for how many nanoseconds about: few, so that other work seldom falls within.
 const ROUNDS: u128 = 1001;
 const SPAN: u128 = 400_000;
@@ -28,6 +30,10 @@ const FEWEST: u128 = 21;
 
 /// The stack for the walk: see docs/MEASURED.md.
 const STACK: usize = 64 << 20;
+
+/// As many fluents and actions as there can be.
+const FLUENTS: u8 = FLUENT_LIMIT as u8;
+const ACTIONS: u8 = ACTION_LIMIT as u8;
 
 /// The notes that the proved reader leaves, and two of their slots.
 const SLOTS: usize = 9480;
@@ -61,9 +67,14 @@ fn section(count: usize, line: impl Fn(usize) -> Vec<u8>) -> Vec<u8> {
     std::iter::once(count as u8).chain((0..count).flat_map(line)).collect()
 }
 
-/// A list of so many literals, spread over 64 fluents; the signs are bits of a number.
+/// A list of so many literals, spread over all fluents; the signs are bits of a number.
 fn literals(count: usize, signs: usize) -> Vec<u8> {
-    section(count, |i| vec![(2 * i * (64 / count) + (signs >> (i % 8) & 1)) as u8])
+    section(count, |i| vec![(2 * i * (FLUENT_LIMIT / count) + (signs >> (i % 8) & 1)) as u8])
+}
+
+/// The literals in turn.
+fn literal(number: usize) -> u8 {
+    (number % (2 * FLUENT_LIMIT)) as u8
 }
 
 /// A two-byte item count and that many items.
@@ -79,13 +90,13 @@ fn branching(branches: usize, condition: usize, item: &[u8]) -> Vec<u8> {
 
 /// As many bytes as a request may have: sections 2 to 5, 7 and 8 full, and a plan of branchings and actions in what is left.
 fn largest() -> Vec<u8> {
-    let effects = section(255, |i| [vec![i as u8 % 64, i as u8 % 128], literals(16, i)].concat());
-    let executability = section(255, |i| [vec![i as u8 % 64], literals(16, i)].concat());
-    let knowledge = section(255, |i| vec![i as u8 % 64, i as u8 / 4]);
-    let before = [vec![64, 64], literals(64, 85), effects, executability, knowledge].concat();
-    let after = [literals(64, 170), section(64, |i| vec![i as u8])].concat();
+    let effects = section(255, |i| [vec![i as u8 % ACTIONS, literal(i)], literals(16, i)].concat());
+    let executability = section(255, |i| [vec![i as u8 % ACTIONS], literals(16, i)].concat());
+    let knowledge = section(255, |i| vec![i as u8 % ACTIONS, (i / (256 / FLUENT_LIMIT)) as u8]);
+    let before = [vec![FLUENTS, ACTIONS], literals(FLUENT_LIMIT, 85), effects, executability, knowledge].concat();
+    let after = [literals(FLUENT_LIMIT, 170), section(FLUENT_LIMIT, |i| vec![i as u8])].concat();
     let left = reader::REQUEST_LIMIT - before.len() - after.len() - 2;
-    let large = branching(8, 16, &[63]);
+    let large = branching(8, 16, &[ACTIONS - 1]);
     let mut items = vec![large.clone(); left / large.len()];
     items.resize(items.len() + left % large.len(), vec![7]);
     [before, sequence(&items), after].concat()
@@ -93,8 +104,8 @@ fn largest() -> Vec<u8> {
 
 /// As many effects as there may be, all of one action, with bodies as long as they may be.
 fn effects() -> Vec<u8> {
-    let lines = section(255, |i| [vec![0, i as u8 % 128], literals(16, i)].concat());
-    [vec![64, 1, 0], lines, vec![0, 0, 0, 0, 0, 0]].concat()
+    let lines = section(255, |i| [vec![0, literal(i)], literals(16, i)].concat());
+    [vec![FLUENTS, 1, 0], lines, vec![0, 0, 0, 0, 0, 0]].concat()
 }
 
 /// As many items as there may be, in towers of eight branchings around an action, and a few actions more.
@@ -102,7 +113,7 @@ fn items() -> Vec<u8> {
     let tower = (0..8).fold(vec![0], |item, _| branching(1, 1, &item));
     let mut items = vec![tower; 1024 / 9];
     items.resize(items.len() + 1024 % 9, vec![0]);
-    [vec![64, 1, 0, 0, 0, 0], sequence(&items), vec![0, 0]].concat()
+    [vec![FLUENTS, 1, 0, 0, 0, 0], sequence(&items), vec![0, 0]].concat()
 }
 
 /// File A of FORMAT 13.3.

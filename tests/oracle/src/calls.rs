@@ -84,7 +84,7 @@ pub fn damaged_judge_call(rng: &mut Rng, draft: &Request) -> JudgeCall {
 
 /// Gives a call a lent state of a wrong length.
 pub fn lend_wrongly(rng: &mut Rng, call: &mut JudgeCall) {
-    let length = *rng.pick(&[0, 1, 63, 65, 128]);
+    let length = *rng.pick(&[0, 1, STATE_LENGTH - 1, STATE_LENGTH + 1, 2 * STATE_LENGTH]);
     call.lent = vec![rng.byte(0, 255); length];
     call.outlook = Outlook::Refused(0, Fault::new(9, 0));
 }

@@ -9,7 +9,8 @@ use crate::forge::forge;
 use crate::generate::{body, long_plan, nest};
 use crate::model::{is_positive, Allowance, Branch, Effect, Item, Knowledge, Line, Request};
 use crate::reader::{
-    BRANCH_LIMIT, DERIVATION_LIMIT, ITEM_LIMIT, LINE_LIMIT, NESTING_LIMIT, REQUEST_LIMIT,
+    BODY_LIMIT, BRANCH_LIMIT, CITATION_LIMIT, DERIVATION_LIMIT, ITEM_LIMIT, LINE_LIMIT, LIST_LIMIT,
+    NESTING_LIMIT, REQUEST_LIMIT,
 };
 use crate::rng::Rng;
 
@@ -178,12 +179,27 @@ pub(crate) fn aimed(
     strike(rng, whole.bytes.clone(), target)
 }
 
+/// Counts one beyond the limits of branches, bodies, citations and lists, which have the same limit
+/// as citations or a larger one; and others.
+const WRONG_COUNTS: [usize; 6] = [
+    0,
+    BRANCH_LIMIT + 1,
+    BODY_LIMIT + 1,
+    CITATION_LIMIT + 1,
+    if LIST_LIMIT < 128 {
+        128
+    } else {
+        LIST_LIMIT + 1
+    },
+    255,
+];
+
 /// A count off by one, or far out.
 fn wrong_count(rng: &mut Rng, mut bytes: Vec<u8>, place: usize) -> Damaged {
     bytes[place] = match rng.below(4) {
         0 | 1 => bytes[place].wrapping_add(1),
         2 => bytes[place].wrapping_sub(1),
-        _ => *rng.pick(&[0, 9, 17, 65, 128, 255]),
+        _ => *rng.pick(&WRONG_COUNTS) as u8,
     };
     Damaged::unsure(bytes)
 }
@@ -220,18 +236,19 @@ fn turned(_: &mut Rng, mut bytes: Vec<u8>, place: usize) -> Damaged {
     Damaged::sure(bytes, number, place)
 }
 
-/// A fluent, literal or action that is too large.
+/// A fluent, literal or action that is too large. With 128 fluents no literal is.
 fn too_large(rng: &mut Rng, whole: &Encoded, bounds: Bounds) -> Damaged {
     let bound = |kind| match kind {
-        Kind::Action => Some(bounds.actions),
-        Kind::Literal => Some(2 * bounds.fluents),
-        Kind::Fluent => Some(bounds.fluents),
+        Kind::Action => Some(usize::from(bounds.actions)),
+        Kind::Literal => Some(2 * usize::from(bounds.fluents)),
+        Kind::Fluent => Some(usize::from(bounds.fluents)),
         _ => None,
     };
     let targets: Vec<(usize, u8)> = whole
         .marks
         .iter()
         .filter_map(|mark| bound(mark.kind).map(|bound| (mark.place, bound)))
+        .filter_map(|(place, bound)| Some((place, u8::try_from(bound).ok()?)))
         .collect();
     let mut bytes = whole.bytes.clone();
     if targets.is_empty() {
@@ -435,10 +452,11 @@ pub(crate) fn wrong_citations(rng: &mut Rng, cites: &mut Vec<u16>) {
         0 => {
             cites.pop();
         }
-        1 if cites.len() < 64 => cites.push(cites.first().copied().unwrap_or(0)),
+        1 if cites.len() < CITATION_LIMIT => cites.push(cites.first().copied().unwrap_or(0)),
         _ => {
             let cited = cites.first().copied().unwrap_or(0);
-            *cites = vec![cited; *rng.pick(&[0, 1, 2, 3, 4, 5, 6, 8, 63, 64])];
+            let most = CITATION_LIMIT;
+            *cites = vec![cited; *rng.pick(&[0, 1, 2, 3, 4, 5, 6, 8, most - 1, most])];
         }
     }
 }

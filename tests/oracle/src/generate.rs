@@ -6,10 +6,10 @@
 use std::collections::BTreeMap;
 
 use crate::model::{Allowance, Branch, Effect, Item, Knowledge, Request};
-use crate::reader::{BRANCH_LIMIT, ITEM_LIMIT, NESTING_LIMIT};
+use crate::reader::{ACTION_LIMIT, BRANCH_LIMIT, FLUENT_LIMIT, ITEM_LIMIT, NESTING_LIMIT};
 use crate::rng::Rng;
 use crate::settle::contradictory;
-use crate::table::{readings, Known, Table};
+use crate::table::{bit, readings, Known, Mask, Table};
 
 /// Most states that a plan is grown along.
 const STATES: usize = 12;
@@ -59,8 +59,8 @@ pub const MIDDLE: Shape = Shape {
 };
 
 pub const LARGE: Shape = Shape {
-    fluents: (11, 64),
-    actions: (8, 64),
+    fluents: (11, FLUENT_LIMIT as u8),
+    actions: (8, ACTION_LIMIT as u8),
     steps: (10, 80),
     items: ITEM_LIMIT,
     effects: 6,
@@ -77,7 +77,7 @@ pub fn any_request(rng: &mut Rng) -> Request {
         970..=979 => request(rng, &LARGE),
         980..=989 => nested(rng),
         990..=993 => forgetful(rng, 4, 4),
-        994..=996 => forgetful(rng, 63, ITEM_LIMIT / 2),
+        994..=996 => forgetful(rng, FLUENT_LIMIT as u8 - 1, ITEM_LIMIT / 2),
         _ => long_plan(rng, ITEM_LIMIT),
     }
 }
@@ -151,7 +151,7 @@ fn lines_of(rng: &mut Rng, request: &mut Request, action: u8, shape: &Shape) {
 
 /// Adds an effect unless it contradicts one that is there.
 fn add_effect(rng: &mut Rng, request: &mut Request, action: u8) {
-    let literal = rng.byte(0, 2 * request.fluents - 1);
+    let literal = rng.byte(0, 2 * (request.fluents - 1) + 1);
     let length = *rng.pick(&[0, 0, 1, 1, 1, 2, 3]);
     let effect = Effect {
         place: 0,
@@ -231,9 +231,9 @@ fn goals(rng: &mut Rng, request: &Request, ends: &[Known], careless: u64) -> Vec
 fn whether(rng: &mut Rng, request: &Request, ends: &[Known], careless: u64) -> Vec<u8> {
     let known = ends
         .iter()
-        .fold(u64::MAX, |mask, state| mask & state.marked());
+        .fold(Mask::MAX, |mask, state| mask & state.marked());
     let mut fluents: Vec<u8> = (0..request.fluents)
-        .filter(|fluent| known & (1 << fluent) != 0)
+        .filter(|&fluent| known & bit(fluent) != 0)
         .collect();
     fluents.retain(|_| rng.chance(60));
     if rng.chance(3 * careless) {
@@ -370,11 +370,11 @@ impl<'a> Grower<'a> {
 
     /// One to three fluents that are known in all of the states, rather those that differ; now
     /// and then any fluent.
-    fn branching_fluents(&mut self, states: &[Known]) -> u64 {
-        let all = u64::MAX >> (64 - self.request.fluents);
+    fn branching_fluents(&mut self, states: &[Known]) -> Mask {
+        let all = Mask::MAX >> (Mask::BITS - u32::from(self.request.fluents));
         let known = states.iter().fold(all, |mask, state| mask & state.marked());
         if self.rng.chance(self.careless / 2) {
-            return 1 << self.rng.byte(0, self.request.fluents - 1);
+            return bit(self.rng.byte(0, self.request.fluents - 1));
         }
         let differing = known & !common(states).marked();
         let pool = if differing != 0 && self.rng.chance(90) {
@@ -385,7 +385,7 @@ impl<'a> Grower<'a> {
         let mut chosen = 0;
         for _ in 0..*self.rng.pick(&[1, 1, 1, 2, 2, 3]) {
             if pool & !chosen != 0 {
-                chosen |= 1 << self.rng.fluent(pool & !chosen);
+                chosen |= bit(self.rng.fluent(pool & !chosen));
             }
         }
         chosen
@@ -424,7 +424,7 @@ impl<'a> Grower<'a> {
 
 /// The states by what they say of the fluents; a fluent without a value is left out of no
 /// class, and taken as true.
-fn classes(states: &[Known], fluents: u64) -> BTreeMap<Vec<u8>, Vec<Known>> {
+fn classes(states: &[Known], fluents: Mask) -> BTreeMap<Vec<u8>, Vec<Known>> {
     let mut classes: BTreeMap<Vec<u8>, Vec<Known>> = BTreeMap::new();
     for &state in states {
         let seen = Known {

@@ -33,8 +33,8 @@ use model::Request;
 use table::Known;
 use walk::Verdict;
 
-/// The length of a lent state.
-pub const STATE_LENGTH: usize = 64;
+/// The length of a lent state, which has a byte for each fluent that a request may have.
+pub const STATE_LENGTH: usize = reader::FLUENT_LIMIT;
 
 /// The judging call: 9, then the request's reading and settling, then the walk.
 ///
@@ -136,7 +136,7 @@ fn tell(verdict: Verdict, lent: &mut [u8], budget: u32) -> Answer {
 
 /// Byte f is 0 unknown, 1 true, 2 false, and 0 from the number of fluents up.
 fn write(state: Known, lent: &mut [u8]) {
-    for (fluent, byte) in lent.iter_mut().enumerate() {
+    for (fluent, byte) in (0..).zip(lent) {
         *byte = state.mark(fluent);
     }
 }

@@ -33,7 +33,7 @@ usage:
         D REQUEST DERIVATION NUMBER INPUT PLACE COUNT
         W REQUEST DERIVATION NUMBER INPUT PLACE COUNT
       Bytes are decimal with commas between; `-` is no byte; the three words REP BYTE N are N
-      times one byte. LENT is the length of the lent state; STATE is its 64 bytes after answers
+      times one byte. LENT is the length of the lent state; STATE is all its bytes after answers
       1 and 2, and `-` where it stays as lent. (Seed 1, 300, 0 and 0 unless told otherwise.)
   oracle examples [FOLDER]
       Runs the example files and prints a tally.

@@ -9,15 +9,15 @@
 
 use crate::generate::common;
 use crate::model::{Allowance, Conclusion, Item, Knowledge, Line, ProofLine, Request};
-use crate::reader::LINE_LIMIT;
+use crate::reader::{CITATION_LIMIT, LINE_LIMIT};
 use crate::rng::Rng;
-use crate::table::{readings, Known, Table};
+use crate::table::{bit, readings, Known, Table};
 use crate::whether::translate::former_lines;
 
 /// Most end states that are followed when a claim is tried.
 const ENDS: usize = 64;
-/// Most unknown fluents that rule 3 can take.
-const READ_AT_ONCE: u32 = 6;
+/// Most unknown fluents that rule 3 can take: a line for each reading is cited.
+const READ_AT_ONCE: u32 = CITATION_LIMIT.ilog2();
 
 /// A claim that the walk from X verifies: what is known after c.
 #[derive(Clone)]
@@ -59,7 +59,7 @@ impl Claim {
     pub fn known_in(&self, state: Known) -> bool {
         match &self.gives {
             Conclusion::List(after) => state.holds(Known::of(after)),
-            Conclusion::Fluent(fluent) => state.marked() & (1 << fluent) != 0,
+            Conclusion::Fluent(fluent) => state.marked() & bit(*fluent) != 0,
         }
     }
 }

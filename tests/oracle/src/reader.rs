@@ -11,7 +11,11 @@ use crate::model::{
 pub const REQUEST_LIMIT: usize = 16_384;
 /// Longest derivation in bytes.
 pub const DERIVATION_LIMIT: usize = 32_768;
-/// Most fluents or actions, and most entries of a list outside of bodies.
+/// Most fluents. The masks of `table.rs` have room for 128, and so have literal bytes.
+pub const FLUENT_LIMIT: usize = 64;
+/// Most actions.
+pub const ACTION_LIMIT: usize = 64;
+/// Most entries of a list outside of bodies.
 pub const LIST_LIMIT: usize = 64;
 /// Most literals of a body.
 pub const BODY_LIMIT: usize = 16;
@@ -134,26 +138,26 @@ impl Reader<'_> {
         Ok(u16::from_be_bytes([high, low]))
     }
 
-    /// A byte below a bound, 13 otherwise.
-    fn below(&mut self, bound: u8) -> Read<u8> {
+    /// A byte below a bound, 13 otherwise. With 128 fluents every byte is a literal.
+    fn below(&mut self, bound: usize) -> Read<u8> {
         let place = self.at;
         let byte = self.byte()?;
-        if byte >= bound {
+        if usize::from(byte) >= bound {
             return Err(Fault::new(13, place));
         }
         Ok(byte)
     }
 
     fn fluent(&mut self) -> Read<u8> {
-        self.below(self.fluents)
+        self.below(usize::from(self.fluents))
     }
 
     fn literal(&mut self) -> Read<u8> {
-        self.below(2 * self.fluents)
+        self.below(2 * usize::from(self.fluents))
     }
 
     fn action(&mut self) -> Read<u8> {
-        self.below(self.actions)
+        self.below(usize::from(self.actions))
     }
 
     /// A list of literals: strictly ascending (14), and no complement after a literal (15).
@@ -194,8 +198,8 @@ impl Reader<'_> {
     }
 
     fn request(&mut self) -> Read<Request> {
-        self.fluents = self.count(1, LIST_LIMIT)? as u8;
-        self.actions = self.count(1, LIST_LIMIT)? as u8;
+        self.fluents = self.count(1, FLUENT_LIMIT)? as u8;
+        self.actions = self.count(1, ACTION_LIMIT)? as u8;
         let facts = self.literals(LIST_LIMIT)?;
         let effects = self.section(Self::effect)?;
         let allowances = self.section(Self::allowance)?;
@@ -310,7 +314,7 @@ impl Reader<'_> {
         (0..count).map(|_| line(self)).collect()
     }
 
-    /// A citation count of 0 to 64, then that many line numbers.
+    /// A citation count up to its limit, then that many line numbers.
     fn cites(&mut self) -> Read<Vec<u16>> {
         let count = self.count(0, CITATION_LIMIT)?;
         (0..count).map(|_| self.wide()).collect()

@@ -1,5 +1,7 @@
 //! A small deterministic generator of numbers (splitmix64).
 
+use crate::table::Mask;
+
 /// The state of the generator.
 #[derive(Clone, Debug)]
 pub struct Rng {
@@ -59,7 +61,7 @@ impl Rng {
     }
 
     /// One of the fluents of a mask that has some.
-    pub fn fluent(&mut self, mask: u64) -> u8 {
+    pub fn fluent(&mut self, mask: Mask) -> u8 {
         let skipped = self.below(mask.count_ones() as usize);
         let mut left = mask;
         for _ in 0..skipped {

@@ -8,7 +8,7 @@
 //!
 //! Bytes are decimal with commas between, and `-` is no byte at all. `REP BYTE N`, three words
 //! in place of one, stands for N times one byte. LENT is the length of the lent state. STATE is
-//! the 64 bytes of the lent state after answers 1 and 2, and `-` where it stays as lent.
+//! all bytes of the lent state after answers 1 and 2, and `-` where it stays as lent.
 //!
 //! All answers of a call come round in 150 rows. Requests have at most 120 bytes, a few up to
 //! 300; derivations at most 200, a few up to 400; a walk that is reached counts at most 2,000.
@@ -22,7 +22,7 @@ use crate::calls::{
 };
 use crate::generate::{forgetful, request, Shape, MIDDLE, SMALL, TINY};
 use crate::model::Request;
-use crate::reader::{DERIVATION_LIMIT, REQUEST_LIMIT};
+use crate::reader::{DERIVATION_LIMIT, LIST_LIMIT, REQUEST_LIMIT};
 use crate::rng::Rng;
 use crate::text::comma_separated;
 use crate::walk::{walk, Verdict};
@@ -135,7 +135,7 @@ fn judging_row(rng: &mut Rng, wanted: u8) -> String {
     let call = match wanted {
         10 => {
             let mut call = judging_call(rng, 11, BYTES);
-            call.request = vec![rng.byte(0, 64); REQUEST_LIMIT + 1];
+            call.request = vec![rng.byte(0, LIST_LIMIT as u8); REQUEST_LIMIT + 1];
             call
         }
         21 => judging_call(rng, 21, LONG_BYTES),
@@ -212,7 +212,7 @@ fn checking_row(rng: &mut Rng, wanted: (u8, u8)) -> String {
     let call = match wanted {
         (10, _) => {
             let mut call = checking_call(rng, (11, DERIVATION), DERIVATION_BYTES);
-            call.derivation = vec![rng.byte(0, 64); DERIVATION_LIMIT + 1];
+            call.derivation = vec![rng.byte(0, LIST_LIMIT as u8); DERIVATION_LIMIT + 1];
             call
         }
         (21, _) => checking_call(rng, wanted, LONG_BYTES),

@@ -3,8 +3,9 @@
 
 use crate::answer::Fault;
 use crate::model::{Conclusion, Item, ProofLine, Request};
+use crate::reader::CITATION_LIMIT;
 use crate::settle::overlap;
-use crate::table::{readings, Known, Table};
+use crate::table::{bit, readings, Known, Table};
 
 /// 18 over the plans of all lines, then each line in order; `is_rule` is 31's test.
 pub(crate) fn check_all(
@@ -50,7 +51,7 @@ fn check_line(table: &Table, lines: &[ProofLine], index: usize) -> Result<(), u8
 pub fn takes(rule: u8, citations: usize) -> bool {
     match rule {
         1 | 2 | 7 => citations == 0,
-        3 | 10 => citations <= 64 && citations.is_power_of_two(),
+        3 | 10 => citations <= CITATION_LIMIT && citations.is_power_of_two(),
         5 | 11 => citations == 2,
         _ => citations == 1,
     }
@@ -151,7 +152,7 @@ fn by_weakening(line: &ProofLine, after: &[u8], cited: &ProofLine) -> bool {
 fn by_looking(table: &Table, line: &ProofLine, fluent: u8) -> bool {
     match line.sequence[..] {
         [Item::Action { action, .. }] => {
-            table.senses(action) & (1 << fluent) != 0
+            table.senses(action) & bit(fluent) != 0
                 && table.runnable(action, Known::of(&line.before))
         }
         _ => false,

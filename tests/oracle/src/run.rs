@@ -170,7 +170,7 @@ impl Tally {
         if answer.number == 3 {
             return Ok(());
         }
-        if request.fluents > worlds::FLUENT_LIMIT {
+        if request.fluents > worlds::WORLD_FLUENTS {
             self.not_enumerated += u64::from(answer.number == 0);
             return Ok(());
         }
@@ -225,7 +225,7 @@ impl Tally {
             Verdict::Over => self.accepted_beyond_walk += 1,
             other => return Err(format!("accepted, but the walk says {other:?}")),
         }
-        if request.fluents > worlds::FLUENT_LIMIT {
+        if request.fluents > worlds::WORLD_FLUENTS {
             return Ok(());
         }
         let worlds = worlds::carry_out(request)

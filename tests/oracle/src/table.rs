@@ -1,12 +1,23 @@
 //! Partial states as two masks, and the domain table in a form that runs on them.
 
 use crate::model::{is_positive, Request};
+use crate::reader::FLUENT_LIMIT;
+
+/// A set of fluents, a bit for each.
+pub type Mask = u128;
+
+const _: () = assert!(FLUENT_LIMIT <= Mask::BITS as usize);
+
+/// The set of one fluent.
+pub fn bit(fluent: u8) -> Mask {
+    1 << fluent
+}
 
 /// A partial state: the fluents known true and those known false.
 #[derive(Clone, Copy, Debug, Default, PartialEq, Eq, PartialOrd, Ord, Hash)]
 pub struct Known {
-    pub yes: u64,
-    pub no: u64,
+    pub yes: Mask,
+    pub no: Mask,
 }
 
 impl Known {
@@ -21,7 +32,7 @@ impl Known {
 
     /// Marks the fluent of a literal, which has been unknown.
     pub fn learn(&mut self, literal: u8) {
-        let bit = 1u64 << (literal / 2);
+        let bit = bit(literal / 2);
         if is_positive(literal) {
             self.yes |= bit;
         } else {
@@ -31,22 +42,16 @@ impl Known {
 
     /// The known literals, ascending.
     pub fn literals(self) -> Vec<u8> {
-        (0..64u8)
-            .filter_map(|fluent| {
-                let bit = 1u64 << fluent;
-                if self.yes & bit != 0 {
-                    Some(2 * fluent)
-                } else if self.no & bit != 0 {
-                    Some(2 * fluent + 1)
-                } else {
-                    None
-                }
+        (0..FLUENT_LIMIT as u8)
+            .filter_map(|fluent| match self.mark(fluent) {
+                0 => None,
+                mark => Some(2 * fluent + (mark - 1)),
             })
             .collect()
     }
 
     /// The fluents that have a value.
-    pub fn marked(self) -> u64 {
+    pub fn marked(self) -> Mask {
         self.yes | self.no
     }
 
@@ -69,8 +74,8 @@ impl Known {
     }
 
     /// The mark of a fluent as the lent state shows it: 0 unknown, 1 true, 2 false.
-    pub fn mark(self, fluent: usize) -> u8 {
-        let bit = 1u64 << fluent;
+    pub fn mark(self, fluent: u8) -> u8 {
+        let bit = bit(fluent);
         if self.yes & bit != 0 {
             1
         } else if self.no & bit != 0 {
@@ -86,7 +91,7 @@ impl Known {
 struct Deed {
     allowances: Vec<Known>,
     effects: Vec<(Known, Known)>,
-    senses: u64,
+    senses: Mask,
 }
 
 /// The lines of all actions.
@@ -108,7 +113,7 @@ impl Table {
                 .push(Known::of(&line.body));
         }
         for line in &request.knowledge {
-            deeds[usize::from(line.action)].senses |= 1 << line.fluent;
+            deeds[usize::from(line.action)].senses |= bit(line.fluent);
         }
         Table { deeds }
     }
@@ -122,7 +127,7 @@ impl Table {
     }
 
     /// The fluents that a sensing action senses; none for any other action.
-    pub fn senses(&self, action: u8) -> u64 {
+    pub fn senses(&self, action: u8) -> Mask {
         self.deed(action).senses
     }
 
@@ -156,10 +161,10 @@ impl Table {
 
 /// All readings of the given fluents over a state, in the walk's order: the smallest fluent
 /// turns slowest, true before false.
-pub fn readings(state: Known, fluents: u64) -> Vec<Known> {
+pub fn readings(state: Known, fluents: Mask) -> Vec<Known> {
     let mut all = vec![state];
-    for fluent in 0..64u8 {
-        if fluents & (1 << fluent) != 0 {
+    for fluent in 0..FLUENT_LIMIT as u8 {
+        if fluents & bit(fluent) != 0 {
             all = all
                 .into_iter()
                 .flat_map(|known| both_readings(known, fluent))

@@ -5,7 +5,7 @@
 //! with a copy of the state.
 
 use crate::model::{Item, Request};
-use crate::table::{Known, Table};
+use crate::table::{bit, Known, Mask, Table};
 
 /// How a whole walk ends.
 #[derive(Clone, Copy, Debug, PartialEq, Eq)]
@@ -106,7 +106,7 @@ impl Code {
 struct Turn {
     node: usize,
     state: Known,
-    unread: u64,
+    unread: Mask,
 }
 
 struct Walker<'a> {
@@ -229,7 +229,7 @@ impl Walker<'_> {
             .position(|&goal| !state.holds(Known::of(&[goal])));
         let fluent = whether
             .iter()
-            .position(|&fluent| state.marked() & (1 << fluent) == 0);
+            .position(|&fluent| state.marked() & bit(fluent) == 0);
         goal.map(|index| self.request.goals_place + 1 + index)
             .or(fluent.map(|index| self.request.whether_place + 1 + index))
     }

@@ -8,7 +8,7 @@
 use crate::model::{is_positive, Item, Request};
 
 /// Most fluents for which worlds are enumerated.
-pub const FLUENT_LIMIT: u8 = 10;
+pub const WORLD_FLUENTS: u8 = 10;
 
 /// Why some true world doesn't carry the plan to its goals.
 #[derive(Clone, Copy, Debug, PartialEq, Eq)]
@@ -60,7 +60,7 @@ impl Demand {
 ///
 /// The request has at most ten fluents.
 pub fn carry_out(request: &Request) -> Result<u64, Failure> {
-    assert!(request.fluents <= FLUENT_LIMIT);
+    assert!(request.fluents <= WORLD_FLUENTS);
     let facts = Demand::new(&request.facts);
     let start: Party = (0..1u16 << request.fluents)
         .filter(|&world| facts.holds(world))

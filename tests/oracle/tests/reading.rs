@@ -4,6 +4,7 @@ mod common;
 
 use common::*;
 use oracle::check;
+use oracle::reader::{ACTION_LIMIT, FLUENT_LIMIT};
 
 /// `fluents` and `actions`, nothing else before the plan, and an action 0 that may be run.
 fn with_plan(fluents: u8, actions: u8, plan: &[u8], tail: &str) -> Vec<u8> {
@@ -75,13 +76,17 @@ fn too_large_bytes() {
 
 #[test]
 fn largest_bytes_that_are_read() {
-    let mut request = vec![64, 64, 64];
-    request.extend((0..64).map(|fluent| 2 * fluent + 1));
-    request.extend(bytes("1 63 127 0 1 63 0 0 0 1 63"));
-    request.push(64);
-    request.extend((0..64).map(|fluent| 2 * fluent + 1));
-    request.push(64);
-    request.extend(0..64);
+    let [fluents, actions] = [FLUENT_LIMIT, ACTION_LIMIT].map(|limit| limit as u8);
+    let literals = || (0..fluents).map(|fluent| 2 * fluent + 1);
+    let mut request = vec![fluents, actions, fluents];
+    request.extend(literals());
+    request.extend([1, actions - 1, 2 * (fluents - 1) + 1, 0]);
+    request.extend([1, actions - 1, 0]);
+    request.extend([0, 0, 1, actions - 1]);
+    request.push(fluents);
+    request.extend(literals());
+    request.push(fluents);
+    request.extend(0..fluents);
     verified(&request, 2);
 }
 

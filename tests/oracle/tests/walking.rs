@@ -5,7 +5,8 @@ mod common;
 use common::*;
 use oracle::encode::encode_request;
 use oracle::generate::forget_and_sense;
-use oracle::{judge, open, paths, worlds};
+use oracle::reader::FLUENT_LIMIT;
+use oracle::{judge, open, paths, worlds, STATE_LENGTH};
 
 #[test]
 fn a_stuck_item_at_the_budget() {
@@ -148,7 +149,7 @@ fn repeated_lines_change_nothing() {
 
 #[test]
 fn bytes_from_the_number_of_fluents_up_are_cleared() {
-    for lent in [[0; 64], [1; 64], [255; 64]] {
+    for lent in [0, 1, 255].map(|byte| [byte; STATE_LENGTH]) {
         let mut written = lent;
         let answer = judge(&table_a("0 0 1 2 0"), &mut written, 9);
         assert_eq!(answer.number, 1);
@@ -161,8 +162,9 @@ fn bytes_from_the_number_of_fluents_up_are_cleared() {
 
 #[test]
 fn the_deepest_walk() {
-    // 512 times: sense 63 fluents, then make them unknown again; 32,256 forks on one path.
-    let draft = forget_and_sense(63, 512);
+    // 512 times: sense all fluents but one, then make them unknown again; with 64 fluents that are
+    // 32,256 forks on one path.
+    let draft = forget_and_sense(FLUENT_LIMIT as u8 - 1, 512);
     let request = encode_request(&draft).bytes;
     for budget in [0, 1, 1_024, 1_025, 100_000] {
         expect(&request, budget, 3, 0, 0, budget);
@@ -177,10 +179,10 @@ fn the_deepest_walk() {
     stuck.plan.truncate(1_023);
     stuck.plan.push(oracle::model::Item::act(2));
     let request = encode_request(&stuck).bytes;
-    let mut lent = [LENT; 64];
+    let mut lent = [LENT; STATE_LENGTH];
     let found = judge(&request, &mut lent, 1_023);
     assert_eq!((found.number, found.count), (2, 1_023));
-    assert_eq!(lent, state(&format!("{}?", "+".repeat(63))));
+    assert_eq!(lent, state(&format!("{}?", "+".repeat(FLUENT_LIMIT - 1))));
     expect(&request, 1_022, 3, 0, 0, 1_022);
 }
 

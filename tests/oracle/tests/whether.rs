@@ -5,9 +5,9 @@ mod common;
 
 use common::*;
 use oracle::encode::{encode_derivation, encode_proof, encode_request, proof_place};
-use oracle::model::{Branch, Conclusion, Item, Proof, ProofLine, Request};
-use oracle::reader::read_derivation;
-use oracle::whether::prove::{many_whether, natural_proof, pad_proof};
+use oracle::model::{Allowance, Branch, Conclusion, Effect, Item, Proof, ProofLine, Request};
+use oracle::reader::{read_derivation, FLUENT_LIMIT};
+use oracle::whether::prove::{many_whether, pad_proof};
 use oracle::whether::translate::{as_lines, as_proof};
 use oracle::{check, check_whether, Answer};
 use Conclusion::{Fluent, List};
@@ -845,40 +845,70 @@ fn the_last_line_need_not_be_named() {
 
 #[test]
 fn as_many_entries_as_there_can_be() {
+    // An action makes every fluent known; lines that start with all of it would be too long.
+    let entries = FLUENT_LIMIT;
+    let fluents = entries as u8;
+    let all: Vec<u8> = (0..fluents).map(|fluent| 2 * fluent + fluent % 2).collect();
+    let effect = |&literal: &u8| Effect {
+        place: 0,
+        action: 0,
+        literal,
+        body: Vec::new(),
+    };
     let request = Request {
-        fluents: 64,
+        fluents,
         actions: 1,
-        facts: (0..64).map(|fluent| 2 * fluent + fluent % 2).collect(),
-        whether: (0..64).collect(),
+        effects: all.iter().map(effect).collect(),
+        allowances: vec![Allowance {
+            action: 0,
+            body: Vec::new(),
+        }],
+        plan: acts(&[0]),
+        goals: all.clone(),
+        whether: (0..fluents).collect(),
         ..Request::default()
     };
-    let mut proof = natural_proof(&request).expect("a derivation");
-    assert_eq!(proof.closing.len(), 65);
+    let mut lines = vec![known(&[], &acts(&[0]), 2, &all, &[])];
+    for fluent in 0..fluents {
+        let alone = lines.len() as u16;
+        let literal = all[usize::from(fluent)];
+        lines.push(known(&[], &acts(&[0]), 6, &[literal], &[0]));
+        lines.push(whether(&[], &acts(&[0]), 8, fluent, &[alone]));
+    }
+    let mut proof = Proof {
+        lines,
+        closing_place: 0,
+        closing: (0..=entries as u16).map(|entry| 2 * entry).collect(),
+    };
     let bytes = encode_request(&request).bytes;
     let check = |proof: &Proof| check_whether(&bytes, &encode_proof(proof).bytes);
     assert_eq!(check(&proof), answer(0, 0, 0, 0));
     let place = proof_place(&proof.lines, proof.lines.len()) as u32;
-    let last = proof.closing[64];
-    proof.closing[64] = last - 1;
-    assert_eq!(check(&proof), answer(36, 2, place + 129, 0));
-    proof.closing[64] = last;
+    let last = proof.closing[entries];
+    proof.closing[entries] = last - 1;
+    assert_eq!(
+        check(&proof),
+        answer(36, 2, place + 1 + 2 * entries as u32, 0)
+    );
+    proof.closing[entries] = last;
     proof.closing.push(last);
     assert_eq!(check(&proof), answer(36, 2, place, 0));
-    proof.closing.truncate(64);
+    proof.closing.truncate(entries);
     assert_eq!(check(&proof), answer(36, 2, place, 0));
 }
 
 #[test]
 fn many_fluents_at_once() {
     // Rule 7 takes any number of unknown fluents; rule 10 can't.
-    let draft = oracle::generate::forget_and_sense(63, 1);
+    let sensed = FLUENT_LIMIT as u8 - 1;
+    let draft = oracle::generate::forget_and_sense(sensed, 1);
     let request = encode_request(&draft).bytes;
-    let looks: Vec<ProofLine> = (0..63)
+    let looks: Vec<ProofLine> = (0..sensed)
         .map(|fluent| whether(&[], &acts(&[0]), 7, fluent, &[]))
         .collect();
-    let place = proof_place(&looks, 63) as u32;
+    let place = proof_place(&looks, looks.len()) as u32;
     assert_eq!(offer(&request, &looks, &[]), answer(36, 2, place, 0));
-    let not_sensed = [whether(&[], &acts(&[0]), 7, 63, &[])];
+    let not_sensed = [whether(&[], &acts(&[0]), 7, sensed, &[])];
     assert_eq!(offer(&request, &not_sensed, &[]), answer(34, 2, 2, 0));
     let sixty_four = with(&looks, whether(&[], &acts(&[0, 0]), 10, 0, &[0; 64]));
     assert_eq!(offer(&request, &sixty_four, &[]), answer(34, 2, place, 0));

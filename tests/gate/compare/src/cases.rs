@@ -1,5 +1,6 @@
 //! The cases of docs/FORMAT.md and its further rows, through the exported calls.
 
+use glintstring::STATE_LENGTH;
 use oracle::rng::Rng;
 use oracle::text::{parse_bytes, state_line};
 
@@ -45,50 +46,50 @@ use Request::*;
 type Row = (&'static str, &'static str, Request, u32, usize, [u64; 3], Option<&'static str>);
 
 const ROWS: [Row; 44] = [
-    ("13.17", "1", FileA, BUDGET, 64, [0, 0, 5], None),
-    ("13.18", "2, open unseen", From29("0 1 1 1 7 1 2"), BUDGET, 64, [1, 33, 2], Some("?+-?")),
-    ("13.19", "3, branch unseen", From29Then("0 1", 32), BUDGET, 64, [2, 31, 0], Some("?---")),
-    ("13.20", "4, budget 4", FileA, 4, 64, [3, 0, 4], None),
-    ("13.21", "4, budget 5", FileA, 5, 64, [0, 0, 5], None),
-    ("13.22", "5", From29("0 0 0 0"), BUDGET, 64, [0, 0, 1], None),
-    ("13.23", "6", From29("0 0 1 7 1 0"), BUDGET, 64, [1, 34, 1], Some("?---")),
-    ("13.24", "7", From29("0 1 2 0 0"), BUDGET, 64, [2, 31, 0], Some("?---")),
-    ("13.25", "8", From29("0 1 0 0 1 0"), BUDGET, 64, [0, 0, 3], None),
-    ("13.26", "9, look twice", From29("0 2 0 0 0 0"), BUDGET, 64, [0, 0, 5], None),
-    ("13.27", "10", Bytes("2 1 0 2 0 0 1 2 0 0 1 3 1 0 0 0 0 1 0 1 0 0"), BUDGET, 64, [1, 20, 2], Some("??")),
-    ("13.28", "11", Bytes(""), BUDGET, 64, [11, 0, 0], None),
-    ("13.29", "11", Start(47), BUDGET, 64, [11, 47, 0], None),
-    ("13.30", "11", Longer(0), BUDGET, 64, [20, 48, 0], None),
-    ("13.30", "11", Longer(255), BUDGET, 64, [20, 48, 0], None),
-    ("13.31", "12", Changed(0, 0), BUDGET, 64, [12, 0, 0], None),
-    ("13.31", "12", Changed(0, 65), BUDGET, 64, [12, 0, 0], None),
-    ("13.32", "12", Changed(5, 8), BUDGET, 64, [13, 5, 0], None),
-    ("13.33", "12", Changed(5, 5), BUDGET, 64, [14, 5, 0], None),
-    ("13.34", "12", Changed(3, 4), BUDGET, 64, [15, 4, 0], None),
-    ("13.35", "12", Changed(11, 3), BUDGET, 64, [16, 10, 0], None),
-    ("13.36", "12", Changed(27, 1), BUDGET, 64, [17, 27, 0], None),
-    ("13.37", "12", Changed(41, 1), BUDGET, 64, [18, 32, 0], None),
+    ("13.17", "1", FileA, BUDGET, STATE_LENGTH, [0, 0, 5], None),
+    ("13.18", "2, open unseen", From29("0 1 1 1 7 1 2"), BUDGET, STATE_LENGTH, [1, 33, 2], Some("?+-?")),
+    ("13.19", "3, branch unseen", From29Then("0 1", 32), BUDGET, STATE_LENGTH, [2, 31, 0], Some("?---")),
+    ("13.20", "4, budget 4", FileA, 4, STATE_LENGTH, [3, 0, 4], None),
+    ("13.21", "4, budget 5", FileA, 5, STATE_LENGTH, [0, 0, 5], None),
+    ("13.22", "5", From29("0 0 0 0"), BUDGET, STATE_LENGTH, [0, 0, 1], None),
+    ("13.23", "6", From29("0 0 1 7 1 0"), BUDGET, STATE_LENGTH, [1, 34, 1], Some("?---")),
+    ("13.24", "7", From29("0 1 2 0 0"), BUDGET, STATE_LENGTH, [2, 31, 0], Some("?---")),
+    ("13.25", "8", From29("0 1 0 0 1 0"), BUDGET, STATE_LENGTH, [0, 0, 3], None),
+    ("13.26", "9, look twice", From29("0 2 0 0 0 0"), BUDGET, STATE_LENGTH, [0, 0, 5], None),
+    ("13.27", "10", Bytes("2 1 0 2 0 0 1 2 0 0 1 3 1 0 0 0 0 1 0 1 0 0"), BUDGET, STATE_LENGTH, [1, 20, 2], Some("??")),
+    ("13.28", "11", Bytes(""), BUDGET, STATE_LENGTH, [11, 0, 0], None),
+    ("13.29", "11", Start(47), BUDGET, STATE_LENGTH, [11, 47, 0], None),
+    ("13.30", "11", Longer(0), BUDGET, STATE_LENGTH, [20, 48, 0], None),
+    ("13.30", "11", Longer(255), BUDGET, STATE_LENGTH, [20, 48, 0], None),
+    ("13.31", "12", Changed(0, 0), BUDGET, STATE_LENGTH, [12, 0, 0], None),
+    ("13.31", "12", Changed(0, 65), BUDGET, STATE_LENGTH, [12, 0, 0], None),
+    ("13.32", "12", Changed(5, 8), BUDGET, STATE_LENGTH, [13, 5, 0], None),
+    ("13.33", "12", Changed(5, 5), BUDGET, STATE_LENGTH, [14, 5, 0], None),
+    ("13.34", "12", Changed(3, 4), BUDGET, STATE_LENGTH, [15, 4, 0], None),
+    ("13.35", "12", Changed(11, 3), BUDGET, STATE_LENGTH, [16, 10, 0], None),
+    ("13.36", "12", Changed(27, 1), BUDGET, STATE_LENGTH, [17, 27, 0], None),
+    ("13.37", "12", Changed(41, 1), BUDGET, STATE_LENGTH, [18, 32, 0], None),
     ("13.38", "13, 63 lent bytes", FileA, BUDGET, 63, [9, 0, 0], None),
     ("13.38", "13, 65 lent bytes", FileA, BUDGET, 65, [9, 0, 0], None),
     ("13.38", "13, no lent byte", FileA, BUDGET, 0, [9, 0, 0], None),
     ("13.38", "13, no byte, 63 lent", Bytes(""), 0, 63, [9, 0, 0], None),
     ("13.38", "13, too long, 65 lent", Run(16_385, 0), 0, 65, [9, 0, 0], None),
-    ("13.39", "13, 16,385 zeros", Run(16_385, 0), BUDGET, 64, [10, 0, 0], None),
-    ("13.39", "13, 16,385 bytes 255", Run(16_385, 255), BUDGET, 64, [10, 0, 0], None),
-    ("3.10", "16,384 zeros, which are read", Run(16_384, 0), BUDGET, 64, [12, 0, 0], None),
-    ("13.56", "both end states miss", From29("0 1 0 1 2 0"), BUDGET, 64, [1, 33, 3], Some("+---")),
-    ("13.57", "a miss, then one that cannot be run", From29("0 2 0 255 1 1 0 0 0 1 2 0"), BUDGET, 64, [2, 32, 2], Some("----")),
-    ("13.58", "size before order", Changed(3, 8), BUDGET, 64, [13, 3, 0], None),
-    ("13.59", "18, a branching inside another", Bytes("2 1 0 0 0 0 0 1 255 1 0 0 1 255 2 1 0 0 0 1 2 0 0 0 0"), BUDGET, 64, [18, 13, 0], None),
-    ("13.60", "21 and 19 at one byte", Nested(1_016), BUDGET, 64, [21, 1064, 0], None),
-    ("13.61", "19, an item earlier", Nested(1_015), BUDGET, 64, [19, 1063, 0], None),
-    ("13.62", "goals before whether entries", From29("0 0 1 2 1 0"), BUDGET, 64, [1, 32, 1], Some("?---")),
-    ("8.17", "cannot be run at the budget's end", From29("0 2 0 255 1 1 0 0 0 1 2 0"), 2, 64, [2, 32, 2], Some("----")),
-    ("8.17", "with a budget of one less", From29("0 2 0 255 1 1 0 0 0 1 2 0"), 1, 64, [3, 0, 1], None),
-    ("8.18", "budget 0, cannot be run", From29("0 1 2 0 0"), 0, 64, [2, 31, 0], Some("?---")),
-    ("8.18", "budget 0, empty plan", From29("0 0 0 0"), 0, 64, [3, 0, 0], None),
-    ("5.3", "12 before 11", Bytes("2 1 65"), BUDGET, 64, [12, 2, 0], None),
-    ("3.13", "the largest budget", FileA, u32::MAX, 64, [0, 0, 5], None),
+    ("13.39", "13, 16,385 zeros", Run(16_385, 0), BUDGET, STATE_LENGTH, [10, 0, 0], None),
+    ("13.39", "13, 16,385 bytes 255", Run(16_385, 255), BUDGET, STATE_LENGTH, [10, 0, 0], None),
+    ("3.10", "16,384 zeros, which are read", Run(16_384, 0), BUDGET, STATE_LENGTH, [12, 0, 0], None),
+    ("13.56", "both end states miss", From29("0 1 0 1 2 0"), BUDGET, STATE_LENGTH, [1, 33, 3], Some("+---")),
+    ("13.57", "a miss, then one that cannot be run", From29("0 2 0 255 1 1 0 0 0 1 2 0"), BUDGET, STATE_LENGTH, [2, 32, 2], Some("----")),
+    ("13.58", "size before order", Changed(3, 8), BUDGET, STATE_LENGTH, [13, 3, 0], None),
+    ("13.59", "18, a branching inside another", Bytes("2 1 0 0 0 0 0 1 255 1 0 0 1 255 2 1 0 0 0 1 2 0 0 0 0"), BUDGET, STATE_LENGTH, [18, 13, 0], None),
+    ("13.60", "21 and 19 at one byte", Nested(1_016), BUDGET, STATE_LENGTH, [21, 1064, 0], None),
+    ("13.61", "19, an item earlier", Nested(1_015), BUDGET, STATE_LENGTH, [19, 1063, 0], None),
+    ("13.62", "goals before whether entries", From29("0 0 1 2 1 0"), BUDGET, STATE_LENGTH, [1, 32, 1], Some("?---")),
+    ("8.17", "cannot be run at the budget's end", From29("0 2 0 255 1 1 0 0 0 1 2 0"), 2, STATE_LENGTH, [2, 32, 2], Some("----")),
+    ("8.17", "with a budget of one less", From29("0 2 0 255 1 1 0 0 0 1 2 0"), 1, STATE_LENGTH, [3, 0, 1], None),
+    ("8.18", "budget 0, cannot be run", From29("0 1 2 0 0"), 0, STATE_LENGTH, [2, 31, 0], Some("?---")),
+    ("8.18", "budget 0, empty plan", From29("0 0 0 0"), 0, STATE_LENGTH, [3, 0, 0], None),
+    ("5.3", "12 before 11", Bytes("2 1 65"), BUDGET, STATE_LENGTH, [12, 2, 0], None),
+    ("3.13", "the largest budget", FileA, u32::MAX, STATE_LENGTH, [0, 0, 5], None),
 ];
 
 /// The derivation of case 14 but for the citations of its last line (FORMAT 13.42 to 13.51).
@@ -217,7 +218,7 @@ fn expected(row: &Row, lent: &[u8]) -> Left {
     let marks = |line: &str| -> Vec<u8> { line.bytes().map(|mark| b"?+-".iter().position(|&m| m == mark).expect("a mark") as u8).collect() };
     let lent = match state {
         None => lent.to_vec(),
-        Some(line) => [marks(line), vec![0; 64 - line.len()]].concat(),
+        Some(line) => [marks(line), vec![0; STATE_LENGTH - line.len()]].concat(),
     };
     assert!(state.is_none_or(|line| state_line(&lent, line.len() as u8) == line), "a state of a row");
     Left { answer: [number, input, place, count], lent }
@@ -226,7 +227,7 @@ fn expected(row: &Row, lent: &[u8]) -> Left {
 /// Pointers that lead nowhere, with length 0.
 fn without_bytes() -> Result<(), String> {
     use std::ptr::{null, null_mut};
-    let mut state = [LENT; 64];
+    let mut state = [LENT; STATE_LENGTH];
     let no_request = unsafe { glintstring_judge(null(), 0, state.as_mut_ptr(), state.len(), 0) };
     let no_state = unsafe { glintstring_judge(null(), 0, null_mut(), 0, 0) };
     let file_a = without_whether();

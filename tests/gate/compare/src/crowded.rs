@@ -1,8 +1,8 @@
-//! Requests that come near their limits: bodies and conditions of up to 16 literals, branchings of up to eight branches, up to 64 facts, goals
-//! and whether entries, up to 255 lines in a section.
+//! Requests that come near their limits: bodies and conditions of up to 16 literals, branchings of up to eight branches, as many facts, goals
+//! and whether entries as there are fluents, up to 255 lines in a section.
 
 use oracle::model::{Allowance, Branch, Effect, Item, Knowledge, Request};
-use oracle::reader::BODY_LIMIT;
+use oracle::reader::{ACTION_LIMIT, BODY_LIMIT, FLUENT_LIMIT};
 use oracle::rng::Rng;
 use oracle::settle::contradictory;
 
@@ -12,8 +12,8 @@ const LINES: usize = 255;
 
 /// A request of this kind, without fault.
 pub fn crowded(rng: &mut Rng) -> Request {
-    let fluents = rng.byte(17, 64);
-    let actions = rng.byte(2, 64);
+    let fluents = rng.byte(17, FLUENT_LIMIT as u8);
+    let actions = rng.byte(2, ACTION_LIMIT as u8);
     let world: Vec<u8> = (0..fluents).map(|fluent| 2 * fluent + rng.byte(0, 1)).collect();
     let percent = *rng.pick(&[70, 95, 100]);
     let facts: Vec<u8> = world[usize::from(OPEN)..].iter().copied().filter(|_| rng.chance(percent)).collect();

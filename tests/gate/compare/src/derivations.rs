@@ -5,7 +5,7 @@ use oracle::encode::{encode_derivation, encode_request};
 use oracle::generate::{any_request, SMALL};
 use oracle::model::{Item, Line, Request};
 use oracle::prove::{free, many_readings, natural, pad};
-use oracle::reader::{ITEM_LIMIT, LINE_LIMIT};
+use oracle::reader::{FLUENT_LIMIT, ITEM_LIMIT, LINE_LIMIT};
 use oracle::rng::Rng;
 
 use crate::answered::Series;
@@ -40,7 +40,7 @@ pub fn any_check(rng: &mut Rng) -> Check {
         12..=14 => of_any(rng, crowded),
         15..=17 => of_any(rng, any_request),
         18 => {
-            let (draft, lines) = many_readings(rng.byte(30, 63));
+            let (draft, lines) = many_readings(rng.byte(30, FLUENT_LIMIT as u8 - 1));
             plain(any_check_call(rng, &draft, &lines))
         }
         21 if rng.chance(30) => {

@@ -2,7 +2,9 @@
 
 use oracle::encode::{encode_derivation, encode_request};
 use oracle::model::{Allowance, Branch, Effect, Item, Knowledge, Line, Request};
-use oracle::reader::{BODY_LIMIT, DERIVATION_LIMIT, ITEM_LIMIT, LINE_LIMIT, NESTING_LIMIT, REQUEST_LIMIT};
+use oracle::reader::{
+    ACTION_LIMIT, BODY_LIMIT, CITATION_LIMIT, DERIVATION_LIMIT, FLUENT_LIMIT, ITEM_LIMIT, LINE_LIMIT, NESTING_LIMIT, REQUEST_LIMIT,
+};
 use oracle::rng::Rng;
 
 use crate::calls::Call;
@@ -19,7 +21,8 @@ const LARGEST_BUDGET: u32 = u32::MAX;
 /// A budget for walks that are slow for each count.
 const FEW: u32 = 1_000;
 
-pub const FLUENTS: u8 = 64;
+pub const FLUENTS: u8 = FLUENT_LIMIT as u8;
+const ACTIONS: u8 = ACTION_LIMIT as u8;
 pub const SECTION: usize = 255;
 
 /// What a call takes.
@@ -55,7 +58,7 @@ pub fn named(folder: &str) -> Result<Vec<Named>, String> {
     Ok(inputs)
 }
 
-/// 64 fluents sensed at once, under the largest budget that there is.
+/// All fluents sensed at once, under the largest budget that there is.
 pub fn longest() -> Vec<Named> {
     sensed_at_once(&[LARGEST_BUDGET])
 }
@@ -65,7 +68,7 @@ pub fn random(seed: u64, count: u64) -> Vec<Named> {
     let mut inputs = Vec::new();
     for index in 0..count {
         let rng = &mut Rng::new(seed, BYTES, index);
-        let most = *rng.pick(&[1, 3, 9, 63, 127, 255]);
+        let most = *rng.pick(&[1, 3, 9, FLUENTS - 1, 2 * (FLUENTS - 1) + 1, 255]);
         let bytes = |rng: &mut Rng, limit: usize, start: [u8; 2]| {
             let length = if rng.chance(20) { rng.range(limit - 1, limit + 1) } else { rng.below(limit) };
             let mut bytes: Vec<u8> = (0..length).map(|_| rng.byte(0, most)).collect();
@@ -74,7 +77,7 @@ pub fn random(seed: u64, count: u64) -> Vec<Named> {
             }
             bytes
         };
-        let request = bytes(rng, REQUEST_LIMIT, [FLUENTS, 64]);
+        let request = bytes(rng, REQUEST_LIMIT, [FLUENTS, ACTIONS]);
         let derivation = bytes(rng, DERIVATION_LIMIT, [4, 0]);
         let closing = bytes(rng, DERIVATION_LIMIT, [0, 1]);
         inputs.push(walk(&format!("random request {index}"), request, FEW));
@@ -84,9 +87,9 @@ pub fn random(seed: u64, count: u64) -> Vec<Named> {
     inputs
 }
 
-/// 64 fluents and 64 actions that can always be run, and nothing else.
+/// As many fluents as there can be, as many actions that can always be run, and nothing else.
 pub fn wide() -> Request {
-    Request { fluents: FLUENTS, actions: 64, allowances: (0..64).map(always).collect(), ..Request::default() }
+    Request { fluents: FLUENTS, actions: ACTIONS, allowances: (0..ACTIONS).map(always).collect(), ..Request::default() }
 }
 
 pub fn always(action: u8) -> Allowance {
@@ -113,7 +116,7 @@ fn sensed_at_once(budgets: &[u32]) -> Vec<Named> {
         ..Request::default()
     };
     let bytes = encode_request(&request).bytes;
-    budgets.iter().map(|&budget| walk(&format!("64 fluents sensed at once, budget {budget}"), bytes.clone(), budget)).collect()
+    budgets.iter().map(|&budget| walk(&format!("{FLUENTS} fluents sensed at once, budget {budget}"), bytes.clone(), budget)).collect()
 }
 
 /// Eight branches, whose conditions have 16 literals and are told apart by the last three; the last branch is followed where the first 16
@@ -133,7 +136,7 @@ fn largest_request() -> Vec<Named> {
         fluents: FLUENTS,
         actions: 1,
         facts: body.clone(),
-        effects: vec![Effect { place: 0, action: 0, literal: 126, body: body.clone() }; SECTION],
+        effects: vec![Effect { place: 0, action: 0, literal: 2 * (FLUENTS - 1), body: body.clone() }; SECTION],
         allowances: vec![Allowance { action: 0, body }; SECTION],
         ..Request::default()
     };
@@ -232,7 +235,7 @@ fn item_counts() -> Vec<Named> {
 
 /// Lines that all have 64 citations; and lines of which each cites 64 plans of more than 200 items.
 fn citations() -> Vec<Named> {
-    let cites: Vec<u16> = (0..64).collect();
+    let cites: Vec<u16> = (0..CITATION_LIMIT as u16).collect();
     let length = 1 + 2 + 1 + 1 + 1 + 2 * cites.len();
     let lines = |rule: u8| vec![line(&[], &[], &[], rule, &cites); (DERIVATION_LIMIT - 2) / length];
     let all = |rule: u8| encode_derivation(&lines(rule)).bytes;
@@ -266,11 +269,11 @@ fn long_plans() -> (Request, Vec<Line>) {
     lines.push(line(&[], &rest[..128 + 64], &[], 5, &[7, 6]));
     lines.push(line(&[], &rest, &[], 5, &[8, 3]));
     let derived = lines.len() as u16 - 1;
-    for bits in 0..64 {
+    for bits in 0..CITATION_LIMIT as u8 {
         let reading: Vec<u8> = (0..6).map(|f| 2 * f + (bits >> (5 - f) & 1)).collect();
         lines.push(line(&reading, &rest, &[], 6, &[derived]));
     }
-    let cites: Vec<u16> = (derived + 1..=derived + 64).collect();
+    let cites: Vec<u16> = (derived + 1..=derived + CITATION_LIMIT as u16).collect();
     let citing = line(&[], &whole, &[], 3, &cites);
     let length = 1 + 2 + whole.len() + 1 + 1 + 1 + 2 * cites.len();
     let left = DERIVATION_LIMIT - encode_derivation(&lines).bytes.len();

@@ -8,6 +8,7 @@ use oracle::reader::{DERIVATION_LIMIT, ITEM_LIMIT, LINE_LIMIT, NESTING_LIMIT};
 use oracle::rng::Rng;
 
 use crate::checks::{agreed, Check};
+use crate::hostile::FLUENTS;
 use crate::whether_largest;
 
 /// The stack of the thread: much less than walks may need.
@@ -68,7 +69,7 @@ fn last(lines: &[Line]) -> u64 {
 fn most_lines_and_bytes() -> Vec<Row> {
     let facts: Vec<u8> = (0..13).map(|fluent| 2 * fluent).collect();
     let goals: Vec<u8> = facts[..9].to_vec();
-    let request = Request { fluents: 64, actions: 1, facts: facts.clone(), goals: goals.clone(), ..Request::default() };
+    let request = Request { fluents: FLUENTS, actions: 1, facts: facts.clone(), goals: goals.clone(), ..Request::default() };
     let mut lines = vec![line(&facts, &[], &facts, 1, &[]); LINE_LIMIT - 1];
     lines.push(line(&facts, &[], &goals, 6, &[1_022]));
     let place = last(&lines);
@@ -79,7 +80,7 @@ fn most_lines_and_bytes() -> Vec<Row> {
     };
     let full = row("1,024 lines, 32,768 bytes", &request, &lines, [0, 0, 0]);
     assert_eq!(full.1.derivation.len(), DERIVATION_LIMIT, "the longest derivation");
-    let more: Vec<u8> = [&facts[..8], &[127]].concat();
+    let more: Vec<u8> = [&facts[..8], &[2 * (FLUENTS - 1) + 1]].concat();
     vec![
         edited("one byte more", &full, |bytes| bytes.push(0), [10, 2, 0]),
         edited("one byte less", &full, |bytes| _ = bytes.pop(), [11, 2, 32_767]),
@@ -102,7 +103,7 @@ fn most_lines_and_bytes() -> Vec<Row> {
 /// A sensing action over so many fluents, and lines for each of 64 readings.
 fn sensing(fluents: u8) -> (Request, Vec<Line>) {
     let request = Request {
-        fluents: 64,
+        fluents: FLUENTS,
         actions: 1,
         allowances: vec![Allowance { action: 0, body: Vec::new() }],
         knowledge: (0..fluents).map(|fluent| Knowledge { place: 0, action: 0, fluent }).collect(),
@@ -141,7 +142,7 @@ fn most_citations() -> Vec<Row> {
     let mut all = lines.clone();
     all.last_mut().expect("a line").rule = 6;
     let (seven, seven_lines) = sensing(7);
-    let (wide, wide_lines) = sensing(64);
+    let (wide, wide_lines) = sensing(FLUENTS);
     vec![
         edited("65 citations are said", &one, |bytes| bytes[count] = 65, [12, 2, count as u64]),
         row("64 citations under rule 6", &request, &all, [33, 2, place]),
@@ -150,7 +151,7 @@ fn most_citations() -> Vec<Row> {
         row("64 citations in each of many lines", &request, &many, [0, 0, 0]),
         row("many such lines, and the last citation is wrong", &request, &wrong, [34, 2, last(&wrong)]),
         row("seven fluents at once", &seven, &seven_lines, [34, 2, last(&seven_lines)]),
-        row("64 fluents at once", &wide, &wide_lines, [34, 2, last(&wide_lines)]),
+        row(&format!("{FLUENTS} fluents at once"), &wide, &wide_lines, [34, 2, last(&wide_lines)]),
         one,
     ]
 }

@@ -4,7 +4,7 @@ use oracle::calls::{check_call, CheckCall};
 use oracle::encode::{encode_proof, encode_request};
 use oracle::generate::{any_request, SMALL};
 use oracle::model::{Item, Proof, Request};
-use oracle::reader::{read_derivation, ITEM_LIMIT, LINE_LIMIT};
+use oracle::reader::{read_derivation, ITEM_LIMIT, LINE_LIMIT, LIST_LIMIT};
 use oracle::rng::Rng;
 use oracle::walk::{walk, Verdict};
 use oracle::whether::calls::{any_whether_call, provable, whether_call};
@@ -120,7 +120,7 @@ fn other_closing(rng: &mut Rng, proof: &mut Proof) {
     match rng.below(5) {
         0 => proof.closing.truncate(rng.below(length)),
         1 => {
-            let most = *rng.pick(&[length + 1, length + 2, 64, 65, 66, 255]);
+            let most = *rng.pick(&[length + 1, length + 2, LIST_LIMIT, LIST_LIMIT + 1, LIST_LIMIT + 2, 255]);
             let last = proof.closing[length - 1];
             proof.closing.resize(most.max(length + 1), last);
         }

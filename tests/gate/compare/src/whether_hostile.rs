@@ -2,7 +2,7 @@
 
 use oracle::encode::encode_request;
 use oracle::model::{Item, ProofLine, Request};
-use oracle::reader::{BODY_LIMIT, DERIVATION_LIMIT, ITEM_LIMIT, LINE_LIMIT};
+use oracle::reader::{BODY_LIMIT, CITATION_LIMIT, DERIVATION_LIMIT, ITEM_LIMIT, LINE_LIMIT};
 
 use crate::checks::Check;
 use crate::hostile::{all_lengths, always, barred, eightfold, literals, long_lines, senses, wide, Input, Named, FLUENTS};
@@ -26,7 +26,7 @@ pub fn check(name: &str, request: &Request, derivation: Vec<u8>) -> Named {
 
 /// Lines that all have 64 citations; and lines of which each cites 64 plans of 64 items.
 fn citations() -> Vec<Named> {
-    let cites: Vec<u16> = (0..64).collect();
+    let cites: Vec<u16> = (0..CITATION_LIMIT as u16).collect();
     let length = 1 + 2 + 1 + 1 + 1 + 2 * cites.len();
     let all = |rule: u8, gives| closed(&vec![line(&[], &[], rule, gives, &cites); (DERIVATION_LIMIT - 2 - 3) / length], &[0]);
     let (request, lines, closing) = long_plans();
@@ -90,7 +90,7 @@ fn long_plans() -> (Request, Vec<ProofLine>, [u16; 2]) {
 /// Lines that take long each: rule 7 over 255 executability lines, and branchings with the longest conditions.
 fn slow_lines() -> Vec<Named> {
     let request = Request { knowledge: senses(0, 0..FLUENTS), ..barred() };
-    let looks = |before: &[u8]| vec![line(before, &[Item::act(0)], 7, fluent(63), &[]); LINE_LIMIT];
+    let looks = |before: &[u8]| vec![line(before, &[Item::act(0)], 7, fluent(FLUENTS - 1), &[]); LINE_LIMIT];
     let empty = [line(&[], &[], 1, list(&[]), &[]), line(&[], &[], 8, fluent(0), &[0])];
     let branchings = vec![eightfold(); (DERIVATION_LIMIT - 100) / (2 + 8 * (1 + BODY_LIMIT + 2))];
     let branched = line(&literals(0..16), &branchings, 12, fluent(0), &[0]);
@@ -102,25 +102,27 @@ fn slow_lines() -> Vec<Named> {
     ]
 }
 
-/// A closing list of 65 entries, each of which names a line with the longest plan that there is room for.
+/// A closing list of 65 entries, each of which names a line with the longest plan that there is room for. More fluents would take more room
+/// than there is, since each line says all that is known.
 fn slow_entries() -> Vec<Named> {
     const ITEMS: usize = 128;
-    let (plan, facts) = (vec![Item::act(0); ITEMS], literals(0..FLUENTS));
-    let request = Request { facts: facts.clone(), plan: plan.clone(), whether: (0..FLUENTS).collect(), ..wide() };
+    const ASKED: u8 = 64;
+    let (plan, facts) = (vec![Item::act(0); ITEMS], literals(0..ASKED));
+    let request = Request { facts: facts.clone(), plan: plan.clone(), whether: (0..ASKED).collect(), ..wide() };
     let mut lines = vec![line(&facts, &plan[..1], 2, list(&facts), &[])];
     for power in 1..=7u16 {
         lines.push(line(&facts, &plan[..1 << power], 5, list(&facts), &[power - 1, power - 1]));
     }
     lines.push(line(&facts, &plan, 6, list(&[]), &[7]));
     let mut entries = vec![8];
-    for asked in 0..FLUENTS {
+    for asked in 0..ASKED {
         let alone = lines.len() as u16;
         lines.push(line(&facts, &plan, 6, list(&[2 * asked]), &[7]));
         lines.push(line(&facts, &plan, 8, fluent(asked), &[alone]));
         entries.push(alone + 1);
     }
     let mut wrong = entries.clone();
-    wrong[64] -= 1;
+    wrong[usize::from(ASKED)] -= 1;
     let items = vec![Item::act(0); ITEM_LIMIT];
     let long = Request { plan: items.clone(), ..wide() };
     let same = line(&[], &items, 1, list(&[]), &[]);

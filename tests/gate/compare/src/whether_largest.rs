@@ -1,14 +1,17 @@
 //! Derivations in the closing layout at their limits, and one beyond, each against the format's own answer too.
 
 use oracle::encode::{encode_proof, encode_request, proof_place};
-use oracle::model::{Allowance, Branch, Conclusion, Item, Knowledge, Proof, ProofLine, Request};
+use oracle::model::{Allowance, Branch, Conclusion, Effect, Item, Knowledge, Proof, ProofLine, Request};
 use oracle::reader::{DERIVATION_LIMIT, ITEM_LIMIT, LINE_LIMIT, NESTING_LIMIT};
 
 use crate::checks::Check;
+use crate::hostile::FLUENTS;
 use crate::largest::Row;
 
 /// The most entries that a closing list can have.
 const ENTRIES: usize = 255;
+/// The most literals of a line where there are four lines for each of 64 readings: there is no room for more.
+const TOLD: u8 = 64;
 
 pub fn rows() -> Vec<Row> {
     let mut rows = most_lines_and_bytes();
@@ -60,7 +63,7 @@ fn last(lines: &[ProofLine]) -> u64 {
 fn most_lines_and_bytes() -> Vec<Row> {
     let facts: Vec<u8> = (0..13).map(|fluent| 2 * fluent).collect();
     let goals: Vec<u8> = facts[..9].to_vec();
-    let request = Request { fluents: 64, actions: 1, facts: facts.clone(), goals: goals.clone(), whether: vec![4], ..Request::default() };
+    let request = Request { fluents: FLUENTS, actions: 1, facts: facts.clone(), goals: goals.clone(), whether: vec![4], ..Request::default() };
     let stays = |facts: &[u8]| line(facts, &[], 1, list(facts), &[]);
     let longer: Vec<u8> = (0..21).map(|fluent| 2 * fluent).collect();
     let mut lines = vec![stays(&facts); LINE_LIMIT - 4];
@@ -103,7 +106,7 @@ fn most_lines_and_bytes() -> Vec<Row> {
 /// the fluent.
 fn sensing(fluents: u8, asked: u8) -> (Request, Vec<ProofLine>) {
     let request = Request {
-        fluents: 64,
+        fluents: FLUENTS,
         actions: 1,
         allowances: vec![Allowance { action: 0, body: Vec::new() }],
         knowledge: (0..fluents).map(|fluent| Knowledge { place: 0, action: 0, fluent }).collect(),
@@ -112,7 +115,7 @@ fn sensing(fluents: u8, asked: u8) -> (Request, Vec<ProofLine>) {
         ..Request::default()
     };
     let read = fluents.min(6);
-    let reading = |bits: u16| -> Vec<u8> { (0..fluents).map(|f| 2 * f + if f < read { (bits >> (read - 1 - f) & 1) as u8 } else { 0 }).collect() };
+    let reading = |bits: u16| -> Vec<u8> { (0..fluents.min(TOLD)).map(|f| 2 * f + if f < read { (bits >> (read - 1 - f) & 1) as u8 } else { 0 }).collect() };
     let mut lines = Vec::new();
     for bits in 0..64 {
         let state = reading(bits);
@@ -147,8 +150,8 @@ fn most_citations() -> Vec<Row> {
         lines
     };
     let (seven, seven_lines) = sensing(7, 0);
-    let (wide, wide_lines) = sensing(64, 63);
-    let looks: Vec<ProofLine> = (0..64).map(|seen| line(&[], &[Item::act(0)], 7, fluent(seen), &[])).collect();
+    let (wide, wide_lines) = sensing(FLUENTS, TOLD - 1);
+    let looks: Vec<ProofLine> = (0..FLUENTS).map(|seen| line(&[], &[Item::act(0)], 7, fluent(seen), &[])).collect();
     let after = place(&looks, looks.len());
     vec![
         edited("65 citations are said", &one, |bytes| bytes[count] = 65, [12, 2, count as u64]),
@@ -159,22 +162,31 @@ fn most_citations() -> Vec<Row> {
         row("64 citations in each of many lines", &request, &many, &named, [0, 0, 0]),
         row("many such lines, and the last citation is wrong", &request, &wrong, &named, [34, 2, last(&wrong)]),
         row("seven fluents at once by rule 3", &seven, &seven_lines, &named, [34, 2, place(&seven_lines, 256)]),
-        row("64 fluents at once by rule 3", &wide, &wide_lines, &named, [34, 2, place(&wide_lines, 256)]),
-        row("64 fluents at once by rule 7", &wide, &looks, &[63, 63], [36, 2, after + 1]),
+        row(&format!("{FLUENTS} fluents at once by rule 3"), &wide, &wide_lines, &named, [34, 2, place(&wide_lines, 256)]),
+        row(&format!("{FLUENTS} fluents at once by rule 7"), &wide, &looks, &[u16::from(FLUENTS) - 1; 2], [36, 2, after + 1]),
         one,
     ]
 }
 
-/// 64 whether entries; and closing lists that are longer.
+/// As many whether entries as there can be, which an action makes known; and closing lists that are longer.
 fn most_entries() -> Vec<Row> {
-    let facts: Vec<u8> = (0..64).map(|fluent| 2 * fluent).collect();
-    let request = Request { fluents: 64, actions: 1, facts: facts.clone(), goals: facts.clone(), whether: (0..64).collect(), ..Request::default() };
-    let mut lines = vec![line(&facts, &[], 1, list(&facts), &[])];
-    for asked in 0..64 {
-        lines.push(line(&facts, &[], 6, list(&[2 * asked]), &[0]));
-        lines.push(line(&facts, &[], 8, fluent(asked), &[2 * u16::from(asked) + 1]));
+    let (all, act): (Vec<u8>, _) = ((0..FLUENTS).map(|fluent| 2 * fluent).collect(), [Item::act(0)]);
+    let request = Request {
+        fluents: FLUENTS,
+        actions: 1,
+        effects: all.iter().map(|&literal| Effect { place: 0, action: 0, literal, body: Vec::new() }).collect(),
+        allowances: vec![Allowance { action: 0, body: Vec::new() }],
+        plan: act.to_vec(),
+        goals: all.clone(),
+        whether: (0..FLUENTS).collect(),
+        ..Request::default()
+    };
+    let mut lines = vec![line(&[], &act, 2, list(&all), &[])];
+    for asked in 0..FLUENTS {
+        lines.push(line(&[], &act, 6, list(&[2 * asked]), &[0]));
+        lines.push(line(&[], &act, 8, fluent(asked), &[2 * u16::from(asked) + 1]));
     }
-    let entries: Vec<u16> = (0..=64).map(|entry| 2 * entry).collect();
+    let entries: Vec<u16> = (0..=u16::from(FLUENTS)).map(|entry| 2 * entry).collect();
     let count = place(&lines, lines.len());
     let with = |entry: usize, names: u16| {
         let mut other = entries.clone();
@@ -182,12 +194,14 @@ fn most_entries() -> Vec<Row> {
         other
     };
     let longer = |length: usize| -> Vec<u16> { entries.iter().copied().cycle().take(length).collect() };
+    let (most, last) = (entries.len(), entries[entries.len() - 1]);
+    let at_last = count + 1 + 2 * (most as u64 - 1);
     vec![
-        row("65 entries", &request, &lines, &entries, [0, 0, 0]),
-        row("65 entries, the last names another line", &request, &lines, &with(64, 126), [36, 2, count + 129]),
-        row("65 entries, the last names no line", &request, &lines, &with(64, 129), [36, 2, count + 129]),
-        row("64 entries", &request, &lines, &entries[..64], [36, 2, count]),
-        row("66 entries", &request, &lines, &longer(66), [36, 2, count]),
+        row(&format!("{most} entries"), &request, &lines, &entries, [0, 0, 0]),
+        row(&format!("{most} entries, the last names another line"), &request, &lines, &with(most - 1, last - 2), [36, 2, at_last]),
+        row(&format!("{most} entries, the last names no line"), &request, &lines, &with(most - 1, last + 1), [36, 2, at_last]),
+        row(&format!("{} entries", most - 1), &request, &lines, &entries[..most - 1], [36, 2, count]),
+        row(&format!("{} entries", most + 1), &request, &lines, &longer(most + 1), [36, 2, count]),
         row("255 entries", &request, &lines, &longer(ENTRIES), [36, 2, count]),
         row("no entry", &request, &lines, &[], [36, 2, count]),
     ]

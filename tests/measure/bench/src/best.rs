@@ -1,15 +1,22 @@
-//! The fastest verifier that we could write in Rust: a state is two masks of 64 bits; one pass over the bytes reads the request, finds 16 to 18
+//! The fastest verifier that we could write in Rust: a state is two masks, a bit for each fluent; one pass over the bytes reads the request, finds 16 to 18
 //! and compiles each line into masks, those of one action side by side, and the plan into a flat row of items that each know what follows;
 //! the walk has a stack of its own. All of it lies in a workspace of fixed arrays that is made before the first call and used again.
 
 use crate::answers::{packed, refusal, Fault};
 
 const BRANCHING: u8 = 255;
+/// The format's limits of fluents, of actions and of entries in a list, the first two powers of two; the lent state has a byte for each fluent.
+const FLUENTS: usize = 64;
+const ACTIONS: usize = 64;
+const ENTRIES: u8 = 64;
+/// A set of fluents, which widens with their limit: more bits than there are fluents would cost time in every step.
+type Mask = u64;
+const _: () = assert!(Mask::BITS as usize == FLUENTS);
 const LINES: usize = 256;
 const ITEMS: usize = 1_024;
 const BRANCHES: usize = 8 * ITEMS;
 /// A reading that waits is one fluent of one sensing action, and between two looks at a fluent stands an action that makes it unknown.
-const WAITING: usize = 64 * ITEMS;
+const WAITING: usize = FLUENTS * ITEMS;
 /// The position at the plan's end, and from this on: what follows that branching.
 const END: u16 = 1_024;
 const AROUND: u16 = 1_025;
@@ -22,8 +29,8 @@ type Read<T> = Result<T, Fault>;
 /// The fluents known true and those known false; or a body's, or a literal's.
 #[derive(Clone, Copy, Default)]
 struct Masks {
-    yes: u64,
-    no: u64,
+    yes: Mask,
+    no: Mask,
 }
 
 impl Masks {
@@ -39,10 +46,21 @@ impl Masks {
 
     #[inline(always)]
     fn of(literal: u8) -> Masks {
-        let bit = 1u64 << (literal / 2 % 64);
-        let no = 0u64.wrapping_sub(u64::from(literal % 2));
+        let bit = bit(literal / 2);
+        let no = every_bit(literal % 2 == 1);
         Masks { yes: bit & !no, no: bit & no }
     }
+}
+
+#[inline(always)]
+fn bit(fluent: u8) -> Mask {
+    1 << (usize::from(fluent) % FLUENTS)
+}
+
+/// All bits, or none.
+#[inline(always)]
+fn every_bit(set: bool) -> Mask {
+    Mask::from(set).wrapping_neg()
 }
 
 #[derive(Clone, Copy, Default)]
@@ -57,7 +75,7 @@ struct Action {
     effects: (u16, u16),
     runs: (u16, u16),
     gives: Masks,
-    senses: u64,
+    senses: Mask,
 }
 
 #[derive(Clone, Copy, Default)]
@@ -80,12 +98,12 @@ struct Branch {
 #[derive(Clone, Copy, Default)]
 struct Waiting {
     state: Masks,
-    unread: u64,
+    unread: Mask,
     at: u16,
 }
 
 pub struct Workspace {
-    actions: [Action; 64],
+    actions: [Action; ACTIONS],
     /// Lines in the order of the file, with their actions, and then by action.
     effects: [Effect; LINES],
     effects_by: [Effect; LINES],
@@ -93,7 +111,7 @@ pub struct Workspace {
     runs_by: [Masks; LINES],
     of: [u8; LINES],
     /// The last effect on each fluent so far, and for each effect the one before it on that fluent; 255 is none.
-    last: [u8; 64],
+    last: [u8; FLUENTS],
     before: [u8; LINES],
     items: [Item; ITEMS],
     branches: [Branch; BRANCHES],
@@ -103,13 +121,13 @@ pub struct Workspace {
 impl Workspace {
     pub fn new() -> Box<Workspace> {
         Box::new(Workspace {
-            actions: [Action::default(); 64],
+            actions: [Action::default(); ACTIONS],
             effects: [Effect::default(); LINES],
             effects_by: [Effect::default(); LINES],
             runs: [Masks::default(); LINES],
             runs_by: [Masks::default(); LINES],
             of: [0; LINES],
-            last: [0; 64],
+            last: [0; FLUENTS],
             before: [0; LINES],
             items: [Item::default(); ITEMS],
             branches: [Branch::default(); BRANCHES],
@@ -124,13 +142,13 @@ struct Request {
     items: usize,
     goals: Masks,
     goals_at: usize,
-    whether: u64,
+    whether: Mask,
     whether_at: usize,
 }
 
 /// The walk call.
 pub fn judge(space: &mut Workspace, s: &[u8], lent: &mut [u8], budget: u32) -> u64 {
-    let Ok(lent) = <&mut [u8; 64]>::try_from(lent) else { return packed(9, 0, 0, 0) };
+    let Ok(lent) = <&mut [u8; FLUENTS]>::try_from(lent) else { return packed(9, 0, 0, 0) };
     if s.len() > 16_384 {
         return refusal((10, 0));
     }
@@ -173,9 +191,9 @@ impl Reader<'_> {
     }
 
     #[inline(always)]
-    fn below(&mut self, bound: u8) -> Read<u8> {
+    fn below(&mut self, bound: u16) -> Read<u8> {
         let byte = self.byte()?;
-        if byte >= bound {
+        if u16::from(byte) >= bound {
             return Err((13, self.at - 1));
         }
         Ok(byte)
@@ -187,16 +205,16 @@ impl Reader<'_> {
         let count = usize::from(self.count(0, most)?);
         let start = self.at;
         let there = &self.s[start..self.s.len().min(start + count)];
-        let bound = 2 * self.fluents;
-        let mut masks = [0u64; 2];
+        let bound = 2 * u16::from(self.fluents);
+        let mut masks = [0; 2];
         // An entry must be above this: the entry before, or its complement where that is the larger.
         let mut least = 0;
         for (index, &literal) in there.iter().enumerate() {
-            if literal < least || literal >= bound {
+            if u16::from(literal) < least || u16::from(literal) >= bound {
                 return Err(self.bad(start, index, literal));
             }
-            masks[usize::from(literal % 2)] |= 1 << (literal / 2 % 64);
-            least = (literal | 1) + 1;
+            masks[usize::from(literal % 2)] |= bit(literal / 2);
+            least = u16::from(literal | 1) + 1;
         }
         self.at = start + there.len();
         if there.len() < count {
@@ -210,7 +228,7 @@ impl Reader<'_> {
     fn bad(&self, start: usize, index: usize, literal: u8) -> Fault {
         let place = start + index;
         let number = match literal {
-            _ if literal >= 2 * self.fluents => 13,
+            _ if u16::from(literal) >= 2 * u16::from(self.fluents) => 13,
             _ if literal <= self.s[place - 1] => 14,
             _ => 15,
         };
@@ -218,16 +236,16 @@ impl Reader<'_> {
     }
 
     fn request(&mut self, space: &mut Workspace) -> Read<Request> {
-        self.fluents = self.count(1, 64)?;
-        self.actions = self.count(1, 64)?;
+        self.fluents = self.count(1, FLUENTS as u8)?;
+        self.actions = self.count(1, ACTIONS as u8)?;
         space.actions[..usize::from(self.actions)].fill(Action::default());
-        let facts = self.literals(64)?;
+        let facts = self.literals(ENTRIES)?;
         let contradiction = self.effects(space)?;
         self.executability(space)?;
         let mixed = self.knowledge(space)?;
         let end = self.sequence(space, 8, END)?;
         let goals_at = self.at;
-        let goals = self.literals(64)?;
+        let goals = self.literals(ENTRIES)?;
         let whether_at = self.at;
         let whether = self.whether()?;
         if self.at < self.s.len() {
@@ -252,13 +270,13 @@ impl Reader<'_> {
         space.last.fill(NONE);
         for line in 0..count {
             let place = self.at;
-            let action = self.below(self.actions)?;
-            let byte = self.below(2 * self.fluents)?;
+            let action = self.below(self.actions.into())?;
+            let byte = self.below(2 * u16::from(self.fluents))?;
             let literal = Masks::of(byte);
             let body = self.literals(16)?;
-            let said = &mut space.actions[usize::from(action % 64)];
+            let said = &mut space.actions[usize::from(action) % ACTIONS];
             said.effects.1 += 1;
-            let last = &mut space.last[usize::from(byte / 2 % 64)];
+            let last = &mut space.last[usize::from(byte / 2) % FLUENTS];
             // Only where the action gives the complement too, pairs are looked at.
             if !said.gives.possible(literal) && contradiction == usize::MAX {
                 let mut earlier = *last;
@@ -285,7 +303,7 @@ impl Reader<'_> {
             start += lines;
         }
         for line in 0..count {
-            let slot = &mut space.actions[usize::from(space.of[line % LINES] % 64)].effects.1;
+            let slot = &mut space.actions[usize::from(space.of[line % LINES]) % ACTIONS].effects.1;
             space.effects_by[usize::from(*slot) % LINES] = space.effects[line % LINES];
             *slot += 1;
         }
@@ -296,10 +314,10 @@ impl Reader<'_> {
     fn executability(&mut self, space: &mut Workspace) -> Read<()> {
         let count = usize::from(self.byte()?);
         for line in 0..count {
-            let action = self.below(self.actions)?;
+            let action = self.below(self.actions.into())?;
             space.runs[line % LINES] = self.literals(16)?;
             space.of[line % LINES] = action;
-            space.actions[usize::from(action % 64)].runs.1 += 1;
+            space.actions[usize::from(action) % ACTIONS].runs.1 += 1;
         }
         let mut start = 0;
         for said in &mut space.actions[..usize::from(self.actions)] {
@@ -308,7 +326,7 @@ impl Reader<'_> {
             start += lines;
         }
         for line in 0..count {
-            let slot = &mut space.actions[usize::from(space.of[line % LINES] % 64)].runs.1;
+            let slot = &mut space.actions[usize::from(space.of[line % LINES]) % ACTIONS].runs.1;
             space.runs_by[usize::from(*slot) % LINES] = space.runs[line % LINES];
             *slot += 1;
         }
@@ -320,27 +338,27 @@ impl Reader<'_> {
         let mut mixed = usize::MAX;
         for _ in 0..self.byte()? {
             let place = self.at;
-            let action = self.below(self.actions)?;
-            let fluent = self.below(self.fluents)?;
-            let said = &mut space.actions[usize::from(action % 64)];
+            let action = self.below(self.actions.into())?;
+            let fluent = self.below(self.fluents.into())?;
+            let said = &mut space.actions[usize::from(action) % ACTIONS];
             if said.gives.yes | said.gives.no != 0 && mixed == usize::MAX {
                 mixed = place;
             }
-            said.senses |= 1 << (fluent % 64);
+            said.senses |= bit(fluent);
         }
         Ok(mixed)
     }
 
     /// Section 8.
-    fn whether(&mut self) -> Read<u64> {
+    fn whether(&mut self) -> Read<Mask> {
         let mut mask = 0;
         let mut least = 0;
-        for _ in 0..self.count(0, 64)? {
-            let fluent = self.below(self.fluents)?;
+        for _ in 0..self.count(0, ENTRIES)? {
+            let fluent = self.below(self.fluents.into())?;
             if fluent < least {
                 return Err((14, self.at - 1));
             }
-            mask |= 1 << (fluent % 64);
+            mask |= bit(fluent);
             least = fluent + 1;
         }
         Ok(mask)
@@ -406,7 +424,7 @@ fn settled(items: &[Item; ITEMS], at: u16) -> u16 {
     at
 }
 
-fn walk(space: &mut Workspace, request: &Request, lent: &mut [u8; 64], budget: u32) -> u64 {
+fn walk(space: &mut Workspace, request: &Request, lent: &mut [u8; FLUENTS], budget: u32) -> u64 {
     let Workspace { actions, effects_by, runs_by, items, branches, waiting, .. } = space;
     let mut left = budget;
     let mut missed: Option<(usize, Masks)> = None;
@@ -425,7 +443,7 @@ fn walk(space: &mut Workspace, request: &Request, lent: &mut [u8; 64], budget: u
                 }
                 continue;
             }
-            let action = &actions[usize::from(item.action) % 64];
+            let action = &actions[usize::from(item.action) % ACTIONS];
             let runs = &runs_by[usize::from(action.runs.0)..usize::from(action.runs.1)];
             if !runs.iter().any(|&body| state.known(body)) {
                 return stuck(lent, item, state, budget - left);
@@ -467,7 +485,7 @@ fn walk(space: &mut Workspace, request: &Request, lent: &mut [u8; 64], budget: u
 
 /// The first reading of the fluents, ascending; the others wait.
 #[inline(always)]
-fn fork(waiting: &mut [Waiting; WAITING], waits: &mut usize, unread: u64, state: Masks, at: u16) -> Masks {
+fn fork(waiting: &mut [Waiting; WAITING], waits: &mut usize, unread: Mask, state: Masks, at: u16) -> Masks {
     let mut state = state;
     let mut unread = unread;
     while unread != 0 {
@@ -486,8 +504,8 @@ fn after(effects: &[Effect], state: Masks) -> Masks {
     let mut may = Masks::default();
     for effect in effects {
         // All bits where the body is possible, or known true; none otherwise.
-        let possible = 0u64.wrapping_sub(u64::from(state.possible(effect.body)));
-        let known = 0u64.wrapping_sub(u64::from(state.known(effect.body)));
+        let possible = every_bit(state.possible(effect.body));
+        let known = every_bit(state.known(effect.body));
         may.yes |= effect.literal.yes & possible;
         may.no |= effect.literal.no & possible;
         told.yes |= effect.literal.yes & known;
@@ -515,12 +533,12 @@ fn first_missed(request: &Request, state: Masks) -> Option<usize> {
 }
 
 #[cold]
-fn stuck(lent: &mut [u8; 64], item: &Item, state: Masks, count: u32) -> u64 {
+fn stuck(lent: &mut [u8; FLUENTS], item: &Item, state: Masks, count: u32) -> u64 {
     write(lent, state);
     packed(2, 1, usize::from(item.place), count)
 }
 
-fn write(lent: &mut [u8; 64], state: Masks) {
+fn write(lent: &mut [u8; FLUENTS], state: Masks) {
     for (fluent, byte) in lent.iter_mut().enumerate() {
         *byte = (state.yes >> fluent & 1) as u8 + 2 * (state.no >> fluent & 1) as u8;
     }

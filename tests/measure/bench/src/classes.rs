@@ -1,5 +1,6 @@
 //! The requests that are timed, equally many in each of five classes.
 
+use glintstring::STATE_LENGTH;
 use oracle::encode::encode_request;
 use oracle::generate::{forgetful, request, Shape, LARGE, MIDDLE, SMALL, TINY};
 use oracle::model::{item_count, Allowance, Item, Knowledge, Request};
@@ -23,7 +24,7 @@ const FAR: u64 = 256;
 pub struct Timed {
     pub request: Vec<u8>,
     pub budget: u32,
-    pub lent: [u8; 64],
+    pub lent: [u8; STATE_LENGTH],
 }
 
 /// A plan of so many steps over a table of some size.
@@ -61,7 +62,7 @@ fn drawn(rng: &mut Rng, class: usize, index: u64) -> Option<Timed> {
     let bytes = encode_request(&draft).bytes;
     let budget = if class == 4 { SPENT } else { BUDGET };
     let fits = bytes.len() <= REQUEST_LIMIT && in_class(class, &draft);
-    fits.then(|| Timed { request: bytes, budget, lent: [rng.byte(0, 255); 64] })
+    fits.then(|| Timed { request: bytes, budget, lent: [rng.byte(0, 255); STATE_LENGTH] })
 }
 
 /// A request whose walk may well spend its budget; the kinds take turns.

@@ -6,7 +6,7 @@ use oracle::calls::derivable;
 use oracle::encode::{encode_derivation, encode_request};
 use oracle::generate::{SMALL, TINY};
 use oracle::model::{Allowance, Item, Knowledge, Line, Request};
-use oracle::reader::{DERIVATION_LIMIT, LINE_LIMIT};
+use oracle::reader::{CITATION_LIMIT, DERIVATION_LIMIT, FLUENT_LIMIT, LINE_LIMIT};
 use oracle::rng::Rng;
 
 use crate::walks::quartiles;
@@ -120,11 +120,11 @@ fn cited_most(known: u8, items: usize, bytes: usize) -> (Request, Vec<Line>) {
     }
     let last = lines.len() as u16 - 1;
     let first = lines.len() as u16;
-    for reading in 0..64u8 {
+    for reading in 0..CITATION_LIMIT as u8 {
         let read: Vec<u8> = (0..SENSED).map(|fluent| 2 * fluent + (reading >> (SENSED - 1 - fluent) & 1)).collect();
         lines.push(line(&read, &plan[1..], 6, &[last]));
     }
-    let cites: Vec<u16> = (first..first + 64).collect();
+    let cites: Vec<u16> = (first..first + CITATION_LIMIT as u16).collect();
     let citing = line(&[], &plan, 3, &cites);
     let length = encode_derivation(&[citing.clone()]).bytes.len() - 2;
     let left = bytes.saturating_sub(encode_derivation(&lines).bytes.len());
@@ -135,7 +135,7 @@ fn cited_most(known: u8, items: usize, bytes: usize) -> (Request, Vec<Line>) {
 /// 1,024 lines by rule 6, each citing the one before, with as long lists as there is room for.
 fn weakened() -> (Request, Vec<Line>) {
     let facts: Vec<u8> = (0..12).map(|fluent| 2 * fluent).collect();
-    let request = Request { fluents: 64, actions: 1, facts: facts.clone(), goals: facts.clone(), ..Request::default() };
+    let request = Request { fluents: FLUENT_LIMIT as u8, actions: 1, facts: facts.clone(), goals: facts.clone(), ..Request::default() };
     let line = |rule: u8, cites: Vec<u16>| Line { place: 0, before: facts.clone(), sequence: Vec::new(), after: facts.clone(), rule, cites };
     let lines = (0..LINE_LIMIT as u16).map(|index| if index == 0 { line(1, Vec::new()) } else { line(6, vec![index - 1]) });
     (request, lines.collect())
@@ -148,7 +148,7 @@ pub fn barred() -> Request {
     body[usize::from(BODY) - 1] += 1;
     let mut allowances = vec![Allowance { action: 0, body }; SECTION - 1];
     allowances.push(Allowance { action: 0, body: Vec::new() });
-    Request { fluents: 64, actions: 1, facts: facts.clone(), goals: facts, allowances, plan: vec![Item::act(0)], ..Request::default() }
+    Request { fluents: FLUENT_LIMIT as u8, actions: 1, facts: facts.clone(), goals: facts, allowances, plan: vec![Item::act(0)], ..Request::default() }
 }
 
 /// As many lines by rule 2 for such an action as there is room for.
@@ -209,7 +209,7 @@ fn rows(seed: u64) -> Vec<Row> {
     let (request, lines) = weakened();
     rows.push(("1,024 lines by rule 6, lists of 12".to_string(), vec![timed(&request, &lines)]));
     let all = DERIVATION_LIMIT;
-    for (known, items, bytes) in [(0, 0, all), (0, 64, all), (0, 128, all / 2), (0, 128, all), (58, 0, all)] {
+    for (known, items, bytes) in [(0, 0, all), (0, 64, all), (0, 128, all / 2), (0, 128, all), (FLUENT_LIMIT as u8 - SENSED, 0, all)] {
         let (request, lines) = cited_most(known, items, bytes);
         rows.push((format!("64 citations a line, lists of {known}, {items} items"), vec![timed(&request, &lines)]));
     }

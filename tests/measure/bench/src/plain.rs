@@ -1,4 +1,4 @@
-//! A plain walk: what one writes first. The reader goes over the bytes and keeps where the sections are; a state is 64 marks, copied for each
+//! A plain walk: what one writes first. The reader goes over the bytes and keeps where the sections are; a state is a mark for each fluent that there can be, copied for each
 //! reading; each step scans the request's lines as they stand, all of them, for those of its action; the plan is walked where it stands, by
 //! recursion, and branches not followed are skipped byte by byte. It takes nothing from the heap.
 
@@ -9,12 +9,17 @@ const TRUE: u8 = 1;
 const FALSE: u8 = 2;
 const BRANCHING: u8 = 255;
 
-type State = [u8; 64];
+/// The format's limits of fluents, of actions and of entries in a list; the lent state has a byte for each fluent.
+const FLUENTS: usize = 64;
+const ACTIONS: u8 = 64;
+const ENTRIES: u8 = 64;
+
+type State = [u8; FLUENTS];
 type Read<T> = Result<T, Fault>;
 
 /// The walk call.
 pub fn judge(s: &[u8], lent: &mut [u8], budget: u32) -> u64 {
-    if lent.len() != 64 {
+    if lent.len() != FLUENTS {
         return packed(9, 0, 0, 0);
     }
     let request = match read(s).and_then(|request| request.settled()) {
@@ -64,14 +69,14 @@ fn read(s: &[u8]) -> Read<Request<'_>> {
         return Err((10, 0));
     }
     let mut reader = Reader { s, at: 0, fluents: 0, actions: 0, items: 0 };
-    reader.fluents = reader.count(1, 64)?;
-    reader.actions = reader.count(1, 64)?;
-    let facts = reader.literals(64)?;
+    reader.fluents = reader.count(1, FLUENTS as u8)?;
+    reader.actions = reader.count(1, ACTIONS)?;
+    let facts = reader.literals(ENTRIES)?;
     let effects = reader.effects()?;
     let executability = reader.executability()?;
     let knowledge = reader.knowledge()?;
     let plan = reader.sequence(0)?;
-    let goals = reader.literals(64)?;
+    let goals = reader.literals(ENTRIES)?;
     let whether = reader.whether()?;
     if reader.at < s.len() {
         return Err((20, reader.at));
@@ -86,10 +91,10 @@ impl Reader<'_> {
         Ok(byte)
     }
 
-    fn below(&mut self, bound: u8) -> Read<u8> {
+    fn below(&mut self, bound: u16) -> Read<u8> {
         let place = self.at;
         match self.byte()? {
-            byte if byte < bound => Ok(byte),
+            byte if u16::from(byte) < bound => Ok(byte),
             _ => Err((13, place)),
         }
     }
@@ -108,7 +113,7 @@ impl Reader<'_> {
         let mut before = None;
         for _ in 0..self.count(0, most)? {
             let place = self.at;
-            let literal = self.below(2 * self.fluents)?;
+            let literal = self.below(2 * u16::from(self.fluents))?;
             if let Some(before) = before {
                 if literal <= before {
                     return Err((14, place));
@@ -125,8 +130,8 @@ impl Reader<'_> {
     fn effects(&mut self) -> Read<usize> {
         let start = self.at;
         for _ in 0..self.byte()? {
-            self.below(self.actions)?;
-            self.below(2 * self.fluents)?;
+            self.below(self.actions.into())?;
+            self.below(2 * u16::from(self.fluents))?;
             self.literals(16)?;
         }
         Ok(start)
@@ -135,7 +140,7 @@ impl Reader<'_> {
     fn executability(&mut self) -> Read<usize> {
         let start = self.at;
         for _ in 0..self.byte()? {
-            self.below(self.actions)?;
+            self.below(self.actions.into())?;
             self.literals(16)?;
         }
         Ok(start)
@@ -144,8 +149,8 @@ impl Reader<'_> {
     fn knowledge(&mut self) -> Read<usize> {
         let start = self.at;
         for _ in 0..self.byte()? {
-            self.below(self.actions)?;
-            self.below(self.fluents)?;
+            self.below(self.actions.into())?;
+            self.below(self.fluents.into())?;
         }
         Ok(start)
     }
@@ -153,9 +158,9 @@ impl Reader<'_> {
     fn whether(&mut self) -> Read<usize> {
         let start = self.at;
         let mut before = None;
-        for _ in 0..self.count(0, 64)? {
+        for _ in 0..self.count(0, ENTRIES)? {
             let place = self.at;
-            let fluent = self.below(self.fluents)?;
+            let fluent = self.below(self.fluents.into())?;
             if before.is_some_and(|before| fluent <= before) {
                 return Err((14, place));
             }
@@ -324,7 +329,7 @@ impl<'a> Request<'a> {
     }
 
     fn first_state(&self) -> State {
-        let mut state = [UNKNOWN; 64];
+        let mut state = [UNKNOWN; FLUENTS];
         for &literal in entries(self.s, self.facts) {
             state[usize::from(literal / 2)] = mark(literal);
         }
@@ -427,8 +432,8 @@ impl Walk<'_> {
     }
 
     /// Whether an action senses, and what.
-    fn sensed(&self, action: u8) -> (bool, [bool; 64]) {
-        let mut sensed = [false; 64];
+    fn sensed(&self, action: u8) -> (bool, [bool; FLUENTS]) {
+        let mut sensed = [false; FLUENTS];
         let mut senses = false;
         for (_, line, fluent) in self.request.knowledge_lines() {
             if line == action {
@@ -440,8 +445,8 @@ impl Walk<'_> {
     }
 
     /// The readings of the sensed fluents from one on, and what comes after each.
-    fn fork(&mut self, sensed: &[bool; 64], from: usize, at: usize, left: usize, state: State, rest: Option<&Rest>) -> Result<(), Stop> {
-        let Some(fluent) = (from..64).find(|&fluent| sensed[fluent] && state[fluent] == UNKNOWN) else {
+    fn fork(&mut self, sensed: &[bool; FLUENTS], from: usize, at: usize, left: usize, state: State, rest: Option<&Rest>) -> Result<(), Stop> {
+        let Some(fluent) = (from..FLUENTS).find(|&fluent| sensed[fluent] && state[fluent] == UNKNOWN) else {
             return self.sequence(at, left, state, rest);
         };
         for value in [TRUE, FALSE] {
@@ -455,7 +460,7 @@ impl Walk<'_> {
     /// The state after an action that does not sense.
     fn after(&self, action: u8, state: &State) -> State {
         let mut next = *state;
-        let mut may_be = [[false; 64]; 3];
+        let mut may_be = [[false; FLUENTS]; 3];
         for effect in self.request.effect_lines() {
             if effect.action != action || !effect.body.iter().all(|&literal| possible(state, literal)) {
                 continue;

@@ -1,5 +1,6 @@
 //! Inputs of the fuzzer: a byte that says what is called, a number of two bytes, and what the call is given.
 
+use glintstring::STATE_LENGTH;
 use oracle::rng::Rng;
 
 use crate::calls::Call;
@@ -14,9 +15,9 @@ const DERIVATION: u8 = 1;
 const CLOSING: u8 = 8;
 /// In a walk call: a budget of up to 16,383 instead of 255.
 const FAR: u8 = 2;
-/// The lent state has the number modulo 130 as its length where these are all set, and 64 otherwise.
+/// The lent state has the number modulo `LENGTHS` as its length where these are all set, and its own otherwise.
 const ODD_LENGTH: u8 = 7 << 2;
-const LENGTHS: usize = 130;
+const LENGTHS: usize = 2 * STATE_LENGTH + 2;
 /// The longest input.
 pub const LONGEST: usize = 4_096;
 /// Streams of random numbers of the comparison's calls.
@@ -44,7 +45,7 @@ pub fn given(input: &[u8]) -> Given {
             _ => Check::closing(request, derivation),
         });
     }
-    let length = if kind & ODD_LENGTH == ODD_LENGTH { usize::from(number) % LENGTHS } else { 64 };
+    let length = if kind & ODD_LENGTH == ODD_LENGTH { usize::from(number) % LENGTHS } else { STATE_LENGTH };
     let budget = if kind & FAR != 0 { number / 4 } else { number % 256 };
     Given::Walk(Call { request: rest.to_vec(), lent: vec![9; length], budget: budget.into() })
 }
@@ -52,8 +53,8 @@ pub fn given(input: &[u8]) -> Given {
 /// An input for a walk call; a larger budget becomes the largest that there is.
 fn of_call(call: &Call) -> Vec<u8> {
     let (kind, number) = match (call.lent.len(), call.budget) {
-        (64, 0..=255) => (0, call.budget as u16),
-        (64, _) => (FAR, call.budget.min(16_383) as u16 * 4),
+        (STATE_LENGTH, 0..=255) => (0, call.budget as u16),
+        (STATE_LENGTH, _) => (FAR, call.budget.min(16_383) as u16 * 4),
         (length, _) => (ODD_LENGTH, (length % LENGTHS) as u16),
     };
     [&[kind][..], &number.to_be_bytes(), &call.request].concat()

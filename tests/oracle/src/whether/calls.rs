@@ -10,6 +10,7 @@ use crate::model::{Item, Proof, Request};
 use crate::prove::{Claim, Prover};
 use crate::reader::{DERIVATION_LIMIT, LINE_LIMIT, REQUEST_LIMIT};
 use crate::rng::Rng;
+use crate::table::{bit, Mask};
 use crate::whether::damage::damage_proof;
 use crate::whether::prove::{free_proof, many_whether, natural_proof, pad_proof};
 
@@ -208,15 +209,15 @@ fn ask(rng: &mut Rng, request: &mut Request) -> bool {
     let Some(ends) = Prover::new(request).ends(&claim) else {
         return false;
     };
-    let known = ends.iter().fold(u64::MAX, |mask, end| mask & end.marked());
+    let known = ends.iter().fold(Mask::MAX, |mask, end| mask & end.marked());
     let shared = common(&ends).marked();
     let answered: Vec<u8> = (0..request.fluents)
-        .filter(|fluent| known & (1 << fluent) != 0)
+        .filter(|&fluent| known & bit(fluent) != 0)
         .collect();
     let most = *rng.pick(&[1, 2, 2, 3, 6]);
     request.whether = Vec::new();
     for &fluent in &answered {
-        let percent = if shared & (1 << fluent) == 0 { 85 } else { 40 };
+        let percent = if shared & bit(fluent) == 0 { 85 } else { 40 };
         if request.whether.len() < most && rng.chance(percent) {
             request.whether.push(fluent);
         }

@@ -13,7 +13,7 @@ use crate::forge::{
 use crate::model::{item_count, Conclusion, Item, Proof, ProofLine, Request};
 use crate::reader::{CITATION_LIMIT, ITEM_LIMIT, LINE_LIMIT};
 use crate::rng::Rng;
-use crate::table::{Known, Table};
+use crate::table::{bit, Known, Table};
 
 /// Makes one line or the closing list wrong; returns the fault, if what was chosen can be made
 /// wrong in the way chosen.
@@ -179,7 +179,7 @@ fn ill_looking(rng: &mut Rng, request: &Request, lines: &mut Vec<ProofLine>) -> 
     match rng.below(3) {
         0 => {
             let senses = table.senses(seen.action);
-            let unseen = (0..request.fluents).filter(|fluent| senses & (1 << fluent) == 0);
+            let unseen = (0..request.fluents).filter(|&fluent| senses & bit(fluent) == 0);
             let unseen: Vec<u8> = unseen.collect();
             if unseen.is_empty() {
                 return None;

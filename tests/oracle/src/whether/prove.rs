@@ -11,7 +11,7 @@ use crate::model::{Conclusion, Item, Proof, ProofLine, Request};
 use crate::prove::{one_by_one, Claim, Prover};
 use crate::reader::LINE_LIMIT;
 use crate::rng::Rng;
-use crate::table::Known;
+use crate::table::{bit, Known};
 
 /// Most lines that are brought into another order.
 const REORDERED: usize = 150;
@@ -162,7 +162,7 @@ impl Prover {
     ) -> Option<usize> {
         if let [Item::Action { action, .. }] = claim.sequence[..] {
             let known = Known::of(&claim.before);
-            let seen = self.table.senses(action) & (1 << fluent) != 0;
+            let seen = self.table.senses(action) & bit(fluent) != 0;
             if seen && self.table.runnable(action, known) && rng.chance(75) {
                 return self.add(claim, 7, &[]);
             }

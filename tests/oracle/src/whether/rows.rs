@@ -10,7 +10,7 @@
 use crate::answer::{DERIVATION, NEITHER, REQUEST};
 use crate::calls::CheckCall;
 use crate::model::{Proof, Request};
-use crate::reader::{read_proof, DERIVATION_LIMIT};
+use crate::reader::{read_proof, DERIVATION_LIMIT, LIST_LIMIT};
 use crate::rng::Rng;
 use crate::rows::{
     rounds, small_shape, tell_bytes, BYTES, DERIVATION_BYTES, LONG_BYTES, MORE_DERIVATION_BYTES,
@@ -67,7 +67,7 @@ fn row(rng: &mut Rng, wanted: (u8, u8)) -> String {
     let call = match wanted {
         (10, _) => {
             let mut call = small_call(rng, (11, DERIVATION), DERIVATION_BYTES);
-            call.derivation = vec![rng.byte(0, 64); DERIVATION_LIMIT + 1];
+            call.derivation = vec![rng.byte(0, LIST_LIMIT as u8); DERIVATION_LIMIT + 1];
             call
         }
         (21, _) => small_call(rng, wanted, LONG_BYTES),

@@ -180,7 +180,7 @@ impl WhetherTally {
             Verdict::Over => self.beyond_walk += 1,
             other => return Err(format!("accepted, but the walk says {other:?}")),
         }
-        if request.fluents > worlds::FLUENT_LIMIT {
+        if request.fluents > worlds::WORLD_FLUENTS {
             return Ok(());
         }
         let worlds = worlds::carry_out(request)

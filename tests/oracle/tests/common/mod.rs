@@ -1,7 +1,7 @@
 //! What the tests share: bytes from text, the calls in short, and File A.
 #![allow(dead_code)]
 
-use oracle::{judge, Answer};
+use oracle::{judge, Answer, STATE_LENGTH};
 
 /// Decimal bytes, with `|` and `,` as mere separators.
 pub fn bytes(text: &str) -> Vec<u8> {
@@ -46,8 +46,8 @@ pub fn file_a_without_whether() -> Vec<u8> {
 pub const LENT: u8 = 9;
 
 /// The judging call with a lent state of the right length; the state afterwards comes along.
-pub fn run(request: &[u8], budget: u32) -> (Answer, [u8; 64]) {
-    let mut lent = [LENT; 64];
+pub fn run(request: &[u8], budget: u32) -> (Answer, [u8; STATE_LENGTH]) {
+    let mut lent = [LENT; STATE_LENGTH];
     let answer = judge(request, &mut lent, budget);
     (answer, lent)
 }
@@ -63,8 +63,8 @@ pub fn answer(number: u8, input: u8, place: u32, count: u32) -> Answer {
 }
 
 /// The lent state that a line such as `?+-` stands for.
-pub fn state(line: &str) -> [u8; 64] {
-    let mut state = [0; 64];
+pub fn state(line: &str) -> [u8; STATE_LENGTH] {
+    let mut state = [0; STATE_LENGTH];
     for (byte, mark) in state.iter_mut().zip(line.chars()) {
         *byte = match mark {
             '?' => 0,
@@ -80,7 +80,7 @@ pub fn state(line: &str) -> [u8; 64] {
 pub fn expect(request: &[u8], budget: u32, number: u8, input: u8, place: u32, count: u32) {
     assert_eq!(
         run(request, budget),
-        (answer(number, input, place, count), [LENT; 64])
+        (answer(number, input, place, count), [LENT; STATE_LENGTH])
     );
 }
 
