@@ -35,6 +35,19 @@ says() { # STATUS NAME TEXT
     [ "$(head -n 1 "$out/said")" = "$3" ] || say "$2: said '$(cat "$out/said")', expected '$3'"
 }
 
+# The program started by itself, with the limits that there are.
+directly() { # [ARGUMENT...]
+    local tools run
+    tools=$(dirname "$(dirname "$(rt doc)")")/on/$(uname -m)/toolchain
+    run=("$tools/lib/ld-linux-x86-64.so.2" --library-path "$tools/lib" "build/programs/$program.$(crates/programs/run --sum "$program")")
+    [ "$(uname -m)" = x86_64 ] || run=("$tools/bin/qemu-x86_64" "${run[@]}")
+    "${run[@]}" "$@"
+}
+# What it says where the stack has so many bytes only.
+too_small() { # BYTES
+    echo "$program: the stack is too small: a walk may need 6291456 bytes, and the limit is $1"
+}
+
 # The program, so called, gives no answer: it prints nothing and says this.
 cannot() { # NAME TEXT [ARGUMENT...]
     "./$program" "${@:3}" >"$out/printed" 2>"$out/said"

@@ -1,4 +1,4 @@
-// Judges the request on standard input, and says so on standard output (FORMAT 12.1 to 12.6, 12.13).
+// Judges the request on standard input, and says so on standard output (FORMAT 12.1 to 12.6, 12.13, 12.21).
 use bytes::limits;
 use glintstring::answers;
 use glintstring::judging::judge;
@@ -11,6 +11,7 @@ use programs::number_of;
 use programs::put_line;
 use programs::put_state;
 use programs::read_all;
+use programs::stack_is_enough;
 
 const BUDGET: u32 = 100000;
 
@@ -61,7 +62,11 @@ fn judge_input(budget: u32) {
 
 fn main() {
     match budget_asked() {
-        Asked::Number(budget) => judge_input(budget),
+        Asked::Number(budget) => {
+            if stack_is_enough(b"judge: ") {
+                judge_input(budget);
+            }
+        }
         Asked::Nothing => {
             io::write_all(
                 libc::STDERR_FILENO,

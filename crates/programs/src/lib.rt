@@ -1,16 +1,23 @@
-// What the programs share: an input is read as far as a buffer goes, a budget is read from its digits, and an answer is printed as three
-// numbers, its state as signs.
+// What the programs share: an input is read as far as a buffer goes, a budget is read from its digits, an answer is printed as three
+// numbers, its state as signs, and the stack is looked at before a walk.
 ghost use Prim.Native.Nat.{_≤_};
+ghost use lib.Dec.{leb};
 ghost use lib.ListN.{length};
+ghost use mathlib.Core.Path.{_≡_};
 ghost use Rattle.programs.specs.Input.{Within};
 use bytes::limits;
+use libc::RLIMIT_STACK;
 use libc::STDERR_FILENO;
 use libc::STDOUT_FILENO;
+use libc::types::rlimit;
 
 // Room for a request and for a derivation, with a byte more, by which one that is too long is seen.
 pub const REQUEST_ROOM: usize = limits::REQUEST + 1;
 
 pub const DERIVATION_ROOM: usize = limits::DERIVATION + 1;
+
+// How many bytes of stack a walk may need (FORMAT 12.21): 6 MiB.
+const STACK_NEEDED: u64 = 6 * 1024 * 1024;
 
 // A sign for each fluent, and the end of the line.
 const SIGNS: usize = limits::FLUENTS + 1;
@@ -111,6 +118,38 @@ pub fn number_of(text: &[u8]) -> Asked {
         return Asked::Nothing;
     }
     Asked::Number(number as u32)
+}
+
+// The soft limit of the process's stack in bytes. Asking for it does not fail, and where it did, the 0 would stay there.
+fn stack_limit() -> u64 {
+    let mut limit = rlimit {
+        rlim_cur: 0,
+        rlim_max: 0,
+    };
+    libc::getrlimit(RLIMIT_STACK, &mut limit);
+    limit.rlim_cur
+}
+
+// A stack without a limit is told by the largest number.
+fn is_enough(limit: u64) -> bool
+    ensures { λ r. ⌜ r ≡ leb 6291456 limit ⌝ }
+{
+    STACK_NEEDED <= limit
+}
+
+// There is stack enough for a walk. Where there is not, a line says so, with `said` at its start.
+pub fn stack_is_enough(said: &[u8]) -> bool {
+    let limit = stack_limit();
+    if is_enough(limit) {
+        return true;
+    }
+    io::write_all(STDERR_FILENO, said);
+    io::write_all(STDERR_FILENO, b"the stack is too small: a walk may need ");
+    io::print_decimal(STDERR_FILENO, STACK_NEEDED);
+    io::write_all(STDERR_FILENO, b" bytes, and the limit is ");
+    io::print_decimal(STDERR_FILENO, limit);
+    io::write_all(STDERR_FILENO, b"\n");
+    false
 }
 
 pub fn put(text: &[u8]) -> bool {
