@@ -1,4 +1,4 @@
--- `programs::stack_limit` meets its contract: a walk of its MIR, by hand. The record is lent for a lifetime that is made for the call, and what
+-- `programs::stack_limit` meets its contract: a proof by hand through its MIR. The record is lent for a lifetime that is made for the call, and what
 -- the call has left in it is read once it is back. All that is known of `getrlimit` is its contract, which says nothing of what it stores.
 -- Assumes nothing.
 use mathlib.Core.Path.{_≡_, refl}
