@@ -1,6 +1,6 @@
 -- Where the parts of a request at hand stand that the question is made of: its counts at places 0 and 1, its facts at place 2, its plan and its
 -- goals where the notes say, and its whether entries after the goals. And what is asked of one line. Assumes nothing.
-use Prim.Native.Nat.{ℕ, _+_, _-_, _≤_, _<_}
+use Prim.Native.Nat.{ℕ, _+_, _≤_, _<_}
 use native.Mathlib.Omega.{arith}
 use mathlib.Core.Path.{_≡_, refl, sym, _∙_, ap, ap₂}
 use mathlib.Core.Bool.{Bool, true, false}

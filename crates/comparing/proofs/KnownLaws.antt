@@ -16,18 +16,13 @@ use Rattle.meaning.specs.States.{State, known, state-of}
 use Rattle.meaning.specs.Derivations.{same-list, included, known-from, literals-of}
 use Rattle.meaning.proofs.TestLaws.{by-test, pick-true, pick-false}
 use Rattle.meaning.proofs.StateLaws.{known-true, known-false}
-use Rattle.meaning.proofs.ToldLaws.{Clear, state-known}
+use Rattle.meaning.proofs.ToldLaws.{state-known}
 use Rattle.reading.specs.declared.marks.Test.the-variants.{Known}
 use Rattle.reading.specs.Listed.{bytes-from, listed, List-here, holds-as}
 use Rattle.reading.proofs.MarkLaws.{bytes-next, bytes-done}
-use Rattle.finding.proofs.PlanHere.{listed-below}
-use Rattle.refusing.proofs.PlanOverlaps.{clear-of}
+use Rattle.finding.proofs.PlanHere.{listed-clear}
 use Rattle.steps.specs.AtHand.{Marked}
 use Rattle.comparing.proofs.SamePartLaws.{drop-next}
-
--- A LIST in which none stands beside its complement is just what its state knows.
-pub listed-clear : (s : List ℕ) (p : ℕ) → List-here all-literals s p → exclusive (listed s p) (listed s p) ≡ false → Clear format (listed s p)
-listed-clear s p here apart = clear-of (listed s p) (listed-below s all-literals p here) apart
 
 pub within-is : (s : List ℕ) (p : ℕ) (u : List ℕ) (q : ℕ) (marks : State) (r : Bool) → List-here all-literals u q → exclusive (listed u q) (listed u q) ≡ false
     → marks ≡ state-of format (listed u q) → r ≡ each-of (holds-as Known marks) (listed s p) → r ≡ included (listed s p) (listed u q)

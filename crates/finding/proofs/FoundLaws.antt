@@ -1,5 +1,5 @@
 -- What the code found is what the definition found; the notes before anything is noted. Assumes nothing.
-use Prim.Native.Nat.{ℕ, _-_, _<_}
+use Prim.Native.Nat.{ℕ, _<_}
 use mathlib.Core.Path.{_≡_, refl, sym, _∙_, ap}
 use lib.ListN.{length, getD, length-replicate, getD-replicate}
 use Rattle.meaning.specs.Refusals

@@ -1,5 +1,5 @@
 -- Where the input and the notes hold a plan, what is looked for stands there. Assumes nothing.
-use Prim.Native.Nat.{ℕ, zero, suc, _+_, _-_, _*_, _≤_, _<_}
+use Prim.Native.Nat.{ℕ, zero, suc, _+_, _*_, _≤_, _<_}
 use native.Mathlib.Omega.{arith}
 use mathlib.Core.Path.{_≡_, refl, sym, _∙_, ap, subst}
 use mathlib.Core.Bool.{true, false}
@@ -9,15 +9,16 @@ use lib.ListN.{length, getD}
 use lib.Dec.{eqb, ltb}
 use borrow.Author.Tests.{eq-eqb, eqb-true, eqb-false, ltb-true, ltb-false}
 use Rattle.meaning.specs.Tests.{both, Has}
-use Rattle.meaning.specs.Limits.{format}
+use Rattle.meaning.specs.Limits.{format, all-literals}
+use Rattle.meaning.specs.Literals.{complement, among, exclusive}
 use Rattle.meaning.specs.Requests.{Sequence, done, item, Item, act, branching, Branches, none, branch}
-use Rattle.meaning.specs.Refusals.{at, conditions-of}
-use Rattle.meaning.proofs.TestLaws.{by-test, both-left, both-right, pick-true, pick-false}
+use Rattle.meaning.specs.Refusals.{conditions-of}
+use Rattle.meaning.proofs.TestLaws.{by-test, clash, both-left, both-right, pick-true, pick-false, has-some}
+use Rattle.meaning.proofs.ToldLaws.{Clear}
 use Rattle.reading.specs.Listed.{bytes-from, listed, List-here}
 use Rattle.reading.specs.Planned.{items-of, items-in, items-under, bytes-of}
 use Rattle.finding.specs.Branches.{sequence-place, no-item, place-after, item-after, conditions-from, Branches-here, Item-here, Items-here}
 use Rattle.finding.specs.PlansHeld.{own-items, branches-in, Act-written, Opened, Branch-written, Written, Item-written, Branches-written, Branch-kept, Kept, Item-kept, Branches-kept, Plan-held, Some-plan}
-use Rattle.finding.specs.declared.places.Found as Code
 use Rattle.finding.proofs.HereLaws.{bytes-length}
 
 -- A LIST at a place.
@@ -38,6 +39,18 @@ module _ (s : List ℕ) where
   pub listed-below : (bound p : ℕ) → List-here bound s p → (l : ℕ) → Has (listed s p) l → l < bound
   unfolding listed
   listed-below bound p here l h = bytes-below bound (getD s p 0) (p + 1) l (here .below) h
+
+-- A list that is clear: its literals are in range, and none has its complement there.
+pub clear-of : (c : List ℕ) → ((l : ℕ) → Has c l → l < all-literals) → exclusive c c ≡ false → Clear format c
+unfolding exclusive among
+clear-of c below apart =
+    record {
+      within = below;
+      consistent = λ l h k. clash (has-some (λ (x : ℕ). among (complement x) c) c l h (has-some (eqb (complement l)) c (complement l) k (eq-eqb (complement l) (complement l) refl))) apart;
+    }
+
+pub listed-clear : (s : List ℕ) (p : ℕ) → List-here all-literals s p → exclusive (listed s p) (listed s p) ≡ false → Clear format (listed s p)
+listed-clear s p here apart = clear-of (listed s p) (listed-below s all-literals p here) apart
 
 -- THE COUNT of a sequence.
 pub count-zero : (s : List ℕ) (q : ℕ) → getD s q 0 * 256 + getD s (q + 1) 0 ≡ 0 → no-item s q ≡ true

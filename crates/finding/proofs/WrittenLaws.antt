@@ -11,12 +11,10 @@ use Rattle.meaning.specs.Reading.{got, Met, byte-at, two-bytes-at, literals, bo
 use Rattle.meaning.proofs.GotLaws.{On, got-on, next-on}
 use Rattle.meaning.proofs.PlanReads.{Said, Passed-on, plan-on}
 use Rattle.reading.specs.Planned.{items-of, bytes-of, plan-noted, noting-met, outcome-met}
-use Rattle.finding.specs.Places.{found}
 use Rattle.finding.specs.Branches.{sequence-place, no-item}
 use Rattle.finding.specs.PlansHeld.{own-items, branches-in, Branch-written, Written, Item-written, Branches-written, Plan-held, Some-plan}
 use Rattle.bytes.specs.declared.bytes.Read.{Read}
 use Rattle.bytes.specs.declared.bytes.Read.the-variants.{Value}
-use Rattle.finding.specs.declared.places.Found as Code
 use Rattle.reading.proofs.SectionLaws.{byte-got, count-got}
 use Rattle.finding.proofs.HereLaws.{list-here, list-apart}
 use Rattle.reading.proofs.PlanSizes.{body-through, sequence-read}

@@ -7,7 +7,6 @@ use lib.ListN.{length, getD}
 use lib.Dec.{eqb}
 use Rattle.meaning.specs.Tests.{both, pick}
 use Rattle.meaning.specs.Limits.{format, all-literals}
-use Rattle.meaning.specs.Refusals.{at}
 use Rattle.reading.specs.Noted.{item-place, branch-place, branch-item}
 use Rattle.reading.specs.Listed.{listed, List-here}
 

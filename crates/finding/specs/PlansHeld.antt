@@ -11,7 +11,6 @@ use Rattle.reading.specs.Noted.{item-place, branch-place, branch-item}
 use Rattle.reading.specs.Listed.{listed, List-here}
 use Rattle.reading.specs.Planned.{items-of, items-in, bytes-of}
 use Rattle.finding.specs.Branches.{sequence-place}
-use Rattle.finding.specs.declared.places.Found as Code
 
 -- How many items a sequence has itself, and how many branches there are (FORMAT 2.21, 2.24).
 unfoldable pub own-items : Sequence ℕ → ℕ

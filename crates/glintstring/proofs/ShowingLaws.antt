@@ -8,7 +8,6 @@ use lib.Seq.{take-all}
 use lib.Dec.{eqb}
 use borrow.Author.Tests.{eq-eqb, ne-eqb}
 use Rattle.meaning.specs.declared.Answer.{Answer}
-use Rattle.meaning.specs.Limits
 use Rattle.meaning.specs.Showing.{Part, part-from, show}
 use Rattle.meaning.proofs.TestLaws.{pick-true, pick-false}
 use Rattle.glintstring.specs.Packing.{unpacked}

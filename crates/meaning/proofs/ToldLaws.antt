@@ -22,7 +22,7 @@ use Rattle.meaning.specs.Reported.{pair-of}
 use Rattle.meaning.proofs.TestLaws.{either-right}
 use Rattle.meaning.proofs.RangeLaws.{Ranged}
 use Rattle.meaning.proofs.LiteralLaws.{complement-other, fluent-complement, same-fluent}
-use Rattle.meaning.proofs.StateLaws.{nothing-told, mark-complement, unknown-mark, none-known}
+use Rattle.meaning.proofs.StateLaws.{nothing-told, mark-complement, none-known}
 
 -- ONE LITERAL TOLD, whose complement was not known.
 pub either-none : (b : Bool) → either b false ≡ b

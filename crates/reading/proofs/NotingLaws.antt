@@ -7,7 +7,6 @@ use lib.ListN.{length, set}
 use lib.Dec.{eqb}
 use borrow.Author.Tests.{eq-eqb, ne-eqb, lt-ltb, le-ltb}
 use Rattle.meaning.specs.Limits.{format}
-use Rattle.meaning.specs.Requests.{item}
 use Rattle.meaning.specs.Reading.{Got, got, fault, next, Met}
 use Rattle.meaning.proofs.TestLaws.{by-test, pick-true, pick-false}
 use Rattle.meaning.proofs.SettledLaws.{fault≢got, got-same}

@@ -13,23 +13,24 @@ use lib.Dec.{eqb}
 use mir.Syntax.{w64}
 use mir.Val.{Fits}
 use borrow.Author.Tests.{eqb-true, eq-eqb, ne-eqb}
-use Rattle.meaning.specs.Tests.{both, either, fails, pick, some-of, each-of, Has}
+use Rattle.meaning.specs.Tests.{both, either, fails, pick, some-of, each-of}
 use Rattle.meaning.specs.Limits.{format, all-literals}
 use Rattle.meaning.specs.Literals.{complement, fluent-of, among, exclusive}
 use Rattle.meaning.specs.States.{State, possible, state-of}
 use Rattle.meaning.specs.Refusals
 use Rattle.meaning.specs.Refusals.{contradictory, contradiction-in}
-use Rattle.meaning.proofs.TestLaws.{by-test, clash, both-left, both-right, pick-true, pick-false, has-some}
+use Rattle.meaning.proofs.TestLaws.{by-test, both-left, both-right, pick-true, pick-false}
 use Rattle.meaning.proofs.LiteralLaws.{complement-other, fluent-complement, same-fluent}
 use Rattle.meaning.proofs.RefusalLaws.{exclusive-sym}
 use Rattle.meaning.proofs.ToldLaws.{Clear, state-known}
 use Rattle.reading.specs.declared.marks.Test.the-variants.{Possible}
 use Rattle.finding.specs.declared.places.Found.the-variants.{Nowhere, At}
-use Rattle.reading.specs.Listed.{bytes-from, listed, List-here, holds-as}
+use Rattle.reading.specs.Listed.{listed, List-here, holds-as}
 use Rattle.finding.specs.Places.{found}
 use Rattle.finding.specs.LinesHere.{effect-from, Effect-here, place-in, effects-in, Effects-here}
 use Rattle.refusing.specs.Refusal16.{effects-before, pair-at, Last, Linked, pair-linked, linked-slots}
 use Rattle.reading.specs.Noted.{line-numbers, pairs}
+use Rattle.finding.proofs.PlanHere.{listed-clear}
 
 pub pair-got : (s : List ℕ) (p x y : ℕ) → x ≡ getD s p 0 → y ≡ getD s (p + 1) 0 → format .fluents * x + y / 2 ≡ pair-at s p
 unfolding pair-at
@@ -37,22 +38,8 @@ pair-got s p x y ex ey = rw (ex, ey)
 
 -- ONE AGAINST ONE.
 -- A body is clear.
-has-below : (s : List ℕ) (bound n p : ℕ) → ((i : ℕ) → i < n → getD s (p + i) 0 < bound) → (l : ℕ) → Has (bytes-from s p n) l → l < bound
-unfolding bytes-from
-has-below s bound zero p h l m = absurd m
-has-below s bound (suc n) p h l m =
-    ⊎-elim
-    (λ q. let same : p + 0 ≡ p = omega arith in subst (λ (y : ℕ). y < bound) (ap (λ (j : ℕ). getD s j 0) same ∙ sym q) (h 0 (omega arith)))
-    (λ later. has-below s bound n (p + 1) (λ i less. let same : p + (i + 1) ≡ p + 1 + i = omega arith in subst (λ (j : ℕ). getD s j 0 < bound) same (h (i + 1) (omega arith))) l later)
-    m
-
 body-clear : (s : List ℕ) (p : ℕ) → Effect-here s p → Clear format (listed s (p + 2))
-unfolding listed exclusive among
-body-clear s p here =
-    record {
-      within = λ l h. has-below s all-literals (getD s (p + 2) 0) (p + 2 + 1) (here .body .below) l h;
-      consistent = λ l h c. clash (has-some _ (listed s (p + 2)) l h (has-some (eqb (complement l)) (listed s (p + 2)) (complement l) c (eq-eqb (complement l) (complement l) refl))) (here .apart);
-    }
+body-clear s p here = listed-clear s (p + 2) (here .body) (here .apart)
 
 -- A body is excluded exactly where its state rules out a literal of the other.
 fails-either : (x y : Bool) → both (fails x) (fails y) ≡ fails (either x y)

@@ -1,20 +1,19 @@
 -- The first overlap of the items that the notes lead to is that of the plan that they hold. Assumes nothing.
-use Prim.Native.Nat.{ℕ, _+_, _-_, _<_, _≤_}
+use Prim.Native.Nat.{ℕ, _+_, _-_, _≤_}
 use native.Mathlib.Omega.{arith}
 use mathlib.Core.Path.{_≡_, refl, sym, _∙_, ap, subst, fun-ext}
 use mathlib.Core.Bool.{Bool, true, false}
 use mathlib.Core.List.{List, [], _∷_}
 use mathlib.Core.Logic.{inl, inr}
 use lib.ListN.{length, getD}
-use lib.Dec.{eqb}
 use borrow.Author.Tests.{eq-eqb}
 use Rattle.meaning.specs.Tests.{fails, pick, Has}
 use Rattle.meaning.specs.Limits.{format, all-literals}
-use Rattle.meaning.specs.Literals.{complement, among, exclusive}
+use Rattle.meaning.specs.Literals.{exclusive}
 use Rattle.meaning.specs.Requests.{Sequence, done, item, Item, act, branching, Branches, none, branch}
 use Rattle.meaning.specs.Refusals.{Found, nowhere, at, or-else, conditions-of, all-exclusive, overlap-in, overlap-at, overlap-below}
 use Rattle.meaning.specs.States.{state-of}
-use Rattle.meaning.proofs.TestLaws.{clash, pick-true, has-some}
+use Rattle.meaning.proofs.TestLaws.{pick-true}
 use Rattle.meaning.proofs.RefusalLaws.{exclusive-sym}
 use Rattle.meaning.proofs.ToldLaws.{Clear}
 use Rattle.reading.specs.Listed.{holds-as}
@@ -25,7 +24,7 @@ use Rattle.finding.specs.PlansHeld.{Opened, Branch-written, Written, Item-writt
 use Rattle.finding.specs.declared.places.Found as Code
 use Rattle.refusing.proofs.Laws18.{overlap-first, item-other}
 use Rattle.refusing.proofs.Laws16.{possible-each}
-use Rattle.finding.proofs.PlanHere.{listed-below, conditions-are}
+use Rattle.finding.proofs.PlanHere.{listed-below, conditions-are, clear-of}
 use Rattle.meaning.specs.Reading.{got, Met, plan-at}
 use Rattle.meaning.proofs.SettledLaws.{got-same}
 use Rattle.bytes.specs.declared.bytes.Read.{Read}
@@ -50,14 +49,6 @@ apart-is [] clear = refl
 apart-is (c ∷ cs) clear =
     let first : rules-out (state-of format c) ≡ exclusive c = fun-ext (λ (d : List ℕ). out-is c (clear c (inl refl)) d ∙ exclusive-sym d c) in
     rw (first, apart-is cs (λ d h. clear d (inr h)))
-
-pub clear-of : (c : List ℕ) → ((l : ℕ) → Has c l → l < all-literals) → exclusive c c ≡ false → Clear format c
-unfolding exclusive among
-clear-of c below apart =
-    record {
-      within = below;
-      consistent = λ l h k. clash (has-some (λ (x : ℕ). among (complement x) c) c l h (has-some (eqb (complement l)) c (complement l) k (eq-eqb (complement l) (complement l) refl))) apart;
-    }
 
 written-clear : (s : List ℕ) (p : ℕ) (c : List ℕ) (b : Sequence ℕ) → Branch-written s p c b → Clear format c
 written-clear s p c b w = clear-of c (λ l h. listed-below s all-literals p (w .here) l (rw (w .condition) h)) (w .clear)

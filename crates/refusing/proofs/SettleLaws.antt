@@ -9,7 +9,7 @@ use mir.Val.{Fits}
 use Rattle.meaning.specs.Limits.{format}
 use Rattle.meaning.specs.Requests.{Effect, Knowledge, Request}
 use Rattle.meaning.specs.Reading.{Got, got, fault, next, read-request}
-use Rattle.meaning.specs.Refusals.{at, contradiction-in, mixed-in, overlap-in, refuse, settled}
+use Rattle.meaning.specs.Refusals.{contradiction-in, mixed-in, overlap-in, refuse, settled}
 use Rattle.meaning.proofs.SettledLaws.{got-same, settled-is}
 use Rattle.bytes.specs.declared.lists.Passed.{Passed}
 use Rattle.bytes.specs.declared.lists.Passed.the-variants.{To, Fault as Stop}

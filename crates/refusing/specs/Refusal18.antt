@@ -12,8 +12,7 @@ use Rattle.meaning.specs.Refusals.{Found, nowhere, at, overlap-in}
 use Rattle.reading.specs.Noted.{item-place}
 use Rattle.reading.specs.Listed.{holds-as}
 use Rattle.reading.specs.declared.marks.Test.the-variants.{Possible}
-use Rattle.meaning.specs.Literals.{exclusive}
-use Rattle.meaning.specs.Requests.{Sequence, item, Item, branching}
+use Rattle.meaning.specs.Requests.{Sequence}
 use Rattle.reading.specs.Planned.{items-of}
 use Rattle.finding.specs.Places.{found}
 use Rattle.finding.specs.declared.places.Found as Code

@@ -31,7 +31,7 @@ use Rattle.reading.specs.Noted.{slots}
 use Rattle.finding.specs.Branches.{sequence-place, place-after, item-after, Branches-here}
 use Rattle.finding.specs.PlansHeld.{own-items, branches-in, Written, Item-written, Branches-written, Kept, Item-kept, Branches-kept, Plan-held}
 use Rattle.finding.proofs.ByBranch.{branch-first}
-use Rattle.finding.proofs.PlanHere.{place-is, item-is}
+use Rattle.finding.proofs.PlanHere.{place-is, item-is, listed-clear}
 use Rattle.finding.proofs.WrittenLaws.{plan-held}
 use Rattle.deriving.specs.Derived.{Line-here}
 use Rattle.comparing.specs.declared.spots.Spot.{Spot}
@@ -41,7 +41,6 @@ use Rattle.comparing.specs.RuleAnswers.{Some-plan, Items-stand, Some-items, Joi
 use Rattle.ruling.specs.Branched.{branches-end, Branches-held, Branched, Some-branched, takes-known, Branch-taken}
 use Rattle.comparing.proofs.CodedLaws.{coded-length, own-most, none-done}
 use Rattle.comparing.proofs.CodedPlaces.{branch-coded, act-there, Branching-coded, branching-there}
-use Rattle.comparing.proofs.KnownLaws.{listed-clear}
 use Rattle.comparing.proofs.LinesStand.{Line-parts, line-parts}
 use Rattle.ruling.proofs.RuleLaws.{X-same, plan-of, item-bytes, own-count}
 

@@ -14,7 +14,6 @@ use mir.Val.{Fits}
 use borrow.Author.Tests.{eqb-false, eq-eqb, lt-ltb, le-ltb}
 use Rattle.meaning.specs.Tests.{both, either, fails, pick}
 use Rattle.meaning.specs.Limits.{format}
-use Rattle.meaning.specs.Limits
 use Rattle.meaning.specs.Literals.{says-true, says-false}
 use Rattle.meaning.specs.Requests.{Knowledge, Table}
 use Rattle.meaning.specs.Lines.{knowledge-of, sensing, senses}

@@ -8,7 +8,7 @@ use Rattle.walking.proofs.StandingLaws.{notable}
 use Rattle.walking.proofs.PlacesFit.{item-fits}
 use Rattle.steps.proofs.OnwardLaws.{item-inside, action-small, place-fits, place-there}
 use borrow.Author.Needs.{needs}
-use Prim.Native.Nat.{ℕ, _+_, _-_, _*_, _<_}
+use Prim.Native.Nat.{ℕ, _-_, _<_}
 use borrow.Fn.Kinds.{In}
 use borrow.Fn.PlainCycle.{Measures, is, falls, and}
 use Rattle.meaning.specs.Limits.{format}
