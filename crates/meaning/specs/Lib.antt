@@ -8,6 +8,7 @@ pub mod Lines
 pub mod States
 pub mod Walk
 pub mod Judging
+pub mod Asking
 pub mod Worlds
 pub mod Values
 pub mod ValueStates
