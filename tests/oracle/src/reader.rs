@@ -202,6 +202,7 @@ impl Reader<'_> {
         self.actions = self.count(1, ACTION_LIMIT)? as u8;
         let facts = self.literals(LIST_LIMIT)?;
         let effects = self.section(Self::effect)?;
+        let allowances_place = self.at;
         let allowances = self.section(Self::allowance)?;
         let knowledge = self.section(Self::knowledge)?;
         let plan = self.plan()?;
@@ -214,6 +215,7 @@ impl Reader<'_> {
             actions: self.actions,
             facts,
             effects,
+            allowances_place,
             allowances,
             knowledge,
             plan,
