@@ -7,7 +7,7 @@ use oracle::run::run;
 use oracle::text::parse_bytes;
 use oracle::whether;
 use oracle::whether::rows::whether_rows;
-use oracle::{check, check_whether, judge};
+use oracle::{check, check_whether, judge_line};
 
 #[test]
 fn small_runs_show_no_difference() {
@@ -57,14 +57,14 @@ fn rows_can_be_computed_again() {
         let mut words = row.split(' ');
         let kind = words.next().expect("a kind");
         let request = take(&mut words);
-        let (answer, state) = match kind {
+        let (answer, state, line) = match kind {
             "J" => {
                 let mut lent = vec![77; number(&mut words) as usize];
-                let answer = judge(&request, &mut lent, number(&mut words));
-                (answer, matches!(answer.number, 1 | 2).then_some(lent))
+                let (answer, line) = judge_line(&request, &mut lent, number(&mut words));
+                (answer, matches!(answer.number, 1 | 2).then_some(lent), line)
             }
-            "D" => (check(&request, &take(&mut words)), None),
-            "W" => (check_whether(&request, &take(&mut words)), None),
+            "D" => (check(&request, &take(&mut words)), None, 0),
+            "W" => (check_whether(&request, &take(&mut words)), None, 0),
             _ => panic!("no such kind: {kind}"),
         };
         let told: Vec<u32> = (0..4).map(|_| number(&mut words)).collect();
@@ -77,6 +77,7 @@ fn rows_can_be_computed_again() {
         assert_eq!(told, found, "{row}");
         if kind == "J" {
             assert_eq!(take(&mut words), state.unwrap_or_default(), "{row}");
+            assert_eq!(number(&mut words), line, "{row}");
         }
         assert_eq!(words.next(), None);
         met.insert((kind.to_string(), answer.number));
