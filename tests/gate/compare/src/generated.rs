@@ -5,14 +5,16 @@ use std::collections::BTreeMap;
 use oracle::calls::judge_call;
 use oracle::damage::damage_request;
 use oracle::encode::encode_request;
+use oracle::open;
 use oracle::rng::Rng;
+use oracle::run::Stop;
 
 use crate::calls::{agreed, Call};
 use crate::crowded::crowded;
 
 /// The numbers of the walk call.
 const NUMBERS: [u64; 17] = [0, 1, 2, 3, 9, 10, 11, 12, 13, 14, 15, 16, 17, 18, 19, 20, 21];
-/// From so many calls on, each number has to occur.
+/// From so many calls on, each number has to occur, and answer 2 at items of every kind.
 const ENOUGH: u64 = 100_000;
 /// The largest budget for a request whose walk nobody has counted before.
 const MOST: u32 = 20_000;
@@ -23,20 +25,32 @@ const FENCES: u64 = 4;
 /// Makes so many calls from a seed; in words how often each number occurred, or the first difference.
 pub fn compare(seed: u64, count: u64) -> Result<String, String> {
     let mut seen: BTreeMap<u64, u64> = BTreeMap::new();
+    let mut stops: BTreeMap<Stop, u64> = BTreeMap::new();
     let mut longest = 0;
     for index in 0..count {
         let call = call(seed, index);
         let left = agreed(&mut Rng::new(seed, FENCES, index), &call);
         let left = left.map_err(|why| format!("seed {seed}, call {index}: {why}; {call}"))?;
         *seen.entry(left.answer[0]).or_default() += 1;
+        if let (2, Ok(request)) = (left.answer[0], open(&call.request)) {
+            let stop = Stop::of(&request, call.request[left.answer[2] as usize], left.line.unwrap_or(0));
+            *stops.entry(stop).or_default() += 1;
+        }
         longest = longest.max(call.request.len());
     }
     for (number, times) in &seen {
         println!("  answer {number}: {times}");
     }
+    for (stop, times) in &stops {
+        println!("  answer 2 at {stop:?}: {times}");
+    }
     let missing: Vec<String> = NUMBERS.iter().filter(|number| !seen.contains_key(number)).map(u64::to_string).collect();
     if count >= ENOUGH && !missing.is_empty() {
         return Err(format!("seed {seed}: answers {} never occurred in {count} calls", missing.join(", ")));
+    }
+    let missing: Vec<String> = Stop::ALL.iter().filter(|stop| !stops.contains_key(stop)).map(|stop| format!("{stop:?}")).collect();
+    if count >= ENOUGH && !missing.is_empty() {
+        return Err(format!("seed {seed}: answer 2 never occurred at {} in {count} calls", missing.join(", ")));
     }
     Ok(format!("{count} calls of seed {seed} agree; the longest request has {longest} bytes"))
 }
