@@ -95,8 +95,8 @@ case-10-carried-out v h =
       allowed = λ w p. refl;
       read = λ on. absurd (false≢true on);
       done = λ off. record {
-        true-world = (v, h, refl);
-        goals = λ w p. both-true _ _ (ap (λ (x : World). x 0) (p .2) ∙ moved-to-true (p .0)) refl;
+        true-world = (v, h, refl, refl);
+        goals = λ w p. both-true _ _ (ap (λ (x : World). x 0) (p .3) ∙ moved-to-true (p .0)) refl;
         whether = λ w u p q. refl;
       };
     }

@@ -27,16 +27,16 @@ module _ {W L R : Type 0} (d : Domain W L R) where
   abbrev pub Sure : List L → Worlds W → Type 0
   Sure c P = (w : W) → P w → each-of (d .holds w) c ≡ true
 
-  -- Those in which a sensing action shows what it shows in the true world v (FORMAT 9.8).
+  -- Those in which a sensing action may be run and shows what it shows in the true world v (FORMAT 9.7, 9.8).
   abbrev pub Kept : ℕ → W → Worlds W → Worlds W
-  Kept a v P w = P w × (d .shows a w ≡ d .shows a v)
+  Kept a v P w = P w × (d .may-be-run a w ≡ true) × (d .shows a w ≡ d .shows a v)
 
-  -- Each one moved (FORMAT 9.5).
+  -- Each one moved in which the action may be run (FORMAT 9.5, 9.7).
   abbrev pub Moved : ℕ → Worlds W → Worlds W
-  Moved a P w = (u : W) × P u × (w ≡ d .moved a u)
+  Moved a P w = (u : W) × P u × (d .may-be-run a u ≡ true) × (w ≡ d .moved a u)
 
-  -- An action is carried out where v is the true world and P are the possible ones: it may be run in each of them, and K is wanted of the
-  -- true world and the possible ones afterwards (FORMAT 9.4 to 9.9).
+  -- An action is carried out where v is the true world and P are the possible ones: it may be run in each of them, so that none is dropped,
+  -- and K is wanted of the true world and the possible ones afterwards (FORMAT 9.4 to 9.9, 9.14).
   pub record Acted (a : ℕ) (K : W → Worlds W → Type 0) (v : W) (P : Worlds W) : Type 0 where
     pub allowed : (w : W) → P w → d .may-be-run a w ≡ true
     pub read : d .sensing a ≡ true → K v (Kept a v P)
