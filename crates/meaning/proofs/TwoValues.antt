@@ -26,6 +26,7 @@ use Rattle.meaning.specs.ValueStates
 use Rattle.meaning.specs.ValueWorlds
 use Rattle.meaning.specs.Values.{flags, numbers, first-such, values-of, fits, set-by, disagree}
 use Rattle.meaning.specs.ValueStates.{mark-left, is-known, each-value, known-as}
+use Rattle.meaning.proofs.RangeLaws.{Consistent}
 use Rattle.meaning.proofs.TestLaws.{by-test, clash, same-test, both-left, both-right, both-true, either-left, either-right, either-split, fails-true, fails-false, pick-true, pick-false, some-has, has-some, each-has, has-each, map-same, same-map}
 use Rattle.meaning.proofs.LiteralLaws.{positive-true, positive-false, fluent-true, fluent-false, complement-true, complement-false, complement-twice, by-literal, one-of-two, fluent-complement, same-fluent, among-has, has-among}
 use Rattle.meaning.proofs.StateLaws.{mark-true, mark-false, known-true, known-false, nothing-told, unknown-mark}
@@ -371,9 +372,6 @@ same-domain t =
     }
 
 -- THE FIRST STATE, of facts none of which stands beside its complement: the mark that telling leaves.
-abbrev Consistent : List ℕ → Type 0
-Consistent ls = (l : ℕ) → Has ls l → Has ls (complement l) → ⊥
-
 -- The mark of a fluent that is told true, told false, or left as it was.
 abbrev marked : (t u : Bool) → (before : ℕ) → ℕ
 marked t u before = pick t (λ _. Limits.true-mark) (λ _. pick u (λ _. Limits.false-mark) (λ _. before))

@@ -4,7 +4,7 @@
 use Prim.Native.Nat.{ℕ}
 use mathlib.Core.Path.{_≡_, sym, _∙_, subst, fun-ext}
 use mathlib.Core.Bool.{Bool, true}
-use mathlib.Core.List.{List, []}
+use mathlib.Core.List.{List}
 use Rattle.meaning.specs.Limits.{Limits}
 use Rattle.meaning.specs.Literals.{fluent-of, complement}
 use Rattle.meaning.specs.Requests.{Table, Request, values}
@@ -14,7 +14,6 @@ use Rattle.meaning.specs.Lines.{effects-of, given}
 use Rattle.meaning.specs.States.{first-state}
 use Rattle.meaning.specs.Walk.{Verified, walked}
 use Rattle.meaning.specs.Worlds.{World, holds, may-be-run, table-domain, Facts, Reached, Carried-out}
-use Rattle.meaning.specs.Values
 use Rattle.meaning.specs.ValueStates
 use Rattle.meaning.specs.ValueWorlds
 use Rattle.meaning.specs.Values.{flags}

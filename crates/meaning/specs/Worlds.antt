@@ -6,7 +6,7 @@ use mathlib.Core.List.{List, map}
 use mathlib.Core.Logic.{_⊎_}
 use Rattle.meaning.specs.Tests.{fails, pick, each-of}
 use Rattle.meaning.specs.Literals.{says-true, says-false, fluent-of, positive}
-use Rattle.meaning.specs.Requests.{Knowledge, Table, Sequence, done, item, Item, act, branching, Branches, none, branch, Request, values}
+use Rattle.meaning.specs.Requests.{Effect, Knowledge, Table, Sequence, done, item, Item, act, branching, Branches, none, branch, Request, values}
 use Rattle.meaning.specs.Lines.{effects-of, executability-of, knowledge-of, allowed, given, sensing}
 
 -- What carrying out asks of a domain with worlds W, literals L and readings R: where an action may be run, whether it senses, what it shows
@@ -78,6 +78,12 @@ moved t a w f =
     pick (given (holds w) (effects-of t a) (says-true f)) (λ _. true) λ _.
     pick (given (holds w) (effects-of t a) (says-false f)) (λ _. false) λ _.
     w f
+
+-- Two effects of an action meet in a world: the action may be run there, and both bodies hold (FORMAT 7.34).
+pub record Meet (t : Table) (e g : Effect) (w : World) : Type 0 where
+  pub runs : may-be-run t (e .action) w ≡ true
+  pub one : each-of (holds w) (e .body) ≡ true
+  pub other : each-of (holds w) (g .body) ≡ true
 
 -- The values of the sensed fluents (FORMAT 9.8).
 unfoldable pub shown : Table → ℕ → World → List Bool
