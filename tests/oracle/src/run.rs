@@ -5,10 +5,12 @@ use std::fmt::Write;
 
 use crate::answer::{Answer, DERIVATION, NEITHER, REQUEST};
 use crate::calls::{check_call, judge_call, CheckCall, JudgeCall, Outlook};
+use crate::edges::{self, Met};
 use crate::encode::{encode_derivation, encode_request};
-use crate::model::{Line, Request};
-use crate::reader::read_derivation;
+use crate::model::{Effect, Line, Request};
+use crate::reader::{read_derivation, read_request};
 use crate::rng::Rng;
+use crate::settle::clashing;
 use crate::text::comma_separated;
 use crate::walk::{walk, Verdict};
 use crate::{check, judge_line, open, paths, shown, worlds, STATE_LENGTH};
@@ -92,11 +94,14 @@ pub struct Tally {
     judged: BTreeMap<u8, u64>,
     stops: BTreeMap<Stop, u64>,
     checked: BTreeMap<(u8, u8), u64>,
+    judged_edges: Met,
+    checked_edges: Met,
     second_walks: u64,
     second_walks_left: u64,
     carried_out: u64,
     true_worlds: u64,
     not_enumerated: u64,
+    clashing_apart: u64,
     missed_though_reached: u64,
     stuck_though_reached: u64,
     accepted_carried_out: u64,
@@ -155,6 +160,8 @@ impl Tally {
         let mut lent = call.lent.clone();
         let (answer, line) = judge_line(&call.request, &mut lent, call.budget);
         *self.judged.entry(answer.number).or_default() += 1;
+        let edges = edges::of_judging(&call.request, call.lent.len(), answer);
+        self.judged_edges.note(edges);
         expect_form(answer, &call.request, &[])?;
         expect_outlook(answer, call.outlook)?;
         let written = matches!(answer.number, 1 | 2);
@@ -164,6 +171,7 @@ impl Tally {
         if answer.number != 2 && line != 0 {
             return Err(format!("answer {answer} carries the line {line}"));
         }
+        self.compare_meeting(&call.request, answer)?;
         if answer.number > 3 {
             return Ok(());
         }
@@ -217,6 +225,25 @@ impl Tally {
         Ok(())
     }
 
+    /// 16 is given where an action may be run in some world in which its effects would set a
+    /// fluent both ways, and nowhere else.
+    fn compare_meeting(&mut self, request: &[u8], answer: Answer) -> Result<(), String> {
+        let refused = answer.number == 16;
+        if !refused && !matches!(answer.number, 0..=3 | 17 | 18) {
+            return Ok(());
+        }
+        let request = read_request(request).map_err(|_| format!("answer {answer} unread"))?;
+        let apart = !refused && some_clash(&request.effects);
+        self.clashing_apart += u64::from(apart);
+        if request.fluents > worlds::WORLD_FLUENTS {
+            return Ok(());
+        }
+        match worlds::effects_meet(&request) == refused {
+            true => Ok(()),
+            false => Err(format!("answer {answer}, but in worlds it is otherwise")),
+        }
+    }
+
     /// A verified plan works in every true world; where 1 or 2 is given it may all the same.
     fn compare_worlds(&mut self, request: &Request, answer: Answer) -> Result<(), String> {
         if answer.number == 3 {
@@ -247,6 +274,8 @@ impl Tally {
             .checked
             .entry((answer.number, answer.input))
             .or_default() += 1;
+        let edges = edges::of_derivation(&call.request, &call.derivation, answer);
+        self.checked_edges.note(edges);
         expect_form(answer, &call.request, &call.derivation)?;
         expect_outlook(answer, call.outlook)?;
         if answer.number != 0 {
@@ -301,6 +330,9 @@ impl Tally {
         if !never.is_empty() {
             return Err(format!("never met: {}", never.join(", ")));
         }
+        if self.clashing_apart * 100 < self.requests * LEAST_SHARE {
+            return Err("effects rarely clash where their action can't be run".to_string());
+        }
         let rare = self.rare();
         if !rare.is_empty() {
             return Err(format!("below {LEAST_SHARE} per cent: {}", rare.join(", ")));
@@ -321,7 +353,14 @@ impl Tally {
             .iter()
             .filter(|pair| !self.checked.contains_key(pair))
             .map(|(number, input)| format!("{number} of input {input} in checking"));
-        judging.chain(stops).chain(checking).collect()
+        let of_judging = self.judged_edges.never(&edges::OF_JUDGING);
+        let of_checking = self.checked_edges.never(edges::OF_DERIVATIONS);
+        judging
+            .chain(stops)
+            .chain(checking)
+            .chain(of_judging.iter().map(|edge| format!("{edge} in judging")))
+            .chain(of_checking.iter().map(|edge| format!("{edge} in checking")))
+            .collect()
     }
 
     fn rare(&self) -> Vec<String> {
@@ -359,10 +398,12 @@ impl Tally {
         for (stop, times) in &self.stops {
             let _ = writeln!(out, "  answer 2 at {stop:?}: {times}");
         }
+        out += &self.judged_edges.told(&edges::OF_JUDGING);
         let _ = writeln!(out, "derivations checked: {}", self.derivations);
         for ((number, input), times) in &self.checked {
             let _ = writeln!(out, "  answer {number}, input {input}: {times}");
         }
+        out += &self.checked_edges.told(edges::OF_DERIVATIONS);
         for (rule, times) in &self.rules {
             let _ = writeln!(out, "accepted lines by rule {rule}: {times}");
         }
@@ -375,7 +416,7 @@ impl Tally {
         out
     }
 
-    fn titled(&self) -> [(&'static str, u64); 11] {
+    fn titled(&self) -> [(&'static str, u64); 12] {
         [
             ("walks compared with the second walk", self.second_walks),
             (
@@ -390,6 +431,10 @@ impl Tally {
             (
                 "verified requests with more than ten fluents",
                 self.not_enumerated,
+            ),
+            (
+                "requests with effects that clash only where their action can't be run",
+                self.clashing_apart,
             ),
             (
                 "answer 1 though every world reaches the goal",
@@ -417,6 +462,14 @@ impl Tally {
             ),
         ]
     }
+}
+
+/// Two of the effects clash, wherever their action can be run.
+fn some_clash(effects: &[Effect]) -> bool {
+    effects
+        .iter()
+        .enumerate()
+        .any(|(index, one)| effects[..index].iter().any(|other| clashing(one, other)))
 }
 
 /// What every answer keeps to: its input, place and count, and what the showing call shows.

@@ -75,6 +75,37 @@ fn too_large_bytes() {
 }
 
 #[test]
+fn bytes_too_large_for_the_most_fluents_and_actions() {
+    // Item bytes from 128 on are no actions, and 255 is a branching.
+    for byte in 128..=254 {
+        refused(&with_plan(2, 128, &[0, 1, byte], ""), 13, PLAN + 2);
+    }
+    failed(
+        &with_plan(2, 128, &[0, 1, 127], "0 0"),
+        2,
+        PLAN + 2,
+        0,
+        "??",
+    );
+    refused(&with_plan(2, 127, &[0, 1, 127], "0 0"), 13, PLAN + 2);
+    refused(&with_plan(2, 128, &[0, 1, 255], "0 0"), 12, PLAN + 3);
+    // The two largest literals are those of fluent 127.
+    for byte in [254, 255] {
+        let facts = |fluents: u8| [&[fluents, 1, 1, byte][..], &[0; 7]].concat();
+        refused(&facts(127), 13, 3);
+        verified(&facts(128), 1);
+    }
+    // A fluent is a byte of its own.
+    let whether =
+        |fluents: u8, fluent: u8| [&[fluents, 1, 0, 0, 0, 0, 0, 0, 0, 1][..], &[fluent]].concat();
+    for fluent in [128, 255] {
+        refused(&whether(128, fluent), 13, 10);
+    }
+    refused(&whether(127, 127), 13, 10);
+    failed(&whether(128, 127), 1, 10, 1, &"?".repeat(128));
+}
+
+#[test]
 fn largest_bytes_that_are_read() {
     let [fluents, actions] = [FLUENT_LIMIT, ACTION_LIMIT].map(|limit| limit as u8);
     let literals = || (0..fluents).map(|fluent| 2 * fluent + 1);
@@ -101,17 +132,30 @@ fn a_list_may_claim_more_than_the_table_has() {
 #[test]
 fn counts_outside_their_limits() {
     refused(&[0], 12, 0);
-    refused(&[65], 12, 0);
+    refused(&[129], 12, 0);
     refused(&[1, 0], 12, 1);
-    refused(&[1, 65], 12, 1);
-    refused(&[2, 1, 65], 12, 2);
+    refused(&[1, 129], 12, 1);
+    refused(&[2, 1, 129], 12, 2);
     refused(&bytes("2 1 0 1 0 0 17"), 12, 6);
     refused(&bytes("2 1 0 0 1 0 17"), 12, 6);
     refused(&with_plan(2, 1, &bytes("0 1 255 0"), ""), 12, PLAN + 3);
     refused(&with_plan(2, 1, &bytes("0 1 255 9"), ""), 12, PLAN + 3);
     refused(&with_plan(2, 1, &bytes("0 1 255 1 17"), ""), 12, PLAN + 4);
-    refused(&with_plan(2, 1, &[0, 0], "65"), 12, PLAN + 2);
-    refused(&with_plan(2, 1, &[0, 0], "0 65"), 12, PLAN + 3);
+    refused(&with_plan(2, 1, &[0, 0], "129"), 12, PLAN + 2);
+    refused(&with_plan(2, 1, &[0, 0], "0 129"), 12, PLAN + 3);
+    // Up to 128 they are within.
+    for count in [65, 128] {
+        refused(&[count], 11, 1);
+        refused(&[1, count], 11, 2);
+        refused(&[2, 1, count], 11, 3);
+        let count = count.to_string();
+        refused(&with_plan(2, 1, &[0, 0], &count), 11, PLAN + 3);
+        refused(
+            &with_plan(2, 1, &[0, 0], &format!("0 {count}")),
+            11,
+            PLAN + 4,
+        );
+    }
     // Sections 3 to 5 take any count.
     refused(&bytes("2 1 0 255"), 11, 4);
     refused(&bytes("2 1 0 0 255"), 11, 5);
@@ -231,7 +275,7 @@ fn an_item_count_is_never_refused() {
 fn bytes_left_go_before_settling() {
     // Contradictory effects, a mixed action and overlapping conditions, with and without a
     // byte too many.
-    let table = "1 1 0 | 2 0 0 0 0 1 0 | 0 | 1 0 0";
+    let table = "1 1 0 | 2 0 0 0 0 1 0 | 1 0 0 | 1 0 0";
     let mut request = bytes(table);
     request.extend(bytes("0 1 255 2 0 0 0 0 0 0 | 0 | 0"));
     refused(&request, 16, 7);
@@ -252,7 +296,8 @@ fn settling_is_three_passes() {
 
 #[test]
 fn contradictory_effects() {
-    let settled = |effects: &str| bytes(&format!("3 2 0 | {effects} | 0 | 0 | 0 0 | 0 | 0"));
+    let settled =
+        |effects: &str| bytes(&format!("3 2 0 | {effects} | 2 0 0 1 0 | 0 | 0 0 | 0 | 0"));
     // The pairs are of lines 0 and 3, and of 1 and 2: line 2 is the earliest later one.
     refused(&settled("4  0 0 0  0 2 0  0 3 0  0 1 0"), 16, 10);
     // Other actions, equal literals and exclusive bodies contradict nothing.
@@ -266,9 +311,46 @@ fn contradictory_effects() {
     verified(&settled("2  0 0 1 1  0 1 1 0"), 1);
     // An action that senses, too: 16 goes first.
     refused(
-        &bytes("1 1 0 | 2 0 0 0 0 1 0 | 0 | 1 0 0 | 0 0 | 0 | 0"),
+        &bytes("1 1 0 | 2 0 0 0 0 1 0 | 1 0 0 | 1 0 0 | 0 0 | 0 | 0"),
         16,
         7,
+    );
+}
+
+#[test]
+fn effects_that_clash_where_the_action_cannot_be_run() {
+    let settled = |effects: &str, lines: &str| {
+        bytes(&format!("3 2 0 | {effects} | {lines} | 0 | 0 0 | 0 | 0"))
+    };
+    // No line, or lines of another action only.
+    verified(&settled("2  0 4 0  0 5 0", "0"), 1);
+    verified(&settled("2  0 4 0  0 5 0", "2  1 0  1 0"), 1);
+    refused(&settled("2  0 4 0  0 5 0", "1  0 0"), 16, 7);
+    refused(&settled("2  0 4 0  0 5 0", "2  1 1 0  0 1 0"), 16, 7);
+    // A line against the first body, against the second, against neither.
+    verified(&settled("2  0 4 1 0  0 5 0", "1  0 1 1"), 1);
+    verified(&settled("2  0 4 0  0 5 1 0", "1  0 1 1"), 1);
+    refused(&settled("2  0 4 1 0  0 5 0", "1  0 1 2"), 16, 8);
+    // A line against each body, in either order, and one against neither.
+    let apart = "2  0 4 1 0  0 5 1 2";
+    verified(&settled(apart, "2  0 1 1  0 1 3"), 1);
+    verified(&settled(apart, "2  0 1 3  0 1 1"), 1);
+    verified(&settled(apart, "1  0 2 1 3"), 1);
+    refused(&settled(apart, "3  0 1 1  0 1 3  0 1 4"), 16, 8);
+    refused(&settled(apart, "2  0 1 0  0 1 1"), 16, 8);
+    // The literals of the effects do not count: the line may hold either.
+    refused(&settled(apart, "1  0 1 5"), 16, 8);
+    // The first pair can't meet, the second can: the third line is the place.
+    refused(&settled("3  0 2 0  0 3 1 0  0 3 1 4", "1  0 1 1"), 16, 11);
+    // An action that senses, too.
+    verified(
+        &bytes("1 2 0 | 2 0 0 0 0 1 0 | 1 1 0 | 1 1 0 | 0 0 | 0 | 0"),
+        1,
+    );
+    refused(
+        &bytes("1 1 0 | 2 0 0 0 0 1 0 | 0 | 1 0 0 | 0 0 | 0 | 0"),
+        17,
+        12,
     );
 }
 

@@ -36,6 +36,11 @@ pub fn numbers(packed: Packed) -> [u64; 4] {
     [packed.number().into(), packed.input().into(), packed.place() as u64, packed.count().into()]
 }
 
+/// The same in the independent program's form.
+pub fn answer([number, input, place, count]: [u64; 4]) -> oracle::Answer {
+    oracle::Answer { number: number as u8, input: input as u8, place: place as u32, count: count as u32 }
+}
+
 /// Both exported forms of the call, between fences; in words what they changed that they may not, in what the names of an answer differ from its
 /// numbers, or how the second form, which has the line, differs from the first in anything else.
 pub fn exported(rng: &mut Rng, call: &Call) -> Result<Left, String> {

@@ -2,19 +2,21 @@
 
 use std::collections::BTreeMap;
 
+use glintstring::STATE_LENGTH;
 use oracle::calls::judge_call;
 use oracle::damage::damage_request;
+use oracle::edges::{of_judging, Met, OF_JUDGING};
 use oracle::encode::encode_request;
 use oracle::open;
 use oracle::rng::Rng;
 use oracle::run::Stop;
 
-use crate::calls::{agreed, Call};
+use crate::calls::{agreed, answer, Call};
 use crate::crowded::crowded;
 
-/// The numbers of the walk call.
+/// The numbers of the walk call, each of which has to occur, as have what stands at the limits and answer 2 at items of every kind.
 const NUMBERS: [u64; 17] = [0, 1, 2, 3, 9, 10, 11, 12, 13, 14, 15, 16, 17, 18, 19, 20, 21];
-/// From so many calls on, each number has to occur, and answer 2 at items of every kind.
+/// From so many calls on, all that has to occur is looked for.
 const ENOUGH: u64 = 100_000;
 /// The largest budget for a request whose walk nobody has counted before.
 const MOST: u32 = 20_000;
@@ -26,6 +28,7 @@ const FENCES: u64 = 4;
 pub fn compare(seed: u64, count: u64) -> Result<String, String> {
     let mut seen: BTreeMap<u64, u64> = BTreeMap::new();
     let mut stops: BTreeMap<Stop, u64> = BTreeMap::new();
+    let mut edges = Met::default();
     let mut longest = 0;
     for index in 0..count {
         let call = call(seed, index);
@@ -36,6 +39,7 @@ pub fn compare(seed: u64, count: u64) -> Result<String, String> {
             let stop = Stop::of(&request, call.request[left.answer[2] as usize], left.line.unwrap_or(0));
             *stops.entry(stop).or_default() += 1;
         }
+        edges.note(of_judging(&call.request, call.lent.len(), answer(left.answer)));
         longest = longest.max(call.request.len());
     }
     for (number, times) in &seen {
@@ -44,13 +48,12 @@ pub fn compare(seed: u64, count: u64) -> Result<String, String> {
     for (stop, times) in &stops {
         println!("  answer 2 at {stop:?}: {times}");
     }
-    let missing: Vec<String> = NUMBERS.iter().filter(|number| !seen.contains_key(number)).map(u64::to_string).collect();
+    print!("{}", edges.told(&OF_JUDGING));
+    let missing = NUMBERS.iter().filter(|number| !seen.contains_key(number)).map(|number| format!("answer {number}"));
+    let stops = Stop::ALL.iter().filter(|stop| !stops.contains_key(stop)).map(|stop| format!("answer 2 at {stop:?}"));
+    let missing: Vec<String> = missing.chain(stops).chain(edges.never(&OF_JUDGING)).collect();
     if count >= ENOUGH && !missing.is_empty() {
-        return Err(format!("seed {seed}: answers {} never occurred in {count} calls", missing.join(", ")));
-    }
-    let missing: Vec<String> = Stop::ALL.iter().filter(|stop| !stops.contains_key(stop)).map(|stop| format!("{stop:?}")).collect();
-    if count >= ENOUGH && !missing.is_empty() {
-        return Err(format!("seed {seed}: answer 2 never occurred at {} in {count} calls", missing.join(", ")));
+        return Err(format!("seed {seed}: never in {count} calls: {}", missing.join(", ")));
     }
     Ok(format!("{count} calls of seed {seed} agree; the longest request has {longest} bytes"))
 }
@@ -91,7 +94,7 @@ pub fn any_call(rng: &mut Rng) -> Call {
             };
             call.budget = *rng.pick(&[0, 3, 20, 1_000, MOST]);
         }
-        21 => call.lent = (0..rng.below(200)).map(|_| rng.byte(0, 255)).collect(),
+        21 => call.lent = (0..rng.below(2 * STATE_LENGTH)).map(|_| rng.byte(0, 255)).collect(),
         _ => {}
     }
     call

@@ -1,6 +1,7 @@
 -- The first line is the best so far, and a turn looks at the first of those that are left: it becomes the best where it is short by fewer. What
 -- is left gives, with the best so far, what the whole gives, and line numbers rise in file order.
-use Rattle.steps.proofs.ActionLaws.{never-near, first-few, first-body, first-body-fits, Nearing, nearing-starts, nearing-done, line-few, line-less, to-go, near-body-fits, near-body, near-fewer, near-kept}
+use Rattle.finding.proofs.AheadLaws.{to-go, line-few, line-less}
+use Rattle.steps.proofs.ActionLaws.{never-near, first-few, first-body, first-body-fits, Nearing, nearing-starts, nearing-done, near-body-fits, near-body, near-fewer, near-kept}
 use borrow.Author.Needs.{needs}
 use Rattle.steps.proofs.actions.nearest.Statement.{statement}
 use Rattle.steps.proofs.actions.nearest.Tie as tie
