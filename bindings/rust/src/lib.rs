@@ -29,10 +29,11 @@
 //!
 //! # Stack
 //!
-//! A walk may need as much as [`STACK_NEEDED`] bytes of stack, more than the 2 MiB that a thread in Rust gets; the request decides how much.
-//! [`judge`] sees to that: it walks on a thread of its own. [`judge_here`] and [`judge_packed`] walk on the caller's stack, and a walk that
-//! has too little of it is ended by the system, and the process with it. [`check`], [`check_whether`] and [`show`] need far less, whatever
-//! their inputs, and a thread's 2 MiB will do.
+//! A walk may need as much as [`STACK_NEEDED`] bytes of stack, more than the 2 MiB that a thread in Rust gets, and more than the 8 MiB that the
+//! first thread of a process has as a rule; the request decides how much. [`judge`] sees to that: it walks on a thread of its own. A [`Judge`]
+//! keeps such a thread for many calls. [`judge_here`] and [`judge_packed`] walk on the caller's stack, and a walk that has too little of it is
+//! ended by the system, and the process with it. [`check`], [`check_whether`] and [`show`] need far less, whatever their inputs, and a
+//! thread's 2 MiB will do.
 //!
 //! # The library
 //!
@@ -43,13 +44,15 @@
 #![deny(missing_docs)]
 
 mod answer;
+mod serving;
 
 pub use answer::{Answer, Input, Mark, NotVerified, Packed, State};
+pub use serving::Judge;
 
 use std::{io, thread};
 
 /// The length of the lent state that [`judge_packed`] takes, which is the number of marks in a [`State`].
-pub const STATE_LENGTH: usize = 64;
+pub const STATE_LENGTH: usize = 128;
 
 /// Bytes that a request may have. One byte more is answered as any longer one, so that no more of a file need be read.
 pub const REQUEST_LIMIT: usize = 16_384;
@@ -57,10 +60,10 @@ pub const REQUEST_LIMIT: usize = 16_384;
 /// Bytes that a derivation may have, in the same way.
 pub const DERIVATION_LIMIT: usize = 32_768;
 
-/// Bytes of free stack that a walk may need (docs/MEASURED.md): 6 MiB.
-pub const STACK_NEEDED: usize = 6 << 20;
+/// Bytes of free stack that a walk may need (docs/MEASURED.md): 16 MiB.
+pub const STACK_NEEDED: usize = 16 << 20;
 
-/// The stack of [`judge`]'s thread: what is needed, and 1 MiB for the thread itself.
+/// The stack of a thread that walks: what is needed, and 1 MiB for the thread itself.
 const STACK: usize = STACK_NEEDED + (1 << 20);
 
 extern "C" {
@@ -73,8 +76,8 @@ extern "C" {
 
 /// The walk call: judges a request by walking its plan, with a count of at most `budget`.
 ///
-/// Any bytes may be given, of any length. The walk runs on a thread of its own that has enough stack, and the caller waits for it.
-/// [`Answer::GoalMissed`] and [`Answer::NotExecutable`] have the state concerned in them.
+/// Any bytes may be given, of any length. The walk runs on a thread of its own that has enough stack, and the caller waits for it; for many
+/// calls a [`Judge`] keeps one. [`Answer::GoalMissed`] and [`Answer::NotExecutable`] have the state concerned in them.
 ///
 /// ```
 /// use glintstring::{judge, Answer};
@@ -134,7 +137,7 @@ pub fn judge_here(request: &[u8], budget: u32) -> Answer {
 /// they were. Where there are not [`STATE_LENGTH`] of them, the answer is 9.
 ///
 /// ```
-/// let packed = glintstring::judge_packed(&[], &mut [0; 64], 0);
+/// let packed = glintstring::judge_packed(&[], &mut [0; 128], 0);
 /// assert_eq!((packed.number(), packed.input(), packed.place(), packed.count()), (11, 1, 0, 0));
 /// ```
 pub fn judge_packed(request: &[u8], state: &mut [u8], budget: u32) -> Packed {

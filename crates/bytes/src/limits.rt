@@ -1,9 +1,9 @@
 // Every limit, refusal and mark, named once as in the definitions' Limits (FORMAT 3.2 to 3.15).
-pub const FLUENTS: usize = 64;
+pub const FLUENTS: usize = 128;
 
-pub const ACTIONS: usize = 64;
+pub const ACTIONS: usize = 128;
 
-pub const LISTED: usize = 64;
+pub const LISTED: usize = 128;
 
 pub const BODY: usize = 16;
 

@@ -29,8 +29,12 @@ fn budget_asked() -> Asked {
     number_of(&text[..n])
 }
 
-// The answer, and for 1 and 2 the state. The first byte of a request that gets one of these is its fluent count.
+// The answer, and for 1 and 2 the state. The first byte of a request that gets one of these is its fluent count. Without enough stack there is
+// none, which is said.
 fn answer_to(request: &[u8], budget: u32) -> bool {
+    if !stack_is_enough(b"judge", b"", request.len()) {
+        return true;
+    }
     let mut state = [0u8; limits::FLUENTS];
     let answer = judge(request, &mut state, budget);
     if !put_line(
@@ -62,11 +66,7 @@ fn judge_input(budget: u32) {
 
 fn main() {
     match budget_asked() {
-        Asked::Number(budget) => {
-            if stack_is_enough(b"judge: ") {
-                judge_input(budget);
-            }
-        }
+        Asked::Number(budget) => judge_input(budget),
         Asked::Nothing => {
             io::write_all(
                 libc::STDERR_FILENO,

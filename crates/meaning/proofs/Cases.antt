@@ -1,4 +1,4 @@
--- The cases of the format (FORMAT 13.17 to 13.39, 13.56 to 13.58) and one row or more for each decision that a row can show, computed by
+-- The cases of the format (FORMAT 13.17 to 13.39, 13.56 to 13.69) and one row or more for each decision that a row can show, computed by
 -- the definitions: one equation over one table. Assumes nothing.
 use Prim.Native.Nat.{ℕ, zero, suc, _-_}
 use mathlib.Core.Path.{_≡_, refl}
@@ -101,7 +101,8 @@ cases =
     refused (file-A ++ (0 ∷ [])) 20 48 ∷
     -- Case 12.
     refused (set file-A 0 0) 12 0 ∷
-    refused (set file-A 0 65) 12 0 ∷
+    refused (set file-A 0 129) 12 0 ∷
+    refused (set file-A 1 129) 12 1 ∷
     refused (set file-A 5 8) 13 5 ∷
     refused (set file-A 5 5) 14 5 ∷
     refused (set file-A 3 4) 15 4 ∷
@@ -109,8 +110,9 @@ cases =
     refused (set file-A 27 1) 17 27 ∷
     refused (set file-A 41 1) 18 32 ∷
     -- Case 13.
-    row file-A (replicate 63 9) usual 9 0 0 0 (replicate 63 9) ∷
-    row file-A (replicate 65 9) usual 9 0 0 0 (replicate 65 9) ∷
+    row file-A (replicate 127 9) usual 9 0 0 0 (replicate 127 9) ∷
+    row file-A (replicate 129 9) usual 9 0 0 0 (replicate 129 9) ∷
+    row file-A (replicate 64 9) usual 9 0 0 0 (replicate 64 9) ∷
     refused (replicate 16385 0) 10 0 ∷
     -- What a test in another order would say otherwise: an entry's size goes before the next one's order, and 20 before 16.
     refused (set file-A 3 8) 13 3 ∷
@@ -126,7 +128,7 @@ cases =
     -- D4
     refused (2 ∷ 1 ∷ 10 ∷ 0 ∷ 2 ∷ []) 11 5 ∷
     -- D5
-    refused (2 ∷ 1 ∷ 65 ∷ []) 12 2 ∷
+    refused (2 ∷ 1 ∷ 129 ∷ []) 12 2 ∷
     refused (no-lines ++ copies 8 opening ++ (0 ∷ 1 ∷ 255 ∷ [])) 19 48 ∷
     -- D6, D7
     refused (no-lines ++ (4 ∷ 1 ∷ []) ++ replicate 1024 0 ++ (255 ∷ [])) 21 1032 ∷
@@ -159,6 +161,15 @@ cases =
     verified (1 ∷ 1 ∷ 0 ∷ 0 ∷ 0 ∷ 0 ∷ 0 ∷ 1 ∷ 255 ∷ 1 ∷ 0 ∷ 0 ∷ 0 ∷ 0 ∷ 0 ∷ []) 1 ∷
     -- File A with a line of each of the sections 3 to 5 said twice (FORMAT 2.35).
     verified (4 ∷ 3 ∷ 3 ∷ 3 ∷ 5 ∷ 7 ∷ 4 ∷ 1 ∷ 2 ∷ 0 ∷ 1 ∷ 2 ∷ 0 ∷ 1 ∷ 6 ∷ 1 ∷ 0 ∷ 2 ∷ 4 ∷ 0 ∷ 4 ∷ 0 ∷ 0 ∷ 1 ∷ 1 ∷ 3 ∷ 2 ∷ 1 ∷ 2 ∷ 0 ∷ 0 ∷ 2 ∷ 0 ∷ 0 ∷ 0 ∷ 0 ∷ 0 ∷ 2 ∷ 0 ∷ 255 ∷ 2 ∷ 1 ∷ 1 ∷ 0 ∷ 2 ∷ 1 ∷ 2 ∷ 1 ∷ 0 ∷ 0 ∷ 0 ∷ 1 ∷ 7 ∷ 1 ∷ 2 ∷ []) 5 ∷
+    -- The limits (FORMAT 13.63 to 13.69): more than 64 fluents; the last fluent, its literals and its mark; the last action, and the item
+    -- byte after it.
+    verified (set file-A 0 65) 5 ∷
+    verified (set (set file-A 0 128) 1 128) 5 ∷
+    verified (128 ∷ 1 ∷ 1 ∷ 255 ∷ 0 ∷ 0 ∷ 0 ∷ 0 ∷ 0 ∷ 1 ∷ 255 ∷ 1 ∷ 127 ∷ []) 1 ∷
+    refused (127 ∷ 1 ∷ 1 ∷ 255 ∷ 0 ∷ 0 ∷ 0 ∷ 0 ∷ 0 ∷ 1 ∷ 255 ∷ 1 ∷ 127 ∷ []) 13 3 ∷
+    missed (128 ∷ 1 ∷ 0 ∷ 0 ∷ 1 ∷ 0 ∷ 0 ∷ 1 ∷ 0 ∷ 127 ∷ 0 ∷ 1 ∷ 0 ∷ 1 ∷ 254 ∷ 0 ∷ []) 14 3 (replicate 127 0 ++ (2 ∷ [])) ∷
+    verified (1 ∷ 128 ∷ 0 ∷ 0 ∷ 1 ∷ 127 ∷ 0 ∷ 0 ∷ 0 ∷ 1 ∷ 127 ∷ 0 ∷ 0 ∷ []) 2 ∷
+    refused (1 ∷ 128 ∷ 0 ∷ 0 ∷ 0 ∷ 0 ∷ 0 ∷ 1 ∷ 128 ∷ []) 13 8 ∷
     []
 
 -- Every case is judged as its row says.

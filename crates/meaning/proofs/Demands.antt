@@ -1,5 +1,5 @@
 -- The demands (FORMAT section 11, and 17.38 to 17.41), each by citing where its argument stands. Read this file first. Assumes nothing.
-use Prim.Native.Nat.{ℕ, _≤_}
+use Prim.Native.Nat.{ℕ, _-_, _≤_}
 use native.Mathlib.Omega.{arith}
 use mathlib.Core.Path.{_≡_, refl, ap}
 use mathlib.Core.Bool.{true}
@@ -9,7 +9,7 @@ use lib.Dec.{eqb, ltb}
 use Rattle.meaning.specs.declared.Layout.{Layout}
 use Rattle.meaning.specs.Tests.{either, pick, some-of}
 use Rattle.meaning.specs.Limits
-use Rattle.meaning.specs.Limits.{Limits}
+use Rattle.meaning.specs.Limits.{Limits, former, format}
 use Rattle.meaning.specs.Literals.{among}
 use Rattle.meaning.specs.Requests.{Request-over, Request}
 use Rattle.meaning.specs.Reading.{Got, got, fault}
@@ -22,6 +22,7 @@ use Rattle.meaning.specs.Values.{Literals, all-exclusive}
 use Rattle.meaning.specs.ValueStates
 use Rattle.meaning.specs.ValueWorlds
 use Rattle.meaning.specs.Derivations.{check}
+use Rattle.meaning.specs.Wider.{Same-judgement}
 use Rattle.meaning.specs.Answers.{refusals, answers}
 use Rattle.meaning.proofs.TestLaws.{by-test, clash}
 use Rattle.meaning.proofs.WalkLaws.{On-conditions}
@@ -32,6 +33,9 @@ use Rattle.meaning.proofs.ValueSound
 use Rattle.meaning.proofs.AnswerLaws.{Numbered-in, settled-numbered}
 use Rattle.meaning.proofs.Passed.{passed-exactly}
 use Rattle.meaning.proofs.WalkSound.{walk-sound}
+use Rattle.meaning.proofs.WiderCases.{format-wider}
+use Rattle.meaning.proofs.WiderJudging
+use Rattle.meaning.proofs.WiderDerivations
 -- Demand 2, its first sentence (FORMAT 11.5): past the refusals and within the budget the answers are those of the 0-approximation, in the
 -- order of the paths.
 pub use Rattle.meaning.proofs.Exact.{spent-exactly, stuck-exactly, verified-exactly, missed-exactly, in-order}
@@ -105,3 +109,14 @@ pub sound-derivation : (lim : Limits) → lim .fluents ≤ lim .state → (layou
 sound-derivation lim room layout request derivation q =
     let m = accepted-verified lim room layout request derivation q in
     (m .0, m .1, m .2, walk-sound lim request (m .0) (m .1) (m .2) (m .3))
+
+-- Equal answers (FORMAT 3.19 to 3.21): what the former limits answer with another number than 12, lent a state of their length, the format's limits
+-- answer alike. With 1 and 2 the state that is left is the former one with unknown marks behind it; with every other number each stays as lent.
+pub as-before : (request small large : List ℕ) (budget : ℕ) → length small ≡ former .state → length large ≡ format .state
+    → (judge former request small budget .answer .number ≡ Limits.count-outside → ⊥)
+    → Same-judgement (format .state - former .state) small large (judge former request small budget) (judge format request large budget)
+as-before request small large budget fits fits-wider = WiderJudging.same-judgement former format format-wider small large fits fits-wider budget request
+
+pub check-as-before : (layout : Layout) (request derivation : List ℕ) → (check former layout request derivation .number ≡ Limits.count-outside → ⊥)
+    → check format layout request derivation ≡ check former layout request derivation
+check-as-before = WiderDerivations.same-check former format format-wider

@@ -200,7 +200,7 @@ pub few-readings : (lim : Limits) (b : List ℕ) (r : Request) (e : ℕ) → set
     → (s : State) → readings-deep (table-step (r .table)) (r .plan) s ≤ 1 + q * (lim .fluents - 1)
 few-readings lim b r e past q even s = let h = deep-enough lim b r e past q even 1 0 (omega arith) s in omega arith
 
--- BY THE FORMAT'S LIMITS, from the first state: at most 511 × 63 + 64 readings, at most 1,025 walks, and together no more than these readings
+-- BY THE FORMAT'S LIMITS, from the first state: at most 511 × 127 + 128 readings, at most 1,025 walks, and together no more than these readings
 -- and 514 walks.
 abbrev pub most-readings : ℕ
 most-readings = (format .items / 2 - 1) * (format .fluents - 1) + format .fluents

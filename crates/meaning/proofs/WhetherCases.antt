@@ -196,11 +196,11 @@ whethers =
     row both-run (0 ∷ 1 ∷ 0 ∷ 0 ∷ 0 ∷ 7 ∷ []) 11 2 6 ∷
     row both-run (0 ∷ 1 ∷ 0 ∷ 0 ∷ 0 ∷ 7 ∷ 1 ∷ 65 ∷ []) 12 2 7 ∷
     -- It is a list after every other byte (FORMAT 17.6).
-    row both-run (0 ∷ 1 ∷ 0 ∷ 0 ∷ 0 ∷ 0 ∷ 65 ∷ []) 12 2 6 ∷
-    row both-run (0 ∷ 1 ∷ 0 ∷ 0 ∷ 0 ∷ 6 ∷ 65 ∷ []) 12 2 6 ∷
-    row both-run (0 ∷ 1 ∷ 0 ∷ 0 ∷ 0 ∷ 9 ∷ 65 ∷ []) 12 2 6 ∷
-    row both-run (0 ∷ 1 ∷ 0 ∷ 0 ∷ 0 ∷ 13 ∷ 65 ∷ []) 12 2 6 ∷
-    row both-run (0 ∷ 1 ∷ 0 ∷ 0 ∷ 0 ∷ 255 ∷ 65 ∷ []) 12 2 6 ∷
+    row both-run (0 ∷ 1 ∷ 0 ∷ 0 ∷ 0 ∷ 0 ∷ 129 ∷ []) 12 2 6 ∷
+    row both-run (0 ∷ 1 ∷ 0 ∷ 0 ∷ 0 ∷ 6 ∷ 129 ∷ []) 12 2 6 ∷
+    row both-run (0 ∷ 1 ∷ 0 ∷ 0 ∷ 0 ∷ 9 ∷ 129 ∷ []) 12 2 6 ∷
+    row both-run (0 ∷ 1 ∷ 0 ∷ 0 ∷ 0 ∷ 13 ∷ 129 ∷ []) 12 2 6 ∷
+    row both-run (0 ∷ 1 ∷ 0 ∷ 0 ∷ 0 ∷ 255 ∷ 129 ∷ []) 12 2 6 ∷
     -- The closing list: it is missing, it ends too soon, its count is 255 and read on, and a byte follows it (FORMAT 17.7, 17.8, 17.12).
     row both-run (written sensed) 11 2 83 ∷
     row both-run (take 87 (derived sensed (7 ∷ 2 ∷ []))) 11 2 87 ∷

@@ -1,34 +1,18 @@
--- Limits that are wider than the format's, twice as many fluents, actions, listed entries and lent bytes, and a request that shows why the laws
--- of wider limits leave 12 out: by computing. Assumes nothing.
-use Prim.Native.Nat.{ℕ, _+_, _*_}
+-- The format's limits are wider than those that it had before, and a request shows why the laws of wider limits leave 12 out: by computing. Assumes
+-- nothing.
+use Prim.Native.Nat.{ℕ, _+_}
 use native.Mathlib.Omega.{arith}
 use mathlib.Core.Path.{_≡_, refl}
 use mathlib.Core.List.{List, [], _∷_}
 use lib.ListN.{replicate}
 use Rattle.meaning.specs.Limits
-use Rattle.meaning.specs.Limits.{Limits, format}
+use Rattle.meaning.specs.Limits.{former, format}
 use Rattle.meaning.specs.Judging.{number}
 use Rattle.meaning.specs.Wider.{Wider}
 use Rattle.meaning.proofs.Compute.{all-open}
 
-abbrev pub doubled : Limits
-doubled = record {
-  fluents = 2 * format .fluents;
-  actions = 2 * format .actions;
-  listed = 2 * format .listed;
-  body = format .body;
-  branches = format .branches;
-  nested = format .nested;
-  items = format .items;
-  request = format .request;
-  derivation = format .derivation;
-  state = 2 * format .state;
-  lines = format .lines;
-  citations = format .citations;
-}
-
-pub doubled-wider : Wider format doubled
-doubled-wider = record {
+pub format-wider : Wider former format
+format-wider = record {
   fluents = omega arith;
   actions = omega arith;
   listed = omega arith;
@@ -44,11 +28,11 @@ doubled-wider = record {
   room = omega arith;
 }
 
--- A request that begins with one fluent too many and ends there.
-abbrev one-too-many : List ℕ
-one-too-many = (format .fluents + 1) ∷ []
+-- A request that begins with one fluent more than there could be before, and ends there.
+abbrev one-more : List ℕ
+one-more = (former .fluents + 1) ∷ []
 
-pub twelve-left-out : (number format one-too-many (replicate (format .state) 0) 0 ≡ Limits.count-outside)
-    × (number doubled one-too-many (replicate (doubled .state) 0) 0 ≡ Limits.ends-too-soon)
+pub twelve-left-out : (number former one-more (replicate (former .state) 0) 0 ≡ Limits.count-outside)
+    × (number format one-more (replicate (format .state) 0) 0 ≡ Limits.ends-too-soon)
 unfolding all-open
 twelve-left-out = (refl, refl)

@@ -19,21 +19,38 @@ pub record Limits : Type 0 where
 -- The limits of the format (FORMAT 3.2 to 3.15).
 abbrev pub format : Limits
 format = record {
-  fluents = 64;
-  actions = 64;
-  listed = 64;
+  fluents = 128;
+  actions = 128;
+  listed = 128;
   body = 16;
   branches = 8;
   nested = 8;
   items = 1024;
   request = 16384;
   derivation = 32768;
-  state = 64;
+  state = 128;
   lines = 1024;
   citations = 64;
 }
 
--- Its literals are below twice its fluents (FORMAT 2.2, 2.3).
+-- The limits that the format had before (FORMAT 3.18). Only what is said of answers that stay speaks of them.
+abbrev pub former : Limits
+former = record {
+  fluents = 64;
+  actions = 64;
+  listed = 64;
+  body = format .body;
+  branches = format .branches;
+  nested = format .nested;
+  items = format .items;
+  request = format .request;
+  derivation = format .derivation;
+  state = 64;
+  lines = format .lines;
+  citations = format .citations;
+}
+
+-- The format's literals are below twice its fluents (FORMAT 2.2, 2.3).
 abbrev pub all-literals : ℕ
 all-literals = 2 * format .fluents
 

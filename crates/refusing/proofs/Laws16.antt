@@ -1,9 +1,9 @@
 -- Refusal 16 over the notes that reading left. Assumes nothing.
-use Prim.Native.Nat.{ℕ, zero, suc, _+_, _-_, _*_, _/_, _≤_, _<_}
+use Prim.Native.Nat.{ℕ, zero, suc, _+_, _-_, _*_, _/_, _%_, _≤_, _<_}
 use native.Mathlib.Omega.{arith}
 use native.Mathlib.Decide.{ℕ-discrete}
 use native.Mathlib.Numerals.{add-one}
-use mathlib.Core.Path.{_≡_, refl, sym, _∙_, ap, subst}
+use mathlib.Core.Path.{_≡_, refl, sym, _∙_, ap, ap₂, subst}
 use mathlib.Core.Bool.{Bool, true, false}
 use mathlib.Core.List.{List, [], _∷_}
 use mathlib.Core.Logic.{⊎-elim}
@@ -28,13 +28,13 @@ use Rattle.finding.specs.declared.places.Found.the-variants.{Nowhere, At}
 use Rattle.reading.specs.Listed.{listed, List-here, holds-as}
 use Rattle.finding.specs.Places.{found}
 use Rattle.finding.specs.LinesHere.{effect-from, Effect-here, place-in, effects-in, Effects-here}
-use Rattle.refusing.specs.Refusal16.{effects-before, pair-at, Last, Linked, pair-linked, linked-slots}
-use Rattle.reading.specs.Noted.{line-numbers, pairs}
+use Rattle.refusing.specs.Refusal16.{effects-before, buckets, bucket-at, Last, Linked, bucket-linked, linked-slots}
+use Rattle.reading.specs.Noted.{line-numbers}
 use Rattle.finding.proofs.PlanHere.{listed-clear}
 
-pub pair-got : (s : List ℕ) (p x y : ℕ) → x ≡ getD s p 0 → y ≡ getD s (p + 1) 0 → format .fluents * x + y / 2 ≡ pair-at s p
-unfolding pair-at
-pair-got s p x y ex ey = rw (ex, ey)
+pub bucket-got : (s : List ℕ) (p x y : ℕ) → x ≡ getD s p 0 → y ≡ getD s (p + 1) 0 → (format .fluents * x + y / 2) % buckets ≡ bucket-at s p
+unfolding bucket-at
+bucket-got s p x y ex ey = rw (ex, ey)
 
 -- ONE AGAINST ONE.
 -- A body is clear.
@@ -70,42 +70,45 @@ by-literals k l b e =
     (same-fluent l k e)
 
 module _ (s : List ℕ) (p q : ℕ) where
-  -- Contradictory effects share their pair.
-  pair-same : contradictory (effect-from s p) (effect-from s q) ≡ true → pair-at s q ≡ pair-at s p
-  unfolding contradictory effect-from pair-at fluent-of
-  pair-same h =
+  -- Contradictory effects share their bucket.
+  bucket-same : contradictory (effect-from s p) (effect-from s q) ≡ true → bucket-at s q ≡ bucket-at s p
+  unfolding contradictory effect-from bucket-at fluent-of
+  bucket-same h =
       let a : getD s p 0 ≡ getD s q 0 = eqb-true _ _ (both-left _ _ h) in
       let l : getD s (q + 1) 0 ≡ complement (getD s (p + 1) 0) = eqb-true _ _ (both-left _ _ (both-right _ _ h)) in
       let f : getD s (q + 1) 0 / 2 ≡ getD s (p + 1) 0 / 2 = ap fluent-of l ∙ fluent-complement (getD s (p + 1) 0) in
-      omega arith
+      ap (λ (x : ℕ). x % buckets) (ap₂ (λ (x y : ℕ). format .fluents * x + y) (sym a) f)
 
-  module _ (here : Effect-here s p) (there : Effect-here s q) (paired : pair-at s q ≡ pair-at s p) where
-    action-same : getD s p 0 ≡ getD s q 0
-    unfolding pair-at
-    action-same = omega (arith, paired, here .literal, there .literal)
+  pub action-other : (getD s p 0 ≡ getD s q 0 → ⊥) → false ≡ contradictory (effect-from s p) (effect-from s q)
+  unfolding contradictory effect-from both
+  action-other h = sym (rw (ne-eqb (getD s p 0) (getD s q 0) h))
 
-    fluent-same : getD s (q + 1) 0 / 2 ≡ getD s (p + 1) 0 / 2
-    unfolding pair-at
-    fluent-same = omega (arith, paired, here .literal, there .literal)
+  pub fluent-other : (getD s (p + 1) 0 / 2 ≡ getD s (q + 1) 0 / 2 → ⊥) → false ≡ contradictory (effect-from s p) (effect-from s q)
+  unfolding contradictory effect-from fluent-of
+  fluent-other h =
+      sym (by-test _ (λ e. absurd (h (sym (ap fluent-of (eqb-true _ _ (both-left _ _ (both-right _ _ e))) ∙ fluent-complement (getD s (p + 1) 0))))) (λ e. e))
 
-    contradictory-is : contradictory (effect-from s p) (effect-from s q) ≡ both (fails (eqb (getD s (q + 1) 0) (getD s (p + 1) 0))) (each-of (possible (state-of format (listed s (p + 2)))) (listed s (q + 2)))
+  module _ (here : Effect-here s p) (action-same : getD s p 0 ≡ getD s q 0) where
+    contradictory-is : getD s (p + 1) 0 / 2 ≡ getD s (q + 1) 0 / 2
+        → contradictory (effect-from s p) (effect-from s q) ≡ both (fails (eqb (getD s (q + 1) 0) (getD s (p + 1) 0))) (each-of (possible (state-of format (listed s (p + 2)))) (listed s (q + 2)))
     unfolding contradictory effect-from fluent-of both
-    contradictory-is =
+    contradictory-is fluent-same =
         rw (eq-eqb _ _ action-same, possible-exclusive (listed s (p + 2)) (listed s (q + 2)) (body-clear s p here))
-        (by-literals (getD s (p + 1) 0) (getD s (q + 1) 0) (fails (exclusive (listed s (p + 2)) (listed s (q + 2)))) fluent-same)
+        (by-literals (getD s (p + 1) 0) (getD s (q + 1) 0) (fails (exclusive (listed s (p + 2)) (listed s (q + 2)))) (sym fluent-same))
 
     module _ (held : State) (holds : held ≡ state-of format (listed s (p + 2))) where
       pub literal-same : getD s (p + 1) 0 ≡ getD s (q + 1) 0 → false ≡ contradictory (effect-from s p) (effect-from s q)
       unfolding both fails
-      literal-same e = sym (contradictory-is ∙ rw (eq-eqb (getD s (q + 1) 0) (getD s (p + 1) 0) (sym e)))
+      literal-same e = sym (contradictory-is (ap (λ (x : ℕ). x / 2) e) ∙ rw (eq-eqb (getD s (q + 1) 0) (getD s (p + 1) 0) (sym e)))
 
-      pub literal-other : (r : Bool) → (getD s (p + 1) 0 ≡ getD s (q + 1) 0 → ⊥) → r ≡ each-of (holds-as Possible held) (listed s (q + 2)) → r ≡ contradictory (effect-from s p) (effect-from s q)
+      pub literal-other : (r : Bool) → getD s (p + 1) 0 / 2 ≡ getD s (q + 1) 0 / 2 → (getD s (p + 1) 0 ≡ getD s (q + 1) 0 → ⊥) → r ≡ each-of (holds-as Possible held) (listed s (q + 2))
+          → r ≡ contradictory (effect-from s p) (effect-from s q)
       unfolding both fails holds-as
-      literal-other r h e = e ∙ sym (contradictory-is ∙ rw (ne-eqb (getD s (q + 1) 0) (getD s (p + 1) 0) (λ z. h (sym z)), holds))
+      literal-other r f h e = e ∙ sym (contradictory-is f ∙ rw (ne-eqb (getD s (q + 1) 0) (getD s (p + 1) 0) (λ z. h (sym z)), holds))
 
--- THE CHAIN. Effects between two numbers are skipped where none of them has the pair.
+-- THE CHAIN. Effects between two numbers are skipped where none of them is in the bucket.
 module _ (s t : List ℕ) (p : ℕ) where
-  effects-skip : (k j : ℕ) → j ≤ k → ((m : ℕ) → j < m → m ≤ k → pair-at s (place-in t m) ≡ pair-at s p → ⊥)
+  effects-skip : (k j : ℕ) → j ≤ k → ((m : ℕ) → j < m → m ≤ k → bucket-at s (place-in t m) ≡ bucket-at s p → ⊥)
       → some-of (contradictory (effect-from s p)) (effects-before s t k) ≡ some-of (contradictory (effect-from s p)) (effects-before s t j)
   unfolding effects-before some-of either
   effects-skip zero j h none = let e : j ≡ zero = omega arith in rw e
@@ -113,7 +116,7 @@ module _ (s t : List ℕ) (p : ℕ) where
       elim (ℕ-discrete j (suc k)) [
         | yes e ↦ rw e
         | no d ↦
-            let apart : contradictory (effect-from s p) (effect-from s (place-in t (k + 1))) ≡ false = by-test _ (λ e. absurd (none (k + 1) (omega arith) (omega arith) (pair-same s p (place-in t (k + 1)) e))) (λ e. e) in
+            let apart : contradictory (effect-from s p) (effect-from s (place-in t (k + 1))) ≡ false = by-test _ (λ e. absurd (none (k + 1) (omega arith) (omega arith) (bucket-same s p (place-in t (k + 1)) e))) (λ e. e) in
             rw apart (effects-skip k j (omega arith) (λ m lo hi. none m lo (omega arith)))
       ]
 
@@ -140,12 +143,12 @@ module _ (s t : List ℕ) (k : ℕ) where
   -- What is left to be sought, from effect j on.
   pub record Sought (j : ℕ) : Type 0 where
     pub most : j ≤ k
-    pub has : 0 < j → pair-at s (place-in t j) ≡ pair-at s New
+    pub has : 0 < j → bucket-at s (place-in t j) ≡ bucket-at s New
     pub rest : Among k ≡ Among j
 
-pair-most : (s : List ℕ) (p pair : ℕ) → Effect-here s p → pair ≡ pair-at s p → pair < pairs
-unfolding pair-at
-pair-most s p pair here e = omega (arith, e, here .action, here .literal)
+bucket-most : (s : List ℕ) (p bucket : ℕ) → bucket ≡ bucket-at s p → bucket < buckets
+unfolding bucket-at
+bucket-most s p bucket e = omega (arith, e)
 
 module _ (s t same : List ℕ) (k : ℕ) (here : Effects-here s t (k + 1)) (linked : Linked s t same k) where
   new-here : Effect-here s (New s t k)
@@ -161,16 +164,16 @@ module _ (s t same : List ℕ) (k : ℕ) (here : Effects-here s t (k + 1)) (link
     pub body-fits : Fits w64 (length s) → Fits w64 (p + 2)
     body-fits room = let ends = new-fit .body .ends in let most = room .fits in record { fits = omega arith }
 
-    module _ (pair : ℕ) (is : pair ≡ pair-at s p) where
-      pub last-there : line-numbers + pair < linked-slots
-      last-there = let most = pair-most s p pair new-fit is in omega arith
+    module _ (bucket : ℕ) (is : bucket ≡ bucket-at s p) where
+      pub last-there : line-numbers + bucket < linked-slots
+      last-there = let most = bucket-most s p bucket is in omega arith
 
-      pub last-fits : Fits w64 (line-numbers + pair)
-      last-fits = let most = pair-most s p pair new-fit is in record { fits = omega arith }
+      pub last-fits : Fits w64 (line-numbers + bucket)
+      last-fits = let most = bucket-most s p bucket is in record { fits = omega arith }
 
-      module _ (j : ℕ) (read : j ≡ getD same (line-numbers + pair) 0) where
-        last-is : Last s t k (pair-at s (New s t k)) j
-        last-is = subst (λ (x : ℕ). Last s t k x j) (is ∙ ap (pair-at s) at) (subst (Last s t k pair) (sym read) (linked .last pair (pair-most s p pair new-fit is)))
+      module _ (j : ℕ) (read : j ≡ getD same (line-numbers + bucket) 0) where
+        last-is : Last s t k (bucket-at s (New s t k)) j
+        last-is = subst (λ (x : ℕ). Last s t k x j) (is ∙ ap (bucket-at s) at) (subst (Last s t k bucket) (sym read) (linked .last bucket (bucket-most s p bucket is)))
 
         pub sought-starts : Sought s t k j
         sought-starts = record { most = last-is .most; has = last-is .has; rest = effects-skip s t (New s t k) k j (last-is .most) (last-is .none) }
@@ -195,8 +198,8 @@ module _ (s t same : List ℕ) (k : ℕ) (here : Effects-here s t (k + 1)) (link
       below : j - 1 < k
       below = let most = sought .most in omega arith
 
-      before-is : Last s t (j - 1) (pair-at s (place-in t j)) (getD same j 0)
-      before-is = subst (λ (x : ℕ). Last s t (j - 1) (pair-at s (place-in t x)) (getD same x 0)) up (linked .line (j - 1) below)
+      before-is : Last s t (j - 1) (bucket-at s (place-in t j)) (getD same j 0)
+      before-is = subst (λ (x : ℕ). Last s t (j - 1) (bucket-at s (place-in t x)) (getD same x 0)) up (linked .line (j - 1) below)
 
       pub sought-less : (i : ℕ) → i ≡ getD same j 0 → i < j
       sought-less i e = let most = before-is .most in omega arith
@@ -204,10 +207,6 @@ module _ (s t same : List ℕ) (k : ℕ) (here : Effects-here s t (k + 1)) (link
       module _ (q : ℕ) (at : q ≡ place-in t j) where
         pub sought-fit : Effect-here s q
         sought-fit = subst (Effect-here s) (ap (place-in t) up ∙ sym at) (here .line (j - 1) (let less = below in omega arith))
-
-        module _ (p : ℕ) (new : p ≡ place-in t (k + 1)) where
-          pub sought-paired : pair-at s q ≡ pair-at s p
-          sought-paired = ap (pair-at s) at ∙ sought .has more ∙ ap (pair-at s) (sym new)
 
         module _ (p : ℕ) (met : Bool) (new : p ≡ place-in t (k + 1)) (tested : met ≡ contradictory (effect-from s p) (effect-from s q)) where
           met-is : contradictory (effect-from s (New s t k)) (effect-from s (place-in t j)) ≡ met
@@ -223,7 +222,7 @@ module _ (s t same : List ℕ) (k : ℕ) (here : Effects-here s t (k + 1)) (link
           pub sought-next : (i : ℕ) → met ≡ false → i ≡ getD same j 0 → Sought s t k i
           unfolding either
           sought-next i e read =
-              let last : Last s t (j - 1) (pair-at s (New s t k)) i = subst (λ (x : ℕ). Last s t (j - 1) x i) (sought .has more) (subst (Last s t (j - 1) (pair-at s (place-in t j))) (sym read) before-is) in
+              let last : Last s t (j - 1) (bucket-at s (New s t k)) i = subst (λ (x : ℕ). Last s t (j - 1) x i) (sought .has more) (subst (Last s t (j - 1) (bucket-at s (place-in t j))) (sym read) before-is) in
               record {
                 most = let most = last .most in let less = below in omega arith;
                 has = last .has;
@@ -236,41 +235,41 @@ linked-none s t =
     record {
       sized = length-replicate {A = ℕ} linked-slots 0;
       line = λ i h. absurd (omega arith);
-      last = λ pair h. subst (Last s t 0 pair) (sym (getD-replicate {A = ℕ} linked-slots (line-numbers + pair) 0 0 (omega arith))) (record { most = omega arith; has = λ more. absurd (omega arith); none = λ m lo hi _. absurd (omega arith) });
+      last = λ bucket h. subst (Last s t 0 bucket) (sym (getD-replicate {A = ℕ} linked-slots (line-numbers + bucket) 0 0 (omega arith))) (record { most = omega arith; has = λ more. absurd (omega arith); none = λ m lo hi _. absurd (omega arith) });
     }
 
 -- One more effect is linked.
-module _ (s t same : List ℕ) (k pair : ℕ) (room : k < 255) (below : pair < pairs) (linked : Linked s t same k) (is : pair ≡ pair-at s (place-in t (k + 1))) where
+module _ (s t same : List ℕ) (k bucket : ℕ) (room : k < 255) (below : bucket < buckets) (linked : Linked s t same k) (is : bucket ≡ bucket-at s (place-in t (k + 1))) where
   abbrev After : List ℕ
-  After = set (set same (k + 1) (getD same (line-numbers + pair) 0)) (line-numbers + pair) (k + 1)
+  After = set (set same (k + 1) (getD same (line-numbers + bucket) 0)) (line-numbers + bucket) (k + 1)
 
   after-sized : length After ≡ linked-slots
-  after-sized = length-set (set same (k + 1) (getD same (line-numbers + pair) 0)) (line-numbers + pair) (k + 1) ∙ length-set same (k + 1) (getD same (line-numbers + pair) 0) ∙ linked .sized
+  after-sized = length-set (set same (k + 1) (getD same (line-numbers + bucket) 0)) (line-numbers + bucket) (k + 1) ∙ length-set same (k + 1) (getD same (line-numbers + bucket) 0) ∙ linked .sized
 
-  after-new : getD After (k + 1) 0 ≡ getD same (line-numbers + pair) 0
+  after-new : getD After (k + 1) 0 ≡ getD same (line-numbers + bucket) 0
   after-new =
-      getD-set-other (set same (k + 1) (getD same (line-numbers + pair) 0)) (line-numbers + pair) (k + 1) (k + 1) 0 (λ q. omega arith)
-      ∙ getD-set-same same (k + 1) (getD same (line-numbers + pair) 0) 0 (omega (arith, linked .sized))
+      getD-set-other (set same (k + 1) (getD same (line-numbers + bucket) 0)) (line-numbers + bucket) (k + 1) (k + 1) 0 (λ q. omega arith)
+      ∙ getD-set-same same (k + 1) (getD same (line-numbers + bucket) 0) 0 (omega (arith, linked .sized))
 
-  after-last : getD After (line-numbers + pair) 0 ≡ k + 1
-  after-last = getD-set-same (set same (k + 1) (getD same (line-numbers + pair) 0)) (line-numbers + pair) (k + 1) 0 (omega (arith, length-set same (k + 1) (getD same (line-numbers + pair) 0), linked .sized))
+  after-last : getD After (line-numbers + bucket) 0 ≡ k + 1
+  after-last = getD-set-same (set same (k + 1) (getD same (line-numbers + bucket) 0)) (line-numbers + bucket) (k + 1) 0 (omega (arith, length-set same (k + 1) (getD same (line-numbers + bucket) 0), linked .sized))
 
-  after-other : (i : ℕ) → (i ≡ line-numbers + pair → ⊥) → (i ≡ k + 1 → ⊥) → getD After i 0 ≡ getD same i 0
+  after-other : (i : ℕ) → (i ≡ line-numbers + bucket → ⊥) → (i ≡ k + 1 → ⊥) → getD After i 0 ≡ getD same i 0
   after-other i apart new =
-      getD-set-other (set same (k + 1) (getD same (line-numbers + pair) 0)) (line-numbers + pair) i (k + 1) 0 apart
-      ∙ getD-set-other same (k + 1) i (getD same (line-numbers + pair) 0) 0 new
+      getD-set-other (set same (k + 1) (getD same (line-numbers + bucket) 0)) (line-numbers + bucket) i (k + 1) 0 apart
+      ∙ getD-set-other same (k + 1) i (getD same (line-numbers + bucket) 0) 0 new
 
-  after-line : (i : ℕ) → i < k + 1 → Last s t i (pair-at s (place-in t (i + 1))) (getD After (i + 1) 0)
+  after-line : (i : ℕ) → i < k + 1 → Last s t i (bucket-at s (place-in t (i + 1))) (getD After (i + 1) 0)
   after-line i h =
       elim (ℕ-discrete i k) [
-        | yes e ↦ rw e (rw (sym is, after-new) (linked .last pair below))
-        | no d ↦ subst (Last s t i (pair-at s (place-in t (i + 1)))) (sym (after-other (i + 1) (λ q. omega arith) (λ q. omega arith))) (linked .line i (omega arith))
+        | yes e ↦ rw e (rw (sym is, after-new) (linked .last bucket below))
+        | no d ↦ subst (Last s t i (bucket-at s (place-in t (i + 1)))) (sym (after-other (i + 1) (λ q. omega arith) (λ q. omega arith))) (linked .line i (omega arith))
       ]
 
-  after-pair : (x : ℕ) → x < pairs → Last s t (k + 1) x (getD After (line-numbers + x) 0)
-  after-pair x h =
-      elim (ℕ-discrete x pair) [
-        | yes e ↦ rw e (subst (Last s t (k + 1) pair) (sym after-last) (record { most = omega arith; has = λ _. sym is; none = λ m lo hi _. omega arith }))
+  after-bucket : (x : ℕ) → x < buckets → Last s t (k + 1) x (getD After (line-numbers + x) 0)
+  after-bucket x h =
+      elim (ℕ-discrete x bucket) [
+        | yes e ↦ rw e (subst (Last s t (k + 1) bucket) (sym after-last) (record { most = omega arith; has = λ _. sym is; none = λ m lo hi _. omega arith }))
         | no d ↦
             let old = linked .last x h in
             subst (Last s t (k + 1) x) (sym (after-other (line-numbers + x) (λ q. omega arith) (λ q. omega arith))) (
@@ -278,16 +277,16 @@ module _ (s t same : List ℕ) (k pair : ℕ) (room : k < 255) (below : pair < p
               most = let most = old .most in omega arith;
               has = old .has;
               none = λ m lo hi q. elim (ℕ-discrete m (k + 1)) [
-                | yes e ↦ d (sym q ∙ ap (λ (i : ℕ). pair-at s (place-in t i)) e ∙ sym is)
+                | yes e ↦ d (sym q ∙ ap (λ (i : ℕ). bucket-at s (place-in t i)) e ∙ sym is)
                 | no less ↦ old .none m lo (omega arith) q
               ];
             }
             )
       ]
 
-  linked-after : Linked s t (pair-linked pair (k + 1) same) (k + 1)
-  unfolding pair-linked
-  linked-after = record { sized = after-sized; line = after-line; last = after-pair }
+  linked-after : Linked s t (bucket-linked bucket (k + 1) same) (k + 1)
+  unfolding bucket-linked
+  linked-after = record { sized = after-sized; line = after-line; last = after-bucket }
 
 -- THE LOOP over the effects.
 pub effects-start : (s t : List ℕ) (count : ℕ) → contradiction-in [] (effects-in s t 0 count) ≡ contradiction-in (effects-before s t 0) (effects-in s t 0 (count - 0))
@@ -306,12 +305,12 @@ module _ (s t : List ℕ) (count k : ℕ) (most : count ≤ 255) (here : Effects
     pub line-here : Effect-here s p
     line-here = subst (Effect-here s) (sym at) (here .line k more)
 
-    module _ (pair : ℕ) (paired : pair ≡ pair-at s p) where
-      pub line-pair : pair < pairs
-      line-pair = pair-most s p pair line-here paired
+    module _ (bucket : ℕ) (placed : bucket ≡ bucket-at s p) where
+      pub line-bucket : bucket < buckets
+      line-bucket = bucket-most s p bucket placed
 
-      pub linked-next : (same same′ : List ℕ) → Linked s t same k → same′ ≡ pair-linked pair (k + 1) same → Linked s t same′ (k + 1)
-      linked-next same same′ linked e = subst (λ (x : List ℕ). Linked s t x (k + 1)) (sym e) (linked-after s t same k pair (omega arith) line-pair linked (paired ∙ ap (pair-at s) at))
+      pub linked-next : (same same′ : List ℕ) → Linked s t same k → same′ ≡ bucket-linked bucket (k + 1) same → Linked s t same′ (k + 1)
+      linked-next same same′ linked e = subst (λ (x : List ℕ). Linked s t x (k + 1)) (sym e) (linked-after s t same k bucket (omega arith) line-bucket linked (placed ∙ ap (bucket-at s) at))
 
   module _ (whole : Refusals.Found) (so-far : whole ≡ contradiction-in (effects-before s t k) (effects-in s t k (count - k))) (met : Bool)
       (tested : met ≡ some-of (contradictory (effect-from s (place-in t (k + 1)))) (effects-before s t k)) where

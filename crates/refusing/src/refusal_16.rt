@@ -6,10 +6,10 @@ ghost use Rattle.meaning.specs.Refusals.{contradictory, contradiction-in};
 ghost use Rattle.meaning.specs.States.{state-of};
 ghost use mathlib.Core.List.{[]};
 ghost use Rattle.reading.specs.Listed.{listed};
-ghost use Rattle.reading.specs.Noted.{line-numbers, pairs};
+ghost use Rattle.reading.specs.Noted.{line-numbers};
 ghost use Rattle.finding.specs.Places.{found};
 ghost use Rattle.finding.specs.LinesHere.{effect-from, Effect-here, place-in, effects-in, Effects-here};
-ghost use Rattle.refusing.specs.Refusal16.{effects-before, pair-at, Linked, pair-linked};
+ghost use Rattle.refusing.specs.Refusal16.{effects-before, buckets, bucket-at, Linked, bucket-linked};
 use bytes::bytes::wide;
 use bytes::limits;
 use finding::places::Found;
@@ -21,49 +21,58 @@ use reading::notes;
 use reading::notes::Notes;
 use reading::notes::line_place;
 
-// For each effect, and for each pair of an action and a fluent, the last effect before it with the same pair.
-const LINKED_SLOTS: usize = limits::LINE_NUMBERS + notes::PAIRS;
+// Effects of one action and fluent share a bucket, and others may fall into it too: a slot for each of all pairs would take longer to clear
+// than the effects of a small table take to compare.
+const BUCKETS: usize = 1024;
+
+// For each effect, and for each bucket, the last effect before it in the same bucket.
+const LINKED_SLOTS: usize = limits::LINE_NUMBERS + BUCKETS;
 
 type Links = [u8; LINKED_SLOTS];
 
-// The action and the fluent of the effect at p, as one number.
-fn pair_at(s: &[u8], p: usize) -> usize
+// The bucket of the effect at p, by its action and its fluent.
+fn bucket_at(s: &[u8], p: usize) -> usize
     requires { ⌜ Effect-here (now s) p ⌝ }
-    ensures { λ r. ⌜ r ≡ pair-at (now (s .entry)) p ⌝ }
+    ensures { λ r. ⌜ r ≡ bucket-at (now (s .entry)) p ⌝ }
 {
     let q = p + 1;
-    limits::FLUENTS * wide(s[p]) + wide(s[q]) / 2
+    (limits::FLUENTS * wide(s[p]) + wide(s[q]) / 2) % BUCKETS
 }
 
-// Effect k goes in front of the effects with its pair.
-fn link_pair(same: &mut Links, pair: usize, k: usize)
-    requires { ⌜ pair < pairs ⌝ }
+// Effect k goes in front of the effects of its bucket.
+fn link_bucket(same: &mut Links, bucket: usize, k: usize)
+    requires { ⌜ bucket < buckets ⌝ }
     requires { ⌜ k < line-numbers ⌝ }
-    ensures { λ _. ⌜ now (same .exit) ≡ pair-linked pair k (now (same .entry)) ⌝ }
+    ensures { λ _. ⌜ now (same .exit) ≡ bucket-linked bucket k (now (same .entry)) ⌝ }
 {
-    let last = limits::LINE_NUMBERS + pair;
+    let last = limits::LINE_NUMBERS + bucket;
     same[k] = same[last];
     same[last] = k as u8;
 }
 
-// The effect at p, whose body the state holds, contradicts the one at q, which has its pair.
+// The effect at p, whose body the state holds, contradicts the one at q.
 fn contradicts(s: &[u8], held: &Marks, p: usize, q: usize) -> bool
     requires { ⌜ Effect-here (now s) p ⌝ }
     requires { ⌜ Effect-here (now s) q ⌝ }
     requires { ⌜ now held ≡ state-of format (listed (now s) (p + 2)) ⌝ }
-    requires { ⌜ pair-at (now s) q ≡ pair-at (now s) p ⌝ }
     ensures { λ r. ⌜ r ≡ contradictory (effect-from (now (s .entry)) p) (effect-from (now (s .entry)) q) ⌝ }
 {
+    if s[p] != s[q] {
+        return false;
+    }
     let one = p + 1;
     let other = q + 1;
     if s[one] == s[other] {
+        return false;
+    }
+    if s[one] / 2 != s[other] / 2 {
         return false;
     }
     let body = q + 2;
     each_holds(Test::Possible, held, s, body)
 }
 
-// Effect k + 1 contradicts one of the first k, sought among those with its pair.
+// Effect k + 1 contradicts one of the first k, sought among those in its bucket.
 fn contradicted(s: &[u8], t: &Notes, same: &Links, k: usize) -> bool
     requires { ⌜ k < 255 ⌝ }
     requires { ⌜ Effects-here (now s) (now t) (k + 1) ⌝ }
@@ -72,8 +81,8 @@ fn contradicted(s: &[u8], t: &Notes, same: &Links, k: usize) -> bool
 {
     let number = k + 1;
     let p = line_place(t, notes::EFFECTS, number);
-    let pair = pair_at(s, p);
-    let last = limits::LINE_NUMBERS + pair;
+    let bucket = bucket_at(s, p);
+    let last = limits::LINE_NUMBERS + bucket;
     let mut j = wide(same[last]);
     if j == 0 {
         return false;
@@ -106,8 +115,8 @@ pub fn contradiction(s: &[u8], t: &Notes, count: usize) -> Found
         if met {
             return Found::At(p);
         }
-        let pair = pair_at(s, p);
-        link_pair(&mut same, pair, k);
+        let bucket = bucket_at(s, p);
+        link_bucket(&mut same, bucket, k);
     }
     Found::Nowhere
 }

@@ -13,7 +13,7 @@ use std::fs::File;
 use std::io::{self, Read, Write};
 use std::process::ExitCode;
 
-use glintstring::{check, check_whether, judge, show, Answer, Input, DERIVATION_LIMIT, REQUEST_LIMIT};
+use glintstring::{check, check_whether, show, Answer, Input, Judge, DERIVATION_LIMIT, REQUEST_LIMIT};
 
 const USAGE: &str = "usage: review judge [--budget N] REQUEST... | review check REQUEST DERIVATION [REQUEST DERIVATION]... | \
                      review check-whether REQUEST DERIVATION [REQUEST DERIVATION]...";
@@ -65,10 +65,18 @@ fn tell(name: &str, answer: Answer, request: &[u8], derivation: &[u8]) -> Result
     Ok(if answer.is_verified() { GOOD } else { OTHER })
 }
 
-fn judge_file(name: &str, budget: u32) -> Result<u8, String> {
+fn judge_file(judge: &mut Judge, name: &str, budget: u32) -> Result<u8, String> {
     let request = read(name, REQUEST_LIMIT)?;
-    let answer = judge(&request, budget).map_err(|error| format!("no thread: {error}"))?;
-    tell(name, answer, &request, &[])
+    tell(name, judge.judge(&request, budget), &request, &[])
+}
+
+/// Walks the plans of all files on one thread that has enough stack; the largest status, if there is a file.
+fn judge_all(names: &[&str], budget: u32) -> Option<u8> {
+    let mut judge = match Judge::new() {
+        Ok(judge) => judge,
+        Err(error) => return Some(status(Err(format!("no thread: {error}")))),
+    };
+    names.iter().map(|name| status(judge_file(&mut judge, name, budget))).max()
 }
 
 /// The derivation call or the whether call.
@@ -91,7 +99,6 @@ fn status(outcome: Result<u8, String>) -> u8 {
 fn main() -> ExitCode {
     let words: Vec<String> = env::args_os().skip(1).map(|word| word.to_string_lossy().into_owned()).collect();
     let words: Vec<&str> = words.iter().map(String::as_str).collect();
-    let judge_all = |names: &[&str], budget| names.iter().map(|name| status(judge_file(name, budget))).max();
     let check_all = |call: Call, names: &[&str]| names.chunks_exact(2).map(|pair| status(check_files(call, pair[0], pair[1]))).max();
     let worst = match words[..] {
         ["judge", "--budget", budget, ref names @ ..] => budget.parse().ok().and_then(|budget| judge_all(names, budget)),

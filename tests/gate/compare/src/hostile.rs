@@ -165,7 +165,7 @@ fn effects_of_one_action() -> Vec<Named> {
     };
     let same: Vec<Effect> = (0..SECTION).map(|i| effect(2 * (i % 32) as u8, literals(32..48))).collect();
     // Each makes the last fluent true or false, and two that differ are exclusive by their last literals.
-    let told: Vec<Effect> = (0..SECTION).map(|i| effect(126 + (i % 2) as u8, [literals(0..15), vec![30 + (i % 2) as u8]].concat())).collect();
+    let told: Vec<Effect> = (0..SECTION).map(|i| effect(2 * (FLUENTS - 1) + (i % 2) as u8, [literals(0..15), vec![30 + (i % 2) as u8]].concat())).collect();
     let mut contradictory = told.clone();
     contradictory[SECTION - 1].literal ^= 1;
     contradictory[SECTION - 1].body = literals(16..32);

@@ -1,5 +1,5 @@
--- The links lead to each earlier effect of the same action and fluent, and no other can be contradicted; they fall, so the loop ends.
-use Rattle.refusing.proofs.Laws16.{Sought, new-fit, body-here, body-fits, last-there, last-fits, none-sought, sought-starts, sought-below, sought-there, sought-done, sought-less, sought-fit, sought-paired, sought-met, sought-next}
+-- The links lead to each earlier effect in the same bucket, and no other can be contradicted; they fall, so the loop ends.
+use Rattle.refusing.proofs.Laws16.{Sought, new-fit, body-here, body-fits, last-there, last-fits, none-sought, sought-starts, sought-below, sought-there, sought-done, sought-less, sought-fit, sought-met, sought-next}
 use borrow.Author.Needs.{needs}
 use Rattle.refusing.proofs.refusal_16.contradicted.Statement.{statement}
 use Rattle.refusing.proofs.refusal_16.contradicted.Tie as tie
@@ -9,13 +9,13 @@ use Rattle.bytes.proofs.bytes.wide.Reads as wide-reads
 use Rattle.reading.proofs.marks.state_of.Reads as state-of-reads
 use Rattle.reading.proofs.notes.line_place.Reads as line-place-reads
 use Rattle.refusing.proofs.refusal_16.contradicts.Reads as contradicts-reads
-use Rattle.refusing.proofs.refusal_16.pair_at.Reads as pair-at-reads
+use Rattle.refusing.proofs.refusal_16.bucket_at.Reads as bucket-at-reads
 
 abbrev Inv-loop : tie.InvT-loop
-Inv-loop s t same k number p pair last j₀ body held j = Sought s t k j
+Inv-loop s t same k number p bucket last j₀ body held j = Sought s t k j
 
 abbrev μ-loop : tie.MeasureT-loop
-μ-loop s t same k number p pair last j₀ body held j = j
+μ-loop s t same k number p bucket last j₀ body held j = j
 
 -- src/refusal_16.rt:73:18
 add-number : tie.Need-add-number Inv-loop μ-loop
@@ -26,8 +26,8 @@ line-place-requires : tie.Need-line-place-requires Inv-loop μ-loop
 line-place-requires c κs = search needs
 
 -- src/refusal_16.rt:75:9
-pair-at-requires : tie.Need-pair-at-requires Inv-loop μ-loop
-pair-at-requires c κs = search (needs, new-fit)
+bucket-at-requires : tie.Need-bucket-at-requires Inv-loop μ-loop
+bucket-at-requires c κs = search (needs, new-fit)
 
 -- src/refusal_16.rt:76:16
 add-last : tie.Need-add-last Inv-loop μ-loop
@@ -63,7 +63,7 @@ line-place-requires-2 c κs = search (needs, sought-below)
 
 -- src/refusal_16.rt:85:13
 contradicts-requires : tie.Need-contradicts-requires Inv-loop μ-loop
-contradicts-requires c κs = search (needs, new-fit, sought-fit, sought-paired)
+contradicts-requires c κs = search (needs, new-fit, sought-fit)
 
 -- src/refusal_16.rt:87:13
 returns-2 : tie.Need-returns-2 Inv-loop μ-loop
@@ -97,7 +97,7 @@ contradicted-spec =
     μ-loop
     add-number
     line-place-requires
-    pair-at-requires
+    bucket-at-requires
     add-last
     element-copy-out-wide
     wide-requires

@@ -5,7 +5,7 @@ use mathlib.Core.List.{[]}
 use Rattle.meaning.specs.Refusals.{contradiction-in}
 use Rattle.finding.specs.LinesHere.{effects-in}
 use Rattle.refusing.specs.Refusal16.{effects-before, Linked}
-use Rattle.refusing.proofs.Laws16.{linked-none, effects-start, here-first, line-here, line-pair, linked-next, effects-met, effects-next, effects-done}
+use Rattle.refusing.proofs.Laws16.{linked-none, effects-start, here-first, line-here, line-bucket, linked-next, effects-met, effects-next, effects-done}
 use borrow.Author.Needs.{needs}
 use Rattle.refusing.proofs.refusal_16.contradiction.Statement.{statement}
 use Rattle.refusing.proofs.refusal_16.contradiction.Tie as tie
@@ -13,8 +13,8 @@ use Rattle.refusing.proofs.refusal_16.contradiction.Reads as reads
 use Rattle.refusing.proofs.refusal_16.contradiction.Lts as lts
 use Rattle.reading.proofs.notes.line_place.Reads as line-place-reads
 use Rattle.refusing.proofs.refusal_16.contradicted.Reads as contradicted-reads
-use Rattle.refusing.proofs.refusal_16.link_pair.Reads as link-pair-reads
-use Rattle.refusing.proofs.refusal_16.pair_at.Reads as pair-at-reads
+use Rattle.refusing.proofs.refusal_16.link_bucket.Reads as link-bucket-reads
+use Rattle.refusing.proofs.refusal_16.bucket_at.Reads as bucket-at-reads
 
 abbrev Inv-loop : tie.InvT-loop
 Inv-loop s t count same₀ k₀ same k = Linked s t same k × (contradiction-in [] (effects-in s t 0 count) ≡ contradiction-in (effects-before s t k) (effects-in s t k (count - k)))
@@ -43,12 +43,12 @@ returns : tie.Need-returns Inv-loop μ-loop
 returns c = search effects-met
 
 -- src/refusal_16.rt:109:13
-pair-at-requires : tie.Need-pair-at-requires Inv-loop μ-loop
-pair-at-requires c κs = search (needs, line-here)
+bucket-at-requires : tie.Need-bucket-at-requires Inv-loop μ-loop
+bucket-at-requires c κs = search (needs, line-here)
 
 -- src/refusal_16.rt:110:9
-link-pair-requires : tie.Need-link-pair-requires Inv-loop μ-loop
-link-pair-requires c κs = search (needs, line-pair)
+link-bucket-requires : tie.Need-link-bucket-requires Inv-loop μ-loop
+link-bucket-requires c κs = search (needs, line-bucket)
 
 -- src/refusal_16.rt:102:5
 loop-less : tie.Need-loop-less Inv-loop μ-loop
@@ -73,8 +73,8 @@ contradiction-spec =
     add-k
     line-place-requires
     returns
-    pair-at-requires
-    link-pair-requires
+    bucket-at-requires
+    link-bucket-requires
     loop-less
     loop-again
     returns-2)

@@ -1,10 +1,10 @@
 -- The action and the literal stand at p, and small enough for their number to fit.
-use Rattle.refusing.proofs.Laws16.{pair-got}
+use Rattle.refusing.proofs.Laws16.{bucket-got}
 use borrow.Author.Needs.{needs}
-use Rattle.refusing.proofs.refusal_16.pair_at.Statement.{statement}
-use Rattle.refusing.proofs.refusal_16.pair_at.Tie as tie
-use Rattle.refusing.proofs.refusal_16.pair_at.Reads as reads
-use Rattle.refusing.proofs.refusal_16.pair_at.Lts as lts
+use Rattle.refusing.proofs.refusal_16.bucket_at.Statement.{statement}
+use Rattle.refusing.proofs.refusal_16.bucket_at.Tie as tie
+use Rattle.refusing.proofs.refusal_16.bucket_at.Reads as reads
+use Rattle.refusing.proofs.refusal_16.bucket_at.Lts as lts
 use Rattle.bytes.proofs.bytes.wide.Reads as wide-reads
 
 -- src/refusal_16.rt:43:13
@@ -37,10 +37,10 @@ add-result c = search needs
 
 -- src/refusal_16.rt:39:1
 returns : tie.Need-returns
-returns c = search pair-got
+returns c = search bucket-got
 
-pub pair-at-spec : {M : Type 1} → statement M
-pair-at-spec =
+pub bucket-at-spec : {M : Type 1} → statement M
+bucket-at-spec =
     tie.close
     (tie.spec
     add-q

@@ -1,11 +1,11 @@
 -- Two slots are set, as the definition's link has it.
-use Rattle.refusing.specs.Refusal16.{pair-linked}
+use Rattle.refusing.specs.Refusal16.{bucket-linked}
 use mathlib.Core.Path.{refl}
 use borrow.Author.Needs.{needs}
-use Rattle.refusing.proofs.refusal_16.link_pair.Statement.{statement}
-use Rattle.refusing.proofs.refusal_16.link_pair.Tie as tie
-use Rattle.refusing.proofs.refusal_16.link_pair.Reads as reads
-use Rattle.refusing.proofs.refusal_16.link_pair.Lts as lts
+use Rattle.refusing.proofs.refusal_16.link_bucket.Statement.{statement}
+use Rattle.refusing.proofs.refusal_16.link_bucket.Tie as tie
+use Rattle.refusing.proofs.refusal_16.link_bucket.Reads as reads
+use Rattle.refusing.proofs.refusal_16.link_bucket.Lts as lts
 
 -- src/refusal_16.rt:53:16
 add-last : tie.Need-add-last
@@ -29,11 +29,11 @@ element-write-same-2 c = search needs
 
 -- src/refusal_16.rt:48:1
 returns : tie.Need-returns
-unfolding pair-linked
+unfolding bucket-linked
 returns c = refl
 
-pub link-pair-spec : {M : Type 1} → statement M
-link-pair-spec =
+pub link-bucket-spec : {M : Type 1} → statement M
+link-bucket-spec =
     tie.close
     (tie.spec
     add-last
