@@ -46,8 +46,12 @@ pub use Rattle.meaning.proofs.AcceptedExactly.{accepted-exactly}
 pub use Rattle.meaning.proofs.Passed.{every-check-numbered}
 -- Demand 1 of input, place and count (FORMAT 11.4): they are what the number says.
 pub use Rattle.meaning.proofs.PartLaws.{input-exactly, count-exactly, place-within, check-input-exactly, check-count-exactly, check-place-within}
--- A world's move is single-valued (FORMAT 9.6).
+-- A world's move is single-valued where the action may be run (FORMAT 9.6), and an action that is carried out drops no world (9.14).
 pub use Rattle.meaning.proofs.WalkSound.{move-is-single-valued}
+pub use Rattle.meaning.proofs.Sound.{none-is-dropped}
+-- 16 refuses exactly where two effects meet in a world (FORMAT 7.34), and what it refuses it refused before it asked for an executability line.
+pub use Rattle.meaning.proofs.Meeting.{no-lines-no-contradiction, contradictory-exactly, refused-where-effects-meet, passed-where-none-meet}
+pub use Rattle.meaning.proofs.Narrowed.{settled-narrowed, passes-still}
 
 -- Demand 1 (FORMAT 11.1): every input gets one of the numbered answers.
 pub numbered : (lim : Limits) (request lent : List ℕ) (budget : ℕ) → among (judge lim request lent budget .answer .number) answers ≡ true

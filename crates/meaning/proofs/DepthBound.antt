@@ -5,7 +5,7 @@ use Prim.Native.Nat.{ℕ, zero, suc, _+_, _-_, _*_, _/_, _≤_, _<_, max}
 use native.Mathlib.Omega.{arith}
 use native.Mathlib.Nat.{mul-add, mul-suc, mul-one, mul-zero, mul-comm, mul-assoc, mul-le-mul-left}
 use mathlib.Core.Path.{_≡_, refl, sym, _∙_, ap, subst}
-use mathlib.Core.Bool.{false}
+use mathlib.Core.Bool.{true, false}
 use mathlib.Core.List.{List, [], _∷_}
 use mathlib.Core.Logic.{inl, inr}
 use lib.ListN.{length, length-set}
@@ -16,7 +16,7 @@ use Rattle.meaning.specs.Requests.{Effect, Knowledge, Table, Sequence, R
 use Rattle.meaning.specs.Reading.{got}
 use Rattle.meaning.specs.Refusals.{nowhere, contradiction-in, settled}
 use Rattle.meaning.specs.Lines.{knowledge-of}
-use Rattle.meaning.specs.States.{State, mark-of, known-whether, told, first-state, state-after, unknown-sensed, Outcome, readings, outcome}
+use Rattle.meaning.specs.States.{State, mark-of, known-whether, told, first-state, can-be-run, state-after, unknown-sensed, Outcome, readings, outcome}
 use Rattle.meaning.specs.Walk.{Step, table-does, table-step}
 use Rattle.meaning.specs.Depth.{forked, outcome-deep, step-deep, depth, readings-deep, walks-deep, most-items}
 use Rattle.meaning.proofs.PickLaws.{pick-has}
@@ -140,7 +140,7 @@ module _ (reading walk others : ℕ) (light : walk ≤ reading * others) (n : �
     readings-within (f ∷ fs) s can = let g = forked-within (f ∷ fs) s can 0 (unknown-below n s) (omega arith) in omega arith
 
   module _ (sensed : (x : Knowledge) → Has (t .knowledge) x → x .fluent < n) (bodies : (e : Effect) → Has (t .effects) e → (l : ℕ) → Has (e .body) l → l < 2 * n)
-      (passed : contradiction-in [] (t .effects) ≡ nowhere) where
+      (passed : contradiction-in t ≡ nowhere) where
     to-be-read : (a : ℕ) (s : State) → Readable n s (unknown-sensed t a s)
     unfolding unknown-sensed
     to-be-read a s = record {
@@ -150,11 +150,11 @@ module _ (reading walk others : ℕ) (light : walk ≤ reading * others) (n : �
       unknown = λ f h. read-is t a s f h .2;
     }
 
-    forgotten : (left a : ℕ) (s : State) → most-in-state left (state-after t a s) ≤ most-in-state (suc left) s
-    forgotten left a s = by-unknown (unknown-below n s) refl
+    forgotten : (left a : ℕ) (s : State) → can-be-run t a s ≡ true → most-in-state left (state-after t a s) ≤ most-in-state (suc left) s
+    forgotten left a s runs = by-unknown (unknown-below n s) refl
       where
         by-unknown : (u : ℕ) → unknown-below n s ≡ u → most-in-state left (state-after t a s) ≤ most reading walk others light (suc left) u
-        by-unknown zero e = let g = branched reading walk others light left 0 in rw (still-known t n bodies passed a s e) (omega arith)
+        by-unknown zero e = let g = branched reading walk others light left 0 in rw (still-known t n bodies passed a s runs e) (omega arith)
         by-unknown (suc u) e = let h = unknown-most n (state-after t a s) in forgot reading walk others light left (unknown-below n (state-after t a s)) u (omega arith)
 
     -- Each step of the table keeps the bound.
@@ -163,9 +163,9 @@ module _ (reading walk others : ℕ) (light : walk ≤ reading * others) (n : �
     table-keeps = record {
       by-action = λ left a k follows s.
           pick-has (λ (x : Step State). step-deep reading walk x k ≤ most-in-state (suc left) s) _ _ _
-          (λ _. pick-has (λ (o : Outcome State). outcome-deep reading walk o k ≤ most-in-state (suc left) s) _ _ _
+          (λ runs. pick-has (λ (o : Outcome State). outcome-deep reading walk o k ≤ most-in-state (suc left) s) _ _ _
           (λ _. readings-within left k follows (unknown-sensed t a s) s (to-be-read a s))
-          (λ _. let f = follows (state-after t a s) in let g = forgotten left a s in omega arith))
+          (λ _. let f = follows (state-after t a s) in let g = forgotten left a s runs in omega arith))
           (λ _. omega arith);
       by-branch = λ left s. branched reading walk others light left (unknown-below n s);
     }

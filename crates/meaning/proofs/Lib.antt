@@ -25,6 +25,8 @@ pub mod PartLaws
 pub mod AnswerLaws
 pub mod PathLaws
 pub mod RangeLaws
+pub mod Meeting
+pub mod Narrowed
 pub mod DepthLaws
 pub mod MovedReads
 pub mod MovedPlans

@@ -4,14 +4,13 @@ use Prim.Native.Nat.{ℕ, _+_}
 use mathlib.Core.Path.{_≡_, refl, sym, _∙_, ap, fun-ext}
 use mathlib.Core.Bool.{Bool, true, false}
 use mathlib.Core.List.{List, [], _∷_}
-use mathlib.Core.Logic.{⊎-elim}
 use lib.Dec.{ltb}
 use Rattle.meaning.specs.Tests.{both, fails, pick, some-of, each-of}
 use Rattle.meaning.specs.Limits
 use Rattle.meaning.specs.Limits.{Limits}
 use Rattle.meaning.specs.Requests.{Effect, Knowledge, Table, Sequence, Entry, Request, values, unplaced}
 use Rattle.meaning.specs.Reading.{Got, got, next, read-request}
-use Rattle.meaning.specs.Refusals.{Found, nowhere, at, contradictory, contradiction-in, mixed-in, overlap-in, refuse, settled}
+use Rattle.meaning.specs.Refusals.{Found, nowhere, at, clashing, runs-with, contradictory, contradiction-in, mixed-in, overlap-in, refuse, settled}
 use Rattle.meaning.specs.Lines.{effects-of, executability-of, knowledge-of, allowed, given, sensing, senses}
 use Rattle.meaning.specs.States.{State, known, known-whether, state-of, first-state, can-be-run, known-after, mark-after, marks-after, state-after, unknown-from, unknown-sensed, outcome}
 use Rattle.meaning.specs.Walk.{End, fine, missed, stopped, Walked, walk, table-does, table-step, first-missed, missed-in, end-of, judged, walked}
@@ -90,26 +89,33 @@ module _ (t u : Table) (same : Same-tables t u) (a : ℕ) where
 
 -- 16 and 17 find something in both tables or in neither.
 module _ (t u : Table) (same : Same-tables t u) where
-  contradictory-same : (e g x y : Effect) → Same-effect e x → Same-effect g y → contradictory e g ≡ contradictory x y
-  unfolding contradictory
-  contradictory-same e g x y p q = rw (p .action, p .literal, p .body, q .action, q .literal, q .body)
+  runs-with-same : (a : ℕ) (b c : List ℕ) → runs-with t a b c ≡ runs-with u a b c
+  unfolding runs-with executability-of
+  runs-with-same a b c =
+      some-those _ _ (t .executability)
+      ∙ some-same _ (λ x y r. rw (r .action, r .body)) (t .executability) (u .executability) (same .executability)
+      ∙ sym (some-those _ _ (u .executability))
 
-  pub contradiction-same : unplaced-found (contradiction-in [] (t .effects)) ≡ unplaced-found (contradiction-in [] (u .effects))
+  contradictory-same : (e g x y : Effect) → Same-effect e x → Same-effect g y → contradictory t e g ≡ contradictory u x y
+  unfolding contradictory clashing
+  contradictory-same e g x y p q = rw (p .action, p .literal, p .body, q .action, q .literal, q .body, runs-with-same (x .action) (x .body) (y .body))
+
+  pub contradiction-same : unplaced-found (contradiction-in t) ≡ unplaced-found (contradiction-in u)
   contradiction-same = go _ _ refl refl
     where
-      go : (f g : Found) → contradiction-in [] (t .effects) ≡ f → contradiction-in [] (u .effects) ≡ g → unplaced-found f ≡ unplaced-found g
+      go : (f g : Found) → contradiction-in t ≡ f → contradiction-in u ≡ g → unplaced-found f ≡ unplaced-found g
       go nowhere nowhere p q = refl
       go (at i) (at j) p q = refl
       go (at i) nowhere p q =
-          let w = by-16 [] (t .effects) i p in
+          let w = by-16 t i p in
           let x = same .effects .there (w .0) (w .2) in
-          let y = same .effects .there (w .1) (⊎-elim (λ h. h) absurd (w .3)) in
-          clash (sym (contradictory-same (w .0) (w .1) (x .0) (y .0) (x .2) (y .2)) ∙ w .4) (past-16 (u .effects) q (x .0) (y .0) (x .1) (y .1))
+          let y = same .effects .there (w .1) (w .3) in
+          clash (sym (contradictory-same (w .0) (w .1) (x .0) (y .0) (x .2) (y .2)) ∙ w .4) (past-16 u q (x .0) (y .0) (x .1) (y .1))
       go nowhere (at j) p q =
-          let w = by-16 [] (u .effects) j q in
+          let w = by-16 u j q in
           let x = same .effects .back (w .0) (w .2) in
-          let y = same .effects .back (w .1) (⊎-elim (λ h. h) absurd (w .3)) in
-          clash (contradictory-same (x .0) (y .0) (w .0) (w .1) (x .2) (y .2) ∙ w .4) (past-16 (t .effects) p (x .0) (y .0) (x .1) (y .1))
+          let y = same .effects .back (w .1) (w .3) in
+          clash (contradictory-same (x .0) (y .0) (w .0) (w .1) (x .2) (y .2) ∙ w .4) (past-16 t p (x .0) (y .0) (x .1) (y .1))
 
   pub mixed-same : unplaced-found (mixed-in (t .effects) (t .knowledge)) ≡ unplaced-found (mixed-in (u .effects) (u .knowledge))
   mixed-same =

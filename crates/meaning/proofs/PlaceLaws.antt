@@ -16,7 +16,7 @@ use Rattle.meaning.specs.Limits.{Limits}
 use Rattle.meaning.specs.Literals.{among}
 use Rattle.meaning.specs.Requests.{Effect, Executability, Knowledge, Table, Sequence, done, item, Item, act, branching, Branches, none, branch, Entry, Request}
 use Rattle.meaning.specs.Reading.{Got, got, next, byte-at, two-bytes-at, count-at, below-at, Kind, literals, fluents, bound-of, entry-at, entries-at, list-at, repeated, section-at, body-at, effect-at, executability-at, knowledge-at, Met, plan-at, table-at, placed, request-at, read-request}
-use Rattle.meaning.specs.Refusals.{Found, nowhere, at, or-else, contradiction-in, mixed-in, overlap-in, overlap-at, overlap-below, refuse, settled}
+use Rattle.meaning.specs.Refusals.{Found, nowhere, at, or-else, contradictory, first-against, contradiction-in, mixed-in, overlap-in, overlap-at, overlap-below, refuse, settled}
 use Rattle.meaning.specs.States.{State, outcome}
 use Rattle.meaning.specs.Walk.{End, first-missed, missed-in, walked}
 use Rattle.meaning.specs.Derivations.{Conclusion, Line, Derivation, Concluded, list-concluded, fluent-concluded, conclusion-at, concluded-at, closing-at, line-at, read-derivation, overlap-in-lines, check-lines, check-last, all-asked, check-entries, check-closing, check-end, check-derivation}
@@ -86,10 +86,14 @@ module _ (size : ℕ) where
   or-below nowhere k first then = then
   or-below (at p) k first then = first
 
-  contradiction-below : (before es : List Effect) → Each-below (λ (e : Effect). e .place) es → Found-below (contradiction-in before es)
+  against-below : (against : Effect → Effect → Bool) (before es : List Effect) → Each-below (λ (e : Effect). e .place) es → Found-below (first-against against before es)
+  unfolding first-against
+  against-below against before [] h = tt
+  against-below against before (e ∷ es) h = pick-has Found-below _ _ _ (λ _. h .0) (λ _. against-below against (e ∷ before) es (h .1))
+
+  contradiction-below : (t : Table) → Each-below (λ (e : Effect). e .place) (t .effects) → Found-below (contradiction-in t)
   unfolding contradiction-in
-  contradiction-below before [] h = tt
-  contradiction-below before (e ∷ es) h = pick-has Found-below _ _ _ (λ _. h .0) (λ _. contradiction-below (e ∷ before) es (h .1))
+  contradiction-below t h = against-below (contradictory t) [] (t .effects) h
 
   mixed-below : (es : List Effect) (ks : List Knowledge) → Each-below (λ (k : Knowledge). k .place) ks → Found-below (mixed-in es ks)
   unfolding mixed-in
@@ -452,7 +456,7 @@ module _ (lim : Limits) (s : List ℕ) where
   settled-held =
       by-next s Request-fault Request-read Request-read (read-request lim s) _ read-held λ r e fits so.
       let refused = byte-fault refusals (lim .request) (length s) (so .1) in
-      by-refuse s Request-fault Request-read _ _ _ (λ p. refused _ p refl refl) (contradiction-below (length s) [] (r .table .effects) (so .0 .table .effects))
+      by-refuse s Request-fault Request-read _ _ _ (λ p. refused _ p refl refl) (contradiction-below (length s) (r .table) (so .0 .table .effects))
       (by-refuse s Request-fault Request-read _ _ _ (λ p. refused _ p refl refl) (mixed-below (length s) (r .table .effects) (r .table .knowledge) (so .0 .table .knowledge))
       (by-refuse s Request-fault Request-read _ _ _ (λ p. refused _ p refl refl) (overlap-in-below (length s) (r .plan) (so .0 .plan)) (fits, so)))
 

@@ -1,6 +1,6 @@
 -- What reading guarantees of a table: the fluents are within their limit, every literal and fluent of its lines is below the bound it was
--- read with, and no fact stands beside its complement. Each reader that gives something has passed its own tests, and the facts ascend, so
--- a complement could only come next. Assumes nothing.
+-- read with, and neither among the facts nor in a body a literal stands beside its complement. Each reader that gives something has passed its
+-- own tests, and lists ascend, so a complement could only come next. Assumes nothing.
 use Prim.Native.Nat.{ℕ, zero, suc, _+_, _-_, _*_, _%_, _≤_, _<_}
 use native.Mathlib.Omega.{arith}
 use mathlib.Core.Path.{_≡_, sym, _∙_, ap, subst}
@@ -13,7 +13,7 @@ use borrow.Author.Tests.{ltb-false, leb-false, lt-ltb, eq-eqb, eqb-true, eqb-fal
 use Rattle.meaning.specs.Tests.{both, pick, Has}
 use Rattle.meaning.specs.Limits.{Limits}
 use Rattle.meaning.specs.Literals.{complement}
-use Rattle.meaning.specs.Requests.{Effect, Knowledge, Table, Request}
+use Rattle.meaning.specs.Requests.{Effect, Executability, Knowledge, Table, Request}
 use Rattle.meaning.specs.Reading.{Got, got, fault, next, byte-at, count-at, below-at, literals, fluents, bound-of, have-complements, entry-at, entries-at, list-at, repeated, section-at, body-at, effect-at, executability-at, knowledge-at, plan-at, table-at, request-at, read-request}
 use Rattle.meaning.proofs.TestLaws.{by-test, clash, both-true, either-right, pick-cases}
 use Rattle.meaning.proofs.SettledLaws.{fault≢got, got-same, next-got}
@@ -102,12 +102,16 @@ module _ (n : ℕ) (s : List ℕ) where
       among-two x ys above ih (inr a) (inl b) = above l a .1 .apart (omega arith) (sym (complement-twice l) ∙ ap complement (omega arith))
       among-two x ys above ih (inr a) (inr b) = ih a b
 
+-- No literal stands beside its complement.
+abbrev pub Consistent : List ℕ → Type 0
+Consistent ls = (l : ℕ) → Has ls l → Has ls (complement l) → ⊥
+
 -- A list of literals that was read is within its fluents, and holds no literal beside its complement.
 pub list-within : (n most : ℕ) (s : List ℕ) (p : ℕ) (xs : List ℕ) (q : ℕ) → list-at literals n most s p ≡ got xs q → (l : ℕ) → Has xs l → l < 2 * n
 unfolding list-at
 list-within n most s p xs q e l h = after-got (count-at 0 most s p) _ e λ c i _ entries. entries-above n s c i 0 xs q entries l h .0
 
-pub list-consistent : (n most : ℕ) (s : List ℕ) (p : ℕ) (xs : List ℕ) (q : ℕ) → list-at literals n most s p ≡ got xs q → (l : ℕ) → Has xs l → Has xs (complement l) → ⊥
+pub list-consistent : (n most : ℕ) (s : List ℕ) (p : ℕ) (xs : List ℕ) (q : ℕ) → list-at literals n most s p ≡ got xs q → Consistent xs
 unfolding list-at
 list-consistent n most s p xs q e = after-got (count-at 0 most s p) _ e λ c i _ entries. entries-consistent n s c i 0 xs q entries
 
@@ -134,14 +138,21 @@ module _ {A : Type 0} (line : ℕ → Got A) where
   section-read s p xs q e = after-got (byte-at s p) _ e λ c i _ e′. line-read c i xs q e′
 
 module _ (lim : Limits) (n m : ℕ) (s : List ℕ) where
-  effect-within : (p : ℕ) (x : Effect) (q : ℕ) → effect-at lim n m s p ≡ got x q → (x .literal < 2 * n) × ((l : ℕ) → Has (x .body) l → l < 2 * n)
+  effect-within : (p : ℕ) (x : Effect) (q : ℕ) → effect-at lim n m s p ≡ got x q → (x .literal < 2 * n) × ((l : ℕ) → Has (x .body) l → l < 2 * n) × Consistent (x .body)
   unfolding effect-at body-at
   effect-within p x q e =
       after-got (below-at m s p) _ e λ a i _ e′.
       after-got (below-at (2 * n) s i) _ e′ λ l j below e″.
       after-got (body-at lim n s j) _ e″ λ b k eb same.
-      subst (λ (y : Effect). (y .literal < 2 * n) × ((l : ℕ) → Has (y .body) l → l < 2 * n)) (got-same same)
-      (below-bound (2 * n) s i l j below, list-within n (lim .body) s j b k eb)
+      subst (λ (y : Effect). (y .literal < 2 * n) × ((l : ℕ) → Has (y .body) l → l < 2 * n) × Consistent (y .body)) (got-same same)
+      (below-bound (2 * n) s i l j below, list-within n (lim .body) s j b k eb, list-consistent n (lim .body) s j b k eb)
+
+  executability-within : (p : ℕ) (x : Executability) (q : ℕ) → executability-at lim n m s p ≡ got x q → Consistent (x .body)
+  unfolding executability-at body-at
+  executability-within p x q e =
+      after-got (below-at m s p) _ e λ a i _ e′.
+      after-got (body-at lim n s i) _ e′ λ b k eb same.
+      subst (λ (y : Executability). Consistent (y .body)) (got-same same) (list-consistent n (lim .body) s i b k eb)
 
   knowledge-within : (p : ℕ) (x : Knowledge) (q : ℕ) → knowledge-at lim n m s p ≡ got x q → x .fluent < n
   unfolding knowledge-at
@@ -154,9 +165,11 @@ module _ (lim : Limits) (n m : ℕ) (s : List ℕ) where
 pub record Ranged (lim : Limits) (t : Table) : Type 0 where
   pub fluents : t .fluents ≤ lim .fluents
   pub facts : (l : ℕ) → Has (t .facts) l → l < 2 * t .fluents
-  pub consistent : (l : ℕ) → Has (t .facts) l → Has (t .facts) (complement l) → ⊥
+  pub consistent : Consistent (t .facts)
   pub effects : (e : Effect) → Has (t .effects) e → e .literal < 2 * t .fluents
   pub bodies : (e : Effect) → Has (t .effects) e → (l : ℕ) → Has (e .body) l → l < 2 * t .fluents
+  pub effects-consistent : (e : Effect) → Has (t .effects) e → Consistent (e .body)
+  pub lines-consistent : (x : Executability) → Has (t .executability) x → Consistent (x .body)
   pub knowledge : (k : Knowledge) → Has (t .knowledge) k → k .fluent < t .fluents
 
 table-ranged : (lim : Limits) (s : List ℕ) (p : ℕ) (t : Table) (q : ℕ) → table-at lim s p ≡ got t q → Ranged lim t
@@ -166,7 +179,7 @@ table-ranged lim s p t q e =
     after-got (count-at 1 (lim .actions) s p₁) _ e₁ λ m p₂ _ e₂.
     after-got (list-at literals n (lim .listed) s p₂) _ e₂ λ facts p₃ ef e₃.
     after-got (section-at (effect-at lim n m s) s p₃) _ e₃ λ effects p₄ ee e₄.
-    after-got (section-at (executability-at lim n m s) s p₄) _ e₄ λ executability p₅ _ e₅.
+    after-got (section-at (executability-at lim n m s) s p₄) _ e₄ λ executability p₅ ex e₅.
     after-got (section-at (knowledge-at lim n m s) s p₅) _ e₅ λ knowledge p₆ ek same.
     subst (Ranged lim) (got-same same)
     (record {
@@ -175,6 +188,8 @@ table-ranged lim s p t q e =
       consistent = list-consistent n (lim .listed) s p₂ facts p₃ ef;
       effects = λ g h. let w = section-read (effect-at lim n m s) s p₃ effects p₄ ee g h in effect-within lim n m s (w .0) g (w .1) (w .2) .0;
       bodies = λ g h. let w = section-read (effect-at lim n m s) s p₃ effects p₄ ee g h in effect-within lim n m s (w .0) g (w .1) (w .2) .1;
+      effects-consistent = λ g h. let w = section-read (effect-at lim n m s) s p₃ effects p₄ ee g h in effect-within lim n m s (w .0) g (w .1) (w .2) .2;
+      lines-consistent = λ x h. let w = section-read (executability-at lim n m s) s p₄ executability p₅ ex x h in executability-within lim n m s (w .0) x (w .1) (w .2);
       knowledge = λ k h. let w = section-read (knowledge-at lim n m s) s p₅ knowledge p₆ ek k h in knowledge-within lim n m s (w .0) k (w .1) (w .2);
     })
 

@@ -3,7 +3,7 @@
 use Prim.Native.Nat.{ℕ}
 use mathlib.Core.Path.{_≡_, refl, _∙_, ap, subst}
 use mathlib.Core.Bool.{true}
-use mathlib.Core.List.{List, []}
+use mathlib.Core.List.{List}
 use Rattle.meaning.specs.Limits.{Limits}
 use Rattle.meaning.specs.Requests.{Sequence, done, item, Item, act, branching, Branches, none, branch, Request}
 use Rattle.meaning.specs.Reading.{Got, got, fault, next, read-request}
@@ -43,7 +43,7 @@ module _ {A B : Type 0} where
 -- What a settled request has passed.
 pub record Settled (lim : Limits) (b : List ℕ) (r : Request) (e : ℕ) : Type 0 where
   pub reads : read-request lim b ≡ got r e
-  pub no-contradiction : contradiction-in [] (r .table .effects) ≡ nowhere
+  pub no-contradiction : contradiction-in (r .table) ≡ nowhere
   pub not-mixed : mixed-in (r .table .effects) (r .table .knowledge) ≡ nowhere
   pub no-overlap : overlap-in (r .plan) ≡ nowhere
 

@@ -14,6 +14,12 @@ use Rattle.meaning.specs.Worlds.{Domain, Worlds, Sure, Kept, Moved, Acte
 use Rattle.meaning.proofs.TestLaws.{by-test, each-mono}
 use Rattle.meaning.proofs.WalkLaws.{On-conditions, On-conditions-item, On-conditions-below}
 
+-- Where an action is carried out, it drops no world: each that shows what the true world shows is kept, and each is moved.
+module _ {W L R : Type 0} (d : Domain W L R) where
+  pub none-is-dropped : (a : ℕ) (K : W → Worlds W → Type 0) (v : W) (P : Worlds W) → Acted d a K v P
+      → ((w : W) → P w → d .shows a w ≡ d .shows a v → Kept d a v P w) × ((w : W) → P w → Moved d a P (d .moved a w))
+  none-is-dropped a K v P acted = (λ w h shows. (h, acted .allowed w h, shows), λ w h. (w, h, acted .allowed w h, refl))
+
 -- ENDS.
 module _ {S : Type 0} where
   pub missed≢fine : {p : ℕ} {s : S} → missed p s ≡ fine → ⊥
@@ -148,15 +154,16 @@ module _ {S W L R : Type 0} (step : Steps S L) (d : Domain W L R) (Apart : List 
       by-step (refuses n u) is e = absurd (stopped-not-verified n p u e)
       by-step (leads-to o) is fine-after =
           let each = counted-verified 1 (each-reading o k) fine-after in
+          let may : (w : W) → P w → d .may-be-run a w ≡ true = λ w h. sound .runs a s o is w (g .agree w h) in
           record {
-            allowed = λ w h. sound .runs a s o is w (g .agree w h);
+            allowed = may;
             read = λ sens.
                 let t = reading-verified o k _ each (sound .reads a s o is v sens (g .agree v (g .actual))) in
-                then (t .0) v (Kept d a v P) (record { agree = λ w h. t .1 w (g .agree w (h .0)) (h .1); actual = (g .actual, refl) }) (t .2);
+                then (t .0) v (Kept d a v P) (record { agree = λ w h. t .1 w (g .agree w (h .0)) (h .2); actual = (g .actual, may v (g .actual), refl) }) (t .2);
             done = λ off.
                 let t = reading-verified o k _ each (sound .moves a s o is off) in
                 then (t .0) (d .moved a v) (Moved d a P)
-                (record { agree = λ w h. subst (λ (u : W). Agrees u (t .0)) (sym (h .2)) (t .1 (h .0) (g .agree (h .0) (h .1))); actual = (v, g .actual, refl) })
+                (record { agree = λ w h. subst (λ (u : W). Agrees u (t .0)) (sym (h .3)) (t .1 (h .0) (g .agree (h .0) (h .1))); actual = (v, g .actual, may v (g .actual), refl) })
                 (t .2);
           }
 

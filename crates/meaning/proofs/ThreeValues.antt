@@ -104,14 +104,28 @@ unfolding all-open
 unknown-change = refl
 
 -- No two of these effects are contradictory, since their bodies disagree on the colour; two that look at different colours in the negative
--- are.
-pub changes-fit : contradictory colours (record { place = 0; action = 0; literal = is 0 1; body = is 0 0 ∷ [] }) (record { place = 0; action = 0; literal = is 0 2; body = is 0 1 ∷ [] }) ≡ false
+-- are, but for a line that rules one of them out. A line that agrees with each of the two does not, though no colour satisfies all three.
+abbrev setting : (value : ℕ) → (body : List Literal) → Effect-over Literal
+setting value body = record { place = 0; action = 0; literal = is 0 value; body = body }
+
+abbrev run-where : (body : List Literal) → Table-over Literal
+run-where body = record { fluents = 1; actions = 1; facts = []; effects = []; executability = record { place = 0; action = 0; body = body } ∷ []; knowledge = [] }
+
+pub changes-fit : contradictory colours (run-where []) (setting 1 (is 0 0 ∷ [])) (setting 2 (is 0 1 ∷ [])) ≡ false
 unfolding all-open
 changes-fit = refl
 
-pub negatives-contradict : contradictory colours (record { place = 0; action = 0; literal = is 0 1; body = is-not 0 0 ∷ [] }) (record { place = 0; action = 0; literal = is 0 2; body = is-not 0 1 ∷ [] }) ≡ true
+pub negatives-contradict : contradictory colours (run-where []) (setting 1 (is-not 0 0 ∷ [])) (setting 2 (is-not 0 1 ∷ [])) ≡ true
 unfolding all-open
 negatives-contradict = refl
+
+pub ruled-out-by-the-line : contradictory colours (run-where (is 0 0 ∷ [])) (setting 1 (is-not 0 0 ∷ [])) (setting 2 (is-not 0 1 ∷ [])) ≡ false
+unfolding all-open
+ruled-out-by-the-line = refl
+
+pub pair-by-pair : contradictory colours (run-where (is-not 0 2 ∷ [])) (setting 1 (is-not 0 0 ∷ [])) (setting 2 (is-not 0 1 ∷ [])) ≡ true
+unfolding all-open
+pair-by-pair = refl
 
 -- What two lists say together counts: of three values, "is not 0" and "is not 1" leave one, and a third "is not" leaves none.
 pub together-exclusive : exclusive colours (is-not 0 0 ∷ is-not 0 1 ∷ []) (is-not 0 2 ∷ []) ≡ true

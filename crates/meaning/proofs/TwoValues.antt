@@ -15,8 +15,8 @@ use Rattle.meaning.specs.Tests.{both, either, fails, pick, some-of, each
 use Rattle.meaning.specs.Limits
 use Rattle.meaning.specs.Limits.{Limits}
 use Rattle.meaning.specs.Literals.{says-true, says-false, fluent-of, complement, among, exclusive}
-use Rattle.meaning.specs.Requests.{Effect, Knowledge, Table, Request}
-use Rattle.meaning.specs.Refusals.{contradictory, all-exclusive}
+use Rattle.meaning.specs.Requests.{Effect, Executability, Knowledge, Table, Request}
+use Rattle.meaning.specs.Refusals.{clashing, runs-with, contradictory, all-exclusive}
 use Rattle.meaning.specs.Lines.{effects-of, executability-of, knowledge-of, allowed, given, sensing, senses}
 use Rattle.meaning.specs.States.{State, Outcome, fork, mark-of, known, possible, known-whether, told, told-all, state-of, first-state, can-be-run, known-after, mark-after, marks-after, state-after, unknown-from, unknown-sensed, readings, outcome}
 use Rattle.meaning.specs.Walk.{table-does, table-step, missed-in, judged, walked}
@@ -26,6 +26,7 @@ use Rattle.meaning.specs.ValueStates
 use Rattle.meaning.specs.ValueWorlds
 use Rattle.meaning.specs.Values.{flags, numbers, first-such, values-of, fits, set-by, disagree}
 use Rattle.meaning.specs.ValueStates.{mark-left, is-known, each-value, known-as}
+use Rattle.meaning.proofs.RangeLaws.{Consistent}
 use Rattle.meaning.proofs.TestLaws.{by-test, clash, same-test, both-left, both-right, both-true, either-left, either-right, either-split, fails-true, fails-false, pick-true, pick-false, some-has, has-some, each-has, has-each, map-same, same-map}
 use Rattle.meaning.proofs.LiteralLaws.{positive-true, positive-false, fluent-true, fluent-false, complement-true, complement-false, complement-twice, by-literal, one-of-two, fluent-complement, same-fluent, among-has, has-among}
 use Rattle.meaning.proofs.StateLaws.{mark-true, mark-false, known-true, known-false, nothing-told, unknown-mark}
@@ -295,9 +296,15 @@ same-exclusive b c =
     clash (has-some _ (values-of flags (fluent-of l)) (flags .sets l) (a-value l) (both-true _ _ (value-fits b l no-b) (value-fits c l no-c)))
     (fails-true _ (both-right _ _ (t .2))))))
 
-pub same-contradictory : (e g : Effect) → contradictory e g ≡ Values.contradictory flags e g
-unfolding contradictory Values.contradictory
-same-contradictory e g = rw (other-literal (g .literal) (e .literal), same-exclusive (e .body) (g .body))
+same-runs-with : (t : Table) (a : ℕ) (b c : List ℕ) → runs-with t a b c ≡ Values.runs-with flags t a b c
+unfolding runs-with Values.runs-with
+same-runs-with t a b c =
+    ap (λ (test : Executability → Bool). some-of test (executability-of t a))
+    (fun-ext λ (x : Executability). ap₂ both (ap fails (same-exclusive b (x .body))) (ap fails (same-exclusive c (x .body))))
+
+pub same-contradictory : (t : Table) (e g : Effect) → contradictory t e g ≡ Values.contradictory flags t e g
+unfolding contradictory Values.contradictory clashing Values.clashing
+same-contradictory t e g = rw (other-literal (g .literal) (e .literal), same-exclusive (e .body) (g .body), same-runs-with t (e .action) (e .body) (g .body))
 
 pub same-all-exclusive : (cs : List (List ℕ)) → all-exclusive cs ≡ Values.all-exclusive flags cs
 unfolding all-exclusive Values.all-exclusive
@@ -365,9 +372,6 @@ same-domain t =
     }
 
 -- THE FIRST STATE, of facts none of which stands beside its complement: the mark that telling leaves.
-abbrev Consistent : List ℕ → Type 0
-Consistent ls = (l : ℕ) → Has ls l → Has ls (complement l) → ⊥
-
 -- The mark of a fluent that is told true, told false, or left as it was.
 abbrev marked : (t u : Bool) → (before : ℕ) → ℕ
 marked t u before = pick t (λ _. Limits.true-mark) (λ _. pick u (λ _. Limits.false-mark) (λ _. before))

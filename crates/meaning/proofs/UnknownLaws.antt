@@ -1,27 +1,27 @@
 -- How many fluents are unknown: a reading makes one known, and an action that doesn't sense makes none unknown where all are known. For then a
--- body that is possible is known true, and by refusal 16 no two bodies known true give a literal and its complement. Assumes nothing.
+-- body that is possible is known true, and by refusal 16 no two bodies known true give a literal and its complement where the action can be run.
+-- Assumes nothing.
 use Prim.Native.Nat.{ℕ, zero, suc, _*_, _≤_, _<_}
 use native.Mathlib.Omega.{arith}
 use native.Mathlib.Decide.{ℕ-discrete, decLt}
 use native.Mathlib.Nat.{not-suc-le-zero}
 use mathlib.Core.Path.{_≡_, refl, sym, _∙_, ap, subst}
 use mathlib.Core.Bool.{Bool, true, false}
-use mathlib.Core.List.{[]}
 use mathlib.Core.Logic.{_⊎_, inl, inr, ⊎-elim}
 use lib.ListN.{length, getD}
 use lib.Dec.{eqb}
-use borrow.Author.Tests.{eqb-true, eq-eqb}
+use borrow.Author.Tests.{eqb-true}
 use Rattle.meaning.specs.Tests.{either, pick, Has}
 use Rattle.meaning.specs.Limits
-use Rattle.meaning.specs.Literals.{says-true, says-false, fluent-of, complement, exclusive}
+use Rattle.meaning.specs.Literals.{says-true, says-false, fluent-of, complement}
 use Rattle.meaning.specs.Requests.{Effect, Table}
-use Rattle.meaning.specs.Refusals.{nowhere, contradictory, contradiction-in}
+use Rattle.meaning.specs.Refusals.{nowhere, contradiction-in}
 use Rattle.meaning.specs.Lines.{effects-of, given}
-use Rattle.meaning.specs.States.{State, known, possible, known-whether, told, known-after, mark-after, state-after}
+use Rattle.meaning.specs.States.{State, known, possible, known-whether, told, can-be-run, known-after, mark-after, state-after}
 use Rattle.meaning.proofs.TestLaws.{by-test, clash, both-left, both-right, both-true, either-left, either-right, either-split, fails-true, fails-false, pick-true, pick-false, some-has, has-some, each-has, has-each, those-has}
 use Rattle.meaning.proofs.PickLaws.{pick-has}
 use Rattle.meaning.proofs.LiteralLaws.{by-literal, complement-true, complement-false, fluent-true, fluent-false, fluent-complement}
-use Rattle.meaning.proofs.RefusalLaws.{exclusive-clash, past-16}
+use Rattle.meaning.proofs.RefusalLaws.{meeting, past-16}
 use Rattle.meaning.proofs.StateLaws.{mark-complement, known-true, known-false, unknown-far}
 use Rattle.meaning.proofs.PairLaws.{after-mark}
 use Rattle.meaning.proofs.ToldLaws.{told-here, told-elsewhere}
@@ -113,10 +113,10 @@ marked false true m e h = rw e
 marked false false m e h = ⊎-elim (λ q. clash q refl) (λ q. clash q refl) h
 
 module _ (t : Table) (n : ℕ) (bodies : (e : Effect) → Has (t .effects) e → (l : ℕ) → Has (e .body) l → l < 2 * n)
-    (passed : contradiction-in [] (t .effects) ≡ nowhere) (a : ℕ) (s : State) where
-  -- Not both literals of a fluent are given by bodies known true.
+    (passed : contradiction-in t ≡ nowhere) (a : ℕ) (s : State) (runs : can-be-run t a s ≡ true) where
+  -- Not both literals of a fluent are given by bodies known true, where the action can be run.
   given-once : (f : ℕ) → given (known s) (effects-of t a) (says-true f) ≡ true → given (known s) (effects-of t a) (says-false f) ≡ true → ⊥
-  unfolding given effects-of contradictory
+  unfolding given effects-of can-be-run
   given-once f yes-true yes-false =
       let e = some-has _ (effects-of t a) yes-true in
       let g = some-has _ (effects-of t a) yes-false in
@@ -124,14 +124,12 @@ module _ (t : Table) (n : ℕ) (bodies : (e : Effect) → Has (t .effects) e →
       let hg = those-has _ (t .effects) (g .0) (g .1) in
       let le : e .0 .literal ≡ says-true f = eqb-true _ _ (both-left _ _ (e .2)) in
       let lg : g .0 .literal ≡ says-false f = eqb-true _ _ (both-left _ _ (g .2)) in
-      let apart : exclusive (e .0 .body) (g .0 .body) ≡ false =
-      by-test _ (λ x. absurd (exclusive-clash (known s) (known-apart s) (e .0 .body) (g .0 .body) x (both-right _ _ (e .2)) (both-right _ _ (g .2)))) (λ x. x) in
       let ae : e .0 .action ≡ a = eqb-true _ _ (he .1) in
       let ag : g .0 .action ≡ a = eqb-true _ _ (hg .1) in
-      let against : contradictory (e .0) (g .0) ≡ true =
-      both-true _ _ (eq-eqb (e .0 .action) (g .0 .action) (ae ∙ sym ag))
-      (both-true _ _ (eq-eqb (g .0 .literal) (complement (e .0 .literal)) (lg ∙ sym (complement-true f) ∙ ap complement (sym le))) (fails-false _ apart)) in
-      clash against (past-16 (t .effects) passed (e .0) (g .0) (he .0) (hg .0))
+      clash
+      (meeting t (known s) (known-apart s) (e .0) (g .0) (ae ∙ sym ag) (lg ∙ sym (complement-true f) ∙ ap complement (sym le))
+      (rw ae runs) (both-right _ _ (e .2)) (both-right _ _ (g .2)))
+      (past-16 t passed (e .0) (g .0) (he .0) (hg .0))
 
   module _ (all : (f : ℕ) → f < n → known-whether s f ≡ true) where
     given-known : (l : ℕ) → given (possible s) (effects-of t a) l ≡ true → given (known s) (effects-of t a) l ≡ true

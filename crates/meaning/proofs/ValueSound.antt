@@ -20,7 +20,7 @@ use Rattle.meaning.specs.Lines.{effects-of, executability-of, knowledge-
 use Rattle.meaning.specs.States.{State, Outcome}
 use Rattle.meaning.specs.Walk.{fine, Verified, Step, leads-to, refuses, end-of}
 use Rattle.meaning.specs.Worlds.{Domain, Worlds, Carried}
-use Rattle.meaning.specs.Values.{Literals, numbers, values-of, fits, set-by, disagree, exclusive, contradictory, all-exclusive}
+use Rattle.meaning.specs.Values.{Literals, numbers, values-of, fits, set-by, disagree, exclusive, clashing, runs-with, contradictory, all-exclusive}
 use Rattle.meaning.specs.ValueStates.{mark-left, told, is-known, known-as, known, possible, known-whether, first-state, can-be-run, known-after, mark-after, state-after, unknown-sensed, readings, outcome, table-does, table-step, missed-in, judged, walked}
 use Rattle.meaning.specs.ValueWorlds.{World, shown, Within, holds, may-be-run, moved, table-domain, Facts, Reached, Carried-out}
 use Rattle.meaning.proofs.TestLaws.{by-test, clash, both-left, both-right, both-true, either-split, fails-true, fails-false, pick-true, pick-false, pick-cases, some-has, has-some, each-has, has-each, some-mono, each-mono, those-has, has-those, some-those, map-same, same-map}
@@ -272,12 +272,13 @@ module _ {L : Type 0} (ls : Literals L) where
       itself : Seen (table-domain ls (r .table)) (table-domain ls (r .table)) (λ w. w)
       itself = record { may-be-run = λ a w. refl; sensing = λ a. refl; shows = λ a w u e. e; moved = λ a w. refl; holds = λ w. refl }
 
-  -- A WORLD'S MOVE IS SINGLE-VALUED where no two effects are contradictory: no effects whose bodies hold set two values of one fluent.
-  pub move-is-single-valued : (t : Table-over L) → ((e g : Effect-over L) → Has (t .effects) e → Has (t .effects) g → contradictory ls e g ≡ false)
-      → (a : ℕ) (w : World) → Within ls w → (f v : ℕ) → set-by ls (holds ls w) (eqb v) (effects-of t a) f ≡ true
+  -- A WORLD'S MOVE IS SINGLE-VALUED where the action may be run and no two effects are contradictory: no effects whose bodies hold set two values
+  -- of one fluent.
+  pub move-is-single-valued : (t : Table-over L) → ((e g : Effect-over L) → Has (t .effects) e → Has (t .effects) g → contradictory ls t e g ≡ false)
+      → (a : ℕ) (w : World) → Within ls w → may-be-run ls t a w ≡ true → (f v : ℕ) → set-by ls (holds ls w) (eqb v) (effects-of t a) f ≡ true
       → set-by ls (holds ls w) (λ u. fails (eqb v u)) (effects-of t a) f ≡ true → ⊥
-  unfolding set-by effects-of contradictory
-  move-is-single-valued t free a w low f v p q =
+  unfolding set-by effects-of contradictory clashing runs-with may-be-run allowed
+  move-is-single-valued t free a w low runs f v p q =
       let x = some-has _ (t .effects) (sym (some-those _ _ (t .effects)) ∙ p) in
       let y = some-has _ (t .effects) (sym (some-those _ _ (t .effects)) ∙ q) in
       let x-sets = both-right _ _ (x .2) in
@@ -286,10 +287,16 @@ module _ {L : Type 0} (ls : Literals L) where
       let fluents : ls .fluent (x .0 .literal) ≡ ls .fluent (y .0 .literal) =
       eqb-true _ f (both-left _ _ (both-left _ _ x-sets)) ∙ sym (eqb-true _ f (both-left _ _ (both-left _ _ y-sets))) in
       let value : v ≡ ls .sets (x .0 .literal) = eqb-true v _ (both-right _ _ (both-left _ _ x-sets)) in
-      let together : exclusive ls (x .0 .body) (y .0 .body) ≡ false =
-      by-test _ (λ o. absurd (exclusive-apart (x .0 .body) (y .0 .body) w low o (both-right _ _ x-sets) (both-right _ _ y-sets))) (λ no-o. no-o) in
+      let runs-here : allowed (holds ls w) (executability-of t (x .0 .action)) ≡ true = rw (eqb-true (x .0 .action) a (both-left _ _ (x .2))) runs in
+      let line = some-has _ (executability-of t (x .0 .action)) runs-here in
       clash
+      (both-true _ _
       (both-true _ _ (eq-eqb _ _ actions)
       (both-true _ _ (both-true _ _ (eq-eqb _ _ (sym fluents)) (subst (λ (n : ℕ). fails (eqb n (ls .sets (y .0 .literal))) ≡ true) value (both-right _ _ (both-left _ _ y-sets))))
-      (fails-false _ together)))
+      (together (x .0 .body) (y .0 .body) (both-right _ _ x-sets) (both-right _ _ y-sets))))
+      (has-some _ (executability-of t (x .0 .action)) (line .0) (line .1)
+      (both-true _ _ (together (x .0 .body) (line .0 .body) (both-right _ _ x-sets) (line .2)) (together (y .0 .body) (line .0 .body) (both-right _ _ y-sets) (line .2)))))
       (free (x .0) (y .0) (x .1) (y .1))
+    where
+      together : (b c : List L) → each-of (holds ls w) b ≡ true → each-of (holds ls w) c ≡ true → fails (exclusive ls b c) ≡ true
+      together b c hb hc = fails-false _ (by-test _ (λ o. absurd (exclusive-apart b c w low o hb hc)) (λ no-o. no-o))

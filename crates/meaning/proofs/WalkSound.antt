@@ -4,7 +4,7 @@
 use Prim.Native.Nat.{ℕ}
 use mathlib.Core.Path.{_≡_, sym, _∙_, subst, fun-ext}
 use mathlib.Core.Bool.{Bool, true}
-use mathlib.Core.List.{List, []}
+use mathlib.Core.List.{List}
 use Rattle.meaning.specs.Limits.{Limits}
 use Rattle.meaning.specs.Literals.{fluent-of, complement}
 use Rattle.meaning.specs.Requests.{Table, Request, values}
@@ -13,8 +13,7 @@ use Rattle.meaning.specs.Refusals.{nowhere, contradiction-in, settled}
 use Rattle.meaning.specs.Lines.{effects-of, given}
 use Rattle.meaning.specs.States.{first-state}
 use Rattle.meaning.specs.Walk.{Verified, walked}
-use Rattle.meaning.specs.Worlds.{World, holds, table-domain, Facts, Reached, Carried-out}
-use Rattle.meaning.specs.Values
+use Rattle.meaning.specs.Worlds.{World, holds, may-be-run, table-domain, Facts, Reached, Carried-out}
 use Rattle.meaning.specs.ValueStates
 use Rattle.meaning.specs.ValueWorlds
 use Rattle.meaning.specs.Values.{flags}
@@ -50,11 +49,12 @@ walk-sound lim b r e past fine-end =
     same-walk : walked r (first-state lim (r .table)) ≡ ValueStates.walked flags r (ValueStates.first-state flags lim (r .table))
     same-walk = same-walked r _ ∙ rw (same-first-state lim (r .table) (read-ranged lim b r e (passed .reads) .consistent))
 
--- A WORLD'S MOVE IS SINGLE-VALUED where 16 has passed: no effects whose bodies hold give a literal and its complement.
-pub move-is-single-valued : (t : Table) → contradiction-in [] (t .effects) ≡ nowhere → (a : ℕ) (w : World) (l : ℕ)
+-- A WORLD'S MOVE IS SINGLE-VALUED where the action may be run and 16 has passed: no effects whose bodies hold give a literal and its complement.
+pub move-is-single-valued : (t : Table) → contradiction-in t ≡ nowhere → (a : ℕ) (w : World) → may-be-run t a w ≡ true → (l : ℕ)
     → given (holds w) (effects-of t a) l ≡ true → given (holds w) (effects-of t a) (complement l) ≡ true → ⊥
-move-is-single-valued t passed a w l p q =
-    ValueSound.move-is-single-valued flags t (λ e g he hg. sym (same-contradictory e g) ∙ past-16 (t .effects) passed e g he hg)
-    a (valued w) (valued-within w) (fluent-of l) (flags .sets l)
+unfolding table-domain ValueWorlds.table-domain
+move-is-single-valued t passed a w runs l p q =
+    ValueSound.move-is-single-valued flags t (λ e g he hg. sym (same-contradictory t e g) ∙ past-16 t passed e g he hg)
+    a (valued w) (valued-within w) (sym (same-domain t .may-be-run a w) ∙ runs) (fluent-of l) (flags .sets l)
     (rw (same-given (holds w) (effects-of t a) l, holds-is w) at p)
     (rw (same-given-other (holds w) (effects-of t a) l, holds-is w) at q)

@@ -3,8 +3,9 @@ pub mod Limits
 pub mod Literals
 pub mod Requests
 pub mod Reading
-pub mod Refusals
 pub mod Lines
+pub mod Refusals
+pub mod Formerly
 pub mod States
 pub mod Walk
 pub mod Judging

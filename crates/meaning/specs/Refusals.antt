@@ -7,7 +7,8 @@ use Rattle.meaning.specs.Tests.{both, fails, pick, some-of, each-of}
 use Rattle.meaning.specs.Limits
 use Rattle.meaning.specs.Limits.{Limits}
 use Rattle.meaning.specs.Literals.{complement, exclusive}
-use Rattle.meaning.specs.Requests.{Effect, Knowledge, Sequence, done, item, Item, act, branching, Branches, none, branch, Request}
+use Rattle.meaning.specs.Requests.{Effect, Executability, Knowledge, Table, Sequence, done, item, Item, act, branching, Branches, none, branch, Request}
+use Rattle.meaning.specs.Lines.{executability-of}
 use Rattle.meaning.specs.Reading.{Got, got, fault, next, read-request}
 
 -- The place of the first thing sought, or none.
@@ -19,17 +20,30 @@ unfoldable pub or-else : Found → (Unit {0} → Found) → Found
 or-else nowhere k = k tt
 or-else (at p) k = at p
 
--- Two effects of one action whose literals are complements, and whose bodies do not exclude each other (FORMAT 7.31).
-unfoldable pub contradictory : Effect → Effect → Bool
-contradictory e g =
+-- Two effects of one action whose literals are complements, and whose bodies do not exclude each other.
+unfoldable pub clashing : Effect → Effect → Bool
+clashing e g =
     both (eqb (e .action) (g .action))
     (both (eqb (g .literal) (complement (e .literal))) (fails (exclusive (e .body) (g .body))))
 
+-- Some one executability line of the action has a body that excludes neither of the two (FORMAT 7.32).
+unfoldable pub runs-with : Table → (action : ℕ) → (one other : List ℕ) → Bool
+runs-with t a one other =
+    some-of (λ (x : Executability). both (fails (exclusive one (x .body))) (fails (exclusive other (x .body)))) (executability-of t a)
+
+-- Two effects that clash where their action can be run (FORMAT 7.31).
+unfoldable pub contradictory : Table → Effect → Effect → Bool
+contradictory t e g = both (clashing e g) (runs-with t (e .action) (e .body) (g .body))
+
+-- The first effect that is against one before it.
+unfoldable pub first-against : (against : Effect → Effect → Bool) (before : List Effect) → List Effect → Found
+first-against against before [] = nowhere
+first-against against before (e ∷ es) =
+    pick (some-of (against e) before) (λ _. at (e .place)) (λ _. first-against against (e ∷ before) es)
+
 -- The first effect that contradicts one before it (FORMAT 4.37).
-unfoldable pub contradiction-in : (before : List Effect) → List Effect → Found
-contradiction-in before [] = nowhere
-contradiction-in before (e ∷ es) =
-    pick (some-of (contradictory e) before) (λ _. at (e .place)) (λ _. contradiction-in (e ∷ before) es)
+unfoldable pub contradiction-in : Table → Found
+contradiction-in t = first-against (contradictory t) [] (t .effects)
 
 -- The first knowledge line whose action has an effect too (FORMAT 4.39).
 unfoldable pub mixed-in : List Effect → List Knowledge → Found
@@ -71,7 +85,7 @@ module _ {A : Type 0} where
 unfoldable pub settled : Limits → List ℕ → Got Request
 settled lim s =
     next (read-request lim s) λ r e.
-    refuse Limits.contradictory-effects (contradiction-in [] (r .table .effects)) λ _.
+    refuse Limits.contradictory-effects (contradiction-in (r .table)) λ _.
     refuse Limits.effect-and-knowledge (mixed-in (r .table .effects) (r .table .knowledge)) λ _.
     refuse Limits.not-exclusive (overlap-in (r .plan)) λ _.
     got r e

@@ -7,7 +7,8 @@ use mathlib.Core.List.{List, [], _∷_}
 use lib.Dec.{eqb}
 use Rattle.meaning.specs.Tests.{both, either, fails, pick, some-of, each-of}
 use Rattle.meaning.specs.Literals.{fluent-of, positive}
-use Rattle.meaning.specs.Requests.{Effect-over}
+use Rattle.meaning.specs.Requests.{Effect-over, Executability-over, Table-over}
+use Rattle.meaning.specs.Lines.{executability-of}
 
 -- Literals of a type L: the fluent that one speaks of, the values that satisfy it, the value that an effect with it sets, and how many values
 -- a fluent has. These are the numbers below their count.
@@ -58,12 +59,21 @@ module _ {L : Type 0} (ls : Literals L) where
   unfoldable pub exclusive : List L → List L → Bool
   exclusive b c = some-of (λ (l : L). both (some-of (λ (k : L). eqb (ls .fluent k) (ls .fluent l)) c) (disagree b c (ls .fluent l))) b
 
-  -- Two effects of one action that set two values of one fluent, and whose bodies do not exclude each other (FORMAT 7.31).
-  unfoldable pub contradictory : Effect-over L → Effect-over L → Bool
-  contradictory e g =
+  -- Two effects of one action that set two values of one fluent, and whose bodies do not exclude each other.
+  unfoldable pub clashing : Effect-over L → Effect-over L → Bool
+  clashing e g =
       both (eqb (e .action) (g .action))
       (both (both (eqb (ls .fluent (g .literal)) (ls .fluent (e .literal))) (fails (eqb (ls .sets (e .literal)) (ls .sets (g .literal)))))
       (fails (exclusive (e .body) (g .body))))
+
+  -- Some one executability line of the action has a body that excludes neither of the two (FORMAT 7.32).
+  unfoldable pub runs-with : Table-over L → (action : ℕ) → (one other : List L) → Bool
+  runs-with t a one other =
+      some-of (λ (x : Executability-over L). both (fails (exclusive one (x .body))) (fails (exclusive other (x .body)))) (executability-of t a)
+
+  -- Two effects that clash where their action can be run (FORMAT 7.31).
+  unfoldable pub contradictory : Table-over L → Effect-over L → Effect-over L → Bool
+  contradictory t e g = both (clashing e g) (runs-with t (e .action) (e .body) (g .body))
 
   -- Every two of the conditions are exclusive (FORMAT 5.18).
   unfoldable pub all-exclusive : List (List L) → Bool

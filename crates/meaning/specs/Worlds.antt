@@ -6,7 +6,7 @@ use mathlib.Core.List.{List, map}
 use mathlib.Core.Logic.{_⊎_}
 use Rattle.meaning.specs.Tests.{fails, pick, each-of}
 use Rattle.meaning.specs.Literals.{says-true, says-false, fluent-of, positive}
-use Rattle.meaning.specs.Requests.{Knowledge, Table, Sequence, done, item, Item, act, branching, Branches, none, branch, Request, values}
+use Rattle.meaning.specs.Requests.{Effect, Knowledge, Table, Sequence, done, item, Item, act, branching, Branches, none, branch, Request, values}
 use Rattle.meaning.specs.Lines.{effects-of, executability-of, knowledge-of, allowed, given, sensing}
 
 -- What carrying out asks of a domain with worlds W, literals L and readings R: where an action may be run, whether it senses, what it shows
@@ -27,16 +27,16 @@ module _ {W L R : Type 0} (d : Domain W L R) where
   abbrev pub Sure : List L → Worlds W → Type 0
   Sure c P = (w : W) → P w → each-of (d .holds w) c ≡ true
 
-  -- Those in which a sensing action shows what it shows in the true world v (FORMAT 9.8).
+  -- Those in which a sensing action may be run and shows what it shows in the true world v (FORMAT 9.7, 9.8).
   abbrev pub Kept : ℕ → W → Worlds W → Worlds W
-  Kept a v P w = P w × (d .shows a w ≡ d .shows a v)
+  Kept a v P w = P w × (d .may-be-run a w ≡ true) × (d .shows a w ≡ d .shows a v)
 
-  -- Each one moved (FORMAT 9.5).
+  -- Each one moved in which the action may be run (FORMAT 9.5, 9.7).
   abbrev pub Moved : ℕ → Worlds W → Worlds W
-  Moved a P w = (u : W) × P u × (w ≡ d .moved a u)
+  Moved a P w = (u : W) × P u × (d .may-be-run a u ≡ true) × (w ≡ d .moved a u)
 
-  -- An action is carried out where v is the true world and P are the possible ones: it may be run in each of them, and K is wanted of the
-  -- true world and the possible ones afterwards (FORMAT 9.4 to 9.9).
+  -- An action is carried out where v is the true world and P are the possible ones: it may be run in each of them, so that none is dropped,
+  -- and K is wanted of the true world and the possible ones afterwards (FORMAT 9.4 to 9.9, 9.14).
   pub record Acted (a : ℕ) (K : W → Worlds W → Type 0) (v : W) (P : Worlds W) : Type 0 where
     pub allowed : (w : W) → P w → d .may-be-run a w ≡ true
     pub read : d .sensing a ≡ true → K v (Kept a v P)
@@ -78,6 +78,12 @@ moved t a w f =
     pick (given (holds w) (effects-of t a) (says-true f)) (λ _. true) λ _.
     pick (given (holds w) (effects-of t a) (says-false f)) (λ _. false) λ _.
     w f
+
+-- Two effects of an action meet in a world: the action may be run there, and both bodies hold (FORMAT 7.34).
+pub record Meet (t : Table) (e g : Effect) (w : World) : Type 0 where
+  pub runs : may-be-run t (e .action) w ≡ true
+  pub one : each-of (holds w) (e .body) ≡ true
+  pub other : each-of (holds w) (g .body) ≡ true
 
 -- The values of the sensed fluents (FORMAT 9.8).
 unfoldable pub shown : Table → ℕ → World → List Bool

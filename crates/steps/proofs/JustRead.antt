@@ -26,9 +26,9 @@ use Rattle.reading.proofs.PlanSizes.{sequence-read}
 use Rattle.finding.specs.ReadHere.{blank}
 use Rattle.finding.proofs.KeptLaws.{kept}
 use Rattle.finding.proofs.HereLaws.{list-here}
-use Rattle.finding.proofs.ReadLaws.{Parts, parts, knowledge-good, tabled-long, with-runs, with-knowledge, runs-long, after-sections, effects-ordered, runs-ordered, items-noted, plan-noted-at, request-held}
+use Rattle.finding.proofs.ReadLaws.{Parts, parts, knowledge-good, tabled-long, with-runs, with-knowledge, runs-long, after-sections, effects-ordered, runs-ordered, items-noted, plan-noted-at, request-held, table-is as table-there}
 use Rattle.finding.proofs.FoundLaws.{blank-long, blank-slot}
-use Rattle.steps.specs.Held.{table-of, plan-of, table-in, plan-in, goals-in, whether-in, request-in}
+use Rattle.steps.specs.Held.{plan-of, table-in, plan-in, goals-in, whether-in, request-in}
 use Rattle.steps.specs.LinesFound.{run-places, effect-places, Senses}
 use Rattle.steps.specs.Rests.{Nexts}
 use Rattle.steps.specs.AtHand.{At-hand}
@@ -46,8 +46,7 @@ module _ (s : List ℕ) (bytes : (i : ℕ) → getD s i 0 < 256) (x : Request) (
 
   -- THE REQUEST that is held is the one that was read.
   table-is : table-in s ≡ x .table
-  unfolding table-in table-of
-  table-is = ap table-of (each .table)
+  table-is = table-there s bytes x whole
 
   plan-slot-is : getD (request-noted x blank) plan-slot 0 ≡ plan-place x
   plan-slot-is = plan-noted-at s bytes x whole blank blank-long ∙ sym (whole .placed)

@@ -376,7 +376,7 @@ fn misshape_request(rng: &mut Rng, request: &Request) -> Request {
     wrong
 }
 
-/// Adds a contradictory effect anywhere.
+/// Adds an effect anywhere that may contradict another.
 fn contradict(rng: &mut Rng, request: &mut Request) {
     if request.effects.len() > 250 {
         request.effects.truncate(250);
@@ -394,6 +394,14 @@ fn contradict(rng: &mut Rng, request: &mut Request) {
         request.effects.push(effect.clone());
     }
     effect.literal ^= 1;
+    // Mostly with a line under which both can happen.
+    if rng.chance(40) {
+        request.allowances.truncate(250);
+        request.allowances.push(Allowance {
+            action: effect.action,
+            body: Vec::new(),
+        });
+    }
     match rng.below(4) {
         0 => effect.body.clear(),
         1 => effect.body = body(rng, request.fluents, 2),

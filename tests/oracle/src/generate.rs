@@ -5,10 +5,10 @@
 
 use std::collections::BTreeMap;
 
-use crate::model::{Allowance, Branch, Effect, Item, Knowledge, Request};
+use crate::model::{exclusive, Allowance, Branch, Effect, Item, Knowledge, Request};
 use crate::reader::{ACTION_LIMIT, BRANCH_LIMIT, FLUENT_LIMIT, ITEM_LIMIT, NESTING_LIMIT};
 use crate::rng::Rng;
-use crate::settle::contradictory;
+use crate::settle::{clashing, contradictory};
 use crate::table::{bit, readings, Known, Mask, Table};
 
 /// Most states that a plan is grown along.
@@ -170,9 +170,20 @@ fn table(rng: &mut Rng, shape: &Shape) -> Request {
     request
 }
 
-/// An action that senses, one with effects, one that does nothing, or one without any line.
+/// An action that senses, one with effects, one that does nothing, or one without any line. Now
+/// and then one with effects has no executability line.
 fn lines_of(rng: &mut Rng, request: &mut Request, action: u8, shape: &Shape) {
-    match rng.below(100) {
+    let kind = rng.below(100);
+    if kind > 93 {
+        return;
+    }
+    if !(34..=37).contains(&kind) {
+        for _ in 0..*rng.pick(&[1, 1, 1, 2, 3]) {
+            let body = allowing_body(rng, request);
+            request.allowances.push(Allowance { action, body });
+        }
+    }
+    match kind {
         0..=33 => {
             let most = if rng.chance(8) { 6 } else { 2 };
             for _ in 0..rng.range(1, most) {
@@ -188,13 +199,47 @@ fn lines_of(rng: &mut Rng, request: &mut Request, action: u8, shape: &Shape) {
             for _ in 0..rng.range(1, shape.effects) {
                 add_effect(rng, request, action);
             }
+            if rng.chance(40) {
+                add_clash(rng, request, action);
+            }
         }
-        88..=93 => {}
-        _ => return,
+        _ => {}
     }
-    for _ in 0..*rng.pick(&[1, 1, 1, 2, 3]) {
-        let body = allowing_body(rng, request);
-        request.allowances.push(Allowance { action, body });
+}
+
+/// Adds an effect that clashes with one that is there, but only where the action can't be run:
+/// each executability line has the complement of a literal of one of the two bodies.
+fn add_clash(rng: &mut Rng, request: &mut Request, action: u8) {
+    let there: Vec<&Effect> = request
+        .effects
+        .iter()
+        .filter(|effect| effect.action == action)
+        .collect();
+    if there.is_empty() {
+        return;
+    }
+    let one = (*rng.pick(&there)).clone();
+    let mut other = Effect {
+        literal: one.literal ^ 1,
+        body: Vec::new(),
+        ..one.clone()
+    };
+    for line in &request.allowances {
+        let apart = exclusive(&line.body, &one.body) || exclusive(&line.body, &other.body);
+        if line.action == action && !apart && !line.body.is_empty() {
+            let against = *rng.pick(&line.body) ^ 1;
+            if !other.body.contains(&(against ^ 1)) {
+                other.body.push(against);
+                other.body.sort_unstable();
+            }
+        }
+    }
+    let harmless = request
+        .effects
+        .iter()
+        .all(|effect| !contradictory(&request.allowances, effect, &other));
+    if harmless && clashing(&one, &other) {
+        request.effects.push(other);
     }
 }
 
@@ -211,7 +256,7 @@ fn add_effect(rng: &mut Rng, request: &mut Request, action: u8) {
     if request
         .effects
         .iter()
-        .all(|other| !contradictory(&effect, other))
+        .all(|other| !contradictory(&request.allowances, &effect, other))
     {
         request.effects.push(effect);
     }

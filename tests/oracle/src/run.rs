@@ -7,9 +7,10 @@ use crate::answer::{Answer, DERIVATION, NEITHER, REQUEST};
 use crate::calls::{check_call, judge_call, CheckCall, JudgeCall, Outlook};
 use crate::edges::{self, Met};
 use crate::encode::{encode_derivation, encode_request};
-use crate::model::{Line, Request};
-use crate::reader::read_derivation;
+use crate::model::{Effect, Line, Request};
+use crate::reader::{read_derivation, read_request};
 use crate::rng::Rng;
+use crate::settle::clashing;
 use crate::text::comma_separated;
 use crate::walk::{walk, Verdict};
 use crate::{check, judge, open, paths, shown, worlds, STATE_LENGTH};
@@ -62,6 +63,7 @@ pub struct Tally {
     carried_out: u64,
     true_worlds: u64,
     not_enumerated: u64,
+    clashing_apart: u64,
     missed_though_reached: u64,
     stuck_though_reached: u64,
     accepted_carried_out: u64,
@@ -128,6 +130,7 @@ impl Tally {
         if !written && lent != call.lent {
             return Err(format!("answer {answer} changed the lent state"));
         }
+        self.compare_meeting(&call.request, answer)?;
         if answer.number > 3 {
             return Ok(());
         }
@@ -168,6 +171,25 @@ impl Tally {
             ));
         }
         Ok(())
+    }
+
+    /// 16 is given where an action may be run in some world in which its effects would set a
+    /// fluent both ways, and nowhere else.
+    fn compare_meeting(&mut self, request: &[u8], answer: Answer) -> Result<(), String> {
+        let refused = answer.number == 16;
+        if !refused && !matches!(answer.number, 0..=3 | 17 | 18) {
+            return Ok(());
+        }
+        let request = read_request(request).map_err(|_| format!("answer {answer} unread"))?;
+        let apart = !refused && some_clash(&request.effects);
+        self.clashing_apart += u64::from(apart);
+        if request.fluents > worlds::WORLD_FLUENTS {
+            return Ok(());
+        }
+        match worlds::effects_meet(&request) == refused {
+            true => Ok(()),
+            false => Err(format!("answer {answer}, but in worlds it is otherwise")),
+        }
     }
 
     /// A verified plan works in every true world; where 1 or 2 is given it may all the same.
@@ -256,6 +278,9 @@ impl Tally {
         if !never.is_empty() {
             return Err(format!("never met: {}", never.join(", ")));
         }
+        if self.clashing_apart * 100 < self.requests * LEAST_SHARE {
+            return Err("effects rarely clash where their action can't be run".to_string());
+        }
         let rare = self.rare();
         if !rare.is_empty() {
             return Err(format!("below {LEAST_SHARE} per cent: {}", rare.join(", ")));
@@ -320,7 +345,7 @@ impl Tally {
         out
     }
 
-    fn titled(&self) -> [(&'static str, u64); 11] {
+    fn titled(&self) -> [(&'static str, u64); 12] {
         [
             ("walks compared with the second walk", self.second_walks),
             (
@@ -335,6 +360,10 @@ impl Tally {
             (
                 "verified requests with more than ten fluents",
                 self.not_enumerated,
+            ),
+            (
+                "requests with effects that clash only where their action can't be run",
+                self.clashing_apart,
             ),
             (
                 "answer 1 though every world reaches the goal",
@@ -362,6 +391,14 @@ impl Tally {
             ),
         ]
     }
+}
+
+/// Two of the effects clash, wherever their action can be run.
+fn some_clash(effects: &[Effect]) -> bool {
+    effects
+        .iter()
+        .enumerate()
+        .any(|(index, one)| effects[..index].iter().any(|other| clashing(one, other)))
 }
 
 /// What every answer keeps to: its input, place and count, and what the showing call shows.

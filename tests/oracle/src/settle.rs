@@ -1,7 +1,7 @@
 //! What is looked at over the whole input once it is read: 16, 17, 18, in this order.
 
 use crate::answer::Fault;
-use crate::model::{exclusive, Branch, Effect, Item, Request};
+use crate::model::{exclusive, Allowance, Branch, Effect, Item, Request};
 
 /// 16, then 17, then 18, each a pass over the whole request.
 pub fn settle(request: &Request) -> Result<(), Fault> {
@@ -16,12 +16,24 @@ pub fn settle(request: &Request) -> Result<(), Fault> {
     }
 }
 
-/// Two effects of one action are contradictory when their literals are complements and neither
-/// body holds a complement of a literal of the other.
-pub fn contradictory(one: &Effect, other: &Effect) -> bool {
+/// Two effects of one action clash when their literals are complements and neither body holds a
+/// complement of a literal of the other.
+pub fn clashing(one: &Effect, other: &Effect) -> bool {
     one.action == other.action
         && one.literal == other.literal ^ 1
         && !exclusive(&one.body, &other.body)
+}
+
+/// They are contradictory when, besides, some one executability line of the action has a body
+/// that holds no complement of a literal of either body.
+pub fn contradictory(allowances: &[Allowance], one: &Effect, other: &Effect) -> bool {
+    let agrees = |line: &Allowance| {
+        line.action == one.action
+            && [one, other]
+                .iter()
+                .all(|effect| !exclusive(&line.body, &effect.body))
+    };
+    clashing(one, other) && allowances.iter().any(agrees)
 }
 
 /// 16: the earliest effect that contradicts one before it.
@@ -31,7 +43,7 @@ fn contradiction(request: &Request) -> Option<usize> {
         .find(|&later| {
             effects[..later]
                 .iter()
-                .any(|one| contradictory(one, &effects[later]))
+                .any(|one| contradictory(&request.allowances, one, &effects[later]))
         })
         .map(|later| effects[later].place)
 }

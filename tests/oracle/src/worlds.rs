@@ -79,6 +79,18 @@ pub fn carry_out(request: &Request) -> Result<u64, Failure> {
     Ok(worlds as u64)
 }
 
+/// In some world in which an action may be run its effects would set a fluent both ways.
+///
+/// The request has at most ten fluents. 16 refuses just the requests of which this is so.
+pub fn effects_meet(request: &Request) -> bool {
+    assert!(request.fluents <= WORLD_FLUENTS);
+    let carrier = Carrier::new(request);
+    (0..usize::from(request.actions)).any(|action| {
+        (0..1u16 << request.fluents)
+            .any(|world| carrier.allowed(action, world) && carrier.step(action, world).is_err())
+    })
+}
+
 /// At the end each goal holds in all possible worlds and each whether fluent has one value.
 fn judge(request: &Request, party: &Party) -> Result<(), Failure> {
     let goals = Demand::new(&request.goals);
@@ -149,16 +161,26 @@ impl Carrier {
         }
     }
 
-    /// Each action met may be run in every possible world.
+    /// In this world the action may be run.
+    fn allowed(&self, action: usize, world: World) -> bool {
+        self.allowances[action].iter().any(|body| body.holds(world))
+    }
+
+    /// An action, a sensing one too, drops the possible worlds in which it may not be run. Each
+    /// action met may be run in every possible world, so none may be dropped.
     fn act(&self, action: usize, party: Party) -> Result<Vec<Party>, Failure> {
-        let allowed = |world: World| self.allowances[action].iter().any(|body| body.holds(world));
-        if !party.iter().all(|&world| allowed(world)) {
+        let before = party.len();
+        let kept: Party = party
+            .into_iter()
+            .filter(|&world| self.allowed(action, world))
+            .collect();
+        if kept.len() < before {
             return Err(Failure::NotRunnable);
         }
         match self.sensed[action] {
-            Some(fluents) => Ok(split(party, fluents)),
+            Some(fluents) => Ok(split(kept, fluents)),
             None => {
-                let moved = party.into_iter().map(|world| self.step(action, world));
+                let moved = kept.into_iter().map(|world| self.step(action, world));
                 Ok(vec![moved.collect::<Result<Party, Failure>>()?])
             }
         }

@@ -275,7 +275,7 @@ fn an_item_count_is_never_refused() {
 fn bytes_left_go_before_settling() {
     // Contradictory effects, a mixed action and overlapping conditions, with and without a
     // byte too many.
-    let table = "1 1 0 | 2 0 0 0 0 1 0 | 0 | 1 0 0";
+    let table = "1 1 0 | 2 0 0 0 0 1 0 | 1 0 0 | 1 0 0";
     let mut request = bytes(table);
     request.extend(bytes("0 1 255 2 0 0 0 0 0 0 | 0 | 0"));
     refused(&request, 16, 7);
@@ -296,7 +296,8 @@ fn settling_is_three_passes() {
 
 #[test]
 fn contradictory_effects() {
-    let settled = |effects: &str| bytes(&format!("3 2 0 | {effects} | 0 | 0 | 0 0 | 0 | 0"));
+    let settled =
+        |effects: &str| bytes(&format!("3 2 0 | {effects} | 2 0 0 1 0 | 0 | 0 0 | 0 | 0"));
     // The pairs are of lines 0 and 3, and of 1 and 2: line 2 is the earliest later one.
     refused(&settled("4  0 0 0  0 2 0  0 3 0  0 1 0"), 16, 10);
     // Other actions, equal literals and exclusive bodies contradict nothing.
@@ -310,9 +311,46 @@ fn contradictory_effects() {
     verified(&settled("2  0 0 1 1  0 1 1 0"), 1);
     // An action that senses, too: 16 goes first.
     refused(
-        &bytes("1 1 0 | 2 0 0 0 0 1 0 | 0 | 1 0 0 | 0 0 | 0 | 0"),
+        &bytes("1 1 0 | 2 0 0 0 0 1 0 | 1 0 0 | 1 0 0 | 0 0 | 0 | 0"),
         16,
         7,
+    );
+}
+
+#[test]
+fn effects_that_clash_where_the_action_cannot_be_run() {
+    let settled = |effects: &str, lines: &str| {
+        bytes(&format!("3 2 0 | {effects} | {lines} | 0 | 0 0 | 0 | 0"))
+    };
+    // No line, or lines of another action only.
+    verified(&settled("2  0 4 0  0 5 0", "0"), 1);
+    verified(&settled("2  0 4 0  0 5 0", "2  1 0  1 0"), 1);
+    refused(&settled("2  0 4 0  0 5 0", "1  0 0"), 16, 7);
+    refused(&settled("2  0 4 0  0 5 0", "2  1 1 0  0 1 0"), 16, 7);
+    // A line against the first body, against the second, against neither.
+    verified(&settled("2  0 4 1 0  0 5 0", "1  0 1 1"), 1);
+    verified(&settled("2  0 4 0  0 5 1 0", "1  0 1 1"), 1);
+    refused(&settled("2  0 4 1 0  0 5 0", "1  0 1 2"), 16, 8);
+    // A line against each body, in either order, and one against neither.
+    let apart = "2  0 4 1 0  0 5 1 2";
+    verified(&settled(apart, "2  0 1 1  0 1 3"), 1);
+    verified(&settled(apart, "2  0 1 3  0 1 1"), 1);
+    verified(&settled(apart, "1  0 2 1 3"), 1);
+    refused(&settled(apart, "3  0 1 1  0 1 3  0 1 4"), 16, 8);
+    refused(&settled(apart, "2  0 1 0  0 1 1"), 16, 8);
+    // The literals of the effects do not count: the line may hold either.
+    refused(&settled(apart, "1  0 1 5"), 16, 8);
+    // The first pair can't meet, the second can: the third line is the place.
+    refused(&settled("3  0 2 0  0 3 1 0  0 3 1 4", "1  0 1 1"), 16, 11);
+    // An action that senses, too.
+    verified(
+        &bytes("1 2 0 | 2 0 0 0 0 1 0 | 1 1 0 | 1 1 0 | 0 0 | 0 | 0"),
+        1,
+    );
+    refused(
+        &bytes("1 1 0 | 2 0 0 0 0 1 0 | 0 | 1 0 0 | 0 0 | 0 | 0"),
+        17,
+        12,
     );
 }
 

@@ -1,6 +1,7 @@
 -- A turn undoes what the first of the action's effects that are left may undo; what is left then gives what the whole gives, and effect
 -- numbers rise in file order.
-use Rattle.steps.proofs.ActionLaws.{Leaving, leaving-starts, leave-done, line-few, line-less, to-go, effect-body, effect-body-fits, effect-one-fits, effect-one-there, effect-fluent, leave-other, leave-undone, leave-kept, mark-within}
+use Rattle.finding.proofs.AheadLaws.{to-go, line-few, line-less}
+use Rattle.steps.proofs.ActionLaws.{Leaving, leaving-starts, leave-done, effect-body, effect-body-fits, effect-one-fits, effect-one-there, effect-fluent, leave-other, leave-undone, leave-kept, mark-within}
 use borrow.Author.Needs.{needs}
 use Rattle.steps.proofs.actions.left.Statement.{statement}
 use Rattle.steps.proofs.actions.left.Tie as tie

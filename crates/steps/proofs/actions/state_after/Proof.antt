@@ -1,6 +1,7 @@
 -- A turn undoes or tells what the first of the action's effects that are left asks for; what is left then gives what the whole gives, and effect
 -- numbers rise in file order. Where nothing was told that is the state after, and else what `left` makes of it.
-use Rattle.steps.proofs.ActionLaws.{Sweeping, sweeping-starts, line-few, line-less, to-go, effect-body, effect-body-fits, effect-one-fits, effect-one-there, effect-fluent, sweep-known, sweep-told, sweep-unknown, sweep-undone, sweep-kept}
+use Rattle.finding.proofs.AheadLaws.{to-go, line-few, line-less}
+use Rattle.steps.proofs.ActionLaws.{Sweeping, sweeping-starts, effect-body, effect-body-fits, effect-one-fits, effect-one-there, effect-fluent, sweep-known, sweep-told, sweep-unknown, sweep-undone, sweep-kept}
 use Rattle.steps.proofs.AfterLaws.{after-once, after-twice}
 use borrow.Author.Needs.{needs}
 use Rattle.steps.proofs.actions.state_after.Statement.{statement}
