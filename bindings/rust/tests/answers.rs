@@ -1,27 +1,17 @@
 //! Answers taken apart, and the call where it needs much stack.
 
+mod common;
+
 use std::error::Error;
 
+use common::{deep, FILE_A};
 use glintstring::{check, check_packed, check_whether, check_whether_packed, judge, judge_here, judge_packed, show, show_start};
 use glintstring::{judge_line, judge_line_here, judge_line_packed};
 use glintstring::{Answer, Input, Judged, Mark, NotVerified, Packed, State, STATE_LENGTH};
 
-const FILE_A: [u8; 48] = [
-    4, 3, 3, 3, 5, 7, 3, 1, 2, 0, 1, 6, 1, 0, 2, 4, 0, 3, 0, 0, 1, 1, 3, 2, 1, 2, 1, 0, 0, 0, 2, 0, 255, 2, 1, 1, 0, 2, 1, 2, 1, 0, 0, 0,
-    1, 7, 1, 2,
-];
-
 /// Bytes 0 to 28 of File A, followed by these.
 fn from_29(rest: &[u8]) -> Vec<u8> {
     [&FILE_A[..29], rest].concat()
-}
-
-/// Looks at 127 fluents and makes them unknown again, over and over: a walk that goes as deep as any, to within a few bytes.
-fn deep() -> Vec<u8> {
-    let effects = (0..254).flat_map(|literal| [1, literal, 1, 255 - literal % 2]);
-    let knowledge = (0..127).flat_map(|fluent| [0, fluent]);
-    let table = [128, 2, 0, 254].into_iter().chain(effects).chain([2, 0, 0, 1, 0, 127]).chain(knowledge);
-    table.chain([4, 0]).chain([0, 1].repeat(512)).chain([0, 0]).collect()
 }
 
 #[test]

@@ -14,7 +14,7 @@ use std::fs::File;
 use std::io::{self, Read, Write};
 use std::process::ExitCode;
 
-use glintstring::{check, check_whether, judge_line, show, Answer, Input, DERIVATION_LIMIT, REQUEST_LIMIT};
+use glintstring::{check, check_whether, show, Answer, Input, Judge, DERIVATION_LIMIT, REQUEST_LIMIT};
 
 const USAGE: &str = "usage: review judge [--line] [--budget N] REQUEST... | review check REQUEST DERIVATION [REQUEST DERIVATION]... | \
                      review check-whether REQUEST DERIVATION [REQUEST DERIVATION]...";
@@ -75,14 +75,23 @@ fn print_line(request: &[u8], line: Option<usize>) -> io::Result<()> {
     writeln!(out, "  line from {place}:{bytes}")
 }
 
-fn judge_file(name: &str, budget: u32, lined: bool) -> Result<u8, String> {
+fn judge_file(judge: &mut Judge, name: &str, budget: u32, lined: bool) -> Result<u8, String> {
     let request = read(name, REQUEST_LIMIT)?;
-    let judged = judge_line(&request, budget).map_err(|error| format!("no thread: {error}"))?;
+    let judged = judge.judge_line(&request, budget);
     let told = tell(name, judged.answer, &request, &[])?;
     if lined {
         print_line(&request, judged.line).map_err(|error| format!("standard output: {error}"))?;
     }
     Ok(told)
+}
+
+/// Walks the plans of all files on one thread that has enough stack; the largest status, if there is a file.
+fn judge_all(names: &[&str], budget: u32, lined: bool) -> Option<u8> {
+    let mut judge = match Judge::new() {
+        Ok(judge) => judge,
+        Err(error) => return Some(status(Err(format!("no thread: {error}")))),
+    };
+    names.iter().map(|name| status(judge_file(&mut judge, name, budget, lined))).max()
 }
 
 /// The derivation call or the whether call.
@@ -109,7 +118,7 @@ fn main() -> ExitCode {
         ["judge", "--line", ref rest @ ..] => ([&["judge"], rest].concat(), true),
         _ => (words, false),
     };
-    let judge_all = |names: &[&str], budget| names.iter().map(|name| status(judge_file(name, budget, lined))).max();
+    let judge_all = |names: &[&str], budget| judge_all(names, budget, lined);
     let check_all = |call: Call, names: &[&str]| names.chunks_exact(2).map(|pair| status(check_files(call, pair[0], pair[1]))).max();
     let worst = match words[..] {
         ["judge", "--budget", budget, ref names @ ..] => budget.parse().ok().and_then(|budget| judge_all(names, budget)),
