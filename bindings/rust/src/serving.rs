@@ -3,7 +3,7 @@
 use std::sync::mpsc::{channel, Receiver, Sender};
 use std::{fmt, io, thread};
 
-use crate::{judge_packed, Answer, Packed, REQUEST_LIMIT, STACK, STATE_LENGTH};
+use crate::{judge_line_packed, Answer, Judged, Packed, REQUEST_LIMIT, STACK, STATE_LENGTH};
 
 /// A thread with enough stack for a walk, which is started once and serves many calls, one after the other.
 ///
@@ -43,7 +43,7 @@ struct Call {
     request: Vec<u8>,
     budget: u32,
 }
-type Answered = (Packed, [u8; STATE_LENGTH]);
+type Answered = (Packed, [u8; STATE_LENGTH], u32);
 
 impl Judge {
     /// A judge whose thread waits for calls.
@@ -66,11 +66,25 @@ impl Judge {
     ///
     /// Where the library linked gives an answer that the format does not have, which the proved one does not. The judge can be used after it.
     pub fn judge(&mut self, request: &[u8], budget: u32) -> Answer {
+        let (packed, state, _) = self.served(request, budget);
+        Answer::unpack(packed, &state)
+    }
+
+    /// The walk call with the line that its answer carries, as [`judge_line`](crate::judge_line) makes it.
+    ///
+    /// # Panics
+    ///
+    /// As [`Judge::judge`] does.
+    pub fn judge_line(&mut self, request: &[u8], budget: u32) -> Judged {
+        let (packed, state, line) = self.served(request, budget);
+        Judged::unpack(packed, &state, line)
+    }
+
+    fn served(&mut self, request: &[u8], budget: u32) -> Answered {
         // The thread has a copy, since it outlives the borrow. More bytes than these are answered alike.
         let request = request[..request.len().min(REQUEST_LIMIT + 1)].to_vec();
         let sent = self.calls.as_ref().and_then(|calls| calls.send(Call { request, budget }).ok());
-        let (packed, state) = sent.and_then(|()| self.answers.recv().ok()).expect("the thread serves as long as there is a judge");
-        Answer::unpack(packed, &state)
+        sent.and_then(|()| self.answers.recv().ok()).expect("the thread serves as long as there is a judge")
     }
 }
 
@@ -78,8 +92,9 @@ impl Judge {
 fn serve(calls: &Receiver<Call>, answers: &Sender<Answered>) {
     for Call { request, budget } in calls {
         let mut state = [0; STATE_LENGTH];
-        let packed = judge_packed(&request, &mut state, budget);
-        if answers.send((packed, state)).is_err() {
+        let mut line = 0;
+        let packed = judge_line_packed(&request, &mut state, budget, &mut line);
+        if answers.send((packed, state, line)).is_err() {
             return;
         }
     }

@@ -13,6 +13,7 @@ use Rattle.meaning.specs.Tests.{both, fails, each-of}
 use Rattle.meaning.specs.Limits.{format, all-literals}
 use Rattle.meaning.specs.Literals.{positive, complement, fluent-of}
 use Rattle.meaning.specs.States.{State, mark-of, known, possible, told, told-all, state-of}
+use Rattle.meaning.specs.Asking.{short-by}
 use Rattle.meaning.proofs.TestLaws.{pick-true, pick-false}
 use Rattle.meaning.proofs.LiteralLaws.{by-literal, complement-true, complement-false, fluent-complement}
 use Rattle.meaning.proofs.StateLaws.{mark-true, mark-false}
@@ -82,6 +83,9 @@ module _ (s : List ℕ) (p : ℕ) (here : List-here all-literals s p) where
     pub each-starts : (test : ℕ → Bool) → each-of test (listed s p) ≡ each-of test (bytes-from s (p + 1) (end - (p + 1)))
     each-starts test = ap (each-of test) (sym list-starts)
 
+    pub short-starts : (marks : State) → short-by (known marks) (listed s p) ≡ 0 + short-by (known marks) (bytes-from s (p + 1) (end - (p + 1)))
+    short-starts marks = let same = ap (short-by (known marks)) (sym list-starts) in omega (arith, same)
+
     pub state-starts : state-of format (listed s p) ≡ told-all (bytes-from s (p + 1) (end - (p + 1))) (replicate (format .state) 0)
     unfolding state-of
     state-starts = ap (λ (ls : List ℕ). told-all ls (replicate (format .state) 0)) (sym list-starts)
@@ -92,6 +96,9 @@ module _ (s : List ℕ) (p : ℕ) (here : List-here all-literals s p) where
 
       pub entry-fits : Fits w64 (length s) → Fits w64 (i + 1)
       entry-fits room = let there = entry-there in let most = room .fits in record { fits = omega arith }
+
+      pub short-fits : (short : ℕ) → short < i → Fits w64 (length s) → Fits w64 (short + 1)
+      short-fits short few room = let there = entry-there in let most = room .fits in record { fits = omega arith }
 
       pub entry-below : (l : ℕ) → l ≡ getD s i 0 → l < all-literals
       entry-below l e =
@@ -147,3 +154,25 @@ module _ (whole : State) (s : List ℕ) (end i : ℕ) (marks : State) (so-far : 
   pub state-done : end ≤ i → marks ≡ whole
   unfolding told-all
   state-done h = sym (so-far ∙ rw (entry-last s end i h))
+
+-- SHORT BY: how many are not known true among the entries before the one at i, and from it on.
+module _ (whole : ℕ) (marks : State) (s : List ℕ) (end i short : ℕ) (so-far : whole ≡ short + short-by (known marks) (bytes-from s i (end - i))) where
+  module _ (b : Bool) (l : ℕ) (more : i < end) (entry : l ≡ getD s i 0) (tested : b ≡ holds-as Known marks l) where
+    known-is : b ≡ known marks (getD s i 0)
+    unfolding holds-as
+    known-is = tested ∙ ap (known marks) entry
+
+    pub short-same : b ≡ true → whole ≡ short + short-by (known marks) (bytes-from s (i + 1) (end - (i + 1)))
+    unfolding short-by
+    short-same t = so-far ∙ ap (λ (x : ℕ). short + x) (rw (entry-next s end i more) (pick-true _ _ _ (sym known-is ∙ t)))
+
+    pub short-more : b ≡ false → whole ≡ short + 1 + short-by (known marks) (bytes-from s (i + 1) (end - (i + 1)))
+    unfolding short-by
+    short-more f =
+        let next : short-by (known marks) (bytes-from s i (end - i)) ≡ short-by (known marks) (bytes-from s (i + 1) (end - (i + 1))) + 1 =
+        rw (entry-next s end i more) (pick-false _ _ _ (sym known-is ∙ f)) in
+        omega (arith, so-far, next)
+
+  pub short-done : end ≤ i → short ≡ whole
+  unfolding short-by
+  short-done h = let none : short-by (known marks) (bytes-from s i (end - i)) ≡ 0 = rw (entry-last s end i h) in omega (arith, so-far, none)

@@ -81,7 +81,8 @@ fn judge_request(name: &[u8], request: &[u8], budget: u32) -> Outcome {
         return Outcome::Unanswered;
     }
     let mut state = [0u8; limits::FLUENTS];
-    let answer = judge(request, &mut state, budget);
+    let judged = judge(request, &mut state, budget);
+    let answer = judged.answer;
     let number = answer.number;
     let written = put_name(name)
         && put(b": ")

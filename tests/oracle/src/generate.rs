@@ -243,6 +243,37 @@ fn add_clash(rng: &mut Rng, request: &mut Request, action: u8) {
     }
 }
 
+/// Gives an action of the plan other executability lines, two to five, whose bodies are long
+/// enough that often none is known true and a later one lacks the fewest literals. A line under
+/// which two effects would be contradictory is left out.
+pub(crate) fn starve(rng: &mut Rng, request: &mut Request) {
+    let actions = request.plan.iter().filter_map(|item| match item {
+        Item::Action { action, .. } => Some(*action),
+        Item::Branching { .. } => None,
+    });
+    let actions: Vec<u8> = actions.collect();
+    if actions.is_empty() {
+        return;
+    }
+    let action = *rng.pick(&actions);
+    request.allowances.retain(|line| line.action != action);
+    for _ in 0..rng.range(2, 5) {
+        let length = rng.range(1, 5);
+        let body = body(rng, request.fluents, length);
+        request.allowances.push(Allowance { action, body });
+        let effects = &request.effects;
+        let meets = |one: &Effect, other: &Effect| contradictory(&request.allowances, one, other);
+        if effects
+            .iter()
+            .any(|one| effects.iter().any(|other| meets(one, other)))
+        {
+            request.allowances.pop();
+        }
+    }
+    rng.shuffle(&mut request.allowances);
+    request.allowances.truncate(255);
+}
+
 /// Adds an effect unless it contradicts one that is there.
 fn add_effect(rng: &mut Rng, request: &mut Request, action: u8) {
     let literal = rng.byte(0, 2 * (request.fluents - 1) + 1);
