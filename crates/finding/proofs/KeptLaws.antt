@@ -1,5 +1,5 @@
 -- Noting one part leaves the slots of the others as they are. Assumes nothing.
-use Prim.Native.Nat.{ℕ, _+_, _-_, _*_, _≤_, _<_}
+use Prim.Native.Nat.{ℕ, _+_, _-_, _%_, _≤_, _<_}
 use native.Mathlib.Omega.{arith}
 use native.Mathlib.Decide.{ℕ-discrete}
 use mathlib.Core.Path.{_≡_, refl, sym, _∙_, ap, subst}
@@ -12,7 +12,8 @@ use Rattle.meaning.specs.Tests.{Has}
 use Rattle.meaning.specs.Limits.{format}
 use Rattle.meaning.specs.Requests.{Sequence}
 use Rattle.meaning.proofs.TestLaws.{by-test, pick-true, pick-false}
-use Rattle.reading.specs.Noted.{Section, effects, executability, knowledge, Line, effect-lines, run-lines, before, appended, raised, pair-noted, action-in, note-line, none-yet, lines-noted, count-slot, section-noted, sensed-from, sensed-to, sensed, line-numbers, line-slots}
+use Rattle.reading.specs.Bits.{with-bit}
+use Rattle.reading.specs.Noted.{Section, effects, executability, knowledge, Line, effect-lines, run-lines, before, appended, raised, word-bits, pair-slot, bit-noted, pair-noted, action-in, note-line, none-yet, lines-noted, count-slot, section-noted, sensed-from, sensed-to, sensed, line-numbers, line-slots}
 use Rattle.reading.proofs.NotesLaws.{before-most}
 use Rattle.reading.specs.Planned.{items-of, plan-noted, sequence-noted}
 use Rattle.finding.proofs.PlanKept.{rest-length, rest-other}
@@ -89,13 +90,16 @@ module _ (j : ℕ) where
       (λ e. rw (pick-true (ltb (getD t slot 0) v) (λ _. set t slot v) (λ _. t) e) (kept t slot j v h))
       (λ e. rw (pick-false (ltb (getD t slot 0) v) (λ _. set t slot v) (λ _. t) e))
 
+  pub bit-noted-kept : (a f : ℕ) (t : List ℕ) → (j ≡ pair-slot a f → ⊥) → getD (bit-noted a f t) j 0 ≡ getD t j 0
+  unfolding bit-noted
+  bit-noted-kept a f t h = kept t (pair-slot a f) j (with-bit (getD t (pair-slot a f) 0) (f % word-bits)) h
+
   pub pair-kept : (a f : ℕ) (t : List ℕ) → j < sensed → (j ≡ sensed-from + a → ⊥) → (j ≡ sensed-to + a → ⊥) → getD (pair-noted a f t) j 0 ≡ getD t j 0
   unfolding pair-noted
   pair-kept a f t h from to =
-      let one : List ℕ = set t (sensed + (format .fluents * a + f)) 1 in
-      raised-kept (sensed-to + a) (f + 1) (raised (sensed-from + a) (format .fluents - f) one) to
-      ∙ raised-kept (sensed-from + a) (format .fluents - f) one from
-      ∙ kept t (sensed + (format .fluents * a + f)) j 1 (λ e. omega arith)
+      raised-kept (sensed-to + a) (f + 1) (raised (sensed-from + a) (format .fluents - f) (bit-noted a f t)) to
+      ∙ raised-kept (sensed-from + a) (format .fluents - f) (bit-noted a f t) from
+      ∙ bit-noted-kept a f t (λ e. omega arith)
 
 -- A given number of lines of a section, each of which is good for it.
 module _ (c : Section) (j : ℕ) (Good : Line c → Type 0)
@@ -137,15 +141,19 @@ appended-long : (lines last k p a : ℕ) (t : List ℕ) → length (appended lin
 unfolding appended
 appended-long lines last k p a t = length-set (set t (lines + k) p) (lines + line-numbers + before last a) k ∙ length-set t (lines + k) p
 
+pub bit-noted-long : (a f : ℕ) (t : List ℕ) → length (bit-noted a f t) ≡ length t
+unfolding bit-noted
+bit-noted-long a f t = length-set t (pair-slot a f) (with-bit (getD t (pair-slot a f) 0) (f % word-bits))
+
 pub note-long : (c : Section) (last k : ℕ) (l : Line c) (t : List ℕ) → length (note-line c last k l t) ≡ length t
 unfolding note-line pair-noted
 note-long effects last k e t = appended-long effect-lines last k (e .place) (e .action) t
 note-long executability last k r t = appended-long run-lines last k (r .place) (r .action) t
 note-long knowledge last k l t =
-    let one : List ℕ = set t (sensed + (format .fluents * l .action + l .fluent)) 1 in
+    let one : List ℕ = bit-noted (l .action) (l .fluent) t in
     raised-long (sensed-to + l .action) (l .fluent + 1) (raised (sensed-from + l .action) (format .fluents - l .fluent) one)
     ∙ raised-long (sensed-from + l .action) (format .fluents - l .fluent) one
-    ∙ length-set t (sensed + (format .fluents * l .action + l .fluent)) 1
+    ∙ bit-noted-long (l .action) (l .fluent) t
 
 lines-long : (c : Section) (k : ℕ) (last : List ℕ) (xs : List (Line c)) (t : List ℕ) → length (lines-noted c k last xs t) ≡ length t
 unfolding lines-noted

@@ -5,6 +5,7 @@ pub mod PlanHere
 pub mod PlanKept
 pub mod KeptLaws
 pub mod ChainLaws
+pub mod AheadLaws
 pub mod HoldsLaws
 pub mod WrittenLaws
 pub mod ReadLaws

@@ -7,25 +7,27 @@ use lib.ListN.{length, getD, set, length-set}
 use lib.Seq.{getD-set-same}
 use lib.Dec.{eqb}
 use Rattle.meaning.specs.Tests.{Has}
-use Rattle.meaning.specs.Limits.{format}
+use Rattle.meaning.specs.Limits.{format, all-literals}
 use Rattle.meaning.specs.Requests.{Effect, Executability, Knowledge, Table, Request}
 use Rattle.meaning.specs.Lines.{effects-of, executability-of}
 use Rattle.meaning.specs.Reading
-use Rattle.meaning.specs.Reading.{Got, got, fault, literals, byte-at, count-at, below-at, list-at, body-at, effect-at, executability-at, knowledge-at, repeated, section-at, plan-at, table-at, request-at, read-request}
+use Rattle.meaning.specs.Reading.{Got, got, fault, literals, bound-of, byte-at, count-at, below-at, list-at, body-at, effect-at, executability-at, knowledge-at, repeated, section-at, plan-at, table-at, request-at, read-request}
 use Rattle.meaning.proofs.SettledLaws.{got-same}
 use Rattle.meaning.proofs.RangeLaws.{not-refused, after-got, count-within, section-read, repeated-length}
 use Rattle.reading.specs.Noted.{effects, executability, knowledge, effect-lines, run-lines, line-place, action-in, note-line, none-yet, count-slot, section-noted, table-noted, branch-place, branch-item, sensed-from, sensed-to, plan-slot, items-slot, goals-slot, sensed, slots, effects-slot, executability-slot, knowledge-slot, line-numbers}
 use Rattle.reading.specs.Ordered.{In-order}
+use Rattle.reading.specs.Listed.{listed, List-here}
 use Rattle.reading.specs.Planned.{items-of, bytes-of, plan-noted}
 use Rattle.reading.specs.Requested.{goals-place, plan-place, places-noted, request-noted}
 use Rattle.finding.specs.LinesHere.{effect-from, Effect-here, place-in, effects-in, Effects-here, knowledge-from, knowledge-in, Knowledge-here, Acting}
 use Rattle.reading.proofs.SectionLaws.{got-place, byte-got, number-got}
 use Rattle.reading.proofs.PlanSizes.{sequence-read, list-through}
 use Rattle.reading.proofs.RequestLaws.{placed-length}
-use Rattle.finding.proofs.HereLaws.{effect-here}
+use Rattle.finding.proofs.HereLaws.{list-here, effect-here}
 use Rattle.finding.proofs.KeptLaws.{kept, Outside, appended-kept, pair-kept, section-kept, section-counted, section-long, plan-kept, plan-long}
 use Rattle.finding.proofs.ChainLaws.{section-ordered, order-same, order-some}
 use Rattle.finding.specs.PlansHeld.{Kept, Plan-held}
+use Rattle.finding.specs.TablesHere.{table-of, table-in, Runs-here}
 use Rattle.finding.proofs.PlanKept.{kept-agree}
 use Rattle.finding.proofs.WrittenLaws.{plan-held}
 use Rattle.finding.proofs.HoldsLaws.{Placed-in, effects-placed, placed-same, effects-found, effects-fit}
@@ -100,6 +102,7 @@ request-parts s t p y q e =
 -- A request that was read.
 pub record Parts (s : List ℕ) (x : Request) : Type 0 where
   pub place : ℕ
+  pub table-read : table-at format s 0 ≡ got (x .table) place
   pub of-table : Table-parts s (x .table) place
   pub items : ℕ
   pub plan-end : ℕ
@@ -114,6 +117,7 @@ parts s x e read =
     let of-request = request-parts s t p y q ey in
     subst (Parts s) (got-same (not-refused _ _ _ _ e₂ .1)) (record {
       place = p;
+      table-read = et ∙ ap (λ (z : Table). got z p) (sym (of-request .table));
       of-table = subst (λ (z : Table). Table-parts s z p) (sym (of-request .table)) (table-parts s t p et);
       items = of-request .items;
       plan-end = of-request .plan-end;
@@ -156,6 +160,19 @@ module _ (s : List ℕ) (t : Table) (p : ℕ) (whole : Table-parts s t p) where
       let most = whole .less in
       let is : a ≡ r .action = ap (λ (y : Executability). y .action) (got-same e₂) in
       omega arith
+
+  pub run-stands : (r : Executability) → Has (t .executability) r → (listed s (r .place + 1) ≡ r .body) × List-here all-literals s (r .place + 1)
+  unfolding executability-at body-at bound-of
+  run-stands r has =
+      let w = section-read (executability-at format (t .fluents) (t .actions) s) s (whole .effects-end) (t .executability) (whole .runs-end) (whole .runs-read) r has in
+      after-got (below-at (t .actions) s (w .0)) _ (w .2) λ a i ea e₁.
+      after-got (body-at format (t .fluents) s i) _ e₁ λ b j eb e₂.
+      let after : w .0 + 1 ≡ i = number-got (t .actions) s (w .0) a i ea .2 in
+      let body = list-here literals (t .fluents) s 16 i b j eb in
+      let few = whole .few in
+      let is : record { place = w .0; action = a; body = b } ≡ r = got-same e₂ in
+      subst (λ (y : Executability). (listed s (y .place + 1) ≡ y .body) × List-here all-literals s (y .place + 1)) is
+      (rw after (body .0, body .1 all-literals (omega arith)))
 
   pub knowledge-good : (k : Knowledge) → Has (t .knowledge) k → k .action < format .actions
   unfolding knowledge-at
@@ -427,3 +444,15 @@ module _ (n m : ℕ) (s : List ℕ) (less : m ≤ format .actions) where
       let ends = lines .1 in
       let start : q - 2 * length ks ≡ i = omega arith in
       rw (start, counted) (lines .0, record { ends = omega (arith, lines .2); acts = lines .3 }, omega arith)
+
+-- THE TABLE of a request that was read stands at the start, and the notes lead to its executability lines.
+module _ (s : List ℕ) (bytes : (i : ℕ) → getD s i 0 < 256) (x : Request) (whole : Parts s x) where
+  pub table-is : table-in s ≡ x .table
+  unfolding table-in table-of
+  table-is = ap table-of (whole .table-read)
+
+  pub runs-here : (t : List ℕ) → length t ≡ slots → ((j : ℕ) → j < slots → getD t j 0 ≡ 0) → Runs-here s (request-noted x t)
+  runs-here t sized blank = record {
+    order = λ a small. rw table-is (runs-ordered s bytes x whole t sized blank a small);
+    line = rw table-is (run-stands s (x .table) (whole .place) (whole .of-table));
+  }

@@ -1,5 +1,6 @@
 pub mod Places
 pub mod LinesHere
+pub mod TablesHere
 pub mod Branches
 pub mod PlansHeld
 pub mod ReadHere

@@ -1,6 +1,6 @@
--- The carried-out property is neither always true nor only true of what is verified: it fails for case 3's plan, for a branching unseen
--- and for an empty plan with a whether entry over an unknown fluent, and it holds for case 10's plan, which gets answer 1. And the failed
--- state of an action is in the set of every plan that starts with it. Assumes nothing.
+-- The carried-out property is neither always true nor only true of what is verified: it fails for case 3's plan, for a branching unseen, for an
+-- empty plan with a whether entry over an unknown fluent and for an action that drops a world, and it holds for case 10's plan, which gets
+-- answer 1. And the failed state of an action is in the set of every plan that starts with it. Assumes nothing.
 use Prim.Native.Nat.{ℕ}
 use mathlib.Core.Path.{_≡_, refl, ap, _∙_}
 use mathlib.Core.Bool.{Bool, true, false, false≢true}
@@ -54,6 +54,14 @@ unknown-whether = 1 ∷ 1 ∷ 0 ∷ 0 ∷ 0 ∷ 0 ∷ 0 ∷ 0 ∷ 0 ∷ 1 ∷ 0 
 pub unknown-whether-not-carried-out : (r : Request) × (e : ℕ) × (settled format unknown-whether ≡ got r e) × (Carried-out r → ⊥)
 unfolding all-open all-false bit-set holds values
 unknown-whether-not-carried-out = (_, _, refl, λ c. false≢true (ap (λ (xs : List Bool). getD xs 0 false) (c all-false refl .whether all-false bit-set refl refl)))
+
+-- One action, which may be run in one of the two worlds: it drops the other, and so it is not carried out, though nothing is asked.
+abbrev pub unsure-action : List ℕ
+unsure-action = 1 ∷ 1 ∷ 0 ∷ 0 ∷ 1 ∷ 0 ∷ 1 ∷ 0 ∷ 0 ∷ 0 ∷ 1 ∷ 0 ∷ 0 ∷ 0 ∷ []
+
+pub unsure-action-not-carried-out : (r : Request) × (e : ℕ) × (settled format unsure-action ≡ got r e) × (Carried-out r → ⊥)
+unfolding all-open all-false holds may-be-run table-domain
+unsure-action-not-carried-out = (_, _, refl, λ c. false≢true (c all-false refl .allowed all-false refl))
 
 -- Case 10: the fluent is made true by one effect or by the other.
 abbrev pub case-10 : List ℕ

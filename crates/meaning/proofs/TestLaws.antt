@@ -201,3 +201,10 @@ module _ {A B : Type 0} (g h : A → B) where
   pub same-map : (xs : List A) → ((x : A) → Has xs x → g x ≡ h x) → map g xs ≡ map h xs
   same-map [] same = refl
   same-map (x ∷ xs) same = ap₂ {C = List B} (λ y ys. y ∷ ys) (same x (inl refl)) (same-map xs (λ y m. same y (inr m)))
+
+module _ {A B : Type 0} (g : A → B) where
+  -- Some entry of a mapped list passes a test where some entry passes the test that agrees with it.
+  pub some-mapped : (test : B → Bool) (p : A → Bool) (xs : List A) → ((x : A) → Has xs x → test (g x) ≡ p x) → some-of test (map g xs) ≡ some-of p xs
+  unfolding some-of
+  some-mapped test p [] same = refl
+  some-mapped test p (x ∷ xs) same = rw (same x (inl refl), some-mapped test p xs (λ z has. same z (inr has)))

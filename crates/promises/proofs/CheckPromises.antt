@@ -9,7 +9,7 @@ use lib.ListN.{length}
 use Rattle.meaning.specs.declared.Answer.{Answer}
 use Rattle.meaning.specs.declared.Layout.{Layout}
 use Rattle.meaning.specs.Limits
-use Rattle.meaning.specs.Limits.{format}
+use Rattle.meaning.specs.Limits.{former, format}
 use Rattle.meaning.specs.Literals.{among}
 use Rattle.meaning.specs.Requests.{Request}
 use Rattle.meaning.specs.Reading.{got}
@@ -66,8 +66,11 @@ module _ (layout : Layout) (request derivation : List ℕ) where
     pub unpacked-is : unpacked n ≡ check format layout request derivation
     unpacked-is = unpacks (check format layout request derivation) (check-small layout request derivation) n packs
 
-  -- INPUT, COUNT AND PLACE of an answer that is the definition's (FORMAT 4.26 to 4.44).
+  -- AN ANSWER that is the definition's: that of the former limits (FORMAT 3.19), and its input, count and place (FORMAT 4.26 to 4.44).
   module _ (a : Answer) (is : a ≡ check format layout request derivation) where
+    pub as-before : (check former layout request derivation .number ≡ Limits.count-outside → ⊥) → a ≡ check former layout request derivation
+    as-before other = is ∙ Demands.check-as-before layout request derivation other
+
     pub input-exactly : Check-input a
     input-exactly = subst Check-input (sym is) (Demands.check-input-exactly format layout request derivation)
 

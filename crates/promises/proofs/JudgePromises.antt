@@ -1,5 +1,5 @@
 -- What the walk call promises, once: of an answer and of lent bytes that are the definition's. Assumes nothing.
-use Prim.Native.Nat.{ℕ, _≤_, _<_}
+use Prim.Native.Nat.{ℕ, _-_, _≤_, _<_}
 use mathlib.Core.Path.{_≡_, sym, _∙_, ap, subst}
 use mathlib.Core.Bool.{true}
 use mathlib.Core.List.{List}
@@ -7,7 +7,7 @@ use mathlib.Core.Logic.{_↔_}
 use lib.ListN.{length}
 use Rattle.meaning.specs.declared.Answer.{Answer}
 use Rattle.meaning.specs.Limits
-use Rattle.meaning.specs.Limits.{format}
+use Rattle.meaning.specs.Limits.{former, format}
 use Rattle.meaning.specs.Literals.{among}
 use Rattle.meaning.specs.Requests.{Request}
 use Rattle.meaning.specs.Reading.{got}
@@ -21,6 +21,7 @@ use Rattle.meaning.specs.Reported.{Misses, all-paths, Missed-at, Stopped-at}
 use Rattle.meaning.specs.Worlds.{Carried-out}
 use Rattle.meaning.specs.Answers.{answers}
 use Rattle.meaning.specs.AnswerParts.{Walk-input, Walk-count, Placed}
+use Rattle.meaning.specs.Wider.{Same-judgement}
 use Rattle.meaning.specs.Tests.{Has}
 use Rattle.meaning.proofs.Exact.{format-room}
 use Rattle.meaning.proofs.Demands
@@ -47,6 +48,11 @@ module _ (request lent : List ℕ) (budget : ℕ) (answer : Answer) (left : List
 
   pub sound : answer .number ≡ Limits.verified → (x : Request) × (e : ℕ) × (settled format request ≡ got x e) × Carried-out x
   sound passes = Demands.sound format request lent budget (number-is ∙ passes)
+
+  pub as-before : (small : List ℕ) → length small ≡ former .state → length lent ≡ format .state → (judge former request small budget .answer .number ≡ Limits.count-outside → ⊥)
+      → Same-judgement (format .state - former .state) small lent (judge former request small budget) (record { answer = answer; state = left })
+  as-before small fits fits-wider other =
+      subst (Same-judgement (format .state - former .state) small lent (judge former request small budget)) (sym is) (Demands.as-before request small lent budget fits fits-wider other)
 
   pub input-exactly : Walk-input answer
   input-exactly = subst (λ (j : Judgement). Walk-input (j .answer)) (sym is) (Demands.input-exactly format request lent budget)

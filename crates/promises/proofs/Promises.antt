@@ -1,6 +1,6 @@
 -- What the walk call promises: each theorem is of an answer and of lent bytes that meet the call's own contract. Read this file first in
 -- this crate. Assumes nothing.
-use Prim.Native.Nat.{ℕ, _≤_, _<_}
+use Prim.Native.Nat.{ℕ, _-_, _≤_, _<_}
 use mathlib.Core.Path.{_≡_, sym, _∙_, ap}
 use mathlib.Core.Bool.{true}
 use mathlib.Core.List.{List}
@@ -12,7 +12,7 @@ use denote.Ref.{now}
 use denote.Triple.Clauses.{AtExit}
 use Rattle.meaning.specs.declared.Answer.{Answer}
 use Rattle.meaning.specs.Limits
-use Rattle.meaning.specs.Limits.{format}
+use Rattle.meaning.specs.Limits.{former, format}
 use Rattle.meaning.specs.Literals.{among}
 use Rattle.meaning.specs.Requests.{Request}
 use Rattle.meaning.specs.Reading.{got}
@@ -26,6 +26,7 @@ use Rattle.meaning.specs.Reported.{Misses, all-paths, Missed-at, Stopped-at}
 use Rattle.meaning.specs.Worlds.{Carried-out}
 use Rattle.meaning.specs.Answers.{answers}
 use Rattle.meaning.specs.AnswerParts.{Walk-input, Walk-count, Placed}
+use Rattle.meaning.specs.Wider.{Same-judgement}
 use Rattle.meaning.specs.Tests.{Has}
 use Rattle.meaning.proofs.ProvedCases.{judging, judged, Row, proved-cases}
 use Rattle.steps.specs.AtHand.{Marked}
@@ -85,6 +86,11 @@ module _ (κs : Lfts 2) (given : Dens κs ps) where
     -- Demand 3 (FORMAT 11.7 to 11.12): a verified plan is carried out in every world with the initial facts, at any budget.
     pub sound : answer .number ≡ Limits.verified → (x : Request) × (e : ℕ) × (settled format request ≡ got x e) × Carried-out x
     sound = JudgePromises.sound request lent budget answer (left exit) meets
+
+    -- Equal answers (FORMAT 3.19 to 3.21): whatever the former limits, lent a state of their length, answer with another number than 12.
+    pub as-before : (small : List ℕ) → length small ≡ former .state → length lent ≡ format .state → (judge former request small budget .answer .number ≡ Limits.count-outside → ⊥)
+        → Same-judgement (format .state - former .state) small lent (judge former request small budget) (record { answer = answer; state = left exit })
+    as-before = JudgePromises.as-before request lent budget answer (left exit) meets
 
     -- Demand 2 (FORMAT 11.5), of a settled request with as many lent bytes as a state has.
     module _ (x : Request) (e : ℕ) (lent-length : length lent ≡ format .state) (past : settled format request ≡ got x e) where

@@ -12,7 +12,7 @@ use denote.Triple.Clauses.{AtExit}
 use Rattle.meaning.specs.declared.Answer.{Answer}
 use Rattle.meaning.specs.declared.Layout.the-variants.{Closing}
 use Rattle.meaning.specs.Limits
-use Rattle.meaning.specs.Limits.{format}
+use Rattle.meaning.specs.Limits.{former, format}
 use Rattle.meaning.specs.Literals.{among}
 use Rattle.meaning.specs.Requests.{Request}
 use Rattle.meaning.specs.Reading.{got}
@@ -77,6 +77,10 @@ module _ (κs : Lfts 2) (given : Dens κs ps) where
     -- included.
     pub sound : answer .number ≡ Limits.verified → (x : Request) × (e : ℕ) × (settled format request ≡ got x e) × Carried-out x
     sound = CheckPromises.sound Closing request derivation _ number-is
+
+    -- Equal answers (FORMAT 3.19): whatever the former limits answer with another number than 12.
+    pub as-before : (check former Closing request derivation .number ≡ Limits.count-outside → ⊥) → answer ≡ check former Closing request derivation
+    as-before = CheckPromises.as-before Closing request derivation answer meets
 
     -- Input, count and place are what the number says (FORMAT 4.26 to 4.44): neither input exactly with 0, and else one that the number allows.
     pub input-exactly : Check-input answer

@@ -1,3 +1,4 @@
+pub mod BitLaws
 pub mod NotesLaws
 pub mod SectionLaws
 pub mod MarkLaws

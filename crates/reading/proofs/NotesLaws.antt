@@ -1,7 +1,8 @@
 -- What noting a line leaves in the notes, and what the notes say of a line. Assumes nothing.
-use Prim.Native.Nat.{ℕ, _+_, _-_, _*_, _≤_, _<_}
+use Prim.Native.Nat.{ℕ, _+_, _-_, _*_, _%_, _≤_, _<_}
 use native.Mathlib.Omega.{arith}
 use mathlib.Core.Path.{_≡_, sym, _∙_, ap}
+use mathlib.Core.Bool.{Bool}
 use mathlib.Core.List.{List}
 use lib.ListN.{getD, set}
 use lib.Dec.{eqb}
@@ -10,7 +11,8 @@ use mir.Val.{Fits}
 use borrow.Author.Tests.{lt-ltb, le-ltb, eq-eqb, ne-eqb}
 use Rattle.meaning.specs.Limits.{format}
 use Rattle.meaning.proofs.TestLaws.{by-test, pick-true, pick-false}
-use Rattle.reading.specs.Noted.{line-place, next-line, first-line, before, appended, raised, pair-noted, sensed, sensed-from, sensed-to, run-lines, slots, line-numbers}
+use Rattle.reading.specs.Bits.{bit-of, with-bit}
+use Rattle.reading.specs.Noted.{line-place, next-line, first-line, before, appended, raised, word-bits, pair-slot, pair-there, bit-noted, pair-noted, sensed-from, sensed-to, run-lines, slots, line-numbers}
 
 -- A LINE.
 pub before-first : (last a : ℕ) → last ≡ 0 → line-numbers + a ≡ before last a
@@ -59,6 +61,12 @@ module _ (slot v x : ℕ) (t : List ℕ) (read : x ≡ getD t slot 0) where
   unfolding raised
   raise-not h = sym (pick-false _ _ _ (le-ltb (getD t slot 0) v (rw (sym read) h)))
 
-pub pair-note : (a f : ℕ) (t u v w : List ℕ) → u ≡ set t (sensed + (format .fluents * a + f)) 1 → v ≡ raised (sensed-from + a) (format .fluents - f) u → w ≡ raised (sensed-to + a) (f + 1) v → w ≡ pair-noted a f t
-unfolding pair-noted
-pair-note a f t u v w d e g = g ∙ ap (raised (sensed-to + a) (f + 1)) (e ∙ ap (raised (sensed-from + a) (format .fluents - f)) d)
+module _ (a f slot : ℕ) (t : List ℕ) (at : slot ≡ pair-slot a f) where
+  pub pair-got : (r : Bool) → r ≡ bit-of (getD t slot 0) (f % word-bits) → r ≡ pair-there t a f
+  unfolding pair-there
+  pair-got r e = e ∙ ap (λ (j : ℕ). bit-of (getD t j 0) (f % word-bits)) at
+
+  pub pair-note : (word : ℕ) (u v : List ℕ) → word ≡ with-bit (getD t slot 0) (f % word-bits) → u ≡ raised (sensed-from + a) (format .fluents - f) (set t slot word) → v ≡ raised (sensed-to + a) (f + 1) u
+      → v ≡ pair-noted a f t
+  unfolding pair-noted bit-noted
+  pair-note word u v d e g = g ∙ rw (e, d, at)

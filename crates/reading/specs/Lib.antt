@@ -1,3 +1,4 @@
+pub mod Bits
 pub mod Noted
 pub mod Listed
 pub mod Planned

@@ -1,5 +1,6 @@
 -- What reading leaves in its notes, as a function of what the definitions read. Lines are numbered from 1 in file order, so that 0 is no line; items from 0.
-use Prim.Native.Nat.{ℕ, _+_, _-_, _*_}
+use Prim.Native.Nat.{ℕ, _+_, _-_, _*_, _/_, _%_}
+use mathlib.Core.Bool.{Bool}
 use mathlib.Core.List.{List, [], _∷_}
 use lib.ListN.{length, getD, set, replicate}
 use lib.Dec.{eqb, ltb}
@@ -9,6 +10,7 @@ use Rattle.meaning.specs.Requests.{Effect, Executability, Knowledge, Table}
 use Rattle.meaning.specs.Reading.{Got, got, fault, next, literals, count-at, list-at, effect-at, executability-at, knowledge-at, section-at}
 use Rattle.bytes.specs.declared.bytes.Read.{Read}
 use Rattle.bytes.specs.Read.{effect-read, executability-read, knowledge-read}
+use Rattle.reading.specs.Bits.{bit-of, with-bit}
 use Rattle.reading.specs.declared.sections.Section as Code
 use Rattle.reading.specs.declared.sections.Section.the-variants.{Effects, Executability as Runs, Knowledge as Senses}
 use Rattle.bytes.specs.declared.lists.Passed.{Passed}
@@ -84,16 +86,33 @@ knowledge-slot = plan-slot + 4
 abbrev pub goals-slot : ℕ
 goals-slot = plan-slot + 5
 
--- Action a and fluent f, with a row of fluents for each action: 1 where a knowledge line has both.
+-- Action a and fluent f, with a row of fluents for each action: a bit, which is there where a knowledge line has both. A slot has as many bits
+-- as its number has, and so many fluents of one action.
 abbrev pub sensed : ℕ
 sensed = plan-slot + 8
 
-abbrev pub pairs : ℕ
-pairs = format .actions * format .fluents
+abbrev pub word-bits : ℕ
+word-bits = 16
+
+abbrev pub row-words : ℕ
+row-words = format .fluents / word-bits
+
+abbrev pub sensed-words : ℕ
+sensed-words = format .actions * row-words
+
+abbrev pub pair-slot : (action fluent : ℕ) → ℕ
+pair-slot a f = sensed + (row-words * a + f / word-bits)
+
+unfoldable pub pair-there : (t : List ℕ) (action fluent : ℕ) → Bool
+pair-there t a f = bit-of (getD t (pair-slot a f) 0) (f % word-bits)
 
 -- How many slots there are.
 abbrev pub slots : ℕ
-slots = sensed + pairs
+slots = sensed + sensed-words
+
+-- How many pairs of an action and a fluent there are.
+abbrev pub pairs : ℕ
+pairs = format .actions * format .fluents
 
 -- READING WITH THE NOTES. What was read and the notes afterwards; at a fault the notes are of no use.
 module _ {A : Type 0} where
@@ -116,8 +135,11 @@ unfoldable pub raised : (slot value : ℕ) → List ℕ → List ℕ
 raised slot v t = pick (ltb (getD t slot 0) v) (λ _. set t slot v) (λ _. t)
 
 -- An action senses a fluent.
+unfoldable pub bit-noted : (action fluent : ℕ) → List ℕ → List ℕ
+bit-noted a f t = set t (pair-slot a f) (with-bit (getD t (pair-slot a f) 0) (f % word-bits))
+
 unfoldable pub pair-noted : (action fluent : ℕ) → List ℕ → List ℕ
-pair-noted a f t = raised (sensed-to + a) (f + 1) (raised (sensed-from + a) (format .fluents - f) (set t (sensed + (format .fluents * a + f)) 1))
+pair-noted a f t = raised (sensed-to + a) (f + 1) (raised (sensed-from + a) (format .fluents - f) (bit-noted a f t))
 
 -- A section of lines, what a line of it is, and what is noted of line k.
 pub data Section : Type 0 where

@@ -3,7 +3,9 @@ ghost use Prim.Native.Nat.{_≤_, _<_};
 ghost use lib.ListN.{length, getD, set};
 ghost use Rattle.meaning.specs.Limits.{format};
 ghost use Rattle.reading.specs.Noted;
-ghost use Rattle.reading.specs.Noted.{line-place, next-line, first-line, appended, pair-noted, raised, run-lines, slots, line-numbers};
+ghost use Rattle.reading.specs.Noted.{line-place, next-line, first-line, appended, raised, pair-slot, pair-there, pair-noted, run-lines, slots, line-numbers};
+use super::bits::has_bit;
+use super::bits::with_bit;
 use bytes::bytes::wide;
 use bytes::limits;
 
@@ -44,9 +46,16 @@ pub const GOALS: usize = PLAN + 5;
 
 pub const SENSED: usize = PLAN + 8;
 
-pub const PAIRS: usize = limits::ACTIONS * limits::FLUENTS;
+pub const WORD_BITS: usize = 16;
 
-pub const SLOTS: usize = SENSED + PAIRS;
+pub const ROW_WORDS: usize = limits::FLUENTS / WORD_BITS;
+
+pub const SENSED_WORDS: usize = limits::ACTIONS * ROW_WORDS;
+
+pub const SLOTS: usize = SENSED + SENSED_WORDS;
+
+// How many pairs of an action and a fluent there are.
+pub const PAIRS: usize = limits::ACTIONS * limits::FLUENTS;
 
 pub type Notes = [u16; SLOTS];
 
@@ -143,13 +152,33 @@ fn raise(t: &mut Notes, slot: usize, value: usize)
     }
 }
 
+// The slot that has the bit of action a and fluent f.
+fn pair_slot(a: usize, f: usize) -> usize
+    requires { ⌜ a < format .actions ⌝ }
+    requires { ⌜ f < format .fluents ⌝ }
+    ensures { λ r. ⌜ r ≡ pair-slot a f ⌝ }
+{
+    SENSED + (ROW_WORDS * a + f / WORD_BITS)
+}
+
+// It is noted that action a senses fluent f.
+pub fn is_noted(t: &Notes, a: usize, f: usize) -> bool
+    requires { ⌜ a < format .actions ⌝ }
+    requires { ⌜ f < format .fluents ⌝ }
+    ensures { λ r. ⌜ r ≡ pair-there (now (t .entry)) a f ⌝ }
+{
+    let slot = pair_slot(a, f);
+    has_bit(t[slot], f % WORD_BITS)
+}
+
 // Action a senses fluent f.
 pub fn note_pair(t: &mut Notes, a: usize, f: usize)
     requires { ⌜ a < format .actions ⌝ }
     requires { ⌜ f < format .fluents ⌝ }
     ensures { λ _. ⌜ now (t .exit) ≡ pair-noted a f (now (t .entry)) ⌝ }
 {
-    put(t, SENSED + (limits::FLUENTS * a + f), 1);
+    let slot = pair_slot(a, f);
+    t[slot] = with_bit(t[slot], f % WORD_BITS);
     raise(t, SENSED_FROM + a, limits::FLUENTS - f);
     raise(t, SENSED_TO + a, f + 1);
 }

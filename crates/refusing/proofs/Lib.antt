@@ -1,4 +1,5 @@
 pub mod Laws16
+pub mod AgreeLaws
 pub mod Laws17
 pub mod Laws18
 pub mod PlanOverlaps

@@ -7,9 +7,9 @@ use lib.ListN.{length, getD}
 use mir.Syntax.{w8, w64}
 use mir.Val.{Fits}
 use Rattle.meaning.specs.Limits.{format}
-use Rattle.meaning.specs.Requests.{Effect, Knowledge, Request}
+use Rattle.meaning.specs.Requests.{Effect, Knowledge, Table, Request}
 use Rattle.meaning.specs.Reading.{Got, got, fault, next, read-request}
-use Rattle.meaning.specs.Refusals.{contradiction-in, mixed-in, overlap-in, refuse, settled}
+use Rattle.meaning.specs.Refusals.{contradictory, first-against, contradiction-in, mixed-in, overlap-in, refuse, settled}
 use Rattle.meaning.proofs.SettledLaws.{got-same, settled-is}
 use Rattle.bytes.specs.declared.lists.Passed.{Passed}
 use Rattle.bytes.specs.declared.lists.Passed.the-variants.{To, Fault as Stop}
@@ -21,11 +21,12 @@ use Rattle.reading.specs.Planned.{items-of}
 use Rattle.reading.specs.Requested.{request-noted}
 use Rattle.finding.specs.Places.{found}
 use Rattle.finding.specs.LinesHere.{effects-in, Effects-here, knowledge-in, Knowledge-here, Acting}
+use Rattle.finding.specs.TablesHere.{table-in, Runs-here}
 use Rattle.refusing.specs.Refusal17.{Mixed-found}
 use Rattle.finding.specs.ReadHere.{blank, Read-here}
 use Rattle.refusing.specs.Settled.{past-17, past-18}
 use Rattle.reading.proofs.SectionLaws.{noting-got, noting-fault}
-use Rattle.finding.proofs.ReadLaws.{Parts, parts, effects-counted, effects-are, effects-stand, knowledge-counted, plan-noted-at, items-noted, acting, knowledge-stands, effects-few, knowledge-few, request-held}
+use Rattle.finding.proofs.ReadLaws.{Parts, parts, effects-counted, effects-are, effects-stand, knowledge-counted, plan-noted-at, items-noted, acting, knowledge-stands, effects-few, knowledge-few, request-held, table-is, runs-here}
 use Rattle.finding.specs.PlansHeld.{Plan-held, Some-plan}
 use Rattle.refusing.specs.Refusal18.{Overlap-found}
 use Rattle.finding.proofs.FoundLaws.{blank-long, blank-slot, found-at, found-none}
@@ -60,21 +61,29 @@ module _ (s : List ℕ) (bytes : (i : ℕ) → Fits w8 (getD s i 0)) (t : List �
         subst (λ (u : List ℕ). Effects-here s u count) (sym (here .noted))
         (subst (Effects-here s (request-noted (here .request) blank)) (sym count-16) (effects-stand s small (here .request) whole blank blank-long))
 
-    module _ (f : Found) (answer : f ≡ found (contradiction-in [] (effects-in s t 0 count))) where
-      sought-16 : f ≡ found (contradiction-in [] (here .request .table .effects))
+    pub runs-16 : Runs-here s t
+    runs-16 = subst (Runs-here s) (sym (here .noted)) (runs-here s small (here .request) whole blank blank-long blank-slot)
+
+    module _ (f : Found) (answer : f ≡ found (first-against (contradictory (table-in s)) [] (effects-in s t 0 count))) where
+      abbrev sought : Table → List Effect → Found
+      sought x es = found (first-against (contradictory x) [] es)
+
+      sought-16 : f ≡ found (contradiction-in (here .request .table))
+      unfolding contradiction-in
       sought-16 =
           answer
-          ∙ ap (λ (u : List ℕ). found (contradiction-in [] (effects-in s u 0 count))) (here .noted)
-          ∙ ap (λ (n : ℕ). found (contradiction-in [] (effects-in s (request-noted (here .request) blank) 0 n))) count-16
-          ∙ ap (λ (es : List Effect). found (contradiction-in [] es)) (effects-are s small (here .request) whole blank blank-long)
+          ∙ ap (λ (u : List ℕ). sought (table-in s) (effects-in s u 0 count)) (here .noted)
+          ∙ ap (λ (n : ℕ). sought (table-in s) (effects-in s (request-noted (here .request) blank) 0 n)) count-16
+          ∙ ap (sought (table-in s)) (effects-are s small (here .request) whole blank blank-long)
+          ∙ ap (λ (x : Table). sought x (here .request .table .effects)) (table-is s small (here .request) whole)
 
       pub at-16 : (p : ℕ) → f ≡ At p → Stop 16 p ≡ passed (settled format s)
       unfolding settled next refuse passed
-      at-16 p g = rw (here .reads, found-at (contradiction-in [] (here .request .table .effects)) f sought-16 p g)
+      at-16 p g = rw (here .reads, found-at (contradiction-in (here .request .table)) f sought-16 p g)
 
       pub past-16 : (r : Passed) → f ≡ Nowhere → r ≡ passed (past-17 s) → r ≡ passed (settled format s)
       unfolding settled past-17 next refuse
-      past-16 r g h = h ∙ ap passed (rw (here .reads, found-none (contradiction-in [] (here .request .table .effects)) f sought-16 g))
+      past-16 r g h = h ∙ ap passed (rw (here .reads, found-none (contradiction-in (here .request .table)) f sought-16 g))
 
   -- 17.
   module _ (count plan : ℕ) (is : count ≡ getD t knowledge-slot 0) (at-plan : plan ≡ getD t plan-slot 0) where

@@ -1,10 +1,14 @@
--- 16: which effects share a bucket, as the search for contradictory ones finds them.
+-- 16: which effects share a bucket, as the search for contradictory ones finds them, and the executability lines that agree with two of them.
 use Prim.Native.Nat.{ℕ, zero, suc, _+_, _*_, _/_, _%_, _≤_, _<_}
 use mathlib.Core.Path.{_≡_}
+use mathlib.Core.Bool.{Bool}
 use mathlib.Core.List.{List, [], _∷_}
 use lib.ListN.{length, getD, set}
 use Rattle.meaning.specs.Limits.{format}
-use Rattle.meaning.specs.Requests.{Effect}
+use Rattle.meaning.specs.Tests.{both, some-of, each-of}
+use Rattle.meaning.specs.Requests.{Effect, Executability, Table}
+use Rattle.meaning.specs.Lines.{executability-of}
+use Rattle.meaning.specs.States.{State, possible}
 use Rattle.reading.specs.Noted.{line-numbers}
 use Rattle.finding.specs.LinesHere.{effect-from, place-in}
 
@@ -12,6 +16,13 @@ use Rattle.finding.specs.LinesHere.{effect-from, place-in}
 unfoldable pub effects-before : List ℕ → List ℕ → ℕ → List Effect
 effects-before s t zero = []
 effects-before s t (suc k) = effect-from s (place-in t (k + 1)) ∷ effects-before s t k
+
+-- The body is possible in both states, and some executability line of the action has such a body.
+unfoldable pub agreeing : (one other : State) → (body : List ℕ) → Bool
+agreeing one other b = both (each-of (possible one) b) (each-of (possible other) b)
+
+unfoldable pub agreeing-lines : Table → (a : ℕ) → (one other : State) → Bool
+agreeing-lines t a one other = some-of (λ (x : Executability). agreeing one other (x .body)) (executability-of t a)
 
 -- The bucket of the effect at p. Effects of one action and fluent share it; others may, too.
 abbrev pub buckets : ℕ

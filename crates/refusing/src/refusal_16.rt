@@ -1,15 +1,16 @@
 ghost use mathlib.Core.Path.{_≡_};
 ghost use Prim.Native.Nat.{_+_, _≤_, _<_};
 ghost use Rattle.meaning.specs.Tests.{some-of};
-ghost use Rattle.meaning.specs.Limits.{format};
-ghost use Rattle.meaning.specs.Refusals.{contradictory, contradiction-in};
+ghost use Rattle.meaning.specs.Limits.{format, all-literals};
+ghost use Rattle.meaning.specs.Refusals.{contradictory, first-against};
 ghost use Rattle.meaning.specs.States.{state-of};
 ghost use mathlib.Core.List.{[]};
-ghost use Rattle.reading.specs.Listed.{listed};
+ghost use Rattle.reading.specs.Listed.{listed, List-here};
 ghost use Rattle.reading.specs.Noted.{line-numbers};
 ghost use Rattle.finding.specs.Places.{found};
 ghost use Rattle.finding.specs.LinesHere.{effect-from, Effect-here, place-in, effects-in, Effects-here};
-ghost use Rattle.refusing.specs.Refusal16.{effects-before, buckets, bucket-at, Linked, bucket-linked};
+ghost use Rattle.finding.specs.TablesHere.{table-in, Runs-here};
+ghost use Rattle.refusing.specs.Refusal16.{effects-before, agreeing, agreeing-lines, buckets, bucket-at, Linked, bucket-linked};
 use bytes::bytes::wide;
 use bytes::limits;
 use finding::places::Found;
@@ -19,7 +20,9 @@ use reading::marks::each_holds;
 use reading::marks::state_of;
 use reading::notes;
 use reading::notes::Notes;
+use reading::notes::first_line;
 use reading::notes::line_place;
+use reading::notes::next_line;
 
 // Effects of one action and fluent share a bucket, and others may fall into it too: a slot for each of all pairs would take longer to clear
 // than the effects of a small table take to compare.
@@ -50,12 +53,44 @@ fn link_bucket(same: &mut Links, bucket: usize, k: usize)
     same[last] = k as u8;
 }
 
-// The effect at p, whose body the state holds, contradicts the one at q.
-fn contradicts(s: &[u8], held: &Marks, p: usize, q: usize) -> bool
+// The body at p is possible in both states.
+fn agrees(s: &[u8], one: &Marks, other: &Marks, p: usize) -> bool
+    requires { ⌜ List-here all-literals (now s) p ⌝ }
+    ensures { λ r. ⌜ r ≡ agreeing (now (one .entry)) (now (other .entry)) (listed (now (s .entry)) p) ⌝ }
+{
+    let first = each_holds(Test::Possible, one, s, p);
+    if first {
+        return each_holds(Test::Possible, other, s, p);
+    }
+    false
+}
+
+// Some executability line of the action has a body that is possible in both states.
+fn runs_with(s: &[u8], t: &Notes, a: usize, one: &Marks, other: &Marks) -> bool
+    requires { ⌜ Runs-here (now s) (now t) ⌝ }
+    requires { ⌜ a < format .actions ⌝ }
+    ensures { λ r. ⌜ r ≡ agreeing-lines (table-in (now (s .entry))) a (now (one .entry)) (now (other .entry)) ⌝ }
+{
+    let mut k = first_line(t, notes::EXECUTABILITY, a);
+    while 0 < k {
+        let p = line_place(t, notes::EXECUTABILITY, k);
+        let body = p + 1;
+        let agreed = agrees(s, one, other, body);
+        if agreed {
+            return true;
+        }
+        k = next_line(t, notes::EXECUTABILITY, k);
+    }
+    false
+}
+
+// The effect at p, whose body the state holds, contradicts the one at q. The executability lines are asked only of two that clash.
+fn contradicts(s: &[u8], t: &Notes, held: &Marks, p: usize, q: usize) -> bool
+    requires { ⌜ Runs-here (now s) (now t) ⌝ }
     requires { ⌜ Effect-here (now s) p ⌝ }
     requires { ⌜ Effect-here (now s) q ⌝ }
     requires { ⌜ now held ≡ state-of format (listed (now s) (p + 2)) ⌝ }
-    ensures { λ r. ⌜ r ≡ contradictory (effect-from (now (s .entry)) p) (effect-from (now (s .entry)) q) ⌝ }
+    ensures { λ r. ⌜ r ≡ contradictory (table-in (now (s .entry))) (effect-from (now (s .entry)) p) (effect-from (now (s .entry)) q) ⌝ }
 {
     if s[p] != s[q] {
         return false;
@@ -69,15 +104,22 @@ fn contradicts(s: &[u8], held: &Marks, p: usize, q: usize) -> bool
         return false;
     }
     let body = q + 2;
-    each_holds(Test::Possible, held, s, body)
+    let together = each_holds(Test::Possible, held, s, body);
+    if together {
+        let other_held = state_of(s, body);
+        let a = wide(s[p]);
+        return runs_with(s, t, a, held, &other_held);
+    }
+    false
 }
 
 // Effect k + 1 contradicts one of the first k, sought among those in its bucket.
 fn contradicted(s: &[u8], t: &Notes, same: &Links, k: usize) -> bool
     requires { ⌜ k < 255 ⌝ }
+    requires { ⌜ Runs-here (now s) (now t) ⌝ }
     requires { ⌜ Effects-here (now s) (now t) (k + 1) ⌝ }
     requires { ⌜ Linked (now s) (now t) (now same) k ⌝ }
-    ensures { λ r. ⌜ r ≡ some-of (contradictory (effect-from (now (s .entry)) (place-in (now (t .entry)) (k + 1)))) (effects-before (now (s .entry)) (now (t .entry)) k) ⌝ }
+    ensures { λ r. ⌜ r ≡ some-of (contradictory (table-in (now (s .entry))) (effect-from (now (s .entry)) (place-in (now (t .entry)) (k + 1)))) (effects-before (now (s .entry)) (now (t .entry)) k) ⌝ }
 {
     let number = k + 1;
     let p = line_place(t, notes::EFFECTS, number);
@@ -91,7 +133,7 @@ fn contradicted(s: &[u8], t: &Notes, same: &Links, k: usize) -> bool
     let held = state_of(s, body);
     while 0 < j {
         let q = line_place(t, notes::EFFECTS, j);
-        let found = contradicts(s, &held, p, q);
+        let found = contradicts(s, t, &held, p, q);
         if found {
             return true;
         }
@@ -103,8 +145,9 @@ fn contradicted(s: &[u8], t: &Notes, same: &Links, k: usize) -> bool
 // 16: the first effect that contradicts one before it.
 pub fn contradiction(s: &[u8], t: &Notes, count: usize) -> Found
     requires { ⌜ count ≤ 255 ⌝ }
+    requires { ⌜ Runs-here (now s) (now t) ⌝ }
     requires { ⌜ Effects-here (now s) (now t) count ⌝ }
-    ensures { λ r. ⌜ r ≡ found (contradiction-in [] (effects-in (now (s .entry)) (now (t .entry)) 0 count)) ⌝ }
+    ensures { λ r. ⌜ r ≡ found (first-against (contradictory (table-in (now (s .entry)))) [] (effects-in (now (s .entry)) (now (t .entry)) 0 count)) ⌝ }
 {
     let mut same = [0u8; LINKED_SLOTS];
     let mut k = 0;

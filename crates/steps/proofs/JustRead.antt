@@ -1,13 +1,13 @@
 -- A request that was read from the start of the input, into notes that held nothing, and that 16 let pass, is at hand: its sections stand where they were read, the
 -- order of its lines, the slots of what is sensed and of the plan, and the places are as their sections left them. Assumes nothing.
-use Prim.Native.Nat.{ℕ, _+_, _*_, _≤_, _<_}
+use Prim.Native.Nat.{ℕ, _+_, _%_, _≤_, _<_}
 use native.Mathlib.Omega.{arith}
 use mathlib.Core.Path.{_≡_, refl, sym, _∙_, ap, subst}
 use mathlib.Core.Bool.{true, false, false≢true}
 use mathlib.Core.List.{List}
 use lib.ListN.{length, getD, set, length-set}
 use lib.Dec.{eqb, ltb}
-use borrow.Author.Tests.{ltb-true, lt-ltb, le-ltb, eq-eqb}
+use borrow.Author.Tests.{ltb-true, lt-ltb, eq-eqb}
 use Rattle.meaning.specs.Tests.{either}
 use Rattle.meaning.specs.Limits.{format}
 use Rattle.meaning.specs.Requests.{Knowledge, Table, Request}
@@ -17,17 +17,19 @@ use Rattle.meaning.specs.Refusals.{nowhere, contradiction-in}
 use Rattle.meaning.specs.Lines.{knowledge-of, sensing, senses}
 use Rattle.meaning.proofs.TestLaws.{same-test, some-has, has-some, some-those}
 use Rattle.meaning.proofs.PlaceLaws.{Request-held, read-held}
-use Rattle.reading.specs.Noted.{none-yet, count-slot, section-noted, table-noted, effect-lines, sensed-from, sensed-to, plan-slot, items-slot, goals-slot, sensed, slots, effects-slot, executability-slot, knowledge-slot}
+use Rattle.reading.specs.Bits.{bit-of}
+use Rattle.reading.specs.Noted.{none-yet, count-slot, section-noted, table-noted, effect-lines, sensed-from, sensed-to, plan-slot, items-slot, goals-slot, word-bits, pair-slot, pair-there, slots, effects-slot, executability-slot, knowledge-slot}
 use Rattle.reading.specs.Planned.{items-of, plan-noted}
 use Rattle.reading.specs.Requested.{goals-place, plan-place, places-noted, request-noted}
 use Rattle.reading.specs.Listed.{listed}
+use Rattle.reading.proofs.BitLaws.{no-bit}
 use Rattle.reading.proofs.PlanSizes.{sequence-read}
 use Rattle.finding.specs.ReadHere.{blank}
 use Rattle.finding.proofs.KeptLaws.{kept}
 use Rattle.finding.proofs.HereLaws.{list-here}
-use Rattle.finding.proofs.ReadLaws.{Parts, parts, knowledge-good, tabled-long, with-runs, with-knowledge, runs-long, after-sections, effects-ordered, runs-ordered, items-noted, plan-noted-at, request-held}
+use Rattle.finding.proofs.ReadLaws.{Parts, parts, knowledge-good, tabled-long, with-runs, with-knowledge, runs-long, after-sections, effects-ordered, runs-ordered, items-noted, plan-noted-at, request-held, table-is as table-there}
 use Rattle.finding.proofs.FoundLaws.{blank-long, blank-slot}
-use Rattle.steps.specs.Held.{table-of, plan-of, table-in, plan-in, goals-in, whether-in, request-in}
+use Rattle.steps.specs.Held.{plan-of, table-in, plan-in, goals-in, whether-in, request-in}
 use Rattle.steps.specs.LinesFound.{run-places, effect-places, Senses}
 use Rattle.steps.specs.Rests.{Nexts}
 use Rattle.steps.specs.AtHand.{At-hand}
@@ -45,8 +47,7 @@ module _ (s : List ℕ) (bytes : (i : ℕ) → getD s i 0 < 256) (x : Request) (
 
   -- THE REQUEST that is held is the one that was read.
   table-is : table-in s ≡ x .table
-  unfolding table-in table-of
-  table-is = ap table-of (each .table)
+  table-is = table-there s bytes x whole
 
   plan-slot-is : getD (request-noted x blank) plan-slot 0 ≡ plan-place x
   plan-slot-is = plan-noted-at s bytes x whole blank blank-long ∙ sym (whole .placed)
@@ -82,9 +83,9 @@ module _ (s : List ℕ) (bytes : (i : ℕ) → getD s i 0 < 256) (x : Request) (
 
   -- What an action senses.
   knowledge-sensed : (a : ℕ) → a < format .actions → Sensed (request-noted x blank) a (seen-after a (λ _. false) (x .table .knowledge))
-  unfolding with-knowledge section-noted count-slot
+  unfolding with-knowledge section-noted count-slot pair-there
   knowledge-sensed a small = record {
-    slot = λ f low. ap (ltb 0) (same (sensed + (format .fluents * a + f)) (omega arith) (λ e. omega arith) (λ e. omega arith) (λ e. omega arith)) ∙ after .slot f low;
+    pair = λ f low. ap (λ (w : ℕ). bit-of w (f % word-bits)) (same (pair-slot a f) (omega arith) (λ e. omega arith) (λ e. omega arith) (λ e. omega arith)) ∙ after .pair f low;
     most = rw from-same (after .most);
     from = λ f e. rw from-same (after .from f e);
     to = λ f e. rw to-same (after .to f e);
@@ -115,7 +116,7 @@ module _ (s : List ℕ) (bytes : (i : ℕ) → getD s i 0 < 256) (x : Request) (
 
       nothing : Sensed start a (λ _. false)
       nothing = record {
-        slot = λ f low. ap (ltb 0) (empty (sensed + (format .fluents * a + f)) (omega arith) (omega arith) (λ e. omega arith) (λ e. omega arith) (λ e. omega arith)) ∙ le-ltb 0 0 (omega arith);
+        pair = λ f low. ap (λ (w : ℕ). bit-of w (f % word-bits)) (empty (pair-slot a f) (omega arith) (omega arith) (λ e. omega arith) (λ e. omega arith) (λ e. omega arith)) ∙ no-bit (f % word-bits);
         most = omega (arith, from-empty);
         from = λ f e. absurd (false≢true e);
         to = λ f e. absurd (false≢true e);
@@ -140,7 +141,7 @@ module _ (s : List ℕ) (bytes : (i : ℕ) → getD s i 0 < 256) (x : Request) (
   unfolding senses sensing
   senses-there a small =
       record {
-        slot = λ f low. sensed .slot f low ∙ senses-is a f;
+        pair = λ f low. sensed .pair f low ∙ senses-is a f;
         most = sensed .most;
         from = λ f e. sensed .from f (senses-is a f ∙ e);
         to = λ f e. sensed .to f (senses-is a f ∙ e);

@@ -1,5 +1,5 @@
 -- Marks that are set, and the sensed fluents that are unknown: what the whole gives is what those from fluent f up give. Assumes nothing.
-use Prim.Native.Nat.{ℕ, zero, suc, _+_, _-_, _*_, _≤_, _<_}
+use Prim.Native.Nat.{ℕ, zero, suc, _+_, _-_, _≤_, _<_}
 use native.Mathlib.Omega.{arith}
 use native.Mathlib.Decide.{ℕ-discrete, decLt}
 use mathlib.Core.Path.{_≡_, refl, sym, _∙_, ap, subst}
@@ -11,7 +11,7 @@ use lib.Seq.{getD-set-same, getD-set-other, drop-cons, drop-set-lt}
 use lib.Dec.{eqb, ltb}
 use mir.Syntax.{w64}
 use mir.Val.{Fits}
-use borrow.Author.Tests.{eqb-false, eq-eqb, lt-ltb, le-ltb}
+use borrow.Author.Tests.{eqb-false, eq-eqb}
 use Rattle.meaning.specs.Tests.{both, either, fails, pick}
 use Rattle.meaning.specs.Limits.{format}
 use Rattle.meaning.specs.Literals.{says-true, says-false}
@@ -23,7 +23,7 @@ use Rattle.meaning.proofs.PickLaws.{pick-has}
 use Rattle.meaning.proofs.LiteralLaws.{fluent-true, fluent-false}
 use Rattle.meaning.proofs.StateLaws.{mark-true, mark-false, known-true, known-false, after-length}
 use Rattle.meaning.proofs.PairLaws.{after-mark}
-use Rattle.reading.specs.Noted.{sensed-from, sensed-to, sensed, slots}
+use Rattle.reading.specs.Noted.{sensed-from, sensed-to, pair-there}
 use Rattle.steps.specs.Held.{table-in}
 use Rattle.steps.specs.AtHand.{At-hand, Marked}
 use Rattle.steps.specs.LinesFound.{Senses}
@@ -203,8 +203,8 @@ module _ (s t : List ℕ) (a : ℕ) (here : At-hand s t) (small : a < format .ac
   pub sensing-is : (end : ℕ) → end ≡ getD t (sensed-to + a) 0 → ltb 0 end ≡ sensing (table-in s) a
   sensing-is end at = ap (ltb 0) at ∙ served .any
 
-  pub looks-is : (f there : ℕ) → f < format .fluents → there ≡ getD t (sensed + (format .fluents * a + f)) 0 → ltb 0 there ≡ senses (knowledge-of (table-in s) a) f
-  looks-is f there near at = ap (ltb 0) at ∙ served .slot f near
+  pub looks-is : (f : ℕ) (there : Bool) → f < format .fluents → there ≡ pair-there t a f → there ≡ senses (knowledge-of (table-in s) a) f
+  looks-is f there near at = at ∙ served .pair f near
 
   module _ (end f : ℕ) (at : end ≡ getD t (sensed-to + a) 0) (more : f < end) where
     pub fluent-near : f < format .fluents
@@ -213,29 +213,17 @@ module _ (s t : List ℕ) (a : ℕ) (here : At-hand s t) (small : a < format .ac
     pub fluent-next-fits : Fits w64 (f + 1)
     fluent-next-fits = let near = fluent-near in record { fits = omega arith }
 
-    pub pair-fits : Fits w64 (format .fluents * a + f)
-    pair-fits = let near = fluent-near in record { fits = omega arith }
-
-    pub sensed-fits : Fits w64 (sensed + (format .fluents * a + f))
-    sensed-fits = let near = fluent-near in record { fits = omega arith }
-
-    pub sensed-there : sensed + (format .fluents * a + f) < slots
-    sensed-there = let near = fluent-near in omega arith
-
     module _ (marks : State) (marked : Marked marks) (whole : ℕ) (so-far : whole ≡ first-of (unknown-above (table-in s) a marks f)) where
       pub look-marked : (getD marks f 0 ≡ 0 → ⊥) → whole ≡ first-of (unknown-above (table-in s) a marks (f + 1))
       look-marked some = so-far ∙ ap first-of (unknown-marked (table-in s) a marks marked f fluent-near some)
 
-      module _ (x : ℕ) (read : x ≡ getD t (sensed + (format .fluents * a + f)) 0) where
-        slot-is : ltb 0 x ≡ senses (knowledge-of (table-in s) a) f
-        slot-is = ap (ltb 0) read ∙ served .slot f fluent-near
-
-        pub look-found : getD marks f 0 ≡ 0 → 0 < x → f ≡ whole
+      module _ (there : Bool) (read : there ≡ pair-there t a f) where
+        pub look-found : getD marks f 0 ≡ 0 → there ≡ true → f ≡ whole
         unfolding first-of
-        look-found none some = sym (so-far ∙ ap first-of (unknown-here (table-in s) a marks marked f fluent-near (sym slot-is ∙ lt-ltb 0 x some) none))
+        look-found none some = sym (so-far ∙ ap first-of (unknown-here (table-in s) a marks marked f fluent-near (sym (looks-is f there fluent-near read) ∙ some) none))
 
-        pub look-unsensed : x ≤ 0 → whole ≡ first-of (unknown-above (table-in s) a marks (f + 1))
-        look-unsensed none = so-far ∙ ap first-of (unknown-unsensed (table-in s) a marks marked f fluent-near (sym slot-is ∙ le-ltb 0 x none))
+        pub look-unsensed : there ≡ false → whole ≡ first-of (unknown-above (table-in s) a marks (f + 1))
+        look-unsensed none = so-far ∙ ap first-of (unknown-unsensed (table-in s) a marks marked f fluent-near (sym (looks-is f there fluent-near read) ∙ none))
 
   module _ (end f : ℕ) (at : end ≡ getD t (sensed-to + a) 0) (done : end ≤ f) where
     pub look-done : (marks : State) (whole : ℕ) → whole ≡ first-of (unknown-above (table-in s) a marks f) → format .fluents ≡ whole

@@ -6,15 +6,15 @@ use mathlib.Core.Path.{_≡_, refl, sym, _∙_, ap, subst}
 use mathlib.Core.List.{List}
 use lib.ListN.{length, getD}
 use Rattle.meaning.specs.Tests.{Has}
-use Rattle.meaning.specs.Limits.{format, all-literals}
-use Rattle.meaning.specs.Requests.{Executability, Knowledge, Table, Request}
+use Rattle.meaning.specs.Limits.{format}
+use Rattle.meaning.specs.Requests.{Knowledge, Table, Request}
 use Rattle.meaning.specs.Reading
-use Rattle.meaning.specs.Reading.{Got, got, fault, literals, bound-of, below-at, list-at, body-at, executability-at, knowledge-at, placed, plan-at, table-at, request-at, read-request}
+use Rattle.meaning.specs.Reading.{Got, got, fault, literals, below-at, list-at, knowledge-at, placed, plan-at, table-at, request-at, read-request}
 use Rattle.meaning.proofs.SettledLaws.{got-same}
 use Rattle.meaning.proofs.RangeLaws.{not-refused, after-got, section-read}
 use Rattle.reading.specs.Planned.{bytes-of}
 use Rattle.reading.specs.Requested.{goals-place, plan-place}
-use Rattle.reading.specs.Listed.{listed, List-here}
+use Rattle.reading.specs.Listed.{listed}
 use Rattle.reading.proofs.SectionLaws.{number-got}
 use Rattle.reading.proofs.PlanSizes.{sequence-read, list-through}
 use Rattle.reading.proofs.RequestLaws.{placed-length}
@@ -22,19 +22,6 @@ use Rattle.finding.proofs.HereLaws.{bytes-length, list-here}
 use Rattle.finding.proofs.ReadLaws.{Table-parts}
 
 module _ (s : List ℕ) (t : Table) (p : ℕ) (whole : Table-parts s t p) where
-  pub run-stands : (r : Executability) → Has (t .executability) r → (listed s (r .place + 1) ≡ r .body) × List-here all-literals s (r .place + 1)
-  unfolding executability-at body-at bound-of
-  run-stands r has =
-      let w = section-read (executability-at format (t .fluents) (t .actions) s) s (whole .effects-end) (t .executability) (whole .runs-end) (whole .runs-read) r has in
-      after-got (below-at (t .actions) s (w .0)) _ (w .2) λ a i ea e₁.
-      after-got (body-at format (t .fluents) s i) _ e₁ λ b j eb e₂.
-      let after : w .0 + 1 ≡ i = number-got (t .actions) s (w .0) a i ea .2 in
-      let body = list-here literals (t .fluents) s 16 i b j eb in
-      let few = whole .few in
-      let is : record { place = w .0; action = a; body = b } ≡ r = got-same e₂ in
-      subst (λ (y : Executability). (listed s (y .place + 1) ≡ y .body) × List-here all-literals s (y .place + 1)) is
-      (rw after (body .0, body .1 all-literals (omega arith)))
-
   pub knowledge-small : (k : Knowledge) → Has (t .knowledge) k → k .fluent < format .fluents
   unfolding knowledge-at
   knowledge-small k has =

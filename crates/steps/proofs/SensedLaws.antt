@@ -1,21 +1,24 @@
--- What an action senses after the knowledge lines are noted one by one: the slot of a pair, and the smallest and the largest fluent of the
--- action. Noting a line touches the slots of its own pair and action alone, and the bounds only grow. Assumes nothing.
-use Prim.Native.Nat.{max, ℕ, _+_, _-_, _*_, _≤_, _<_}
+-- What an action senses after the knowledge lines are noted one by one: the bit of a pair, and the smallest and the largest fluent of the
+-- action. Noting a line touches the bit of its own pair and the slots of its own action alone, and the bounds only grow. Assumes nothing.
+use Prim.Native.Nat.{max, ℕ, _+_, _-_, _%_, _≤_, _<_}
 use native.Mathlib.Omega.{arith}
+use native.Mathlib.Decide.{ℕ-discrete}
 use mathlib.Core.Path.{_≡_, refl, sym, _∙_, ap, subst}
 use mathlib.Core.Bool.{Bool, true}
 use mathlib.Core.List.{List, [], _∷_}
 use mathlib.Core.Logic.{inl, inr, ⊎-elim}
-use lib.ListN.{length, getD, set, length-set}
+use lib.ListN.{length, getD, set}
 use lib.Seq.{getD-set-same}
 use lib.Dec.{eqb, ltb}
-use borrow.Author.Tests.{eqb-true, eqb-false, eq-eqb, ltb-true, ltb-false, lt-ltb}
+use borrow.Author.Tests.{eqb-true, eqb-false, eq-eqb, ltb-true, ltb-false}
 use Rattle.meaning.specs.Tests.{both, either, some-of, Has}
 use Rattle.meaning.specs.Limits.{format}
 use Rattle.meaning.specs.Requests.{Knowledge}
 use Rattle.meaning.proofs.TestLaws.{by-test, clash, same-test, both-left, both-right, both-true, either-left, either-right, either-split, pick-true, pick-false}
-use Rattle.reading.specs.Noted.{knowledge, raised, pair-noted, action-in, note-line, lines-noted, sensed-from, sensed-to, sensed, slots}
-use Rattle.finding.proofs.KeptLaws.{kept, raised-kept, raised-long, note-long}
+use Rattle.reading.specs.Bits.{bit-of, with-bit}
+use Rattle.reading.specs.Noted.{knowledge, raised, word-bits, pair-slot, pair-there, bit-noted, pair-noted, action-in, note-line, lines-noted, sensed-from, sensed-to, sensed, slots}
+use Rattle.reading.proofs.BitLaws.{bit-set, bit-kept}
+use Rattle.finding.proofs.KeptLaws.{raised-kept, raised-long, bit-noted-kept, bit-noted-long, note-long}
 
 raised-same : (slot v : ℕ) (t : List ℕ) → slot < length t → getD (raised slot v t) slot 0 ≡ max (getD t slot 0) v
 unfolding raised
@@ -31,50 +34,62 @@ raised-same slot v t inside =
 -- ONE LINE of action b and fluent g.
 module _ (b g : ℕ) (acts : b < format .actions) (fits : g < format .fluents) (t : List ℕ) (sized : length t ≡ slots) where
   one : List ℕ
-  one = set t (sensed + (format .fluents * b + g)) 1
+  one = bit-noted b g t
 
   one-long : length one ≡ slots
   unfolding one
-  one-long = length-set t (sensed + (format .fluents * b + g)) 1 ∙ sized
+  one-long = bit-noted-long b g t ∙ sized
 
   two-long : length (raised (sensed-from + b) (format .fluents - g) one) ≡ slots
   two-long = raised-long (sensed-from + b) (format .fluents - g) one ∙ one-long
 
-  pair-slot : (j : ℕ) → sensed ≤ j → getD (pair-noted b g t) j 0 ≡ getD one j 0
+  one-slot : (j : ℕ) → j < sensed → getD one j 0 ≡ getD t j 0
+  unfolding one
+  one-slot j near = bit-noted-kept j b g t (λ e. omega arith)
+
+  pair-slot-is : (j : ℕ) → sensed ≤ j → getD (pair-noted b g t) j 0 ≡ getD one j 0
   unfolding pair-noted one
-  pair-slot j far = raised-kept j (sensed-to + b) (g + 1) (raised (sensed-from + b) (format .fluents - g) one) (λ e. omega arith) ∙ raised-kept j (sensed-from + b) (format .fluents - g) one (λ e. omega arith)
+  pair-slot-is j far = raised-kept j (sensed-to + b) (g + 1) (raised (sensed-from + b) (format .fluents - g) one) (λ e. omega arith) ∙ raised-kept j (sensed-from + b) (format .fluents - g) one (λ e. omega arith)
 
-  pair-same : getD (pair-noted b g t) (sensed + (format .fluents * b + g)) 0 ≡ 1
-  unfolding one
-  pair-same = pair-slot (sensed + (format .fluents * b + g)) (omega arith) ∙ getD-set-same t (sensed + (format .fluents * b + g)) 1 0 (omega arith)
+  word-is : getD (pair-noted b g t) (pair-slot b g) 0 ≡ with-bit (getD t (pair-slot b g) 0) (g % word-bits)
+  unfolding one bit-noted
+  word-is = pair-slot-is (pair-slot b g) (omega arith) ∙ getD-set-same t (pair-slot b g) (with-bit (getD t (pair-slot b g) 0) (g % word-bits)) 0 (omega arith)
 
-  pair-other : (a f : ℕ) → a < format .actions → f < format .fluents → (b ≡ a → g ≡ f → ⊥) → getD (pair-noted b g t) (sensed + (format .fluents * a + f)) 0 ≡ getD t (sensed + (format .fluents * a + f)) 0
-  unfolding one
+  pair-same : pair-there (pair-noted b g t) b g ≡ true
+  unfolding pair-there
+  pair-same = ap (λ (w : ℕ). bit-of w (g % word-bits)) word-is ∙ bit-set (getD t (pair-slot b g) 0) (g % word-bits)
+
+  -- Another pair has another slot, or another bit of the same one.
+  pair-other : (a f : ℕ) → a < format .actions → f < format .fluents → (b ≡ a → g ≡ f → ⊥) → pair-there (pair-noted b g t) a f ≡ pair-there t a f
+  unfolding pair-there one
   pair-other a f small low other =
-      pair-slot (sensed + (format .fluents * a + f)) (omega arith)
-      ∙ kept t (sensed + (format .fluents * b + g)) (sensed + (format .fluents * a + f)) 1 (λ e. other (omega arith) (omega arith))
+      elim (ℕ-discrete (pair-slot a f) (pair-slot b g)) [
+        | yes e ↦
+            ap (λ (j : ℕ). bit-of (getD (pair-noted b g t) j 0) (f % word-bits)) e
+            ∙ ap (λ (w : ℕ). bit-of w (f % word-bits)) word-is
+            ∙ bit-kept (getD t (pair-slot b g) 0) (g % word-bits) (f % word-bits) (λ h. other (omega arith) (omega arith))
+            ∙ ap (λ (j : ℕ). bit-of (getD t j 0) (f % word-bits)) (sym e)
+        | no d ↦ ap (λ (w : ℕ). bit-of w (f % word-bits)) (pair-slot-is (pair-slot a f) (omega arith) ∙ bit-noted-kept (pair-slot a f) b g t d)
+      ]
 
   from-slot : (a : ℕ) → a < format .actions → getD (pair-noted b g t) (sensed-from + a) 0 ≡ getD (raised (sensed-from + b) (format .fluents - g) one) (sensed-from + a) 0
   unfolding pair-noted one
   from-slot a small = raised-kept (sensed-from + a) (sensed-to + b) (g + 1) (raised (sensed-from + b) (format .fluents - g) one) (λ e. omega arith)
 
   from-same : getD (pair-noted b g t) (sensed-from + b) 0 ≡ max (getD t (sensed-from + b) 0) (format .fluents - g)
-  unfolding one
   from-same =
       from-slot b acts
       ∙ raised-same (sensed-from + b) (format .fluents - g) one (omega (arith, one-long))
-      ∙ ap (λ (v : ℕ). max v (format .fluents - g)) (kept t (sensed + (format .fluents * b + g)) (sensed-from + b) 1 (λ e. omega arith))
+      ∙ ap (λ (v : ℕ). max v (format .fluents - g)) (one-slot (sensed-from + b) (omega arith))
 
   from-other : (a : ℕ) → a < format .actions → (b ≡ a → ⊥) → getD (pair-noted b g t) (sensed-from + a) 0 ≡ getD t (sensed-from + a) 0
-  unfolding one
   from-other a small other =
       from-slot a small
       ∙ raised-kept (sensed-from + a) (sensed-from + b) (format .fluents - g) one (λ e. other (omega arith))
-      ∙ kept t (sensed + (format .fluents * b + g)) (sensed-from + a) 1 (λ e. omega arith)
+      ∙ one-slot (sensed-from + a) (omega arith)
 
   to-below : (a : ℕ) → a < format .actions → getD (raised (sensed-from + b) (format .fluents - g) one) (sensed-to + a) 0 ≡ getD t (sensed-to + a) 0
-  unfolding one
-  to-below a small = raised-kept (sensed-to + a) (sensed-from + b) (format .fluents - g) one (λ e. omega arith) ∙ kept t (sensed + (format .fluents * b + g)) (sensed-to + a) 1 (λ e. omega arith)
+  to-below a small = raised-kept (sensed-to + a) (sensed-from + b) (format .fluents - g) one (λ e. omega arith) ∙ one-slot (sensed-to + a) (omega arith)
 
   to-same : getD (pair-noted b g t) (sensed-to + b) 0 ≡ max (getD t (sensed-to + b) 0) (g + 1)
   unfolding pair-noted one
@@ -88,7 +103,7 @@ module _ (b g : ℕ) (acts : b < format .actions) (fits : g < format .fluents) (
 
 -- WHAT THE TABLE SAYS of an action that senses just the fluents of `seen`.
 pub record Sensed (t : List ℕ) (a : ℕ) (seen : ℕ → Bool) : Type 0 where
-  pub slot : (f : ℕ) → f < format .fluents → ltb 0 (getD t (sensed + (format .fluents * a + f)) 0) ≡ seen f
+  pub pair : (f : ℕ) → f < format .fluents → pair-there t a f ≡ seen f
   pub most : getD t (sensed-from + a) 0 ≤ format .fluents
   pub from : (f : ℕ) → seen f ≡ true → format .fluents - getD t (sensed-from + a) 0 ≤ f
   pub to : (f : ℕ) → seen f ≡ true → f < getD t (sensed-to + a) 0
@@ -119,9 +134,9 @@ module _ (a : ℕ) where
         let was : (f : ℕ) → either (seen f) (both (eqb (l .action) a) (eqb (l .fluent) f)) ≡ true → seen f ≡ true = λ f e. ⊎-elim (λ h. h) (λ h. absurd (other (eqb-true _ _ (both-left _ _ h)))) (either-split _ _ e) in
         let most = before .most in let last = before .last in
         record {
-          slot = λ f low.
-              ap (ltb 0) (pair-other (l .action) (l .fluent) acts fits t sized a f small low (λ e _. other e))
-              ∙ before .slot f low
+          pair = λ f low.
+              pair-other (l .action) (l .fluent) acts fits t sized a f small low (λ e _. other e)
+              ∙ before .pair f low
               ∙ same-test (seen f) (either (seen f) (both (eqb (l .action) a) (eqb (l .fluent) f))) (either-left (seen f) (both (eqb (l .action) a) (eqb (l .fluent) f))) (was f);
           most = omega arith;
           from = λ f e. let h = before .from f (was f e) in rw from-is h;
@@ -138,16 +153,15 @@ module _ (a : ℕ) where
         let to-is : getD (pair-noted (l .action) (l .fluent) t) (sensed-to + a) 0 ≡ max (getD t (sensed-to + a) 0) (l .fluent + 1) = subst (λ (b : ℕ). getD (pair-noted (l .action) (l .fluent) t) (sensed-to + b) 0 ≡ max (getD t (sensed-to + b) 0) (l .fluent + 1)) is (to-same (l .action) (l .fluent) acts fits t sized) in
         let most = before .most in let last = before .last in
         record {
-          slot = λ f low.
+          pair = λ f low.
               by-test (eqb (l .fluent) f)
               (λ e.
-              ap (ltb 0) (subst (λ (b : ℕ). getD (pair-noted (l .action) (l .fluent) t) (sensed + (format .fluents * b + f)) 0 ≡ 1) is
-              (subst (λ (g : ℕ). getD (pair-noted (l .action) (l .fluent) t) (sensed + (format .fluents * l .action + g)) 0 ≡ 1) (eqb-true _ _ e) (pair-same (l .action) (l .fluent) acts fits t sized)))
-              ∙ lt-ltb 0 1 (omega arith)
+              subst (λ (b : ℕ). pair-there (pair-noted (l .action) (l .fluent) t) b f ≡ true) is
+              (subst (λ (g : ℕ). pair-there (pair-noted (l .action) (l .fluent) t) (l .action) g ≡ true) (eqb-true _ _ e) (pair-same (l .action) (l .fluent) acts fits t sized))
               ∙ sym (either-right _ _ (both-true _ _ (eq-eqb _ _ is) e)))
               (λ e.
-              ap (ltb 0) (pair-other (l .action) (l .fluent) acts fits t sized a f small low (λ _ h. eqb-false _ _ e h))
-              ∙ before .slot f low
+              pair-other (l .action) (l .fluent) acts fits t sized a f small low (λ _ h. eqb-false _ _ e h)
+              ∙ before .pair f low
               ∙ same-test (seen f) (either (seen f) (both (eqb (l .action) a) (eqb (l .fluent) f))) (either-left (seen f) (both (eqb (l .action) a) (eqb (l .fluent) f)))
               (λ h. ⊎-elim (λ i. i) (λ i. clash (both-right _ _ i) e) (either-split _ _ h)));
           most = omega arith;

@@ -11,15 +11,14 @@ use Rattle.meaning.specs.Tests.{both, some-of, each-of, those-of, Has}
 use Rattle.meaning.specs.Limits.{all-literals}
 use Rattle.meaning.specs.Requests.{Effect, Executability}
 use Rattle.meaning.specs.Lines.{effects-of, executability-of, allowed, given}
-use Rattle.meaning.proofs.TestLaws.{those-has}
+use Rattle.meaning.proofs.TestLaws.{those-has, some-mapped}
 use Rattle.reading.specs.Listed.{listed, List-here}
 use Rattle.finding.specs.LinesHere.{effect-from, Effect-here}
-use Rattle.finding.proofs.ReadLaws.{effect-good}
+use Rattle.finding.proofs.ReadLaws.{effect-good, run-stands}
 use Rattle.steps.specs.Held.{table-in}
 use Rattle.steps.specs.AtHand.{At-hand}
 use Rattle.steps.specs.LinesFound.{run-places, effect-places, allowed-at, given-at}
 use Rattle.steps.proofs.HandLaws.{sections}
-use Rattle.steps.proofs.SectionsStand.{run-stands}
 
 -- THE PLACES of the lines that pass a test: each is that of a line, and what some place passes some line passes, where the two tests agree.
 module _ {A : Type 0} (stands : A → ℕ) (acts : A → Bool) where
@@ -31,13 +30,8 @@ module _ {A : Type 0} (stands : A → ℕ) (acts : A → Bool) where
   those-placed : (xs : List A) (p : ℕ) → Has (map stands (those-of acts xs)) p → (x : A) × Has xs x × (p ≡ stands x)
   those-placed xs p has = let w = placed-has (those-of acts xs) p has in (w .0, those-has acts xs (w .0) (w .1) .0, w .2)
 
-  placed-same : (test : ℕ → Bool) (g : A → Bool) (ys : List A) → ((y : A) → Has ys y → test (stands y) ≡ g y) → some-of test (map stands ys) ≡ some-of g ys
-  unfolding some-of
-  placed-same test g [] same = refl
-  placed-same test g (y ∷ ys) same = rw (same y (inl refl), placed-same test g ys (λ z has. same z (inr has)))
-
   those-same : (test : ℕ → Bool) (g : A → Bool) (xs : List A) → ((x : A) → Has xs x → test (stands x) ≡ g x) → some-of test (map stands (those-of acts xs)) ≡ some-of g (those-of acts xs)
-  those-same test g xs same = placed-same test g (those-of acts xs) (λ y has. same y (those-has acts xs y has .0))
+  those-same test g xs same = some-mapped stands test g (those-of acts xs) (λ y has. same y (those-has acts xs y has .0))
 
 -- THE LINES OF AN ACTION.
 pub record Runs (s : List ℕ) (a : ℕ) : Type 0 where

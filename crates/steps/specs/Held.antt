@@ -1,26 +1,20 @@
 -- The request that an input and notes hold: sections 1 to 5 as they stand at the input's start, and the plan, the goals and the whether
 -- entries as they stand where the notes say. It does not depend on what else the input has.
 use Prim.Native.Nat.{ℕ, _+_}
-use mathlib.Core.List.{List, []}
+use mathlib.Core.List.{List}
 use lib.ListN.{getD}
 use Rattle.meaning.specs.Limits.{format}
-use Rattle.meaning.specs.Requests.{Table, Sequence, Request}
-use Rattle.meaning.specs.Reading.{Got, got, fault, Met, table-at, plan-at, placed}
+use Rattle.meaning.specs.Requests.{Sequence, Request}
+use Rattle.meaning.specs.Reading.{Got, got, fault, Met, plan-at, placed}
 use Rattle.reading.specs.Noted.{plan-slot, goals-slot}
 use Rattle.reading.specs.Listed.{listed}
+-- THE TABLE (FORMAT 2.12 to 2.16).
+pub use Rattle.finding.specs.TablesHere.{table-in}
 
--- What was read; a table and a plan that say nothing where a fault was met.
-unfoldable pub table-of : Got Table → Table
-table-of (got x e) = x
-table-of (fault n p) = record { fluents = 0; actions = 0; facts = []; effects = []; executability = []; knowledge = [] }
-
+-- What was read; a plan that says nothing where a fault was met.
 unfoldable pub plan-of : Got (Met (Sequence ℕ)) → Sequence ℕ
 plan-of (got x e) = x .value
 plan-of (fault n p) = Sequence.done
-
--- THE TABLE (FORMAT 2.12 to 2.16).
-unfoldable pub table-in : List ℕ → Table
-table-in s = table-of (table-at format s 0)
 
 -- THE PLAN (FORMAT 2.17).
 unfoldable pub plan-in : (s t : List ℕ) → Sequence ℕ

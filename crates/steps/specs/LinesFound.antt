@@ -1,5 +1,5 @@
 -- What the notes say of an action's lines, as the code finds it.
-use Prim.Native.Nat.{ℕ, _+_, _-_, _*_, _≤_, _<_}
+use Prim.Native.Nat.{ℕ, _+_, _-_, _≤_, _<_}
 use mathlib.Core.Path.{_≡_}
 use mathlib.Core.Bool.{Bool, true}
 use mathlib.Core.List.{List, map}
@@ -9,7 +9,7 @@ use Rattle.meaning.specs.Tests.{both, some-of, each-of}
 use Rattle.meaning.specs.Limits.{format}
 use Rattle.meaning.specs.Requests.{Effect, Executability}
 use Rattle.meaning.specs.Lines.{effects-of, executability-of, knowledge-of, sensing, senses}
-use Rattle.reading.specs.Noted.{sensed-from, sensed-to, sensed}
+use Rattle.reading.specs.Noted.{sensed-from, sensed-to, pair-there}
 use Rattle.reading.specs.Listed.{listed}
 use Rattle.steps.specs.Held.{table-in}
 
@@ -30,7 +30,7 @@ given-at s test places l = some-of (λ (p : ℕ). both (eqb (getD s (p + 1) 0) l
 
 -- WHAT IT SENSES, with the smallest fluent as the limit less it and the largest as one more.
 pub record Senses (s t : List ℕ) (a : ℕ) : Type 0 where
-  pub slot : (f : ℕ) → f < format .fluents → ltb 0 (getD t (sensed + (format .fluents * a + f)) 0) ≡ senses (knowledge-of (table-in s) a) f
+  pub pair : (f : ℕ) → f < format .fluents → pair-there t a f ≡ senses (knowledge-of (table-in s) a) f
   pub most : getD t (sensed-from + a) 0 ≤ format .fluents
   pub from : (f : ℕ) → senses (knowledge-of (table-in s) a) f ≡ true → format .fluents - getD t (sensed-from + a) 0 ≤ f
   pub to : (f : ℕ) → senses (knowledge-of (table-in s) a) f ≡ true → f < getD t (sensed-to + a) 0

@@ -11,6 +11,7 @@ use reading::marks::Marks;
 use reading::notes;
 use reading::notes::Notes;
 use reading::notes::get;
+use reading::notes::is_noted;
 
 // The action has a knowledge line.
 pub fn is_sensing(s: &[u8], t: &Notes, a: usize) -> bool
@@ -30,11 +31,7 @@ pub fn looks_at(s: &[u8], t: &Notes, a: usize, f: usize) -> bool
     requires { ⌜ f < format .fluents ⌝ }
     ensures { λ r. ⌜ r ≡ senses (knowledge-of (table-in (now (s .entry))) a) f ⌝ }
 {
-    let row = limits::FLUENTS * a;
-    let pair = row + f;
-    let slot = notes::SENSED + pair;
-    let sensed = get(t, slot);
-    0 < sensed
+    is_noted(t, a, f)
 }
 
 // The first fluent from `from` up that the action senses and that is unknown; the limit of fluents where there is none.
@@ -46,16 +43,13 @@ pub fn next_unknown(s: &[u8], t: &Notes, a: usize, from: usize, marks: &Marks) -
 {
     let last = notes::SENSED_TO + a;
     let end = get(t, last);
-    let row = limits::FLUENTS * a;
     let mut f = from;
     while f < end {
         let here = f;
         f += 1;
         if marks[here] == 0 {
-            let pair = row + here;
-            let slot = notes::SENSED + pair;
-            let sensed = get(t, slot);
-            if 0 < sensed {
+            let sensed = is_noted(t, a, here);
+            if sensed {
                 return here;
             }
         }

@@ -19,7 +19,7 @@ use std::hint::black_box;
 use std::thread;
 use std::time::Instant;
 
-use reader::{ACTION_LIMIT, FLUENT_LIMIT};
+use reader::{ACTION_LIMIT, FLUENT_LIMIT, ITEM_LIMIT};
 
 /// How often each call is timed, in turns, and for how many nanoseconds about: few, so that other work seldom falls within.
 const ROUNDS: u128 = 1001;
@@ -35,11 +35,12 @@ const STACK: usize = 64 << 20;
 const FLUENTS: u8 = FLUENT_LIMIT as u8;
 const ACTIONS: u8 = ACTION_LIMIT as u8;
 
-/// The notes that the proved reader leaves, and two of their slots.
-const SLOTS: usize = 9480;
+/// The notes that the proved reader leaves, and two of their slots, by the limits as in `crates/reading/specs/Noted.antt`.
+const PLAN: usize = 4 * ITEM_LIMIT + 2 * (2 * 256 + ACTION_LIMIT) + 2 * ACTION_LIMIT;
+const ITEMS: usize = PLAN + 1;
+const EFFECTS: usize = PLAN + 2;
+const SLOTS: usize = PLAN + 8 + ACTION_LIMIT * (FLUENT_LIMIT / 16);
 type Notes = [u16; SLOTS];
-const ITEMS: usize = 5377;
-const EFFECTS: usize = 5378;
 
 /// A slice as compiled Rattle takes it: where it starts, and its length.
 #[repr(C)]

@@ -45,7 +45,7 @@ use Request::*;
 /// A sentence, the case, the request, the budget, the length of the lent state; number, place and count; the state where it is written.
 type Row = (&'static str, &'static str, Request, u32, usize, [u64; 3], Option<&'static str>);
 
-const ROWS: [Row; 44] = [
+const ROWS: [Row; 51] = [
     ("13.17", "1", FileA, BUDGET, STATE_LENGTH, [0, 0, 5], None),
     ("13.18", "2, open unseen", From29("0 1 1 1 7 1 2"), BUDGET, STATE_LENGTH, [1, 33, 2], Some("?+-?")),
     ("13.19", "3, branch unseen", From29Then("0 1", 32), BUDGET, STATE_LENGTH, [2, 31, 0], Some("?---")),
@@ -84,6 +84,13 @@ const ROWS: [Row; 44] = [
     ("13.60", "21 and 19 at one byte", Nested(1_016), BUDGET, STATE_LENGTH, [21, 1064, 0], None),
     ("13.61", "19, an item earlier", Nested(1_015), BUDGET, STATE_LENGTH, [19, 1063, 0], None),
     ("13.62", "goals before whether entries", From29("0 0 1 2 1 0"), BUDGET, STATE_LENGTH, [1, 32, 1], Some("?---")),
+    ("13.70", "clash where it can't be run", Bytes("2 1 1 1 2 0 2 0 0 3 1 0 1 0 1 1 0 0 1 0 1 2 0"), BUDGET, STATE_LENGTH, [0, 0, 2], None),
+    ("13.71", "16 by another line", Bytes("2 1 1 1 2 0 2 0 0 3 1 0 2 0 1 1 0 0 0 0 1 0 1 2 0"), BUDGET, STATE_LENGTH, [16, 8, 0], None),
+    ("13.72", "a line for each body", Bytes("3 1 2 1 2 2 0 4 1 0 0 5 1 2 2 0 1 1 0 1 3 0 0 1 0 1 5 0"), BUDGET, STATE_LENGTH, [0, 0, 2], None),
+    ("13.73", "16 by a line for both", Bytes("3 1 2 1 2 2 0 4 1 0 0 5 1 2 3 0 1 1 0 1 3 0 1 4 0 0 1 0 1 5 0"), BUDGET, STATE_LENGTH, [16, 10, 0], None),
+    ("13.74", "no line", Bytes("2 1 0 2 0 2 0 0 3 0 0 0 0 1 0 0 0"), BUDGET, STATE_LENGTH, [2, 14, 0], Some("??")),
+    ("13.75", "a line of another action", Bytes("2 2 0 2 0 2 0 0 3 0 1 1 0 0 0 0 0 0"), BUDGET, STATE_LENGTH, [0, 0, 1], None),
+    ("13.76", "16 at the third effect", Bytes("3 1 0 3 0 2 0 0 3 1 0 0 3 1 4 1 0 1 1 0 0 0 0 0"), BUDGET, STATE_LENGTH, [16, 11, 0], None),
     ("8.17", "cannot be run at the budget's end", From29("0 2 0 255 1 1 0 0 0 1 2 0"), 2, STATE_LENGTH, [2, 32, 2], Some("----")),
     ("8.17", "with a budget of one less", From29("0 2 0 255 1 1 0 0 0 1 2 0"), 1, STATE_LENGTH, [3, 0, 1], None),
     ("8.18", "budget 0, cannot be run", From29("0 1 2 0 0"), 0, STATE_LENGTH, [2, 31, 0], Some("?---")),

@@ -25,19 +25,19 @@ pub fn crowded(rng: &mut Rng) -> Request {
     for _ in 0..rng.below(LINES - usize::from(OPEN)) {
         request.knowledge.push(Knowledge { place: 0, action: rng.byte(0, sensing - 1), fluent: rng.byte(0, fluents - 1) });
     }
-    for _ in 0..rng.below(LINES + 1) {
-        let likely = *rng.pick(&world);
-        let literal = other_at_times(rng, likely, 8);
-        let effect = Effect { place: 0, action: rng.byte(sensing, actions - 1), literal, body: body(rng, &world, 4) };
-        if request.effects.iter().all(|earlier| !contradictory(earlier, &effect)) {
-            request.effects.push(effect);
-        }
-    }
     for action in 0..actions {
         request.allowances.push(Allowance { action, body: body(rng, &facts, 0) });
     }
     for _ in 0..rng.below(LINES + 1 - usize::from(actions)) {
         request.allowances.push(Allowance { action: rng.byte(0, actions - 1), body: body(rng, &facts, 2) });
+    }
+    for _ in 0..rng.below(LINES + 1) {
+        let likely = *rng.pick(&world);
+        let literal = other_at_times(rng, likely, 8);
+        let effect = Effect { place: 0, action: rng.byte(sensing, actions - 1), literal, body: body(rng, &world, 4) };
+        if request.effects.iter().all(|earlier| !contradictory(&request.allowances, earlier, &effect)) {
+            request.effects.push(effect);
+        }
     }
     rng.shuffle(&mut request.knowledge);
     rng.shuffle(&mut request.allowances);

@@ -166,6 +166,12 @@ fn effects_of_one_action() -> Vec<Named> {
     let same: Vec<Effect> = (0..SECTION).map(|i| effect(2 * (i % 32) as u8, literals(32..48))).collect();
     // Each makes the last fluent true or false, and two that differ are exclusive by their last literals.
     let told: Vec<Effect> = (0..SECTION).map(|i| effect(126 + (i % 2) as u8, [literals(0..15), vec![30 + (i % 2) as u8]].concat())).collect();
+    // Every two that differ clash, and each line, which agrees with one half of them, rules out the other half by its last literal.
+    let clashing: Vec<Effect> = (0..SECTION).map(|i| effect(126 + (i % 2) as u8, [literals(0..15), vec![30 + 2 * (i % 2) as u8]].concat())).collect();
+    let lines = vec![Allowance { action: 0, body: [literals(0..15), vec![33]].concat() }; SECTION];
+    let never_both = Request { fluents: FLUENTS, actions: 1, facts: literals(0..15), effects: clashing.clone(), allowances: lines.clone(), ..Request::default() };
+    let last_both = Request { allowances: [lines[1..].to_vec(), vec![always(0)]].concat(), ..never_both.clone() };
+    let no_lines = Request { allowances: Vec::new(), plan: vec![Item::act(0)], ..never_both.clone() };
     let mut contradictory = told.clone();
     contradictory[SECTION - 1].literal ^= 1;
     contradictory[SECTION - 1].body = literals(16..32);
@@ -174,6 +180,9 @@ fn effects_of_one_action() -> Vec<Named> {
         walk("255 effects, all known true, 1,024 actions", request(literals(0..FLUENTS), same, ITEM_LIMIT), BUDGETS[2]),
         walk("255 effects, exclusive by their last literals", request(Vec::new(), told, ITEM_LIMIT), BUDGETS[2]),
         walk("255 effects, the last contradictory", request(Vec::new(), contradictory, 0), BUDGETS[2]),
+        walk("255 effects, which clash where the action can't be run", encode_request(&never_both).bytes, BUDGETS[2]),
+        walk("255 effects, which clash under the last of 255 lines", encode_request(&last_both).bytes, BUDGETS[2]),
+        walk("255 effects, which clash, of an action without lines", encode_request(&no_lines).bytes, BUDGETS[2]),
     ]
 }
 

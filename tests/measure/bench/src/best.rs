@@ -240,7 +240,8 @@ impl Reader<'_> {
         self.actions = self.count(1, ACTIONS as u8)?;
         space.actions[..usize::from(self.actions)].fill(Action::default());
         let facts = self.literals(ENTRIES)?;
-        let contradiction = self.effects(space)?;
+        let effects_at = self.at;
+        let clash = self.effects(space)?;
         self.executability(space)?;
         let mixed = self.knowledge(space)?;
         let end = self.sequence(space, 8, END)?;
@@ -251,8 +252,10 @@ impl Reader<'_> {
         if self.at < self.s.len() {
             return Err((20, self.at));
         }
-        if contradiction != usize::MAX {
-            return Err((16, contradiction));
+        if clash != usize::MAX {
+            if let Some(place) = self.contradiction(effects_at, clash, space) {
+                return Err((16, place));
+            }
         }
         if mixed != usize::MAX {
             return Err((17, mixed));
@@ -263,13 +266,45 @@ impl Reader<'_> {
         Ok(Request { facts, items: end, goals, goals_at, whether, whether_at })
     }
 
-    /// Section 3; the first effect that contradicts one before it.
+    /// The first effect that contradicts one before it, from the first on that clashes with one. Few tables have such an effect, so the
+    /// actions and places of the lines are found again.
+    #[cold]
+    fn contradiction(&self, section: usize, clash: usize, space: &Workspace) -> Option<usize> {
+        let count = usize::from(self.s[section]);
+        let mut lines = [(0, 0); LINES];
+        let mut place = section + 1;
+        for line in &mut lines[..count] {
+            *line = (place, self.s[place]);
+            place += 3 + usize::from(self.s[place + 2]);
+        }
+        let contradicted = |later: &usize| {
+            let action = lines[*later].1;
+            let effect = &space.effects[*later];
+            let (start, end) = space.actions[usize::from(action)].runs;
+            let runs = &space.runs_by[usize::from(start)..usize::from(end)];
+            let mut earlier = space.before[*later];
+            while earlier != NONE {
+                let other = &space.effects[usize::from(earlier)];
+                if lines[usize::from(earlier)].1 == action
+                    && !other.literal.possible(effect.literal)
+                    && other.body.possible(effect.body)
+                    && runs.iter().any(|run| run.possible(effect.body) && run.possible(other.body))
+                {
+                    return true;
+                }
+                earlier = space.before[usize::from(earlier)];
+            }
+            false
+        };
+        (clash..count).find(contradicted).map(|later| lines[later].0)
+    }
+
+    /// Section 3; the first effect that clashes with one before it, wherever its action can be run.
     fn effects(&mut self, space: &mut Workspace) -> Read<usize> {
         let count = usize::from(self.byte()?);
-        let mut contradiction = usize::MAX;
+        let mut clash = usize::MAX;
         space.last.fill(NONE);
         for line in 0..count {
-            let place = self.at;
             let action = self.below(self.actions.into())?;
             let byte = self.below(2 * u16::from(self.fluents))?;
             let literal = Masks::of(byte);
@@ -278,12 +313,12 @@ impl Reader<'_> {
             said.effects.1 += 1;
             let last = &mut space.last[usize::from(byte / 2) % FLUENTS];
             // Only where the action gives the complement too, pairs are looked at.
-            if !said.gives.possible(literal) && contradiction == usize::MAX {
+            if !said.gives.possible(literal) && clash == usize::MAX {
                 let mut earlier = *last;
                 while earlier != NONE {
                     let other = &space.effects[usize::from(earlier)];
                     if space.of[usize::from(earlier)] == action && !other.literal.possible(literal) && other.body.possible(body) {
-                        contradiction = place;
+                        clash = line;
                         break;
                     }
                     earlier = space.before[usize::from(earlier)];
@@ -307,7 +342,7 @@ impl Reader<'_> {
             space.effects_by[usize::from(*slot) % LINES] = space.effects[line % LINES];
             *slot += 1;
         }
-        Ok(contradiction)
+        Ok(clash)
     }
 
     /// Section 4.

@@ -254,8 +254,15 @@ impl<'a> Request<'a> {
     /// 16, then 17, then 18.
     fn settled(self) -> Read<Self> {
         for (index, effect) in self.effect_lines().enumerate() {
+            let runs_with = |earlier: &Effect| {
+                let agrees = |body: &[u8]| !exclusive(body, earlier.body) && !exclusive(body, effect.body);
+                self.executability_lines().any(|(action, body)| action == effect.action && agrees(body))
+            };
             let contradicts = |earlier: Effect| {
-                earlier.action == effect.action && earlier.literal == effect.literal ^ 1 && !exclusive(earlier.body, effect.body)
+                earlier.action == effect.action
+                    && earlier.literal == effect.literal ^ 1
+                    && !exclusive(earlier.body, effect.body)
+                    && runs_with(&earlier)
             };
             if self.effect_lines().take(index).any(contradicts) {
                 return Err((16, effect.place));

@@ -2,8 +2,9 @@
 use Prim.Native.Nat.{_-_}
 use mathlib.Core.Path.{_≡_}
 use mathlib.Core.List.{[]}
-use Rattle.meaning.specs.Refusals.{contradiction-in}
+use Rattle.meaning.specs.Refusals.{contradictory, first-against}
 use Rattle.finding.specs.LinesHere.{effects-in}
+use Rattle.finding.specs.TablesHere.{table-in}
 use Rattle.refusing.specs.Refusal16.{effects-before, Linked}
 use Rattle.refusing.proofs.Laws16.{linked-none, effects-start, here-first, line-here, line-bucket, linked-next, effects-met, effects-next, effects-done}
 use borrow.Author.Needs.{needs}
@@ -17,7 +18,7 @@ use Rattle.refusing.proofs.refusal_16.link_bucket.Reads as link-bucket-
 use Rattle.refusing.proofs.refusal_16.bucket_at.Reads as bucket-at-reads
 
 abbrev Inv-loop : tie.InvT-loop
-Inv-loop s t count same₀ k₀ same k = Linked s t same k × (contradiction-in [] (effects-in s t 0 count) ≡ contradiction-in (effects-before s t k) (effects-in s t k (count - k)))
+Inv-loop s t count same₀ k₀ same k = Linked s t same k × (first-against (contradictory (table-in s)) [] (effects-in s t 0 count) ≡ first-against (contradictory (table-in s)) (effects-before s t k) (effects-in s t k (count - k)))
 
 abbrev μ-loop : tie.MeasureT-loop
 μ-loop s t count same₀ k₀ same k = count - k

@@ -1,5 +1,5 @@
 -- A contradiction is refused at its place; else the answer is that from 17 on.
-use Rattle.refusing.proofs.SettleLaws.{few-16, stand-16, past-16, at-16}
+use Rattle.refusing.proofs.SettleLaws.{few-16, runs-16, stand-16, past-16, at-16}
 use borrow.Author.Needs.{needs}
 use Rattle.refusing.proofs.settled.refused_from_16.Statement.{statement}
 use Rattle.refusing.proofs.settled.refused_from_16.Tie as tie
@@ -15,7 +15,7 @@ get-requires c κs = search needs
 
 -- src/settled.rt:52:11
 contradiction-requires : tie.Need-contradiction-requires
-contradiction-requires c κs = search (needs, few-16, stand-16, c .before .shared-slice-known .given)
+contradiction-requires c κs = search (needs, few-16, runs-16, stand-16, c .before .shared-slice-known .given)
 
 -- src/settled.rt:53:27
 enum-told : tie.Need-enum-told

@@ -1,7 +1,8 @@
 -- A turn looks at the first of the action's lines that are left; what is left gives what the whole gives, and line numbers rise in file order.
 use Rattle.meaning.specs.States.{can-be-run}
 use Rattle.steps.specs.Held.{table-in}
-use Rattle.steps.proofs.ActionLaws.{Running, running-starts, running-done, line-few, line-less, to-go, run-body-fits, run-body, run-met, run-next}
+use Rattle.finding.proofs.AheadLaws.{to-go, line-few, line-less}
+use Rattle.steps.proofs.ActionLaws.{Running, running-starts, running-done, run-body-fits, run-body, run-met, run-next}
 use borrow.Author.Needs.{needs}
 use Rattle.steps.proofs.actions.can_be_run.Statement.{statement}
 use Rattle.steps.proofs.actions.can_be_run.Tie as tie

@@ -1,6 +1,7 @@
 -- A turn tells or undoes what the first of the action's effects that are left asks for; what is left then gives what the whole gives, and effect
 -- numbers rise in file order. At the end that is the state after, since 16 has passed and the action can be run.
-use Rattle.steps.proofs.ActionLaws.{Sweeping, sweeping-starts, line-few, line-less, to-go, effect-body, effect-body-fits, effect-one-fits, effect-one-there, effect-fluent, sweep-known, sweep-told, sweep-unknown, look-told, look-undone, look-kept}
+use Rattle.finding.proofs.AheadLaws.{to-go, line-few, line-less}
+use Rattle.steps.proofs.ActionLaws.{Sweeping, sweeping-starts, effect-body, effect-body-fits, effect-one-fits, effect-one-there, effect-fluent, sweep-known, sweep-told, sweep-unknown, look-told, look-undone, look-kept}
 use Rattle.steps.proofs.AfterLaws.{after-swept}
 use borrow.Author.Needs.{needs}
 use Rattle.steps.proofs.actions.state_after.Statement.{statement}

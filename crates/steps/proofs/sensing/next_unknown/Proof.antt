@@ -3,77 +3,66 @@ use Prim.Native.Nat.{_-_}
 use mathlib.Core.Path.{_≡_}
 use Rattle.steps.specs.Held.{table-in}
 use Rattle.steps.specs.Steps.{unknown-above, first-of}
-use Rattle.steps.proofs.LookLaws.{fluent-near, fluent-next-fits, pair-fits, sensed-fits, sensed-there, look-found, look-unsensed, look-marked, look-done}
+use Rattle.steps.proofs.LookLaws.{fluent-near, fluent-next-fits, look-found, look-unsensed, look-marked, look-done}
 use borrow.Author.Needs.{needs}
 use Rattle.steps.proofs.sensing.next_unknown.Statement.{statement}
 use Rattle.steps.proofs.sensing.next_unknown.Tie as tie
 use Rattle.steps.proofs.sensing.next_unknown.Reads as reads
 use Rattle.steps.proofs.sensing.next_unknown.Lts as lts
 use Rattle.reading.proofs.notes.get.Reads as get-reads
+use Rattle.reading.proofs.notes.is_noted.Reads as is-noted-reads
 
 abbrev Inv-loop : tie.InvT-loop
-Inv-loop s t a from marks last end row f₀ f = first-of (unknown-above (table-in s) a marks from) ≡ first-of (unknown-above (table-in s) a marks f)
+Inv-loop s t a from marks last end f₀ f = first-of (unknown-above (table-in s) a marks from) ≡ first-of (unknown-above (table-in s) a marks f)
 
 abbrev μ-loop : tie.MeasureT-loop
-μ-loop s t a from marks last end row f₀ f = end - f
+μ-loop s t a from marks last end f₀ f = end - f
 
--- src/sensing.rt:33:16
+-- src/sensing.rt:44:16
 add-last : tie.Need-add-last Inv-loop μ-loop
 add-last c = search needs
 
--- src/sensing.rt:34:9
+-- src/sensing.rt:45:9
 get-requires : tie.Need-get-requires Inv-loop μ-loop
 get-requires c κs = search needs
 
--- src/sensing.rt:35:15
-mul-row : tie.Need-mul-row Inv-loop μ-loop
-mul-row c = search needs
-
--- src/sensing.rt:37:5
+-- src/sensing.rt:47:5
 loop-holds : tie.Need-loop-holds Inv-loop μ-loop
 loop-holds c = search needs
 
--- src/sensing.rt:39:9
+-- src/sensing.rt:49:9
 add-f : tie.Need-add-f Inv-loop μ-loop
 add-f c = search fluent-next-fits
 
--- src/sensing.rt:40:12
+-- src/sensing.rt:50:12
 element-copy-out-if1 : tie.Need-element-copy-out-if1 Inv-loop μ-loop
 element-copy-out-if1 c = search fluent-near
 
--- src/sensing.rt:41:24
-add-pair : tie.Need-add-pair Inv-loop μ-loop
-add-pair c = search pair-fits
+-- src/sensing.rt:51:17
+is-noted-requires : tie.Need-is-noted-requires Inv-loop μ-loop
+is-noted-requires c κs = search (needs, fluent-near)
 
--- src/sensing.rt:42:24
-add-slot : tie.Need-add-slot Inv-loop μ-loop
-add-slot c = search sensed-fits
-
--- src/sensing.rt:43:17
-get-requires-2 : tie.Need-get-requires-2 Inv-loop μ-loop
-get-requires-2 c κs = search (needs, sensed-there)
-
--- src/sensing.rt:45:17
+-- src/sensing.rt:53:17
 returns : tie.Need-returns Inv-loop μ-loop
 returns c = search look-found
 
--- src/sensing.rt:37:5
+-- src/sensing.rt:47:5
 loop-less : tie.Need-loop-less Inv-loop μ-loop
 loop-less c = search needs
 
--- src/sensing.rt:37:5
+-- src/sensing.rt:47:5
 loop-again : tie.Need-loop-again Inv-loop μ-loop
 loop-again c = search look-unsensed
 
--- src/sensing.rt:37:5
+-- src/sensing.rt:47:5
 loop-less-2 : tie.Need-loop-less-2 Inv-loop μ-loop
 loop-less-2 c = search needs
 
--- src/sensing.rt:37:5
+-- src/sensing.rt:47:5
 loop-again-2 : tie.Need-loop-again-2 Inv-loop μ-loop
 loop-again-2 c = search look-marked
 
--- src/sensing.rt:27:1
+-- src/sensing.rt:38:1
 returns-2 : tie.Need-returns-2 Inv-loop μ-loop
 returns-2 c = search look-done
 
@@ -85,13 +74,10 @@ next-unknown-spec =
     μ-loop
     add-last
     get-requires
-    mul-row
     loop-holds
     add-f
     element-copy-out-if1
-    add-pair
-    add-slot
-    get-requires-2
+    is-noted-requires
     returns
     loop-less
     loop-again
