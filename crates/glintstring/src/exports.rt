@@ -4,6 +4,7 @@ ghost use Prim.Native.Nat.{_<_, min};
 ghost use Rattle.meaning.specs.declared.Layout.the-variants.{Plain, Closing};
 ghost use Rattle.meaning.specs.Limits.{format};
 ghost use Rattle.meaning.specs.Judging.{judge};
+ghost use Rattle.meaning.specs.Asking;
 ghost use Rattle.meaning.specs.Derivations.{check};
 ghost use Rattle.meaning.specs.Showing.{show};
 ghost use Rattle.glintstring.specs.Packing.{packed, unpacked};
@@ -30,7 +31,25 @@ pub extern "C" fn glintstring_judge(request: &[u8], state: &mut [u8], budget: u3
     ensures { λ r. ⌜ r ≡ packed (judge format (now (request .entry)) (now (state .entry)) budget .answer) ⌝ }
     ensures { λ _. ⌜ now (state .exit) ≡ judge format (now (request .entry)) (now (state .entry)) budget .state ⌝ }
 {
-    pack(judge(request, state, budget))
+    let judged = judge(request, state, budget);
+    pack(judged.answer)
+}
+
+// The walk call, with its answer in one number and the line in another, which is written whatever the answer is. It may be called with anything.
+#[no_mangle]
+pub extern "C" fn glintstring_judge_line(
+    request: &[u8],
+    state: &mut [u8],
+    budget: u32,
+    line: &mut u32,
+) -> u64
+    ensures { λ r. ⌜ r ≡ packed (judge format (now (request .entry)) (now (state .entry)) budget .answer) ⌝ }
+    ensures { λ _. ⌜ now (state .exit) ≡ judge format (now (request .entry)) (now (state .entry)) budget .state ⌝ }
+    ensures { λ _. ⌜ now (line .exit) ≡ Asking.line format (now (request .entry)) (now (state .entry)) budget ⌝ }
+{
+    let judged = judge(request, state, budget);
+    *line = judged.line;
+    pack(judged.answer)
 }
 
 // The derivation call, with its answer in one number. It may be called with anything.

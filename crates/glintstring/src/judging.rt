@@ -4,10 +4,12 @@ ghost use Rattle.meaning.specs.Limits.{format};
 ghost use Rattle.meaning.specs.States.{first-state};
 ghost use Rattle.meaning.specs.Walk.{walked};
 ghost use Rattle.meaning.specs.Judging.{within, judge};
+ghost use Rattle.meaning.specs.Asking.{line-told, line};
 ghost use Rattle.steps.specs.Held.{table-in, request-in};
 ghost use Rattle.steps.specs.AtHand.{At-hand};
 ghost use Rattle.glintstring.specs.Telling.{start};
 use super::answers;
+use super::missing::line_at;
 use super::telling::tell;
 use bytes::limits;
 use bytes::lists::Passed;
@@ -40,26 +42,60 @@ fn walk_plan(request: &[u8], t: &Notes, state: &mut [u8], budget: u32) -> Answer
     tell(&tally, state, budget)
 }
 
+// The walk of a settled request, and the line of the action that stopped it.
+fn walk_with_line(request: &[u8], t: &Notes, state: &mut [u8], budget: u32) -> Judged
+    requires { ⌜ At-hand (now request) (now t) ⌝ }
+    requires { ⌜ length (now state) ≡ format .state ⌝ }
+    ensures given { λ r. ⌜ record { answer = r .answer; state = now (state .exit) } ≡ within (now (state .entry)) budget (walked (request-in (now (request .entry)) (now (t .entry))) (first-state format (table-in (now (request .entry))))) ⌝ }
+    ensures line { λ r. ⌜ r .line ≡ line-told (table-in (now (request .entry))) (now (request .entry)) (record { answer = r .answer; state = now (state .exit) }) ⌝ }
+{
+    let answer = walk_plan(request, t, state, budget);
+    if answer.number == answers::NOT_EXECUTABLE {
+        let line = line_at(request, t, answer.place, state);
+        return Judged {
+            answer: answer,
+            line: line,
+        };
+    }
+    Judged {
+        answer: answer,
+        line: 0,
+    }
+}
+
+// What the walk call gives: the answer, and the line that it carries (FORMAT 18.9), 0 for none.
+pub struct Judged {
+    pub answer: Answer,
+    pub line: u32,
+}
+
 // The walk call (FORMAT 1.15). Answers 1 and 2 leave the state concerned in the lent bytes; every other leaves these as they are.
-pub fn judge(request: &[u8], state: &mut [u8], budget: u32) -> Answer
-    ensures { λ r. ⌜ record { answer = r; state = now (state .exit) } ≡ judge format (now (request .entry)) (now (state .entry)) budget ⌝ }
+pub fn judge(request: &[u8], state: &mut [u8], budget: u32) -> Judged
+    ensures given { λ r. ⌜ record { answer = r .answer; state = now (state .exit) } ≡ judge format (now (request .entry)) (now (state .entry)) budget ⌝ }
+    ensures line { λ r. ⌜ r .line ≡ line format (now (request .entry)) (now (state .entry)) budget ⌝ }
 {
     if state.len() != limits::FLUENTS {
-        return Answer {
-            number: answers::STATE_LENGTH,
-            input: answers::NEITHER_INPUT,
-            place: 0,
-            count: 0,
+        return Judged {
+            answer: Answer {
+                number: answers::STATE_LENGTH,
+                input: answers::NEITHER_INPUT,
+                place: 0,
+                count: 0,
+            },
+            line: 0,
         };
     }
     let mut t: Notes = [0u16; notes::SLOTS];
     match settle(request, &mut t) {
-        Passed::To(_) => walk_plan(request, &t, state, budget),
-        Passed::Fault(k, p) => Answer {
-            number: k,
-            input: answers::THE_REQUEST,
-            place: p,
-            count: 0,
+        Passed::To(_) => walk_with_line(request, &t, state, budget),
+        Passed::Fault(k, p) => Judged {
+            answer: Answer {
+                number: k,
+                input: answers::THE_REQUEST,
+                place: p,
+                count: 0,
+            },
+            line: 0,
         },
     }
 }

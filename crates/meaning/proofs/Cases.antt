@@ -24,18 +24,18 @@ row request lent budget number input place count state = record {
 }
 
 -- What is lent unless a row says otherwise: as many bytes as a state has, which are no marks.
-abbrev lent-room : List ℕ
+abbrev pub lent-room : List ℕ
 lent-room = replicate (format .state) 9
 
 -- The budget of the program `judge`.
-abbrev usual : ℕ
+abbrev pub usual : ℕ
 usual = 100000
 
 -- Rows by their answer. The marks are those of the fluents from 0 up; zeros follow.
 abbrev verified : (request : List ℕ) → (count : ℕ) → Case
 verified request count = row request lent-room usual 0 0 0 count lent-room
 
-abbrev marked : List ℕ → List ℕ
+abbrev pub marked : List ℕ → List ℕ
 marked marks = marks ++ replicate (format .state - length marks) 0
 
 abbrev missed : (request : List ℕ) → (place count : ℕ) → (marks : List ℕ) → Case

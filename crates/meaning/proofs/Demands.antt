@@ -41,6 +41,11 @@ use Rattle.meaning.proofs.WiderDerivations
 pub use Rattle.meaning.proofs.Exact.{spent-exactly, stuck-exactly, verified-exactly, missed-exactly, in-order}
 -- What answers 1 and 2 report (FORMAT 11.13 to 11.16).
 pub use Rattle.meaning.proofs.ReportLaws.{missed-in-an-end-state, missed-there, stopped-there}
+-- Asking whether an action can be run names the first line that allows it, or else the one that is short by the fewest, and that line is the action's; it
+-- can be run just where a line allows it (FORMAT 18.4 to 18.7, 18.20, 18.21).
+pub use Rattle.meaning.proofs.AskingLaws.{asked-stands, asked-of-action, can-be-run-asked}
+-- Answer 2 carries the line of the item at its place in the state left, and every other answer none (FORMAT 18.10 to 18.12).
+pub use Rattle.meaning.proofs.ReportedLine.{line-there, no-line, never-asked}
 -- Demand 2, its second sentence (FORMAT 11.6, 17.39), and demand 1 of the derivation call and of the whether call (17.38).
 pub use Rattle.meaning.proofs.AcceptedExactly.{accepted-exactly}
 pub use Rattle.meaning.proofs.Passed.{every-check-numbered}

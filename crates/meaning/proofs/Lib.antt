@@ -1,5 +1,6 @@
 pub mod Compute
 pub mod Cases
+pub mod LineCases
 pub mod DerivationCases
 pub mod WhetherCases
 pub mod TestLaws
@@ -47,7 +48,10 @@ pub mod ReadLines
 pub mod FollowsExact
 pub mod CoverLaws
 pub mod Exact
+pub mod AskingLaws
+pub mod ItemBytes
 pub mod ReportLaws
+pub mod ReportedLine
 pub mod Passed
 pub mod AcceptedExactly
 pub mod LayoutLaws

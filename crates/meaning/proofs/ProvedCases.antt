@@ -1,5 +1,5 @@
--- The proved cases of the walk call, of the derivation call and of the whether call, one statement over one list. Its parts were computed where
--- they are. Assumes nothing.
+-- The proved cases of the walk call, without the line and with it, of the derivation call and of the whether call, one statement over one list.
+-- Its parts were computed where they are. Assumes nothing.
 use Prim.Native.Nat.{ℕ}
 use mathlib.Core.Path.{_≡_, sym, _∙_, ap, ap₂}
 use mathlib.Core.List.{List, _++_, map, map-map, map-append}
@@ -7,9 +7,12 @@ use Rattle.meaning.specs.declared.Answer.{Answer}
 use Rattle.meaning.specs.declared.Layout.{Layout}
 use Rattle.meaning.specs.Limits.{format}
 use Rattle.meaning.specs.Judging.{Judgement, judge}
+use Rattle.meaning.specs.Asking.{line}
 use Rattle.meaning.specs.Derivations.{check}
+use Rattle.meaning.proofs.TestLaws.{map-same, same-map}
 use Rattle.meaning.proofs.Cases
 use Rattle.meaning.proofs.Cases.{cases, cases-hold}
+use Rattle.meaning.proofs.LineCases.{LineCase, line-cases, line-cases-hold, lines-hold}
 use Rattle.meaning.proofs.DerivationCases
 use Rattle.meaning.proofs.DerivationCases.{derivations, derivations-hold}
 use Rattle.meaning.proofs.WhetherCases.{whethers, whethers-hold}
@@ -17,14 +20,17 @@ use Rattle.meaning.proofs.WhetherCases.{whethers, whethers-hold}
 -- A call, and what it gives. A derivation in the plain layout is put to the derivation call, and one in the closing layout to the whether call.
 pub data Call : Type 0 where
   judging : (request lent : List ℕ) → (budget : ℕ) → Call
+  judging-line : (request lent : List ℕ) → (budget : ℕ) → Call
   checking : Layout → (request derivation : List ℕ) → Call
 
 pub data Given : Type 0 where
   judged : Judgement → Given
+  judged-line : Judgement → (line : ℕ) → Given
   answered : Answer → Given
 
 abbrev pub outcome-of : Call → Given
 outcome-of (judging request lent budget) = judged (judge format request lent budget)
+outcome-of (judging-line request lent budget) = judged-line (judge format request lent budget) (line format request lent budget)
 outcome-of (checking layout request derivation) = answered (check format layout request derivation)
 
 pub record Row : Type 0 where
@@ -34,12 +40,15 @@ pub record Row : Type 0 where
 abbrev judging-row : Cases.Case → Row
 judging-row c = record { call = judging (c .request) (c .lent) (c .budget); gives = judged (c .gives) }
 
+abbrev line-row : LineCase → Row
+line-row c = record { call = judging-line (c .request) (c .lent) (c .budget); gives = judged-line (c .gives) (c .carries) }
+
 abbrev checking-row : DerivationCases.Case → Row
 checking-row c = record { call = checking (c .layout) (c .request) (c .derivation); gives = answered (c .gives) }
 
--- Cases 1 to 13 and the rows beside them, then case 14 and the rows beside it, then those of the closing layout.
+-- Cases 1 to 13 and the rows beside them, those of the line, then case 14 and the rows beside it, then those of the closing layout.
 pub proved-cases : List Row
-proved-cases = map judging-row cases ++ (map checking-row derivations ++ map checking-row whethers)
+proved-cases = map judging-row cases ++ (map line-row line-cases ++ (map checking-row derivations ++ map checking-row whethers))
 
 -- Each row's call gives what the row says.
 abbrev Hold : List Row → Type 0
@@ -56,6 +65,20 @@ judgings =
     ∙ map-map judged (λ (c : Cases.Case). c .gives) cases
     ∙ sym (map-map _ judging-row cases)
 
+-- Two equations over one list are one over it.
+two-lists : (gives : LineCase → Judgement) (carries : LineCase → ℕ) (cs : List LineCase)
+    → map (λ (c : LineCase). judge format (c .request) (c .lent) (c .budget)) cs ≡ map gives cs → map (λ (c : LineCase). line format (c .request) (c .lent) (c .budget)) cs ≡ map carries cs
+    → map (λ (c : LineCase). judged-line (judge format (c .request) (c .lent) (c .budget)) (line format (c .request) (c .lent) (c .budget))) cs ≡ map (λ (c : LineCase). judged-line (gives c) (carries c)) cs
+two-lists gives carries cs h k =
+    same-map (λ (c : LineCase). judged-line (judge format (c .request) (c .lent) (c .budget)) (line format (c .request) (c .lent) (c .budget))) (λ (c : LineCase). judged-line (gives c) (carries c)) cs
+    (λ c has. ap₂ {C = Given} judged-line (map-same _ gives cs c h has) (map-same _ carries cs c k has))
+
+linings : Hold (map line-row line-cases)
+linings =
+    map-map _ line-row line-cases
+    ∙ two-lists (λ (c : LineCase). c .gives) (λ (c : LineCase). c .carries) line-cases line-cases-hold lines-hold
+    ∙ sym (map-map _ line-row line-cases)
+
 checkings : (cs : List DerivationCases.Case) → map (λ (c : DerivationCases.Case). check format (c .layout) (c .request) (c .derivation)) cs ≡ map (λ (c : DerivationCases.Case). c .gives) cs → Hold (map checking-row cs)
 checkings cs hold =
     map-map _ checking-row cs
@@ -67,5 +90,6 @@ checkings cs hold =
 pub proved-cases-hold : map (λ (r : Row). outcome-of (r .call)) proved-cases ≡ map (λ (r : Row). r .gives) proved-cases
 unfolding proved-cases
 proved-cases-hold =
-    hold-both (map judging-row cases) (map checking-row derivations ++ map checking-row whethers) judgings
-    (hold-both (map checking-row derivations) (map checking-row whethers) (checkings derivations derivations-hold) (checkings whethers whethers-hold))
+    hold-both (map judging-row cases) (map line-row line-cases ++ (map checking-row derivations ++ map checking-row whethers)) judgings
+    (hold-both (map line-row line-cases) (map checking-row derivations ++ map checking-row whethers) linings
+    (hold-both (map checking-row derivations) (map checking-row whethers) (checkings derivations derivations-hold) (checkings whethers whethers-hold)))

@@ -7,7 +7,7 @@ use mathlib.Core.Path.{_≡_, sym, _∙_, ap, subst}
 use mathlib.Core.Bool.{Bool, false}
 use mathlib.Core.List.{List, _∷_}
 use mathlib.Core.Logic.{_⊎_, inl, inr, ⊎-elim}
-use lib.ListN.{length}
+use lib.ListN.{length, getD}
 use lib.Dec.{eqb}
 use borrow.Author.Tests.{ltb-false, leb-false, lt-ltb, eq-eqb, eqb-true, eqb-false}
 use Rattle.meaning.specs.Tests.{both, pick, Has}
@@ -28,6 +28,19 @@ module _ {A B C : Type 0} where
   -- From what gives something after a first part, by that part.
   pub after-got : (m : Got A) (k : A → ℕ → Got B) {x : B} {p : ℕ} → next m k ≡ got x p → ((a : A) (q : ℕ) → m ≡ got a q → k a q ≡ got x p → C) → C
   after-got m k e f = let w = next-got m k e in f (w .0) (w .1) (w .2) (w .3)
+
+-- WHAT STANDS where a byte was read.
+module _ {A : Type 0} where
+  pub got-place : {x y : A} {p q : ℕ} → got x p ≡ got y q → p ≡ q
+  got-place {x = x} e = ap place e
+    where
+      place : Got A → ℕ
+      place (got y q) = q
+      place (fault n i) = i
+
+pub byte-got : (s : List ℕ) (p x q : ℕ) → byte-at s p ≡ got x q → (p < length s) × (getD s p 0 ≡ x) × (p + 1 ≡ q)
+unfolding byte-at
+byte-got s p x q e = let u = not-refused _ _ _ _ e in (leb-false (length s) p (u .0), got-same (u .1), got-place (u .1))
 
 -- NUMBERS.
 pub count-within : (least most : ℕ) (s : List ℕ) (p c q : ℕ) → count-at least most s p ≡ got c q → c ≤ most

@@ -1,17 +1,20 @@
 -- What answers 1 and 2 report: which of the plan's paths, by their list, and what is true in a state, by the 0-approximation. The walk is not
--- called (FORMAT 4.36, 4.46, 8.12, 8.16 to 8.20, 11.13 to 11.16).
-use Prim.Native.Nat.{ℕ}
+-- called (FORMAT 4.36, 4.46, 8.12, 8.16 to 8.20, 11.13 to 11.16, 18.4 to 18.6, 18.10 to 18.12).
+use Prim.Native.Nat.{ℕ, _≤_, _<_}
 use mathlib.Core.Path.{_≡_}
 use mathlib.Core.Bool.{Bool, true, false}
-use mathlib.Core.List.{List, _∷_, _++_, map}
+use mathlib.Core.List.{List, [], _∷_, _++_, map}
 use mathlib.Core.Logic.{_⊎_}
+use Rattle.meaning.specs.declared.Runs.{Runs}
+use Rattle.meaning.specs.declared.Runs.the-variants.{By, Short, Never}
 use Rattle.meaning.specs.Tests.{either, Has}
 use Rattle.meaning.specs.Limits
 use Rattle.meaning.specs.Limits.{Limits}
 use Rattle.meaning.specs.Literals.{says-true, says-false}
-use Rattle.meaning.specs.Requests.{Table, Sequence, done, item, Item, act, branching, Branches, none, branch, Entry, Request}
+use Rattle.meaning.specs.Requests.{Executability, Table, Sequence, done, item, Item, act, branching, Branches, none, branch, Entry, Request}
 use Rattle.meaning.specs.States.{State, known, first-state}
 use Rattle.meaning.specs.Walk.{in-state, table-step}
+use Rattle.meaning.specs.Asking.{short-by, asked, line-of}
 use Rattle.meaning.specs.Approximation.{Pair, true-in, false-in, executable, failed, state, None-true, Φ̂, least}
 use Rattle.meaning.specs.Paths.{arrives, stops, Path, paths}
 
@@ -102,3 +105,32 @@ pub record Stopped-at (r : Request) (xs : List (Path State)) (place : ℕ) (u : 
   pub stands : item-place stop ≡ place
   pub not-run : Not-run (r .table) stop (pair-of u)
   pub fails : Φ̂ (r .table) (r .plan) (least (r .table)) failed
+
+-- WHAT WAS MISSING. A line's body is known true in the state, or a literal of it is not.
+module _ (s : State) where
+  abbrev pub Known : Executability → Type 0
+  Known x = (l : ℕ) → Has (x .body) l → known s l ≡ true
+
+  abbrev pub Lacks : Executability → Type 0
+  Lacks x = (l : ℕ) × Has (x .body) l × (known s l ≡ false)
+
+  -- What each case of asking stands for, of an action's lines in file order (FORMAT 18.4 to 18.6).
+  module _ (xs : List Executability) where
+    -- The line at p is the first that allows the action.
+    abbrev pub First-allowing : ℕ → Type 0
+    First-allowing p = First Lacks (λ x. Known x × (x .place ≡ p)) xs
+
+    -- None allows it. The line at p has n literals that are not known true, none has fewer, and every line before it has more.
+    pub record Nearest (p : ℕ) : Type 0 where
+      pub none : (x : Executability) → Has xs x → Lacks x
+      pub n : ℕ
+      pub fewest : (x : Executability) → Has xs x → n ≤ short-by (known s) (x .body)
+      pub line : First (λ x. n < short-by (known s) (x .body)) (λ x. (short-by (known s) (x .body) ≡ n) × (x .place ≡ p)) xs
+
+    abbrev pub Stands-for : Runs → Type 0
+    Stands-for r = elim r [ By p ↦ First-allowing p | Short p ↦ Nearest p | Never ↦ xs ≡ [] ]
+
+-- The line of an item that can't be run in a state: that which asking names of an action, 0 of a branching (FORMAT 18.10 to 18.12).
+unfoldable pub item-line : Table → Item ℕ → State → ℕ
+item-line t (act p a) u = line-of (asked t a u)
+item-line t (branching p bs) u = 0

@@ -13,3 +13,11 @@ pub enum Layout {
     Plain,
     Closing,
 }
+
+// What asking whether an action can be run gives, a line by its place: the first line that allows it; or, where none does, the one that is
+// short by the fewest literals; or that it has no line. `Asking.asked` is the definition.
+pub enum Runs {
+    By(usize),
+    Short(usize),
+    Never,
+}

@@ -13,6 +13,7 @@ use Rattle.meaning.specs.Tests.{both, fails, pick, each-of}
 use Rattle.meaning.specs.Limits.{format, all-literals}
 use Rattle.meaning.specs.Literals.{positive, complement, fluent-of}
 use Rattle.meaning.specs.States.{State, mark-of, known, possible, told, told-all, state-of}
+use Rattle.meaning.specs.Asking.{short-by}
 use Rattle.meaning.proofs.TestLaws.{both-none, pick-true, pick-false}
 use Rattle.meaning.proofs.LiteralLaws.{by-literal, complement-true, complement-false, fluent-complement}
 use Rattle.meaning.proofs.StateLaws.{mark-true, mark-false, known-possible}
@@ -44,26 +45,26 @@ module _ (l mark : ℕ) (is : mark ≡ mark-of l) where
   mark-within = let most = mark-most l in omega arith
 
   module _ (marks : State) where
-    known-is : known marks l ≡ eqb (getD marks (l / 2) 0) mark
+    mark-known : known marks l ≡ eqb (getD marks (l / 2) 0) mark
     unfolding known fluent-of
-    known-is = rw is
+    mark-known = rw is
 
-    possible-is : possible marks l ≡ fails (eqb (getD marks (l / 2) 0) (3 - mark))
+    mark-possible : possible marks l ≡ fails (eqb (getD marks (l / 2) 0) (3 - mark))
     unfolding possible known fluent-of
-    possible-is = ap fails (rw (fluent-complement l, mark-other l, is))
+    mark-possible = ap fails (rw (fluent-complement l, mark-other l, is))
 
     module _ (test : Test) where
       pub holds-known : test ≡ Known → eqb (getD marks (l / 2) 0) mark ≡ holds-as test marks l
       unfolding holds-as
-      holds-known e = rw e (sym known-is)
+      holds-known e = rw e (sym mark-known)
 
       pub holds-not : test ≡ Possible → getD marks (l / 2) 0 ≡ 3 - mark → false ≡ holds-as test marks l
       unfolding holds-as fails
-      holds-not e same = rw e (sym (possible-is ∙ ap fails (eq-eqb _ _ same)))
+      holds-not e same = rw e (sym (mark-possible ∙ ap fails (eq-eqb _ _ same)))
 
       pub holds-possible : test ≡ Possible → (getD marks (l / 2) 0 ≡ 3 - mark → ⊥) → true ≡ holds-as test marks l
       unfolding holds-as fails
-      holds-possible e other = rw e (sym (possible-is ∙ ap fails (ne-eqb _ _ other)))
+      holds-possible e other = rw e (sym (mark-possible ∙ ap fails (ne-eqb _ _ other)))
 
 -- What the entries that are left tell in one look, where those before were all known or some was not.
 unfoldable pub look-on : (sure : Bool) (marks : State) → List ℕ → Look
@@ -101,6 +102,9 @@ module _ (s : List ℕ) (p : ℕ) (here : List-here all-literals s p) where
     unfolding look-at look-on both
     look-starts marks = ap (look-on true marks) (sym list-starts)
 
+    pub short-starts : (marks : State) → short-by (known marks) (listed s p) ≡ 0 + short-by (known marks) (bytes-from s (p + 1) (end - (p + 1)))
+    short-starts marks = let same = ap (short-by (known marks)) (sym list-starts) in omega (arith, same)
+
     pub state-starts : state-of format (listed s p) ≡ told-all (bytes-from s (p + 1) (end - (p + 1))) (replicate (format .state) 0)
     unfolding state-of
     state-starts = ap (λ (ls : List ℕ). told-all ls (replicate (format .state) 0)) (sym list-starts)
@@ -111,6 +115,9 @@ module _ (s : List ℕ) (p : ℕ) (here : List-here all-literals s p) where
 
       pub entry-fits : Fits w64 (length s) → Fits w64 (i + 1)
       entry-fits room = let there = entry-there in let most = room .fits in record { fits = omega arith }
+
+      pub short-fits : (short : ℕ) → short < i → Fits w64 (length s) → Fits w64 (short + 1)
+      short-fits short few room = let there = entry-there in let most = room .fits in record { fits = omega arith }
 
       pub entry-below : (l : ℕ) → l ≡ getD s i 0 → l < all-literals
       entry-below l e =
@@ -170,16 +177,16 @@ module _ (whole : Look) (sure : Bool) (marks : State) (s : List ℕ) (end i : �
 
     pub look-known : getD marks (l / 2) 0 ≡ mark → whole ≡ look-on sure marks others
     unfolding look-on both
-    look-known e = let k = known-is l mark is marks ∙ eq-eqb _ _ e in look-first true true k (known-possible marks l k)
+    look-known e = let k = mark-known l mark is marks ∙ eq-eqb _ _ e in look-first true true k (known-possible marks l k)
 
     module _ (not : getD marks (l / 2) 0 ≡ mark → ⊥) where
       pub look-never : getD marks (l / 2) 0 ≡ 3 - mark → look.Never ≡ whole
       unfolding both fails pick
-      look-never e = sym (look-first false false (known-is l mark is marks ∙ ne-eqb _ _ not) (possible-is l mark is marks ∙ ap fails (eq-eqb _ _ e)) ∙ pick-false _ _ _ (both-none sure))
+      look-never e = sym (look-first false false (mark-known l mark is marks ∙ ne-eqb _ _ not) (mark-possible l mark is marks ∙ ap fails (eq-eqb _ _ e)) ∙ pick-false _ _ _ (both-none sure))
 
       pub look-unsure : (getD marks (l / 2) 0 ≡ 3 - mark → ⊥) → whole ≡ look-on false marks others
       unfolding look-on both fails pick
-      look-unsure e = look-first false true (known-is l mark is marks ∙ ne-eqb _ _ not) (possible-is l mark is marks ∙ ap fails (ne-eqb _ _ e)) ∙ pick-false _ _ _ (both-none sure)
+      look-unsure e = look-first false true (mark-known l mark is marks ∙ ne-eqb _ _ not) (mark-possible l mark is marks ∙ ap fails (ne-eqb _ _ e)) ∙ pick-false _ _ _ (both-none sure)
 
   pub look-sure-done : end ≤ i → sure ≡ true → look.Known ≡ whole
   unfolding look-on each-of both pick
@@ -197,3 +204,25 @@ module _ (whole : State) (s : List ℕ) (end i : ℕ) (marks : State) (so-far : 
   pub state-done : end ≤ i → marks ≡ whole
   unfolding told-all
   state-done h = sym (so-far ∙ rw (entry-last s end i h))
+
+-- SHORT BY: how many are not known true among the entries before the one at i, and from it on.
+module _ (whole : ℕ) (marks : State) (s : List ℕ) (end i short : ℕ) (so-far : whole ≡ short + short-by (known marks) (bytes-from s i (end - i))) where
+  module _ (b : Bool) (l : ℕ) (more : i < end) (entry : l ≡ getD s i 0) (tested : b ≡ holds-as Known marks l) where
+    known-is : b ≡ known marks (getD s i 0)
+    unfolding holds-as
+    known-is = tested ∙ ap (known marks) entry
+
+    pub short-same : b ≡ true → whole ≡ short + short-by (known marks) (bytes-from s (i + 1) (end - (i + 1)))
+    unfolding short-by
+    short-same t = so-far ∙ ap (λ (x : ℕ). short + x) (rw (entry-next s end i more) (pick-true _ _ _ (sym known-is ∙ t)))
+
+    pub short-more : b ≡ false → whole ≡ short + 1 + short-by (known marks) (bytes-from s (i + 1) (end - (i + 1)))
+    unfolding short-by
+    short-more f =
+        let next : short-by (known marks) (bytes-from s i (end - i)) ≡ short-by (known marks) (bytes-from s (i + 1) (end - (i + 1))) + 1 =
+        rw (entry-next s end i more) (pick-false _ _ _ (sym known-is ∙ f)) in
+        omega (arith, so-far, next)
+
+  pub short-done : end ≤ i → short ≡ whole
+  unfolding short-by
+  short-done h = let none : short-by (known marks) (bytes-from s i (end - i)) ≡ 0 = rw (entry-last s end i h) in omega (arith, so-far, none)

@@ -13,6 +13,7 @@ use Rattle.meaning.specs.Requests.{Effect, Executability, Knowledge}
 use Rattle.meaning.specs.Reading.{Got, got, fault, next, byte-at, count-at, below-at, list-at, body-at, effect-at, executability-at, knowledge-at, repeated, section-at}
 use Rattle.meaning.proofs.SettledLaws.{got-same, next-got, fault≢got}
 use Rattle.meaning.proofs.RangeLaws.{not-refused, after-got, repeated-length}
+pub use Rattle.meaning.proofs.RangeLaws.{got-place, byte-got}
 use Rattle.bytes.specs.declared.bytes.Read.{Read}
 use Rattle.bytes.specs.declared.bytes.Read.the-variants.{Value, Fault}
 use Rattle.bytes.specs.declared.lists.Passed.{Passed}
@@ -55,18 +56,6 @@ unfolding section-of
 knowledge-fits c f e h = h (rw e)
 
 -- WHAT STANDS where something was read.
-module _ {A : Type 0} where
-  pub got-place : {x y : A} {p q : ℕ} → got x p ≡ got y q → p ≡ q
-  got-place {x = x} e = ap place e
-    where
-      place : Got A → ℕ
-      place (got y q) = q
-      place (fault n i) = i
-
-pub byte-got : (s : List ℕ) (p x q : ℕ) → byte-at s p ≡ got x q → (p < length s) × (getD s p 0 ≡ x) × (p + 1 ≡ q)
-unfolding byte-at
-byte-got s p x q e = let u = not-refused _ _ _ _ e in (leb-false (length s) p (u .0), got-same (u .1), got-place (u .1))
-
 pub number-got : (bound : ℕ) (s : List ℕ) (p x q : ℕ) → below-at bound s p ≡ got x q → (p < length s) × (getD s p 0 ≡ x) × (p + 1 ≡ q) × (x < bound)
 unfolding below-at
 number-got bound s p x q e =

@@ -2,7 +2,8 @@ ghost use mathlib.Core.Path.{_≡_};
 ghost use Prim.Native.Nat.{_<_};
 ghost use Rattle.meaning.specs.Tests.{each-of};
 ghost use Rattle.meaning.specs.Limits.{format, all-literals};
-ghost use Rattle.meaning.specs.States.{mark-of, state-of};
+ghost use Rattle.meaning.specs.States.{mark-of, known, state-of};
+ghost use Rattle.meaning.specs.Asking.{short-by};
 ghost use Rattle.reading.specs.Listed.{listed, List-here, holds-as, look-at};
 use bytes::bytes::wide;
 use bytes::limits;
@@ -98,6 +99,27 @@ pub fn look_at(marks: &Marks, s: &[u8], p: usize) -> Look
         return Look::Known;
     }
     Look::Possible
+}
+
+// How many literals of the list at p are not known true.
+pub fn short_by(marks: &Marks, s: &[u8], p: usize) -> usize
+    requires { ⌜ List-here all-literals (now s) p ⌝ }
+    ensures { λ r. ⌜ r ≡ short-by (known (now (marks .entry))) (listed (now (s .entry)) p) ⌝ }
+{
+    let first = p + 1;
+    let end = first + wide(s[p]);
+    let mut short = 0;
+    let mut i = first;
+    while i < end {
+        let l = wide(s[i]);
+        i += 1;
+        let good = holds(Test::Known, marks, l);
+        if good {
+            continue;
+        }
+        short += 1;
+    }
+    short
 }
 
 // The state that holds the literals of the list at p and nothing else.

@@ -3,52 +3,103 @@ use Prim.Native.Nat.{ℕ, _+_, _-_, _/_, _≤_, _<_}
 use native.Mathlib.Omega.{arith}
 use mathlib.Core.Path.{_≡_, refl, sym, _∙_, ap}
 use mathlib.Core.Bool.{Bool, true, false}
-use mathlib.Core.List.{List, []}
+use mathlib.Core.List.{List}
 use lib.ListN.{length, getD, set}
-use lib.Dec.{eqb}
+use lib.Dec.{ltb, eqb}
 use mir.Syntax.{w64}
 use mir.Val.{Fits}
-use borrow.Author.Tests.{eq-eqb, ne-eqb}
-use Rattle.meaning.specs.Tests.{either, some-of, each-of}
+use borrow.Author.Tests.{eqb-true, eqb-false, eq-eqb, ne-eqb, lt-ltb, le-ltb}
+use Rattle.meaning.specs.declared.Runs.{Runs}
+use Rattle.meaning.specs.declared.Runs.the-variants.{By, Short, Never}
+use Rattle.meaning.specs.Tests.{pick, each-of}
 use Rattle.meaning.specs.Limits.{format, all-literals}
 use Rattle.meaning.specs.Literals.{fluent-of, complement}
+use Rattle.meaning.specs.Lines.{executability-of}
 use Rattle.meaning.specs.States.{State, mark-of, known, told, can-be-run}
-use Rattle.meaning.proofs.TestLaws.{pick-true, pick-false}
+use Rattle.meaning.specs.Asking.{short-by, nearest, asked, allows}
+use Rattle.meaning.proofs.AskingLaws.{can-be-run-asked}
+use Rattle.meaning.proofs.TestLaws.{by-test, pick-true, pick-false}
 use Rattle.meaning.proofs.PickLaws.{pick-has}
 use Rattle.meaning.proofs.LiteralLaws.{fluent-complement}
-use Rattle.reading.specs.Noted.{effect-lines, run-lines, line-place, next-line, first-line}
+use Rattle.reading.specs.Noted.{effect-lines, run-lines, line-place, next-line, first-line, line-numbers}
 use Rattle.reading.specs.Listed.{listed, List-here, holds-as, look-at}
 use Rattle.finding.specs.LinesHere.{Effect-here}
-use Rattle.finding.proofs.AheadLaws.{Ahead, Runs-ahead, ahead-starts, ahead-none, ahead-first, line-others, line-rest, line-fit}
+use Rattle.finding.proofs.AheadLaws.{Ahead, Runs-ahead, ahead-starts, ahead-none, ahead-first, line-few, line-others, line-rest, line-fit}
 use Rattle.reading.specs.declared.marks.Test.the-variants.{Known}
 use Rattle.reading.specs.declared.marks.Look.{Look}
 use Rattle.reading.specs.declared.marks.Look.the-variants as look
 use Rattle.reading.proofs.MarkLaws.{mark-other, mark-most}
 use Rattle.steps.specs.Held.{table-in}
 use Rattle.steps.specs.AtHand.{At-hand, Marked}
-use Rattle.steps.specs.LinesFound.{run-places, effect-places, allowed-at}
+use Rattle.steps.specs.LinesFound.{run-places, effect-places, short-at, fewest-at, nearest-at, first-allowing-at}
 use Rattle.steps.proofs.Served.{runs-at-hand, effects-at-hand}
 use Rattle.steps.proofs.Sweeps.{mark-some, undone, turned, turn-is, swept-one, swept-at}
 use Rattle.steps.proofs.LookLaws.{marked-set}
 
 -- EXECUTABILITY LINES.
-pub record Running (s t : List ℕ) (marks : State) (whole : Bool) (k : ℕ) : Type 0 where
+-- What asking gives where no line allows the action.
+abbrev pub near : (s : List ℕ) (a : ℕ) (marks : State) → Runs
+near s a marks = nearest (known marks) (executability-of (table-in s) a)
+
+pub record Running (s t : List ℕ) (a : ℕ) (marks : State) (k : ℕ) : Type 0 where
   pub ahead : Runs-ahead s t k
-  pub same : whole ≡ allowed-at s (known marks) (ahead .rest)
+  pub same : asked (table-in s) a marks ≡ first-allowing-at s (known marks) (ahead .rest) (λ _. near s a marks)
 
-pub running-starts : (s t : List ℕ) (a : ℕ) (marks : State) (k : ℕ) → At-hand s t → a < format .actions → k ≡ first-line t run-lines a → Running s t marks (can-be-run (table-in s) a marks) k
-unfolding can-be-run ahead-starts
-running-starts s t a marks k here small at =
-    let runs = runs-at-hand s t here a in
-    record {
-      ahead = ahead-starts (λ (p : ℕ). List-here all-literals s (p + 1)) t run-lines a (run-places s a) (here .runs a small) (runs .lines) k at;
-      same = sym (runs .same (known marks));
-    }
+-- The best line before line k stands at `best` and is short by `fewest`.
+pub record Nearing (s t : List ℕ) (a : ℕ) (marks : State) (best fewest k : ℕ) : Type 0 where
+  pub ahead : Runs-ahead s t k
+  pub same : near s a marks ≡ Short (fewest-at s (known marks) best fewest (ahead .rest))
 
-module _ (s t : List ℕ) (marks : State) (whole : Bool) (k : ℕ) (run : Running s t marks whole k) where
-  pub running-done : k ≤ 0 → false ≡ whole
-  unfolding allowed-at some-of
-  running-done h = sym (run .same ∙ ap (allowed-at s (known marks)) (ahead-none _ t run-lines k (run .ahead) h))
+positive : (k : ℕ) → (k ≡ 0 → ⊥) → 0 < k
+positive k some = by-test (eqb k 0) (λ t. absurd (some (eqb-true _ _ t))) (λ f. let other = eqb-false k 0 f in omega (arith, other))
+
+-- All the action's lines.
+module _ (s t : List ℕ) (a : ℕ) (k : ℕ) (here : At-hand s t) (small : a < format .actions) (at : k ≡ first-line t run-lines a) where
+  abbrev runs-all : Runs-ahead s t k
+  runs-all = ahead-starts (λ (p : ℕ). List-here all-literals s (p + 1)) t run-lines a (run-places s a) (here .runs a small) (runs-at-hand s t here a .lines) k at
+
+  pub running-starts : (marks : State) → Running s t a marks k
+  unfolding asked ahead-starts
+  running-starts marks = record { ahead = runs-all; same = sym (runs-at-hand s t here a .first (known marks) (λ _. near s a marks)) }
+
+  -- It has none.
+  pub never-near : (marks : State) → k ≡ 0 → Never ≡ near s a marks
+  unfolding ahead-starts nearest-at
+  never-near marks none =
+      sym (sym (runs-at-hand s t here a .near (known marks)) ∙ ap (nearest-at s (known marks)) (ahead-none (λ (p : ℕ). List-here all-literals s (p + 1)) t run-lines k runs-all (omega (arith, none))))
+
+  -- Or a first one.
+  module _ (some : k ≡ 0 → ⊥) where
+    abbrev there : 0 < k
+    there = positive k some
+
+    pub first-few : k < line-numbers
+    first-few = line-few (λ (p : ℕ). List-here all-literals s (p + 1)) t run-lines k runs-all there
+
+    module _ (p : ℕ) (stands : p ≡ line-place t run-lines k) where
+      pub first-body : List-here all-literals s (p + 1)
+      first-body = line-fit (λ (q : ℕ). List-here all-literals s (q + 1)) t run-lines k runs-all there p stands
+
+      pub first-body-fits : Fits w64 (length s) → Fits w64 (p + 1)
+      first-body-fits room = let ends = first-body .ends in let most = room .fits in record { fits = omega arith }
+
+      pub nearing-starts : (marks : State) (short j : ℕ) → short ≡ short-by (known marks) (listed s (p + 1)) → j ≡ next-line t run-lines k → Nearing s t a marks p short j
+      unfolding ahead-starts line-others nearest-at short-at
+      nearing-starts marks short j counted onward =
+          let Body : ℕ → Type 0 = λ q. List-here all-literals s (q + 1) in
+          record {
+            ahead = line-others Body t run-lines k runs-all there j onward;
+            same =
+                sym (runs-at-hand s t here a .near (known marks))
+                ∙ ap (nearest-at s (known marks)) (line-rest Body t run-lines k runs-all there p stands)
+                ∙ ap (λ (n : ℕ). Short (fewest-at s (known marks) p n (ahead-first Body t run-lines k runs-all there .others))) (sym counted);
+          }
+
+module _ (s t : List ℕ) (a : ℕ) (marks : State) (k : ℕ) (run : Running s t a marks k) where
+  pub running-done : k ≤ 0 → (r : Runs) → r ≡ near s a marks → r ≡ asked (table-in s) a marks
+  unfolding first-allowing-at
+  running-done h r is =
+      is ∙ sym (run .same ∙ ap (λ (ps : List ℕ). first-allowing-at s (known marks) ps (λ _. near s a marks)) (ahead-none _ t run-lines k (run .ahead) h))
 
   module _ (more : 0 < k) (p : ℕ) (at : p ≡ line-place t run-lines k) where
     others : List ℕ
@@ -61,21 +112,65 @@ module _ (s t : List ℕ) (marks : State) (whole : Bool) (k : ℕ) (run : Runnin
     run-body-fits room = let ends = run-body .ends in let most = room .fits in record { fits = omega arith }
 
     module _ (b : Bool) (tested : b ≡ each-of (holds-as Known marks) (listed s (p + 1))) where
-      run-whole : whole ≡ either b (allowed-at s (known marks) others)
-      unfolding others allowed-at some-of holds-as
-      run-whole = run .same ∙ ap (allowed-at s (known marks)) (line-rest _ t run-lines k (run .ahead) more p at) ∙ rw tested
+      run-whole : asked (table-in s) a marks ≡ pick b (λ _. By p) (λ _. first-allowing-at s (known marks) others (λ _. near s a marks))
+      unfolding others first-allowing-at holds-as
+      run-whole =
+          run .same ∙ ap (λ (ps : List ℕ). first-allowing-at s (known marks) ps (λ _. near s a marks)) (line-rest _ t run-lines k (run .ahead) more p at) ∙ rw tested
 
-      pub run-met : b ≡ true → true ≡ whole
-      unfolding either
-      run-met e = sym (run-whole ∙ ap (λ (x : Bool). either x (allowed-at s (known marks) others)) e)
+      pub run-met : b ≡ true → By p ≡ asked (table-in s) a marks
+      run-met e = sym (run-whole ∙ pick-true _ _ _ e)
 
-      pub run-next : (j : ℕ) → b ≡ false → j ≡ next-line t run-lines k → Running s t marks whole j
-      unfolding others either line-others
-      run-next j e onward =
-          record {
-            ahead = line-others _ t run-lines k (run .ahead) more j onward;
-            same = run-whole ∙ ap (λ (x : Bool). either x (allowed-at s (known marks) others)) e;
-          }
+      pub run-next : (j : ℕ) → b ≡ false → j ≡ next-line t run-lines k → Running s t a marks j
+      unfolding others line-others
+      run-next j e onward = record { ahead = line-others _ t run-lines k (run .ahead) more j onward; same = run-whole ∙ pick-false _ _ _ e }
+
+module _ (s t : List ℕ) (a : ℕ) (marks : State) (best fewest k : ℕ) (nears : Nearing s t a marks best fewest k) where
+  pub nearing-done : k ≤ 0 → Short best ≡ near s a marks
+  unfolding fewest-at
+  nearing-done h = sym (nears .same ∙ ap (λ (ps : List ℕ). Short (fewest-at s (known marks) best fewest ps)) (ahead-none _ t run-lines k (nears .ahead) h))
+
+  module _ (more : 0 < k) (p : ℕ) (at : p ≡ line-place t run-lines k) where
+    later : List ℕ
+    later = ahead-first (λ (q : ℕ). List-here all-literals s (q + 1)) t run-lines k (nears .ahead) more .others
+
+    pub near-body : List-here all-literals s (p + 1)
+    near-body = line-fit (λ (q : ℕ). List-here all-literals s (q + 1)) t run-lines k (nears .ahead) more p at
+
+    pub near-body-fits : Fits w64 (length s) → Fits w64 (p + 1)
+    near-body-fits room = let ends = near-body .ends in let most = room .fits in record { fits = omega arith }
+
+    module _ (short j : ℕ) (counted : short ≡ short-by (known marks) (listed s (p + 1))) (onward : j ≡ next-line t run-lines k) where
+      near-whole : near s a marks ≡ Short (pick (ltb short fewest) (λ _. fewest-at s (known marks) p short later) (λ _. fewest-at s (known marks) best fewest later))
+      unfolding later fewest-at short-at
+      near-whole =
+          nears .same
+          ∙ ap (λ (ps : List ℕ). Short (fewest-at s (known marks) best fewest ps)) (line-rest _ t run-lines k (nears .ahead) more p at)
+          ∙ rw counted
+
+      pub near-fewer : short < fewest → Nearing s t a marks p short j
+      unfolding later line-others
+      near-fewer less = record { ahead = line-others _ t run-lines k (nears .ahead) more j onward; same = near-whole ∙ ap Short (pick-true _ _ _ (lt-ltb _ _ less)) }
+
+      pub near-kept : fewest ≤ short → Nearing s t a marks best fewest j
+      unfolding later line-others
+      near-kept not = record { ahead = line-others _ t run-lines k (nears .ahead) more j onward; same = near-whole ∙ ap Short (pick-false _ _ _ (le-ltb _ _ not)) }
+
+-- WHETHER IT CAN BE RUN.
+module _ (s : List ℕ) (a : ℕ) (marks : State) (r : Runs) (is : r ≡ asked (table-in s) a marks) where
+  runs-is : can-be-run (table-in s) a marks ≡ allows r
+  runs-is = can-be-run-asked (table-in s) a marks ∙ ap allows (sym is)
+
+  pub runs-by : (p : ℕ) → r ≡ By p → true ≡ can-be-run (table-in s) a marks
+  unfolding allows
+  runs-by p e = sym (runs-is ∙ ap allows e)
+
+  pub runs-short : (p : ℕ) → r ≡ Short p → false ≡ can-be-run (table-in s) a marks
+  unfolding allows
+  runs-short p e = sym (runs-is ∙ ap allows e)
+
+  pub runs-never : r ≡ Never → false ≡ can-be-run (table-in s) a marks
+  unfolding allows
+  runs-never e = sym (runs-is ∙ ap allows e)
 
 -- EFFECTS.
 abbrev pub Effects-ahead : (s t : List ℕ) (k : ℕ) → Type 0

@@ -7,17 +7,20 @@ use mathlib.Core.List.{List, [], _∷_, map}
 use mathlib.Core.Logic.{inl, inr}
 use lib.ListN.{getD}
 use lib.Dec.{eqb}
+use Rattle.meaning.specs.declared.Runs.{Runs}
+use Rattle.meaning.specs.declared.Runs.the-variants.{By, Short}
 use Rattle.meaning.specs.Tests.{both, some-of, each-of, those-of, Has}
 use Rattle.meaning.specs.Limits.{all-literals}
 use Rattle.meaning.specs.Requests.{Effect, Executability}
-use Rattle.meaning.specs.Lines.{effects-of, executability-of, allowed, given}
+use Rattle.meaning.specs.Lines.{effects-of, executability-of, given}
+use Rattle.meaning.specs.Asking.{short-by, fewest, nearest, first-allowing}
 use Rattle.meaning.proofs.TestLaws.{those-has, some-mapped}
 use Rattle.reading.specs.Listed.{listed, List-here}
 use Rattle.finding.specs.LinesHere.{effect-from, Effect-here}
 use Rattle.finding.proofs.ReadLaws.{effect-good, run-stands}
 use Rattle.steps.specs.Held.{table-in}
 use Rattle.steps.specs.AtHand.{At-hand}
-use Rattle.steps.specs.LinesFound.{run-places, effect-places, allowed-at, given-at}
+use Rattle.steps.specs.LinesFound.{run-places, effect-places, short-at, fewest-at, nearest-at, first-allowing-at, given-at}
 use Rattle.steps.proofs.HandLaws.{sections}
 
 -- THE PLACES of the lines that pass a test: each is that of a line, and what some place passes some line passes, where the two tests agree.
@@ -33,28 +36,60 @@ module _ {A : Type 0} (stands : A → ℕ) (acts : A → Bool) where
   those-same : (test : ℕ → Bool) (g : A → Bool) (xs : List A) → ((x : A) → Has xs x → test (stands x) ≡ g x) → some-of test (map stands (those-of acts xs)) ≡ some-of g (those-of acts xs)
   those-same test g xs same = some-mapped stands test g (those-of acts xs) (λ y has. same y (those-has acts xs y has .0))
 
+-- EXECUTABILITY LINES whose bodies stand behind their places: what asking gives by the bytes is what it gives of the lines.
+module _ (s : List ℕ) (test : ℕ → Bool) where
+  abbrev Bodies-there : List Executability → Type 0
+  Bodies-there xs = (x : Executability) → Has xs x → listed s (x .place + 1) ≡ x .body
+
+  abbrev places : List Executability → List ℕ
+  places = map (λ (x : Executability). x .place)
+
+  fewest-same : (xs : List Executability) → Bodies-there xs → (p n : ℕ) → fewest-at s test p n (places xs) ≡ fewest test p n xs
+  unfolding fewest-at fewest short-at
+  fewest-same [] there p n = refl
+  fewest-same (x ∷ xs) there p n =
+      rw (
+        there x (inl refl),
+        fewest-same xs (λ y h. there y (inr h)) (x .place) (short-by test (x .body)),
+        fewest-same xs (λ y h. there y (inr h)) p n,
+      )
+
+  nearest-same : (xs : List Executability) → Bodies-there xs → nearest-at s test (places xs) ≡ nearest test xs
+  unfolding nearest-at nearest short-at
+  nearest-same [] there = refl
+  nearest-same (x ∷ xs) there = ap Short (rw (there x (inl refl)) (fewest-same xs (λ y h. there y (inr h)) (x .place) (short-by test (x .body))))
+
+  first-same : (xs : List Executability) → Bodies-there xs → (otherwise : Unit {0} → Runs) → first-allowing-at s test (places xs) otherwise ≡ first-allowing test xs otherwise
+  unfolding first-allowing-at first-allowing
+  first-same [] there otherwise = refl
+  first-same (x ∷ xs) there otherwise = rw (there x (inl refl), first-same xs (λ y h. there y (inr h)) otherwise)
+
 -- THE LINES OF AN ACTION.
-pub record Runs (s : List ℕ) (a : ℕ) : Type 0 where
+pub record Run-lines (s : List ℕ) (a : ℕ) : Type 0 where
   pub lines : (p : ℕ) → Has (run-places s a) p → List-here all-literals s (p + 1)
-  pub same : (test : ℕ → Bool) → allowed-at s test (run-places s a) ≡ allowed test (executability-of (table-in s) a)
+  pub first : (test : ℕ → Bool) (otherwise : Unit {0} → Runs) → first-allowing-at s test (run-places s a) otherwise ≡ first-allowing test (executability-of (table-in s) a) otherwise
+  pub near : (test : ℕ → Bool) → nearest-at s test (run-places s a) ≡ nearest test (executability-of (table-in s) a)
 
 pub record Effects (s : List ℕ) (a : ℕ) : Type 0 where
   pub lines : (p : ℕ) → Has (effect-places s a) p → Effect-here s p
   pub same : (test : ℕ → Bool) (l : ℕ) → given-at s test (effect-places s a) l ≡ given test (effects-of (table-in s) a) l
 
 module _ (s t : List ℕ) (here : At-hand s t) (a : ℕ) where
-  pub runs-at-hand : Runs s a
-  unfolding run-places allowed-at allowed executability-of
+  pub runs-at-hand : Run-lines s a
+  unfolding run-places executability-of
   runs-at-hand =
       let stands = run-stands s (table-in s) (here .table-end) (sections s t here) in
       record {
         lines = λ p has.
             let w = those-placed (λ (r : Executability). r .place) (λ (r : Executability). eqb (r .action) a) (table-in s .executability) p has in
             rw (w .2) (stands (w .0) (w .1) .1);
-        same = λ test.
-            those-same (λ (r : Executability). r .place) (λ (r : Executability). eqb (r .action) a) (λ p. each-of test (listed s (p + 1))) (λ (r : Executability). each-of test (r .body)) (table-in s .executability)
-            (λ r has. ap (each-of test) (stands r has .0));
+        first = λ test. first-same s test (those-of (λ (r : Executability). eqb (r .action) a) (table-in s .executability)) (there stands);
+        near = λ test. nearest-same s test (those-of (λ (r : Executability). eqb (r .action) a) (table-in s .executability)) (there stands);
       }
+    where
+      there : ((r : Executability) → Has (table-in s .executability) r → (listed s (r .place + 1) ≡ r .body) × List-here all-literals s (r .place + 1))
+          → (r : Executability) → Has (those-of (λ (x : Executability). eqb (x .action) a) (table-in s .executability)) r → listed s (r .place + 1) ≡ r .body
+      there stands r has = stands r (those-has (λ (x : Executability). eqb (x .action) a) (table-in s .executability) r has .0) .0
 
   pub effects-at-hand : Effects s a
   unfolding effect-places given-at given effects-of effect-from

@@ -2,13 +2,16 @@
 use Prim.Native.Nat.{ℕ, _+_, _-_, _≤_, _<_}
 use mathlib.Core.Path.{_≡_}
 use mathlib.Core.Bool.{Bool, true}
-use mathlib.Core.List.{List, map}
+use mathlib.Core.List.{List, [], _∷_, map}
 use lib.ListN.{getD}
 use lib.Dec.{eqb, ltb}
-use Rattle.meaning.specs.Tests.{both, some-of, each-of}
+use Rattle.meaning.specs.declared.Runs.{Runs}
+use Rattle.meaning.specs.declared.Runs.the-variants.{By, Short, Never}
+use Rattle.meaning.specs.Tests.{both, pick, some-of, each-of}
 use Rattle.meaning.specs.Limits.{format}
 use Rattle.meaning.specs.Requests.{Effect, Executability}
 use Rattle.meaning.specs.Lines.{effects-of, executability-of, knowledge-of, sensing, senses}
+use Rattle.meaning.specs.Asking.{short-by}
 use Rattle.reading.specs.Noted.{sensed-from, sensed-to, pair-there}
 use Rattle.reading.specs.Listed.{listed}
 use Rattle.steps.specs.Held.{table-in}
@@ -20,9 +23,22 @@ run-places s a = map (λ (r : Executability). r .place) (executability-of (table
 unfoldable pub effect-places : List ℕ → (a : ℕ) → List ℕ
 effect-places s a = map (λ (e : Effect). e .place) (effects-of (table-in s) a)
 
--- Some executability line has a body each of whose literals passes the test.
-unfoldable pub allowed-at : List ℕ → (ℕ → Bool) → List ℕ → Bool
-allowed-at s test = some-of (λ (p : ℕ). each-of test (listed s (p + 1)))
+-- WHAT ASKING GIVES of executability lines, by the bytes behind these places. How many literals of a line's body fail the test.
+module _ (s : List ℕ) (test : ℕ → Bool) where
+  unfoldable pub short-at : (place : ℕ) → ℕ
+  short-at p = short-by test (listed s (p + 1))
+
+  unfoldable pub fewest-at : (place n : ℕ) → List ℕ → ℕ
+  fewest-at p n [] = p
+  fewest-at p n (q ∷ qs) = pick (ltb (short-at q) n) (λ _. fewest-at q (short-at q) qs) (λ _. fewest-at p n qs)
+
+  unfoldable pub nearest-at : List ℕ → Runs
+  nearest-at [] = Never
+  nearest-at (p ∷ ps) = Short (fewest-at p (short-at p) ps)
+
+  unfoldable pub first-allowing-at : List ℕ → (otherwise : Unit {0} → Runs) → Runs
+  first-allowing-at [] otherwise = otherwise tt
+  first-allowing-at (p ∷ ps) otherwise = pick (each-of test (listed s (p + 1))) (λ _. By p) (λ _. first-allowing-at ps otherwise)
 
 -- Some effect gives the literal by a body each of whose literals passes the test.
 unfoldable pub given-at : List ℕ → (ℕ → Bool) → List ℕ → ℕ → Bool

@@ -1,45 +1,48 @@
 -- The three ways out: another length than a state's, a refusal, and the walk of a settled request. Each is a case of the definition.
 use borrow.Author.Needs.{needs}
 use Rattle.glintstring.proofs.JudgingLaws.{judge-9, judge-walked, judge-refused}
+use Rattle.glintstring.proofs.MissingLaws.{line-9, line-walked, line-refused}
 use Rattle.glintstring.proofs.SettledAtHand.{blank-is, settled-at-hand}
 use Rattle.glintstring.proofs.judging.judge.Statement.{statement}
 use Rattle.glintstring.proofs.judging.judge.Tie as tie
 use Rattle.glintstring.proofs.judging.judge.Reads as reads
 use Rattle.glintstring.proofs.judging.judge.Lts as lts
-use Rattle.glintstring.proofs.judging.walk_plan.Reads as walk-plan-reads
+use Rattle.glintstring.proofs.judging.walk_with_line.Reads as walk-with-line-reads
 use Rattle.refusing.proofs.settled.settle.Reads as settle-reads
 
--- src/judging.rt:46:9
+-- src/judging.rt:78:9
 returns : tie.Need-returns
-returns c = search judge-9
+returns c = (search judge-9, search line-9)
 
--- src/judging.rt:49:11
+-- src/judging.rt:89:11
 settle-requires : tie.Need-settle-requires
 settle-requires c κs = search blank-is
 
--- src/judging.rt:50:45
+-- src/judging.rt:90:50
 enum-told : tie.Need-enum-told
 enum-told c = search needs
 
--- src/judging.rt:50:26
-walk-plan-requires : tie.Need-walk-plan-requires
-walk-plan-requires c κs = (search (settled-at-hand, blank-is), search needs)
+-- src/judging.rt:90:26
+walk-with-line-requires : tie.Need-walk-with-line-requires
+walk-with-line-requires c κs =
+    let settles = c .before .before .before .before in
+    (settled-at-hand _ _ _ _ (settles .settle .ensures) _ (c .before .before .enum-told .given .1) (settles .before .before .before .before .shared-slice-known .given) blank-is, search needs)
 
--- src/judging.rt:51:23
+-- src/judging.rt:91:23
 enum-known-k : tie.Need-enum-known-k
 enum-known-k c = search needs
 
--- src/judging.rt:42:1
+-- src/judging.rt:73:1
 same-length : tie.Need-same-length
 same-length c = search needs
 
--- src/judging.rt:42:1
+-- src/judging.rt:73:1
 returns-2 : tie.Need-returns-2
-returns-2 c = search (judge-walked, blank-is)
+returns-2 c = (search (judge-walked, blank-is), search (line-walked, blank-is))
 
--- src/judging.rt:42:1
+-- src/judging.rt:73:1
 returns-3 : tie.Need-returns-3
-returns-3 c = search judge-refused
+returns-3 c = (search judge-refused, search line-refused)
 
 pub judge-spec : {M : Type 1} → statement M
 judge-spec =
@@ -48,7 +51,7 @@ judge-spec =
     returns
     settle-requires
     enum-told
-    walk-plan-requires
+    walk-with-line-requires
     enum-known-k
     same-length
     returns-2

@@ -1,77 +1,39 @@
--- A turn looks at the first of the action's lines that are left; what is left gives what the whole gives, and line numbers rise in file order.
-use Rattle.meaning.specs.States.{can-be-run}
-use Rattle.steps.specs.Held.{table-in}
-use Rattle.finding.proofs.AheadLaws.{to-go, line-few, line-less}
-use Rattle.steps.proofs.ActionLaws.{Running, running-starts, running-done, run-body-fits, run-body, run-met, run-next}
+-- It can be run just where asking gives a line that allows it.
+use Rattle.steps.proofs.ActionLaws.{runs-by, runs-short, runs-never}
 use borrow.Author.Needs.{needs}
 use Rattle.steps.proofs.actions.can_be_run.Statement.{statement}
 use Rattle.steps.proofs.actions.can_be_run.Tie as tie
 use Rattle.steps.proofs.actions.can_be_run.Reads as reads
 use Rattle.steps.proofs.actions.can_be_run.Lts as lts
-use Rattle.reading.proofs.marks.each_holds.Reads as each-holds-reads
-use Rattle.reading.proofs.notes.first_line.Reads as first-line-reads
-use Rattle.reading.proofs.notes.line_place.Reads as line-place-reads
-use Rattle.reading.proofs.notes.next_line.Reads as next-line-reads
+use Rattle.steps.proofs.actions.ask.Reads as ask-reads
 
-abbrev Inv-loop : tie.InvT-loop
-Inv-loop s t a marks k₀ k = Running s t marks (can-be-run (table-in s) a marks) k
+-- src/actions.rt:76:11
+ask-requires : tie.Need-ask-requires
+ask-requires c κs = search needs
 
-abbrev μ-loop : tie.MeasureT-loop
-μ-loop s t a marks k₀ k = to-go k
+-- src/actions.rt:77:24
+enum-told : tie.Need-enum-told
+enum-told c = search needs
 
--- src/actions.rt:26:9
-first-line-requires : tie.Need-first-line-requires Inv-loop μ-loop
-first-line-requires c κs = search needs
+-- src/actions.rt:78:27
+enum-told-2 : tie.Need-enum-told-2
+enum-told-2 c = search needs
 
--- src/actions.rt:27:5
-loop-holds : tie.Need-loop-holds Inv-loop μ-loop
-loop-holds c = search running-starts
+-- src/actions.rt:79:24
+enum-told-3 : tie.Need-enum-told-3
+enum-told-3 c = search needs
 
--- src/actions.rt:28:13
-line-place-requires : tie.Need-line-place-requires Inv-loop μ-loop
-line-place-requires c κs = search (needs, line-few)
+-- src/actions.rt:71:1
+returns : tie.Need-returns
+returns c = search runs-by
 
--- src/actions.rt:29:20
-add-body : tie.Need-add-body Inv-loop μ-loop
-add-body c = search run-body-fits
+-- src/actions.rt:71:1
+returns-2 : tie.Need-returns-2
+returns-2 c = search runs-short
 
--- src/actions.rt:30:13
-each-holds-requires : tie.Need-each-holds-requires Inv-loop μ-loop
-each-holds-requires c κs = search (needs, run-body)
-
--- src/actions.rt:32:13
-returns : tie.Need-returns Inv-loop μ-loop
-returns c = search run-met
-
--- src/actions.rt:34:9
-next-line-requires : tie.Need-next-line-requires Inv-loop μ-loop
-next-line-requires c κs = search (needs, line-few)
-
--- src/actions.rt:27:5
-loop-less : tie.Need-loop-less Inv-loop μ-loop
-loop-less c = search line-less
-
--- src/actions.rt:27:5
-loop-again : tie.Need-loop-again Inv-loop μ-loop
-loop-again c = search run-next
-
--- src/actions.rt:21:1
-returns-2 : tie.Need-returns-2 Inv-loop μ-loop
-returns-2 c = search running-done
+-- src/actions.rt:71:1
+returns-3 : tie.Need-returns-3
+returns-3 c = search runs-never
 
 pub can-be-run-spec : {M : Type 1} → statement M
-can-be-run-spec =
-    tie.close
-    (tie.spec
-    Inv-loop
-    μ-loop
-    first-line-requires
-    loop-holds
-    line-place-requires
-    add-body
-    each-holds-requires
-    returns
-    next-line-requires
-    loop-less
-    loop-again
-    returns-2)
+can-be-run-spec = tie.close (tie.spec ask-requires enum-told enum-told-2 enum-told-3 returns returns-2 returns-3)

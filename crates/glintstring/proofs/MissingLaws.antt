@@ -1,0 +1,187 @@
+-- The line that the walk call gives. A walk stops at the first byte of an item of its plan, and what asking names there stands in the request; so the line
+-- is that of the answer and of the bytes left, which are the definition's. Assumes nothing.
+use Prim.Native.Nat.{ℕ, _+_, _≤_, _<_}
+use native.Mathlib.Omega.{arith}
+use mathlib.Core.Path.{_≡_, refl, sym, _∙_, ap, subst}
+use mathlib.Core.List.{List}
+use lib.ListN.{length, getD, set, replicate, length-set, length-replicate}
+use lib.Seq.{getD-set-same, getD-set-other, ext-getD}
+use lib.Dec.{eqb}
+use mir.Syntax.{w8}
+use mir.Val.{Fits}
+use borrow.Author.Tests.{eqb-true, eqb-false, eq-eqb, ne-eqb}
+use Rattle.meaning.specs.declared.Answer.{Answer}
+use Rattle.meaning.specs.declared.Runs.{Runs}
+use Rattle.meaning.specs.declared.Runs.the-variants.{By, Short, Never}
+use Rattle.meaning.specs.Limits
+use Rattle.meaning.specs.Limits.{format}
+use Rattle.meaning.specs.Requests.{Item, act, branching, Request}
+use Rattle.meaning.specs.Reading.{got, fault}
+use Rattle.meaning.specs.Refusals.{settled}
+use Rattle.meaning.specs.States.{State, first-state, outcome}
+use Rattle.meaning.specs.Walk.{End, fine, missed, stopped, Walked, walked}
+use Rattle.meaning.specs.Judging.{Judgement, reported, ended, within, judge}
+use Rattle.meaning.specs.Asking.{asked, line-of, line-at, line-told, line-settled, line}
+use Rattle.meaning.specs.Reported.{Item-in, item-place}
+use Rattle.meaning.proofs.TestLaws.{by-test, pick-true, pick-false}
+use Rattle.meaning.proofs.PickLaws.{pick-has}
+use Rattle.meaning.proofs.KeptEnds.{End-so, any-outcome, walked-so}
+use Rattle.meaning.proofs.AskingLaws.{Line-of, Of-action, asked-of-action}
+use Rattle.meaning.proofs.ItemBytes.{Stands-there, plan-there, places-on}
+use Rattle.meaning.proofs.ReportedLine.{no-line}
+use Rattle.bytes.specs.declared.lists.Passed.{Passed}
+use Rattle.bytes.specs.declared.lists.Passed.the-variants.{To, Fault as Stop}
+use Rattle.reading.specs.Noted as Noted
+use Rattle.reading.specs.Noted.{noting, plan-slot, items-slot}
+use Rattle.reading.specs.Requested.{request-noted}
+use Rattle.reading.proofs.SectionLaws.{noting-fault}
+use Rattle.finding.specs.ReadHere.{blank}
+use Rattle.steps.specs.Held.{table-in, plan-in, goals-in, request-in}
+use Rattle.steps.specs.AtHand.{At-hand}
+use Rattle.steps.proofs.HandLaws.{sections}
+use Rattle.steps.proofs.SectionsStand.{run-stands}
+use Rattle.glintstring.specs.Missing.{Item-byte}
+use Rattle.glintstring.proofs.SettledAtHand.{settled-got, settled-held}
+use Rattle.glintstring.proofs.JudgingLaws.{judge-9, judge-walked}
+
+-- COPIED below fluent f.
+pub record Copying (state marks : List ℕ) (f : ℕ) : Type 0 where
+  pub sized : length marks ≡ format .state
+  pub few : f ≤ format .fluents
+  pub done : (j : ℕ) → j < f → getD marks j 0 ≡ getD state j 0
+
+pub copying-starts : (state : List ℕ) → Copying state (replicate (format .fluents) 0) 0
+copying-starts state = record { sized = length-replicate {A = ℕ} (format .fluents) 0; few = omega arith; done = λ j h. absurd (omega arith) }
+
+module _ (state marks : List ℕ) (f : ℕ) (copying : Copying state marks f) where
+  pub copying-next : f < format .fluents → (v : ℕ) → v ≡ getD state f 0 → Copying state (set marks f v) (f + 1)
+  copying-next more v is =
+      let sized = copying .sized in
+      record {
+        sized = length-set marks f v ∙ sized;
+        few = omega arith;
+        done = λ j h.
+            by-test (eqb j f)
+            (λ t. let same : j ≡ f = eqb-true _ _ t in rw same (getD-set-same marks f v 0 (omega arith) ∙ is))
+            (λ n. let other = eqb-false j f n in getD-set-other marks f j v 0 (λ e. other (omega arith)) ∙ copying .done j (omega (arith, other)));
+      }
+
+  pub copying-done : format .fluents ≤ f → length state ≡ format .state → marks ≡ state
+  copying-done all was = let sized = copying .sized in ext-getD 0 marks state (omega arith) (λ j h. copying .done j (omega arith))
+
+-- WHERE A WALK STOPS.
+module _ (s t : List ℕ) (here : At-hand s t) where
+  item-byte : (i : Item ℕ) → Stands-there s (table-in s .actions) i → Item-byte s (item-place i)
+  unfolding item-place
+  item-byte (act p a) stands =
+      let few = sections s t here .less in
+      let is = stands .byte .0 in
+      let small = stands .byte .1 in
+      record { there = stands .there; small = λ _. omega (arith, is, small, few) }
+  item-byte (branching p bs) stands = record { there = stands .there; small = λ other. absurd (other (stands .byte)) }
+
+  items-here : (i : Item ℕ) → Item-in (plan-in s t) i → Item-byte s (item-place i)
+  items-here i has =
+      item-byte i (plan-there format (table-in s .fluents) (table-in s .actions) s (getD t plan-slot 0) (record { value = plan-in s t; items = getD t items-slot 0 }) (goals-in t) (here .plan) i has)
+
+  -- At the first byte of an item.
+  abbrev Stops-there : End State → Type 0
+  Stops-there = End-so (λ _ _. Unit {0}) (λ _ p _. Item-byte s p)
+
+  walk-stops : (u : State) → Stops-there (walked (request-in s t) u .end)
+  unfolding request-in
+  walk-stops u =
+      walked-so (λ _ _. Unit {0}) _ (λ _. Unit {0}) (Item-byte s) (λ v _ p stands. stands) (request-in s t) (λ a v _. any-outcome (outcome (table-in s) a v)) (λ v _ p _. tt)
+      (places-on (Item-byte s) (plan-in s t) items-here) u tt
+
+  abbrev Stands : Judgement → Type 0
+  Stands j = j .answer .number ≡ Limits.not-executable → Item-byte s (j .answer .place)
+
+  ended-stands : (lent : List ℕ) (c : ℕ) (e : End State) → Stops-there e → Stands (ended lent c e)
+  unfolding ended reported
+  ended-stands lent c fine stops two = absurd (omega (arith, two))
+  ended-stands lent c (missed p v) stops two = absurd (omega (arith, two))
+  ended-stands lent c (stopped n p v) stops two = stops
+
+  within-stands : (lent : List ℕ) (budget : ℕ) (w : Walked State) → Stops-there (w .end) → Stands (within lent budget w)
+  unfolding within
+  within-stands lent budget w stops = pick-has Stands _ _ _ (λ _ two. absurd (omega (arith, two))) (λ _. ended-stands lent (w .count) (w .end) stops)
+
+  pub stop-byte : (lent left : List ℕ) (budget : ℕ) (answer : Answer) (u : State) → record { answer = answer; state = left } ≡ within lent budget (walked (request-in s t) u)
+      → answer .number ≡ Limits.not-executable → Item-byte s (answer .place)
+  stop-byte lent left budget answer u is = subst Stands (sym is) (within-stands lent budget (walked (request-in s t) u) (walk-stops u))
+
+-- THE LINE of the item there.
+module _ (s : List ℕ) (place : ℕ) (state : List ℕ) where
+  pub line-branching : getD s place 0 ≡ Limits.branching-byte → 0 ≡ line-at (table-in s) (getD s place 0) state
+  unfolding line-at
+  line-branching byte = sym (pick-true _ _ _ (eq-eqb _ _ byte))
+
+  module _ (other : getD s place 0 ≡ Limits.branching-byte → ⊥) (a : ℕ) (action : a ≡ getD s place 0) where
+    pub action-small : Item-byte s place → a < format .actions
+    action-small stands = let small = stands .small other in omega (arith, action, small)
+
+    module _ (marks : State) (same : marks ≡ state) (r : Runs) (is : r ≡ asked (table-in s) a marks) where
+      line-is-of : line-at (table-in s) (getD s place 0) state ≡ line-of r
+      unfolding line-at
+      line-is-of = pick-false _ _ _ (ne-eqb _ _ other) ∙ ap line-of (rw (sym action, sym same) (sym is))
+
+      pub line-by : (p v : ℕ) → r ≡ By p → v ≡ p → v ≡ line-at (table-in s) (getD s place 0) state
+      unfolding line-of
+      line-by p v e at = at ∙ sym (line-is-of ∙ ap line-of e)
+
+      pub line-short : (p v : ℕ) → r ≡ Short p → v ≡ p → v ≡ line-at (table-in s) (getD s place 0) state
+      unfolding line-of
+      line-short p v e at = at ∙ sym (line-is-of ∙ ap line-of e)
+
+      pub line-never : r ≡ Never → 0 ≡ line-at (table-in s) (getD s place 0) state
+      unfolding line-of
+      line-never e = sym (line-is-of ∙ ap line-of e)
+
+-- What is named stands in the request.
+module _ (s t : List ℕ) (here : At-hand s t) (a : ℕ) (marks : State) (r : Runs) (is : r ≡ asked (table-in s) a marks) where
+  named-small : (p : ℕ) → Line-of (table-in s) a p → p < 65536
+  named-small p of =
+      let ends = run-stands s (table-in s) (here .table-end) (sections s t here) (of .0) (of .1) .1 .ends in
+      let at = of .3 in
+      let short = here .short in
+      omega (arith, ends, at, short)
+
+  pub by-small : (p : ℕ) → r ≡ By p → p < 65536
+  by-small p e = named-small p (subst (Of-action (table-in s) a) (sym is ∙ e) (asked-of-action (table-in s) a marks))
+
+  pub short-small : (p : ℕ) → r ≡ Short p → p < 65536
+  short-small p e = named-small p (subst (Of-action (table-in s) a) (sym is ∙ e) (asked-of-action (table-in s) a marks))
+
+-- THE LINE TOLD, of an answer and the bytes left.
+module _ (s : List ℕ) (answer : Answer) (left : List ℕ) where
+  pub told-stuck : (v : ℕ) → answer .number ≡ Limits.not-executable → v ≡ line-at (table-in s) (getD s (answer .place) 0) left → v ≡ line-told (table-in s) s (record { answer = answer; state = left })
+  unfolding line-told
+  told-stuck v two is = is ∙ sym (pick-true _ _ _ (eq-eqb _ _ two))
+
+  pub told-none : (answer .number ≡ Limits.not-executable → ⊥) → 0 ≡ line-told (table-in s) s (record { answer = answer; state = left })
+  unfolding line-told
+  told-none other = sym (pick-false _ _ _ (ne-eqb _ _ other))
+
+-- THE CALL.
+module _ (s lent : List ℕ) (budget : ℕ) where
+  not-stuck : (answer : Answer) (left : List ℕ) → record { answer = answer; state = left } ≡ judge format s lent budget → (answer .number ≡ Limits.not-executable → ⊥) → 0 ≡ line format s lent budget
+  not-stuck answer left is other = sym (no-line format s lent budget (λ two. other (ap (λ (j : Judgement). j .answer .number) is ∙ two)))
+
+  pub line-9 : (length lent ≡ format .state → ⊥) → 0 ≡ line format s lent budget
+  line-9 other = not-stuck _ _ (judge-9 s lent budget other) (λ two. absurd (omega (arith, two)))
+
+  module _ (t u : List ℕ) (r : Passed) (settles : Noted.outcome r u ≡ noting request-noted (settled format s) t) where
+    pub line-walked : (e : ℕ) → r ≡ To e → ((i : ℕ) → Fits w8 (getD s i 0)) → t ≡ blank → length lent ≡ format .state → (answer : Answer) (left : List ℕ)
+        → record { answer = answer; state = left } ≡ within lent budget (walked (request-in s u) (first-state format (table-in s)))
+        → (v : ℕ) → v ≡ line-told (table-in s) s (record { answer = answer; state = left }) → v ≡ line format s lent budget
+    unfolding request-in line line-settled
+    line-walked e passes bytes empty sized answer left walks v is =
+        is
+        ∙ ap (λ (x : Request). line-told (x .table) s (record { answer = answer; state = left })) (settled-held s t u r settles e passes bytes empty)
+        ∙ ap (line-told (settled-got s t u r settles e passes .0 .table) s) (judge-walked s lent budget t u r settles e passes bytes empty sized answer left walks)
+        ∙ sym (ap (line-settled s (judge format s lent budget)) (settled-got s t u r settles e passes .1))
+
+    pub line-refused : (k p : ℕ) → r ≡ Stop k p → 0 ≡ line format s lent budget
+    unfolding line line-settled
+    line-refused k p stops = sym (ap (line-settled s (judge format s lent budget)) (noting-fault request-noted (settled format s) r t u settles k p stops))
