@@ -238,6 +238,10 @@ module _ (s : List ℕ) (marks : State) (marked : Marked marks) (ps : List ℕ) 
       swept-known s marks ps lines marks marked l (λ g h. apart l (sym (same (known marks) l) ∙ g) (sym (same (possible marks) (complement l)) ∙ h))
       ∙ rw (same (known marks) l, same (possible marks) (complement l))
 
+-- What the test of an action said.
+pub runs-there : (t : Table) (a : ℕ) (marks : State) (runs : Bool) → runs ≡ can-be-run t a marks → runs ≡ true → can-be-run t a marks ≡ true
+runs-there t a marks runs asked e = sym asked ∙ e
+
 pub after-swept : (s t : List ℕ) (a : ℕ) (marks next : State) (k : ℕ) → At-hand s t → Marked marks → can-be-run (table-in s) a marks ≡ true
     → Sweeping s t a marks next k → k ≤ 0 → next ≡ state-after (table-in s) a marks
 after-swept s t a marks next k here marked runs sweeps h =
