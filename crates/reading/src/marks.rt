@@ -80,10 +80,10 @@ pub fn look_at(marks: &Marks, s: &[u8], p: usize) -> Look
     let first = p + 1;
     let end = first + wide(s[p]);
     let mut sure = true;
-    let mut i = first;
-    while i < end {
-        let l = wide(s[i]);
-        i += 1;
+    let mut at = first;
+    while at < end {
+        let l = wide(s[at]);
+        at += 1;
         let f = l / 2;
         let mark = mark_of(l);
         if marks[f] == mark {
