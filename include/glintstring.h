@@ -17,20 +17,20 @@ extern "C" {
 #endif
 
 /* The version of this header, and of the library that it is for. */
-#define GLINTSTRING_VERSION "0.2.0"
+#define GLINTSTRING_VERSION "0.3.0"
 #define GLINTSTRING_VERSION_MAJOR 0
-#define GLINTSTRING_VERSION_MINOR 2
+#define GLINTSTRING_VERSION_MINOR 3
 #define GLINTSTRING_VERSION_PATCH 0
 
 /* The length of the state that the walk call is lent. */
-#define GLINTSTRING_STATE_LENGTH 64
+#define GLINTSTRING_STATE_LENGTH 128
 
 /* Bytes that each input may have. One byte more is answered as any longer input, so that no more of a file need be read. */
 #define GLINTSTRING_REQUEST_LIMIT 16384
 #define GLINTSTRING_DERIVATION_LIMIT 32768
 
-/* Bytes of free stack that a call may need: 6 MiB (docs/MEASURED.md, for the walk call; the others need less). */
-#define GLINTSTRING_STACK_NEEDED 6291456
+/* Bytes of free stack that a call may need: 16 MiB (docs/MEASURED.md, for the walk call; the others need less). */
+#define GLINTSTRING_STACK_NEEDED 16777216
 
 /* The marks of a fluent in a state. */
 #define GLINTSTRING_UNKNOWN 0
@@ -53,7 +53,7 @@ extern "C" {
                                                    entry; the first entry missed in the first such state */
 #define GLINTSTRING_NOT_EXECUTABLE 2            /* a path comes to an item that cannot be run; that item */
 #define GLINTSTRING_BUDGET_SPENT 3              /* the walk counts to more than the budget; place 0 */
-#define GLINTSTRING_STATE_LENGTH_WRONG 9        /* the lent state has another length than 64 bytes; place 0 */
+#define GLINTSTRING_STATE_LENGTH_WRONG 9        /* the lent state has another length than 128 bytes; place 0 */
 #define GLINTSTRING_TOO_LONG 10                 /* the request has more than 16,384 bytes, or the derivation more than
                                                    32,768; place 0 */
 #define GLINTSTRING_INPUT_ENDS 11               /* the input ends where a byte is due; its length */
@@ -101,7 +101,7 @@ static inline const char *glintstring_words(unsigned number) {
     case GLINTSTRING_GOAL_MISSED: return "goal missed";
     case GLINTSTRING_NOT_EXECUTABLE: return "not executable";
     case GLINTSTRING_BUDGET_SPENT: return "budget spent";
-    case GLINTSTRING_STATE_LENGTH_WRONG: return "the lent state has another length than 64 bytes";
+    case GLINTSTRING_STATE_LENGTH_WRONG: return "the lent state has another length than 128 bytes";
     case GLINTSTRING_TOO_LONG: return "too long";
     case GLINTSTRING_INPUT_ENDS: return "the input ends where a byte is due";
     case GLINTSTRING_COUNT_NOT_WITHIN_LIMITS: return "a count is not within its limits";
@@ -136,15 +136,16 @@ static inline const char *glintstring_words(unsigned number) {
  *
  * The lent state is written by answers 1 and 2 and by no other. Byte f is then 0 where fluent f is unknown, 1 where it is true
  * and 2 where it is false: for 1 in the end state that the place is about, for 2 in the state in which the item could not be
- * run. Bytes from the request's number of fluents up to 63 are then 0. After every other answer the state has the bytes that it
- * had before; where state_length is not 64 the answer is 9.
+ * run. Bytes from the request's number of fluents up to 127 are then 0. After every other answer the state has the bytes that it
+ * had before; where state_length is not 128 the answer is 9.
  *
  * The caller sees to this:
  *   - `request` may be read for request_length bytes, `state` read and written for state_length bytes, and the two do not
  *     overlap. With length 0 any pointer will do, null too: it is not followed.
  *   - there are GLINTSTRING_STACK_NEEDED bytes of free stack. The request decides how many are needed. A call that has too few
- *     is ended by the system, and the process with it. The first thread of a process on Linux has 8 MiB as a rule; other
- *     threads often have less, and need to be given their size (pthread_attr_setstacksize).
+ *     is ended by the system, and the process with it. The first thread of a process on Linux has 8 MiB as a rule, which is too
+ *     little, and other threads often have less: walk on a thread that is given its size (pthread_attr_setstacksize), and let
+ *     it serve many calls.
  * The call keeps no pointer, takes nothing from the heap and has no memory of its own, so threads may call it at one time.
  */
 uint64_t glintstring_judge(const uint8_t *request, size_t request_length, uint8_t *state, size_t state_length, uint32_t budget);
@@ -165,8 +166,8 @@ uint64_t glintstring_judge(const uint8_t *request, size_t request_length, uint8_
  * The caller sees to this:
  *   - `request` may be read for request_length bytes and `derivation` for derivation_length bytes; nothing is written, and the
  *     two may overlap. With length 0 any pointer will do, null too: it is not followed.
- *   - there is free stack: GLINTSTRING_STACK_NEEDED bytes are enough by far, since the call goes no deeper than the 64 fluents
- *     of a reading and eight branchings, however long the derivation is.
+ *   - there is free stack: GLINTSTRING_STACK_NEEDED bytes are enough by far, since the call goes no deeper than the 128
+ *     fluents of a reading and eight branchings, however long the derivation is.
  * The call keeps no pointer, takes nothing from the heap and has no memory of its own, so threads may call it at one time.
  */
 uint64_t glintstring_check(const uint8_t *request, size_t request_length, const uint8_t *derivation, size_t derivation_length);

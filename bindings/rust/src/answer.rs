@@ -51,7 +51,7 @@ pub enum Mark {
     False,
 }
 
-/// A partial state: a mark for each of 64 fluents. Those that the request does not have are unknown.
+/// A partial state: a mark for each of 128 fluents. Those that the request does not have are unknown.
 #[derive(Clone, Copy, Debug, PartialEq, Eq, Hash)]
 pub struct State([Mark; STATE_LENGTH]);
 
@@ -82,7 +82,7 @@ impl State {
         })
     }
 
-    /// The marks of fluents 0 to 63.
+    /// The marks of fluents 0 to 127.
     pub fn marks(&self) -> &[Mark; STATE_LENGTH] {
         &self.0
     }
@@ -136,7 +136,7 @@ pub enum Answer {
         /// The budget that was given.
         budget: u32,
     },
-    /// 9: the lent state has another length than 64 bytes.
+    /// 9: the lent state has another length than 128 bytes.
     StateLength,
     /// 10: the request has more than 16,384 bytes, or the derivation more than 32,768.
     TooLong {
@@ -484,7 +484,7 @@ impl Answer {
             Answer::GoalMissed { .. } => "goal missed",
             Answer::NotExecutable { .. } => "not executable",
             Answer::BudgetSpent { .. } => "budget spent",
-            Answer::StateLength => "the lent state has another length than 64 bytes",
+            Answer::StateLength => "the lent state has another length than 128 bytes",
             Answer::TooLong { .. } => "too long",
             Answer::InputEnds { .. } => "the input ends where a byte is due",
             Answer::CountNotWithinLimits { .. } => "a count is not within its limits",

@@ -49,7 +49,7 @@ pub use answer::{Answer, Input, Mark, NotVerified, Packed, State};
 use std::{io, thread};
 
 /// The length of the lent state that [`judge_packed`] takes, which is the number of marks in a [`State`].
-pub const STATE_LENGTH: usize = 64;
+pub const STATE_LENGTH: usize = 128;
 
 /// Bytes that a request may have. One byte more is answered as any longer one, so that no more of a file need be read.
 pub const REQUEST_LIMIT: usize = 16_384;
@@ -57,8 +57,8 @@ pub const REQUEST_LIMIT: usize = 16_384;
 /// Bytes that a derivation may have, in the same way.
 pub const DERIVATION_LIMIT: usize = 32_768;
 
-/// Bytes of free stack that a walk may need (docs/MEASURED.md): 6 MiB.
-pub const STACK_NEEDED: usize = 6 << 20;
+/// Bytes of free stack that a walk may need (docs/MEASURED.md): 16 MiB.
+pub const STACK_NEEDED: usize = 16 << 20;
 
 /// The stack of [`judge`]'s thread: what is needed, and 1 MiB for the thread itself.
 const STACK: usize = STACK_NEEDED + (1 << 20);
@@ -134,7 +134,7 @@ pub fn judge_here(request: &[u8], budget: u32) -> Answer {
 /// they were. Where there are not [`STATE_LENGTH`] of them, the answer is 9.
 ///
 /// ```
-/// let packed = glintstring::judge_packed(&[], &mut [0; 64], 0);
+/// let packed = glintstring::judge_packed(&[], &mut [0; 128], 0);
 /// assert_eq!((packed.number(), packed.input(), packed.place(), packed.count()), (11, 1, 0, 0));
 /// ```
 pub fn judge_packed(request: &[u8], state: &mut [u8], budget: u32) -> Packed {

@@ -15,11 +15,11 @@ fn from_29(rest: &[u8]) -> Vec<u8> {
     [&FILE_A[..29], rest].concat()
 }
 
-/// Looks at 63 fluents and makes them unknown again, over and over: a walk that goes as deep as any, to within a few bytes.
+/// Looks at 127 fluents and makes them unknown again, over and over: a walk that goes as deep as any, to within a few bytes.
 fn deep() -> Vec<u8> {
-    let effects = (0..126).flat_map(|literal| [1, literal, 1, 127 - literal % 2]);
-    let knowledge = (0..63).flat_map(|fluent| [0, fluent]);
-    let table = [64, 2, 0, 126].into_iter().chain(effects).chain([2, 0, 0, 1, 0, 63]).chain(knowledge);
+    let effects = (0..254).flat_map(|literal| [1, literal, 1, 255 - literal % 2]);
+    let knowledge = (0..127).flat_map(|fluent| [0, fluent]);
+    let table = [128, 2, 0, 254].into_iter().chain(effects).chain([2, 0, 0, 1, 0, 127]).chain(knowledge);
     table.chain([4, 0]).chain([0, 1].repeat(512)).chain([0, 0]).collect()
 }
 

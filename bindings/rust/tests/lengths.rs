@@ -1,5 +1,5 @@
 //! Each call at the ends of its lengths: inputs of no byte, of one, of as many as they may have and of one more, and lent states of every
-//! length from 0 to 130.
+//! length from 0 to 258.
 
 use glintstring::{check_packed, check_whether_packed, judge_packed, show, show_start, Packed, DERIVATION_LIMIT, REQUEST_LIMIT, STATE_LENGTH};
 
@@ -16,9 +16,9 @@ fn list(count: u8) -> Vec<u8> {
 /// As many bytes as there may be: 255 effects and 255 executability lines with 16 literals each, branchings of eight branches, nine actions.
 /// The branching that comes first can't be run; its place is given too.
 fn largest_request() -> (Vec<u8>, usize) {
-    let effects = [&[0, 126], &list(16)[..]].concat().repeat(255);
+    let effects = [&[0, 254], &list(16)[..]].concat().repeat(255);
     let lines = [&[0], &list(16)[..]].concat().repeat(255);
-    let before = [&[64, 1, 0, 255], &effects[..], &[255], &lines, &[0, 0, 45 + 9]].concat();
+    let before = [&[128, 1, 0, 255], &effects[..], &[255], &lines, &[0, 0, 45 + 9]].concat();
     let branch = |bits: u8| [list(13), vec![26 + (bits & 1), 28 + (bits >> 1 & 1), 30 + (bits >> 2)], vec![0, 0]].concat();
     let branches: Vec<u8> = (0..8).map(branch).flat_map(|branch| [&[16], &branch[1..]].concat()).collect();
     let branchings = [&[255, 8], &branches[..]].concat().repeat(45);

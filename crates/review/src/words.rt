@@ -7,7 +7,7 @@ pub fn put_words(number: u8) -> bool {
         1 => put(b"goal missed"),
         2 => put(b"not executable"),
         3 => put(b"budget spent"),
-        9 => put(b"the lent state has another length than 64 bytes"),
+        9 => put(b"the lent state has another length than 128 bytes"),
         10 => put(b"too long"),
         11 => put(b"the input ends where a byte is due"),
         12 => put(b"a count is not within its limits"),

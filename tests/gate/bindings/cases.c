@@ -92,6 +92,9 @@ int main(void) {
         return puts("bindings: 4"), 1;
     if (!is(glintstring_judge(file_a, sizeof file_a, NULL, 0, 4), GLINTSTRING_STATE_LENGTH_WRONG, GLINTSTRING_NEITHER, 0, 0) || !untouched())
         return puts("bindings: 5"), 1;
+    /* As many bytes as there were when 64 fluents were the most. */
+    if (!is(glintstring_judge(file_a, sizeof file_a, state, 64, 4), GLINTSTRING_STATE_LENGTH_WRONG, GLINTSTRING_NEITHER, 0, 0) || !untouched())
+        return puts("bindings: 5, with a lent state of 64"), 1;
 
     /* Case 2: open unseen. */
     memcpy(other, file_a, 29);

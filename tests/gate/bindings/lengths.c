@@ -1,6 +1,6 @@
 /*
  * Each exported call at the ends of its lengths, by way of include/glintstring.h: 0, 1, the limit and one more for an input, null where the
- * length is 0, and lent states of every length from 0 to 130. Each input ends where a page ends behind which nothing may be read or written,
+ * length is 0, and lent states of every length from 0 to 258. Each input ends where a page ends behind which nothing may be read or written,
  * or starts where such a page ends, and inputs may not be written at all: a call that goes astray ends the program by a signal.
  * It is compiled as C99 and as C++, and prints the first call that is not as it should be.
  */
@@ -11,7 +11,7 @@
 #include <sys/mman.h>
 
 #define ROOM 65536 /* a multiple of every page's size */
-#define STATES 130
+#define STATES (2 * GLINTSTRING_STATE_LENGTH + 2)
 #define LENT 9
 
 static unsigned long calls;
@@ -55,20 +55,20 @@ static uint8_t *list(uint8_t *to, unsigned count) {
 }
 
 /*
- * A request of 16,384 bytes: 64 fluents, 255 effects and 255 executability lines of one action, each with 16 literals; a plan of 45
+ * A request of 16,384 bytes: 128 fluents, 255 effects and 255 executability lines of one action, each with 16 literals; a plan of 45
  * branchings, each of eight branches with conditions of 16 literals that are told apart by the last three, and of nine actions.
  * Nothing is known, so the first branching can't be run: 2, at the place that is stored.
  */
 static void largest_request(uint8_t *to, unsigned *place) {
     const uint8_t *const start = to;
     unsigned i, branch, bit;
-    *to++ = 64;
+    *to++ = 128;
     *to++ = 1;
     *to++ = 0;
     *to++ = 255;
     for (i = 0; i < 255; i++) {
         *to++ = 0;
-        *to++ = 126;
+        *to++ = 254;
         to = list(to, 16);
     }
     *to++ = 255;

@@ -98,7 +98,7 @@ static int is_word(const char *one, const char *other) {
 }
 
 static byte bytes[1 << 16];
-static byte state[64];
+static byte state[128];
 
 _Noreturn __attribute__((used)) static void begin(long *arguments) {
     if (arguments[0] != 3) fail("driver: two arguments, walk and the budget, or check or whether and the request's length\n");

@@ -4,26 +4,28 @@
 
 use std::{env, fs};
 
-/// All have 64 fluents, no initial facts, and these actions.
+/// All have as many fluents as there can be, no initial facts, and those of these actions that their plan has. There is no room for the lines of
+/// all of them.
+const FLUENTS: u8 = 128;
+const LAST: u8 = FLUENTS - 1;
 const LOOK: u8 = 0; // senses all but the last
 const FORGET: u8 = 1; // makes these unknown again, by effects with the unknown last one in their bodies
-const LOOK_AT_ALL: u8 = 2; // senses all 64
-const LOOK_AT_HALF: u8 = 3; // senses 32
+const LOOK_AT_ALL: u8 = 2; // senses all
+const LOOK_AT_HALF: u8 = 3; // senses the first half
 const LOOK_AT_ONE: u8 = 4; // senses one
 const WORK: u8 = 5; // makes each but the last false if the next is true
 const NEVER: u8 = 6; // can't be run
 const ACTIONS: u8 = 7;
-const LAST: u8 = 63;
 
 /// A budget with which the end of the first path is reached and not much more.
 const SOON: u32 = 5_000;
 
-/// An item of the plan, and how many items it is.
+/// An item of the plan: its bytes, how many items it is, and a bit for each action in it.
 #[derive(Clone)]
-struct Item(Vec<u8>, usize);
+struct Item(Vec<u8>, usize, u8);
 
 fn act(action: u8) -> Item {
-    Item(vec![action], 1)
+    Item(vec![action], 1, 1 << action)
 }
 
 /// A count byte and that many entries or lines.
@@ -43,11 +45,16 @@ fn size(items: &[Item]) -> usize {
     items.iter().map(|item| item.1).sum()
 }
 
+fn actions(items: &[Item]) -> u8 {
+    items.iter().fold(0, |all, item| all | item.2)
+}
+
 /// A branching of so many branches, each with its condition.
 fn branching(branches: &[(&[u8], &[Item])]) -> Item {
     let lines = branches.iter().map(|(condition, items)| [section(condition.chunks(1)), sequence(items)].concat());
     let inside: usize = branches.iter().map(|branch| size(branch.1)).sum();
-    Item([vec![255], section(lines)].concat(), 1 + inside)
+    let acts = branches.iter().fold(0, |all, branch| all | actions(branch.1));
+    Item([vec![255], section(lines)].concat(), 1 + inside, acts)
 }
 
 /// A branching with one branch, which is always followed.
@@ -79,19 +86,18 @@ fn request(forgets: Forgets, goals: Goals, plan: &[Item]) -> Vec<u8> {
     let made_false = (0..LAST).map(|f| vec![FORGET, 2 * f + 1, 1, 2 * LAST]);
     let made_true = (0..LAST).map(|f| vec![FORGET, 2 * f, 1, 2 * LAST + 1]);
     let work = (0..LAST).map(|f| vec![WORK, 2 * f + 1, 1, 2 * f + 2]);
-    let effects = match forgets {
-        Forgets::True => section(made_false.chain(work)),
-        Forgets::Known => section(made_false.chain(made_true).chain(work)),
-    };
-    let runs = section((0..ACTIONS).filter(|&action| action != NEVER).map(|action| [action, 0]));
-    let sensed = |action, count| (0..count).map(move |f| [action, f]);
-    let many = sensed(LOOK, 63).chain(sensed(LOOK_AT_ALL, 64));
-    let knowledge = section(many.chain(sensed(LOOK_AT_HALF, 32)).chain(sensed(LOOK_AT_ONE, 1)));
+    let made_true = made_true.filter(|_| matches!(forgets, Forgets::Known));
+    let used = |action: u8| actions(plan) >> action & 1 == 1;
+    let effects = section(made_false.chain(made_true).chain(work).filter(|line| used(line[0])));
+    let runs = section((0..ACTIONS).filter(|&action| used(action) && action != NEVER).map(|action| [action, 0]));
+    let looks = [(LOOK, LAST), (LOOK_AT_ALL, FLUENTS), (LOOK_AT_HALF, FLUENTS / 2), (LOOK_AT_ONE, 1)];
+    let sensed = |(action, count): (u8, u8)| (0..count).map(move |f| [action, f]);
+    let knowledge = section(looks.into_iter().flat_map(sensed).filter(|line| used(line[0])));
     let wanted = match goals {
         Goals::None => vec![0, 0],
-        Goals::All => [section((0..64).map(|f| [2 * f])), section((0..64).map(|f| [f]))].concat(),
+        Goals::All => [section((0..FLUENTS).map(|f| [2 * f])), section((0..FLUENTS).map(|f| [f]))].concat(),
     };
-    let bytes = [vec![64, ACTIONS, 0], effects, runs, knowledge, sequence(plan), wanted].concat();
+    let bytes = [vec![FLUENTS, ACTIONS, 0], effects, runs, knowledge, sequence(plan), wanted].concat();
     assert!(size(plan) <= 1024 && bytes.len() <= 16384, "beyond the limits");
     bytes
 }
@@ -145,7 +151,7 @@ fn derivations(folder: &str) {
     let nothing = || line(&[], 1, &[]);
     let looks = || line(&plan, 3, &[0; 64]);
     let plain = [
-        ("64 looked at, 64 cited", vec![nothing(), looks()]),
+        ("128 looked at, 64 cited", vec![nothing(), looks()]),
         ("eight branchings, one inside another", vec![nothing(), line(&eight, 4, &[0])]),
         ("1,024 branchings in a row", vec![nothing(), line(&in_a_row, 4, &[0])]),
         ("1,024 lines", vec![nothing(); 1024]),
@@ -156,14 +162,15 @@ fn derivations(folder: &str) {
 
     let nothing = || closing_line(&[], 1, &[]);
     let looks = || closing_line(&plan, 10, &[0; 64]);
+    let asked = usize::from(FLUENTS) + 1;
     let closing = [
-        ("64 looked at, 64 cited, rule 10", vec![nothing(), looks()], 65),
-        ("64 looked at, rule 7", vec![closing_line(&plan, 7, &[])], 65),
-        ("eight branchings, one inside another, rule 12", vec![nothing(), closing_line(&eight, 12, &[0])], 65),
-        ("1,024 branchings in a row, rule 12", vec![nothing(), closing_line(&in_a_row, 12, &[0])], 65),
-        ("1,024 lines, 65 entries", vec![nothing(); 1024], 65),
+        ("128 looked at, 64 cited, rule 10", vec![nothing(), looks()], asked),
+        ("128 looked at, rule 7", vec![closing_line(&plan, 7, &[])], asked),
+        ("eight branchings, one inside another, rule 12", vec![nothing(), closing_line(&eight, 12, &[0])], asked),
+        ("1,024 branchings in a row, rule 12", vec![nothing(), closing_line(&in_a_row, 12, &[0])], asked),
+        ("1,024 lines, 129 entries", vec![nothing(); 1024], asked),
         ("1,024 lines, 255 entries", vec![nothing(); 1024], 255),
-        ("64 cited in each line but one, rule 10", [vec![nothing()], vec![looks(); 240]].concat(), 65),
+        ("64 cited in each line but one, rule 10", [vec![nothing()], vec![looks(); 240]].concat(), asked),
     ];
     let closing = closing.map(|(name, lines, entries)| (name, lines.len(), closed(&lines, entries)));
     write_derivations(folder, "whether", ("asked-whether.request", request(Forgets::True, Goals::All, &plan)), &closing);
@@ -184,17 +191,17 @@ fn main() {
     let branchings = over_and_over(&[within(&[])], 1024);
     let towers = over_and_over(&nested(8, vec![]), 1024);
     let requests = [
-        ("63 looked at, forgotten", SOON, Forgets::True, Goals::None, steps(LOOK, 1024)),
-        ("63, false ones forgotten too", 100_000, Forgets::Known, Goals::None, steps(LOOK, 1024)),
-        ("63, at last 64 in a branching", SOON, Forgets::True, Goals::None, all_at_last.clone()),
-        ("63, at last 64, all goals", SOON, Forgets::True, Goals::All, all_at_last),
-        ("63, at last what cannot be run", SOON, Forgets::True, Goals::None, cannot_at_last),
-        ("63, after a second reading", SOON, Forgets::Known, Goals::None, second_reading.to_vec()),
-        ("63, each look in a branching", SOON, Forgets::True, Goals::None, looks_within),
-        ("63, each look in eight branchings", SOON, Forgets::True, Goals::None, looks_nested),
-        ("63, each step in a branching", SOON, Forgets::True, Goals::None, steps_within),
-        ("63, all steps in eight branchings", SOON, Forgets::True, Goals::None, steps_nested),
-        ("32 looked at, forgotten", SOON, Forgets::True, Goals::None, steps(LOOK_AT_HALF, 1024)),
+        ("127 looked at, forgotten", SOON, Forgets::True, Goals::None, steps(LOOK, 1024)),
+        ("127, false ones forgotten too", 100_000, Forgets::Known, Goals::None, steps(LOOK, 1024)),
+        ("127, at last 128 in a branching", SOON, Forgets::True, Goals::None, all_at_last.clone()),
+        ("127, at last 128, all goals", SOON, Forgets::True, Goals::All, all_at_last),
+        ("127, at last what cannot be run", SOON, Forgets::True, Goals::None, cannot_at_last),
+        ("127, after a second reading", SOON, Forgets::Known, Goals::None, second_reading.to_vec()),
+        ("127, each look in a branching", SOON, Forgets::True, Goals::None, looks_within),
+        ("127, each look in eight branchings", SOON, Forgets::True, Goals::None, looks_nested),
+        ("127, each step in a branching", SOON, Forgets::True, Goals::None, steps_within),
+        ("127, all steps in eight branchings", SOON, Forgets::True, Goals::None, steps_nested),
+        ("64 looked at, forgotten", SOON, Forgets::True, Goals::None, steps(LOOK_AT_HALF, 1024)),
         ("one looked at, forgotten", SOON, Forgets::True, Goals::None, steps(LOOK_AT_ONE, 1024)),
         ("1,024 branchings in a row", SOON, Forgets::True, Goals::None, branchings),
         ("towers of eight branchings", SOON, Forgets::True, Goals::None, towers),

@@ -3,7 +3,7 @@
 use crate::answer::Fault;
 use crate::damage::{add_whether, change_allowances, damage_derivation, damage_request, Damaged};
 use crate::encode::{encode_derivation, encode_request};
-use crate::generate::{any_request, forgetful, request, Shape, MIDDLE, SMALL, TINY};
+use crate::generate::{any_request, drawn, forgetful, Shape, FULL, MIDDLE, SMALL, TINY};
 use crate::model::{Line, Request};
 use crate::prove::{free, many_readings, natural, pad};
 use crate::reader::{DERIVATION_LIMIT, LINE_LIMIT, REQUEST_LIMIT};
@@ -13,6 +13,16 @@ use crate::STATE_LENGTH;
 
 /// Counts above this aren't walked to their end.
 const COUNT_CAP: u32 = 20_000;
+/// Wrong lengths of a lent state, half of the right one among them, which was right when there
+/// were 64 fluents at most.
+const WRONG_LENGTHS: [usize; 6] = [
+    0,
+    1,
+    STATE_LENGTH / 2,
+    STATE_LENGTH - 1,
+    STATE_LENGTH + 1,
+    2 * STATE_LENGTH,
+];
 
 /// What is certain about an answer before the call is made.
 #[derive(Clone, Copy, Debug, PartialEq, Eq)]
@@ -84,7 +94,7 @@ pub fn damaged_judge_call(rng: &mut Rng, draft: &Request) -> JudgeCall {
 
 /// Gives a call a lent state of a wrong length.
 pub fn lend_wrongly(rng: &mut Rng, call: &mut JudgeCall) {
-    let length = *rng.pick(&[0, 1, STATE_LENGTH - 1, STATE_LENGTH + 1, 2 * STATE_LENGTH]);
+    let length = *rng.pick(&WRONG_LENGTHS);
     call.lent = vec![rng.byte(0, 255); length];
     call.outlook = Outlook::Refused(0, Fault::new(9, 0));
 }
@@ -134,6 +144,7 @@ pub fn check_call(rng: &mut Rng) -> CheckCall {
     let (draft, mut lines) = match rng.below(200) {
         0 => many_readings(rng.byte(1, 40)),
         1 => wide_sensing(rng),
+        2 | 3 => derivable(rng, &FULL),
         _ => derivable(rng, &shape),
     };
     if rng.below(300) == 0 {
@@ -212,7 +223,7 @@ pub fn derivable(rng: &mut Rng, shape: &Shape) -> (Request, Vec<Line>) {
         ..*shape
     };
     loop {
-        let draft = request(rng, &shape);
+        let draft = drawn(rng, &shape);
         let lines = match rng.chance(40) {
             true => natural(&draft),
             false => free(rng, &draft),

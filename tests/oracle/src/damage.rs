@@ -9,8 +9,8 @@ use crate::forge::forge;
 use crate::generate::{body, long_plan, nest};
 use crate::model::{is_positive, Allowance, Branch, Effect, Item, Knowledge, Line, Request};
 use crate::reader::{
-    BODY_LIMIT, BRANCH_LIMIT, CITATION_LIMIT, DERIVATION_LIMIT, ITEM_LIMIT, LINE_LIMIT, LIST_LIMIT,
-    NESTING_LIMIT, REQUEST_LIMIT,
+    ACTION_LIMIT, BODY_LIMIT, BRANCHING, BRANCH_LIMIT, CITATION_LIMIT, DERIVATION_LIMIT,
+    FLUENT_LIMIT, ITEM_LIMIT, LINE_LIMIT, LIST_LIMIT, NESTING_LIMIT, REQUEST_LIMIT,
 };
 use crate::rng::Rng;
 
@@ -54,6 +54,12 @@ impl Bounds {
             longest: DERIVATION_LIMIT,
         }
     }
+
+    /// As many fluents or actions as there can be, or one less.
+    fn near_limits(self) -> bool {
+        usize::from(self.fluents) + 1 >= FLUENT_LIMIT
+            || usize::from(self.actions) + 1 >= ACTION_LIMIT
+    }
 }
 
 /// Damages a request that was right before.
@@ -63,6 +69,9 @@ pub fn damage_request(rng: &mut Rng, request: &Request) -> Damaged {
         actions: request.actions,
         longest: REQUEST_LIMIT,
     };
+    if let Some(damaged) = at_limits(rng, || encode_request(request), bounds) {
+        return damaged;
+    }
     match rng.below(100) {
         0..=59 => damage_bytes(rng, &encode_request(request), bounds),
         60..=66 => {
@@ -78,6 +87,9 @@ pub fn damage_request(rng: &mut Rng, request: &Request) -> Damaged {
 /// Damages a derivation that was right before. Line numbers and rules go wrong most often.
 pub fn damage_derivation(rng: &mut Rng, request: &Request, lines: &[Line]) -> Damaged {
     let bounds = Bounds::of_derivation(request);
+    if let Some(damaged) = at_limits(rng, || encode_derivation(lines), bounds) {
+        return damaged;
+    }
     match rng.below(100) {
         0..=27 => damage_bytes(rng, &encode_derivation(lines), bounds),
         28..=30 => wrong_line_count(rng, encode_derivation(lines).bytes),
@@ -105,14 +117,19 @@ pub fn damage_derivation(rng: &mut Rng, request: &Request, lines: &[Line]) -> Da
 pub(crate) fn damage_bytes(rng: &mut Rng, whole: &Encoded, bounds: Bounds) -> Damaged {
     let bytes = whole.bytes.clone();
     let length = bytes.len();
-    match rng.below(14) {
+    match rng.below(15) {
         0 | 1 => Damaged::unsure(flip(rng, bytes)),
         2 => {
             let kept = rng.below(length);
             Damaged::sure(bytes[..kept].to_vec(), 11, kept)
         }
         3 => extended(rng, bytes, bounds),
-        4 | 5 => aimed(rng, whole, |mark| mark.kind == Kind::Count, wrong_count),
+        4 | 5 => aimed(
+            rng,
+            whole,
+            |mark| matches!(mark.kind, Kind::Count | Kind::LinesCount),
+            wrong_count,
+        ),
         6 => aimed(
             rng,
             whole,
@@ -128,10 +145,11 @@ pub(crate) fn damage_bytes(rng: &mut Rng, whole: &Encoded, bounds: Bounds) -> Da
             turned,
         ),
         11 | 12 => too_large(rng, whole, bounds),
-        _ => match rng.below(12) {
+        13 => match rng.below(12) {
             0 => too_long(rng, bytes, bounds),
             _ => Damaged::unsure(flip(rng, bytes)),
         },
+        _ => beyond_limits(rng, whole, bounds),
     }
 }
 
@@ -179,18 +197,13 @@ pub(crate) fn aimed(
     strike(rng, whole.bytes.clone(), target)
 }
 
-/// Counts one beyond the limits of branches, bodies, citations and lists, which have the same limit
-/// as citations or a larger one; and others.
+/// Counts one beyond the limits of branches, bodies, citations and lists; and others.
 const WRONG_COUNTS: [usize; 6] = [
     0,
     BRANCH_LIMIT + 1,
     BODY_LIMIT + 1,
     CITATION_LIMIT + 1,
-    if LIST_LIMIT < 128 {
-        128
-    } else {
-        LIST_LIMIT + 1
-    },
+    LIST_LIMIT + 1,
     255,
 ];
 
@@ -236,31 +249,87 @@ fn turned(_: &mut Rng, mut bytes: Vec<u8>, place: usize) -> Damaged {
     Damaged::sure(bytes, number, place)
 }
 
-/// A fluent, literal or action that is too large. With 128 fluents no literal is.
+/// A fluent, literal or action that is too large. With 128 fluents no literal is, and item 255 is
+/// a branching.
 fn too_large(rng: &mut Rng, whole: &Encoded, bounds: Bounds) -> Damaged {
-    let bound = |kind| match kind {
-        Kind::Action => Some(usize::from(bounds.actions)),
-        Kind::Literal => Some(2 * usize::from(bounds.fluents)),
-        Kind::Fluent => Some(usize::from(bounds.fluents)),
+    let wrong = |kind| match kind {
+        Kind::Action => Some((usize::from(bounds.actions), 255)),
+        Kind::Item => Some((usize::from(bounds.actions), BRANCHING - 1)),
+        Kind::Literal => Some((2 * usize::from(bounds.fluents), 255)),
+        Kind::Fluent => Some((usize::from(bounds.fluents), 255)),
         _ => None,
     };
-    let targets: Vec<(usize, u8)> = whole
+    let targets: Vec<(usize, u8, u8)> = whole
         .marks
         .iter()
-        .filter_map(|mark| bound(mark.kind).map(|bound| (mark.place, bound)))
-        .filter_map(|(place, bound)| Some((place, u8::try_from(bound).ok()?)))
+        .filter_map(|mark| {
+            let (bound, most) = wrong(mark.kind)?;
+            Some((mark.place, u8::try_from(bound).ok()?, most))
+        })
         .collect();
     let mut bytes = whole.bytes.clone();
     if targets.is_empty() {
         return Damaged::unsure(flip(rng, bytes));
     }
-    let (place, bound) = *rng.pick(&targets);
+    let (place, bound, most) = *rng.pick(&targets);
     bytes[place] = if rng.chance(50) {
         bound
     } else {
-        rng.byte(bound, 254)
+        rng.byte(bound, most)
     };
     Damaged::sure(bytes, 13, place)
+}
+
+/// Where there are as many fluents or actions as there can be, or one less: damage beyond the
+/// limits, in one of four cases.
+pub(crate) fn at_limits(
+    rng: &mut Rng,
+    whole: impl FnOnce() -> Encoded,
+    bounds: Bounds,
+) -> Option<Damaged> {
+    (bounds.near_limits() && rng.chance(25)).then(|| beyond_limits(rng, &whole(), bounds))
+}
+
+/// Beyond the limits of lists, fluents and actions: a count of 129, fluent 128, literal 255 where
+/// there are fewer than 128 fluents, an item of 128 to 254.
+fn beyond_limits(rng: &mut Rng, whole: &Encoded, bounds: Bounds) -> Damaged {
+    match rng.below(4) {
+        0 => aimed(
+            rng,
+            whole,
+            |mark| mark.kind == Kind::Count,
+            |_, bytes, place| with_byte(bytes, place, LIST_LIMIT as u8 + 1, 12),
+        ),
+        1 => aimed(
+            rng,
+            whole,
+            |mark| mark.kind == Kind::Fluent,
+            |_, bytes, place| with_byte(bytes, place, FLUENT_LIMIT as u8, 13),
+        ),
+        2 if usize::from(bounds.fluents) < FLUENT_LIMIT => aimed(
+            rng,
+            whole,
+            |mark| mark.kind == Kind::Literal,
+            |_, bytes, place| with_byte(bytes, place, 255, 13),
+        ),
+        _ => aimed(
+            rng,
+            whole,
+            |mark| mark.kind == Kind::Item,
+            |rng, bytes, place| {
+                let (least, most) = (ACTION_LIMIT as u8, BRANCHING - 1);
+                let any = rng.byte(least, most);
+                let item = *rng.pick(&[least, least, most, most, any]);
+                with_byte(bytes, place, item, 13)
+            },
+        ),
+    }
+}
+
+/// One byte changed, which is then refused by this number.
+fn with_byte(mut bytes: Vec<u8>, place: usize, byte: u8, number: u8) -> Damaged {
+    bytes[place] = byte;
+    Damaged::sure(bytes, number, place)
 }
 
 /// A ninth branching inside eight.

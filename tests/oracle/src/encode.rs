@@ -7,9 +7,14 @@ use crate::reader::BRANCHING;
 #[derive(Clone, Copy, Debug, PartialEq, Eq)]
 pub enum Kind {
     Count,
+    /// The count of a section that may have as many lines as a byte can say.
+    LinesCount,
     ItemCount,
     LineCount,
+    /// An action of a line of the table.
     Action,
+    /// An action that is an item.
+    Item,
     Literal,
     Fluent,
     Branching,
@@ -41,18 +46,18 @@ pub fn encode_request(request: &Request) -> Encoded {
     out.byte(Kind::Count, request.fluents);
     out.byte(Kind::Count, request.actions);
     out.list(Kind::Literal, &request.facts);
-    out.count(request.effects.len());
+    out.count(Kind::LinesCount, request.effects.len());
     for line in &request.effects {
         out.byte(Kind::Action, line.action);
         out.byte(Kind::Literal, line.literal);
         out.list(Kind::Literal, &line.body);
     }
-    out.count(request.allowances.len());
+    out.count(Kind::LinesCount, request.allowances.len());
     for line in &request.allowances {
         out.byte(Kind::Action, line.action);
         out.list(Kind::Literal, &line.body);
     }
-    out.count(request.knowledge.len());
+    out.count(Kind::LinesCount, request.knowledge.len());
     for line in &request.knowledge {
         out.byte(Kind::Action, line.action);
         out.byte(Kind::Fluent, line.fluent);
@@ -82,8 +87,7 @@ pub fn encode_derivation(lines: &[Line]) -> Encoded {
 pub fn encode_proof(proof: &Proof) -> Encoded {
     let mut out = Encoded::default();
     out.proof_lines(&proof.lines);
-    let count = u8::try_from(proof.closing.len()).expect("a count of one byte");
-    out.byte(Kind::ClosingCount, count);
+    out.count(Kind::ClosingCount, proof.closing.len());
     for &entry in &proof.closing {
         out.wide(Kind::Closing, usize::from(entry));
     }
@@ -111,11 +115,8 @@ impl Encoded {
         self.entry(kind, byte, false);
     }
 
-    fn count(&mut self, count: usize) {
-        self.byte(
-            Kind::Count,
-            u8::try_from(count).expect("a count of one byte"),
-        );
+    fn count(&mut self, kind: Kind, count: usize) {
+        self.byte(kind, u8::try_from(count).expect("a count of one byte"));
     }
 
     fn wide(&mut self, kind: Kind, number: usize) {
@@ -127,7 +128,7 @@ impl Encoded {
     }
 
     fn cites(&mut self, cites: &[u16]) {
-        self.count(cites.len());
+        self.count(Kind::Count, cites.len());
         for &cite in cites {
             self.wide(Kind::Citation, usize::from(cite));
         }
@@ -148,7 +149,7 @@ impl Encoded {
     }
 
     fn list(&mut self, kind: Kind, entries: &[u8]) {
-        self.count(entries.len());
+        self.count(Kind::Count, entries.len());
         for (index, &byte) in entries.iter().enumerate() {
             self.entry(kind, byte, index > 0);
         }
@@ -158,10 +159,10 @@ impl Encoded {
         self.wide(Kind::ItemCount, items.len());
         for item in items {
             match item {
-                Item::Action { action, .. } => self.byte(Kind::Action, *action),
+                Item::Action { action, .. } => self.byte(Kind::Item, *action),
                 Item::Branching { branches, .. } => {
                     self.byte(Kind::Branching, BRANCHING);
-                    self.count(branches.len());
+                    self.count(Kind::Count, branches.len());
                     for branch in branches {
                         self.list(Kind::Literal, &branch.condition);
                         self.sequence(&branch.sequence);

@@ -19,6 +19,8 @@ const STATES: usize = 12;
 pub struct Shape {
     pub fluents: (u8, u8),
     pub actions: (u8, u8),
+    /// So many fluents of a hundred are known at the start: one of these numbers.
+    pub known: [u64; 3],
     /// Items of the plan itself, not counting nested ones.
     pub steps: (usize, usize),
     /// Items in all.
@@ -28,16 +30,20 @@ pub struct Shape {
     /// So many choices of a hundred are made carelessly.
     pub careless: u64,
     pub whether: bool,
+    /// So many drafts of a hundred are spread.
+    pub spread: u64,
 }
 
 pub const TINY: Shape = Shape {
     fluents: (1, 4),
     actions: (1, 4),
+    known: [20, 50, 80],
     steps: (0, 4),
     items: 16,
     effects: 3,
     careless: 11,
     whether: true,
+    spread: 15,
 };
 
 pub const SMALL: Shape = Shape {
@@ -59,22 +65,44 @@ pub const MIDDLE: Shape = Shape {
 };
 
 pub const LARGE: Shape = Shape {
-    fluents: (11, FLUENT_LIMIT as u8),
-    actions: (8, ACTION_LIMIT as u8),
+    fluents: (11, 64),
+    actions: (8, 64),
     steps: (10, 80),
     items: ITEM_LIMIT,
     effects: 6,
     careless: 1,
-    whether: true,
+    spread: 0,
+    ..TINY
+};
+
+/// More than half as many fluents and actions as there can be.
+pub const WIDE: Shape = Shape {
+    fluents: (FLUENT_LIMIT as u8 / 2 + 1, FLUENT_LIMIT as u8),
+    actions: (ACTION_LIMIT as u8 / 2 + 1, ACTION_LIMIT as u8),
+    ..LARGE
+};
+
+/// As many fluents and actions as there can be, or one less, all fluents known at the start, and a
+/// short plan.
+pub const FULL: Shape = Shape {
+    fluents: (FLUENT_LIMIT as u8 - 1, FLUENT_LIMIT as u8),
+    actions: (ACTION_LIMIT as u8 - 1, ACTION_LIMIT as u8),
+    known: [100; 3],
+    steps: (0, 8),
+    items: 40,
+    effects: 2,
+    ..LARGE
 };
 
 /// A request of any size, small ones by far the most.
 pub fn any_request(rng: &mut Rng) -> Request {
     match rng.below(1_000) {
-        0..=399 => request(rng, &TINY),
-        400..=839 => request(rng, &SMALL),
-        840..=969 => request(rng, &MIDDLE),
-        970..=979 => request(rng, &LARGE),
+        0..=399 => drawn(rng, &TINY),
+        400..=839 => drawn(rng, &SMALL),
+        840..=969 => drawn(rng, &MIDDLE),
+        970..=973 => request(rng, &LARGE),
+        974..=976 => request(rng, &WIDE),
+        977..=979 => full(rng),
         980..=989 => nested(rng),
         990..=993 => forgetful(rng, 4, 4),
         994..=996 => forgetful(rng, FLUENT_LIMIT as u8 - 1, ITEM_LIMIT / 2),
@@ -95,6 +123,27 @@ pub fn request(rng: &mut Rng, shape: &Shape) -> Request {
     request
 }
 
+/// A request of a shape, spread now and then.
+pub fn drawn(rng: &mut Rng, shape: &Shape) -> Request {
+    let request = request(rng, shape);
+    match rng.chance(shape.spread) {
+        true => spread(rng, &request),
+        false => request,
+    }
+}
+
+/// A request with lists as long as there are fluents: what is known at all ends are its goals, and
+/// whether entries.
+pub fn full(rng: &mut Rng) -> Request {
+    let mut request = table(rng, &FULL);
+    let steps = rng.range(FULL.steps.0, FULL.steps.1);
+    let (plan, ends) = Grower::new(rng, &request, &FULL).plan(steps);
+    request.plan = plan;
+    request.goals = common(&ends).literals();
+    request.whether = known_at(&request, &ends);
+    request
+}
+
 /// Sections 1 to 5.
 fn table(rng: &mut Rng, shape: &Shape) -> Request {
     let mut request = Request {
@@ -102,7 +151,7 @@ fn table(rng: &mut Rng, shape: &Shape) -> Request {
         actions: rng.byte(shape.actions.0, shape.actions.1),
         ..Request::default()
     };
-    let percent = *rng.pick(&[20, 50, 80]);
+    let percent = *rng.pick(&shape.known);
     for fluent in 0..request.fluents {
         if rng.chance(percent) {
             request.facts.push(2 * fluent + rng.byte(0, 1));
@@ -272,14 +321,19 @@ fn goals(rng: &mut Rng, request: &Request, ends: &[Known], careless: u64) -> Vec
     goals
 }
 
-/// Some of the fluents that have a value in each end state, now and then with another one.
-fn whether(rng: &mut Rng, request: &Request, ends: &[Known], careless: u64) -> Vec<u8> {
+/// The fluents that have a value in each end state.
+fn known_at(request: &Request, ends: &[Known]) -> Vec<u8> {
     let known = ends
         .iter()
         .fold(Mask::MAX, |mask, state| mask & state.marked());
-    let mut fluents: Vec<u8> = (0..request.fluents)
+    (0..request.fluents)
         .filter(|&fluent| known & bit(fluent) != 0)
-        .collect();
+        .collect()
+}
+
+/// Some of the fluents that have a value in each end state, now and then with another one.
+fn whether(rng: &mut Rng, request: &Request, ends: &[Known], careless: u64) -> Vec<u8> {
+    let mut fluents = known_at(request, ends);
     fluents.retain(|_| rng.chance(60));
     if rng.chance(3 * careless) {
         fluents.push(rng.byte(0, request.fluents - 1));
@@ -596,4 +650,103 @@ pub fn long_plan(rng: &mut Rng, items: usize) -> Request {
     }])];
     request.plan.resize(items - nested, Item::act(action));
     request
+}
+
+/// The same request with larger numbers for its fluents and actions, in the same order, so that
+/// nothing else changes: its answer has the same number, place and count.
+pub fn spread(rng: &mut Rng, request: &Request) -> Request {
+    let (fluents, actions) = (larger(rng, FLUENT_LIMIT), larger(rng, ACTION_LIMIT));
+    let new = Numbers {
+        fluents: ascending(rng, request.fluents, fluents),
+        actions: ascending(rng, request.actions, actions),
+    };
+    Request {
+        fluents,
+        actions,
+        facts: new.literals(&request.facts),
+        effects: (request.effects.iter())
+            .map(|line| Effect {
+                place: 0,
+                action: new.action(line.action),
+                literal: new.literal(line.literal),
+                body: new.literals(&line.body),
+            })
+            .collect(),
+        allowances: (request.allowances.iter())
+            .map(|line| Allowance {
+                action: new.action(line.action),
+                body: new.literals(&line.body),
+            })
+            .collect(),
+        knowledge: (request.knowledge.iter())
+            .map(|line| Knowledge {
+                place: 0,
+                action: new.action(line.action),
+                fluent: new.fluent(line.fluent),
+            })
+            .collect(),
+        plan: new.sequence(&request.plan),
+        goals: new.literals(&request.goals),
+        whether: request.whether.iter().map(|&f| new.fluent(f)).collect(),
+        ..Request::default()
+    }
+}
+
+/// More than half of a limit, mostly all of it or one less.
+fn larger(rng: &mut Rng, limit: usize) -> u8 {
+    let limit = limit as u8;
+    match rng.below(10) {
+        0..=3 => limit,
+        4..=7 => limit - 1,
+        _ => rng.byte(limit / 2 + 1, limit),
+    }
+}
+
+/// So many numbers below a bound, ascending, mostly with the largest among them.
+fn ascending(rng: &mut Rng, count: u8, bound: u8) -> Vec<u8> {
+    let mut numbers: Vec<u8> = (0..bound - 1).collect();
+    rng.shuffle(&mut numbers);
+    match rng.chance(70) {
+        true => numbers.insert(0, bound - 1),
+        false => numbers.push(bound - 1),
+    }
+    numbers.truncate(count.into());
+    numbers.sort_unstable();
+    numbers
+}
+
+/// The numbers that fluents and actions get.
+struct Numbers {
+    fluents: Vec<u8>,
+    actions: Vec<u8>,
+}
+
+impl Numbers {
+    fn fluent(&self, fluent: u8) -> u8 {
+        self.fluents[usize::from(fluent)]
+    }
+
+    fn action(&self, action: u8) -> u8 {
+        self.actions[usize::from(action)]
+    }
+
+    fn literal(&self, literal: u8) -> u8 {
+        2 * self.fluent(literal / 2) + literal % 2
+    }
+
+    fn literals(&self, list: &[u8]) -> Vec<u8> {
+        list.iter().map(|&literal| self.literal(literal)).collect()
+    }
+
+    fn sequence(&self, items: &[Item]) -> Vec<Item> {
+        let branch = |branch: &Branch| Branch {
+            condition: self.literals(&branch.condition),
+            sequence: self.sequence(&branch.sequence),
+        };
+        let item = |item: &Item| match item {
+            Item::Action { action, .. } => Item::act(self.action(*action)),
+            Item::Branching { branches, .. } => Item::case(branches.iter().map(branch).collect()),
+        };
+        items.iter().map(item).collect()
+    }
 }

@@ -7,6 +7,7 @@ pub mod answer;
 pub mod calls;
 pub mod damage;
 pub mod derive;
+pub mod edges;
 pub mod encode;
 pub mod examples;
 pub mod forge;

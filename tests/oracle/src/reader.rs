@@ -12,11 +12,11 @@ pub const REQUEST_LIMIT: usize = 16_384;
 /// Longest derivation in bytes.
 pub const DERIVATION_LIMIT: usize = 32_768;
 /// Most fluents. The masks of `table.rs` have room for 128, and so have literal bytes.
-pub const FLUENT_LIMIT: usize = 64;
+pub const FLUENT_LIMIT: usize = 128;
 /// Most actions.
-pub const ACTION_LIMIT: usize = 64;
+pub const ACTION_LIMIT: usize = 128;
 /// Most entries of a list outside of bodies.
-pub const LIST_LIMIT: usize = 64;
+pub const LIST_LIMIT: usize = 128;
 /// Most literals of a body.
 pub const BODY_LIMIT: usize = 16;
 /// Most branches of a branching.
@@ -34,15 +34,32 @@ pub const BRANCHING: u8 = 255;
 
 type Read<T> = Result<T, Fault>;
 
+/// What a reader is at: a part of a request, or of a derivation's line.
+#[derive(Clone, Copy, Debug, PartialEq, Eq, PartialOrd, Ord)]
+pub enum Part {
+    Fluents,
+    Actions,
+    Facts,
+    /// Sections 3 to 5.
+    Table,
+    Item,
+    Condition,
+    Goals,
+    Whether,
+    /// X.
+    Before,
+    /// Y.
+    After,
+    /// The fluent in Y's place.
+    Concluded,
+    /// What else a derivation has.
+    Rest,
+}
+
 /// Reads a whole request: 10, then 11 to 15, 19, 21 from the left, then 20.
 pub fn read_request(bytes: &[u8]) -> Read<Request> {
     refuse_length(bytes, REQUEST_LIMIT)?;
-    let mut reader = Reader {
-        bytes,
-        at: 0,
-        fluents: 0,
-        actions: 0,
-    };
+    let mut reader = Reader::new(bytes, 0, 0);
     let request = reader.request()?;
     reader.end()?;
     Ok(request)
@@ -51,12 +68,7 @@ pub fn read_request(bytes: &[u8]) -> Read<Request> {
 /// Reads a whole derivation by the same order, with the request's numbers of fluents and actions.
 pub fn read_derivation(bytes: &[u8], request: &Request) -> Read<Vec<Line>> {
     refuse_length(bytes, DERIVATION_LIMIT)?;
-    let mut reader = Reader {
-        bytes,
-        at: 0,
-        fluents: request.fluents,
-        actions: request.actions,
-    };
+    let mut reader = Reader::new(bytes, request.fluents, request.actions);
     let lines = reader.lines(Reader::line)?;
     reader.end()?;
     Ok(lines)
@@ -65,15 +77,31 @@ pub fn read_derivation(bytes: &[u8], request: &Request) -> Read<Vec<Line>> {
 /// Reads a whole derivation in the second layout, by the same order.
 pub fn read_proof(bytes: &[u8], request: &Request) -> Read<Proof> {
     refuse_length(bytes, DERIVATION_LIMIT)?;
-    let mut reader = Reader {
-        bytes,
-        at: 0,
-        fluents: request.fluents,
-        actions: request.actions,
-    };
+    let mut reader = Reader::new(bytes, request.fluents, request.actions);
     let proof = reader.proof()?;
     reader.end()?;
     Ok(proof)
+}
+
+/// The part of a request in which its reading ends.
+pub fn last_of_request(bytes: &[u8]) -> Part {
+    let mut reader = Reader::new(bytes, 0, 0);
+    let _ = reader.request();
+    reader.part
+}
+
+/// The part of a derivation in which its reading ends.
+pub fn last_of_derivation(bytes: &[u8], request: &Request) -> Part {
+    let mut reader = Reader::new(bytes, request.fluents, request.actions);
+    let _ = reader.lines(Reader::line);
+    reader.part
+}
+
+/// The same in the second layout.
+pub fn last_of_proof(bytes: &[u8], request: &Request) -> Part {
+    let mut reader = Reader::new(bytes, request.fluents, request.actions);
+    let _ = reader.proof();
+    reader.part
 }
 
 /// Whether one fluent stands in Y's place after this rule byte; a list does after all others.
@@ -89,15 +117,27 @@ fn refuse_length(bytes: &[u8], limit: usize) -> Read<()> {
     Ok(())
 }
 
-/// The input, the position in it, and how many fluents and actions there are.
+/// The input, the position in it and the part that is there, and how many fluents and actions
+/// there are.
 struct Reader<'a> {
     bytes: &'a [u8],
     at: usize,
+    part: Part,
     fluents: u8,
     actions: u8,
 }
 
 impl Reader<'_> {
+    fn new(bytes: &[u8], fluents: u8, actions: u8) -> Reader<'_> {
+        Reader {
+            bytes,
+            at: 0,
+            part: Part::Rest,
+            fluents,
+            actions,
+        }
+    }
+
     /// The next byte, which stays unread. 11 where there is none, placed at the length.
     fn peek(&self) -> Read<u8> {
         self.bytes
@@ -197,17 +237,27 @@ impl Reader<'_> {
         self.literals(BODY_LIMIT)
     }
 
+    /// A list of literals that is no body.
+    fn list(&mut self, part: Part) -> Read<Vec<u8>> {
+        self.part = part;
+        self.literals(LIST_LIMIT)
+    }
+
     fn request(&mut self) -> Read<Request> {
+        self.part = Part::Fluents;
         self.fluents = self.count(1, FLUENT_LIMIT)? as u8;
+        self.part = Part::Actions;
         self.actions = self.count(1, ACTION_LIMIT)? as u8;
-        let facts = self.literals(LIST_LIMIT)?;
+        let facts = self.list(Part::Facts)?;
+        self.part = Part::Table;
         let effects = self.section(Self::effect)?;
         let allowances = self.section(Self::allowance)?;
         let knowledge = self.section(Self::knowledge)?;
         let plan = self.plan()?;
         let goals_place = self.at;
-        let goals = self.literals(LIST_LIMIT)?;
+        let goals = self.list(Part::Goals)?;
         let whether_place = self.at;
+        self.part = Part::Whether;
         let whether = self.fluent_list(LIST_LIMIT)?;
         Ok(Request {
             fluents: self.fluents,
@@ -275,6 +325,7 @@ impl Reader<'_> {
     /// An item. At its first byte: 11, then 21, then 19, then 13.
     fn item(&mut self, items: &mut usize, nesting: usize) -> Read<Item> {
         let place = self.at;
+        self.part = Part::Item;
         let first = self.peek()?;
         *items += 1;
         if *items > ITEM_LIMIT {
@@ -296,6 +347,7 @@ impl Reader<'_> {
     }
 
     fn branch(&mut self, items: &mut usize, nesting: usize) -> Read<Branch> {
+        self.part = Part::Condition;
         let condition = self.body()?;
         let sequence = self.sequence(items, nesting)?;
         Ok(Branch {
@@ -323,9 +375,10 @@ impl Reader<'_> {
     /// A line. Reading refuses no rule byte and no line number.
     fn line(&mut self) -> Read<Line> {
         let place = self.at;
-        let before = self.literals(LIST_LIMIT)?;
+        let before = self.list(Part::Before)?;
         let sequence = self.plan()?;
-        let after = self.literals(LIST_LIMIT)?;
+        let after = self.list(Part::After)?;
+        self.part = Part::Rest;
         let rule = self.byte()?;
         let cites = self.cites()?;
         Ok(Line {
@@ -356,13 +409,17 @@ impl Reader<'_> {
     /// refuses none.
     fn proof_line(&mut self) -> Read<ProofLine> {
         let place = self.at;
-        let before = self.literals(LIST_LIMIT)?;
+        let before = self.list(Part::Before)?;
         let sequence = self.plan()?;
         let rule = self.byte()?;
         let gives = match gives_fluent(rule) {
-            true => Conclusion::Fluent(self.fluent()?),
-            false => Conclusion::List(self.literals(LIST_LIMIT)?),
+            true => {
+                self.part = Part::Concluded;
+                Conclusion::Fluent(self.fluent()?)
+            }
+            false => Conclusion::List(self.list(Part::After)?),
         };
+        self.part = Part::Rest;
         let cites = self.cites()?;
         Ok(ProofLine {
             place,

@@ -13,16 +13,19 @@
 //! All answers of a call come round in 150 rows. Requests have at most 120 bytes, a few up to
 //! 300; derivations at most 200, a few up to 400; a walk that is reached counts at most 2,000.
 //! Only item 1,025 takes more bytes (two rows of judging and one of checking, in the first
-//! round), and an input too long (one row of each kind, there, written with `REP`).
+//! round), an input too long (one row of each kind, there, written with `REP`), and lists of 128
+//! entries (three rows of judging and two of checking, there). The first round also has a row for
+//! each of the edges of `edges.rs`.
 
 use crate::answer::{Answer, DERIVATION, NEITHER, REQUEST};
 use crate::calls::{
     any_check_call, damaged_judge_call, derivable, lend_wrongly, sound_judge_call, CheckCall,
     JudgeCall,
 };
-use crate::generate::{forgetful, request, Shape, MIDDLE, SMALL, TINY};
+use crate::edges::{of_derivation, of_judging, Edge, OF_DERIVATIONS, OF_JUDGING};
+use crate::generate::{drawn, forgetful, full, Shape, FULL, MIDDLE, SMALL, TINY};
 use crate::model::Request;
-use crate::reader::{DERIVATION_LIMIT, LIST_LIMIT, REQUEST_LIMIT};
+use crate::reader::{Part, DERIVATION_LIMIT, LIST_LIMIT, REQUEST_LIMIT};
 use crate::rng::Rng;
 use crate::text::comma_separated;
 use crate::walk::{walk, Verdict};
@@ -36,6 +39,8 @@ pub(crate) const DERIVATION_BYTES: usize = 200;
 pub(crate) const MORE_DERIVATION_BYTES: usize = 400;
 /// Most bytes of an input with item 1,025.
 pub(crate) const LONG_BYTES: usize = 1_200;
+/// Most bytes of an input with lists of 128 entries.
+pub(crate) const FULL_BYTES: usize = 2_000;
 /// Largest count of a walk.
 const COUNT: u32 = 2_000;
 /// Rows after which all answers have come round.
@@ -97,32 +102,44 @@ const LONG_CHECKING: [(u8, u8); 2] = [(10, DERIVATION), (21, DERIVATION)];
 
 /// So many rows of both kinds, one after the other.
 pub fn rows(seed: u64, judging: u64, checking: u64) -> impl Iterator<Item = String> {
-    let judged = rounds(seed, 3, judging, &JUDGING, &LONG_JUDGING)
+    let judged = rounds(seed, 3, judging, &JUDGING, &LONG_JUDGING, &OF_JUDGING)
         .zip(0..)
         .map(move |(wanted, index)| judging_row(&mut Rng::new(seed, 4, index), wanted));
-    let checked = rounds(seed, 5, checking, &CHECKING, &LONG_CHECKING)
+    let checked = rounds(seed, 5, checking, &CHECKING, &LONG_CHECKING, OF_DERIVATIONS)
         .zip(0..)
         .map(move |(wanted, index)| checking_row(&mut Rng::new(seed, 6, index), wanted));
     judged.chain(checked)
 }
 
-/// The answers wanted, each round in an order of its own. In the first round those with long
-/// inputs take the place of some of the most frequent answer.
+/// What is wanted of a row.
+#[derive(Clone, Copy)]
+pub(crate) enum Wanted<T> {
+    Answered(T),
+    Shows(Edge),
+}
+
+/// What is wanted of rows, each round in an order of its own. In the first round long inputs and
+/// edges take the place of some of the most frequent answer.
 pub(crate) fn rounds<T: Copy>(
     seed: u64,
     stream: u64,
     rows: u64,
     often: &'static [(T, u64)],
     long: &'static [T],
-) -> impl Iterator<Item = T> {
+    edges: &'static [Edge],
+) -> impl Iterator<Item = Wanted<T>> {
+    let first = move || {
+        let long = long.iter().copied().map(Wanted::Answered);
+        long.chain(edges.iter().copied().map(Wanted::Shows))
+    };
     (0..rows.div_ceil(ROUND))
         .flat_map(move |round| {
             let times = often
                 .iter()
-                .flat_map(|&(wanted, times)| (0..times).map(move |_| wanted));
-            let mut wanted: Vec<T> = times.collect();
+                .flat_map(|&(wanted, times)| (0..times).map(move |_| Wanted::Answered(wanted)));
+            let mut wanted: Vec<Wanted<T>> = times.collect();
             if round == 0 {
-                wanted[..long.len()].copy_from_slice(long);
+                wanted.splice(..first().count(), first());
             }
             Rng::new(seed, stream, round).shuffle(&mut wanted);
             wanted
@@ -130,21 +147,46 @@ pub(crate) fn rounds<T: Copy>(
         .take(usize::try_from(rows).unwrap_or(usize::MAX))
 }
 
-/// A row with the answer wanted.
-fn judging_row(rng: &mut Rng, wanted: u8) -> String {
+/// A row as wanted.
+fn judging_row(rng: &mut Rng, wanted: Wanted<u8>) -> String {
     let call = match wanted {
-        10 => {
+        Wanted::Shows(edge) => edge_judging(rng, edge),
+        Wanted::Answered(10) => {
             let mut call = judging_call(rng, 11, BYTES);
             call.request = vec![rng.byte(0, LIST_LIMIT as u8); REQUEST_LIMIT + 1];
             call
         }
-        21 => judging_call(rng, 21, LONG_BYTES),
-        _ => {
+        Wanted::Answered(21) => judging_call(rng, 21, LONG_BYTES),
+        Wanted::Answered(wanted) => {
             let most = if rng.chance(4) { MORE_BYTES } else { BYTES };
             judging_call(rng, wanted, most)
         }
     };
     tell_judging(&call)
+}
+
+/// A call that shows an edge, with a small request unless its lists are full.
+fn edge_judging(rng: &mut Rng, edge: Edge) -> JudgeCall {
+    loop {
+        let (draft, most) = match edge {
+            Edge::Full(Part::Facts | Part::Goals | Part::Whether) => (full(rng), FULL_BYTES),
+            _ => {
+                let shape = spread_shape(rng);
+                (drawn(rng, &shape), BYTES)
+            }
+        };
+        let mut call = match edge {
+            Edge::Full(_) | Edge::LastLiteral => sound_judge_call(rng, &draft),
+            _ => damaged_judge_call(rng, &draft),
+        };
+        if let Edge::Lent(_) = edge {
+            lend_wrongly(rng, &mut call);
+        }
+        let shown = of_judging(&call.request, call.lent.len(), judged(&call).0);
+        if call.request.len() <= most && shown.contains(&edge) && is_light(&call) {
+            return call;
+        }
+    }
 }
 
 /// A call of the wanted answer with a small request.
@@ -167,11 +209,11 @@ fn judging_call(rng: &mut Rng, wanted: u8, most: usize) -> JudgeCall {
 /// A request of a small shape, or of a larger one where it may be longer.
 fn small_request(rng: &mut Rng, most: usize) -> Request {
     match rng.below(100) {
-        _ if most == MORE_BYTES => request(rng, &MIDDLE),
+        _ if most == MORE_BYTES => drawn(rng, &MIDDLE),
         0..=4 => forgetful(rng, 3, 3),
         _ => {
             let shape = small_shape(rng);
-            request(rng, shape)
+            drawn(rng, shape)
         }
     }
 }
@@ -207,16 +249,17 @@ fn tell_judging(call: &JudgeCall) -> String {
     format!("J {request} {length} {budget} {answer} {state}")
 }
 
-/// A row with the answer wanted.
-fn checking_row(rng: &mut Rng, wanted: (u8, u8)) -> String {
+/// A row as wanted.
+fn checking_row(rng: &mut Rng, wanted: Wanted<(u8, u8)>) -> String {
     let call = match wanted {
-        (10, _) => {
+        Wanted::Shows(edge) => edge_checking(rng, edge),
+        Wanted::Answered((10, _)) => {
             let mut call = checking_call(rng, (11, DERIVATION), DERIVATION_BYTES);
             call.derivation = vec![rng.byte(0, LIST_LIMIT as u8); DERIVATION_LIMIT + 1];
             call
         }
-        (21, _) => checking_call(rng, wanted, LONG_BYTES),
-        _ => {
+        Wanted::Answered(wanted @ (21, _)) => checking_call(rng, wanted, LONG_BYTES),
+        Wanted::Answered(wanted) => {
             let most = if rng.chance(5) {
                 MORE_DERIVATION_BYTES
             } else {
@@ -226,6 +269,37 @@ fn checking_row(rng: &mut Rng, wanted: (u8, u8)) -> String {
         }
     };
     tell_checking(&call)
+}
+
+/// A call that shows an edge, with small inputs unless their lists are full.
+fn edge_checking(rng: &mut Rng, edge: Edge) -> CheckCall {
+    let (shape, most, most_derived) = edge_sizes(rng, edge);
+    loop {
+        let (draft, lines) = derivable(rng, &shape);
+        let call = any_check_call(rng, &draft, &lines);
+        let small = call.request.len() <= most && call.derivation.len() <= most_derived;
+        let answer = check(&call.request, &call.derivation);
+        let shown = of_derivation(&call.request, &call.derivation, answer);
+        if small && shown.contains(&edge) {
+            return call;
+        }
+    }
+}
+
+/// The shape of a request whose derivation shows an edge, and the most bytes of both.
+pub(crate) fn edge_sizes(rng: &mut Rng, edge: Edge) -> (Shape, usize, usize) {
+    match edge {
+        Edge::Full(_) => (FULL, FULL_BYTES, FULL_BYTES),
+        _ => (spread_shape(rng), BYTES, DERIVATION_BYTES),
+    }
+}
+
+/// A small shape, of which each draft is spread.
+fn spread_shape(rng: &mut Rng) -> Shape {
+    Shape {
+        spread: 100,
+        ..*small_shape(rng)
+    }
 }
 
 /// A call of the wanted answer with small inputs.

@@ -5,6 +5,7 @@ use std::fmt::Write;
 
 use crate::answer::{Answer, DERIVATION, NEITHER, REQUEST};
 use crate::calls::{check_call, judge_call, CheckCall, JudgeCall, Outlook};
+use crate::edges::{self, Met};
 use crate::encode::{encode_derivation, encode_request};
 use crate::model::{Effect, Line, Request};
 use crate::reader::{read_derivation, read_request};
@@ -55,6 +56,8 @@ pub struct Tally {
     derivations: u64,
     judged: BTreeMap<u8, u64>,
     checked: BTreeMap<(u8, u8), u64>,
+    judged_edges: Met,
+    checked_edges: Met,
     second_walks: u64,
     second_walks_left: u64,
     carried_out: u64,
@@ -119,6 +122,8 @@ impl Tally {
         let mut lent = call.lent.clone();
         let answer = judge(&call.request, &mut lent, call.budget);
         *self.judged.entry(answer.number).or_default() += 1;
+        let edges = edges::of_judging(&call.request, call.lent.len(), answer);
+        self.judged_edges.note(edges);
         expect_form(answer, &call.request, &[])?;
         expect_outlook(answer, call.outlook)?;
         let written = matches!(answer.number, 1 | 2);
@@ -217,6 +222,8 @@ impl Tally {
             .checked
             .entry((answer.number, answer.input))
             .or_default() += 1;
+        let edges = edges::of_derivation(&call.request, &call.derivation, answer);
+        self.checked_edges.note(edges);
         expect_form(answer, &call.request, &call.derivation)?;
         expect_outlook(answer, call.outlook)?;
         if answer.number != 0 {
@@ -290,7 +297,13 @@ impl Tally {
             .iter()
             .filter(|pair| !self.checked.contains_key(pair))
             .map(|(number, input)| format!("{number} of input {input} in checking"));
-        judging.chain(checking).collect()
+        let of_judging = self.judged_edges.never(&edges::OF_JUDGING);
+        let of_checking = self.checked_edges.never(edges::OF_DERIVATIONS);
+        judging
+            .chain(checking)
+            .chain(of_judging.iter().map(|edge| format!("{edge} in judging")))
+            .chain(of_checking.iter().map(|edge| format!("{edge} in checking")))
+            .collect()
     }
 
     fn rare(&self) -> Vec<String> {
@@ -314,10 +327,12 @@ impl Tally {
             let share = *times as f64 * 100.0 / self.requests as f64;
             let _ = writeln!(out, "  answer {number}: {times} ({share:.2} per cent)");
         }
+        out += &self.judged_edges.told(&edges::OF_JUDGING);
         let _ = writeln!(out, "derivations checked: {}", self.derivations);
         for ((number, input), times) in &self.checked {
             let _ = writeln!(out, "  answer {number}, input {input}: {times}");
         }
+        out += &self.checked_edges.told(edges::OF_DERIVATIONS);
         for (rule, times) in &self.rules {
             let _ = writeln!(out, "accepted lines by rule {rule}: {times}");
         }

@@ -74,7 +74,7 @@ fn case_11_ends() {
 #[test]
 fn case_12_one_byte_changed() {
     refused(&changed(0, 0), 12, 0);
-    refused(&changed(0, 65), 12, 0);
+    refused(&changed(0, 129), 12, 0);
     refused(&changed(5, 8), 13, 5);
     refused(&changed(5, 5), 14, 5);
     refused(&changed(3, 4), 15, 4);
@@ -85,7 +85,7 @@ fn case_12_one_byte_changed() {
 
 #[test]
 fn case_13_lengths() {
-    for length in [0, 63, 65] {
+    for length in [0, 63, 64, 65, 127, 129] {
         let mut lent = vec![LENT; length];
         assert_eq!(judge(&file_a(), &mut lent, 100_000), answer(9, 0, 0, 0));
         assert_eq!(lent, vec![LENT; length]);

@@ -100,13 +100,15 @@ fn the_request_goes_first() {
 fn lines_are_read_by_the_same_order() {
     let offer = |text: &str| check(&any_request(), &bytes(text));
     assert_eq!(offer("0 1"), answer(11, 2, 2, 0));
-    assert_eq!(offer("0 1 65"), answer(12, 2, 2, 0));
+    assert_eq!(offer("0 1 128"), answer(11, 2, 3, 0));
+    assert_eq!(offer("0 1 129"), answer(12, 2, 2, 0));
     assert_eq!(offer("0 1 1 6"), answer(13, 2, 3, 0));
     assert_eq!(offer("0 1 2 2 2"), answer(14, 2, 4, 0));
     assert_eq!(offer("0 1 2 3 2"), answer(14, 2, 4, 0));
     assert_eq!(offer("0 1 2 2 3"), answer(15, 2, 4, 0));
     assert_eq!(offer("0 1 0 0 1 5"), answer(13, 2, 5, 0));
-    assert_eq!(offer("0 1 0 0 0 65"), answer(12, 2, 5, 0));
+    assert_eq!(offer("0 1 0 0 0 128"), answer(11, 2, 6, 0));
+    assert_eq!(offer("0 1 0 0 0 129"), answer(12, 2, 5, 0));
     // No rule byte is refused in reading, nor a line number; a citation count above 64 is.
     assert_eq!(offer("0 1 0 0 0 0 255"), answer(11, 2, 7, 0));
     assert_eq!(offer("0 1 0 0 0 0 255 65"), answer(12, 2, 7, 0));

@@ -1,13 +1,17 @@
 //! What the generators promise: small runs without differences, and rows of every answer.
 
-use std::collections::BTreeSet;
+use std::collections::{BTreeMap, BTreeSet};
 
+use oracle::edges::{self, Met};
+use oracle::encode::encode_request;
+use oracle::generate::{request, spread, MIDDLE, SMALL, TINY};
+use oracle::rng::Rng;
 use oracle::rows::rows;
 use oracle::run::run;
 use oracle::text::parse_bytes;
 use oracle::whether;
 use oracle::whether::rows::whether_rows;
-use oracle::{check, check_whether, judge};
+use oracle::{check, check_whether, judge, STATE_LENGTH};
 
 #[test]
 fn small_runs_show_no_difference() {
@@ -32,6 +36,25 @@ fn a_run_too_small_fails() {
     assert!(verdict.is_err_and(|reason| reason.starts_with("never met")));
 }
 
+#[test]
+fn a_request_that_is_spread_gets_the_same_answer() {
+    for index in 0..2_000 {
+        let mut rng = Rng::new(1, 20, index);
+        let shape = *rng.pick(&[TINY, SMALL, MIDDLE]);
+        let draft = request(&mut rng, &shape);
+        let other = spread(&mut rng, &draft);
+        assert!(draft.fluents < 64 && other.fluents > 64 && other.actions > 64);
+        let [one, other] = [draft, other].map(|draft| encode_request(&draft).bytes);
+        assert_eq!(one.len(), other.len());
+        let lent = || [9; STATE_LENGTH];
+        let budget = *rng.pick(&[3, 20, 1_000]);
+        assert_eq!(
+            judge(&one, &mut lent(), budget),
+            judge(&other, &mut lent(), budget)
+        );
+    }
+}
+
 /// Takes the bytes of one field, which is one word or three, from the words of a row.
 fn take<'a>(words: &mut impl Iterator<Item = &'a str>) -> Vec<u8> {
     match words.next().expect("a field") {
@@ -52,21 +75,38 @@ fn number<'a>(words: &mut impl Iterator<Item = &'a str>) -> u32 {
 #[test]
 fn rows_can_be_computed_again() {
     let mut met = BTreeSet::new();
+    let mut edges: BTreeMap<String, Met> = BTreeMap::new();
     let mut long = 0;
     for row in rows(5, 300, 300).chain(whether_rows(5, 300)) {
         let mut words = row.split(' ');
         let kind = words.next().expect("a kind");
         let request = take(&mut words);
-        let (answer, state) = match kind {
+        let (answer, state, shown) = match kind {
             "J" => {
                 let mut lent = vec![77; number(&mut words) as usize];
                 let answer = judge(&request, &mut lent, number(&mut words));
-                (answer, matches!(answer.number, 1 | 2).then_some(lent))
+                let shown = edges::of_judging(&request, lent.len(), answer);
+                (
+                    answer,
+                    matches!(answer.number, 1 | 2).then_some(lent),
+                    shown,
+                )
             }
-            "D" => (check(&request, &take(&mut words)), None),
-            "W" => (check_whether(&request, &take(&mut words)), None),
+            "D" => {
+                let derivation = take(&mut words);
+                let answer = check(&request, &derivation);
+                let shown = edges::of_derivation(&request, &derivation, answer);
+                (answer, None, shown)
+            }
+            "W" => {
+                let derivation = take(&mut words);
+                let answer = check_whether(&request, &derivation);
+                let shown = edges::of_proof(&request, &derivation, answer);
+                (answer, None, shown)
+            }
             _ => panic!("no such kind: {kind}"),
         };
+        edges.entry(kind.to_string()).or_default().note(shown);
         let told: Vec<u32> = (0..4).map(|_| number(&mut words)).collect();
         let found = vec![
             answer.number.into(),
@@ -92,7 +132,14 @@ fn rows_can_be_computed_again() {
         .chain(whether.map(|number| ("W".to_string(), number)))
         .collect();
     assert_eq!(met, all);
-    assert!(long <= 3);
+    assert!(long <= 3 + 3 + 2 + 2);
+    for (kind, wanted) in [
+        ("J", &edges::OF_JUDGING[..]),
+        ("D", edges::OF_DERIVATIONS),
+        ("W", &edges::OF_CHECKING),
+    ] {
+        assert_eq!(edges[kind].never(wanted), [] as [&str; 0], "{kind}");
+    }
 }
 
 #[test]

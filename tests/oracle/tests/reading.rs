@@ -75,6 +75,37 @@ fn too_large_bytes() {
 }
 
 #[test]
+fn bytes_too_large_for_the_most_fluents_and_actions() {
+    // Item bytes from 128 on are no actions, and 255 is a branching.
+    for byte in 128..=254 {
+        refused(&with_plan(2, 128, &[0, 1, byte], ""), 13, PLAN + 2);
+    }
+    failed(
+        &with_plan(2, 128, &[0, 1, 127], "0 0"),
+        2,
+        PLAN + 2,
+        0,
+        "??",
+    );
+    refused(&with_plan(2, 127, &[0, 1, 127], "0 0"), 13, PLAN + 2);
+    refused(&with_plan(2, 128, &[0, 1, 255], "0 0"), 12, PLAN + 3);
+    // The two largest literals are those of fluent 127.
+    for byte in [254, 255] {
+        let facts = |fluents: u8| [&[fluents, 1, 1, byte][..], &[0; 7]].concat();
+        refused(&facts(127), 13, 3);
+        verified(&facts(128), 1);
+    }
+    // A fluent is a byte of its own.
+    let whether =
+        |fluents: u8, fluent: u8| [&[fluents, 1, 0, 0, 0, 0, 0, 0, 0, 1][..], &[fluent]].concat();
+    for fluent in [128, 255] {
+        refused(&whether(128, fluent), 13, 10);
+    }
+    refused(&whether(127, 127), 13, 10);
+    failed(&whether(128, 127), 1, 10, 1, &"?".repeat(128));
+}
+
+#[test]
 fn largest_bytes_that_are_read() {
     let [fluents, actions] = [FLUENT_LIMIT, ACTION_LIMIT].map(|limit| limit as u8);
     let literals = || (0..fluents).map(|fluent| 2 * fluent + 1);
@@ -101,17 +132,30 @@ fn a_list_may_claim_more_than_the_table_has() {
 #[test]
 fn counts_outside_their_limits() {
     refused(&[0], 12, 0);
-    refused(&[65], 12, 0);
+    refused(&[129], 12, 0);
     refused(&[1, 0], 12, 1);
-    refused(&[1, 65], 12, 1);
-    refused(&[2, 1, 65], 12, 2);
+    refused(&[1, 129], 12, 1);
+    refused(&[2, 1, 129], 12, 2);
     refused(&bytes("2 1 0 1 0 0 17"), 12, 6);
     refused(&bytes("2 1 0 0 1 0 17"), 12, 6);
     refused(&with_plan(2, 1, &bytes("0 1 255 0"), ""), 12, PLAN + 3);
     refused(&with_plan(2, 1, &bytes("0 1 255 9"), ""), 12, PLAN + 3);
     refused(&with_plan(2, 1, &bytes("0 1 255 1 17"), ""), 12, PLAN + 4);
-    refused(&with_plan(2, 1, &[0, 0], "65"), 12, PLAN + 2);
-    refused(&with_plan(2, 1, &[0, 0], "0 65"), 12, PLAN + 3);
+    refused(&with_plan(2, 1, &[0, 0], "129"), 12, PLAN + 2);
+    refused(&with_plan(2, 1, &[0, 0], "0 129"), 12, PLAN + 3);
+    // Up to 128 they are within.
+    for count in [65, 128] {
+        refused(&[count], 11, 1);
+        refused(&[1, count], 11, 2);
+        refused(&[2, 1, count], 11, 3);
+        let count = count.to_string();
+        refused(&with_plan(2, 1, &[0, 0], &count), 11, PLAN + 3);
+        refused(
+            &with_plan(2, 1, &[0, 0], &format!("0 {count}")),
+            11,
+            PLAN + 4,
+        );
+    }
     // Sections 3 to 5 take any count.
     refused(&bytes("2 1 0 255"), 11, 4);
     refused(&bytes("2 1 0 0 255"), 11, 5);

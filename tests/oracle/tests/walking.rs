@@ -162,8 +162,7 @@ fn bytes_from_the_number_of_fluents_up_are_cleared() {
 
 #[test]
 fn the_deepest_walk() {
-    // 512 times: sense all fluents but one, then make them unknown again; with 64 fluents that are
-    // 32,256 forks on one path.
+    // 512 times: sense all fluents but one, then make them unknown again: 65,024 forks on one path.
     let draft = forget_and_sense(FLUENT_LIMIT as u8 - 1, 512);
     let request = encode_request(&draft).bytes;
     for budget in [0, 1, 1_024, 1_025, 100_000] {

@@ -299,7 +299,8 @@ fn lines_are_read_by_the_same_order() {
     assert_eq!(offer("0 0"), answer(12, 2, 0, 0));
     assert_eq!(offer("4 1"), answer(12, 2, 0, 0));
     assert_eq!(offer("0 1"), answer(11, 2, 2, 0));
-    assert_eq!(offer("0 1 65"), answer(12, 2, 2, 0));
+    assert_eq!(offer("0 1 128"), answer(11, 2, 3, 0));
+    assert_eq!(offer("0 1 129"), answer(12, 2, 2, 0));
     assert_eq!(offer("0 1 1 6"), answer(13, 2, 3, 0));
     assert_eq!(offer("0 1 2 2 2"), answer(14, 2, 4, 0));
     assert_eq!(offer("0 1 2 2 3"), answer(15, 2, 4, 0));
@@ -310,7 +311,8 @@ fn lines_are_read_by_the_same_order() {
     for rule in (0..=255).filter(|rule| ![7, 8, 10, 11, 12].contains(rule)) {
         let offer = |rest: &str| offer(&format!("0 1 0 0 0 {rule} {rest}"));
         assert_eq!(offer(""), answer(11, 2, 6, 0));
-        assert_eq!(offer("65"), answer(12, 2, 6, 0));
+        assert_eq!(offer("128"), answer(11, 2, 7, 0));
+        assert_eq!(offer("129"), answer(12, 2, 6, 0));
         assert_eq!(offer("3 0 2"), answer(11, 2, 9, 0));
         assert_eq!(offer("1 6"), answer(13, 2, 7, 0));
         assert_eq!(offer("2 2 0"), answer(14, 2, 8, 0));

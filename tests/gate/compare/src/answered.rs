@@ -2,33 +2,41 @@
 
 use std::collections::BTreeMap;
 
+use oracle::edges::{Edge, Met};
 use oracle::rng::Rng;
+use oracle::Answer;
 
+use crate::calls;
 use crate::checks::{agreed, Check};
 
-/// From so many calls on, each answer has to occur.
+/// From so many calls on, all that has to occur is looked for.
 const ENOUGH: u64 = 20_000;
 
-/// Calls from a seed, what they are called, the stream of random numbers of what stands around the inputs, and what each input can be
-/// refused by; 0 is given for neither.
+/// Calls from a seed, what they are called, the stream of random numbers of what stands around the inputs, what each input can be
+/// refused by, where 0 is given for neither, and what has to occur at the limits, told from request, derivation and answer.
 pub struct Series {
     pub what: &'static str,
     pub call: fn(u64, u64) -> Check,
     pub fences: u64,
     pub of_request: &'static [u64],
     pub of_derivation: &'static [u64],
+    pub edges: &'static [Edge],
+    pub edges_of: fn(&[u8], &[u8], Answer) -> Vec<Edge>,
 }
 
 impl Series {
     /// Makes so many calls from a seed; in words how often each answer occurred, or the first difference.
     pub fn compare(&self, seed: u64, count: u64) -> Result<String, String> {
         let mut seen: BTreeMap<(u64, u64), u64> = BTreeMap::new();
+        let mut edges = Met::default();
         let (mut longest, mut most_lines) = (0, 0);
         for index in 0..count {
             let check = (self.call)(seed, index);
             let answer = agreed(&mut Rng::new(seed, self.fences, index), &check);
-            let [number, input, ..] = answer.map_err(|why| format!("seed {seed}, call {index}: {why}; {check}"))?;
+            let answer = answer.map_err(|why| format!("seed {seed}, call {index}: {why}; {check}"))?;
+            let [number, input, ..] = answer;
             *seen.entry((number, input)).or_default() += 1;
+            edges.note((self.edges_of)(&check.request, &check.derivation, calls::answer(answer)));
             longest = longest.max(check.derivation.len());
             if let ([high, low, ..], 0 | 31..) = (&check.derivation[..], number) {
                 most_lines = most_lines.max(u16::from_be_bytes([*high, *low]));
@@ -38,11 +46,13 @@ impl Series {
             let whose = ["", " of the request", " of the derivation"][*input as usize];
             println!("  answer {number}{whose}: {times}");
         }
+        print!("{}", edges.told(self.edges));
         let what = self.what;
         let missing = self.expected().filter(|answer| !seen.contains_key(answer));
-        let missing: Vec<String> = missing.map(|(number, input)| format!("{number} of input {input}")).collect();
+        let missing = missing.map(|(number, input)| format!("answer {number} of input {input}"));
+        let missing: Vec<String> = missing.chain(edges.never(self.edges)).collect();
         if count >= ENOUGH && !missing.is_empty() {
-            return Err(format!("seed {seed}: answers {} never occurred in {count} {what}", missing.join(", ")));
+            return Err(format!("seed {seed}: never in {count} {what}: {}", missing.join(", ")));
         }
         Ok(format!("{count} {what} of seed {seed} agree; the longest has {longest} bytes, and up to {most_lines} lines were gone through"))
     }

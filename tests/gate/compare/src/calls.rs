@@ -35,6 +35,11 @@ pub fn numbers(packed: Packed) -> [u64; 4] {
     [packed.number().into(), packed.input().into(), packed.place() as u64, packed.count().into()]
 }
 
+/// The same in the independent program's form.
+pub fn answer([number, input, place, count]: [u64; 4]) -> oracle::Answer {
+    oracle::Answer { number: number as u8, input: input as u8, place: place as u32, count: count as u32 }
+}
+
 /// The exported call, between fences; in words what it changed that it may not, or in what the names of its answer differ from its numbers.
 pub fn exported(rng: &mut Rng, call: &Call) -> Result<Left, String> {
     timed(rng, call).map(|(left, _)| left)

@@ -11,6 +11,8 @@ use crate::whether_cases;
 pub const FILE_A: &str = "4 3 3 3 5 7 3 1 2 0 1 6 1 0 2 4 0 3 0 0 1 1 3 2 1 2 1 0 0 0 2 0 255 2 1 1 0 2 1 2 1 0 0 0 1 7 1 2";
 const BUDGET: u32 = 100_000;
 const LENT: u8 = 9;
+/// The state that knows of the last fluent, and of no other, that it is false.
+const LAST_FALSE: &str = "???????????????????????????????????????????????????????????????????????????????????????????????????????????????????????????????-";
 
 extern "C" {
     fn glintstring_judge(request: *const u8, request_length: usize, state: *mut u8, state_length: usize, budget: u32) -> u64;
@@ -34,6 +36,8 @@ enum Request {
     Longer(u8),
     /// File A with the byte at a place changed.
     Changed(usize, u8),
+    /// File A with so many fluents and actions.
+    Sized(u8, u8),
     /// So many bytes, all the same.
     Run(usize, u8),
     /// Eight branchings one inside another, in the last of them so many actions and a ninth branching's byte.
@@ -45,7 +49,7 @@ use Request::*;
 /// A sentence, the case, the request, the budget, the length of the lent state; number, place and count; the state where it is written.
 type Row = (&'static str, &'static str, Request, u32, usize, [u64; 3], Option<&'static str>);
 
-const ROWS: [Row; 51] = [
+const ROWS: [Row; 61] = [
     ("13.17", "1", FileA, BUDGET, STATE_LENGTH, [0, 0, 5], None),
     ("13.18", "2, open unseen", From29("0 1 1 1 7 1 2"), BUDGET, STATE_LENGTH, [1, 33, 2], Some("?+-?")),
     ("13.19", "3, branch unseen", From29Then("0 1", 32), BUDGET, STATE_LENGTH, [2, 31, 0], Some("?---")),
@@ -62,18 +66,20 @@ const ROWS: [Row; 51] = [
     ("13.30", "11", Longer(0), BUDGET, STATE_LENGTH, [20, 48, 0], None),
     ("13.30", "11", Longer(255), BUDGET, STATE_LENGTH, [20, 48, 0], None),
     ("13.31", "12", Changed(0, 0), BUDGET, STATE_LENGTH, [12, 0, 0], None),
-    ("13.31", "12", Changed(0, 65), BUDGET, STATE_LENGTH, [12, 0, 0], None),
+    ("13.31", "12", Changed(0, 129), BUDGET, STATE_LENGTH, [12, 0, 0], None),
     ("13.32", "12", Changed(5, 8), BUDGET, STATE_LENGTH, [13, 5, 0], None),
     ("13.33", "12", Changed(5, 5), BUDGET, STATE_LENGTH, [14, 5, 0], None),
     ("13.34", "12", Changed(3, 4), BUDGET, STATE_LENGTH, [15, 4, 0], None),
     ("13.35", "12", Changed(11, 3), BUDGET, STATE_LENGTH, [16, 10, 0], None),
     ("13.36", "12", Changed(27, 1), BUDGET, STATE_LENGTH, [17, 27, 0], None),
     ("13.37", "12", Changed(41, 1), BUDGET, STATE_LENGTH, [18, 32, 0], None),
-    ("13.38", "13, 63 lent bytes", FileA, BUDGET, 63, [9, 0, 0], None),
-    ("13.38", "13, 65 lent bytes", FileA, BUDGET, 65, [9, 0, 0], None),
+    ("13.38", "13, 64 lent bytes", FileA, BUDGET, 64, [9, 0, 0], None),
+    ("13.38", "13, 127 lent bytes", FileA, BUDGET, 127, [9, 0, 0], None),
+    ("13.38", "13, 129 lent bytes", FileA, BUDGET, 129, [9, 0, 0], None),
     ("13.38", "13, no lent byte", FileA, BUDGET, 0, [9, 0, 0], None),
-    ("13.38", "13, no byte, 63 lent", Bytes(""), 0, 63, [9, 0, 0], None),
-    ("13.38", "13, too long, 65 lent", Run(16_385, 0), 0, 65, [9, 0, 0], None),
+    ("13.38", "13, no byte, 64 lent", Bytes(""), 0, 64, [9, 0, 0], None),
+    ("13.38", "13, no byte, 127 lent", Bytes(""), 0, 127, [9, 0, 0], None),
+    ("13.38", "13, too long, 129 lent", Run(16_385, 0), 0, 129, [9, 0, 0], None),
     ("13.39", "13, 16,385 zeros", Run(16_385, 0), BUDGET, STATE_LENGTH, [10, 0, 0], None),
     ("13.39", "13, 16,385 bytes 255", Run(16_385, 255), BUDGET, STATE_LENGTH, [10, 0, 0], None),
     ("3.10", "16,384 zeros, which are read", Run(16_384, 0), BUDGET, STATE_LENGTH, [12, 0, 0], None),
@@ -84,6 +90,13 @@ const ROWS: [Row; 51] = [
     ("13.60", "21 and 19 at one byte", Nested(1_016), BUDGET, STATE_LENGTH, [21, 1064, 0], None),
     ("13.61", "19, an item earlier", Nested(1_015), BUDGET, STATE_LENGTH, [19, 1063, 0], None),
     ("13.62", "goals before whether entries", From29("0 0 1 2 1 0"), BUDGET, STATE_LENGTH, [1, 32, 1], Some("?---")),
+    ("13.63", "65 fluents", Changed(0, 65), BUDGET, STATE_LENGTH, [0, 0, 5], None),
+    ("13.64", "128 fluents and actions", Sized(128, 128), BUDGET, STATE_LENGTH, [0, 0, 5], None),
+    ("13.65", "literal 255", Bytes("128 1 1 255 0 0 0 0 0 1 255 1 127"), BUDGET, STATE_LENGTH, [0, 0, 1], None),
+    ("13.66", "literal 255 with 127 fluents", Bytes("127 1 1 255 0 0 0 0 0 1 255 1 127"), BUDGET, STATE_LENGTH, [13, 3, 0], None),
+    ("13.67", "a look at fluent 127", Bytes("128 1 0 0 1 0 0 1 0 127 0 1 0 1 254 0"), BUDGET, STATE_LENGTH, [1, 14, 3], Some(LAST_FALSE)),
+    ("13.68", "action 127", Bytes("1 128 0 0 1 127 0 0 0 1 127 0 0"), BUDGET, STATE_LENGTH, [0, 0, 2], None),
+    ("13.69", "item 128", Bytes("1 128 0 0 0 0 0 1 128"), BUDGET, STATE_LENGTH, [13, 8, 0], None),
     ("13.70", "clash where it can't be run", Bytes("2 1 1 1 2 0 2 0 0 3 1 0 1 0 1 1 0 0 1 0 1 2 0"), BUDGET, STATE_LENGTH, [0, 0, 2], None),
     ("13.71", "16 by another line", Bytes("2 1 1 1 2 0 2 0 0 3 1 0 2 0 1 1 0 0 0 0 1 0 1 2 0"), BUDGET, STATE_LENGTH, [16, 8, 0], None),
     ("13.72", "a line for each body", Bytes("3 1 2 1 2 2 0 4 1 0 0 5 1 2 2 0 1 1 0 1 3 0 0 1 0 1 5 0"), BUDGET, STATE_LENGTH, [0, 0, 2], None),
@@ -91,11 +104,12 @@ const ROWS: [Row; 51] = [
     ("13.74", "no line", Bytes("2 1 0 2 0 2 0 0 3 0 0 0 0 1 0 0 0"), BUDGET, STATE_LENGTH, [2, 14, 0], Some("??")),
     ("13.75", "a line of another action", Bytes("2 2 0 2 0 2 0 0 3 0 1 1 0 0 0 0 0 0"), BUDGET, STATE_LENGTH, [0, 0, 1], None),
     ("13.76", "16 at the third effect", Bytes("3 1 0 3 0 2 0 0 3 1 0 0 3 1 4 1 0 1 1 0 0 0 0 0"), BUDGET, STATE_LENGTH, [16, 11, 0], None),
+    ("2.27", "item 254", Bytes("1 128 0 0 0 0 0 1 254"), BUDGET, STATE_LENGTH, [13, 8, 0], None),
     ("8.17", "cannot be run at the budget's end", From29("0 2 0 255 1 1 0 0 0 1 2 0"), 2, STATE_LENGTH, [2, 32, 2], Some("----")),
     ("8.17", "with a budget of one less", From29("0 2 0 255 1 1 0 0 0 1 2 0"), 1, STATE_LENGTH, [3, 0, 1], None),
     ("8.18", "budget 0, cannot be run", From29("0 1 2 0 0"), 0, STATE_LENGTH, [2, 31, 0], Some("?---")),
     ("8.18", "budget 0, empty plan", From29("0 0 0 0"), 0, STATE_LENGTH, [3, 0, 0], None),
-    ("5.3", "12 before 11", Bytes("2 1 65"), BUDGET, STATE_LENGTH, [12, 2, 0], None),
+    ("5.3", "12 before 11", Bytes("2 1 129"), BUDGET, STATE_LENGTH, [12, 2, 0], None),
     ("3.13", "the largest budget", FileA, u32::MAX, STATE_LENGTH, [0, 0, 5], None),
 ];
 
@@ -210,6 +224,7 @@ fn request(row: Request) -> Vec<u8> {
         Start(length) => file_a[..length].to_vec(),
         Longer(byte) => [file_a, vec![byte]].concat(),
         Changed(place, byte) => file_a.iter().enumerate().map(|(i, &b)| if i == place { byte } else { b }).collect(),
+        Sized(fluents, actions) => [&[fluents, actions], &file_a[2..]].concat(),
         Run(length, byte) => vec![byte; length],
         Nested(actions) => {
             let count = (actions as u16 + 1).to_be_bytes();

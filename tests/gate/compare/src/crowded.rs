@@ -10,10 +10,15 @@ use oracle::settle::contradictory;
 const OPEN: u8 = 3;
 const LINES: usize = 255;
 
-/// A request of this kind, without fault.
+/// A request of this kind, without fault, of any size.
 pub fn crowded(rng: &mut Rng) -> Request {
-    let fluents = rng.byte(17, FLUENT_LIMIT as u8);
-    let actions = rng.byte(2, ACTION_LIMIT as u8);
+    crowded_of(rng, (17, FLUENT_LIMIT as u8), (2, ACTION_LIMIT as u8))
+}
+
+/// One with so many fluents and actions, from 17 and 2 on; both bounds are included.
+pub fn crowded_of(rng: &mut Rng, fluents: (u8, u8), actions: (u8, u8)) -> Request {
+    let fluents = rng.byte(fluents.0, fluents.1);
+    let actions = rng.byte(actions.0, actions.1);
     let world: Vec<u8> = (0..fluents).map(|fluent| 2 * fluent + rng.byte(0, 1)).collect();
     let percent = *rng.pick(&[70, 95, 100]);
     let facts: Vec<u8> = world[usize::from(OPEN)..].iter().copied().filter(|_| rng.chance(percent)).collect();

@@ -1,6 +1,7 @@
 //! Generated, forged and damaged derivations with their requests.
 
 use oracle::calls::{any_check_call, check_call, derivable, CheckCall};
+use oracle::edges::{of_derivation, OF_DERIVATIONS};
 use oracle::encode::{encode_derivation, encode_request};
 use oracle::generate::{any_request, SMALL};
 use oracle::model::{Item, Line, Request};
@@ -23,6 +24,8 @@ pub const SERIES: Series = Series {
     fences: FENCES,
     of_request: &[10, 11, 12, 13, 14, 15, 16, 17, 18, 19, 20, 21, 30],
     of_derivation: &[10, 11, 12, 13, 14, 15, 18, 19, 20, 21, 31, 32, 33, 34, 35],
+    edges: OF_DERIVATIONS,
+    edges_of: of_derivation,
 };
 
 /// The call with this number from a seed.

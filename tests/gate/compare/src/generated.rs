@@ -2,17 +2,19 @@
 
 use std::collections::BTreeMap;
 
+use glintstring::STATE_LENGTH;
 use oracle::calls::judge_call;
 use oracle::damage::damage_request;
+use oracle::edges::{of_judging, Met, OF_JUDGING};
 use oracle::encode::encode_request;
 use oracle::rng::Rng;
 
-use crate::calls::{agreed, Call};
+use crate::calls::{agreed, answer, Call};
 use crate::crowded::crowded;
 
-/// The numbers of the walk call.
+/// The numbers of the walk call, each of which has to occur, as has what stands at the limits.
 const NUMBERS: [u64; 17] = [0, 1, 2, 3, 9, 10, 11, 12, 13, 14, 15, 16, 17, 18, 19, 20, 21];
-/// From so many calls on, each number has to occur.
+/// From so many calls on, all that has to occur is looked for.
 const ENOUGH: u64 = 100_000;
 /// The largest budget for a request whose walk nobody has counted before.
 const MOST: u32 = 20_000;
@@ -23,20 +25,24 @@ const FENCES: u64 = 4;
 /// Makes so many calls from a seed; in words how often each number occurred, or the first difference.
 pub fn compare(seed: u64, count: u64) -> Result<String, String> {
     let mut seen: BTreeMap<u64, u64> = BTreeMap::new();
+    let mut edges = Met::default();
     let mut longest = 0;
     for index in 0..count {
         let call = call(seed, index);
         let left = agreed(&mut Rng::new(seed, FENCES, index), &call);
         let left = left.map_err(|why| format!("seed {seed}, call {index}: {why}; {call}"))?;
         *seen.entry(left.answer[0]).or_default() += 1;
+        edges.note(of_judging(&call.request, call.lent.len(), answer(left.answer)));
         longest = longest.max(call.request.len());
     }
     for (number, times) in &seen {
         println!("  answer {number}: {times}");
     }
-    let missing: Vec<String> = NUMBERS.iter().filter(|number| !seen.contains_key(number)).map(u64::to_string).collect();
+    print!("{}", edges.told(&OF_JUDGING));
+    let missing = NUMBERS.iter().filter(|number| !seen.contains_key(number)).map(|number| format!("answer {number}"));
+    let missing: Vec<String> = missing.chain(edges.never(&OF_JUDGING)).collect();
     if count >= ENOUGH && !missing.is_empty() {
-        return Err(format!("seed {seed}: answers {} never occurred in {count} calls", missing.join(", ")));
+        return Err(format!("seed {seed}: never in {count} calls: {}", missing.join(", ")));
     }
     Ok(format!("{count} calls of seed {seed} agree; the longest request has {longest} bytes"))
 }
@@ -77,7 +83,7 @@ pub fn any_call(rng: &mut Rng) -> Call {
             };
             call.budget = *rng.pick(&[0, 3, 20, 1_000, MOST]);
         }
-        21 => call.lent = (0..rng.below(200)).map(|_| rng.byte(0, 255)).collect(),
+        21 => call.lent = (0..rng.below(2 * STATE_LENGTH)).map(|_| rng.byte(0, 255)).collect(),
         _ => {}
     }
     call

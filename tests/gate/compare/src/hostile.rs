@@ -165,9 +165,9 @@ fn effects_of_one_action() -> Vec<Named> {
     };
     let same: Vec<Effect> = (0..SECTION).map(|i| effect(2 * (i % 32) as u8, literals(32..48))).collect();
     // Each makes the last fluent true or false, and two that differ are exclusive by their last literals.
-    let told: Vec<Effect> = (0..SECTION).map(|i| effect(126 + (i % 2) as u8, [literals(0..15), vec![30 + (i % 2) as u8]].concat())).collect();
+    let told: Vec<Effect> = (0..SECTION).map(|i| effect(2 * (FLUENTS - 1) + (i % 2) as u8, [literals(0..15), vec![30 + (i % 2) as u8]].concat())).collect();
     // Every two that differ clash, and each line, which agrees with one half of them, rules out the other half by its last literal.
-    let clashing: Vec<Effect> = (0..SECTION).map(|i| effect(126 + (i % 2) as u8, [literals(0..15), vec![30 + 2 * (i % 2) as u8]].concat())).collect();
+    let clashing: Vec<Effect> = (0..SECTION).map(|i| effect(2 * (FLUENTS - 1) + (i % 2) as u8, [literals(0..15), vec![30 + 2 * (i % 2) as u8]].concat())).collect();
     let lines = vec![Allowance { action: 0, body: [literals(0..15), vec![33]].concat() }; SECTION];
     let never_both = Request { fluents: FLUENTS, actions: 1, facts: literals(0..15), effects: clashing.clone(), allowances: lines.clone(), ..Request::default() };
     let last_both = Request { allowances: [lines[1..].to_vec(), vec![always(0)]].concat(), ..never_both.clone() };

@@ -26,8 +26,8 @@ use std::process::ExitCode;
 
 use words::{number, obey, Failure};
 
-/// The stack on which calls are made, apart from the deepest ones, which have a thread with less: that of a process's first thread.
-const STACK: usize = 8 << 20;
+/// The stack on which calls are made: what a walk may need, and room for this program itself. The deepest ones have a thread without that room.
+const STACK: usize = glintstring::STACK_NEEDED + (2 << 20);
 
 const HELP: &str = "usage: compare cases | compare deepest FOLDER | compare generated SEED COUNT | compare largest | compare derivations SEED COUNT \
                     | compare whether SEED COUNT | compare hostile FOLDER [SLOWER] | compare longest | compare write DEEPEST FOLDER BUDGET COUNT";

@@ -1,6 +1,7 @@
 //! Generated, forged and damaged derivations in the closing layout with their requests.
 
 use oracle::calls::{check_call, CheckCall};
+use oracle::edges::{of_proof, OF_CHECKING};
 use oracle::encode::{encode_proof, encode_request};
 use oracle::generate::{any_request, SMALL};
 use oracle::model::{Item, Proof, Request};
@@ -29,6 +30,8 @@ pub const SERIES: Series = Series {
     fences: FENCES,
     of_request: &[10, 11, 12, 13, 14, 15, 16, 17, 18, 19, 20, 21],
     of_derivation: &[10, 11, 12, 13, 14, 15, 18, 19, 20, 21, 31, 32, 33, 34, 36],
+    edges: &OF_CHECKING,
+    edges_of: of_proof,
 };
 
 /// The call with this number from a seed.

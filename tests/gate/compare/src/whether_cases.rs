@@ -128,7 +128,7 @@ const ROWS: [Row; 79] = [
     ("17.96", "the request is settled first", StartOfA(10), [11, 1, 10]),
     ("17.97", "30 is not tested, and the length is", Zeros(32_769), [10, 2, 0]),
     ("17.98", "a fluent that is too large", Both(FILE_G, "0 1 0 0 0 7 2"), [13, 2, 6]),
-    ("17.99", "a list after byte 9, which is no rule", Both(FILE_G, "0 1 0 0 0 9 65"), [12, 2, 6]),
+    ("17.99", "a list after byte 9, which is no rule", Both(FILE_G, "0 1 0 0 0 9 129"), [12, 2, 6]),
     ("17.100", "no closing list", StartG(83), [11, 2, 83]),
     ("17.101", "a closing count of 255 is read on", ClosedG("255 0 7 0 2"), [11, 2, 88]),
     ("17.102", "a byte after the closing list", ClosedG("2 0 7 0 2 0"), [20, 2, 88]),

@@ -11,8 +11,8 @@ use fuzz::agreed;
 use fuzz::input::seeds;
 use words::{number, obey, Failure};
 
-/// As for the comparison: the stack of a process's first thread.
-const STACK: usize = 8 << 20;
+/// As for the comparison: what a walk may need, and room for this program itself.
+const STACK: usize = glintstring::STACK_NEEDED + (2 << 20);
 /// Bytes of the inputs that are kept, together.
 const KEPT: usize = 60_000;
 

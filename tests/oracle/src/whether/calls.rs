@@ -5,7 +5,9 @@ use crate::calls::{outlook, CheckCall, Outlook};
 use crate::damage::{change_allowances, damage_request};
 use crate::encode::{encode_proof, encode_request, proof_place};
 use crate::forge::alter;
-use crate::generate::{common, forget_and_sense, forgetful, request, Shape, MIDDLE, SMALL, TINY};
+use crate::generate::{
+    common, drawn, forget_and_sense, forgetful, Shape, FULL, MIDDLE, SMALL, TINY,
+};
 use crate::model::{Item, Proof, Request};
 use crate::prove::{Claim, Prover};
 use crate::reader::{DERIVATION_LIMIT, LINE_LIMIT, REQUEST_LIMIT};
@@ -23,6 +25,7 @@ pub fn whether_call(rng: &mut Rng) -> CheckCall {
             many_whether(sensing, &[rng.byte(0, sensing - 1)])
         }
         1 => wide_sensing(rng),
+        2 | 3 => provable(rng, &FULL),
         _ => provable(rng, &shape),
     };
     if rng.below(300) == 0 {
@@ -184,7 +187,7 @@ pub fn provable(rng: &mut Rng, shape: &Shape) -> (Request, Proof) {
         ..*shape
     };
     loop {
-        let mut draft = request(rng, &shape);
+        let mut draft = drawn(rng, &shape);
         if !draft.knowledge.is_empty() && rng.chance(30) {
             let last = rng.pick(&draft.knowledge).action;
             draft.plan.push(Item::act(last));

@@ -2,7 +2,7 @@
 //! are written. Where the outcome is certain, the expected fault comes along.
 
 use crate::damage::{
-    aimed, damage_bytes, drop_entry, turn_citations, wrong_citation, wrong_citations,
+    aimed, at_limits, damage_bytes, drop_entry, turn_citations, wrong_citation, wrong_citations,
     wrong_line_count, wrong_sequence, Bounds, Damaged,
 };
 use crate::encode::{encode_proof, proof_place, Kind};
@@ -16,6 +16,9 @@ use crate::whether::forge::forge_proof;
 pub fn damage_proof(rng: &mut Rng, request: &Request, proof: &Proof) -> Damaged {
     let whole = encode_proof(proof);
     let bounds = Bounds::of_derivation(request);
+    if let Some(damaged) = at_limits(rng, || whole.clone(), bounds) {
+        return damaged;
+    }
     match rng.below(100) {
         0..=21 => damage_bytes(rng, &whole, bounds),
         22..=24 => wrong_line_count(rng, whole.bytes),

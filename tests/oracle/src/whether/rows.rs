@@ -3,17 +3,20 @@
 //! `W REQUEST DERIVATION NUMBER INPUT PLACE COUNT`.
 //!
 //! Bytes are written as in `rows.rs`, and the inputs are as small. All answers come round in 150
-//! rows; the long inputs, item 1,025 and a derivation too long, stand in the first round only.
+//! rows; the long inputs, item 1,025 and a derivation too long, and the edges of `edges.rs` stand in
+//! the first round only.
 //! Where the answer is 0, and mostly where it is 34, a line by one of the rules that the first
 //! layout lacks is among those accepted, or is the one refused.
 
 use crate::answer::{DERIVATION, NEITHER, REQUEST};
 use crate::calls::CheckCall;
+use crate::edges::{of_proof, Edge, OF_CHECKING};
 use crate::model::{Proof, Request};
 use crate::reader::{read_proof, DERIVATION_LIMIT, LIST_LIMIT};
 use crate::rng::Rng;
 use crate::rows::{
-    rounds, small_shape, tell_bytes, BYTES, DERIVATION_BYTES, LONG_BYTES, MORE_DERIVATION_BYTES,
+    edge_sizes, rounds, small_shape, tell_bytes, Wanted, BYTES, DERIVATION_BYTES, LONG_BYTES,
+    MORE_DERIVATION_BYTES,
 };
 use crate::whether::calls::{any_whether_call, damage_call, provable, sound_call};
 use crate::{check_whether, open};
@@ -57,21 +60,22 @@ const WHETHER_RULES: [u8; 5] = [7, 8, 10, 11, 12];
 
 /// So many rows.
 pub fn whether_rows(seed: u64, count: u64) -> impl Iterator<Item = String> {
-    rounds(seed, 12, count, &CHECKING, &LONG)
+    rounds(seed, 12, count, &CHECKING, &LONG, &OF_CHECKING)
         .zip(0..)
         .map(move |(wanted, index)| row(&mut Rng::new(seed, 13, index), wanted))
 }
 
-/// A row with the answer wanted.
-fn row(rng: &mut Rng, wanted: (u8, u8)) -> String {
+/// A row as wanted.
+fn row(rng: &mut Rng, wanted: Wanted<(u8, u8)>) -> String {
     let call = match wanted {
-        (10, _) => {
+        Wanted::Shows(edge) => edge_call(rng, edge),
+        Wanted::Answered((10, _)) => {
             let mut call = small_call(rng, (11, DERIVATION), DERIVATION_BYTES);
             call.derivation = vec![rng.byte(0, LIST_LIMIT as u8); DERIVATION_LIMIT + 1];
             call
         }
-        (21, _) => small_call(rng, wanted, LONG_BYTES),
-        _ => {
+        Wanted::Answered(wanted @ (21, _)) => small_call(rng, wanted, LONG_BYTES),
+        Wanted::Answered(wanted) => {
             let most = if rng.chance(5) {
                 MORE_DERIVATION_BYTES
             } else {
@@ -86,6 +90,21 @@ fn row(rng: &mut Rng, wanted: (u8, u8)) -> String {
         tell_bytes(&call.request),
         tell_bytes(&call.derivation)
     )
+}
+
+/// A call that shows an edge, with small inputs unless their lists are full.
+fn edge_call(rng: &mut Rng, edge: Edge) -> CheckCall {
+    let (shape, most, most_derived) = edge_sizes(rng, edge);
+    loop {
+        let (draft, proof) = provable(rng, &shape);
+        let call = any_whether_call(rng, &draft, &proof);
+        let small = call.request.len() <= most && call.derivation.len() <= most_derived;
+        let answer = check_whether(&call.request, &call.derivation);
+        let shown = of_proof(&call.request, &call.derivation, answer);
+        if small && shown.contains(&edge) {
+            return call;
+        }
+    }
 }
 
 /// A call that may get the answer wanted.

@@ -9,6 +9,7 @@ use std::fmt::Write;
 
 use crate::answer::{Answer, DERIVATION, NEITHER, REQUEST};
 use crate::calls::{check_call, CheckCall};
+use crate::edges::{self, Met};
 use crate::encode::{encode_derivation, encode_proof};
 use crate::model::{Conclusion, Proof, ProofLine, Request};
 use crate::reader::{read_derivation, read_proof};
@@ -68,6 +69,7 @@ const WAYS: [(Way, &str); 6] = [
 pub struct WhetherTally {
     derivations: u64,
     answers: BTreeMap<(u8, u8), u64>,
+    edges: Met,
     ways: BTreeMap<Way, u64>,
     accepted_rules: BTreeMap<u8, u64>,
     refused_rules: BTreeMap<(u8, u8), u64>,
@@ -121,6 +123,8 @@ impl WhetherTally {
         let answer = check_whether(&call.request, &call.derivation);
         let kind = (answer.number, answer.input);
         *self.answers.entry(kind).or_default() += 1;
+        let edges = edges::of_proof(&call.request, &call.derivation, answer);
+        self.edges.note(edges);
         expect_form(answer, &call.request, &call.derivation)?;
         expect_outlook(answer, call.outlook)?;
         if !matches!(answer.number, 0 | 31..=36) {
@@ -298,6 +302,7 @@ impl WhetherTally {
                 never.push(format!("36 with {words}"));
             }
         }
+        never.extend(self.edges.never(&edges::OF_CHECKING));
         for rule in NO_RULES {
             if !self.refused_rules.contains_key(&(31, rule)) {
                 never.push(format!("31 of byte {rule}"));
@@ -330,6 +335,7 @@ impl WhetherTally {
                 "  answer {number}, input {input}: {times} ({share:.2} per cent)"
             );
         }
+        out += &self.edges.told(&edges::OF_CHECKING);
         for (way, words) in WAYS {
             let times = self.ways.get(&way).copied().unwrap_or(0);
             let _ = writeln!(out, "  36 with {words}: {times}");
