@@ -39,7 +39,7 @@ use Rattle.finding.specs.ReadHere.{blank}
 use Rattle.steps.specs.Held.{table-in, plan-in, goals-in, request-in}
 use Rattle.steps.specs.AtHand.{At-hand}
 use Rattle.steps.proofs.HandLaws.{sections}
-use Rattle.steps.proofs.SectionsStand.{run-stands}
+use Rattle.finding.proofs.ReadLaws.{run-stands}
 use Rattle.glintstring.specs.Missing.{Item-byte}
 use Rattle.glintstring.proofs.SettledAtHand.{settled-got, settled-held}
 use Rattle.glintstring.proofs.JudgingLaws.{judge-9, judge-walked}

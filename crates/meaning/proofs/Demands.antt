@@ -45,7 +45,7 @@ pub use Rattle.meaning.proofs.ReportLaws.{missed-in-an-end-state, misse
 -- can be run just where a line allows it (FORMAT 18.4 to 18.7, 18.20, 18.21).
 pub use Rattle.meaning.proofs.AskingLaws.{asked-stands, asked-of-action, can-be-run-asked}
 -- Answer 2 carries the line of the item at its place in the state left, and every other answer none (FORMAT 18.10 to 18.12).
-pub use Rattle.meaning.proofs.ReportedLine.{line-there, no-line, never-asked}
+pub use Rattle.meaning.proofs.ReportedLine.{line-there, no-line, never-asked, line-missing}
 -- Demand 2, its second sentence (FORMAT 11.6, 17.39), and demand 1 of the derivation call and of the whether call (17.38).
 pub use Rattle.meaning.proofs.AcceptedExactly.{accepted-exactly}
 pub use Rattle.meaning.proofs.Passed.{every-check-numbered}

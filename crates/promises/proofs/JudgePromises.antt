@@ -1,23 +1,25 @@
 -- What the walk call promises, once: of an answer and of lent bytes that are the definition's. Assumes nothing.
 use Prim.Native.Nat.{ℕ, _-_, _≤_, _<_}
-use mathlib.Core.Path.{_≡_, sym, _∙_, ap, subst}
+use mathlib.Core.Path.{_≡_, sym, _∙_, ap, ap₂, subst}
 use mathlib.Core.Bool.{true}
-use mathlib.Core.List.{List}
-use mathlib.Core.Logic.{_↔_}
+use mathlib.Core.List.{List, []}
+use mathlib.Core.Logic.{_⊎_, _↔_}
 use lib.ListN.{length}
 use Rattle.meaning.specs.declared.Answer.{Answer}
 use Rattle.meaning.specs.Limits
 use Rattle.meaning.specs.Limits.{former, format}
 use Rattle.meaning.specs.Literals.{among}
-use Rattle.meaning.specs.Requests.{Request}
+use Rattle.meaning.specs.Requests.{Item, act, Request}
 use Rattle.meaning.specs.Reading.{got}
 use Rattle.meaning.specs.Refusals.{settled}
 use Rattle.meaning.specs.States.{first-state}
 use Rattle.meaning.specs.Walk.{table-step, missed-in}
+use Rattle.meaning.specs.Lines.{executability-of}
 use Rattle.meaning.specs.Judging.{Judgement, within, judge, count}
+use Rattle.meaning.specs.Asking.{line}
 use Rattle.meaning.specs.Approximation.{failed, Φ̂, least, Entailed}
 use Rattle.meaning.specs.Paths.{paths, walked-along}
-use Rattle.meaning.specs.Reported.{Misses, all-paths, Missed-at, Stopped-at}
+use Rattle.meaning.specs.Reported.{Misses, all-paths, Missed-at, Item-in, item-place, Stopped-at, Nearest, item-line}
 use Rattle.meaning.specs.Worlds.{Carried-out}
 use Rattle.meaning.specs.Answers.{answers}
 use Rattle.meaning.specs.AnswerParts.{Walk-input, Walk-count, Placed}
@@ -25,7 +27,7 @@ use Rattle.meaning.specs.Wider.{Same-judgement}
 use Rattle.meaning.specs.Tests.{Has}
 use Rattle.meaning.proofs.Exact.{format-room}
 use Rattle.meaning.proofs.Demands
-use Rattle.meaning.proofs.ProvedCases.{judging, judged, Row, proved-cases}
+use Rattle.meaning.proofs.ProvedCases.{judging, judging-line, Given, judged, judged-line, Row, proved-cases}
 use Rattle.glintstring.specs.LentState.{Writes, Written}
 use Rattle.promises.proofs.LentLaws.{judge-kept, judge-written}
 use Rattle.promises.proofs.CasePromises.{row-holds}
@@ -92,3 +94,31 @@ module _ (request lent : List ℕ) (budget : ℕ) (answer : Answer) (left : List
 
       pub missed-in-an-end-state : (answer .number ≡ Limits.goal-missed) ↔ Misses x
       missed-in-an-end-state = rw (sym number-is) (Demands.missed-in-an-end-state format format-room request lent budget x e lent-length past enough)
+
+-- THE LINE, where the number that the call gives beside its answer is the definition's.
+module _ (request lent : List ℕ) (budget : ℕ) (answer : Answer) (left : List ℕ) (is : record { answer = answer; state = left } ≡ judge format request lent budget)
+    (carried : ℕ) (told : carried ≡ line format request lent budget) where
+  abbrev Told : (Judgement → ℕ → Type 0) → Type 0
+  Told P = P (judge format request lent budget) (line format request lent budget) → P (record { answer = answer; state = left }) carried
+
+  as-told : (P : Judgement → ℕ → Type 0) → Told P
+  as-told P h = subst (λ (j : Judgement). P j carried) (sym is) (subst (P (judge format request lent budget)) (sym told) h)
+
+  pub no-line : (answer .number ≡ Limits.not-executable → ⊥) → carried ≡ 0
+  no-line = as-told (λ (j : Judgement) (l : ℕ). (j .answer .number ≡ Limits.not-executable → ⊥) → l ≡ 0) (Demands.no-line format request lent budget)
+
+  pub answers-the-line-cases : (row : Row) → Has proved-cases row → row .call ≡ judging-line request lent budget → row .gives ≡ judged-line (record { answer = answer; state = left }) carried
+  answers-the-line-cases row has call = row-holds row has (judging-line request lent budget) call ∙ ap₂ {C = Given} judged-line (sym is) (sym told)
+
+  module _ (x : Request) (e : ℕ) (past : settled format request ≡ got x e) where
+    pub line-there : answer .number ≡ Limits.not-executable → (i : Item ℕ) → Item-in (x .plan) i → item-place i ≡ answer .place → carried ≡ item-line (x .table) i left
+    line-there =
+        as-told (λ (j : Judgement) (l : ℕ). j .answer .number ≡ Limits.not-executable → (i : Item ℕ) → Item-in (x .plan) i → item-place i ≡ j .answer .place → l ≡ item-line (x .table) i (j .state))
+        (Demands.line-there format request lent budget x e past)
+
+    pub line-missing : length lent ≡ format .state → answer .number ≡ Limits.not-executable → (a : ℕ) → Item-in (x .plan) (act (answer .place) a)
+        → ((executability-of (x .table) a ≡ []) × (carried ≡ 0)) ⊎ Nearest left (executability-of (x .table) a) carried
+    line-missing lent-length =
+        as-told (λ (j : Judgement) (l : ℕ). j .answer .number ≡ Limits.not-executable → (a : ℕ) → Item-in (x .plan) (act (j .answer .place) a)
+        → ((executability-of (x .table) a ≡ []) × (l ≡ 0)) ⊎ Nearest (j .state) (executability-of (x .table) a) l)
+        (Demands.line-missing format format-room request lent budget x e lent-length past)

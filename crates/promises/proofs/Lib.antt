@@ -5,6 +5,7 @@ pub mod CasePromises
 pub mod JudgePromises
 pub mod Promises
 pub mod ExportedPromises
+pub mod ExportedLinePromises
 pub mod CheckPromises
 pub mod DerivationPromises
 pub mod WhetherPromises

@@ -69,7 +69,8 @@ fn outcome_of(number: u8, written: bool) -> Outcome {
 // What a walk answers is never about a derivation, so that the request stands for one.
 fn judge_request(name: &[u8], request: &[u8], budget: u32) -> Outcome {
     let mut state = [0u8; limits::FLUENTS];
-    let answer = judge(request, &mut state, budget);
+    let judged = judge(request, &mut state, budget);
+    let answer = judged.answer;
     let number = answer.number;
     let written = put_name(name)
         && put(b": ")

@@ -38,7 +38,7 @@ fn independent(bytes: &[u8]) -> Answer {
     match walk::walk(&independent_open(bytes), BUDGET) {
         Verdict::Verified { count } => (0, 0, count, [9; FLUENT_LIMIT]),
         Verdict::Missed { place, count, state } => (1, place as u64, count, std::array::from_fn(|f| state.mark(f as u8))),
-        Verdict::Stuck { place, count, state } => (2, place as u64, count, std::array::from_fn(|f| state.mark(f as u8))),
+        Verdict::Stuck { place, count, state, .. } => (2, place as u64, count, std::array::from_fn(|f| state.mark(f as u8))),
         Verdict::Over => (3, 0, BUDGET.into(), [9; FLUENT_LIMIT]),
     }
 }

@@ -72,7 +72,7 @@ impl Fault {
 }
 
 /// Places lie within inputs of at most 32,768 bytes, or are the length of a shorter one.
-fn narrow(place: usize) -> u32 {
+pub(crate) fn narrow(place: usize) -> u32 {
     u32::try_from(place).expect("a place fits in 32 bits")
 }
 

@@ -116,6 +116,9 @@ pub fn request(rng: &mut Rng, shape: &Shape) -> Request {
     let steps = rng.range(shape.steps.0, shape.steps.1);
     let (plan, ends) = Grower::new(rng, &request, shape).plan(steps);
     request.plan = plan;
+    if rng.chance(8) {
+        starve(rng, &mut request);
+    }
     request.goals = goals(rng, &request, &ends, shape.careless);
     if shape.whether && rng.chance(40) {
         request.whether = whether(rng, &request, &ends, shape.careless);
@@ -241,6 +244,28 @@ fn add_clash(rng: &mut Rng, request: &mut Request, action: u8) {
     if harmless && clashing(&one, &other) {
         request.effects.push(other);
     }
+}
+
+/// Gives an action of the plan other executability lines, two to five, whose bodies are long
+/// enough that often none is known true and a later one lacks the fewest literals.
+fn starve(rng: &mut Rng, request: &mut Request) {
+    let actions = request.plan.iter().filter_map(|item| match item {
+        Item::Action { action, .. } => Some(*action),
+        Item::Branching { .. } => None,
+    });
+    let actions: Vec<u8> = actions.collect();
+    if actions.is_empty() {
+        return;
+    }
+    let action = *rng.pick(&actions);
+    request.allowances.retain(|line| line.action != action);
+    for _ in 0..rng.range(2, 5) {
+        let length = rng.range(1, 5);
+        let body = body(rng, request.fluents, length);
+        request.allowances.push(Allowance { action, body });
+    }
+    rng.shuffle(&mut request.allowances);
+    request.allowances.truncate(255);
 }
 
 /// Adds an effect unless it contradicts one that is there.

@@ -41,12 +41,25 @@ pub const STATE_LENGTH: usize = reader::FLUENT_LIMIT;
 ///
 /// Answers 1 and 2 write the partial state concerned; otherwise the lent state stays as it is.
 pub fn judge(request: &[u8], lent: &mut [u8], budget: u32) -> Answer {
+    judge_line(request, lent, budget).0
+}
+
+/// The judging call with the line that its answer carries: in answer 2 at an action the place of
+/// the executability line that came nearest, 0 where it has none, and in every other answer.
+pub fn judge_line(request: &[u8], lent: &mut [u8], budget: u32) -> (Answer, u32) {
     if lent.len() != STATE_LENGTH {
-        return Answer::neither(9, 0);
+        return (Answer::neither(9, 0), 0);
     }
     match open(request) {
-        Err(fault) => Answer::refusal(REQUEST, fault),
-        Ok(request) => tell(walk::walk(&request, budget), lent, budget),
+        Err(fault) => (Answer::refusal(REQUEST, fault), 0),
+        Ok(request) => {
+            let verdict = walk::walk(&request, budget);
+            let line = match verdict {
+                Verdict::Stuck { line, .. } => answer::narrow(line),
+                _ => 0,
+            };
+            (tell(verdict, lent, budget), line)
+        }
     }
 }
 
@@ -127,6 +140,7 @@ fn tell(verdict: Verdict, lent: &mut [u8], budget: u32) -> Answer {
             place,
             count,
             state,
+            ..
         } => {
             write(state, lent);
             Answer::of_walk(2, place, count)

@@ -7,15 +7,16 @@ use std::{env, fs};
 
 use oracle::examples::{self, DEFAULT_BUDGET};
 use oracle::text::{parse_bytes, state_line};
-use oracle::{check, check_whether, judge, rows, run, whether, Answer, STATE_LENGTH};
+use oracle::{check, check_whether, judge_line, rows, run, whether, Answer, STATE_LENGTH};
 
 const HELP: &str = "\
 oracle: an independent reference program for Glintstring's verifier of conditional plans
 
 usage:
-  oracle judge FILE [--budget N] [--text]
+  oracle judge FILE [--budget N] [--line] [--text]
       Judges a request and prints number, input, place and count; for answers 1 and 2 a second
-      line has one of ?+- for each fluent. The budget is 100,000 unless told otherwise.
+      line has one of ?+- for each fluent. The budget is 100,000 unless told otherwise. With
+      --line a last line has the place of the executability line that answer 2 carries, or 0.
   oracle check REQUEST DERIVATION [--text]
       Checks a derivation and prints number, input, place and count.
   oracle check-whether REQUEST DERIVATION [--text]
@@ -29,12 +30,12 @@ usage:
   oracle rows [--seed S] [--count N] [--derivations M] [--whether K]
       Prints N judging calls, M derivation calls and K in the second layout with their answers,
       one per line:
-        J REQUEST LENT BUDGET NUMBER INPUT PLACE COUNT STATE
+        J REQUEST LENT BUDGET NUMBER INPUT PLACE COUNT STATE LINE
         D REQUEST DERIVATION NUMBER INPUT PLACE COUNT
         W REQUEST DERIVATION NUMBER INPUT PLACE COUNT
       Bytes are decimal with commas between; `-` is no byte; the three words REP BYTE N are N
       times one byte. LENT is the length of the lent state; STATE is all its bytes after answers
-      1 and 2, and `-` where it stays as lent. (Seed 1, 300, 0 and 0 unless told otherwise.)
+      1 and 2, and `-` where it stays as lent; LINE is what --line prints. (Seed 1, 300, 0 and 0 unless told otherwise.)
   oracle examples [FOLDER]
       Runs the example files and prints a tally.
   oracle --help
@@ -90,6 +91,7 @@ struct Options {
     files: Vec<String>,
     numbers: Vec<(String, u64)>,
     text: bool,
+    line: bool,
 }
 
 impl Options {
@@ -103,11 +105,14 @@ impl Options {
             files: Vec::new(),
             numbers: Vec::new(),
             text: false,
+            line: false,
         };
         let mut words = words.iter();
         while let Some(word) = words.next() {
             if word == "--text" {
                 options.text = true;
+            } else if word == "--line" && known.contains(&"--budget") {
+                options.line = true;
             } else if known.contains(&word.as_str()) {
                 let value = words.next().ok_or(format!("{word} needs a number"))?;
                 let value = value
@@ -153,10 +158,13 @@ fn judge_file(options: &Options) -> Result<ExitCode, String> {
     let budget = u32::try_from(options.number("--budget", u64::from(DEFAULT_BUDGET)))
         .map_err(|_| "the budget is above 32 bits".to_string())?;
     let mut lent = [0; STATE_LENGTH];
-    let answer: Answer = judge(&request, &mut lent, budget);
+    let (answer, line) = judge_line(&request, &mut lent, budget);
     println!("{answer}");
     if matches!(answer.number, 1 | 2) {
         println!("{}", state_line(&lent, request[0]));
+    }
+    if options.line {
+        println!("{line}");
     }
     Ok(ExitCode::SUCCESS)
 }

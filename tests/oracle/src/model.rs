@@ -117,6 +117,8 @@ pub struct Request {
     pub actions: u8,
     pub facts: Vec<u8>,
     pub effects: Vec<Effect>,
+    /// Where section 4's count stands; its lines follow one after another.
+    pub allowances_place: usize,
     pub allowances: Vec<Allowance>,
     pub knowledge: Vec<Knowledge>,
     pub plan: Vec<Item>,
@@ -126,6 +128,19 @@ pub struct Request {
     /// Where the whether list's count stands.
     pub whether_place: usize,
     pub whether: Vec<u8>,
+}
+
+impl Request {
+    /// The executability lines in file order, each with its place: a line takes two bytes and
+    /// one for each literal of its body.
+    pub fn placed_allowances(&self) -> impl Iterator<Item = (usize, &Allowance)> {
+        let mut next = self.allowances_place + 1;
+        self.allowances.iter().map(move |line| {
+            let place = next;
+            next += 2 + line.body.len();
+            (place, line)
+        })
+    }
 }
 
 /// A line of a derivation: the list X, the sequence c, the list Y, its rule and citations.

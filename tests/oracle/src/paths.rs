@@ -2,8 +2,8 @@
 //!
 //! A list of paths is carried through the plan item by item, each path with the events on it
 //! and its state as a line of marks. An item turns each path into its successors, in their
-//! order, so that the list stays in the order of a depth-first walk. Answer, place, count and
-//! state are then read off the finished list.
+//! order, so that the list stays in the order of a depth-first walk. Answer, place, count, state
+//! and line are then read off the finished list.
 
 use crate::answer::narrow_count;
 use crate::model::{is_positive, Branch, Item, Request};
@@ -32,16 +32,35 @@ struct Event {
 struct Path {
     event: usize,
     marks: Marks,
-    /// The item that can't be run, if one has been met.
-    stuck: Option<usize>,
+    /// The item that can't be run, if one has been met, and the line that it lacks least of.
+    stuck: Option<(usize, usize)>,
 }
 
-/// The answer of the judging call for a settled request with the marks of answers 1 and 2, or
-/// nothing where it can't be told from the first `most` paths.
+/// What the list of paths tells: the answer of the judging call, the marks of answers 1 and 2, and
+/// the line.
+#[derive(Clone, Debug)]
+pub struct Told {
+    pub answer: Answer,
+    pub marks: Option<Marks>,
+    pub line: usize,
+}
+
+impl Told {
+    fn plain(answer: Answer) -> Told {
+        Told {
+            answer,
+            marks: None,
+            line: 0,
+        }
+    }
+}
+
+/// The answer of the judging call for a settled request, or nothing where it can't be told from
+/// the first `most` paths.
 ///
 /// Every path but one that is stuck counts at least one, so no more paths than the budget and
 /// one are ever needed.
-pub fn answer(request: &Request, budget: u32, most: usize) -> Option<(Answer, Option<Marks>)> {
+pub fn answer(request: &Request, budget: u32, most: usize) -> Option<Told> {
     let most = most.min(usize::try_from(budget).unwrap_or(most).saturating_add(1));
     let root = Event {
         ran: false,
@@ -65,7 +84,7 @@ pub fn answer(request: &Request, budget: u32, most: usize) -> Option<(Answer, Op
     };
     let count = list.count(walked);
     if count > u64::from(budget) {
-        return Some((Answer::neither(3, budget), None));
+        return Some(Told::plain(Answer::neither(3, budget)));
     }
     if end.is_none() && list.cut {
         return None;
@@ -87,14 +106,18 @@ fn first_path(request: &Request) -> Path {
 }
 
 /// Answers 0, 1 and 2 from the paths walked.
-fn conclude(request: &Request, walked: &[Path], count: u64) -> (Answer, Option<Marks>) {
+fn conclude(request: &Request, walked: &[Path], count: u64) -> Told {
     if let Some(Path {
-        stuck: Some(place),
+        stuck: Some((place, line)),
         marks,
         ..
     }) = walked.last()
     {
-        return (Answer::of_walk(2, *place, count), Some(marks.clone()));
+        return Told {
+            answer: Answer::of_walk(2, *place, count),
+            marks: Some(marks.clone()),
+            line: *line,
+        };
     }
     let missed = walked.iter().find_map(|path| {
         misses(request, &path.marks)
@@ -102,8 +125,12 @@ fn conclude(request: &Request, walked: &[Path], count: u64) -> (Answer, Option<M
             .map(|&place| (place, path))
     });
     match missed {
-        Some((place, path)) => (Answer::of_walk(1, place, count), Some(path.marks.clone())),
-        None => (Answer::neither(0, narrow_count(count)), None),
+        Some((place, path)) => Told {
+            answer: Answer::of_walk(1, place, count),
+            marks: Some(path.marks.clone()),
+            line: 0,
+        },
+        None => Told::plain(Answer::neither(0, narrow_count(count))),
     }
 }
 
@@ -195,8 +222,13 @@ impl List<'_> {
     }
 
     fn run(&mut self, place: usize, action: u8, mut path: Path) -> Vec<Path> {
-        if !self.can_run(action, &path.marks) {
-            return stop(place, path);
+        let line = match self.ask(action, &path.marks) {
+            Some((0, _)) => None,
+            Some((_, line)) => Some(line),
+            None => Some(0),
+        };
+        if let Some(line) = line {
+            return stop(place, line, path);
         }
         path.event = self.note(true, path.event);
         let sensed = self.sensed(action);
@@ -207,13 +239,19 @@ impl List<'_> {
         self.sense(&sensed, path)
     }
 
-    fn can_run(&self, action: u8, marks: &Marks) -> bool {
-        let mut lines = self
-            .request
-            .allowances
-            .iter()
-            .filter(|line| line.action == action);
-        lines.any(|line| line.body.iter().all(|&literal| is_known(marks, literal)))
+    /// The best of an action's executability lines, if it has any: how many literals of its body
+    /// aren't known true, none where it allows the action, and its place. Where two lack as many,
+    /// the one with the smaller place is better.
+    fn ask(&self, action: u8, marks: &Marks) -> Option<(usize, usize)> {
+        let mut best = None;
+        for (place, line) in self.request.placed_allowances() {
+            let unknown = line.body.iter().filter(|&&entry| !is_known(marks, entry));
+            let this = (unknown.count(), place);
+            if line.action == action && best.is_none_or(|best| this < best) {
+                best = Some(this);
+            }
+        }
+        best
     }
 
     /// The fluents of an action's knowledge lines, ascending, each once.
@@ -294,13 +332,13 @@ impl List<'_> {
         });
         match chosen {
             Some(branch) => self.through(&branch.sequence, vec![path]),
-            None => stop(place, path),
+            None => stop(place, 0, path),
         }
     }
 }
 
-fn stop(place: usize, mut path: Path) -> Vec<Path> {
-    path.stuck = Some(place);
+fn stop(place: usize, line: usize, mut path: Path) -> Vec<Path> {
+    path.stuck = Some((place, line));
     vec![path]
 }
 

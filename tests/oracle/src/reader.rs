@@ -251,6 +251,7 @@ impl Reader<'_> {
         let facts = self.list(Part::Facts)?;
         self.part = Part::Table;
         let effects = self.section(Self::effect)?;
+        let allowances_place = self.at;
         let allowances = self.section(Self::allowance)?;
         let knowledge = self.section(Self::knowledge)?;
         let plan = self.plan()?;
@@ -264,6 +265,7 @@ impl Reader<'_> {
             actions: self.actions,
             facts,
             effects,
+            allowances_place,
             allowances,
             knowledge,
             plan,

@@ -1,16 +1,17 @@
 //! Small random calls with their answers as rows of text, for others to compute again.
 //!
 //! A judging call is one line
-//! `J REQUEST LENT BUDGET NUMBER INPUT PLACE COUNT STATE`,
+//! `J REQUEST LENT BUDGET NUMBER INPUT PLACE COUNT STATE LINE`,
 //! a derivation call is one line
 //! `D REQUEST DERIVATION NUMBER INPUT PLACE COUNT`;
 //! those of the second layout stand in `whether/rows.rs`.
 //!
 //! Bytes are decimal with commas between, and `-` is no byte at all. `REP BYTE N`, three words
 //! in place of one, stands for N times one byte. LENT is the length of the lent state. STATE is
-//! all bytes of the lent state after answers 1 and 2, and `-` where it stays as lent.
+//! all bytes of the lent state after answers 1 and 2, and `-` where it stays as lent. LINE is the
+//! place of the executability line that answer 2 at an action carries, and 0 otherwise.
 //!
-//! All answers of a call come round in 150 rows. Requests have at most 120 bytes, a few up to
+//! All answers of a call come round in 150 rows, and answers 2 stop at items of every kind. Requests have at most 120 bytes, a few up to
 //! 300; derivations at most 200, a few up to 400; a walk that is reached counts at most 2,000.
 //! Only item 1,025 takes more bytes (two rows of judging and one of checking, in the first
 //! round), an input too long (one row of each kind, there, written with `REP`), and lists of 128
@@ -27,9 +28,10 @@ use crate::generate::{drawn, forgetful, full, Shape, FULL, MIDDLE, SMALL, TINY};
 use crate::model::Request;
 use crate::reader::{Part, DERIVATION_LIMIT, LIST_LIMIT, REQUEST_LIMIT};
 use crate::rng::Rng;
+use crate::run::Stop;
 use crate::text::comma_separated;
 use crate::walk::{walk, Verdict};
-use crate::{check, judge, open};
+use crate::{check, judge_line, open};
 
 /// Most bytes of a request, and of the few that are longer.
 pub(crate) const BYTES: usize = 120;
@@ -157,6 +159,15 @@ fn judging_row(rng: &mut Rng, wanted: Wanted<u8>) -> String {
             call
         }
         Wanted::Answered(21) => judging_call(rng, 21, LONG_BYTES),
+        Wanted::Answered(2) => {
+            let wanted = *rng.pick(&Stop::ALL);
+            loop {
+                let call = judging_call(rng, 2, BYTES);
+                if stop_of(&call) == Some(wanted) {
+                    break call;
+                }
+            }
+        }
         Wanted::Answered(wanted) => {
             let most = if rng.chance(4) { MORE_BYTES } else { BYTES };
             judging_call(rng, wanted, most)
@@ -206,6 +217,14 @@ fn judging_call(rng: &mut Rng, wanted: u8, most: usize) -> JudgeCall {
     }
 }
 
+/// Where answer 2 stops the walk.
+fn stop_of(call: &JudgeCall) -> Option<Stop> {
+    let (answer, line, _) = judged(call);
+    let byte = call.request.get(answer.place as usize)?;
+    let request = open(&call.request).ok()?;
+    Some(Stop::of(&request, *byte, line))
+}
+
 /// A request of a small shape, or of a larger one where it may be longer.
 fn small_request(rng: &mut Rng, most: usize) -> Request {
     match rng.below(100) {
@@ -233,20 +252,20 @@ fn is_light(call: &JudgeCall) -> bool {
     }
 }
 
-fn judged(call: &JudgeCall) -> (Answer, Vec<u8>) {
+fn judged(call: &JudgeCall) -> (Answer, u32, Vec<u8>) {
     let mut lent = call.lent.clone();
-    let answer = judge(&call.request, &mut lent, call.budget);
-    (answer, lent)
+    let (answer, line) = judge_line(&call.request, &mut lent, call.budget);
+    (answer, line, lent)
 }
 
 fn tell_judging(call: &JudgeCall) -> String {
-    let (answer, lent) = judged(call);
+    let (answer, line, lent) = judged(call);
     let state = match answer.number {
         1 | 2 => comma_separated(&lent),
         _ => "-".to_string(),
     };
     let (request, length, budget) = (tell_bytes(&call.request), call.lent.len(), call.budget);
-    format!("J {request} {length} {budget} {answer} {state}")
+    format!("J {request} {length} {budget} {answer} {state} {line}")
 }
 
 /// A row as wanted.

@@ -13,7 +13,7 @@ use crate::rng::Rng;
 use crate::settle::clashing;
 use crate::text::comma_separated;
 use crate::walk::{walk, Verdict};
-use crate::{check, judge, open, paths, shown, worlds, STATE_LENGTH};
+use crate::{check, judge_line, open, paths, shown, worlds, STATE_LENGTH};
 
 /// Most paths that the second walk follows.
 const MOST_PATHS: usize = 3_000;
@@ -49,12 +49,50 @@ const OF_CHECKING: [(u8, u8); 17] = [
     (35, DERIVATION),
 ];
 
+/// Where answer 2 stops a walk, by the executability lines of the action there.
+#[derive(Clone, Copy, Debug, PartialEq, Eq, PartialOrd, Ord)]
+pub enum Stop {
+    Branching,
+    NoLine,
+    OneLine,
+    /// Of several lines the first is named, or a later one.
+    FirstOfSeveral,
+    LaterOfSeveral,
+}
+
+impl Stop {
+    pub const ALL: [Stop; 5] = [
+        Stop::Branching,
+        Stop::NoLine,
+        Stop::OneLine,
+        Stop::FirstOfSeveral,
+        Stop::LaterOfSeveral,
+    ];
+
+    /// By the byte at the answer's place and the line that it carries.
+    pub fn of(request: &Request, byte: u8, line: u32) -> Stop {
+        let lines = request.placed_allowances();
+        let places: Vec<usize> = lines
+            .filter(|(_, line)| line.action == byte)
+            .map(|(place, _)| place)
+            .collect();
+        match places[..] {
+            _ if byte == 255 => Stop::Branching,
+            [] => Stop::NoLine,
+            [_] => Stop::OneLine,
+            [first, ..] if first == line as usize => Stop::FirstOfSeveral,
+            _ => Stop::LaterOfSeveral,
+        }
+    }
+}
+
 /// How often each thing happened.
 #[derive(Clone, Debug, Default)]
 pub struct Tally {
     requests: u64,
     derivations: u64,
     judged: BTreeMap<u8, u64>,
+    stops: BTreeMap<Stop, u64>,
     checked: BTreeMap<(u8, u8), u64>,
     judged_edges: Met,
     checked_edges: Met,
@@ -120,7 +158,7 @@ impl Tally {
     fn judge(&mut self, call: &JudgeCall) -> Result<(), String> {
         self.requests += 1;
         let mut lent = call.lent.clone();
-        let answer = judge(&call.request, &mut lent, call.budget);
+        let (answer, line) = judge_line(&call.request, &mut lent, call.budget);
         *self.judged.entry(answer.number).or_default() += 1;
         let edges = edges::of_judging(&call.request, call.lent.len(), answer);
         self.judged_edges.note(edges);
@@ -131,12 +169,19 @@ impl Tally {
             return Err(format!("answer {answer} changed the lent state"));
         }
         self.compare_meeting(&call.request, answer)?;
+        if answer.number != 2 && line != 0 {
+            return Err(format!("answer {answer} carries the line {line}"));
+        }
         if answer.number > 3 {
             return Ok(());
         }
         let request = open(&call.request).map_err(|_| format!("answer {answer} unread"))?;
         expect_bytes(&encode_request(&request).bytes, &call.request)?;
-        self.compare_walks(&request, call.budget, answer, &lent)?;
+        if answer.number == 2 {
+            let stop = Stop::of(&request, call.request[answer.place as usize], line);
+            *self.stops.entry(stop).or_default() += 1;
+        }
+        self.compare_walks(&request, call.budget, (answer, line), &lent)?;
         self.compare_worlds(&request, answer)
     }
 
@@ -145,18 +190,25 @@ impl Tally {
         &mut self,
         request: &Request,
         budget: u32,
-        answer: Answer,
+        (answer, line): (Answer, u32),
         lent: &[u8],
     ) -> Result<(), String> {
-        let Some((other, marks)) = paths::answer(request, budget, MOST_PATHS) else {
+        let Some(other) = paths::answer(request, budget, MOST_PATHS) else {
             self.second_walks_left += 1;
             return Ok(());
         };
         self.second_walks += 1;
-        if other != answer {
+        if other.answer != answer {
+            let other = other.answer;
             return Err(format!("answer {answer}, the second walk's is {other}"));
         }
-        let Some(marks) = marks else { return Ok(()) };
+        if other.line != line as usize {
+            let other = other.line;
+            return Err(format!("line {line}, the second walk's is {other}"));
+        }
+        let Some(marks) = other.marks else {
+            return Ok(());
+        };
         let mut state = [0; STATE_LENGTH];
         for (byte, mark) in state.iter_mut().zip(marks) {
             *byte = match mark {
@@ -293,6 +345,10 @@ impl Tally {
             .iter()
             .filter(|number| !self.judged.contains_key(number))
             .map(|number| format!("{number} in judging"));
+        let stops = Stop::ALL
+            .iter()
+            .filter(|stop| !self.stops.contains_key(stop))
+            .map(|stop| format!("answer 2 at {stop:?}"));
         let checking = OF_CHECKING
             .iter()
             .filter(|pair| !self.checked.contains_key(pair))
@@ -300,6 +356,7 @@ impl Tally {
         let of_judging = self.judged_edges.never(&edges::OF_JUDGING);
         let of_checking = self.checked_edges.never(edges::OF_DERIVATIONS);
         judging
+            .chain(stops)
             .chain(checking)
             .chain(of_judging.iter().map(|edge| format!("{edge} in judging")))
             .chain(of_checking.iter().map(|edge| format!("{edge} in checking")))
@@ -313,7 +370,18 @@ impl Tally {
                 times * 100 < self.requests * LEAST_SHARE
             })
             .map(|number| format!("answer {number}"))
+            .chain(self.rare_stops())
             .collect()
+    }
+
+    /// Each kind of stop has its share of answers 2.
+    fn rare_stops(&self) -> impl Iterator<Item = String> + '_ {
+        let stuck = self.judged.get(&2).copied().unwrap_or(0);
+        let share = move |stop| self.stops.get(stop).copied().unwrap_or(0) * 100;
+        let rare = Stop::ALL
+            .iter()
+            .filter(move |stop| share(stop) < stuck * LEAST_SHARE);
+        rare.map(|stop| format!("answers 2 at {stop:?}"))
     }
 
     /// The tallies as text, one to a line.
@@ -328,6 +396,9 @@ impl Tally {
             let _ = writeln!(out, "  answer {number}: {times} ({share:.2} per cent)");
         }
         out += &self.judged_edges.told(&edges::OF_JUDGING);
+        for (stop, times) in &self.stops {
+            let _ = writeln!(out, "  answer 2 at {stop:?}: {times}");
+        }
         let _ = writeln!(out, "derivations checked: {}", self.derivations);
         for ((number, input), times) in &self.checked {
             let _ = writeln!(out, "  answer {number}, input {input}: {times}");

@@ -60,6 +60,11 @@ impl Known {
         body.yes & !self.yes == 0 && body.no & !self.no == 0
     }
 
+    /// How many literals of the body are not known true.
+    pub fn lacks(self, body: Known) -> u32 {
+        (body.yes & !self.yes).count_ones() + (body.no & !self.no).count_ones()
+    }
+
     /// No literal of the body is known false.
     pub fn allows(self, body: Known) -> bool {
         body.yes & self.no == 0 && body.no & self.yes == 0
@@ -89,7 +94,7 @@ impl Known {
 /// The lines of one action.
 #[derive(Clone, Debug, Default)]
 struct Deed {
-    allowances: Vec<Known>,
+    allowances: Vec<(usize, Known)>,
     effects: Vec<(Known, Known)>,
     senses: Mask,
 }
@@ -107,10 +112,10 @@ impl Table {
             let effect = (Known::of(&[line.literal]), Known::of(&line.body));
             deeds[usize::from(line.action)].effects.push(effect);
         }
-        for line in &request.allowances {
+        for (place, line) in request.placed_allowances() {
             deeds[usize::from(line.action)]
                 .allowances
-                .push(Known::of(&line.body));
+                .push((place, Known::of(&line.body)));
         }
         for line in &request.knowledge {
             deeds[usize::from(line.action)].senses |= bit(line.fluent);
@@ -123,7 +128,16 @@ impl Table {
         self.deed(action)
             .allowances
             .iter()
-            .any(|&body| state.holds(body))
+            .any(|&(_, body)| state.holds(body))
+    }
+
+    /// The place of the executability line that lacks the fewest literals, the earliest of
+    /// equals, and 0 for an action without such lines.
+    pub fn nearest(&self, action: u8, state: Known) -> usize {
+        let lines = self.deed(action).allowances.iter();
+        lines
+            .min_by_key(|&&(place, body)| (state.lacks(body), place))
+            .map_or(0, |&(place, _)| place)
     }
 
     /// The fluents that a sensing action senses; none for any other action.

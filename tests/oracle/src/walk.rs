@@ -18,11 +18,13 @@ pub enum Verdict {
         count: u64,
         state: Known,
     },
-    /// Answer 2: the item that can't be run, and the state in which it was met.
+    /// Answer 2: the item that can't be run, the state in which it was met, and of an action
+    /// the place of the executability line that came nearest; 0 where there is none.
     Stuck {
         place: usize,
         count: u64,
         state: Known,
+        line: usize,
     },
     /// Answer 3.
     Over,
@@ -171,7 +173,7 @@ impl Walker<'_> {
                         .iter()
                         .find(|(condition, _)| turn.state.holds(*condition))
                         .map(|&(_, start)| start)
-                        .ok_or_else(|| self.stuck(*place, turn.state))?;
+                        .ok_or_else(|| self.stuck(*place, turn.state, 0))?;
                 }
                 Node::Run {
                     place,
@@ -179,7 +181,8 @@ impl Walker<'_> {
                     next,
                 } => {
                     if !self.table.runnable(*action, turn.state) {
-                        return Err(self.stuck(*place, turn.state));
+                        let line = self.table.nearest(*action, turn.state);
+                        return Err(self.stuck(*place, turn.state, line));
                     }
                     self.tick()?;
                     turn.node = *next;
@@ -205,11 +208,12 @@ impl Walker<'_> {
         Ok(())
     }
 
-    fn stuck(&self, place: usize, state: Known) -> Verdict {
+    fn stuck(&self, place: usize, state: Known, line: usize) -> Verdict {
         Verdict::Stuck {
             place,
             count: self.count,
             state,
+            line,
         }
     }
 

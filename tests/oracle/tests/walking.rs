@@ -169,7 +169,7 @@ fn the_deepest_walk() {
         expect(&request, budget, 3, 0, 0, budget);
     }
     let read = open(&request).expect("a readable request");
-    let (second, _) = paths::answer(&read, 5, 1_000).expect("few paths");
+    let second = paths::answer(&read, 5, 1_000).expect("few paths").answer;
     assert_eq!(second, answer(3, 0, 0, 5));
     // A goal that is missed in each end state doesn't change it; one more item that can't be
     // run is met on the first path.
@@ -201,7 +201,7 @@ fn forks_within_eight_branchings() {
     let (found, _) = run(&request, 100_000);
     assert_eq!(found.number, 0);
     let read = open(&request).expect("a readable request");
-    let (second, _) = paths::answer(&read, 100_000, 100_000).expect("few paths");
+    let second = paths::answer(&read, 100_000, 100_000).expect("few paths").answer;
     assert_eq!(second, found);
     assert_eq!(worlds::carry_out(&read), Ok(4));
 }
