@@ -151,6 +151,20 @@ static inline const char *glintstring_words(unsigned number) {
 uint64_t glintstring_judge(const uint8_t *request, size_t request_length, uint8_t *state, size_t state_length, uint32_t budget);
 
 /*
+ * The walk call with the line: the same answer and the same lent bytes as glintstring_judge gives, and in *line the place of the
+ * executability line that was missing (FORMAT 18.9 to 18.14).
+ *
+ * Promise (proved): *line is written whatever the answer is, and what it held before does not matter. In answer 2 at an action it is
+ * the place in the request of the first byte of one of that action's executability lines: of all of them none has fewer literals in its
+ * body that are not known true in the state left, and none before it has as few. It is 0 in answer 2 at a branching, at an action that
+ * has no executability line, and in every other answer; no line has place 0.
+ *
+ * The caller sees to the same as for glintstring_judge, and that `line` may be written and overlaps neither of the others.
+ */
+uint64_t glintstring_judge_line(const uint8_t *request, size_t request_length, uint8_t *state, size_t state_length, uint32_t budget,
+                                uint32_t *line);
+
+/*
  * The derivation call: checks a derivation, line by line, of what a request asks.
  *
  * Promise (proved): for every request and derivation the call ends, and its answer is that of the format, to the last number.

@@ -524,6 +524,35 @@ impl fmt::Display for Answer {
     }
 }
 
+/// What the walk call gives with the line: the answer, and the line that it carries.
+#[must_use = "an answer other than 0 says that the plan is not to pass"]
+#[derive(Clone, Copy, Debug, PartialEq, Eq, Hash)]
+pub struct Judged {
+    /// The answer.
+    pub answer: Answer,
+    /// In [`Answer::NotExecutable`] at an action, the place in the request of one of its executability lines: of all of them none has fewer
+    /// literals in its body that are not known true in the state of the answer, and none before it has as few. None where the action has no
+    /// such line, where the item is a branching, and in every other answer.
+    pub line: Option<usize>,
+}
+
+impl Judged {
+    /// Takes an answer of the walk call apart, with the line beside it; `state` is what the lent bytes are after the call.
+    ///
+    /// # Panics
+    ///
+    /// Where [`Answer::unpack`] does, and where an answer other than 2 carries a line, or one that does not come before the item. The proved
+    /// library gives no such line.
+    pub fn unpack(packed: Packed, state: &[u8], line: u32) -> Judged {
+        let answer = Answer::unpack(packed, state);
+        let place = usize::try_from(line).unwrap_or_else(|_| strange(packed));
+        if place != 0 && !(answer.number() == 2 && place < answer.place()) {
+            strange(packed);
+        }
+        Judged { answer, line: (place != 0).then_some(place) }
+    }
+}
+
 /// An answer other than 0, as an error.
 #[derive(Clone, Copy, Debug, PartialEq, Eq, Hash)]
 pub struct NotVerified(Answer);

@@ -44,7 +44,7 @@
 
 mod answer;
 
-pub use answer::{Answer, Input, Mark, NotVerified, Packed, State};
+pub use answer::{Answer, Input, Judged, Mark, NotVerified, Packed, State};
 
 use std::{io, thread};
 
@@ -66,6 +66,7 @@ const STACK: usize = STACK_NEEDED + (1 << 20);
 extern "C" {
     // As include/glintstring.h has them.
     fn glintstring_judge(request: *const u8, request_length: usize, state: *mut u8, state_length: usize, budget: u32) -> u64;
+    fn glintstring_judge_line(request: *const u8, request_length: usize, state: *mut u8, state_length: usize, budget: u32, line: *mut u32) -> u64;
     fn glintstring_check(request: *const u8, request_length: usize, derivation: *const u8, derivation_length: usize) -> u64;
     fn glintstring_check_whether(request: *const u8, request_length: usize, derivation: *const u8, derivation_length: usize) -> u64;
     fn glintstring_show(answer: u64, request: *const u8, request_length: usize, derivation: *const u8, derivation_length: usize) -> u64;
@@ -99,10 +100,69 @@ extern "C" {
 ///
 /// Where the library linked gives an answer that the format does not have, which the proved one does not.
 pub fn judge(request: &[u8], budget: u32) -> io::Result<Answer> {
+    with_stack(|| judge_here(request, budget))
+}
+
+/// Walks on a thread that has the stack, and waits for it.
+fn with_stack<T: Send>(walk: impl FnOnce() -> T + Send) -> io::Result<T> {
     thread::scope(|scope| {
-        let judging = thread::Builder::new().stack_size(STACK).spawn_scoped(scope, || judge_here(request, budget))?;
+        let judging = thread::Builder::new().stack_size(STACK).spawn_scoped(scope, walk)?;
         Ok(judging.join().unwrap_or_else(|panic| std::panic::resume_unwind(panic)))
     })
+}
+
+/// [`judge`] with the line: in [`Answer::NotExecutable`] at an action, which of its executability lines was missing (FORMAT 18.9 to 18.14).
+///
+/// ```
+/// use glintstring::{judge, judge_line, show, Answer};
+///
+/// # fn main() -> std::io::Result<()> {
+/// // Two fluents, the first known true; action 0 may be run where both are false, or where both are true, and is the plan.
+/// let request = [2, 1, 1, 0, 0, 2, 0, 2, 1, 3, 0, 2, 0, 2, 0, 0, 1, 0, 0, 0];
+/// let judged = judge_line(&request, 10)?;
+/// assert_eq!(judged.answer, judge(&request, 10)?);
+/// assert_eq!((judged.answer.number(), judged.answer.place()), (2, 17));
+/// // The second line lacks one literal, and the first lacks two.
+/// assert_eq!(judged.line, Some(10));
+/// assert_eq!(request[10..14], [0, 2, 0, 2]);
+/// # Ok(())
+/// # }
+/// ```
+///
+/// # Errors
+///
+/// Where the system gives no such thread. Then nothing is judged.
+///
+/// # Panics
+///
+/// Where the library linked gives what the format does not have, which the proved one does not.
+pub fn judge_line(request: &[u8], budget: u32) -> io::Result<Judged> {
+    with_stack(|| judge_line_here(request, budget))
+}
+
+/// [`judge_line`] on the caller's own stack, as [`judge_here`] is [`judge`].
+///
+/// # Panics
+///
+/// Where the library linked gives what the format does not have, which the proved one does not.
+pub fn judge_line_here(request: &[u8], budget: u32) -> Judged {
+    let mut state = [0; STATE_LENGTH];
+    let mut line = 0;
+    let packed = judge_line_packed(request, &mut state, budget, &mut line);
+    Judged::unpack(packed, &state, line)
+}
+
+/// The walk call with the line as it is exported: the same as [`judge_packed`], with the line's place written to a lent number, which is 0 where
+/// the answer carries none.
+///
+/// ```
+/// let mut line = 7;
+/// let packed = glintstring::judge_line_packed(&[], &mut [0; glintstring::STATE_LENGTH], 0, &mut line);
+/// assert_eq!((packed.number(), line), (11, 0));
+/// ```
+pub fn judge_line_packed(request: &[u8], state: &mut [u8], budget: u32, line: &mut u32) -> Packed {
+    // Each pointer is valid for its length, the state's and the line's for writing too and for nobody else, and the call keeps none.
+    Packed(unsafe { glintstring_judge_line(request.as_ptr(), request.len(), state.as_mut_ptr(), state.len(), budget, line) })
 }
 
 /// [`judge`] on the caller's own stack, which is to have [`STACK_NEEDED`] free bytes: for a caller that has them, and wants no thread.

@@ -1,5 +1,6 @@
-// Judges the request on standard input, and says so on standard output (FORMAT 12.1 to 12.6, 12.13, 12.21).
+// Judges the request on standard input, and says so on standard output (FORMAT 12.1 to 12.6, 12.13, 12.21, 18.17).
 use bytes::limits;
+use comparing::parts::same_part;
 use glintstring::answers;
 use glintstring::judging::judge;
 use libc::STDIN_FILENO;
@@ -8,31 +9,46 @@ use programs::Asked;
 use programs::Input;
 use programs::REQUEST_ROOM;
 use programs::number_of;
+use programs::put;
 use programs::put_line;
+use programs::put_number;
 use programs::put_state;
 use programs::read_all;
 use programs::stack_is_enough;
 
 const BUDGET: u32 = 100000;
 
-// Without an argument BUDGET, and with one the number that it writes.
-fn budget_asked() -> Asked {
+// The last argument asks for the line.
+fn line_asked() -> bool {
     let count = os::arg_count();
     if count <= 1 {
+        return false;
+    }
+    let mut text = io::buffer();
+    let n = os::arg(count - 1, &mut text);
+    same_part(&text[..n], b"--line")
+}
+
+// Without an argument before that BUDGET, and with one the number that it writes.
+fn budget_asked(line: bool) -> Asked {
+    let others = if line { 2 } else { 1 };
+    let count = os::arg_count();
+    if count <= others {
         return Asked::Number(BUDGET);
     }
     let mut text = io::buffer();
     let n = os::arg(1, &mut text);
-    if os::errno() != 0 || count > 2 {
+    if os::errno() != 0 || count > others + 1 {
         return Asked::Nothing;
     }
     number_of(&text[..n])
 }
 
-// The answer, and for 1 and 2 the state. The first byte of a request that gets one of these is its fluent count.
-fn answer_to(request: &[u8], budget: u32) -> bool {
+// The answer, for 1 and 2 the state, and where it is asked for the line. The first byte of a request that gets one of these is its fluent count.
+fn answer_to(request: &[u8], budget: u32, line: bool) -> bool {
     let mut state = [0u8; limits::FLUENTS];
-    let answer = judge(request, &mut state, budget);
+    let judged = judge(request, &mut state, budget);
+    let answer = judged.answer;
     if !put_line(
         STDOUT_FILENO,
         answer.number as u64,
@@ -42,17 +58,25 @@ fn answer_to(request: &[u8], budget: u32) -> bool {
         return false;
     }
     if answer.number == answers::GOAL_MISSED || answer.number == answers::NOT_EXECUTABLE {
-        return request.len() > 0 && put_state(&state, request[0]);
+        if request.len() == 0 {
+            return false;
+        }
+        if !put_state(&state, request[0]) {
+            return false;
+        }
+    }
+    if line {
+        return put_number(judged.line as u64) && put(b"\n");
     }
     true
 }
 
-fn judge_input(budget: u32) {
+fn judge_input(budget: u32, line: bool) {
     // One byte more than a request may have: a longer one is refused whatever it holds.
     let mut bytes = [0u8; REQUEST_ROOM];
     match read_all(STDIN_FILENO, &mut bytes) {
         Input::Bytes(n) => {
-            if !answer_to(&bytes[..n], budget) {
+            if !answer_to(&bytes[..n], budget, line) {
                 os::fail(b"judge: standard output");
             }
         }
@@ -61,10 +85,11 @@ fn judge_input(budget: u32) {
 }
 
 fn main() {
-    match budget_asked() {
+    let line = line_asked();
+    match budget_asked(line) {
         Asked::Number(budget) => {
             if stack_is_enough(b"judge: ") {
-                judge_input(budget);
+                judge_input(budget, line);
             }
         }
         Asked::Nothing => {

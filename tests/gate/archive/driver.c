@@ -5,7 +5,8 @@
  *   driver COUNTS [FAULT CALL]
  * At the end a line for each call and number, with how often it was given, is added to the file COUNTS. With a FAULT the call of that number,
  * from 1 on, goes wrong on purpose: its answer is another (answer), a byte is changed in its request (request), in its lent state or derivation
- * (second), just below that (below) or just above it (above), or the driver ends instead of a reply (end).
+ * (second), just below that (below) or just above it (above), the line is another (line) or what stands around it (beside), or the driver ends
+ * instead of a reply (end).
  */
 #define _GNU_SOURCE
 #include <stdio.h>
@@ -78,11 +79,15 @@ static struct frame frame;
 static struct fenced request, second;
 static uint64_t answer;
 
+/* The lent number, which is the one in the middle, and what it and those around it were before. */
+static uint32_t line[3], line_before[3];
+
 static void make(void) {
     const uint8_t *first = frame.request_at == NOWHERE ? NULL : request.bytes + request.from;
     uint8_t *other = frame.second_at == NOWHERE ? NULL : second.bytes + second.from;
     switch (frame.call) {
     case JUDGE: answer = glintstring_judge(first, request.length, other, second.length, frame.budget); break;
+    case JUDGE_LINE: answer = glintstring_judge_line(first, request.length, other, second.length, frame.budget, &line[1]); break;
     case CHECK: answer = glintstring_check(first, request.length, other, second.length); break;
     case CHECK_WHETHER: answer = glintstring_check_whether(first, request.length, other, second.length); break;
     default: answer = glintstring_show(frame.answer, first, request.length, other, second.length);
@@ -113,19 +118,24 @@ static void go_wrong(const char *fault) {
     else if (strcmp(fault, "second") == 0) start[0] ^= 1;
     else if (strcmp(fault, "below") == 0) start[-1] ^= 1;
     else if (strcmp(fault, "above") == 0) start[second.length] ^= 1;
+    else if (strcmp(fault, "line") == 0) line[1] ^= 1;
+    else if (strcmp(fault, "beside") == 0) line[2] ^= 1;
     else fail("it ends, as it was told to");
 }
 
-static uint64_t changed_by_call(void) {
+static int walks(void) { return frame.call == JUDGE || frame.call == JUDGE_LINE; }
+
+static uint32_t changed_by_call(void) {
     if (changed_around(&request)) return AROUND_REQUEST;
     if (changed(&request)) return REQUEST;
     if (changed_around(&second)) return AROUND_SECOND;
-    if (frame.call != JUDGE && changed(&second)) return DERIVATION;
+    if (!walks() && changed(&second)) return DERIVATION;
+    if (line[0] != line_before[0] || line[2] != line_before[2]) return AROUND_LINE;
     return NOTHING;
 }
 
 int main(int words, char **word) {
-    static const char *const name[CALLS] = {"judge", "check", "check_whether", "show"};
+    static const char *const name[CALLS] = {"judge", "judge_line", "check", "check_whether", "show"};
     static uint64_t given[CALLS][256];
     uint64_t calls = 0, faulty = words == 4 ? strtoull(word[3], NULL, 10) : 0;
     char *stack = stack_of(GLINTSTRING_STACK_NEEDED), *little_stack = stack_of(LITTLE_STACK);
@@ -135,15 +145,18 @@ int main(int words, char **word) {
         if (frame.call >= CALLS) fail("there is no such call");
         take(&request, frame.request_length, frame.request_at);
         take(&second, frame.second_length, frame.second_at);
-        if (frame.call == JUDGE) make_on(stack, GLINTSTRING_STACK_NEEDED);
+        fill((uint8_t *)line, sizeof line);
+        memcpy(line_before, line, sizeof line);
+        if (walks()) make_on(stack, GLINTSTRING_STACK_NEEDED);
         else make_on(little_stack, LITTLE_STACK);
         /* What the showing call gives has no number. */
         given[frame.call][frame.call == SHOW ? 0 : glintstring_number(answer)]++;
         if (++calls == faulty) go_wrong(word[2]);
         reply.answer = answer;
         reply.changed = changed_by_call();
+        reply.line = line[1];
         fwrite(&reply, sizeof reply, 1, stdout);
-        if (frame.call == JUDGE) fwrite(second.bytes + second.from, 1, second.length, stdout);
+        if (walks()) fwrite(second.bytes + second.from, 1, second.length, stdout);
         if (fflush(stdout) != 0) fail("a reply cannot be written");
     }
     FILE *counts = fopen(word[1], "a");

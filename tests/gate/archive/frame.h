@@ -5,7 +5,7 @@
 #include <stdint.h>
 
 /* The exported calls. */
-enum { JUDGE, CHECK, CHECK_WHETHER, SHOW, CALLS };
+enum { JUDGE, JUDGE_LINE, CHECK, CHECK_WHETHER, SHOW, CALLS };
 
 /* What a call takes. The bytes of its first input follow, which is the request, and then those of its second, the lent state or the derivation.
    `*_at` has the low four bits of the address of an input, or NOWHERE for a null pointer. */
@@ -22,12 +22,13 @@ struct frame {
 };
 
 /* What it may not change, and changed. */
-enum { NOTHING, REQUEST, AROUND_REQUEST, DERIVATION, AROUND_SECOND };
+enum { NOTHING, REQUEST, AROUND_REQUEST, DERIVATION, AROUND_SECOND, AROUND_LINE };
 
 /* What it gave. After a walk call the lent bytes follow. */
 struct reply {
     uint64_t answer;
-    uint64_t changed;
+    uint32_t changed;
+    uint32_t line; /* of the walk call with the line */
 };
 
 #endif

@@ -76,10 +76,10 @@ static int received(void *to, size_t length) {
 
 static uint8_t at(const uint8_t *bytes) { return bytes == NULL ? NOWHERE : (uint8_t)((uintptr_t)bytes & 15); }
 
-/* The lent bytes are those of a walk call. */
-static uint64_t made(struct frame frame, const uint8_t *request, const uint8_t *second, uint8_t *lent) {
+/* The lent bytes are those of a walk call, and the line is that of one with the line. */
+static uint64_t made(struct frame frame, const uint8_t *request, const uint8_t *second, uint8_t *lent, uint32_t *line) {
     static const char *const what[] = {"", "the request", "what stands around the request", "the derivation",
-                                       "what stands around the lent state or the derivation"};
+                                       "what stands around the lent state or the derivation", "what stands around the line"};
     struct iovec parts[] = {{&frame, sizeof frame}, {(void *)request, frame.request_length}, {(void *)second, frame.second_length}};
     struct reply reply;
     frame.request_at = at(request);
@@ -88,6 +88,7 @@ static uint64_t made(struct frame frame, const uint8_t *request, const uint8_t *
     if (driver == 0) start();
     int replied = sent(parts, 3) && received(&reply, sizeof reply) && (lent == NULL || received(lent, frame.second_length));
     pthread_mutex_unlock(&lock);
+    if (replied && line != NULL) *line = reply.line;
     if (replied && reply.changed == NOTHING) return reply.answer;
     if (replied) fprintf(stderr, "archive: a call changed %s\n", what[reply.changed]);
     else fprintf(stderr, "archive: the driver gives no reply\n");
@@ -96,21 +97,27 @@ static uint64_t made(struct frame frame, const uint8_t *request, const uint8_t *
 
 uint64_t glintstring_judge(const uint8_t *request, size_t request_length, uint8_t *state, size_t state_length, uint32_t budget) {
     struct frame frame = {.call = JUDGE, .request_length = request_length, .second_length = state_length, .budget = budget};
-    return made(frame, request, state, state);
+    return made(frame, request, state, state, NULL);
+}
+
+uint64_t glintstring_judge_line(const uint8_t *request, size_t request_length, uint8_t *state, size_t state_length, uint32_t budget,
+                                uint32_t *line) {
+    struct frame frame = {.call = JUDGE_LINE, .request_length = request_length, .second_length = state_length, .budget = budget};
+    return made(frame, request, state, state, line);
 }
 
 uint64_t glintstring_check(const uint8_t *request, size_t request_length, const uint8_t *derivation, size_t derivation_length) {
     struct frame frame = {.call = CHECK, .request_length = request_length, .second_length = derivation_length};
-    return made(frame, request, derivation, NULL);
+    return made(frame, request, derivation, NULL, NULL);
 }
 
 uint64_t glintstring_check_whether(const uint8_t *request, size_t request_length, const uint8_t *derivation, size_t derivation_length) {
     struct frame frame = {.call = CHECK_WHETHER, .request_length = request_length, .second_length = derivation_length};
-    return made(frame, request, derivation, NULL);
+    return made(frame, request, derivation, NULL, NULL);
 }
 
 uint64_t glintstring_show(uint64_t answer, const uint8_t *request, size_t request_length, const uint8_t *derivation,
                           size_t derivation_length) {
     struct frame frame = {.call = SHOW, .answer = answer, .request_length = request_length, .second_length = derivation_length};
-    return made(frame, request, derivation, NULL);
+    return made(frame, request, derivation, NULL, NULL);
 }

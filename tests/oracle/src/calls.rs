@@ -3,7 +3,7 @@
 use crate::answer::Fault;
 use crate::damage::{add_whether, change_allowances, damage_derivation, damage_request, Damaged};
 use crate::encode::{encode_derivation, encode_request};
-use crate::generate::{any_request, drawn, forgetful, Shape, FULL, MIDDLE, SMALL, TINY};
+use crate::generate::{any_request, drawn, forgetful, starve, Shape, FULL, MIDDLE, SMALL, TINY};
 use crate::model::{Line, Request};
 use crate::prove::{free, many_readings, natural, pad};
 use crate::reader::{DERIVATION_LIMIT, LINE_LIMIT, REQUEST_LIMIT};
@@ -67,10 +67,15 @@ pub fn judge_call(rng: &mut Rng) -> JudgeCall {
     call
 }
 
-/// A call with an undamaged request.
+/// A call with an undamaged request. Of one in ten an action of the plan gets other executability
+/// lines.
 pub fn sound_judge_call(rng: &mut Rng, draft: &Request) -> JudgeCall {
-    let bytes = encode_request(draft).bytes;
-    let budget = budget(rng, draft);
+    let mut draft = draft.clone();
+    if rng.chance(10) && encode_request(&draft).bytes.len() < REQUEST_LIMIT / 2 {
+        starve(rng, &mut draft);
+    }
+    let bytes = encode_request(&draft).bytes;
+    let budget = budget(rng, &draft);
     JudgeCall {
         request: bytes,
         lent: lent_state(rng),

@@ -116,9 +116,6 @@ pub fn request(rng: &mut Rng, shape: &Shape) -> Request {
     let steps = rng.range(shape.steps.0, shape.steps.1);
     let (plan, ends) = Grower::new(rng, &request, shape).plan(steps);
     request.plan = plan;
-    if rng.chance(8) {
-        starve(rng, &mut request);
-    }
     request.goals = goals(rng, &request, &ends, shape.careless);
     if shape.whether && rng.chance(40) {
         request.whether = whether(rng, &request, &ends, shape.careless);
@@ -247,8 +244,9 @@ fn add_clash(rng: &mut Rng, request: &mut Request, action: u8) {
 }
 
 /// Gives an action of the plan other executability lines, two to five, whose bodies are long
-/// enough that often none is known true and a later one lacks the fewest literals.
-fn starve(rng: &mut Rng, request: &mut Request) {
+/// enough that often none is known true and a later one lacks the fewest literals. A line under
+/// which two effects would be contradictory is left out.
+pub(crate) fn starve(rng: &mut Rng, request: &mut Request) {
     let actions = request.plan.iter().filter_map(|item| match item {
         Item::Action { action, .. } => Some(*action),
         Item::Branching { .. } => None,
@@ -263,6 +261,14 @@ fn starve(rng: &mut Rng, request: &mut Request) {
         let length = rng.range(1, 5);
         let body = body(rng, request.fluents, length);
         request.allowances.push(Allowance { action, body });
+        let effects = &request.effects;
+        let meets = |one: &Effect, other: &Effect| contradictory(&request.allowances, one, other);
+        if effects
+            .iter()
+            .any(|one| effects.iter().any(|other| meets(one, other)))
+        {
+            request.allowances.pop();
+        }
     }
     rng.shuffle(&mut request.allowances);
     request.allowances.truncate(255);

@@ -168,10 +168,10 @@ impl Tally {
         if !written && lent != call.lent {
             return Err(format!("answer {answer} changed the lent state"));
         }
-        self.compare_meeting(&call.request, answer)?;
         if answer.number != 2 && line != 0 {
             return Err(format!("answer {answer} carries the line {line}"));
         }
+        self.compare_meeting(&call.request, answer)?;
         if answer.number > 3 {
             return Ok(());
         }
@@ -395,10 +395,10 @@ impl Tally {
             let share = *times as f64 * 100.0 / self.requests as f64;
             let _ = writeln!(out, "  answer {number}: {times} ({share:.2} per cent)");
         }
-        out += &self.judged_edges.told(&edges::OF_JUDGING);
         for (stop, times) in &self.stops {
             let _ = writeln!(out, "  answer 2 at {stop:?}: {times}");
         }
+        out += &self.judged_edges.told(&edges::OF_JUDGING);
         let _ = writeln!(out, "derivations checked: {}", self.derivations);
         for ((number, input), times) in &self.checked {
             let _ = writeln!(out, "  answer {number}, input {input}: {times}");

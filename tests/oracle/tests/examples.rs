@@ -31,7 +31,9 @@ fn the_second_walk_agrees() {
             continue;
         }
         let request = open(&query.request).expect("a readable request");
-        let answer = paths::answer(&request, query.budget, 1_000).expect("few paths").answer;
+        let answer = paths::answer(&request, query.budget, 1_000)
+            .expect("few paths")
+            .answer;
         let found = (answer.number, answer.place, answer.count);
         assert_eq!(Some(found), query.expected, "{}", query.title);
     }

@@ -11,7 +11,7 @@ use oracle::run::run;
 use oracle::text::parse_bytes;
 use oracle::whether;
 use oracle::whether::rows::whether_rows;
-use oracle::{check, check_whether, judge, STATE_LENGTH};
+use oracle::{check, check_whether, judge, judge_line, STATE_LENGTH};
 
 #[test]
 fn small_runs_show_no_difference() {
@@ -81,10 +81,12 @@ fn rows_can_be_computed_again() {
         let mut words = row.split(' ');
         let kind = words.next().expect("a kind");
         let request = take(&mut words);
+        let mut line = 0;
         let (answer, state, shown) = match kind {
             "J" => {
                 let mut lent = vec![77; number(&mut words) as usize];
-                let answer = judge(&request, &mut lent, number(&mut words));
+                let (answer, carried) = judge_line(&request, &mut lent, number(&mut words));
+                line = carried;
                 let shown = edges::of_judging(&request, lent.len(), answer);
                 (
                     answer,
@@ -117,6 +119,7 @@ fn rows_can_be_computed_again() {
         assert_eq!(told, found, "{row}");
         if kind == "J" {
             assert_eq!(take(&mut words), state.unwrap_or_default(), "{row}");
+            assert_eq!(number(&mut words), line, "{row}");
         }
         assert_eq!(words.next(), None);
         met.insert((kind.to_string(), answer.number));

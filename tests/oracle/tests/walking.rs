@@ -6,7 +6,7 @@ use common::*;
 use oracle::encode::encode_request;
 use oracle::generate::forget_and_sense;
 use oracle::reader::FLUENT_LIMIT;
-use oracle::{judge, open, paths, worlds, STATE_LENGTH};
+use oracle::{judge, judge_line, open, paths, worlds, STATE_LENGTH};
 
 #[test]
 fn a_stuck_item_at_the_budget() {
@@ -23,6 +23,60 @@ fn a_stuck_item_at_the_budget() {
     );
     expect(&table_a("0 0 0 0"), 0, 3, 0, 0, 0);
     expect(&table_a("0 0 0 0"), 1, 0, 0, 0, 1);
+}
+
+/// Expects a number, a place and the line that the answer carries, of both walks.
+fn carries(request: &[u8], budget: u32, number: u8, place: u32, line: u32) {
+    let mut lent = [LENT; STATE_LENGTH];
+    let (answer, carried) = judge_line(request, &mut lent, budget);
+    let given = (answer.number, answer.place, carried);
+    assert_eq!(given, (number, place, line), "{request:?}");
+    if let Ok(read) = open(request) {
+        let second = paths::answer(&read, budget, 1_000).expect("few paths");
+        assert_eq!(second.line, line as usize, "{request:?}");
+    }
+}
+
+#[test]
+fn the_line_that_lacks_least() {
+    // Of four fluents 0 is known true and 1 known false; the plan is action 0, or the bytes given.
+    let with = |section: &str, rest: &str| bytes(&format!("4 2 2 0 3 0 {section} {rest}"));
+    let plan = "0 0 1 0 0 0";
+    let stuck = |section: &str, place, line| carries(&with(section, plan), 100_000, 2, place, line);
+    stuck("1  1 0", 12, 0);
+    stuck("1  0 2 0 4", 14, 7);
+    stuck("3  1 0  0 1 4  0 1 6", 18, 9);
+    stuck("2  0 1 4  0 1 4", 16, 7);
+    stuck("2  0 2 4 6  0 1 6", 17, 11);
+    stuck("3  0 2 4 6  0 1 6  0 2 0 4", 21, 11);
+    // Unknown and known false count alike.
+    stuck("2  0 1 2  0 1 4", 16, 7);
+    stuck("2  0 1 4  0 1 2", 16, 7);
+    stuck("2  0 2 4 6  0 2 0 2", 18, 11);
+    // A sensing action, a branching, and a later line that allows the action.
+    carries(&with("1  0 1 4", "1 0 2  0 1 0 0 0"), 100_000, 2, 15, 7);
+    let branching = "0  0 1 255 1 1 4 0 0  0 0";
+    carries(&with("1  0 1 4", branching), 100_000, 2, 13, 0);
+    carries(&with("2  0 1 4  0 0", plan), 100_000, 0, 0, 0);
+}
+
+#[test]
+fn the_line_of_file_a() {
+    let convert = table_a("0 1 2 0 0");
+    carries(&convert, 100_000, 2, 31, 23);
+    carries(&convert, 0, 2, 31, 23);
+    // Open twice: it is lacking in the state that the first one left.
+    carries(&table_a("0 2 1 1 0 0"), 100_000, 2, 32, 20);
+    let unseen = table_a("0 1 255 2 1 1 0 2 1 2 1 0 0 0 1 7 1 2");
+    carries(&unseen, 100_000, 2, 31, 0);
+    // Every other answer carries none.
+    carries(&file_a(), 100_000, 0, 0, 0);
+    carries(&table_a("0 0 1 7 1 0"), 100_000, 1, 34, 0);
+    carries(&file_a(), 4, 3, 0, 0);
+    carries(&file_a()[..47], 100_000, 11, 47, 0);
+    let mut short = [LENT; STATE_LENGTH - 1];
+    let (answer, line) = judge_line(&convert, &mut short, 100_000);
+    assert_eq!((answer.number, line), (9, 0));
 }
 
 #[test]
@@ -201,7 +255,9 @@ fn forks_within_eight_branchings() {
     let (found, _) = run(&request, 100_000);
     assert_eq!(found.number, 0);
     let read = open(&request).expect("a readable request");
-    let second = paths::answer(&read, 100_000, 100_000).expect("few paths").answer;
+    let second = paths::answer(&read, 100_000, 100_000)
+        .expect("few paths")
+        .answer;
     assert_eq!(second, found);
     assert_eq!(worlds::carry_out(&read), Ok(4));
 }

@@ -16,11 +16,12 @@ pub struct Call {
     pub budget: u32,
 }
 
-/// What it leaves: number, input, place and count, and the lent bytes.
+/// What it leaves: number, input, place and count, the lent bytes, and the line where it is asked for.
 #[derive(Clone, Debug, PartialEq, Eq)]
 pub struct Left {
     pub answer: [u64; 4],
     pub lent: Vec<u8>,
+    pub line: Option<u32>,
 }
 
 impl std::fmt::Display for Call {
@@ -40,12 +41,35 @@ pub fn answer([number, input, place, count]: [u64; 4]) -> oracle::Answer {
     oracle::Answer { number: number as u8, input: input as u8, place: place as u32, count: count as u32 }
 }
 
-/// The exported call, between fences; in words what it changed that it may not, or in what the names of its answer differ from its numbers.
+/// Both exported forms of the call, between fences; in words what they changed that they may not, in what the names of an answer differ from its
+/// numbers, or how the second form, which has the line, differs from the first in anything else.
 pub fn exported(rng: &mut Rng, call: &Call) -> Result<Left, String> {
-    timed(rng, call).map(|(left, _)| left)
+    let (first, _) = timed(rng, call)?;
+    let mut request = Fenced::new(rng, &call.request);
+    let mut state = Fenced::new(rng, &call.lent);
+    let (request_before, state_before) = (request.clone(), state.clone());
+    // What stands around the lent number, and what it holds before.
+    let mut numbers_lent: [u32; 5] = std::array::from_fn(|_| rng.bits() as u32);
+    let before = numbers_lent;
+    let packed = glintstring::judge_line_packed(request.lent(), state.lent(), call.budget, &mut numbers_lent[2]);
+    let line = numbers_lent[2];
+    let lent = state.lent().to_vec();
+    numbers_lent[2] = before[2];
+    if request != request_before || state != state_before.with(&lent) || numbers_lent != before {
+        return Err("with the line: the request was changed, or what stands around it, the lent state or the lent number".to_string());
+    }
+    if (numbers(packed), &lent) != (first.answer, &first.lent) {
+        let lent = comma_separated(&lent);
+        return Err(format!("with the line: the answer is {:?} and the lent bytes are {lent}, and without {first:?}", numbers(packed)));
+    }
+    let named = std::panic::catch_unwind(|| glintstring::Judged::unpack(packed, &lent, line)).map_err(|_| format!("line {line} of {packed:?} is none"))?;
+    if named.line.unwrap_or(0) != line as usize {
+        return Err(format!("line {line} is named {:?}", named.line));
+    }
+    Ok(Left { line: Some(line), ..first })
 }
 
-/// The same, and how long it took.
+/// The form without the line, and how long it took.
 pub fn timed(rng: &mut Rng, call: &Call) -> Result<(Left, Duration), String> {
     let mut request = Fenced::new(rng, &call.request);
     let mut state = Fenced::new(rng, &call.lent);
@@ -67,15 +91,15 @@ pub fn timed(rng: &mut Rng, call: &Call) -> Result<(Left, Duration), String> {
     if told != answer || !wrote {
         return Err(format!("answer {answer:?} is named {named}"));
     }
-    Ok((Left { answer, lent }, took))
+    Ok((Left { answer, lent, line: None }, took))
 }
 
 /// The independent program's.
 pub fn independent(call: &Call) -> Left {
     let mut lent = call.lent.clone();
-    let answer = oracle::judge(&call.request, &mut lent, call.budget);
+    let (answer, line) = oracle::judge_line(&call.request, &mut lent, call.budget);
     let answer = [answer.number.into(), answer.input.into(), answer.place.into(), answer.count.into()];
-    Left { answer, lent }
+    Left { answer, lent, line: Some(line) }
 }
 
 /// What both leave, or how they differ.
@@ -86,7 +110,7 @@ pub fn agreed(rng: &mut Rng, call: &Call) -> Result<Left, String> {
     Ok(one)
 }
 
-/// Each byte counts.
+/// Each byte counts, and the line where both have it.
 pub fn expect(one: &Left, other: &Left, whose: &str) -> Result<(), String> {
     if one.answer != other.answer {
         return Err(format!("number, input, place, count are {:?}, by {whose} {:?}", one.answer, other.answer));
@@ -95,5 +119,8 @@ pub fn expect(one: &Left, other: &Left, whose: &str) -> Result<(), String> {
         let (one, other) = (comma_separated(&one.lent), comma_separated(&other.lent));
         return Err(format!("the lent bytes are {one}, by {whose} {other}"));
     }
-    Ok(())
+    match (one.line, other.line) {
+        (Some(one), Some(other)) if one != other => Err(format!("the line is {one}, by {whose} {other}")),
+        _ => Ok(()),
+    }
 }

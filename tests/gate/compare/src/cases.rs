@@ -16,6 +16,7 @@ const LAST_FALSE: &str = "??????????????????????????????????????????????????????
 
 extern "C" {
     fn glintstring_judge(request: *const u8, request_length: usize, state: *mut u8, state_length: usize, budget: u32) -> u64;
+    fn glintstring_judge_line(request: *const u8, request_length: usize, state: *mut u8, state_length: usize, budget: u32, line: *mut u32) -> u64;
     fn glintstring_check(request: *const u8, request_length: usize, derivation: *const u8, derivation_length: usize) -> u64;
     fn glintstring_check_whether(request: *const u8, request_length: usize, derivation: *const u8, derivation_length: usize) -> u64;
     fn glintstring_show(answer: u64, request: *const u8, request_length: usize, derivation: *const u8, derivation_length: usize) -> u64;
@@ -40,6 +41,8 @@ enum Request {
     Sized(u8, u8),
     /// So many bytes, all the same.
     Run(usize, u8),
+    /// FRONT, this section 4, and what follows it.
+    Section4(&'static str, &'static str),
     /// Eight branchings one inside another, in the last of them so many actions and a ninth branching's byte.
     Nested(usize),
 }
@@ -111,6 +114,37 @@ const ROWS: [Row; 61] = [
     ("8.18", "budget 0, empty plan", From29("0 0 0 0"), 0, STATE_LENGTH, [3, 0, 0], None),
     ("5.3", "12 before 11", Bytes("2 1 129"), BUDGET, STATE_LENGTH, [12, 2, 0], None),
     ("3.13", "the largest budget", FileA, u32::MAX, STATE_LENGTH, [0, 0, 5], None),
+];
+
+/// The bytes before section 4 in the rows of the line, and those behind it where a row has no others (FORMAT 18.22).
+const FRONT: &str = "4 2 2 0 3 0";
+const ONE_ACTION: &str = "0 0 1 0 0 0";
+
+/// A sentence, the request, the budget, the length of the lent state; number, place and line.
+type LineRow = (&'static str, Request, u32, usize, [u64; 3]);
+
+const LINE_ROWS: [LineRow; 21] = [
+    ("18.24", Section4("1 1 0", ONE_ACTION), BUDGET, STATE_LENGTH, [2, 12, 0]),
+    ("18.25", Section4("1 0 2 0 4", ONE_ACTION), BUDGET, STATE_LENGTH, [2, 14, 7]),
+    ("18.26", Section4("3 1 0 0 1 4 0 1 6", ONE_ACTION), BUDGET, STATE_LENGTH, [2, 18, 9]),
+    ("18.27", Section4("2 0 1 4 0 1 4", ONE_ACTION), BUDGET, STATE_LENGTH, [2, 16, 7]),
+    ("18.28", Section4("2 0 2 4 6 0 1 6", ONE_ACTION), BUDGET, STATE_LENGTH, [2, 17, 11]),
+    ("18.29", Section4("3 0 2 4 6 0 1 6 0 2 0 4", ONE_ACTION), BUDGET, STATE_LENGTH, [2, 21, 11]),
+    ("18.30", Section4("2 0 1 2 0 1 4", ONE_ACTION), BUDGET, STATE_LENGTH, [2, 16, 7]),
+    ("18.31", Section4("2 0 1 4 0 1 2", ONE_ACTION), BUDGET, STATE_LENGTH, [2, 16, 7]),
+    ("18.32", Section4("2 0 2 4 6 0 2 0 2", ONE_ACTION), BUDGET, STATE_LENGTH, [2, 18, 11]),
+    ("18.33", Section4("1 0 1 4", "1 0 2 0 1 0 0 0"), BUDGET, STATE_LENGTH, [2, 15, 7]),
+    ("18.34", Section4("1 0 1 4", "0 0 1 255 1 1 4 0 0 0 0"), BUDGET, STATE_LENGTH, [2, 13, 0]),
+    ("18.35", Section4("2 0 1 4 0 0", ONE_ACTION), BUDGET, STATE_LENGTH, [0, 0, 0]),
+    ("18.36", From29("0 1 2 0 0"), BUDGET, STATE_LENGTH, [2, 31, 23]),
+    ("18.36", From29("0 1 2 0 0"), 0, STATE_LENGTH, [2, 31, 23]),
+    ("18.37", From29("0 2 1 1 0 0"), BUDGET, STATE_LENGTH, [2, 32, 20]),
+    ("18.38", From29Then("0 1", 32), BUDGET, STATE_LENGTH, [2, 31, 0]),
+    ("18.39", FileA, BUDGET, STATE_LENGTH, [0, 0, 0]),
+    ("18.40", From29("0 0 1 7 1 0"), BUDGET, STATE_LENGTH, [1, 34, 0]),
+    ("18.41", FileA, 4, STATE_LENGTH, [3, 0, 0]),
+    ("18.42", From29("0 1 2 0 0"), BUDGET, 0, [9, 0, 0]),
+    ("18.43", Start(47), BUDGET, STATE_LENGTH, [11, 47, 0]),
 ];
 
 /// The derivation of case 14 but for the citations of its last line (FORMAT 13.42 to 13.51).
@@ -226,6 +260,7 @@ fn request(row: Request) -> Vec<u8> {
         Changed(place, byte) => file_a.iter().enumerate().map(|(i, &b)| if i == place { byte } else { b }).collect(),
         Sized(fluents, actions) => [&[fluents, actions], &file_a[2..]].concat(),
         Run(length, byte) => vec![byte; length],
+        Section4(lines, rest) => [FRONT, lines, rest].map(bytes).concat(),
         Nested(actions) => {
             let count = (actions as u16 + 1).to_be_bytes();
             [bytes("1 1 0 0 0 0"), [0, 1, 255, 1, 0].repeat(8), count.to_vec(), vec![0; actions], vec![255]].concat()
@@ -243,7 +278,7 @@ fn expected(row: &Row, lent: &[u8]) -> Left {
         Some(line) => [marks(line), vec![0; STATE_LENGTH - line.len()]].concat(),
     };
     assert!(state.is_none_or(|line| state_line(&lent, line.len() as u8) == line), "a state of a row");
-    Left { answer: [number, input, place, count], lent }
+    Left { answer: [number, input, place, count], lent, line: None }
 }
 
 /// Pointers that lead nowhere, with length 0.
@@ -252,6 +287,12 @@ fn without_bytes() -> Result<(), String> {
     let mut state = [LENT; STATE_LENGTH];
     let no_request = unsafe { glintstring_judge(null(), 0, state.as_mut_ptr(), state.len(), 0) };
     let no_state = unsafe { glintstring_judge(null(), 0, null_mut(), 0, 0) };
+    let mut lines = [7; 2];
+    let no_request_line = unsafe { glintstring_judge_line(null(), 0, state.as_mut_ptr(), state.len(), 0, &mut lines[0]) };
+    let no_state_line = unsafe { glintstring_judge_line(null(), 0, null_mut(), 0, 0, &mut lines[1]) };
+    if ([no_request_line, no_state_line], lines) != ([no_request, no_state], [0, 0]) {
+        return Err(format!("null and length 0: {no_request_line} and {no_state_line} with the lines {lines:?}"));
+    }
     let file_a = without_whether();
     let no_input = unsafe { glintstring_check(null(), 0, null(), 0) };
     let no_derivation = unsafe { glintstring_check(file_a.as_ptr(), file_a.len(), null(), 0) };
@@ -282,12 +323,19 @@ pub fn compare() -> Result<String, String> {
         let same = agreed(&mut rng, &call).and_then(|left| expect(&left, &expected(row, &call.lent), "the format"));
         same.map_err(|why| format!("FORMAT {sentence}, {name}: {why}; {call}"))?;
     }
+    for (sentence, given, budget, length, [number, place, line]) in LINE_ROWS {
+        let call = Call { request: request(given), lent: vec![LENT; length], budget };
+        let left = agreed(&mut rng, &call).map_err(|why| format!("FORMAT {sentence}: {why}; {call}"))?;
+        if (left.answer[0], left.answer[2], left.line) != (number, place, u32::try_from(line).ok()) {
+            return Err(format!("FORMAT {sentence}: {left:?}; {call}"));
+        }
+    }
     compare_derivations(&mut rng)?;
     let whether = whether_cases::compare(&mut rng)?;
     without_bytes()?;
-    let (walks, checks) = (ROWS.len(), DERIVATION_ROWS.len());
+    let (walks, lines, checks) = (ROWS.len(), LINE_ROWS.len(), DERIVATION_ROWS.len());
     Ok(format!(
-        "{walks} rows of the format, {checks} for derivations and {whether} for those in the closing layout answered as it says, and null \
+        "{walks} rows of the format, {lines} for the line, {checks} for derivations and {whether} for those in the closing layout answered as it says, and null \
          pointers with length 0"
     ))
 }

@@ -7,12 +7,14 @@ use oracle::calls::judge_call;
 use oracle::damage::damage_request;
 use oracle::edges::{of_judging, Met, OF_JUDGING};
 use oracle::encode::encode_request;
+use oracle::open;
 use oracle::rng::Rng;
+use oracle::run::Stop;
 
 use crate::calls::{agreed, answer, Call};
 use crate::crowded::crowded;
 
-/// The numbers of the walk call, each of which has to occur, as has what stands at the limits.
+/// The numbers of the walk call, each of which has to occur, as have what stands at the limits and answer 2 at items of every kind.
 const NUMBERS: [u64; 17] = [0, 1, 2, 3, 9, 10, 11, 12, 13, 14, 15, 16, 17, 18, 19, 20, 21];
 /// From so many calls on, all that has to occur is looked for.
 const ENOUGH: u64 = 100_000;
@@ -25,6 +27,7 @@ const FENCES: u64 = 4;
 /// Makes so many calls from a seed; in words how often each number occurred, or the first difference.
 pub fn compare(seed: u64, count: u64) -> Result<String, String> {
     let mut seen: BTreeMap<u64, u64> = BTreeMap::new();
+    let mut stops: BTreeMap<Stop, u64> = BTreeMap::new();
     let mut edges = Met::default();
     let mut longest = 0;
     for index in 0..count {
@@ -32,15 +35,23 @@ pub fn compare(seed: u64, count: u64) -> Result<String, String> {
         let left = agreed(&mut Rng::new(seed, FENCES, index), &call);
         let left = left.map_err(|why| format!("seed {seed}, call {index}: {why}; {call}"))?;
         *seen.entry(left.answer[0]).or_default() += 1;
+        if let (2, Ok(request)) = (left.answer[0], open(&call.request)) {
+            let stop = Stop::of(&request, call.request[left.answer[2] as usize], left.line.unwrap_or(0));
+            *stops.entry(stop).or_default() += 1;
+        }
         edges.note(of_judging(&call.request, call.lent.len(), answer(left.answer)));
         longest = longest.max(call.request.len());
     }
     for (number, times) in &seen {
         println!("  answer {number}: {times}");
     }
+    for (stop, times) in &stops {
+        println!("  answer 2 at {stop:?}: {times}");
+    }
     print!("{}", edges.told(&OF_JUDGING));
     let missing = NUMBERS.iter().filter(|number| !seen.contains_key(number)).map(|number| format!("answer {number}"));
-    let missing: Vec<String> = missing.chain(edges.never(&OF_JUDGING)).collect();
+    let stops = Stop::ALL.iter().filter(|stop| !stops.contains_key(stop)).map(|stop| format!("answer 2 at {stop:?}"));
+    let missing: Vec<String> = missing.chain(stops).chain(edges.never(&OF_JUDGING)).collect();
     if count >= ENOUGH && !missing.is_empty() {
         return Err(format!("seed {seed}: never in {count} calls: {}", missing.join(", ")));
     }
