@@ -1,12 +1,13 @@
 /*
  * Judges requests, or checks derivations, and says in words what the answer is, with the bytes at its place.
  *
- *   review judge [--budget N] REQUEST...                    (100,000 unless told otherwise)
+ *   review judge [--line] [--budget N] REQUEST...           (100,000 unless told otherwise)
  *   review check REQUEST DERIVATION [REQUEST DERIVATION]...
  *   review check-whether REQUEST DERIVATION [REQUEST DERIVATION]...
  *
  * `check` and `check-whether` do not walk the plan: a derivation may be accepted where every budget is spent. The second takes requests
- * with whether entries too, and derivations in the closing layout. The exit status is 0 where each plan is verified or each derivation
+ * with whether entries too, and derivations in the closing layout. With `--line` a walk that an action stops also says which executability line
+ * of it was missing. The exit status is 0 where each plan is verified or each derivation
  * accepted, 1 where some answer is another, and 2 where something can't be read or written.
  */
 #define _POSIX_C_SOURCE 200809L
@@ -79,12 +80,29 @@ static int read_input(const char *name, size_t limit, struct input *input) {
     return failed ? FAILED : GOOD;
 }
 
-static int judge(const char *name, uint32_t budget) {
+/* Prints where the line starts that an answer carries, and its bytes: an action, a count, and as many literals. */
+static void tell_line(const struct input *request, uint32_t line) {
+    size_t i;
+    if (line == 0) {
+        puts("  no line");
+        return;
+    }
+    printf("  line from %lu:", (unsigned long)line);
+    for (i = line; i < (size_t)line + 2 + request->bytes[line + 1]; i++)
+        printf(" %u", request->bytes[i]);
+    putchar('\n');
+}
+
+static int judge(const char *name, uint32_t budget, int lined) {
     uint8_t state[GLINTSTRING_STATE_LENGTH] = {0};
+    uint32_t line;
     struct input request;
     int status = read_input(name, GLINTSTRING_REQUEST_LIMIT, &request);
-    if (status == GOOD)
-        status = tell(glintstring_judge(request.bytes, request.length, state, sizeof state, budget), &request, NULL, state);
+    if (status == GOOD) {
+        status = tell(glintstring_judge_line(request.bytes, request.length, state, sizeof state, budget, &line), &request, NULL, state);
+        if (lined)
+            tell_line(&request, line);
+    }
     free(request.bytes);
     return status;
 }
@@ -116,7 +134,7 @@ static int is_budget(const char *word, uint32_t *budget) {
 }
 
 static int usage(void) {
-    fputs("usage: review judge [--budget N] REQUEST... | review check REQUEST DERIVATION [REQUEST DERIVATION]... | "
+    fputs("usage: review judge [--line] [--budget N] REQUEST... | review check REQUEST DERIVATION [REQUEST DERIVATION]... | "
           "review check-whether REQUEST DERIVATION [REQUEST DERIVATION]...\n",
           stderr);
     return FAILED;
@@ -128,11 +146,13 @@ static int review(int count, char **word) {
     const int whether = count > 0 && strcmp(word[0], "check-whether") == 0;
     const int checking = count > 2 && count % 2 == 1 && (whether || strcmp(word[0], "check") == 0);
     const int judging = count > 1 && strcmp(word[0], "judge") == 0;
-    const int budgeted = judging && strcmp(word[1], "--budget") == 0;
-    if (!(checking || judging) || (budgeted && (count < 4 || !is_budget(word[2], &budget))))
+    const int lined = judging && strcmp(word[1], "--line") == 0;
+    const int after = lined ? 2 : 1;
+    const int budgeted = judging && count > after && strcmp(word[after], "--budget") == 0;
+    if (!(checking || judging) || count == after || (budgeted && (count < after + 3 || !is_budget(word[after + 1], &budget))))
         return usage();
-    for (i = budgeted ? 3 : 1; i < count; i += checking ? 2 : 1) {
-        status = checking ? check(whether ? glintstring_check_whether : glintstring_check, word[i], word[i + 1]) : judge(word[i], budget);
+    for (i = budgeted ? after + 2 : after; i < count; i += checking ? 2 : 1) {
+        status = checking ? check(whether ? glintstring_check_whether : glintstring_check, word[i], word[i + 1]) : judge(word[i], budget, lined);
         worst = status > worst ? status : worst;
     }
     if (fflush(stdout) != 0 || ferror(stdout)) {

@@ -43,9 +43,12 @@ directly() { # [ARGUMENT...]
     [ "$(uname -m)" = x86_64 ] || run=("$tools/bin/qemu-x86_64" "${run[@]}")
     "${run[@]}" "$@"
 }
-# What it says where the stack has so many bytes only.
-too_small() { # BYTES
-    echo "$program: the stack is too small: a walk may need 6291456 bytes, and the limit is $1"
+# What it says where the stack has so many KiB only: of a request of more than 1,024 bytes, and of a short one.
+too_small() { # KIB [NAME]
+    echo "$program: ${2:+$2: }the stack is too small: a walk may need 16777216 bytes, and the limit is $(($1 * 1024))"
+}
+too_small_for_short() { # KIB [NAME]
+    too_small "$@" | sed 's/need 16777216 bytes/need 6291456 bytes/'
 }
 
 # The program, so called, gives no answer: it prints nothing and says this.

@@ -29,10 +29,11 @@
 //!
 //! # Stack
 //!
-//! A walk may need as much as [`STACK_NEEDED`] bytes of stack, more than the 2 MiB that a thread in Rust gets; the request decides how much.
-//! [`judge`] sees to that: it walks on a thread of its own. [`judge_here`] and [`judge_packed`] walk on the caller's stack, and a walk that
-//! has too little of it is ended by the system, and the process with it. [`check`], [`check_whether`] and [`show`] need far less, whatever
-//! their inputs, and a thread's 2 MiB will do.
+//! A walk may need as much as [`STACK_NEEDED`] bytes of stack, more than the 2 MiB that a thread in Rust gets, and more than the 8 MiB that the
+//! first thread of a process has as a rule; the request decides how much. [`judge`] sees to that: it walks on a thread of its own. A [`Judge`]
+//! keeps such a thread for many calls. [`judge_here`] and [`judge_packed`] walk on the caller's stack, and a walk that has too little of it is
+//! ended by the system, and the process with it. [`check`], [`check_whether`] and [`show`] need far less, whatever their inputs, and a
+//! thread's 2 MiB will do.
 //!
 //! # The library
 //!
@@ -43,8 +44,10 @@
 #![deny(missing_docs)]
 
 mod answer;
+mod serving;
 
 pub use answer::{Answer, Input, Judged, Mark, NotVerified, Packed, State};
+pub use serving::Judge;
 
 use std::{io, thread};
 
@@ -60,7 +63,7 @@ pub const DERIVATION_LIMIT: usize = 32_768;
 /// Bytes of free stack that a walk may need (docs/MEASURED.md): 16 MiB.
 pub const STACK_NEEDED: usize = 16 << 20;
 
-/// The stack of [`judge`]'s thread: what is needed, and 1 MiB for the thread itself.
+/// The stack of a thread that walks: what is needed, and 1 MiB for the thread itself.
 const STACK: usize = STACK_NEEDED + (1 << 20);
 
 extern "C" {
@@ -74,8 +77,8 @@ extern "C" {
 
 /// The walk call: judges a request by walking its plan, with a count of at most `budget`.
 ///
-/// Any bytes may be given, of any length. The walk runs on a thread of its own that has enough stack, and the caller waits for it.
-/// [`Answer::GoalMissed`] and [`Answer::NotExecutable`] have the state concerned in them.
+/// Any bytes may be given, of any length. The walk runs on a thread of its own that has enough stack, and the caller waits for it; for many
+/// calls a [`Judge`] keeps one. [`Answer::GoalMissed`] and [`Answer::NotExecutable`] have the state concerned in them.
 ///
 /// ```
 /// use glintstring::{judge, Answer};

@@ -1,26 +1,17 @@
 //! Answers taken apart, and the call where it needs much stack.
 
+mod common;
+
 use std::error::Error;
 
+use common::{deep, FILE_A};
 use glintstring::{check, check_packed, check_whether, check_whether_packed, judge, judge_here, judge_packed, show, show_start};
-use glintstring::{Answer, Input, Mark, NotVerified, Packed, State, STATE_LENGTH};
-
-const FILE_A: [u8; 48] = [
-    4, 3, 3, 3, 5, 7, 3, 1, 2, 0, 1, 6, 1, 0, 2, 4, 0, 3, 0, 0, 1, 1, 3, 2, 1, 2, 1, 0, 0, 0, 2, 0, 255, 2, 1, 1, 0, 2, 1, 2, 1, 0, 0, 0,
-    1, 7, 1, 2,
-];
+use glintstring::{judge_line, judge_line_here, judge_line_packed};
+use glintstring::{Answer, Input, Judged, Mark, NotVerified, Packed, State, STATE_LENGTH};
 
 /// Bytes 0 to 28 of File A, followed by these.
 fn from_29(rest: &[u8]) -> Vec<u8> {
     [&FILE_A[..29], rest].concat()
-}
-
-/// Looks at 127 fluents and makes them unknown again, over and over: a walk that goes as deep as any, to within a few bytes.
-fn deep() -> Vec<u8> {
-    let effects = (0..254).flat_map(|literal| [1, literal, 1, 255 - literal % 2]);
-    let knowledge = (0..127).flat_map(|fluent| [0, fluent]);
-    let table = [128, 2, 0, 254].into_iter().chain(effects).chain([2, 0, 0, 1, 0, 127]).chain(knowledge);
-    table.chain([4, 0]).chain([0, 1].repeat(512)).chain([0, 0]).collect()
 }
 
 #[test]
@@ -36,6 +27,33 @@ fn a_missed_goal_has_its_state() {
     assert_eq!(state.bytes(), lent);
     assert_eq!(answer.state(), State::from_bytes(&lent).as_ref());
     assert_eq!(answer.to_string(), "goal missed (1, place 33, count 2)");
+}
+
+#[test]
+fn the_line_that_was_missing() {
+    // Convert at once: its one line, at 23, asks that the volume be open for writing.
+    let request = from_29(&[0, 1, 2, 0, 0]);
+    let judged = judge_line(&request, 100_000).expect("a thread");
+    assert_eq!(judged.answer, judge(&request, 100_000).expect("a thread"));
+    assert_eq!((judged.answer.number(), judged.line), (2, Some(23)));
+    assert_eq!(request[23..26], [2, 1, 2]);
+    // A branching, and every other answer, carry none.
+    let branching = from_29(&[0, 1, 255, 1, 1, 0, 0, 0, 0, 0]);
+    assert_eq!(judge_line_here(&branching, 100_000), Judged { answer: judge_here(&branching, 100_000), line: None });
+    assert_eq!(judge_line_here(&FILE_A, 100_000), Judged { answer: Answer::Verified { count: 5 }, line: None });
+    let mut line = 7;
+    assert_eq!(judge_line_packed(&FILE_A[..47], &mut [0; STATE_LENGTH], 0, &mut line).number(), 11);
+    assert_eq!(line, 0);
+}
+
+/// What no library may give: a line in an answer that carries none, and one that does not come before the item.
+#[test]
+fn lines_that_are_none() {
+    let packed = |number: u64, place: u64| Packed(number + (1 << 8) + (place << 16));
+    let unpack = |number, place, line| std::panic::catch_unwind(move || Judged::unpack(packed(number, place), &[0; STATE_LENGTH], line));
+    assert!(unpack(2, 31, 23).is_ok() && unpack(2, 31, 0).is_ok() && unpack(1, 31, 0).is_ok());
+    assert!(unpack(1, 31, 23).is_err() && unpack(11, 31, 23).is_err());
+    assert!(unpack(2, 31, 31).is_err() && unpack(2, 31, u32::MAX).is_err());
 }
 
 #[test]

@@ -44,8 +44,12 @@ fn budget_asked(line: bool) -> Asked {
     number_of(&text[..n])
 }
 
-// The answer, for 1 and 2 the state, and where it is asked for the line. The first byte of a request that gets one of these is its fluent count.
+// The answer, for 1 and 2 the state, and where it is asked for the line. The first byte of a request that gets one of these is its fluent count. Without
+// enough stack there is none, which is said.
 fn answer_to(request: &[u8], budget: u32, line: bool) -> bool {
+    if !stack_is_enough(b"judge", b"", request.len()) {
+        return true;
+    }
     let mut state = [0u8; limits::FLUENTS];
     let judged = judge(request, &mut state, budget);
     let answer = judged.answer;
@@ -87,11 +91,7 @@ fn judge_input(budget: u32, line: bool) {
 fn main() {
     let line = line_asked();
     match budget_asked(line) {
-        Asked::Number(budget) => {
-            if stack_is_enough(b"judge: ") {
-                judge_input(budget, line);
-            }
-        }
+        Asked::Number(budget) => judge_input(budget, line),
         Asked::Nothing => {
             io::write_all(
                 libc::STDERR_FILENO,

@@ -5,6 +5,7 @@ ghost use lib.Dec.{leb};
 ghost use lib.ListN.{length};
 ghost use mathlib.Core.Path.{_≡_};
 ghost use Rattle.programs.specs.Input.{Within};
+ghost use Rattle.programs.specs.Stack.{needed};
 use bytes::limits;
 use libc::RLIMIT_STACK;
 use libc::STDERR_FILENO;
@@ -16,8 +17,12 @@ pub const REQUEST_ROOM: usize = limits::REQUEST + 1;
 
 pub const DERIVATION_ROOM: usize = limits::DERIVATION + 1;
 
-// How many bytes of stack a walk may need (FORMAT 12.21): 6 MiB.
-const STACK_NEEDED: u64 = 6 * 1024 * 1024;
+// How many bytes of stack a walk may need (FORMAT 12.21): 16 MiB, and 6 MiB where the request is short.
+const STACK_NEEDED: u64 = 16 * 1024 * 1024;
+
+const SHORT_STACK_NEEDED: u64 = 6 * 1024 * 1024;
+
+const SHORT: usize = 1024;
 
 // A sign for each fluent, and the end of the line.
 const SIGNS: usize = limits::FLUENTS + 1;
@@ -130,22 +135,34 @@ fn stack_limit() -> u64 {
     limit.rlim_cur
 }
 
-// A stack without a limit is told by the largest number.
-fn is_enough(limit: u64) -> bool
-    ensures { λ r. ⌜ r ≡ leb 6291456 limit ⌝ }
+// What the walk of a request of this length may need.
+fn stack_needed(length: usize) -> u64
+    ensures { λ r. ⌜ r ≡ needed length ⌝ }
 {
-    STACK_NEEDED <= limit
+    if length <= SHORT {
+        return SHORT_STACK_NEEDED;
+    }
+    STACK_NEEDED
 }
 
-// There is stack enough for a walk. Where there is not, a line says so, with `said` at its start.
-pub fn stack_is_enough(said: &[u8]) -> bool {
+// A stack without a limit is told by the largest number.
+fn is_enough(needed: u64, limit: u64) -> bool
+    ensures { λ r. ⌜ r ≡ leb needed limit ⌝ }
+{
+    needed <= limit
+}
+
+// There is stack enough to walk a request of this length. Where there is not, a line says so, with `said` and `name` at its start.
+pub fn stack_is_enough(said: &[u8], name: &[u8], length: usize) -> bool {
+    let needed = stack_needed(length);
     let limit = stack_limit();
-    if is_enough(limit) {
+    if is_enough(needed, limit) {
         return true;
     }
     io::write_all(STDERR_FILENO, said);
-    io::write_all(STDERR_FILENO, b"the stack is too small: a walk may need ");
-    io::print_decimal(STDERR_FILENO, STACK_NEEDED);
+    io::write_all(STDERR_FILENO, name);
+    io::write_all(STDERR_FILENO, b": the stack is too small: a walk may need ");
+    io::print_decimal(STDERR_FILENO, needed);
     io::write_all(STDERR_FILENO, b" bytes, and the limit is ");
     io::print_decimal(STDERR_FILENO, limit);
     io::write_all(STDERR_FILENO, b"\n");

@@ -1,10 +1,10 @@
 -- What the exported walk call with the line promises: each theorem is of a number, of a line and of lent bytes that meet the call's own contract.
 -- Whatever `JudgePromises` says of an answer and of lent bytes is so of these, by `judges`. Assumes nothing.
-use Prim.Native.Nat.{ℕ, _/_, _%_, _≤_}
+use Prim.Native.Nat.{ℕ, _/_, _%_, _≤_, _-_, _<_}
 use mathlib.Core.Path.{_≡_, sym, _∙_, ap₂}
 use mathlib.Core.Bool.{true}
 use mathlib.Core.List.{List, []}
-use mathlib.Core.Logic.{_⊎_}
+use mathlib.Core.Logic.{_⊎_, _↔_}
 use lib.ListN.{length, getD}
 use contract.Lifetimes.{Lfts}
 use borrow.Fn.Kinds.{Dens, endedOf}
@@ -12,25 +12,31 @@ use denote.Ref.{now}
 use denote.Triple.Clauses.{AtExit}
 use Rattle.meaning.specs.declared.Answer.{Answer}
 use Rattle.meaning.specs.Limits
-use Rattle.meaning.specs.Limits.{format}
+use Rattle.meaning.specs.Limits.{format, former}
 use Rattle.meaning.specs.Literals.{among}
 use Rattle.meaning.specs.Requests.{Item, act, Request}
 use Rattle.meaning.specs.Reading.{got}
 use Rattle.meaning.specs.Refusals.{settled}
 use Rattle.meaning.specs.Lines.{executability-of}
-use Rattle.meaning.specs.Judging.{Judgement, judge}
+use Rattle.meaning.specs.Judging.{Judgement, judge, within, count}
 use Rattle.meaning.specs.Asking.{line}
-use Rattle.meaning.specs.Reported.{Item-in, item-place, Nearest, item-line}
+use Rattle.meaning.specs.Reported.{Item-in, item-place, Nearest, item-line, Misses, all-paths, Missed-at, Stopped-at}
 use Rattle.meaning.specs.Worlds.{Carried-out}
 use Rattle.meaning.specs.Answers.{answers}
 use Rattle.meaning.specs.Tests.{Has}
-use Rattle.meaning.proofs.ProvedCases.{judging-line, judged-line, Row, proved-cases}
+use Rattle.meaning.proofs.ProvedCases.{judging-line, judged-line, Row, proved-cases, judging, judged}
 use Rattle.steps.specs.AtHand.{Marked}
 use Rattle.glintstring.specs.Packing.{packed, unpacked}
 use Rattle.promises.proofs.UnpackingLaws.{number-back, input-back, place-back, count-back, unpacks, answer-small}
 use Rattle.promises.proofs.JudgePromises
 use Rattle.glintstring.proofs.exports.glintstring_judge_line.Kinds.{ps, r}
 use Rattle.glintstring.proofs.exports.glintstring_judge_line.Reads.{Pre, Post}
+use Rattle.meaning.specs.States.{first-state}
+use Rattle.meaning.specs.Walk.{table-step, missed-in}
+use Rattle.meaning.specs.Approximation.{failed, Φ̂, least, Entailed}
+use Rattle.meaning.specs.Paths.{paths, walked-along}
+use Rattle.meaning.specs.AnswerParts.{Walk-input, Walk-count, Placed}
+use Rattle.meaning.specs.Wider.{Same-judgement}
 
 -- WHAT THE CALL IS GIVEN, by the values of its parameters. What the lent number was before does not matter.
 module _ (κs : Lfts 3) (given : Dens κs ps) where
@@ -90,8 +96,12 @@ module _ (κs : Lfts 3) (given : Dens κs ps) where
     numbered = JudgePromises.numbered request lent budget (unpacked n) (left exit) judges
 
     -- The proved cases (FORMAT 15.12): given a row's inputs, it answers what the row says.
-    pub answers-the-cases : (row : Row) → Has proved-cases row → row .call ≡ judging-line request lent budget → row .gives ≡ judged-line (record { answer = unpacked n; state = left exit }) (carried exit)
-    answers-the-cases = JudgePromises.answers-the-line-cases request lent budget (unpacked n) (left exit) judges (carried exit) (meets .1 .1)
+    pub answers-the-cases : (row : Row) → Has proved-cases row → row .call ≡ judging request lent budget → row .gives ≡ judged (record { answer = unpacked n; state = left exit })
+    answers-the-cases = JudgePromises.answers-the-cases request lent budget (unpacked n) (left exit) judges
+
+    -- The same of the proved cases of the line.
+    pub answers-the-line-cases : (row : Row) → Has proved-cases row → row .call ≡ judging-line request lent budget → row .gives ≡ judged-line (record { answer = unpacked n; state = left exit }) (carried exit)
+    answers-the-line-cases = JudgePromises.answers-the-line-cases request lent budget (unpacked n) (left exit) judges (carried exit) (meets .1 .1)
 
     -- The lent bytes are written by answers 1 and 2 and by no other (FORMAT 4.45, 4.49).
     pub kept : (n % 256 ≡ Limits.goal-missed → ⊥) → (n % 256 ≡ Limits.not-executable → ⊥) → left exit ≡ lent
@@ -109,6 +119,66 @@ module _ (κs : Lfts 3) (given : Dens κs ps) where
     pub sound : n % 256 ≡ Limits.verified → (x : Request) × (e : ℕ) × (settled format request ≡ got x e) × Carried-out x
     unfolding unpacked
     sound = JudgePromises.sound request lent budget (unpacked n) (left exit) judges
+
+    -- Equal answers (FORMAT 3.19 to 3.21): whatever the former limits, lent a state of their length, answer with another number than 12.
+    pub as-before : (small : List ℕ) → length small ≡ former .state → length lent ≡ format .state → (judge former request small budget .answer .number ≡ Limits.count-outside → ⊥)
+        → Same-judgement (format .state - former .state) small lent (judge former request small budget) (record { answer = unpacked n; state = left exit })
+    as-before = JudgePromises.as-before request lent budget (unpacked n) (left exit) judges
+
+    -- Demand 2 (FORMAT 11.5), of a settled request with as many lent bytes as a state has.
+    module _ (x : Request) (e : ℕ) (lent-length : length lent ≡ format .state) (past : settled format request ≡ got x e) where
+      -- The answer and the lent bytes are what the list of paths says, in its order.
+      pub in-order : record { answer = unpacked n; state = left exit } ≡ within lent budget (walked-along (missed-in x) (paths (table-step (x .table)) (x .plan) (first-state format (x .table))))
+      in-order = JudgePromises.in-order request lent budget (unpacked n) (left exit) judges x e lent-length past
+
+      -- The budget is spent exactly where the walk counts more.
+      pub spent-exactly : (n % 256 ≡ Limits.budget-spent) ↔ (budget < count format x)
+      unfolding unpacked
+      spent-exactly = JudgePromises.spent-exactly request lent budget (unpacked n) (left exit) judges x e lent-length past
+
+      -- Answer 1 is about the first end state that misses an entry, and is placed at the first entry that is not met there (FORMAT 11.14, 11.15).
+      pub missed-there : n % 256 ≡ Limits.goal-missed → Missed-at x (all-paths format x) (n / 65536 % 65536) (left exit)
+      unfolding unpacked
+      missed-there = JudgePromises.missed-there request lent budget (unpacked n) (left exit) judges x e lent-length past
+
+      -- Answer 2 is about the first path that stops, and is placed at the item that can't be run there (FORMAT 11.16).
+      pub stopped-there : n % 256 ≡ Limits.not-executable → Stopped-at x (all-paths format x) (n / 65536 % 65536) (left exit)
+      unfolding unpacked
+      stopped-there = JudgePromises.stopped-there request lent budget (unpacked n) (left exit) judges x e lent-length past
+
+      module _ (enough : count format x ≤ budget) where
+        -- Not executable, exactly where the plan fails from the least initial a-state.
+        pub stuck-exactly : (n % 256 ≡ Limits.not-executable) ↔ Φ̂ (x .table) (x .plan) (least (x .table)) failed
+        unfolding unpacked
+        stuck-exactly = JudgePromises.stuck-exactly request lent budget (unpacked n) (left exit) judges x e lent-length past enough
+
+        -- Verified, exactly where the goals and the whether fluents are entailed.
+        pub verified-exactly : (n % 256 ≡ Limits.verified) ↔ Entailed x
+        unfolding unpacked
+        verified-exactly = JudgePromises.verified-exactly request lent budget (unpacked n) (left exit) judges x e lent-length past enough
+
+        -- A goal is missed, exactly where neither is so.
+        pub missed-exactly : (n % 256 ≡ Limits.goal-missed) ↔ ((Φ̂ (x .table) (x .plan) (least (x .table)) failed → ⊥) × (Entailed x → ⊥))
+        unfolding unpacked
+        missed-exactly = JudgePromises.missed-exactly request lent budget (unpacked n) (left exit) judges x e lent-length past enough
+
+        -- That is where every path can be run and an entry is not met in some end state (FORMAT 11.13).
+        pub missed-in-an-end-state : (n % 256 ≡ Limits.goal-missed) ↔ Misses x
+        unfolding unpacked
+        missed-in-an-end-state = JudgePromises.missed-in-an-end-state request lent budget (unpacked n) (left exit) judges x e lent-length past enough
+
+    -- Input, count and place are what the number says (FORMAT 4.26 to 4.44): neither input exactly with 0, 3 and 9.
+    pub input-exactly : Walk-input (unpacked n)
+    input-exactly = JudgePromises.input-exactly request lent budget (unpacked n) (left exit) judges
+
+    -- The walk's count with 0, 1 and 2, the budget with 3, and else 0.
+    pub count-exactly : Walk-count format request budget (unpacked n)
+    count-exactly = JudgePromises.count-exactly request lent budget (unpacked n) (left exit) judges
+
+    -- Place 0 with 0, 3, 9 and 10, the request's length with 11, and else that of a byte.
+    pub place-within : Placed (length request) (n % 256) (n / 65536 % 65536)
+    unfolding unpacked
+    place-within = JudgePromises.place-within request lent budget (unpacked n) (left exit) judges
 
     -- THE LINE (FORMAT 18.10 to 18.12, 18.20, 18.21). In every answer but 2 it is 0.
     pub no-line : (n % 256 ≡ Limits.not-executable → ⊥) → carried exit ≡ 0

@@ -20,6 +20,7 @@ use programs::REQUEST_ROOM;
 use programs::put;
 use programs::read_all;
 use programs::read_file;
+use programs::stack_is_enough;
 
 // What became of a request, or of a request with a derivation: answer 0, another answer, none, or one that can't be printed.
 pub enum Outcome {
@@ -66,8 +67,19 @@ fn outcome_of(number: u8, written: bool) -> Outcome {
     Outcome::Other
 }
 
+// There is stack enough to walk a request of this length, or it is said that there is not. Checking a derivation takes little.
+fn has_stack(name: &[u8], length: usize) -> bool {
+    if is_standard_input(name) {
+        return stack_is_enough(b"review: ", b"standard input", length);
+    }
+    stack_is_enough(b"review: ", name, length)
+}
+
 // What a walk answers is never about a derivation, so that the request stands for one.
 fn judge_request(name: &[u8], request: &[u8], budget: u32) -> Outcome {
+    if !has_stack(name, request.len()) {
+        return Outcome::Unanswered;
+    }
     let mut state = [0u8; limits::FLUENTS];
     let judged = judge(request, &mut state, budget);
     let answer = judged.answer;

@@ -17,7 +17,6 @@ use libc::STDERR_FILENO;
 use programs::put;
 use programs::put_line;
 use programs::put_number;
-use programs::stack_is_enough;
 
 // The descriptor on which the script is told the tally.
 const TALLY_FILENO: i32 = 3;
@@ -105,15 +104,6 @@ fn say_misused() {
     );
 }
 
-// A walk has stack enough, or it is said that it has not. Checking a derivation takes little.
-fn has_stack(command: Command) -> bool {
-    match command {
-        Command::Judge(_) => stack_is_enough(b"review: "),
-        Command::Check => true,
-        Command::CheckWhether => true,
-    }
-}
-
 // The files are those from argument `first` on, and there are as many as whole answers take.
 fn review_files(tallied: bool, command: Command, first: usize) {
     let count = os::arg_count();
@@ -126,9 +116,7 @@ fn review_files(tallied: bool, command: Command, first: usize) {
         say_misused();
         return;
     }
-    if has_stack(command) {
-        review_all(tallied, command, first, count);
-    }
+    review_all(tallied, command, first, count);
 }
 
 // The command is argument i.

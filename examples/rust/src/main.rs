@@ -1,11 +1,12 @@
 //! Judges requests, or checks derivations, and says in words what the answer is, with the bytes at its place.
 //!
-//!     review judge [--budget N] REQUEST...                    (100,000 unless told otherwise)
+//!     review judge [--line] [--budget N] REQUEST...           (100,000 unless told otherwise)
 //!     review check REQUEST DERIVATION [REQUEST DERIVATION]...
 //!     review check-whether REQUEST DERIVATION [REQUEST DERIVATION]...
 //!
 //! `check` and `check-whether` do not walk the plan: a derivation may be accepted where every budget is spent. The second takes requests
-//! with whether entries too, and derivations in the closing layout. The exit status is 0 where each plan is verified or each derivation
+//! with whether entries too, and derivations in the closing layout. With `--line` a walk that an action stops also says which executability line
+//! of it was missing. The exit status is 0 where each plan is verified or each derivation
 //! accepted, 1 where some answer is another, and 2 where something can't be read or written.
 
 use std::env;
@@ -13,9 +14,9 @@ use std::fs::File;
 use std::io::{self, Read, Write};
 use std::process::ExitCode;
 
-use glintstring::{check, check_whether, judge, show, Answer, Input, DERIVATION_LIMIT, REQUEST_LIMIT};
+use glintstring::{check, check_whether, show, Answer, Input, Judge, DERIVATION_LIMIT, REQUEST_LIMIT};
 
-const USAGE: &str = "usage: review judge [--budget N] REQUEST... | review check REQUEST DERIVATION [REQUEST DERIVATION]... | \
+const USAGE: &str = "usage: review judge [--line] [--budget N] REQUEST... | review check REQUEST DERIVATION [REQUEST DERIVATION]... | \
                      review check-whether REQUEST DERIVATION [REQUEST DERIVATION]...";
 const BUDGET: u32 = 100_000;
 
@@ -65,10 +66,32 @@ fn tell(name: &str, answer: Answer, request: &[u8], derivation: &[u8]) -> Result
     Ok(if answer.is_verified() { GOOD } else { OTHER })
 }
 
-fn judge_file(name: &str, budget: u32) -> Result<u8, String> {
+/// Prints where the line starts that an answer carries, and its bytes: an action, a count, and as many literals.
+fn print_line(request: &[u8], line: Option<usize>) -> io::Result<()> {
+    let mut out = io::stdout().lock();
+    let Some(place) = line else { return writeln!(out, "  no line") };
+    let length = 2 + usize::from(request[place + 1]);
+    let bytes: String = request[place..].iter().take(length).map(|byte| format!(" {byte}")).collect();
+    writeln!(out, "  line from {place}:{bytes}")
+}
+
+fn judge_file(judge: &mut Judge, name: &str, budget: u32, lined: bool) -> Result<u8, String> {
     let request = read(name, REQUEST_LIMIT)?;
-    let answer = judge(&request, budget).map_err(|error| format!("no thread: {error}"))?;
-    tell(name, answer, &request, &[])
+    let judged = judge.judge_line(&request, budget);
+    let told = tell(name, judged.answer, &request, &[])?;
+    if lined {
+        print_line(&request, judged.line).map_err(|error| format!("standard output: {error}"))?;
+    }
+    Ok(told)
+}
+
+/// Walks the plans of all files on one thread that has enough stack; the largest status, if there is a file.
+fn judge_all(names: &[&str], budget: u32, lined: bool) -> Option<u8> {
+    let mut judge = match Judge::new() {
+        Ok(judge) => judge,
+        Err(error) => return Some(status(Err(format!("no thread: {error}")))),
+    };
+    names.iter().map(|name| status(judge_file(&mut judge, name, budget, lined))).max()
 }
 
 /// The derivation call or the whether call.
@@ -91,7 +114,11 @@ fn status(outcome: Result<u8, String>) -> u8 {
 fn main() -> ExitCode {
     let words: Vec<String> = env::args_os().skip(1).map(|word| word.to_string_lossy().into_owned()).collect();
     let words: Vec<&str> = words.iter().map(String::as_str).collect();
-    let judge_all = |names: &[&str], budget| names.iter().map(|name| status(judge_file(name, budget))).max();
+    let (words, lined) = match words[..] {
+        ["judge", "--line", ref rest @ ..] => ([&["judge"], rest].concat(), true),
+        _ => (words, false),
+    };
+    let judge_all = |names: &[&str], budget| judge_all(names, budget, lined);
     let check_all = |call: Call, names: &[&str]| names.chunks_exact(2).map(|pair| status(check_files(call, pair[0], pair[1]))).max();
     let worst = match words[..] {
         ["judge", "--budget", budget, ref names @ ..] => budget.parse().ok().and_then(|budget| judge_all(names, budget)),

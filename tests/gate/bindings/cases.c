@@ -80,6 +80,7 @@ int main(void) {
     uint8_t turned[171];
     uint8_t closing[328];
     uint64_t answer;
+    uint32_t line;
     memset(state, 9, sizeof state);
 
     if (!is(glintstring_judge(file_a, sizeof file_a, state, sizeof state, 100000), GLINTSTRING_VERIFIED, GLINTSTRING_NEITHER, 0, 5) || !untouched())
@@ -102,6 +103,19 @@ int main(void) {
     if (!is(glintstring_judge(other, 36, state, sizeof state, 100000), GLINTSTRING_GOAL_MISSED, GLINTSTRING_REQUEST, 33, 2) ||
         !marked(GLINTSTRING_UNKNOWN, GLINTSTRING_TRUE, GLINTSTRING_FALSE, GLINTSTRING_UNKNOWN))
         return puts("bindings: 6"), 1;
+
+    /* Case 7: the conversion can't be run, and its one line was missing; a branching has none, and neither has any other answer. */
+    memcpy(other + 29, "\0\1\2\0\0", 5);
+    line = 7;
+    if (!is(glintstring_judge_line(other, 34, state, sizeof state, 100000, &line), GLINTSTRING_NOT_EXECUTABLE, GLINTSTRING_REQUEST, 31, 0) ||
+        line != 23 || other[line] != 2 || !marked(GLINTSTRING_UNKNOWN, GLINTSTRING_FALSE, GLINTSTRING_FALSE, GLINTSTRING_FALSE))
+        return puts("bindings: 20"), 1;
+    memcpy(other + 29, "\0\1\377\1\1\0\0\0\0\0", 10);
+    if (!is(glintstring_judge_line(other, 39, state, sizeof state, 100000, &line), GLINTSTRING_NOT_EXECUTABLE, GLINTSTRING_REQUEST, 31, 0) || line != 0)
+        return puts("bindings: 21"), 1;
+    line = 7;
+    if (!is(glintstring_judge_line(NULL, 0, NULL, 0, 4, &line), GLINTSTRING_STATE_LENGTH_WRONG, GLINTSTRING_NEITHER, 0, 0) || line != 0)
+        return puts("bindings: 22"), 1;
 
     /* Case 14: File A without its whether entry, and its derivation. */
     memcpy(other, file_a, 46);
@@ -165,6 +179,6 @@ int main(void) {
     if (!worded())
         return puts("bindings: words"), 1;
 
-    puts("bindings: 20 calls as the format says, and what is shown of their answers");
+    puts("bindings: 23 calls as the format says, and what is shown of their answers");
     return 0;
 }

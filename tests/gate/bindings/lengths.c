@@ -146,7 +146,21 @@ static void largest_derivation(uint8_t *to, int closing) {
 }
 
 static uint8_t request[GLINTSTRING_REQUEST_LIMIT + 1], derivation[GLINTSTRING_DERIVATION_LIMIT + 1];
-static uint8_t *request_room, *derivation_room, *state_room;
+static uint8_t *request_room, *derivation_room, *state_room, *line_room;
+
+/* The walk call with the line, which is written where the memory that may be written starts or ends, gives the same and the line 0: what stops
+   the largest request is a branching. */
+static int same_with_line(uint64_t answer, const uint8_t *bytes, size_t length, uint8_t *state, size_t lent, int at_end) {
+    uint32_t *line = (uint32_t *)(void *)(at_end ? line_room + ROOM - sizeof(uint32_t) : line_room);
+    size_t i;
+    calls++;
+    memset(line_room, LENT, ROOM);
+    if (glintstring_judge_line(bytes, length, state, lent, 7, line) != answer || *line != 0) return 0;
+    memset(line, LENT, sizeof *line);
+    for (i = 0; i < ROOM; i++)
+        if (line_room[i] != LENT) return 0;
+    return 1;
+}
 
 /* The walk call on these bytes, with count 0, and with lent states of every length: 9 for all but one, and 2 alone writes the state. */
 static int walks(const uint8_t *bytes, size_t length, unsigned number, unsigned place) {
@@ -162,6 +176,10 @@ static int walks(const uint8_t *bytes, size_t length, unsigned number, unsigned 
             if (!(lent == GLINTSTRING_STATE_LENGTH ? is(answer, number, GLINTSTRING_REQUEST, place, 0)
                                                    : is(answer, GLINTSTRING_STATE_LENGTH_WRONG, GLINTSTRING_NEITHER, 0, 0)))
                 return printf("lengths: a request of %lu bytes, %lu lent\n", (unsigned long)length, (unsigned long)lent), 0;
+            if (written)
+                memset(state, LENT, lent);
+            if (!same_with_line(answer, bytes, length, lent == 0 && at_end ? NULL : state, lent, at_end))
+                return printf("lengths: with the line, a request of %lu bytes, %lu lent\n", (unsigned long)length, (unsigned long)lent), 0;
             if (written) {
                 for (i = 0; i < lent; i++)
                     if (state[i] != GLINTSTRING_UNKNOWN) return printf("lengths: fluent %lu is known\n", (unsigned long)i), 0;
@@ -251,7 +269,8 @@ int main(void) {
     request_room = stretch();
     derivation_room = stretch();
     state_room = stretch();
-    if (!request_room || !derivation_room || !state_room || !judged() || !checked(glintstring_check, 0) ||
+    line_room = stretch();
+    if (!request_room || !derivation_room || !state_room || !line_room || !judged() || !checked(glintstring_check, 0) ||
         !checked(glintstring_check_whether, 1) || !shown())
         return 1;
     printf("lengths: %lu calls at the ends of their lengths, and lent states of 0 to %d bytes\n", calls, STATES);

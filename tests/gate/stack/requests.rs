@@ -15,14 +15,20 @@ const LOOK_AT_HALF: u8 = 3; // senses the first half
 const LOOK_AT_ONE: u8 = 4; // senses one
 const WORK: u8 = 5; // makes each but the last false if the next is true
 const NEVER: u8 = 6; // can't be run
-const ACTIONS: u8 = 7;
+const LOOK_AT_SOME: u8 = 7; // senses as many as there is room for in a short request
+const FORGET_SOME: u8 = 8; // makes these unknown again
+const ACTIONS: u8 = 9;
+
+/// A short request has so many bytes at the most (FORMAT 12.21). A path goes through the most readings there where it looks at so many fluents.
+const SHORT: usize = 1_024;
+const SOME: u8 = 84;
 
 /// A budget with which the end of the first path is reached and not much more.
 const SOON: u32 = 5_000;
 
 /// An item of the plan: its bytes, how many items it is, and a bit for each action in it.
 #[derive(Clone)]
-struct Item(Vec<u8>, usize, u8);
+struct Item(Vec<u8>, usize, u16);
 
 fn act(action: u8) -> Item {
     Item(vec![action], 1, 1 << action)
@@ -45,7 +51,7 @@ fn size(items: &[Item]) -> usize {
     items.iter().map(|item| item.1).sum()
 }
 
-fn actions(items: &[Item]) -> u8 {
+fn actions(items: &[Item]) -> u16 {
     items.iter().fold(0, |all, item| all | item.2)
 }
 
@@ -83,14 +89,15 @@ enum Goals {
 
 /// The whole request.
 fn request(forgets: Forgets, goals: Goals, plan: &[Item]) -> Vec<u8> {
-    let made_false = (0..LAST).map(|f| vec![FORGET, 2 * f + 1, 1, 2 * LAST]);
+    let made_false = |action, count| (0..count).map(move |f| vec![action, 2 * f + 1, 1, 2 * LAST]);
     let made_true = (0..LAST).map(|f| vec![FORGET, 2 * f, 1, 2 * LAST + 1]);
     let work = (0..LAST).map(|f| vec![WORK, 2 * f + 1, 1, 2 * f + 2]);
     let made_true = made_true.filter(|_| matches!(forgets, Forgets::Known));
     let used = |action: u8| actions(plan) >> action & 1 == 1;
-    let effects = section(made_false.chain(made_true).chain(work).filter(|line| used(line[0])));
+    let effects = made_false(FORGET, LAST).chain(made_true).chain(made_false(FORGET_SOME, SOME)).chain(work);
+    let effects = section(effects.filter(|line| used(line[0])));
     let runs = section((0..ACTIONS).filter(|&action| used(action) && action != NEVER).map(|action| [action, 0]));
-    let looks = [(LOOK, LAST), (LOOK_AT_ALL, FLUENTS), (LOOK_AT_HALF, FLUENTS / 2), (LOOK_AT_ONE, 1)];
+    let looks = [(LOOK, LAST), (LOOK_AT_ALL, FLUENTS), (LOOK_AT_HALF, FLUENTS / 2), (LOOK_AT_ONE, 1), (LOOK_AT_SOME, SOME)];
     let sensed = |(action, count): (u8, u8)| (0..count).map(move |f| [action, f]);
     let knowledge = section(looks.into_iter().flat_map(sensed).filter(|line| used(line[0])));
     let wanted = match goals {
@@ -188,6 +195,8 @@ fn main() {
     let looks_nested = over_and_over(&[nested(8, vec![act(LOOK)]), vec![act(FORGET)]].concat(), 1024);
     let steps_within = over_and_over(&[within(&[act(LOOK)]), within(&[act(FORGET)])], 1024);
     let steps_nested = nested(8, steps(LOOK, 1016));
+    let short = |items| over_and_over(&[act(LOOK_AT_SOME), act(FORGET_SOME)], items);
+    let left = SHORT - request(Forgets::True, Goals::None, &short(2)).len();
     let branchings = over_and_over(&[within(&[])], 1024);
     let towers = over_and_over(&nested(8, vec![]), 1024);
     let requests = [
@@ -203,6 +212,7 @@ fn main() {
         ("127, all steps in eight branchings", SOON, Forgets::True, Goals::None, steps_nested),
         ("64 looked at, forgotten", SOON, Forgets::True, Goals::None, steps(LOOK_AT_HALF, 1024)),
         ("one looked at, forgotten", SOON, Forgets::True, Goals::None, steps(LOOK_AT_ONE, 1024)),
+        ("84 looked at, forgotten, in 1,024 bytes", SOON, Forgets::True, Goals::None, short(left + 2)),
         ("1,024 branchings in a row", SOON, Forgets::True, Goals::None, branchings),
         ("towers of eight branchings", SOON, Forgets::True, Goals::None, towers),
         ("1,024 actions", SOON, Forgets::Known, Goals::All, vec![act(WORK); 1024]),

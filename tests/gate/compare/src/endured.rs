@@ -13,7 +13,7 @@ use crate::hostile::{self, Input, Named};
 use crate::{checks, derivations, generated, whether};
 
 /// What a call may take, and what it may take for each count more: far more than was ever seen (docs/MEASURED.md).
-const A: Duration = Duration::from_millis(300);
+const A: Duration = Duration::from_secs(1);
 const B: Duration = Duration::from_micros(200);
 /// How often a call is made that is short, or that takes longer than it may: the shortest time is its own.
 const TRIES: usize = 3;

@@ -1,17 +1,17 @@
-//! The fastest verifier that we could write in Rust: a state is two masks, a bit for each fluent; one pass over the bytes reads the request, finds 16 to 18
-//! and compiles each line into masks, those of one action side by side, and the plan into a flat row of items that each know what follows;
-//! the walk has a stack of its own. All of it lies in a workspace of fixed arrays that is made before the first call and used again.
+//! The fastest verifier that we could write in Rust: a state is two masks, a bit for each fluent, of 64 bits where these are enough and of 128
+//! bits otherwise; one pass over the bytes reads the request, finds 16 to 18 and compiles each line into masks, those of one action side by
+//! side, and the plan into a flat row of items that each know what follows; the walk has a stack of its own. All of it lies in a workspace of
+//! fixed arrays, one for each width of the masks, that is made before the first call and used again.
+
+use std::ops::{BitAnd, BitOr, BitOrAssign, BitXor, Not};
 
 use crate::answers::{packed, refusal, Fault};
 
 const BRANCHING: u8 = 255;
 /// The format's limits of fluents, of actions and of entries in a list, the first two powers of two; the lent state has a byte for each fluent.
-const FLUENTS: usize = 64;
-const ACTIONS: usize = 64;
-const ENTRIES: u8 = 64;
-/// A set of fluents, which widens with their limit: more bits than there are fluents would cost time in every step.
-type Mask = u64;
-const _: () = assert!(Mask::BITS as usize == FLUENTS);
+const FLUENTS: usize = 128;
+const ACTIONS: usize = 128;
+const ENTRIES: u8 = 128;
 const LINES: usize = 256;
 const ITEMS: usize = 1_024;
 const BRANCHES: usize = 8 * ITEMS;
@@ -26,56 +26,96 @@ const NONE: u8 = 255;
 
 type Read<T> = Result<T, Fault>;
 
-/// The fluents known true and those known false; or a body's, or a literal's.
-#[derive(Clone, Copy, Default)]
-struct Masks {
-    yes: Mask,
-    no: Mask,
+/// A set of fluents. More bits than there are fluents would cost time in every step.
+pub trait Mask:
+    Copy + Default + PartialEq + BitAnd<Output = Self> + BitOr<Output = Self> + BitXor<Output = Self> + Not<Output = Self> + BitOrAssign
+{
+    /// So many fluents.
+    const FLUENTS: usize;
+    /// One fluent, below their number.
+    fn bit(fluent: u8) -> Self;
+    /// All fluents, or none.
+    fn every(set: bool) -> Self;
+    /// The smallest fluent alone, of some.
+    fn smallest(self) -> Self;
+    /// How many fluents of another set are below the smallest of this.
+    fn before(self, other: Self) -> usize;
+    fn has(self, fluent: usize) -> bool;
+    #[inline(always)]
+    fn none(self) -> bool {
+        self == Self::default()
+    }
 }
 
-impl Masks {
+macro_rules! mask {
+    ($word:ty) => {
+        impl Mask for $word {
+            const FLUENTS: usize = <$word>::BITS as usize;
+            #[inline(always)]
+            fn bit(fluent: u8) -> $word {
+                1 << (usize::from(fluent) % Self::FLUENTS)
+            }
+            #[inline(always)]
+            fn every(set: bool) -> $word {
+                <$word>::from(set).wrapping_neg()
+            }
+            #[inline(always)]
+            fn smallest(self) -> $word {
+                self & self.wrapping_neg()
+            }
+            #[inline(always)]
+            fn before(self, other: $word) -> usize {
+                (other & (self.smallest() - 1)).count_ones() as usize
+            }
+            #[inline(always)]
+            fn has(self, fluent: usize) -> bool {
+                self >> fluent & 1 == 1
+            }
+        }
+    };
+}
+mask!(u64);
+mask!(u128);
+
+/// The fluents known true and those known false; or a body's, or a literal's.
+#[derive(Clone, Copy, Default)]
+struct Masks<M> {
+    yes: M,
+    no: M,
+}
+
+impl<M: Mask> Masks<M> {
     #[inline(always)]
-    fn known(self, body: Masks) -> bool {
-        (body.yes & !self.yes) | (body.no & !self.no) == 0
+    fn known(self, body: Masks<M>) -> bool {
+        ((body.yes & !self.yes) | (body.no & !self.no)).none()
     }
 
     #[inline(always)]
-    fn possible(self, body: Masks) -> bool {
-        (body.yes & self.no) | (body.no & self.yes) == 0
+    fn possible(self, body: Masks<M>) -> bool {
+        ((body.yes & self.no) | (body.no & self.yes)).none()
     }
 
     #[inline(always)]
-    fn of(literal: u8) -> Masks {
-        let bit = bit(literal / 2);
-        let no = every_bit(literal % 2 == 1);
+    fn of(literal: u8) -> Masks<M> {
+        let bit = M::bit(literal / 2);
+        let no = M::every(literal % 2 == 1);
         Masks { yes: bit & !no, no: bit & no }
     }
 }
 
-#[inline(always)]
-fn bit(fluent: u8) -> Mask {
-    1 << (usize::from(fluent) % FLUENTS)
-}
-
-/// All bits, or none.
-#[inline(always)]
-fn every_bit(set: bool) -> Mask {
-    Mask::from(set).wrapping_neg()
-}
-
 #[derive(Clone, Copy, Default)]
-struct Effect {
-    body: Masks,
-    literal: Masks,
+struct Effect<M> {
+    body: Masks<M>,
+    literal: Masks<M>,
 }
 
 /// What is said of an action: where its lines start and end, the literals that its effects give, what it senses.
 #[derive(Clone, Copy, Default)]
-struct Action {
+struct Action<M> {
     effects: (u16, u16),
     runs: (u16, u16),
-    gives: Masks,
-    senses: Mask,
+    gives: Masks<M>,
+    senses: M,
 }
 
 #[derive(Clone, Copy, Default)]
@@ -89,38 +129,50 @@ struct Item {
 }
 
 #[derive(Clone, Copy, Default)]
-struct Branch {
-    condition: Masks,
+struct Branch<M> {
+    condition: Masks<M>,
     start: u16,
 }
 
 /// Where to go on, with which state, and which fluents have to be read before that.
 #[derive(Clone, Copy, Default)]
-struct Waiting {
-    state: Masks,
-    unread: Mask,
+struct Waiting<M> {
+    state: Masks<M>,
+    unread: M,
     at: u16,
 }
 
+/// A workspace for each width of the masks.
 pub struct Workspace {
-    actions: [Action; ACTIONS],
+    narrow: Box<Space<u64>>,
+    wide: Box<Space<u128>>,
+}
+
+impl Workspace {
+    pub fn new() -> Workspace {
+        Workspace { narrow: Space::new(), wide: Space::new() }
+    }
+}
+
+struct Space<M> {
+    actions: [Action<M>; ACTIONS],
     /// Lines in the order of the file, with their actions, and then by action.
-    effects: [Effect; LINES],
-    effects_by: [Effect; LINES],
-    runs: [Masks; LINES],
-    runs_by: [Masks; LINES],
+    effects: [Effect<M>; LINES],
+    effects_by: [Effect<M>; LINES],
+    runs: [Masks<M>; LINES],
+    runs_by: [Masks<M>; LINES],
     of: [u8; LINES],
     /// The last effect on each fluent so far, and for each effect the one before it on that fluent; 255 is none.
     last: [u8; FLUENTS],
     before: [u8; LINES],
     items: [Item; ITEMS],
-    branches: [Branch; BRANCHES],
-    waiting: [Waiting; WAITING],
+    branches: [Branch<M>; BRANCHES],
+    waiting: [Waiting<M>; WAITING],
 }
 
-impl Workspace {
-    pub fn new() -> Box<Workspace> {
-        Box::new(Workspace {
+impl<M: Mask> Space<M> {
+    fn new() -> Box<Space<M>> {
+        Box::new(Space {
             actions: [Action::default(); ACTIONS],
             effects: [Effect::default(); LINES],
             effects_by: [Effect::default(); LINES],
@@ -137,12 +189,12 @@ impl Workspace {
 }
 
 /// What a request has besides its compiled lines and items.
-struct Request {
-    facts: Masks,
+struct Request<M> {
+    facts: Masks<M>,
     items: usize,
-    goals: Masks,
+    goals: Masks<M>,
     goals_at: usize,
-    whether: Mask,
+    whether: M,
     whether_at: usize,
 }
 
@@ -152,6 +204,14 @@ pub fn judge(space: &mut Workspace, s: &[u8], lent: &mut [u8], budget: u32) -> u
     if s.len() > 16_384 {
         return refusal((10, 0));
     }
+    // The first byte is the number of fluents.
+    match s.first() {
+        Some(&fluents) if usize::from(fluents) <= u64::FLUENTS => judge_by(&mut *space.narrow, s, lent, budget),
+        _ => judge_by(&mut *space.wide, s, lent, budget),
+    }
+}
+
+fn judge_by<M: Mask>(space: &mut Space<M>, s: &[u8], lent: &mut [u8; FLUENTS], budget: u32) -> u64 {
     let mut reader = Reader { s, at: 0, fluents: 0, actions: 0, items: 0, branches: 0, overlap: usize::MAX };
     match reader.request(space) {
         Err(fault) => refusal(fault),
@@ -201,19 +261,19 @@ impl Reader<'_> {
 
     /// A list of literals, as masks.
     #[inline(always)]
-    fn literals(&mut self, most: u8) -> Read<Masks> {
+    fn literals<M: Mask>(&mut self, most: u8) -> Read<Masks<M>> {
         let count = usize::from(self.count(0, most)?);
         let start = self.at;
         let there = &self.s[start..self.s.len().min(start + count)];
         let bound = 2 * u16::from(self.fluents);
-        let mut masks = [0; 2];
+        let mut masks = [M::default(); 2];
         // An entry must be above this: the entry before, or its complement where that is the larger.
         let mut least = 0;
         for (index, &literal) in there.iter().enumerate() {
             if u16::from(literal) < least || u16::from(literal) >= bound {
                 return Err(self.bad(start, index, literal));
             }
-            masks[usize::from(literal % 2)] |= bit(literal / 2);
+            masks[usize::from(literal % 2)] |= M::bit(literal / 2);
             least = u16::from(literal | 1) + 1;
         }
         self.at = start + there.len();
@@ -235,7 +295,7 @@ impl Reader<'_> {
         (number, place)
     }
 
-    fn request(&mut self, space: &mut Workspace) -> Read<Request> {
+    fn request<M: Mask>(&mut self, space: &mut Space<M>) -> Read<Request<M>> {
         self.fluents = self.count(1, FLUENTS as u8)?;
         self.actions = self.count(1, ACTIONS as u8)?;
         space.actions[..usize::from(self.actions)].fill(Action::default());
@@ -269,7 +329,7 @@ impl Reader<'_> {
     /// The first effect that contradicts one before it, from the first on that clashes with one. Few tables have such an effect, so the
     /// actions and places of the lines are found again.
     #[cold]
-    fn contradiction(&self, section: usize, clash: usize, space: &Workspace) -> Option<usize> {
+    fn contradiction<M: Mask>(&self, section: usize, clash: usize, space: &Space<M>) -> Option<usize> {
         let count = usize::from(self.s[section]);
         let mut lines = [(0, 0); LINES];
         let mut place = section + 1;
@@ -300,7 +360,7 @@ impl Reader<'_> {
     }
 
     /// Section 3; the first effect that clashes with one before it, wherever its action can be run.
-    fn effects(&mut self, space: &mut Workspace) -> Read<usize> {
+    fn effects<M: Mask>(&mut self, space: &mut Space<M>) -> Read<usize> {
         let count = usize::from(self.byte()?);
         let mut clash = usize::MAX;
         space.last.fill(NONE);
@@ -346,7 +406,7 @@ impl Reader<'_> {
     }
 
     /// Section 4.
-    fn executability(&mut self, space: &mut Workspace) -> Read<()> {
+    fn executability<M: Mask>(&mut self, space: &mut Space<M>) -> Read<()> {
         let count = usize::from(self.byte()?);
         for line in 0..count {
             let action = self.below(self.actions.into())?;
@@ -369,38 +429,38 @@ impl Reader<'_> {
     }
 
     /// Section 5; the first line whose action has effects.
-    fn knowledge(&mut self, space: &mut Workspace) -> Read<usize> {
+    fn knowledge<M: Mask>(&mut self, space: &mut Space<M>) -> Read<usize> {
         let mut mixed = usize::MAX;
         for _ in 0..self.byte()? {
             let place = self.at;
             let action = self.below(self.actions.into())?;
             let fluent = self.below(self.fluents.into())?;
             let said = &mut space.actions[usize::from(action) % ACTIONS];
-            if said.gives.yes | said.gives.no != 0 && mixed == usize::MAX {
+            if !(said.gives.yes | said.gives.no).none() && mixed == usize::MAX {
                 mixed = place;
             }
-            said.senses |= bit(fluent);
+            said.senses |= M::bit(fluent);
         }
         Ok(mixed)
     }
 
     /// Section 8.
-    fn whether(&mut self) -> Read<Mask> {
-        let mut mask = 0;
+    fn whether<M: Mask>(&mut self) -> Read<M> {
+        let mut mask = M::default();
         let mut least = 0;
         for _ in 0..self.count(0, ENTRIES)? {
             let fluent = self.below(self.fluents.into())?;
             if fluent < least {
                 return Err((14, self.at - 1));
             }
-            mask |= bit(fluent);
+            mask |= M::bit(fluent);
             least = fluent + 1;
         }
         Ok(mask)
     }
 
     /// A sequence in which so many branchings may stand one inside another, and what follows its last item; the items met up to its end.
-    fn sequence(&mut self, space: &mut Workspace, deep: usize, up: u16) -> Read<usize> {
+    fn sequence<M: Mask>(&mut self, space: &mut Space<M>, deep: usize, up: u16) -> Read<usize> {
         let mut left = u16::from_be_bytes([self.byte()?, self.byte()?]);
         while left > 0 {
             left -= 1;
@@ -427,7 +487,7 @@ impl Reader<'_> {
         Ok(self.items)
     }
 
-    fn branching(&mut self, space: &mut Workspace, deep: usize, item: usize, place: usize) -> Read<()> {
+    fn branching<M: Mask>(&mut self, space: &mut Space<M>, deep: usize, item: usize, place: usize) -> Read<()> {
         let count = usize::from(self.count(1, 8)?);
         let first = self.branches;
         self.branches += count;
@@ -459,10 +519,10 @@ fn settled(items: &[Item; ITEMS], at: u16) -> u16 {
     at
 }
 
-fn walk(space: &mut Workspace, request: &Request, lent: &mut [u8; FLUENTS], budget: u32) -> u64 {
-    let Workspace { actions, effects_by, runs_by, items, branches, waiting, .. } = space;
+fn walk<M: Mask>(space: &mut Space<M>, request: &Request<M>, lent: &mut [u8; FLUENTS], budget: u32) -> u64 {
+    let Space { actions, effects_by, runs_by, items, branches, waiting, .. } = space;
     let mut left = budget;
-    let mut missed: Option<(usize, Masks)> = None;
+    let mut missed: Option<(usize, Masks<M>)> = None;
     let mut state = request.facts;
     let mut at = if request.items == 0 { END } else { 0 };
     let mut waits = 0;
@@ -471,7 +531,7 @@ fn walk(space: &mut Workspace, request: &Request, lent: &mut [u8; FLUENTS], budg
             let item = &items[usize::from(at) % ITEMS];
             if item.branches > 0 {
                 let first = usize::from(item.first);
-                let known = |branch: &&Branch| state.known(branch.condition);
+                let known = |branch: &&Branch<M>| state.known(branch.condition);
                 match branches[first..first + usize::from(item.branches)].iter().find(known) {
                     Some(branch) => at = settled(items, branch.start),
                     None => return stuck(lent, item, state, budget - left),
@@ -488,7 +548,7 @@ fn walk(space: &mut Workspace, request: &Request, lent: &mut [u8; FLUENTS], budg
             }
             left -= 1;
             at = settled(items, item.next);
-            if action.senses == 0 {
+            if action.senses.none() {
                 state = after(&effects_by[usize::from(action.effects.0)..usize::from(action.effects.1)], state);
                 continue;
             }
@@ -520,12 +580,12 @@ fn walk(space: &mut Workspace, request: &Request, lent: &mut [u8; FLUENTS], budg
 
 /// The first reading of the fluents, ascending; the others wait.
 #[inline(always)]
-fn fork(waiting: &mut [Waiting; WAITING], waits: &mut usize, unread: Mask, state: Masks, at: u16) -> Masks {
+fn fork<M: Mask>(waiting: &mut [Waiting<M>; WAITING], waits: &mut usize, unread: M, state: Masks<M>, at: u16) -> Masks<M> {
     let mut state = state;
     let mut unread = unread;
-    while unread != 0 {
-        let bit = unread & unread.wrapping_neg();
-        unread ^= bit;
+    while !unread.none() {
+        let bit = unread.smallest();
+        unread = unread ^ bit;
         waiting[*waits] = Waiting { state: Masks { yes: state.yes, no: state.no | bit }, unread, at };
         *waits += 1;
         state.yes |= bit;
@@ -534,13 +594,13 @@ fn fork(waiting: &mut [Waiting; WAITING], waits: &mut usize, unread: Mask, state
 }
 
 #[inline(always)]
-fn after(effects: &[Effect], state: Masks) -> Masks {
+fn after<M: Mask>(effects: &[Effect<M>], state: Masks<M>) -> Masks<M> {
     let mut told = state;
-    let mut may = Masks::default();
+    let mut may: Masks<M> = Masks::default();
     for effect in effects {
         // All bits where the body is possible, or known true; none otherwise.
-        let possible = every_bit(state.possible(effect.body));
-        let known = every_bit(state.known(effect.body));
+        let possible = M::every(state.possible(effect.body));
+        let known = M::every(state.known(effect.body));
         may.yes |= effect.literal.yes & possible;
         may.no |= effect.literal.no & possible;
         told.yes |= effect.literal.yes & known;
@@ -551,30 +611,28 @@ fn after(effects: &[Effect], state: Masks) -> Masks {
 
 /// The first goal or whether entry that is missed; entries ascend, so those below it are all before it.
 #[inline(always)]
-fn first_missed(request: &Request, state: Masks) -> Option<usize> {
-    let yes = request.goals.yes & !state.yes;
-    let no = request.goals.no & !state.no;
-    if yes | no != 0 {
-        let below = (yes | no).trailing_zeros();
-        let before = (request.goals.yes | request.goals.no) & ((1 << below) - 1);
-        return Some(request.goals_at + 1 + before.count_ones() as usize);
+fn first_missed<M: Mask>(request: &Request<M>, state: Masks<M>) -> Option<usize> {
+    let missed = (request.goals.yes & !state.yes) | (request.goals.no & !state.no);
+    if !missed.none() {
+        return Some(request.goals_at + 1 + missed.before(request.goals.yes | request.goals.no));
     }
-    let whether = request.whether & !(state.yes | state.no);
-    if whether != 0 {
-        let before = request.whether & ((1 << whether.trailing_zeros()) - 1);
-        return Some(request.whether_at + 1 + before.count_ones() as usize);
+    let unknown = request.whether & !(state.yes | state.no);
+    match unknown.none() {
+        true => None,
+        false => Some(request.whether_at + 1 + unknown.before(request.whether)),
     }
-    None
 }
 
 #[cold]
-fn stuck(lent: &mut [u8; FLUENTS], item: &Item, state: Masks, count: u32) -> u64 {
+fn stuck<M: Mask>(lent: &mut [u8; FLUENTS], item: &Item, state: Masks<M>, count: u32) -> u64 {
     write(lent, state);
     packed(2, 1, usize::from(item.place), count)
 }
 
-fn write(lent: &mut [u8; FLUENTS], state: Masks) {
-    for (fluent, byte) in lent.iter_mut().enumerate() {
-        *byte = (state.yes >> fluent & 1) as u8 + 2 * (state.no >> fluent & 1) as u8;
+fn write<M: Mask>(lent: &mut [u8; FLUENTS], state: Masks<M>) {
+    let (told, rest) = lent.split_at_mut(M::FLUENTS);
+    for (fluent, byte) in told.iter_mut().enumerate() {
+        *byte = u8::from(state.yes.has(fluent)) + 2 * u8::from(state.no.has(fluent));
     }
+    rest.fill(0);
 }

@@ -1,20 +1,21 @@
-//! The requests that are timed, equally many in each of five classes.
+//! The requests that are timed, equally many in each of six classes. Those of the first five have 64 fluents and actions at the most.
 
 use glintstring::STATE_LENGTH;
 use oracle::encode::encode_request;
-use oracle::generate::{forgetful, request, Shape, LARGE, MIDDLE, SMALL, TINY};
+use oracle::generate::{forgetful, request, Shape, LARGE, MIDDLE, SMALL, TINY, WIDE};
 use oracle::model::{item_count, Allowance, Item, Knowledge, Request};
 use oracle::reader::{ITEM_LIMIT, REQUEST_LIMIT};
 use oracle::rng::Rng;
 use oracle::walk::{walk, Verdict};
 
-use crate::crowded::crowded;
+use crate::crowded::crowded_of;
 
-pub const NAMES: [&str; 5] = ["small tables", "medium tables", "large tables", "long plans", "budget spent"];
-/// The budget of the program `judge`; walks of the first four classes end within it, and within `MOST`.
+pub const NAMES: [&str; 6] = ["small tables", "medium tables", "large tables", "long plans", "budget spent", "wide tables"];
+/// The budget of the program `judge`; walks of all classes but one end within it, and within `MOST`.
 const BUDGET: u32 = 100_000;
 const MOST: u32 = 10_000;
-/// The budget of the last class, which its walks spend.
+/// The class whose walks spend their budget, and that budget.
+const SPENDING: usize = 4;
 const SPENT: u32 = 5_000;
 /// Items of a long plan at least, and the least that its walk counts.
 const LONG: usize = 256;
@@ -28,8 +29,7 @@ pub struct Timed {
 }
 
 /// A plan of so many steps over a table of some size.
-const LONG_PLAN: Shape =
-    Shape { fluents: (4, 40), actions: (3, 30), steps: (LONG, ITEM_LIMIT), items: ITEM_LIMIT, effects: 4, careless: 0, whether: true };
+const LONG_PLAN: Shape = Shape { fluents: (4, 40), actions: (3, 30), steps: (LONG, ITEM_LIMIT), effects: 4, careless: 0, ..LARGE };
 
 /// So many requests of a class.
 pub fn class(seed: u64, class: usize, count: u64) -> Vec<Timed> {
@@ -54,13 +54,17 @@ fn drawn(rng: &mut Rng, class: usize, index: u64) -> Option<Timed> {
         1 => request(rng, &MIDDLE),
         2 => match rng.chance(50) {
             true => request(rng, &LARGE),
-            false => crowded(rng),
+            false => crowded_of(rng, (17, 64), (2, 64)),
         },
         3 => request(rng, &LONG_PLAN),
-        _ => spending(rng, index),
+        SPENDING => spending(rng, index),
+        _ => match rng.chance(50) {
+            true => request(rng, &WIDE),
+            false => crowded_of(rng, WIDE.fluents, WIDE.actions),
+        },
     };
     let bytes = encode_request(&draft).bytes;
-    let budget = if class == 4 { SPENT } else { BUDGET };
+    let budget = if class == SPENDING { SPENT } else { BUDGET };
     let fits = bytes.len() <= REQUEST_LIMIT && in_class(class, &draft);
     fits.then(|| Timed { request: bytes, budget, lent: [rng.byte(0, 255); STATE_LENGTH] })
 }
@@ -90,13 +94,13 @@ fn looks(rng: &mut Rng) -> Request {
 }
 
 fn in_class(class: usize, draft: &Request) -> bool {
-    let count = match walk(draft, if class == 4 { SPENT } else { MOST }) {
-        Verdict::Over => return class == 4,
+    let count = match walk(draft, if class == SPENDING { SPENT } else { MOST }) {
+        Verdict::Over => return class == SPENDING,
         Verdict::Verified { count } | Verdict::Missed { count, .. } | Verdict::Stuck { count, .. } => count,
     };
     match class {
         3 => item_count(&draft.plan) >= LONG && count >= FAR,
-        4 => false,
+        SPENDING => false,
         _ => true,
     }
 }

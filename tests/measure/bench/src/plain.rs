@@ -10,9 +10,9 @@ const FALSE: u8 = 2;
 const BRANCHING: u8 = 255;
 
 /// The format's limits of fluents, of actions and of entries in a list; the lent state has a byte for each fluent.
-const FLUENTS: usize = 64;
-const ACTIONS: u8 = 64;
-const ENTRIES: u8 = 64;
+const FLUENTS: usize = 128;
+const ACTIONS: u8 = 128;
+const ENTRIES: u8 = 128;
 
 type State = [u8; FLUENTS];
 type Read<T> = Result<T, Fault>;

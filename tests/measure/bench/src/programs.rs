@@ -8,7 +8,7 @@ pub const PROGRAMS: [&str; 3] = ["proved", "plain", "best"];
 
 /// What the programs need besides what a call is given.
 pub struct Programs {
-    space: Box<best::Workspace>,
+    space: best::Workspace,
 }
 
 impl Programs {
