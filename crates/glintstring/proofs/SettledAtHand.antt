@@ -1,4 +1,4 @@
--- A settled request is at hand: it was read from the start, into notes that held nothing. Assumes nothing.
+-- A settled request is at hand: it was read from the start, into notes that held nothing, and 16 let it pass. Assumes nothing.
 use Prim.Native.Nat.{ℕ}
 use mathlib.Core.Path.{_≡_, refl, _∙_, ap}
 use mathlib.Core.List.{List}
@@ -9,7 +9,7 @@ use Rattle.meaning.specs.Limits.{format}
 use Rattle.meaning.specs.Requests.{Request}
 use Rattle.meaning.specs.Reading.{got, read-request}
 use Rattle.meaning.specs.Refusals.{settled}
-use Rattle.meaning.proofs.SettledLaws.{settled-is}
+use Rattle.meaning.proofs.SettledLaws.{Settled, settled-is}
 use Rattle.bytes.specs.declared.lists.Passed.{Passed}
 use Rattle.bytes.specs.declared.lists.Passed.the-variants.{To}
 use Rattle.reading.specs.Noted.{noting, outcome, slots}
@@ -29,14 +29,17 @@ module _ (s t u : List ℕ) (r : Passed) (settles : outcome r u ≡ noting reque
   settled-got = noting-got request-noted (settled format s) r t u settles e passes
 
   module _ (bytes : (i : ℕ) → Fits w8 (getD s i 0)) (empty : t ≡ blank) where
+    past : Settled format s (settled-got .0) e
+    past = settled-is format s (settled-got .0) e (settled-got .1)
+
     reads : read-request format s ≡ got (settled-got .0) e
-    reads = settled-is format s (settled-got .0) e (settled-got .1) .reads
+    reads = past .reads
 
     noted : u ≡ request-noted (settled-got .0) blank
     noted = settled-got .2 ∙ ap (request-noted (settled-got .0)) empty
 
     pub settled-at-hand : At-hand s u
-    settled-at-hand = read-at-hand s (λ i. bytes i .fits) (settled-got .0) e reads u noted
+    settled-at-hand = read-at-hand s (λ i. bytes i .fits) (settled-got .0) e reads u noted (past .no-contradiction)
 
     pub settled-held : request-in s u ≡ settled-got .0
     settled-held = request-read s (λ i. bytes i .fits) (settled-got .0) e reads u noted

@@ -46,7 +46,7 @@ module _ (t : Table) where
   unfolding conditions-of each-of
   others-false δ apart c holds none e = tt
   others-false δ apart c holds (branch d b bs) e =
-      (by-test _ (λ too. absurd (exclusive-clash (true-in δ) (not-both δ apart) c d (both-left _ _ e) holds too)) (λ f. f), others-false δ apart c holds bs (both-right _ _ e))
+      (by-test _ (λ too. absurd (exclusive-clash (true-in δ) (true-in δ) (not-both δ apart) c d (both-left _ _ e) holds too)) (λ f. f), others-false δ apart c holds bs (both-right _ _ e))
 
   pub none-chosen : (bs : Branches ℕ) (δ : Pair) (x : Result) → None-true t bs δ → Φ̂-case t bs δ x → ⊥
   none-chosen none δ x n h = h

@@ -8,6 +8,7 @@ pub mod LiteralLaws
 pub mod StateLaws
 pub mod WalkLaws
 pub mod RefusalLaws
+pub mod ApartLaws
 pub mod LineLaws
 pub mod DerivationLines
 pub mod SettledLaws

@@ -100,7 +100,7 @@ module _ (t : Table) where
 
   met : (e g : Effect) → e .action ≡ g .action → g .literal ≡ complement (e .literal) → (w : World) → Meet t e g w → contradictory t e g ≡ true
   unfolding may-be-run
-  met e g a l w m = meeting t (holds w) (holds-apart w) e g a l (m .runs) (m .one) (m .other)
+  met e g a l w m = meeting t (holds w) (holds w) (holds-apart w) (λ _ h. h) e g a l (m .runs) (m .one) (m .other)
 
 -- CONTRADICTORY EFFECTS ARE THOSE THAT MEET, in a request that was read.
 module _ (lim : Limits) (b : List ℕ) (r : Request) (end : ℕ) (reads : read-request lim b ≡ got r end) where

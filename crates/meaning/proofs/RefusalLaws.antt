@@ -12,7 +12,7 @@ use Rattle.meaning.specs.Literals.{complement, among, exclusive}
 use Rattle.meaning.specs.Requests.{Effect, Knowledge, Table, Sequence, done, item, Item, act, branching, Branches, none, branch, unplaced, unplaced-item, unplaced-branches}
 use Rattle.meaning.specs.Lines.{executability-of, allowed}
 use Rattle.meaning.specs.Refusals.{Found, nowhere, at, or-else, clashing, runs-with, contradictory, first-against, contradiction-in, mixed-in, conditions-of, overlap-in, overlap-at, overlap-below}
-use Rattle.meaning.proofs.TestLaws.{by-test, clash, same-test, both-left, both-right, both-true, fails-false, pick-cases, pick-map, some-has, has-some, each-has, some-mono}
+use Rattle.meaning.proofs.TestLaws.{by-test, clash, same-test, both-left, both-right, both-true, fails-false, pick-cases, pick-map, some-has, has-some, each-has, each-mono, some-mono}
 use Rattle.meaning.proofs.LiteralLaws.{complement-twice, complement-other}
 
 -- EXCLUSIVE and CONTRADICTORY go both ways.
@@ -27,10 +27,10 @@ exclusive-turns b c e =
 pub exclusive-sym : (b c : List ℕ) → exclusive b c ≡ exclusive c b
 exclusive-sym b c = same-test _ _ (exclusive-turns b c) (exclusive-turns c b)
 
--- Bodies that exclude each other don't both pass a test that no literal passes together with its complement.
-pub exclusive-clash : (p : ℕ → Bool) → ((l : ℕ) → p l ≡ true → p (complement l) ≡ true → ⊥) → (b c : List ℕ) → exclusive b c ≡ true → each-of p b ≡ true → each-of p c ≡ true → ⊥
+-- Bodies that exclude each other don't pass two tests of which no literal passes the one where its complement passes the other.
+pub exclusive-clash : (p q : ℕ → Bool) → ((l : ℕ) → p l ≡ true → q (complement l) ≡ true → ⊥) → (b c : List ℕ) → exclusive b c ≡ true → each-of p b ≡ true → each-of q c ≡ true → ⊥
 unfolding exclusive among
-exclusive-clash p apart b c e hb hc =
+exclusive-clash p q apart b c e hb hc =
     let t = some-has _ b e in
     let u = some-has _ c (t .2) in
     apart (t .0) (each-has _ b (t .0) hb (t .1)) (rw (eqb-true (complement (t .0)) (u .0) (u .2)) (each-has _ c (u .0) hc (u .1)))
@@ -69,18 +69,22 @@ module _ (t : Table) where
   unfolding contradictory both
   contradicts-itself e = rw (clashes-with-itself e)
 
-  -- Two effects meet where their bodies pass such a test and some executability line's body does too: they are contradictory.
-  pub meeting : (p : ℕ → Bool) → ((l : ℕ) → p l ≡ true → p (complement l) ≡ true → ⊥) → (e g : Effect) → e .action ≡ g .action → g .literal ≡ complement (e .literal)
-      → allowed p (executability-of t (e .action)) ≡ true → each-of p (e .body) ≡ true → each-of p (g .body) ≡ true → contradictory t e g ≡ true
+  -- Two effects meet where their bodies pass two such tests, the second of which takes what the first takes, and some executability line's body
+  -- passes the first: they are contradictory.
+  pub meeting : (p q : ℕ → Bool) → ((l : ℕ) → p l ≡ true → q (complement l) ≡ true → ⊥) → ((l : ℕ) → p l ≡ true → q l ≡ true)
+      → (e g : Effect) → e .action ≡ g .action → g .literal ≡ complement (e .literal)
+      → allowed p (executability-of t (e .action)) ≡ true → each-of p (e .body) ≡ true → each-of q (g .body) ≡ true → contradictory t e g ≡ true
   unfolding contradictory clashing runs-with allowed
-  meeting p apart e g a l runs he hg =
+  meeting p q apart takes e g a l runs he hg =
       let x = some-has _ (executability-of t (e .action)) runs in
+      let hx = each-mono p q takes (x .0 .body) (x .2) in
       both-true _ _
       (both-true _ _ (eq-eqb _ _ a) (both-true _ _ (eq-eqb _ _ l) (together (e .body) (g .body) he hg)))
-      (has-some _ (executability-of t (e .action)) (x .0) (x .1) (both-true _ _ (together (e .body) (x .0 .body) he (x .2)) (together (g .body) (x .0 .body) hg (x .2))))
+      (has-some _ (executability-of t (e .action)) (x .0) (x .1)
+      (both-true _ _ (together (e .body) (x .0 .body) he hx) (ap fails (exclusive-sym (g .body) (x .0 .body)) ∙ together (x .0 .body) (g .body) (x .2) hg)))
     where
-      together : (b c : List ℕ) → each-of p b ≡ true → each-of p c ≡ true → fails (exclusive b c) ≡ true
-      together b c hb hc = fails-false _ (by-test _ (λ o. absurd (exclusive-clash p apart b c o hb hc)) (λ no-o. no-o))
+      together : (b c : List ℕ) → each-of p b ≡ true → each-of q c ≡ true → fails (exclusive b c) ≡ true
+      together b c hb hc = fails-false _ (by-test _ (λ o. absurd (exclusive-clash p q apart b c o hb hc)) (λ no-o. no-o))
 
 -- 16.
 pub at-same : {p q : ℕ} → at p ≡ at q → p ≡ q

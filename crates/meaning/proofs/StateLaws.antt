@@ -4,18 +4,19 @@ use Prim.Native.Nat.{ℕ, zero, suc, _+_, _≤_, _<_}
 use native.Mathlib.Omega.{arith}
 use native.Mathlib.Decide.{decLt}
 use native.Mathlib.Nat.{not-suc-le-zero, le-of-suc-le-suc}
-use mathlib.Core.Path.{_≡_, refl, _∙_, ap}
-use mathlib.Core.Bool.{false}
+use mathlib.Core.Path.{_≡_, refl, sym, _∙_, ap}
+use mathlib.Core.Bool.{true, false}
 use mathlib.Core.List.{List, [], _∷_}
 use lib.ListN.{length, getD, replicate, getD-replicate, length-replicate, List·getD-eq-default}
 use lib.Dec.{eqb}
+use borrow.Author.Tests.{eqb-true, ne-eqb}
 use Rattle.meaning.specs.Limits
 use Rattle.meaning.specs.Literals.{says-true, says-false, complement}
 use Rattle.meaning.specs.Requests.{Effect, Table}
 use Rattle.meaning.specs.Lines.{effects-of}
-use Rattle.meaning.specs.States.{State, mark-of, known, mark-after, marks-after, state-after}
-use Rattle.meaning.proofs.TestLaws.{pick-true, pick-false}
-use Rattle.meaning.proofs.LiteralLaws.{positive-true, positive-false, fluent-true, fluent-false, complement-true, complement-false, by-literal}
+use Rattle.meaning.specs.States.{State, mark-of, known, possible, mark-after, marks-after, state-after}
+use Rattle.meaning.proofs.TestLaws.{fails-false, pick-true, pick-false}
+use Rattle.meaning.proofs.LiteralLaws.{positive-true, positive-false, fluent-true, fluent-false, fluent-complement, complement-true, complement-false, by-literal}
 
 pub mark-true : (f : ℕ) → mark-of (says-true f) ≡ Limits.true-mark
 unfolding mark-of
@@ -38,6 +39,15 @@ known-true s f = rw (fluent-true f, mark-true f)
 pub known-false : (s : State) (f : ℕ) → known s (says-false f) ≡ eqb (getD s f Limits.unknown-mark) Limits.false-mark
 unfolding known
 known-false s f = rw (fluent-false f, mark-false f)
+
+-- What is known is not known false, so it is possible: a fluent has one mark.
+pub known-one : (s : State) (l : ℕ) → known s l ≡ true → known s (complement l) ≡ false
+unfolding known
+known-one s l e = ne-eqb _ _ (λ q. mark-complement l (sym (eqb-true _ _ e) ∙ ap (λ (f : ℕ). getD s f Limits.unknown-mark) (sym (fluent-complement l)) ∙ q))
+
+pub known-possible : (s : State) (l : ℕ) → known s l ≡ true → possible s l ≡ true
+unfolding possible
+known-possible s l e = fails-false _ (known-one s l e)
 
 -- Nothing is known of a fluent past the state's end.
 pub unknown-far : (s : State) (f : ℕ) → length s ≤ f → (known s (says-true f) ≡ false) × (known s (says-false f) ≡ false)

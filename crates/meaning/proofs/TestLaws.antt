@@ -35,6 +35,16 @@ unfolding both
 both-true true b e f = f
 both-true false b e f = e
 
+pub both-none : (a : Bool) → both a false ≡ false
+unfolding both
+both-none true = refl
+both-none false = refl
+
+pub both-all : (a : Bool) → both a true ≡ a
+unfolding both
+both-all true = refl
+both-all false = refl
+
 pub either-left : (a b : Bool) → a ≡ true → either a b ≡ true
 unfolding either
 either-left true b e = refl

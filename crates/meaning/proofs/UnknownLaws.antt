@@ -8,21 +8,20 @@ use native.Mathlib.Nat.{not-suc-le-zero}
 use mathlib.Core.Path.{_≡_, refl, sym, _∙_, ap, subst}
 use mathlib.Core.Bool.{Bool, true, false}
 use mathlib.Core.Logic.{_⊎_, inl, inr, ⊎-elim}
-use lib.ListN.{length, getD}
+use lib.ListN.{length}
 use lib.Dec.{eqb}
-use borrow.Author.Tests.{eqb-true}
 use Rattle.meaning.specs.Tests.{either, pick, Has}
 use Rattle.meaning.specs.Limits
-use Rattle.meaning.specs.Literals.{says-true, says-false, fluent-of, complement}
+use Rattle.meaning.specs.Literals.{says-true, says-false, fluent-of}
 use Rattle.meaning.specs.Requests.{Effect, Table}
 use Rattle.meaning.specs.Refusals.{nowhere, contradiction-in}
 use Rattle.meaning.specs.Lines.{effects-of, given}
 use Rattle.meaning.specs.States.{State, known, possible, known-whether, told, can-be-run, known-after, mark-after, state-after}
 use Rattle.meaning.proofs.TestLaws.{by-test, clash, both-left, both-right, both-true, either-left, either-right, either-split, fails-true, fails-false, pick-true, pick-false, some-has, has-some, each-has, has-each, those-has}
 use Rattle.meaning.proofs.PickLaws.{pick-has}
-use Rattle.meaning.proofs.LiteralLaws.{by-literal, complement-true, complement-false, fluent-true, fluent-false, fluent-complement}
-use Rattle.meaning.proofs.RefusalLaws.{meeting, past-16}
-use Rattle.meaning.proofs.StateLaws.{mark-complement, known-true, known-false, unknown-far}
+use Rattle.meaning.proofs.LiteralLaws.{by-literal, complement-true, complement-false, fluent-true, fluent-false}
+use Rattle.meaning.proofs.ApartLaws.{given-apart}
+use Rattle.meaning.proofs.StateLaws.{known-true, known-false, unknown-far}
 use Rattle.meaning.proofs.PairLaws.{after-mark}
 use Rattle.meaning.proofs.ToldLaws.{told-here, told-elsewhere}
 
@@ -100,11 +99,6 @@ possible-known s =
     (λ f. rw (fluent-true f, complement-true f) (λ e p. ⊎-elim (λ k. k) (λ k. clash k (fails-true _ p)) (either-split _ _ e)))
     (λ f. rw (fluent-false f, complement-false f) (λ e p. ⊎-elim (λ k. clash k (fails-true _ p)) (λ k. k) (either-split _ _ e)))
 
-known-apart : (s : State) (l : ℕ) → known s l ≡ true → known s (complement l) ≡ true → ⊥
-unfolding known
-known-apart s l p q =
-    mark-complement l (sym (eqb-true _ _ p) ∙ ap (λ (f : ℕ). getD s f Limits.unknown-mark) (sym (fluent-complement l)) ∙ eqb-true _ _ q)
-
 marked : (x y : Bool) (m : ℕ) → m ≡ pick x (λ _. Limits.true-mark) (λ _. pick y (λ _. Limits.false-mark) (λ _. Limits.unknown-mark))
     → (x ≡ true) ⊎ (y ≡ true) → either (eqb m Limits.true-mark) (eqb m Limits.false-mark) ≡ true
 unfolding pick either
@@ -114,23 +108,6 @@ marked false false m e h = ⊎-elim (λ q. clash q refl) (λ q. clash q refl) h
 
 module _ (t : Table) (n : ℕ) (bodies : (e : Effect) → Has (t .effects) e → (l : ℕ) → Has (e .body) l → l < 2 * n)
     (passed : contradiction-in t ≡ nowhere) (a : ℕ) (s : State) (runs : can-be-run t a s ≡ true) where
-  -- Not both literals of a fluent are given by bodies known true, where the action can be run.
-  given-once : (f : ℕ) → given (known s) (effects-of t a) (says-true f) ≡ true → given (known s) (effects-of t a) (says-false f) ≡ true → ⊥
-  unfolding given effects-of can-be-run
-  given-once f yes-true yes-false =
-      let e = some-has _ (effects-of t a) yes-true in
-      let g = some-has _ (effects-of t a) yes-false in
-      let he = those-has _ (t .effects) (e .0) (e .1) in
-      let hg = those-has _ (t .effects) (g .0) (g .1) in
-      let le : e .0 .literal ≡ says-true f = eqb-true _ _ (both-left _ _ (e .2)) in
-      let lg : g .0 .literal ≡ says-false f = eqb-true _ _ (both-left _ _ (g .2)) in
-      let ae : e .0 .action ≡ a = eqb-true _ _ (he .1) in
-      let ag : g .0 .action ≡ a = eqb-true _ _ (hg .1) in
-      clash
-      (meeting t (known s) (known-apart s) (e .0) (g .0) (ae ∙ sym ag) (lg ∙ sym (complement-true f) ∙ ap complement (sym le))
-      (rw ae runs) (both-right _ _ (e .2)) (both-right _ _ (g .2)))
-      (past-16 t passed (e .0) (g .0) (he .0) (hg .0))
-
   module _ (all : (f : ℕ) → f < n → known-whether s f ≡ true) where
     given-known : (l : ℕ) → given (possible s) (effects-of t a) l ≡ true → given (known s) (effects-of t a) l ≡ true
     unfolding given effects-of fluent-of
@@ -147,7 +124,7 @@ module _ (t : Table) (n : ℕ) (bodies : (e : Effect) → Has (t .effects) e →
     one-after f near =
         rw (complement-true f, complement-false f)
         (by-test (given (possible s) (effects-of t a) (says-false f))
-        (λ gf. inr (both-true _ _ (either-right _ _ (given-known _ gf)) (fails-false _ (by-test _ (λ gt. absurd (given-once f (given-known _ gt) (given-known _ gf))) (λ x. x)))))
+        (λ gf. inr (both-true _ _ (either-right _ _ (given-known _ gf)) (fails-false _ (by-test _ (λ gt. absurd (given-apart t passed a s runs (says-true f) (given-known _ gt) (rw (complement-true f) gf))) (λ x. x)))))
         (λ nf. by-test (given (possible s) (effects-of t a) (says-true f))
         (λ gt. inl (both-true _ _ (either-right _ _ (given-known _ gt)) (fails-false _ nf)))
         (λ nt. ⊎-elim (λ k. inl (both-true _ _ (either-left _ _ k) (fails-false _ nf))) (λ k. inr (both-true _ _ (either-left _ _ k) (fails-false _ nt))) (either-split _ _ (all f near)))))

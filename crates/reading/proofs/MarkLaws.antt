@@ -9,17 +9,19 @@ use lib.Dec.{eqb}
 use mir.Syntax.{w64}
 use mir.Val.{Fits}
 use borrow.Author.Tests.{eq-eqb, ne-eqb}
-use Rattle.meaning.specs.Tests.{both, fails, each-of}
+use Rattle.meaning.specs.Tests.{both, fails, pick, each-of}
 use Rattle.meaning.specs.Limits.{format, all-literals}
 use Rattle.meaning.specs.Literals.{positive, complement, fluent-of}
 use Rattle.meaning.specs.States.{State, mark-of, known, possible, told, told-all, state-of}
 use Rattle.meaning.specs.Asking.{short-by}
-use Rattle.meaning.proofs.TestLaws.{pick-true, pick-false}
+use Rattle.meaning.proofs.TestLaws.{both-none, pick-true, pick-false}
 use Rattle.meaning.proofs.LiteralLaws.{by-literal, complement-true, complement-false, fluent-complement}
-use Rattle.meaning.proofs.StateLaws.{mark-true, mark-false}
+use Rattle.meaning.proofs.StateLaws.{mark-true, mark-false, known-possible}
 use Rattle.reading.specs.declared.marks.Test.{Test}
 use Rattle.reading.specs.declared.marks.Test.the-variants.{Known, Possible}
-use Rattle.reading.specs.Listed.{bytes-from, listed, List-here, holds-as}
+use Rattle.reading.specs.declared.marks.Look.{Look}
+use Rattle.reading.specs.declared.marks.Look.the-variants as look
+use Rattle.reading.specs.Listed.{bytes-from, listed, List-here, holds-as, look-at}
 
 pub mark-even : (l : ℕ) → l % 2 ≡ 0 → 1 ≡ mark-of l
 unfolding mark-of positive
@@ -38,25 +40,38 @@ mark-other =
 pub mark-most : (l : ℕ) → mark-of l ≤ 2
 mark-most = by-literal (λ (l : ℕ). mark-of l ≤ 2) (λ f. rw (mark-true f) (omega arith)) (λ f. rw (mark-false f) (omega arith))
 
-module _ (test : Test) (marks : State) (l mark : ℕ) (is : mark ≡ mark-of l) where
+module _ (l mark : ℕ) (is : mark ≡ mark-of l) where
   pub mark-within : mark ≤ 3
   mark-within = let most = mark-most l in omega arith
 
-  pub holds-known : test ≡ Known → eqb (getD marks (l / 2) 0) mark ≡ holds-as test marks l
-  unfolding holds-as known fluent-of
-  holds-known e = rw (e, is)
+  module _ (marks : State) where
+    mark-known : known marks l ≡ eqb (getD marks (l / 2) 0) mark
+    unfolding known fluent-of
+    mark-known = rw is
 
-  possible-is : possible marks l ≡ fails (eqb (getD marks (l / 2) 0) (3 - mark))
-  unfolding possible known fluent-of
-  possible-is = ap fails (rw (fluent-complement l, mark-other l, is))
+    mark-possible : possible marks l ≡ fails (eqb (getD marks (l / 2) 0) (3 - mark))
+    unfolding possible known fluent-of
+    mark-possible = ap fails (rw (fluent-complement l, mark-other l, is))
 
-  pub holds-not : test ≡ Possible → getD marks (l / 2) 0 ≡ 3 - mark → false ≡ holds-as test marks l
-  unfolding holds-as fails
-  holds-not e same = rw e (sym (possible-is ∙ ap fails (eq-eqb _ _ same)))
+    module _ (test : Test) where
+      pub holds-known : test ≡ Known → eqb (getD marks (l / 2) 0) mark ≡ holds-as test marks l
+      unfolding holds-as
+      holds-known e = rw e (sym mark-known)
 
-  pub holds-possible : test ≡ Possible → (getD marks (l / 2) 0 ≡ 3 - mark → ⊥) → true ≡ holds-as test marks l
-  unfolding holds-as fails
-  holds-possible e other = rw e (sym (possible-is ∙ ap fails (ne-eqb _ _ other)))
+      pub holds-not : test ≡ Possible → getD marks (l / 2) 0 ≡ 3 - mark → false ≡ holds-as test marks l
+      unfolding holds-as fails
+      holds-not e same = rw e (sym (mark-possible ∙ ap fails (eq-eqb _ _ same)))
+
+      pub holds-possible : test ≡ Possible → (getD marks (l / 2) 0 ≡ 3 - mark → ⊥) → true ≡ holds-as test marks l
+      unfolding holds-as fails
+      holds-possible e other = rw e (sym (mark-possible ∙ ap fails (ne-eqb _ _ other)))
+
+-- What the entries that are left tell in one look, where those before were all known or some was not.
+unfoldable pub look-on : (sure : Bool) (marks : State) → List ℕ → Look
+look-on sure marks ls =
+    pick (both sure (each-of (known marks) ls)) (λ _. look.Known) λ _.
+    pick (each-of (possible marks) ls) (λ _. look.Possible) λ _.
+    look.Never
 
 -- A LIST at p, read to its end.
 module _ (s : List ℕ) (p : ℕ) (here : List-here all-literals s p) where
@@ -82,6 +97,10 @@ module _ (s : List ℕ) (p : ℕ) (here : List-here all-literals s p) where
 
     pub each-starts : (test : ℕ → Bool) → each-of test (listed s p) ≡ each-of test (bytes-from s (p + 1) (end - (p + 1)))
     each-starts test = ap (each-of test) (sym list-starts)
+
+    pub look-starts : (marks : State) → look-at marks (listed s p) ≡ look-on true marks (bytes-from s (p + 1) (end - (p + 1)))
+    unfolding look-at look-on both
+    look-starts marks = ap (look-on true marks) (sym list-starts)
 
     pub short-starts : (marks : State) → short-by (known marks) (listed s p) ≡ 0 + short-by (known marks) (bytes-from s (p + 1) (end - (p + 1)))
     short-starts marks = let same = ap (short-by (known marks)) (sym list-starts) in omega (arith, same)
@@ -145,6 +164,37 @@ module _ (whole : Bool) (k : Test) (marks : State) (s : List ℕ) (end i : ℕ) 
   pub each-done : end ≤ i → true ≡ whole
   unfolding each-of
   each-done h = sym (so-far ∙ rw (entry-last s end i h))
+
+module _ (whole : Look) (sure : Bool) (marks : State) (s : List ℕ) (end i : ℕ) (so-far : whole ≡ look-on sure marks (bytes-from s i (end - i))) where
+  module _ (l mark : ℕ) (more : i < end) (entry : l ≡ getD s i 0) (is : mark ≡ mark-of l) where
+    abbrev others : List ℕ
+    others = bytes-from s (i + 1) (end - (i + 1))
+
+    look-first : (b c : Bool) → known marks l ≡ b → possible marks l ≡ c
+        → whole ≡ pick (both sure (both b (each-of (known marks) others))) (λ _. look.Known) (λ _. pick (both c (each-of (possible marks) others)) (λ _. look.Possible) (λ _. look.Never))
+    unfolding look-on each-of
+    look-first b c k m = so-far ∙ rw (entry-next s end i more, sym entry, k, m)
+
+    pub look-known : getD marks (l / 2) 0 ≡ mark → whole ≡ look-on sure marks others
+    unfolding look-on both
+    look-known e = let k = mark-known l mark is marks ∙ eq-eqb _ _ e in look-first true true k (known-possible marks l k)
+
+    module _ (not : getD marks (l / 2) 0 ≡ mark → ⊥) where
+      pub look-never : getD marks (l / 2) 0 ≡ 3 - mark → look.Never ≡ whole
+      unfolding both fails pick
+      look-never e = sym (look-first false false (mark-known l mark is marks ∙ ne-eqb _ _ not) (mark-possible l mark is marks ∙ ap fails (eq-eqb _ _ e)) ∙ pick-false _ _ _ (both-none sure))
+
+      pub look-unsure : (getD marks (l / 2) 0 ≡ 3 - mark → ⊥) → whole ≡ look-on false marks others
+      unfolding look-on both fails pick
+      look-unsure e = look-first false true (mark-known l mark is marks ∙ ne-eqb _ _ not) (mark-possible l mark is marks ∙ ap fails (ne-eqb _ _ e)) ∙ pick-false _ _ _ (both-none sure)
+
+  pub look-sure-done : end ≤ i → sure ≡ true → look.Known ≡ whole
+  unfolding look-on each-of both pick
+  look-sure-done h e = sym (so-far ∙ rw (entry-last s end i h, e))
+
+  pub look-unsure-done : end ≤ i → sure ≡ false → look.Possible ≡ whole
+  unfolding look-on each-of both pick
+  look-unsure-done h e = sym (so-far ∙ rw (entry-last s end i h, e))
 
 module _ (whole : State) (s : List ℕ) (end i : ℕ) (marks : State) (so-far : whole ≡ told-all (bytes-from s i (end - i)) marks) where
   pub state-next : (l mark : ℕ) → i < end → l ≡ getD s i 0 → mark ≡ mark-of l → whole ≡ told-all (bytes-from s (i + 1) (end - (i + 1))) (set marks (l / 2) mark)

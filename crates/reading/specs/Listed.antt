@@ -3,7 +3,10 @@ use Prim.Native.Nat.{ℕ, zero, suc, _+_, _<_}
 use mathlib.Core.Bool.{Bool}
 use mathlib.Core.List.{List, [], _∷_}
 use lib.ListN.{length, getD}
+use Rattle.meaning.specs.Tests.{pick, each-of}
 use Rattle.meaning.specs.States.{State, known, possible}
+use Rattle.reading.specs.declared.marks.Look.{Look}
+use Rattle.reading.specs.declared.marks.Look.the-variants as look
 use Rattle.reading.specs.declared.marks.Test.{Test}
 use Rattle.reading.specs.declared.marks.Test.the-variants.{Known, Possible}
 
@@ -24,3 +27,10 @@ pub record List-here (bound : ℕ) (s : List ℕ) (p : ℕ) : Type 0 where
 -- A literal is known true, or is possible.
 unfoldable pub holds-as : Test → State → ℕ → Bool
 holds-as k = elim k [ Known ↦ known | Possible ↦ possible ]
+
+-- What one look at a list tells: each literal is known true, or each is possible, or neither.
+unfoldable pub look-at : State → List ℕ → Look
+look-at marks ls =
+    pick (each-of (known marks) ls) (λ _. look.Known) λ _.
+    pick (each-of (possible marks) ls) (λ _. look.Possible) λ _.
+    look.Never

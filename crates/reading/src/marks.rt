@@ -4,7 +4,7 @@ ghost use Rattle.meaning.specs.Tests.{each-of};
 ghost use Rattle.meaning.specs.Limits.{format, all-literals};
 ghost use Rattle.meaning.specs.States.{mark-of, known, state-of};
 ghost use Rattle.meaning.specs.Asking.{short-by};
-ghost use Rattle.reading.specs.Listed.{listed, List-here, holds-as};
+ghost use Rattle.reading.specs.Listed.{listed, List-here, holds-as, look-at};
 use bytes::bytes::wide;
 use bytes::limits;
 
@@ -15,6 +15,13 @@ pub type Marks = [u8; limits::FLUENTS];
 pub enum Test {
     Known,
     Possible,
+}
+
+// What one look at a list of literals tells.
+pub enum Look {
+    Known,
+    Possible,
+    Never,
 }
 
 pub fn mark_of(l: usize) -> u8
@@ -63,6 +70,35 @@ pub fn each_holds(test: Test, marks: &Marks, s: &[u8], p: usize) -> bool
         return false;
     }
     true
+}
+
+// What a look at the list at p tells: each literal is known true, or each is possible and some is not known, or some is known false.
+pub fn look_at(marks: &Marks, s: &[u8], p: usize) -> Look
+    requires { ⌜ List-here all-literals (now s) p ⌝ }
+    ensures { λ r. ⌜ r ≡ look-at (now (marks .entry)) (listed (now (s .entry)) p) ⌝ }
+{
+    let first = p + 1;
+    let end = first + wide(s[p]);
+    let mut sure = true;
+    let mut at = first;
+    while at < end {
+        let l = wide(s[at]);
+        at += 1;
+        let f = l / 2;
+        let mark = mark_of(l);
+        if marks[f] == mark {
+            continue;
+        }
+        let other = 3 - mark;
+        if marks[f] == other {
+            return Look::Never;
+        }
+        sure = false;
+    }
+    if sure {
+        return Look::Known;
+    }
+    Look::Possible
 }
 
 // How many literals of the list at p are not known true.

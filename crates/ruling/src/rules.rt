@@ -68,7 +68,7 @@ pub fn rule_2(s: &[u8], t: &Notes, d: &[u8], l: Spot) -> bool
     let marks = state_of(d, p);
     let runs = can_be_run(s, t, a, &marks);
     if runs {
-        let after = state_after(s, t, a, marks);
+        let after = state_after(s, t, a, &marks);
         return lists_known(&after, d, y);
     }
     false

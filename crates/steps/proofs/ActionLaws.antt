@@ -3,7 +3,7 @@ use Prim.Native.Nat.{ℕ, _+_, _-_, _/_, _≤_, _<_}
 use native.Mathlib.Omega.{arith}
 use mathlib.Core.Path.{_≡_, refl, sym, _∙_, ap}
 use mathlib.Core.Bool.{Bool, true, false}
-use mathlib.Core.List.{List, []}
+use mathlib.Core.List.{List}
 use lib.ListN.{length, getD, set}
 use lib.Dec.{ltb, eqb}
 use mir.Syntax.{w64}
@@ -11,29 +11,29 @@ use mir.Val.{Fits}
 use borrow.Author.Tests.{eqb-true, eqb-false, eq-eqb, ne-eqb, lt-ltb, le-ltb}
 use Rattle.meaning.specs.declared.Runs.{Runs}
 use Rattle.meaning.specs.declared.Runs.the-variants.{By, Short, Never}
-use Rattle.meaning.specs.Tests.{both, either, fails, pick, each-of}
+use Rattle.meaning.specs.Tests.{pick, each-of}
 use Rattle.meaning.specs.Limits.{format, all-literals}
 use Rattle.meaning.specs.Literals.{fluent-of, complement}
 use Rattle.meaning.specs.Lines.{executability-of}
-use Rattle.meaning.specs.States.{State, mark-of, known, possible, told, can-be-run}
+use Rattle.meaning.specs.States.{State, mark-of, known, told, can-be-run}
 use Rattle.meaning.specs.Asking.{short-by, nearest, asked, allows}
 use Rattle.meaning.proofs.AskingLaws.{can-be-run-asked}
-use Rattle.meaning.proofs.TestLaws.{by-test, clash, either-right, each-mono, pick-true, pick-false}
+use Rattle.meaning.proofs.TestLaws.{by-test, pick-true, pick-false}
 use Rattle.meaning.proofs.PickLaws.{pick-has}
 use Rattle.meaning.proofs.LiteralLaws.{fluent-complement}
-use Rattle.meaning.proofs.ToldLaws.{either-none, either-assoc}
 use Rattle.reading.specs.Noted.{effect-lines, run-lines, line-place, next-line, first-line, line-numbers}
-use Rattle.reading.specs.Listed.{listed, List-here, holds-as}
+use Rattle.reading.specs.Listed.{listed, List-here, holds-as, look-at}
 use Rattle.finding.specs.LinesHere.{Effect-here}
 use Rattle.finding.proofs.AheadLaws.{Ahead, Runs-ahead, ahead-starts, ahead-none, ahead-first, line-few, line-others, line-rest, line-fit}
-use Rattle.reading.specs.declared.marks.Test.the-variants.{Known, Possible}
+use Rattle.reading.specs.declared.marks.Test.the-variants.{Known}
+use Rattle.reading.specs.declared.marks.Look.{Look}
+use Rattle.reading.specs.declared.marks.Look.the-variants as look
 use Rattle.reading.proofs.MarkLaws.{mark-other, mark-most}
 use Rattle.steps.specs.Held.{table-in}
 use Rattle.steps.specs.AtHand.{At-hand, Marked}
 use Rattle.steps.specs.LinesFound.{run-places, effect-places, short-at, fewest-at, nearest-at, first-allowing-at}
-use Rattle.steps.specs.After.{undone, left-at}
 use Rattle.steps.proofs.Served.{runs-at-hand, effects-at-hand}
-use Rattle.steps.proofs.Sweeps.{known-possible, mark-some, swept-one, tells-one, swept-at, tells-at}
+use Rattle.steps.proofs.Sweeps.{mark-some, undone, turned, turn-is, swept-one, swept-at}
 use Rattle.steps.proofs.LookLaws.{marked-set}
 
 -- EXECUTABILITY LINES.
@@ -196,69 +196,40 @@ module _ (s t : List ℕ) (k : ℕ) (ahead : Effects-ahead s t k) (more : 0 < k)
   pub effect-fluent : (l : ℕ) → l ≡ getD s (p + 1) 0 → l / 2 < format .fluents
   effect-fluent l e = let below = effect-line .literal in omega arith
 
-pub mark-within : (l mark : ℕ) → mark ≡ mark-of l → mark ≤ 3
-mark-within l mark is = let most = mark-most l in omega arith
-
-either-true : (b : Bool) → either b true ≡ true
-either-true b = either-right b true refl
-
 -- Of three marks one is neither of the other two.
 third : (m mark : ℕ) → 0 < mark → mark ≤ 2 → m ≤ 2 → (m ≡ mark → ⊥) → (m ≡ 0 → ⊥) → m ≡ 3 - mark
 third m mark least most small not some = omega (arith, not, some)
 
--- What was told and undone so far, and whether anything was told; and what the second pass has undone so far.
-pub record Sweeping (s t : List ℕ) (a : ℕ) (marks next : State) (b : Bool) (k : ℕ) : Type 0 where
+-- What was told and undone so far.
+pub record Sweeping (s t : List ℕ) (a : ℕ) (marks next : State) (k : ℕ) : Type 0 where
   pub ahead : Effects-ahead s t k
   pub marked : Marked next
   pub same : swept-at s marks (effect-places s a) marks ≡ swept-at s marks (ahead .rest) next
-  pub tells : tells-at s marks (effect-places s a) marks ≡ either b (tells-at s marks (ahead .rest) next)
 
-pub record Leaving (s t : List ℕ) (a : ℕ) (marks start next : State) (k : ℕ) : Type 0 where
-  pub ahead : Effects-ahead s t k
-  pub same : left-at s marks (effect-places s a) start ≡ left-at s marks (ahead .rest) next
+pub sweeping-starts : (s t : List ℕ) (a k : ℕ) (marks : State) → At-hand s t → a < format .actions → Marked marks → k ≡ first-line t effect-lines a → Sweeping s t a marks marks k
+unfolding ahead-starts
+sweeping-starts s t a k marks here small fine at = record {
+  ahead = ahead-starts (Effect-here s) t effect-lines a (effect-places s a) (here .effects a small) (effects-at-hand s t here a .lines) k at;
+  marked = fine;
+  same = refl;
+}
 
-module _ (s t : List ℕ) (a k : ℕ) (here : At-hand s t) (small : a < format .actions) (at : k ≡ first-line t effect-lines a) where
-  abbrev all-ahead : Effects-ahead s t k
-  all-ahead = ahead-starts (Effect-here s) t effect-lines a (effect-places s a) (here .effects a small) (effects-at-hand s t here a .lines) k at
-
-  pub sweeping-starts : (marks : State) → Marked marks → Sweeping s t a marks marks false k
-  unfolding either ahead-starts
-  sweeping-starts marks fine = record { ahead = all-ahead; marked = fine; same = refl; tells = refl }
-
-  pub leaving-starts : (marks start : State) → Leaving s t a marks start start k
-  unfolding ahead-starts
-  leaving-starts marks start = record { ahead = all-ahead; same = refl }
-
-module _ (s t : List ℕ) (a : ℕ) (marks next : State) (b : Bool) (k : ℕ) (sweeps : Sweeping s t a marks next b k) where
-  module _ (h : k ≤ 0) where
-    sweep-none : sweeps .ahead .rest ≡ []
-    sweep-none = ahead-none (Effect-here s) t effect-lines k (sweeps .ahead) h
-
-    pub sweep-done : swept-at s marks (effect-places s a) marks ≡ next
-    unfolding swept-at
-    sweep-done = sweeps .same ∙ ap (λ (qs : List ℕ). swept-at s marks qs next) sweep-none
-
-    pub sweep-tells : tells-at s marks (effect-places s a) marks ≡ b
-    unfolding tells-at
-    sweep-tells = sweeps .tells ∙ ap (λ (qs : List ℕ). either b (tells-at s marks qs next)) sweep-none ∙ either-none b
+module _ (s t : List ℕ) (a : ℕ) (marks next : State) (k : ℕ) (sweeps : Sweeping s t a marks next k) where
+  pub sweep-done : k ≤ 0 → swept-at s marks (effect-places s a) marks ≡ next
+  unfolding swept-at
+  sweep-done h = sweeps .same ∙ ap (λ (qs : List ℕ). swept-at s marks qs next) (ahead-none (Effect-here s) t effect-lines k (sweeps .ahead) h)
 
   module _ (more : 0 < k) (p j : ℕ) (at : p ≡ line-place t effect-lines k) (onward : j ≡ next-line t effect-lines k) where
-    sweep-on : (after : State) (c : Bool) → Marked after → swept-one s marks p next ≡ after → either b (tells-one s marks p next) ≡ c → Sweeping s t a marks after c j
-    unfolding swept-at tells-at line-others
-    sweep-on after c fine e g =
-        let others = ahead-first (Effect-here s) t effect-lines k (sweeps .ahead) more .others in
-        let rest = line-rest (Effect-here s) t effect-lines k (sweeps .ahead) more p at in
-        record {
-          ahead = line-others (Effect-here s) t effect-lines k (sweeps .ahead) more j onward;
-          marked = fine;
-          same = sweeps .same ∙ ap (λ (qs : List ℕ). swept-at s marks qs next) rest ∙ ap (swept-at s marks others) e;
-          tells =
-              sweeps .tells
-              ∙ ap (λ (qs : List ℕ). either b (tells-at s marks qs next)) rest
-              ∙ sym (either-assoc b (tells-one s marks p next) (tells-at s marks others (swept-one s marks p next)))
-              ∙ ap (λ (x : Bool). either x (tells-at s marks others (swept-one s marks p next))) g
-              ∙ ap (λ (n : State). either c (tells-at s marks others n)) e;
-        }
+    sweep-on : (after : State) → Marked after → swept-one s marks p next ≡ after → Sweeping s t a marks after j
+    unfolding swept-at line-others
+    sweep-on after fine e = record {
+      ahead = line-others (Effect-here s) t effect-lines k (sweeps .ahead) more j onward;
+      marked = fine;
+      same =
+          sweeps .same
+          ∙ ap (λ (qs : List ℕ). swept-at s marks qs next) (line-rest (Effect-here s) t effect-lines k (sweeps .ahead) more p at)
+          ∙ ap (swept-at s marks (ahead-first (Effect-here s) t effect-lines k (sweeps .ahead) more .others)) e;
+    }
 
     module _ (l mark : ℕ) (is : l ≡ getD s (p + 1) 0) (marked : mark ≡ mark-of l) where
       says-this : known next (getD s (p + 1) 0) ≡ eqb (getD next (l / 2) 0) mark
@@ -282,100 +253,50 @@ module _ (s t : List ℕ) (a : ℕ) (marks next : State) (b : Bool) (k : ℕ) (s
       nothing-against z q = let most = mark-small in omega arith
 
       -- What the effect gives is known already.
-      pub sweep-known : getD next (l / 2) 0 ≡ mark → Sweeping s t a marks next b j
-      unfolding swept-one tells-one both fails
-      sweep-known e =
-          let this = says-this ∙ eq-eqb _ _ e in
-          sweep-on next b (sweeps .marked) (pick-true _ _ _ this) (rw this (either-none b))
+      pub sweep-known : getD next (l / 2) 0 ≡ mark → Sweeping s t a marks next j
+      unfolding swept-one
+      sweep-known e = sweep-on next (sweeps .marked) (pick-true _ _ _ (says-this ∙ eq-eqb _ _ e))
+
+      tells : Marked (set next (l / 2) mark)
+      tells = marked-set next (l / 2) mark (sweeps .marked) fluent-there mark-small
 
       module _ (not : getD next (l / 2) 0 ≡ mark → ⊥) where
         says-not : known next (getD s (p + 1) 0) ≡ false
         says-not = says-this ∙ ne-eqb _ _ not
 
+        -- Nothing is known of the fluent: only a body known true does something.
         module _ (sure : Bool) (tested : sure ≡ each-of (holds-as Known marks) (listed s (p + 2))) where
-          -- It is given.
-          pub sweep-told : sure ≡ true → Sweeping s t a marks (set next (l / 2) mark) true j
-          unfolding swept-one tells-one holds-as told fluent-of both fails
-          sweep-told e =
-              let given = sym tested ∙ e in
-              sweep-on (set next (l / 2) mark) true
-              (marked-set next (l / 2) mark (sweeps .marked) fluent-there mark-small)
-              (pick-false _ _ _ says-not ∙ pick-true _ _ _ given ∙ rw (marked, is))
-              (rw (says-not, given) (either-true b))
+          pub sweep-told : sure ≡ true → Sweeping s t a marks (set next (l / 2) mark) j
+          unfolding swept-one holds-as told fluent-of
+          sweep-told e = sweep-on (set next (l / 2) mark) tells (pick-false _ _ _ says-not ∙ pick-true _ _ _ (sym tested ∙ e) ∙ rw (marked, is))
 
-          module _ (unsure : sure ≡ false) where
-            quiet : either b (tells-one s marks p next) ≡ b
-            unfolding tells-one holds-as both fails
-            quiet = rw (says-not, sym tested, unsure) (either-none b)
+          pub sweep-unknown : sure ≡ false → getD next (l / 2) 0 ≡ 0 → Sweeping s t a marks next j
+          unfolding swept-one holds-as undone
+          sweep-unknown e z =
+              sweep-on next (sweeps .marked)
+              (pick-false _ _ _ says-not
+              ∙ pick-false _ _ _ (sym tested ∙ e)
+              ∙ pick-has (λ (u : State). u ≡ next) _ _ _ (λ _. pick-false _ _ _ (says-against ∙ ne-eqb _ _ (nothing-against z))) (λ _. refl))
 
-            -- It is not, and nothing is known of the fluent that could be undone.
-            pub sweep-unknown : getD next (l / 2) 0 ≡ 0 → Sweeping s t a marks next b j
-            unfolding swept-one holds-as undone
-            sweep-unknown z =
-                sweep-on next b (sweeps .marked)
-                (pick-false _ _ _ says-not
-                ∙ pick-false _ _ _ (sym tested ∙ unsure)
-                ∙ pick-has (λ (u : State). u ≡ next) _ _ _
-                (λ _. pick-false _ _ _ (says-against ∙ ne-eqb _ _ (nothing-against z)))
-                (λ _. refl))
-                quiet
+        -- Its complement is known: a look at the body tells what becomes of it.
+        module _ (o : Look) (looked : o ≡ look-at marks (listed s (p + 2))) where
+          turn : (result : Look) → o ≡ result → swept-one s marks p next ≡ turned result (getD s (p + 1) 0) next
+          unfolding swept-one
+          turn result e =
+              pick-false _ _ _ says-not
+              ∙ turn-is marks (listed s (p + 2)) (getD s (p + 1) 0) next
+              ∙ ap (λ (x : Look). turned x (getD s (p + 1) 0) next) (sym looked ∙ e)
 
-            -- Its complement is known and may be undone.
-            pub sweep-undone : (may : Bool) → may ≡ each-of (holds-as Possible marks) (listed s (p + 2)) → may ≡ true → (getD next (l / 2) 0 ≡ 0 → ⊥) → Sweeping s t a marks (set next (l / 2) 0) b j
-            unfolding swept-one holds-as undone fluent-of
-            sweep-undone may asked e some =
-                let least = mark-there in
-                let most = mark-small in
-                let small = sweeps .marked .small (l / 2) in
-                let against : getD next (l / 2) 0 ≡ 3 - mark = third _ _ least most small not some in
-                sweep-on (set next (l / 2) 0) b
-                (marked-set next (l / 2) 0 (sweeps .marked) fluent-there (omega arith))
-                (pick-false _ _ _ says-not
-                ∙ pick-false _ _ _ (sym tested ∙ unsure)
-                ∙ pick-true _ _ _ (sym asked ∙ e)
-                ∙ pick-true _ _ _ (says-against ∙ eq-eqb _ _ against)
-                ∙ rw is)
-                quiet
+          pub look-told : o ≡ look.Known → Sweeping s t a marks (set next (l / 2) mark) j
+          unfolding turned told fluent-of
+          look-told e = sweep-on (set next (l / 2) mark) tells (turn look.Known e ∙ rw (marked, is))
 
-        -- Its body is not even possible.
-        pub sweep-kept : (may : Bool) → may ≡ each-of (holds-as Possible marks) (listed s (p + 2)) → may ≡ false → Sweeping s t a marks next b j
-        unfolding swept-one tells-one holds-as both fails
-        sweep-kept may asked e =
-            let never = sym asked ∙ e in
-            let unsure : each-of (known marks) (listed s (p + 2)) ≡ false =
-            by-test _ (λ y. clash (each-mono (known marks) (possible marks) (known-possible marks) (listed s (p + 2)) y) never) (λ n. n) in
-            sweep-on next b (sweeps .marked) (pick-false _ _ _ says-not ∙ pick-false _ _ _ unsure ∙ pick-false _ _ _ never) (rw (says-not, unsure) (either-none b))
+          pub look-undone : o ≡ look.Possible → (getD next (l / 2) 0 ≡ 0 → ⊥) → Sweeping s t a marks (set next (l / 2) 0) j
+          unfolding turned undone fluent-of
+          look-undone e some =
+              sweep-on (set next (l / 2) 0) (marked-set next (l / 2) 0 (sweeps .marked) fluent-there (omega arith))
+              (turn look.Possible e ∙ pick-true _ _ _ (says-against ∙ eq-eqb _ _ (third _ _ mark-there mark-small (sweeps .marked .small (l / 2)) not some)) ∙ rw is)
 
-module _ (s t : List ℕ) (a : ℕ) (marks start next : State) (k : ℕ) (leaves : Leaving s t a marks start next k) where
-  pub leave-done : k ≤ 0 → next ≡ left-at s marks (effect-places s a) start
-  unfolding left-at
-  leave-done h = sym (leaves .same ∙ ap (λ (qs : List ℕ). left-at s marks qs next) (ahead-none (Effect-here s) t effect-lines k (leaves .ahead) h))
-
-  module _ (more : 0 < k) (p j : ℕ) (at : p ≡ line-place t effect-lines k) (onward : j ≡ next-line t effect-lines k) where
-    leave-on : (after : State) → pick (each-of (possible marks) (listed s (p + 2))) (λ _. undone (getD s (p + 1) 0) next) (λ _. next) ≡ after → Leaving s t a marks start after j
-    unfolding left-at line-others
-    leave-on after e = record {
-      ahead = line-others (Effect-here s) t effect-lines k (leaves .ahead) more j onward;
-      same =
-          leaves .same
-          ∙ ap (λ (qs : List ℕ). left-at s marks qs next) (line-rest (Effect-here s) t effect-lines k (leaves .ahead) more p at)
-          ∙ ap (left-at s marks (ahead-first (Effect-here s) t effect-lines k (leaves .ahead) more .others)) e;
-    }
-
-    module _ (l mark : ℕ) (is : l ≡ getD s (p + 1) 0) (marked : mark ≡ mark-of l) where
-      says-other : known next (complement l) ≡ eqb (getD next (l / 2) 0) (3 - mark)
-      unfolding known fluent-of
-      says-other = rw (fluent-complement l, mark-other l, marked)
-
-      pub leave-other : (getD next (l / 2) 0 ≡ 3 - mark → ⊥) → Leaving s t a marks start next j
-      unfolding undone
-      leave-other e = leave-on next (pick-has (λ (u : State). u ≡ next) _ _ _ (λ _. rw (sym is) (pick-false _ _ _ (says-other ∙ ne-eqb _ _ e))) (λ _. refl))
-
-      module _ (b : Bool) (tested : b ≡ each-of (holds-as Possible marks) (listed s (p + 2))) where
-        pub leave-kept : b ≡ false → Leaving s t a marks start next j
-        unfolding holds-as
-        leave-kept e = leave-on next (pick-false _ _ _ (sym tested ∙ e))
-
-        pub leave-undone : b ≡ true → getD next (l / 2) 0 ≡ 3 - mark → Leaving s t a marks start (set next (l / 2) 0) j
-        unfolding holds-as undone fluent-of
-        leave-undone possibly e = leave-on (set next (l / 2) 0) (pick-true _ _ _ (sym tested ∙ possibly) ∙ rw (sym is) (pick-true _ _ _ (says-other ∙ eq-eqb _ _ e)))
+          pub look-kept : o ≡ look.Never → Sweeping s t a marks next j
+          unfolding turned
+          look-kept e = sweep-on next (sweeps .marked) (turn look.Never e)

@@ -1,6 +1,6 @@
--- The passes over an action's effects give the state that the definition gives. After the first a literal whose complement no possible body
--- gives is known if it was or is given by a body known true, wherever in the order; the second forgets the others. Where the first told
--- nothing, all that is given was known before, so that what it did is what the second does. Assumes nothing.
+-- The pass over an action's effects gives the state that the definition gives. In its turn an effect adds what it gives by a body known true and
+-- takes away what it may undo. Past 16, where the action can be run, no effect takes away what another gives, so that the order of the
+-- turns does not matter. Assumes nothing.
 use Prim.Native.Nat.{ℕ, _+_, _≤_, _<_}
 use native.Mathlib.Omega.{arith}
 use native.Mathlib.Decide.{ℕ-discrete}
@@ -18,12 +18,13 @@ use Rattle.meaning.specs.Limits
 use Rattle.meaning.specs.Literals.{says-true, says-false, fluent-of, complement}
 use Rattle.meaning.specs.Requests.{Table}
 use Rattle.meaning.specs.Lines.{effects-of, given}
-use Rattle.meaning.specs.States.{State, mark-of, known, possible, told, known-after, mark-after, state-after}
-use Rattle.meaning.proofs.TestLaws.{by-test, clash, both-left, both-right, both-true, either-left, either-right, either-split, fails-false, pick-true, pick-false, each-mono}
+use Rattle.meaning.specs.States.{State, mark-of, known, possible, told, can-be-run, known-after, mark-after, state-after}
+use Rattle.meaning.proofs.TestLaws.{by-test, both-none, both-all, either-left, either-right, pick-true, pick-false, each-mono}
 use Rattle.meaning.proofs.PickLaws.{pick-has}
-use Rattle.meaning.proofs.LiteralLaws.{complement-twice, fluent-complement, same-fluent}
-use Rattle.meaning.proofs.StateLaws.{known-true, known-false, after-length}
-use Rattle.meaning.proofs.ToldLaws.{either-none, either-assoc, told-here, told-elsewhere}
+use Rattle.meaning.proofs.LiteralLaws.{complement-twice, complement-other, fluent-complement, same-fluent}
+use Rattle.meaning.proofs.StateLaws.{known-true, known-false, known-one, known-possible, after-length}
+use Rattle.meaning.proofs.ApartLaws.{given-apart}
+use Rattle.meaning.proofs.ToldLaws.{either-none, told-here, told-elsewhere}
 use Rattle.meaning.proofs.PairLaws.{after-mark}
 use Rattle.reading.specs.Listed.{listed}
 use Rattle.finding.specs.LinesHere.{Effect-here}
@@ -31,11 +32,10 @@ use Rattle.reading.proofs.MarkLaws.{mark-most}
 use Rattle.steps.specs.Held.{table-in}
 use Rattle.steps.specs.AtHand.{At-hand, Marked}
 use Rattle.steps.specs.LinesFound.{effect-places, given-at}
-use Rattle.steps.specs.After.{undone, left-at}
 use Rattle.steps.proofs.Served.{effects-at-hand}
-use Rattle.steps.proofs.Sweeps.{known-one, known-possible, mark-some, swept-one, tells-one, swept-at, tells-at}
+use Rattle.steps.proofs.Sweeps.{mark-some, undone, swept-one, swept-at}
 use Rattle.steps.proofs.LookLaws.{marked-set}
-use Rattle.steps.proofs.ActionLaws.{Sweeping, sweep-done, sweep-tells}
+use Rattle.steps.proofs.ActionLaws.{Sweeping, sweep-done}
 
 -- ONE LITERAL.
 -- Told a literal, with the complement of another left alone.
@@ -60,16 +60,6 @@ module _ (f l : ℕ) (next : State) (within : f < length next) where
   remembered : (fluent-of l ≡ f → ⊥) → known (set next f Limits.unknown-mark) l ≡ known next l
   unfolding known
   remembered other = ap (λ (m : ℕ). eqb m (mark-of l)) (getD-set-other next f (fluent-of l) Limits.unknown-mark Limits.unknown-mark other)
-
-both-none : (b : Bool) → both b false ≡ false
-unfolding both
-both-none true = refl
-both-none false = refl
-
-both-all : (b : Bool) → both b true ≡ b
-unfolding both
-both-all true = refl
-both-all false = refl
 
 module _ (x l : ℕ) (next : State) (within : fluent-of x < length next) where
   undone-same : x ≡ complement l → known (undone x next) l ≡ false
@@ -129,7 +119,7 @@ module _ (s : List ℕ) (p : ℕ) (line : Effect-here s p) (next : State) (marke
       (λ e. rw (pick-true _ (λ _. undone gives next) (λ _. next) e) (undone-known gives l next fluent-within ∙ sym (rw (e, both-all (eqb gives (complement l))))))
       (λ e. rw (pick-false _ (λ _. undone gives next) (λ _. next) e) (sym (rw (e, both-none (eqb gives (complement l))) (both-all (known next l)))))
 
-  -- Its turn in the pass that both undoes and tells.
+  -- Its turn.
   module _ (marks : State) where
     abbrev sure : Bool
     sure = each-of (known marks) (listed s (p + 2))
@@ -147,55 +137,58 @@ module _ (s : List ℕ) (p : ℕ) (line : Effect-here s p) (next : State) (marke
         (λ _. marked)
         (λ _. pick-has Marked _ _ _ (λ _. marked-set next (fluent-of gives) (mark-of gives) marked fluent-small (mark-most gives)) (λ _. undone-marked may))
 
-    swept-free : (l : ℕ) → both (eqb gives (complement l)) may ≡ false → known (swept-one s marks p next) l ≡ either (known next l) (both (eqb gives l) sure)
-    unfolding swept-one undone-step both fails
-    swept-free l free = by-test (known next gives) there (λ n. by-test sure (tells n) (undoes n))
-      where
-        there : known next gives ≡ true → known (swept-one s marks p next) l ≡ either (known next l) (both (eqb gives l) sure)
-        there e =
-            ap (λ (u : State). known u l) (pick-true _ _ _ e)
-            ∙ by-test (eqb gives l)
-            (λ q. let k : known next l ≡ true = subst (λ (x : ℕ). known next x ≡ true) (eqb-true _ _ q) e in k ∙ sym (either-left _ _ k))
-            (λ q. sym (rw q (either-none (known next l))))
+    module _ (l : ℕ) where
+      abbrev After : Bool → Type 0
+      After b = b ≡ both (either (known next l) (both (eqb gives l) sure)) (fails (both (eqb gives (complement l)) may))
 
-        tells : known next gives ≡ false → sure ≡ true → known (swept-one s marks p next) l ≡ either (known next l) (both (eqb gives l) sure)
-        tells n e =
-            ap (λ (u : State). known u l) (pick-false _ _ _ n ∙ pick-true _ _ _ e)
-            ∙ told-one gives l next fluent-within (λ q. clash (both-true _ _ (eq-eqb _ _ q) (sure-may e)) free)
-            ∙ sym (rw (e, both-all (eqb gives l)))
+      -- It gives the complement, and does so or undoes.
+      module _ (q : gives ≡ complement l) where
+        against : complement gives ≡ l
+        against = ap complement q ∙ complement-twice l
 
-        undoes : known next gives ≡ false → sure ≡ false → known (swept-one s marks p next) l ≡ either (known next l) (both (eqb gives l) sure)
-        undoes n e =
-            ap (λ (u : State). known u l) (pick-false _ _ _ n ∙ pick-false _ _ _ e)
-            ∙ undone-stepped may l
-            ∙ ap (λ (b : Bool). both (known next l) (fails b)) free
-            ∙ both-all (known next l)
-            ∙ sym (rw (e, both-none (eqb gives l)) (either-none (known next l)))
+        other : eqb gives l ≡ false
+        other = ne-eqb _ _ (λ r. complement-other l (sym q ∙ r))
 
-    module _ (quiet : tells-one s marks p next ≡ false) where
-      quiet-given : sure ≡ true → known next gives ≡ true
-      unfolding tells-one
-      quiet-given e = by-test (known next gives) (λ y. y) (λ n. clash (both-true _ _ (fails-false _ n) e) quiet)
+      swept-stepped : After (known (swept-one s marks p next) l)
+      unfolding swept-one undone-step both either fails
+      swept-stepped = by-test (known next gives) there (λ n. by-test sure (tells n) (undoes n))
+        where
+          there : known next gives ≡ true → After (known (swept-one s marks p next) l)
+          there e =
+              ap (λ (u : State). known u l) (pick-true _ _ _ e)
+              ∙ by-test (eqb gives (complement l))
+              (λ c. let q = eqb-true _ _ c in let n : known next l ≡ false = ap (known next) (sym (against q)) ∙ known-one next gives e in rw (n, other q))
+              (λ c. by-test (eqb gives l)
+              (λ q. let k : known next l ≡ true = subst (λ (x : ℕ). known next x ≡ true) (eqb-true _ _ q) e in rw (c, k))
+              (λ q. sym (rw (c, q) (both-all _ ∙ either-none (known next l)))))
 
-      -- Where it tells nothing it only undoes.
-      swept-quiet : swept-one s marks p next ≡ undone-step may
-      unfolding swept-one undone-step undone
-      swept-quiet =
-          by-test (known next gives)
-          (λ e. pick-true _ _ _ e ∙ sym (pick-has (λ (u : State). u ≡ next) may _ _ (λ _. pick-false _ _ _ (known-one next gives e)) (λ _. refl)))
-          (λ n. pick-false _ _ _ n ∙ pick-false _ _ _ (by-test sure (λ e. clash (quiet-given e) n) (λ f. f)))
+          tells : known next gives ≡ false → sure ≡ true → After (known (swept-one s marks p next) l)
+          tells n e =
+              ap (λ (u : State). known u l) (pick-false _ _ _ n ∙ pick-true _ _ _ e)
+              ∙ by-test (eqb gives (complement l))
+              (λ c.
+              let q = eqb-true _ _ c in
+              let none : known (told gives next) l ≡ false = ap (known (told gives next)) (sym (against q)) ∙ known-one (told gives next) gives (told-here gives next fluent-within) in
+              none ∙ sym (rw (c, sure-may e) (both-none (either (known next l) (both (eqb gives l) sure)))))
+              (λ c. told-one gives l next fluent-within (eqb-false _ _ c) ∙ sym (rw (c, e) (both-all _ ∙ ap (either (known next l)) (both-all (eqb gives l)))))
 
--- ALL THE EFFECTS.
-either-neither : (a b : Bool) → either a b ≡ false → (a ≡ false) × (b ≡ false)
-unfolding either
-either-neither true b e = clash refl e
-either-neither false b e = (refl, e)
+          undoes : known next gives ≡ false → sure ≡ false → After (known (swept-one s marks p next) l)
+          undoes n e =
+              let nothing : either (known next l) (both (eqb gives l) sure) ≡ known next l = rw (e, both-none (eqb gives l)) (either-none (known next l)) in
+              ap (λ (u : State). known u l) (pick-false _ _ _ n ∙ pick-false _ _ _ e)
+              ∙ undone-stepped may l
+              ∙ ap (λ (b : Bool). both b (fails (both (eqb gives (complement l)) may))) (sym nothing)
 
-less-either : (a c d : Bool) → both (both a (fails c)) (fails d) ≡ both a (fails (either c d))
+-- ALL THE EFFECTS. What one gives, no later one undoes.
+in-turn : (n g h gs hs : Bool) → (gs ≡ true → h ≡ true → ⊥) → both (either (both (either n g) (fails h)) gs) (fails hs) ≡ both (either n (either g gs)) (fails (either h hs))
 unfolding both either fails
-less-either true true d = refl
-less-either true false d = refl
-less-either false c d = refl
+in-turn n g true true hs apart = absurd (apart refl refl)
+in-turn true g true false hs apart = refl
+in-turn false true true false hs apart = refl
+in-turn false false true false hs apart = refl
+in-turn true g false gs hs apart = refl
+in-turn false true false gs hs apart = refl
+in-turn false false false gs hs apart = refl
 
 module _ (s : List ℕ) (marks : State) where
   swept-at-marked : (ps : List ℕ) → ((p : ℕ) → Has ps p → Effect-here s p) → (next : State) → Marked next → Marked (swept-at s marks ps next)
@@ -203,60 +196,16 @@ module _ (s : List ℕ) (marks : State) where
   swept-at-marked [] lines next marked = marked
   swept-at-marked (p ∷ ps) lines next marked = swept-at-marked ps (λ q h. lines q (inr h)) _ (swept-marked s p (lines p (inl refl)) next marked marks)
 
-  left-at-marked : (ps : List ℕ) → ((p : ℕ) → Has ps p → Effect-here s p) → (next : State) → Marked next → Marked (left-at s marks ps next)
-  unfolding left-at undone-step
-  left-at-marked [] lines next marked = marked
-  left-at-marked (p ∷ ps) lines next marked =
-      left-at-marked ps (λ q h. lines q (inr h)) _ (undone-marked s p (lines p (inl refl)) next marked (each-of (possible marks) (listed s (p + 2))))
-
-  swept-at-free : (ps : List ℕ) → ((p : ℕ) → Has ps p → Effect-here s p) → (next : State) → Marked next → (l : ℕ)
-      → given-at s (possible marks) ps (complement l) ≡ false → known (swept-at s marks ps next) l ≡ either (known next l) (given-at s (known marks) ps l)
-  unfolding swept-at given-at some-of
-  swept-at-free [] lines next marked l free = sym (either-none (known next l))
-  swept-at-free (p ∷ ps) lines next marked l free =
-      let b = each-of (known marks) (listed s (p + 2)) in
+  swept-known : (ps : List ℕ) → ((p : ℕ) → Has ps p → Effect-here s p) → (next : State) → Marked next → (l : ℕ)
+      → (given-at s (known marks) ps l ≡ true → given-at s (possible marks) ps (complement l) ≡ true → ⊥)
+      → known (swept-at s marks ps next) l ≡ both (either (known next l) (given-at s (known marks) ps l)) (fails (given-at s (possible marks) ps (complement l)))
+  unfolding swept-at given-at some-of fails
+  swept-known [] lines next marked l apart = sym (both-all _ ∙ either-none (known next l))
+  swept-known (p ∷ ps) lines next marked l apart =
       let line = lines p (inl refl) in
-      let apart = either-neither _ _ free in
-      swept-at-free ps (λ q h. lines q (inr h)) _ (swept-marked s p line next marked marks) l (apart .1)
-      ∙ ap (λ (c : Bool). either c (given-at s (known marks) ps l)) (swept-free s p line next marked marks l (apart .0))
-      ∙ either-assoc (known next l) (both (eqb (getD s (p + 1) 0) l) b) (given-at s (known marks) ps l)
-
-  left-at-known : (ps : List ℕ) → ((p : ℕ) → Has ps p → Effect-here s p) → (next : State) → Marked next → (l : ℕ)
-      → known (left-at s marks ps next) l ≡ both (known next l) (fails (given-at s (possible marks) ps (complement l)))
-  unfolding left-at undone-step given-at some-of fails
-  left-at-known [] lines next marked l = sym (both-all (known next l))
-  left-at-known (p ∷ ps) lines next marked l =
-      let b = each-of (possible marks) (listed s (p + 2)) in
-      let line = lines p (inl refl) in
-      left-at-known ps (λ q h. lines q (inr h)) _ (undone-marked s p line next marked b) l
-      ∙ ap (λ (c : Bool). both c (fails (given-at s (possible marks) ps (complement l)))) (undone-stepped s p line next marked b l)
-      ∙ less-either (known next l) (both (eqb (getD s (p + 1) 0) (complement l)) b) (given-at s (possible marks) ps (complement l))
-
-  -- Where nothing is told, what is given was known, and the rest is undone.
-  quiet-left : (ps : List ℕ) → ((p : ℕ) → Has ps p → Effect-here s p) → (next : State) → Marked next → tells-at s marks ps next ≡ false → swept-at s marks ps next ≡ left-at s marks ps next
-  unfolding swept-at tells-at left-at undone-step
-  quiet-left [] lines next marked quiet = refl
-  quiet-left (p ∷ ps) lines next marked quiet =
-      let line = lines p (inl refl) in
-      let apart = either-neither _ _ quiet in
-      quiet-left ps (λ q h. lines q (inr h)) _ (swept-marked s p line next marked marks) (apart .1)
-      ∙ ap (left-at s marks ps) (swept-quiet s p line next marked marks (apart .0))
-
-  quiet-known : (ps : List ℕ) → ((p : ℕ) → Has ps p → Effect-here s p) → (next : State) → Marked next → tells-at s marks ps next ≡ false → (l : ℕ)
-      → given-at s (known marks) ps l ≡ true → known next l ≡ true
-  unfolding tells-at given-at some-of
-  quiet-known [] lines next marked quiet l e = clash e refl
-  quiet-known (p ∷ ps) lines next marked quiet l e =
-      let line = lines p (inl refl) in
-      let apart = either-neither _ _ quiet in
-      let b = each-of (possible marks) (listed s (p + 2)) in
-      ⊎-elim
-      (λ g. subst (λ (x : ℕ). known next x ≡ true) (eqb-true _ _ (both-left _ _ g)) (quiet-given s p line next marked marks (apart .0) (both-right _ _ g)))
-      (λ g. both-left _ _
-      (sym (undone-stepped s p line next marked b l)
-      ∙ ap (λ (u : State). known u l) (sym (swept-quiet s p line next marked marks (apart .0)))
-      ∙ quiet-known ps (λ q h. lines q (inr h)) _ (swept-marked s p line next marked marks) (apart .1) l g))
-      (either-split _ _ e)
+      swept-known ps (λ q h. lines q (inr h)) _ (swept-marked s p line next marked marks) l (λ g h. apart (either-right _ _ g) (either-right _ _ h))
+      ∙ ap (λ (c : Bool). both (either c (given-at s (known marks) ps l)) (fails (given-at s (possible marks) ps (complement l)))) (swept-stepped s p line next marked marks l)
+      ∙ in-turn (known next l) _ _ _ _ (λ g h. apart (either-right _ _ g) (either-left _ _ h))
 
 -- A mark is told by what is known of its fluent.
 mark-told : (m : ℕ) → m ≤ 2 → m ≡ pick (eqb m 1) (λ _. 1) (λ _. pick (eqb m 2) (λ _. 2) (λ _. 0))
@@ -281,59 +230,21 @@ module _ (s : List ℕ) (marks : State) (marked : Marked marks) (ps : List ℕ) 
         ext-getD 0 r (state-after t a marks) (fine .sized ∙ sym (after-length t a marks ∙ marked .sized))
         (λ f h. mark-is f ∙ sym (after-mark t a marks f (let e = fine .sized in let g = marked .sized in omega arith)))
 
-  swept-fine : Marked (swept-at s marks ps marks)
-  swept-fine = swept-at-marked s marks ps lines marks marked
+  -- Where no two effects meet, what is left is the state after.
+  swept-after : ((l : ℕ) → given (known marks) (effects-of t a) l ≡ true → given (possible marks) (effects-of t a) (complement l) ≡ true → ⊥) → swept-at s marks ps marks ≡ state-after t a marks
+  unfolding known-after
+  swept-after apart =
+      state-is _ (swept-at-marked s marks ps lines marks marked) λ l.
+      swept-known s marks ps lines marks marked l (λ g h. apart l (sym (same (known marks) l) ∙ g) (sym (same (possible marks) (complement l)) ∙ h))
+      ∙ rw (same (known marks) l, same (possible marks) (complement l))
 
-  module _ (l : ℕ) where
-    abbrev Kept : Bool → Type 0
-    Kept b = both (known (swept-at s marks ps marks) l) (fails b) ≡ both (either (known marks l) (given-at s (known marks) ps l)) (fails b)
+-- What the test of an action said.
+pub runs-there : (t : Table) (a : ℕ) (marks : State) (runs : Bool) → runs ≡ can-be-run t a marks → runs ≡ true → can-be-run t a marks ≡ true
+runs-there t a marks runs asked e = sym asked ∙ e
 
-    undoes : given-at s (possible marks) ps (complement l) ≡ true → Kept (given-at s (possible marks) ps (complement l))
-    unfolding fails
-    undoes e = rw e (both-none _ ∙ sym (both-none _))
-
-    keeps : given-at s (possible marks) ps (complement l) ≡ false → Kept (given-at s (possible marks) ps (complement l))
-    keeps e = ap (λ (b : Bool). both b (fails (given-at s (possible marks) ps (complement l)))) (swept-at-free s marks ps lines marks marked l e)
-
-    twice-known : known (left-at s marks ps (swept-at s marks ps marks)) l ≡ known-after (effects-of t a) marks l
-    unfolding known-after
-    twice-known =
-        left-at-known s marks ps lines _ swept-fine l
-        ∙ by-test (given-at s (possible marks) ps (complement l)) undoes keeps
-        ∙ rw (same (known marks) l, same (possible marks) (complement l))
-
-    once-known : tells-at s marks ps marks ≡ false → known (left-at s marks ps marks) l ≡ known-after (effects-of t a) marks l
-    unfolding known-after
-    once-known quiet =
-        left-at-known s marks ps lines marks marked l
-        ∙ ap (λ (b : Bool). both b (fails (given-at s (possible marks) ps (complement l)))) (sym adds-nothing)
-        ∙ rw (same (known marks) l, same (possible marks) (complement l))
-      where
-        adds-nothing : either (known marks l) (given-at s (known marks) ps l) ≡ known marks l
-        adds-nothing =
-            by-test (given-at s (known marks) ps l)
-            (λ g. let k = quiet-known s marks ps lines marks marked quiet l g in either-left _ _ k ∙ sym k)
-            (λ g. rw g (either-none (known marks l)))
-
-  -- ONE PASS that told nothing, or TWO.
-  once-after : tells-at s marks ps marks ≡ false → swept-at s marks ps marks ≡ state-after t a marks
-  once-after quiet =
-      quiet-left s marks ps lines marks marked quiet
-      ∙ state-is (left-at s marks ps marks) (left-at-marked s marks ps lines marks marked) (λ l. once-known l quiet)
-
-  twice-after : left-at s marks ps (swept-at s marks ps marks) ≡ state-after t a marks
-  twice-after = state-is _ (left-at-marked s marks ps lines _ swept-fine) twice-known
-
-module _ (s t : List ℕ) (a : ℕ) (marks next : State) (b : Bool) (k : ℕ) (here : At-hand s t) (small : a < format .actions) (marked : Marked marks) (sweeps : Sweeping s t a marks next b k) (h : k ≤ 0) where
-  pub after-once : b ≡ false → next ≡ state-after (table-in s) a marks
-  after-once e =
-      let all = effects-at-hand s t here a in
-      sym (sweep-done s t a marks next b k sweeps h)
-      ∙ once-after s marks marked (effect-places s a) (all .lines) (table-in s) a (all .same) (sweep-tells s t a marks next b k sweeps h ∙ e)
-
-  pub after-twice : (r : State) → r ≡ left-at s marks (effect-places s a) next → r ≡ state-after (table-in s) a marks
-  after-twice r left =
-      let all = effects-at-hand s t here a in
-      left
-      ∙ ap (left-at s marks (effect-places s a)) (sym (sweep-done s t a marks next b k sweeps h))
-      ∙ twice-after s marks marked (effect-places s a) (all .lines) (table-in s) a (all .same)
+pub after-swept : (s t : List ℕ) (a : ℕ) (marks next : State) (k : ℕ) → At-hand s t → Marked marks → can-be-run (table-in s) a marks ≡ true
+    → Sweeping s t a marks next k → k ≤ 0 → next ≡ state-after (table-in s) a marks
+after-swept s t a marks next k here marked runs sweeps h =
+    let all = effects-at-hand s t here a in
+    sym (sweep-done s t a marks next k sweeps h)
+    ∙ swept-after s marks marked (effect-places s a) (all .lines) (table-in s) a (all .same) (given-apart (table-in s) (here .no-contradiction) a marks runs)

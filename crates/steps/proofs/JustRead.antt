@@ -1,4 +1,4 @@
--- A request that was read from the start of the input, into notes that held nothing, is at hand: its sections stand where they were read, the
+-- A request that was read from the start of the input, into notes that held nothing, and that 16 let pass, is at hand: its sections stand where they were read, the
 -- order of its lines, the slots of what is sensed and of the plan, and the places are as their sections left them. Assumes nothing.
 use Prim.Native.Nat.{ℕ, _+_, _%_, _≤_, _<_}
 use native.Mathlib.Omega.{arith}
@@ -13,6 +13,7 @@ use Rattle.meaning.specs.Limits.{format}
 use Rattle.meaning.specs.Requests.{Knowledge, Table, Request}
 use Rattle.meaning.specs.Reading
 use Rattle.meaning.specs.Reading.{got, literals, plan-at, read-request}
+use Rattle.meaning.specs.Refusals.{nowhere, contradiction-in}
 use Rattle.meaning.specs.Lines.{knowledge-of, sensing, senses}
 use Rattle.meaning.proofs.TestLaws.{same-test, some-has, has-some, some-those}
 use Rattle.meaning.proofs.PlaceLaws.{Request-held, read-held}
@@ -175,9 +176,9 @@ module _ (s : List ℕ) (bytes : (i : ℕ) → getD s i 0 < 256) (x : Request) (
       })
       (plan-nexts (plan-place x) noted (x .plan) few (omega (arith, long)))
 
-  at-hand : At-hand s (request-noted x blank)
+  at-hand : contradiction-in (x .table) ≡ nowhere → At-hand s (request-noted x blank)
   unfolding run-places effect-places
-  at-hand =
+  at-hand passed =
       let held = request-held s bytes x whole blank blank-long in
       record {
         bytes = bytes;
@@ -187,6 +188,7 @@ module _ (s : List ℕ) (bytes : (i : ℕ) → getD s i 0 < 256) (x : Request) (
         effects = λ a small. rw table-is (effects-ordered s bytes x whole blank blank-long blank-slot a small);
         runs = λ a small. rw table-is (runs-ordered s bytes x whole blank blank-long blank-slot a small);
         senses = senses-there;
+        no-contradiction = rw table-is passed;
         plan = rw (table-is, plan-is, plan-slot-is, goals-at, items-is) (each .plan);
         held = rw plan-is held;
         nexts = rw plan-is (request-nexts (held .few));
@@ -197,8 +199,8 @@ module _ (s : List ℕ) (bytes : (i : ℕ) → getD s i 0 < 256) (x : Request) (
 
 -- The notes that reading left.
 module _ (s : List ℕ) (bytes : (i : ℕ) → getD s i 0 < 256) (x : Request) (e : ℕ) (reads : read-request format s ≡ got x e) (t : List ℕ) (noted : t ≡ request-noted x blank) where
-  pub read-at-hand : At-hand s t
-  read-at-hand = subst (At-hand s) (sym noted) (at-hand s bytes x e reads)
+  pub read-at-hand : contradiction-in (x .table) ≡ nowhere → At-hand s t
+  read-at-hand passed = subst (At-hand s) (sym noted) (at-hand s bytes x e reads passed)
 
   pub request-read : request-in s t ≡ x
   request-read = ap (request-in s) noted ∙ request-is s bytes x e reads

@@ -1,33 +1,40 @@
--- The pass over an action's effects that both undoes and tells, effect by effect; and that what is known is possible, because the marks of
--- a literal and of its complement differ and a fluent has one mark. Assumes nothing.
+-- The pass over an action's effects: each in its turn tells or undoes. Assumes nothing.
 use Prim.Native.Nat.{ℕ, _+_, _<_}
 use native.Mathlib.Omega.{arith}
-use mathlib.Core.Path.{_≡_, sym, _∙_, ap}
+use mathlib.Core.Path.{_≡_, refl}
 use mathlib.Core.Bool.{Bool, true, false}
 use mathlib.Core.List.{List, [], _∷_}
-use lib.ListN.{getD}
-use borrow.Author.Tests.{eqb-true, ne-eqb}
-use Rattle.meaning.specs.Tests.{both, either, fails, pick, each-of}
+use lib.ListN.{getD, set}
+use Rattle.meaning.specs.Tests.{pick, each-of}
 use Rattle.meaning.specs.Limits
-use Rattle.meaning.specs.Literals.{complement}
+use Rattle.meaning.specs.Literals.{fluent-of, complement}
 use Rattle.meaning.specs.States.{State, mark-of, known, possible, told}
-use Rattle.meaning.proofs.TestLaws.{fails-false}
-use Rattle.meaning.proofs.LiteralLaws.{fluent-complement, by-literal}
-use Rattle.meaning.proofs.StateLaws.{mark-true, mark-false, mark-complement}
-use Rattle.reading.specs.Listed.{listed}
-use Rattle.steps.specs.After.{undone}
-
--- What is known is not known false.
-pub known-one : (marks : State) (l : ℕ) → known marks l ≡ true → known marks (complement l) ≡ false
-unfolding known
-known-one marks l e = ne-eqb _ _ (λ q. mark-complement l (sym (eqb-true _ _ e) ∙ ap (λ (f : ℕ). getD marks f Limits.unknown-mark) (sym (fluent-complement l)) ∙ q))
-
-pub known-possible : (marks : State) (l : ℕ) → known marks l ≡ true → possible marks l ≡ true
-unfolding possible
-known-possible marks l e = fails-false _ (known-one marks l e)
+use Rattle.meaning.proofs.LiteralLaws.{by-literal}
+use Rattle.meaning.proofs.StateLaws.{mark-true, mark-false}
+use Rattle.reading.specs.Listed.{listed, look-at}
+use Rattle.reading.specs.declared.marks.Look.{Look}
+use Rattle.reading.specs.declared.marks.Look.the-variants as look
 
 pub mark-some : (l : ℕ) → 0 < mark-of l
 mark-some = by-literal (λ (l : ℕ). 0 < mark-of l) (λ f. rw (mark-true f) (omega arith)) (λ f. rw (mark-false f) (omega arith))
+
+-- The literal's complement is not known any more.
+unfoldable pub undone : ℕ → State → State
+undone l next = pick (known next (complement l)) (λ _. set next (fluent-of l) Limits.unknown-mark) (λ _. next)
+
+-- What an effect that gives the literal does, as a look at its body tells.
+unfoldable pub turned : Look → ℕ → State → State
+turned o l next = elim o [ look.Known ↦ told l next | look.Possible ↦ undone l next | look.Never ↦ next ]
+
+pub turn-is : (marks : State) (ls : List ℕ) (l : ℕ) (next : State)
+    → pick (each-of (known marks) ls) (λ _. told l next) (λ _. pick (each-of (possible marks) ls) (λ _. undone l next) (λ _. next)) ≡ turned (look-at marks ls) l next
+unfolding look-at turned pick
+turn-is marks ls l next = go (each-of (known marks) ls) (each-of (possible marks) ls)
+  where
+    go : (b c : Bool) → pick b (λ _. told l next) (λ _. pick c (λ _. undone l next) (λ _. next)) ≡ turned (pick b (λ _. look.Known) (λ _. pick c (λ _. look.Possible) (λ _. look.Never))) l next
+    go true c = refl
+    go false true = refl
+    go false false = refl
 
 module _ (s : List ℕ) (marks : State) where
   -- The effect at p tells what it gives by a body known true in `marks`, or undoes what it may by a possible one; neither where what it gives
@@ -39,14 +46,6 @@ module _ (s : List ℕ) (marks : State) where
       pick (each-of (possible marks) (listed s (p + 2))) (λ _. undone (getD s (p + 1) 0) next) λ _.
       next
 
-  unfoldable pub tells-one : ℕ → State → Bool
-  tells-one p next = both (fails (known next (getD s (p + 1) 0))) (each-of (known marks) (listed s (p + 2)))
-
   unfoldable pub swept-at : List ℕ → State → State
   swept-at [] next = next
   swept-at (p ∷ ps) next = swept-at ps (swept-one p next)
-
-  -- Something is told on the way.
-  unfoldable pub tells-at : List ℕ → State → Bool
-  tells-at [] next = false
-  tells-at (p ∷ ps) next = either (tells-one p next) (tells-at ps (swept-one p next))

@@ -5,6 +5,7 @@ use mathlib.Core.Path.{_≡_}
 use mathlib.Core.List.{List}
 use lib.ListN.{length, getD}
 use Rattle.meaning.specs.Limits.{format}
+use Rattle.meaning.specs.Refusals.{nowhere, contradiction-in}
 use Rattle.meaning.specs.Reading.{got, literals, fluents, list-at, plan-at, table-at}
 use Rattle.reading.specs.Noted.{effect-lines, run-lines, plan-slot, items-slot}
 use Rattle.reading.specs.Ordered.{In-order}
@@ -24,6 +25,8 @@ pub record At-hand (s t : List ℕ) : Type 0 where
   pub effects : (a : ℕ) → a < format .actions → In-order t effect-lines a (effect-places s a)
   pub runs : (a : ℕ) → a < format .actions → In-order t run-lines a (run-places s a)
   pub senses : (a : ℕ) → a < format .actions → Senses s t a
+  -- 16 has passed.
+  pub no-contradiction : contradiction-in (table-in s) ≡ nowhere
   -- The plan stands from its slot up to the goals, and the notes lead from item to item.
   pub plan : plan-at format (table-in s .fluents) (table-in s .actions) s (getD t plan-slot 0) ≡ got (record { value = plan-in s t; items = getD t items-slot 0 }) (goals-in t)
   pub held : Plan-held s t (plan-in s t)

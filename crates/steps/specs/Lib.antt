@@ -4,4 +4,3 @@ pub mod LinesFound
 pub mod Rests
 pub mod AtHand
 pub mod Steps
-pub mod After

@@ -1,4 +1,5 @@
 ghost use mathlib.Core.Path.{_≡_};
+ghost use mathlib.Core.Bool.{true};
 ghost use Prim.Native.Nat.{_<_};
 ghost use Rattle.meaning.specs.Limits.{format};
 ghost use Rattle.meaning.specs.Lines.{executability-of};
@@ -6,13 +7,13 @@ ghost use Rattle.meaning.specs.States.{known, can-be-run, state-after};
 ghost use Rattle.meaning.specs.Asking.{nearest, asked};
 ghost use Rattle.steps.specs.Held.{table-in};
 ghost use Rattle.steps.specs.AtHand.{At-hand, Marked};
-ghost use Rattle.steps.specs.LinesFound.{effect-places};
-ghost use Rattle.steps.specs.After.{left-at};
 use bytes::bytes::wide;
 use meaning::Runs;
+use reading::marks::Look;
 use reading::marks::Marks;
 use reading::marks::Test;
 use reading::marks::each_holds;
+use reading::marks::look_at;
 use reading::marks::mark_of;
 use reading::marks::short_by;
 use reading::notes;
@@ -80,42 +81,16 @@ pub fn can_be_run(s: &[u8], t: &Notes, a: usize, marks: &Marks) -> bool
     }
 }
 
-// The state less what the action's effects may undo by bodies that are possible.
-fn left(s: &[u8], t: &Notes, a: usize, marks: &Marks, start: Marks) -> Marks
+// The state after an action that is not a sensing one and can be run. Each effect in turn tells what it gives or undoes what it may, and that
+// is final: no contradiction was found (16), so what one effect tells no other may undo. A body is looked at only where the mark could change.
+pub fn state_after(s: &[u8], t: &Notes, a: usize, marks: &Marks) -> Marks
     requires { ⌜ At-hand (now s) (now t) ⌝ }
     requires { ⌜ a < format .actions ⌝ }
-    ensures { λ r. ⌜ r ≡ left-at (now (s .entry)) (now (marks .entry)) (effect-places (now (s .entry)) a) start ⌝ }
+    requires { ⌜ Marked (now marks) ⌝ }
+    requires { ⌜ can-be-run (table-in (now s)) a (now marks) ≡ true ⌝ }
+    ensures { λ r. ⌜ r ≡ state-after (table-in (now (s .entry))) a (now (marks .entry)) ⌝ }
 {
-    let mut next = start;
-    let mut k = first_line(t, notes::EFFECTS, a);
-    while 0 < k {
-        let p = line_place(t, notes::EFFECTS, k);
-        k = next_line(t, notes::EFFECTS, k);
-        let one = p + 1;
-        let l = wide(s[one]);
-        let f = l / 2;
-        let other = 3 - mark_of(l);
-        if next[f] == other {
-            let body = p + 2;
-            let possible = each_holds(Test::Possible, marks, s, body);
-            if possible {
-                next[f] = 0;
-            }
-        }
-    }
-    next
-}
-
-// The state after an action that is not a sensing one. Each effect in turn undoes what it may or tells what it gives; what is told may yet
-// be undone by an effect whose turn is over, so `left` follows if anything was. A body is looked at only where the mark could change.
-pub fn state_after(s: &[u8], t: &Notes, a: usize, marks: Marks) -> Marks
-    requires { ⌜ At-hand (now s) (now t) ⌝ }
-    requires { ⌜ a < format .actions ⌝ }
-    requires { ⌜ Marked marks ⌝ }
-    ensures { λ r. ⌜ r ≡ state-after (table-in (now (s .entry))) a marks ⌝ }
-{
-    let mut next = marks;
-    let mut told = false;
+    let mut next = *marks;
     let mut k = first_line(t, notes::EFFECTS, a);
     while 0 < k {
         let p = line_place(t, notes::EFFECTS, k);
@@ -129,26 +104,25 @@ pub fn state_after(s: &[u8], t: &Notes, a: usize, marks: Marks) -> Marks
         }
         let body = p + 2;
         if next[f] == 0 {
-            let known = each_holds(Test::Known, &marks, s, body);
+            let known = each_holds(Test::Known, marks, s, body);
             if known {
                 next[f] = mark;
-                told = true;
             }
             continue;
         }
-        let possible = each_holds(Test::Possible, &marks, s, body);
-        if possible {
-            let sure = each_holds(Test::Known, &marks, s, body);
-            if sure {
+        match look_at(marks, s, body) {
+            Look::Known => {
                 next[f] = mark;
-                told = true;
                 continue;
             }
-            next[f] = 0;
+            Look::Possible => {
+                next[f] = 0;
+                continue;
+            }
+            Look::Never => {
+                continue;
+            }
         }
-    }
-    if told {
-        return left(s, t, a, &marks, next);
     }
     next
 }

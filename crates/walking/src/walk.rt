@@ -84,7 +84,7 @@ pub fn walk(s: &[u8], t: &Notes, at: usize, marks: Marks, tally: &mut Tally)
                     i = follow(s, t, i);
                     continue;
                 }
-                state = state_after(s, t, a, state);
+                state = state_after(s, t, a, &state);
                 i = follow(s, t, i);
                 continue;
             }

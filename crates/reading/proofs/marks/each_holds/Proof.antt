@@ -18,55 +18,55 @@ Inv-loop test marks s p first end i₀ i = (p < i) × (each-of (holds-as test ma
 abbrev μ-loop : tie.MeasureT-loop
 μ-loop test marks s p first end i₀ i = end - i
 
--- src/marks.rt:52:17
+-- src/marks.rt:60:17
 add-first : tie.Need-add-first Inv-loop μ-loop
 add-first c = search first-fits
 
--- src/marks.rt:53:28
+-- src/marks.rt:61:28
 shared-slice-read-wide : tie.Need-shared-slice-read-wide Inv-loop μ-loop
 shared-slice-read-wide c = search count-there
 
--- src/marks.rt:53:23
+-- src/marks.rt:61:23
 wide-requires : tie.Need-wide-requires Inv-loop μ-loop
 wide-requires c κs = search needs
 
--- src/marks.rt:53:15
+-- src/marks.rt:61:15
 add-end : tie.Need-add-end Inv-loop μ-loop
 add-end c = search past-fits
 
--- src/marks.rt:55:5
+-- src/marks.rt:63:5
 loop-holds : tie.Need-loop-holds Inv-loop μ-loop
 loop-holds c = search (needs, each-starts)
 
--- src/marks.rt:56:22
+-- src/marks.rt:64:22
 shared-slice-read-wide-2 : tie.Need-shared-slice-read-wide-2 Inv-loop μ-loop
 shared-slice-read-wide-2 c = search entry-there
 
--- src/marks.rt:56:13
+-- src/marks.rt:64:13
 wide-requires-2 : tie.Need-wide-requires-2 Inv-loop μ-loop
 wide-requires-2 c κs = search needs
 
--- src/marks.rt:57:9
+-- src/marks.rt:65:9
 add-i : tie.Need-add-i Inv-loop μ-loop
 add-i c = search entry-fits
 
--- src/marks.rt:58:13
+-- src/marks.rt:66:13
 holds-requires : tie.Need-holds-requires Inv-loop μ-loop
 holds-requires c κs = search (needs, entry-below)
 
--- src/marks.rt:55:5
+-- src/marks.rt:63:5
 loop-less : tie.Need-loop-less Inv-loop μ-loop
 loop-less c = search needs
 
--- src/marks.rt:55:5
+-- src/marks.rt:63:5
 loop-again : tie.Need-loop-again Inv-loop μ-loop
 loop-again c = search (needs, each-next)
 
--- src/marks.rt:62:9
+-- src/marks.rt:70:9
 returns : tie.Need-returns Inv-loop μ-loop
 returns c = search each-fails
 
--- src/marks.rt:48:1
+-- src/marks.rt:56:1
 returns-2 : tie.Need-returns-2 Inv-loop μ-loop
 returns-2 c = search each-done
 

@@ -5,11 +5,11 @@ use Rattle.reading.proofs.marks.mark_of.Tie as tie
 use Rattle.reading.proofs.marks.mark_of.Reads as reads
 use Rattle.reading.proofs.marks.mark_of.Lts as lts
 
--- src/marks.rt:18:1
+-- src/marks.rt:27:1
 returns : tie.Need-returns
 returns c = search mark-even
 
--- src/marks.rt:18:1
+-- src/marks.rt:27:1
 returns-2 : tie.Need-returns-2
 returns-2 c = search mark-odd
 

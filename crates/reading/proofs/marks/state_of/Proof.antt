@@ -19,55 +19,55 @@ Inv-loop s p marks₀ first end i₀ marks i = (p < i) × (state-of format (list
 abbrev μ-loop : tie.MeasureT-loop
 μ-loop s p marks₀ first end i₀ marks i = end - i
 
--- src/marks.rt:73:17
+-- src/marks.rt:131:17
 add-first : tie.Need-add-first Inv-loop μ-loop
 add-first c = search first-fits
 
--- src/marks.rt:74:28
+-- src/marks.rt:132:28
 shared-slice-read-wide : tie.Need-shared-slice-read-wide Inv-loop μ-loop
 shared-slice-read-wide c = search count-there
 
--- src/marks.rt:74:23
+-- src/marks.rt:132:23
 wide-requires : tie.Need-wide-requires Inv-loop μ-loop
 wide-requires c κs = search needs
 
--- src/marks.rt:74:15
+-- src/marks.rt:132:15
 add-end : tie.Need-add-end Inv-loop μ-loop
 add-end c = search past-fits
 
--- src/marks.rt:76:5
+-- src/marks.rt:134:5
 loop-holds : tie.Need-loop-holds Inv-loop μ-loop
 loop-holds c = search (needs, state-starts)
 
--- src/marks.rt:77:22
+-- src/marks.rt:135:22
 shared-slice-read-wide-2 : tie.Need-shared-slice-read-wide-2 Inv-loop μ-loop
 shared-slice-read-wide-2 c = search entry-there
 
--- src/marks.rt:77:13
+-- src/marks.rt:135:13
 wide-requires-2 : tie.Need-wide-requires-2 Inv-loop μ-loop
 wide-requires-2 c κs = search needs
 
--- src/marks.rt:78:9
+-- src/marks.rt:136:9
 add-i : tie.Need-add-i Inv-loop μ-loop
 add-i c = search entry-fits
 
--- src/marks.rt:80:20
+-- src/marks.rt:138:20
 mark-of-requires : tie.Need-mark-of-requires Inv-loop μ-loop
 mark-of-requires c κs = search needs
 
--- src/marks.rt:80:9
+-- src/marks.rt:138:9
 array-write-marks : tie.Need-array-write-marks Inv-loop μ-loop
 array-write-marks c = search fluent-below
 
--- src/marks.rt:76:5
+-- src/marks.rt:134:5
 loop-less : tie.Need-loop-less Inv-loop μ-loop
 loop-less c = search needs
 
--- src/marks.rt:76:5
+-- src/marks.rt:134:5
 loop-again : tie.Need-loop-again Inv-loop μ-loop
 loop-again c = search (needs, state-next)
 
--- src/marks.rt:68:1
+-- src/marks.rt:126:1
 returns : tie.Need-returns Inv-loop μ-loop
 returns c = search state-done
 

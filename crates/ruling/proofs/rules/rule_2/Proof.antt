@@ -1,6 +1,7 @@
 -- A plan of one item whose byte is no 255 is that action, which is within the limit; the marks are the state of X, and those after it the state that
 -- Y is compared with. A fluent is no list.
 use Rattle.steps.proofs.ToldMarks.{marked-as}
+use Rattle.steps.proofs.AfterLaws.{runs-there}
 use Rattle.ruling.proofs.RuleLaws.{Y-here, plan-counted, items-fit, next-marked, action-whether, not-one-item, item-there, item-branches, action-small, action-senses, action-stuck, action-leads}
 use borrow.Author.Needs.{needs}
 use Rattle.ruling.proofs.rules.rule_2.Statement.{statement}
@@ -70,7 +71,7 @@ can-be-run-requires c κs = (search needs, search action-small)
 
 -- src/rules.rt:71:21
 state-after-requires : tie.Need-state-after-requires
-state-after-requires c κs = (search needs, (search action-small, search marked-as))
+state-after-requires c κs = (search needs, (search action-small, (search marked-as, search runs-there)))
 
 -- src/rules.rt:72:9
 lists-known-requires : tie.Need-lists-known-requires

@@ -19,47 +19,47 @@ Inv-loop s t a marks k₀ k = Running s t a marks k
 abbrev μ-loop : tie.MeasureT-loop
 μ-loop s t a marks k₀ k = to-go k
 
--- src/actions.rt:57:9
+-- src/actions.rt:58:9
 first-line-requires : tie.Need-first-line-requires Inv-loop μ-loop
 first-line-requires c κs = search needs
 
--- src/actions.rt:58:5
+-- src/actions.rt:59:5
 loop-holds : tie.Need-loop-holds Inv-loop μ-loop
 loop-holds c = search running-starts
 
--- src/actions.rt:59:13
+-- src/actions.rt:60:13
 line-place-requires : tie.Need-line-place-requires Inv-loop μ-loop
 line-place-requires c κs = search (needs, line-few)
 
--- src/actions.rt:60:20
+-- src/actions.rt:61:20
 add-body : tie.Need-add-body Inv-loop μ-loop
 add-body c = search run-body-fits
 
--- src/actions.rt:61:13
+-- src/actions.rt:62:13
 each-holds-requires : tie.Need-each-holds-requires Inv-loop μ-loop
 each-holds-requires c κs = search (needs, run-body)
 
--- src/actions.rt:63:13
+-- src/actions.rt:64:13
 returns : tie.Need-returns Inv-loop μ-loop
 returns c = search run-met
 
--- src/actions.rt:65:9
+-- src/actions.rt:66:9
 next-line-requires : tie.Need-next-line-requires Inv-loop μ-loop
 next-line-requires c κs = search (needs, line-few)
 
--- src/actions.rt:58:5
+-- src/actions.rt:59:5
 loop-less : tie.Need-loop-less Inv-loop μ-loop
 loop-less c = search line-less
 
--- src/actions.rt:58:5
+-- src/actions.rt:59:5
 loop-again : tie.Need-loop-again Inv-loop μ-loop
 loop-again c = search run-next
 
--- src/actions.rt:67:5
+-- src/actions.rt:68:5
 nearest-requires : tie.Need-nearest-requires Inv-loop μ-loop
 nearest-requires c κs = search needs
 
--- src/actions.rt:52:1
+-- src/actions.rt:53:1
 returns-2 : tie.Need-returns-2 Inv-loop μ-loop
 returns-2 c = search running-done
 

@@ -18,67 +18,67 @@ Inv-loop s t a marks first best₀ fewest₀ k₀ best fewest k = Nearing s t a 
 abbrev μ-loop : tie.MeasureT-loop
 μ-loop s t a marks first best₀ fewest₀ k₀ best fewest k = to-go k
 
--- src/actions.rt:30:9
+-- src/actions.rt:31:9
 first-line-requires : tie.Need-first-line-requires Inv-loop μ-loop
 first-line-requires c κs = search needs
 
--- src/actions.rt:32:9
+-- src/actions.rt:33:9
 returns : tie.Need-returns Inv-loop μ-loop
 returns c = search never-near
 
--- src/actions.rt:34:9
+-- src/actions.rt:35:9
 line-place-requires : tie.Need-line-place-requires Inv-loop μ-loop
 line-place-requires c κs = search (needs, first-few)
 
--- src/actions.rt:35:41
+-- src/actions.rt:36:41
 add-short-by : tie.Need-add-short-by Inv-loop μ-loop
 add-short-by c = search first-body-fits
 
--- src/actions.rt:35:9
+-- src/actions.rt:36:9
 short-by-requires : tie.Need-short-by-requires Inv-loop μ-loop
 short-by-requires c κs = search (needs, first-body)
 
--- src/actions.rt:36:9
+-- src/actions.rt:37:9
 next-line-requires : tie.Need-next-line-requires Inv-loop μ-loop
 next-line-requires c κs = search (needs, first-few)
 
--- src/actions.rt:37:5
+-- src/actions.rt:38:5
 loop-holds : tie.Need-loop-holds Inv-loop μ-loop
 loop-holds c = search nearing-starts
 
--- src/actions.rt:38:13
+-- src/actions.rt:39:13
 line-place-requires-2 : tie.Need-line-place-requires-2 Inv-loop μ-loop
 line-place-requires-2 c κs = search (needs, line-few)
 
--- src/actions.rt:39:20
+-- src/actions.rt:40:20
 add-body : tie.Need-add-body Inv-loop μ-loop
 add-body c = search near-body-fits
 
--- src/actions.rt:40:13
+-- src/actions.rt:41:13
 short-by-requires-2 : tie.Need-short-by-requires-2 Inv-loop μ-loop
 short-by-requires-2 c κs = search (needs, near-body)
 
--- src/actions.rt:41:9
+-- src/actions.rt:42:9
 next-line-requires-2 : tie.Need-next-line-requires-2 Inv-loop μ-loop
 next-line-requires-2 c κs = search (needs, line-few)
 
--- src/actions.rt:37:5
+-- src/actions.rt:38:5
 loop-less : tie.Need-loop-less Inv-loop μ-loop
 loop-less c = search line-less
 
--- src/actions.rt:37:5
+-- src/actions.rt:38:5
 loop-again : tie.Need-loop-again Inv-loop μ-loop
 loop-again c = search near-fewer
 
--- src/actions.rt:37:5
+-- src/actions.rt:38:5
 loop-less-2 : tie.Need-loop-less-2 Inv-loop μ-loop
 loop-less-2 c = search line-less
 
--- src/actions.rt:37:5
+-- src/actions.rt:38:5
 loop-again-2 : tie.Need-loop-again-2 Inv-loop μ-loop
 loop-again-2 c = search near-kept
 
--- src/actions.rt:25:1
+-- src/actions.rt:26:1
 returns-2 : tie.Need-returns-2 Inv-loop μ-loop
 returns-2 c = search nearing-done
 

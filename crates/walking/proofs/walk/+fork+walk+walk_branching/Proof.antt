@@ -1,6 +1,7 @@
 -- Each return is one law that adds what was walked to how the walk stood. At each call the position rises, or in a fork the fluent does, so
 -- the cycle ends.
 use Rattle.steps.proofs.LookLaws.{first-marked, second-marked, after-marked}
+use Rattle.steps.proofs.AfterLaws.{runs-there}
 use Rattle.walking.proofs.FallLaws.{walk-measure, branching-measure, fork-measure, fork-falls, fork-walk-falls, walk-branching-falls, walk-fork-falls, branching-walk-falls, follow-falls, followed-position, chosen-position, marked-sized, opens-branching, is-branching, action-here}
 use Rattle.walking.proofs.WalkArms.{going-after-fork, going-after-walk, going-after-one, walking-counted, action-low, item-stuck, run-spent, run-moves, run-forks, run-sees, branch-taken, none-taken, Walking, walking-starts, walking-there, walking-marked, walking-sized, walking-going, walking-later, walking-ends, walking-judged, walking-on}
 use Rattle.walking.proofs.ForkLaws.{fork-rises, fork-stops, fork-forks, last-stops, last-walks}
@@ -201,7 +202,7 @@ pub +fork+walk+walk-branching-spec : {M : Type 1} → statement M
     (λ c κs. (search needs, search walking-there))
     (λ c. search follow-falls)
     (λ c. search (walking-on, walking-counted, walking-marked, run-sees, walking-there, walking-going))
-    (λ c κs. (search needs, (search (action-small, walking-there), search walking-marked)))
+    (λ c κs. (search needs, (search (action-small, walking-there), (search walking-marked, search runs-there))))
     (λ c κs. (search needs, search walking-there))
     (λ c. search follow-falls)
     (λ c. search (walking-on, walking-counted, after-marked, walking-marked, run-moves, walking-there, walking-going))
