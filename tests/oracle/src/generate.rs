@@ -134,7 +134,7 @@ pub fn drawn(rng: &mut Rng, shape: &Shape) -> Request {
 
 /// A request with lists as long as there are fluents: what is known at all ends are its goals, and
 /// whether entries.
-pub fn full(rng: &mut Rng) -> Request {
+fn full(rng: &mut Rng) -> Request {
     let mut request = table(rng, &FULL);
     let steps = rng.range(FULL.steps.0, FULL.steps.1);
     let (plan, ends) = Grower::new(rng, &request, &FULL).plan(steps);
@@ -720,6 +720,19 @@ pub fn spread(rng: &mut Rng, request: &Request) -> Request {
         goals: new.literals(&request.goals),
         whether: request.whether.iter().map(|&f| new.fluent(f)).collect(),
         ..Request::default()
+    }
+}
+
+/// The same request with a fact for each fluent, and all of these as goals and as whether entries.
+pub fn filled(rng: &mut Rng, request: &Request) -> Request {
+    let facts: Vec<u8> = (0..request.fluents)
+        .map(|fluent| 2 * fluent + rng.byte(0, 1))
+        .collect();
+    Request {
+        goals: facts.clone(),
+        facts,
+        whether: (0..request.fluents).collect(),
+        ..request.clone()
     }
 }
 

@@ -15,8 +15,8 @@
 //! 300; derivations at most 200, a few up to 400; a walk that is reached counts at most 2,000.
 //! Only item 1,025 takes more bytes (two rows of judging and one of checking, in the first
 //! round), an input too long (one row of each kind, there, written with `REP`), and lists of 128
-//! entries (three rows of judging and two of checking, there). The first round also has a row for
-//! each of the edges of `edges.rs`.
+//! entries (one row of each kind, there). The first round also has rows for each of the edges of
+//! `edges.rs`.
 
 use crate::answer::{Answer, DERIVATION, NEITHER, REQUEST};
 use crate::calls::{
@@ -24,8 +24,9 @@ use crate::calls::{
     JudgeCall,
 };
 use crate::edges::{of_derivation, of_judging, Edge, OF_DERIVATIONS, OF_JUDGING};
-use crate::generate::{drawn, forgetful, full, Shape, FULL, MIDDLE, SMALL, TINY};
+use crate::generate::{drawn, filled, forgetful, Shape, MIDDLE, SMALL, TINY};
 use crate::model::Request;
+use crate::prove::natural;
 use crate::reader::{Part, DERIVATION_LIMIT, LIST_LIMIT, REQUEST_LIMIT};
 use crate::rng::Rng;
 use crate::run::Stop;
@@ -42,7 +43,7 @@ pub(crate) const MORE_DERIVATION_BYTES: usize = 400;
 /// Most bytes of an input with item 1,025.
 pub(crate) const LONG_BYTES: usize = 1_200;
 /// Most bytes of an input with lists of 128 entries.
-pub(crate) const FULL_BYTES: usize = 2_000;
+pub(crate) const FULL_BYTES: usize = 600;
 /// Largest count of a walk.
 const COUNT: u32 = 2_000;
 /// Rows after which all answers have come round.
@@ -132,7 +133,8 @@ pub(crate) fn rounds<T: Copy>(
 ) -> impl Iterator<Item = Wanted<T>> {
     let first = move || {
         let long = long.iter().copied().map(Wanted::Answered);
-        long.chain(edges.iter().copied().map(Wanted::Shows))
+        let edges = edges.iter().copied().filter(|&edge| !shown_beside(edge));
+        long.chain(edges.map(Wanted::Shows))
     };
     (0..rows.div_ceil(ROUND))
         .flat_map(move |round| {
@@ -147,6 +149,11 @@ pub(crate) fn rounds<T: Copy>(
             wanted
         })
         .take(usize::try_from(rows).unwrap_or(usize::MAX))
+}
+
+/// Whether a row with another edge shows this one too: lists are full together.
+fn shown_beside(edge: Edge) -> bool {
+    matches!(edge, Edge::Full(Part::Goals | Part::Whether | Part::After))
 }
 
 /// A row as wanted.
@@ -179,12 +186,11 @@ fn judging_row(rng: &mut Rng, wanted: Wanted<u8>) -> String {
 /// A call that shows an edge, with a small request unless its lists are full.
 fn edge_judging(rng: &mut Rng, edge: Edge) -> JudgeCall {
     loop {
+        let shape = spread_shape(rng);
+        let draft = drawn(rng, &shape);
         let (draft, most) = match edge {
-            Edge::Full(Part::Facts | Part::Goals | Part::Whether) => (full(rng), FULL_BYTES),
-            _ => {
-                let shape = spread_shape(rng);
-                (drawn(rng, &shape), BYTES)
-            }
+            Edge::Full(Part::Facts) => (filled(rng, &draft), FULL_BYTES),
+            _ => (draft, BYTES),
         };
         let mut call = match edge {
             Edge::Full(_) | Edge::LastLiteral => sound_judge_call(rng, &draft),
@@ -292,29 +298,49 @@ fn checking_row(rng: &mut Rng, wanted: Wanted<(u8, u8)>) -> String {
 
 /// A call that shows an edge, with small inputs unless their lists are full.
 fn edge_checking(rng: &mut Rng, edge: Edge) -> CheckCall {
-    let (shape, most, most_derived) = edge_sizes(rng, edge);
     loop {
-        let (draft, lines) = derivable(rng, &shape);
+        let shape = spread_shape(rng);
+        let full = matches!(edge, Edge::Full(_));
+        let (draft, lines) = match full {
+            false => derivable(rng, &shape),
+            true => {
+                let draft = drawn(rng, &shape);
+                let draft = unasked(filled(rng, &draft));
+                let Some(lines) = natural(&draft) else {
+                    continue;
+                };
+                (draft, lines)
+            }
+        };
         let call = any_check_call(rng, &draft, &lines);
-        let small = call.request.len() <= most && call.derivation.len() <= most_derived;
         let answer = check(&call.request, &call.derivation);
         let shown = of_derivation(&call.request, &call.derivation, answer);
-        if small && shown.contains(&edge) {
+        if is_small(&call, full) && shown.contains(&edge) {
             return call;
         }
     }
 }
 
-/// The shape of a request whose derivation shows an edge, and the most bytes of both.
-pub(crate) fn edge_sizes(rng: &mut Rng, edge: Edge) -> (Shape, usize, usize) {
-    match edge {
-        Edge::Full(_) => (FULL, FULL_BYTES, FULL_BYTES),
-        _ => (spread_shape(rng), BYTES, DERIVATION_BYTES),
+/// Both inputs of a call that shows an edge have few bytes, or with full lists not too many.
+pub(crate) fn is_small(call: &CheckCall, full: bool) -> bool {
+    let (most, most_derived) = match full {
+        false => (BYTES, DERIVATION_BYTES),
+        true => (FULL_BYTES, FULL_BYTES),
+    };
+    call.request.len() <= most && call.derivation.len() <= most_derived
+}
+
+/// The same request without goals and whether entries.
+pub(crate) fn unasked(request: Request) -> Request {
+    Request {
+        goals: Vec::new(),
+        whether: Vec::new(),
+        ..request
     }
 }
 
 /// A small shape, of which each draft is spread.
-fn spread_shape(rng: &mut Rng) -> Shape {
+pub(crate) fn spread_shape(rng: &mut Rng) -> Shape {
     Shape {
         spread: 100,
         ..*small_shape(rng)

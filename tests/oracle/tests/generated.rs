@@ -135,7 +135,7 @@ fn rows_can_be_computed_again() {
         .chain(whether.map(|number| ("W".to_string(), number)))
         .collect();
     assert_eq!(met, all);
-    assert!(long <= 3 + 3 + 2 + 2);
+    assert!(long <= 3 + 1 + 1 + 1);
     for (kind, wanted) in [
         ("J", &edges::OF_JUDGING[..]),
         ("D", edges::OF_DERIVATIONS),

@@ -11,14 +11,16 @@
 use crate::answer::{DERIVATION, NEITHER, REQUEST};
 use crate::calls::CheckCall;
 use crate::edges::{of_proof, Edge, OF_CHECKING};
+use crate::generate::{drawn, filled};
 use crate::model::{Proof, Request};
 use crate::reader::{read_proof, DERIVATION_LIMIT, LIST_LIMIT};
 use crate::rng::Rng;
 use crate::rows::{
-    edge_sizes, rounds, small_shape, tell_bytes, Wanted, BYTES, DERIVATION_BYTES, LONG_BYTES,
-    MORE_DERIVATION_BYTES,
+    is_small, rounds, small_shape, spread_shape, tell_bytes, unasked, Wanted, BYTES,
+    DERIVATION_BYTES, LONG_BYTES, MORE_DERIVATION_BYTES,
 };
 use crate::whether::calls::{any_whether_call, damage_call, provable, sound_call};
+use crate::whether::prove::natural_proof;
 use crate::{check_whether, open};
 
 /// How often each answer comes in a round of calls.
@@ -94,14 +96,24 @@ fn row(rng: &mut Rng, wanted: Wanted<(u8, u8)>) -> String {
 
 /// A call that shows an edge, with small inputs unless their lists are full.
 fn edge_call(rng: &mut Rng, edge: Edge) -> CheckCall {
-    let (shape, most, most_derived) = edge_sizes(rng, edge);
     loop {
-        let (draft, proof) = provable(rng, &shape);
+        let shape = spread_shape(rng);
+        let full = matches!(edge, Edge::Full(_));
+        let (draft, proof) = match full {
+            false => provable(rng, &shape),
+            true => {
+                let draft = drawn(rng, &shape);
+                let draft = unasked(filled(rng, &draft));
+                let Some(proof) = natural_proof(&draft) else {
+                    continue;
+                };
+                (draft, proof)
+            }
+        };
         let call = any_whether_call(rng, &draft, &proof);
-        let small = call.request.len() <= most && call.derivation.len() <= most_derived;
         let answer = check_whether(&call.request, &call.derivation);
         let shown = of_proof(&call.request, &call.derivation, answer);
-        if small && shown.contains(&edge) {
+        if is_small(&call, full) && shown.contains(&edge) {
             return call;
         }
     }
