@@ -3,6 +3,7 @@ pub mod Cases
 pub mod LineCases
 pub mod DerivationCases
 pub mod WhetherCases
+pub mod ReleaseCases
 pub mod TestLaws
 pub mod LiteralLaws
 pub mod StateLaws
