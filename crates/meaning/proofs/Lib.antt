@@ -35,6 +35,9 @@ pub mod MovedReads
 pub mod MovedPlans
 pub mod PlacelessLaws
 pub mod MovedLines
+pub mod ShiftedReads
+pub mod KeptReads
+pub mod MovedWalk
 pub mod PairLaws
 pub mod ToldLaws
 pub mod EndLaws
