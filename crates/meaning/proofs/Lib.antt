@@ -67,5 +67,6 @@ pub mod WiderStates
 pub mod WiderJudging
 pub mod WiderDerivations
 pub mod WiderCases
+pub mod ReleaseLaws
 pub mod NotEmpty
 pub mod Demands
