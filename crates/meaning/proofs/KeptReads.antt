@@ -2,7 +2,7 @@
 -- behind the place where it stops. By going through the readers. Assumes nothing.
 use Prim.Native.Nat.{ℕ, zero, suc, _+_, _*_, _≤_, _<_}
 use native.Mathlib.Omega.{arith}
-use mathlib.Core.Path.{_≡_, refl, _∙_, ap}
+use mathlib.Core.Path.{_≡_, refl, _∙_, ap, subst}
 use mathlib.Core.Bool.{Bool, true, false}
 use mathlib.Core.List.{List, [], _∷_}
 use lib.ListN.{length, getD}
@@ -23,6 +23,9 @@ module _ (s u : List ℕ) (far : ℕ) (room : far ≤ length u) (same : (p : ℕ
     abbrev pub Kept : ℕ → Got A → Got A → Type 0
     Kept p (got x e) h = (p ≤ e) × (p ≤ length s → e ≤ length s) × (e ≤ far → h ≡ got x e)
     Kept p (fault n i) h = Unit {0}
+
+    pub kept-of : (p : ℕ) (g h : Got A) → Kept p g h → (x : A) (e : ℕ) → g ≡ got x e → Kept p (got x e) h
+    kept-of p g h kept x e read = subst (λ (y : Got A). Kept p y h) read kept
 
     kept-got : (x : A) (p : ℕ) → Kept p (got x p) (got x p)
     kept-got x p = (omega arith, λ h. h, λ _. refl)

@@ -68,5 +68,6 @@ pub mod WiderJudging
 pub mod WiderDerivations
 pub mod WiderCases
 pub mod ReleaseLaws
+pub mod ReleaseRows
 pub mod NotEmpty
 pub mod Demands

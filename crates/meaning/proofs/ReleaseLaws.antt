@@ -175,7 +175,7 @@ rows-at (a ∷ rest) (suc i) less =
     ap (λ (k : ℕ). take 4 (drop k (in-row a ++ rows rest))) further ∙ rows-at rest i (omega (arith, less))
 
 module _ (lim : Limits) (s : List ℕ) (t : Table) (budget : ℕ) where
-  answers-length : (left p : ℕ) → length (answers-at lim s t budget left p) ≡ left
+  pub answers-length : (left p : ℕ) → length (answers-at lim s t budget left p) ≡ left
   unfolding answers-at after-plan
   answers-length zero p = refl
   answers-length (suc left) p = ap suc (by-plan (request-at lim s t p) (answers-length left))

@@ -42,6 +42,10 @@ module _ (on : ℕ) where
     whether-place = r .whether-place + on;
   }
 
+  abbrev pub moved-got : Got Request → Got Request
+  moved-got (got r e) = got (moved-request r) (e + on)
+  moved-got (fault n p) = fault n (p + on)
+
   placed-moved : (p q : ℕ) → p ≡ q + on → (xs : List ℕ) → placed p xs ≡ map moved-entry (placed q xs)
   unfolding placed
   placed-moved p q far [] = refl
@@ -184,7 +188,7 @@ module _ (s u : List ℕ) (on low : ℕ) (longer : length s ≡ length u + on) (
     plan-shifted p q far above = sequence-shifted _ _ (branching-shifted (lim .nested)) p q 0 far above
 
   -- SECTIONS 6 TO 8.
-  pub request-shifted : (lim : Limits) (t : Table) (p q : ℕ) → p ≡ q + on → low ≤ q → Shifted (moved-request on) (request-at lim s t p) (request-at lim u t q)
+  request-shifted : (lim : Limits) (t : Table) (p q : ℕ) → p ≡ q + on → low ≤ q → Shifted (moved-request on) (request-at lim s t p) (request-at lim u t q)
   unfolding request-at
   request-shifted lim t p q far above =
       shifted-next (moved-part (moved-plan on)) (moved-request on) (plan-at lim (t .fluents) (t .actions) s p) (plan-at lim (t .fluents) (t .actions) u q) _ _
@@ -198,3 +202,10 @@ module _ (s u : List ℕ) (on low : ℕ) (longer : length s ≡ length u + on) (
             (placed-moved on (e + on + 1) (e + 1) (omega arith) goals) (placed-moved on (f + on + 1) (f + 1) (omega arith) whether),
         last,
       )
+
+  pub request-moved : (lim : Limits) (t : Table) (p q : ℕ) → p ≡ q + on → low ≤ q → request-at lim s t p ≡ moved-got on (request-at lim u t q)
+  request-moved lim t p q far above = by-read (request-at lim s t p) (request-at lim u t q) (request-shifted lim t p q far above)
+    where
+      by-read : (g h : Got Request) → Shifted (moved-request on) g h → g ≡ moved-got on h
+      by-read g (got y e) so = so .0
+      by-read g (fault n i) so = so
