@@ -72,8 +72,8 @@ copies : ℕ → List ℕ → List ℕ
 copies zero xs = []
 copies (suc k) xs = xs ++ copies k xs
 
-pub cases : List Case
-cases =
+pub releases : List Case
+releases =
     -- One plan, two, and three: each by itself, its places counted in the file.
     judged (over-A 1 ++ plan-A) 4 (0 ∷ 0 ∷ 5 ∷ 0 ∷ []) ∷
     judged (over-A 2 ++ plan-A ++ no-item) 8 (0 ∷ 0 ∷ 5 ∷ 0 ∷ 0 ∷ 0 ∷ 1 ∷ 0 ∷ []) ∷
@@ -144,6 +144,6 @@ cases =
     []
 
 -- Every file gets what its row says.
-pub cases-hold : map (λ (c : Case). release format (c .file) (c .lent) (c .budget)) cases ≡ map (λ (c : Case). c .gives) cases
-unfolding all-open table-A plan-A no-item misses sticks overlaps fails over-A no-lines copies cases
-cases-hold = refl
+pub releases-hold : map (λ (c : Case). release format (c .file) (c .lent) (c .budget)) releases ≡ map (λ (c : Case). c .gives) releases
+unfolding all-open table-A plan-A no-item misses sticks overlaps fails over-A no-lines copies releases
+releases-hold = refl

@@ -6,7 +6,7 @@ use mathlib.Core.Path.{_≡_, refl, sym, _∙_, ap, ap₂, subst}
 use mathlib.Core.Bool.{Bool, true, false}
 use mathlib.Core.List.{List, [], _∷_, _++_}
 use lib.ListN.{length, length-append, length-drop, getD, getD-replicate, take, drop}
-use lib.Dec.{ltb}
+use lib.Dec.{ltb, eqb}
 use borrow.Author.Tests.{eq-eqb, ltb-true, ltb-false, le-ltb}
 use Rattle.meaning.specs.declared.Answer.{Answer}
 use Rattle.meaning.specs.Tests.{pick}
@@ -20,6 +20,7 @@ use Rattle.meaning.specs.Walk.{End, fine, missed, stopped, Walked, walke
 use Rattle.meaning.specs.Judging.{Judgement, reported, ended, within, judge-settled, judge}
 use Rattle.meaning.specs.Releases.{Opening, opening, plans-at, plan-answer, unreached, after-plan, answers-at, in-row, rows, release, plan-bytes, own-request, moved, row-of}
 use Rattle.meaning.proofs.TestLaws.{by-test, pick-true, pick-false}
+use Rattle.meaning.proofs.PickLaws.{pick-has}
 use Rattle.meaning.proofs.SettledLaws.{fault≢got, got-same, next-got}
 use Rattle.meaning.proofs.RangeLaws.{got-place}
 use Rattle.meaning.proofs.GotLaws.{On, got-on, next-on, held-got}
@@ -69,6 +70,11 @@ module _ (on : ℕ) where
     plan-answer-moved : (x : Got Request) → plan-answer lim budget (moved-got on x) ≡ moved on (judge-settled lim lent budget (past-overlap x) .answer)
     unfolding plan-answer
     plan-answer-moved x = ap (λ (y : Got Request). judge-settled lim [] budget y .answer) (past-moved x) ∙ settled-moved (past-overlap x)
+
+-- Its number stays.
+pub moved-number : (on : ℕ) (a : Answer) → moved on a .number ≡ a .number
+unfolding moved
+moved-number on a = pick-has (λ (b : Answer). b .number ≡ a .number) (eqb (a .input) Limits.the-request) _ _ (λ _. refl) (λ _. refl)
 
 -- LISTS: the first k entries of one, and another behind them.
 take-length : (k : ℕ) (xs : List ℕ) → k ≤ length xs → length (take k xs) ≡ k
