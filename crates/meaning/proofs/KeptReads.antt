@@ -10,7 +10,7 @@ use lib.Dec.{leb}
 use borrow.Author.Tests.{leb-false, lt-leb}
 use Rattle.meaning.specs.Tests.{pick}
 use Rattle.meaning.specs.Limits.{Limits}
-use Rattle.meaning.specs.Requests.{Table, Sequence, Item, Branches, Request}
+use Rattle.meaning.specs.Requests.{Table, Sequence, Item}
 use Rattle.meaning.specs.Reading.{Got, got, fault, next, byte-at, two-bytes-at, count-at, below-at, Kind, literals, fluents, bound-of, entry-at, entries-at, list-at, repeated, section-at, body-at, effect-at, executability-at, knowledge-at, Part, item-at, items-at, sequence-at, branches-at, branching-at, plan-at, table-at, request-at}
 use Rattle.meaning.proofs.TestLaws.{pick-false}
 use Rattle.meaning.proofs.PickLaws.{pick-has}

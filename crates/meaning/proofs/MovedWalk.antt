@@ -1,10 +1,10 @@
 -- A request that is moved is refused by 18 and walked alike: no test looks at a place, and a place is only reported, so much further on. By induction
 -- over the plan; what follows an item is carried through as such a pair of walks. Assumes nothing.
 use Prim.Native.Nat.{ℕ, _+_}
-use mathlib.Core.Path.{_≡_, refl, _∙_, ap}
+use mathlib.Core.Path.{_≡_, refl, ap}
 use mathlib.Core.Bool.{Bool}
 use mathlib.Core.List.{List, [], _∷_, map}
-use Rattle.meaning.specs.Tests.{pick, each-of}
+use Rattle.meaning.specs.Tests.{each-of}
 use Rattle.meaning.specs.Requests.{Sequence, done, item, Item, act, branching, Branches, none, branch, Entry, Request}
 use Rattle.meaning.specs.Refusals.{Found, nowhere, at, or-else, conditions-of, all-exclusive, overlap-in, overlap-at, overlap-below}
 use Rattle.meaning.specs.States.{State, Outcome, single, fork, known, known-whether}

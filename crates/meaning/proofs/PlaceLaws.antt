@@ -58,10 +58,10 @@ module _ (size : ℕ) where
   Found-below (at p) = p < size
 
   module _ {A : Type 0} (place : A → ℕ) where
-    abbrev Each-below : List A → Type 0
+    abbrev pub Each-below : List A → Type 0
     Each-below xs = Each (λ (x : A). place x < size) xs
 
-  abbrev Plan-below : Sequence ℕ → Type 0
+  abbrev pub Plan-below : Sequence ℕ → Type 0
   Plan-below b = On-places (λ p. p < size) b
 
   abbrev Item-below : Item ℕ → Type 0
@@ -71,12 +71,12 @@ module _ (size : ℕ) where
   Branches-below bs = On-places-below (λ p. p < size) bs
 
   pub record Table-below (t : Table) : Type 0 where
-    effects : Each-below (λ (e : Effect). e .place) (t .effects)
-    knowledge : Each-below (λ (k : Knowledge). k .place) (t .knowledge)
+    pub effects : Each-below (λ (e : Effect). e .place) (t .effects)
+    pub knowledge : Each-below (λ (k : Knowledge). k .place) (t .knowledge)
 
   pub record Request-below (r : Request) : Type 0 where
     table : Table-below (r .table)
-    plan : Plan-below (r .plan)
+    pub plan : Plan-below (r .plan)
     goals : Each-below (λ (e : Entry). e .place) (r .goals)
     whether : Each-below (λ (e : Entry). e .place) (r .whether)
     pub whether-place : r .whether-place < size
@@ -105,11 +105,11 @@ module _ (size : ℕ) where
   against-below against before [] h = tt
   against-below against before (e ∷ es) h = pick-has Found-below _ _ _ (λ _. h .0) (λ _. against-below against (e ∷ before) es (h .1))
 
-  contradiction-below : (t : Table) → Each-below (λ (e : Effect). e .place) (t .effects) → Found-below (contradiction-in t)
+  pub contradiction-below : (t : Table) → Each-below (λ (e : Effect). e .place) (t .effects) → Found-below (contradiction-in t)
   unfolding contradiction-in
   contradiction-below t h = against-below (contradictory t) [] (t .effects) h
 
-  mixed-below : (es : List Effect) (ks : List Knowledge) → Each-below (λ (k : Knowledge). k .place) ks → Found-below (mixed-in es ks)
+  pub mixed-below : (es : List Effect) (ks : List Knowledge) → Each-below (λ (k : Knowledge). k .place) ks → Found-below (mixed-in es ks)
   unfolding mixed-in
   mixed-below es [] h = tt
   mixed-below es (k ∷ ks) h = pick-has Found-below _ _ _ (λ _. h .0) (λ _. mixed-below es ks (h .1))
@@ -117,7 +117,7 @@ module _ (size : ℕ) where
   mutual
     unfolding overlap-in overlap-at overlap-below
 
-    overlap-in-below : (b : Sequence ℕ) → Plan-below b → Found-below (overlap-in b)
+    pub overlap-in-below : (b : Sequence ℕ) → Plan-below b → Found-below (overlap-in b)
     overlap-in-below done h = tt
     overlap-in-below (item i rest) h = or-below (overlap-at i) _ (overlap-at-below i (h .0)) (overlap-in-below rest (h .1))
 
@@ -428,23 +428,26 @@ pub record Fault-in (ns : List ℕ) (limit size n p : ℕ) : Type 0 where
   pub fits : p ≤ limit
 
 module _ (ns : List ℕ) (limit size : ℕ) where
-  too-long-fault : among Limits.too-long ns ≡ true → Fault-in ns limit size Limits.too-long 0
+  pub too-long-fault : among Limits.too-long ns ≡ true → Fault-in ns limit size Limits.too-long 0
   unfolding among at-start of-neither some-of either
   too-long-fault is = record { number = is; placed = placed-start size Limits.too-long refl; fits = omega arith }
 
   module _ (short : size ≤ limit) where
-    ends-fault : among Limits.ends-too-soon ns ≡ true → Fault-in ns limit size Limits.ends-too-soon size
+    pub ends-fault : among Limits.ends-too-soon ns ≡ true → Fault-in ns limit size Limits.ends-too-soon size
     ends-fault is = record { number = is; placed = placed-end size; fits = short }
 
-    byte-fault : (n p : ℕ) → among n ns ≡ true → among n (Limits.ends-too-soon ∷ at-start) ≡ false → p < size → Fault-in ns limit size n p
+    pub byte-fault : (n p : ℕ) → among n ns ≡ true → among n (Limits.ends-too-soon ∷ at-start) ≡ false → p < size → Fault-in ns limit size n p
     byte-fault n p is not less = record { number = is; placed = placed-byte size n p not less; fits = omega (arith, short, less) }
 
     -- So are those of reading that are placed at a byte.
+    pub listed-fault : (faults : List ℕ) → each-of (λ (n : ℕ). among n ns) faults ≡ true → each-of (λ (m : ℕ). fails (among m (Limits.ends-too-soon ∷ at-start))) faults ≡ true
+        → (n p : ℕ) → among n faults ≡ true → p < size → Fault-in ns limit size n p
+    listed-fault faults each bytes n p is less =
+        byte-fault n p (among-each (λ (m : ℕ). among m ns) faults each n is) (fails-true _ (among-each (λ (m : ℕ). fails (among m (Limits.ends-too-soon ∷ at-start))) faults bytes n is)) less
+
     reading-fault : each-of (λ (n : ℕ). among n ns) byte-faults ≡ true → (n p : ℕ) → among n byte-faults ≡ true → p < size → Fault-in ns limit size n p
     unfolding among byte-faults at-start of-neither some-of either fails each-of both
-    reading-fault each n p is less =
-        byte-fault n p (among-each (λ (m : ℕ). among m ns) byte-faults each n is)
-        (fails-true _ (among-each (λ (m : ℕ). fails (among m (Limits.ends-too-soon ∷ at-start))) byte-faults refl n is)) less
+    reading-fault each = listed-fault byte-faults each refl
 
 -- A REQUEST.
 module _ (lim : Limits) (s : List ℕ) where

@@ -1,8 +1,8 @@
 -- Each plan's row is the walk call's answer on the table followed by that plan, its place moved to the file: the table is read alike, since it is the
 -- first part of both; the plan is read and walked alike, so much further on; and what the plan is cut off from is not looked at. Assumes nothing.
-use Prim.Native.Nat.{ℕ, zero, suc, _+_, _-_, _*_, _≤_, _<_}
+use Prim.Native.Nat.{ℕ, zero, suc, _+_, _-_, _≤_, _<_}
 use native.Mathlib.Omega.{arith}
-use mathlib.Core.Path.{_≡_, refl, sym, _∙_, ap, ap₂, subst}
+use mathlib.Core.Path.{_≡_, refl, sym, _∙_, ap}
 use mathlib.Core.Bool.{Bool, true, false}
 use mathlib.Core.List.{List, [], _∷_, _++_}
 use lib.ListN.{length, length-append, length-drop, getD, getD-replicate, take, drop}
@@ -13,23 +13,22 @@ use Rattle.meaning.specs.Tests.{pick}
 use Rattle.meaning.specs.Limits
 use Rattle.meaning.specs.Limits.{Limits}
 use Rattle.meaning.specs.Requests.{Table, Request}
-use Rattle.meaning.specs.Reading.{Got, got, fault, next, repeated, plan-at, list-at, literals, fluents, count-at, table-at, request-at, read-request}
+use Rattle.meaning.specs.Reading.{Got, got, fault, next, repeated, plan-at, list-at, literals, fluents, table-at, request-at, read-request}
 use Rattle.meaning.specs.Refusals.{Found, nowhere, at, contradiction-in, mixed-in, overlap-in, refuse, settled}
 use Rattle.meaning.specs.States.{State, first-state}
 use Rattle.meaning.specs.Walk.{End, fine, missed, stopped, Walked, walked}
 use Rattle.meaning.specs.Judging.{Judgement, reported, ended, within, judge-settled, judge}
-use Rattle.meaning.specs.Releases.{Opening, opening, plans-at, plan-answer, unreached, after-plan, answers-at, in-row, rows, release, plan-bytes, own-request, moved, row-of}
+use Rattle.meaning.specs.Releases.{Opening, opening, plans-at, plan-answer, unreached, after-plan, answers-at, in-row, release, plan-bytes, own-request, moved, row-of}
 use Rattle.meaning.proofs.TestLaws.{by-test, pick-true, pick-false}
 use Rattle.meaning.proofs.PickLaws.{pick-has}
-use Rattle.meaning.proofs.SettledLaws.{fault≢got, got-same, next-got}
+use Rattle.meaning.proofs.SettledLaws.{fault≢got, next-got}
 use Rattle.meaning.proofs.RangeLaws.{got-place}
-use Rattle.meaning.proofs.GotLaws.{On, got-on, next-on, held-got}
-use Rattle.meaning.proofs.PlaceLaws.{count-held}
+use Rattle.meaning.proofs.GotLaws.{On, got-on, next-on}
 use Rattle.meaning.proofs.MovedReads.{next-is}
 use Rattle.meaning.proofs.ShiftedReads.{moved-request, moved-got, request-moved}
 use Rattle.meaning.proofs.KeptReads.{kept-of, repeated-kept, table-kept, request-kept}
 use Rattle.meaning.proofs.MovedWalk.{moved-found, overlap-moved, moved-end, moved-walk, walked-moved}
-use Rattle.meaning.proofs.ReleaseLaws.{Judged, judged, Opened, opened, rows-at, answers-length}
+use Rattle.meaning.proofs.ReleaseLaws.{judged, opened, rows-at, answers-length}
 
 -- What was read, and is not refused by 18.
 abbrev past-overlap : Got Request → Got Request
@@ -284,15 +283,12 @@ module _ (lim : Limits) (s lent : List ℕ) (budget : ℕ) (zero : release lim s
   each-row rs start before room sized =
       let j = judged lim s lent budget zero o p is in
       let read = opened lim s o p is in
-      let count =
-      held-got (λ _ _. Unit {0}) (λ c q. (q ≤ length s) × (q ≡ o .table-end + 1)) (count-at 1 Limits.most-plans s (o .table-end))
-      (count-held s (λ _ _. Unit {0}) tt (λ _ _ _ _. tt) 1 Limits.most-plans (o .table-end)) (o .plans) p (read .count) in
       let line = request-at lim s (o .table) in
       let kept =
       kept-of s s 0 (omega arith) (λ k _. refl) p (repeated line i p) (repeated line i p)
       (repeated-kept s s 0 (omega arith) (λ k _. refl) line line (request-kept s s 0 (omega arith) (λ k _. refl) lim (o .table)) i p) rs start before in
       row-there ∙ ap in-row (answer-there lim s (o .table) budget i (o .plans) p rs start less before
-      ∙ plan-alone lim (o .table) (o .table-end) (j .no-contradiction) (j .not-mixed) s (read .short) (read .table) start (omega (arith, kept .0, count .1)) (kept .1 (count .0)) budget room sized)
+      ∙ plan-alone lim (o .table) (o .table-end) (j .no-contradiction) (j .not-mixed) s (read .short) (read .table) start (omega (arith, kept .0, read .behind)) (kept .1 (read .inside)) budget room sized)
 
   -- Where a plan before it failed in reading, it is not reached.
   pub behind-a-failure : (n k : ℕ) → plans-at lim s (o .table) i p ≡ fault n k → row-of (release lim s lent budget .row) i ≡ in-row unreached

@@ -1,12 +1,12 @@
 -- Sections 6 to 8 are read alike wherever they stand: where one input has from some place on what another has a distance further on, up to the end of
 -- both, a reader gives the same in both, or the same fault, with every place that distance further on. By going through the readers. Assumes nothing.
-use Prim.Native.Nat.{ℕ, zero, suc, _+_, _*_, _≤_}
+use Prim.Native.Nat.{ℕ, zero, suc, _+_, _≤_}
 use native.Mathlib.Omega.{arith}
 use mathlib.Core.Path.{_≡_, refl, _∙_, ap, ap₂}
 use mathlib.Core.Bool.{Bool, true, false}
 use mathlib.Core.List.{List, [], _∷_, map}
 use lib.ListN.{length, getD}
-use lib.Dec.{leb, ltb, eqb}
+use lib.Dec.{leb}
 use borrow.Author.Tests.{leb-true, le-leb}
 use Rattle.meaning.specs.Tests.{pick}
 use Rattle.meaning.specs.Limits
