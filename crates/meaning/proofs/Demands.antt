@@ -65,7 +65,7 @@ pub use Rattle.meaning.proofs.Narrowed.{settled-narrowed, passes-still}
 pub use Rattle.meaning.proofs.ReleaseLaws.{own-numbered, own-input, own-place, own-count, row-within, row-sized, row-as-lent}
 -- Where its answer is 0, each plan's row is the walk call's answer on the table and that plan, with its place counted in the file, and 22 stands just
 -- behind a plan that failed in reading.
-pub use Rattle.meaning.proofs.ReleaseRows.{each-row, behind-a-failure}
+pub use Rattle.meaning.proofs.ReleaseRows.{each-row, behind-a-failure, not-reached-exactly}
 
 -- Demand 1 (FORMAT 11.1): every input gets one of the numbered answers.
 pub numbered : (lim : Limits) (request lent : List ℕ) (budget : ℕ) → among (judge lim request lent budget .answer .number) answers ≡ true

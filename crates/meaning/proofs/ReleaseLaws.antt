@@ -19,7 +19,7 @@ use Rattle.meaning.specs.Refusals.{Found, nowhere, at, contradiction-in,
 use Rattle.meaning.specs.Walk.{End, fine, missed, stopped, walked}
 use Rattle.meaning.specs.States.{State, first-state}
 use Rattle.meaning.specs.Judging.{Judgement, reported, ended, within, judge-settled}
-use Rattle.meaning.specs.Releases.{Opening, opening, plans-at, byte-after, plan-answer, unreached, after-plan, answers-at, in-row, rows, settled-plans, Released, own, released, release-opened, release, row-of}
+use Rattle.meaning.specs.Releases.{Opening, opening, plans-at, byte-after, plan-answer, unreached, after-plan, answers-at, in-row, rows, settled-plans, Released, own-answer, released, release-opened, release, row-of}
 use Rattle.meaning.specs.Answers.{release-refusals, release-answers, row-answers}
 use Rattle.meaning.specs.AnswerParts.{of-neither, Walk-input, at-start, Placed, Row-parts}
 use Rattle.meaning.proofs.TestLaws.{by-test, clash, fails-true, pick-true, pick-cases}
@@ -81,8 +81,8 @@ module _ (lim : Limits) (s : List ℕ) where
     Own j = Own-parts (j .answer)
 
     -- 0 and 9 name no input.
-    none-named : (n : ℕ) (row : List ℕ) → among n release-answers ≡ true → among n of-neither ≡ true → among n at-start ≡ true → Own (own n Limits.neither-input 0 row)
-    unfolding own
+    none-named : (n : ℕ) (row : List ℕ) → among n release-answers ≡ true → among n of-neither ≡ true → among n at-start ≡ true → Own (own-answer n Limits.neither-input 0 row)
+    unfolding own-answer
     none-named n row is neither start = record {
       number = is;
       input = record { neither = (λ _. neither, λ _. refl); request = λ f. clash neither f };
@@ -91,8 +91,8 @@ module _ (lim : Limits) (s : List ℕ) where
       fits = omega arith;
     }
 
-    refused : (n p : ℕ) (row : List ℕ) → Own-fault n p → Own (own n Limits.the-request p row)
-    unfolding own among release-answers release-refusals of-neither some-of either each-of both fails
+    refused : (n p : ℕ) (row : List ℕ) → Own-fault n p → Own (own-answer n Limits.the-request p row)
+    unfolding own-answer among release-answers release-refusals of-neither some-of either each-of both fails
     refused n p row h = record {
       number = among-each (λ (m : ℕ). among m release-answers) release-refusals refl n (h .number);
       input = record {
@@ -140,12 +140,12 @@ module _ (lim : Limits) (s : List ℕ) where
     As-lent j = (j .answer .number ≡ Limits.verified → ⊥) → j .row ≡ lent
 
     released-as-lent : (y : Got (List Answer)) → As-lent (released lent y)
-    unfolding released own
+    unfolding released own-answer
     released-as-lent (got all e) other = absurd (other refl)
     released-as-lent (fault n p) other = refl
 
     opened-as-lent : (x : Got Opening) → As-lent (release-opened lim s lent budget x)
-    unfolding release-opened own
+    unfolding release-opened own-answer
     opened-as-lent (got o p) = pick-has As-lent _ _ _ (λ _. released-as-lent (settled-plans lim s budget o p)) (λ _ _. refl)
     opened-as-lent (fault n p) = λ _. refl
 
@@ -155,7 +155,7 @@ module _ (lim : Limits) (s : List ℕ) where
 
     -- WITH 0 the opening was read.
     opened-read : (x : Got Opening) → Held Own-fault Opening-read x → release-opened lim s lent budget x .answer .number ≡ Limits.verified → (o : Opening) × (p : ℕ) × (x ≡ got o p)
-    unfolding release-opened own among release-refusals some-of either
+    unfolding release-opened own-answer among release-refusals some-of either
     opened-read (got o p) is q = (o, p, refl)
     opened-read (fault n p) is q = clash (is .number) (ap (λ (m : ℕ). among m release-refusals) q)
 
@@ -172,12 +172,12 @@ module _ (lim : Limits) (s : List ℕ) where
       pub row : release lim s lent budget .row ≡ rows (answers-at lim s (o .table) budget (o .plans) p)
 
     released-got : (y : Got (List Answer)) → Faulty Own-fault y → released lent y .answer .number ≡ Limits.verified → (all : List Answer) × (e : ℕ) × (y ≡ got all e) × (released lent y .row ≡ rows all)
-    unfolding released own among release-refusals some-of either
+    unfolding released own-answer among release-refusals some-of either
     released-got (got all e) is q = (all, e, refl, refl)
     released-got (fault n p) is q = clash (is .number) (ap (λ (m : ℕ). among m release-refusals) q)
 
     pub judged : release lim s lent budget .answer .number ≡ Limits.verified → (o : Opening) (p : ℕ) → opening lim s ≡ got o p → Judged o p
-    unfolding release release-opened own settled-plans pick
+    unfolding release release-opened own-answer settled-plans pick
     judged q o p is =
         let here : release lim s lent budget ≡ release-opened lim s lent budget (got o p) = ap (release-opened lim s lent budget) is in
         let zero : release-opened lim s lent budget (got o p) .answer .number ≡ Limits.verified = sym (ap (λ (j : Released). j .answer .number) here) ∙ q in

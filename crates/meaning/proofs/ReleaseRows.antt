@@ -5,13 +5,14 @@ use native.Mathlib.Omega.{arith}
 use mathlib.Core.Path.{_≡_, refl, sym, _∙_, ap}
 use mathlib.Core.Bool.{Bool, true, false}
 use mathlib.Core.List.{List, [], _∷_, _++_}
-use lib.ListN.{length, length-append, length-drop, getD, getD-replicate, take, drop}
+use lib.ListN.{length, length-append, length-drop, getD, getD-replicate, length-replicate, replicate, take, drop}
 use lib.Dec.{ltb, eqb}
 use borrow.Author.Tests.{eq-eqb, ltb-true, ltb-false, le-ltb}
 use Rattle.meaning.specs.declared.Answer.{Answer}
-use Rattle.meaning.specs.Tests.{pick}
+use Rattle.meaning.specs.Tests.{either, pick, some-of}
 use Rattle.meaning.specs.Limits
 use Rattle.meaning.specs.Limits.{Limits}
+use Rattle.meaning.specs.Literals.{among}
 use Rattle.meaning.specs.Requests.{Table, Request}
 use Rattle.meaning.specs.Reading.{Got, got, fault, next, repeated, plan-at, list-at, literals, fluents, table-at, request-at, read-request}
 use Rattle.meaning.specs.Refusals.{Found, nowhere, at, contradiction-in, mixed-in, overlap-in, refuse, settled}
@@ -19,7 +20,8 @@ use Rattle.meaning.specs.States.{State, first-state}
 use Rattle.meaning.specs.Walk.{End, fine, missed, stopped, Walked, walked}
 use Rattle.meaning.specs.Judging.{Judgement, reported, ended, within, judge-settled, judge}
 use Rattle.meaning.specs.Releases.{Opening, opening, plans-at, plan-answer, unreached, after-plan, answers-at, in-row, release, plan-bytes, own-request, moved, row-of}
-use Rattle.meaning.proofs.TestLaws.{by-test, pick-true, pick-false}
+use Rattle.meaning.specs.Answers.{refusals, answers}
+use Rattle.meaning.proofs.TestLaws.{by-test, clash, pick-true, pick-false}
 use Rattle.meaning.proofs.PickLaws.{pick-has}
 use Rattle.meaning.proofs.SettledLaws.{fault≢got, next-got}
 use Rattle.meaning.proofs.RangeLaws.{got-place}
@@ -28,6 +30,7 @@ use Rattle.meaning.proofs.MovedReads.{next-is}
 use Rattle.meaning.proofs.ShiftedReads.{moved-request, moved-got, request-moved}
 use Rattle.meaning.proofs.KeptReads.{kept-of, repeated-kept, table-kept, request-kept}
 use Rattle.meaning.proofs.MovedWalk.{moved-found, overlap-moved, moved-end, moved-walk, walked-moved}
+use Rattle.meaning.proofs.AnswerLaws.{every-answer-numbered}
 use Rattle.meaning.proofs.ReleaseLaws.{judged, opened, rows-at, answers-length}
 
 -- What was read, and is not refused by 18.
@@ -293,3 +296,17 @@ module _ (lim : Limits) (s lent : List ℕ) (budget : ℕ) (zero : release lim s
   -- Where a plan before it failed in reading, it is not reached.
   pub behind-a-failure : (n k : ℕ) → plans-at lim s (o .table) i p ≡ fault n k → row-of (release lim s lent budget .row) i ≡ in-row unreached
   behind-a-failure n k before = row-there ∙ ap in-row (unreached-there lim s (o .table) budget i (o .plans) p n k less before)
+
+  -- So 22 is said of the plans behind a failure and of no other: the walk call does not answer it.
+  pub not-reached-exactly : (rest : List ℕ) → row-of (release lim s lent budget .row) i ≡ Limits.not-reached ∷ rest → (n k : ℕ) × (plans-at lim s (o .table) i p ≡ fault n k)
+  unfolding in-row among answers refusals some-of either
+  not-reached-exactly rest says = by-plans (plans-at lim s (o .table) i p) refl
+    where
+      by-plans : (x : Got (List Request)) → plans-at lim s (o .table) i p ≡ x → (n k : ℕ) × (x ≡ fault n k)
+      by-plans (got rs start) before =
+          let room = replicate (lim .state) Limits.unknown-mark in
+          let answer = judge lim (own-request lim s o start) room budget .answer in
+          let row = each-row rs start before room (length-replicate (lim .state) Limits.unknown-mark) in
+          let same : answer .number ≡ Limits.not-reached = sym (moved-number (start - o .table-end) answer) ∙ ap (λ (xs : List ℕ). getD xs 0 0) (sym row ∙ says) in
+          clash (every-answer-numbered lim (own-request lim s o start) room budget) (ap (λ (m : ℕ). among m answers) same)
+      by-plans (fault n k) before = (n, k, refl)

@@ -49,7 +49,7 @@ unfoldable pub after-plan : (left : ℕ) → Got Request → (ℕ → List Answe
 after-plan left (got r e) more = more e
 after-plan left (fault n p) more = replicate left unreached
 
--- The answers of the plans in order, one for each. 18 stops no other.
+-- The answers of the plans in order, one for each. A plan that is refused by 18 stops no other.
 unfoldable pub answers-at : Limits → List ℕ → Table → (budget left : ℕ) → ℕ → List Answer
 answers-at lim s t budget zero p = []
 answers-at lim s t budget (suc left) p =
@@ -63,7 +63,7 @@ unfoldable pub rows : List Answer → List ℕ
 rows [] = []
 rows (a ∷ rest) = in-row a ++ rows rest
 
--- THE CALL. Past the row's length: 16 and 17 of the table, 20 of the file, and then no plan's fate is the call's.
+-- THE CALL. Past the row's length it refuses by 16 and 17 of the table, and by 20 of the file. What becomes of a plan is in the row alone.
 unfoldable pub settled-plans : Limits → List ℕ → (budget : ℕ) → Opening → ℕ → Got (List Answer)
 settled-plans lim s budget o p =
     refuse Limits.contradictory-effects (contradiction-in (o .table)) λ _.
@@ -76,21 +76,21 @@ pub record Released : Type 0 where
   pub row : List ℕ
 
 -- The call's own answer counts nothing.
-unfoldable pub own : (number input place : ℕ) → (row : List ℕ) → Released
-own n i p row = record { answer = record { number = n; input = i; place = p; count = 0 }; row = row }
+unfoldable pub own-answer : (number input place : ℕ) → (row : List ℕ) → Released
+own-answer n i p row = record { answer = record { number = n; input = i; place = p; count = 0 }; row = row }
 
 -- The row is written with 0, and stays as lent with every other answer.
 unfoldable pub released : (lent : List ℕ) → Got (List Answer) → Released
-released lent (got all e) = own Limits.verified Limits.neither-input 0 (rows all)
-released lent (fault n p) = own n Limits.the-request p lent
+released lent (got all e) = own-answer Limits.verified Limits.neither-input 0 (rows all)
+released lent (fault n p) = own-answer n Limits.the-request p lent
 
--- The lent row is to have four numbers for each plan; its length is looked at once the plan count is read.
+-- The lent row is to have four numbers for each plan, which is known when the plan count is read. The number is that of a lent state's length.
 unfoldable pub release-opened : Limits → (file lent : List ℕ) → (budget : ℕ) → Got Opening → Released
 release-opened lim s lent budget (got o p) =
     pick (eqb (length lent) (4 * o .plans))
     (λ _. released lent (settled-plans lim s budget o p))
-    (λ _. own Limits.state-length Limits.neither-input 0 lent)
-release-opened lim s lent budget (fault n p) = own n Limits.the-request p lent
+    (λ _. own-answer Limits.state-length Limits.neither-input 0 lent)
+release-opened lim s lent budget (fault n p) = own-answer n Limits.the-request p lent
 
 unfoldable pub release : Limits → (file lent : List ℕ) → (budget : ℕ) → Released
 release lim s lent budget = release-opened lim s lent budget (opening lim s)
