@@ -1,10 +1,10 @@
 -- The demands (FORMAT section 11, and 17.38 to 17.41), each by citing where its argument stands. Read this file first. Assumes nothing.
-use Prim.Native.Nat.{ℕ, _-_, _≤_}
+use Prim.Native.Nat.{ℕ, _-_, _≤_, _<_}
 use native.Mathlib.Omega.{arith}
-use mathlib.Core.Path.{_≡_, refl, ap}
+use mathlib.Core.Path.{_≡_, refl, sym, _∙_, ap}
 use mathlib.Core.Bool.{true}
-use mathlib.Core.List.{List}
-use lib.ListN.{length}
+use mathlib.Core.List.{List, _∷_}
+use lib.ListN.{length, length-replicate, getD, replicate}
 use lib.Dec.{eqb, ltb}
 use Rattle.meaning.specs.declared.Layout.{Layout}
 use Rattle.meaning.specs.Tests.{either, pick, some-of}
@@ -17,6 +17,7 @@ use Rattle.meaning.specs.Refusals.{settled}
 use Rattle.meaning.specs.States.{State, first-state}
 use Rattle.meaning.specs.Walk.{End, fine, missed, stopped, Walked, Verified, walked}
 use Rattle.meaning.specs.Judging.{reported, ended, within, judge-settled, judge}
+use Rattle.meaning.specs.Releases.{Opening, opening, plans-at, unreached, in-row, release, own-request, moved, row-of}
 use Rattle.meaning.specs.Worlds.{Carried-out}
 use Rattle.meaning.specs.Values.{Literals, all-exclusive}
 use Rattle.meaning.specs.ValueStates
@@ -33,6 +34,8 @@ use Rattle.meaning.proofs.ValueSound
 use Rattle.meaning.proofs.AnswerLaws.{Numbered-in, settled-numbered}
 use Rattle.meaning.proofs.Passed.{passed-exactly}
 use Rattle.meaning.proofs.WalkSound.{walk-sound}
+use Rattle.meaning.proofs.ReleaseRows
+use Rattle.meaning.proofs.ReleaseRows.{moved-number}
 use Rattle.meaning.proofs.WiderCases.{format-wider}
 use Rattle.meaning.proofs.WiderJudging
 use Rattle.meaning.proofs.WiderDerivations
@@ -57,6 +60,12 @@ pub use Rattle.meaning.proofs.Sound.{none-is-dropped}
 -- 16 refuses exactly where two effects meet in a world (FORMAT 7.34), and what it refuses it refused before it asked for an executability line.
 pub use Rattle.meaning.proofs.Meeting.{no-lines-no-contradiction, contradictory-exactly, refused-where-effects-meet, passed-where-none-meet}
 pub use Rattle.meaning.proofs.Narrowed.{settled-narrowed, passes-still}
+-- The release call: its own answer is numbered, and so is each number in its row; the row has four numbers for each plan where the answer is 0, and is
+-- left as lent with every other.
+pub use Rattle.meaning.proofs.ReleaseLaws.{own-numbered, own-input, own-place, own-count, row-within, row-sized, row-as-lent}
+-- Where its answer is 0, each plan's row is the walk call's answer on the table and that plan, with its place counted in the file, and 22 stands just
+-- behind a plan that failed in reading.
+pub use Rattle.meaning.proofs.ReleaseRows.{each-row, behind-a-failure, not-reached-exactly}
 
 -- Demand 1 (FORMAT 11.1): every input gets one of the numbered answers.
 pub numbered : (lim : Limits) (request lent : List ℕ) (budget : ℕ) → among (judge lim request lent budget .answer .number) answers ≡ true
@@ -118,6 +127,27 @@ pub sound-derivation : (lim : Limits) → lim .fluents ≤ lim .state → (layou
 sound-derivation lim room layout request derivation q =
     let m = accepted-verified lim room layout request derivation q in
     (m .0, m .1, m .2, walk-sound lim request (m .0) (m .1) (m .2) (m .3))
+
+-- Demand 3 plan by plan: where a plan's row says 0, the plans before it were read, and the request of the table and that plan is carried out.
+module _ (lim : Limits) (s lent : List ℕ) (budget : ℕ) (zero : release lim s lent budget .answer .number ≡ Limits.verified)
+    (o : Opening) (p : ℕ) (is : opening lim s ≡ got o p) (i : ℕ) (less : i < o .plans) (rest : List ℕ) (says : row-of (release lim s lent budget .row) i ≡ Limits.verified ∷ rest) where
+  abbrev Carried-out-from : Got (List Request) → Type 0
+  Carried-out-from x = (rs : List Request) × (start : ℕ) × (x ≡ got rs start) × ((r : Request) × (e : ℕ) × (settled lim (own-request lim s o start) ≡ got r e) × Carried-out r)
+
+  pub sound-release : Carried-out-from (plans-at lim s (o .table) i p)
+  unfolding in-row unreached
+  sound-release = by-plans (plans-at lim s (o .table) i p) refl
+    where
+      by-plans : (x : Got (List Request)) → plans-at lim s (o .table) i p ≡ x → Carried-out-from x
+      by-plans (got rs start) before =
+          let room = replicate (lim .state) Limits.unknown-mark in
+          let answer = judge lim (own-request lim s o start) room budget .answer in
+          let row = ReleaseRows.each-row lim s lent budget zero o p is i less rs start before room (length-replicate (lim .state) Limits.unknown-mark) in
+          let same : moved (start - o .table-end) answer .number ≡ Limits.verified = ap (λ (row : List ℕ). getD row 0 0) (sym row ∙ says) in
+          (rs, start, refl, sound lim (own-request lim s o start) room budget (sym (moved-number (start - o .table-end) answer) ∙ same))
+      by-plans (fault n k) before =
+          let same : _≡_ {A = ℕ} Limits.not-reached Limits.verified = ap (λ (row : List ℕ). getD row 0 0) (sym (ReleaseRows.behind-a-failure lim s lent budget zero o p is i less n k before) ∙ says) in
+          absurd (omega (arith, same))
 
 -- Equal answers (FORMAT 3.19 to 3.21): what the former limits answer with another number than 12, lent a state of their length, the format's limits
 -- answer alike. With 1 and 2 the state that is left is the former one with unknown marks behind it; with every other number each stays as lent.

@@ -3,6 +3,7 @@ pub mod Cases
 pub mod LineCases
 pub mod DerivationCases
 pub mod WhetherCases
+pub mod ReleaseCases
 pub mod TestLaws
 pub mod LiteralLaws
 pub mod StateLaws
@@ -34,6 +35,9 @@ pub mod MovedReads
 pub mod MovedPlans
 pub mod PlacelessLaws
 pub mod MovedLines
+pub mod ShiftedReads
+pub mod KeptReads
+pub mod MovedWalk
 pub mod PairLaws
 pub mod ToldLaws
 pub mod EndLaws
@@ -63,5 +67,7 @@ pub mod WiderStates
 pub mod WiderJudging
 pub mod WiderDerivations
 pub mod WiderCases
+pub mod ReleaseLaws
+pub mod ReleaseRows
 pub mod NotEmpty
 pub mod Demands

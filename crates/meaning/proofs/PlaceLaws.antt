@@ -31,11 +31,25 @@ use Rattle.meaning.proofs.PlanReads
 use Rattle.meaning.proofs.PlanReads.{About, Said, Passed-on, Faults}
 use Rattle.meaning.proofs.KeptEnds.{On-places, On-places-item, On-places-below, any-outcome, End-so, walked-so}
 
--- The faults of reading that are placed at a byte.
+-- The faults of counts and entries, which sections 1 to 5 have alone; those of items; and all the faults of reading that are placed at a byte.
+unfoldable pub entry-faults : List ℕ
+entry-faults = Limits.count-outside ∷ Limits.too-large ∷ Limits.not-above ∷ Limits.complement-beside ∷ []
+
+unfoldable pub item-faults : List ℕ
+item-faults = Limits.nested-too-deep ∷ Limits.too-many-items ∷ []
+
 unfoldable pub byte-faults : List ℕ
 byte-faults =
     Limits.count-outside ∷ Limits.too-large ∷ Limits.not-above ∷ Limits.complement-beside ∷ Limits.nested-too-deep ∷ Limits.bytes-after ∷
     Limits.too-many-items ∷ []
+
+entry-byte : (n : ℕ) → among n entry-faults ≡ true → among n byte-faults ≡ true
+unfolding among entry-faults byte-faults some-of either each-of both
+entry-byte n is = among-each (λ (m : ℕ). among m byte-faults) entry-faults refl n is
+
+item-byte : (n : ℕ) → among n item-faults ≡ true → among n byte-faults ≡ true
+unfolding among item-faults byte-faults some-of either each-of both
+item-byte n is = among-each (λ (m : ℕ). among m byte-faults) item-faults refl n is
 
 -- BELOW. What has only places below `size`.
 module _ (size : ℕ) where
@@ -44,10 +58,10 @@ module _ (size : ℕ) where
   Found-below (at p) = p < size
 
   module _ {A : Type 0} (place : A → ℕ) where
-    abbrev Each-below : List A → Type 0
+    abbrev pub Each-below : List A → Type 0
     Each-below xs = Each (λ (x : A). place x < size) xs
 
-  abbrev Plan-below : Sequence ℕ → Type 0
+  abbrev pub Plan-below : Sequence ℕ → Type 0
   Plan-below b = On-places (λ p. p < size) b
 
   abbrev Item-below : Item ℕ → Type 0
@@ -56,13 +70,13 @@ module _ (size : ℕ) where
   abbrev Branches-below : Branches ℕ → Type 0
   Branches-below bs = On-places-below (λ p. p < size) bs
 
-  record Table-below (t : Table) : Type 0 where
-    effects : Each-below (λ (e : Effect). e .place) (t .effects)
-    knowledge : Each-below (λ (k : Knowledge). k .place) (t .knowledge)
+  pub record Table-below (t : Table) : Type 0 where
+    pub effects : Each-below (λ (e : Effect). e .place) (t .effects)
+    pub knowledge : Each-below (λ (k : Knowledge). k .place) (t .knowledge)
 
   pub record Request-below (r : Request) : Type 0 where
     table : Table-below (r .table)
-    plan : Plan-below (r .plan)
+    pub plan : Plan-below (r .plan)
     goals : Each-below (λ (e : Entry). e .place) (r .goals)
     whether : Each-below (λ (e : Entry). e .place) (r .whether)
     pub whether-place : r .whether-place < size
@@ -91,11 +105,11 @@ module _ (size : ℕ) where
   against-below against before [] h = tt
   against-below against before (e ∷ es) h = pick-has Found-below _ _ _ (λ _. h .0) (λ _. against-below against (e ∷ before) es (h .1))
 
-  contradiction-below : (t : Table) → Each-below (λ (e : Effect). e .place) (t .effects) → Found-below (contradiction-in t)
+  pub contradiction-below : (t : Table) → Each-below (λ (e : Effect). e .place) (t .effects) → Found-below (contradiction-in t)
   unfolding contradiction-in
   contradiction-below t h = against-below (contradictory t) [] (t .effects) h
 
-  mixed-below : (es : List Effect) (ks : List Knowledge) → Each-below (λ (k : Knowledge). k .place) ks → Found-below (mixed-in es ks)
+  pub mixed-below : (es : List Effect) (ks : List Knowledge) → Each-below (λ (k : Knowledge). k .place) ks → Found-below (mixed-in es ks)
   unfolding mixed-in
   mixed-below es [] h = tt
   mixed-below es (k ∷ ks) h = pick-has Found-below _ _ _ (λ _. h .0) (λ _. mixed-below es ks (h .1))
@@ -103,7 +117,7 @@ module _ (size : ℕ) where
   mutual
     unfolding overlap-in overlap-at overlap-below
 
-    overlap-in-below : (b : Sequence ℕ) → Plan-below b → Found-below (overlap-in b)
+    pub overlap-in-below : (b : Sequence ℕ) → Plan-below b → Found-below (overlap-in b)
     overlap-in-below done h = tt
     overlap-in-below (item i rest) h = or-below (overlap-at i) _ (overlap-at-below i (h .0)) (overlap-in-below rest (h .1))
 
@@ -163,8 +177,8 @@ module _ (s : List ℕ) (Bad : ℕ → ℕ → Type 0) where
     by-refuse n nowhere k bad found then = then
     by-refuse n (at p) k bad found then = bad p found
 
-  -- It holds of 11 at the input's length, and of the other faults of reading at each byte.
-  module _ (ends : Bad Limits.ends-too-soon (length s)) (byte : (n p : ℕ) → among n byte-faults ≡ true → p < length s → Bad n p) where
+  -- It holds of 11 at the input's length, and of the faults of counts and entries at each byte.
+  module _ (ends : Bad Limits.ends-too-soon (length s)) (byte : (n p : ℕ) → among n entry-faults ≡ true → p < length s → Bad n p) where
     -- Some number, and the place after its one byte.
     abbrev One : ℕ → ℕ → ℕ → Type 0
     One p x q = q ≡ p + 1
@@ -183,19 +197,19 @@ module _ (s : List ℕ) (Bad : ℕ → ℕ → Type 0) where
         by-next (One q) _ (byte-at s q) _ (byte-held q) λ low r fits is₂. (fits, omega (arith, is, is₂))
 
     pub count-held : (least limit p : ℕ) → Held (One p) (count-at least limit s p)
-    unfolding count-at among byte-faults some-of either
+    unfolding count-at among entry-faults some-of either
     count-held least limit p =
         by-next (One p) _ (byte-at s p) _ (byte-held p) λ c q fits is.
         pick-has (Held (One p)) _ _ _ (λ _. byte _ p refl (omega (arith, fits, is))) (λ _. (fits, is))
 
     below-held : (bound p : ℕ) → Held (One p) (below-at bound s p)
-    unfolding below-at among byte-faults some-of either
+    unfolding below-at among entry-faults some-of either
     below-held bound p =
         by-next (One p) _ (byte-at s p) _ (byte-held p) λ x q fits is.
         pick-has (Held (One p)) _ _ _ (λ _. byte _ p refl (omega (arith, fits, is))) (λ _. (fits, is))
 
     entry-held : (kind : Kind) (n p floor : ℕ) → Held (One p) (entry-at kind n s p floor)
-    unfolding entry-at among byte-faults some-of either
+    unfolding entry-at among entry-faults some-of either
     entry-held kind n p floor =
         by-next (One p) _ (below-at (bound-of kind n) s p) _ (below-held (bound-of kind n) p) λ x q fits is.
         pick-has (Held (One p)) _ _ _ (λ _. byte _ p refl (omega (arith, fits, is))) λ _.
@@ -296,22 +310,26 @@ module _ (s : List ℕ) (Bad : ℕ → ℕ → Type 0) where
             (others .0, (first .1, others .1));
       }
 
-      plan-faults : Faults lim n m s Bad
-      unfolding among byte-faults some-of either
-      plan-faults = record {
+      -- Where it holds of the faults of items too.
+      abbrev Of-items : Type 0
+      Of-items = (n p : ℕ) → among n item-faults ≡ true → p < length s → Bad n p
+
+      plan-faults : Of-items → Faults lim n m s Bad
+      unfolding among entry-faults item-faults some-of either
+      plan-faults items = record {
         byte = λ p. held-faulty Bad (Inside (One p)) (byte-at s p) (byte-held p);
         number = λ p. held-faulty Bad (Inside (Two p)) (two-bytes-at s p) (two-bytes-held p);
         count = λ p. held-faulty Bad (Inside (One p)) (count-at 1 (lim .branches) s p) (count-held 1 (lim .branches) p);
         condition = λ p. held-faulty Bad (Inside (Long (p + 1))) (body-at lim n s p) (body-held p);
-        too-many = λ p x q read. byte _ p refl (byte-there p x q read .1);
+        too-many = λ p x q read. items _ p refl (byte-there p x q read .1);
         too-large = λ p x q read. byte _ p refl (byte-there p x q read .1);
-        too-deep = λ p x q read. byte _ p refl (byte-there p x q read .1);
+        too-deep = λ p x q read. items _ p refl (byte-there p x q read .1);
       }
 
-      plan-held : (p : ℕ) → p ≤ length s → Held (λ (x : Met (Sequence ℕ)) (q : ℕ). Plan-below (length s) (x .value)) (plan-at lim n m s p)
-      plan-held p here =
+      plan-held : Of-items → (p : ℕ) → p ≤ length s → Held (λ (x : Met (Sequence ℕ)) (q : ℕ). Plan-below (length s) (x .value)) (plan-at lim n m s p)
+      plan-held items p here =
           held-then Bad (Part-below (Plan-below (length s)) p 0) (Inside (λ x q. Plan-below (length s) (x .value))) (plan-at lim n m s p)
-          (PlanReads.plan-held lim n m s plan-below below-passed Bad plan-faults p) λ x e below. below here
+          (PlanReads.plan-held lim n m s plan-below below-passed Bad (plan-faults items) p) λ x e below. below here
 
       -- A line of a derivation.
       listed-held : (p : ℕ) → Held (λ (Y : Conclusion) (q : ℕ). Unit {0}) (list-concluded lim n s p)
@@ -331,11 +349,11 @@ module _ (s : List ℕ) (Bad : ℕ → ℕ → Type 0) where
           by-next (One p) _ (byte-at s p) _ (byte-held p) λ rule q _ _.
           by-next (λ (Y : Conclusion) (e : ℕ). Unit {0}) _ (conclusion-at lim n s rule q) _ (pick-has (Held (λ (Y : Conclusion) (e : ℕ). Unit {0})) _ _ _ (λ _. fluent-held q) (λ _. listed-held q)) λ Y e fits _. (fits, tt)
 
-      line-held : (layout : Layout) (p : ℕ) → Held (λ (l : Line) (q : ℕ). Line-below (length s) l) (line-at lim n m s layout p)
+      line-held : Of-items → (layout : Layout) (p : ℕ) → Held (λ (l : Line) (q : ℕ). Line-below (length s) l) (line-at lim n m s layout p)
       unfolding line-at
-      line-held layout p =
+      line-held items layout p =
           by-next (Long (p + 1)) _ (list-at literals n (lim .listed) s p) _ (list-held literals n (lim .listed) p) λ X q fits long.
-          by-next _ _ (plan-at lim n m s q) _ (plan-held q fits) λ plan r _ inside.
+          by-next _ _ (plan-at lim n m s q) _ (plan-held items q fits) λ plan r _ inside.
           by-next _ _ (concluded-at lim n s layout r) _ (concluded-held layout r) λ x t _ _.
           by-next (One t) _ (count-at 0 (lim .citations) s t) _ (count-held 0 (lim .citations) t) λ k v fits₂ _.
           by-next _ _ (repeated (two-bytes-at s) k v) _ (numbers-held k v fits₂) λ cites e fits₃ _.
@@ -351,7 +369,7 @@ module _ (s : List ℕ) (Bad : ℕ → ℕ → Type 0) where
 
     -- The table, and the rest after it.
     module _ (lim : Limits) where
-      table-held : (p : ℕ) → Held (λ (t : Table) (q : ℕ). Table-below (length s) t) (table-at lim s p)
+      pub table-held : (p : ℕ) → Held (λ (t : Table) (q : ℕ). Table-below (length s) t) (table-at lim s p)
       unfolding table-at
       table-held start =
           by-next _ _ (count-at 1 (lim .fluents) s start) _ (count-held 1 (lim .fluents) start) λ n p _ _.
@@ -362,10 +380,10 @@ module _ (s : List ℕ) (Bad : ℕ → ℕ → Type 0) where
           by-next _ _ (section-at (knowledge-at lim n m s) s u) _ (section-held (λ (k : Knowledge). k .place < length s) _ (knowledge-held lim n m) u) λ ks e fits knowledge.
           (fits, record { effects = effects; knowledge = knowledge })
 
-      request-held : (t : Table) (p : ℕ) → Table-below (length s) t → p ≤ length s → Held (λ (r : Request) (q : ℕ). Request-below (length s) r) (request-at lim s t p)
+      pub request-held : ((n p : ℕ) → among n item-faults ≡ true → p < length s → Bad n p) → (t : Table) (p : ℕ) → Table-below (length s) t → p ≤ length s → Held (λ (r : Request) (q : ℕ). Request-below (length s) r) (request-at lim s t p)
       unfolding request-at
-      request-held t start table here =
-          by-next _ _ (plan-at lim (t .fluents) (t .actions) s start) _ (plan-held lim (t .fluents) (t .actions) start here) λ b p _ plan.
+      request-held items t start table here =
+          by-next _ _ (plan-at lim (t .fluents) (t .actions) s start) _ (plan-held lim (t .fluents) (t .actions) items start here) λ b p _ plan.
           by-next _ _ (list-at literals (t .fluents) (lim .listed) s p) _ (list-held literals (t .fluents) (lim .listed) p) λ gs q fits goals.
           by-next _ _ (list-at fluents (t .fluents) (lim .listed) s q) _ (list-held fluents (t .fluents) (lim .listed) q) λ ws e fits₂ whether. (
             fits₂,
@@ -410,23 +428,26 @@ pub record Fault-in (ns : List ℕ) (limit size n p : ℕ) : Type 0 where
   pub fits : p ≤ limit
 
 module _ (ns : List ℕ) (limit size : ℕ) where
-  too-long-fault : among Limits.too-long ns ≡ true → Fault-in ns limit size Limits.too-long 0
+  pub too-long-fault : among Limits.too-long ns ≡ true → Fault-in ns limit size Limits.too-long 0
   unfolding among at-start of-neither some-of either
   too-long-fault is = record { number = is; placed = placed-start size Limits.too-long refl; fits = omega arith }
 
   module _ (short : size ≤ limit) where
-    ends-fault : among Limits.ends-too-soon ns ≡ true → Fault-in ns limit size Limits.ends-too-soon size
+    pub ends-fault : among Limits.ends-too-soon ns ≡ true → Fault-in ns limit size Limits.ends-too-soon size
     ends-fault is = record { number = is; placed = placed-end size; fits = short }
 
-    byte-fault : (n p : ℕ) → among n ns ≡ true → among n (Limits.ends-too-soon ∷ at-start) ≡ false → p < size → Fault-in ns limit size n p
+    pub byte-fault : (n p : ℕ) → among n ns ≡ true → among n (Limits.ends-too-soon ∷ at-start) ≡ false → p < size → Fault-in ns limit size n p
     byte-fault n p is not less = record { number = is; placed = placed-byte size n p not less; fits = omega (arith, short, less) }
 
     -- So are those of reading that are placed at a byte.
+    pub listed-fault : (faults : List ℕ) → each-of (λ (n : ℕ). among n ns) faults ≡ true → each-of (λ (m : ℕ). fails (among m (Limits.ends-too-soon ∷ at-start))) faults ≡ true
+        → (n p : ℕ) → among n faults ≡ true → p < size → Fault-in ns limit size n p
+    listed-fault faults each bytes n p is less =
+        byte-fault n p (among-each (λ (m : ℕ). among m ns) faults each n is) (fails-true _ (among-each (λ (m : ℕ). fails (among m (Limits.ends-too-soon ∷ at-start))) faults bytes n is)) less
+
     reading-fault : each-of (λ (n : ℕ). among n ns) byte-faults ≡ true → (n p : ℕ) → among n byte-faults ≡ true → p < size → Fault-in ns limit size n p
     unfolding among byte-faults at-start of-neither some-of either fails each-of both
-    reading-fault each n p is less =
-        byte-fault n p (among-each (λ (m : ℕ). among m ns) byte-faults each n is)
-        (fails-true _ (among-each (λ (m : ℕ). fails (among m (Limits.ends-too-soon ∷ at-start))) byte-faults refl n is)) less
+    reading-fault each = listed-fault byte-faults each refl
 
 -- A REQUEST.
 module _ (lim : Limits) (s : List ℕ) where
@@ -447,8 +468,9 @@ module _ (lim : Limits) (s : List ℕ) where
       let short = ltb-false (lim .request) (length s) f in
       let ends = ends-fault refusals (lim .request) (length s) short refl in
       let byte = reading-fault refusals (lim .request) (length s) short refl in
-      by-next s Request-fault (λ (t : Table) (q : ℕ). Table-below (length s) t) Request-read (table-at lim s 0) _ (table-held s Request-fault ends byte lim 0) λ t p fits table.
-      by-next s Request-fault (λ (r : Request) (q : ℕ). Request-below (length s) r) Request-read (request-at lim s t p) _ (request-held s Request-fault ends byte lim t p table fits) λ r e fits₂ so.
+      let entry : (n p : ℕ) → among n entry-faults ≡ true → p < length s → Request-fault n p = λ n p is. byte n p (entry-byte n is) in
+      by-next s Request-fault (λ (t : Table) (q : ℕ). Table-below (length s) t) Request-read (table-at lim s 0) _ (table-held s Request-fault ends entry lim 0) λ t p fits table.
+      by-next s Request-fault (λ (r : Request) (q : ℕ). Request-below (length s) r) Request-read (request-at lim s t p) _ (request-held s Request-fault ends entry lim (λ n p is. byte n p (item-byte n is)) t p table fits) λ r e fits₂ so.
       pick-has Request-held _ _ _ (λ more. byte _ e refl (ltb-true _ _ more)) (λ _. (fits₂, (so, short)))
 
   pub settled-held : Request-held (settled lim s)
@@ -483,11 +505,12 @@ module _ (lim : Limits) (layout : Layout) (d : List ℕ) where
       let short = ltb-false (lim .derivation) (length d) f in
       let ends = ends-fault (derivation-faults layout) (lim .derivation) (length d) short refl in
       let byte = reading-fault (derivation-faults layout) (lim .derivation) (length d) short refl in
-      by-next d Derivation-fault (λ (c p : ℕ). p ≡ 0 + 2) Derivation-read (two-bytes-at d 0) _ (two-bytes-held d Derivation-fault ends byte 0) λ c p fits is.
+      let entry : (n p : ℕ) → among n entry-faults ≡ true → p < length d → Derivation-fault n p = λ n p is. byte n p (entry-byte n is) in
+      by-next d Derivation-fault (λ (c p : ℕ). p ≡ 0 + 2) Derivation-read (two-bytes-at d 0) _ (two-bytes-held d Derivation-fault ends entry 0) λ c p fits is.
       pick-has Derivation-held _ _ _ (λ _. byte _ 0 refl (omega (arith, fits, is))) λ _.
       by-next d Derivation-fault (λ (ls : List Line) (q : ℕ). Each (Line-below (length d)) ls) Derivation-read (repeated (line-at lim n m d layout) c p) _
-      (repeated-held d Derivation-fault ends byte (Line-below (length d)) (line-at lim n m d layout) (line-held d Derivation-fault ends byte lim n m layout) c p fits) λ ls q fits₂ so.
-      by-next d Derivation-fault (λ (ks : List ℕ) (e : ℕ). Closed (length d) layout q ks) Derivation-read (closing-at d layout q) _ (closing-held d Derivation-fault ends byte layout q fits₂) λ ks e fits₃ closed.
+      (repeated-held d Derivation-fault ends entry (Line-below (length d)) (line-at lim n m d layout) (line-held d Derivation-fault ends entry lim n m (λ n p is. byte n p (item-byte n is)) layout) c p fits) λ ls q fits₂ so.
+      by-next d Derivation-fault (λ (ks : List ℕ) (e : ℕ). Closed (length d) layout q ks) Derivation-read (closing-at d layout q) _ (closing-held d Derivation-fault ends entry layout q fits₂) λ ks e fits₃ closed.
       pick-has Derivation-held _ _ _ (λ more. byte _ e refl (ltb-true _ _ more)) (λ _. (fits₃, (record { lines = so; closing = closed }, short)))
 
   abbrev pub Checked : Got (Unit {0}) → Type 0

@@ -1,5 +1,5 @@
 -- What an answer's input, place and count are, by its number (FORMAT 4.3 to 4.44, 17.35, 17.36).
-use Prim.Native.Nat.{ℕ, _<_}
+use Prim.Native.Nat.{ℕ, _≤_, _<_}
 use mathlib.Core.Path.{_≡_}
 use mathlib.Core.Bool.{true, false}
 use mathlib.Core.List.{List, [], _∷_}
@@ -15,6 +15,7 @@ use Rattle.meaning.specs.Reading.{got}
 use Rattle.meaning.specs.Refusals.{settled}
 use Rattle.meaning.specs.States.{first-state}
 use Rattle.meaning.specs.Walk.{walked}
+use Rattle.meaning.specs.Answers.{row-answers}
 
 -- INPUT. The numbers that name neither (FORMAT 4.27), those that only the request gets, and those that only a derivation gets.
 unfoldable pub of-neither : List ℕ
@@ -70,3 +71,10 @@ pub record Walk-count (lim : Limits) (request : List ℕ) (budget : ℕ) (a : An
   pub walk : among (a .number) of-walks ≡ true → (r : Request) × (e : ℕ) × (settled lim request ≡ got r e) × (a .count ≡ walked r (first-state lim (r .table)) .count)
   pub spent : a .number ≡ Limits.budget-spent → a .count ≡ budget
   pub other : among (a .number) (Limits.budget-spent ∷ of-walks) ≡ false → a .count ≡ 0
+
+-- THE ROW of a release: what its four numbers are at most, over a file of this size.
+pub record Row-parts (size budget : ℕ) (a : Answer) : Type 0 where
+  pub number : among (a .number) row-answers ≡ true
+  pub place : a .place ≤ size
+  pub count : a .count ≤ budget
+  pub input : a .input ≤ Limits.the-request

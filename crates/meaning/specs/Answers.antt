@@ -14,6 +14,20 @@ refusals =
 unfoldable pub answers : List ℕ
 answers = Limits.verified ∷ Limits.goal-missed ∷ Limits.not-executable ∷ Limits.budget-spent ∷ Limits.state-length ∷ refusals
 
+-- The release call's own refusals but 9, all its own answers, and what a plan's row may say.
+unfoldable pub release-refusals : List ℕ
+release-refusals =
+    Limits.too-long ∷ Limits.ends-too-soon ∷ Limits.count-outside ∷ Limits.too-large ∷ Limits.not-above ∷ Limits.complement-beside ∷
+    Limits.contradictory-effects ∷ Limits.effect-and-knowledge ∷ Limits.bytes-after ∷ []
+
+unfoldable pub release-answers : List ℕ
+release-answers = Limits.verified ∷ Limits.state-length ∷ release-refusals
+
+unfoldable pub row-answers : List ℕ
+row-answers =
+    Limits.verified ∷ Limits.goal-missed ∷ Limits.not-executable ∷ Limits.budget-spent ∷ Limits.ends-too-soon ∷ Limits.count-outside ∷ Limits.too-large ∷
+    Limits.not-above ∷ Limits.complement-beside ∷ Limits.not-exclusive ∷ Limits.nested-too-deep ∷ Limits.too-many-items ∷ Limits.not-reached ∷ []
+
 -- The refusals of a derivation, and all that the derivation call and the whether call answer.
 unfoldable pub end-fault : Layout → ℕ
 end-fault Plain = Limits.not-the-question

@@ -9,6 +9,7 @@ pub mod Formerly
 pub mod States
 pub mod Walk
 pub mod Judging
+pub mod Releases
 pub mod Asking
 pub mod Worlds
 pub mod Values

@@ -50,6 +50,10 @@ former = record {
   citations = format .citations;
 }
 
+-- The plans that a release may hold. It is no field of the record: only the release call speaks of it.
+abbrev pub most-plans : ℕ
+most-plans = 64
+
 -- The format's literals are below twice its fluents (FORMAT 2.2, 2.3).
 abbrev pub all-literals : ℕ
 all-literals = 2 * format .fluents
@@ -109,6 +113,9 @@ bytes-after = 20
 
 abbrev pub too-many-items : ℕ
 too-many-items = 21
+
+abbrev pub not-reached : ℕ
+not-reached = 22
 
 abbrev pub whether-asked : ℕ
 whether-asked = 30
