@@ -3,11 +3,10 @@ use Prim.Native.Nat.{ℕ, zero, suc, _+_, _*_, _/_, _%_, _^_, _<_}
 use native.Mathlib.Omega.{arith}
 use native.Mathlib.Nat.{div-div-eq-div-mul, one-mul, pow-succ'}
 use mathlib.Core.Path.{_≡_, refl, sym, _∙_, ap}
-use mathlib.Core.Bool.{Bool, true, false}
+use mathlib.Core.Bool.{true, false}
 use lib.Dec.{eqb}
+use lib.Bits.{bitOr, or-step, or-zero-r}
 use lib.Pow.{shl-exact}
-use mir.Syntax.{w16, w64}
-use mir.Val.{Fits}
 use borrow.Author.Tests.{eqb-true, eqb-false, eq-eqb}
 use Rattle.meaning.proofs.TestLaws.{by-test, pick-true, pick-false}
 use Rattle.reading.specs.Bits.{bit-of, with-bit}
@@ -71,42 +70,24 @@ pub no-bit : (i : ℕ) → bit-of 0 i ≡ false
 no-bit zero = bit-zero 0
 no-bit (suc i) = bit-suc 0 i ∙ no-bit i
 
--- A number of n bits stays one.
-pub bit-fits : (n w i : ℕ) → w < 2 ^ n → i < n → with-bit w i < 2 ^ n
-bit-fits zero w i below near = absurd (omega arith)
-bit-fits (suc n) w zero below near =
-    let odd = first-odd w in let half = first-half w in let power = pow-succ' 2 n in
-    omega arith
-bit-fits (suc n) w (suc i) below near =
-    let power = pow-succ' 2 n in
-    let less = bit-fits n (w / 2) i (omega arith) (omega arith) in
-    let half = later-half w i in
-    omega arith
-
--- THE CODE. A right shift is a quotient, and a left shift loses nothing.
+-- THE CODE. A right shift is a quotient, a left shift loses nothing, and `|` goes from half to half.
 pub has-is : (w i : ℕ) → eqb (w / 2 ^ i % 2) 1 ≡ bit-of w i
 unfolding bit-of
 has-is w i = refl
 
-module _ (w i : ℕ) (r : Bool) (asked : r ≡ bit-of w i) where
-  pub with-had : r ≡ true → w ≡ with-bit w i
-  unfolding with-bit
-  with-had e = sym (pick-true _ _ _ (sym asked ∙ e))
+or-is : (w i : ℕ) → bitOr w (2 ^ i) ≡ with-bit w i
+or-is w zero =
+    let step = or-step w 1 in
+    let rest = or-zero-r (w / 2) in
+    let odd = first-odd w in let half = first-half w in
+    omega arith
+or-is w (suc i) =
+    let power = pow-succ' 2 i in
+    let step = or-step w (2 ^ suc i) in
+    let halved : 2 ^ suc i / 2 ≡ 2 ^ i = omega arith in
+    let rest = ap (bitOr (w / 2)) halved ∙ or-is (w / 2) i in
+    let odd = later-odd w i in let half = later-half w i in
+    omega arith
 
-  module _ (near : i < 16) (none : r ≡ false) where
-    shifted : (1 * 2 ^ i) % 2 ^ 64 ≡ 2 ^ i
-    shifted = shl-exact {a = 1} 1 i 64 (omega arith) (omega arith) ∙ one-mul (2 ^ i)
-
-    pub with-added : w + (1 * 2 ^ i) % 2 ^ 64 ≡ with-bit w i
-    unfolding with-bit
-    with-added = ap (λ (x : ℕ). w + x) shifted ∙ sym (pick-false _ _ _ (sym asked ∙ none))
-
-    module _ (small : Fits w16 w) where
-      added-below : w + (1 * 2 ^ i) % 2 ^ 64 < 65536
-      added-below = rw with-added (bit-fits 16 w i (small .fits) near)
-
-      pub added-fits : Fits w64 (w + (1 * 2 ^ i) % 2 ^ 64)
-      added-fits = let below = added-below in record { fits = omega arith }
-
-      pub added-narrow : Fits w16 (w + (1 * 2 ^ i) % 2 ^ 64)
-      added-narrow = record { fits = added-below }
+pub with-is : (w i : ℕ) → i < 16 → bitOr w ((1 * 2 ^ i) % 2 ^ 16) ≡ with-bit w i
+with-is w i near = ap (bitOr w) (shl-exact {a = 1} 1 i 16 (omega arith) (omega arith) ∙ one-mul (2 ^ i)) ∙ or-is w i

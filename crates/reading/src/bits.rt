@@ -16,10 +16,6 @@ pub fn with_bit(w: u16, i: usize) -> u16
     requires { ⌜ i < 16 ⌝ }
     ensures { λ r. ⌜ r ≡ with-bit w i ⌝ }
 {
-    if has_bit(w, i) {
-        return w;
-    }
-    let bit: usize = 1 << i;
-    let sum = w as usize + bit;
-    sum as u16
+    let bit: u16 = 1 << i as u16;
+    w | bit
 }
