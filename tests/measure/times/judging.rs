@@ -90,7 +90,7 @@ pub fn judgements() {
         ("255 barred at the last, 1,024 actions", barred(1024)),
         ("15 looks, all ends judged", looks(15)),
         ("20 looks, budget spent", looks(20)),
-        ("512 looks at 63, budget spent", deep()),
+        ("512 looks at 127, budget spent", deep()),
     ] {
         let (number, _, count, _) = proved(&bytes);
         assert_eq!(proved(&bytes), independent(&bytes), "{name}");
