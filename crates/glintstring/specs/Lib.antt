@@ -3,4 +3,5 @@ pub mod Missing
 pub mod LentState
 pub mod ShownPart
 pub mod Packing
+pub mod Releasing
 pub mod CheckCalls

@@ -29,7 +29,7 @@ fn start_of(items: usize) -> usize
 }
 
 // The walk of a settled request.
-fn walk_plan(request: &[u8], t: &Notes, state: &mut [u8], budget: u32) -> Answer
+pub(crate) fn walk_plan(request: &[u8], t: &Notes, state: &mut [u8], budget: u32) -> Answer
     requires { ⌜ At-hand (now request) (now t) ⌝ }
     requires { ⌜ length (now state) ≡ format .state ⌝ }
     ensures { λ r. ⌜ record { answer = r; state = now (state .exit) } ≡ within (now (state .entry)) budget (walked (request-in (now (request .entry)) (now (t .entry))) (first-state format (table-in (now (request .entry))))) ⌝ }
