@@ -113,7 +113,7 @@ static inline const char *glintstring_words(unsigned number) {
     case GLINTSTRING_GOAL_MISSED: return "goal missed";
     case GLINTSTRING_NOT_EXECUTABLE: return "not executable";
     case GLINTSTRING_BUDGET_SPENT: return "budget spent";
-    case GLINTSTRING_STATE_LENGTH_WRONG: return "the lent state has another length than 128 bytes, or the lent row another than four numbers for each plan";
+    case GLINTSTRING_STATE_LENGTH_WRONG: return "the lent state or row has another length than it is to have";
     case GLINTSTRING_TOO_LONG: return "too long";
     case GLINTSTRING_INPUT_ENDS: return "the input ends where a byte is due";
     case GLINTSTRING_COUNT_NOT_WITHIN_LIMITS: return "a count is not within its limits";
