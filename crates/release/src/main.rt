@@ -20,20 +20,19 @@ const NUMBERS: usize = 4;
 
 const ROW_ROOM: usize = NUMBERS * limits::PLANS;
 
-// What stands behind number i of a row: after each four the line ends.
-fn put_behind(i: usize) -> bool {
+// Number i of a row, and what stands behind it: after each four the line ends.
+fn put_at(i: usize, number: u32) -> bool {
     if i % NUMBERS == NUMBERS - 1 {
-        return put(b"\n");
+        return put_number(number as u64) && put(b"\n");
     }
-    put(b" ")
+    put_number(number as u64) && put(b" ")
 }
 
 // A line for each plan.
 fn put_row(row: &[u32]) -> bool {
     let mut i = 0;
     while i < row.len() {
-        let number = row[i];
-        if !(put_number(number as u64) && put_behind(i)) {
+        if !put_at(i, row[i]) {
             return false;
         }
         i += 1;
@@ -42,13 +41,12 @@ fn put_row(row: &[u32]) -> bool {
 }
 
 // The call's own answer, and where it is 0 the row, for so many plans.
-fn answer_plans(file: &[u8], budget: u32, count: usize) -> bool {
-    if count > limits::PLANS {
+fn answer_plans(file: &[u8], budget: u32, count: usize, row: &mut [u32]) -> bool {
+    if row.len() / NUMBERS < count {
         return false;
     }
-    let mut row = [0u32; ROW_ROOM];
-    let end = NUMBERS * count;
-    let answer = release(file, &mut row[..end], budget);
+    let lent = &mut row[..NUMBERS * count];
+    let answer = release(file, lent, budget);
     if !put_line(
         STDOUT_FILENO,
         answer.number as u64,
@@ -58,7 +56,7 @@ fn answer_plans(file: &[u8], budget: u32, count: usize) -> bool {
         return false;
     }
     if answer.number == answers::VERIFIED {
-        return put_row(&row[..end]);
+        return put_row(lent);
     }
     true
 }
@@ -68,8 +66,8 @@ fn answer_to(file: &[u8], budget: u32) -> bool {
     if !stack_is_enough(b"release", b"", file.len()) {
         return true;
     }
-    let count = plans(file);
-    answer_plans(file, budget, count)
+    let mut row = [0u32; ROW_ROOM];
+    answer_plans(file, budget, plans(file), &mut row)
 }
 
 fn release_input(budget: u32) {
