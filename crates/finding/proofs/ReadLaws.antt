@@ -347,7 +347,7 @@ module _ (s : List ℕ) (x : Table) (few : x .fluents ≤ format .fluents) (less
   of-request : Request-parts s x p y
   of-request = request-parts s x p y q read
 
-  pub items-most : (of-request .items ≡ items-of (y .plan)) × (items-of (y .plan) ≤ format .items)
+  items-most : (of-request .items ≡ items-of (y .plan)) × (items-of (y .plan) ≤ format .items)
   unfolding plan-at
   items-most =
       let sized = sequence-read (x .fluents) (x .actions) s 8 p 0 (omega arith) .holds (record { value = y .plan; items = of-request .items }) (of-request .plan-end) (of-request .plan-read) in
