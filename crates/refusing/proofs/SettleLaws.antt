@@ -49,7 +49,7 @@ module _ {B : Type 0} (x : Table) (e : ℕ) (k : Got B) where
   behind nowhere (at i) = refl
   behind nowhere nowhere = refl
 
-  behind-table : refuse 16 (contradiction-in x) (λ _. refuse 17 (mixed-in (x .effects) (x .knowledge)) (λ _. k)) ≡ next (table-settled x e) (λ _ _. k)
+  pub behind-table : refuse 16 (contradiction-in x) (λ _. refuse 17 (mixed-in (x .effects) (x .knowledge)) (λ _. k)) ≡ next (table-settled x e) (λ _ _. k)
   unfolding table-settled table-unmixed
   behind-table = behind (contradiction-in x) (mixed-in (x .effects) (x .knowledge))
 
