@@ -6,7 +6,7 @@ use Rattle.meaning.specs.Limits.{format}
 use Rattle.meaning.specs.Requests.{Request}
 use Rattle.meaning.specs.Reading.{got, read-request}
 use Rattle.reading.specs.Requested.{request-noted}
-pub use Rattle.finding.specs.TablesHere.{blank}
+use Rattle.finding.specs.TablesHere.{blank}
 
 -- A request was read up to e, into notes that held nothing before.
 pub record Read-here (s t : List ℕ) (e : ℕ) : Type 0 where

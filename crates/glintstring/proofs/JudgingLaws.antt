@@ -24,7 +24,7 @@ use Rattle.bytes.specs.declared.lists.Passed.the-variants.{To, Fault as Stop}
 use Rattle.reading.specs.Noted.{noting, outcome, items-slot}
 use Rattle.reading.specs.Listed.{listed}
 use Rattle.reading.specs.Requested.{request-noted}
-use Rattle.finding.specs.ReadHere.{blank}
+use Rattle.finding.specs.TablesHere.{blank}
 use Rattle.reading.proofs.SectionLaws.{noting-fault}
 use Rattle.steps.specs.Held.{table-in, request-in}
 use Rattle.steps.specs.AtHand.{At-hand, Marked}

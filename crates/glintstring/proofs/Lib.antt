@@ -4,6 +4,7 @@ pub mod MarkedLaws
 pub mod FirstLaws
 pub mod SettledAtHand
 pub mod JudgingLaws
+pub mod ReleasingLaws
 pub mod MissingLaws
 pub mod ShowingLaws
 pub mod PackingLaws

@@ -35,7 +35,7 @@ use Rattle.reading.specs.Noted as Noted
 use Rattle.reading.specs.Noted.{noting, plan-slot, items-slot}
 use Rattle.reading.specs.Requested.{request-noted}
 use Rattle.reading.proofs.SectionLaws.{noting-fault}
-use Rattle.finding.specs.ReadHere.{blank}
+use Rattle.finding.specs.TablesHere.{blank}
 use Rattle.steps.specs.Held.{table-in, plan-in, goals-in, request-in}
 use Rattle.steps.specs.AtHand.{At-hand}
 use Rattle.steps.proofs.HandLaws.{sections}

@@ -15,7 +15,7 @@ use Rattle.bytes.specs.declared.lists.Passed.the-variants.{To}
 use Rattle.reading.specs.Noted.{noting, outcome, slots}
 use Rattle.reading.specs.Requested.{request-noted}
 use Rattle.reading.proofs.SectionLaws.{noting-got}
-use Rattle.finding.specs.ReadHere.{blank}
+use Rattle.finding.specs.TablesHere.{blank}
 use Rattle.steps.specs.Held.{request-in}
 use Rattle.steps.specs.AtHand.{At-hand}
 use Rattle.steps.proofs.JustRead.{read-at-hand, request-read}

@@ -2,13 +2,14 @@
 use Prim.Native.Nat.{ℕ, _+_, _-_, _*_, _≤_, _<_}
 use mathlib.Core.Path.{_≡_}
 use mathlib.Core.List.{List, _++_}
-use lib.ListN.{length, set, replicate, take}
+use lib.ListN.{length, replicate, take}
+use lib.Seq.{sets}
 use Rattle.meaning.specs.declared.Answer.{Answer}
 use Rattle.meaning.specs.Limits
 use Rattle.meaning.specs.Limits.{format}
 use Rattle.meaning.specs.Reading.{Got, got, next, Met}
 use Rattle.meaning.specs.Refusals.{refuse}
-use Rattle.meaning.specs.Releases.{Opening, opening, plans-at, byte-after, unreached, answers-at, rows}
+use Rattle.meaning.specs.Releases.{Opening, opening, plans-at, byte-after, unreached, answers-at, in-row, rows}
 use Rattle.reading.specs.Noted.{table-noted}
 use Rattle.finding.specs.TablesHere.{table-in, Table-here}
 
@@ -16,11 +17,12 @@ use Rattle.finding.specs.TablesHere.{table-in, Table-here}
 unfoldable pub opening-noted : (s t : List ℕ) → Got (Met (List ℕ))
 opening-noted s t = next (opening format s) λ o p. got (record { value = table-noted (o .table) t; items = o .plans }) p
 
--- The plans of a file that was opened start at a place.
+-- A file that was opened: its table is there, and its plans start at a place.
 pub record Opened-here (s t : List ℕ) (plans start : ℕ) : Type 0 where
   pub here : Table-here s t
-  pub opens : opening format s ≡ got (record { table = table-in s; table-end = here .table-end; plans = plans }) start
-  pub behind : start ≡ here .table-end + 1
+  pub opens : Opening
+  pub opened : opening format s ≡ got opens start
+  pub counts : opens .plans ≡ plans
 
 -- The file is no longer than it may be, and n and m are the numbers of its fluents and actions.
 pub record Counted (s : List ℕ) (n m : ℕ) : Type 0 where
@@ -31,7 +33,7 @@ pub record Counted (s : List ℕ) (n m : ℕ) : Type 0 where
 
 -- THE ROW with the answer of plan k written into it, and with plan k and those behind it not reached.
 unfoldable pub with-answer : List ℕ → (k : ℕ) → Answer → List ℕ
-with-answer row k a = set (set (set (set row (4 * k) (a .number)) (4 * k + 1) (a .place)) (4 * k + 2) (a .count)) (4 * k + 3) (a .input)
+with-answer row k a = sets row (4 * k) (in-row a)
 
 unfoldable pub with-unreached : List ℕ → (k plans : ℕ) → List ℕ
 with-unreached row k plans = take (4 * k) row ++ rows (replicate (plans - k) unreached)

@@ -142,6 +142,7 @@ fn answer_plans(
     requires { ⌜ Counted (now file) n m ⌝ }
     requires { ⌜ Table-here (now file) (now t) ⌝ }
     requires { ⌜ contradiction-in (table-in (now file)) ≡ nowhere ⌝ }
+    requires { ⌜ start ≤ length (now file) ⌝ }
     requires { ⌜ length (now row) ≡ 4 * plans ⌝ }
     ensures { λ _. ⌜ now (row .exit) ≡ rows (answers-at format (now (file .entry)) (table-in (now (file .entry))) budget plans start) ⌝ }
 {
@@ -175,6 +176,7 @@ fn answer_file(
 ) -> Answer
     requires { ⌜ Table-here (now file) (now t) ⌝ }
     requires { ⌜ contradiction-in (table-in (now file)) ≡ nowhere ⌝ }
+    requires { ⌜ start ≤ length (now file) ⌝ }
     requires { ⌜ length (now row) ≡ 4 * plans ⌝ }
     ensures { λ r. ⌜ record { answer = r; row = now (row .exit) } ≡ released (now (row .entry)) (past-table (now (file .entry)) budget plans start) ⌝ }
 {

@@ -1,10 +1,10 @@
 -- An overlap is refused at its place; else nothing is.
 use Rattle.refusing.proofs.SettleLaws.{stand-18, none-18, at-18}
 use borrow.Author.Needs.{needs}
-use Rattle.refusing.proofs.settled.refused_from_18.Statement.{statement}
-use Rattle.refusing.proofs.settled.refused_from_18.Tie as tie
-use Rattle.refusing.proofs.settled.refused_from_18.Reads as reads
-use Rattle.refusing.proofs.settled.refused_from_18.Lts as lts
+use Rattle.refusing.proofs.settled.plan_refused.Statement.{statement}
+use Rattle.refusing.proofs.settled.plan_refused.Tie as tie
+use Rattle.refusing.proofs.settled.plan_refused.Reads as reads
+use Rattle.refusing.proofs.settled.plan_refused.Lts as lts
 use Rattle.refusing.proofs.refusal_18.overlap.Reads as overlap-reads
 use Rattle.reading.proofs.notes.get.Reads as get-reads
 
@@ -32,6 +32,6 @@ returns c = search (none-18, c .before .before .before .before .shared-slice-kno
 returns-2 : tie.Need-returns-2
 returns-2 c = search (at-18, c .before .before .before .before .before .shared-slice-known .given)
 
-pub refused-from-18-spec : {M : Type 1} → statement M
-refused-from-18-spec =
+pub plan-refused-spec : {M : Type 1} → statement M
+plan-refused-spec =
     tie.close (tie.spec get-requires overlap-requires enum-told enum-known-p returns returns-2)
