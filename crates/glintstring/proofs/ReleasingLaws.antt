@@ -5,10 +5,10 @@ use native.Mathlib.Omega.{arith}
 use mathlib.Core.Path.{_≡_, refl, sym, _∙_, ap, subst}
 use mathlib.Core.Bool.{Bool, true, false}
 use mathlib.Core.List.{List, [], _∷_, _++_, append-assoc}
-use lib.ListN.{length, length-append, getD, take, replicate}
+use lib.ListN.{length, length-append, getD, set, length-set, take, replicate}
 use lib.Seq.{take-all, length-take-le, take-at, sets-eq, length-sets}
 use lib.Dec.{eqb, ltb}
-use mir.Syntax.{w8}
+use mir.Syntax.{w8, w64}
 use mir.Val.{Fits}
 use borrow.Author.Tests.{eq-eqb, ne-eqb, lt-ltb, le-ltb}
 use Rattle.meaning.specs.declared.Answer.{Answer}
@@ -25,7 +25,7 @@ use Rattle.meaning.specs.Releases.{Opening, opening, plans-at, byte-after, plan
 use Rattle.meaning.specs.Tests.{pick}
 use Rattle.meaning.proofs.TestLaws.{pick-true, pick-false}
 use Rattle.meaning.proofs.SettledLaws.{got-same, next-got, refuse-got}
-use Rattle.meaning.proofs.RangeLaws.{got-place}
+use Rattle.meaning.proofs.RangeLaws.{got-place, count-within}
 use Rattle.meaning.proofs.ReleaseLaws.{Opened, opened, answer-placed, plan-inside, table-below}
 use Rattle.bytes.specs.declared.bytes.Read.{Read}
 use Rattle.bytes.specs.declared.bytes.Read.the-variants.{Value, Fault}
@@ -114,9 +114,9 @@ module _ (s t u : List ℕ) (r : Read) (read : outcome-met r u ≡ opening-noted
   unfolding plans-in plans-of
   plans-none k p is = sym (ap plans-of (open-stop k p is))
 
-  pub release-fault : (k p : ℕ) (lent : List ℕ) (budget : ℕ) → r ≡ Fault k p → record { answer = record { number = k; input = 1; place = p; count = 0 }; row = lent } ≡ release format s lent budget
+  pub release-fault : (k p : ℕ) (lent : List ℕ) (budget : ℕ) → r ≡ Fault k p → (a : Answer) → a ≡ record { number = k; input = 1; place = p; count = 0 } → record { answer = a; row = lent } ≡ release format s lent budget
   unfolding release release-opened own-answer
-  release-fault k p lent budget is = sym (ap (release-opened format s lent budget) (open-stop k p is))
+  release-fault k p lent budget is a said = ap (λ (x : Answer). record { answer = x; row = lent }) said ∙ sym (ap (release-opened format s lent budget) (open-stop k p is))
 
   pub opens-here : (n q : ℕ) → r ≡ Value n q → ((i : ℕ) → Fits w8 (getD s i 0)) → t ≡ blank → Opened-here s u n q
   opens-here n q is bytes empty =
@@ -129,10 +129,25 @@ module _ (s t u : List ℕ) (r : Read) (read : outcome-met r u ≡ opening-noted
         counts = g .2;
       }
 
+-- A plan count is small.
+pub plans-small : (s : List ℕ) (n : ℕ) → n ≡ plans-in format s → n < 4294967296
+unfolding plans-in plans-of
+plans-small s n is = by-opening (opening format s) refl is
+  where
+    by-opening : (g : Got Opening) → opening format s ≡ g → n ≡ plans-of g → n < 4294967296
+    by-opening (got o p) opens counts = let few = count-within 1 Limits.most-plans s (o .table-end) (o .plans) p (opened format s o p opens .count) in omega arith
+    by-opening (fault k p) opens counts = omega arith
+
 -- PAST THE OPENING.
 module _ (s t : List ℕ) (plans start : ℕ) (here : Opened-here s t plans start) where
   passed-by : Opened format s (here .opens) start
   passed-by = opened format s (here .opens) start (here .opened)
+
+  pub row-counted : Fits w64 (4 * plans)
+  row-counted =
+      let few = count-within 1 Limits.most-plans s (here .opens .table-end) (here .opens .plans) start (passed-by .count) in
+      let same = here .counts in
+      record { fits = omega arith }
 
   pub table-there : Table-here s t
   table-there = here .here
@@ -157,9 +172,9 @@ module _ (s t : List ℕ) (plans start : ℕ) (here : Opened-here s t plans star
     unfolding release
     opened-so = ap (release-opened format s lent budget) (here .opened)
 
-    pub release-9 : (length lent ≡ 4 * plans → ⊥) → record { answer = record { number = 9; input = 0; place = 0; count = 0 }; row = lent } ≡ release format s lent budget
+    pub release-9 : (length lent ≡ 4 * plans → ⊥) → (a : Answer) → a ≡ record { number = 9; input = 0; place = 0; count = 0 } → record { answer = a; row = lent } ≡ release format s lent budget
     unfolding release-opened own-answer
-    release-9 other = sym (opened-so ∙ pick-false _ _ _ (ne-eqb _ _ (λ e. other (e ∙ ap (λ (k : ℕ). 4 * k) (here .counts)))))
+    release-9 other a said = ap (λ (x : Answer). record { answer = x; row = lent }) said ∙ sym (opened-so ∙ pick-false _ _ _ (ne-eqb _ _ (λ e. other (e ∙ ap (λ (k : ℕ). 4 * k) (here .counts)))))
 
     module _ (sized : length lent ≡ 4 * plans) (first : Passed) (asked : first ≡ passed (table-settled (table-in s) (start - 1))) where
       settled-so : release format s lent budget ≡ released lent (next (table-settled (table-in s) (start - 1)) (λ _ _. past-table s budget plans start))
@@ -170,9 +185,9 @@ module _ (s t : List ℕ) (plans start : ℕ) (here : Opened-here s t plans star
           ∙ rw (same-table, here .counts) (ap (released lent) (behind-table (here .opens .table) (start - 1)
           (refuse 20 (byte-after s (plans-at format s (here .opens .table) plans start)) (λ _. got (answers-at format s (here .opens .table) budget plans start) start))))
 
-      pub release-first : (k p : ℕ) → first ≡ Stop k p → record { answer = record { number = k; input = 1; place = p; count = 0 }; row = lent } ≡ release format s lent budget
+      pub release-first : (k p : ℕ) → first ≡ Stop k p → (a : Answer) → a ≡ record { number = k; input = 1; place = p; count = 0 } → record { answer = a; row = lent } ≡ release format s lent budget
       unfolding released own-answer next
-      release-first k p stops = sym (settled-so ∙ rw (passed-stop (table-settled (table-in s) (start - 1)) k p (sym asked ∙ stops)))
+      release-first k p stops a said = ap (λ (x : Answer). record { answer = x; row = lent }) said ∙ sym (settled-so ∙ rw (passed-stop (table-settled (table-in s) (start - 1)) k p (sym asked ∙ stops)))
 
       module _ (q : ℕ) (goes : first ≡ To q) where
         pub release-then : (a : Answer) (row : List ℕ) → record { answer = a; row = row } ≡ released lent (past-table s budget plans start) → record { answer = a; row = row } ≡ release format s lent budget
@@ -203,14 +218,14 @@ module _ (s t : List ℕ) (here : Table-here s t) where
   }
 
 module _ (s : List ℕ) (lent : List ℕ) (budget plans start : ℕ) (f : Found) (answer : f ≡ found (byte-after s (plans-at format s (table-in s) plans start))) where
-  pub file-20 : (p : ℕ) → f ≡ At p → record { answer = record { number = 20; input = 1; place = p; count = 0 }; row = lent } ≡ released lent (past-table s budget plans start)
+  pub file-20 : (p : ℕ) → f ≡ At p → (a : Answer) → a ≡ record { number = 20; input = 1; place = p; count = 0 } → record { answer = a; row = lent } ≡ released lent (past-table s budget plans start)
   unfolding released own-answer past-table refuse
-  file-20 p is = rw (found-at (byte-after s (plans-at format s (table-in s) plans start)) f answer p is)
+  file-20 p is a said = rw (said, found-at (byte-after s (plans-at format s (table-in s) plans start)) f answer p is)
 
   pub file-answered : (row : List ℕ) → f ≡ Nowhere → row ≡ rows (answers-at format s (table-in s) budget plans start)
-      → record { answer = record { number = 0; input = 0; place = 0; count = 0 }; row = row } ≡ released lent (past-table s budget plans start)
+      → (a : Answer) → a ≡ record { number = 0; input = 0; place = 0; count = 0 } → record { answer = a; row = row } ≡ released lent (past-table s budget plans start)
   unfolding released own-answer past-table refuse
-  file-answered row is written = rw (found-none (byte-after s (plans-at format s (table-in s) plans start)) f answer is, written)
+  file-answered row is written a said = rw (said, found-none (byte-after s (plans-at format s (table-in s) plans start)) f answer is, written)
 
 -- A PLAN THAT IS READ, with whatever is noted before it.
 module _ (s : List ℕ) (n m : ℕ) (counted : Counted s n m) (p : ℕ) (t u : List ℕ) (r : Passed) (read : outcome r u ≡ plan-first n m s p t) where
@@ -299,9 +314,9 @@ module _ (s t : List ℕ) (here : At-hand s t) (items : ℕ) (is : items ≡ get
     overlap-is : f ≡ found (overlap-in (plan-in s t))
     overlap-is = answer .holds (plan-in s t) (here .held) counts-items
 
-    pub plan-18 : (p : ℕ) → f ≡ At p → record { number = 18; input = 1; place = p; count = 0 } ≡ plan-answer format budget (got (request-in s t) 0)
+    pub plan-18 : (p : ℕ) → f ≡ At p → (a : Answer) → a ≡ record { number = 18; input = 1; place = p; count = 0 } → a ≡ plan-answer format budget (got (request-in s t) 0)
     unfolding plan-answer judge-settled next refuse request-in
-    plan-18 p met = sym (ap (λ (g : Refusals.Found). judge-settled format [] budget (refuse 18 g (λ _. got (request-in s t) 0)) .answer) (found-at (overlap-in (plan-in s t)) f overlap-is p met))
+    plan-18 p met a said = said ∙ sym (ap (λ (g : Refusals.Found). judge-settled format [] budget (refuse 18 g (λ _. got (request-in s t) 0)) .answer) (found-at (overlap-in (plan-in s t)) f overlap-is p met))
 
     pub plan-walked : f ≡ Nowhere → (lent left : List ℕ) (a : Answer) → record { answer = a; state = left } ≡ within lent budget (walked (request-in s t) (first-state format (table-in s)))
         → a ≡ plan-answer format budget (got (request-in s t) 0)
@@ -312,6 +327,27 @@ module _ (s t : List ℕ) (here : At-hand s t) (items : ℕ) (is : items ≡ get
         ∙ sym (ap (λ (g : Refusals.Found). judge-settled format [] budget (refuse 18 g (λ _. got (request-in s t) 0)) .answer) (found-none (overlap-in (plan-in s t)) f overlap-is none))
 
 -- THE ROW, from the left.
+module _ (row : List ℕ) (k : ℕ) (room : 4 * k + 4 ≤ length row) where
+  pub room-1 : (i v : ℕ) → 4 * k + 1 < length (set row i v)
+  room-1 i v = let same = length-set row i v in omega arith
+
+  pub room-2 : (i v j w : ℕ) → 4 * k + 2 < length (set (set row i v) j w)
+  room-2 i v j w = let one = length-set row i v in let two = length-set (set row i v) j w in omega arith
+
+  pub room-3 : (i v j w l x : ℕ) → 4 * k + 3 < length (set (set (set row i v) j w) l x)
+  room-3 i v j w l x = let one = length-set row i v in let two = length-set (set row i v) j w in let three = length-set (set (set row i v) j w) l x in omega arith
+
+pub put-is : (row : List ℕ) (k : ℕ) (a : Answer) → set (set (set (set row (4 * k) (a .number)) (4 * k + 1) (a .place)) (4 * k + 2) (a .count)) (4 * k + 3) (a .input) ≡ with-answer row k a
+unfolding with-answer in-row
+put-is row k a =
+    let one : 4 * k + 1 ≡ suc (4 * k) = omega arith in
+    let two : 4 * k + 2 ≡ suc (suc (4 * k)) = omega arith in
+    let three : 4 * k + 3 ≡ suc (suc (suc (4 * k))) = omega arith in
+    rw (one, two, three) refl
+
+pub nothing-placed : (a : Answer) (number input : ℕ) → a ≡ record { number = number; input = input; place = 0; count = 0 } → a .place < 65536
+nothing-placed a number input is = let at : a .place ≡ 0 = ap (λ (x : Answer). x .place) is in omega arith
+
 put-there : (row : List ℕ) (k : ℕ) (a : Answer) → 4 * k + 4 ≤ length row → take (4 * (k + 1)) (with-answer row k a) ≡ take (4 * k) row ++ in-row a
 unfolding with-answer in-row
 put-there row k a room =
@@ -345,13 +381,14 @@ module _ (all row : List ℕ) (plans i : ℕ) (leaves : Leaving all row plans i)
   pub leaving-room : i < plans → 4 * i + 4 ≤ length row
   leaving-room more = let sized = leaves .sized in omega arith
 
-  pub leaving-next : i < plans → (left : List ℕ) → left ≡ with-answer row i (record { number = 22; input = 0; place = 0; count = 0 }) → Leaving all left plans (i + 1)
+  pub leaving-next : i < plans → (a : Answer) → a ≡ record { number = 22; input = 0; place = 0; count = 0 } → (left : List ℕ) → left ≡ with-answer row i a → Leaving all left plans (i + 1)
   unfolding unreached
-  leaving-next more left is =
+  leaving-next more a said left written =
       let one : plans - i ≡ suc (plans - (i + 1)) = omega arith in
+      let is : left ≡ with-answer row i unreached = written ∙ ap (with-answer row i) said in
       record {
         few = omega arith;
-        sized = rw is (put-long row i (record { number = 22; input = 0; place = 0; count = 0 }) ∙ leaves .sized);
+        sized = rw is (put-long row i unreached ∙ leaves .sized);
         so-far = rw is (leaves .so-far ∙ ap (λ (k : ℕ). take (4 * i) row ++ rows (replicate k unreached)) one ∙ put-next row i unreached (replicate (plans - (i + 1)) unreached) (leaving-room more));
       }
 
@@ -447,9 +484,10 @@ module _ (s t row : List ℕ) (budget plans start k p : ℕ) (answers : Answerin
     fails-there : request-at format s (table-in s) p ≡ fault number q
     fails-there = plan-stop s n m counted p t u r read number q is
 
-    pub answering-fault : q < 65536
+    pub answering-fault : (a : Answer) → a ≡ record { number = number; input = 1; place = q; count = 0 } → a .place < 65536
     unfolding plan-answer next judge-settled
-    answering-fault =
+    answering-fault a said =
+        let at : a .place ≡ q = ap (λ (x : Answer). x .place) said in
         let inside = answer-inside in
         let same : plan-answer format budget (request-at format s (table-in s) p) .place ≡ q = ap (λ (g : Got Request). plan-answer format budget g .place) fails-there in
         let short = answers .here .short in
@@ -458,9 +496,12 @@ module _ (s t row : List ℕ) (budget plans start k p : ℕ) (answers : Answerin
     pub answering-few : k + 1 ≤ plans
     answering-few = omega arith
 
-    module _ (left : List ℕ) (written : left ≡ with-answer row k (record { number = number; input = 1; place = q; count = 0 })) where
+    module _ (a : Answer) (said : a ≡ record { number = number; input = 1; place = q; count = 0 }) (left : List ℕ) (put : left ≡ with-answer row k a) where
+      written : left ≡ with-answer row k (record { number = number; input = 1; place = q; count = 0 })
+      written = put ∙ ap (with-answer row k) said
+
       pub answering-sized : length left ≡ 4 * plans
-      answering-sized = rw written (put-long row k (record { number = number; input = 1; place = q; count = 0 }) ∙ answers .sized)
+      answering-sized = rw put (put-long row k a ∙ answers .sized)
 
       pub answering-stops : (last : List ℕ) → last ≡ with-unreached left (k + 1) plans → last ≡ rows (answers-at format s (table-in s) budget plans start)
       unfolding with-unreached plan-answer next judge-settled after-plan

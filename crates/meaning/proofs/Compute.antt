@@ -9,7 +9,6 @@ use Rattle.meaning.specs.States.{mark-of, known, possible, known-whether
 use Rattle.meaning.specs.Walk.{stopped-at, counted, keep-miss, after-miss, after-end, and-then, each-reading, after-step, run-action, walk, table-does, table-step, first-missed, missed-in, end-of, judged, walked}
 use Rattle.meaning.specs.Values
 use Rattle.meaning.specs.ValueStates
-use Rattle.meaning.specs.ValueWorlds
 use Rattle.meaning.specs.Judging.{written-over, reported, ended, within, judge-settled, judge}
 use Rattle.meaning.specs.Releases.{opening, plans-at, byte-after, plan-answer, unreached, after-plan, answers-at, in-row, rows, settled-plans, own-answer, released, release-opened, release, plans-of, plans-in}
 use Rattle.meaning.specs.Asking
