@@ -6,8 +6,8 @@ use std::process::ExitCode;
 use std::{env, fs};
 
 use oracle::examples::{self, DEFAULT_BUDGET};
-use oracle::text::{parse_bytes, state_line};
 use oracle::releases::{self, call::ROW_NUMBERS};
+use oracle::text::{parse_bytes, state_line};
 use oracle::{
     check, check_whether, judge_line, plans, release, rows, run, whether, Answer, STATE_LENGTH,
 };

@@ -22,6 +22,9 @@ const MANY_CAP: u32 = 2_000;
 /// More plans than this are many.
 const FEW_PLANS: usize = 4;
 
+/// Most knowledge lines of an action along which plans are grown.
+const MOST_SENSED: usize = 8;
+
 /// What is certain about a call before it is made.
 #[derive(Clone, Debug, PartialEq, Eq)]
 pub enum Outlook {
@@ -80,6 +83,23 @@ pub fn small_release_call(rng: &mut Rng, most_plans: usize) -> ReleaseCall {
             return any_release_call(rng, &draft);
         }
     }
+}
+
+/// A call of a small file with 64 plans, of an item at most.
+pub fn full_release_call(rng: &mut Rng) -> ReleaseCall {
+    let table = drawn(rng, &TINY);
+    let mut plans = Vec::new();
+    for _ in 0..PLAN_LIMIT {
+        let mut plan = unasked(table.clone(), Vec::new());
+        if rng.chance(30) {
+            plan.plan = vec![Item::act(rng.byte(0, table.actions - 1))];
+        }
+        if rng.chance(20) {
+            plan.whether = vec![rng.byte(0, table.fluents - 1)];
+        }
+        plans.push(plan);
+    }
+    sound_call(rng, &Draft { table, plans })
 }
 
 /// A call of a draft, damaged or not. Now and then the row has another length.
@@ -158,7 +178,20 @@ fn unasked(table: Request, plan: Vec<Item>) -> Request {
     }
 }
 
+/// A plan grown along its states, or a short one where an action would make too many of these.
 fn grown(rng: &mut Rng, table: Request) -> Request {
+    let lines = |action: u8| {
+        table
+            .knowledge
+            .iter()
+            .filter(move |line| line.action == action)
+    };
+    if (0..table.actions).any(|action| lines(action).count() > MOST_SENSED) {
+        let items = rng.below(4);
+        let plan = (0..items).map(|_| Item::act(rng.byte(0, table.actions - 1)));
+        let plan = plan.collect();
+        return unasked(table, plan);
+    }
     let shape: Shape = *rng.pick(&[TINY, TINY, SMALL, SMALL, MIDDLE]);
     asked(rng, table, &shape)
 }
@@ -378,7 +411,7 @@ fn misshapen(rng: &mut Rng, draft: &Draft) -> Draft {
         12 => {
             contradict(rng, &mut wrong.table);
             mix(rng, &mut wrong.table);
-            wrong.plans[index].plan.clear();
+            wrong.plans[index].plan = nest(rng, &draft.table, NESTING_LIMIT + 1);
         }
         13..=16 => {
             let depth = NESTING_LIMIT + rng.range(1, 2);

@@ -9,10 +9,10 @@
 //! stand in the first round only.
 
 use super::call::{plans, release};
-use super::calls::{lend_wrongly, lent_row, small_release_call, ReleaseCall};
+use super::calls::{full_release_call, lend_wrongly, lent_row, small_release_call, ReleaseCall};
 use super::run::{events, Event};
 use crate::answer::Answer;
-use crate::reader::{read_release, PLAN_LIMIT, REQUEST_LIMIT};
+use crate::reader::{read_release, REQUEST_LIMIT};
 use crate::rng::Rng;
 use crate::rows::{rounds, tell_bytes, Wanted, LONG_BYTES};
 use crate::settle::settle_plan;
@@ -92,7 +92,12 @@ fn row(rng: &mut Rng, wanted: Wanted<Shown>) -> String {
             ReleaseCall { file, lent, ..call }
         }
         OfPlan(21) => small_call(rng, wanted, LONG_BYTES, PLANS),
-        Shown::Event(Event::MostPlans) => small_call(rng, wanted, FULL_BYTES, PLAN_LIMIT),
+        Shown::Event(Event::MostPlans) => loop {
+            let call = full_release_call(rng);
+            if call.file.len() <= FULL_BYTES && is_light(&call) {
+                break call;
+            }
+        },
         _ if rng.chance(4) => small_call(rng, wanted, MORE_BYTES, MORE_PLANS),
         _ => small_call(rng, wanted, BYTES, PLANS),
     })

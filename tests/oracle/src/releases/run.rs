@@ -82,7 +82,10 @@ pub fn events(file: &[u8], lent: usize, own: Answer, row: &[u32]) -> Vec<Event> 
             _ => vec![Event::InTable],
         };
     };
-    let fault = release.plans.last().and_then(|plan| plan.read.as_ref().err());
+    let fault = release
+        .plans
+        .last()
+        .and_then(|plan| plan.read.as_ref().err());
     let right = ROW_NUMBERS * release.count;
     let told = match own.number {
         9 => vec![
@@ -311,7 +314,9 @@ fn expect_outlook(own: Answer, row: &[u32], outlook: &Outlook) -> Result<(), Str
     };
     match right {
         true => Ok(()),
-        false => Err(format!("own answer {own}, row {row:?}, expected {outlook:?}")),
+        false => Err(format!(
+            "own answer {own}, row {row:?}, expected {outlook:?}"
+        )),
     }
 }
 
