@@ -6,7 +6,7 @@ use oracle::text::{parse_bytes, state_line};
 
 use crate::calls::{agreed, expect, Call, Left};
 use crate::checks::{self, Check};
-use crate::whether_cases;
+use crate::{release_cases, whether_cases};
 
 pub const FILE_A: &str = "4 3 3 3 5 7 3 1 2 0 1 6 1 0 2 4 0 3 0 0 1 1 3 2 1 2 1 0 0 0 2 0 255 2 1 1 0 2 1 2 1 0 0 0 1 7 1 2";
 const BUDGET: u32 = 100_000;
@@ -20,6 +20,8 @@ extern "C" {
     fn glintstring_check(request: *const u8, request_length: usize, derivation: *const u8, derivation_length: usize) -> u64;
     fn glintstring_check_whether(request: *const u8, request_length: usize, derivation: *const u8, derivation_length: usize) -> u64;
     fn glintstring_show(answer: u64, request: *const u8, request_length: usize, derivation: *const u8, derivation_length: usize) -> u64;
+    pub fn glintstring_release(file: *const u8, file_length: usize, row: *mut u32, row_length: usize, budget: u32) -> u64;
+    pub fn glintstring_plans(file: *const u8, file_length: usize) -> u32;
 }
 
 /// How a row gives its request.
@@ -332,10 +334,11 @@ pub fn compare() -> Result<String, String> {
     }
     compare_derivations(&mut rng)?;
     let whether = whether_cases::compare(&mut rng)?;
+    let releases = release_cases::compare(&mut rng)?;
     without_bytes()?;
     let (walks, lines, checks) = (ROWS.len(), LINE_ROWS.len(), DERIVATION_ROWS.len());
     Ok(format!(
-        "{walks} rows of the format, {lines} for the line, {checks} for derivations and {whether} for those in the closing layout answered as it says, and null \
-         pointers with length 0"
+        "{walks} rows of the format, {lines} for the line, {checks} for derivations, {whether} for those in the closing layout and {releases} for release \
+         files answered as it says, and null pointers with length 0"
     ))
 }
