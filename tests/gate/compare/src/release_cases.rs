@@ -86,6 +86,7 @@ fn call(row: &Row) -> Release {
 }
 
 /// The calls of the rows.
+#[allow(dead_code)]
 pub fn calls() -> Vec<Release> {
     ROWS.iter().map(call).collect()
 }

@@ -48,6 +48,14 @@ impl Left {
         let counts = self.row.chunks(4).filter(|_| number == 0).map(|plan| u64::from(plan[2]));
         [number, input, place, counts.sum()]
     }
+
+    /// The own answer with a sum over the plans and the row, of which each number counts, in place of its count.
+    #[allow(dead_code)]
+    pub fn summed(&self) -> [u64; 4] {
+        let [number, input, place, _] = self.own;
+        let sum = self.row.iter().fold(self.plans, |sum, &next| sum.wrapping_mul(31).wrapping_add(next));
+        [number, input, place, sum.into()]
+    }
 }
 
 impl std::fmt::Display for Release {
