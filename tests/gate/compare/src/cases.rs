@@ -20,8 +20,18 @@ extern "C" {
     fn glintstring_check(request: *const u8, request_length: usize, derivation: *const u8, derivation_length: usize) -> u64;
     fn glintstring_check_whether(request: *const u8, request_length: usize, derivation: *const u8, derivation_length: usize) -> u64;
     fn glintstring_show(answer: u64, request: *const u8, request_length: usize, derivation: *const u8, derivation_length: usize) -> u64;
-    pub fn glintstring_release(file: *const u8, file_length: usize, row: *mut u32, row_length: usize, budget: u32) -> u64;
-    pub fn glintstring_plans(file: *const u8, file_length: usize) -> u32;
+    fn glintstring_release(file: *const u8, file_length: usize, row: *mut u32, row_length: usize, budget: u32) -> u64;
+    fn glintstring_plans(file: *const u8, file_length: usize) -> u32;
+}
+
+/// The release call.
+pub fn release(file: &[u8], row: &mut [u32], budget: u32) -> u64 {
+    unsafe { glintstring_release(file.as_ptr(), file.len(), row.as_mut_ptr(), row.len(), budget) }
+}
+
+/// The plans call.
+pub fn plans(file: &[u8]) -> u32 {
+    unsafe { glintstring_plans(file.as_ptr(), file.len()) }
 }
 
 /// How a row gives its request.
@@ -294,6 +304,14 @@ fn without_bytes() -> Result<(), String> {
     let no_state_line = unsafe { glintstring_judge_line(null(), 0, null_mut(), 0, 0, &mut lines[1]) };
     if ([no_request_line, no_state_line], lines) != ([no_request, no_state], [0, 0]) {
         return Err(format!("null and length 0: {no_request_line} and {no_state_line} with the lines {lines:?}"));
+    }
+    let mut row = [7; 4];
+    let one_plan = [&bytes(FILE_A)[..29], &[1], &bytes(FILE_A)[29..]].concat();
+    let no_file = unsafe { [glintstring_release(null(), 0, row.as_mut_ptr(), row.len(), 0), glintstring_release(null(), 0, null_mut(), 0, 0)] };
+    let no_row = unsafe { glintstring_release(one_plan.as_ptr(), one_plan.len(), null_mut(), 0, 0) };
+    let no_plans = unsafe { glintstring_plans(null(), 0) };
+    if (no_file, no_row, row, no_plans) != ([267, 267], 9, [7; 4], 0) {
+        return Err(format!("null and length 0: {no_file:?} without a release file, {no_row} without a row, {row:?} left, {no_plans} plans"));
     }
     let file_a = without_whether();
     let no_input = unsafe { glintstring_check(null(), 0, null(), 0) };

@@ -158,6 +158,8 @@ pub fn write(deepest: &str, folder: &str, budget: u32, count: u64) -> Result<Str
     inputs.extend((0..count).map(|index| Input::Walk(generated::call(1, index))));
     inputs.extend((0..count).map(|index| Input::Derivation(derivations::call(1, index))));
     inputs.extend((0..count).map(|index| Input::Derivation(whether::call(1, index))));
+    // The programs for which files are written take requests and derivations.
+    inputs.retain(|input| !matches!(input, Input::Release(_)));
     let save = |name: String, bytes: &[u8]| fs::write(format!("{folder}/{name}"), bytes).map_err(|error| format!("{folder}/{name}: {error}"));
     let (mut walks, mut plain, mut closing) = (Written::default(), Written::default(), Written::default());
     for (index, input) in inputs.iter_mut().enumerate() {
@@ -177,8 +179,7 @@ pub fn write(deepest: &str, folder: &str, budget: u32, count: u64) -> Result<Str
                 };
                 written.add(&format!("{folder}/{index}.request {folder}/{index}.derivation"), checks::independent(check));
             }
-            // The programs for which files are written take requests and derivations.
-            Input::Release(_) => {}
+            Input::Release(_) => unreachable!("no release file is written"),
         }
     }
     for (name, written) in [("walks", walks), ("checks", plain), ("whether", closing)] {

@@ -3,7 +3,7 @@
 use oracle::rng::Rng;
 use oracle::text::parse_bytes;
 
-use crate::cases::{glintstring_plans, glintstring_release, FILE_A};
+use crate::cases::FILE_A;
 use crate::releases::{agreed, Release};
 
 const BUDGET: u32 = 100_000;
@@ -103,21 +103,5 @@ pub fn compare(rng: &mut Rng) -> Result<usize, String> {
             return Err(format!("FORMAT {sentence}: {left:?}; {call}"));
         }
     }
-    without_bytes()?;
     Ok(ROWS.len())
-}
-
-/// Pointers that lead nowhere, with length 0.
-fn without_bytes() -> Result<(), String> {
-    use std::ptr::{null, null_mut};
-    let file = call(&ROWS[0]).file;
-    let mut row = [LENT; 4];
-    let no_file = unsafe { glintstring_release(null(), 0, row.as_mut_ptr(), row.len(), 0) };
-    let nothing = unsafe { glintstring_release(null(), 0, null_mut(), 0, 0) };
-    let no_row = unsafe { glintstring_release(file.as_ptr(), file.len(), null_mut(), 0, 0) };
-    let no_plans = unsafe { glintstring_plans(null(), 0) };
-    match ([no_file, nothing, no_row], row, no_plans) {
-        ([267, 267, 9], [LENT, LENT, LENT, LENT], 0) => Ok(()),
-        _ => Err(format!("null and length 0: {no_file} without a file, {nothing} without a row too, {no_row} without a row, {no_plans} plans")),
-    }
 }

@@ -12,7 +12,7 @@ use oracle::rng::Rng;
 use oracle::text::comma_separated;
 
 use crate::calls::{answer, numbers};
-use crate::cases::{glintstring_plans, glintstring_release};
+use crate::cases;
 use crate::crowded::{crowded, crowded_plan};
 use crate::fence::Fenced;
 use crate::generated::{change, cross};
@@ -77,10 +77,7 @@ pub fn timed(rng: &mut Rng, call: &Release) -> Result<(Left, Duration), String> 
     let mut row = Fenced::new(rng, &call.lent);
     let (file_before, row_before) = (file.clone(), row.clone());
     let began = Instant::now();
-    let packed = {
-        let (file, row) = (file.lent(), row.lent());
-        unsafe { glintstring_release(file.as_ptr(), file.len(), row.as_mut_ptr(), row.len(), call.budget) }
-    };
+    let packed = cases::release(file.lent(), row.lent(), call.budget);
     let took = began.elapsed();
     let afterwards = row.lent().to_vec();
     if file != file_before {
@@ -93,10 +90,7 @@ pub fn timed(rng: &mut Rng, call: &Release) -> Result<(Left, Duration), String> 
     if own[0] != 0 && afterwards != call.lent {
         return Err(format!("own answer {own:?} left the row {}", told(&afterwards)));
     }
-    let plans = {
-        let file = file.lent();
-        unsafe { glintstring_plans(file.as_ptr(), file.len()) }
-    };
+    let plans = cases::plans(file.lent());
     if file != file_before {
         return Err("the file, or what stands around it, was changed by the plans call".to_string());
     }
