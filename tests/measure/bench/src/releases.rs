@@ -30,6 +30,8 @@ const MOST: u32 = 200;
 const LARGE_TABLE: usize = 6_000;
 const ROOM: usize = 10_000;
 const SHORT_PLAN: usize = 90;
+/// The release call's part of the walk calls' time, at the most, where there are 64 plans over a large table.
+const BAR: f64 = 0.6;
 
 /// What a row of the table is of.
 struct Kind {
@@ -184,6 +186,9 @@ pub fn time(seed: u64, rounds: u64) -> Result<String, String> {
         let [low, middle, high] = quartiles(times.iter().map(|[release, walks]| release / walks).collect());
         let (table, plan) = (tables / files.len(), plans / files.len() / kind.plans);
         let (name, count) = (kind.name, kind.plans);
+        if row == 0 && middle > BAR {
+            return Err(format!("the release call takes {middle:.2} of the walk calls' time, and {BAR} is the most"));
+        }
         out += &format!("| {name} | {table} | {count} | {plan} | {release:.0} | {walks:.0} | {middle:.2} | {low:.2} to {high:.2} |\n");
     }
     Ok(out.trim_end().to_string())
