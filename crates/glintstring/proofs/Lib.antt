@@ -1,10 +1,5 @@
-pub mod TellingLaws
-pub mod KeepingLaws
-pub mod MarkedLaws
-pub mod FirstLaws
 pub mod SettledAtHand
 pub mod JudgingLaws
-pub mod ReleasingLaws
 pub mod MissingLaws
 pub mod ShowingLaws
 pub mod PackingLaws

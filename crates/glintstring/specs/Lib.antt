@@ -1,7 +1,5 @@
-pub mod Telling
 pub mod Missing
 pub mod LentState
 pub mod ShownPart
 pub mod Packing
-pub mod Releasing
 pub mod CheckCalls

@@ -9,12 +9,12 @@ ghost use Rattle.meaning.specs.Derivations.{check};
 ghost use Rattle.meaning.specs.Releases.{plans-in, release};
 ghost use Rattle.meaning.specs.Showing.{show};
 ghost use Rattle.glintstring.specs.Packing.{packed, unpacked};
-use super::answers;
 use super::check_calls::check;
 use super::check_calls::check_whether;
 use super::judging::judge;
-use super::releasing::plans;
-use super::releasing::release;
+use answering::answers;
+use answering::releasing::plans;
+use answering::releasing::release;
 use meaning::Answer;
 
 // An answer in one number.

@@ -23,10 +23,10 @@ use Rattle.meaning.specs.Answers.{release-answers}
 use Rattle.meaning.specs.AnswerParts.{Walk-input, Placed, Row-parts}
 use Rattle.meaning.proofs.Demands
 use Rattle.promises.proofs.ReleasePromises
-use Rattle.glintstring.proofs.releasing.release.Kinds.{ps, r}
-use Rattle.glintstring.proofs.releasing.release.Reads.{Pre, Post}
-use Rattle.glintstring.proofs.releasing.plans.Kinds as plans-kinds
-use Rattle.glintstring.proofs.releasing.plans.Reads as plans-reads
+use Rattle.answering.proofs.releasing.release.Kinds.{ps, r}
+use Rattle.answering.proofs.releasing.release.Reads.{Pre, Post}
+use Rattle.answering.proofs.releasing.plans.Kinds as plans-kinds
+use Rattle.answering.proofs.releasing.plans.Reads as plans-reads
 
 -- WHAT THE RELEASE CALL IS GIVEN, by the values of its three parameters.
 module _ (κs : Lfts 2) (given : Dens κs ps) where

@@ -1,6 +1,6 @@
 // The lines that an answer is told by, below the one with its words (FORMAT 12.35 to 12.37).
 use bytes::limits;
-use glintstring::answers;
+use answering::answers;
 use glintstring::showing::show;
 use meaning::Answer;
 use programs::put;
