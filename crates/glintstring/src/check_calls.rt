@@ -5,7 +5,7 @@ ghost use Rattle.meaning.specs.Limits.{format};
 ghost use Rattle.steps.specs.Held.{request-in};
 ghost use Rattle.steps.specs.AtHand.{At-hand};
 ghost use Rattle.glintstring.specs.CheckCalls.{too-many, check-at-hand};
-use answering::answers;
+use verdicts::answers;
 use bytes::bytes::wide;
 use bytes::lists::Passed;
 use checking::check::check_derivation;

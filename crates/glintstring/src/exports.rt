@@ -12,9 +12,9 @@ ghost use Rattle.glintstring.specs.Packing.{packed, unpacked};
 use super::check_calls::check;
 use super::check_calls::check_whether;
 use super::judging::judge;
-use answering::answers;
-use answering::releasing::plans;
-use answering::releasing::release;
+use verdicts::answers;
+use verdicts::releasing::plans;
+use verdicts::releasing::release;
 use meaning::Answer;
 
 // An answer in one number.

@@ -4,7 +4,7 @@ ghost use lib.ListN.{length, drop};
 ghost use mathlib.Core.List.{[]};
 ghost use Rattle.meaning.specs.Showing.{show};
 ghost use Rattle.glintstring.specs.ShownPart.{chosen};
-use answering::answers;
+use verdicts::answers;
 use meaning::Answer;
 
 // The part from the place on; beyond the end the empty part there.

@@ -1,7 +1,7 @@
 // Judges the request on standard input, and says so on standard output (FORMAT 12.1 to 12.6, 12.13, 12.21, 18.17).
 use bytes::limits;
 use comparing::parts::same_part;
-use answering::answers;
+use verdicts::answers;
 use glintstring::judging::judge;
 use libc::STDIN_FILENO;
 use libc::STDOUT_FILENO;

@@ -21,8 +21,10 @@ use Rattle.meaning.specs.Judging.{judge}
 use Rattle.meaning.specs.Releases.{Opening, opening, plans-at, unreached, in-row, Released, release, plans-in, own-request, moved, row-of}
 use Rattle.meaning.specs.Worlds.{Carried-out}
 use Rattle.meaning.specs.Answers.{release-answers}
+use Rattle.meaning.specs.Tests.{Has}
 use Rattle.meaning.specs.AnswerParts.{Walk-input, Placed, Row-parts}
 use Rattle.meaning.proofs.Demands
+use Rattle.meaning.proofs.ProvedCases.{releasing, released, Row, proved-cases}
 use Rattle.glintstring.specs.Packing.{packed, unpacked}
 use Rattle.promises.proofs.UnpackingLaws.{number-back, input-back, place-back, count-back, unpacks, own-small}
 use Rattle.promises.proofs.ReleasePromises
@@ -94,6 +96,10 @@ module _ (κs : Lfts 2) (given : Dens κs ps) where
     pub no-count : n / 4294967296 ≡ 0
     unfolding unpacked
     no-count = ReleasePromises.no-count file lent budget (unpacked n) (left exit) releases
+
+    -- The proved cases (FORMAT 15.12).
+    pub answers-the-cases : (row : Row) → Has proved-cases row → row .call ≡ releasing file lent budget → row .gives ≡ released (record { answer = unpacked n; row = left exit })
+    answers-the-cases = ReleasePromises.answers-the-cases file lent budget (unpacked n) (left exit) releases
 
     -- The row stays as lent with every own answer but 0, and keeps its length (FORMAT 19.13, 19.28).
     pub as-lent : (n % 256 ≡ Limits.verified → ⊥) → left exit ≡ lent

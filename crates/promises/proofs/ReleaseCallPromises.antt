@@ -20,13 +20,15 @@ use Rattle.meaning.specs.Judging.{judge}
 use Rattle.meaning.specs.Releases.{Opening, opening, plans-at, unreached, in-row, Released, release, plans-in, own-request, moved, row-of}
 use Rattle.meaning.specs.Worlds.{Carried-out}
 use Rattle.meaning.specs.Answers.{release-answers}
+use Rattle.meaning.specs.Tests.{Has}
 use Rattle.meaning.specs.AnswerParts.{Walk-input, Placed, Row-parts}
 use Rattle.meaning.proofs.Demands
+use Rattle.meaning.proofs.ProvedCases.{releasing, released, Row, proved-cases}
 use Rattle.promises.proofs.ReleasePromises
-use Rattle.answering.proofs.releasing.release.Kinds.{ps, r}
-use Rattle.answering.proofs.releasing.release.Reads.{Pre, Post}
-use Rattle.answering.proofs.releasing.plans.Kinds as plans-kinds
-use Rattle.answering.proofs.releasing.plans.Reads as plans-reads
+use Rattle.verdicts.proofs.releasing.release.Kinds.{ps, r}
+use Rattle.verdicts.proofs.releasing.release.Reads.{Pre, Post}
+use Rattle.verdicts.proofs.releasing.plans.Kinds as plans-kinds
+use Rattle.verdicts.proofs.releasing.plans.Reads as plans-reads
 
 -- WHAT THE RELEASE CALL IS GIVEN, by the values of its three parameters.
 module _ (κs : Lfts 2) (given : Dens κs ps) where
@@ -71,6 +73,10 @@ module _ (κs : Lfts 2) (given : Dens κs ps) where
 
     pub no-count : answer .count ≡ 0
     no-count = ReleasePromises.no-count file lent budget answer (left exit) meets
+
+    -- The proved cases (FORMAT 15.12).
+    pub answers-the-cases : (row : Row) → Has proved-cases row → row .call ≡ releasing file lent budget → row .gives ≡ released (record { answer = answer; row = left exit })
+    answers-the-cases = ReleasePromises.answers-the-cases file lent budget answer (left exit) meets
 
     -- The row stays as lent with every own answer but 0, and keeps its length (FORMAT 19.13, 19.28).
     pub as-lent : (answer .number ≡ Limits.verified → ⊥) → left exit ≡ lent

@@ -15,9 +15,12 @@ use Rattle.meaning.specs.Judging.{judge}
 use Rattle.meaning.specs.Releases.{Opening, opening, plans-at, unreached, in-row, Released, release, plans-in, own-request, moved, row-of}
 use Rattle.meaning.specs.Worlds.{Carried-out}
 use Rattle.meaning.specs.Answers.{release-answers}
+use Rattle.meaning.specs.Tests.{Has}
 use Rattle.meaning.specs.AnswerParts.{Walk-input, Placed, Row-parts}
 use Rattle.meaning.proofs.ReleaseLaws.{opens, judged}
 use Rattle.meaning.proofs.Demands
+use Rattle.meaning.proofs.ProvedCases.{releasing, released, Row, proved-cases}
+use Rattle.promises.proofs.CasePromises.{row-holds}
 use Rattle.meaning.proofs.TestLaws.{by-test}
 use lib.Dec.{eqb}
 use borrow.Author.Tests.{eqb-true, eqb-false}
@@ -41,6 +44,10 @@ module _ (file lent : List ℕ) (budget : ℕ) (answer : Answer) (left : List �
 
   pub no-count : answer .count ≡ 0
   no-count = ap (λ (a : Answer). a .count) answer-is ∙ Demands.own-count format file lent budget
+
+  -- The proved cases (FORMAT 15.12): given a row's inputs, it answers what the row says, and leaves the row that it says.
+  pub answers-the-cases : (row : Row) → Has proved-cases row → row .call ≡ releasing file lent budget → row .gives ≡ released (record { answer = answer; row = left })
+  answers-the-cases row has is = row-holds row has (releasing file lent budget) is ∙ ap released (sym releases)
 
   zero-there : answer .number ≡ Limits.verified → release format file lent budget .answer .number ≡ Limits.verified
   zero-there zero = sym (ap (λ (a : Answer). a .number) answer-is) ∙ zero

@@ -1,8 +1,8 @@
 // Answers every plan of the release file on standard input, and says so on standard output (FORMAT 19.21 to 19.24).
 use bytes::limits;
-use answering::answers;
-use answering::releasing::plans;
-use answering::releasing::release;
+use verdicts::answers;
+use verdicts::releasing::plans;
+use verdicts::releasing::release;
 use libc::STDIN_FILENO;
 use libc::STDOUT_FILENO;
 use programs::Asked;

@@ -8,7 +8,7 @@ use super::printing::put_part;
 use super::words::put_words;
 use bytes::limits;
 use comparing::parts::same_part;
-use answering::answers;
+use verdicts::answers;
 use glintstring::check_calls::check;
 use glintstring::check_calls::check_whether;
 use glintstring::judging::judge;

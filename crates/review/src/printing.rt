@@ -1,6 +1,6 @@
 // The lines that an answer is told by, below the one with its words (FORMAT 12.35 to 12.37).
 use bytes::limits;
-use answering::answers;
+use verdicts::answers;
 use glintstring::showing::show;
 use meaning::Answer;
 use programs::put;

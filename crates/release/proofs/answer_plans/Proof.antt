@@ -6,7 +6,7 @@ use Rattle.release.proofs.answer_plans.Statement.{statement}
 use Rattle.release.proofs.answer_plans.Tie as tie
 use Rattle.release.proofs.answer_plans.Reads as reads
 use Rattle.release.proofs.answer_plans.Lts as lts
-use Rattle.answering.proofs.releasing.release.Reads as release-reads
+use Rattle.verdicts.proofs.releasing.release.Reads as release-reads
 use Rattle.programs.proofs.put_line.Reads as put-line-reads
 use Rattle.release.proofs.put_row.Reads as put-row-reads
 

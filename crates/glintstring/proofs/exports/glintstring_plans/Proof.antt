@@ -1,11 +1,11 @@
 -- The plan count is small.
 use borrow.Author.Needs.{needs}
-use Rattle.answering.proofs.ReleasingLaws.{plans-small}
+use Rattle.verdicts.proofs.ReleasingLaws.{plans-small}
 use Rattle.glintstring.proofs.exports.glintstring_plans.Statement.{statement}
 use Rattle.glintstring.proofs.exports.glintstring_plans.Tie as tie
 use Rattle.glintstring.proofs.exports.glintstring_plans.Reads as reads
 use Rattle.glintstring.proofs.exports.glintstring_plans.Lts as lts
-use Rattle.answering.proofs.releasing.plans.Reads as plans-reads
+use Rattle.verdicts.proofs.releasing.plans.Reads as plans-reads
 
 -- src/exports.rt:88:5
 plans-requires : tie.Need-plans-requires

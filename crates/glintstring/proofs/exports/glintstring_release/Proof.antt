@@ -6,7 +6,7 @@ use Rattle.glintstring.proofs.exports.glintstring_release.Tie as tie
 use Rattle.glintstring.proofs.exports.glintstring_release.Reads as reads
 use Rattle.glintstring.proofs.exports.glintstring_release.Lts as lts
 use Rattle.glintstring.proofs.exports.pack.Reads as pack-reads
-use Rattle.answering.proofs.releasing.release.Reads as release-reads
+use Rattle.verdicts.proofs.releasing.release.Reads as release-reads
 
 -- src/exports.rt:80:10
 release-requires : tie.Need-release-requires
