@@ -238,8 +238,8 @@ uint64_t glintstring_check_whether(const uint8_t *request, size_t request_length
  * The caller sees to this:
  *   - `file` may be read for file_length bytes, `row` read and written for row_length numbers of 32 bits, and the two do not overlap.
  *     With length 0 any pointer will do, null too: it is not followed.
- *   - row_length is four times what glintstring_plans gives, or the answer is 9: GLINTSTRING_ROW_NUMBERS * GLINTSTRING_MOST_PLANS
- *     numbers are room for every file, of which just so many are lent.
+ *   - row_length is four times what glintstring_plans gives. With another length a file that has plans is answered by 9.
+ *     GLINTSTRING_ROW_NUMBERS * GLINTSTRING_MOST_PLANS numbers are room for every file; only as many of them are lent.
  *   - there are GLINTSTRING_STACK_NEEDED bytes of free stack, as for glintstring_judge.
  * No state is lent. The call keeps no pointer, takes nothing from the heap and has no memory of its own, so threads may call it at one
  * time.
