@@ -12,10 +12,10 @@ ghost use Rattle.glintstring.specs.Packing.{packed, unpacked};
 use super::check_calls::check;
 use super::check_calls::check_whether;
 use super::judging::judge;
+use meaning::Answer;
 use verdicts::answers;
 use verdicts::releasing::plans;
 use verdicts::releasing::release;
-use meaning::Answer;
 
 // An answer in one number.
 fn pack(a: Answer) -> u64

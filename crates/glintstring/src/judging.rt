@@ -8,14 +8,14 @@ ghost use Rattle.meaning.specs.Asking.{line-told, line};
 ghost use Rattle.steps.specs.Held.{table-in, request-in};
 ghost use Rattle.steps.specs.AtHand.{At-hand};
 use super::missing::line_at;
-use verdicts::answers;
-use verdicts::walked::walk_plan;
 use bytes::limits;
 use bytes::lists::Passed;
 use meaning::Answer;
 use reading::notes;
 use reading::notes::Notes;
 use refusing::settled::settle;
+use verdicts::answers;
+use verdicts::walked::walk_plan;
 
 // The walk of a settled request, and the line of the action that stopped it.
 fn walk_with_line(request: &[u8], t: &Notes, state: &mut [u8], budget: u32) -> Judged

@@ -1,7 +1,6 @@
 // Judges the request on standard input, and says so on standard output (FORMAT 12.1 to 12.6, 12.13, 12.21, 18.17).
 use bytes::limits;
 use comparing::parts::same_part;
-use verdicts::answers;
 use glintstring::judging::judge;
 use libc::STDIN_FILENO;
 use libc::STDOUT_FILENO;
@@ -15,6 +14,7 @@ use programs::put_number;
 use programs::put_state;
 use programs::read_all;
 use programs::stack_is_enough;
+use verdicts::answers;
 
 // The last argument asks for the line.
 fn line_asked() -> bool {

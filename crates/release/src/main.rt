@@ -1,8 +1,5 @@
 // Answers every plan of the release file on standard input, and says so on standard output (FORMAT 19.21 to 19.24).
 use bytes::limits;
-use verdicts::answers;
-use verdicts::releasing::plans;
-use verdicts::releasing::release;
 use libc::STDIN_FILENO;
 use libc::STDOUT_FILENO;
 use programs::Asked;
@@ -14,6 +11,9 @@ use programs::put_line;
 use programs::put_number;
 use programs::read_all;
 use programs::stack_is_enough;
+use verdicts::answers;
+use verdicts::releasing::plans;
+use verdicts::releasing::release;
 
 // A row has four numbers for each plan, and this is room for the most plans.
 const NUMBERS: usize = 4;
