@@ -1,10 +1,10 @@
 /*
  * Glintstring: a proved verifier of conditional upgrade plans.
  *
- * A request has a domain table, a plan and goals in its bytes, and a derivation has lines by which the plan reaches them;
- * docs/FORMAT.md is the format, and numbers such as FORMAT 4.3 are those of its sentences. docs/STATEMENTS.md says what is
- * proved of each call. Link libglintstring.a, which `rt staticlib glintstring` writes for x86-64 Linux. C99 or later, or C++.
- * examples/c/review.c is a small program that uses all of it.
+ * A request has a domain table, a plan and goals in its bytes, a derivation has lines by which the plan reaches them, and a
+ * release file has many plans over one table; docs/FORMAT.md is the format, and numbers such as FORMAT 4.3 are those of its
+ * sentences. docs/STATEMENTS.md says what is proved of each call. Link libglintstring.a, which `rt staticlib glintstring` writes
+ * for x86-64 Linux. C99 or later, or C++. examples/c/review.c is a small program that uses all of it.
  */
 #ifndef GLINTSTRING_H
 #define GLINTSTRING_H
@@ -25,11 +25,18 @@ extern "C" {
 /* The length of the state that the walk call is lent. */
 #define GLINTSTRING_STATE_LENGTH 128
 
-/* Bytes that each input may have. One byte more is answered as any longer input, so that no more of a file need be read. */
+/* Plans that a release file may have, and numbers for each of them in the row that the release call is lent. */
+#define GLINTSTRING_MOST_PLANS 64
+#define GLINTSTRING_ROW_NUMBERS 4
+
+/*
+ * Bytes that each input may have; a release file may have as many as a request. One byte more is answered as any longer input, so
+ * that no more of a file need be read.
+ */
 #define GLINTSTRING_REQUEST_LIMIT 16384
 #define GLINTSTRING_DERIVATION_LIMIT 32768
 
-/* Bytes of free stack that a call may need: 16 MiB (docs/MEASURED.md, for the walk call; the others need less). */
+/* Bytes of free stack that a call may need: 16 MiB (docs/MEASURED.md, for the calls that walk; the others need less). */
 #define GLINTSTRING_STACK_NEEDED 16777216
 
 /* The marks of a fluent in a state. */
@@ -37,25 +44,29 @@ extern "C" {
 #define GLINTSTRING_TRUE 1
 #define GLINTSTRING_FALSE 2
 
-/* The input that an answer's place is in. */
+/* The input that an answer's place is in. To the release call its file is the request. */
 #define GLINTSTRING_NEITHER 0
 #define GLINTSTRING_REQUEST 1
 #define GLINTSTRING_DERIVATION 2
 
 /*
- * The numbers of answers (FORMAT 4.3 to 4.25, 17.35 and 17.36), each with what its place is. The walk call gives 0 to 3 and 9 to
- * 21, the derivation call 0, 10 to 21 and 30 to 35, the whether call 0, 10 to 21, 31 to 34 and 36. Of a derivation's faults 10 to
- * 15 and 18 to 21 are told by the same numbers as a request's: the answer names the input.
+ * The numbers of answers (FORMAT 4.3 to 4.25, 17.35, 17.36 and 19.10), each with what its place is. The walk call gives 0 to 3 and
+ * 9 to 21, the derivation call 0, 10 to 21 and 30 to 35, the whether call 0, 10 to 21, 31 to 34 and 36. The release call itself
+ * gives 0, 9 to 17 and 20, and to each plan 0 to 3, 11 to 15, 18, 19, 21 and 22. Of a derivation's faults 10 to 15 and 18 to 21 are
+ * told by the same numbers as a request's: the answer names the input.
  */
 #define GLINTSTRING_VERIFIED 0                  /* the walk verifies the plan; place 0 */
 #define GLINTSTRING_ACCEPTED 0                  /* the derivation call, the whether call: the derivation is accepted; place 0 */
+#define GLINTSTRING_ANSWERED 0                  /* the release call: the row has an answer for each plan; place 0 */
 #define GLINTSTRING_GOAL_MISSED 1               /* all paths can be run to their ends, and an end state misses a goal or a whether
                                                    entry; the first entry missed in the first such state */
 #define GLINTSTRING_NOT_EXECUTABLE 2            /* a path comes to an item that cannot be run; that item */
 #define GLINTSTRING_BUDGET_SPENT 3              /* the walk counts to more than the budget; place 0 */
 #define GLINTSTRING_STATE_LENGTH_WRONG 9        /* the lent state has another length than 128 bytes; place 0 */
-#define GLINTSTRING_TOO_LONG 10                 /* the request has more than 16,384 bytes, or the derivation more than
-                                                   32,768; place 0 */
+#define GLINTSTRING_ROW_LENGTH_WRONG 9          /* the release call: the lent row has another length than four numbers for each
+                                                   plan; place 0 */
+#define GLINTSTRING_TOO_LONG 10                 /* the request or the release file has more than 16,384 bytes, or the derivation
+                                                   more than 32,768; place 0 */
 #define GLINTSTRING_INPUT_ENDS 11               /* the input ends where a byte is due; its length */
 #define GLINTSTRING_COUNT_NOT_WITHIN_LIMITS 12  /* a count is not within its limits; the count */
 #define GLINTSTRING_TOO_LARGE 13                /* a byte is too large for its fluent, literal or action; that byte */
@@ -65,9 +76,10 @@ extern "C" {
 #define GLINTSTRING_EFFECTS_AND_KNOWLEDGE 17    /* an action has effect lines and knowledge lines; the first such of the latter */
 #define GLINTSTRING_NOT_EXCLUSIVE 18            /* a branching has two conditions that are not exclusive; its byte 255 */
 #define GLINTSTRING_TOO_DEEP 19                 /* a branching stands inside eight others; its byte 255 */
-#define GLINTSTRING_BYTES_LEFT_OVER 20          /* bytes are left over after the last section, line or closing list; the
-                                                   first */
+#define GLINTSTRING_BYTES_LEFT_OVER 20          /* bytes are left over after the last section, line or closing list, or after
+                                                   the last plan of a release file; the first */
 #define GLINTSTRING_TOO_MANY_ITEMS 21           /* a plan goes on to a 1,025th item; its first byte */
+#define GLINTSTRING_NOT_REACHED 22              /* a plan of a release file comes after one that fails in reading; place 0 */
 #define GLINTSTRING_WHETHER_ASKED 30            /* the request has whether entries; the count byte of their list */
 #define GLINTSTRING_NO_RULE 31                  /* a line's rule byte is none of 1 to 6, or in the whether call none of 1
                                                    to 8 and 10 to 12; the line */
@@ -84,7 +96,7 @@ extern "C" {
  *
  * The place is the number of bytes that stand before it in its input. The count is that of the walk (actions run and end
  * states judged) for answers 0, 1 and 2 of the walk call, the budget for 3, and 0 for all others, which an accepted
- * derivation's 0 is among.
+ * derivation's 0 and the release call's own 0 are among. The answers in a row are not packed: there each number has its place.
  */
 static inline uint8_t glintstring_number(uint64_t answer) { return (uint8_t)(answer & 255u); }
 static inline uint8_t glintstring_input(uint64_t answer) { return (uint8_t)((answer >> 8) & 255u); }
@@ -93,7 +105,7 @@ static inline uint32_t glintstring_count(uint64_t answer) { return (uint32_t)(an
 
 /*
  * What an answer's number says, in a few words: a constant string, also for a number that no answer has. Number 0 is "verified";
- * of a derivation a program may rather say "accepted".
+ * of a derivation a program may rather say "accepted", and of the release call's own 0, which says nothing of any plan, "answered".
  */
 static inline const char *glintstring_words(unsigned number) {
     switch (number) {
@@ -101,7 +113,7 @@ static inline const char *glintstring_words(unsigned number) {
     case GLINTSTRING_GOAL_MISSED: return "goal missed";
     case GLINTSTRING_NOT_EXECUTABLE: return "not executable";
     case GLINTSTRING_BUDGET_SPENT: return "budget spent";
-    case GLINTSTRING_STATE_LENGTH_WRONG: return "the lent state has another length than 128 bytes";
+    case GLINTSTRING_STATE_LENGTH_WRONG: return "the lent state or row has another length than it is to have";
     case GLINTSTRING_TOO_LONG: return "too long";
     case GLINTSTRING_INPUT_ENDS: return "the input ends where a byte is due";
     case GLINTSTRING_COUNT_NOT_WITHIN_LIMITS: return "a count is not within its limits";
@@ -114,6 +126,7 @@ static inline const char *glintstring_words(unsigned number) {
     case GLINTSTRING_TOO_DEEP: return "a branching stands inside eight others";
     case GLINTSTRING_BYTES_LEFT_OVER: return "bytes are left over";
     case GLINTSTRING_TOO_MANY_ITEMS: return "a plan has too many items";
+    case GLINTSTRING_NOT_REACHED: return "not reached";
     case GLINTSTRING_WHETHER_ASKED: return "a derivation for a request with whether entries";
     case GLINTSTRING_NO_RULE: return "a line has no rule";
     case GLINTSTRING_CITES_NO_EARLIER_LINE: return "a line cites what is no line before it";
@@ -207,6 +220,44 @@ uint64_t glintstring_check_whether(const uint8_t *request, size_t request_length
                                    size_t derivation_length);
 
 /*
+ * The release call: answers every plan of a release file, which has the table and the initial facts of a request once (sections 1 to
+ * 5), a byte that counts its plans, from 1 to 64, and then the plan, the goals and the whether entries of each (FORMAT 19.2).
+ *
+ * Promise (proved): for every file, lent row and budget the call ends, and its own answer and the row afterwards are those of
+ * the format, each to the last number. Any bytes may be given, of any length; a caller need not have tested anything. The call's
+ * own answer is about what all plans share: the file's length, the table, the plan count, the row's length, and bytes that are left
+ * over after the last plan. It is 0 where nothing is wrong with these, whatever the plans get. It is also 0 where a plan fails in
+ * reading: then no byte after that plan is looked at.
+ *
+ * The row is written where the call's own answer is 0, and stays as lent with every other. Plan k, from 0 up, has number, place,
+ * count and input in row[4 * k] to row[4 * k + 3]. They are what glintstring_judge answers, with the same budget, to sections 1 to 5
+ * followed by that plan alone, except that a place of input 1 is counted in the release file. So every plan has the whole budget,
+ * and a plan that gets 1, 2, 3 or 18 stops no other. A plan that fails in reading has its fault in the row, and every plan after it
+ * has 22, with place, count and input 0.
+ *
+ * The caller sees to this:
+ *   - `file` may be read for file_length bytes, `row` read and written for row_length numbers of 32 bits, and the two do not overlap.
+ *     With length 0 any pointer will do, null too: it is not followed.
+ *   - row_length is four times what glintstring_plans gives. With another length a file that has plans is answered by 9.
+ *     GLINTSTRING_ROW_NUMBERS * GLINTSTRING_MOST_PLANS numbers are room for every file; only as many of them are lent.
+ *   - there are GLINTSTRING_STACK_NEEDED bytes of free stack, as for glintstring_judge.
+ * No state is lent. The call keeps no pointer, takes nothing from the heap and has no memory of its own, so threads may call it at one
+ * time.
+ */
+uint64_t glintstring_release(const uint8_t *file, size_t file_length, uint32_t *row, size_t row_length, uint32_t budget);
+
+/*
+ * The plans call: how many plans a release file has, so that its caller knows how long a row to lend.
+ *
+ * Promise (proved): for every file the call ends and gives the file's plan count, which is from 1 to 64; or 0 where the release
+ * call refuses the file before its plans are counted, by 10 or by a fault in sections 1 to 5 or in the count. A row of four times
+ * that many numbers is never refused by 9. Where the number is 0, the release call says what the fault is, whatever row is lent.
+ *
+ * The same goes for the pointer as for the release call. The call needs little stack, and keeps nothing either.
+ */
+uint32_t glintstring_plans(const uint8_t *file, size_t file_length);
+
+/*
  * The showing call: where the part starts that a packed answer is about, in the input that it names. The part goes on to that
  * input's end.
  *
@@ -214,7 +265,7 @@ uint64_t glintstring_check_whether(const uint8_t *request, size_t request_length
  * as the format has it. Where glintstring_input(answer) is GLINTSTRING_REQUEST or GLINTSTRING_DERIVATION it is a place of the
  * request or of the derivation: the answer's own, or the input's length where the answer's place is beyond its end. For every
  * other answer it is 0, and the part is the empty one at the request's start. The start is never larger than the length of the
- * input concerned. The number and the count are not looked at.
+ * input concerned. The number and the count are not looked at. Of an answer of the release call the file stands for the request.
  *
  * The same goes for the pointers as for the derivation call; no byte of either input is read.
  */

@@ -32,6 +32,16 @@ readable() { # FILE
 }
 has_input() { true 2>/dev/null 3<&0; }
 
+# Takes the one file that is named as standard input. Without one, or where it is -, standard input stays what it is.
+take_input() { # [FILE]
+    [ $# -le 1 ] || misused 'one file at most'
+    if [ "${1--}" != - ]; then
+        readable "$1"
+        exec <"$1" || exit 2
+    fi
+    has_input || fail 'standard input: Bad file descriptor'
+}
+
 # Takes the word after --budget into $budget, without zeros in front.
 take_budget() { # [WORD]
     [[ ${1-} =~ ^0*([0-9]{1,10})$ ]] && [ "${BASH_REMATCH[1]}" -le 4294967295 ] || misused '--budget takes a decimal number up to 4294967295'
@@ -59,7 +69,7 @@ answered() { # STATUS
     *) fail "the program ended with status $1" ;;
     esac
     [ -n "$answer" ] || exit 2
-    [[ $answer =~ ^[0-9]+\ [0-9]+\ [0-9]+($'\n'[-+?]+)?($'\n'[0-9]+)?$ ]] || fail 'what the program printed is no answer'
+    [[ $answer =~ ^[0-9]+\ [0-9]+\ [0-9]+($'\n'[-+?]+)?($'\n'[0-9]+)?($'\n'[0-9]+\ [0-9]+\ [0-9]+\ [0-9]+)*$ ]] || fail 'what the program printed is no answer'
 }
 
 # The status that an answer has.

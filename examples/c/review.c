@@ -4,11 +4,12 @@
  *   review judge [--line] [--budget N] REQUEST...           (100,000 unless told otherwise)
  *   review check REQUEST DERIVATION [REQUEST DERIVATION]...
  *   review check-whether REQUEST DERIVATION [REQUEST DERIVATION]...
+ *   review release [--budget N] FILE...
  *
  * `check` and `check-whether` do not walk the plan: a derivation may be accepted where every budget is spent. The second takes requests
  * with whether entries too, and derivations in the closing layout. With `--line` a walk that an action stops also says which executability line
- * of it was missing. The exit status is 0 where each plan is verified or each derivation
- * accepted, 1 where some answer is another, and 2 where something can't be read or written.
+ * of it was missing. `release` takes release files, each with many plans over one table, and has a line for each plan. The exit status is 0 where
+ * each plan is verified or each derivation accepted, 1 where some answer is another, and 2 where something can't be read or written.
  */
 #define _POSIX_C_SOURCE 200809L
 #include <errno.h>
@@ -107,6 +108,34 @@ static int judge(const char *name, uint32_t budget, int lined) {
     return status;
 }
 
+/* Prints a line for each plan, from the row. */
+static int tell_plans(const char *name, const uint32_t *row, uint32_t plans) {
+    int status = GOOD;
+    uint32_t plan;
+    printf("%s: answered\n", name);
+    for (plan = 0; plan < plans; plan++, row += GLINTSTRING_ROW_NUMBERS) {
+        printf("  plan %lu: %s, number %lu, place %lu, count %lu\n", (unsigned long)plan, glintstring_words(row[0]), (unsigned long)row[0],
+               (unsigned long)row[1], (unsigned long)row[2]);
+        status = row[0] == GLINTSTRING_VERIFIED ? status : OTHER;
+    }
+    return status;
+}
+
+/* Answers the plans of a release file, with a row that is as long as the file asks for. */
+static int release(const char *name, uint32_t budget) {
+    uint32_t row[GLINTSTRING_ROW_NUMBERS * GLINTSTRING_MOST_PLANS];
+    struct input file;
+    int status = read_input(name, GLINTSTRING_REQUEST_LIMIT, &file);
+    if (status == GOOD) {
+        const uint32_t plans = glintstring_plans(file.bytes, file.length);
+        const uint64_t answer = glintstring_release(file.bytes, file.length, row, GLINTSTRING_ROW_NUMBERS * plans, budget);
+        const int answered = glintstring_number(answer) == GLINTSTRING_ANSWERED;
+        status = answered ? tell_plans(name, row, plans) : tell(answer, &file, NULL, NULL);
+    }
+    free(file.bytes);
+    return status;
+}
+
 /* The derivation call or the whether call. */
 typedef uint64_t checking_call(const uint8_t *request, size_t request_length, const uint8_t *derivation, size_t derivation_length);
 
@@ -135,7 +164,7 @@ static int is_budget(const char *word, uint32_t *budget) {
 
 static int usage(void) {
     fputs("usage: review judge [--line] [--budget N] REQUEST... | review check REQUEST DERIVATION [REQUEST DERIVATION]... | "
-          "review check-whether REQUEST DERIVATION [REQUEST DERIVATION]...\n",
+          "review check-whether REQUEST DERIVATION [REQUEST DERIVATION]... | review release [--budget N] FILE...\n",
           stderr);
     return FAILED;
 }
@@ -146,13 +175,16 @@ static int review(int count, char **word) {
     const int whether = count > 0 && strcmp(word[0], "check-whether") == 0;
     const int checking = count > 2 && count % 2 == 1 && (whether || strcmp(word[0], "check") == 0);
     const int judging = count > 1 && strcmp(word[0], "judge") == 0;
+    const int releasing = count > 1 && strcmp(word[0], "release") == 0;
     const int lined = judging && strcmp(word[1], "--line") == 0;
     const int after = lined ? 2 : 1;
-    const int budgeted = judging && count > after && strcmp(word[after], "--budget") == 0;
-    if (!(checking || judging) || count == after || (budgeted && (count < after + 3 || !is_budget(word[after + 1], &budget))))
+    const int budgeted = (judging || releasing) && count > after && strcmp(word[after], "--budget") == 0;
+    if (!(checking || judging || releasing) || count == after || (budgeted && (count < after + 3 || !is_budget(word[after + 1], &budget))))
         return usage();
     for (i = budgeted ? after + 2 : after; i < count; i += checking ? 2 : 1) {
-        status = checking ? check(whether ? glintstring_check_whether : glintstring_check, word[i], word[i + 1]) : judge(word[i], budget, lined);
+        status = checking    ? check(whether ? glintstring_check_whether : glintstring_check, word[i], word[i + 1])
+                 : releasing ? release(word[i], budget)
+                             : judge(word[i], budget, lined);
         worst = status > worst ? status : worst;
     }
     if (fflush(stdout) != 0 || ferror(stdout)) {

@@ -98,8 +98,9 @@ impl State {
     }
 }
 
-/// An answer of the walk call, the derivation call or the whether call. A place is the number of bytes that stand before it in its input: the
-/// derivation for 31 to 36, the request or the derivation where the answer says which, and the request for all others.
+/// An answer of the walk call, the derivation call or the whether call, or what the release call says of its file as a whole. A place is the number of bytes that stand before it in its input: the
+/// derivation for 31 to 36, the request or the derivation where the answer says which, and the request for all others. To the release call its file is
+/// the request.
 ///
 /// A number keeps its meaning from one version to the next, and a version may have numbers that the one before did not.
 #[must_use = "an answer other than 0 says that the plan is not to pass: see `is_verified` and `verified`"]
@@ -136,9 +137,10 @@ pub enum Answer {
         /// The budget that was given.
         budget: u32,
     },
-    /// 9: the lent state has another length than 128 bytes.
+    /// 9: the lent state has another length than 128 bytes, or, of the release call itself, the lent row has another length than four numbers for
+    /// each plan.
     StateLength,
-    /// 10: the request has more than 16,384 bytes, or the derivation more than 32,768.
+    /// 10: the request or the release file has more than 16,384 bytes, or the derivation more than 32,768.
     TooLong {
         /// The one that is too long.
         input: Input,
@@ -202,7 +204,7 @@ pub enum Answer {
         /// Its byte 255.
         place: usize,
     },
-    /// 20: bytes are left over when the request's last section, or the derivation's last line or closing list, is read.
+    /// 20: bytes are left over when the request's last section, the derivation's last line or closing list, or the release file's last plan is read.
     BytesLeftOver {
         /// The one that has it.
         input: Input,
@@ -311,7 +313,7 @@ impl Answer {
     }
 
     /// The answers 10 to 21, which say that an input is not of the format.
-    fn refusal(number: u8, input: Input, place: usize) -> Option<Answer> {
+    pub(crate) fn refusal(number: u8, input: Input, place: usize) -> Option<Answer> {
         Some(match number {
             10 => Answer::TooLong { input },
             11 => Answer::InputEnds { input, place },
@@ -330,7 +332,7 @@ impl Answer {
     }
 
     /// The answer, where it is just what was packed.
-    fn if_packed(self, packed: Packed) -> Answer {
+    pub(crate) fn if_packed(self, packed: Packed) -> Answer {
         if self.packed() != packed {
             strange(packed);
         }
@@ -479,32 +481,41 @@ impl Answer {
     /// What the answer says, in a few words.
     pub fn words(&self) -> &'static str {
         match self {
-            Answer::Verified { .. } => "verified",
             Answer::Accepted => "accepted",
-            Answer::GoalMissed { .. } => "goal missed",
-            Answer::NotExecutable { .. } => "not executable",
-            Answer::BudgetSpent { .. } => "budget spent",
-            Answer::StateLength => "the lent state has another length than 128 bytes",
-            Answer::TooLong { .. } => "too long",
-            Answer::InputEnds { .. } => "the input ends where a byte is due",
-            Answer::CountNotWithinLimits { .. } => "a count is not within its limits",
-            Answer::TooLarge { .. } => "a fluent, literal or action is too large",
-            Answer::NotLarger { .. } => "an entry is not larger than its predecessor",
-            Answer::Complement { .. } => "an entry is its predecessor's complement",
-            Answer::Contradictory { .. } => "two effects are contradictory",
-            Answer::EffectsAndKnowledge { .. } => "an action has effects and knowledge lines",
-            Answer::NotExclusive { .. } => "two conditions are not exclusive",
-            Answer::TooDeep { .. } => "a branching stands inside eight others",
-            Answer::BytesLeftOver { .. } => "bytes are left over",
-            Answer::TooManyItems { .. } => "a plan has too many items",
-            Answer::WhetherAsked { .. } => "a derivation for a request with whether entries",
-            Answer::NoRule { .. } => "a line has no rule",
-            Answer::CitesNoEarlierLine { .. } => "a line cites what is no line before it",
-            Answer::CitationsWrong { .. } => "a line has a number of citations that its rule does not take",
-            Answer::DoesNotFollow { .. } => "a line does not follow by its rule",
-            Answer::NotTheQuestion { .. } => "the last line differs from the question",
-            Answer::ClosingNotRight { .. } => "the closing list is not what the request asks",
+            _ => words_of(self.number()),
         }
+    }
+}
+
+/// What a number says, as `glintstring_words` of the C header has it.
+pub(crate) fn words_of(number: u8) -> &'static str {
+    match number {
+        0 => "verified",
+        1 => "goal missed",
+        2 => "not executable",
+        3 => "budget spent",
+        9 => "the lent state or row has another length than it is to have",
+        10 => "too long",
+        11 => "the input ends where a byte is due",
+        12 => "a count is not within its limits",
+        13 => "a fluent, literal or action is too large",
+        14 => "an entry is not larger than its predecessor",
+        15 => "an entry is its predecessor's complement",
+        16 => "two effects are contradictory",
+        17 => "an action has effects and knowledge lines",
+        18 => "two conditions are not exclusive",
+        19 => "a branching stands inside eight others",
+        20 => "bytes are left over",
+        21 => "a plan has too many items",
+        22 => "not reached",
+        30 => "a derivation for a request with whether entries",
+        31 => "a line has no rule",
+        32 => "a line cites what is no line before it",
+        33 => "a line has a number of citations that its rule does not take",
+        34 => "a line does not follow by its rule",
+        35 => "the last line differs from the question",
+        36 => "the closing list is not what the request asks",
+        _ => "no answer that the format has",
     }
 }
 
@@ -578,7 +589,7 @@ impl fmt::Display for NotVerified {
 
 impl error::Error for NotVerified {}
 
-fn strange(packed: Packed) -> ! {
+pub(crate) fn strange(packed: Packed) -> ! {
     let (number, input, place, count) = (packed.number(), packed.input(), packed.place(), packed.count());
     panic!("the library linked is not the proved one: number {number}, input {input}, place {place}, count {count} and any lent state are no answer")
 }

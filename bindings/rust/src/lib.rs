@@ -3,8 +3,9 @@
 //! A request has a domain table, a plan and goals in its bytes (docs/FORMAT.md). [`judge`] walks the plan over partial states and
 //! answers; that its answer, the state in it included, is that of the definition is proved, for every request and budget
 //! (docs/STATEMENTS.md). [`check`] checks a derivation, lines by which the plan reaches its goals, [`check_whether`] one that also says of
-//! fluents that they are known in the end, and [`show`] gives the part of an input that an answer is about; of these the same is proved. This
-//! crate adds names to the numbers and proves nothing. `examples/rust` of the repository is a small program that uses it.
+//! fluents that they are known in the end, [`release`] walks every plan of a release file, which has many plans over one table, and [`show`] gives
+//! the part of an input that an answer is about; of these the same is proved. This crate adds names to the numbers and proves nothing.
+//! `examples/rust` of the repository is a small program that uses it.
 //!
 //! ```
 //! use glintstring::{judge, Answer, Input};
@@ -30,10 +31,10 @@
 //! # Stack
 //!
 //! A walk may need as much as [`STACK_NEEDED`] bytes of stack, more than the 2 MiB that a thread in Rust gets, and more than the 8 MiB that the
-//! first thread of a process has as a rule; the request decides how much. [`judge`] sees to that: it walks on a thread of its own. A [`Judge`]
-//! keeps such a thread for many calls. [`judge_here`] and [`judge_packed`] walk on the caller's stack, and a walk that has too little of it is
-//! ended by the system, and the process with it. [`check`], [`check_whether`] and [`show`] need far less, whatever their inputs, and a
-//! thread's 2 MiB will do.
+//! first thread of a process has as a rule; the request decides how much. [`judge`] and [`release`] see to that: they walk on a thread of their own. A
+//! [`Judge`] keeps such a thread for many calls. [`judge_here`], [`judge_packed`], [`release_here`] and [`release_packed`] walk on the caller's stack,
+//! and a walk that has too little of it is ended by the system, and the process with it. [`check`], [`check_whether`], [`plans`] and [`show`] need far
+//! less, whatever their inputs, and a thread's 2 MiB will do.
 //!
 //! # The library
 //!
@@ -44,9 +45,11 @@
 #![deny(missing_docs)]
 
 mod answer;
+mod released;
 mod serving;
 
 pub use answer::{Answer, Input, Judged, Mark, NotVerified, Packed, State};
+pub use released::{NotReleased, PlanAnswer, Released};
 pub use serving::Judge;
 
 use std::{io, thread};
@@ -54,7 +57,13 @@ use std::{io, thread};
 /// The length of the lent state that [`judge_packed`] takes, which is the number of marks in a [`State`].
 pub const STATE_LENGTH: usize = 128;
 
-/// Bytes that a request may have. One byte more is answered as any longer one, so that no more of a file need be read.
+/// Plans that a release file may have.
+pub const MOST_PLANS: usize = 64;
+
+/// Numbers that the lent row of [`release_packed`] has for each plan: number, place, count and input.
+pub const ROW_NUMBERS: usize = 4;
+
+/// Bytes that a request or a release file may have. One byte more is answered as any longer one, so that no more of a file need be read.
 pub const REQUEST_LIMIT: usize = 16_384;
 
 /// Bytes that a derivation may have, in the same way.
@@ -72,6 +81,8 @@ extern "C" {
     fn glintstring_judge_line(request: *const u8, request_length: usize, state: *mut u8, state_length: usize, budget: u32, line: *mut u32) -> u64;
     fn glintstring_check(request: *const u8, request_length: usize, derivation: *const u8, derivation_length: usize) -> u64;
     fn glintstring_check_whether(request: *const u8, request_length: usize, derivation: *const u8, derivation_length: usize) -> u64;
+    fn glintstring_release(file: *const u8, file_length: usize, row: *mut u32, row_length: usize, budget: u32) -> u64;
+    fn glintstring_plans(file: *const u8, file_length: usize) -> u32;
     fn glintstring_show(answer: u64, request: *const u8, request_length: usize, derivation: *const u8, derivation_length: usize) -> u64;
 }
 
@@ -310,6 +321,99 @@ pub fn check_whether(request: &[u8], derivation: &[u8]) -> Answer {
 pub fn check_whether_packed(request: &[u8], derivation: &[u8]) -> Packed {
     // Each pointer is valid for its length, and the call writes nothing and keeps neither.
     Packed(unsafe { glintstring_check_whether(request.as_ptr(), request.len(), derivation.as_ptr(), derivation.len()) })
+}
+
+/// The release call: answers every plan of a release file, each with a count of at most `budget`.
+///
+/// A release file has sections 1 to 5 of a request once, a byte that counts its plans, from 1 to [`MOST_PLANS`], and then sections 6 to 8 for each plan
+/// (FORMAT 19.2). Any bytes may be given, of any length. Each plan gets what [`judge`] answers to sections 1 to 5 followed by that plan alone, without a
+/// state, and with its place counted in the file. One that can't be read has its fault, and those behind it are [`PlanAnswer::NotReached`]. The walks
+/// run on a thread of their own that has enough stack, and the caller waits for it; for many calls a [`Judge`] keeps one.
+///
+/// ```
+/// use glintstring::{judge, release, Answer, Input, PlanAnswer, Released};
+///
+/// # fn main() -> Result<(), Box<dyn std::error::Error>> {
+/// // One fluent, nothing known of it; action 0 makes it true, and action 1 has no lines.
+/// let table = [1, 2, 0, 1, 0, 0, 0, 1, 0, 0, 0];
+/// // Each plan is one action, and wants the fluent to be true.
+/// let (good, bad) = ([0, 1, 0, 1, 0, 0], [0, 1, 1, 1, 0, 0]);
+/// let file = [&table[..], &[2], &good, &bad].concat();
+/// let released = release(&file, 100_000)?;
+/// assert_eq!(released.plans(), [PlanAnswer::Verified { count: 2 }, PlanAnswer::NotExecutable { place: 20, count: 0 }]);
+/// assert_eq!(judge(&[&table[..], &bad].concat(), 100_000)?.place(), 13);
+///
+/// release(&[&table[..], &[1], &good].concat(), 100_000)?.verified()?;
+/// let error = released.verified().unwrap_err();
+/// assert_eq!(error.to_string(), "not released: plan 1: not executable (answer 2, place 20 of the release file)");
+///
+/// // The file ends in its first plan; and it has no plan.
+/// let cut = release(&file[..15], 100_000)?;
+/// assert_eq!(cut.plans(), [PlanAnswer::Refused(Answer::InputEnds { input: Input::Request, place: 15 }), PlanAnswer::NotReached]);
+/// let none = release(&[&table[..], &[0]].concat(), 100_000)?;
+/// assert_eq!(none, Released::Refused(Answer::CountNotWithinLimits { input: Input::Request, place: 11 }));
+/// # Ok(())
+/// # }
+/// ```
+///
+/// # Errors
+///
+/// Where the system gives no such thread. Then nothing is answered.
+///
+/// # Panics
+///
+/// Where the library linked gives what the format does not have, which the proved one does not.
+pub fn release(file: &[u8], budget: u32) -> io::Result<Released> {
+    with_stack(|| release_here(file, budget))
+}
+
+/// [`release`] on the caller's own stack, as [`judge_here`] is [`judge`].
+///
+/// # Panics
+///
+/// Where the library linked gives what the format does not have, which the proved one does not.
+pub fn release_here(file: &[u8], budget: u32) -> Released {
+    let (packed, row) = release_row(file, budget);
+    Released::unpack(packed, &row)
+}
+
+/// The release call with a row of the length that the file asks for, and that row afterwards.
+fn release_row(file: &[u8], budget: u32) -> (Packed, Vec<u32>) {
+    let mut row = vec![0; ROW_NUMBERS * plans(file)];
+    let packed = release_packed(file, &mut row, budget);
+    (packed, row)
+}
+
+/// The release call as it is exported: the same as [`release_here`], with a lent row, and with the call's own answer packed into one number.
+///
+/// After an own answer of 0 the row has number, place, count and input of each plan, which [`Released::unpack`] takes apart; after every other answer its
+/// numbers are what they were. Where there are not [`ROW_NUMBERS`] times as many of them as there are [`plans`], the answer is 9.
+///
+/// ```
+/// // One fluent, one action, and two empty plans.
+/// let file = [1, 1, 0, 0, 0, 0, 2, 0, 0, 0, 0, 0, 0, 0, 0];
+/// let mut row = [9; 8];
+/// assert_eq!(glintstring::release_packed(&file, &mut row[..4], 10).number(), 9);
+/// assert_eq!(glintstring::release_packed(&file, &mut row, 10).0, 0);
+/// assert_eq!(row, [0, 0, 1, 0, 0, 0, 1, 0]);
+/// ```
+pub fn release_packed(file: &[u8], row: &mut [u32], budget: u32) -> Packed {
+    // Each pointer is valid for its length, the row's for writing too and for nobody else, and the call keeps neither.
+    Packed(unsafe { glintstring_release(file.as_ptr(), file.len(), row.as_mut_ptr(), row.len(), budget) })
+}
+
+/// The plans call: how many plans a release file has, and 0 where the release call refuses it before they are counted.
+///
+/// ```
+/// // One fluent, one action, and seven plans, of which not one is there.
+/// assert_eq!(glintstring::plans(&[1, 1, 0, 0, 0, 0, 7]), 7);
+/// assert_eq!(glintstring::plans(&[1, 1, 0, 0, 0, 0]), 0);
+/// ```
+#[must_use]
+pub fn plans(file: &[u8]) -> usize {
+    // The pointer is valid for its length, and the call writes nothing and does not keep it.
+    let count = unsafe { glintstring_plans(file.as_ptr(), file.len()) };
+    count as usize
 }
 
 /// The showing call: the part of an input that an answer is about, from its place to that input's end.

@@ -3,7 +3,7 @@
 use std::sync::mpsc::{channel, Receiver, Sender};
 use std::{fmt, io, thread};
 
-use crate::{judge_line_packed, Answer, Judged, Packed, REQUEST_LIMIT, STACK, STATE_LENGTH};
+use crate::{judge_line_packed, release_row, Answer, Judged, Packed, Released, REQUEST_LIMIT, STACK, STATE_LENGTH};
 
 /// A thread with enough stack for a walk, which is started once and serves many calls, one after the other.
 ///
@@ -38,12 +38,20 @@ pub struct Judge {
     answers: Receiver<Answered>,
 }
 
-/// What a walk call is given, and what it leaves.
-struct Call {
-    request: Vec<u8>,
-    budget: u32,
+/// What the walk call or the release call is given: a request or a release file, and a budget.
+enum Call {
+    Walk(Vec<u8>, u32),
+    Release(Vec<u8>, u32),
 }
-type Answered = (Packed, [u8; STATE_LENGTH], u32);
+
+/// What they leave: an answer, with the lent state and the line, or with the lent row.
+enum Answered {
+    Walk(Packed, [u8; STATE_LENGTH], u32),
+    Release(Packed, Vec<u32>),
+}
+
+/// The thread answers one call after the other, each as it was asked.
+const SERVES: &str = "the thread serves as long as there is a judge";
 
 impl Judge {
     /// A judge whose thread waits for calls.
@@ -66,7 +74,7 @@ impl Judge {
     ///
     /// Where the library linked gives an answer that the format does not have, which the proved one does not. The judge can be used after it.
     pub fn judge(&mut self, request: &[u8], budget: u32) -> Answer {
-        let (packed, state, _) = self.served(request, budget);
+        let (packed, state, _) = self.walk(request, budget);
         Answer::unpack(packed, &state)
     }
 
@@ -76,25 +84,52 @@ impl Judge {
     ///
     /// As [`Judge::judge`] does.
     pub fn judge_line(&mut self, request: &[u8], budget: u32) -> Judged {
-        let (packed, state, line) = self.served(request, budget);
+        let (packed, state, line) = self.walk(request, budget);
         Judged::unpack(packed, &state, line)
     }
 
-    fn served(&mut self, request: &[u8], budget: u32) -> Answered {
-        // The thread has a copy, since it outlives the borrow. More bytes than these are answered alike.
-        let request = request[..request.len().min(REQUEST_LIMIT + 1)].to_vec();
-        let sent = self.calls.as_ref().and_then(|calls| calls.send(Call { request, budget }).ok());
-        sent.and_then(|()| self.answers.recv().ok()).expect("the thread serves as long as there is a judge")
+    /// The release call, as [`release`](crate::release) makes it: answers every plan of a release file, each with a count of at most `budget`.
+    ///
+    /// # Panics
+    ///
+    /// As [`Judge::judge`] does.
+    pub fn release(&mut self, file: &[u8], budget: u32) -> Released {
+        let Answered::Release(packed, row) = self.served(Call::Release(copied(file), budget)) else { unreachable!("{SERVES}") };
+        Released::unpack(packed, &row)
     }
+
+    fn walk(&mut self, request: &[u8], budget: u32) -> (Packed, [u8; STATE_LENGTH], u32) {
+        let Answered::Walk(packed, state, line) = self.served(Call::Walk(copied(request), budget)) else { unreachable!("{SERVES}") };
+        (packed, state, line)
+    }
+
+    fn served(&mut self, call: Call) -> Answered {
+        let sent = self.calls.as_ref().and_then(|calls| calls.send(call).ok());
+        sent.and_then(|()| self.answers.recv().ok()).expect(SERVES)
+    }
+}
+
+/// The thread has a copy, since it outlives the borrow. More bytes than these are answered alike.
+fn copied(input: &[u8]) -> Vec<u8> {
+    input[..input.len().min(REQUEST_LIMIT + 1)].to_vec()
 }
 
 /// Answers each call, until no more can come.
 fn serve(calls: &Receiver<Call>, answers: &Sender<Answered>) {
-    for Call { request, budget } in calls {
-        let mut state = [0; STATE_LENGTH];
-        let mut line = 0;
-        let packed = judge_line_packed(&request, &mut state, budget, &mut line);
-        if answers.send((packed, state, line)).is_err() {
+    for call in calls {
+        let answered = match call {
+            Call::Walk(request, budget) => {
+                let mut state = [0; STATE_LENGTH];
+                let mut line = 0;
+                let packed = judge_line_packed(&request, &mut state, budget, &mut line);
+                Answered::Walk(packed, state, line)
+            }
+            Call::Release(file, budget) => {
+                let (packed, row) = release_row(&file, budget);
+                Answered::Release(packed, row)
+            }
+        };
+        if answers.send(answered).is_err() {
             return;
         }
     }

@@ -347,15 +347,9 @@ module _ (n m : ℕ) (d : List ℕ) where
     pub count-second : 1 < length d
     count-second = here .there
 
-    pub derived-long : length d ≤ format .derivation
-    derived-long = here .long
-
     module _ (count : ℕ) (is : count ≡ getD d 0 0 * 256 + getD d 1 0) where
       same : length (some .derivation .lines) ≡ count
       same = derived-count layout places (some .derivation) e here count is
 
       pub derived-least : 1 ≤ count
       derived-least = let least = here .some in let size = same in omega arith
-
-      pub derived-few : count ≤ format .lines
-      derived-few = let few = here .few in let size = same in omega arith

@@ -8,7 +8,7 @@ use Rattle.finding.specs.declared.places.Found.{Found}
 use Rattle.finding.specs.declared.places.Found.the-variants.{Nowhere, At}
 use Rattle.reading.specs.Noted.{slots}
 use Rattle.finding.specs.Places.{found}
-use Rattle.finding.specs.ReadHere.{blank}
+use Rattle.finding.specs.TablesHere.{blank}
 
 -- What was found, by the definition.
 back : Found → Refusals.Found

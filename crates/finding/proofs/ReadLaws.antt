@@ -1,4 +1,4 @@
--- What a request that was read leaves in the notes, for what is refused after reading. Assumes nothing.
+-- What reading leaves in the notes: what they hold of a table, whatever plan was noted since, and of a plan, whatever was noted before. Assumes nothing.
 use Prim.Native.Nat.{ℕ, zero, suc, _+_, _-_, _*_, _≤_, _<_}
 use native.Mathlib.Omega.{arith}
 use mathlib.Core.Path.{_≡_, refl, sym, _∙_, ap, subst}
@@ -18,7 +18,7 @@ use Rattle.reading.specs.Noted.{effects, executability, knowledge, effect-lines
 use Rattle.reading.specs.Ordered.{In-order}
 use Rattle.reading.specs.Listed.{listed, List-here}
 use Rattle.reading.specs.Planned.{items-of, bytes-of, plan-noted}
-use Rattle.reading.specs.Requested.{goals-place, plan-place, places-noted, request-noted}
+use Rattle.reading.specs.Requested.{goals-place, plan-place, places-noted, tail-noted}
 use Rattle.finding.specs.LinesHere.{effect-from, Effect-here, place-in, effects-in, Effects-here, knowledge-from, knowledge-in, Knowledge-here, Acting}
 use Rattle.reading.proofs.SectionLaws.{got-place, byte-got, number-got}
 use Rattle.reading.proofs.PlanSizes.{sequence-read, list-through}
@@ -27,11 +27,11 @@ use Rattle.finding.proofs.HereLaws.{list-here, effect-here}
 use Rattle.finding.proofs.KeptLaws.{kept, Outside, appended-kept, pair-kept, section-kept, section-counted, section-long, plan-kept, plan-long}
 use Rattle.finding.proofs.ChainLaws.{section-ordered, order-same, order-some}
 use Rattle.finding.specs.PlansHeld.{Kept, Plan-held}
-use Rattle.finding.specs.TablesHere.{table-of, table-in, Runs-here}
+use Rattle.finding.specs.TablesHere.{blank, table-of, table-in, Of-table, Table-here, Runs-here}
 use Rattle.finding.proofs.PlanKept.{kept-agree}
 use Rattle.finding.proofs.WrittenLaws.{plan-held}
 use Rattle.finding.proofs.HoldsLaws.{Placed-in, effects-placed, placed-same, effects-found, effects-fit}
-use Rattle.finding.specs.ReadHere.{blank}
+use Rattle.finding.proofs.FoundLaws.{blank-long, blank-slot}
 
 -- THE PARTS of a table that was read up to p, and of a request with that table.
 pub record Table-parts (s : List ℕ) (t : Table) (p : ℕ) : Type 0 where
@@ -99,31 +99,29 @@ request-parts s t p y q e =
     on (got x i) = Request-parts s t p x
     on (fault n i) = Unit {0}
 
--- A request that was read.
-pub record Parts (s : List ℕ) (x : Request) : Type 0 where
+-- A request that was read: its table from the start, and the rest behind it.
+pub record Parts (s : List ℕ) (x : Request) (e : ℕ) : Type 0 where
   pub place : ℕ
   pub table-read : table-at format s 0 ≡ got (x .table) place
-  pub of-table : Table-parts s (x .table) place
-  pub items : ℕ
-  pub plan-end : ℕ
-  pub plan-read : plan-at format (x .table .fluents) (x .table .actions) s place ≡ got (record { value = x .plan; items = items }) plan-end
-  pub placed : plan-place x ≡ place
+  pub tail-read : request-at format s (x .table) place ≡ got x e
 
-pub parts : (s : List ℕ) (x : Request) (e : ℕ) → read-request format s ≡ got x e → Parts s x
+pub parts : (s : List ℕ) (x : Request) (e : ℕ) → read-request format s ≡ got x e → Parts s x e
 unfolding read-request
 parts s x e read =
     after-got (table-at format s 0) _ (not-refused _ _ _ _ read .1) λ t p et e₁.
     after-got (request-at format s t p) _ e₁ λ y q ey e₂.
-    let of-request = request-parts s t p y q ey in
-    subst (Parts s) (got-same (not-refused _ _ _ _ e₂ .1)) (record {
+    let same : y .table ≡ t = request-parts s t p y q ey .table in
+    let is : got y q ≡ got x e = not-refused _ _ _ _ e₂ .1 in
+    let reads : Parts s y q = record {
       place = p;
-      table-read = et ∙ ap (λ (z : Table). got z p) (sym (of-request .table));
-      of-table = subst (λ (z : Table). Table-parts s z p) (sym (of-request .table)) (table-parts s t p et);
-      items = of-request .items;
-      plan-end = of-request .plan-end;
-      plan-read = subst (λ (z : Table). plan-at format (z .fluents) (z .actions) s p ≡ got (record { value = y .plan; items = of-request .items }) (of-request .plan-end)) (sym (of-request .table)) (of-request .plan-read);
-      placed = of-request .placed;
-    })
+      table-read = et ∙ ap (λ (z : Table). got z p) (sym same);
+      tail-read = ap (λ (z : Table). request-at format s z p) same ∙ ey;
+    } in
+    subst on is reads
+  where
+    on : Got Request → Type 0
+    on (got y q) = Parts s y q
+    on (fault n q) = Unit {0}
 
 -- How many lines a section has.
 pub section-length : {A : Type 0} (line : ℕ → Got A) (s : List ℕ) (p : ℕ) (xs : List A) (q : ℕ) → section-at line s p ≡ got xs q → length xs ≡ getD s p 0
@@ -185,122 +183,107 @@ module _ (s : List ℕ) (t : Table) (p : ℕ) (whole : Table-parts s t p) where
       let is : a ≡ k .action = ap (λ (y : Knowledge). y .action) (got-same e₂) in
       omega arith
 
--- THE SLOTS that nothing noted after the executability lines touches.
+-- THE SLOTS of a table that its knowledge lines do not touch.
 pub record Apart (j : ℕ) : Type 0 where
-  pub plan : effect-lines ≤ j
+  pub far : effect-lines ≤ j
   pub action : (a : ℕ) → a < format .actions → (j ≡ sensed-from + a → ⊥) × (j ≡ sensed-to + a → ⊥)
   pub sensed : j < sensed
   pub other : (j ≡ knowledge-slot → ⊥) × (j ≡ plan-slot → ⊥) × (j ≡ items-slot → ⊥) × (j ≡ goals-slot → ⊥)
 
 lines-apart : (j : ℕ) → effect-lines ≤ j → j < sensed-from → Apart j
 lines-apart j far near = record {
-  plan = far;
+  far = far;
   action = λ a h. (λ e. omega arith, λ e. omega arith);
   sensed = omega arith;
   other = (λ e. omega arith, λ e. omega arith, λ e. omega arith, λ e. omega arith);
 }
 
-module _ (s : List ℕ) (bytes : (i : ℕ) → getD s i 0 < 256) (x : Request) (whole : Parts s x) (t : List ℕ) where
-  pub effects-few : length (x .table .effects) < line-numbers
-  effects-few = rw (section-length (effect-at format (x .table .fluents) (x .table .actions) s) s (whole .of-table .effects-at) (x .table .effects) (whole .of-table .effects-end) (whole .of-table .effects-read)) (bytes (whole .of-table .effects-at))
+module _ (s : List ℕ) (bytes : (i : ℕ) → getD s i 0 < 256) (x : Table) (p : ℕ) (whole : Table-parts s x p) where
+  pub effects-few : length (x .effects) < line-numbers
+  effects-few = rw (section-length (effect-at format (x .fluents) (x .actions) s) s (whole .effects-at) (x .effects) (whole .effects-end) (whole .effects-read)) (bytes (whole .effects-at))
 
-  pub runs-few : length (x .table .executability) < line-numbers
-  runs-few = rw (section-length (executability-at format (x .table .fluents) (x .table .actions) s) s (whole .of-table .effects-end) (x .table .executability) (whole .of-table .runs-end) (whole .of-table .runs-read)) (bytes (whole .of-table .effects-end))
+  pub runs-few : length (x .executability) < line-numbers
+  runs-few = rw (section-length (executability-at format (x .fluents) (x .actions) s) s (whole .effects-end) (x .executability) (whole .runs-end) (whole .runs-read)) (bytes (whole .effects-end))
 
-  pub knowledge-few : length (x .table .knowledge) < line-numbers
-  knowledge-few = rw (section-length (knowledge-at format (x .table .fluents) (x .table .actions) s) s (whole .of-table .runs-end) (x .table .knowledge) (whole .place) (whole .of-table .knowledge-read)) (bytes (whole .of-table .runs-end))
-
-  pub items-most : (whole .items ≡ items-of (x .plan)) × (items-of (x .plan) ≤ format .items)
-  unfolding plan-at
-  items-most =
-      let sized = sequence-read (x .table .fluents) (x .table .actions) s 8 (whole .place) 0 (omega arith) .holds (record { value = x .plan; items = whole .items }) (whole .plan-end) (whole .plan-read) in
-      let a = sized .counted in let b = sized .most in
-      (omega arith, omega arith)
-
-  pub tabled-long : {n : ℕ} → length t ≡ n → length (table-noted (x .table) t) ≡ n
-  unfolding table-noted
-  tabled-long sized =
-      section-long knowledge (x .table .knowledge) (section-noted executability (x .table .executability) (section-noted effects (x .table .effects) t))
-      ∙ section-long executability (x .table .executability) (section-noted effects (x .table .effects) t)
-      ∙ section-long effects (x .table .effects) t
-      ∙ sized
-
-  pub planned-long : {n : ℕ} → length t ≡ n → length (plan-noted (plan-place x) (table-noted (x .table) t) (x .plan)) ≡ n
-  planned-long sized = plan-long (plan-place x) (table-noted (x .table) t) (x .plan) ∙ tabled-long sized
-
-  -- The notes after one section, two and three.
-  unfoldable pub with-effects : List ℕ
-  with-effects = section-noted effects (x .table .effects) t
-
-  unfoldable pub with-runs : List ℕ
-  with-runs = section-noted executability (x .table .executability) with-effects
-
-  unfoldable pub with-knowledge : List ℕ
-  with-knowledge = section-noted knowledge (x .table .knowledge) with-runs
-
-  effects-long : {n : ℕ} → length t ≡ n → length with-effects ≡ n
-  unfolding with-effects
-  effects-long sized = section-long effects (x .table .effects) t ∙ sized
-
-  pub runs-long : {n : ℕ} → length t ≡ n → length with-runs ≡ n
-  unfolding with-runs
-  runs-long sized = section-long executability (x .table .executability) with-effects ∙ effects-long sized
+  pub knowledge-few : length (x .knowledge) < line-numbers
+  knowledge-few = rw (section-length (knowledge-at format (x .fluents) (x .actions) s) s (whole .runs-end) (x .knowledge) p (whole .knowledge-read)) (bytes (whole .runs-end))
 
   -- EACH SECTION leaves alone what is none of its slots.
   module _ (u : List ℕ) (j : ℕ) where
-    pub effects-kept : Outside effect-lines j → (j ≡ effects-slot → ⊥) → getD (section-noted effects (x .table .effects) u) j 0 ≡ getD u j 0
+    pub effects-kept : Outside effect-lines j → (j ≡ effects-slot → ⊥) → getD (section-noted effects (x .effects) u) j 0 ≡ getD u j 0
     unfolding note-line action-in count-slot
     effects-kept out other =
         section-kept effects j (λ (e : Effect). e .action < format .actions)
         (λ last k e v small less few. appended-kept j effect-lines last k (e .place) (e .action) v less few small out) (λ e small. small)
-        (x .table .effects) u (effect-acts s (x .table) (whole .place) (whole .of-table)) effects-few other
+        (x .effects) u (effect-acts s x p whole) effects-few other
 
-    pub runs-kept : Outside run-lines j → (j ≡ executability-slot → ⊥) → getD (section-noted executability (x .table .executability) u) j 0 ≡ getD u j 0
+    pub runs-kept : Outside run-lines j → (j ≡ executability-slot → ⊥) → getD (section-noted executability (x .executability) u) j 0 ≡ getD u j 0
     unfolding note-line action-in count-slot
     runs-kept out other =
         section-kept executability j (λ (r : Executability). r .action < format .actions)
         (λ last k r v small less few. appended-kept j run-lines last k (r .place) (r .action) v less few small out) (λ r small. small)
-        (x .table .executability) u (run-good s (x .table) (whole .place) (whole .of-table)) runs-few other
+        (x .executability) u (run-good s x p whole) runs-few other
 
-    knowledge-kept : Apart j → getD (section-noted knowledge (x .table .knowledge) u) j 0 ≡ getD u j 0
+    knowledge-kept : Apart j → getD (section-noted knowledge (x .knowledge) u) j 0 ≡ getD u j 0
     unfolding note-line action-in count-slot
     knowledge-kept apart =
         section-kept knowledge j (λ (l : Knowledge). l .action < format .actions)
         (λ last k l v small _ _. pair-kept j (l .action) (l .fluent) v (apart .sensed) (apart .action (l .action) small .0) (apart .action (l .action) small .1)) (λ l small. small)
-        (x .table .knowledge) u (knowledge-good s (x .table) (whole .place) (whole .of-table)) knowledge-few (apart .other .0)
+        (x .knowledge) u (knowledge-good s x p whole) knowledge-few (apart .other .0)
 
-  -- The plan and the places leave a slot as the table's sections left it.
-  pub after-sections : (j : ℕ) → effect-lines ≤ j → (j ≡ plan-slot → ⊥) → (j ≡ items-slot → ⊥) → (j ≡ goals-slot → ⊥) → getD (request-noted x t) j 0 ≡ getD with-knowledge j 0
-  unfolding request-noted places-noted table-noted with-knowledge with-runs with-effects
-  after-sections j far a b c =
-      let planned : List ℕ = plan-noted (plan-place x) (table-noted (x .table) t) (x .plan) in
-      kept (set (set planned plan-slot (plan-place x)) items-slot (items-of (x .plan))) goals-slot j (goals-place x) c
-      ∙ kept (set planned plan-slot (plan-place x)) items-slot j (items-of (x .plan)) b
-      ∙ kept planned plan-slot j (plan-place x) a
-      ∙ plan-kept j far (plan-place x) (table-noted (x .table) t) (x .plan) (items-most .1)
+  -- The notes after one section, two and three, from notes that held nothing.
+  unfoldable pub with-effects : List ℕ
+  with-effects = section-noted effects (x .effects) blank
 
-  after-runs : (j : ℕ) → Apart j → getD (request-noted x t) j 0 ≡ getD with-runs j 0
-  unfolding with-knowledge
-  after-runs j apart = after-sections j (apart .plan) (apart .other .1) (apart .other .2) (apart .other .3) ∙ knowledge-kept with-runs j apart
+  unfoldable pub with-runs : List ℕ
+  with-runs = section-noted executability (x .executability) with-effects
 
-  after-effects : (j : ℕ) → Apart j → Outside run-lines j → (j ≡ executability-slot → ⊥) → getD (request-noted x t) j 0 ≡ getD with-effects j 0
+  unfoldable pub with-knowledge : List ℕ
+  with-knowledge = section-noted knowledge (x .knowledge) with-runs
+
+  effects-long : length with-effects ≡ slots
+  unfolding with-effects
+  effects-long = section-long effects (x .effects) blank ∙ blank-long
+
+  pub runs-long : length with-runs ≡ slots
   unfolding with-runs
-  after-effects j apart out other = after-runs j apart ∙ runs-kept with-effects j out other
+  runs-long = section-long executability (x .executability) with-effects ∙ effects-long
 
-  module _ (sized : length t ≡ slots) where
-    pub knowledge-counted : getD (request-noted x t) knowledge-slot 0 ≡ length (x .table .knowledge)
+  -- They hold nothing of what is sensed before the knowledge lines are noted.
+  pub sensed-empty : (j : ℕ) → sensed-from ≤ j → j < slots → (j ≡ effects-slot → ⊥) → (j ≡ executability-slot → ⊥) → getD with-runs j 0 ≡ 0
+  unfolding with-runs with-effects
+  sensed-empty j far near a b =
+      runs-kept with-effects j (λ i h e. omega arith) b
+      ∙ effects-kept blank j (λ i h e. omega arith) a
+      ∙ blank-slot j near
+
+  -- NOTES THAT HOLD THE TABLE, whatever plan they hold too.
+  module _ (u : List ℕ) (noted : (j : ℕ) → Of-table j → getD u j 0 ≡ getD (table-noted x blank) j 0) where
+    pub after-sections : (j : ℕ) → effect-lines ≤ j → (j ≡ plan-slot → ⊥) → (j ≡ items-slot → ⊥) → (j ≡ goals-slot → ⊥) → getD u j 0 ≡ getD with-knowledge j 0
+    unfolding table-noted with-knowledge with-runs with-effects
+    after-sections j far a b c = noted j (record { far = far; other = (a, b, c) })
+
+    after-runs : (j : ℕ) → Apart j → getD u j 0 ≡ getD with-runs j 0
+    unfolding with-knowledge
+    after-runs j apart = after-sections j (apart .far) (apart .other .1) (apart .other .2) (apart .other .3) ∙ knowledge-kept with-runs j apart
+
+    after-effects : (j : ℕ) → Apart j → Outside run-lines j → (j ≡ executability-slot → ⊥) → getD u j 0 ≡ getD with-effects j 0
+    unfolding with-runs
+    after-effects j apart out other = after-runs j apart ∙ runs-kept with-effects j out other
+
+    pub knowledge-counted : getD u knowledge-slot 0 ≡ length (x .knowledge)
     unfolding with-knowledge note-line action-in count-slot
     knowledge-counted =
         after-sections knowledge-slot (omega arith) (λ e. omega arith) (λ e. omega arith) (λ e. omega arith)
         ∙ section-counted knowledge knowledge-slot (λ (l : Knowledge). l .action < format .actions)
         (λ last k l v small _ _. pair-kept knowledge-slot (l .action) (l .fluent) v (omega arith) (λ e. omega arith) (λ e. omega arith)) (λ l small. small)
-        (x .table .knowledge) with-runs (knowledge-good s (x .table) (whole .place) (whole .of-table)) knowledge-few refl (omega (arith, runs-long sized))
+        (x .knowledge) with-runs (knowledge-good s x p whole) knowledge-few refl (omega (arith, runs-long))
 
-    pub effects-counted : getD (request-noted x t) effects-slot 0 ≡ length (x .table .effects)
+    pub effects-counted : getD u effects-slot 0 ≡ length (x .effects)
     unfolding with-effects note-line action-in count-slot
     effects-counted =
         after-effects effects-slot (record {
-          plan = omega arith;
+          far = omega arith;
           action = λ a h. (λ e. omega arith, λ e. omega arith);
           sensed = omega arith;
           other = (λ e. omega arith, λ e. omega arith, λ e. omega arith, λ e. omega arith);
@@ -308,99 +291,143 @@ module _ (s : List ℕ) (bytes : (i : ℕ) → getD s i 0 < 256) (x : Request) (
         (λ i h e. omega arith) (λ e. omega arith)
         ∙ section-counted effects effects-slot (λ (e : Effect). e .action < format .actions)
         (λ last k e v small less few. appended-kept effects-slot effect-lines last k (e .place) (e .action) v less few small (λ i h q. omega arith)) (λ e small. small)
-        (x .table .effects) t (effect-acts s (x .table) (whole .place) (whole .of-table)) effects-few refl (omega arith)
+        (x .effects) blank (effect-acts s x p whole) effects-few refl (omega (arith, blank-long))
 
-    pub items-noted : getD (request-noted x t) items-slot 0 ≡ items-of (x .plan)
-    unfolding request-noted places-noted
+    -- 16 finds the effects.
+    placed-effects : Placed-in u 0 (x .effects)
+    unfolding with-effects section-noted count-slot line-place
+    placed-effects =
+        placed-same with-effects u 0 (x .effects)
+        (λ i less.
+        let few = effects-few in
+        after-effects (effect-lines + i) (lines-apart (effect-lines + i) (omega arith) (omega arith)) (λ m h e. omega arith) (λ e. omega arith))
+        (effects-placed 0 none-yet (x .effects) (set blank effects-slot (length (x .effects))) (length-set blank effects-slot (length (x .effects)) ∙ blank-long) (omega (arith, effects-few)))
+
+    pub effects-are : effects-in s u 0 (length (x .effects)) ≡ x .effects
+    effects-are = effects-found s u 0 (x .effects) placed-effects (λ e has. effect-good s x p whole e has .0)
+
+    pub effects-stand : Effects-here s u (length (x .effects))
+    effects-stand = record {
+      line = λ i less.
+          let same : 0 + i + 1 ≡ i + 1 = omega arith in
+          subst (λ (j : ℕ). Effect-here s (place-in u j)) same
+          (effects-fit s u 0 (x .effects) placed-effects (λ e has. effect-good s x p whole e has .1) i less);
+    }
+
+    -- THE LINES OF AN ACTION.
+    module _ (a : ℕ) (small : a < format .actions) where
+      pub effects-ordered : In-order u effect-lines a (map (λ (e : Effect). e .place) (effects-of x a))
+      unfolding with-effects note-line action-in count-slot effects-of
+      effects-ordered =
+          order-same effect-lines with-effects u
+          (λ i less. after-effects (effect-lines + i) (lines-apart (effect-lines + i) (omega arith) (omega arith)) (λ m h e. omega arith) (λ e. omega arith))
+          a (map (λ (e : Effect). e .place) (effects-of x a)) small
+          (section-ordered effects effect-lines (omega arith) (λ (e : Effect). e .place) (λ last k e u. refl) a small (x .effects) blank blank-long effects-few
+          (effect-acts s x p whole) (λ i less e. omega arith) (λ i less. blank-slot (effect-lines + i) (omega arith)))
+
+      pub runs-ordered : In-order u run-lines a (map (λ (r : Executability). r .place) (executability-of x a))
+      unfolding with-runs with-effects note-line action-in count-slot executability-of
+      runs-ordered =
+          order-same run-lines with-runs u
+          (λ i less. after-runs (run-lines + i) (lines-apart (run-lines + i) (omega arith) (omega arith)))
+          a (map (λ (r : Executability). r .place) (executability-of x a)) small
+          (section-ordered executability run-lines (omega arith) (λ (r : Executability). r .place) (λ last k r u. refl) a small (x .executability) with-effects effects-long runs-few
+          (run-good s x p whole) (λ i less e. omega arith)
+          (λ i less. effects-kept blank (run-lines + i) (λ m h e. omega arith) (λ e. omega arith) ∙ blank-slot (run-lines + i) (omega arith)))
+
+    -- 17 finds the actions that have an effect.
+    pub acting : Acting u (x .effects)
+    unfolding effects-of
+    acting = record {
+      slot = λ a small. order-some (λ (e : Effect). e .place) (λ (e : Effect). eqb (e .action) a) u effect-lines a (x .effects) (effects-ordered a small);
+    }
+
+-- SECTIONS 6 TO 8, over any table and any notes.
+module _ (s : List ℕ) (x : Table) (few : x .fluents ≤ format .fluents) (less : x .actions ≤ format .actions) (p : ℕ) (y : Request) (q : ℕ) (read : request-at format s x p ≡ got y q) (t : List ℕ) where
+  of-request : Request-parts s x p y
+  of-request = request-parts s x p y q read
+
+  items-most : (of-request .items ≡ items-of (y .plan)) × (items-of (y .plan) ≤ format .items)
+  unfolding plan-at
+  items-most =
+      let sized = sequence-read (x .fluents) (x .actions) s 8 p 0 (omega arith) .holds (record { value = y .plan; items = of-request .items }) (of-request .plan-end) (of-request .plan-read) in
+      let a = sized .counted in let b = sized .most in
+      (omega arith, omega arith)
+
+  planned : List ℕ
+  planned = plan-noted (plan-place y) t (y .plan)
+
+  abbrev placed-plan : List ℕ
+  placed-plan = set planned plan-slot (plan-place y)
+
+  abbrev placed-items : List ℕ
+  placed-items = set placed-plan items-slot (items-of (y .plan))
+
+  tail-is : tail-noted y t ≡ set placed-items goals-slot (goals-place y)
+  unfolding tail-noted places-noted planned
+  tail-is = refl
+
+  slot-in : (j v : ℕ) → getD (set placed-items goals-slot (goals-place y)) j 0 ≡ v → getD (tail-noted y t) j 0 ≡ v
+  slot-in j v is = ap (λ (u : List ℕ). getD u j 0) tail-is ∙ is
+
+  before-places : (j : ℕ) → (j ≡ plan-slot → ⊥) → (j ≡ items-slot → ⊥) → (j ≡ goals-slot → ⊥) → getD (tail-noted y t) j 0 ≡ getD planned j 0
+  before-places j a b c =
+      slot-in j _ (kept placed-items goals-slot j (goals-place y) c ∙ kept placed-plan items-slot j (items-of (y .plan)) b ∙ kept planned plan-slot j (plan-place y) a)
+
+  -- They leave the table as it was.
+  pub tail-kept : (j : ℕ) → Of-table j → getD (tail-noted y t) j 0 ≡ getD t j 0
+  unfolding planned
+  tail-kept j of =
+      before-places j (of .other .0) (of .other .1) (of .other .2)
+      ∙ plan-kept j (of .far) (plan-place y) t (y .plan) (items-most .1)
+
+  module _ (sized : length t ≡ slots) where
+    planned-long : length planned ≡ slots
+    unfolding planned
+    planned-long = plan-long (plan-place y) t (y .plan) ∙ sized
+
+    plan-long-too : length placed-plan ≡ slots
+    plan-long-too = length-set planned plan-slot (plan-place y) ∙ planned-long
+
+    items-long : length placed-items ≡ slots
+    items-long = length-set placed-plan items-slot (items-of (y .plan)) ∙ plan-long-too
+
+    pub tail-long : length (tail-noted y t) ≡ slots
+    tail-long = ap length tail-is ∙ length-set placed-items goals-slot (goals-place y) ∙ items-long
+
+    pub items-noted : getD (tail-noted y t) items-slot 0 ≡ items-of (y .plan)
     items-noted =
-        let planned : List ℕ = plan-noted (plan-place x) (table-noted (x .table) t) (x .plan) in
-        kept (set (set planned plan-slot (plan-place x)) items-slot (items-of (x .plan))) goals-slot items-slot (goals-place x) (λ e. omega arith)
-        ∙ getD-set-same (set planned plan-slot (plan-place x)) items-slot (items-of (x .plan)) 0 (omega (arith, length-set planned plan-slot (plan-place x), planned-long sized))
+        slot-in items-slot _ (kept placed-items goals-slot items-slot (goals-place y) (λ e. omega arith)
+        ∙ getD-set-same placed-plan items-slot (items-of (y .plan)) 0 (omega (arith, plan-long-too)))
 
-    pub plan-noted-at : getD (request-noted x t) plan-slot 0 ≡ whole .place
-    unfolding request-noted places-noted
+    pub plan-noted-at : getD (tail-noted y t) plan-slot 0 ≡ plan-place y
     plan-noted-at =
-        let planned : List ℕ = plan-noted (plan-place x) (table-noted (x .table) t) (x .plan) in
-        kept (set (set planned plan-slot (plan-place x)) items-slot (items-of (x .plan))) goals-slot plan-slot (goals-place x) (λ e. omega arith)
-        ∙ kept (set planned plan-slot (plan-place x)) items-slot plan-slot (items-of (x .plan)) (λ e. omega arith)
-        ∙ getD-set-same planned plan-slot (plan-place x) 0 (omega (arith, planned-long sized))
-        ∙ whole .placed
+        slot-in plan-slot _ (kept placed-items goals-slot plan-slot (goals-place y) (λ e. omega arith)
+        ∙ kept placed-plan items-slot plan-slot (items-of (y .plan)) (λ e. omega arith)
+        ∙ getD-set-same planned plan-slot (plan-place y) 0 (omega (arith, planned-long)))
+
+    pub goals-noted : getD (tail-noted y t) goals-slot 0 ≡ goals-place y
+    goals-noted = slot-in goals-slot _ (getD-set-same placed-items goals-slot (goals-place y) 0 (omega (arith, items-long)))
 
     -- 18 finds the plan.
-    pub request-held : Plan-held s (request-noted x t) (x .plan)
-    unfolding request-noted places-noted
-    request-held =
-        let noted : List ℕ = table-noted (x .table) t in
-        let planned : List ℕ = plan-noted (plan-place x) noted (x .plan) in
-        let held = plan-held (x .table .fluents) (x .table .actions) s (whole .of-table .few) (whole .of-table .less) (whole .place) noted (record { value = x .plan; items = whole .items }) (whole .plan-end) (omega (arith, table-long)) (whole .plan-read) in
-        let same : (j : ℕ) → j < effect-lines → getD (request-noted x t) j 0 ≡ getD planned j 0 = λ j near.
-        kept (set (set planned plan-slot (plan-place x)) items-slot (items-of (x .plan))) goals-slot j (goals-place x) (λ e. omega arith)
-        ∙ kept (set planned plan-slot (plan-place x)) items-slot j (items-of (x .plan)) (λ e. omega arith)
-        ∙ kept planned plan-slot j (plan-place x) (λ e. omega arith) in
-        let few = held .few in
+    pub tail-held : Plan-held s (tail-noted y t) (y .plan)
+    unfolding planned
+    tail-held =
+        let held = plan-held (x .fluents) (x .actions) s few less p t (record { value = y .plan; items = of-request .items }) (of-request .plan-end) (omega (arith, sized)) (of-request .plan-read) in
+        let same : (j : ℕ) → j < effect-lines → getD (tail-noted y t) j 0 ≡ getD (plan-noted (plan-place y) t (y .plan)) j 0 = λ j near.
+        before-places j (λ e. omega arith) (λ e. omega arith) (λ e. omega arith) in
+        let small = held .few in
         record {
-          few = few;
+          few = small;
           written = held .written;
-          kept = kept-agree (x .plan) 0 planned (request-noted x t)
+          kept = kept-agree (y .plan) 0 (plan-noted (plan-place y) t (y .plan)) (tail-noted y t)
               (record {
                 places = λ j _ less. same (0 + j) (omega arith);
                 ends = λ j _ less. same (branch-place + j) (omega arith);
                 counts = λ j _ less. same (branch-item + j) (omega arith);
               })
-              (subst (λ (p : ℕ). Kept (plan-noted p noted (x .plan)) 0 (x .plan)) (sym (whole .placed)) (held .kept));
+              (subst (λ (i : ℕ). Kept (plan-noted i t (y .plan)) 0 (y .plan)) (sym (of-request .placed)) (held .kept));
         }
-      where
-        table-long : length (table-noted (x .table) t) ≡ slots
-        table-long = tabled-long sized
-
-    -- 16 finds the effects.
-    placed-effects : Placed-in (request-noted x t) 0 (x .table .effects)
-    unfolding with-effects section-noted count-slot line-place
-    placed-effects =
-        placed-same with-effects (request-noted x t) 0 (x .table .effects)
-        (λ i less.
-        let few = effects-few in
-        after-effects (effect-lines + i) (lines-apart (effect-lines + i) (omega arith) (omega arith)) (λ m h e. omega arith) (λ e. omega arith))
-        (effects-placed 0 none-yet (x .table .effects) (set t effects-slot (length (x .table .effects))) (length-set t effects-slot (length (x .table .effects)) ∙ sized) (omega (arith, effects-few)))
-
-    pub effects-are : effects-in s (request-noted x t) 0 (length (x .table .effects)) ≡ x .table .effects
-    effects-are = effects-found s (request-noted x t) 0 (x .table .effects) placed-effects (λ e has. effect-good s (x .table) (whole .place) (whole .of-table) e has .0)
-
-    pub effects-stand : Effects-here s (request-noted x t) (length (x .table .effects))
-    effects-stand = record {
-      line = λ i less.
-          let same : 0 + i + 1 ≡ i + 1 = omega arith in
-          subst (λ (j : ℕ). Effect-here s (place-in (request-noted x t) j)) same
-          (effects-fit s (request-noted x t) 0 (x .table .effects) placed-effects (λ e has. effect-good s (x .table) (whole .place) (whole .of-table) e has .1) i less);
-    }
-
-    -- THE LINES OF AN ACTION, over notes that held nothing.
-    module _ (blank : (j : ℕ) → j < slots → getD t j 0 ≡ 0) (a : ℕ) (small : a < format .actions) where
-      pub effects-ordered : In-order (request-noted x t) effect-lines a (map (λ (e : Effect). e .place) (effects-of (x .table) a))
-      unfolding with-effects note-line action-in count-slot effects-of
-      effects-ordered =
-          order-same effect-lines with-effects (request-noted x t)
-          (λ i less. after-effects (effect-lines + i) (lines-apart (effect-lines + i) (omega arith) (omega arith)) (λ m h e. omega arith) (λ e. omega arith))
-          a (map (λ (e : Effect). e .place) (effects-of (x .table) a)) small
-          (section-ordered effects effect-lines (omega arith) (λ (e : Effect). e .place) (λ last k e u. refl) a small (x .table .effects) t sized effects-few
-          (effect-acts s (x .table) (whole .place) (whole .of-table)) (λ i less e. omega arith) (λ i less. blank (effect-lines + i) (omega arith)))
-
-      pub runs-ordered : In-order (request-noted x t) run-lines a (map (λ (r : Executability). r .place) (executability-of (x .table) a))
-      unfolding with-runs with-effects note-line action-in count-slot executability-of
-      runs-ordered =
-          order-same run-lines with-runs (request-noted x t)
-          (λ i less. after-runs (run-lines + i) (lines-apart (run-lines + i) (omega arith) (omega arith)))
-          a (map (λ (r : Executability). r .place) (executability-of (x .table) a)) small
-          (section-ordered executability run-lines (omega arith) (λ (r : Executability). r .place) (λ last k r u. refl) a small (x .table .executability) with-effects (effects-long sized) runs-few
-          (run-good s (x .table) (whole .place) (whole .of-table)) (λ i less e. omega arith)
-          (λ i less. effects-kept t (run-lines + i) (λ m h e. omega arith) (λ e. omega arith) ∙ blank (run-lines + i) (omega arith)))
-
-    -- 17 finds the actions that have an effect.
-    pub acting : ((j : ℕ) → j < slots → getD t j 0 ≡ 0) → Acting (request-noted x t) (x .table .effects)
-    unfolding effects-of
-    acting blank = record {
-      slot = λ a small. order-some (λ (e : Effect). e .place) (λ (e : Effect). eqb (e .action) a) (request-noted x t) effect-lines a (x .table .effects) (effects-ordered blank a small);
-    }
 
 -- KNOWLEDGE LINES stand one after another, two bytes each.
 module _ (n m : ℕ) (s : List ℕ) (less : m ≤ format .actions) where
@@ -445,14 +472,45 @@ module _ (n m : ℕ) (s : List ℕ) (less : m ≤ format .actions) where
       let start : q - 2 * length ks ≡ i = omega arith in
       rw (start, counted) (lines .0, record { ends = omega (arith, lines .2); acts = lines .3 }, omega arith)
 
--- THE TABLE of a request that was read stands at the start, and the notes lead to its executability lines.
-module _ (s : List ℕ) (bytes : (i : ℕ) → getD s i 0 < 256) (x : Request) (whole : Parts s x) where
-  pub table-is : table-in s ≡ x .table
-  unfolding table-in table-of
-  table-is = ap table-of (whole .table-read)
+-- THE TABLE AT THE START of an input, and its executability lines.
+pub table-is : (s : List ℕ) (x : Table) (p : ℕ) → table-at format s 0 ≡ got x p → table-in s ≡ x
+unfolding table-in table-of
+table-is s x p read = ap table-of read
 
-  pub runs-here : (t : List ℕ) → length t ≡ slots → ((j : ℕ) → j < slots → getD t j 0 ≡ 0) → Runs-here s (request-noted x t)
-  runs-here t sized blank = record {
-    order = λ a small. rw table-is (runs-ordered s bytes x whole t sized blank a small);
-    line = rw table-is (run-stands s (x .table) (whole .place) (whole .of-table));
+module _ (s t : List ℕ) (here : Table-here s t) where
+  pub whole-table : Table-parts s (table-in s) (here .table-end)
+  whole-table = table-parts s (table-in s) (here .table-end) (here .table)
+
+  pub runs-here : Runs-here s t
+  runs-here = record {
+    order = runs-ordered s (here .bytes) (table-in s) (here .table-end) whole-table t (here .noted);
+    line = run-stands s (table-in s) (here .table-end) whole-table;
+  }
+
+  -- A plan that is noted leaves the table there.
+  pub table-stays : (p : ℕ) (y : Request) (q : ℕ) → request-at format s (table-in s) p ≡ got y q → Table-here s (tail-noted y t)
+  table-stays p y q read = record {
+    bytes = here .bytes;
+    short = here .short;
+    table-end = here .table-end;
+    table = here .table;
+    sized = tail-long s (table-in s) (whole-table .few) (whole-table .less) p y q read t (here .sized);
+    noted = λ j of. tail-kept s (table-in s) (whole-table .few) (whole-table .less) p y q read t j of ∙ here .noted j of;
+  }
+
+-- A table that was noted into notes that held nothing is there.
+module _ (s : List ℕ) (bytes : (i : ℕ) → getD s i 0 < 256) (short : length s ≤ format .request) (x : Table) (p : ℕ) (read : table-at format s 0 ≡ got x p) where
+  pub table-comes : Table-here s (table-noted x blank)
+  unfolding table-noted
+  table-comes = record {
+    bytes = bytes;
+    short = short;
+    table-end = p;
+    table = read ∙ ap (λ (z : Table). got z p) (sym (table-is s x p read));
+    sized =
+        section-long knowledge (x .knowledge) (section-noted executability (x .executability) (section-noted effects (x .effects) blank))
+        ∙ section-long executability (x .executability) (section-noted effects (x .effects) blank)
+        ∙ section-long effects (x .effects) blank
+        ∙ blank-long;
+    noted = λ j of. ap (λ (z : Table). getD (table-noted z blank) j 0) (sym (table-is s x p read));
   }

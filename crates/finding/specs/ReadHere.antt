@@ -2,16 +2,11 @@
 use Prim.Native.Nat.{ℕ}
 use mathlib.Core.Path.{_≡_}
 use mathlib.Core.List.{List}
-use lib.ListN.{replicate}
 use Rattle.meaning.specs.Limits.{format}
 use Rattle.meaning.specs.Requests.{Request}
 use Rattle.meaning.specs.Reading.{got, read-request}
 use Rattle.reading.specs.Requested.{request-noted}
-use Rattle.reading.specs.Noted.{slots}
-
--- Notes that hold nothing.
-unfoldable pub blank : List ℕ
-blank = replicate slots 0
+use Rattle.finding.specs.TablesHere.{blank}
 
 -- A request was read up to e, into notes that held nothing before.
 pub record Read-here (s t : List ℕ) (e : ℕ) : Type 0 where

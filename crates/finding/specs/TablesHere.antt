@@ -1,13 +1,14 @@
--- The table that stands at an input's start, and its executability lines as the notes find them.
-use Prim.Native.Nat.{ℕ, _+_, _<_}
+-- The table that stands at an input's start, the notes that hold it, and its executability lines as the notes find them.
+use Prim.Native.Nat.{ℕ, _+_, _≤_, _<_}
 use mathlib.Core.Path.{_≡_}
 use mathlib.Core.List.{List, [], map}
+use lib.ListN.{length, getD, replicate}
 use Rattle.meaning.specs.Tests.{Has}
 use Rattle.meaning.specs.Limits.{format, all-literals}
 use Rattle.meaning.specs.Requests.{Executability, Table}
 use Rattle.meaning.specs.Lines.{executability-of}
 use Rattle.meaning.specs.Reading.{Got, got, fault, table-at}
-use Rattle.reading.specs.Noted.{run-lines}
+use Rattle.reading.specs.Noted.{effect-lines, run-lines, plan-slot, items-slot, goals-slot, slots, table-noted}
 use Rattle.reading.specs.Ordered.{In-order}
 use Rattle.reading.specs.Listed.{listed, List-here}
 
@@ -19,6 +20,24 @@ table-of (fault n p) = record { fluents = 0; actions = 0; facts = []; effects = 
 -- THE TABLE (FORMAT 2.12 to 2.16).
 unfoldable pub table-in : List ℕ → Table
 table-in s = table-of (table-at format s 0)
+
+-- Notes that hold nothing.
+unfoldable pub blank : List ℕ
+blank = replicate slots 0
+
+-- THE TABLE IN THE NOTES. The slots that a table alone writes are those behind the plan's, but for the three places of a plan.
+pub record Of-table (j : ℕ) : Type 0 where
+  pub far : effect-lines ≤ j
+  pub other : (j ≡ plan-slot → ⊥) × (j ≡ items-slot → ⊥) × (j ≡ goals-slot → ⊥)
+
+-- Sections 1 to 5 stand at the start of the input, and these slots are as noting the table leaves them. A plan that is noted too changes none of them.
+pub record Table-here (s t : List ℕ) : Type 0 where
+  pub bytes : (i : ℕ) → getD s i 0 < 256
+  pub short : length s ≤ format .request
+  pub table-end : ℕ
+  pub table : table-at format s 0 ≡ got (table-in s) table-end
+  pub sized : length t ≡ slots
+  pub noted : (j : ℕ) → Of-table j → getD t j 0 ≡ getD (table-noted (table-in s) blank) j 0
 
 -- The notes lead to each action's executability lines in file order, and the body of each is fit to be read behind its action byte.
 pub record Runs-here (s t : List ℕ) : Type 0 where

@@ -30,7 +30,7 @@ use Rattle.reading.specs.Requested.{request-noted}
 use Rattle.reading.proofs.SectionLaws.{noting-fault}
 use Rattle.reading.proofs.RequestLaws.{placed-length}
 use Rattle.finding.specs.Branches.{sequence-place}
-use Rattle.finding.specs.ReadHere.{blank}
+use Rattle.finding.specs.TablesHere.{blank}
 use Rattle.finding.proofs.PlanHere.{listed-length}
 use Rattle.steps.specs.Held.{whether-in, request-in}
 use Rattle.steps.specs.AtHand.{At-hand}

@@ -1,139 +1,27 @@
--- What the walk call answers. A settled request is at hand for the walk; the tally that the walk leaves stands as a walk from the whole
--- budget does, so what is told of it is what the definition says of the walk within the budget. Assumes nothing.
-use Prim.Native.Nat.{ℕ, _-_, _≤_, _<_}
-use native.Mathlib.Omega.{arith}
-use mathlib.Core.Path.{_≡_, sym, _∙_, ap, subst}
-use mathlib.Core.Bool.{true, false}
+-- What the walk call answers: another length than a state's, a refusal, or what the walk of the settled request says. Assumes nothing.
+use Prim.Native.Nat.{ℕ}
+use mathlib.Core.Path.{_≡_, sym, _∙_, ap}
 use mathlib.Core.List.{List}
-use lib.ListN.{length, getD, drop}
-use lib.Dec.{eqb, ltb}
+use lib.ListN.{length, getD}
 use mir.Syntax.{w8}
 use mir.Val.{Fits}
-use borrow.Author.Tests.{eqb-true, eqb-false, eq-eqb, ne-eqb, ltb-false}
+use borrow.Author.Tests.{eq-eqb, ne-eqb}
 use Rattle.meaning.specs.declared.Answer.{Answer}
 use Rattle.meaning.specs.Limits.{format}
 use Rattle.meaning.specs.Requests.{Request}
 use Rattle.meaning.specs.Refusals.{settled}
-use Rattle.meaning.specs.States.{State, state-of, first-state}
-use Rattle.meaning.specs.Walk.{End, fine, Walked, walked}
-use Rattle.meaning.specs.Judging.{ended, within, judge-settled, judge}
-use Rattle.meaning.proofs.TestLaws.{by-test, pick-true, pick-false}
-use Rattle.meaning.proofs.KeptEnds.{Stuck, walked-stuck}
+use Rattle.meaning.specs.States.{first-state}
+use Rattle.meaning.specs.Walk.{walked}
+use Rattle.meaning.specs.Judging.{within, judge-settled, judge}
+use Rattle.meaning.proofs.TestLaws.{pick-true, pick-false}
 use Rattle.bytes.specs.declared.lists.Passed.{Passed}
 use Rattle.bytes.specs.declared.lists.Passed.the-variants.{To, Fault as Stop}
-use Rattle.reading.specs.Noted.{noting, outcome, items-slot}
-use Rattle.reading.specs.Listed.{listed}
+use Rattle.reading.specs.Noted.{noting, outcome}
 use Rattle.reading.specs.Requested.{request-noted}
-use Rattle.finding.specs.ReadHere.{blank}
+use Rattle.finding.specs.TablesHere.{blank}
 use Rattle.reading.proofs.SectionLaws.{noting-fault}
 use Rattle.steps.specs.Held.{table-in, request-in}
-use Rattle.steps.specs.AtHand.{At-hand, Marked}
-use Rattle.steps.specs.Steps.{walk-from}
-use Rattle.walking.specs.Standing.{Standing, nothing, spent, so-far, spend, add, end-in, standing, Going, tally-slots}
-use Rattle.walking.proofs.StandingLaws.{stands-open, end-missed, end-stopped, sized-after}
-use Rattle.glintstring.specs.Telling.{start, told, Tallied}
-use Rattle.glintstring.proofs.MarkedLaws.{End-marked, first-marked, walked-marked}
-use Rattle.glintstring.proofs.FirstLaws.{walks-first}
 use Rattle.glintstring.proofs.SettledAtHand.{settled-got, settled-held}
-
--- STANDINGS.
-so-far≢spent : {l : ℕ} {e : End State} → so-far l e ≡ spent → ⊥
-so-far≢spent e = subst is-so-far e tt
-  where
-    is-so-far : Standing → Type 0
-    is-so-far nothing = ⊥
-    is-so-far spent = ⊥
-    is-so-far (so-far l e) = Unit {0}
-
-left-same : {l m : ℕ} {d e : End State} → so-far l d ≡ so-far m e → l ≡ m
-left-same {l} is = ap left is
-  where
-    left : Standing → ℕ
-    left nothing = l
-    left spent = l
-    left (so-far m e) = m
-
-end-same : {l m : ℕ} {d e : End State} → so-far l d ≡ so-far m e → d ≡ e
-end-same {d = d} is = ap end is
-  where
-    end : Standing → End State
-    end nothing = d
-    end spent = d
-    end (so-far m e) = e
-
--- A WALK of the whole budget: what is told of it is what the definition says.
-module _ (budget : ℕ) (w : Walked State) where
-  spends-above : ltb budget (w .count) ≡ true → spend budget (λ e. e) w ≡ spent
-  unfolding spend
-  spends-above h = pick-true _ _ _ h
-
-  spends-within : ltb budget (w .count) ≡ false → spend budget (λ e. e) w ≡ so-far (budget - w .count) (w .end)
-  unfolding spend
-  spends-within h = pick-false _ _ _ h
-
-  told-within : (lent : List ℕ) → told lent budget (spend budget (λ e. e) w) ≡ within lent budget w
-  unfolding told within
-  told-within lent =
-      by-test (ltb budget (w .count))
-      (λ above. ap (told lent budget) (spends-above above) ∙ sym (pick-true _ _ _ above))
-      (λ below.
-      let few : w .count ≤ budget = ltb-false budget (w .count) below in
-      let counted : budget - (budget - w .count) ≡ w .count = omega (arith, few) in
-      ap (told lent budget) (spends-within below) ∙ ap (λ (c : ℕ). ended lent c (w .end)) counted ∙ sym (pick-false (ltb budget (w .count)) _ _ below))
-
-  -- The tally after it.
-  module _ (tally : List ℕ) (sized : length tally ≡ tally-slots) (stands : standing tally ≡ spend budget (λ e. e) w) where
-    within-is : (getD tally 0 0 ≡ 3 → ⊥) → so-far (getD tally 2 0) (end-in tally) ≡ so-far (budget - w .count) (w .end)
-    within-is going =
-        let is = sym (stands-open tally sized going) ∙ stands in
-        by-test (ltb budget (w .count)) (λ above. absurd (so-far≢spent (is ∙ spends-above above))) (λ below. is ∙ spends-within below)
-
-    end-state : (getD tally 0 0 ≡ 0 → ⊥) → End-marked (end-in tally) → Marked (drop 3 tally)
-    end-state some marked =
-        by-test (eqb (getD tally 0 0) 1)
-        (λ t. subst End-marked (end-missed tally sized (eqb-true _ _ t)) marked)
-        (λ f. subst End-marked (end-stopped tally sized some (eqb-false _ _ f)) marked)
-
-    -- It holds 0, 1, or the number with which the walk stopped.
-    end-small : Stuck (end-in tally) → getD tally 0 0 < 256
-    end-small stuck =
-        by-test (eqb (getD tally 0 0) 0)
-        (λ t. let none : getD tally 0 0 ≡ 0 = eqb-true _ _ t in omega (arith, none))
-        (λ n.
-        by-test (eqb (getD tally 0 0) 1)
-        (λ t. let one : getD tally 0 0 ≡ 1 = eqb-true _ _ t in omega (arith, one))
-        (λ f. let two : getD tally 0 0 ≡ 2 = subst Stuck (end-stopped tally sized (eqb-false _ _ n) (eqb-false _ _ f)) stuck .0 in omega (arith, two)))
-
-    tallied : End-marked (w .end) → Stuck (w .end) → Tallied tally budget
-    tallied marked stuck = record {
-      sized = sized;
-      fewer = λ going. let left = left-same (within-is going) in omega (arith, left);
-      small = λ going. end-small (subst Stuck (sym (end-same (within-is going))) stuck);
-      marked = λ going some. end-state some (subst End-marked (sym (end-same (within-is going))) marked);
-    }
-
--- THE WALK of a request at hand, from its first state.
-module _ (s t : List ℕ) (here : At-hand s t) (items at : ℕ) (counted : items ≡ getD t items-slot 0) (starts : at ≡ start items)
-    (marks : State) (is : marks ≡ state-of format (listed s 2)) (budget : ℕ) (before after : List ℕ)
-    (opens : standing before ≡ so-far budget fine) (going : Going before) (walks : standing after ≡ add (standing before) (walk-from s t at marks)) where
-  whole : Walked State
-  whole = walked (request-in s t) (first-state format (table-in s))
-
-  stands-so : standing after ≡ spend budget (λ e. e) whole
-  unfolding add whole
-  stands-so = walks ∙ ap (λ (a : Standing). add a (walk-from s t at marks)) opens ∙ ap (spend budget (λ e. e)) (walks-first s t here items at counted starts marks is)
-
-  pub plan-tallied : Tallied after budget
-  unfolding whole first-state
-  plan-tallied =
-      tallied budget whole after (sized-after before going (walk-from s t at marks) after walks) stands-so
-      (walked-marked (request-in s t) (first-state format (table-in s)) (first-marked (table-in s)))
-      (walked-stuck (request-in s t) (first-state format (table-in s)))
-
-  pub plan-judged : (lent left : List ℕ) (answer : Answer) → record { answer = answer; state = left } ≡ told lent budget (standing after)
-      → record { answer = answer; state = left } ≡ within lent budget (walked (request-in s t) (first-state format (table-in s)))
-  unfolding whole
-  plan-judged lent left answer says = says ∙ ap (told lent budget) stands-so ∙ told-within budget whole lent
 
 -- THE CALL.
 module _ (s lent : List ℕ) (budget : ℕ) where

@@ -1,7 +1,3 @@
-pub mod TellingLaws
-pub mod KeepingLaws
-pub mod MarkedLaws
-pub mod FirstLaws
 pub mod SettledAtHand
 pub mod JudgingLaws
 pub mod MissingLaws

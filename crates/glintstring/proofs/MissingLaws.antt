@@ -2,7 +2,7 @@
 -- is that of the answer and of the bytes left, which are the definition's. Assumes nothing.
 use Prim.Native.Nat.{ℕ, _+_, _≤_, _<_}
 use native.Mathlib.Omega.{arith}
-use mathlib.Core.Path.{_≡_, refl, sym, _∙_, ap, subst}
+use mathlib.Core.Path.{_≡_, sym, _∙_, ap, subst}
 use mathlib.Core.List.{List}
 use lib.ListN.{length, getD, set, replicate, length-set, length-replicate}
 use lib.Seq.{getD-set-same, getD-set-other, ext-getD}
@@ -16,7 +16,6 @@ use Rattle.meaning.specs.declared.Runs.the-variants.{By, Short, Never}
 use Rattle.meaning.specs.Limits
 use Rattle.meaning.specs.Limits.{format}
 use Rattle.meaning.specs.Requests.{Item, act, branching, Request}
-use Rattle.meaning.specs.Reading.{got, fault}
 use Rattle.meaning.specs.Refusals.{settled}
 use Rattle.meaning.specs.States.{State, first-state, outcome}
 use Rattle.meaning.specs.Walk.{End, fine, missed, stopped, Walked, walked}
@@ -35,7 +34,7 @@ use Rattle.reading.specs.Noted as Noted
 use Rattle.reading.specs.Noted.{noting, plan-slot, items-slot}
 use Rattle.reading.specs.Requested.{request-noted}
 use Rattle.reading.proofs.SectionLaws.{noting-fault}
-use Rattle.finding.specs.ReadHere.{blank}
+use Rattle.finding.specs.TablesHere.{blank}
 use Rattle.steps.specs.Held.{table-in, plan-in, goals-in, request-in}
 use Rattle.steps.specs.AtHand.{At-hand}
 use Rattle.steps.proofs.HandLaws.{sections}

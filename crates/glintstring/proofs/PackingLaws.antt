@@ -9,8 +9,10 @@ use Rattle.meaning.specs.declared.Layout.{Layout}
 use Rattle.meaning.specs.Limits.{format}
 use Rattle.meaning.specs.Judging.{Judgement, judge}
 use Rattle.meaning.specs.Derivations.{check}
+use Rattle.meaning.specs.Releases.{Released, release}
 use Rattle.meaning.proofs.PickLaws.{pick-has}
 use Rattle.meaning.proofs.PartLaws.{place-limited, limit-of, check-place-limited}
+use Rattle.meaning.proofs.ReleaseLaws.{own-place-limited}
 use Rattle.glintstring.specs.Packing.{packed}
 
 -- PACKED.
@@ -27,6 +29,9 @@ check-place-small layout s d =
     let most = check-place-limited format layout s d in
     let limit : limit-of format (check format layout s d) ≤ (format .derivation) = pick-has (λ (n : ℕ). n ≤ format .derivation) _ _ _ (λ _. omega arith) (λ _. omega arith) in
     omega (arith, most, limit)
+
+pub own-place-small : (s lent : List ℕ) (budget : ℕ) → release format s lent budget .answer .place < 65536
+own-place-small s lent budget = let most = own-place-limited format s lent budget in omega (arith, most)
 
 -- WHAT THE EXPORTED WALK CALL RETURNS, where the walk call has given an answer and left these bytes.
 module _ (s lent : List ℕ) (budget : ℕ) (a : Answer) (left : List ℕ) (judges : record { answer = a; state = left } ≡ judge format s lent budget) where
@@ -46,3 +51,14 @@ module _ (layout : Layout) (s d : List ℕ) (a : Answer) (checks : a ≡ check f
 
   pub checked-packed : (r : ℕ) → r ≡ packed a → r ≡ packed (check format layout s d)
   checked-packed r is = is ∙ ap packed checks
+
+-- WHAT THE EXPORTED RELEASE CALL RETURNS, where the release call has given an answer of its own and left this row.
+module _ (s lent : List ℕ) (budget : ℕ) (a : Answer) (left : List ℕ) (releases : record { answer = a; row = left } ≡ release format s lent budget) where
+  pub released-small : a .place < 65536
+  released-small = subst (λ (j : Released). j .answer .place < 65536) (sym releases) (own-place-small s lent budget)
+
+  pub released-packed : (r : ℕ) → r ≡ packed a → r ≡ packed (release format s lent budget .answer)
+  released-packed r is = is ∙ ap (λ (j : Released). packed (j .answer)) releases
+
+  pub released-left : left ≡ release format s lent budget .row
+  released-left = ap (λ (j : Released). j .row) releases

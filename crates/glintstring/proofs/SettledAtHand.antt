@@ -1,8 +1,8 @@
 -- A settled request is at hand: it was read from the start, into notes that held nothing, and 16 let it pass. Assumes nothing.
 use Prim.Native.Nat.{ℕ}
-use mathlib.Core.Path.{_≡_, refl, _∙_, ap}
+use mathlib.Core.Path.{_≡_, _∙_, ap}
 use mathlib.Core.List.{List}
-use lib.ListN.{getD, replicate}
+use lib.ListN.{getD}
 use mir.Syntax.{w8}
 use mir.Val.{Fits}
 use Rattle.meaning.specs.Limits.{format}
@@ -12,17 +12,13 @@ use Rattle.meaning.specs.Refusals.{settled}
 use Rattle.meaning.proofs.SettledLaws.{Settled, settled-is}
 use Rattle.bytes.specs.declared.lists.Passed.{Passed}
 use Rattle.bytes.specs.declared.lists.Passed.the-variants.{To}
-use Rattle.reading.specs.Noted.{noting, outcome, slots}
+use Rattle.reading.specs.Noted.{noting, outcome}
 use Rattle.reading.specs.Requested.{request-noted}
 use Rattle.reading.proofs.SectionLaws.{noting-got}
-use Rattle.finding.specs.ReadHere.{blank}
+use Rattle.finding.specs.TablesHere.{blank}
 use Rattle.steps.specs.Held.{request-in}
 use Rattle.steps.specs.AtHand.{At-hand}
 use Rattle.steps.proofs.JustRead.{read-at-hand, request-read}
-
-pub blank-is : replicate slots 0 ≡ blank
-unfolding blank
-blank-is = refl
 
 module _ (s t u : List ℕ) (r : Passed) (settles : outcome r u ≡ noting request-noted (settled format s) t) (e : ℕ) (passes : r ≡ To e) where
   pub settled-got : (x : Request) × (settled format s ≡ got x e) × (u ≡ request-noted x t)

@@ -1,4 +1,3 @@
-pub mod Telling
 pub mod Missing
 pub mod LentState
 pub mod ShownPart

@@ -5,7 +5,6 @@ ghost use Rattle.meaning.specs.Limits.{format};
 ghost use Rattle.steps.specs.Held.{request-in};
 ghost use Rattle.steps.specs.AtHand.{At-hand};
 ghost use Rattle.glintstring.specs.CheckCalls.{too-many, check-at-hand};
-use super::answers;
 use bytes::bytes::wide;
 use bytes::lists::Passed;
 use checking::check::check_derivation;
@@ -16,6 +15,7 @@ use reading::notes;
 use reading::notes::Notes;
 use reading::notes::get;
 use refusing::settled::settle;
+use verdicts::answers;
 
 // The layout does not cover this number of whether entries.
 fn is_beyond(layout: Layout, asked: usize) -> bool

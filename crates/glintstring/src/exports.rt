@@ -6,13 +6,16 @@ ghost use Rattle.meaning.specs.Limits.{format};
 ghost use Rattle.meaning.specs.Judging.{judge};
 ghost use Rattle.meaning.specs.Asking;
 ghost use Rattle.meaning.specs.Derivations.{check};
+ghost use Rattle.meaning.specs.Releases.{plans-in, release};
 ghost use Rattle.meaning.specs.Showing.{show};
 ghost use Rattle.glintstring.specs.Packing.{packed, unpacked};
-use super::answers;
 use super::check_calls::check;
 use super::check_calls::check_whether;
 use super::judging::judge;
 use meaning::Answer;
+use verdicts::answers;
+use verdicts::releasing::plans;
+use verdicts::releasing::release;
 
 // An answer in one number.
 fn pack(a: Answer) -> u64
@@ -66,6 +69,23 @@ pub extern "C" fn glintstring_check_whether(request: &[u8], derivation: &[u8]) -
     ensures { λ r. ⌜ r ≡ packed (check format Closing (now (request .entry)) (now (derivation .entry))) ⌝ }
 {
     pack(check_whether(request, derivation))
+}
+
+// The release call (FORMAT 19.1), with its own answer in one number and the plans' answers in the lent row. It may be called with anything.
+#[no_mangle]
+pub extern "C" fn glintstring_release(file: &[u8], row: &mut [u32], budget: u32) -> u64
+    ensures { λ r. ⌜ r ≡ packed (release format (now (file .entry)) (now (row .entry)) budget .answer) ⌝ }
+    ensures { λ _. ⌜ now (row .exit) ≡ release format (now (file .entry)) (now (row .entry)) budget .row ⌝ }
+{
+    pack(release(file, row, budget))
+}
+
+// How many plans a file has, and 0 where the release call is refused before they are counted. It may be called with anything.
+#[no_mangle]
+pub extern "C" fn glintstring_plans(file: &[u8]) -> u32
+    ensures { λ r. ⌜ r ≡ plans-in format (now (file .entry)) ⌝ }
+{
+    plans(file) as u32
 }
 
 // The smaller of two numbers.

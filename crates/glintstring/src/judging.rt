@@ -7,40 +7,15 @@ ghost use Rattle.meaning.specs.Judging.{within, judge};
 ghost use Rattle.meaning.specs.Asking.{line-told, line};
 ghost use Rattle.steps.specs.Held.{table-in, request-in};
 ghost use Rattle.steps.specs.AtHand.{At-hand};
-ghost use Rattle.glintstring.specs.Telling.{start};
-use super::answers;
 use super::missing::line_at;
-use super::telling::tell;
 use bytes::limits;
 use bytes::lists::Passed;
 use meaning::Answer;
-use reading::marks::state_of;
 use reading::notes;
 use reading::notes::Notes;
-use reading::notes::get;
 use refusing::settled::settle;
-use walking::tally::opened;
-use walking::walk::walk;
-
-fn start_of(items: usize) -> usize
-    ensures { λ r. ⌜ r ≡ start items ⌝ }
-{
-    if items == 0 { limits::ITEMS } else { 0 }
-}
-
-// The walk of a settled request.
-fn walk_plan(request: &[u8], t: &Notes, state: &mut [u8], budget: u32) -> Answer
-    requires { ⌜ At-hand (now request) (now t) ⌝ }
-    requires { ⌜ length (now state) ≡ format .state ⌝ }
-    ensures { λ r. ⌜ record { answer = r; state = now (state .exit) } ≡ within (now (state .entry)) budget (walked (request-in (now (request .entry)) (now (t .entry))) (first-state format (table-in (now (request .entry))))) ⌝ }
-{
-    let marks = state_of(request, 2);
-    let items = get(t, notes::ITEMS);
-    let at = start_of(items);
-    let mut tally = opened(budget);
-    walk(request, t, at, marks, &mut tally);
-    tell(&tally, state, budget)
-}
+use verdicts::answers;
+use verdicts::walked::walk_plan;
 
 // The walk of a settled request, and the line of the action that stopped it.
 fn walk_with_line(request: &[u8], t: &Notes, state: &mut [u8], budget: u32) -> Judged

@@ -4,8 +4,8 @@ ghost use lib.ListN.{length, drop};
 ghost use mathlib.Core.List.{[]};
 ghost use Rattle.meaning.specs.Showing.{show};
 ghost use Rattle.glintstring.specs.ShownPart.{chosen};
-use super::answers;
 use meaning::Answer;
+use verdicts::answers;
 
 // The part from the place on; beyond the end the empty part there.
 fn from<'a>(s: &'a [u8], place: usize) -> &'a [u8]

@@ -1,22 +1,20 @@
 // Judges the request on standard input, and says so on standard output (FORMAT 12.1 to 12.6, 12.13, 12.21, 18.17).
 use bytes::limits;
 use comparing::parts::same_part;
-use glintstring::answers;
 use glintstring::judging::judge;
 use libc::STDIN_FILENO;
 use libc::STDOUT_FILENO;
 use programs::Asked;
 use programs::Input;
 use programs::REQUEST_ROOM;
-use programs::number_of;
+use programs::budget_asked;
 use programs::put;
 use programs::put_line;
 use programs::put_number;
 use programs::put_state;
 use programs::read_all;
 use programs::stack_is_enough;
-
-const BUDGET: u32 = 100000;
+use verdicts::answers;
 
 // The last argument asks for the line.
 fn line_asked() -> bool {
@@ -27,21 +25,6 @@ fn line_asked() -> bool {
     let mut text = io::buffer();
     let n = os::arg(count - 1, &mut text);
     same_part(&text[..n], b"--line")
-}
-
-// Without an argument before that BUDGET, and with one the number that it writes.
-fn budget_asked(line: bool) -> Asked {
-    let others = if line { 2 } else { 1 };
-    let count = os::arg_count();
-    if count <= others {
-        return Asked::Number(BUDGET);
-    }
-    let mut text = io::buffer();
-    let n = os::arg(1, &mut text);
-    if os::errno() != 0 || count > others + 1 {
-        return Asked::Nothing;
-    }
-    number_of(&text[..n])
 }
 
 // The answer, for 1 and 2 the state, and where it is asked for the line. The first byte of a request that gets one of these is its fluent count. Without
@@ -90,7 +73,9 @@ fn judge_input(budget: u32, line: bool) {
 
 fn main() {
     let line = line_asked();
-    match budget_asked(line) {
+    // The program's name, and the option.
+    let words = if line { 2 } else { 1 };
+    match budget_asked(words) {
         Asked::Number(budget) => judge_input(budget, line),
         Asked::Nothing => {
             io::write_all(

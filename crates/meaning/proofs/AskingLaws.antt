@@ -3,7 +3,7 @@
 -- That it can be run is that a line allows it. By induction on the lines. Assumes nothing.
 use Prim.Native.Nat.{ℕ, _≤_, _<_}
 use native.Mathlib.Omega.{arith}
-use mathlib.Core.Path.{_≡_, refl, sym, _∙_, ap}
+use mathlib.Core.Path.{_≡_, refl, sym}
 use mathlib.Core.Bool.{Bool, true, false}
 use mathlib.Core.List.{List, [], _∷_}
 use mathlib.Core.Logic.{_⊎_, inl, inr, ⊎-elim}
@@ -11,12 +11,12 @@ use lib.Dec.{ltb, eqb}
 use borrow.Author.Tests.{eqb-true, ltb-true, ltb-false}
 use Rattle.meaning.specs.declared.Runs.{Runs}
 use Rattle.meaning.specs.declared.Runs.the-variants.{By, Short, Never}
-use Rattle.meaning.specs.Tests.{both, either, pick, some-of, each-of, Has}
+use Rattle.meaning.specs.Tests.{both, either, some-of, each-of, Has}
 use Rattle.meaning.specs.Requests.{Executability, Table}
 use Rattle.meaning.specs.Lines.{executability-of, allowed}
 use Rattle.meaning.specs.States.{State, known, can-be-run}
 use Rattle.meaning.specs.Asking.{short-by, fewest, nearest, first-allowing, asked, allows}
-use Rattle.meaning.specs.Reported.{First, Known, Lacks, First-allowing, Nearest, Stands-for}
+use Rattle.meaning.specs.Reported.{First, Known, Lacks, Stands-for}
 use Rattle.meaning.proofs.TestLaws.{by-test, clash, each-has, those-has}
 use Rattle.meaning.proofs.PickLaws.{pick-has}
 use Rattle.meaning.proofs.EndLaws.{first-here, first-later, first-has}

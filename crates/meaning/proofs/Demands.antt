@@ -63,6 +63,8 @@ pub use Rattle.meaning.proofs.Narrowed.{settled-narrowed, passes-still}
 -- The release call: its own answer is numbered, and so is each number in its row; the row has four numbers for each plan where the answer is 0, and is
 -- left as lent with every other.
 pub use Rattle.meaning.proofs.ReleaseLaws.{own-numbered, own-input, own-place, own-count, row-within, row-sized, row-as-lent}
+-- The plans call: a row of four times its number is not refused by 9, and where it is 0 the file is refused before the row is looked at.
+pub use Rattle.meaning.proofs.ReleaseLaws.{plans-counted, none-counted, row-fits}
 -- Where its answer is 0, each plan's row is the walk call's answer on the table and that plan, with its place counted in the file, and 22 stands just
 -- behind a plan that failed in reading.
 pub use Rattle.meaning.proofs.ReleaseRows.{each-row, behind-a-failure, not-reached-exactly}

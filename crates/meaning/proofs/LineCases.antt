@@ -3,7 +3,7 @@
 use Prim.Native.Nat.{ℕ}
 use mathlib.Core.Path.{_≡_, refl}
 use mathlib.Core.List.{List, [], _∷_, _++_, map}
-use lib.ListN.{replicate, take}
+use lib.ListN.{take}
 use Rattle.meaning.specs.Limits.{format}
 use Rattle.meaning.specs.Judging.{Judgement, judge}
 use Rattle.meaning.specs.Asking.{line}

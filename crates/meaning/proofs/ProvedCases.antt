@@ -1,5 +1,5 @@
--- The proved cases of the walk call, without the line and with it, of the derivation call and of the whether call, one statement over one list.
--- Its parts were computed where they are. Assumes nothing.
+-- The proved cases of the walk call, without the line and with it, of the derivation call, of the whether call and of the release call, one statement
+-- over one list. Its parts were computed where they are. Assumes nothing.
 use Prim.Native.Nat.{ℕ}
 use mathlib.Core.Path.{_≡_, sym, _∙_, ap, ap₂}
 use mathlib.Core.List.{List, _++_, map, map-map, map-append}
@@ -9,6 +9,7 @@ use Rattle.meaning.specs.Limits.{format}
 use Rattle.meaning.specs.Judging.{Judgement, judge}
 use Rattle.meaning.specs.Asking.{line}
 use Rattle.meaning.specs.Derivations.{check}
+use Rattle.meaning.specs.Releases.{Released, release}
 use Rattle.meaning.proofs.TestLaws.{map-same, same-map}
 use Rattle.meaning.proofs.Cases
 use Rattle.meaning.proofs.Cases.{cases, cases-hold}
@@ -16,22 +17,27 @@ use Rattle.meaning.proofs.LineCases.{LineCase, line-cases, line-cases-h
 use Rattle.meaning.proofs.DerivationCases
 use Rattle.meaning.proofs.DerivationCases.{derivations, derivations-hold}
 use Rattle.meaning.proofs.WhetherCases.{whethers, whethers-hold}
+use Rattle.meaning.proofs.ReleaseCases
+use Rattle.meaning.proofs.ReleaseCases.{releases, releases-hold}
 
 -- A call, and what it gives. A derivation in the plain layout is put to the derivation call, and one in the closing layout to the whether call.
 pub data Call : Type 0 where
   judging : (request lent : List ℕ) → (budget : ℕ) → Call
   judging-line : (request lent : List ℕ) → (budget : ℕ) → Call
   checking : Layout → (request derivation : List ℕ) → Call
+  releasing : (file lent : List ℕ) → (budget : ℕ) → Call
 
 pub data Given : Type 0 where
   judged : Judgement → Given
   judged-line : Judgement → (line : ℕ) → Given
   answered : Answer → Given
+  released : Released → Given
 
 abbrev pub outcome-of : Call → Given
 outcome-of (judging request lent budget) = judged (judge format request lent budget)
 outcome-of (judging-line request lent budget) = judged-line (judge format request lent budget) (line format request lent budget)
 outcome-of (checking layout request derivation) = answered (check format layout request derivation)
+outcome-of (releasing file lent budget) = released (release format file lent budget)
 
 pub record Row : Type 0 where
   pub call : Call
@@ -46,9 +52,12 @@ line-row c = record { call = judging-line (c .request) (c .lent) (c .budget); gi
 abbrev checking-row : DerivationCases.Case → Row
 checking-row c = record { call = checking (c .layout) (c .request) (c .derivation); gives = answered (c .gives) }
 
--- Cases 1 to 13 and the rows beside them, those of the line, then case 14 and the rows beside it, then those of the closing layout.
+abbrev releasing-row : ReleaseCases.Case → Row
+releasing-row c = record { call = releasing (c .file) (c .lent) (c .budget); gives = released (c .gives) }
+
+-- Cases 1 to 13 and the rows beside them, those of the line, then case 14 and the rows beside it, then those of the closing layout, then those of releases.
 pub proved-cases : List Row
-proved-cases = map judging-row cases ++ (map line-row line-cases ++ (map checking-row derivations ++ map checking-row whethers))
+proved-cases = map judging-row cases ++ (map line-row line-cases ++ (map checking-row derivations ++ (map checking-row whethers ++ map releasing-row releases)))
 
 -- Each row's call gives what the row says.
 abbrev Hold : List Row → Type 0
@@ -87,9 +96,18 @@ checkings cs hold =
     ∙ map-map answered (λ (c : DerivationCases.Case). c .gives) cs
     ∙ sym (map-map _ checking-row cs)
 
+releasings : Hold (map releasing-row releases)
+releasings =
+    map-map _ releasing-row releases
+    ∙ sym (map-map released (λ (c : ReleaseCases.Case). release format (c .file) (c .lent) (c .budget)) releases)
+    ∙ ap (map released) releases-hold
+    ∙ map-map released (λ (c : ReleaseCases.Case). c .gives) releases
+    ∙ sym (map-map _ releasing-row releases)
+
 pub proved-cases-hold : map (λ (r : Row). outcome-of (r .call)) proved-cases ≡ map (λ (r : Row). r .gives) proved-cases
 unfolding proved-cases
 proved-cases-hold =
-    hold-both (map judging-row cases) (map line-row line-cases ++ (map checking-row derivations ++ map checking-row whethers)) judgings
-    (hold-both (map line-row line-cases) (map checking-row derivations ++ map checking-row whethers) linings
-    (hold-both (map checking-row derivations) (map checking-row whethers) (checkings derivations derivations-hold) (checkings whethers whethers-hold)))
+    hold-both (map judging-row cases) (map line-row line-cases ++ (map checking-row derivations ++ (map checking-row whethers ++ map releasing-row releases))) judgings
+    (hold-both (map line-row line-cases) (map checking-row derivations ++ (map checking-row whethers ++ map releasing-row releases)) linings
+    (hold-both (map checking-row derivations) (map checking-row whethers ++ map releasing-row releases) (checkings derivations derivations-hold)
+    (hold-both (map checking-row whethers) (map releasing-row releases) (checkings whethers whethers-hold) releasings)))

@@ -15,7 +15,7 @@ use Rattle.meaning.specs.Limits.{Limits}
 use Rattle.meaning.specs.Literals.{complement}
 use Rattle.meaning.specs.Requests.{Effect, Executability, Knowledge, Table, Request}
 use Rattle.meaning.specs.Reading.{Got, got, fault, next, byte-at, count-at, below-at, literals, fluents, bound-of, have-complements, entry-at, entries-at, list-at, repeated, section-at, body-at, effect-at, executability-at, knowledge-at, plan-at, table-at, request-at, read-request}
-use Rattle.meaning.proofs.TestLaws.{by-test, clash, both-true, either-right, pick-cases}
+use Rattle.meaning.proofs.TestLaws.{by-test, clash, both-true, either-left, either-right, pick-cases}
 use Rattle.meaning.proofs.SettledLaws.{fault≢got, got-same, next-got}
 use Rattle.meaning.proofs.LiteralLaws.{complement-even, complement-odd, complement-twice, complement-other}
 
@@ -49,6 +49,13 @@ count-within least most s p c q e =
     after-got (byte-at s p) _ e λ d _ _ e′.
     let u = not-refused _ _ _ _ e′ in
     subst (λ (x : ℕ). x ≤ most) (got-same (u .1)) (ltb-false most d (by-test _ (λ t. clash (either-right _ _ t) (u .0)) (λ f. f)))
+
+pub count-least : (least most : ℕ) (s : List ℕ) (p c q : ℕ) → count-at least most s p ≡ got c q → least ≤ c
+unfolding count-at
+count-least least most s p c q e =
+    after-got (byte-at s p) _ e λ d _ _ e′.
+    let u = not-refused _ _ _ _ e′ in
+    subst (λ (x : ℕ). least ≤ x) (got-same (u .1)) (ltb-false d least (by-test _ (λ t. clash (either-left _ _ t) (u .0)) (λ f. f)))
 
 pub below-bound : (bound : ℕ) (s : List ℕ) (p x q : ℕ) → below-at bound s p ≡ got x q → x < bound
 unfolding below-at

@@ -44,9 +44,6 @@ clashing-turns e g h =
     (both-true _ _ (eq-eqb _ _ (sym (complement-twice (e .literal)) ∙ ap complement (sym l)))
     (ap fails (exclusive-sym (g .body) (e .body)) ∙ both-right _ _ (both-right _ _ h)))
 
-pub clashing-sym : (e g : Effect) → clashing e g ≡ clashing g e
-clashing-sym e g = same-test _ _ (clashing-turns e g) (clashing-turns g e)
-
 pub clashes-with-itself : (e : Effect) → clashing e e ≡ false
 unfolding clashing
 clashes-with-itself e = by-test _ (λ t. absurd (complement-other (e .literal) (sym (eqb-true _ _ (both-left _ _ (both-right _ _ t)))))) (λ f. f)

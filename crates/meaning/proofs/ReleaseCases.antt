@@ -5,7 +5,7 @@ use mathlib.Core.Path.{_≡_, refl}
 use mathlib.Core.List.{List, [], _∷_, _++_, map}
 use lib.ListN.{set, replicate, take}
 use Rattle.meaning.specs.Limits.{format}
-use Rattle.meaning.specs.Releases.{Released, release}
+use Rattle.meaning.specs.Releases.{Released, release, plans-in}
 use Rattle.meaning.proofs.Compute.{all-open}
 use Rattle.meaning.proofs.Cases.{table-A, usual}
 
@@ -147,3 +147,22 @@ releases =
 pub releases-hold : map (λ (c : Case). release format (c .file) (c .lent) (c .budget)) releases ≡ map (λ (c : Case). c .gives) releases
 unfolding all-open table-A plan-A no-item misses sticks overlaps fails over-A no-lines copies releases
 releases-hold = refl
+
+-- The plan counts, of files that are judged, refused behind the count, and refused before it.
+pub counts : List (List ℕ × ℕ)
+counts =
+    (over-A 1 ++ plan-A, 1) ∷
+    (over-A 3 ++ fails, 3) ∷
+    (over-A 64, 64) ∷
+    (set (over-A 2) 11 3, 2) ∷
+    (over-A 1 ++ plan-A ++ (0 ∷ []), 1) ∷
+    (table-A, 0) ∷
+    (over-A 0, 0) ∷
+    (over-A 65, 0) ∷
+    (set (over-A 1) 0 0, 0) ∷
+    (replicate 16385 1, 0) ∷
+    []
+
+pub counts-hold : map (λ (c : List ℕ × ℕ). plans-in format (c .0)) counts ≡ map (λ (c : List ℕ × ℕ). c .1) counts
+unfolding all-open table-A plan-A fails over-A counts
+counts-hold = refl

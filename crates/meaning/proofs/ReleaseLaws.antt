@@ -7,7 +7,7 @@ use mathlib.Core.Bool.{true}
 use mathlib.Core.List.{List, [], _∷_, _++_}
 use lib.ListN.{length, length-replicate, getD, replicate, take, drop}
 use lib.Dec.{ltb, eqb}
-use borrow.Author.Tests.{eqb-true, ltb-true, ltb-false}
+use borrow.Author.Tests.{eqb-true, eq-eqb, ltb-true, ltb-false}
 use Rattle.meaning.specs.declared.Answer.{Answer}
 use Rattle.meaning.specs.Tests.{both, either, fails, pick, some-of, each-of, Each}
 use Rattle.meaning.specs.Limits
@@ -19,14 +19,14 @@ use Rattle.meaning.specs.Refusals.{Found, nowhere, at, contradiction-in,
 use Rattle.meaning.specs.Walk.{End, fine, missed, stopped, walked}
 use Rattle.meaning.specs.States.{State, first-state}
 use Rattle.meaning.specs.Judging.{Judgement, reported, ended, within, judge-settled}
-use Rattle.meaning.specs.Releases.{Opening, opening, plans-at, byte-after, plan-answer, unreached, after-plan, answers-at, in-row, rows, settled-plans, Released, own-answer, released, release-opened, release, row-of}
+use Rattle.meaning.specs.Releases.{Opening, opening, plans-at, byte-after, plan-answer, unreached, after-plan, answers-at, in-row, rows, settled-plans, Released, own-answer, released, release-opened, release, plans-of, plans-in, row-of}
 use Rattle.meaning.specs.Answers.{release-refusals, release-answers, row-answers}
 use Rattle.meaning.specs.AnswerParts.{of-neither, Walk-input, at-start, Placed, Row-parts}
 use Rattle.meaning.proofs.TestLaws.{by-test, clash, fails-true, pick-true, pick-cases}
 use Rattle.meaning.proofs.PickLaws.{pick-has}
 use Rattle.meaning.proofs.LiteralLaws.{among-each}
 use Rattle.meaning.proofs.SettledLaws.{fault≢got, got-same, refuse-got, next-got}
-use Rattle.meaning.proofs.RangeLaws.{got-place}
+use Rattle.meaning.proofs.RangeLaws.{got-place, count-least}
 use Rattle.meaning.proofs.GotLaws.{Held, Faulty, held-got, next-held}
 use Rattle.meaning.proofs.KeptEnds.{Stuck, walked-stuck}
 use Rattle.meaning.proofs.PlaceLaws.{entry-faults, item-faults, Found-below, Table-below, Request-below, contradiction-below, mixed-below, overlap-in-below, End-below, walked-below, count-held, table-held, request-held, placed-start, Fault-in, too-long-fault, ends-fault, byte-fault, listed-fault}
@@ -225,6 +225,41 @@ opened lim s o p e =
           ∙ ap₂ {C = Got ℕ} (λ k q. got k q) (ap (λ (x : Opening). x .plans) same) (got-place (b .3));
     }
 
+-- The places in a table that was read are in the input.
+pub table-below : (lim : Limits) (s : List ℕ) (t : Table) (e : ℕ) → table-at lim s 0 ≡ got t e → Table-below (length s) t
+table-below lim s t e is =
+    held-got (λ n p. Unit {0}) (λ (x : Table) (q : ℕ). (q ≤ length s) × Table-below (length s) x) (table-at lim s 0) (table-held s (λ n p. Unit {0}) tt (λ n p _ _. tt) lim 0) t e is .1
+
+-- THE PLAN COUNT. A row of four times that many numbers is not refused by 9, and where it is 0 the file is refused before the row's length is asked.
+module _ (lim : Limits) (s : List ℕ) where
+  pub plans-counted : (o : Opening) (p : ℕ) → opening lim s ≡ got o p → plans-in lim s ≡ o .plans
+  unfolding plans-in plans-of
+  plans-counted o p is = ap plans-of is
+
+  pub none-counted : plans-in lim s ≡ 0 → (n p : ℕ) × (opening lim s ≡ fault n p)
+  unfolding plans-in plans-of
+  none-counted none = by-opening (opening lim s) refl none
+    where
+      by-opening : (x : Got Opening) → opening lim s ≡ x → plans-of x ≡ 0 → (n p : ℕ) × (x ≡ fault n p)
+      by-opening (got o p) is none = let least = count-least 1 Limits.most-plans s (o .table-end) (o .plans) p (opened lim s o p is .count) in absurd (omega (arith, least, none))
+      by-opening (fault n p) is none = (n, p, refl)
+
+  pub row-fits : (lent : List ℕ) (budget : ℕ) → length lent ≡ 4 * plans-in lim s → release lim s lent budget .answer .number ≡ Limits.state-length → ⊥
+  unfolding release plans-in plans-of released own-answer release-opened among release-refusals some-of either
+  row-fits lent budget sized = by-opening (opening lim s) (opening-held lim s) sized
+    where
+      not-nine : (n p : ℕ) → Own-fault lim s n p → n ≡ Limits.state-length → ⊥
+      not-nine n p is nine = clash (is .number) (ap (λ (m : ℕ). among m release-refusals) nine)
+
+      by-plans : (x : Got (List Answer)) → Faulty (Own-fault lim s) x → released lent x .answer .number ≡ Limits.state-length → ⊥
+      by-plans (got all e) is nine = absurd (omega (arith, nine))
+      by-plans (fault n p) is nine = not-nine n p is nine
+
+      by-opening : (x : Got Opening) → Held (Own-fault lim s) (Opening-read lim s) x → length lent ≡ 4 * plans-of x → release-opened lim s lent budget x .answer .number ≡ Limits.state-length → ⊥
+      by-opening (got o p) is same nine =
+          by-plans (settled-plans lim s budget o p) (settled-plans-held lim s budget o p is) (sym (ap (λ (j : Released). j .answer .number) (pick-true _ _ _ (eq-eqb _ _ same))) ∙ nine)
+      by-opening (fault n p) is same nine = not-nine n p is nine
+
 -- THE ROW has four numbers for each answer, and as many answers as there are plans.
 pub rows-length : (all : List Answer) → length (rows all) ≡ 4 * length all
 unfolding rows in-row
@@ -296,6 +331,13 @@ module _ (lim : Limits) (s : List ℕ) (t : Table) (budget : ℕ) where
     request-in-row p inside =
         request-held s Row-fault (refl, omega arith) (λ n p is less. (among-each (λ (m : ℕ). among m row-answers) entry-faults refl n is, omega (arith, less))) lim
         (λ n p is less. (among-each (λ (m : ℕ). among m row-answers) item-faults refl n is, omega (arith, less))) t p below inside
+
+    -- A plan's place is in the file, and so is the place after it.
+    pub answer-placed : (p : ℕ) → p ≤ length s → plan-answer lim budget (request-at lim s t p) .place ≤ length s
+    answer-placed p inside = plan-in-row (request-at lim s t p) (request-in-row p inside) .place
+
+    pub plan-inside : (p : ℕ) → p ≤ length s → (r : Request) (e : ℕ) → request-at lim s t p ≡ got r e → e ≤ length s
+    plan-inside p inside r e is = held-got Row-fault Plan-read (request-at lim s t p) (request-in-row p inside) r e is .0
 
     answers-in-row : (left p : ℕ) → p ≤ length s → Each In-row (answers-at lim s t budget left p)
     unfolding answers-at after-plan

@@ -16,7 +16,7 @@ use Rattle.meaning.specs.Requests.{Table, Item, act, branching, Request}
 use Rattle.meaning.specs.Reading.{Got, got, fault}
 use Rattle.meaning.specs.Refusals.{settled}
 use Rattle.meaning.specs.Lines.{executability-of}
-use Rattle.meaning.specs.States.{State, known, can-be-run}
+use Rattle.meaning.specs.States.{State, can-be-run}
 use Rattle.meaning.specs.Judging.{Judgement, judge, number}
 use Rattle.meaning.specs.Asking.{nearest, first-allowing, asked, allows, line-of, line-at, line-told, line-settled, line}
 use Rattle.meaning.specs.Reported.{pair-of, Item-in, item-place, Not-run, Nearest, Stands-for, item-line}

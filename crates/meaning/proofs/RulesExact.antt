@@ -115,9 +115,6 @@ pub record Proper (lim : Limits) (l : Line) : Type 0 where
   pub X-clear : Clear lim (l .X)
   pub Y-ascends : Conclusion-ascends (l .Y)
 
-pub claims-itself : (l : Line) → Claims l (l .X) (l .c) (l .Y)
-claims-itself l = record { start = ≐-refl (l .X); plan = refl; end = conclusion-self (l .Y) }
-
 pub says-exactly : {lim : Limits} (l : Line) → Proper lim l → (X : List ℕ) (c : Sequence ℕ) (Y : Conclusion) → Ascending 0 X → Conclusion-ascends Y → (says l X c Y ≡ true) ↔ Claims l X c Y
 unfolding says
 says-exactly l proper X c Y a b =

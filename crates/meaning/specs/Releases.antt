@@ -95,6 +95,14 @@ release-opened lim s lent budget (fault n p) = own-answer n Limits.the-request p
 unfoldable pub release : Limits → (file lent : List ℕ) → (budget : ℕ) → Released
 release lim s lent budget = release-opened lim s lent budget (opening lim s)
 
+-- How many plans a file has; 0 where it is refused before they are counted. A caller learns by it how long a row to lend.
+unfoldable pub plans-of : Got Opening → ℕ
+plans-of (got o p) = o .plans
+plans-of (fault n p) = 0
+
+unfoldable pub plans-in : Limits → (file : List ℕ) → ℕ
+plans-in lim s = plans-of (opening lim s)
+
 -- WHAT STATEMENTS SAY OF IT. The bytes of the plan at a place: up to its end, or all that follow, if it fails in reading.
 unfoldable pub plan-bytes : List ℕ → (start : ℕ) → Got Request → List ℕ
 plan-bytes s start (got r e) = take (e - start) (drop start s)

@@ -17,6 +17,9 @@ pub const REQUEST_ROOM: usize = limits::REQUEST + 1;
 
 pub const DERIVATION_ROOM: usize = limits::DERIVATION + 1;
 
+// The budget where none is asked for (FORMAT 12.1).
+const BUDGET: u32 = 100000;
+
 // How many bytes of stack a walk may need (FORMAT 12.21): 16 MiB, and 6 MiB where the request is short.
 const STACK_NEEDED: u64 = 16 * 1024 * 1024;
 
@@ -123,6 +126,21 @@ pub fn number_of(text: &[u8]) -> Asked {
         return Asked::Nothing;
     }
     Asked::Number(number as u32)
+}
+
+// The program has so many words of its name and options. Without an argument beside them BUDGET, and with one, which comes first, the number that it
+// writes.
+pub fn budget_asked(words: usize) -> Asked {
+    let count = os::arg_count();
+    if count <= words {
+        return Asked::Number(BUDGET);
+    }
+    let mut text = io::buffer();
+    let n = os::arg(1, &mut text);
+    if os::errno() != 0 || count - words > 1 {
+        return Asked::Nothing;
+    }
+    number_of(&text[..n])
 }
 
 // The soft limit of the process's stack in bytes. Asking for it does not fail, and where it did, the 0 would stay there.

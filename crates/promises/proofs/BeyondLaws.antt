@@ -22,7 +22,7 @@ use Rattle.meaning.proofs.StateLaws.{known-true, known-false, unknown-mark, aft
 use Rattle.meaning.proofs.PairLaws.{given-pair, after-mark, caused-within}
 use Rattle.meaning.proofs.SensingLaws.{sensed-within, read-is}
 use Rattle.glintstring.specs.LentState.{Blank-from}
-use Rattle.glintstring.proofs.KeepingLaws.{End-has, Kept-by, walked-kept}
+use Rattle.verdicts.proofs.KeepingLaws.{End-has, Kept-by, walked-kept}
 
 module _ (n : ℕ) where
   told-blank : (l : ℕ) → fluent-of l < n → (s : State) → Blank-from n s → Blank-from n (told l s)

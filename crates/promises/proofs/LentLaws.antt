@@ -26,8 +26,8 @@ use Rattle.meaning.proofs.RangeLaws.{read-ranged}
 use Rattle.finding.proofs.StartLaws.{request-starts}
 use Rattle.steps.specs.AtHand.{Marked}
 use Rattle.glintstring.specs.LentState.{Writes, Blank-from, Written}
-use Rattle.glintstring.proofs.KeepingLaws.{Concerned-has, End-has, end-both}
-use Rattle.glintstring.proofs.MarkedLaws.{first-marked, walked-marked}
+use Rattle.verdicts.proofs.KeepingLaws.{Concerned-has, End-has, end-both}
+use Rattle.verdicts.proofs.MarkedLaws.{first-marked, walked-marked}
 use Rattle.promises.proofs.BeyondLaws.{walked-blank}
 
 module _ (lim : Limits) (lent : List ℕ) (budget : ℕ) where

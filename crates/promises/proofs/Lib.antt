@@ -13,4 +13,7 @@ pub mod ShowingPromises
 pub mod ExportedDerivationPromises
 pub mod ExportedWhetherPromises
 pub mod LayoutPromises
+pub mod ReleasePromises
+pub mod ReleaseCallPromises
+pub mod ExportedReleasePromises
 pub mod ExportedShowingPromises

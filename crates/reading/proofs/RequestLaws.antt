@@ -5,7 +5,7 @@ use mathlib.Core.Path.{_≡_, refl, sym, _∙_, ap}
 use mathlib.Core.List.{List, [], _∷_}
 use lib.ListN.{length, set}
 use Rattle.meaning.specs.Limits.{format}
-use Rattle.meaning.specs.Requests.{Table, Sequence}
+use Rattle.meaning.specs.Requests.{Table, Sequence, Request}
 use Rattle.meaning.specs.Reading.{Got, got, fault, next, literals, fluents, plan-at, count-at, list-at, section-at, effect-at, executability-at, knowledge-at, table-at, request-at, placed, Met}
 use Rattle.meaning.proofs.RangeLaws.{count-within}
 use Rattle.bytes.specs.declared.bytes.Read.{Read}
@@ -17,7 +17,7 @@ use Rattle.bytes.specs.Read.{number-read, passed, kind-of}
 use Rattle.reading.specs.Noted.{effects, executability, knowledge, line-at, table-noted, three-sections, facts-first, actions-first, noting, outcome}
 use Rattle.reading.specs.Noted.{plan-slot, items-slot, goals-slot}
 use Rattle.reading.specs.Planned.{items-of, bytes-of, plan-noted, noting-met, outcome-met}
-use Rattle.reading.specs.Requested.{goals-first, plan-first, places-noted, goals-place, plan-place, request-noted}
+use Rattle.reading.specs.Requested.{goals-first, plan-first, places-noted, goals-place, plan-place, tail-noted, request-noted}
 use Rattle.bytes.proofs.ByteLaws.{read-value, read-fault}
 use Rattle.bytes.proofs.ListLaws.{passed-to, passed-stop}
 use Rattle.reading.proofs.NotingLaws.{with-items, met-value, met-fault, fault-met}
@@ -148,13 +148,27 @@ module _ {A B : Type 0} where
   next-where (got x p) e = e x p refl
   next-where (fault n p) e = refl
 
-module _ (s : List ℕ) (x : Table) (p : ℕ) (t : List ℕ) where
-  places-same : (plan : Met (Sequence ℕ)) (q : ℕ) → plan-at format (x .fluents) (x .actions) s p ≡ got plan q
+module _ (s : List ℕ) (x : Table) (p : ℕ) where
+  abbrev request-of : Met (Sequence ℕ) → (q : ℕ) → List ℕ → (r : ℕ) → List ℕ → Request
+  request-of plan q goals r whether = record { table = x; plan = plan .value; goals = placed (q + 1) goals; whether = placed (r + 1) whether; whether-place = r }
+
+  -- What comes after sections 6 to 8.
+  request-then : {B : Type 0} (h : Request → ℕ → Got B) → next (request-at format s x p) h ≡ next (plan-at format (x .fluents) (x .actions) s p) λ plan q.
+      next (list-at literals (x .fluents) (format .listed) s q) λ goals r.
+      next (list-at fluents (x .fluents) (format .listed) s r) λ whether e.
+      h (request-of plan q goals r whether) e
+  unfolding request-at next
+  request-then h =
+      next-next (plan-at format (x .fluents) (x .actions) s p) _ _
+      ∙ next-same (plan-at format (x .fluents) (x .actions) s p) (λ plan q.
+      next-next (list-at literals (x .fluents) (format .listed) s q) _ _
+      ∙ next-same (list-at literals (x .fluents) (format .listed) s q) (λ goals r. next-next (list-at fluents (x .fluents) (format .listed) s r) _ _))
+
+  places-same : (t : List ℕ) (plan : Met (Sequence ℕ)) (q : ℕ) → plan-at format (x .fluents) (x .actions) s p ≡ got plan q
       → (goals : List ℕ) (r : ℕ) → list-at literals (x .fluents) (format .listed) s q ≡ got goals r → (whether : List ℕ)
-      → places-noted p (plan .items) q (plan-noted p (table-noted x t) (plan .value))
-      ≡ request-noted (record { table = x; plan = plan .value; goals = placed (q + 1) goals; whether = placed (r + 1) whether; whether-place = r }) t
-  unfolding plan-at request-noted goals-place plan-place
-  places-same plan q e goals r eg whether =
+      → places-noted p (plan .items) q (plan-noted p t (plan .value)) ≡ tail-noted (request-of plan q goals r whether) t
+  unfolding plan-at tail-noted goals-place plan-place
+  places-same t plan q e goals r eg whether =
       let sized = sequence-read (x .fluents) (x .actions) s 8 p 0 (omega arith) .holds plan q e in
       let through = list-through s literals (x .fluents) (format .listed) q .holds goals r eg in
       let after = sized .through .after in
@@ -165,12 +179,18 @@ module _ (s : List ℕ) (x : Table) (p : ℕ) (t : List ℕ) where
       let items-are : plan .items ≡ items-of (plan .value) = omega arith in
       rw (placed-length (q + 1) goals, goals-at, plan-stands, items-are)
 
-  pub plan-whole : plan-first (x .fluents) (x .actions) s p (table-noted x t) ≡ noting request-noted (request-at format s x p) t
-  unfolding plan-first goals-first noting request-at next
-  plan-whole =
+  -- Over any notes, and over those of the table.
+  pub tail-whole : (t : List ℕ) → plan-first (x .fluents) (x .actions) s p t ≡ noting tail-noted (request-at format s x p) t
+  unfolding plan-first goals-first noting
+  tail-whole t =
       next-where (plan-at format (x .fluents) (x .actions) s p) (λ plan q e.
       next-where (list-at literals (x .fluents) (format .listed) s q) (λ goals r eg.
-      next-where (list-at fluents (x .fluents) (format .listed) s r) (λ whether i _. ap (λ (u : List ℕ). got u i) (places-same plan q e goals r eg whether))
-      ∙ sym (next-next (list-at fluents (x .fluents) (format .listed) s r) _ _))
-      ∙ sym (next-next (list-at literals (x .fluents) (format .listed) s q) _ _))
-      ∙ sym (next-next (plan-at format (x .fluents) (x .actions) s p) _ _)
+      next-where (list-at fluents (x .fluents) (format .listed) s r) (λ whether i _. ap (λ (u : List ℕ). got u i) (places-same t plan q e goals r eg whether))))
+      ∙ sym (request-then (λ y e. got (tail-noted y t) e))
+
+  pub plan-whole : (t : List ℕ) → plan-first (x .fluents) (x .actions) s p (table-noted x t) ≡ noting request-noted (request-at format s x p) t
+  unfolding noting request-noted
+  plan-whole t =
+      tail-whole (table-noted x t)
+      ∙ request-then (λ y e. got (tail-noted y (table-noted x t)) e)
+      ∙ sym (request-then (λ y e. got (request-noted y t) e))

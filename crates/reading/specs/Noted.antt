@@ -110,10 +110,6 @@ pair-there t a f = bit-of (getD t (pair-slot a f) 0) (f % word-bits)
 abbrev pub slots : ℕ
 slots = sensed + sensed-words
 
--- How many pairs of an action and a fluent there are.
-abbrev pub pairs : ℕ
-pairs = format .actions * format .fluents
-
 -- READING WITH THE NOTES. What was read and the notes afterwards; at a fault the notes are of no use.
 module _ {A : Type 0} where
   unfoldable pub noting : (A → List ℕ → List ℕ) → Got A → List ℕ → Got (List ℕ)

@@ -19,8 +19,12 @@ plan-place x = goals-place x - (2 + bytes-of (x .plan))
 unfoldable pub places-noted : (plan items goals : ℕ) → List ℕ → List ℕ
 places-noted plan items goals t = set (set (set t plan-slot plan) items-slot items) goals-slot goals
 
+-- Sections 6 to 8, whatever table was noted before.
+unfoldable pub tail-noted : Request → List ℕ → List ℕ
+tail-noted x t = places-noted (plan-place x) (items-of (x .plan)) (goals-place x) (plan-noted (plan-place x) t (x .plan))
+
 unfoldable pub request-noted : Request → List ℕ → List ℕ
-request-noted x t = places-noted (plan-place x) (items-of (x .plan)) (goals-place x) (plan-noted (plan-place x) (table-noted (x .table) t) (x .plan))
+request-noted x t = tail-noted x (table-noted (x .table) t)
 
 -- Sections 7 and 8, and the plan before them.
 unfoldable pub goals-first : (n : ℕ) → List ℕ → (plan items p : ℕ) → List ℕ → Got (List ℕ)

@@ -54,9 +54,6 @@ pub const SENSED_WORDS: usize = limits::ACTIONS * ROW_WORDS;
 
 pub const SLOTS: usize = SENSED + SENSED_WORDS;
 
-// How many pairs of an action and a fluent there are.
-pub const PAIRS: usize = limits::ACTIONS * limits::FLUENTS;
-
 pub type Notes = [u16; SLOTS];
 
 pub fn widened(x: u16) -> usize

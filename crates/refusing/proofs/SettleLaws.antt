@@ -1,5 +1,5 @@
 -- Refusals 16 to 18 after reading: a law for each way that they return. Assumes nothing.
-use Prim.Native.Nat.{ℕ, _-_, _*_, _≤_, _<_}
+use Prim.Native.Nat.{ℕ, _-_, _*_, _≤_}
 use native.Mathlib.Omega.{arith}
 use mathlib.Core.Path.{_≡_, refl, sym, _∙_, ap, subst}
 use mathlib.Core.List.{List, []}
@@ -8,28 +8,31 @@ use mir.Syntax.{w8, w64}
 use mir.Val.{Fits}
 use Rattle.meaning.specs.Limits.{format}
 use Rattle.meaning.specs.Requests.{Effect, Knowledge, Table, Request}
-use Rattle.meaning.specs.Reading.{Got, got, fault, next, read-request}
-use Rattle.meaning.specs.Refusals.{contradictory, first-against, contradiction-in, mixed-in, overlap-in, refuse, settled}
+use Rattle.meaning.specs.Reading.{Got, got, fault, next, table-at, request-at, read-request}
+use Rattle.meaning.specs.Refusals
+use Rattle.meaning.specs.Refusals.{nowhere, at, contradictory, first-against, contradiction-in, mixed-in, overlap-in, refuse, settled}
 use Rattle.meaning.proofs.SettledLaws.{got-same, settled-is}
+use Rattle.meaning.proofs.PlaceLaws.{Request-held, read-held}
 use Rattle.bytes.specs.declared.lists.Passed.{Passed}
 use Rattle.bytes.specs.declared.lists.Passed.the-variants.{To, Fault as Stop}
 use Rattle.finding.specs.declared.places.Found.{Found}
 use Rattle.finding.specs.declared.places.Found.the-variants.{Nowhere, At}
 use Rattle.bytes.specs.Read.{passed}
-use Rattle.reading.specs.Noted.{noting, outcome, plan-slot, items-slot, effects-slot, knowledge-slot}
+use Rattle.bytes.proofs.ListLaws.{passed-to, passed-stop}
+use Rattle.reading.specs.Noted.{noting, outcome, table-noted, plan-slot, items-slot, effects-slot, knowledge-slot}
 use Rattle.reading.specs.Planned.{items-of}
-use Rattle.reading.specs.Requested.{request-noted}
+use Rattle.reading.specs.Requested.{plan-place, tail-noted, request-noted}
 use Rattle.finding.specs.Places.{found}
 use Rattle.finding.specs.LinesHere.{effects-in, Effects-here, knowledge-in, Knowledge-here, Acting}
-use Rattle.finding.specs.TablesHere.{table-in, Runs-here}
+use Rattle.finding.specs.TablesHere.{blank, table-in, Table-here, Runs-here}
 use Rattle.refusing.specs.Refusal17.{Mixed-found}
-use Rattle.finding.specs.ReadHere.{blank, Read-here}
-use Rattle.refusing.specs.Settled.{past-17, past-18}
+use Rattle.finding.specs.ReadHere.{Read-here}
+use Rattle.refusing.specs.Settled.{table-unmixed, table-settled, past-18}
 use Rattle.reading.proofs.SectionLaws.{noting-got, noting-fault}
-use Rattle.finding.proofs.ReadLaws.{Parts, parts, effects-counted, effects-are, effects-stand, knowledge-counted, plan-noted-at, items-noted, acting, knowledge-stands, effects-few, knowledge-few, request-held, table-is, runs-here}
+use Rattle.finding.proofs.ReadLaws.{Table-parts, table-parts, request-parts, Parts, parts, effects-counted, effects-are, effects-stand, knowledge-counted, plan-noted-at, items-noted, acting, knowledge-stands, effects-few, knowledge-few, tail-held, table-is, whole-table, runs-here, table-stays, table-comes}
 use Rattle.finding.specs.PlansHeld.{Plan-held, Some-plan}
 use Rattle.refusing.specs.Refusal18.{Overlap-found}
-use Rattle.finding.proofs.FoundLaws.{blank-long, blank-slot, found-at, found-none}
+use Rattle.finding.proofs.FoundLaws.{found-at, found-none}
 
 -- The notes are the same at every answer.
 module _ {A : Type 0} (note : A → List ℕ → List ℕ) where
@@ -38,99 +41,151 @@ module _ {A : Type 0} (note : A → List ℕ → List ℕ) where
   outcome-same (got y q) u t h = ap (λ (v : List ℕ). got v q) (h y q refl)
   outcome-same (fault n q) u t h = refl
 
-module _ (s : List ℕ) (bytes : (i : ℕ) → Fits w8 (getD s i 0)) (t : List ℕ) (e : ℕ) (here : Read-here s t e) where
-  small : (i : ℕ) → getD s i 0 < 256
-  small i = bytes i .fits
+-- What comes behind 16 and 17 of a table.
+module _ {B : Type 0} (x : Table) (e : ℕ) (k : Got B) where
+  behind : (f g : Refusals.Found) → refuse 16 f (λ _. refuse 17 g (λ _. k)) ≡ next (refuse 16 f (λ _. refuse 17 g (λ _. got x e))) (λ _ _. k)
+  unfolding refuse next
+  behind (at i) g = refl
+  behind nowhere (at i) = refl
+  behind nowhere nowhere = refl
 
-  whole : Parts s (here .request)
-  whole = parts s (here .request) e (here .reads)
+  pub behind-table : refuse 16 (contradiction-in x) (λ _. refuse 17 (mixed-in (x .effects) (x .knowledge)) (λ _. k)) ≡ next (table-settled x e) (λ _ _. k)
+  unfolding table-settled table-unmixed
+  behind-table = behind (contradiction-in x) (mixed-in (x .effects) (x .knowledge))
 
-  slot-is : (j count : ℕ) → count ≡ getD t j 0 → count ≡ getD (request-noted (here .request) blank) j 0
-  slot-is j count is = is ∙ ap (λ (u : List ℕ). getD u j 0) (here .noted)
+-- THE TABLE, whatever plan the notes hold.
+module _ (s t : List ℕ) (here : Table-here s t) where
+  whole : Table-parts s (table-in s) (here .table-end)
+  whole = whole-table s t here
 
   -- 16.
   module _ (count : ℕ) (is : count ≡ getD t effects-slot 0) where
-    count-16 : count ≡ length (here .request .table .effects)
-    count-16 = slot-is effects-slot count is ∙ effects-counted s small (here .request) whole blank blank-long
+    count-16 : count ≡ length (table-in s .effects)
+    count-16 = is ∙ effects-counted s (here .bytes) (table-in s) (here .table-end) whole t (here .noted)
 
     pub few-16 : count ≤ 255
-    few-16 = let few = effects-few s small (here .request) whole blank in let c = count-16 in omega arith
+    few-16 = let few = effects-few s (here .bytes) (table-in s) (here .table-end) whole in let c = count-16 in omega arith
 
     pub stand-16 : Effects-here s t count
-    stand-16 =
-        subst (λ (u : List ℕ). Effects-here s u count) (sym (here .noted))
-        (subst (Effects-here s (request-noted (here .request) blank)) (sym count-16) (effects-stand s small (here .request) whole blank blank-long))
+    stand-16 = rw count-16 (effects-stand s (here .bytes) (table-in s) (here .table-end) whole t (here .noted))
 
     pub runs-16 : Runs-here s t
-    runs-16 = subst (Runs-here s) (sym (here .noted)) (runs-here s small (here .request) whole blank blank-long blank-slot)
+    runs-16 = runs-here s t here
 
     module _ (f : Found) (answer : f ≡ found (first-against (contradictory (table-in s)) [] (effects-in s t 0 count))) where
-      abbrev sought : Table → List Effect → Found
-      sought x es = found (first-against (contradictory x) [] es)
+      abbrev sought : List Effect → Found
+      sought es = found (first-against (contradictory (table-in s)) [] es)
 
-      sought-16 : f ≡ found (contradiction-in (here .request .table))
+      sought-16 : f ≡ found (contradiction-in (table-in s))
       unfolding contradiction-in
       sought-16 =
           answer
-          ∙ ap (λ (u : List ℕ). sought (table-in s) (effects-in s u 0 count)) (here .noted)
-          ∙ ap (λ (n : ℕ). sought (table-in s) (effects-in s (request-noted (here .request) blank) 0 n)) count-16
-          ∙ ap (sought (table-in s)) (effects-are s small (here .request) whole blank blank-long)
-          ∙ ap (λ (x : Table). sought x (here .request .table .effects)) (table-is s small (here .request) whole)
+          ∙ ap (λ (n : ℕ). sought (effects-in s t 0 n)) count-16
+          ∙ ap sought (effects-are s (here .bytes) (table-in s) (here .table-end) whole t (here .noted))
 
-      pub at-16 : (p : ℕ) → f ≡ At p → Stop 16 p ≡ passed (settled format s)
-      unfolding settled next refuse passed
-      at-16 p g = rw (here .reads, found-at (contradiction-in (here .request .table)) f sought-16 p g)
+      pub at-16 : (e p : ℕ) → f ≡ At p → Stop 16 p ≡ passed (table-settled (table-in s) e)
+      unfolding table-settled refuse passed
+      at-16 e p g = rw (found-at (contradiction-in (table-in s)) f sought-16 p g)
 
-      pub past-16 : (r : Passed) → f ≡ Nowhere → r ≡ passed (past-17 s) → r ≡ passed (settled format s)
-      unfolding settled past-17 next refuse
-      past-16 r g h = h ∙ ap passed (rw (here .reads, found-none (contradiction-in (here .request .table)) f sought-16 g))
+      pub past-16 : (e : ℕ) (r : Passed) → f ≡ Nowhere → r ≡ passed (table-unmixed (table-in s) e) → r ≡ passed (table-settled (table-in s) e)
+      unfolding table-settled refuse
+      past-16 e r g h = h ∙ ap passed (rw (found-none (contradiction-in (table-in s)) f sought-16 g))
 
   -- 17.
-  module _ (count plan : ℕ) (is : count ≡ getD t knowledge-slot 0) (at-plan : plan ≡ getD t plan-slot 0) where
-    count-17 : count ≡ length (here .request .table .knowledge)
-    count-17 = slot-is knowledge-slot count is ∙ knowledge-counted s small (here .request) whole blank blank-long
+  module _ (e : ℕ) (ends : table-at format s 0 ≡ got (table-in s) e) (count : ℕ) (is : count ≡ getD t knowledge-slot 0) where
+    count-17 : count ≡ length (table-in s .knowledge)
+    count-17 = is ∙ knowledge-counted s (here .bytes) (table-in s) (here .table-end) whole t (here .noted)
 
-    plan-17 : plan ≡ whole .place
-    plan-17 = slot-is plan-slot plan at-plan ∙ plan-noted-at s small (here .request) whole blank blank-long
-
-    lines-17 : (knowledge-in s (plan - 2 * count) 0 count ≡ here .request .table .knowledge) × Knowledge-here s (plan - 2 * count) count × (2 * count ≤ plan)
+    lines-17 : (knowledge-in s (e - 2 * count) 0 count ≡ table-in s .knowledge) × Knowledge-here s (e - 2 * count) count × (2 * count ≤ e)
     lines-17 =
-        let w = knowledge-stands (here .request .table .fluents) (here .request .table .actions) s (whole .of-table .less) (whole .of-table .runs-end) (here .request .table .knowledge) (whole .place) (whole .of-table .knowledge-read) in
-        subst (λ (n : ℕ). (knowledge-in s (plan - 2 * n) 0 n ≡ here .request .table .knowledge) × Knowledge-here s (plan - 2 * n) n × (2 * n ≤ plan)) (sym count-17)
-        (subst (λ (p : ℕ). (knowledge-in s (p - 2 * length (here .request .table .knowledge)) 0 (length (here .request .table .knowledge)) ≡ here .request .table .knowledge) × Knowledge-here s (p - 2 * length (here .request .table .knowledge)) (length (here .request .table .knowledge)) × (2 * length (here .request .table .knowledge) ≤ p)) (sym plan-17) w)
+        let at-end = table-parts s (table-in s) e ends in
+        rw count-17 (knowledge-stands (table-in s .fluents) (table-in s .actions) s (at-end .less) (at-end .runs-end) (table-in s .knowledge) e (at-end .knowledge-read))
 
-    pub bytes-17 : 2 * count ≤ plan
+    pub bytes-17 : 2 * count ≤ e
     bytes-17 = lines-17 .2
 
     pub fits-17 : Fits w64 (2 * count)
-    fits-17 = let few = knowledge-few s small (here .request) whole blank in let c = count-17 in record { fits = omega arith }
+    fits-17 = let few = knowledge-few s (here .bytes) (table-in s) (here .table-end) whole in let c = count-17 in record { fits = omega arith }
 
-    pub stand-17 : (start : ℕ) → start ≡ plan - 2 * count → Knowledge-here s start count
+    pub stand-17 : (start : ℕ) → start ≡ e - 2 * count → Knowledge-here s start count
     stand-17 start e₁ = rw e₁ (lines-17 .1)
 
-    module _ (start : ℕ) (starts : start ≡ plan - 2 * count) (f : Found) (answer : Mixed-found s t start count f) where
-      sought-17 : f ≡ found (mixed-in (here .request .table .effects) (here .request .table .knowledge))
+    module _ (start : ℕ) (starts : start ≡ e - 2 * count) (f : Found) (answer : Mixed-found s t start count f) where
+      sought-17 : f ≡ found (mixed-in (table-in s .effects) (table-in s .knowledge))
       sought-17 =
-          answer .holds (here .request .table .effects)
-          (subst (λ (u : List ℕ). Acting u (here .request .table .effects)) (sym (here .noted)) (acting s small (here .request) whole blank blank-long blank-slot))
-          ∙ ap (λ (p : ℕ). found (mixed-in (here .request .table .effects) (knowledge-in s p 0 count))) starts
-          ∙ ap (λ (ks : List Knowledge). found (mixed-in (here .request .table .effects) ks)) (lines-17 .0)
+          answer .holds (table-in s .effects) (acting s (here .bytes) (table-in s) (here .table-end) whole t (here .noted))
+          ∙ ap (λ (p : ℕ). found (mixed-in (table-in s .effects) (knowledge-in s p 0 count))) starts
+          ∙ ap (λ (ks : List Knowledge). found (mixed-in (table-in s .effects) ks)) (lines-17 .0)
 
-      pub at-17 : (p : ℕ) → f ≡ At p → Stop 17 p ≡ passed (past-17 s)
-      unfolding past-17 next refuse passed
-      at-17 p g = rw (here .reads, found-at (mixed-in (here .request .table .effects) (here .request .table .knowledge)) f sought-17 p g)
+      pub at-17 : (p : ℕ) → f ≡ At p → Stop 17 p ≡ passed (table-unmixed (table-in s) e)
+      unfolding table-unmixed refuse passed
+      at-17 p g = rw (found-at (mixed-in (table-in s .effects) (table-in s .knowledge)) f sought-17 p g)
 
-      pub past-17-too : (r : Passed) → f ≡ Nowhere → r ≡ passed (past-18 s) → r ≡ passed (past-17 s)
-      unfolding past-17 past-18 next refuse
-      past-17-too r g h = h ∙ ap passed (rw (here .reads, found-none (mixed-in (here .request .table .effects) (here .request .table .knowledge)) f sought-17 g))
+      pub none-17 : f ≡ Nowhere → To e ≡ passed (table-unmixed (table-in s) e)
+      unfolding table-unmixed refuse passed
+      none-17 g = rw (found-none (mixed-in (table-in s .effects) (table-in s .knowledge)) f sought-17 g)
+
+-- A REQUEST that was read: its table is there, and its plan behind it.
+module _ (s : List ℕ) (bytes : (i : ℕ) → Fits w8 (getD s i 0)) (t : List ℕ) (e : ℕ) (here : Read-here s t e) where
+  all-parts : Parts s (here .request) e
+  all-parts = parts s (here .request) e (here .reads)
+
+  fits : length s ≤ format .request
+  fits = subst (Request-held format s) (here .reads) (read-held format s) .1 .1
+
+  comes : Table-here s (table-noted (here .request .table) blank)
+  comes = table-comes s (λ i. bytes i .fits) fits (here .request .table) (all-parts .place) (all-parts .table-read)
+
+  same-table : table-in s ≡ here .request .table
+  same-table = table-is s (here .request .table) (all-parts .place) (all-parts .table-read)
+
+  tail : request-at format s (table-in s) (all-parts .place) ≡ got (here .request) e
+  tail = ap (λ (z : Table). request-at format s z (all-parts .place)) same-table ∙ all-parts .tail-read
+
+  tail-is : t ≡ tail-noted (here .request) (table-noted (here .request .table) blank)
+  unfolding request-noted
+  tail-is = here .noted
+
+  pub table-read-here : Table-here s t
+  table-read-here = subst (Table-here s) (sym tail-is) (table-stays s (table-noted (here .request .table) blank) comes (all-parts .place) (here .request) e tail)
+
+  whole-here : Table-parts s (table-in s) (comes .table-end)
+  whole-here = whole-table s (table-noted (here .request .table) blank) comes
+
+  slot-is : (j count : ℕ) → count ≡ getD t j 0 → count ≡ getD (tail-noted (here .request) (table-noted (here .request .table) blank)) j 0
+  slot-is j count is = is ∙ ap (λ (u : List ℕ). getD u j 0) tail-is
+
+  -- The table ends where the plan starts.
+  module _ (plan : ℕ) (is : plan ≡ getD t plan-slot 0) where
+    pub table-ends : table-at format s 0 ≡ got (table-in s) plan
+    table-ends =
+        let stands : plan-place (here .request) ≡ all-parts .place = request-parts s (table-in s) (all-parts .place) (here .request) e tail .placed in
+        let at : plan ≡ all-parts .place =
+        slot-is plan-slot plan is ∙ plan-noted-at s (table-in s) (whole-here .few) (whole-here .less) (all-parts .place) (here .request) e tail (table-noted (here .request .table) blank) (comes .sized) ∙ stands in
+        rw (same-table, at) (all-parts .table-read)
+
+    settled-behind : settled format s ≡ next (table-settled (table-in s) plan) (λ _ _. past-18 s)
+    unfolding settled past-18 next
+    settled-behind = rw (here .reads, same-table) (behind-table (here .request .table) plan (refuse 18 (overlap-in (here .request .plan)) (λ _. got (here .request) e)))
+
+    module _ (first : Passed) (asked : first ≡ passed (table-settled (table-in s) plan)) where
+      pub refused-first : (k p : ℕ) → first ≡ Stop k p → Stop k p ≡ passed (settled format s)
+      unfolding next passed
+      refused-first k p stops = rw (settled-behind, passed-stop (table-settled (table-in s) plan) k p (sym asked ∙ stops))
+
+      pub refused-then : (q : ℕ) (r : Passed) → first ≡ To q → r ≡ passed (past-18 s) → r ≡ passed (settled format s)
+      unfolding next
+      refused-then q r goes h = h ∙ ap passed (rw (settled-behind, passed-to (table-settled (table-in s) plan) q (sym asked ∙ goes) .1))
 
   -- 18.
   module _ (count : ℕ) (is : count ≡ getD t items-slot 0) where
     count-18 : items-of (here .request .plan) ≡ count
-    count-18 = sym (slot-is items-slot count is ∙ items-noted s small (here .request) whole blank blank-long)
+    count-18 = sym (slot-is items-slot count is ∙ items-noted s (table-in s) (whole-here .few) (whole-here .less) (all-parts .place) (here .request) e tail (table-noted (here .request .table) blank) (comes .sized))
 
     held-18 : Plan-held s t (here .request .plan)
-    held-18 = subst (λ (u : List ℕ). Plan-held s u (here .request .plan)) (sym (here .noted)) (request-held s small (here .request) whole blank blank-long)
+    held-18 =
+        subst (λ (u : List ℕ). Plan-held s u (here .request .plan)) (sym tail-is)
+        (tail-held s (table-in s) (whole-here .few) (whole-here .less) (all-parts .place) (here .request) e tail (table-noted (here .request .table) blank) (comes .sized))
 
     pub stand-18 : Some-plan s t count
     stand-18 = record { plan = here .request .plan; held = held-18; items = count-18 }

@@ -1,19 +1,19 @@
--- What is refused after reading, by the request that was read.
+-- What is refused after reading: by the table alone, and by the request that was read.
 use Prim.Native.Nat.{ℕ}
 use mathlib.Core.List.{List}
 use Rattle.meaning.specs.Limits
 use Rattle.meaning.specs.Limits.{Limits, format}
-use Rattle.meaning.specs.Requests.{Request}
+use Rattle.meaning.specs.Requests.{Table, Request}
 use Rattle.meaning.specs.Reading.{Got, got, next, read-request}
-use Rattle.meaning.specs.Refusals.{mixed-in, overlap-in, refuse}
+use Rattle.meaning.specs.Refusals.{contradiction-in, mixed-in, overlap-in, refuse}
 
--- 18 alone, and 17 before it, of what is read (FORMAT 5.16 to 5.19).
+-- 17 alone, and 16 before it, of a table that ends at e (FORMAT 5.16, 5.17).
+unfoldable pub table-unmixed : Table → (e : ℕ) → Got Table
+table-unmixed x e = refuse Limits.effect-and-knowledge (mixed-in (x .effects) (x .knowledge)) λ _. got x e
+
+unfoldable pub table-settled : Table → (e : ℕ) → Got Table
+table-settled x e = refuse Limits.contradictory-effects (contradiction-in x) λ _. table-unmixed x e
+
+-- 18 alone, of what is read (FORMAT 5.18, 5.19).
 unfoldable pub past-18 : List ℕ → Got Request
 past-18 s = next (read-request format s) λ x e. refuse Limits.not-exclusive (overlap-in (x .plan)) λ _. got x e
-
-unfoldable pub past-17 : List ℕ → Got Request
-past-17 s =
-    next (read-request format s) λ x e.
-    refuse Limits.effect-and-knowledge (mixed-in (x .table .effects) (x .table .knowledge)) λ _.
-    refuse Limits.not-exclusive (overlap-in (x .plan)) λ _.
-    got x e

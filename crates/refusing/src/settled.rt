@@ -1,11 +1,13 @@
 ghost use mathlib.Core.Path.{_≡_};
 ghost use Rattle.meaning.specs.Limits.{format};
+ghost use Rattle.meaning.specs.Reading.{got, table-at};
 ghost use Rattle.meaning.specs.Refusals.{settled};
 ghost use Rattle.bytes.specs.Read.{passed};
 ghost use Rattle.reading.specs.Noted.{noting, outcome};
 ghost use Rattle.reading.specs.Requested.{request-noted};
-ghost use Rattle.finding.specs.ReadHere.{blank, Read-here};
-ghost use Rattle.refusing.specs.Settled.{past-17, past-18};
+ghost use Rattle.finding.specs.ReadHere.{Read-here};
+ghost use Rattle.finding.specs.TablesHere.{blank, table-in, Table-here};
+ghost use Rattle.refusing.specs.Settled.{table-unmixed, table-settled, past-18};
 use super::refusal_16::contradiction;
 use super::refusal_17::mixed;
 use super::refusal_18::overlap;
@@ -17,8 +19,36 @@ use reading::notes;
 use reading::notes::Notes;
 use reading::notes::get;
 
+// 17, of a table that ends at e.
+fn mixed_refused(s: &[u8], t: &Notes, e: usize) -> Passed
+    requires { ⌜ Table-here (now s) (now t) ⌝ }
+    requires { ⌜ table-at format (now s) 0 ≡ got (table-in (now s)) e ⌝ }
+    ensures { λ r. ⌜ r ≡ passed (table-unmixed (table-in (now (s .entry))) e) ⌝ }
+{
+    let count = get(t, notes::COUNT_OF_KNOWLEDGE);
+    let bytes = 2 * count;
+    let start = e - bytes;
+    match mixed(s, t, start, count) {
+        Found::Nowhere => Passed::To(e),
+        Found::At(p) => Passed::Fault(limits::EFFECT_AND_KNOWLEDGE, p),
+    }
+}
+
+// 16 and 17, of a table that ends at e. Nothing is asked of a plan.
+pub fn table_refused(s: &[u8], t: &Notes, e: usize) -> Passed
+    requires { ⌜ Table-here (now s) (now t) ⌝ }
+    requires { ⌜ table-at format (now s) 0 ≡ got (table-in (now s)) e ⌝ }
+    ensures { λ r. ⌜ r ≡ passed (table-settled (table-in (now (s .entry))) e) ⌝ }
+{
+    let count = get(t, notes::COUNT_OF_EFFECTS);
+    match contradiction(s, t, count) {
+        Found::Nowhere => mixed_refused(s, t, e),
+        Found::At(p) => Passed::Fault(limits::CONTRADICTORY_EFFECTS, p),
+    }
+}
+
 // 18, of a request that was read up to e.
-fn refused_from_18(s: &[u8], t: &Notes, e: usize) -> Passed
+fn plan_refused(s: &[u8], t: &Notes, e: usize) -> Passed
     requires { ⌜ Read-here (now s) (now t) e ⌝ }
     ensures { λ r. ⌜ r ≡ passed (past-18 (now (s .entry))) ⌝ }
 {
@@ -29,30 +59,15 @@ fn refused_from_18(s: &[u8], t: &Notes, e: usize) -> Passed
     }
 }
 
-// 17 and 18, of a request that was read up to e.
-fn refused_from_17(s: &[u8], t: &Notes, e: usize) -> Passed
-    requires { ⌜ Read-here (now s) (now t) e ⌝ }
-    ensures { λ r. ⌜ r ≡ passed (past-17 (now (s .entry))) ⌝ }
-{
-    let count = get(t, notes::COUNT_OF_KNOWLEDGE);
-    let plan = get(t, notes::PLAN);
-    let bytes = 2 * count;
-    let start = plan - bytes;
-    match mixed(s, t, start, count) {
-        Found::Nowhere => refused_from_18(s, t, e),
-        Found::At(p) => Passed::Fault(limits::EFFECT_AND_KNOWLEDGE, p),
-    }
-}
-
-// 16 to 18, of a request that was read up to e.
-fn refused_from_16(s: &[u8], t: &Notes, e: usize) -> Passed
+// 16 to 18, of a request that was read up to e. Its table ends where its plan starts.
+fn refused(s: &[u8], t: &Notes, e: usize) -> Passed
     requires { ⌜ Read-here (now s) (now t) e ⌝ }
     ensures { λ r. ⌜ r ≡ passed (settled format (now (s .entry))) ⌝ }
 {
-    let count = get(t, notes::COUNT_OF_EFFECTS);
-    match contradiction(s, t, count) {
-        Found::Nowhere => refused_from_17(s, t, e),
-        Found::At(p) => Passed::Fault(limits::CONTRADICTORY_EFFECTS, p),
+    let plan = get(t, notes::PLAN);
+    match table_refused(s, t, plan) {
+        Passed::To(_) => plan_refused(s, t, e),
+        Passed::Fault(k, p) => Passed::Fault(k, p),
     }
 }
 
@@ -62,7 +77,7 @@ pub fn settle(s: &[u8], t: &mut Notes) -> Passed
     ensures { λ r. ⌜ outcome r (now (t .exit)) ≡ noting request-noted (settled format (now (s .entry))) (now (t .entry)) ⌝ }
 {
     match read_request(s, t) {
-        Passed::To(e) => refused_from_16(s, t, e),
+        Passed::To(e) => refused(s, t, e),
         Passed::Fault(k, q) => Passed::Fault(k, q),
     }
 }

@@ -8,7 +8,6 @@ use super::printing::put_part;
 use super::words::put_words;
 use bytes::limits;
 use comparing::parts::same_part;
-use glintstring::answers;
 use glintstring::check_calls::check;
 use glintstring::check_calls::check_whether;
 use glintstring::judging::judge;
@@ -21,6 +20,7 @@ use programs::put;
 use programs::read_all;
 use programs::read_file;
 use programs::stack_is_enough;
+use verdicts::answers;
 
 // What became of a request, or of a request with a derivation: answer 0, another answer, none, or one that can't be printed.
 pub enum Outcome {

@@ -1,11 +1,11 @@
 // The lines that an answer is told by, below the one with its words (FORMAT 12.35 to 12.37).
 use bytes::limits;
-use glintstring::answers;
 use glintstring::showing::show;
 use meaning::Answer;
 use programs::put;
 use programs::put_number;
 use programs::put_state;
+use verdicts::answers;
 
 // How many bytes are printed of the part that an answer is about.
 const SHOWN: usize = 16;

@@ -1,5 +1,6 @@
--- A request that was read from the start of the input, into notes that held nothing, and that 16 let pass, is at hand: its sections stand where they were read, the
--- order of its lines, the slots of what is sensed and of the plan, and the places are as their sections left them. Assumes nothing.
+-- A table that the notes hold, past 16, and a plan that was read behind it, wherever it stands, are a request at hand: sections 6 to 8 stand where they were
+-- read, the order of the lines and the slots of what is sensed are as the table left them, and those of the plan as reading it left them. So is
+-- a request that was read whole, into notes that held nothing. Assumes nothing.
 use Prim.Native.Nat.{ℕ, _+_, _%_, _≤_, _<_}
 use native.Mathlib.Omega.{arith}
 use mathlib.Core.Path.{_≡_, refl, sym, _∙_, ap, subst}
@@ -12,7 +13,7 @@ use Rattle.meaning.specs.Tests.{either}
 use Rattle.meaning.specs.Limits.{format}
 use Rattle.meaning.specs.Requests.{Knowledge, Table, Request}
 use Rattle.meaning.specs.Reading
-use Rattle.meaning.specs.Reading.{got, literals, plan-at, read-request}
+use Rattle.meaning.specs.Reading.{got, literals, plan-at, request-at, read-request}
 use Rattle.meaning.specs.Refusals.{nowhere, contradiction-in}
 use Rattle.meaning.specs.Lines.{knowledge-of, sensing, senses}
 use Rattle.meaning.proofs.TestLaws.{same-test, some-has, has-some, some-those}
@@ -20,69 +21,33 @@ use Rattle.meaning.proofs.PlaceLaws.{Request-held, read-held}
 use Rattle.reading.specs.Bits.{bit-of}
 use Rattle.reading.specs.Noted.{none-yet, count-slot, section-noted, table-noted, effect-lines, sensed-from, sensed-to, plan-slot, items-slot, goals-slot, word-bits, pair-slot, pair-there, slots, effects-slot, executability-slot, knowledge-slot}
 use Rattle.reading.specs.Planned.{items-of, plan-noted}
-use Rattle.reading.specs.Requested.{goals-place, plan-place, places-noted, request-noted}
+use Rattle.reading.specs.Requested.{goals-place, plan-place, places-noted, tail-noted, request-noted}
 use Rattle.reading.specs.Listed.{listed}
 use Rattle.reading.proofs.BitLaws.{no-bit}
 use Rattle.reading.proofs.PlanSizes.{sequence-read}
-use Rattle.finding.specs.ReadHere.{blank}
+use Rattle.finding.specs.PlansHeld.{Plan-held}
+use Rattle.finding.specs.TablesHere.{blank, Table-here}
 use Rattle.finding.proofs.KeptLaws.{kept}
 use Rattle.finding.proofs.HereLaws.{list-here}
-use Rattle.finding.proofs.ReadLaws.{Parts, parts, knowledge-good, tabled-long, with-runs, with-knowledge, runs-long, after-sections, effects-ordered, runs-ordered, items-noted, plan-noted-at, request-held, table-is as table-there}
-use Rattle.finding.proofs.FoundLaws.{blank-long, blank-slot}
+use Rattle.finding.proofs.ReadLaws
+use Rattle.finding.proofs.ReadLaws.{Table-parts, Parts, parts, request-parts, whole-table, table-comes, table-stays, knowledge-good, with-runs, with-knowledge, runs-long, sensed-empty, after-sections, effects-ordered, runs-ordered, items-noted, plan-noted-at, goals-noted, tail-held}
 use Rattle.steps.specs.Held.{plan-of, table-in, plan-in, goals-in, whether-in, request-in}
 use Rattle.steps.specs.LinesFound.{run-places, effect-places, Senses}
 use Rattle.steps.specs.Rests.{Nexts}
 use Rattle.steps.specs.AtHand.{At-hand}
-use Rattle.steps.proofs.SlotLaws.{sensed-empty, goals-noted}
-use Rattle.steps.proofs.SectionsStand.{knowledge-small, Sections-read, sections-read, list-after}
+use Rattle.steps.proofs.SectionsStand.{knowledge-small, Sections-read, request-sections, list-after}
 use Rattle.steps.proofs.SensedLaws.{Sensed, says, seen-after, seen-some, lines-sensed}
 use Rattle.steps.proofs.NextSlots.{nexts-agree, plan-nexts}
 
-module _ (s : List ℕ) (bytes : (i : ℕ) → getD s i 0 < 256) (x : Request) (e : ℕ) (reads : read-request format s ≡ got x e) where
-  whole : Parts s x
-  whole = parts s x e reads
+module _ (s t : List ℕ) (here : Table-here s t) where
+  abbrev x : Table
+  x = table-in s
 
-  each : Sections-read s x
-  each = sections-read s x e reads
+  whole : Table-parts s (table-in s) (here .table-end)
+  whole = whole-table s t here
 
-  -- THE REQUEST that is held is the one that was read.
-  table-is : table-in s ≡ x .table
-  table-is = table-there s bytes x whole
-
-  plan-slot-is : getD (request-noted x blank) plan-slot 0 ≡ plan-place x
-  plan-slot-is = plan-noted-at s bytes x whole blank blank-long ∙ sym (whole .placed)
-
-  plan-is : plan-in s (request-noted x blank) ≡ x .plan
-  unfolding plan-in plan-of
-  plan-is = rw (table-is, plan-slot-is) (ap plan-of (each .plan))
-
-  items-is : getD (request-noted x blank) items-slot 0 ≡ each .items
-  unfolding plan-at
-  items-is =
-      let noted = items-noted s bytes x whole blank blank-long in
-      let counted = sequence-read (x .table .fluents) (x .table .actions) s 8 (plan-place x) 0 (omega arith) .holds (record { value = x .plan; items = each .items }) (goals-place x) (each .plan) .counted in
-      omega arith
-
-  goals-at : goals-in (request-noted x blank) ≡ goals-place x
-  unfolding goals-in
-  goals-at = goals-noted s bytes x whole
-
-  whether-at : whether-in s (request-noted x blank) ≡ x .whether-place
-  unfolding whether-in
-  whether-at = rw goals-at (sym (list-after literals (x .table .fluents) (format .listed) s (goals-place x) (each .goals-list) (x .whether-place) (each .goals)))
-
-  goals-listed : listed s (goals-place x) ≡ each .goals-list
-  goals-listed = list-here literals (x .table .fluents) s (format .listed) (goals-place x) (each .goals-list) (x .whether-place) (each .goals) .0
-
-  whether-listed : listed s (x .whether-place) ≡ each .whether-list
-  whether-listed = list-here Reading.fluents (x .table .fluents) s (format .listed) (x .whether-place) (each .whether-list) (each .whether-end) (each .whether) .0
-
-  request-is : request-in s (request-noted x blank) ≡ x
-  unfolding request-in
-  request-is = rw (table-is, plan-is, whether-at, goals-at, goals-listed, whether-listed, sym (each .goals-are), sym (each .whether-are)) refl
-
-  -- What an action senses.
-  knowledge-sensed : (a : ℕ) → a < format .actions → Sensed (request-noted x blank) a (seen-after a (λ _. false) (x .table .knowledge))
+  -- WHAT AN ACTION SENSES.
+  knowledge-sensed : (a : ℕ) → a < format .actions → Sensed t a (seen-after a (λ _. false) (x .knowledge))
   unfolding with-knowledge section-noted count-slot pair-there
   knowledge-sensed a small = record {
     pair = λ f low. ap (λ (w : ℕ). bit-of w (f % word-bits)) (same (pair-slot a f) (omega arith) (λ e. omega arith) (λ e. omega arith) (λ e. omega arith)) ∙ after .pair f low;
@@ -93,20 +58,23 @@ module _ (s : List ℕ) (bytes : (i : ℕ) → getD s i 0 < 256) (x : Request) (
     some = λ h. after .some (subst (λ (v : ℕ). 0 < v) to-same h);
   }
     where
-      same : (j : ℕ) → effect-lines ≤ j → (j ≡ plan-slot → ⊥) → (j ≡ items-slot → ⊥) → (j ≡ goals-slot → ⊥) → getD (request-noted x blank) j 0 ≡ getD (with-knowledge s bytes x whole blank) j 0
-      same j far = after-sections s bytes x whole blank j far
+      noted-runs : List ℕ
+      noted-runs = with-runs s (here .bytes) x (here .table-end) whole
 
-      from-same : getD (request-noted x blank) (sensed-from + a) 0 ≡ getD (with-knowledge s bytes x whole blank) (sensed-from + a) 0
+      same : (j : ℕ) → effect-lines ≤ j → (j ≡ plan-slot → ⊥) → (j ≡ items-slot → ⊥) → (j ≡ goals-slot → ⊥) → getD t j 0 ≡ getD (with-knowledge s (here .bytes) x (here .table-end) whole) j 0
+      same j far = after-sections s (here .bytes) x (here .table-end) whole t (here .noted) j far
+
+      from-same : getD t (sensed-from + a) 0 ≡ getD (with-knowledge s (here .bytes) x (here .table-end) whole) (sensed-from + a) 0
       from-same = same (sensed-from + a) (omega arith) (λ e. omega arith) (λ e. omega arith) (λ e. omega arith)
 
-      to-same : getD (request-noted x blank) (sensed-to + a) 0 ≡ getD (with-knowledge s bytes x whole blank) (sensed-to + a) 0
+      to-same : getD t (sensed-to + a) 0 ≡ getD (with-knowledge s (here .bytes) x (here .table-end) whole) (sensed-to + a) 0
       to-same = same (sensed-to + a) (omega arith) (λ e. omega arith) (λ e. omega arith) (λ e. omega arith)
 
       start : List ℕ
-      start = set (with-runs s bytes x whole blank) knowledge-slot (length (x .table .knowledge))
+      start = set (with-runs s (here .bytes) x (here .table-end) whole) knowledge-slot (length (x .knowledge))
 
       empty : (j : ℕ) → sensed-from ≤ j → j < slots → (j ≡ effects-slot → ⊥) → (j ≡ executability-slot → ⊥) → (j ≡ knowledge-slot → ⊥) → getD start j 0 ≡ 0
-      empty j far near b c d = kept (with-runs s bytes x whole blank) knowledge-slot j (length (x .table .knowledge)) d ∙ sensed-empty s bytes x whole j far near b c
+      empty j far near b c d = kept (with-runs s (here .bytes) x (here .table-end) whole) knowledge-slot j (length (x .knowledge)) d ∙ sensed-empty s (here .bytes) x (here .table-end) whole j far near b c
 
       from-empty : getD start (sensed-from + a) 0 ≡ 0
       from-empty = empty (sensed-from + a) (omega arith) (omega arith) (λ e. omega arith) (λ e. omega arith) (λ e. omega arith)
@@ -124,20 +92,20 @@ module _ (s : List ℕ) (bytes : (i : ℕ) → getD s i 0 < 256) (x : Request) (
         some = λ h. absurd (omega (arith, to-empty));
       }
 
-      after : Sensed (with-knowledge s bytes x whole blank) a (seen-after a (λ _. false) (x .table .knowledge))
+      after : Sensed (with-knowledge s (here .bytes) x (here .table-end) whole) a (seen-after a (λ _. false) (x .knowledge))
       after =
-          lines-sensed a small 0 none-yet (x .table .knowledge) start (λ _. false) (length-set (with-runs s bytes x whole blank) knowledge-slot (length (x .table .knowledge)) ∙ runs-long s bytes x whole blank blank-long)
-          (λ l has. (knowledge-good s (x .table) (whole .place) (whole .of-table) l has, knowledge-small s (x .table) (whole .place) (whole .of-table) l has)) nothing
+          lines-sensed a small 0 none-yet (x .knowledge) start (λ _. false)
+          (length-set (with-runs s (here .bytes) x (here .table-end) whole) knowledge-slot (length (x .knowledge)) ∙ runs-long s (here .bytes) x (here .table-end) whole)
+          (λ l has. (knowledge-good s x (here .table-end) whole l has, knowledge-small s x (here .table-end) whole l has)) nothing
 
-  -- What the request senses is what its knowledge lines say.
-  senses-is : (a f : ℕ) → seen-after a (λ _. false) (x .table .knowledge) f ≡ senses (knowledge-of (table-in s) a) f
+  -- It is what its knowledge lines say.
+  senses-is : (a f : ℕ) → seen-after a (λ _. false) (x .knowledge) f ≡ senses (knowledge-of (table-in s) a) f
   unfolding senses knowledge-of says either
   senses-is a f =
-      seen-some a (λ _. false) (x .table .knowledge) f
-      ∙ sym (some-those (λ (k : Knowledge). eqb (k .action) a) (λ (k : Knowledge). eqb (k .fluent) f) (x .table .knowledge))
-      ∙ ap (λ (y : Table). senses (knowledge-of y a) f) (sym table-is)
+      seen-some a (λ _. false) (x .knowledge) f
+      ∙ sym (some-those (λ (k : Knowledge). eqb (k .action) a) (λ (k : Knowledge). eqb (k .fluent) f) (x .knowledge))
 
-  senses-there : (a : ℕ) → a < format .actions → Senses s (request-noted x blank) a
+  senses-there : (a : ℕ) → a < format .actions → Senses s t a
   unfolding senses sensing
   senses-there a small =
       record {
@@ -146,7 +114,7 @@ module _ (s : List ℕ) (bytes : (i : ℕ) → getD s i 0 < 256) (x : Request) (
         from = λ f e. sensed .from f (senses-is a f ∙ e);
         to = λ f e. sensed .to f (senses-is a f ∙ e);
         last = sensed .last;
-        any = same-test (ltb 0 (getD (request-noted x blank) (sensed-to + a) 0)) (sensing (table-in s) a)
+        any = same-test (ltb 0 (getD t (sensed-to + a) 0)) (sensing (table-in s) a)
             (λ e.
             let w = sensed .some (ltb-true _ _ e) in
             let u = some-has (λ (k : Knowledge). eqb (k .fluent) (w .0)) (knowledge-of (table-in s) a) (sym (senses-is a (w .0)) ∙ w .1) in
@@ -155,52 +123,122 @@ module _ (s : List ℕ) (bytes : (i : ℕ) → getD s i 0 < 256) (x : Request) (
             let u = some-has (λ (k : Knowledge). true) (knowledge-of (table-in s) a) e in
             let h = has-some (λ (k : Knowledge). eqb (k .fluent) (u .0 .fluent)) (knowledge-of (table-in s) a) (u .0) (u .1) (eq-eqb (u .0 .fluent) (u .0 .fluent) refl) in
             let below = sensed .to (u .0 .fluent) (senses-is a (u .0 .fluent) ∙ h) in
-            lt-ltb 0 (getD (request-noted x blank) (sensed-to + a) 0) (omega arith));
+            lt-ltb 0 (getD t (sensed-to + a) 0) (omega arith));
       }
     where
-      sensed : Sensed (request-noted x blank) a (seen-after a (λ _. false) (x .table .knowledge))
+      sensed : Sensed t a (seen-after a (λ _. false) (x .knowledge))
       sensed = knowledge-sensed a small
 
-  request-nexts : items-of (x .plan) ≤ format .items → Nexts (request-noted x blank) (format .items) 0 (x .plan)
-  unfolding request-noted places-noted
-  request-nexts few =
-      let noted : List ℕ = table-noted (x .table) blank in
-      let planned : List ℕ = plan-noted (plan-place x) noted (x .plan) in
-      let long : length noted ≡ slots = tabled-long s bytes x whole blank blank-long in
-      nexts-agree (x .plan) (format .items) 0 planned (request-noted x blank)
+-- A PLAN that was read behind such a table, and noted.
+module _ (s t : List ℕ) (here : Table-here s t) (p : ℕ) (y : Request) (q : ℕ) (read : request-at format s (table-in s) p ≡ got y q) where
+  abbrev u : List ℕ
+  u = tail-noted y t
+
+  parts-there : Table-parts s (table-in s) (here .table-end)
+  parts-there = whole-table s t here
+
+  table-is : table-in s ≡ y .table
+  table-is = sym (request-parts s (table-in s) p y q read .table)
+
+  each : Sections-read s y
+  each = request-sections s (table-in s) p y q read
+
+  plan-slot-is : getD u plan-slot 0 ≡ plan-place y
+  plan-slot-is = plan-noted-at s (table-in s) (parts-there .few) (parts-there .less) p y q read t (here .sized)
+
+  plan-is : plan-in s u ≡ y .plan
+  unfolding plan-in plan-of
+  plan-is = rw (table-is, plan-slot-is) (ap plan-of (each .plan))
+
+  items-is : getD u items-slot 0 ≡ each .items
+  unfolding plan-at
+  items-is =
+      let noted = items-noted s (table-in s) (parts-there .few) (parts-there .less) p y q read t (here .sized) in
+      let counted = sequence-read (y .table .fluents) (y .table .actions) s 8 (plan-place y) 0 (omega arith) .holds (record { value = y .plan; items = each .items }) (goals-place y) (each .plan) .counted in
+      omega arith
+
+  goals-at : goals-in u ≡ goals-place y
+  unfolding goals-in
+  goals-at = goals-noted s (table-in s) (parts-there .few) (parts-there .less) p y q read t (here .sized)
+
+  whether-at : whether-in s u ≡ y .whether-place
+  unfolding whether-in
+  whether-at = rw goals-at (sym (list-after literals (y .table .fluents) (format .listed) s (goals-place y) (each .goals-list) (y .whether-place) (each .goals)))
+
+  goals-listed : listed s (goals-place y) ≡ each .goals-list
+  goals-listed = list-here literals (y .table .fluents) s (format .listed) (goals-place y) (each .goals-list) (y .whether-place) (each .goals) .0
+
+  whether-listed : listed s (y .whether-place) ≡ each .whether-list
+  whether-listed = list-here Reading.fluents (y .table .fluents) s (format .listed) (y .whether-place) (each .whether-list) (each .whether-end) (each .whether) .0
+
+  -- THE REQUEST that is held has that table and what was read.
+  pub plan-request : request-in s (tail-noted y t) ≡ y
+  unfolding request-in
+  plan-request = rw (table-is, plan-is, whether-at, goals-at, goals-listed, whether-listed, sym (each .goals-are), sym (each .whether-are)) refl
+
+  plan-held-there : Plan-held s u (y .plan)
+  plan-held-there = tail-held s (table-in s) (parts-there .few) (parts-there .less) p y q read t (here .sized)
+
+  request-nexts : Nexts u (format .items) 0 (y .plan)
+  unfolding tail-noted places-noted
+  request-nexts =
+      let planned : List ℕ = plan-noted (plan-place y) t (y .plan) in
+      let few = plan-held-there .few in
+      nexts-agree (y .plan) (format .items) 0 planned (tail-noted y t)
       (record {
         slot = λ j _ less.
-            kept (set (set planned plan-slot (plan-place x)) items-slot (items-of (x .plan))) goals-slot (format .items + j) (goals-place x) (λ e. omega (arith, e, less, few))
-            ∙ kept (set planned plan-slot (plan-place x)) items-slot (format .items + j) (items-of (x .plan)) (λ e. omega (arith, e, less, few))
-            ∙ kept planned plan-slot (format .items + j) (plan-place x) (λ e. omega (arith, e, less, few));
+            kept (set (set planned plan-slot (plan-place y)) items-slot (items-of (y .plan))) goals-slot (format .items + j) (goals-place y) (λ e. omega (arith, e, less, few))
+            ∙ kept (set planned plan-slot (plan-place y)) items-slot (format .items + j) (items-of (y .plan)) (λ e. omega (arith, e, less, few))
+            ∙ kept planned plan-slot (format .items + j) (plan-place y) (λ e. omega (arith, e, less, few));
       })
-      (plan-nexts (plan-place x) noted (x .plan) few (omega (arith, long)))
+      (plan-nexts (plan-place y) t (y .plan) few (omega (arith, here .sized)))
 
-  at-hand : contradiction-in (x .table) ≡ nowhere → At-hand s (request-noted x blank)
+  stays : Table-here s u
+  stays = table-stays s t here p y q read
+
+  pub plan-at-hand : contradiction-in (table-in s) ≡ nowhere → At-hand s (tail-noted y t)
   unfolding run-places effect-places
-  at-hand passed =
-      let held = request-held s bytes x whole blank blank-long in
+  plan-at-hand passed =
       record {
-        bytes = bytes;
-        short = subst (Request-held format s) reads (read-held format s) .1 .1;
-        table-end = each .table-end;
-        table = rw table-is (each .table);
-        effects = λ a small. rw table-is (effects-ordered s bytes x whole blank blank-long blank-slot a small);
-        runs = λ a small. rw table-is (runs-ordered s bytes x whole blank blank-long blank-slot a small);
-        senses = senses-there;
-        no-contradiction = rw table-is passed;
+        bytes = here .bytes;
+        short = here .short;
+        table-end = here .table-end;
+        table = here .table;
+        effects = effects-ordered s (here .bytes) (table-in s) (here .table-end) parts-there u (stays .noted);
+        runs = runs-ordered s (here .bytes) (table-in s) (here .table-end) parts-there u (stays .noted);
+        senses = senses-there s u stays;
+        no-contradiction = passed;
         plan = rw (table-is, plan-is, plan-slot-is, goals-at, items-is) (each .plan);
-        held = rw plan-is held;
-        nexts = rw plan-is (request-nexts (held .few));
+        held = rw plan-is plan-held-there;
+        nexts = rw plan-is request-nexts;
         goals = rw (table-is, goals-at, goals-listed, whether-at) (each .goals);
         whether-end = each .whether-end;
         whether = rw (table-is, whether-at, whether-listed) (each .whether);
       }
 
--- The notes that reading left.
+-- A REQUEST that was read whole, into notes that held nothing.
 module _ (s : List ℕ) (bytes : (i : ℕ) → getD s i 0 < 256) (x : Request) (e : ℕ) (reads : read-request format s ≡ got x e) (t : List ℕ) (noted : t ≡ request-noted x blank) where
+  read-parts : Parts s x e
+  read-parts = parts s x e reads
+
+  fits : length s ≤ format .request
+  fits = subst (Request-held format s) reads (read-held format s) .1 .1
+
+  comes : Table-here s (table-noted (x .table) blank)
+  comes = table-comes s bytes fits (x .table) (read-parts .place) (read-parts .table-read)
+
+  same-table : table-in s ≡ x .table
+  same-table = ReadLaws.table-is s (x .table) (read-parts .place) (read-parts .table-read)
+
+  tail : request-at format s (table-in s) (read-parts .place) ≡ got x e
+  tail = ap (λ (z : Table). request-at format s z (read-parts .place)) same-table ∙ read-parts .tail-read
+
+  tail-is : t ≡ tail-noted x (table-noted (x .table) blank)
+  unfolding request-noted
+  tail-is = noted
+
   pub read-at-hand : contradiction-in (x .table) ≡ nowhere → At-hand s t
-  read-at-hand passed = subst (At-hand s) (sym noted) (at-hand s bytes x e reads passed)
+  read-at-hand passed = subst (At-hand s) (sym tail-is) (plan-at-hand s (table-noted (x .table) blank) comes (read-parts .place) x e tail (ap contradiction-in same-table ∙ passed))
 
   pub request-read : request-in s t ≡ x
-  request-read = ap (request-in s) noted ∙ request-is s bytes x e reads
+  request-read = ap (request-in s) tail-is ∙ plan-request s (table-noted (x .table) blank) comes (read-parts .place) x e tail

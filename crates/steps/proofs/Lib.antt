@@ -1,7 +1,6 @@
 pub mod SectionsStand
 pub mod HandLaws
 pub mod ToldMarks
-pub mod SlotLaws
 pub mod SensedLaws
 pub mod Served
 pub mod NextSlots

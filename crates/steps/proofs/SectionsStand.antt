@@ -1,4 +1,4 @@
--- What the lines say, by the bytes where they stand: each was read there, and reading keeps its place; and where each section of a request stands.
+-- What the lines say, by the bytes where they stand: each was read there, and reading keeps its place; and where sections 6 to 8 of a request stand.
 -- Assumes nothing.
 use Prim.Native.Nat.{ℕ, _+_, _-_, _<_}
 use native.Mathlib.Omega.{arith}
@@ -9,9 +9,9 @@ use Rattle.meaning.specs.Tests.{Has}
 use Rattle.meaning.specs.Limits.{format}
 use Rattle.meaning.specs.Requests.{Knowledge, Table, Request}
 use Rattle.meaning.specs.Reading
-use Rattle.meaning.specs.Reading.{Got, got, fault, literals, below-at, list-at, knowledge-at, placed, plan-at, table-at, request-at, read-request}
+use Rattle.meaning.specs.Reading.{Got, got, fault, literals, below-at, list-at, knowledge-at, placed, plan-at, request-at}
 use Rattle.meaning.proofs.SettledLaws.{got-same}
-use Rattle.meaning.proofs.RangeLaws.{not-refused, after-got, section-read}
+use Rattle.meaning.proofs.RangeLaws.{after-got, section-read}
 use Rattle.reading.specs.Planned.{bytes-of}
 use Rattle.reading.specs.Requested.{goals-place, plan-place}
 use Rattle.reading.specs.Listed.{listed}
@@ -33,10 +33,8 @@ module _ (s : List ℕ) (t : Table) (p : ℕ) (whole : Table-parts s t p) where
       let is : f ≡ k .fluent = ap (λ (y : Knowledge). y .fluent) (got-same e₂) in
       omega arith
 
--- EACH SECTION of a request that was read, from where it stands.
+-- SECTIONS 6 TO 8 of a request, each from where it stands.
 pub record Sections-read (s : List ℕ) (x : Request) : Type 0 where
-  pub table-end : ℕ
-  pub table : table-at format s 0 ≡ got (x .table) table-end
   pub items : ℕ
   pub plan : plan-at format (x .table .fluents) (x .table .actions) s (plan-place x) ≡ got (record { value = x .plan; items = items }) (goals-place x)
   pub goals-list : List ℕ
@@ -47,9 +45,9 @@ pub record Sections-read (s : List ℕ) (x : Request) : Type 0 where
   pub whether : list-at Reading.fluents (x .table .fluents) (format .listed) s (x .whether-place) ≡ got whether-list whether-end
   pub whether-are : x .whether ≡ placed (x .whether-place + 1) whether-list
 
-request-sections : (s : List ℕ) (t : Table) (p : ℕ) (y : Request) (q : ℕ) → table-at format s 0 ≡ got t p → request-at format s t p ≡ got y q → Sections-read s y
+pub request-sections : (s : List ℕ) (t : Table) (p : ℕ) (y : Request) (q : ℕ) → request-at format s t p ≡ got y q → Sections-read s y
 unfolding request-at plan-place goals-place plan-at
-request-sections s t p y q first e =
+request-sections s t p y q e =
     after-got (plan-at format (t .fluents) (t .actions) s p) _ e λ plan q₁ eplan v₁.
     after-got (list-at literals (t .fluents) (format .listed) s q₁) _ v₁ λ goals q₂ egoals v₂.
     after-got (list-at Reading.fluents (t .fluents) (format .listed) s q₂) _ v₂ λ whether q₃ ewhether v₃.
@@ -59,8 +57,6 @@ request-sections s t p y q first e =
     let at : q₂ - (1 + length (placed (q₁ + 1) goals)) ≡ q₁ = omega arith in
     let plan-stands : q₁ - (2 + bytes-of (plan .value)) ≡ p = omega arith in
     subst on v₃ (record {
-      table-end = p;
-      table = first;
       items = plan .items;
       plan = rw (at, plan-stands) eplan;
       goals-list = goals;
@@ -75,13 +71,6 @@ request-sections s t p y q first e =
     on : Got Request → Type 0
     on (got x i) = Sections-read s x
     on (fault n i) = Unit {0}
-
-pub sections-read : (s : List ℕ) (x : Request) (e : ℕ) → read-request format s ≡ got x e → Sections-read s x
-unfolding read-request
-sections-read s x e read =
-    after-got (table-at format s 0) _ (not-refused _ _ _ _ read .1) λ t p et e₁.
-    after-got (request-at format s t p) _ e₁ λ y q ey e₂.
-    subst (Sections-read s) (got-same (not-refused _ _ _ _ e₂ .1)) (request-sections s t p y q et ey)
 
 -- A list that was read, and the place after it.
 pub list-after : (kind : Reading.Kind) (n most : ℕ) (s : List ℕ) (p : ℕ) (xs : List ℕ) (q : ℕ) → list-at kind n most s p ≡ got xs q → q ≡ p + 1 + getD s p 0

@@ -8,7 +8,7 @@ use mathlib.Core.Logic.{inl, inr}
 use lib.ListN.{getD}
 use lib.Dec.{eqb}
 use Rattle.meaning.specs.declared.Runs.{Runs}
-use Rattle.meaning.specs.declared.Runs.the-variants.{By, Short}
+use Rattle.meaning.specs.declared.Runs.the-variants.{Short}
 use Rattle.meaning.specs.Tests.{both, some-of, each-of, those-of, Has}
 use Rattle.meaning.specs.Limits.{all-literals}
 use Rattle.meaning.specs.Requests.{Effect, Executability}

@@ -3,21 +3,22 @@
 //!     review judge [--line] [--budget N] REQUEST...           (100,000 unless told otherwise)
 //!     review check REQUEST DERIVATION [REQUEST DERIVATION]...
 //!     review check-whether REQUEST DERIVATION [REQUEST DERIVATION]...
+//!     review release [--budget N] FILE...
 //!
 //! `check` and `check-whether` do not walk the plan: a derivation may be accepted where every budget is spent. The second takes requests
 //! with whether entries too, and derivations in the closing layout. With `--line` a walk that an action stops also says which executability line
-//! of it was missing. The exit status is 0 where each plan is verified or each derivation
-//! accepted, 1 where some answer is another, and 2 where something can't be read or written.
+//! of it was missing. `release` takes release files, each with many plans over one table, and has a line for each plan. The exit status is 0 where
+//! each plan is verified or each derivation accepted, 1 where some answer is another, and 2 where something can't be read or written.
 
 use std::env;
 use std::fs::File;
 use std::io::{self, Read, Write};
 use std::process::ExitCode;
 
-use glintstring::{check, check_whether, show, Answer, Input, Judge, DERIVATION_LIMIT, REQUEST_LIMIT};
+use glintstring::{check, check_whether, show, Answer, Input, Judge, PlanAnswer, Released, DERIVATION_LIMIT, REQUEST_LIMIT};
 
 const USAGE: &str = "usage: review judge [--line] [--budget N] REQUEST... | review check REQUEST DERIVATION [REQUEST DERIVATION]... | \
-                     review check-whether REQUEST DERIVATION [REQUEST DERIVATION]...";
+                     review check-whether REQUEST DERIVATION [REQUEST DERIVATION]... | review release [--budget N] FILE...";
 const BUDGET: u32 = 100_000;
 
 /// How many bytes are printed of the part that an answer is about.
@@ -85,13 +86,34 @@ fn judge_file(judge: &mut Judge, name: &str, budget: u32, lined: bool) -> Result
     Ok(told)
 }
 
+fn print_plans(name: &str, plans: &[PlanAnswer]) -> io::Result<()> {
+    let mut out = io::stdout().lock();
+    writeln!(out, "{name}: answered")?;
+    for (plan, answer) in plans.iter().enumerate() {
+        let (number, place, count) = (answer.number(), answer.place(), answer.count());
+        writeln!(out, "  plan {plan}: {}, number {number}, place {place}, count {count}", answer.words())?;
+    }
+    Ok(())
+}
+
+/// Answers the plans of a release file.
+fn release_file(judge: &mut Judge, name: &str, budget: u32) -> Result<u8, String> {
+    let file = read(name, REQUEST_LIMIT)?;
+    let released = judge.release(&file, budget);
+    match &released {
+        Released::Refused(answer) => return tell(name, *answer, &file, &[]),
+        Released::Plans(plans) => print_plans(name, plans).map_err(|error| format!("standard output: {error}"))?,
+    }
+    Ok(if released.is_verified() { GOOD } else { OTHER })
+}
+
 /// Walks the plans of all files on one thread that has enough stack; the largest status, if there is a file.
-fn judge_all(names: &[&str], budget: u32, lined: bool) -> Option<u8> {
+fn walk_all(names: &[&str], walk: impl Fn(&mut Judge, &str) -> Result<u8, String>) -> Option<u8> {
     let mut judge = match Judge::new() {
         Ok(judge) => judge,
         Err(error) => return Some(status(Err(format!("no thread: {error}")))),
     };
-    names.iter().map(|name| status(judge_file(&mut judge, name, budget, lined))).max()
+    names.iter().map(|name| status(walk(&mut judge, name))).max()
 }
 
 /// The derivation call or the whether call.
@@ -118,12 +140,16 @@ fn main() -> ExitCode {
         ["judge", "--line", ref rest @ ..] => ([&["judge"], rest].concat(), true),
         _ => (words, false),
     };
-    let judge_all = |names: &[&str], budget| judge_all(names, budget, lined);
+    let judge_all = |names: &[&str], budget| walk_all(names, |judge, name| judge_file(judge, name, budget, lined));
+    let release_all = |names: &[&str], budget| walk_all(names, |judge, name| release_file(judge, name, budget));
     let check_all = |call: Call, names: &[&str]| names.chunks_exact(2).map(|pair| status(check_files(call, pair[0], pair[1]))).max();
     let worst = match words[..] {
         ["judge", "--budget", budget, ref names @ ..] => budget.parse().ok().and_then(|budget| judge_all(names, budget)),
         ["judge", "--budget"] => None,
         ["judge", ref names @ ..] => judge_all(names, BUDGET),
+        ["release", "--budget", budget, ref names @ ..] => budget.parse().ok().and_then(|budget| release_all(names, budget)),
+        ["release", "--budget"] => None,
+        ["release", ref names @ ..] => release_all(names, BUDGET),
         ["check", ref names @ ..] if names.len() % 2 == 0 => check_all(check, names),
         ["check-whether", ref names @ ..] if names.len() % 2 == 0 => check_all(check_whether, names),
         _ => None,

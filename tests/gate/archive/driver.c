@@ -1,11 +1,11 @@
 /*
  * Makes the calls of the archive that it is linked with: takes frames from standard input and writes replies to standard output, until the
- * input ends. Inputs stand between random bytes, and after each call it looks whether a byte changed that may not. A walk call has the stack
- * that the header asks for, each other call 256 KiB, with a page below that may not be touched.
+ * input ends. Inputs stand between random bytes, and after each call it looks whether a byte changed that may not. A walk call and a release
+ * call have the stack that the header asks for, each other call 256 KiB, with a page below that may not be touched.
  *   driver COUNTS [FAULT CALL]
  * At the end a line for each call and number, with how often it was given, is added to the file COUNTS. With a FAULT the call of that number,
- * from 1 on, goes wrong on purpose: its answer is another (answer), a byte is changed in its request (request), in its lent state or derivation
- * (second), just below that (below) or just above it (above), the line is another (line) or what stands around it (beside), or the driver ends
+ * from 1 on, goes wrong on purpose: its answer is another (answer), a byte is changed in its request or file (request), in its lent state,
+ * derivation or row (second), just below that (below) or just above it (above), the line is another (line) or what stands around it (beside), or the driver ends
  * instead of a reply (end).
  */
 #define _GNU_SOURCE
@@ -90,6 +90,8 @@ static void make(void) {
     case JUDGE_LINE: answer = glintstring_judge_line(first, request.length, other, second.length, frame.budget, &line[1]); break;
     case CHECK: answer = glintstring_check(first, request.length, other, second.length); break;
     case CHECK_WHETHER: answer = glintstring_check_whether(first, request.length, other, second.length); break;
+    case RELEASE: answer = glintstring_release(first, request.length, (uint32_t *)(void *)other, second.length / sizeof(uint32_t), frame.budget); break;
+    case PLANS: answer = glintstring_plans(first, request.length); break;
     default: answer = glintstring_show(frame.answer, first, request.length, other, second.length);
     }
 }
@@ -123,7 +125,8 @@ static void go_wrong(const char *fault) {
     else fail("it ends, as it was told to");
 }
 
-static int walks(void) { return frame.call == JUDGE || frame.call == JUDGE_LINE; }
+/* Whether the call walks, and writes what is lent to it. */
+static int walks(void) { return frame.call == JUDGE || frame.call == JUDGE_LINE || frame.call == RELEASE; }
 
 static uint32_t changed_by_call(void) {
     if (changed_around(&request)) return AROUND_REQUEST;
@@ -135,7 +138,7 @@ static uint32_t changed_by_call(void) {
 }
 
 int main(int words, char **word) {
-    static const char *const name[CALLS] = {"judge", "judge_line", "check", "check_whether", "show"};
+    static const char *const name[CALLS] = {"judge", "judge_line", "check", "check_whether", "show", "release", "plans"};
     static uint64_t given[CALLS][256];
     uint64_t calls = 0, faulty = words == 4 ? strtoull(word[3], NULL, 10) : 0;
     char *stack = stack_of(GLINTSTRING_STACK_NEEDED), *little_stack = stack_of(LITTLE_STACK);

@@ -76,10 +76,10 @@ static int received(void *to, size_t length) {
 
 static uint8_t at(const uint8_t *bytes) { return bytes == NULL ? NOWHERE : (uint8_t)((uintptr_t)bytes & 15); }
 
-/* The lent bytes are those of a walk call, and the line is that of one with the line. */
+/* The lent bytes are those of a walk call or a release call, and the line is that of one with the line. */
 static uint64_t made(struct frame frame, const uint8_t *request, const uint8_t *second, uint8_t *lent, uint32_t *line) {
     static const char *const what[] = {"", "the request", "what stands around the request", "the derivation",
-                                       "what stands around the lent state or the derivation", "what stands around the line"};
+                                       "what stands around the lent state, the derivation or the row", "what stands around the line"};
     struct iovec parts[] = {{&frame, sizeof frame}, {(void *)request, frame.request_length}, {(void *)second, frame.second_length}};
     struct reply reply;
     frame.request_at = at(request);
@@ -120,4 +120,14 @@ uint64_t glintstring_show(uint64_t answer, const uint8_t *request, size_t reques
                           size_t derivation_length) {
     struct frame frame = {.call = SHOW, .answer = answer, .request_length = request_length, .second_length = derivation_length};
     return made(frame, request, derivation, NULL, NULL);
+}
+
+uint64_t glintstring_release(const uint8_t *file, size_t file_length, uint32_t *row, size_t row_length, uint32_t budget) {
+    struct frame frame = {.call = RELEASE, .request_length = file_length, .second_length = row_length * sizeof *row, .budget = budget};
+    return made(frame, file, (uint8_t *)row, (uint8_t *)row, NULL);
+}
+
+uint32_t glintstring_plans(const uint8_t *file, size_t file_length) {
+    struct frame frame = {.call = PLANS, .request_length = file_length};
+    return (uint32_t)made(frame, file, NULL, NULL, NULL);
 }

@@ -47,6 +47,11 @@ static int is(uint64_t answer, unsigned number, unsigned input, unsigned place, 
            glintstring_count(answer) == count;
 }
 
+static int is_plan(const uint32_t *row, unsigned plan, unsigned number, unsigned place, unsigned count, unsigned input) {
+    const uint32_t *numbers = row + GLINTSTRING_ROW_NUMBERS * plan;
+    return numbers[0] == number && numbers[1] == place && numbers[2] == count && numbers[3] == input;
+}
+
 /* As lent. */
 static int untouched(void) {
     size_t f;
@@ -68,8 +73,8 @@ static int worded(void) {
     unsigned one, other;
     for (one = 0; one <= 300; one++)
         for (other = 0; other < one; other++) {
-            const int known = one <= 3 || (9 <= one && one <= 21) || (30 <= one && one <= 36);
-            const int known_too = other <= 3 || (9 <= other && other <= 21) || (30 <= other && other <= 36);
+            const int known = one <= 3 || (9 <= one && one <= 22) || (30 <= one && one <= 36);
+            const int known_too = other <= 3 || (9 <= other && other <= 22) || (30 <= other && other <= 36);
             if ((strcmp(glintstring_words(one), glintstring_words(other)) == 0) != (!known && !known_too)) return 0;
         }
     return strcmp(glintstring_words(GLINTSTRING_VERIFIED), "verified") == 0;
@@ -80,7 +85,10 @@ int main(void) {
     uint8_t turned[171];
     uint8_t closing[328];
     uint64_t answer;
+    uint8_t file[96];
+    uint32_t row[16];
     uint32_t line;
+    size_t i;
     memset(state, 9, sizeof state);
 
     if (!is(glintstring_judge(file_a, sizeof file_a, state, sizeof state, 100000), GLINTSTRING_VERIFIED, GLINTSTRING_NEITHER, 0, 5) || !untouched())
@@ -116,6 +124,34 @@ int main(void) {
     line = 7;
     if (!is(glintstring_judge_line(NULL, 0, NULL, 0, 4, &line), GLINTSTRING_STATE_LENGTH_WRONG, GLINTSTRING_NEITHER, 0, 0) || line != 0)
         return puts("bindings: 22"), 1;
+
+    /* A release of four plans: File A's own, open unseen, an action that there is not, and one that is not reached. */
+    memcpy(file, file_a, 29);
+    file[29] = 4;
+    memcpy(file + 30, file_a + 29, 19);
+    memcpy(file + 49, "\0\1\1\1\7\1\2", 7);
+    memcpy(file + 56, "\0\1\3\0\0", 5);
+    memset(row, 9, sizeof row);
+    if (glintstring_plans(file, 61) != 4 || glintstring_plans(file, 29) != 0 || glintstring_plans(NULL, 0) != 0)
+        return puts("bindings: 23"), 1;
+    if (!is(glintstring_release(file, 61, row, 16, 100000), GLINTSTRING_ANSWERED, GLINTSTRING_NEITHER, 0, 0) ||
+        !is_plan(row, 0, GLINTSTRING_VERIFIED, 0, 5, GLINTSTRING_NEITHER) || !is_plan(row, 1, GLINTSTRING_GOAL_MISSED, 53, 2, GLINTSTRING_REQUEST) ||
+        !is_plan(row, 2, GLINTSTRING_TOO_LARGE, 58, 0, GLINTSTRING_REQUEST) || !is_plan(row, 3, GLINTSTRING_NOT_REACHED, 0, 0, GLINTSTRING_NEITHER))
+        return puts("bindings: 24"), 1;
+    /* Each plan has the whole budget; and what is not answered by 0 leaves the row: three numbers too many, the table cut short, a byte left over. */
+    file[29] = 2;
+    memset(row, 9, sizeof row);
+    if (!is(glintstring_release(file, 56, row, 8, 2), GLINTSTRING_ANSWERED, GLINTSTRING_NEITHER, 0, 0) ||
+        !is_plan(row, 0, GLINTSTRING_BUDGET_SPENT, 0, 2, GLINTSTRING_NEITHER) || !is_plan(row, 1, GLINTSTRING_GOAL_MISSED, 53, 2, GLINTSTRING_REQUEST))
+        return puts("bindings: 25"), 1;
+    memset(row, 9, sizeof row);
+    if (!is(glintstring_release(file, 56, row, 11, 100000), GLINTSTRING_ROW_LENGTH_WRONG, GLINTSTRING_NEITHER, 0, 0) ||
+        !is(glintstring_release(file, 28, row, 8, 100000), GLINTSTRING_INPUT_ENDS, GLINTSTRING_REQUEST, 28, 0) ||
+        !is(glintstring_release(file, 57, row, 8, 100000), GLINTSTRING_BYTES_LEFT_OVER, GLINTSTRING_REQUEST, 56, 0) ||
+        !is(glintstring_release(NULL, 0, NULL, 0, 4), GLINTSTRING_INPUT_ENDS, GLINTSTRING_REQUEST, 0, 0))
+        return puts("bindings: 26"), 1;
+    for (i = 0; i < 16; i++)
+        if (row[i] != 0x09090909) return puts("bindings: 27"), 1;
 
     /* Case 14: File A without its whether entry, and its derivation. */
     memcpy(other, file_a, 46);
@@ -179,6 +215,6 @@ int main(void) {
     if (!worded())
         return puts("bindings: words"), 1;
 
-    puts("bindings: 23 calls as the format says, and what is shown of their answers");
+    puts("bindings: 32 calls as the format says, and what is shown of their answers");
     return 0;
 }

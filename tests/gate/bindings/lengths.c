@@ -1,6 +1,6 @@
 /*
  * Each exported call at the ends of its lengths, by way of include/glintstring.h: 0, 1, the limit and one more for an input, null where the
- * length is 0, and lent states of every length from 0 to 258. Each input ends where a page ends behind which nothing may be read or written,
+ * length is 0, lent states of every length from 0 to 258 and lent rows of every length from 0 to 260. Each input ends where a page ends behind which nothing may be read or written,
  * or starts where such a page ends, and inputs may not be written at all: a call that goes astray ends the program by a signal.
  * It is compiled as C99 and as C++, and prints the first call that is not as it should be.
  */
@@ -12,6 +12,7 @@
 
 #define ROOM 65536 /* a multiple of every page's size */
 #define STATES (2 * GLINTSTRING_STATE_LENGTH + 2)
+#define ROWS (GLINTSTRING_ROW_NUMBERS * GLINTSTRING_MOST_PLANS + 4)
 #define LENT 9
 
 static unsigned long calls;
@@ -241,6 +242,59 @@ static int checked(derivation_call call, int closing) {
     return 1;
 }
 
+/*
+ * The plans call and the release call on these bytes, with rows of every length. The answer is that of the file, which has one plan where it has
+ * any: then it is 9 for all lengths but four. It is 0 for the largest file alone, and the row then says that the plan can't be run.
+ */
+static int releases(const uint8_t *bytes, size_t length, unsigned number, unsigned place, unsigned plans) {
+    size_t lent, i;
+    int at_end;
+    if (glintstring_plans(bytes, length) != plans)
+        return printf("lengths: a file of %lu bytes has %lu plans\n", (unsigned long)length, (unsigned long)glintstring_plans(bytes, length)), 0;
+    for (lent = 0; lent <= ROWS; lent++)
+        for (at_end = 0; at_end <= 1; at_end++) {
+            uint8_t *at = at_end ? state_room + ROOM - lent * sizeof(uint32_t) : state_room;
+            uint32_t *row = (uint32_t *)(void *)at;
+            uint64_t answer;
+            memset(state_room, LENT, ROOM);
+            answer = glintstring_release(bytes, length, lent == 0 && at_end ? NULL : row, lent, 7);
+            if (!(plans != 0 && lent != GLINTSTRING_ROW_NUMBERS * plans ? is(answer, GLINTSTRING_ROW_LENGTH_WRONG, GLINTSTRING_NEITHER, 0, 0)
+                  : number == GLINTSTRING_ANSWERED                       ? is(answer, number, GLINTSTRING_NEITHER, 0, 0)
+                                                                         : is(answer, number, GLINTSTRING_REQUEST, place, 0)))
+                return printf("lengths: a file of %lu bytes, %lu lent\n", (unsigned long)length, (unsigned long)lent), 0;
+            if (glintstring_number(answer) == GLINTSTRING_ANSWERED) {
+                if (row[0] != GLINTSTRING_NOT_EXECUTABLE || row[1] != place || row[2] != 0 || row[3] != GLINTSTRING_REQUEST)
+                    return puts("lengths: the row of the largest file is another"), 0;
+                memset(row, LENT, lent * sizeof(uint32_t));
+            }
+            for (i = 0; i < ROOM; i++)
+                if (state_room[i] != LENT)
+                    return printf("lengths: a byte of a row of %lu numbers, or around it, was changed\n", (unsigned long)lent), 0;
+        }
+    return 1;
+}
+
+/* The largest file has the largest request's table and, after the count of its plans, its plan without the last action. */
+static int released(void) {
+    static uint8_t file[GLINTSTRING_REQUEST_LIMIT + 1];
+    unsigned place = 0;
+    int at_end;
+    largest_request(request, &place);
+    memcpy(file, request, place - 2);
+    file[place - 2] = 1;
+    memcpy(file + place - 1, request + place - 2, GLINTSTRING_REQUEST_LIMIT + 1 - place);
+    file[place]--;
+    for (at_end = 0; at_end <= 1; at_end++) {
+        const uint8_t zero = 0, one = 1;
+        if (!releases(put(request_room, &zero, 1, at_end), 1, GLINTSTRING_COUNT_NOT_WITHIN_LIMITS, 0, 0) ||
+            !releases(put(request_room, &one, 1, at_end), 1, GLINTSTRING_INPUT_ENDS, 1, 0) ||
+            !releases(put(request_room, file, GLINTSTRING_REQUEST_LIMIT, at_end), GLINTSTRING_REQUEST_LIMIT, GLINTSTRING_ANSWERED, place + 1, 1) ||
+            !releases(put(request_room, file, sizeof file, at_end), sizeof file, GLINTSTRING_TOO_LONG, 0, 0))
+            return 0;
+    }
+    return releases(NULL, 0, GLINTSTRING_INPUT_ENDS, 0, 0) && releases(request_room - 1, 0, GLINTSTRING_INPUT_ENDS, 0, 0);
+}
+
 /* No byte is read, so the inputs may lie where nothing may be read. */
 static int shown(void) {
     static const size_t lengths[] = {0, 1, 16384, 16385, 32768, 32769, 65535, 65536};
@@ -271,8 +325,8 @@ int main(void) {
     state_room = stretch();
     line_room = stretch();
     if (!request_room || !derivation_room || !state_room || !line_room || !judged() || !checked(glintstring_check, 0) ||
-        !checked(glintstring_check_whether, 1) || !shown())
+        !checked(glintstring_check_whether, 1) || !released() || !shown())
         return 1;
-    printf("lengths: %lu calls at the ends of their lengths, and lent states of 0 to %d bytes\n", calls, STATES);
+    printf("lengths: %lu calls at the ends of their lengths, lent states of 0 to %d bytes and rows of 0 to %d numbers\n", calls, STATES, ROWS);
     return 0;
 }

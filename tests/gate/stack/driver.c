@@ -2,7 +2,10 @@
 //   driver walk BUDGET <REQUEST                     the walk call
 //   driver check LENGTH <REQUEST AND DERIVATION     the derivation call, on a request of that length and what follows it
 //   driver whether LENGTH <REQUEST AND DERIVATION   the whether call in the same way
-// It prints number, input, place, count and the bytes of stack.
+//   driver release BUDGET <RELEASE FILE             the release call, with a row of four numbers for each plan by the plans call
+//   driver plans 0 <RELEASE FILE                    the plans call
+// It prints number, input, place, count and the bytes of stack. In the place of a release file's own count is the sum of its plans' counts, and
+// what the plans call gives is in that of the number.
 // x86-64 Linux, and no library: so it can be linked on any machine.
 
 typedef unsigned char byte;
@@ -19,6 +22,8 @@ struct slice {
 u64 proved_judge(const struct slice *request, const struct slice *lent, u32 budget);
 u64 proved_check(const struct slice *request, const struct slice *derivation);
 u64 proved_whether(const struct slice *request, const struct slice *derivation);
+u64 proved_release(const struct slice *file, const struct slice *row, u32 budget);
+u64 proved_plans(const struct slice *file, const struct slice *none);
 
 enum { READ = 0, WRITE = 1, MMAP = 9, MPROTECT = 10, EXIT = 60 };
 
@@ -99,9 +104,10 @@ static int is_word(const char *one, const char *other) {
 
 static byte bytes[1 << 16];
 static byte state[128];
+static u32 row[4 * 255];
 
 _Noreturn __attribute__((used)) static void begin(long *arguments) {
-    if (arguments[0] != 3) fail("driver: two arguments, walk and the budget, or check or whether and the request's length\n");
+    if (arguments[0] != 3) fail("driver: two arguments, walk or release and the budget, check or whether and the request's length, or plans and 0\n");
     const char *command = (const char *)arguments[2];
     u64 number = 0;
     for (const char *digit = (const char *)arguments[3]; *digit; digit++) {
@@ -128,6 +134,12 @@ _Noreturn __attribute__((used)) static void begin(long *arguments) {
     u64 answer;
     if (is_word(command, "walk")) {
         answer = call_at(stack + WORDS, proved_judge, &request, &lent, number);
+    } else if (is_word(command, "release")) {
+        struct slice rows = {(byte *)row, 4 * proved_plans(&request, &lent)};
+        answer = call_at(stack + WORDS, proved_release, &request, &rows, number);
+        for (u64 place = 2; place < rows.length; place += 4) answer += (u64)row[place] << 32;
+    } else if (is_word(command, "plans")) {
+        answer = call_at(stack + WORDS, proved_plans, &request, &lent, 0);
     } else {
         if (request.length < number) fail("driver: the request is shorter than its length\n");
         struct slice derivation = {bytes + number, request.length - number};

@@ -1,6 +1,7 @@
 //! The requests on which the walk goes deepest, and some beside them: writes each into the folder given, and prints a line for each, with
 //! the file's name, the budget, the number of items and what the request is. Beside them derivations, and lists of these (`derivations`, and
-//! `whether` for the closing layout), with the request's file, the derivation's, its number of lines and what it is.
+//! `whether` for the closing layout), with the request's file, the derivation's, its number of lines and what it is; and release files, and a
+//! list of these (`releases`), with the file's name, the budget, the number of plans and what it is.
 
 use std::{env, fs};
 
@@ -183,6 +184,42 @@ fn derivations(folder: &str) {
     write_derivations(folder, "whether", ("asked-whether.request", request(Forgets::True, Goals::All, &plan)), &closing);
 }
 
+/// A request: what it is, the budget, and what it is made of.
+type Deep = (&'static str, u32, Forgets, Goals, Vec<Item>);
+
+/// A plan without items, goals and whether entries.
+const EMPTY: [u8; 4] = [0; 4];
+
+/// A release file of a request's table and plan, with so many empty plans before it.
+fn release(request: &[u8], plan: &[Item], goals: Goals, before: usize) -> Vec<u8> {
+    let plan_length = sequence(plan).len() + match goals {
+        Goals::None => 2,
+        Goals::All => 2 * (1 + usize::from(FLUENTS)),
+    };
+    let (table, plan) = request.split_at(request.len() - plan_length);
+    [table, &[before as u8 + 1], &EMPTY.repeat(before), plan].concat()
+}
+
+/// Release files in which the deepest plans are the only one, or the last of 64 where the file need not be short.
+fn releases(folder: &str, requests: &[Deep]) {
+    let mut lines = String::new();
+    for (number, (name, budget, forgets, goals, plan)) in requests.iter().enumerate() {
+        let request = request(*forgets, *goals, plan);
+        for before in [0, 63] {
+            let bytes = release(&request, plan, *goals, before);
+            assert!(bytes.len() <= 16384, "beyond the limits");
+            if before > 0 && request.len() < SHORT {
+                continue;
+            }
+            let file = format!("{number}-{before}.release");
+            fs::write(format!("{folder}/{file}"), bytes).expect("a file written");
+            let others = if before == 0 { "alone" } else { "the last of 64" };
+            lines += &format!("{file} {budget} {} {name}, {others}\n", before + 1);
+        }
+    }
+    fs::write(format!("{folder}/releases"), lines).expect("a file written");
+}
+
 fn main() {
     let folder = env::args().nth(1).expect("a folder");
     derivations(&folder);
@@ -218,6 +255,8 @@ fn main() {
         ("1,024 actions", SOON, Forgets::Known, Goals::All, vec![act(WORK); 1024]),
         ("no item", SOON, Forgets::Known, Goals::All, vec![]),
     ];
+    let short_file = ("84 looked at, forgotten, in 1,023 bytes", SOON, Forgets::True, Goals::None, short(left));
+    releases(&folder, &[&requests[..5], &[short_file]].concat());
     for (number, (name, budget, forgets, goals, plan)) in requests.into_iter().enumerate() {
         let file = format!("{number}.request");
         fs::write(format!("{folder}/{file}"), request(forgets, goals, &plan)).expect("a file written");

@@ -12,7 +12,7 @@ use crate::walk::{walk, Verdict};
 use crate::STATE_LENGTH;
 
 /// Counts above this aren't walked to their end.
-const COUNT_CAP: u32 = 20_000;
+pub(crate) const COUNT_CAP: u32 = 20_000;
 /// Wrong lengths of a lent state, half of the right one among them, which was right when there
 /// were 64 fluents at most.
 const WRONG_LENGTHS: [usize; 6] = [

@@ -55,6 +55,14 @@ impl Bounds {
         }
     }
 
+    /// Those of a request, or of a release file with this table.
+    pub fn of_request(request: &Request) -> Bounds {
+        Bounds {
+            longest: REQUEST_LIMIT,
+            ..Bounds::of_derivation(request)
+        }
+    }
+
     /// As many fluents or actions as there can be, or one less.
     fn near_limits(self) -> bool {
         usize::from(self.fluents) + 1 >= FLUENT_LIMIT
@@ -64,11 +72,7 @@ impl Bounds {
 
 /// Damages a request that was right before.
 pub fn damage_request(rng: &mut Rng, request: &Request) -> Damaged {
-    let bounds = Bounds {
-        fluents: request.fluents,
-        actions: request.actions,
-        longest: REQUEST_LIMIT,
-    };
+    let bounds = Bounds::of_request(request);
     if let Some(damaged) = at_limits(rng, || encode_request(request), bounds) {
         return damaged;
     }
@@ -124,6 +128,23 @@ pub(crate) fn damage_bytes(rng: &mut Rng, whole: &Encoded, bounds: Bounds) -> Da
             Damaged::sure(bytes[..kept].to_vec(), 11, kept)
         }
         3 => extended(rng, bytes, bounds),
+        13 => match rng.below(12) {
+            0 => too_long(rng, bytes, bounds),
+            _ => Damaged::unsure(flip(rng, bytes)),
+        },
+        way => strike(rng, whole, bounds, way),
+    }
+}
+
+/// Damage at one of the marks, of any kind.
+pub(crate) fn damage_marked(rng: &mut Rng, whole: &Encoded, bounds: Bounds) -> Damaged {
+    let way = rng.range(4, 13);
+    strike(rng, whole, bounds, way)
+}
+
+/// Damage at a mark, in one of the ways from 4 on.
+fn strike(rng: &mut Rng, whole: &Encoded, bounds: Bounds, way: usize) -> Damaged {
+    match way {
         4 | 5 => aimed(
             rng,
             whole,
@@ -145,16 +166,12 @@ pub(crate) fn damage_bytes(rng: &mut Rng, whole: &Encoded, bounds: Bounds) -> Da
             turned,
         ),
         11 | 12 => too_large(rng, whole, bounds),
-        13 => match rng.below(12) {
-            0 => too_long(rng, bytes, bounds),
-            _ => Damaged::unsure(flip(rng, bytes)),
-        },
         _ => beyond_limits(rng, whole, bounds),
     }
 }
 
 /// One bit flipped.
-fn flip(rng: &mut Rng, mut bytes: Vec<u8>) -> Vec<u8> {
+pub(crate) fn flip(rng: &mut Rng, mut bytes: Vec<u8>) -> Vec<u8> {
     if !bytes.is_empty() {
         let place = rng.below(bytes.len());
         bytes[place] ^= 1 << rng.below(8);
@@ -162,7 +179,7 @@ fn flip(rng: &mut Rng, mut bytes: Vec<u8>) -> Vec<u8> {
     bytes
 }
 
-fn extended(rng: &mut Rng, mut bytes: Vec<u8>, bounds: Bounds) -> Damaged {
+pub(crate) fn extended(rng: &mut Rng, mut bytes: Vec<u8>, bounds: Bounds) -> Damaged {
     let length = bytes.len();
     bytes.extend((0..rng.range(1, 4)).map(|_| rng.byte(0, 255)));
     if bytes.len() > bounds.longest {
@@ -171,7 +188,7 @@ fn extended(rng: &mut Rng, mut bytes: Vec<u8>, bounds: Bounds) -> Damaged {
     Damaged::sure(bytes, 20, length)
 }
 
-fn too_long(rng: &mut Rng, mut bytes: Vec<u8>, bounds: Bounds) -> Damaged {
+pub(crate) fn too_long(rng: &mut Rng, mut bytes: Vec<u8>, bounds: Bounds) -> Damaged {
     let length = bounds.longest + rng.range(1, 40);
     bytes.resize(length, 0);
     Damaged::sure(bytes, 10, 0)
@@ -377,7 +394,7 @@ fn misshape_request(rng: &mut Rng, request: &Request) -> Request {
 }
 
 /// Adds an effect anywhere that may contradict another.
-fn contradict(rng: &mut Rng, request: &mut Request) {
+pub(crate) fn contradict(rng: &mut Rng, request: &mut Request) {
     if request.effects.len() > 250 {
         request.effects.truncate(250);
     }
@@ -412,7 +429,7 @@ fn contradict(rng: &mut Rng, request: &mut Request) {
 }
 
 /// Gives an action with effects a knowledge line, and an action that senses an effect.
-fn mix(rng: &mut Rng, request: &mut Request) {
+pub(crate) fn mix(rng: &mut Rng, request: &mut Request) {
     let fluent = rng.byte(0, request.fluents - 1);
     if request.effects.is_empty() {
         let action = request.knowledge.first().map_or(0, |line| line.action);
@@ -438,7 +455,7 @@ fn mix(rng: &mut Rng, request: &mut Request) {
 }
 
 /// Makes two conditions of some branching overlap; adds a branching where there is none.
-fn make_overlap(rng: &mut Rng, sequence: &mut Vec<Item>, fluents: u8) -> bool {
+pub(crate) fn make_overlap(rng: &mut Rng, sequence: &mut Vec<Item>, fluents: u8) -> bool {
     for item in sequence.iter_mut() {
         let Item::Branching { branches, .. } = item else {
             continue;

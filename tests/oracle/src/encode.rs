@@ -1,4 +1,4 @@
-//! Writing requests and derivations as bytes, with a mark on each byte that damage may aim at.
+//! Writing requests, release files and derivations as bytes, with a mark on each byte that damage may aim at.
 
 use crate::model::{Conclusion, Item, Line, Proof, ProofLine, Request};
 use crate::reader::BRANCHING;
@@ -43,29 +43,31 @@ pub struct Encoded {
 /// or wrong, is written.
 pub fn encode_request(request: &Request) -> Encoded {
     let mut out = Encoded::default();
-    out.byte(Kind::Count, request.fluents);
-    out.byte(Kind::Count, request.actions);
-    out.list(Kind::Literal, &request.facts);
-    out.count(Kind::LinesCount, request.effects.len());
-    for line in &request.effects {
-        out.byte(Kind::Action, line.action);
-        out.byte(Kind::Literal, line.literal);
-        out.list(Kind::Literal, &line.body);
-    }
-    out.count(Kind::LinesCount, request.allowances.len());
-    for line in &request.allowances {
-        out.byte(Kind::Action, line.action);
-        out.list(Kind::Literal, &line.body);
-    }
-    out.count(Kind::LinesCount, request.knowledge.len());
-    for line in &request.knowledge {
-        out.byte(Kind::Action, line.action);
-        out.byte(Kind::Fluent, line.fluent);
-    }
-    out.sequence(&request.plan);
-    out.list(Kind::Literal, &request.goals);
-    out.list(Kind::Fluent, &request.whether);
+    out.table(request);
+    out.asked(request);
     out
+}
+
+/// A release file that was written, with where its plans start.
+#[derive(Clone, Debug)]
+pub struct EncodedRelease {
+    pub whole: Encoded,
+    /// Where the plan count stands, then where each plan starts, then the end.
+    pub places: Vec<usize>,
+}
+
+/// Writes a release file: the table, the count of these plans, and each plan's sections 6 to 8.
+pub fn encode_release(table: &Request, plans: &[Request]) -> EncodedRelease {
+    let mut whole = Encoded::default();
+    whole.table(table);
+    let mut places = vec![whole.bytes.len()];
+    whole.count(Kind::Count, plans.len());
+    for plan in plans {
+        places.push(whole.bytes.len());
+        whole.asked(plan);
+    }
+    places.push(whole.bytes.len());
+    EncodedRelease { whole, places }
 }
 
 /// Writes a derivation.
@@ -146,6 +148,36 @@ impl Encoded {
             }
             self.cites(&line.cites);
         }
+    }
+
+    /// Sections 1 to 5.
+    fn table(&mut self, request: &Request) {
+        self.byte(Kind::Count, request.fluents);
+        self.byte(Kind::Count, request.actions);
+        self.list(Kind::Literal, &request.facts);
+        self.count(Kind::LinesCount, request.effects.len());
+        for line in &request.effects {
+            self.byte(Kind::Action, line.action);
+            self.byte(Kind::Literal, line.literal);
+            self.list(Kind::Literal, &line.body);
+        }
+        self.count(Kind::LinesCount, request.allowances.len());
+        for line in &request.allowances {
+            self.byte(Kind::Action, line.action);
+            self.list(Kind::Literal, &line.body);
+        }
+        self.count(Kind::LinesCount, request.knowledge.len());
+        for line in &request.knowledge {
+            self.byte(Kind::Action, line.action);
+            self.byte(Kind::Fluent, line.fluent);
+        }
+    }
+
+    /// Sections 6 to 8.
+    fn asked(&mut self, request: &Request) {
+        self.sequence(&request.plan);
+        self.list(Kind::Literal, &request.goals);
+        self.list(Kind::Fluent, &request.whether);
     }
 
     fn list(&mut self, kind: Kind, entries: &[u8]) {

@@ -112,7 +112,18 @@ pub fn any_request(rng: &mut Rng) -> Request {
 
 /// A request of a shape.
 pub fn request(rng: &mut Rng, shape: &Shape) -> Request {
-    let mut request = table(rng, shape);
+    let table = table(rng, shape);
+    asked(rng, table, shape)
+}
+
+/// A plan of a shape with its goals and whether entries, over the table of a request.
+pub fn asked(rng: &mut Rng, table: Request, shape: &Shape) -> Request {
+    let mut request = Request {
+        plan: Vec::new(),
+        goals: Vec::new(),
+        whether: Vec::new(),
+        ..table
+    };
     let steps = rng.range(shape.steps.0, shape.steps.1);
     let (plan, ends) = Grower::new(rng, &request, shape).plan(steps);
     request.plan = plan;

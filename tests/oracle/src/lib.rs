@@ -16,6 +16,7 @@ pub mod model;
 pub mod paths;
 pub mod prove;
 pub mod reader;
+pub mod releases;
 pub mod rng;
 pub mod rows;
 pub mod rules;
@@ -28,6 +29,7 @@ pub mod whether;
 pub mod worlds;
 
 pub use answer::Answer;
+pub use releases::call::{plans, release};
 
 use answer::{Fault, DERIVATION, NEITHER, REQUEST};
 use model::Request;

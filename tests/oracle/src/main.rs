@@ -6,8 +6,11 @@ use std::process::ExitCode;
 use std::{env, fs};
 
 use oracle::examples::{self, DEFAULT_BUDGET};
+use oracle::releases::{self, call::ROW_NUMBERS};
 use oracle::text::{parse_bytes, state_line};
-use oracle::{check, check_whether, judge_line, rows, run, whether, Answer, STATE_LENGTH};
+use oracle::{
+    check, check_whether, judge_line, plans, release, rows, run, whether, Answer, STATE_LENGTH,
+};
 
 const HELP: &str = "\
 oracle: an independent reference program for Glintstring's verifier of conditional plans
@@ -21,21 +24,32 @@ usage:
       Checks a derivation and prints number, input, place and count.
   oracle check-whether REQUEST DERIVATION [--text]
       Does so with a derivation in the second layout.
-  oracle run [--seed S] [--requests N] [--derivations M] [--whether K]
-      Makes random calls (seed 1, 100,000 requests, and 20,000 derivations in each layout
-      unless told otherwise), checks every answer, and prints how often each occurred. The last
-      line is `oracle: ok`, or `oracle: FAILED` and why, with exit status 1.
+  oracle release FILE [--budget N] [--text]
+      Makes the release call and prints number, input, place and count of its own answer, and
+      where the number is 0 a line for each plan with its number, place, count and input.
+  oracle plans FILE [--text]
+      Prints how many plans a release file has, or 0.
+  oracle run [--seed S] [--requests N] [--derivations M] [--whether K] [--releases L]
+      Makes random calls (seed 1, 100,000 requests, 20,000 derivations in each layout, and
+      20,000 release files unless told otherwise), checks every answer, and prints how often
+      each occurred. The last line is `oracle: ok`, or `oracle: FAILED` and why, with exit
+      status 1.
   oracle run-whether [--seed S] [--derivations K]
       Makes the random calls with derivations in the second layout only.
-  oracle rows [--seed S] [--count N] [--derivations M] [--whether K]
-      Prints N judging calls, M derivation calls and K in the second layout with their answers,
-      one per line:
+  oracle run-releases [--seed S] [--releases L]
+      Makes the random release calls only.
+  oracle rows [--seed S] [--count N] [--derivations M] [--whether K] [--releases L]
+      Prints N judging calls, M derivation calls, K in the second layout and L release calls with
+      their answers, one per line:
         J REQUEST LENT BUDGET NUMBER INPUT PLACE COUNT STATE LINE
         D REQUEST DERIVATION NUMBER INPUT PLACE COUNT
         W REQUEST DERIVATION NUMBER INPUT PLACE COUNT
+        R FILE LENT BUDGET NUMBER INPUT PLACE COUNT PLANS ROW
       Bytes are decimal with commas between; `-` is no byte; the three words REP BYTE N are N
       times one byte. LENT is the length of the lent state; STATE is all its bytes after answers
-      1 and 2, and `-` where it stays as lent; LINE is what --line prints. (Seed 1, 300, 0 and 0 unless told otherwise.)
+      1 and 2, and `-` where it stays as lent; LINE is what --line prints. In rows R, LENT is the
+      length of the lent row, PLANS what the plans call gives, and ROW the row's numbers after own
+      answer 0, and `-` otherwise. (Seed 1, 300, 0, 0 and 0 unless told otherwise.)
   oracle examples [FOLDER]
       Runs the example files and prints a tally.
   oracle --help
@@ -64,16 +78,31 @@ fn command(words: &[String]) -> Result<ExitCode, String> {
         "judge" => judge_file(&Options::parse(rest, &["--budget"], 1, 1)?),
         "check" => check_files(&Options::parse(rest, &[], 2, 2)?, check),
         "check-whether" => check_files(&Options::parse(rest, &[], 2, 2)?, check_whether),
+        "release" => release_file(&Options::parse(rest, &["--budget"], 1, 1)?),
+        "plans" => count_plans(&Options::parse(rest, &[], 1, 1)?),
         "run" => run_calls(&Options::parse(
             rest,
-            &["--seed", "--requests", "--derivations", "--whether"],
+            &[
+                "--seed",
+                "--requests",
+                "--derivations",
+                "--whether",
+                "--releases",
+            ],
             0,
             0,
         )?),
+        "run-releases" => run_releases(&Options::parse(rest, &["--seed", "--releases"], 0, 0)?),
         "run-whether" => run_whether(&Options::parse(rest, &["--seed", "--derivations"], 0, 0)?),
         "rows" => print_rows(&Options::parse(
             rest,
-            &["--seed", "--count", "--derivations", "--whether"],
+            &[
+                "--seed",
+                "--count",
+                "--derivations",
+                "--whether",
+                "--releases",
+            ],
             0,
             0,
         )?),
@@ -153,10 +182,36 @@ impl Options {
     }
 }
 
+/// The budget given, or the usual one.
+fn budget_of(options: &Options) -> Result<u32, String> {
+    let budget = options.number("--budget", u64::from(DEFAULT_BUDGET));
+    u32::try_from(budget).map_err(|_| "the budget is above 32 bits".to_string())
+}
+
+fn release_file(options: &Options) -> Result<ExitCode, String> {
+    if options.line {
+        return Err("no such option here: --line".to_string());
+    }
+    let file = options.bytes(0)?;
+    let mut row = vec![0; ROW_NUMBERS * plans(&file) as usize];
+    let own = release(&file, &mut row, budget_of(options)?);
+    println!("{own}");
+    if own.number == 0 {
+        for four in row.chunks(ROW_NUMBERS) {
+            println!("{} {} {} {}", four[0], four[1], four[2], four[3]);
+        }
+    }
+    Ok(ExitCode::SUCCESS)
+}
+
+fn count_plans(options: &Options) -> Result<ExitCode, String> {
+    println!("{}", plans(&options.bytes(0)?));
+    Ok(ExitCode::SUCCESS)
+}
+
 fn judge_file(options: &Options) -> Result<ExitCode, String> {
     let request = options.bytes(0)?;
-    let budget = u32::try_from(options.number("--budget", u64::from(DEFAULT_BUDGET)))
-        .map_err(|_| "the budget is above 32 bits".to_string())?;
+    let budget = budget_of(options)?;
     let mut lent = [0; STATE_LENGTH];
     let (answer, line) = judge_line(&request, &mut lent, budget);
     println!("{answer}");
@@ -183,7 +238,18 @@ fn run_calls(options: &Options) -> Result<ExitCode, String> {
     print!("{}", tally.report());
     let whether = whether::run::run(seed, options.number("--whether", 20_000));
     print!("{}", whether.report());
-    Ok(conclude(tally.verdict().and(whether.verdict())))
+    let releases = releases::run::run(seed, options.number("--releases", 20_000));
+    print!("{}", releases.report());
+    let verdict = tally.verdict().and(whether.verdict());
+    Ok(conclude(verdict.and(releases.verdict())))
+}
+
+fn run_releases(options: &Options) -> Result<ExitCode, String> {
+    let seed = options.number("--seed", 1);
+    println!("seed: {seed}");
+    let tally = releases::run::run(seed, options.number("--releases", 20_000));
+    print!("{}", tally.report());
+    Ok(conclude(tally.verdict()))
 }
 
 fn run_whether(options: &Options) -> Result<ExitCode, String> {
@@ -215,7 +281,9 @@ fn print_rows(options: &Options) -> Result<ExitCode, String> {
     let whether = options.number("--whether", 0);
     let mut out = io::BufWriter::new(io::stdout().lock());
     let whether = whether::rows::whether_rows(seed, whether);
-    for row in rows::rows(seed, judging, checking).chain(whether) {
+    let releases = releases::rows::release_rows(seed, options.number("--releases", 0));
+    let derived = rows::rows(seed, judging, checking).chain(whether);
+    for row in derived.chain(releases) {
         writeln!(out, "{row}").map_err(|error| error.to_string())?;
     }
     out.flush().map_err(|error| error.to_string())?;

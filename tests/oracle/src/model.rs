@@ -1,6 +1,8 @@
-//! Requests and derivations after reading, with the places answers may need.
+//! Requests, release files and derivations after reading, with the places answers may need.
 //!
 //! The generators build the same structures by hand; there the places are 0 and mean nothing.
+
+use crate::answer::Fault;
 
 /// Literal byte 2f says that fluent f is true, 2f + 1 that it is false.
 pub fn is_positive(literal: u8) -> bool {
@@ -141,6 +143,29 @@ impl Request {
             (place, line)
         })
     }
+}
+
+/// A release file past its plan count, as far as it can be read.
+#[derive(Clone, Debug)]
+pub struct Release {
+    /// Sections 1 to 5, with neither plan nor goals nor whether entries.
+    pub table: Request,
+    /// Where section 5 ends and the plan count stands.
+    pub table_end: usize,
+    /// The plan count.
+    pub count: usize,
+    /// The plans in order. Where one fails in reading it is the last of these, whatever the count.
+    pub plans: Vec<Plan>,
+    /// 20: bytes are left after the last plan.
+    pub left_over: Option<Fault>,
+}
+
+/// A plan of a release file: where it starts, and what a request of its own would hold, with the
+/// places of its items and entries in the file.
+#[derive(Clone, Debug)]
+pub struct Plan {
+    pub start: usize,
+    pub read: Result<Request, Fault>,
 }
 
 /// A line of a derivation: the list X, the sequence c, the list Y, its rule and citations.

@@ -1,10 +1,12 @@
-//! Reading of requests and derivations from the left; the first fault met is the answer.
+//! Reading of requests, release files and derivations from the left; the first fault met is the
+//! answer.
 //!
 //! At one byte the order is 11, 21, 19, 12, 13, 14, 15; 20 is looked for when all is read.
 
 use crate::answer::Fault;
 use crate::model::{
-    Allowance, Branch, Conclusion, Effect, Item, Knowledge, Line, Proof, ProofLine, Request,
+    Allowance, Branch, Conclusion, Effect, Item, Knowledge, Line, Plan, Proof, ProofLine, Release,
+    Request,
 };
 
 /// Longest request in bytes.
@@ -25,6 +27,8 @@ pub const BRANCH_LIMIT: usize = 8;
 pub const NESTING_LIMIT: usize = 8;
 /// Most items of a plan, nested ones counted.
 pub const ITEM_LIMIT: usize = 1_024;
+/// Most plans of a release file.
+pub const PLAN_LIMIT: usize = 64;
 /// Most lines of a derivation.
 pub const LINE_LIMIT: usize = 1_024;
 /// Most citations of a line.
@@ -63,6 +67,37 @@ pub fn read_request(bytes: &[u8]) -> Read<Request> {
     let request = reader.request()?;
     reader.end()?;
     Ok(request)
+}
+
+/// Reads a release file: 10, then from the left sections 1 to 5 and the plan count, in which the
+/// first fault is that of the file; then plan after plan, up to one that fails. 20 is looked for
+/// where none fails.
+pub fn read_release(bytes: &[u8]) -> Read<Release> {
+    refuse_length(bytes, REQUEST_LIMIT)?;
+    let mut reader = Reader::new(bytes, 0, 0);
+    let table = reader.table()?;
+    let table_end = reader.at;
+    reader.part = Part::Rest;
+    let count = reader.count(1, PLAN_LIMIT)?;
+    let mut plans = Vec::new();
+    let mut failed = false;
+    while plans.len() < count && !failed {
+        let start = reader.at;
+        let read = reader.asked(table.clone());
+        failed = read.is_err();
+        plans.push(Plan { start, read });
+    }
+    let left_over = match failed {
+        true => None,
+        false => reader.end().err(),
+    };
+    Ok(Release {
+        table,
+        table_end,
+        count,
+        plans,
+        left_over,
+    })
 }
 
 /// Reads a whole derivation by the same order, with the request's numbers of fluents and actions.
@@ -244,6 +279,12 @@ impl Reader<'_> {
     }
 
     fn request(&mut self) -> Read<Request> {
+        let table = self.table()?;
+        self.asked(table)
+    }
+
+    /// Sections 1 to 5.
+    fn table(&mut self) -> Read<Request> {
         self.part = Part::Fluents;
         self.fluents = self.count(1, FLUENT_LIMIT)? as u8;
         self.part = Part::Actions;
@@ -254,12 +295,6 @@ impl Reader<'_> {
         let allowances_place = self.at;
         let allowances = self.section(Self::allowance)?;
         let knowledge = self.section(Self::knowledge)?;
-        let plan = self.plan()?;
-        let goals_place = self.at;
-        let goals = self.list(Part::Goals)?;
-        let whether_place = self.at;
-        self.part = Part::Whether;
-        let whether = self.fluent_list(LIST_LIMIT)?;
         Ok(Request {
             fluents: self.fluents,
             actions: self.actions,
@@ -268,11 +303,25 @@ impl Reader<'_> {
             allowances_place,
             allowances,
             knowledge,
+            ..Request::default()
+        })
+    }
+
+    /// Sections 6 to 8, over a table that was read.
+    fn asked(&mut self, table: Request) -> Read<Request> {
+        let plan = self.plan()?;
+        let goals_place = self.at;
+        let goals = self.list(Part::Goals)?;
+        let whether_place = self.at;
+        self.part = Part::Whether;
+        let whether = self.fluent_list(LIST_LIMIT)?;
+        Ok(Request {
             plan,
             goals_place,
             goals,
             whether_place,
             whether,
+            ..table
         })
     }
 

@@ -277,7 +277,17 @@ fn tell_judging(call: &JudgeCall) -> String {
 /// A row as wanted.
 fn checking_row(rng: &mut Rng, wanted: Wanted<(u8, u8)>) -> String {
     let call = match wanted {
-        Wanted::Shows(edge) => edge_checking(rng, edge),
+        Wanted::Shows(edge) => edge_call(
+            rng,
+            edge,
+            derivable,
+            natural,
+            |rng, draft, lines| any_check_call(rng, draft, lines),
+            |call| {
+                let answer = check(&call.request, &call.derivation);
+                of_derivation(&call.request, &call.derivation, answer)
+            },
+        ),
         Wanted::Answered((10, _)) => {
             let mut call = checking_call(rng, (11, DERIVATION), DERIVATION_BYTES);
             call.derivation = vec![rng.byte(0, LIST_LIMIT as u8); DERIVATION_LIMIT + 1];
@@ -296,33 +306,40 @@ fn checking_row(rng: &mut Rng, wanted: Wanted<(u8, u8)>) -> String {
     tell_checking(&call)
 }
 
-/// A call that shows an edge, with small inputs unless their lists are full.
-fn edge_checking(rng: &mut Rng, edge: Edge) -> CheckCall {
+/// A call that shows an edge, with small inputs unless their lists are full. In either layout a
+/// derivation is drawn with its request or, for full lists, made of it, and a call of the two
+/// shows some edges.
+pub(crate) fn edge_call<D>(
+    rng: &mut Rng,
+    edge: Edge,
+    draw: fn(&mut Rng, &Shape) -> (Request, D),
+    natural: fn(&Request) -> Option<D>,
+    any_call: impl Fn(&mut Rng, &Request, &D) -> CheckCall,
+    shown: impl Fn(&CheckCall) -> Vec<Edge>,
+) -> CheckCall {
     loop {
         let shape = spread_shape(rng);
         let full = matches!(edge, Edge::Full(_));
-        let (draft, lines) = match full {
-            false => derivable(rng, &shape),
+        let (draft, derivation) = match full {
+            false => draw(rng, &shape),
             true => {
                 let draft = drawn(rng, &shape);
                 let draft = unasked(filled(rng, &draft));
-                let Some(lines) = natural(&draft) else {
+                let Some(derivation) = natural(&draft) else {
                     continue;
                 };
-                (draft, lines)
+                (draft, derivation)
             }
         };
-        let call = any_check_call(rng, &draft, &lines);
-        let answer = check(&call.request, &call.derivation);
-        let shown = of_derivation(&call.request, &call.derivation, answer);
-        if is_small(&call, full) && shown.contains(&edge) {
+        let call = any_call(rng, &draft, &derivation);
+        if is_small(&call, full) && shown(&call).contains(&edge) {
             return call;
         }
     }
 }
 
 /// Both inputs of a call that shows an edge have few bytes, or with full lists not too many.
-pub(crate) fn is_small(call: &CheckCall, full: bool) -> bool {
+fn is_small(call: &CheckCall, full: bool) -> bool {
     let (most, most_derived) = match full {
         false => (BYTES, DERIVATION_BYTES),
         true => (FULL_BYTES, FULL_BYTES),
@@ -331,7 +348,7 @@ pub(crate) fn is_small(call: &CheckCall, full: bool) -> bool {
 }
 
 /// The same request without goals and whether entries.
-pub(crate) fn unasked(request: Request) -> Request {
+fn unasked(request: Request) -> Request {
     Request {
         goals: Vec::new(),
         whether: Vec::new(),
@@ -340,7 +357,7 @@ pub(crate) fn unasked(request: Request) -> Request {
 }
 
 /// A small shape, of which each draft is spread.
-pub(crate) fn spread_shape(rng: &mut Rng) -> Shape {
+fn spread_shape(rng: &mut Rng) -> Shape {
     Shape {
         spread: 100,
         ..*small_shape(rng)

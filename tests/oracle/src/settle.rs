@@ -5,13 +5,24 @@ use crate::model::{exclusive, Allowance, Branch, Effect, Item, Request};
 
 /// 16, then 17, then 18, each a pass over the whole request.
 pub fn settle(request: &Request) -> Result<(), Fault> {
-    let passes = [
-        contradiction(request).map(|place| Fault::new(16, place)),
-        mixed_action(request).map(|place| Fault::new(17, place)),
-        overlap(&request.plan).map(|place| Fault::new(18, place)),
-    ];
-    match passes.into_iter().flatten().next() {
-        Some(fault) => Err(fault),
+    settle_table(request)?;
+    settle_plan(request)
+}
+
+/// 16 and then 17, which ask nothing of the plan.
+pub fn settle_table(request: &Request) -> Result<(), Fault> {
+    refuse(16, contradiction(request))?;
+    refuse(17, mixed_action(request))
+}
+
+/// 18.
+pub fn settle_plan(request: &Request) -> Result<(), Fault> {
+    refuse(18, overlap(&request.plan))
+}
+
+fn refuse(number: u8, place: Option<usize>) -> Result<(), Fault> {
+    match place {
+        Some(place) => Err(Fault::new(number, place)),
         None => Ok(()),
     }
 }

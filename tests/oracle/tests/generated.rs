@@ -5,13 +5,16 @@ use std::collections::{BTreeMap, BTreeSet};
 use oracle::edges::{self, Met};
 use oracle::encode::encode_request;
 use oracle::generate::{request, spread, MIDDLE, SMALL, TINY};
+use oracle::releases;
+use oracle::releases::rows::release_rows;
+use oracle::releases::run::{OF_PLANS, OWN};
 use oracle::rng::Rng;
 use oracle::rows::rows;
 use oracle::run::run;
 use oracle::text::parse_bytes;
 use oracle::whether;
 use oracle::whether::rows::whether_rows;
-use oracle::{check, check_whether, judge, judge_line, STATE_LENGTH};
+use oracle::{check, check_whether, judge, judge_line, plans, release, STATE_LENGTH};
 
 #[test]
 fn small_runs_show_no_difference() {
@@ -28,6 +31,21 @@ fn small_runs_of_the_second_layout_show_no_difference() {
         assert_eq!(tally.differences(), &[] as &[String]);
         assert_eq!(tally.verdict(), Ok(()));
     }
+}
+
+#[test]
+fn small_runs_of_release_files_show_no_difference() {
+    for seed in 1..=3 {
+        let tally = releases::run::run(seed, 4_000);
+        assert_eq!(tally.differences(), &[] as &[String]);
+        assert_eq!(tally.verdict(), Ok(()));
+    }
+}
+
+#[test]
+fn a_run_of_release_files_too_small_fails() {
+    let verdict = releases::run::run(1, 10).verdict();
+    assert!(verdict.is_err_and(|reason| reason.starts_with("never met")));
 }
 
 #[test]
@@ -143,6 +161,45 @@ fn rows_can_be_computed_again() {
     ] {
         assert_eq!(edges[kind].never(wanted), [] as [&str; 0], "{kind}");
     }
+}
+
+/// The numbers of one field of a row.
+fn numbers<'a>(words: &mut impl Iterator<Item = &'a str>) -> Vec<u32> {
+    match words.next().expect("a field") {
+        "-" => Vec::new(),
+        word => (word.split(','))
+            .map(|number| number.parse().expect("a number"))
+            .collect(),
+    }
+}
+
+#[test]
+fn rows_of_release_files_can_be_computed_again() {
+    let (mut own_met, mut met) = (BTreeSet::new(), BTreeSet::new());
+    for text in release_rows(5, 300) {
+        let mut words = text.split(' ');
+        assert_eq!(words.next(), Some("R"));
+        let file = take(&mut words);
+        let mut row = vec![77; number(&mut words) as usize];
+        let own = release(&file, &mut row, number(&mut words));
+        let told: Vec<u32> = (0..4).map(|_| number(&mut words)).collect();
+        let found = [own.number.into(), own.input.into(), own.place, own.count];
+        assert_eq!(told, found, "{text}");
+        assert_eq!(number(&mut words), plans(&file), "{text}");
+        let told = numbers(&mut words);
+        match own.number {
+            0 => assert_eq!(told, row, "{text}"),
+            _ => assert!(told.is_empty() && row.iter().all(|&number| number == 77)),
+        }
+        assert_eq!(words.next(), None);
+        met.extend(told.iter().step_by(4).map(|&number| number as u8));
+        own_met.insert(own.number);
+    }
+    assert_eq!(own_met, BTreeSet::from(OWN));
+    assert_eq!(met, BTreeSet::from(OF_PLANS));
+    let once: Vec<String> = release_rows(9, 40).collect();
+    assert_eq!(once, release_rows(9, 40).collect::<Vec<_>>());
+    assert_ne!(once, release_rows(10, 40).collect::<Vec<_>>());
 }
 
 #[test]

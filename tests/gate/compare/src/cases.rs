@@ -6,7 +6,7 @@ use oracle::text::{parse_bytes, state_line};
 
 use crate::calls::{agreed, expect, Call, Left};
 use crate::checks::{self, Check};
-use crate::whether_cases;
+use crate::{release_cases, whether_cases};
 
 pub const FILE_A: &str = "4 3 3 3 5 7 3 1 2 0 1 6 1 0 2 4 0 3 0 0 1 1 3 2 1 2 1 0 0 0 2 0 255 2 1 1 0 2 1 2 1 0 0 0 1 7 1 2";
 const BUDGET: u32 = 100_000;
@@ -20,6 +20,18 @@ extern "C" {
     fn glintstring_check(request: *const u8, request_length: usize, derivation: *const u8, derivation_length: usize) -> u64;
     fn glintstring_check_whether(request: *const u8, request_length: usize, derivation: *const u8, derivation_length: usize) -> u64;
     fn glintstring_show(answer: u64, request: *const u8, request_length: usize, derivation: *const u8, derivation_length: usize) -> u64;
+    fn glintstring_release(file: *const u8, file_length: usize, row: *mut u32, row_length: usize, budget: u32) -> u64;
+    fn glintstring_plans(file: *const u8, file_length: usize) -> u32;
+}
+
+/// The release call.
+pub fn release(file: &[u8], row: &mut [u32], budget: u32) -> u64 {
+    unsafe { glintstring_release(file.as_ptr(), file.len(), row.as_mut_ptr(), row.len(), budget) }
+}
+
+/// The plans call.
+pub fn plans(file: &[u8]) -> u32 {
+    unsafe { glintstring_plans(file.as_ptr(), file.len()) }
 }
 
 /// How a row gives its request.
@@ -293,6 +305,14 @@ fn without_bytes() -> Result<(), String> {
     if ([no_request_line, no_state_line], lines) != ([no_request, no_state], [0, 0]) {
         return Err(format!("null and length 0: {no_request_line} and {no_state_line} with the lines {lines:?}"));
     }
+    let mut row = [7; 4];
+    let one_plan = [&bytes(FILE_A)[..29], &[1], &bytes(FILE_A)[29..]].concat();
+    let no_file = unsafe { [glintstring_release(null(), 0, row.as_mut_ptr(), row.len(), 0), glintstring_release(null(), 0, null_mut(), 0, 0)] };
+    let no_row = unsafe { glintstring_release(one_plan.as_ptr(), one_plan.len(), null_mut(), 0, 0) };
+    let no_plans = unsafe { glintstring_plans(null(), 0) };
+    if (no_file, no_row, row, no_plans) != ([267, 267], 9, [7; 4], 0) {
+        return Err(format!("null and length 0: {no_file:?} without a release file, {no_row} without a row, {row:?} left, {no_plans} plans"));
+    }
     let file_a = without_whether();
     let no_input = unsafe { glintstring_check(null(), 0, null(), 0) };
     let no_derivation = unsafe { glintstring_check(file_a.as_ptr(), file_a.len(), null(), 0) };
@@ -332,10 +352,11 @@ pub fn compare() -> Result<String, String> {
     }
     compare_derivations(&mut rng)?;
     let whether = whether_cases::compare(&mut rng)?;
+    let releases = release_cases::compare(&mut rng)?;
     without_bytes()?;
     let (walks, lines, checks) = (ROWS.len(), LINE_ROWS.len(), DERIVATION_ROWS.len());
     Ok(format!(
-        "{walks} rows of the format, {lines} for the line, {checks} for derivations and {whether} for those in the closing layout answered as it says, and null \
-         pointers with length 0"
+        "{walks} rows of the format, {lines} for the line, {checks} for derivations, {whether} for those in the closing layout and {releases} for release \
+         files answered as it says, and null pointers with length 0"
     ))
 }

@@ -46,12 +46,18 @@ pub fn crowded_of(rng: &mut Rng, fluents: (u8, u8), actions: (u8, u8)) -> Reques
     }
     rng.shuffle(&mut request.knowledge);
     rng.shuffle(&mut request.allowances);
+    crowded_plan(rng, &request)
+}
+
+/// Another plan over the table of such a request, with goals and whether entries of its own.
+pub fn crowded_plan(rng: &mut Rng, table: &Request) -> Request {
+    let mut request = table.clone();
     request.plan = vec![Item::act(0)];
     let steps = rng.below(12);
-    request.plan.extend(sequence(rng, &facts, actions, steps, 2));
+    request.plan.extend(sequence(rng, &table.facts, table.actions, steps, 2));
     let wanted = *rng.pick(&[0, 50, 100]);
-    request.goals = facts.iter().copied().filter(|_| rng.chance(wanted)).collect();
-    request.whether = (0..fluents).filter(|_| rng.chance(wanted)).collect();
+    request.goals = table.facts.iter().copied().filter(|_| rng.chance(wanted)).collect();
+    request.whether = (0..table.fluents).filter(|_| rng.chance(wanted)).collect();
     request
 }
 

@@ -10,7 +10,7 @@ use oracle::rng::Rng;
 use crate::calls::{self, expect};
 use crate::checks::Layout;
 use crate::hostile::{self, Input, Named};
-use crate::{checks, derivations, generated, whether};
+use crate::{checks, derivations, generated, releases, whether};
 
 /// What a call may take, and what it may take for each count more: far more than was ever seen (docs/MEASURED.md).
 const A: Duration = Duration::from_secs(1);
@@ -27,7 +27,7 @@ const FENCES: u64 = 11;
 /// Random requests, derivations, and those in the closing layout, of each.
 const RANDOM: u64 = 300;
 
-/// What a call answered, and how long it took.
+/// What a call answered, of a release file with the counts of all its plans together, and how long it took.
 struct Taken {
     answer: [u64; 4],
     took: Duration,
@@ -56,6 +56,11 @@ fn call(rng: &mut Rng, input: &Input) -> Result<Taken, String> {
             Ok(Taken { answer: left.answer, took })
         }
         Input::Derivation(check) => checks::timed(rng, check).map(|(answer, took)| Taken { answer, took }),
+        Input::Release(call) => {
+            let (left, took) = releases::timed(rng, call)?;
+            releases::expect(&left, &releases::independent(call), "the independent program")?;
+            Ok(Taken { answer: left.counted(), took })
+        }
     }
 }
 
@@ -153,6 +158,8 @@ pub fn write(deepest: &str, folder: &str, budget: u32, count: u64) -> Result<Str
     inputs.extend((0..count).map(|index| Input::Walk(generated::call(1, index))));
     inputs.extend((0..count).map(|index| Input::Derivation(derivations::call(1, index))));
     inputs.extend((0..count).map(|index| Input::Derivation(whether::call(1, index))));
+    // The programs for which files are written take requests and derivations.
+    inputs.retain(|input| !matches!(input, Input::Release(_)));
     let save = |name: String, bytes: &[u8]| fs::write(format!("{folder}/{name}"), bytes).map_err(|error| format!("{folder}/{name}: {error}"));
     let (mut walks, mut plain, mut closing) = (Written::default(), Written::default(), Written::default());
     for (index, input) in inputs.iter_mut().enumerate() {
@@ -172,6 +179,7 @@ pub fn write(deepest: &str, folder: &str, budget: u32, count: u64) -> Result<Str
                 };
                 written.add(&format!("{folder}/{index}.request {folder}/{index}.derivation"), checks::independent(check));
             }
+            Input::Release(_) => unreachable!("no release file is written"),
         }
     }
     for (name, written) in [("walks", walks), ("checks", plain), ("whether", closing)] {

@@ -1,37 +1,57 @@
-//! Bytes that are lent, with others around them that nobody may change.
+//! Bytes or numbers that are lent, with others around them that nobody may change.
 
 use oracle::rng::Rng;
 
-/// Bytes on each side at least.
+/// Bytes, or numbers, on each side at least.
 const FENCE: usize = 64;
 
-/// Lent bytes somewhere within others.
+/// What can be lent.
+pub trait Lent: Copy + Default + PartialEq {
+    /// Writes any of its kind over all of these.
+    fn fill(rng: &mut Rng, all: &mut [Self]);
+}
+
+impl Lent for u8 {
+    fn fill(rng: &mut Rng, all: &mut [u8]) {
+        for part in all.chunks_mut(8) {
+            part.copy_from_slice(&rng.bits().to_le_bytes()[..part.len()]);
+        }
+    }
+}
+
+impl Lent for u32 {
+    fn fill(rng: &mut Rng, all: &mut [u32]) {
+        for number in all {
+            *number = rng.bits() as u32;
+        }
+    }
+}
+
+/// Lent bytes, or numbers, somewhere within others.
 #[derive(Clone, PartialEq, Eq)]
-pub struct Fenced {
-    bytes: Vec<u8>,
+pub struct Fenced<T = u8> {
+    all: Vec<T>,
     from: usize,
     length: usize,
 }
 
-impl Fenced {
-    /// With any bytes around them, and at any address.
-    pub fn new(rng: &mut Rng, lent: &[u8]) -> Fenced {
+impl<T: Lent> Fenced<T> {
+    /// With any others around them, and at any address.
+    pub fn new(rng: &mut Rng, lent: &[T]) -> Fenced<T> {
         let from = FENCE + rng.below(16);
-        let mut bytes = vec![0; from + lent.len() + FENCE];
-        for part in bytes.chunks_mut(8) {
-            part.copy_from_slice(&rng.bits().to_le_bytes()[..part.len()]);
-        }
-        let mut fenced = Fenced { bytes, from, length: lent.len() };
+        let mut all = vec![T::default(); from + lent.len() + FENCE];
+        T::fill(rng, &mut all);
+        let mut fenced = Fenced { all, from, length: lent.len() };
         fenced.lent().copy_from_slice(lent);
         fenced
     }
 
-    pub fn lent(&mut self) -> &mut [u8] {
-        &mut self.bytes[self.from..self.from + self.length]
+    pub fn lent(&mut self) -> &mut [T] {
+        &mut self.all[self.from..self.from + self.length]
     }
 
-    /// The same fence around other bytes.
-    pub fn with(&self, lent: &[u8]) -> Fenced {
+    /// The same fence around others.
+    pub fn with(&self, lent: &[T]) -> Fenced<T> {
         let mut other = self.clone();
         other.lent().copy_from_slice(lent);
         other

@@ -11,7 +11,8 @@ use crate::calls::Call;
 use crate::checks::Check;
 use crate::deepest;
 use crate::largest::{self, line};
-use crate::whether_hostile;
+use crate::releases::Release;
+use crate::{release_hostile, whether_hostile};
 
 /// The stream of random numbers of the bytes that have no meaning.
 const BYTES: u64 = 10;
@@ -29,6 +30,7 @@ pub const SECTION: usize = 255;
 pub enum Input {
     Walk(Call),
     Derivation(Check),
+    Release(Release),
 }
 
 /// What it is, and the call.
@@ -44,7 +46,9 @@ fn check(name: &str, request: &Request, derivation: Vec<u8>) -> Named {
 
 /// Every input by name, with the deepest walks of a folder; the one whose walk takes minutes is apart.
 pub fn named(folder: &str) -> Result<Vec<Named>, String> {
-    let mut inputs: Vec<Named> = deepest::requests(folder)?.into_iter().map(|(name, call)| (name, Input::Walk(call))).collect();
+    let deepest = deepest::requests(folder)?;
+    let releases = deepest.iter().map(|(name, call)| (name.clone(), call.request.clone(), call.budget)).collect::<Vec<_>>();
+    let mut inputs: Vec<Named> = deepest.into_iter().map(|(name, call)| (name, Input::Walk(call))).collect();
     inputs.extend(sensed_at_once(&BUDGETS));
     inputs.extend(largest_request());
     inputs.extend(effects_of_one_action());
@@ -55,6 +59,7 @@ pub fn named(folder: &str) -> Result<Vec<Named>, String> {
     inputs.extend(slow_lines());
     inputs.extend(all_alike());
     inputs.extend(whether_hostile::named());
+    inputs.extend(release_hostile::named(&releases));
     Ok(inputs)
 }
 
@@ -63,7 +68,7 @@ pub fn longest() -> Vec<Named> {
     sensed_at_once(&[LARGEST_BUDGET])
 }
 
-/// Any bytes, as a request and as a derivation in either layout; those of every other three start as their input may.
+/// Any bytes, as a request, as a derivation in either layout and as a release file; those of every other four start as their input may.
 pub fn random(seed: u64, count: u64) -> Vec<Named> {
     let mut inputs = Vec::new();
     for index in 0..count {
@@ -83,6 +88,8 @@ pub fn random(seed: u64, count: u64) -> Vec<Named> {
         inputs.push(walk(&format!("random request {index}"), request, FEW));
         inputs.push(check(&format!("random derivation {index}"), &wide(), derivation));
         inputs.push(whether_hostile::check(&format!("random derivation {index}"), &wide(), closing));
+        let plans = [release_hostile::table(&wide()), bytes(rng, REQUEST_LIMIT / 2, [64, 0])].concat();
+        inputs.push(release_hostile::release(&format!("random plans {index}"), plans, FEW));
     }
     inputs
 }

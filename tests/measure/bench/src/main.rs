@@ -1,4 +1,5 @@
-//! The exported calls timed beside two walks in Rust, on the same requests within one run; and the two walks against the independent program.
+//! The exported calls timed beside two walks in Rust, on the same requests within one run; the release call timed beside walk calls; and the two
+//! walks against the independent program.
 
 mod answers;
 mod best;
@@ -19,6 +20,7 @@ mod fence;
 mod generated;
 mod plain;
 mod programs;
+mod releases;
 mod walks;
 mod whether;
 #[path = "../../../gate/compare/src/words.rs"]
@@ -31,7 +33,7 @@ use words::{number, obey, Failure};
 /// Enough for the deepest walks of the plain program, which has a copy of the state in each call of itself.
 const STACK: usize = 256 << 20;
 
-const HELP: &str = "usage: bench check SEED COUNT | bench walks SEED ROUNDS COUNT | bench derivations SEED ROUNDS | \
+const HELP: &str = "usage: bench check SEED COUNT | bench walks SEED ROUNDS COUNT | bench derivations SEED ROUNDS | bench releases SEED ROUNDS | \
      bench only PROGRAM CLASS whole|reading COUNT PASSES";
 
 fn main() -> ExitCode {
@@ -40,6 +42,7 @@ fn main() -> ExitCode {
             ["check", seed, count] => check::check(number(seed)?, number(count)?),
             ["walks", seed, rounds, count] => walks::time(number(seed)?, number(rounds)?, number(count)?),
             ["derivations", seed, rounds] => derivations::time(number(seed)?, number(rounds)?),
+            ["releases", seed, rounds] => releases::time(number(seed)?, number(rounds)?),
             ["only", program, class, part, count, passes] => walks::only(program, class, part, number(count)?, number(passes)?),
             _ => return Err(Failure::Usage(HELP.to_string())),
         };

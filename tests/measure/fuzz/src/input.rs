@@ -7,15 +7,19 @@ use crate::calls::Call;
 use crate::checks::{Check, Layout};
 use crate::derivations::any_check;
 use crate::generated::any_call;
-use crate::{cases, whether, whether_cases};
+use crate::releases::{self, Release};
+use crate::{cases, release_cases, whether, whether_cases};
 
 /// A derivation call where this bit is set; the number is the length of the request, and the derivation follows it.
 const DERIVATION: u8 = 1;
 /// Instead of a derivation call: a whether call.
 const CLOSING: u8 = 8;
-/// In a walk call: a budget of up to 16,383 instead of 255.
+/// A release call, and a plans call, where this bit is set and that of a derivation call is not. The row has four numbers for each plan, or those of
+/// one plan where the file has none.
+const RELEASE: u8 = 64;
+/// In a walk call or a release call: a budget of up to 16,383 instead of 255.
 const FAR: u8 = 2;
-/// The lent state has the number modulo `LENGTHS` as its length where these are all set, and its own otherwise.
+/// The lent state, or the row, has the number modulo `LENGTHS` as its length where these are all set, and its own otherwise.
 const ODD_LENGTH: u8 = 7 << 2;
 const LENGTHS: usize = 2 * STATE_LENGTH + 2;
 /// The longest input.
@@ -24,11 +28,13 @@ pub const LONGEST: usize = 4_096;
 const CALLS: u64 = 3;
 const CHECKS: u64 = 7;
 const WHETHER: u64 = 13;
+const RELEASES: u64 = 17;
 
 /// A call to be made both ways.
 pub enum Given {
     Walk(Call),
     Derivation(Check),
+    Release(Release),
 }
 
 /// The call that an input stands for; each input stands for one.
@@ -45,8 +51,13 @@ pub fn given(input: &[u8]) -> Given {
             _ => Check::closing(request, derivation),
         });
     }
-    let length = if kind & ODD_LENGTH == ODD_LENGTH { usize::from(number) % LENGTHS } else { STATE_LENGTH };
+    let odd = (kind & ODD_LENGTH == ODD_LENGTH).then_some(usize::from(number) % LENGTHS);
     let budget = if kind & FAR != 0 { number / 4 } else { number % 256 };
+    if kind & RELEASE != 0 {
+        let length = odd.unwrap_or_else(|| 4 * oracle::plans(rest).max(1) as usize);
+        return Given::Release(Release { file: rest.to_vec(), lent: vec![9; length], budget: budget.into() });
+    }
+    let length = odd.unwrap_or(STATE_LENGTH);
     Given::Walk(Call { request: rest.to_vec(), lent: vec![9; length], budget: budget.into() })
 }
 
@@ -58,6 +69,17 @@ fn of_call(call: &Call) -> Vec<u8> {
         (length, _) => (ODD_LENGTH, (length % LENGTHS) as u16),
     };
     [&[kind][..], &number.to_be_bytes(), &call.request].concat()
+}
+
+/// An input for a release call, in the same way.
+fn of_release(call: &Release) -> Vec<u8> {
+    let right = call.lent.len() == 4 * oracle::plans(&call.file) as usize;
+    let (kind, number) = match call.budget {
+        _ if !right => (ODD_LENGTH, (call.lent.len() % LENGTHS) as u16),
+        0..=255 => (0, call.budget as u16),
+        _ => (FAR, call.budget.min(16_383) as u16 * 4),
+    };
+    [&[RELEASE | kind][..], &number.to_be_bytes(), &call.file].concat()
 }
 
 fn of_check(check: &Check) -> Vec<u8> {
@@ -76,5 +98,7 @@ pub fn seeds(seed: u64, count: u64) -> Vec<Vec<u8>> {
     let closing = (0..count).map(|index| whether::any_check(&mut Rng::new(seed, WHETHER, index)));
     let walks = cases::calls().into_iter().chain(walks).map(|call| of_call(&call));
     let derivations = cases::checks().into_iter().chain(derivations).chain(whether_cases::checks()).chain(closing);
-    walks.chain(derivations.map(|check| of_check(&check))).filter(|input| input.len() <= LONGEST).collect()
+    let releases = (0..count).map(|index| releases::any_call(&mut Rng::new(seed, RELEASES, index)));
+    let releases = release_cases::calls().into_iter().chain(releases).map(|call| of_release(&call));
+    walks.chain(derivations.map(|check| of_check(&check))).chain(releases).filter(|input| input.len() <= LONGEST).collect()
 }

@@ -22,6 +22,12 @@ mod fence;
 #[path = "../../../gate/compare/src/generated.rs"]
 mod generated;
 pub mod input;
+#[allow(dead_code)]
+#[path = "../../../gate/compare/src/release_cases.rs"]
+mod release_cases;
+#[allow(dead_code)]
+#[path = "../../../gate/compare/src/releases.rs"]
+mod releases;
 #[path = "../../../gate/compare/src/spoiled.rs"]
 mod spoiled;
 #[allow(dead_code)]
@@ -37,12 +43,13 @@ use oracle::rng::Rng;
 /// The stream of random numbers of what stands around the inputs.
 const FENCES: u64 = 11;
 
-/// Number, input, place and count that both programs give; or how they differ.
+/// Number, input, place and count that both programs give, of a release file with a sum over its row for a count; or how they differ.
 pub fn agreed(bytes: &[u8]) -> Result<[u64; 4], String> {
     let mut rng = Rng::new(1, FENCES, bytes.len() as u64);
     match given(bytes) {
         Given::Walk(call) => calls::agreed(&mut rng, &call).map(|left| left.answer).map_err(|why| format!("{why}; {call}")),
         Given::Derivation(check) => checks::agreed(&mut rng, &check).map_err(|why| format!("{why}; {check}")),
+        Given::Release(call) => releases::agreed(&mut rng, &call).map(|left| left.summed()).map_err(|why| format!("{why}; {call}")),
     }
 }
 

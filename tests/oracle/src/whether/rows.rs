@@ -10,14 +10,13 @@
 
 use crate::answer::{DERIVATION, NEITHER, REQUEST};
 use crate::calls::CheckCall;
-use crate::edges::{of_proof, Edge, OF_CHECKING};
-use crate::generate::{drawn, filled};
+use crate::edges::{of_proof, OF_CHECKING};
 use crate::model::{Proof, Request};
 use crate::reader::{read_proof, DERIVATION_LIMIT, LIST_LIMIT};
 use crate::rng::Rng;
 use crate::rows::{
-    is_small, rounds, small_shape, spread_shape, tell_bytes, unasked, Wanted, BYTES,
-    DERIVATION_BYTES, LONG_BYTES, MORE_DERIVATION_BYTES,
+    edge_call, rounds, small_shape, tell_bytes, Wanted, BYTES, DERIVATION_BYTES, LONG_BYTES,
+    MORE_DERIVATION_BYTES,
 };
 use crate::whether::calls::{any_whether_call, damage_call, provable, sound_call};
 use crate::whether::prove::natural_proof;
@@ -70,7 +69,17 @@ pub fn whether_rows(seed: u64, count: u64) -> impl Iterator<Item = String> {
 /// A row as wanted.
 fn row(rng: &mut Rng, wanted: Wanted<(u8, u8)>) -> String {
     let call = match wanted {
-        Wanted::Shows(edge) => edge_call(rng, edge),
+        Wanted::Shows(edge) => edge_call(
+            rng,
+            edge,
+            provable,
+            natural_proof,
+            any_whether_call,
+            |call| {
+                let answer = check_whether(&call.request, &call.derivation);
+                of_proof(&call.request, &call.derivation, answer)
+            },
+        ),
         Wanted::Answered((10, _)) => {
             let mut call = small_call(rng, (11, DERIVATION), DERIVATION_BYTES);
             call.derivation = vec![rng.byte(0, LIST_LIMIT as u8); DERIVATION_LIMIT + 1];
@@ -92,31 +101,6 @@ fn row(rng: &mut Rng, wanted: Wanted<(u8, u8)>) -> String {
         tell_bytes(&call.request),
         tell_bytes(&call.derivation)
     )
-}
-
-/// A call that shows an edge, with small inputs unless their lists are full.
-fn edge_call(rng: &mut Rng, edge: Edge) -> CheckCall {
-    loop {
-        let shape = spread_shape(rng);
-        let full = matches!(edge, Edge::Full(_));
-        let (draft, proof) = match full {
-            false => provable(rng, &shape),
-            true => {
-                let draft = drawn(rng, &shape);
-                let draft = unasked(filled(rng, &draft));
-                let Some(proof) = natural_proof(&draft) else {
-                    continue;
-                };
-                (draft, proof)
-            }
-        };
-        let call = any_whether_call(rng, &draft, &proof);
-        let answer = check_whether(&call.request, &call.derivation);
-        let shown = of_proof(&call.request, &call.derivation, answer);
-        if is_small(&call, full) && shown.contains(&edge) {
-            return call;
-        }
-    }
 }
 
 /// A call that may get the answer wanted.

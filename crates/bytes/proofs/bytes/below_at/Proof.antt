@@ -7,27 +7,27 @@ use Rattle.bytes.proofs.bytes.below_at.Reads as reads
 use Rattle.bytes.proofs.bytes.below_at.Lts as lts
 use Rattle.bytes.proofs.bytes.byte_at.Reads as byte-at-reads
 
--- src/bytes.rt:61:11
+-- src/bytes.rt:72:11
 byte-at-requires : tie.Need-byte-at-requires
 byte-at-requires c κs = search needs
 
--- src/bytes.rt:62:21
+-- src/bytes.rt:73:21
 enum-known-x : tie.Need-enum-known-x
 enum-known-x c = search needs
 
--- src/bytes.rt:64:17
+-- src/bytes.rt:75:17
 returns : tie.Need-returns
 returns c = search below-large
 
--- src/bytes.rt:68:21
+-- src/bytes.rt:79:21
 enum-known-k : tie.Need-enum-known-k
 enum-known-k c = search needs
 
--- src/bytes.rt:58:1
+-- src/bytes.rt:69:1
 returns-2 : tie.Need-returns-2
 returns-2 c = search below-good
 
--- src/bytes.rt:58:1
+-- src/bytes.rt:69:1
 returns-3 : tie.Need-returns-3
 returns-3 c = search below-fault
 

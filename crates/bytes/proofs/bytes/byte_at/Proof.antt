@@ -7,23 +7,23 @@ use Rattle.bytes.proofs.bytes.byte_at.Reads as reads
 use Rattle.bytes.proofs.bytes.byte_at.Lts as lts
 use Rattle.bytes.proofs.bytes.wide.Reads as wide-reads
 
--- src/bytes.rt:22:9
+-- src/bytes.rt:23:9
 returns : tie.Need-returns
 returns c = search byte-missing
 
--- src/bytes.rt:24:17
+-- src/bytes.rt:25:17
 add-after : tie.Need-add-after
 add-after c = search needs
 
--- src/bytes.rt:25:22
+-- src/bytes.rt:26:22
 shared-slice-read-wide : tie.Need-shared-slice-read-wide
 shared-slice-read-wide c = search needs
 
--- src/bytes.rt:25:17
+-- src/bytes.rt:26:17
 wide-requires : tie.Need-wide-requires
 wide-requires c κs = search needs
 
--- src/bytes.rt:18:1
+-- src/bytes.rt:19:1
 returns-2 : tie.Need-returns-2
 returns-2 c = search byte-there
 

@@ -7,31 +7,31 @@ use Rattle.bytes.proofs.bytes.count_at.Reads as reads
 use Rattle.bytes.proofs.bytes.count_at.Lts as lts
 use Rattle.bytes.proofs.bytes.byte_at.Reads as byte-at-reads
 
--- src/bytes.rt:43:11
+-- src/bytes.rt:54:11
 byte-at-requires : tie.Need-byte-at-requires
 byte-at-requires c κs = search needs
 
--- src/bytes.rt:44:21
+-- src/bytes.rt:55:21
 enum-known-c : tie.Need-enum-known-c
 enum-known-c c = search needs
 
--- src/bytes.rt:46:17
+-- src/bytes.rt:57:17
 returns : tie.Need-returns
 returns c = search count-low
 
--- src/bytes.rt:49:17
+-- src/bytes.rt:60:17
 returns-2 : tie.Need-returns-2
 returns-2 c = search count-high
 
--- src/bytes.rt:53:21
+-- src/bytes.rt:64:21
 enum-known-k : tie.Need-enum-known-k
 enum-known-k c = search needs
 
--- src/bytes.rt:40:1
+-- src/bytes.rt:51:1
 returns-3 : tie.Need-returns-3
 returns-3 c = search count-within
 
--- src/bytes.rt:40:1
+-- src/bytes.rt:51:1
 returns-4 : tie.Need-returns-4
 returns-4 c = search count-fault
 

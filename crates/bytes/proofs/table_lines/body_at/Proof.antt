@@ -7,11 +7,11 @@ use Rattle.bytes.proofs.table_lines.body_at.Reads as reads
 use Rattle.bytes.proofs.table_lines.body_at.Lts as lts
 use Rattle.bytes.proofs.lists.list_at.Reads as list-at-reads
 
--- src/table_lines.rt:17:5
+-- src/table_lines.rt:18:5
 list-at-requires : tie.Need-list-at-requires
 list-at-requires c κs = search needs
 
--- src/table_lines.rt:13:1
+-- src/table_lines.rt:14:1
 returns : tie.Need-returns
 returns c = search body-list
 

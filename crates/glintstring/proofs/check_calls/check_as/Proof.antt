@@ -1,6 +1,7 @@
 -- The request is settled first, as the definition has it, and then it is at hand.
 use Rattle.glintstring.proofs.CheckCallLaws.{check-settled-first, check-then}
-use Rattle.glintstring.proofs.SettledAtHand.{blank-is, settled-at-hand}
+use Rattle.glintstring.proofs.SettledAtHand.{settled-at-hand}
+use Rattle.verdicts.proofs.ReleasingLaws.{blank-is}
 use borrow.Author.Needs.{needs}
 use Rattle.glintstring.proofs.check_calls.check_as.Statement.{statement}
 use Rattle.glintstring.proofs.check_calls.check_as.Tie as tie

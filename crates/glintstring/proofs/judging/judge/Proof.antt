@@ -2,7 +2,8 @@
 use borrow.Author.Needs.{needs}
 use Rattle.glintstring.proofs.JudgingLaws.{judge-9, judge-walked, judge-refused}
 use Rattle.glintstring.proofs.MissingLaws.{line-9, line-walked, line-refused}
-use Rattle.glintstring.proofs.SettledAtHand.{blank-is, settled-at-hand}
+use Rattle.glintstring.proofs.SettledAtHand.{settled-at-hand}
+use Rattle.verdicts.proofs.ReleasingLaws.{blank-is}
 use Rattle.glintstring.proofs.judging.judge.Statement.{statement}
 use Rattle.glintstring.proofs.judging.judge.Tie as tie
 use Rattle.glintstring.proofs.judging.judge.Reads as reads

@@ -5,7 +5,7 @@ use Rattle.glintstring.proofs.judging.walk_with_line.Statement.{stateme
 use Rattle.glintstring.proofs.judging.walk_with_line.Tie as tie
 use Rattle.glintstring.proofs.judging.walk_with_line.Reads as reads
 use Rattle.glintstring.proofs.judging.walk_with_line.Lts as lts
-use Rattle.glintstring.proofs.judging.walk_plan.Reads as walk-plan-reads
+use Rattle.verdicts.proofs.walked.walk_plan.Reads as walk-plan-reads
 use Rattle.glintstring.proofs.missing.line_at.Reads as line-at-reads
 
 -- src/judging.rt:52:9

@@ -6,7 +6,7 @@ use Rattle.refusing.proofs.settled.settle.Tie as tie
 use Rattle.refusing.proofs.settled.settle.Reads as reads
 use Rattle.refusing.proofs.settled.settle.Lts as lts
 use Rattle.reader.proofs.whole.read_request.Reads as read-request-reads
-use Rattle.refusing.proofs.settled.refused_from_16.Reads as refused-from-16-reads
+use Rattle.refusing.proofs.settled.refused.Reads as refused-reads
 
 -- src/settled.rt:63:11
 read-request-requires : tie.Need-read-request-requires
@@ -17,8 +17,8 @@ enum-known-e : tie.Need-enum-known-e
 enum-known-e c = search needs
 
 -- src/settled.rt:64:26
-refused-from-16-requires : tie.Need-refused-from-16-requires
-refused-from-16-requires c κs = search settle-here
+refused-requires : tie.Need-refused-requires
+refused-requires c κs = search settle-here
 
 -- src/settled.rt:65:23
 enum-known-k : tie.Need-enum-known-k
@@ -38,7 +38,7 @@ settle-spec =
     (tie.spec
     read-request-requires
     enum-known-e
-    refused-from-16-requires
+    refused-requires
     enum-known-k
     returns
     returns-2)

@@ -8,39 +8,39 @@ use Rattle.review.proofs.answering.judge_file.Lts as lts
 use Rattle.review.proofs.answering.judge_request.Reads as judge-request-reads
 use Rattle.review.proofs.answering.read_named.Reads as read-named-reads
 
--- src/answering.rt:87:28
+-- src/answering.rt:100:28
 slice-aggregate-read-named : tie.Need-slice-aggregate-read-named
 slice-aggregate-read-named c = search needs
 
--- src/answering.rt:87:11
+-- src/answering.rt:100:11
 read-named-requires : tie.Need-read-named-requires
 read-named-requires c κs = search needs
 
--- src/answering.rt:88:22
+-- src/answering.rt:101:22
 enum-known-n : tie.Need-enum-known-n
 enum-known-n c = search needs
 
--- src/answering.rt:88:48
+-- src/answering.rt:101:48
 array-share-prefix-bytes : tie.Need-array-share-prefix-bytes
 array-share-prefix-bytes c = search read-within
 
--- src/answering.rt:88:48
+-- src/answering.rt:101:48
 slice-aggregate-judge-request : tie.Need-slice-aggregate-judge-request
 slice-aggregate-judge-request c = search read-counted
 
--- src/answering.rt:88:28
+-- src/answering.rt:101:28
 judge-request-requires : tie.Need-judge-request-requires
 judge-request-requires c κs = search needs
 
--- src/answering.rt:89:30
+-- src/answering.rt:102:30
 enum-told : tie.Need-enum-told
 enum-told c = search needs
 
--- src/answering.rt:84:1
+-- src/answering.rt:97:1
 returns : tie.Need-returns
 returns c = search needs
 
--- src/answering.rt:84:1
+-- src/answering.rt:97:1
 returns-2 : tie.Need-returns-2
 returns-2 c = search needs
 

@@ -10,59 +10,59 @@ use Rattle.programs.proofs.read_all.Reads as read-all-reads
 use Rattle.programs.proofs.read_file.Reads as read-file-reads
 use Rattle.review.proofs.answering.is_standard_input.Reads as is-standard-input-reads
 
--- src/answering.rt:47:9
+-- src/answering.rt:48:9
 is-standard-input-requires : tie.Need-is-standard-input-requires
 is-standard-input-requires c κs = search needs
 
--- src/answering.rt:48:26
+-- src/answering.rt:49:26
 slice-aggregate-read-file : tie.Need-slice-aggregate-read-file
 slice-aggregate-read-file c = search needs
 
--- src/answering.rt:48:9
+-- src/answering.rt:49:9
 read-file-requires : tie.Need-read-file-requires
 read-file-requires c κs = search needs
 
--- src/answering.rt:48:9
+-- src/answering.rt:49:9
 same-length : tie.Need-same-length
 same-length c = search needs
 
--- src/answering.rt:48:9
+-- src/answering.rt:49:9
 returns : tie.Need-returns
 returns c = search needs
 
--- src/answering.rt:50:11
+-- src/answering.rt:51:11
 read-all-requires : tie.Need-read-all-requires
 read-all-requires c κs = search needs
 
--- src/answering.rt:51:22
+-- src/answering.rt:52:22
 enum-known-n : tie.Need-enum-known-n
 enum-known-n c = search needs
 
--- src/answering.rt:53:22
+-- src/answering.rt:54:22
 enum-told : tie.Need-enum-told
 enum-told c = search needs
 
--- src/answering.rt:53:22
+-- src/answering.rt:54:22
 slice-aggregate-fail : tie.Need-slice-aggregate-fail
 slice-aggregate-fail c = search needs
 
--- src/answering.rt:53:13
+-- src/answering.rt:54:13
 fail-requires : tie.Need-fail-requires
 fail-requires c κs = search needs
 
--- src/answering.rt:44:1
+-- src/answering.rt:45:1
 same-length-2 : tie.Need-same-length-2
 same-length-2 c = search needs
 
--- src/answering.rt:44:1
+-- src/answering.rt:45:1
 returns-2 : tie.Need-returns-2
 returns-2 c = search bytes-within
 
--- src/answering.rt:44:1
+-- src/answering.rt:45:1
 same-length-3 : tie.Need-same-length-3
 same-length-3 c = search needs
 
--- src/answering.rt:44:1
+-- src/answering.rt:45:1
 returns-3 : tie.Need-returns-3
 returns-3 c = search needs
 

@@ -1,0 +1,20 @@
+// Answers that are no refusal of a request, and the input that a place is in, named once as in the definitions' Limits (FORMAT 4.3 to 4.7, 4.26).
+pub const VERIFIED: u8 = 0;
+
+pub const GOAL_MISSED: u8 = 1;
+
+pub const NOT_EXECUTABLE: u8 = 2;
+
+pub const BUDGET_SPENT: u8 = 3;
+
+pub const STATE_LENGTH: u8 = 9;
+
+pub const NOT_REACHED: u8 = 22;
+
+pub const NEITHER_INPUT: u8 = 0;
+
+pub const THE_REQUEST: u8 = 1;
+
+pub const THE_DERIVATION: u8 = 2;
+
+pub const WHETHER_ASKED: u8 = 30;

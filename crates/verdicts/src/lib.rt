@@ -1,0 +1,5 @@
+// What is answered of a plan, and of the plans of a release.
+pub mod answers; // the numbers
+pub mod telling; // what a walk's tally says
+pub mod walked; // the walk of a request at hand, told
+pub mod releasing; // the release call
