@@ -70,4 +70,6 @@ pub mod WiderCases
 pub mod ReleaseLaws
 pub mod ReleaseRows
 pub mod NotEmpty
+pub mod JoinLaws
+pub mod MoreKnown
 pub mod Demands
