@@ -72,4 +72,5 @@ pub mod ReleaseRows
 pub mod NotEmpty
 pub mod JoinLaws
 pub mod MoreKnown
+pub mod PartReads
 pub mod Demands

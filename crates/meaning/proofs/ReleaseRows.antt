@@ -115,11 +115,11 @@ module _ {A B : Type 0} where
   unfolding next
   next-fault m k n i e = ap (λ (y : Got A). next y k) e
 
-refuse-none : {A : Type 0} (n : ℕ) (f : Found) (k : Unit {0} → Got A) → f ≡ nowhere → refuse n f k ≡ k tt
+pub refuse-none : {A : Type 0} (n : ℕ) (f : Found) (k : Unit {0} → Got A) → f ≡ nowhere → refuse n f k ≡ k tt
 unfolding refuse
 refuse-none n f k e = ap (λ (g : Found). refuse n g k) e
 
-request-table : (lim : Limits) (s : List ℕ) (t : Table) (p : ℕ) → On (request-at lim s t p) (λ r e. r .table ≡ t)
+pub request-table : (lim : Limits) (s : List ℕ) (t : Table) (p : ℕ) → On (request-at lim s t p) (λ r e. r .table ≡ t)
 unfolding request-at
 request-table lim s t p =
     next-on {P = λ _ _. Unit {0}} (plan-at lim (t .fluents) (t .actions) s p) _ (record { holds = λ _ _ _. tt }) λ plan q _.
