@@ -26,6 +26,7 @@ pub mod KeptEnds
 pub mod PlaceLaws
 pub mod PartLaws
 pub mod AnswerLaws
+pub mod VerifiedLaws
 pub mod PathLaws
 pub mod RangeLaws
 pub mod Meeting
