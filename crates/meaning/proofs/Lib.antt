@@ -74,4 +74,6 @@ pub mod NotEmpty
 pub mod JoinLaws
 pub mod MoreKnown
 pub mod PartReads
+pub mod PartsAlike
+pub mod MoreFacts
 pub mod Demands

@@ -37,7 +37,7 @@ module _ {S : Type 0} where
   No-worse v w = w .end ≡ fine → (v .end ≡ fine) × (v .count ≤ w .count)
 
   -- What ends fine has missed nothing, and nothing stopped it.
-  abbrev Fine : End S → Type 0
+  abbrev pub Fine : End S → Type 0
   Fine fine = Unit {0}
   Fine (missed p s) = ⊥
   Fine (stopped n p u) = ⊥
@@ -75,7 +75,7 @@ known-pair s u more = record { T = λ f. more (says-true f); F = λ f. more (say
 pair-known : (s u : State) → pair-of s ≼ pair-of u → (l : ℕ) → known s l ≡ true → known u l ≡ true
 pair-known s u more l e = sym (true-in-pair u l) ∙ true-grows more l (true-in-pair s l ∙ e)
 
-whether-more : (s u : State) → ((l : ℕ) → known s l ≡ true → known u l ≡ true) → (f : ℕ) → known-whether s f ≡ true → known-whether u f ≡ true
+pub whether-more : (s u : State) → ((l : ℕ) → known s l ≡ true → known u l ≡ true) → (f : ℕ) → known-whether s f ≡ true → known-whether u f ≡ true
 unfolding known-whether
 whether-more s u more f e = ⊎-elim (λ k. either-left _ _ (more _ k)) (λ k. either-right _ _ (more _ k)) (either-split _ _ e)
 
