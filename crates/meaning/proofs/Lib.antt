@@ -76,4 +76,7 @@ pub mod MoreKnown
 pub mod PartReads
 pub mod PartsAlike
 pub mod MoreFacts
+pub mod ListReads
+pub mod CutReads
+pub mod FewerGoals
 pub mod Demands

@@ -18,7 +18,7 @@ use Rattle.meaning.proofs.ShiftedReads.{moved-plan, moved-entry, moved-
 use Rattle.meaning.proofs.ReleaseRows.{request-table}
 
 -- BYTES AMONG OTHERS.
-stands-length : (s : List ℕ) (p : ℕ) (xs : List ℕ) (e : ℕ) → Stands s p xs e → e ≡ p + length xs
+pub stands-length : (s : List ℕ) (p : ℕ) (xs : List ℕ) (e : ℕ) → Stands s p xs e → e ≡ p + length xs
 stands-length s p [] e st = omega (arith, st)
 stands-length s p (x ∷ xs) e st = let more = stands-length s (p + 1) xs e (st .2) in omega (arith, more)
 
@@ -215,10 +215,10 @@ module _ (lim : Limits) (x : Parts) where
   on = length (head-of x)
 
   -- The table.
-  abbrev Table-so : Table → ℕ → Type 0
+  abbrev pub Table-so : Table → ℕ → Type 0
   Table-so t p = (l : Table) × (q : ℕ) × (lines-at lim (x .fluents) (x .actions) (tail-of x) 0 ≡ got l q) × (t ≡ knowing (x .facts) (moved-table on l)) × (p ≡ q + on)
 
-  table-so : (t : Table) (p : ℕ) → table-at lim s 0 ≡ got t p → Table-so t p
+  pub table-so : (t : Table) (p : ℕ) → table-at lim s 0 ≡ got t p → Table-so t p
   unfolding table-at
   table-so t p read =
       after-got (count-at 1 (lim .fluents) s 0) _ read λ n p₁ en e₁.

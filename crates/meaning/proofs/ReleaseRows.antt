@@ -34,7 +34,7 @@ use Rattle.meaning.proofs.AnswerLaws.{every-answer-numbered}
 use Rattle.meaning.proofs.ReleaseLaws.{judged, opened, rows-at, answers-length}
 
 -- What was read, and is not refused by 18.
-abbrev past-overlap : Got Request → Got Request
+abbrev pub past-overlap : Got Request → Got Request
 past-overlap x = next x λ r e. refuse Limits.not-exclusive (overlap-in (r .plan)) λ _. got r e
 
 -- THE ANSWER of a settled request, moved.
@@ -128,7 +128,7 @@ request-table lim s t p =
     got-on _ _ refl
 
 module _ (lim : Limits) (t : Table) (end : ℕ) (clean : contradiction-in t ≡ nowhere) (unmixed : mixed-in (t .effects) (t .knowledge) ≡ nowhere) where
-  settled-behind : (u : List ℕ) → length u ≤ lim .request → table-at lim u 0 ≡ got t end → (h : Got Request) → request-at lim u t end ≡ h
+  pub settled-behind : (u : List ℕ) → length u ≤ lim .request → table-at lim u 0 ≡ got t end → (h : Got Request) → request-at lim u t end ≡ h
       → ((r : Request) (e : ℕ) → h ≡ got r e → length u ≤ e) → settled lim u ≡ past-overlap h
   unfolding settled read-request next
   settled-behind u short table (got r e) read ends =
