@@ -79,4 +79,6 @@ pub mod MoreFacts
 pub mod ListReads
 pub mod CutReads
 pub mod FewerGoals
+pub mod JoinedWalk
+pub mod LaterItems
 pub mod Demands
