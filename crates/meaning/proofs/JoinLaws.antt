@@ -22,7 +22,7 @@ pub items-joined : (p q : List ℕ) → items-said (join-plans p q) ≡ items-sa
 unfolding items-said join-plans number-written
 items-joined p q = omega arith
 
-behind-count : (p q : List ℕ) → drop 2 (join-plans p q) ≡ drop 2 p ++ drop 2 q
+pub behind-count : (p q : List ℕ) → drop 2 (join-plans p q) ≡ drop 2 p ++ drop 2 q
 unfolding join-plans number-written
 behind-count p q = refl
 

@@ -81,4 +81,5 @@ pub mod CutReads
 pub mod FewerGoals
 pub mod JoinedWalk
 pub mod LaterItems
+pub mod JoinedReads
 pub mod Demands
