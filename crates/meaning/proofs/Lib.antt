@@ -82,4 +82,5 @@ pub mod FewerGoals
 pub mod JoinedWalk
 pub mod LaterItems
 pub mod JoinedReads
+pub mod JoinedPlans
 pub mod Demands

@@ -89,7 +89,7 @@ module _ {S : Type 0} where
   each-path k (x ∷ xs) = and-then (path-walk k (x .ran) (x .ending)) (λ _. each-path k xs)
 
   -- A list with at least one path.
-  abbrev Inhabited : List (Path S) → Type 0
+  abbrev pub Inhabited : List (Path S) → Type 0
   Inhabited [] = ⊥
   Inhabited (x ∷ xs) = Unit {0}
 
@@ -170,7 +170,7 @@ module _ {S L : Type 0} (step : Steps S L) where
   mutual
     unfolding paths
 
-    paths-inhabited : (p : Sequence L) (s : S) → Inhabited (paths step p s)
+    pub paths-inhabited : (p : Sequence L) (s : S) → Inhabited (paths step p s)
     paths-inhabited done s = tt
     paths-inhabited (item i rest) s = gone-on-inhabited (paths step rest) (paths-inhabited rest) (paths-item step i s) (item-inhabited i s)
 
