@@ -275,3 +275,75 @@ module _ (lim : Limits) (room : lim .fluents ≤ lim .state) (x : Parts) (facts 
         let many : count lim q ≡ each-path k xs .count = ap (λ (v : Walked State). v .count) is in
         (ap (λ (v : Walked State). v .end) is ∙ w .0,
         enough (count lim q) (count lim r) (arriving xs) d (let less = arriving-counted xs none in omega (arith, less, c)) (omega (arith, w .1, many, c)))
+
+-- JOINING, over bytes. The first request leads to what the second starts from: each fact of the second is a goal of the first.
+module _ (lim : Limits) (room : lim .fluents ≤ lim .state) (x : Parts) (one : Cut-so lim x) (lent : List ℕ) (first second budget : ℕ) where
+  -- The counts of both answers, and the end states of the first walk.
+  abbrev c : ℕ
+  c = judge lim (bytes-of x) lent first .answer .count
+
+  abbrev ends : ℕ
+  ends = end-states lim (bytes-of x)
+
+  abbrev counted-by : Parts → ℕ
+  counted-by y = judge lim (bytes-of y) lent second .answer .count
+
+  abbrev Verified-up-to : Parts → ℕ → Type 0
+  Verified-up-to y most = (number lim (bytes-of (joined x y)) lent budget ≡ Limits.verified) × (judge lim (bytes-of (joined x y)) lent budget .answer .count ≤ most)
+
+  abbrev Joins : Parts → Type 0
+  Joins y =
+      Cut-so lim y → ((l : ℕ) → Has (y .facts) l → Has (x .goals) l)
+      → number lim (bytes-of x) lent first ≡ Limits.verified → number lim (bytes-of y) lent second ≡ Limits.verified
+      → among (number lim (bytes-of (joined x y)) lent budget) refusals ≡ false
+      → (c - ends + ends * counted-by y ≤ budget → Verified-up-to y (c - ends + ends * counted-by y)) × (c - ends + ends * counted-by y ≤ c * counted-by y)
+
+  joins : (facts plan goals whether : List ℕ) → Joins (y lim x facts plan goals whether)
+  unfolding end-states ends-met
+  joins facts plan goals whether two leads verified verified-too passes =
+      let yy = y lim x facts plan goals whether in
+      let v = verified-so lim (bytes-of x) lent first verified in
+      let w = verified-so lim (bytes-of yy) lent second verified-too in
+      let there = not-refused-settled lim (bytes-of (joined x yy)) lent budget (v .sized) passes in
+      let is = cut-read lim x one (v .says) (v .end) (settled-is lim (bytes-of x) (v .says) (v .end) (v .settles) .reads) .is in
+      let is-too = cut-read lim yy two (w .says) (w .end) (settled-is lim (bytes-of yy) (w .says) (w .end) (w .settles) .reads) .is in
+      let past : settled lim (bytes-of x) ≡ got (the-request lim x one) (v .end) = v .settles ∙ ap (λ (r : Request). got r (v .end)) is in
+      let past-too : settled lim (bytes-of yy) ≡ got (the-request lim yy two) (w .end) = w .settles ∙ ap (λ (r : Request). got r (w .end)) is-too in
+      let is-fine = subst (λ (r : Request). walked r (first-state lim (r .table)) .end ≡ fine) is (v .fine) in
+      let is-fine-too = subst (λ (r : Request). walked r (first-state lim (r .table)) .end ≡ fine) is-too (w .fine) in
+      let all = joined-walk lim room x facts plan goals whether one two leads (v .end) (w .end) past past-too (there .0) (there .1) (there .2) is-fine is-fine-too in
+      let counts : c ≡ count lim (the-request lim x one) = v .counts ∙ ap (count lim) is in
+      let counts-too : counted-by yy ≡ count lim (the-request lim yy two) = w .counts ∙ ap (count lim) is-too in
+      let met : ends ≡ arriving (all-paths lim (the-request lim x one)) = ap (ends-met lim) past in
+      let xs = all-paths lim (the-request lim x one) in
+      let product : ends * counted-by yy ≡ arriving xs * count lim (the-request lim yy two) = ap₂ (λ (a b : ℕ). a * b) met counts-too in
+      let less = arriving-counted xs (says-fine lim room (bytes-of x) (the-request lim x one) (v .end) past is-fine .0) in
+      let paths = counts-paths lim room (bytes-of x) (the-request lim x one) (v .end) past is-fine in
+      let few : ends ≤ c = omega (arith, less, paths, counts, met) in
+      let some : 1 ≤ counted-by yy = let least = one-at-least lim room (bytes-of yy) (the-request lim yy two) (w .end) past-too is-fine-too in omega (arith, least, counts-too) in
+      let bound : count lim (there .0) ≤ c - ends + ends * counted-by yy = omega (arith, all .1, counts, met, product) in (
+        λ enough-budget.
+            let answer = so-verified lim (bytes-of (joined x yy)) lent budget (v .sized) (there .0) (there .1) (there .2) (all .0) (omega (arith, bound, enough-budget)) in
+            (answer .0, omega (arith, answer .1, bound)),
+        product-enough c ends (counted-by yy) few some,
+      )
+
+  module _ (y : Parts) (same : One-table x y) (two : Cut-so lim y) (leads : (l : ℕ) → Has (y .facts) l → Has (x .goals) l)
+      (verified : number lim (bytes-of x) lent first ≡ Limits.verified) (verified-too : number lim (bytes-of y) lent second ≡ Limits.verified)
+      (passes : among (number lim (bytes-of (joined x y)) lent budget) refusals ≡ false) where
+    both-bounds : (c - ends + ends * counted-by y ≤ budget → Verified-up-to y (c - ends + ends * counted-by y)) × (c - ends + ends * counted-by y ≤ c * counted-by y)
+    both-bounds = subst Joins over-one-table (joins (y .facts) (y .plan) (y .goals) (y .whether)) two leads verified verified-too passes
+      where
+        over-one-table : _≡_ {A = Parts} (record { fluents = x .fluents; actions = x .actions; facts = y .facts; lines = x .lines; plan = y .plan; goals = y .goals; whether = y .whether }) y
+        over-one-table = λ i. record { fluents = same .fluents i; actions = same .actions i; facts = y .facts; lines = same .lines i; plan = y .plan; goals = y .goals; whether = y .whether }
+
+    -- With a first count of c, e of it end states, and a second count of d, a budget of (c - e) + e * d is enough,
+    pub joining : c - ends + ends * counted-by y ≤ budget → Verified-up-to y (c - ends + ends * counted-by y)
+    joining = both-bounds .0
+
+    -- and so is one of c * d.
+    pub joining-by-product : c * counted-by y ≤ budget → Verified-up-to y (c * counted-by y)
+    joining-by-product enough-budget =
+        let less = both-bounds .1 in
+        let w = both-bounds .0 (omega (arith, less, enough-budget)) in
+        (w .0, omega (arith, w .1, less))
