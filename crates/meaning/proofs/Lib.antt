@@ -83,4 +83,5 @@ pub mod JoinedWalk
 pub mod LaterItems
 pub mod JoinedReads
 pub mod JoinedPlans
+pub mod ReuseCases
 pub mod Demands

@@ -16,6 +16,7 @@ use Rattle.meaning.proofs.LineCases.{LineCase, line-cases, line-cases-h
 use Rattle.meaning.proofs.DerivationCases
 use Rattle.meaning.proofs.DerivationCases.{derivations, derivations-hold}
 use Rattle.meaning.proofs.WhetherCases.{whethers, whethers-hold}
+use Rattle.meaning.proofs.ReuseCases.{reuse-cases, reuse-cases-hold}
 
 -- A call, and what it gives. A derivation in the plain layout is put to the derivation call, and one in the closing layout to the whether call.
 pub data Call : Type 0 where
@@ -46,9 +47,10 @@ line-row c = record { call = judging-line (c .request) (c .lent) (c .budget); gi
 abbrev checking-row : DerivationCases.Case → Row
 checking-row c = record { call = checking (c .layout) (c .request) (c .derivation); gives = answered (c .gives) }
 
--- Cases 1 to 13 and the rows beside them, those of the line, then case 14 and the rows beside it, then those of the closing layout.
+-- Cases 1 to 13 and the rows beside them, those of the line, then case 14 and the rows beside it, then those of the closing layout, then those of
+-- reused verdicts.
 pub proved-cases : List Row
-proved-cases = map judging-row cases ++ (map line-row line-cases ++ (map checking-row derivations ++ map checking-row whethers))
+proved-cases = map judging-row cases ++ (map line-row line-cases ++ (map checking-row derivations ++ (map checking-row whethers ++ map judging-row reuse-cases)))
 
 -- Each row's call gives what the row says.
 abbrev Hold : List Row → Type 0
@@ -57,13 +59,13 @@ Hold rows = map (λ (r : Row). outcome-of (r .call)) rows ≡ map (λ (r : Row).
 hold-both : (xs ys : List Row) → Hold xs → Hold ys → Hold (xs ++ ys)
 hold-both xs ys h k = map-append _ xs ys ∙ ap₂ {C = List Given} (λ gs hs. gs ++ hs) h k ∙ sym (map-append _ xs ys)
 
-judgings : Hold (map judging-row cases)
-judgings =
-    map-map _ judging-row cases
-    ∙ sym (map-map judged (λ (c : Cases.Case). judge format (c .request) (c .lent) (c .budget)) cases)
-    ∙ ap (map judged) cases-hold
-    ∙ map-map judged (λ (c : Cases.Case). c .gives) cases
-    ∙ sym (map-map _ judging-row cases)
+judgings : (cs : List Cases.Case) → map (λ (c : Cases.Case). judge format (c .request) (c .lent) (c .budget)) cs ≡ map (λ (c : Cases.Case). c .gives) cs → Hold (map judging-row cs)
+judgings cs hold =
+    map-map _ judging-row cs
+    ∙ sym (map-map judged (λ (c : Cases.Case). judge format (c .request) (c .lent) (c .budget)) cs)
+    ∙ ap (map judged) hold
+    ∙ map-map judged (λ (c : Cases.Case). c .gives) cs
+    ∙ sym (map-map _ judging-row cs)
 
 -- Two equations over one list are one over it.
 two-lists : (gives : LineCase → Judgement) (carries : LineCase → ℕ) (cs : List LineCase)
@@ -90,6 +92,7 @@ checkings cs hold =
 pub proved-cases-hold : map (λ (r : Row). outcome-of (r .call)) proved-cases ≡ map (λ (r : Row). r .gives) proved-cases
 unfolding proved-cases
 proved-cases-hold =
-    hold-both (map judging-row cases) (map line-row line-cases ++ (map checking-row derivations ++ map checking-row whethers)) judgings
-    (hold-both (map line-row line-cases) (map checking-row derivations ++ map checking-row whethers) linings
-    (hold-both (map checking-row derivations) (map checking-row whethers) (checkings derivations derivations-hold) (checkings whethers whethers-hold)))
+    hold-both (map judging-row cases) (map line-row line-cases ++ (map checking-row derivations ++ (map checking-row whethers ++ map judging-row reuse-cases))) (judgings cases cases-hold)
+    (hold-both (map line-row line-cases) (map checking-row derivations ++ (map checking-row whethers ++ map judging-row reuse-cases)) linings
+    (hold-both (map checking-row derivations) (map checking-row whethers ++ map judging-row reuse-cases) (checkings derivations derivations-hold)
+    (hold-both (map checking-row whethers) (map judging-row reuse-cases) (checkings whethers whethers-hold) (judgings reuse-cases reuse-cases-hold))))
