@@ -45,7 +45,7 @@ use Rattle.meaning.proofs.JoinedWalk.{walk-joined, Fine-behind, paths-b
 use Rattle.meaning.proofs.JoinedReads.{plans-joined}
 
 -- ONE TABLE. Lines are read alike whatever follows them.
-lines-kept : (lim : Limits) (n m : ℕ) (s u : List ℕ) (far : ℕ) (room : far ≤ length u) (same : (p : ℕ) → p < far → getD u p 0 ≡ getD s p 0) (p : ℕ)
+pub lines-kept : (lim : Limits) (n m : ℕ) (s u : List ℕ) (far : ℕ) (room : far ≤ length u) (same : (p : ℕ) → p < far → getD u p 0 ≡ getD s p 0) (p : ℕ)
     → Kept s u far room same p (lines-at lim n m s p) (lines-at lim n m u p)
 unfolding lines-at
 lines-kept lim n m s u far room same p =

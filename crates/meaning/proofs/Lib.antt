@@ -84,4 +84,5 @@ pub mod LaterItems
 pub mod JoinedReads
 pub mod JoinedPlans
 pub mod ReuseCases
+pub mod EachRequest
 pub mod Demands

@@ -191,14 +191,14 @@ count-is least most s p c q read =
 
 -- Behind the facts a table is its lines.
 module _ (lim : Limits) (n m : ℕ) (facts s : List ℕ) (p : ℕ) where
-  abbrev table-behind : Got Table
+  abbrev pub table-behind : Got Table
   table-behind =
       next (section-at (effect-at lim n m s) s p) λ effects t.
       next (section-at (executability-at lim n m s) s t) λ executability u.
       next (section-at (knowledge-at lim n m s) s u) λ knowledge e.
       got (record { fluents = n; actions = m; facts = facts; effects = effects; executability = executability; knowledge = knowledge }) e
 
-  behind-is : (t : Table) (e : ℕ) → table-behind ≡ got t e → (l : Table) × (lines-at lim n m s p ≡ got l e) × (t ≡ knowing facts l)
+  pub behind-is : (t : Table) (e : ℕ) → table-behind ≡ got t e → (l : Table) × (lines-at lim n m s p ≡ got l e) × (t ≡ knowing facts l)
   unfolding lines-at
   behind-is t e read =
       let a = next-got (section-at (effect-at lim n m s) s p) _ read in
