@@ -62,6 +62,11 @@ pub use Rattle.meaning.proofs.ReleaseLaws.{own-numbered, own-input, own
 -- Where its answer is 0, each plan's row is the walk call's answer on the table and that plan, with its place counted in the file, and 22 stands just
 -- behind a plan that failed in reading.
 pub use Rattle.meaning.proofs.ReleaseRows.{each-row, behind-a-failure, not-reached-exactly}
+-- Reused verdicts, of requests in parts: more facts and fewer goals leave a request verified; two plans that are verified one behind the other are
+-- verified as one, within a budget that is named; joining is associative, with the plan without items as its unit, on bytes and on whole answers.
+pub use Rattle.meaning.proofs.ReuseLaws.{each-request, more-facts, fewer-goals, joining, joining-by-product, plans-associate, no-items-before, no-items-after, answers-associate, answers-before, answers-after}
+-- What is not so of them, by rows of the proved cases.
+pub use Rattle.meaning.proofs.ReuseLaws.{reuse-cases, reuse-cases-hold}
 
 -- Demand 1 (FORMAT 11.1): every input gets one of the numbered answers.
 pub numbered : (lim : Limits) (request lent : List ℕ) (budget : ℕ) → among (judge lim request lent budget .answer .number) answers ≡ true

@@ -85,4 +85,5 @@ pub mod JoinedReads
 pub mod JoinedPlans
 pub mod ReuseCases
 pub mod EachRequest
+pub mod ReuseLaws
 pub mod Demands

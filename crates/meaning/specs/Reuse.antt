@@ -1,13 +1,19 @@
 -- What the laws of reused verdicts speak of: a request in its parts, requests alike but for one part, plans joined, and the end states of a
 -- walk. Definitions only.
-use Prim.Native.Nat.{ℕ, suc, _+_, _*_}
+use Prim.Native.Nat.{ℕ, _+_, _*_}
 use mathlib.Core.Path.{_≡_}
+use mathlib.Core.Bool.{false}
 use mathlib.Core.List.{List, [], _∷_, _++_}
 use lib.ListN.{length, getD, drop}
+use Rattle.meaning.specs.declared.Answer.{Answer}
+use Rattle.meaning.specs.Limits
 use Rattle.meaning.specs.Limits.{Limits}
+use Rattle.meaning.specs.Literals.{among}
 use Rattle.meaning.specs.Requests.{Table, Sequence, Request}
 use Rattle.meaning.specs.Reading.{Got, got, fault, Met, plan-at, table-at}
 use Rattle.meaning.specs.Refusals.{settled}
+use Rattle.meaning.specs.Judging.{judge}
+use Rattle.meaning.specs.Answers.{refusals}
 use Rattle.meaning.specs.Paths.{Ending, arrives, stops, Path}
 use Rattle.meaning.specs.Reported.{all-paths}
 use Rattle.meaning.specs.Layouts.{list-written, number-written}
@@ -94,6 +100,16 @@ no-items = 0 ∷ 0 ∷ []
 -- From the first request's facts, by both plans, to what the second asks.
 abbrev pub joined : Parts → Parts → Parts
 joined x y = with-plan (join-plans (x .plan) (y .plan)) (asking (y .goals) (y .whether) x)
+
+-- ANSWERS of the walk call on a request in parts: its number is 0, and it is none of 10 to 21.
+abbrev pub answer-on : Limits → (lent : List ℕ) → (budget : ℕ) → Parts → Answer
+answer-on lim lent budget x = judge lim (bytes-of x) lent budget .answer
+
+abbrev pub Is-verified : Limits → (lent : List ℕ) → (budget : ℕ) → Parts → Type 0
+Is-verified lim lent budget x = answer-on lim lent budget x .number ≡ Limits.verified
+
+abbrev pub Not-refused : Limits → (lent : List ℕ) → (budget : ℕ) → Parts → Type 0
+Not-refused lim lent budget x = among (answer-on lim lent budget x .number) refusals ≡ false
 
 -- END STATES. How many of the paths arrive in one.
 module _ {S : Type 0} where
