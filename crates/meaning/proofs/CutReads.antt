@@ -2,17 +2,17 @@
 -- another request that has the same bytes up to the goals has the same table and plan. Assumes nothing.
 use Prim.Native.Nat.{ℕ, _+_, _≤_, _<_}
 use native.Mathlib.Omega.{arith}
-use mathlib.Core.Path.{_≡_, refl, sym, _∙_, ap, ap₂, subst}
-use mathlib.Core.List.{List, [], _∷_, _++_, append-assoc}
+use mathlib.Core.Path.{_≡_, sym, _∙_, ap, ap₂, subst}
+use mathlib.Core.List.{List, _++_, append-assoc}
 use lib.ListN.{length, length-append, getD, List·getD-append}
-use borrow.Author.Tests.{ltb-false, le-ltb}
+use borrow.Author.Tests.{ltb-false}
 use Rattle.meaning.specs.Limits.{Limits}
-use Rattle.meaning.specs.Requests.{Table, Sequence, Request}
-use Rattle.meaning.specs.Reading.{Got, got, fluents, literals, Met, list-at, plan-at, table-at, placed, request-at, read-request}
+use Rattle.meaning.specs.Requests.{Table, Request}
+use Rattle.meaning.specs.Reading.{Got, got, fluents, literals, list-at, plan-at, table-at, placed, request-at, read-request}
 use Rattle.meaning.specs.Layouts.{list-written}
 use Rattle.meaning.specs.Reuse.{Parts, before-plan, bytes-of, Cut-so, asking}
-use Rattle.meaning.proofs.SettledLaws.{got-same, next-got}
-use Rattle.meaning.proofs.RangeLaws.{got-place, not-refused, after-got}
+use Rattle.meaning.proofs.SettledLaws.{got-same}
+use Rattle.meaning.proofs.RangeLaws.{not-refused, after-got}
 use Rattle.meaning.proofs.MovedReads.{next-is, Stands, stands-parts, whole-stands}
 use Rattle.meaning.proofs.KeptReads.{kept-of, table-kept, plan-kept}
 use Rattle.meaning.proofs.PartReads.{stands-length, list-is, lines-counts, bytes-split, table-so}

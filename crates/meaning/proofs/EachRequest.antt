@@ -1,6 +1,6 @@
 -- Each request that was read is the bytes of parts, and is cut as they are: its parts are what was read and the bytes between. So what is said of requests
 -- in parts is said of every request. Assumes nothing.
-use Prim.Native.Nat.{ℕ, zero, suc, _+_, _-_, _≤_, _<_}
+use Prim.Native.Nat.{ℕ, zero, suc, _+_, _-_, _≤_}
 use native.Mathlib.Omega.{arith}
 use mathlib.Core.Path.{_≡_, refl, sym, _∙_, ap, ap₂, subst}
 use mathlib.Core.List.{List, [], _∷_, _++_}
@@ -8,13 +8,12 @@ use lib.ListN.{length, getD}
 use borrow.Author.Tests.{ltb-false}
 use Rattle.meaning.specs.Limits.{Limits}
 use Rattle.meaning.specs.Requests.{Table, Sequence, Request}
-use Rattle.meaning.specs.Reading.{Got, got, literals, fluents, count-at, list-at, Met, plan-at, table-at, request-at, read-request}
+use Rattle.meaning.specs.Reading.{got, literals, fluents, count-at, list-at, Met, plan-at, table-at, request-at, read-request}
 use Rattle.meaning.specs.Layouts.{list-written}
 use Rattle.meaning.specs.Reuse.{Parts, before-plan, bytes-of, Cut-so}
-use Rattle.meaning.proofs.SettledLaws.{got-same}
 use Rattle.meaning.proofs.RangeLaws.{not-refused, after-got, got-place}
 use Rattle.meaning.proofs.MovedReads.{Stands, stands-both, stands-whole, stands-inside, count-copied, list-copied}
-use Rattle.meaning.proofs.KeptReads.{kept-of, plan-kept, table-kept}
+use Rattle.meaning.proofs.KeptReads.{kept-of, plan-kept}
 use Rattle.meaning.proofs.PartReads.{stands-length, lines-at, lines-counts, behind-is}
 use Rattle.meaning.proofs.JoinedPlans.{lines-kept}
 

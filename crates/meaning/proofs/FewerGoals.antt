@@ -1,16 +1,16 @@
 -- Fewer goals: with goals or whether entries removed a verified request stays verified, with the same count. The bytes up to the goals are the same, so
 -- the table and the plan are; shorter lists are read; and the walk's count doesn't depend on what is asked. Assumes nothing.
-use Prim.Native.Nat.{ℕ, _+_, _≤_, _<_}
+use Prim.Native.Nat.{ℕ, _≤_}
 use native.Mathlib.Omega.{arith}
 use mathlib.Core.Path.{_≡_, refl, sym, _∙_, ap, ap₂, subst}
-use mathlib.Core.Bool.{Bool, true, false}
-use mathlib.Core.List.{List, [], _∷_, _++_, append-assoc}
-use lib.ListN.{length, length-append, getD, List·getD-append}
+use mathlib.Core.Bool.{Bool}
+use mathlib.Core.List.{List}
+use lib.ListN.{length}
 use Rattle.meaning.specs.Tests.{those-of, Has}
 use Rattle.meaning.specs.Limits
 use Rattle.meaning.specs.Limits.{Limits}
-use Rattle.meaning.specs.Requests.{Table, Sequence, Request, values}
-use Rattle.meaning.specs.Reading.{Got, got, fluents, literals, Met, list-at, plan-at, table-at, placed, request-at, read-request}
+use Rattle.meaning.specs.Requests.{Table, Request, values}
+use Rattle.meaning.specs.Reading.{got, fluents, literals, plan-at, request-at}
 use Rattle.meaning.specs.Refusals.{nowhere, contradiction-in, mixed-in, overlap-in, settled}
 use Rattle.meaning.specs.States.{State, first-state}
 use Rattle.meaning.specs.Walk.{fine, Walked, judged, walked}
@@ -19,10 +19,9 @@ use Rattle.meaning.specs.Paths.{walked-along}
 use Rattle.meaning.specs.Layouts.{list-written}
 use Rattle.meaning.specs.Reuse.{Parts, before-plan, bytes-of, Cut-so, asking}
 use Rattle.meaning.proofs.TestLaws.{those-has}
-use Rattle.meaning.proofs.SettledLaws.{got-same, next-got, Settled, settled-is}
-use Rattle.meaning.proofs.RangeLaws.{got-place, not-refused, after-got, count-within}
-use Rattle.meaning.proofs.MovedReads.{next-is, Stands}
-use Rattle.meaning.proofs.KeptReads.{Kept, kept-of, table-kept, plan-kept}
+use Rattle.meaning.proofs.SettledLaws.{settled-is}
+use Rattle.meaning.proofs.RangeLaws.{got-place}
+use Rattle.meaning.proofs.MovedReads.{next-is}
 use Rattle.meaning.proofs.ReleaseRows.{settled-behind, refuse-none}
 use Rattle.meaning.proofs.PathLaws.{walked-in-order}
 use Rattle.meaning.proofs.ToldLaws.{first-length}
@@ -31,8 +30,8 @@ use Rattle.meaning.proofs.VerifiedLaws.{verified-so, so-verified}
 use Rattle.meaning.proofs.MoreKnown.{Knows-more, walk-more}
 use Rattle.meaning.proofs.PartsAlike.{judged-follows}
 use Rattle.meaning.proofs.MoreFacts.{effects-near}
-use Rattle.meaning.proofs.PartReads.{part-stands, list-is, placed-values}
-use Rattle.meaning.proofs.CutReads.{third-stands, fourth-stands, four-length, goals-start, whether-start, the-request, cut-counts, Cut-read, cut-read, cut-again}
+use Rattle.meaning.proofs.PartReads.{placed-values}
+use Rattle.meaning.proofs.CutReads.{third-stands, fourth-stands, four-length, goals-start, whether-start, the-request, cut-counts, cut-read, cut-again}
 use Rattle.meaning.proofs.ListReads.{In-order, list-in-order, kept-in-order, list-few, list-read, those-length}
 
 -- A REQUEST whose table and plan are read as it is cut, and whose lists ascend, is settled unless 16, 17 or 18 refuses it.

@@ -1,19 +1,19 @@
 -- Joining: where the facts X lead by one plan to Y, and Y by a second to Z, both verified over one table, X leads to Z by the joined plan. Each end state
 -- of the first walk knows Y, so the second plan is verified from it with a count no larger than from Y alone. Assumes nothing.
-use Prim.Native.Nat.{ℕ, suc, _+_, _-_, _*_, _≤_, _<_}
+use Prim.Native.Nat.{ℕ, _+_, _-_, _*_, _≤_, _<_}
 use native.Mathlib.Omega.{arith}
 use mathlib.Core.Path.{_≡_, refl, sym, _∙_, ap, ap₂, subst}
 use mathlib.Core.Bool.{true, false}
 use mathlib.Core.List.{List, [], _∷_, _++_}
 use mathlib.Core.Logic.{inl}
 use lib.ListN.{length, length-append, getD, List·getD-append}
-use Rattle.meaning.specs.Tests.{each-of, Has}
+use Rattle.meaning.specs.Tests.{Has}
 use Rattle.meaning.specs.Limits
 use Rattle.meaning.specs.Limits.{Limits}
 use Rattle.meaning.specs.Literals.{among}
-use Rattle.meaning.specs.Requests.{Effect, Knowledge, Table, Sequence, done, item, Request, values, unplaced}
-use Rattle.meaning.specs.Reading.{Got, got, section-at, effect-at, executability-at, knowledge-at, Met, plan-at, table-at, request-at, read-request}
-use Rattle.meaning.specs.Refusals.{nowhere, settled}
+use Rattle.meaning.specs.Requests.{Knowledge, Table, Sequence, done, item, Request, values, unplaced}
+use Rattle.meaning.specs.Reading.{got, section-at, effect-at, executability-at, knowledge-at, Met, plan-at, table-at, request-at, read-request}
+use Rattle.meaning.specs.Refusals.{settled}
 use Rattle.meaning.specs.States.{State, known, first-state}
 use Rattle.meaning.specs.Walk.{fine, Walked, table-step, walk, missed-in, judged, walked}
 use Rattle.meaning.specs.Judging.{judge, number, count}
@@ -22,11 +22,11 @@ use Rattle.meaning.specs.Paths.{Ending, arrives, stops, Path, count-of, 
 use Rattle.meaning.specs.Reported.{all-paths}
 use Rattle.meaning.specs.SameLines.{Same-tables, Same-but-lines}
 use Rattle.meaning.specs.Derivations.{join}
-use Rattle.meaning.specs.Layouts.{list-written, number-written}
+use Rattle.meaning.specs.Layouts.{list-written}
 use Rattle.meaning.specs.Reuse.{Parts, before-plan, bytes-of, Cut-so, One-table, join-plans, joined, arriving, ends-met, end-states}
 use Rattle.meaning.proofs.TestLaws.{each-has}
 use Rattle.meaning.proofs.SettledLaws.{got-same, next-got, settled-is, Fit}
-use Rattle.meaning.proofs.RangeLaws.{not-refused, after-got, got-place}
+use Rattle.meaning.proofs.RangeLaws.{not-refused, after-got}
 use Rattle.meaning.proofs.MovedReads.{next-is}
 use Rattle.meaning.proofs.LiteralLaws.{among-has}
 use Rattle.meaning.proofs.KeptReads.{Kept, kept-of, kept-next, kept-got, section-kept, effect-kept, executability-kept, knowledge-kept, table-kept}
@@ -39,8 +39,8 @@ use Rattle.meaning.proofs.VerifiedLaws.{verified-so, so-verified, not-r
 use Rattle.meaning.proofs.MoreKnown.{Knows-more, walk-more}
 use Rattle.meaning.proofs.PartReads.{lines-at, knowing, moved-table, re-tabled, head-of, tail-of, bytes-split, table-so, placed-values}
 use Rattle.meaning.proofs.PartsAlike.{tables-alike, facts-unread, verified-alike, judged-follows}
-use Rattle.meaning.proofs.MoreFacts.{among-more, effects-near}
-use Rattle.meaning.proofs.CutReads.{the-request, cut-counts, Cut-read, cut-read}
+use Rattle.meaning.proofs.MoreFacts.{effects-near}
+use Rattle.meaning.proofs.CutReads.{the-request, cut-counts, cut-read}
 use Rattle.meaning.proofs.JoinedWalk.{walk-joined, Fine-behind, paths-bounded, arriving-counted, enough, product-enough}
 use Rattle.meaning.proofs.JoinedReads.{plans-joined}
 

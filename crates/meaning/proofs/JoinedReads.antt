@@ -1,13 +1,13 @@
 -- Joined plans as they are read: the items of the first where they were, and behind them those of the second, so many bytes further on. The items of each
 -- plan are read alike wherever they stand and whatever follows them, also after items of another plan. Assumes nothing.
-use Prim.Native.Nat.{ℕ, zero, suc, _+_, _*_, _≤_, _<_}
+use Prim.Native.Nat.{ℕ, _+_, _*_, _≤_, _<_}
 use native.Mathlib.Omega.{arith}
 use mathlib.Core.Path.{_≡_, refl, sym, _∙_, ap, ap₂, subst}
 use mathlib.Core.List.{List, [], _∷_, _++_, append-assoc}
 use lib.ListN.{length, length-append, length-drop, getD, drop, List·getD-append}
 use Rattle.meaning.specs.Limits.{Limits}
-use Rattle.meaning.specs.Requests.{Sequence, done, item, Item, unplaced}
-use Rattle.meaning.specs.Reading.{Got, got, fault, byte-at, two-bytes-at, Met, Part, item-at, items-at, sequence-at, branching-at, plan-at}
+use Rattle.meaning.specs.Requests.{Sequence, done, item, unplaced}
+use Rattle.meaning.specs.Reading.{Got, got, byte-at, two-bytes-at, Met, item-at, items-at, sequence-at, branching-at, plan-at}
 use Rattle.meaning.specs.Layouts.{number-written}
 use Rattle.meaning.specs.Derivations.{join}
 use Rattle.meaning.specs.Reuse.{items-said, join-plans}

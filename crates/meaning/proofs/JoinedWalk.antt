@@ -1,19 +1,18 @@
 -- The walk of two plans joined: it is the second walked at each end state of the first. Where the first is verified, and the second from each of its end
 -- states with a count of d at most, the whole is verified, and counts the first's actions and d for each of its end states at most. By induction over
 -- the first's paths. Assumes nothing.
-use Prim.Native.Nat.{ℕ, zero, suc, _+_, _-_, _*_, _≤_}
+use Prim.Native.Nat.{ℕ, _+_, _-_, _*_, _≤_}
 use native.Mathlib.Omega.{arith}
 use native.Mathlib.Nat.{add-mul, one-mul, le-mul-of-pos-right}
 use mathlib.Core.Path.{_≡_, refl, sym, _∙_, ap, fun-ext}
 use mathlib.Core.List.{List, [], _∷_}
-use mathlib.Core.Logic.{_⊎_, inl, inr}
-use lib.ListN.{length}
+use mathlib.Core.Logic.{inl, inr}
 use Rattle.meaning.specs.Requests.{Sequence, done, item}
-use Rattle.meaning.specs.Walk.{Concerned, fine, Walked, counted, Steps, walk, walk-item}
+use Rattle.meaning.specs.Walk.{fine, Walked, counted, Steps, walk, walk-item}
 use Rattle.meaning.specs.Paths.{Ending, arrives, stops, Path, count-of, count-in}
 use Rattle.meaning.specs.Derivations.{join}
 use Rattle.meaning.specs.Reuse.{one-if-arrives, arriving}
-use Rattle.meaning.proofs.PathLaws.{path-walk, each-path, walk-each-path}
+use Rattle.meaning.proofs.PathLaws.{path-walk, each-path}
 use Rattle.meaning.proofs.EndLaws.{Ends, Stops}
 use Rattle.meaning.proofs.MoreKnown.{both-fine}
 

@@ -3,16 +3,16 @@
 use Prim.Native.Nat.{ℕ, zero, suc, _+_, _-_, _≤_}
 use native.Mathlib.Omega.{arith}
 use mathlib.Core.Path.{_≡_, refl, sym, _∙_, ap, subst}
-use mathlib.Core.Bool.{Bool, true, false}
+use mathlib.Core.Bool.{Bool, false}
 use mathlib.Core.List.{List, [], _∷_}
-use lib.ListN.{length, getD}
+use lib.ListN.{length}
 use lib.Dec.{leb, ltb, eqb}
 use borrow.Author.Tests.{ltb-true, ltb-false, le-ltb, eqb-true}
-use Rattle.meaning.specs.Tests.{both, either, pick, those-of, Has}
+use Rattle.meaning.specs.Tests.{both, either, those-of}
 use Rattle.meaning.specs.Literals.{complement}
-use Rattle.meaning.specs.Reading.{Got, got, byte-at, count-at, below-at, Kind, bound-of, have-complements, entry-at, entries-at, list-at}
+use Rattle.meaning.specs.Reading.{got, byte-at, count-at, below-at, Kind, bound-of, have-complements, entry-at, entries-at, list-at}
 use Rattle.meaning.specs.Layouts.{list-written}
-use Rattle.meaning.proofs.TestLaws.{by-test, both-left, both-right, clash, either-split, pick-true, pick-false, those-has}
+use Rattle.meaning.proofs.TestLaws.{by-test, both-left, both-right, pick-false}
 use Rattle.meaning.proofs.PickLaws.{pick-has}
 use Rattle.meaning.proofs.SettledLaws.{got-same}
 use Rattle.meaning.proofs.RangeLaws.{complement-near, not-refused, after-got, count-within}

@@ -2,12 +2,11 @@
 -- request is not refused. Both are read alike but for the facts and for places, and the second first state knows no less. Assumes nothing.
 use Prim.Native.Nat.{ℕ, _*_, _≤_, _<_}
 use native.Mathlib.Omega.{arith}
-use mathlib.Core.Path.{_≡_, refl, sym, _∙_, ap, ap₂, subst}
+use mathlib.Core.Path.{_≡_, sym, _∙_, ap, subst}
 use mathlib.Core.Bool.{true, false}
 use mathlib.Core.List.{List}
 use lib.ListN.{length}
 use lib.Dec.{eqb}
-use borrow.Author.Tests.{eqb-true, eq-eqb}
 use Rattle.meaning.specs.Tests.{Has}
 use Rattle.meaning.specs.Limits
 use Rattle.meaning.specs.Limits.{Limits}
@@ -15,7 +14,7 @@ use Rattle.meaning.specs.Literals.{among}
 use Rattle.meaning.specs.Requests.{Effect, Table, Request, values, unplaced}
 use Rattle.meaning.specs.Reading.{got, request-at}
 use Rattle.meaning.specs.Refusals.{settled}
-use Rattle.meaning.specs.States.{State, known, first-state}
+use Rattle.meaning.specs.States.{State, first-state}
 use Rattle.meaning.specs.Walk.{Walked, walked, judged}
 use Rattle.meaning.specs.Judging.{judge, number, count}
 use Rattle.meaning.specs.Answers.{refusals}
@@ -23,7 +22,7 @@ use Rattle.meaning.specs.SameLines.{Same-tables, Same-but-lines}
 use Rattle.meaning.specs.Reuse.{Parts, bytes-of, with-facts}
 use Rattle.meaning.proofs.TestLaws.{some-has, has-some}
 use Rattle.meaning.proofs.SettledLaws.{got-same, settled-is}
-use Rattle.meaning.proofs.RangeLaws.{Ranged, read-ranged, got-place}
+use Rattle.meaning.proofs.RangeLaws.{got-place}
 use Rattle.meaning.proofs.ToldLaws.{first-length, first-known}
 use Rattle.meaning.proofs.Exact.{fits, ranged}
 use Rattle.meaning.proofs.MoreKnown.{No-worse, Knows-more, walk-more}

@@ -2,7 +2,7 @@
 -- be run, each leads to a state that knows no less, the same branch is chosen, since the others exclude it, and where the first state forks and the
 -- second knows the fluent, one reading stands for two. By induction over the plan; what follows an item is carried through as such a pair of
 -- walks. Assumes nothing.
-use Prim.Native.Nat.{ℕ, zero, suc, _+_, _*_, _≤_, _<_}
+use Prim.Native.Nat.{ℕ, _+_, _*_, _≤_, _<_}
 use native.Mathlib.Omega.{arith}
 use mathlib.Core.Path.{_≡_, refl, sym, _∙_, ap, subst}
 use mathlib.Core.Bool.{Bool, true, false}
@@ -12,21 +12,21 @@ use native.Mathlib.Decide.{ℕ-discrete}
 use lib.ListN.{length, length-set}
 use Rattle.meaning.specs.Tests.{both, fails, pick, each-of, those-of, Has}
 use Rattle.meaning.specs.Limits
-use Rattle.meaning.specs.Literals.{says-true, says-false, fluent-of, exclusive}
+use Rattle.meaning.specs.Literals.{says-true, says-false, fluent-of}
 use Rattle.meaning.specs.Requests.{Effect, Knowledge, Table, Sequence, done, item, Item, act, branching, Branches, none, branch}
 use Rattle.meaning.specs.Refusals.{conditions-of, all-exclusive}
-use Rattle.meaning.specs.Lines.{knowledge-of, sensing, senses}
-use Rattle.meaning.specs.States.{State, mark-of, known, known-whether, told, can-be-run, state-after, unknown-from, unknown-sensed, Outcome, single, fork, readings, outcome}
-use Rattle.meaning.specs.Walk.{Concerned, in-state, End, fine, missed, stopped, Walked, stopped-at, counted, keep-miss, after-miss, after-end, and-then, each-reading, Step, leads-to, refuses, after-step, run-action, walk, walk-item, walk-branch, table-does, table-step}
+use Rattle.meaning.specs.Lines.{executability-of, knowledge-of, allowed, sensing, senses}
+use Rattle.meaning.specs.States.{State, mark-of, known, known-whether, told, can-be-run, state-after, unknown-from, unknown-sensed, single, readings, outcome}
+use Rattle.meaning.specs.Walk.{in-state, End, fine, missed, stopped, Walked, stopped-at, counted, keep-miss, after-miss, after-end, and-then, each-reading, Step, leads-to, refuses, after-step, run-action, walk, walk-item, walk-branch, table-does, table-step}
 use Rattle.meaning.specs.Approximation.{_≼_}
 use Rattle.meaning.specs.Reported.{pair-of}
-use Rattle.meaning.proofs.TestLaws.{by-test, clash, both-left, both-right, both-true, either-left, either-right, either-split, fails-true, fails-false, pick-true, pick-false, each-has, has-each, each-mono}
-use Rattle.meaning.proofs.PickLaws.{pick-has, has-picked}
+use Rattle.meaning.proofs.TestLaws.{by-test, clash, both-left, both-right, either-left, either-right, either-split, fails-false, pick-true, pick-false, each-has, some-mono, each-mono}
+use Rattle.meaning.proofs.PickLaws.{pick-has}
 use Rattle.meaning.proofs.RefusalLaws.{exclusive-clash}
 use Rattle.meaning.proofs.SettledLaws.{Fit, Fit-item, Fit-branches}
-use Rattle.meaning.proofs.LiteralLaws.{by-literal, fluent-true, fluent-false, same-fluent}
+use Rattle.meaning.proofs.LiteralLaws.{fluent-true, fluent-false, same-fluent}
 use Rattle.meaning.proofs.StateLaws.{known-one, after-length}
-use Rattle.meaning.proofs.PairLaws.{executable-grows, Res-grows, runs-pair, pair-after, true-in-pair, true-grows}
+use Rattle.meaning.proofs.PairLaws.{Res-grows, pair-after, true-in-pair, true-grows}
 use Rattle.meaning.proofs.ToldLaws.{told-here, told-elsewhere}
 use Rattle.meaning.proofs.UnknownLaws.{whether-elsewhere}
 use Rattle.meaning.proofs.SensingLaws.{Distinct, unknown-distinct, read-is}
@@ -212,7 +212,8 @@ module _ (t : Table) (size : ℕ) (effects-within : (e : Effect) → Has (t .eff
         by-sensing false = follows _ _ after-more
 
     runs-more : can-be-run t a s ≡ true → can-be-run t a u ≡ true
-    runs-more e = sym (runs-pair t a u) ∙ executable-grows t a (known-pair s u (more .more)) (runs-pair t a s ∙ e)
+    unfolding can-be-run allowed
+    runs-more = some-mono _ _ (λ x. each-mono _ _ (more .more) (x .body)) (executability-of t a)
 
     act-more : (p : ℕ) → No-worse (run-action (table-step t) p a j u) (run-action (table-step t) p a k s)
     unfolding run-action table-step table-does after-step pick counted stopped-at

@@ -1,20 +1,20 @@
 -- What is read of a request in its parts: the facts, goals and whether entries that are written there, and lines and a plan that are those of the
 -- bytes from the lines on, so many bytes further on. Each part is taken off the reading of the whole. Assumes nothing.
-use Prim.Native.Nat.{ℕ, zero, suc, _+_, _≤_, _<_}
+use Prim.Native.Nat.{ℕ, suc, _+_, _≤_}
 use native.Mathlib.Omega.{arith}
 use mathlib.Core.Path.{_≡_, refl, sym, _∙_, ap, ap₂, subst}
 use mathlib.Core.List.{List, [], _∷_, _++_, map, append-assoc}
 use lib.ListN.{length, length-append, getD}
 use borrow.Author.Tests.{ltb-false}
 use Rattle.meaning.specs.Limits.{Limits}
-use Rattle.meaning.specs.Requests.{Effect, Executability, Knowledge, Table, Sequence, Entry, Request, values}
-use Rattle.meaning.specs.Reading.{Got, got, fault, next, byte-at, count-at, below-at, Kind, literals, fluents, bound-of, entry-at, entries-at, list-at, section-at, effect-at, executability-at, knowledge-at, Met, plan-at, table-at, placed, request-at, read-request}
+use Rattle.meaning.specs.Requests.{Table, Request, values}
+use Rattle.meaning.specs.Reading.{Got, got, fault, next, byte-at, count-at, below-at, Kind, literals, fluents, bound-of, entry-at, entries-at, list-at, section-at, effect-at, executability-at, knowledge-at, plan-at, table-at, placed, request-at, read-request}
 use Rattle.meaning.specs.Layouts.{list-written}
 use Rattle.meaning.specs.Reuse.{Parts, before-plan, bytes-of}
 use Rattle.meaning.proofs.SettledLaws.{fault≢got, got-same, next-got}
 use Rattle.meaning.proofs.RangeLaws.{not-refused, after-got, got-place, byte-got}
 use Rattle.meaning.proofs.MovedReads.{next-is, Stands, stands-parts, whole-stands}
-use Rattle.meaning.proofs.ShiftedReads.{moved-plan, moved-entry, moved-request, moved-got, moved-effect, moved-executability, moved-knowledge, Shifted, shifted-got, shifted-next, section-shifted, effect-shifted, executability-shifted, knowledge-shifted, request-moved}
+use Rattle.meaning.proofs.ShiftedReads.{moved-request, moved-got, moved-effect, moved-executability, moved-knowledge, Shifted, shifted-got, shifted-next, section-shifted, effect-shifted, executability-shifted, knowledge-shifted, request-moved}
 use Rattle.meaning.proofs.ReleaseRows.{request-table}
 
 -- BYTES AMONG OTHERS.

@@ -1,25 +1,23 @@
 -- Requests read from parts that are alike say the same: what was read in one place and in another differs in its places alone, and the walk does not
 -- look at these, nor at the facts once the first state is there. Assumes nothing.
-use Prim.Native.Nat.{ℕ, _+_, _≤_}
+use Prim.Native.Nat.{ℕ}
 use native.Mathlib.Omega.{arith}
 use mathlib.Core.Path.{_≡_, refl, sym, _∙_, ap, ap₂, subst}
-use mathlib.Core.Bool.{true}
 use mathlib.Core.List.{List, [], _∷_, map}
-use Rattle.meaning.specs.Tests.{each-of, Has}
-use Rattle.meaning.specs.Limits.{Limits}
-use Rattle.meaning.specs.Requests.{Effect, Executability, Knowledge, Table, Sequence, done, item, Item, act, branching, Branches, none, branch, unplaced, unplaced-item, unplaced-branches, Entry, values, Request}
+use Rattle.meaning.specs.Tests.{Has}
+use Rattle.meaning.specs.Requests.{Table, Sequence, done, item, Item, act, branching, Branches, none, branch, unplaced, unplaced-item, unplaced-branches, Entry, values, Request}
 use Rattle.meaning.specs.Refusals.{Found, nowhere, at}
 use Rattle.meaning.specs.Lines.{effects-of, executability-of, knowledge-of}
-use Rattle.meaning.specs.States.{State, known, known-whether}
-use Rattle.meaning.specs.Walk.{End, fine, missed, stopped, Walked, walk, table-step, missed-in, end-of, judged, walked}
+use Rattle.meaning.specs.States.{State}
+use Rattle.meaning.specs.Walk.{End, fine, missed, stopped, Walked, missed-in, end-of, judged, walked}
 use Rattle.meaning.specs.SameLines.{Same-lines-of, Same-set, Same-effect, Same-executability, Same-knowledge, Same-tables, Same-but-lines}
-use Rattle.meaning.proofs.TestLaws.{has-map, map-has, each-has, has-each, each-mono}
-use Rattle.meaning.proofs.WalkLaws.{on-actions, unplaced-end, unplaced-walk}
+use Rattle.meaning.proofs.TestLaws.{has-map, map-has, each-has, has-each}
+use Rattle.meaning.proofs.WalkLaws.{on-actions, unplaced-end}
 use Rattle.meaning.proofs.LineLaws.{no-other-action's-line, walked-same}
 use Rattle.meaning.proofs.ShiftedReads.{moved-effect, moved-executability, moved-knowledge, moved-plan, moved-item, moved-branches, moved-entry}
 use Rattle.meaning.proofs.PartReads.{knowing, moved-table, re-tabled}
 use Rattle.meaning.proofs.Exact.{met}
-use Rattle.meaning.proofs.MoreKnown.{No-worse, Fine, Knows-more, Follows, whether-more}
+use Rattle.meaning.proofs.MoreKnown.{Fine, Follows, whether-more}
 
 -- LINES moved this far and that far.
 moved-alike : {A : Type 0} (R : A → A → Type 0) (f g : A → A) → ((a : A) → R (f a) (g a)) → (xs : List A) → Same-set R (map f xs) (map g xs)
