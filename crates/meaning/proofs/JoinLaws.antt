@@ -28,11 +28,10 @@ behind-count p q = refl
 
 -- ON BYTES.
 pub plans-associate : (p q r : List ℕ) → join-plans (join-plans p q) r ≡ join-plans p (join-plans q r)
+unfolding join-plans number-written
 plans-associate p q r =
-    unfold join-plans in
-    same-plan
-    (let one = items-joined p q in let two = items-joined q r in omega (arith, one, two))
-    (ap (λ (items : List ℕ). items ++ drop 2 r) (behind-count p q) ∙ append-assoc (drop 2 p) (drop 2 q) (drop 2 r) ∙ ap (λ (items : List ℕ). drop 2 p ++ items) (sym (behind-count q r)))
+    let counts : items-said (join-plans p q) + items-said r ≡ items-said p + items-said (join-plans q r) = omega (arith, items-joined p q, items-joined q r) in
+    same-plan counts (append-assoc (drop 2 p) (drop 2 q) (drop 2 r))
 
 -- A plan that has its two count bytes is its count and its items.
 plan-parts : (p : List ℕ) → 2 ≤ length p → getD p 1 0 < 256 → counted-items (items-said p) (drop 2 p) ≡ p

@@ -13,6 +13,7 @@ use Rattle.meaning.specs.Refusals.{settled}
 use Rattle.meaning.specs.Judging.{judge}
 use Rattle.meaning.specs.Reuse.{Parts, bytes-of, Cut-so, with-facts, with-plan, asking, One-table, join-plans, no-items, joined, answer-on, Is-verified, Not-refused, end-states}
 use Rattle.meaning.proofs.SettledLaws.{settled-is}
+use Rattle.meaning.proofs.VerifiedLaws
 use Rattle.meaning.proofs.EachRequest
 use Rattle.meaning.proofs.MoreFacts
 use Rattle.meaning.proofs.FewerGoals
@@ -25,6 +26,10 @@ pub use Rattle.meaning.proofs.ReuseCases.{reuse-cases, reuse-cases-hold
 -- Each request that is not refused is the bytes of parts, and is cut as they are: what follows is said of every request.
 pub each-request : (lim : Limits) (request : List ℕ) (r : Request) (e : ℕ) → settled lim request ≡ got r e → (x : Parts) × (bytes-of x ≡ request) × Cut-so lim x
 each-request lim request r e past = EachRequest.each-request lim request r e (settled-is lim request r e past .reads)
+
+-- One lent state stands for those of all calls: an answer does not depend on the lent bytes, but for their number.
+pub lent-unread : (lim : Limits) (request lent other : List ℕ) (budget : ℕ) → length lent ≡ length other → judge lim request lent budget .answer ≡ judge lim request other budget .answer
+lent-unread = VerifiedLaws.lent-unread
 
 module _ (lim : Limits) (room : lim .fluents ≤ lim .state) (lent : List ℕ) where
   -- MORE FACTS. Two requests alike but for section 2, the facts of the one among those of the other: where the first is verified within a budget and the

@@ -19,7 +19,7 @@ use Rattle.meaning.specs.States.{State, first-state}
 use Rattle.meaning.specs.Walk.{End, fine, missed, stopped, Walked, Verified, walked}
 use Rattle.meaning.specs.Judging.{Judgement, reported, ended, within, judge-settled, judge, number, count}
 use Rattle.meaning.specs.Answers.{refusals}
-use Rattle.meaning.proofs.TestLaws.{by-test, clash, pick-true, pick-false}
+use Rattle.meaning.proofs.TestLaws.{by-test, clash, pick-true, pick-false, pick-map}
 use Rattle.meaning.proofs.KeptEnds.{Stuck, walked-stuck}
 use Rattle.meaning.proofs.AnswerLaws.{Numbered-in, settled-numbered}
 
@@ -99,3 +99,27 @@ module _ (lim : Limits) (request lent : List ℕ) (budget : ℕ) where
     not-refused-settled q =
         settled-there lim lent budget (settled lim request) (settled-numbered lim request)
         (sym (ap (λ (j : Judgement). among (j .answer .number) refusals) (pick-true _ _ _ (eq-eqb _ _ sized))) ∙ q)
+
+-- THE LENT BYTES. The answer does not depend on them, but for their length.
+ended-unread : (lent other : List ℕ) (c : ℕ) (e : End State) → ended lent c e .answer ≡ ended other c e .answer
+unfolding ended reported
+ended-unread lent other c fine = refl
+ended-unread lent other c (missed p s) = refl
+ended-unread lent other c (stopped n p u) = refl
+
+within-unread : (lent other : List ℕ) (budget : ℕ) (w : Walked State) → within lent budget w .answer ≡ within other budget w .answer
+unfolding within
+within-unread lent other budget w =
+    pick-map (λ (j : Judgement). j .answer) (ltb budget (w .count)) _ _
+    ∙ rw (ended-unread lent other (w .count) (w .end)) (sym (pick-map (λ (j : Judgement). j .answer) (ltb budget (w .count)) _ _))
+
+settled-unread : (lim : Limits) (lent other : List ℕ) (budget : ℕ) (x : Got Request) → judge-settled lim lent budget x .answer ≡ judge-settled lim other budget x .answer
+unfolding judge-settled
+settled-unread lim lent other budget (got r e) = within-unread lent other budget (walked r (first-state lim (r .table)))
+settled-unread lim lent other budget (fault n p) = refl
+
+pub lent-unread : (lim : Limits) (request lent other : List ℕ) (budget : ℕ) → length lent ≡ length other → judge lim request lent budget .answer ≡ judge lim request other budget .answer
+unfolding judge
+lent-unread lim request lent other budget same =
+    pick-map (λ (j : Judgement). j .answer) (eqb (length lent) (lim .state)) _ _
+    ∙ rw (same, settled-unread lim lent other budget (settled lim request)) (sym (pick-map (λ (j : Judgement). j .answer) (eqb (length other) (lim .state)) _ _))
