@@ -22,25 +22,23 @@ module _ (a b c d : List ℕ) where
   abbrev four : List ℕ
   four = a ++ (b ++ (c ++ d))
 
-  pub third-stands : Stands four (length a + length b) c (length a + length b + length c)
-  third-stands =
+  last-two : Stands four (length a + length b) c (length a + length b + length c) × Stands four (length a + length b + length c) d (length four)
+  last-two =
       let one = stands-parts four 0 a (b ++ (c ++ d)) (length four) (whole-stands four) in
       let two = stands-parts four (one .0) b (c ++ d) (length four) (one .2) in
       let three = stands-parts four (two .0) c d (length four) (two .2) in
       let first : one .0 ≡ length a = stands-length four 0 a (one .0) (one .1) ∙ omega arith in
       let second : two .0 ≡ length a + length b = stands-length four (one .0) b (two .0) (two .1) ∙ ap (λ (k : ℕ). k + length b) first in
-      let third : three .0 ≡ length a + length b + length c = stands-length four (two .0) c (three .0) (three .1) ∙ ap (λ (k : ℕ). k + length c) second in
-      subst (λ (p : ℕ). Stands four p c (length a + length b + length c)) second (subst (λ (q : ℕ). Stands four (two .0) c q) third (three .1))
+      let third : three .0 ≡ length a + length b + length c = stands-length four (two .0) c (three .0) (three .1) ∙ ap (λ (k : ℕ). k + length c) second in (
+        subst (λ (p : ℕ). Stands four p c (length a + length b + length c)) second (subst (λ (q : ℕ). Stands four (two .0) c q) third (three .1)),
+        subst (λ (p : ℕ). Stands four p d (length four)) third (three .2),
+      )
+
+  pub third-stands : Stands four (length a + length b) c (length a + length b + length c)
+  third-stands = last-two .0
 
   pub fourth-stands : Stands four (length a + length b + length c) d (length four)
-  fourth-stands =
-      let one = stands-parts four 0 a (b ++ (c ++ d)) (length four) (whole-stands four) in
-      let two = stands-parts four (one .0) b (c ++ d) (length four) (one .2) in
-      let three = stands-parts four (two .0) c d (length four) (two .2) in
-      let first : one .0 ≡ length a = stands-length four 0 a (one .0) (one .1) ∙ omega arith in
-      let second : two .0 ≡ length a + length b = stands-length four (one .0) b (two .0) (two .1) ∙ ap (λ (k : ℕ). k + length b) first in
-      let third : three .0 ≡ length a + length b + length c = stands-length four (two .0) c (three .0) (three .1) ∙ ap (λ (k : ℕ). k + length c) second in
-      subst (λ (p : ℕ). Stands four p d (length four)) third (three .2)
+  fourth-stands = last-two .1
 
   pub four-length : length four ≡ length a + length b + length c + length d
   four-length =

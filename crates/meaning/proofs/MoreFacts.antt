@@ -31,11 +31,11 @@ use Rattle.meaning.proofs.PartsAlike.{tables-alike, unplaced-moved, val
 use Rattle.meaning.proofs.VerifiedLaws.{verified-so, so-verified, not-refused-settled}
 
 -- THE FIRST STATE of more facts knows no less.
-pub among-more : (xs ys : List ℕ) → ((l : ℕ) → Has xs l → Has ys l) → (l : ℕ) → among l xs ≡ true → among l ys ≡ true
+among-more : (xs ys : List ℕ) → ((l : ℕ) → Has xs l → Has ys l) → (l : ℕ) → among l xs ≡ true → among l ys ≡ true
 unfolding among
 among-more xs ys within l e = let w = some-has (eqb l) xs e in has-some (eqb l) ys (w .0) (within (w .0) (w .1)) (w .2)
 
--- A WALK of a settled request's plan, from a state that knows more than its first one.
+-- A WALK of a settled request's plan, from two states of which one knows more.
 module _ (lim : Limits) (room : lim .fluents ≤ lim .state) (b : List ℕ) (r : Request) (e : ℕ) (past : settled lim b ≡ got r e) where
   pub effects-near : (x : Effect) → Has (r .table .effects) x → x .literal < 2 * lim .state
   effects-near x h = let t = ranged lim room b r e past in omega (arith, t .effects x h, t .fluents)

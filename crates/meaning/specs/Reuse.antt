@@ -36,8 +36,8 @@ before-plan x = x .fluents ∷ x .actions ∷ (list-written (x .facts) ++ x .lin
 unfoldable pub bytes-of : Parts → List ℕ
 bytes-of x = before-plan x ++ (x .plan ++ (list-written (x .goals) ++ list-written (x .whether)))
 
--- Reading cuts the bytes where the parts do: sections 1 to 5 end where the plan begins, and the plan ends where the goals begin. (Where the facts
--- end, their count says, and so it is with the goals.)
+-- Reading cuts the bytes where the parts do: sections 1 to 5 end where the plan begins, and the plan ends where the goals begin. Where the facts
+-- and the goals end their counts say, so nothing has to be said of these.
 pub record Cut-so (lim : Limits) (x : Parts) : Type 0 where
   pub table : Table
   pub table-read : table-at lim (bytes-of x) 0 ≡ got table (length (before-plan x))
@@ -101,7 +101,7 @@ no-items = 0 ∷ 0 ∷ []
 abbrev pub joined : Parts → Parts → Parts
 joined x y = with-plan (join-plans (x .plan) (y .plan)) (asking (y .goals) (y .whether) x)
 
--- ANSWERS of the walk call on a request in parts: its number is 0, and it is none of 10 to 21.
+-- ANSWERS of the walk call on a request in parts: the answer, that its number is 0, and that its number is none of 10 to 21.
 abbrev pub answer-on : Limits → (lent : List ℕ) → (budget : ℕ) → Parts → Answer
 answer-on lim lent budget x = judge lim (bytes-of x) lent budget .answer
 
@@ -121,7 +121,7 @@ module _ {S : Type 0} where
   arriving [] = 0
   arriving (x ∷ xs) = one-if-arrives (x .ending) + arriving xs
 
--- How many end states the walk of a request meets; none where it is refused.
+-- How many end states a request's plan has: of a verified request, those that the walk meets and counts. None where the request is refused.
 unfoldable pub ends-met : Limits → Got Request → ℕ
 ends-met lim (got r e) = arriving (all-paths lim r)
 ends-met lim (fault n p) = 0
