@@ -66,7 +66,7 @@ pub use Rattle.meaning.proofs.ReleaseRows.{each-row, behind-a-failure, 
 -- verified as one, within a budget that is named; joining is associative, with the plan without items as its unit, on bytes and on whole answers.
 pub use Rattle.meaning.proofs.ReuseLaws.{each-request, lent-unread, more-facts, fewer-goals, joining, joining-by-product, plans-associate, no-items-before, no-items-after, answers-associate, answers-before, answers-after}
 -- What is not so of them, by rows of the proved cases.
-pub use Rattle.meaning.proofs.ReuseLaws.{reuse-cases, reuse-cases-hold}
+pub use Rattle.meaning.proofs.ReuseLaws.{reuse-cases, reuse-cases-hold, looks-ends}
 
 -- Demand 1 (FORMAT 11.1): every input gets one of the numbered answers.
 pub numbered : (lim : Limits) (request lent : List ℕ) (budget : ℕ) → among (judge lim request lent budget .answer .number) answers ≡ true

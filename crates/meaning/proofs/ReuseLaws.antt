@@ -19,9 +19,9 @@ use Rattle.meaning.proofs.MoreFacts
 use Rattle.meaning.proofs.FewerGoals
 use Rattle.meaning.proofs.JoinedPlans
 use Rattle.meaning.proofs.JoinLaws
--- What is not so: rows where one more fact turns 1 into 0 and 2 into 1, where one fact less turns 0 into 1 and into 2, and where the joining of two
--- verified plans is not verified.
-pub use Rattle.meaning.proofs.ReuseCases.{reuse-cases, reuse-cases-hold}
+-- What is not so: rows where one more fact turns 1 into 0 and 2 into 1, where one fact less turns 0 into 1 and into 2, where the joining of two
+-- verified plans is not verified, and where a budget below (c - e) + e * d is spent.
+pub use Rattle.meaning.proofs.ReuseCases.{reuse-cases, reuse-cases-hold, looks-ends}
 
 -- Each request that is not refused is the bytes of parts, and is cut as they are: what follows is said of every request.
 pub each-request : (lim : Limits) (request : List ℕ) (r : Request) (e : ℕ) → settled lim request ≡ got r e → (x : Parts) × (bytes-of x ≡ request) × Cut-so lim x
