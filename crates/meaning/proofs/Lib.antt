@@ -26,6 +26,7 @@ pub mod KeptEnds
 pub mod PlaceLaws
 pub mod PartLaws
 pub mod AnswerLaws
+pub mod VerifiedLaws
 pub mod PathLaws
 pub mod RangeLaws
 pub mod Meeting
@@ -70,4 +71,19 @@ pub mod WiderCases
 pub mod ReleaseLaws
 pub mod ReleaseRows
 pub mod NotEmpty
+pub mod JoinLaws
+pub mod MoreKnown
+pub mod PartReads
+pub mod PartsAlike
+pub mod MoreFacts
+pub mod ListReads
+pub mod CutReads
+pub mod FewerGoals
+pub mod JoinedWalk
+pub mod LaterItems
+pub mod JoinedReads
+pub mod JoinedPlans
+pub mod ReuseCases
+pub mod EachRequest
+pub mod ReuseLaws
 pub mod Demands
