@@ -51,7 +51,7 @@ pub first-two : (a b y z : List ℕ) (p : ℕ) → p < length a + length b → g
 first-two a b y z p less =
     let long = length-append a b in
     let here : (w : List ℕ) → getD (a ++ (b ++ w)) p 0 ≡ getD (a ++ b) p 0 = λ w.
-        ap (λ (s : List ℕ). getD s p 0) (sym (append-assoc a b w)) ∙ List·getD-append (a ++ b) w 0 p (omega (arith, less, long)) in
+    ap (λ (s : List ℕ). getD s p 0) (sym (append-assoc a b w)) ∙ List·getD-append (a ++ b) w 0 p (omega (arith, less, long)) in
     here y ∙ sym (here z)
 
 -- WHAT IS READ.
@@ -93,7 +93,7 @@ module _ (lim : Limits) (x : Parts) (c : Cut-so lim x) where
       let behind = sym (next-is (table-at lim s 0) _ _ _ (c .table-read)) ∙ short .1 in
       after-got (request-at lim s (c .table) (length (before-plan x))) _ behind λ q i eq last.
       let plan-there : plan-at lim (c .table .fluents) (c .table .actions) s (length (before-plan x)) ≡ got (c .plan) goals-start =
-          ap₂ (λ (n m : ℕ). plan-at lim n m s (length (before-plan x))) (counts .0) (counts .1) ∙ c .plan-read in
+      ap₂ (λ (n m : ℕ). plan-at lim n m s (length (before-plan x))) (counts .0) (counts .1) ∙ c .plan-read in
       let lists = sym (next-is _ _ _ _ plan-there) ∙ eq in
       after-got (list-at literals (c .table .fluents) (lim .listed) s goals-start) _ lists λ gs j eg rest.
       after-got (list-at fluents (c .table .fluents) (lim .listed) s j) _ rest λ ws k ew same.

@@ -45,9 +45,9 @@ module _ (lim : Limits) (y : Parts) (d : Cut-so lim y) (short : length (bytes-of
       let n = d .table .fluents in
       let counts = cut-counts lim y d in
       let goals = list-read literals n (lim .listed) u (y .goals) (goals-start lim y d) (whether-start lim y d) goals-ascend goals-few
-          (third-stands (before-plan y) (y .plan) (list-written (y .goals)) (list-written (y .whether))) in
+      (third-stands (before-plan y) (y .plan) (list-written (y .goals)) (list-written (y .whether))) in
       let whether = list-read fluents n (lim .listed) u (y .whether) (whether-start lim y d) (length u) whether-ascend whether-few
-          (fourth-stands (before-plan y) (y .plan) (list-written (y .goals)) (list-written (y .whether))) in
+      (fourth-stands (before-plan y) (y .plan) (list-written (y .goals)) (list-written (y .whether))) in
       next-is _ _ _ _ (ap₂ (λ (k m : ℕ). plan-at lim k m u (length (before-plan y))) (counts .0) (counts .1) ∙ d .plan-read) ∙ next-is _ _ _ _ goals ∙ next-is _ _ _ _ whether
 
   cut-settled : contradiction-in (d .table) ≡ nowhere → mixed-in (d .table .effects) (d .table .knowledge) ≡ nowhere → overlap-in (d .plan .value) ≡ nowhere
@@ -113,13 +113,13 @@ module _ (lim : Limits) (room : lim .fluents ≤ lim .state) (x : Parts) (cut : 
       let s = first-state lim (cut .table) in
       let knows : Knows-more (lim .state) s s = record { first = first-length lim (cut .table); second = first-length lim (cut .table); more = λ l h. h } in
       let asks : (l : ℕ) → Has (values (q .goals)) l → Has (values (r .goals)) l = λ l h.
-          subst (λ (zs : List ℕ). Has zs l) (sym (placed-values _ (x .goals))) (those-has keep (x .goals) l (subst (λ (zs : List ℕ). Has zs l) (placed-values _ goals) h) .0) in
+      subst (λ (zs : List ℕ). Has zs l) (sym (placed-values _ (x .goals))) (those-has keep (x .goals) l (subst (λ (zs : List ℕ). Has zs l) (placed-values _ goals) h) .0) in
       let asks-whether : (f : ℕ) → Has (values (q .whether)) f → Has (values (r .whether)) f = λ f h.
-          subst (λ (zs : List ℕ). Has zs f) (sym (placed-values _ (x .whether))) (those-has kept (x .whether) f (subst (λ (zs : List ℕ). Has zs f) (placed-values _ whether) h) .0) in
+      subst (λ (zs : List ℕ). Has zs f) (sym (placed-values _ (x .whether))) (those-has kept (x .whether) f (subst (λ (zs : List ℕ). Has zs f) (placed-values _ whether) h) .0) in
       let w = walk-more (cut .table) (lim .state) (effects-near lim room (bytes-of x) r (v .end) past) (cut .plan .value) (fits lim room (bytes-of x) r (v .end) past) (judged q) (judged r)
-          (judged-follows (lim .state) r q asks asks-whether) s s knows is-fine in
+      (judged-follows (lim .state) r q asks asks-whether) s s knows is-fine in
       let same : walked q s .count ≡ walked r s .count =
-          ap (λ (z : Walked State). z .count) (walked-in-order q s) ∙ sym (ap (λ (z : Walked State). z .count) (walked-in-order r s)) in
+      ap (λ (z : Walked State). z .count) (walked-in-order q s) ∙ sym (ap (λ (z : Walked State). z .count) (walked-in-order r s)) in
       let was : walked r s .count ≡ count lim (v .says) = ap (λ (z : Request). count lim z) (sym (read .is)) in
       let answer = so-verified lim less lent budget (v .sized) q (length less) (fewer-settled lim x cut keep kept r (v .end) past) (w .0) (omega (arith, same, was, v .within)) in
       (answer .0, answer .1 ∙ same ∙ was ∙ sym (v .counts))

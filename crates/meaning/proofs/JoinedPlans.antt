@@ -83,13 +83,13 @@ module _ (lim : Limits) (x : Parts) (facts plan goals whether : List ℕ) where
         let room : far ≤ length (tail-of y) = omega (arith, wide) in
         let same : (p : ℕ) → p < far → getD (tail-of y) p 0 ≡ getD (tail-of x) p 0 = λ p less. List·getD-append (x .lines) rest-two 0 p less ∙ sym (List·getD-append (x .lines) rest-one 0 p less) in
         let there = kept-of (tail-of x) (tail-of y) far room same 0 (lines-at lim n m (tail-of x) 0) (lines-at lim n m (tail-of y) 0) (lines-kept lim n m (tail-of x) (tail-of y) far room same 0) (a .0) far
-            (a .2 ∙ ap (λ (k : ℕ). got (a .0) k) ends) .2 (omega arith) in
+        (a .2 ∙ ap (λ (k : ℕ). got (a .0) k) ends) .2 (omega arith) in
         let lines : a .0 ≡ b .0 = got-same (sym there ∙ b .2) in
         let on = length (head-of x) in
         let on-two = length (head-of y) in
         let first : one .table ≡ knowing (x .facts) (moved-table on (a .0)) = a .3 in
         let second : knowing (x .facts) (two .table) ≡ knowing (x .facts) (moved-table on-two (a .0)) =
-            ap (knowing (x .facts)) (b .3) ∙ ap (λ (l : Table). knowing (x .facts) (moved-table on-two l)) (sym lines) in
+        ap (knowing (x .facts)) (b .3) ∙ ap (λ (l : Table). knowing (x .facts) (moved-table on-two l)) (sym lines) in
         subst (λ (t : Table). Same-tables t (one .table)) (sym second) (subst (Same-tables (knowing (x .facts) (moved-table on-two (a .0)))) (sym first) (tables-alike (x .facts) (a .0) on-two on))
 
     -- THE JOINED REQUEST is read as it is cut, with the first's table, and the second's plan behind the first's.
@@ -247,12 +247,12 @@ module _ (lim : Limits) (room : lim .fluents ≤ lim .state) (x : Parts) (facts 
         let so = table-so lim second (two .table) (length (before-plan second)) (ap (λ (b : List ℕ). table-at lim b 0) (sym (bytes-split second)) ∙ two .table-read) in
         let has-facts : two .table .facts ≡ facts = ap (λ (v : Table). v .facts) (so .3) in
         let knows : Knows-more (lim .state) s u = record {
-              first = first-length lim (two .table);
-              second = end-length lim room (bytes-of x) r e past fine-first u h;
-              more = λ l is.
-                  end-knows lim room (bytes-of x) r e past fine-first u h l
-                  (subst (λ (ls : List ℕ). Has ls l) (sym (placed-values _ (x .goals))) (leads l (among-has l facts (sym (ap (among l) has-facts) ∙ sym (there l) ∙ is))));
-            } in
+          first = first-length lim (two .table);
+          second = end-length lim room (bytes-of x) r e past fine-first u h;
+          more = λ l is.
+              end-knows lim room (bytes-of x) r e past fine-first u h l
+              (subst (λ (ls : List ℕ). Has ls l) (sym (placed-values _ (x .goals))) (leads l (among-has l facts (sym (ap (among l) has-facts) ∙ sym (there l) ∙ is))));
+        } in
         let whole-fit : Fit (r-whole .plan) = fits lim room (bytes-of whole) r-whole g (past-whole ∙ ap (λ (v : Request). got v g) is-whole) in
         let fit-tail : Fit tail = fit-second (r .plan) tail (subst Fit plan-is whole-fit) in
         let w = walk-more t (lim .state) near tail fit-tail (judged behind) (judged behind) (judged-follows (lim .state) behind behind (λ l m. m) (λ l m. m)) s u knows (behind-fine .0) in
@@ -272,9 +272,10 @@ module _ (lim : Limits) (room : lim .fluents ≤ lim .state) (x : Parts) (facts 
         let w = paths-bounded k d xs none from-each in
         let c = counts-paths lim room (bytes-of x) r e past fine-first in
         let is : walked q (first-state lim (q .table)) ≡ each-path k xs = ap (λ (v : Request). walked v (first-state lim (v .table))) is-whole ∙ whole-walk in
-        let many : count lim q ≡ each-path k xs .count = ap (λ (v : Walked State). v .count) is in
-        (ap (λ (v : Walked State). v .end) is ∙ w .0,
-        enough (count lim q) (count lim r) (arriving xs) d (let less = arriving-counted xs none in omega (arith, less, c)) (omega (arith, w .1, many, c)))
+        let many : count lim q ≡ each-path k xs .count = ap (λ (v : Walked State). v .count) is in (
+          ap (λ (v : Walked State). v .end) is ∙ w .0,
+          enough (count lim q) (count lim r) (arriving xs) d (let less = arriving-counted xs none in omega (arith, less, c)) (omega (arith, w .1, many, c)),
+        )
 
 -- JOINING, over bytes. The first request leads to what the second starts from: each fact of the second is a goal of the first.
 module _ (lim : Limits) (room : lim .fluents ≤ lim .state) (x : Parts) (one : Cut-so lim x) (lent : List ℕ) (first second budget : ℕ) where

@@ -90,8 +90,8 @@ module _ (lim : Limits) (n m : ℕ) where
       let second : getD s (length pre + 1) 0 ≡ l = ap (λ (k : ℕ). getD s k 0) (omega arith) ∙ behind-byte pre (h ∷ (l ∷ w)) 1 (omega arith) in
       let many : a .0 ≡ h * 256 + l = is .0 ∙ ap₂ (λ (b c : ℕ). b * 256 + c) first second in
       let there : items-of (head ++ w) (h * 256 + l) (length head) 0 ≡ got x e =
-          ap (λ (u : List ℕ). items-of u (h * 256 + l) (length head) 0) (sym split)
-          ∙ ap₂ (λ (k q : ℕ). items-of s k q 0) (sym many) (sized ∙ sym (is .1)) ∙ a .3 in
+      ap (λ (u : List ℕ). items-of u (h * 256 + l) (length head) 0) (sym split)
+      ∙ ap₂ (λ (k q : ℕ). items-of s k q 0) (sym many) (sized ∙ sym (is .1)) ∙ a .3 in
       let base = items-behind head w (h * 256 + l) (length head) 0 0 (omega arith) x e there in
       (base .0, base .1, base .2, base .3 ∙ ap (λ (k : ℕ). moved-part (moved-plan k) (base .0)) sized, base .4 ∙ ap (λ (k : ℕ). base .1 + k) sized)
 

@@ -86,4 +86,5 @@ pub mod JoinedPlans
 pub mod ReuseCases
 pub mod EachRequest
 pub mod ReuseLaws
+pub mod ReuseMet
 pub mod Demands

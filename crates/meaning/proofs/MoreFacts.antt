@@ -52,7 +52,7 @@ module _ (lim : Limits) (x : Parts) (more : List ℕ) (r q : Request) (e f : ℕ
       let far = length (head-of (with-facts more x)) in
       let lines : got (one .lines) (one .lines-end) ≡ got (two .lines) (two .lines-end) = sym (one .lines-read) ∙ two .lines-read in
       let rest : one .rest ≡ two .rest =
-          got-same (sym (one .rest-read) ∙ ap (request-at lim (tail-of x) (bare (x .fluents) (x .actions))) (got-place lines) ∙ two .rest-read) in
+      got-same (sym (one .rest-read) ∙ ap (request-at lim (tail-of x) (bare (x .fluents) (x .actions))) (got-place lines) ∙ two .rest-read) in
       let first : knowing more (r .table) ≡ knowing more (moved-table on (one .lines)) = ap (knowing more) (one .table) in
       let second : q .table ≡ knowing more (moved-table far (one .lines)) = two .table ∙ ap (λ (l : Table). knowing more (moved-table far l)) (sym (got-same lines)) in
       record {
@@ -88,10 +88,10 @@ module _ (lim : Limits) (room : lim .fluents ≤ lim .state) (x : Parts) (more l
       let facts : r .table .facts ≡ x .facts = ap (λ (t : Table). t .facts) (one .table) in
       let facts-too : q .table .facts ≡ more = ap (λ (t : Table). t .facts) (two .table) in
       let knows : Knows-more (lim .state) s u = record {
-            first = first-length lim (r .table);
-            second = first-length lim (q .table);
-            more = λ l h. second l ∙ ap (among l) facts-too ∙ among-more (x .facts) more within l (sym (ap (among l) facts) ∙ sym (first l) ∙ h);
-          } in
+        first = first-length lim (r .table);
+        second = first-length lim (q .table);
+        more = λ l h. second l ∙ ap (among l) facts-too ∙ among-more (x .facts) more within l (sym (ap (among l) facts) ∙ sym (first l) ∙ h);
+      } in
       let grown = walked-more lim room (bytes-of x) r (v .end) (v .settles) s u knows (v .fine) in
       let unread = facts-unread r more u in
       let alike = verified-alike (re-tabled (knowing more (r .table)) r) q (alike-but-facts lim x more r q (v .end) (there .1) one two) u (ap (λ (w : Walked State). w .end) unread ∙ grown .0) in

@@ -230,13 +230,13 @@ module _ (lim : Limits) (x : Parts) where
       let third : p₂ ≡ 2 = omega (arith, second, two .1) in
       let many : m ≡ x .actions = two .0 ∙ ap (λ (k : ℕ). getD s k 0) second in
       let list = list-is literals n s (lim .listed) (x .facts) 2 (2 + length (list-written (x .facts))) (part-stands (x .fluents ∷ x .actions ∷ []) (list-written (x .facts)) (tail-of x)) facts p₃
-          (subst (λ (k : ℕ). list-at literals n (lim .listed) s k ≡ got facts p₃) third ef) in
+      (subst (λ (k : ℕ). list-at literals n (lim .listed) s k ≡ got facts p₃) third ef) in
       let behind = behind-is lim n m facts s p₃ t p e₃ in
       let fourth : p₃ ≡ on = list .1 ∙ omega arith in
       let there : lines-at lim (x .fluents) (x .actions) s on ≡ got (behind .0) p =
-          ap (λ (k : ℕ). lines-at lim k (x .actions) s on) (sym (one .0)) ∙ ap₂ (λ (k j : ℕ). lines-at lim n k s j) (sym many) (sym fourth) ∙ behind .1 in
+      ap (λ (k : ℕ). lines-at lim k (x .actions) s on) (sym (one .0)) ∙ ap₂ (λ (k j : ℕ). lines-at lim n k s j) (sym many) (sym fourth) ∙ behind .1 in
       let base = shifted-got s (tail-of x) on 0 (behind-length (head-of x) (tail-of x)) (behind-byte (head-of x) (tail-of x)) (moved-table on) _ _
-          (lines-shifted (head-of x) (tail-of x) lim (x .fluents) (x .actions) on 0 (omega arith)) (behind .0) p there in
+      (lines-shifted (head-of x) (tail-of x) lim (x .fluents) (x .actions) on 0 (omega arith)) (behind .0) p there in
       (base .0, base .1, base .2, behind .2 ∙ ap₂ {C = Table} knowing (list .0) (base .3), base .4)
 
   -- The request.

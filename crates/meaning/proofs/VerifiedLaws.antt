@@ -90,7 +90,7 @@ module _ (lim : Limits) (request lent : List ℕ) (budget : ℕ) where
     so-verified r e settles is-fine enough =
         let w = walked r (first-state lim (r .table)) in
         let is : judge lim request lent budget ≡ ended lent (w .count) fine =
-            pick-true _ _ _ (eq-eqb _ _ sized) ∙ ap (judge-settled lim lent budget) settles ∙ pick-false _ _ _ (le-ltb budget (w .count) enough) ∙ ap (ended lent (w .count)) is-fine in
+        pick-true _ _ _ (eq-eqb _ _ sized) ∙ ap (judge-settled lim lent budget) settles ∙ pick-false _ _ _ (le-ltb budget (w .count) enough) ∙ ap (ended lent (w .count)) is-fine in
         (ap (λ (j : Judgement). j .answer .number) is, ap (λ (j : Judgement). j .answer .count) is)
 
     -- What is not refused by 10 to 21 is settled.

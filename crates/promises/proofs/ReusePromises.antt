@@ -48,7 +48,7 @@ same-inputs p q r = λ i. judge format (p i) (q i) (r i) .answer
 pub definition's : (request lent : List ℕ) (budget : ℕ) (answer : Answer) → Answered request lent budget answer → answer ≡ judge format request lent budget .answer
 definition's request lent budget answer (by-judge κs given result exit meets p q r is) = sym is ∙ ap (λ (j : Judgement). j .answer) (Promises.as-written κs given result exit meets .0) ∙ same-inputs p q r
 definition's request lent budget answer (by-export κs given n exit meets p q r is) = sym is ∙ ExportedPromises.unpacked-is κs given n exit meets ∙ same-inputs p q r
-definition's request lent budget answer (by-line-export κs given n exit meets p q r is) = 
+definition's request lent budget answer (by-line-export κs given n exit meets p q r is) =
     sym is ∙ unpacks (ExportedLinePromises.answer κs given) (answer-small (ExportedLinePromises.request κs given) (ExportedLinePromises.lent κs given) (ExportedLinePromises.budget κs given)) n (ExportedLinePromises.as-written κs given n exit meets .0)
     ∙ same-inputs p q r
 
@@ -113,7 +113,7 @@ module _ (lent other : List ℕ) (same : length lent ≡ length other) where
     pub joining : (a .count - e) + e * b .count ≤ budget → Up-to ((a .count - e) + e * b .count) w
     joining enough =
         let bound : answer-on format lent first x .count - e + e * answer-on format lent second y .count ≡ a .count - e + e * b .count =
-            ap₂ (λ (u v : Answer). u .count - e + e * v .count) is-one is-two in
+        ap₂ (λ (u v : Answer). u .count - e + e * v .count) is-one is-two in
         subst (Up-to (a .count - e + e * b .count)) is-whole
         (subst (λ (k : ℕ). Up-to k (answer-on format lent budget (joined x y))) bound
         (Demands.joining format format-room lent x y cut cut-too one-table leads first second budget (number-on is-one verified) (number-on is-two verified-too) (passes-on is-whole passes)
