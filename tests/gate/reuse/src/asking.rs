@@ -1,5 +1,7 @@
 //! Walk calls, each between fences and with any bytes lent.
 
+use std::fmt;
+
 use oracle::rng::Rng;
 use oracle::text::comma_separated;
 use oracle::STATE_LENGTH;
@@ -31,6 +33,16 @@ impl Told {
         match self.answer {
             [0, 0, 0, count] => Some(count as u32),
             _ => None,
+        }
+    }
+}
+
+impl fmt::Display for Told {
+    fn fmt(&self, out: &mut fmt::Formatter<'_>) -> fmt::Result {
+        write!(out, "{:?}", self.answer)?;
+        match &self.state {
+            Some(state) => write!(out, " with the state {}", comma_separated(state)),
+            None => Ok(()),
         }
     }
 }

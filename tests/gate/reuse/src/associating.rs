@@ -64,7 +64,7 @@ fn alike(asker: &mut Asker, requests: &[&[u8]], budget: u32) -> Result<Told, Str
     for request in &requests[1..] {
         let told = asker.ask(request, budget)?;
         if told != first {
-            return Err(format!("the same bytes get {first:?} and {told:?}"));
+            return Err(format!("the same bytes get {first}, and {told}"));
         }
     }
     Ok(first)

@@ -93,7 +93,7 @@ pub fn hold(judge: &Judge) -> Result<Vec<&'static str>, String> {
             let expected = Told { answer: row.answer, state };
             let told = asker.ask(&row.request.bytes(), row.budget)?;
             if told != expected {
-                return Err(format!("{name}: {told:?} and not {expected:?}; asked: {}", asker.made()));
+                return Err(format!("{name}: {told}, and not {expected}; asked: {}", asker.made()));
             }
         }
         names.push(name);

@@ -16,6 +16,9 @@ use crate::{associating, converses, facts, goals, joining};
 /// Trials of each law with the independent program's call.
 const RIGHT: u64 = 2_000;
 
+/// Characters that are printed of how a wrong call was noticed.
+const SHOWN: usize = 90;
+
 /// What notices a wrong call.
 enum By {
     Trials(Law),
@@ -42,7 +45,7 @@ pub fn tell(seed: u64, count: u64) -> Result<String, String> {
             Converses => converses::hold(judge).err().map(|why| ("converses".to_string(), why)),
         };
         let (found, why) = noticed.ok_or_else(|| format!("not noticed in {count} trials of seed {seed}: {what}"))?;
-        println!("  wrong call: {what}: {found}: {}", why.split(';').next().unwrap_or(""));
+        println!("  wrong call: {what}: {found}: {}", why.chars().take(SHOWN).collect::<String>());
     }
     Ok(format!("all {} wrong calls are noticed", wrong.len()))
 }
