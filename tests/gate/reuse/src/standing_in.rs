@@ -67,7 +67,7 @@ fn wrong() -> Vec<(&'static str, By, Box<Judge>)> {
             Trials(associating::LAW),
             twisted(move |call| {
                 calls.set(calls.get() + 1);
-                let other = call.answer.input == REQUEST && calls.get() % 1_000 == 0;
+                let other = call.answer.input == REQUEST && calls.get().is_multiple_of(1_000);
                 Answer { place: call.answer.place ^ u32::from(other), ..call.answer }
             }),
         ),
