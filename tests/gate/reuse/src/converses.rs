@@ -56,7 +56,10 @@ fn shown() -> Vec<(&'static str, Vec<Row>)> {
     let both = looks.joined(&acts);
     vec![
         ("an answer 1 becomes 0 with one more fact", vec![failed(&gives_if(&[]), 1, 16, 2, [0, 0]), verified(&gives_if(&[0]), 2)]),
-        ("an answer 2 becomes 1 with one more fact", vec![failed(&runs_if(&[], &[2]), 2, 11, 0, [0, 0]), failed(&runs_if(&[0], &[2]), 1, 14, 2, [1, 0])]),
+        (
+            "an answer 2 becomes 1 with one more fact",
+            vec![failed(&runs_if(&[], &[2]), 2, 11, 0, [0, 0]), failed(&runs_if(&[0], &[2]), 1, 14, 2, [1, 0])],
+        ),
         ("an answer 0 becomes 1 with one fact less", vec![verified(&gives_if(&[0]), 2), failed(&gives_if(&[]), 1, 16, 2, [0, 0])]),
         ("an answer 0 becomes 2 with one fact less", vec![verified(&runs_if(&[0], &[]), 2), failed(&runs_if(&[], &[]), 2, 11, 0, [0, 0])]),
         (

@@ -28,8 +28,8 @@ use words::{number, obey, Failure};
 /// The stack on which calls are made: what a walk may need, and room for this program itself.
 const STACK: usize = glintstring::STACK_NEEDED + (2 << 20);
 
-const HELP: &str = "usage: reuse facts SEED COUNT | reuse goals SEED COUNT | reuse joining SEED COUNT | reuse associating SEED COUNT | reuse converses \
-                    | reuse noticed SEED COUNT";
+const HELP: &str = "usage: reuse facts SEED COUNT | reuse goals SEED COUNT | reuse joining SEED COUNT | reuse associating SEED COUNT \
+                    | reuse converses | reuse noticed SEED COUNT";
 
 fn main() -> ExitCode {
     obey("reuse", STACK, |words| {
