@@ -15,7 +15,7 @@ pub record Case : Type 0 where
   pub budget : ℕ
   pub gives : Judgement
 
-abbrev row : (request lent : List ℕ) → (budget number input place count : ℕ) → (state : List ℕ) → Case
+abbrev pub row : (request lent : List ℕ) → (budget number input place count : ℕ) → (state : List ℕ) → Case
 row request lent budget number input place count state = record {
   request = request;
   lent = lent;
@@ -32,16 +32,16 @@ abbrev pub usual : ℕ
 usual = 100000
 
 -- Rows by their answer. The marks are those of the fluents from 0 up; zeros follow.
-abbrev verified : (request : List ℕ) → (count : ℕ) → Case
+abbrev pub verified : (request : List ℕ) → (count : ℕ) → Case
 verified request count = row request lent-room usual 0 0 0 count lent-room
 
 abbrev pub marked : List ℕ → List ℕ
 marked marks = marks ++ replicate (format .state - length marks) 0
 
-abbrev missed : (request : List ℕ) → (place count : ℕ) → (marks : List ℕ) → Case
+abbrev pub missed : (request : List ℕ) → (place count : ℕ) → (marks : List ℕ) → Case
 missed request place count marks = row request lent-room usual 1 1 place count (marked marks)
 
-abbrev stuck : (request : List ℕ) → (place count : ℕ) → (marks : List ℕ) → Case
+abbrev pub stuck : (request : List ℕ) → (place count : ℕ) → (marks : List ℕ) → Case
 stuck request place count marks = row request lent-room usual 2 1 place count (marked marks)
 
 abbrev refused : (request : List ℕ) → (number place : ℕ) → Case

@@ -5,18 +5,16 @@ use mathlib.Core.Path.{_≡_, refl, sym, _∙_, ap}
 use mathlib.Core.Bool.{true}
 use mathlib.Core.List.{List, _∷_}
 use lib.ListN.{length, length-replicate, getD, replicate}
-use lib.Dec.{eqb, ltb}
 use Rattle.meaning.specs.declared.Layout.{Layout}
-use Rattle.meaning.specs.Tests.{either, pick, some-of}
 use Rattle.meaning.specs.Limits
 use Rattle.meaning.specs.Limits.{Limits, former, format}
 use Rattle.meaning.specs.Literals.{among}
 use Rattle.meaning.specs.Requests.{Request-over, Request}
 use Rattle.meaning.specs.Reading.{Got, got, fault}
 use Rattle.meaning.specs.Refusals.{settled}
-use Rattle.meaning.specs.States.{State, first-state}
-use Rattle.meaning.specs.Walk.{End, fine, missed, stopped, Walked, Verified, walked}
-use Rattle.meaning.specs.Judging.{reported, ended, within, judge-settled, judge}
+use Rattle.meaning.specs.States.{first-state}
+use Rattle.meaning.specs.Walk.{Verified, walked}
+use Rattle.meaning.specs.Judging.{judge}
 use Rattle.meaning.specs.Releases.{Opening, opening, plans-at, unreached, in-row, release, own-request, moved, row-of}
 use Rattle.meaning.specs.Worlds.{Carried-out}
 use Rattle.meaning.specs.Values.{Literals, all-exclusive}
@@ -24,14 +22,12 @@ use Rattle.meaning.specs.ValueStates
 use Rattle.meaning.specs.ValueWorlds
 use Rattle.meaning.specs.Derivations.{check}
 use Rattle.meaning.specs.Wider.{Same-judgement}
-use Rattle.meaning.specs.Answers.{refusals, answers}
-use Rattle.meaning.proofs.TestLaws.{by-test, clash}
+use Rattle.meaning.specs.Answers.{answers}
 use Rattle.meaning.proofs.WalkLaws.{On-conditions}
-use Rattle.meaning.proofs.KeptEnds.{Stuck, walked-stuck}
 use Rattle.meaning.proofs.AnswerLaws
 use Rattle.meaning.proofs.DerivationSound
 use Rattle.meaning.proofs.ValueSound
-use Rattle.meaning.proofs.AnswerLaws.{Numbered-in, settled-numbered}
+use Rattle.meaning.proofs.VerifiedLaws.{verified-so}
 use Rattle.meaning.proofs.Passed.{passed-exactly}
 use Rattle.meaning.proofs.WalkSound.{walk-sound}
 use Rattle.meaning.proofs.ReleaseRows
@@ -68,39 +64,20 @@ pub use Rattle.meaning.proofs.ReleaseLaws.{plans-counted, none-counted,
 -- Where its answer is 0, each plan's row is the walk call's answer on the table and that plan, with its place counted in the file, and 22 stands just
 -- behind a plan that failed in reading.
 pub use Rattle.meaning.proofs.ReleaseRows.{each-row, behind-a-failure, not-reached-exactly}
+-- Reused verdicts, of requests in parts: more facts and fewer goals leave a request verified; two plans that are verified one behind the other are
+-- verified as one, within a budget that is named; joining is associative, with the plan without items as its unit, on bytes and on whole answers.
+pub use Rattle.meaning.proofs.ReuseLaws.{each-request, lent-unread, more-facts, fewer-goals, joining, joining-by-product, plans-associate, no-items-before, no-items-after, answers-associate, answers-before, answers-after}
+-- What is not so of them, by rows of the proved cases.
+pub use Rattle.meaning.proofs.ReuseLaws.{reuse-cases, reuse-cases-hold, looks-ends}
 
 -- Demand 1 (FORMAT 11.1): every input gets one of the numbered answers.
 pub numbered : (lim : Limits) (request lent : List ℕ) (budget : ℕ) → among (judge lim request lent budget .answer .number) answers ≡ true
 numbered = AnswerLaws.every-answer-numbered
 
 -- Answer 0 is given to a settled request whose walk is verified.
-module _ (lim : Limits) (lent : List ℕ) (budget : ℕ) where
-  verified-ends-fine : (c : ℕ) (e : End State) → Stuck e → ended lent c e .answer .number ≡ Limits.verified → e ≡ fine
-  unfolding ended reported
-  verified-ends-fine c fine stuck q = refl
-  verified-ends-fine c (missed p s) stuck q = absurd (omega arith)
-  verified-ends-fine c (stopped n p u) stuck q = absurd (omega (arith, stuck .0))
-
-  verified-within : (w : Walked State) → Stuck (w .end) → within lent budget w .answer .number ≡ Limits.verified → Verified w
-  unfolding within pick
-  verified-within w stuck q =
-      by-test (ltb budget (w .count))
-      (λ t. absurd (let three : _≡_ {A = ℕ} 3 0 = rw (t, pick) at q in omega arith))
-      (λ f. verified-ends-fine (w .count) (w .end) stuck (rw (f, pick) at q))
-
-  verified-settled : (x : Got Request) → Numbered-in refusals x → judge-settled lim lent budget x .answer .number ≡ Limits.verified
-      → (r : Request) × (e : ℕ) × (x ≡ got r e) × Verified (walked r (first-state lim (r .table)))
-  unfolding judge-settled among refusals some-of either
-  verified-settled (got r e) n q = (r, e, refl, verified-within _ (walked-stuck r _) q)
-  verified-settled (fault k p) n q = clash n (ap (λ (i : ℕ). among i refusals) q)
-
 pub verified-means : (lim : Limits) (request lent : List ℕ) (budget : ℕ) → judge lim request lent budget .answer .number ≡ Limits.verified
     → (r : Request) × (e : ℕ) × (settled lim request ≡ got r e) × Verified (walked r (first-state lim (r .table)))
-unfolding judge pick
-verified-means lim request lent budget q =
-    by-test (eqb (length lent) (lim .state))
-    (λ t. verified-settled lim lent budget (settled lim request) (settled-numbered lim request) (rw (t, pick) at q))
-    (λ f. absurd (let nine : _≡_ {A = ℕ} 9 0 = rw (f, pick) at q in omega arith))
+verified-means lim request lent budget q = let v = verified-so lim request lent budget q in (v .says, v .end, v .settles, v .fine)
 
 -- Demand 3 (FORMAT 11.7 to 11.12): a verified plan is carried out in every world with the initial facts, at any budget.
 pub sound : (lim : Limits) (request lent : List ℕ) (budget : ℕ) → judge lim request lent budget .answer .number ≡ Limits.verified

@@ -27,7 +27,7 @@ module _ (s u : List ℕ) (far : ℕ) (room : far ≤ length u) (same : (p : ℕ
     pub kept-of : (p : ℕ) (g h : Got A) → Kept p g h → (x : A) (e : ℕ) → g ≡ got x e → Kept p (got x e) h
     kept-of p g h kept x e read = subst (λ (y : Got A). Kept p y h) read kept
 
-    kept-got : (x : A) (p : ℕ) → Kept p (got x p) (got x p)
+    pub kept-got : (x : A) (p : ℕ) → Kept p (got x p) (got x p)
     kept-got x p = (omega arith, λ h. h, λ _. refl)
 
     kept-pick : (b : Bool) (p : ℕ) (f g h k : Unit {0} → Got A) → Kept p (f tt) (h tt) → Kept p (g tt) (k tt) → Kept p (pick b f g) (pick b h k)
@@ -41,7 +41,7 @@ module _ (s u : List ℕ) (far : ℕ) (room : far ≤ length u) (same : (p : ℕ
     kept-after p q on inside (fault n i) h j is kept = tt
 
   module _ {A B : Type 0} where
-    kept-next : (p : ℕ) (g h : Got A) (k j : A → ℕ → Got B) → Kept p g h → ((x : A) (q : ℕ) → Kept q (k x q) (j x q)) → Kept p (next g k) (next h j)
+    pub kept-next : (p : ℕ) (g h : Got A) (k j : A → ℕ → Got B) → Kept p g h → ((x : A) (q : ℕ) → Kept q (k x q) (j x q)) → Kept p (next g k) (next h j)
     unfolding next
     kept-next p (got x q) h k j one f = kept-after p q (one .0) (one .1) (k x q) (j x q) (next h j) (λ few. next-is h j x q (one .2 few)) (f x q)
     kept-next p (fault n i) h k j one f = tt
@@ -95,7 +95,7 @@ module _ (s u : List ℕ) (far : ℕ) (room : far ≤ length u) (same : (p : ℕ
         kept-next p (line p) (other p) _ _ (kept p) λ x q.
         kept-next q (repeated line left q) (repeated other left q) _ _ (repeated-kept left q) λ rest r. kept-got (x ∷ rest) r
 
-    section-kept : (p : ℕ) → Kept p (section-at line s p) (section-at other u p)
+    pub section-kept : (p : ℕ) → Kept p (section-at line s p) (section-at other u p)
     unfolding section-at
     section-kept p = byte-next p _ _ λ c. repeated-kept c (p + 1)
 
@@ -112,33 +112,33 @@ module _ (s u : List ℕ) (far : ℕ) (room : far ≤ length u) (same : (p : ℕ
     unfolding body-at
     body-kept p = list-kept literals n (lim .body) p
 
-    effect-kept : (p : ℕ) → Kept p (effect-at lim n m s p) (effect-at lim n m u p)
+    pub effect-kept : (p : ℕ) → Kept p (effect-at lim n m s p) (effect-at lim n m u p)
     unfolding effect-at
     effect-kept p =
         kept-next p (below-at m s p) (below-at m u p) _ _ (below-kept m p) λ a q.
         kept-next q (below-at (2 * n) s q) (below-at (2 * n) u q) _ _ (below-kept (2 * n) q) λ l r.
         kept-next r (body-at lim n s r) (body-at lim n u r) _ _ (body-kept r) λ b e. kept-got _ e
 
-    executability-kept : (p : ℕ) → Kept p (executability-at lim n m s p) (executability-at lim n m u p)
+    pub executability-kept : (p : ℕ) → Kept p (executability-at lim n m s p) (executability-at lim n m u p)
     unfolding executability-at
     executability-kept p =
         kept-next p (below-at m s p) (below-at m u p) _ _ (below-kept m p) λ a q.
         kept-next q (body-at lim n s q) (body-at lim n u q) _ _ (body-kept q) λ b e. kept-got _ e
 
-    knowledge-kept : (p : ℕ) → Kept p (knowledge-at lim n m s p) (knowledge-at lim n m u p)
+    pub knowledge-kept : (p : ℕ) → Kept p (knowledge-at lim n m s p) (knowledge-at lim n m u p)
     unfolding knowledge-at
     knowledge-kept p =
         kept-next p (below-at m s p) (below-at m u p) _ _ (below-kept m p) λ a q.
         kept-next q (below-at n s q) (below-at n u q) _ _ (below-kept n q) λ f e. kept-got _ e
 
     -- PLANS.
-    item-kept : (deeper other : Part (Item ℕ)) → Behind-kept deeper other → Parts-kept (item-at lim n m s deeper) (item-at lim n m u other)
+    pub item-kept : (deeper other : Part (Item ℕ)) → Behind-kept deeper other → Parts-kept (item-at lim n m s deeper) (item-at lim n m u other)
     unfolding item-at
     item-kept deeper other kept p met =
         byte-next p _ _ λ x.
         kept-pick _ (p + 1) _ _ _ _ tt (kept-pick _ (p + 1) _ _ _ _ (kept p (met + 1)) (kept-pick _ (p + 1) _ _ _ _ tt (kept-got _ (p + 1))))
 
-    items-kept : (one other : Part (Item ℕ)) → Parts-kept one other → (left : ℕ) → Parts-kept (items-at lim n m s one left) (items-at lim n m u other left)
+    pub items-kept : (one other : Part (Item ℕ)) → Parts-kept one other → (left : ℕ) → Parts-kept (items-at lim n m s one left) (items-at lim n m u other left)
     unfolding items-at
     items-kept one other kept zero p met = kept-got _ p
     items-kept one other kept (suc left) p met =
@@ -159,7 +159,7 @@ module _ (s u : List ℕ) (far : ℕ) (room : far ≤ length u) (same : (p : ℕ
         kept-next q (sequence q met) (other q met) _ _ (kept q met) λ b r.
         kept-next r (branches-at lim n m s sequence left r (b .items)) (branches-at lim n m u other left r (b .items)) _ _ (branches-kept sequence other kept left r (b .items)) λ rest e. kept-got _ e
 
-    branching-kept : (left : ℕ) → Behind-kept (branching-at lim n m s left) (branching-at lim n m u left)
+    pub branching-kept : (left : ℕ) → Behind-kept (branching-at lim n m s left) (branching-at lim n m u left)
     unfolding branching-at
     branching-kept zero p met = tt
     branching-kept (suc left) p met =
@@ -167,7 +167,7 @@ module _ (s u : List ℕ) (far : ℕ) (room : far ≤ length u) (same : (p : ℕ
         kept-next q (branches-at lim n m s (sequence-at lim n m s (branching-at lim n m s left)) c q met) (branches-at lim n m u (sequence-at lim n m u (branching-at lim n m u left)) c q met) _ _
         (branches-kept _ _ (sequence-kept _ _ (branching-kept left)) c q met) λ bs r. kept-got _ r
 
-    plan-kept : (p : ℕ) → Kept p (plan-at lim n m s p) (plan-at lim n m u p)
+    pub plan-kept : (p : ℕ) → Kept p (plan-at lim n m s p) (plan-at lim n m u p)
     unfolding plan-at
     plan-kept p = sequence-kept _ _ (branching-kept (lim .nested)) p 0
 

@@ -161,7 +161,7 @@ module _ (r q : Request) (same : Same-but-lines r q) where
       ap (λ (e : End State). record { count = 1; end = e })
       (unplaced-end-of (missed-in r s) s ∙ ap (λ (f : Found). end-of f s) (missed-same s) ∙ sym (unplaced-end-of (missed-in q s) s))
 
-  walked-same : (s : State) → unplaced-walk (walked r s) ≡ unplaced-walk (walked q s)
+  pub walked-same : (s : State) → unplaced-walk (walked r s) ≡ unplaced-walk (walked q s)
   unfolding walked table-step
   walked-same s =
       walk-unplaced (table-step (r .table)) (r .plan) (judged r) s

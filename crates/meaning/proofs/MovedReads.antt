@@ -113,7 +113,7 @@ module _ (kind : Reading.Kind) (n : ℕ) (s : List ℕ) where
   list-copied most p = counted-copied s (count-at 0 most) (λ u c q. entries-at kind n u c q 0) (λ xs. xs) p (count-copied s 0 most p) (λ c q. entries-copied c q 0)
 
 -- TWO-BYTE NUMBERS.
-number-stands : (u : List ℕ) (q k f : ℕ) → Stands u q (number-written k) f → two-bytes-at u q ≡ got k f
+pub number-stands : (u : List ℕ) (q k f : ℕ) → Stands u q (number-written k) f → two-bytes-at u q ≡ got k f
 unfolding two-bytes-at number-written
 number-stands u q k f st =
     let is : k / 256 * 256 + k % 256 ≡ k = omega arith in

@@ -17,7 +17,7 @@ use Rattle.meaning.proofs.PickLaws.{pick-has}
 
 module _ {S : Type 0} where
   -- WALKS ONE AFTER ANOTHER.
-  abbrev no-walk : Walked S
+  abbrev pub no-walk : Walked S
   no-walk = record { count = 0; end = fine }
 
   same-walk : {c d : ℕ} {e g : End S} → c ≡ d → e ≡ g → _≡_ {A = Walked S} (record { count = c; end = e }) (record { count = d; end = g })
@@ -80,16 +80,16 @@ module _ {S : Type 0} where
       by-ends (stopped n p u) g = refl
 
   -- EACH PATH IN TURN, with k walked where it arrives.
-  unfoldable path-walk : (S → Walked S) → List ℕ → Ending S → Walked S
+  unfoldable pub path-walk : (S → Walked S) → List ℕ → Ending S → Walked S
   path-walk k ran (arrives s) = counted (length ran) (k s)
   path-walk k ran (stops n p u) = counted (length ran) (stopped-at n p u)
 
-  unfoldable each-path : (S → Walked S) → List (Path S) → Walked S
+  unfoldable pub each-path : (S → Walked S) → List (Path S) → Walked S
   each-path k [] = no-walk
   each-path k (x ∷ xs) = and-then (path-walk k (x .ran) (x .ending)) (λ _. each-path k xs)
 
   -- A list with at least one path.
-  abbrev Inhabited : List (Path S) → Type 0
+  abbrev pub Inhabited : List (Path S) → Type 0
   Inhabited [] = ⊥
   Inhabited (x ∷ xs) = Unit {0}
 
@@ -170,7 +170,7 @@ module _ {S L : Type 0} (step : Steps S L) where
   mutual
     unfolding paths
 
-    paths-inhabited : (p : Sequence L) (s : S) → Inhabited (paths step p s)
+    pub paths-inhabited : (p : Sequence L) (s : S) → Inhabited (paths step p s)
     paths-inhabited done s = tt
     paths-inhabited (item i rest) s = gone-on-inhabited (paths step rest) (paths-inhabited rest) (paths-item step i s) (item-inhabited i s)
 
@@ -187,7 +187,7 @@ module _ {S L : Type 0} (step : Steps S L) where
     unfolding walk run-action paths
 
     -- A walk is what follows it, walked at the end of each path.
-    walk-each-path : (p : Sequence L) (k : S → Walked S) (s : S) → walk step p k s ≡ each-path k (paths step p s)
+    pub walk-each-path : (p : Sequence L) (k : S → Walked S) (s : S) → walk step p k s ≡ each-path k (paths step p s)
     walk-each-path done k s = sym (each-arrives k s)
     walk-each-path (item i rest) k s =
         ap (λ (j : S → Walked S). walk-item step i j s) (fun-ext (walk-each-path rest k))

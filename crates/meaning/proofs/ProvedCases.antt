@@ -19,6 +19,7 @@ use Rattle.meaning.proofs.DerivationCases.{derivations, derivations-hol
 use Rattle.meaning.proofs.WhetherCases.{whethers, whethers-hold}
 use Rattle.meaning.proofs.ReleaseCases
 use Rattle.meaning.proofs.ReleaseCases.{releases, releases-hold}
+use Rattle.meaning.proofs.ReuseCases.{reuse-cases, reuse-cases-hold}
 
 -- A call, and what it gives. A derivation in the plain layout is put to the derivation call, and one in the closing layout to the whether call.
 pub data Call : Type 0 where
@@ -55,9 +56,11 @@ checking-row c = record { call = checking (c .layout) (c .request) (c .derivatio
 abbrev releasing-row : ReleaseCases.Case → Row
 releasing-row c = record { call = releasing (c .file) (c .lent) (c .budget); gives = released (c .gives) }
 
--- Cases 1 to 13 and the rows beside them, those of the line, then case 14 and the rows beside it, then those of the closing layout, then those of releases.
+-- Cases 1 to 13 and the rows beside them, those of the line, then case 14 and the rows beside it, then those of the closing layout, then those of
+-- releases and those of reused verdicts.
 pub proved-cases : List Row
-proved-cases = map judging-row cases ++ (map line-row line-cases ++ (map checking-row derivations ++ (map checking-row whethers ++ map releasing-row releases)))
+proved-cases =
+    map judging-row cases ++ (map line-row line-cases ++ (map checking-row derivations ++ (map checking-row whethers ++ (map releasing-row releases ++ map judging-row reuse-cases))))
 
 -- Each row's call gives what the row says.
 abbrev Hold : List Row → Type 0
@@ -66,13 +69,13 @@ Hold rows = map (λ (r : Row). outcome-of (r .call)) rows ≡ map (λ (r : Row).
 hold-both : (xs ys : List Row) → Hold xs → Hold ys → Hold (xs ++ ys)
 hold-both xs ys h k = map-append _ xs ys ∙ ap₂ {C = List Given} (λ gs hs. gs ++ hs) h k ∙ sym (map-append _ xs ys)
 
-judgings : Hold (map judging-row cases)
-judgings =
-    map-map _ judging-row cases
-    ∙ sym (map-map judged (λ (c : Cases.Case). judge format (c .request) (c .lent) (c .budget)) cases)
-    ∙ ap (map judged) cases-hold
-    ∙ map-map judged (λ (c : Cases.Case). c .gives) cases
-    ∙ sym (map-map _ judging-row cases)
+judgings : (cs : List Cases.Case) → map (λ (c : Cases.Case). judge format (c .request) (c .lent) (c .budget)) cs ≡ map (λ (c : Cases.Case). c .gives) cs → Hold (map judging-row cs)
+judgings cs hold =
+    map-map _ judging-row cs
+    ∙ sym (map-map judged (λ (c : Cases.Case). judge format (c .request) (c .lent) (c .budget)) cs)
+    ∙ ap (map judged) hold
+    ∙ map-map judged (λ (c : Cases.Case). c .gives) cs
+    ∙ sym (map-map _ judging-row cs)
 
 -- Two equations over one list are one over it.
 two-lists : (gives : LineCase → Judgement) (carries : LineCase → ℕ) (cs : List LineCase)
@@ -107,7 +110,8 @@ releasings =
 pub proved-cases-hold : map (λ (r : Row). outcome-of (r .call)) proved-cases ≡ map (λ (r : Row). r .gives) proved-cases
 unfolding proved-cases
 proved-cases-hold =
-    hold-both (map judging-row cases) (map line-row line-cases ++ (map checking-row derivations ++ (map checking-row whethers ++ map releasing-row releases))) judgings
-    (hold-both (map line-row line-cases) (map checking-row derivations ++ (map checking-row whethers ++ map releasing-row releases)) linings
-    (hold-both (map checking-row derivations) (map checking-row whethers ++ map releasing-row releases) (checkings derivations derivations-hold)
-    (hold-both (map checking-row whethers) (map releasing-row releases) (checkings whethers whethers-hold) releasings)))
+    hold-both (map judging-row cases) (map line-row line-cases ++ (map checking-row derivations ++ (map checking-row whethers ++ (map releasing-row releases ++ map judging-row reuse-cases)))) (judgings cases cases-hold)
+    (hold-both (map line-row line-cases) (map checking-row derivations ++ (map checking-row whethers ++ (map releasing-row releases ++ map judging-row reuse-cases))) linings
+    (hold-both (map checking-row derivations) (map checking-row whethers ++ (map releasing-row releases ++ map judging-row reuse-cases)) (checkings derivations derivations-hold)
+    (hold-both (map checking-row whethers) (map releasing-row releases ++ map judging-row reuse-cases) (checkings whethers whethers-hold)
+    (hold-both (map releasing-row releases) (map judging-row reuse-cases) releasings (judgings reuse-cases reuse-cases-hold)))))

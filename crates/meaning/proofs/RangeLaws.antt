@@ -69,7 +69,7 @@ pub record Above (floor y : ℕ) : Type 0 where
   pub least : floor ≤ y
   pub apart : 0 < floor → y ≡ complement (floor - 1) → ⊥
 
-complement-near : (l : ℕ) → complement l ≤ l + 1
+pub complement-near : (l : ℕ) → complement l ≤ l + 1
 complement-near l =
     by-test (eqb (l % 2) 0)
     (λ t. let q = complement-even l (eqb-true _ _ t) in omega arith)

@@ -34,7 +34,7 @@ use Rattle.meaning.proofs.AnswerLaws.{every-answer-numbered}
 use Rattle.meaning.proofs.ReleaseLaws.{judged, opened, rows-at, answers-length}
 
 -- What was read, and is not refused by 18.
-abbrev past-overlap : Got Request → Got Request
+abbrev pub past-overlap : Got Request → Got Request
 past-overlap x = next x λ r e. refuse Limits.not-exclusive (overlap-in (r .plan)) λ _. got r e
 
 -- THE ANSWER of a settled request, moved.
@@ -115,11 +115,11 @@ module _ {A B : Type 0} where
   unfolding next
   next-fault m k n i e = ap (λ (y : Got A). next y k) e
 
-refuse-none : {A : Type 0} (n : ℕ) (f : Found) (k : Unit {0} → Got A) → f ≡ nowhere → refuse n f k ≡ k tt
+pub refuse-none : {A : Type 0} (n : ℕ) (f : Found) (k : Unit {0} → Got A) → f ≡ nowhere → refuse n f k ≡ k tt
 unfolding refuse
 refuse-none n f k e = ap (λ (g : Found). refuse n g k) e
 
-request-table : (lim : Limits) (s : List ℕ) (t : Table) (p : ℕ) → On (request-at lim s t p) (λ r e. r .table ≡ t)
+pub request-table : (lim : Limits) (s : List ℕ) (t : Table) (p : ℕ) → On (request-at lim s t p) (λ r e. r .table ≡ t)
 unfolding request-at
 request-table lim s t p =
     next-on {P = λ _ _. Unit {0}} (plan-at lim (t .fluents) (t .actions) s p) _ (record { holds = λ _ _ _. tt }) λ plan q _.
@@ -128,7 +128,7 @@ request-table lim s t p =
     got-on _ _ refl
 
 module _ (lim : Limits) (t : Table) (end : ℕ) (clean : contradiction-in t ≡ nowhere) (unmixed : mixed-in (t .effects) (t .knowledge) ≡ nowhere) where
-  settled-behind : (u : List ℕ) → length u ≤ lim .request → table-at lim u 0 ≡ got t end → (h : Got Request) → request-at lim u t end ≡ h
+  pub settled-behind : (u : List ℕ) → length u ≤ lim .request → table-at lim u 0 ≡ got t end → (h : Got Request) → request-at lim u t end ≡ h
       → ((r : Request) (e : ℕ) → h ≡ got r e → length u ≤ e) → settled lim u ≡ past-overlap h
   unfolding settled read-request next
   settled-behind u short table (got r e) read ends =

@@ -1,8 +1,8 @@
--- Sections 6 to 8 are read alike wherever they stand: where one input has from some place on what another has a distance further on, up to the end of
+-- Sections 3 to 8 are read alike wherever they stand: where one input has from some place on what another has a distance further on, up to the end of
 -- both, a reader gives the same in both, or the same fault, with every place that distance further on. By going through the readers. Assumes nothing.
-use Prim.Native.Nat.{ℕ, zero, suc, _+_, _≤_}
+use Prim.Native.Nat.{ℕ, zero, suc, _+_, _*_, _≤_}
 use native.Mathlib.Omega.{arith}
-use mathlib.Core.Path.{_≡_, refl, _∙_, ap, ap₂}
+use mathlib.Core.Path.{_≡_, refl, sym, _∙_, ap, ap₂}
 use mathlib.Core.Bool.{Bool, true, false}
 use mathlib.Core.List.{List, [], _∷_, map}
 use lib.ListN.{length, getD}
@@ -11,12 +11,23 @@ use borrow.Author.Tests.{leb-true, le-leb}
 use Rattle.meaning.specs.Tests.{pick}
 use Rattle.meaning.specs.Limits
 use Rattle.meaning.specs.Limits.{Limits}
-use Rattle.meaning.specs.Requests.{Table, Sequence, done, item, Item, act, branching, Branches, none, branch, Entry, Request}
-use Rattle.meaning.specs.Reading.{Got, got, fault, next, byte-at, two-bytes-at, count-at, below-at, Kind, literals, fluents, bound-of, entry-at, entries-at, list-at, body-at, Met, Part, item-at, items-at, sequence-at, branches-at, branching-at, plan-at, placed, request-at}
+use Rattle.meaning.specs.Requests.{Effect, Executability, Knowledge, Table, Sequence, done, item, Item, act, branching, Branches, none, branch, Entry, Request}
+use Rattle.meaning.specs.Reading.{Got, got, fault, next, byte-at, two-bytes-at, count-at, below-at, Kind, literals, fluents, bound-of, entry-at, entries-at, list-at, repeated, section-at, body-at, effect-at, executability-at, knowledge-at, Met, Part, item-at, items-at, sequence-at, branches-at, branching-at, plan-at, placed, request-at}
 use Rattle.meaning.proofs.TestLaws.{same-test}
+use Rattle.meaning.proofs.SettledLaws.{fault≢got, got-same}
+use Rattle.meaning.proofs.RangeLaws.{got-place}
 
 module _ (on : ℕ) where
-  -- MOVED: what was read, with each place so much further on. The table's lines stay where they are.
+  -- MOVED: what was read, with each place so much further on. Lines are moved by themselves, and stay where they are in a request.
+  abbrev pub moved-effect : Effect → Effect
+  moved-effect e = record { place = e .place + on; action = e .action; literal = e .literal; body = e .body }
+
+  abbrev pub moved-executability : Executability → Executability
+  moved-executability x = record { place = x .place + on; action = x .action; body = x .body }
+
+  abbrev pub moved-knowledge : Knowledge → Knowledge
+  moved-knowledge k = record { place = k .place + on; action = k .action; fluent = k .fluent }
+
   abbrev mutual
     pub moved-plan : Sequence ℕ → Sequence ℕ
     moved-plan done = done
@@ -59,9 +70,14 @@ module _ {A : Type 0} (move : A → A) where
 module _ (s u : List ℕ) (on low : ℕ) (longer : length s ≡ length u + on) (same : (q : ℕ) → low ≤ q → getD s (q + on) 0 ≡ getD u q 0) where
   module _ {A : Type 0} (move : A → A) where
     -- What was read in s is what was read in u, moved; and reading in u goes on behind `low`.
-    abbrev Shifted : Got A → Got A → Type 0
+    abbrev pub Shifted : Got A → Got A → Type 0
     Shifted g (got y e) = (g ≡ got (move y) (e + on)) × (low ≤ e)
     Shifted g (fault n i) = g ≡ fault n (i + on)
+
+    -- What was read in s was read in u.
+    pub shifted-got : (g h : Got A) → Shifted g h → (x : A) (e : ℕ) → g ≡ got x e → (y : A) × (f : ℕ) × (h ≡ got y f) × (x ≡ move y) × (e ≡ f + on)
+    shifted-got g (got y f) so x e read = let same = sym read ∙ so .0 in (y, f, refl, got-same same, got-place same)
+    shifted-got g (fault n i) so x e read = absurd (fault≢got (sym so ∙ read))
 
     shifted-pick : (a b : Bool) → a ≡ b → (f g h k : Unit {0} → Got A) → Shifted (f tt) (h tt) → Shifted (g tt) (k tt) → Shifted (pick a f g) (pick b h k)
     unfolding pick
@@ -69,7 +85,7 @@ module _ (s u : List ℕ) (on low : ℕ) (longer : length s ≡ length u + on) (
     shifted-pick a false e f g h k first second = rw e second
 
   module _ {A B : Type 0} (move : A → A) (then : B → B) where
-    shifted-next : (g h : Got A) (k j : A → ℕ → Got B) → Shifted move g h → ((y : A) (e : ℕ) → low ≤ e → Shifted then (k (move y) (e + on)) (j y e)) → Shifted then (next g k) (next h j)
+    pub shifted-next : (g h : Got A) (k j : A → ℕ → Got B) → Shifted move g h → ((y : A) (e : ℕ) → low ≤ e → Shifted then (k (move y) (e + on)) (j y e)) → Shifted then (next g k) (next h j)
     unfolding next
     shifted-next g (got y e) k j first f = rw (first .0) (f y e (first .1))
     shifted-next g (fault n i) k j first f = rw first refl
@@ -90,7 +106,7 @@ module _ (s u : List ℕ) (on low : ℕ) (longer : length s ≡ length u + on) (
       (ap (λ (k : ℕ). fault Limits.ends-too-soon k) longer)
       (ap₂ {C = Got ℕ} (λ x e. got x e) (ap (λ (k : ℕ). getD s k 0) far ∙ same q above) (omega (arith, far)), omega (arith, above))
 
-  two-bytes-shifted : (p q : ℕ) → p ≡ q + on → low ≤ q → Shifted as-is (two-bytes-at s p) (two-bytes-at u q)
+  pub two-bytes-shifted : (p q : ℕ) → p ≡ q + on → low ≤ q → Shifted as-is (two-bytes-at s p) (two-bytes-at u q)
   unfolding two-bytes-at
   two-bytes-shifted p q far above =
       shifted-next as-is as-is (byte-at s p) (byte-at u q) _ _ (byte-shifted p q far above) λ high e more.
@@ -123,11 +139,53 @@ module _ (s u : List ℕ) (on low : ℕ) (longer : length s ≡ length u + on) (
         shifted-next as-is as-is (entry-at kind n s p floor) (entry-at kind n u q floor) _ _ (entry-shifted p q far above floor) λ x e more.
         shifted-next as-is as-is (entries-at kind n s left (e + on) (x + 1)) (entries-at kind n u left e (x + 1)) _ _ (entries-shifted left (e + on) e refl more (x + 1)) λ xs f rest. (refl, rest)
 
-    list-shifted : (most p q : ℕ) → p ≡ q + on → low ≤ q → Shifted as-is (list-at kind n most s p) (list-at kind n most u q)
+    pub list-shifted : (most p q : ℕ) → p ≡ q + on → low ≤ q → Shifted as-is (list-at kind n most s p) (list-at kind n most u q)
     unfolding list-at
     list-shifted most p q far above =
         shifted-next as-is as-is (count-at 0 most s p) (count-at 0 most u q) _ _ (count-shifted 0 most p q far above) λ c e more.
         entries-shifted c (e + on) e refl more 0
+
+  -- LINES.
+  module _ {A : Type 0} (move : A → A) (line other : ℕ → Got A) (alike : (p q : ℕ) → p ≡ q + on → low ≤ q → Shifted move (line p) (other q)) where
+    repeated-shifted : (left p q : ℕ) → p ≡ q + on → low ≤ q → Shifted (map move) (repeated line left p) (repeated other left q)
+    unfolding repeated
+    repeated-shifted zero p q far above = (ap (λ (k : ℕ). got [] k) far, above)
+    repeated-shifted (suc left) p q far above =
+        shifted-next move (map move) (line p) (other q) _ _ (alike p q far above) λ x e more.
+        shifted-next (map move) (map move) (repeated line left (e + on)) (repeated other left e) _ _ (repeated-shifted left (e + on) e refl more) λ xs f rest. (refl, rest)
+
+    pub section-shifted : (p q : ℕ) → p ≡ q + on → low ≤ q → Shifted (map move) (section-at line s p) (section-at other u q)
+    unfolding section-at
+    section-shifted p q far above =
+        shifted-next as-is (map move) (byte-at s p) (byte-at u q) _ _ (byte-shifted p q far above) λ c e more.
+        repeated-shifted c (e + on) e refl more
+
+  module _ (lim : Limits) (n m : ℕ) where
+    line-body-shifted : (p q : ℕ) → p ≡ q + on → low ≤ q → Shifted as-is (body-at lim n s p) (body-at lim n u q)
+    unfolding body-at
+    line-body-shifted p q far above = list-shifted literals n (lim .body) p q far above
+
+    pub effect-shifted : (p q : ℕ) → p ≡ q + on → low ≤ q → Shifted (moved-effect on) (effect-at lim n m s p) (effect-at lim n m u q)
+    unfolding effect-at
+    effect-shifted p q far above =
+        shifted-next as-is (moved-effect on) (below-at m s p) (below-at m u q) _ _ (below-shifted m p q far above) λ a e more.
+        shifted-next as-is (moved-effect on) (below-at (2 * n) s (e + on)) (below-at (2 * n) u e) _ _ (below-shifted (2 * n) (e + on) e refl more) λ l f later.
+        shifted-next as-is (moved-effect on) (body-at lim n s (f + on)) (body-at lim n u f) _ _ (line-body-shifted (f + on) f refl later) λ b g last.
+        (ap (λ (k : ℕ). got (record { place = k; action = a; literal = l; body = b }) (g + on)) far, last)
+
+    pub executability-shifted : (p q : ℕ) → p ≡ q + on → low ≤ q → Shifted (moved-executability on) (executability-at lim n m s p) (executability-at lim n m u q)
+    unfolding executability-at
+    executability-shifted p q far above =
+        shifted-next as-is (moved-executability on) (below-at m s p) (below-at m u q) _ _ (below-shifted m p q far above) λ a e more.
+        shifted-next as-is (moved-executability on) (body-at lim n s (e + on)) (body-at lim n u e) _ _ (line-body-shifted (e + on) e refl more) λ b g last.
+        (ap (λ (k : ℕ). got (record { place = k; action = a; body = b }) (g + on)) far, last)
+
+    pub knowledge-shifted : (p q : ℕ) → p ≡ q + on → low ≤ q → Shifted (moved-knowledge on) (knowledge-at lim n m s p) (knowledge-at lim n m u q)
+    unfolding knowledge-at
+    knowledge-shifted p q far above =
+        shifted-next as-is (moved-knowledge on) (below-at m s p) (below-at m u q) _ _ (below-shifted m p q far above) λ a e more.
+        shifted-next as-is (moved-knowledge on) (below-at n s (e + on)) (below-at n u e) _ _ (below-shifted n (e + on) e refl more) λ f g last.
+        (ap (λ (k : ℕ). got (record { place = k; action = a; fluent = f }) (g + on)) far, last)
 
   -- PLANS. Two readers of a part that read alike.
   module _ {A : Type 0} (move : A → A) where
@@ -139,7 +197,7 @@ module _ (s u : List ℕ) (on low : ℕ) (longer : length s ≡ length u + on) (
     unfolding body-at
     body-shifted p q far above = list-shifted literals n (lim .body) p q far above
 
-    item-shifted : (deeper other : Part (Item ℕ)) → Parts-shifted (moved-item on) deeper other → Parts-shifted (moved-item on) (item-at lim n m s deeper) (item-at lim n m u other)
+    pub item-shifted : (deeper other : Part (Item ℕ)) → Parts-shifted (moved-item on) deeper other → Parts-shifted (moved-item on) (item-at lim n m s deeper) (item-at lim n m u other)
     unfolding item-at
     item-shifted deeper other alike p q met far above =
         shifted-next as-is (moved-part (moved-item on)) (byte-at s p) (byte-at u q) _ _ (byte-shifted p q far above) λ x e more.
@@ -148,7 +206,7 @@ module _ (s u : List ℕ) (on low : ℕ) (longer : length s ≡ length u + on) (
         (shifted-pick (moved-part (moved-item on)) _ _ refl _ _ _ _ (refused-there _ p q far)
         (ap (λ (k : ℕ). got (record { value = act k x; items = met + 1 }) (e + on)) far, more)))
 
-    items-shifted : (one other : Part (Item ℕ)) → Parts-shifted (moved-item on) one other → (left : ℕ) → Parts-shifted (moved-plan on) (items-at lim n m s one left) (items-at lim n m u other left)
+    pub items-shifted : (one other : Part (Item ℕ)) → Parts-shifted (moved-item on) one other → (left : ℕ) → Parts-shifted (moved-plan on) (items-at lim n m s one left) (items-at lim n m u other left)
     unfolding items-at
     items-shifted one other alike zero p q met far above = (ap (λ (k : ℕ). got (record { value = done; items = met }) k) far, above)
     items-shifted one other alike (suc left) p q met far above =
@@ -172,7 +230,7 @@ module _ (s u : List ℕ) (on low : ℕ) (longer : length s ≡ length u + on) (
         shifted-next (moved-part (moved-branches on)) (moved-part (moved-branches on)) (branches-at lim n m s sequence left (f + on) (b .items)) (branches-at lim n m u other left f (b .items)) _ _
         (branches-shifted sequence other alike left (f + on) f (b .items) refl later) λ rest g last. (refl, last)
 
-    branching-shifted : (left : ℕ) → Parts-shifted (moved-item on) (branching-at lim n m s left) (branching-at lim n m u left)
+    pub branching-shifted : (left : ℕ) → Parts-shifted (moved-item on) (branching-at lim n m s left) (branching-at lim n m u left)
     unfolding branching-at
     branching-shifted zero p q met far above = refused-there _ p q far
     branching-shifted (suc left) p q met far above =
@@ -183,7 +241,7 @@ module _ (s u : List ℕ) (on low : ℕ) (longer : length s ≡ length u + on) (
         (branches-shifted _ _ (sequence-shifted _ _ (branching-shifted left)) c (e + on) e met refl more) λ bs f last.
         (ap (λ (k : ℕ). got (record { value = branching k (moved-branches on (bs .value)); items = bs .items }) (f + on)) far, last)
 
-    plan-shifted : (p q : ℕ) → p ≡ q + on → low ≤ q → Shifted (moved-part (moved-plan on)) (plan-at lim n m s p) (plan-at lim n m u q)
+    pub plan-shifted : (p q : ℕ) → p ≡ q + on → low ≤ q → Shifted (moved-part (moved-plan on)) (plan-at lim n m s p) (plan-at lim n m u q)
     unfolding plan-at
     plan-shifted p q far above = sequence-shifted _ _ (branching-shifted (lim .nested)) p q 0 far above
 

@@ -27,4 +27,5 @@ pub mod Answers
 pub mod Showing
 pub mod Layouts
 pub mod AnswerParts
+pub mod Reuse
 pub mod Wider

@@ -32,6 +32,21 @@ pub enum Verdict {
 
 /// Walks the plan of a settled request and stops once the count is above the budget.
 pub fn walk(request: &Request, budget: u32) -> Verdict {
+    walk_past(request, budget, &mut |_| {})
+}
+
+/// The end states of such a walk in the order in which it meets them, or nothing where it stops
+/// before it has met them all.
+pub fn ends(request: &Request, budget: u32) -> Option<Vec<Known>> {
+    let mut met = Vec::new();
+    match walk_past(request, budget, &mut |state| met.push(state)) {
+        Verdict::Verified { .. } | Verdict::Missed { .. } => Some(met),
+        Verdict::Stuck { .. } | Verdict::Over => None,
+    }
+}
+
+/// The walk, which hands over each end state that it judges.
+fn walk_past(request: &Request, budget: u32, at_end: &mut dyn FnMut(Known)) -> Verdict {
     let table = Table::new(request);
     let code = Code::new(&request.plan);
     let mut walker = Walker {
@@ -42,6 +57,7 @@ pub fn walk(request: &Request, budget: u32) -> Verdict {
         count: 0,
         missed: None,
         turns: Vec::new(),
+        at_end,
     };
     walker.walk()
 }
@@ -119,6 +135,7 @@ struct Walker<'a> {
     count: u64,
     missed: Option<(usize, Known)>,
     turns: Vec<Turn>,
+    at_end: &'a mut dyn FnMut(Known),
 }
 
 impl Walker<'_> {
@@ -219,6 +236,7 @@ impl Walker<'_> {
 
     /// Keeps the first end state that misses an entry. A missed goal doesn't end the walk.
     fn judge(&mut self, state: Known) {
+        (self.at_end)(state);
         if self.missed.is_none() {
             self.missed = self.first_miss(state).map(|place| (place, state));
         }

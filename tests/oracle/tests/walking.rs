@@ -6,7 +6,8 @@ use common::*;
 use oracle::encode::encode_request;
 use oracle::generate::forget_and_sense;
 use oracle::reader::FLUENT_LIMIT;
-use oracle::{judge, judge_line, open, paths, worlds, STATE_LENGTH};
+use oracle::table::Known;
+use oracle::{judge, judge_line, open, paths, walk, worlds, STATE_LENGTH};
 
 #[test]
 fn a_stuck_item_at_the_budget() {
@@ -119,6 +120,22 @@ fn the_smallest_fluent_turns_slowest() {
     failed(&case("3 2 0 2 0 0 2 0 3 0 0 2 1 2 0 0"), 2, 17, 4, "--");
     verified(&case("4 2 0 2 0 0 2 0 3 0 0 2 1 2 0 0 2 1 3 0 0"), 5);
     verified(&two_sensed("0 1 0 0 2 0 1"), 5);
+}
+
+#[test]
+fn end_states_in_the_order_of_the_walk() {
+    let met = |tail: &str, budget: u32| {
+        let request = open(&two_sensed(tail)).expect("a readable request");
+        let ends = walk::ends(&request, budget)?;
+        Some(ends.into_iter().map(Known::literals).collect::<Vec<_>>())
+    };
+    let all = vec![vec![0, 2], vec![0, 3], vec![1, 2], vec![1, 3]];
+    assert_eq!(met("0 1 0 0 2 0 1", 5), Some(all.clone()));
+    // A goal that is missed ends nothing. A spent budget does, and so does an item that can't be run.
+    assert_eq!(met("0 1 0 1 0 0", 5), Some(all));
+    assert_eq!(met("0 1 0 0 0", 4), None);
+    assert_eq!(met("0 2 0 255 1 1 0 0 0 0 0", 5), None);
+    assert_eq!(met("0 0 0 0", 1), Some(vec![vec![]]));
 }
 
 #[test]

@@ -71,11 +71,19 @@ pub fn exported(rng: &mut Rng, call: &Call) -> Result<Left, String> {
 
 /// The form without the line, and how long it took.
 pub fn timed(rng: &mut Rng, call: &Call) -> Result<(Left, Duration), String> {
+    timed_by(rng, call, &glintstring::judge_packed)
+}
+
+/// What answers walk calls in that form: the exported call, or one that stands in for it.
+pub type Judge = dyn Fn(&[u8], &mut [u8], u32) -> Packed;
+
+/// The same of any such call.
+pub fn timed_by(rng: &mut Rng, call: &Call, judge: &Judge) -> Result<(Left, Duration), String> {
     let mut request = Fenced::new(rng, &call.request);
     let mut state = Fenced::new(rng, &call.lent);
     let (request_before, state_before) = (request.clone(), state.clone());
     let began = Instant::now();
-    let packed = glintstring::judge_packed(request.lent(), state.lent(), call.budget);
+    let packed = judge(request.lent(), state.lent(), call.budget);
     let took = began.elapsed();
     let lent = state.lent().to_vec();
     if request != request_before {

@@ -6,23 +6,23 @@ use Rattle.finding.proofs.branches.empty.Tie as tie
 use Rattle.finding.proofs.branches.empty.Reads as reads
 use Rattle.finding.proofs.branches.empty.Lts as lts
 
--- src/branches.rt:28:18
+-- src/branches.rt:26:18
 add-second : tie.Need-add-second
 add-second c = search needs
 
--- src/branches.rt:29:8
+-- src/branches.rt:27:8
 shared-slice-read-if1 : tie.Need-shared-slice-read-if1
 shared-slice-read-if1 c = search needs
 
--- src/branches.rt:30:16
+-- src/branches.rt:28:16
 shared-slice-read-result : tie.Need-shared-slice-read-result
 shared-slice-read-result c = search needs
 
--- src/branches.rt:30:9
+-- src/branches.rt:28:9
 returns : tie.Need-returns
 returns c = search first-zero
 
--- src/branches.rt:24:1
+-- src/branches.rt:22:1
 returns-2 : tie.Need-returns-2
 returns-2 c = search first-other
 

@@ -7,23 +7,23 @@ use Rattle.finding.proofs.branches.sequence_of.Reads as reads
 use Rattle.finding.proofs.branches.sequence_of.Lts as lts
 use Rattle.bytes.proofs.bytes.wide.Reads as wide-reads
 
--- src/branches.rt:19:17
+-- src/branches.rt:17:17
 add-first : tie.Need-add-first
 add-first c = search needs
 
--- src/branches.rt:20:18
+-- src/branches.rt:18:18
 shared-slice-read-wide : tie.Need-shared-slice-read-wide
 shared-slice-read-wide c = search needs
 
--- src/branches.rt:20:13
+-- src/branches.rt:18:13
 wide-requires : tie.Need-wide-requires
 wide-requires c κs = search needs
 
--- src/branches.rt:20:5
+-- src/branches.rt:18:5
 add-result : tie.Need-add-result
 add-result c = search needs
 
--- src/branches.rt:15:1
+-- src/branches.rt:13:1
 returns : tie.Need-returns
 returns c = search sequence-is
 

@@ -11,37 +11,37 @@ use Rattle.glintstring.proofs.judging.judge.Lts as lts
 use Rattle.glintstring.proofs.judging.walk_with_line.Reads as walk-with-line-reads
 use Rattle.refusing.proofs.settled.settle.Reads as settle-reads
 
--- src/judging.rt:78:9
+-- src/judging.rt:53:9
 returns : tie.Need-returns
 returns c = (search judge-9, search line-9)
 
--- src/judging.rt:89:11
+-- src/judging.rt:64:11
 settle-requires : tie.Need-settle-requires
 settle-requires c κs = search blank-is
 
--- src/judging.rt:90:50
+-- src/judging.rt:65:50
 enum-told : tie.Need-enum-told
 enum-told c = search needs
 
--- src/judging.rt:90:26
+-- src/judging.rt:65:26
 walk-with-line-requires : tie.Need-walk-with-line-requires
 walk-with-line-requires c κs =
     let settles = c .before .before .before .before in
     (settled-at-hand _ _ _ _ (settles .settle .ensures) _ (c .before .before .enum-told .given .1) (settles .before .before .before .before .shared-slice-known .given) blank-is, search needs)
 
--- src/judging.rt:91:23
+-- src/judging.rt:66:23
 enum-known-k : tie.Need-enum-known-k
 enum-known-k c = search needs
 
--- src/judging.rt:73:1
+-- src/judging.rt:48:1
 same-length : tie.Need-same-length
 same-length c = search needs
 
--- src/judging.rt:73:1
+-- src/judging.rt:48:1
 returns-2 : tie.Need-returns-2
 returns-2 c = (search (judge-walked, blank-is), search (line-walked, blank-is))
 
--- src/judging.rt:73:1
+-- src/judging.rt:48:1
 returns-3 : tie.Need-returns-3
 returns-3 c = (search judge-refused, search line-refused)
 

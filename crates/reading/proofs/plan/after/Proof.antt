@@ -5,11 +5,11 @@ use Rattle.reading.proofs.plan.after.Tie as tie
 use Rattle.reading.proofs.plan.after.Reads as reads
 use Rattle.reading.proofs.plan.after.Lts as lts
 
--- src/plan.rt:23:9
+-- src/plan.rt:24:9
 returns : tie.Need-returns
 returns c = search after-last
 
--- src/plan.rt:19:1
+-- src/plan.rt:20:1
 returns-2 : tie.Need-returns-2
 returns-2 c = search after-other
 

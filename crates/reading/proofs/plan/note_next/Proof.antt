@@ -9,19 +9,19 @@ use Rattle.reading.proofs.plan.note_next.Lts as lts
 use Rattle.reading.proofs.plan.after.Reads as after-reads
 use Rattle.reading.proofs.notes.put.Reads as put-reads
 
--- src/plan.rt:34:12
+-- src/plan.rt:36:12
 add-put : tie.Need-add-put
 add-put c = search needs
 
--- src/plan.rt:34:36
+-- src/plan.rt:36:36
 after-requires : tie.Need-after-requires
 after-requires c κs = search needs
 
--- src/plan.rt:34:5
+-- src/plan.rt:36:5
 put-requires : tie.Need-put-requires
 put-requires c κs = search (needs, next-fits)
 
--- src/plan.rt:28:1
+-- src/plan.rt:30:1
 returns : tie.Need-returns
 returns c = search next-noted
 

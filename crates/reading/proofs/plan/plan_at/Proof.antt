@@ -7,11 +7,11 @@ use Rattle.reading.proofs.plan.plan_at.Reads as reads
 use Rattle.reading.proofs.plan.plan_at.Lts as lts
 use Rattle.reading.proofs.plan.sequence_at.Reads as sequence-at-reads
 
--- src/plan.rt:192:5
+-- src/plan.rt:194:5
 sequence-at-requires : tie.Need-sequence-at-requires
 sequence-at-requires c κs = search needs
 
--- src/plan.rt:187:1
+-- src/plan.rt:189:1
 returns : tie.Need-returns
 returns c = search plan-whole
 

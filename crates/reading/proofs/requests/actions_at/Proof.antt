@@ -8,27 +8,27 @@ use Rattle.reading.proofs.requests.actions_at.Lts as lts
 use Rattle.bytes.proofs.bytes.count_at.Reads as count-at-reads
 use Rattle.reading.proofs.requests.facts_at.Reads as facts-at-reads
 
--- src/requests.rt:40:11
+-- src/requests.rt:39:11
 count-at-requires : tie.Need-count-at-requires
 count-at-requires c κs = search needs
 
--- src/requests.rt:41:21
+-- src/requests.rt:40:21
 enum-known-m : tie.Need-enum-known-m
 enum-known-m c = search needs
 
--- src/requests.rt:41:30
+-- src/requests.rt:40:30
 facts-at-requires : tie.Need-facts-at-requires
 facts-at-requires c κs = search (needs, count-most)
 
--- src/requests.rt:42:21
+-- src/requests.rt:41:21
 enum-known-k : tie.Need-enum-known-k
 enum-known-k c = search needs
 
--- src/requests.rt:35:1
+-- src/requests.rt:34:1
 returns : tie.Need-returns
 returns c = search actions-there
 
--- src/requests.rt:35:1
+-- src/requests.rt:34:1
 returns-2 : tie.Need-returns-2
 returns-2 c = search actions-fault
 

@@ -8,27 +8,27 @@ use Rattle.reading.proofs.requests.facts_at.Lts as lts
 use Rattle.bytes.proofs.lists.list_at.Reads as list-at-reads
 use Rattle.reading.proofs.sections.three_sections.Reads as three-sections-reads
 
--- src/requests.rt:26:11
+-- src/requests.rt:27:11
 list-at-requires : tie.Need-list-at-requires
 list-at-requires c κs = search needs
 
--- src/requests.rt:27:20
+-- src/requests.rt:28:20
 enum-known-q : tie.Need-enum-known-q
 enum-known-q c = search needs
 
--- src/requests.rt:27:26
+-- src/requests.rt:28:26
 three-sections-requires : tie.Need-three-sections-requires
 three-sections-requires c κs = search needs
 
--- src/requests.rt:28:23
+-- src/requests.rt:29:23
 enum-known-k : tie.Need-enum-known-k
 enum-known-k c = search needs
 
--- src/requests.rt:20:1
+-- src/requests.rt:21:1
 returns : tie.Need-returns
 returns c = search facts-passed
 
--- src/requests.rt:20:1
+-- src/requests.rt:21:1
 returns-2 : tie.Need-returns-2
 returns-2 c = search facts-fault
 

@@ -8,27 +8,27 @@ use Rattle.reading.proofs.requests.request_at.Lts as lts
 use Rattle.reading.proofs.plan.plan_at.Reads as plan-at-reads
 use Rattle.reading.proofs.requests.goals_at.Reads as goals-at-reads
 
--- src/requests.rt:80:11
+-- src/requests.rt:81:11
 plan-at-requires : tie.Need-plan-at-requires
 plan-at-requires c κs = search needs
 
--- src/requests.rt:81:21
+-- src/requests.rt:82:21
 enum-known-items : tie.Need-enum-known-items
 enum-known-items c = search needs
 
--- src/requests.rt:81:34
+-- src/requests.rt:82:34
 goals-at-requires : tie.Need-goals-at-requires
 goals-at-requires c κs = (search needs, (search plan-place-fits, (search plan-items-fit, search plan-end-fits)))
 
--- src/requests.rt:82:21
+-- src/requests.rt:83:21
 enum-known-k : tie.Need-enum-known-k
 enum-known-k c = search needs
 
--- src/requests.rt:75:1
+-- src/requests.rt:76:1
 returns : tie.Need-returns
 returns c = search plan-there
 
--- src/requests.rt:75:1
+-- src/requests.rt:76:1
 returns-2 : tie.Need-returns-2
 returns-2 c = search plan-fault
 

@@ -8,27 +8,27 @@ use Rattle.reading.proofs.requests.table_at.Lts as lts
 use Rattle.bytes.proofs.bytes.count_at.Reads as count-at-reads
 use Rattle.reading.proofs.requests.actions_at.Reads as actions-at-reads
 
--- src/requests.rt:51:11
+-- src/requests.rt:50:11
 count-at-requires : tie.Need-count-at-requires
 count-at-requires c κs = search needs
 
--- src/requests.rt:52:21
+-- src/requests.rt:51:21
 enum-known-n : tie.Need-enum-known-n
 enum-known-n c = search needs
 
--- src/requests.rt:52:30
+-- src/requests.rt:51:30
 actions-at-requires : tie.Need-actions-at-requires
 actions-at-requires c κs = search (needs, count-most)
 
--- src/requests.rt:53:21
+-- src/requests.rt:52:21
 enum-known-k : tie.Need-enum-known-k
 enum-known-k c = search needs
 
--- src/requests.rt:47:1
+-- src/requests.rt:46:1
 returns : tie.Need-returns
 returns c = search fluents-there
 
--- src/requests.rt:47:1
+-- src/requests.rt:46:1
 returns-2 : tie.Need-returns-2
 returns-2 c = search fluents-fault
 

@@ -9,39 +9,39 @@ use Rattle.bytes.proofs.table_lines.effect_at.Reads as effect-at-reads
 use Rattle.bytes.proofs.table_lines.executability_at.Reads as executability-at-reads
 use Rattle.bytes.proofs.table_lines.knowledge_at.Reads as knowledge-at-reads
 
--- src/sections.rt:32:29
+-- src/sections.rt:34:29
 enum-told : tie.Need-enum-told
 enum-told c = search needs
 
--- src/sections.rt:32:29
+-- src/sections.rt:34:29
 effect-at-requires : tie.Need-effect-at-requires
 effect-at-requires c κs = search needs
 
--- src/sections.rt:33:35
+-- src/sections.rt:35:35
 enum-told-2 : tie.Need-enum-told-2
 enum-told-2 c = search needs
 
--- src/sections.rt:33:35
+-- src/sections.rt:35:35
 executability-at-requires : tie.Need-executability-at-requires
 executability-at-requires c κs = search needs
 
--- src/sections.rt:34:31
+-- src/sections.rt:36:31
 enum-told-3 : tie.Need-enum-told-3
 enum-told-3 c = search needs
 
--- src/sections.rt:34:31
+-- src/sections.rt:36:31
 knowledge-at-requires : tie.Need-knowledge-at-requires
 knowledge-at-requires c κs = search needs
 
--- src/sections.rt:27:1
+-- src/sections.rt:29:1
 returns : tie.Need-returns
 returns c = search line-effect
 
--- src/sections.rt:27:1
+-- src/sections.rt:29:1
 returns-2 : tie.Need-returns-2
 returns-2 c = search line-executability
 
--- src/sections.rt:27:1
+-- src/sections.rt:29:1
 returns-3 : tie.Need-returns-3
 returns-3 c = search line-knowledge
 

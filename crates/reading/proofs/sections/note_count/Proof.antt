@@ -9,19 +9,19 @@ use Rattle.bytes.proofs.bytes.wide.Reads as wide-reads
 use Rattle.reading.proofs.sections.count_slot.Reads as count-slot-reads
 use Rattle.reading.proofs.notes.put.Reads as put-reads
 
--- src/sections.rt:103:9
+-- src/sections.rt:105:9
 count-slot-requires : tie.Need-count-slot-requires
 count-slot-requires c κs = search needs
 
--- src/sections.rt:104:18
+-- src/sections.rt:106:18
 wide-requires : tie.Need-wide-requires
 wide-requires c κs = search needs
 
--- src/sections.rt:104:5
+-- src/sections.rt:106:5
 put-requires : tie.Need-put-requires
 put-requires c κs = search (needs, slot-fits)
 
--- src/sections.rt:100:1
+-- src/sections.rt:102:1
 returns : tie.Need-returns
 returns c = search count-noted
 

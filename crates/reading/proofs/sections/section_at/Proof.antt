@@ -8,31 +8,31 @@ use Rattle.reading.proofs.sections.section_at.Lts as lts
 use Rattle.reading.proofs.sections.lines_from.Reads as lines-from-reads
 use Rattle.reading.proofs.sections.note_count.Reads as note-count-reads
 
--- src/sections.rt:115:9
+-- src/sections.rt:117:9
 returns : tie.Need-returns
 returns c = search section-none
 
--- src/sections.rt:117:13
+-- src/sections.rt:119:13
 add-q : tie.Need-add-q
 add-q c = search needs
 
--- src/sections.rt:118:19
+-- src/sections.rt:120:19
 shared-slice-read-note-count : tie.Need-shared-slice-read-note-count
 shared-slice-read-note-count c = search needs
 
--- src/sections.rt:118:5
+-- src/sections.rt:120:5
 note-count-requires : tie.Need-note-count-requires
 note-count-requires c κs = search needs
 
--- src/sections.rt:119:28
+-- src/sections.rt:121:28
 shared-slice-read-lines-from : tie.Need-shared-slice-read-lines-from
 shared-slice-read-lines-from c = search needs
 
--- src/sections.rt:119:5
+-- src/sections.rt:121:5
 lines-from-requires : tie.Need-lines-from-requires
 lines-from-requires c κs = search needs
 
--- src/sections.rt:108:1
+-- src/sections.rt:110:1
 returns-2 : tie.Need-returns-2
 returns-2 c = search section-there
 

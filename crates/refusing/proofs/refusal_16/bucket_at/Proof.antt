@@ -7,35 +7,35 @@ use Rattle.refusing.proofs.refusal_16.bucket_at.Reads as reads
 use Rattle.refusing.proofs.refusal_16.bucket_at.Lts as lts
 use Rattle.bytes.proofs.bytes.wide.Reads as wide-reads
 
--- src/refusal_16.rt:43:13
+-- src/refusal_16.rt:41:13
 add-q : tie.Need-add-q
 add-q c = search needs
 
--- src/refusal_16.rt:44:15
+-- src/refusal_16.rt:42:29
 shared-slice-read-wide : tie.Need-shared-slice-read-wide
 shared-slice-read-wide c = search needs
 
--- src/refusal_16.rt:44:10
+-- src/refusal_16.rt:42:24
 wide-requires : tie.Need-wide-requires
 wide-requires c κs = search needs
 
--- src/refusal_16.rt:44:5
+-- src/refusal_16.rt:42:6
 mul-result : tie.Need-mul-result
 mul-result c = search needs
 
--- src/refusal_16.rt:44:28
+-- src/refusal_16.rt:42:42
 shared-slice-read-wide-2 : tie.Need-shared-slice-read-wide-2
 shared-slice-read-wide-2 c = search needs
 
--- src/refusal_16.rt:44:23
+-- src/refusal_16.rt:42:37
 wide-requires-2 : tie.Need-wide-requires-2
 wide-requires-2 c κs = search needs
 
--- src/refusal_16.rt:44:5
+-- src/refusal_16.rt:42:6
 add-result : tie.Need-add-result
 add-result c = search needs
 
--- src/refusal_16.rt:39:1
+-- src/refusal_16.rt:37:1
 returns : tie.Need-returns
 returns c = search bucket-got
 

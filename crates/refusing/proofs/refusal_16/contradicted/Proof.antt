@@ -17,75 +17,75 @@ Inv-loop s t same k number p bucket last j₀ body held j = Sought s t k j
 abbrev μ-loop : tie.MeasureT-loop
 μ-loop s t same k number p bucket last j₀ body held j = j
 
--- src/refusal_16.rt:73:18
+-- src/refusal_16.rt:124:18
 add-number : tie.Need-add-number Inv-loop μ-loop
 add-number c = search needs
 
--- src/refusal_16.rt:74:9
+-- src/refusal_16.rt:125:9
 line-place-requires : tie.Need-line-place-requires Inv-loop μ-loop
 line-place-requires c κs = search needs
 
--- src/refusal_16.rt:75:9
+-- src/refusal_16.rt:126:9
 bucket-at-requires : tie.Need-bucket-at-requires Inv-loop μ-loop
 bucket-at-requires c κs = search (needs, new-fit)
 
--- src/refusal_16.rt:76:16
+-- src/refusal_16.rt:127:16
 add-last : tie.Need-add-last Inv-loop μ-loop
 add-last c = search last-fits
 
--- src/refusal_16.rt:77:22
+-- src/refusal_16.rt:128:22
 element-copy-out-wide : tie.Need-element-copy-out-wide Inv-loop μ-loop
 element-copy-out-wide c = search last-there
 
--- src/refusal_16.rt:77:9
+-- src/refusal_16.rt:128:9
 wide-requires : tie.Need-wide-requires Inv-loop μ-loop
 wide-requires c κs = search needs
 
--- src/refusal_16.rt:79:9
+-- src/refusal_16.rt:130:9
 returns : tie.Need-returns Inv-loop μ-loop
 returns c = search none-sought
 
--- src/refusal_16.rt:81:16
+-- src/refusal_16.rt:132:16
 add-body : tie.Need-add-body Inv-loop μ-loop
 add-body c = search body-fits
 
--- src/refusal_16.rt:82:16
+-- src/refusal_16.rt:133:16
 state-of-requires : tie.Need-state-of-requires Inv-loop μ-loop
 state-of-requires c κs = search (needs, body-here)
 
--- src/refusal_16.rt:83:5
+-- src/refusal_16.rt:134:5
 loop-holds : tie.Need-loop-holds Inv-loop μ-loop
 loop-holds c = search sought-starts
 
--- src/refusal_16.rt:84:13
+-- src/refusal_16.rt:135:13
 line-place-requires-2 : tie.Need-line-place-requires-2 Inv-loop μ-loop
 line-place-requires-2 c κs = search (needs, sought-below)
 
--- src/refusal_16.rt:85:13
+-- src/refusal_16.rt:136:13
 contradicts-requires : tie.Need-contradicts-requires Inv-loop μ-loop
 contradicts-requires c κs = search (needs, new-fit, sought-fit)
 
--- src/refusal_16.rt:87:13
+-- src/refusal_16.rt:138:13
 returns-2 : tie.Need-returns-2 Inv-loop μ-loop
 returns-2 c = search sought-met
 
--- src/refusal_16.rt:89:18
+-- src/refusal_16.rt:140:18
 element-copy-out-wide-2 : tie.Need-element-copy-out-wide-2 Inv-loop μ-loop
 element-copy-out-wide-2 c = search sought-there
 
--- src/refusal_16.rt:89:9
+-- src/refusal_16.rt:140:9
 wide-requires-2 : tie.Need-wide-requires-2 Inv-loop μ-loop
 wide-requires-2 c κs = search needs
 
--- src/refusal_16.rt:83:5
+-- src/refusal_16.rt:134:5
 loop-less : tie.Need-loop-less Inv-loop μ-loop
 loop-less c = search sought-less
 
--- src/refusal_16.rt:83:5
+-- src/refusal_16.rt:134:5
 loop-again : tie.Need-loop-again Inv-loop μ-loop
 loop-again c = search sought-next
 
--- src/refusal_16.rt:67:1
+-- src/refusal_16.rt:117:1
 returns-3 : tie.Need-returns-3 Inv-loop μ-loop
 returns-3 c = search sought-done
 

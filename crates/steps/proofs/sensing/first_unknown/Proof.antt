@@ -8,23 +8,23 @@ use Rattle.steps.proofs.sensing.first_unknown.Lts as lts
 use Rattle.reading.proofs.notes.get.Reads as get-reads
 use Rattle.steps.proofs.sensing.next_unknown.Reads as next-unknown-reads
 
--- src/sensing.rt:59:16
+-- src/sensing.rt:67:16
 add-slot : tie.Need-add-slot
 add-slot c = search needs
 
--- src/sensing.rt:60:9
+-- src/sensing.rt:68:9
 get-requires : tie.Need-get-requires
 get-requires c κs = search needs
 
--- src/sensing.rt:61:16
+-- src/sensing.rt:69:16
 sub-from : tie.Need-sub-from
 sub-from c = search back-within
 
--- src/sensing.rt:62:5
+-- src/sensing.rt:70:5
 next-unknown-requires : tie.Need-next-unknown-requires
 next-unknown-requires c κs = search needs
 
--- src/sensing.rt:53:1
+-- src/sensing.rt:61:1
 returns : tie.Need-returns
 returns c = search first-from
 

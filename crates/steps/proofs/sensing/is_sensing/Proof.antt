@@ -7,15 +7,15 @@ use Rattle.steps.proofs.sensing.is_sensing.Reads as reads
 use Rattle.steps.proofs.sensing.is_sensing.Lts as lts
 use Rattle.reading.proofs.notes.get.Reads as get-reads
 
--- src/sensing.rt:21:16
+-- src/sensing.rt:22:16
 add-slot : tie.Need-add-slot
 add-slot c = search needs
 
--- src/sensing.rt:22:9
+-- src/sensing.rt:23:9
 get-requires : tie.Need-get-requires
 get-requires c κs = search needs
 
--- src/sensing.rt:16:1
+-- src/sensing.rt:17:1
 returns : tie.Need-returns
 returns c = search sensing-is
 

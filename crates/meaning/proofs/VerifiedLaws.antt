@@ -1,0 +1,125 @@
+-- What a verified answer says, and what makes one: the lent state has its length, the request is settled, its walk ends fine, and the walk's count is
+-- within the budget and is the answer's. By the cases of the judgement. Assumes nothing.
+use Prim.Native.Nat.{ℕ, _≤_}
+use native.Mathlib.Omega.{arith}
+use mathlib.Core.Path.{_≡_, refl, sym, _∙_, ap}
+use mathlib.Core.Bool.{false}
+use mathlib.Core.List.{List}
+use lib.ListN.{length}
+use lib.Dec.{eqb, ltb}
+use borrow.Author.Tests.{eqb-true, eq-eqb, ltb-false, le-ltb}
+use Rattle.meaning.specs.Tests.{either, pick, some-of}
+use Rattle.meaning.specs.Limits
+use Rattle.meaning.specs.Limits.{Limits}
+use Rattle.meaning.specs.Literals.{among}
+use Rattle.meaning.specs.Requests.{Request}
+use Rattle.meaning.specs.Reading.{Got, got, fault}
+use Rattle.meaning.specs.Refusals.{settled}
+use Rattle.meaning.specs.States.{State, first-state}
+use Rattle.meaning.specs.Walk.{End, fine, missed, stopped, Walked, Verified, walked}
+use Rattle.meaning.specs.Judging.{Judgement, reported, ended, within, judge-settled, judge, number, count}
+use Rattle.meaning.specs.Answers.{refusals}
+use Rattle.meaning.proofs.TestLaws.{by-test, clash, pick-true, pick-false, pick-map}
+use Rattle.meaning.proofs.KeptEnds.{Stuck, walked-stuck}
+use Rattle.meaning.proofs.AnswerLaws.{Numbered-in, settled-numbered}
+
+-- THE WALK of a verified answer.
+module _ (lim : Limits) (lent : List ℕ) (budget : ℕ) where
+  ends-fine : (c : ℕ) (e : End State) → Stuck e → ended lent c e .answer .number ≡ Limits.verified → (e ≡ fine) × (ended lent c e .answer .count ≡ c)
+  unfolding ended reported
+  ends-fine c fine stuck q = (refl, refl)
+  ends-fine c (missed p s) stuck q = absurd (omega arith)
+  ends-fine c (stopped n p u) stuck q = absurd (omega (arith, stuck .0))
+
+  -- It ends fine within the budget, and the answer has its count.
+  abbrev Fine-within : Judgement → Walked State → Type 0
+  Fine-within j w = Verified w × (w .count ≤ budget) × (j .answer .count ≡ w .count)
+
+  fine-within : (w : Walked State) → Stuck (w .end) → within lent budget w .answer .number ≡ Limits.verified → Fine-within (within lent budget w) w
+  unfolding within pick
+  fine-within w stuck q =
+      by-test (ltb budget (w .count))
+      (λ t. absurd (let three : _≡_ {A = ℕ} 3 0 = rw (t, pick) at q in omega arith))
+      (λ f.
+      let e = ends-fine (w .count) (w .end) stuck (rw (f, pick) at q) in
+      (e .0, ltb-false budget (w .count) f, ap (λ (j : Judgement). j .answer .count) (pick-false _ _ _ f) ∙ e .1))
+
+  settled-fine : (x : Got Request) → Numbered-in refusals x → judge-settled lim lent budget x .answer .number ≡ Limits.verified
+      → (r : Request) × (e : ℕ) × (x ≡ got r e) × Fine-within (judge-settled lim lent budget x) (walked r (first-state lim (r .table)))
+  unfolding judge-settled among refusals some-of either
+  settled-fine (got r e) n q = (r, e, refl, fine-within _ (walked-stuck r _) q)
+  settled-fine (fault k p) n q = clash n (ap (λ (i : ℕ). among i refusals) q)
+
+  -- What is not refused is settled.
+  settled-there : (x : Got Request) → Numbered-in refusals x → among (judge-settled lim lent budget x .answer .number) refusals ≡ false → (r : Request) × (e : ℕ) × (x ≡ got r e)
+  unfolding judge-settled
+  settled-there (got r e) n q = (r, e, refl)
+  settled-there (fault k p) n q = clash n q
+
+pub record Verified-so (lim : Limits) (request lent : List ℕ) (budget : ℕ) : Type 0 where
+  pub sized : length lent ≡ lim .state
+  pub says : Request
+  pub end : ℕ
+  pub settles : settled lim request ≡ got says end
+  pub fine : Verified (walked says (first-state lim (says .table)))
+  pub within : count lim says ≤ budget
+  pub counts : judge lim request lent budget .answer .count ≡ count lim says
+
+module _ (lim : Limits) (request lent : List ℕ) (budget : ℕ) where
+  pub verified-so : judge lim request lent budget .answer .number ≡ Limits.verified → Verified-so lim request lent budget
+  unfolding judge pick
+  verified-so q =
+      by-test (eqb (length lent) (lim .state))
+      (λ t.
+      let w = settled-fine lim lent budget (settled lim request) (settled-numbered lim request) (rw (t, pick) at q) in
+      record {
+        sized = eqb-true _ _ t;
+        says = w .0;
+        end = w .1;
+        settles = w .2;
+        fine = w .3 .0;
+        within = w .3 .1;
+        counts = ap (λ (j : Judgement). j .answer .count) (pick-true _ _ _ t) ∙ w .3 .2;
+      })
+      (λ f. absurd (let nine : _≡_ {A = ℕ} 9 0 = rw (f, pick) at q in omega arith))
+
+  module _ (sized : length lent ≡ lim .state) where
+    pub so-verified : (r : Request) (e : ℕ) → settled lim request ≡ got r e → Verified (walked r (first-state lim (r .table))) → count lim r ≤ budget
+        → (number lim request lent budget ≡ Limits.verified) × (judge lim request lent budget .answer .count ≡ count lim r)
+    unfolding judge judge-settled within ended
+    so-verified r e settles is-fine enough =
+        let w = walked r (first-state lim (r .table)) in
+        let is : judge lim request lent budget ≡ ended lent (w .count) fine =
+        pick-true _ _ _ (eq-eqb _ _ sized) ∙ ap (judge-settled lim lent budget) settles ∙ pick-false _ _ _ (le-ltb budget (w .count) enough) ∙ ap (ended lent (w .count)) is-fine in
+        (ap (λ (j : Judgement). j .answer .number) is, ap (λ (j : Judgement). j .answer .count) is)
+
+    -- What is not refused by 10 to 21 is settled.
+    pub not-refused-settled : among (number lim request lent budget) refusals ≡ false → (r : Request) × (e : ℕ) × (settled lim request ≡ got r e)
+    unfolding judge
+    not-refused-settled q =
+        settled-there lim lent budget (settled lim request) (settled-numbered lim request)
+        (sym (ap (λ (j : Judgement). among (j .answer .number) refusals) (pick-true _ _ _ (eq-eqb _ _ sized))) ∙ q)
+
+-- THE LENT BYTES. The answer does not depend on them, but for their length.
+ended-unread : (lent other : List ℕ) (c : ℕ) (e : End State) → ended lent c e .answer ≡ ended other c e .answer
+unfolding ended reported
+ended-unread lent other c fine = refl
+ended-unread lent other c (missed p s) = refl
+ended-unread lent other c (stopped n p u) = refl
+
+within-unread : (lent other : List ℕ) (budget : ℕ) (w : Walked State) → within lent budget w .answer ≡ within other budget w .answer
+unfolding within
+within-unread lent other budget w =
+    pick-map (λ (j : Judgement). j .answer) (ltb budget (w .count)) _ _
+    ∙ rw (ended-unread lent other (w .count) (w .end)) (sym (pick-map (λ (j : Judgement). j .answer) (ltb budget (w .count)) _ _))
+
+settled-unread : (lim : Limits) (lent other : List ℕ) (budget : ℕ) (x : Got Request) → judge-settled lim lent budget x .answer ≡ judge-settled lim other budget x .answer
+unfolding judge-settled
+settled-unread lim lent other budget (got r e) = within-unread lent other budget (walked r (first-state lim (r .table)))
+settled-unread lim lent other budget (fault n p) = refl
+
+pub lent-unread : (lim : Limits) (request lent other : List ℕ) (budget : ℕ) → length lent ≡ length other → judge lim request lent budget .answer ≡ judge lim request other budget .answer
+unfolding judge
+lent-unread lim request lent other budget same =
+    pick-map (λ (j : Judgement). j .answer) (eqb (length lent) (lim .state)) _ _
+    ∙ rw (same, settled-unread lim lent other budget (settled lim request)) (sym (pick-map (λ (j : Judgement). j .answer) (eqb (length other) (lim .state)) _ _))
