@@ -32,20 +32,20 @@ pub lent-unread : (lim : Limits) (request lent other : List ℕ) (budget : ℕ) 
 lent-unread = VerifiedLaws.lent-unread
 
 module _ (lim : Limits) (room : lim .fluents ≤ lim .state) (lent : List ℕ) where
-  -- MORE FACTS. Two requests alike but for section 2, the facts of the one among those of the other: where the first is verified within a budget and the
+  -- MORE FACTS (FORMAT 20.6). Two requests alike but for section 2, the facts of the one among those of the other: where the first is verified within a budget and the
   -- second is not refused by 10 to 21, the second is verified within the same budget, with a count no larger.
   pub more-facts : (x : Parts) (more : List ℕ) → ((l : ℕ) → Has (x .facts) l → Has more l)
       → (budget : ℕ) → Is-verified lim lent budget x → Not-refused lim lent budget (with-facts more x)
       → Is-verified lim lent budget (with-facts more x) × (answer-on lim lent budget (with-facts more x) .count ≤ answer-on lim lent budget x .count)
   more-facts x more within budget = MoreFacts.more-facts lim room x more lent budget within
 
-  -- FEWER GOALS. Where some of the goals and whether entries are kept and the others removed, a verified request stays verified, with the same count.
+  -- FEWER GOALS (FORMAT 20.7). Where some of the goals and whether entries are kept and the others removed, a verified request stays verified, with the same count.
   pub fewer-goals : (x : Parts) → Cut-so lim x → (keep keep-whether : ℕ → Bool) → (budget : ℕ) → Is-verified lim lent budget x
       → Is-verified lim lent budget (asking (those-of keep (x .goals)) (those-of keep-whether (x .whether)) x)
       × (answer-on lim lent budget (asking (those-of keep (x .goals)) (those-of keep-whether (x .whether)) x) .count ≡ answer-on lim lent budget x .count)
   fewer-goals x cut keep keep-whether budget = FewerGoals.fewer-goals lim room x cut keep keep-whether lent budget
 
-  -- JOINING. Two requests over one table, each fact of the second a goal of the first, both verified, each within a budget of its own; and the joined
+  -- JOINING (FORMAT 20.8, 20.9). Two requests over one table, each fact of the second a goal of the first, both verified, each within a budget of its own; and the joined
   -- request is not refused by 10 to 21. With a first count of c, e of it end states, and a second count of d, the joined request is verified within
   -- a budget that is not below (c - e) + e * d, or not below c * d, and its count is not above these.
   module _ (x y : Parts) (cut : Cut-so lim x) (cut-too : Cut-so lim y) (one : One-table x y) (leads : (l : ℕ) → Has (y .facts) l → Has (x .goals) l)
@@ -65,7 +65,7 @@ module _ (lim : Limits) (room : lim .fluents ≤ lim .state) (lent : List ℕ) w
     pub joining-by-product : c * d ≤ budget → Is-verified lim lent budget (joined x y) × (answer-on lim lent budget (joined x y) .count ≤ c * d)
     joining-by-product = JoinedPlans.joining-by-product lim room x cut lent first second budget y one cut-too leads verified verified-too passes
 
--- JOINING IS ASSOCIATIVE, with the plan without items as its unit, on bytes: a plan has two count bytes.
+-- JOINING IS ASSOCIATIVE, with the plan without items as its unit, on bytes (FORMAT 20.10): a plan has two count bytes.
 pub plans-associate : (p q r : List ℕ) → join-plans (join-plans p q) r ≡ join-plans p (join-plans q r)
 plans-associate = JoinLaws.plans-associate
 
@@ -75,7 +75,7 @@ no-items-before = JoinLaws.no-items-before
 pub no-items-after : (p : List ℕ) → 2 ≤ length p → getD p 1 0 < 256 → join-plans p no-items ≡ p
 no-items-after = JoinLaws.no-items-after
 
--- And so on whole answers, with their places and the states that they leave.
+-- And so on whole answers, with their places and the states that they leave (FORMAT 20.11).
 module _ (lim : Limits) (lent : List ℕ) (budget : ℕ) where
   pub answers-associate : (x y z : Parts) → judge lim (bytes-of (joined (joined x y) z)) lent budget ≡ judge lim (bytes-of (joined x (joined y z))) lent budget
   answers-associate = JoinLaws.answers-associate lim lent budget

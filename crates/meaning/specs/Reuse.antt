@@ -84,7 +84,7 @@ pub record One-table (x y : Parts) : Type 0 where
   pub actions : x .actions ≡ y .actions
   pub lines : x .lines ≡ y .lines
 
--- PLANS JOINED. How many items a plan's two count bytes say (FORMAT 2.22).
+-- PLANS JOINED (FORMAT 20.3). How many items a plan's two count bytes say (FORMAT 2.22).
 unfoldable pub items-said : List ℕ → ℕ
 items-said p = getD p 0 0 * 256 + getD p 1 0
 
@@ -97,11 +97,11 @@ join-plans p q = number-written (items-said p + items-said q) ++ (drop 2 p ++ dr
 unfoldable pub no-items : List ℕ
 no-items = 0 ∷ 0 ∷ []
 
--- From the first request's facts, by both plans, to what the second asks.
+-- From the first request's facts, by both plans, to what the second asks (FORMAT 20.4).
 abbrev pub joined : Parts → Parts → Parts
 joined x y = with-plan (join-plans (x .plan) (y .plan)) (asking (y .goals) (y .whether) x)
 
--- ANSWERS of the walk call on a request in parts: the answer, that its number is 0, and that its number is none of 10 to 21.
+-- ANSWERS of the walk call on a request in parts: the answer, that its number is 0, and that its number is none of 10 to 21 (FORMAT 20.2).
 abbrev pub answer-on : Limits → (lent : List ℕ) → (budget : ℕ) → Parts → Answer
 answer-on lim lent budget x = judge lim (bytes-of x) lent budget .answer
 
@@ -111,7 +111,7 @@ Is-verified lim lent budget x = answer-on lim lent budget x .number ≡ Limits.v
 abbrev pub Not-refused : Limits → (lent : List ℕ) → (budget : ℕ) → Parts → Type 0
 Not-refused lim lent budget x = among (answer-on lim lent budget x .number) refusals ≡ false
 
--- END STATES. How many of the paths arrive in one.
+-- END STATES (FORMAT 20.5). How many of the paths arrive in one.
 module _ {S : Type 0} where
   unfoldable pub one-if-arrives : Ending S → ℕ
   one-if-arrives (arrives s) = 1
