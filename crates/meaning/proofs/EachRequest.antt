@@ -14,8 +14,7 @@ use Rattle.meaning.specs.Reuse.{Parts, before-plan, bytes-of, Cut-so}
 use Rattle.meaning.proofs.RangeLaws.{not-refused, after-got, got-place}
 use Rattle.meaning.proofs.MovedReads.{Stands, stands-both, stands-whole, stands-inside, count-copied, list-copied}
 use Rattle.meaning.proofs.KeptReads.{kept-of, plan-kept}
-use Rattle.meaning.proofs.PartReads.{stands-length, lines-at, lines-counts, behind-is}
-use Rattle.meaning.proofs.JoinedPlans.{lines-kept}
+use Rattle.meaning.proofs.PartReads.{stands-length, lines-at, lines-kept, lines-counts, behind-is}
 
 -- So many bytes of an input, from a place on.
 stretch : List ℕ → (p left : ℕ) → List ℕ

@@ -30,7 +30,7 @@ use Rattle.meaning.proofs.VerifiedLaws.{verified-so, so-verified}
 use Rattle.meaning.proofs.MoreKnown.{Knows-more, walk-more}
 use Rattle.meaning.proofs.PartsAlike.{judged-follows}
 use Rattle.meaning.proofs.MoreFacts.{effects-near}
-use Rattle.meaning.proofs.PartReads.{placed-values}
+use Rattle.meaning.proofs.ReadLines.{placed-values}
 use Rattle.meaning.proofs.CutReads.{third-stands, fourth-stands, four-length, goals-start, whether-start, the-request, cut-counts, cut-read, cut-again}
 use Rattle.meaning.proofs.ListReads.{In-order, list-in-order, kept-in-order, list-few, list-read, those-length}
 

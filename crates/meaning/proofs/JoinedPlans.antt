@@ -12,7 +12,7 @@ use Rattle.meaning.specs.Limits
 use Rattle.meaning.specs.Limits.{Limits}
 use Rattle.meaning.specs.Literals.{among}
 use Rattle.meaning.specs.Requests.{Knowledge, Table, Sequence, done, item, Request, values, unplaced}
-use Rattle.meaning.specs.Reading.{got, section-at, effect-at, executability-at, knowledge-at, Met, plan-at, table-at, request-at, read-request}
+use Rattle.meaning.specs.Reading.{got, Met, plan-at, table-at, request-at, read-request}
 use Rattle.meaning.specs.Refusals.{settled}
 use Rattle.meaning.specs.States.{State, known, first-state}
 use Rattle.meaning.specs.Walk.{fine, Walked, table-step, walk, missed-in, judged, walked}
@@ -29,7 +29,7 @@ use Rattle.meaning.proofs.SettledLaws.{got-same, next-got, settled-is, 
 use Rattle.meaning.proofs.RangeLaws.{not-refused, after-got}
 use Rattle.meaning.proofs.MovedReads.{next-is}
 use Rattle.meaning.proofs.LiteralLaws.{among-has}
-use Rattle.meaning.proofs.KeptReads.{Kept, kept-of, kept-next, kept-got, section-kept, effect-kept, executability-kept, knowledge-kept, table-kept}
+use Rattle.meaning.proofs.KeptReads.{kept-of, table-kept}
 use Rattle.meaning.proofs.PathLaws.{Inhabited, paths-inhabited, each-path, walk-each-path, walked-in-order}
 use Rattle.meaning.proofs.ToldLaws.{first-length, first-known}
 use Rattle.meaning.proofs.EndLaws.{Ends, Stops, Says}
@@ -37,23 +37,15 @@ use Rattle.meaning.proofs.CoverLaws.{reaches}
 use Rattle.meaning.proofs.Exact.{met, fits, ranged, says}
 use Rattle.meaning.proofs.VerifiedLaws.{verified-so, so-verified, not-refused-settled}
 use Rattle.meaning.proofs.MoreKnown.{Knows-more, walk-more}
-use Rattle.meaning.proofs.PartReads.{lines-at, knowing, moved-table, re-tabled, head-of, tail-of, bytes-split, table-so, placed-values}
+use Rattle.meaning.proofs.ReadLines.{placed-values}
+use Rattle.meaning.proofs.PartReads.{lines-at, lines-kept, knowing, moved-table, re-tabled, head-of, tail-of, bytes-split, table-so}
 use Rattle.meaning.proofs.PartsAlike.{tables-alike, facts-unread, verified-alike, judged-follows}
 use Rattle.meaning.proofs.MoreFacts.{effects-near}
 use Rattle.meaning.proofs.CutReads.{the-request, cut-counts, cut-read}
 use Rattle.meaning.proofs.JoinedWalk.{walk-joined, Fine-behind, paths-bounded, arriving-counted, enough, product-enough}
 use Rattle.meaning.proofs.JoinedReads.{plans-joined}
 
--- ONE TABLE. Lines are read alike whatever follows them.
-pub lines-kept : (lim : Limits) (n m : ℕ) (s u : List ℕ) (far : ℕ) (room : far ≤ length u) (same : (p : ℕ) → p < far → getD u p 0 ≡ getD s p 0) (p : ℕ)
-    → Kept s u far room same p (lines-at lim n m s p) (lines-at lim n m u p)
-unfolding lines-at
-lines-kept lim n m s u far room same p =
-    kept-next s u far room same p (section-at (effect-at lim n m s) s p) (section-at (effect-at lim n m u) u p) _ _ (section-kept s u far room same _ _ (effect-kept s u far room same lim n m) p) λ effects i.
-    kept-next s u far room same i (section-at (executability-at lim n m s) s i) (section-at (executability-at lim n m u) u i) _ _ (section-kept s u far room same _ _ (executability-kept s u far room same lim n m) i) λ executability j.
-    kept-next s u far room same j (section-at (knowledge-at lim n m s) s j) (section-at (knowledge-at lim n m u) u j) _ _ (section-kept s u far room same _ _ (knowledge-kept s u far room same lim n m) j) λ knowledge e.
-    kept-got s u far room same _ e
-
+-- ONE TABLE.
 module _ (lim : Limits) (x : Parts) (facts plan goals whether : List ℕ) where
   -- The second request, over the first's table.
   abbrev y : Parts

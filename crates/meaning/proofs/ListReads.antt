@@ -2,7 +2,7 @@
 -- is so is read wherever it is written. Assumes nothing.
 use Prim.Native.Nat.{ℕ, zero, suc, _+_, _-_, _≤_}
 use native.Mathlib.Omega.{arith}
-use mathlib.Core.Path.{_≡_, refl, sym, _∙_, ap, subst}
+use mathlib.Core.Path.{_≡_, refl, _∙_, ap, subst}
 use mathlib.Core.Bool.{Bool, false}
 use mathlib.Core.List.{List, [], _∷_}
 use lib.ListN.{length}
@@ -16,7 +16,7 @@ use Rattle.meaning.proofs.TestLaws.{by-test, both-left, both-right, pic
 use Rattle.meaning.proofs.PickLaws.{pick-has}
 use Rattle.meaning.proofs.SettledLaws.{got-same}
 use Rattle.meaning.proofs.RangeLaws.{complement-near, not-refused, after-got, count-within}
-use Rattle.meaning.proofs.MovedReads.{next-is, Stands, byte-stands}
+use Rattle.meaning.proofs.MovedReads.{next-is, Stands, byte-stands, count-copied, list-copied}
 
 module _ (kind : Kind) (n : ℕ) where
   -- Each entry passes the tests of reading, behind the entry before it.
@@ -48,26 +48,19 @@ module _ (kind : Kind) (n : ℕ) where
       let here = entry-passes s p floor y i one in
       subst (In-order floor) (got-same last) (here .0, here .1, here .2, entries-in-order s left i (y + 1) ys j more)
 
-  entries-many : (s : List ℕ) (left p floor : ℕ) (xs : List ℕ) (e : ℕ) → entries-at kind n s left p floor ≡ got xs e → length xs ≡ left
-  unfolding entries-at
-  entries-many s zero p floor xs e read = ap length (sym (got-same read))
-  entries-many s (suc left) p floor xs e read =
-      after-got (entry-at kind n s p floor) _ read λ y i _ rest.
-      after-got (entries-at kind n s left i (y + 1)) _ rest λ ys j more last.
-      ap length (sym (got-same last)) ∙ ap suc (entries-many s left i (y + 1) ys j more)
-
   -- What was read ascends, and is no longer than it may be.
   pub list-in-order : (most : ℕ) (s : List ℕ) (p : ℕ) (xs : List ℕ) (e : ℕ) → list-at kind n most s p ≡ got xs e → In-order 0 xs
   unfolding list-at
   list-in-order most s p xs e read = after-got (count-at 0 most s p) _ read λ c i _ rest. entries-in-order s c i 0 xs e rest
 
   pub list-few : (most : ℕ) (s : List ℕ) (p : ℕ) (xs : List ℕ) (e : ℕ) → list-at kind n most s p ≡ got xs e → length xs ≤ most
-  unfolding list-at
+  unfolding list-at list-written
   list-few most s p xs e read =
-      after-got (count-at 0 most s p) _ read λ c i count rest.
+      let counts = list-copied kind n s most p .holds xs e read .there .1 in
+      after-got (count-at 0 most s p) _ read λ c i count _.
       let few = count-within 0 most s p c i count in
-      let many = entries-many s c i 0 xs e rest in
-      omega (arith, few, many)
+      let byte = count-copied s 0 most p .holds c i count .there .1 in
+      omega (arith, few, byte, counts)
 
   -- ENTRIES REMOVED. What ascends behind an entry ascends behind an earlier one.
   lower-floor : (floor y : ℕ) → floor ≤ y → (xs : List ℕ) → In-order (y + 1) xs → In-order floor xs

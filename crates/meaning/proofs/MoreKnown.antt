@@ -17,11 +17,12 @@ use Rattle.meaning.specs.Requests.{Effect, Knowledge, Table, Sequence, d
 use Rattle.meaning.specs.Refusals.{conditions-of, all-exclusive}
 use Rattle.meaning.specs.Lines.{executability-of, knowledge-of, allowed, sensing, senses}
 use Rattle.meaning.specs.States.{State, mark-of, known, known-whether, told, can-be-run, state-after, unknown-from, unknown-sensed, single, readings, outcome}
-use Rattle.meaning.specs.Walk.{in-state, End, fine, missed, stopped, Walked, stopped-at, counted, keep-miss, after-miss, after-end, and-then, each-reading, Step, leads-to, refuses, after-step, run-action, walk, walk-item, walk-branch, table-does, table-step}
+use Rattle.meaning.specs.Walk.{in-state, End, fine, missed, stopped, Walked, stopped-at, counted, after-end, and-then, each-reading, Step, leads-to, refuses, after-step, run-action, walk, walk-item, walk-branch, table-does, table-step}
 use Rattle.meaning.specs.Approximation.{_≼_}
 use Rattle.meaning.specs.Reported.{pair-of}
 use Rattle.meaning.proofs.TestLaws.{by-test, clash, both-left, both-right, either-left, either-right, either-split, fails-false, pick-true, pick-false, each-has, some-mono, each-mono}
 use Rattle.meaning.proofs.PickLaws.{pick-has}
+use Rattle.meaning.proofs.Sound.{then-verified}
 use Rattle.meaning.proofs.RefusalLaws.{exclusive-clash}
 use Rattle.meaning.proofs.SettledLaws.{Fit, Fit-item, Fit-branches}
 use Rattle.meaning.proofs.LiteralLaws.{fluent-true, fluent-false, same-fluent}
@@ -42,25 +43,13 @@ module _ {S : Type 0} where
   Fine (missed p s) = ⊥
   Fine (stopped n p u) = ⊥
 
-  not-missed : (p : ℕ) (s : S) (e : End S) → keep-miss p s e ≡ fine → ⊥
-  unfolding keep-miss
-  not-missed p s fine q = subst Fine (sym q) tt
-  not-missed p s (missed i t) q = subst Fine (sym q) tt
-  not-missed p s (stopped n i u) q = subst Fine (sym q) tt
-
   -- One walk after another is verified where both are, and then counts both.
-  pub then-fine : (w : Walked S) (more : Unit {0} → Walked S) → and-then w more .end ≡ fine → (w .end ≡ fine) × (more tt .end ≡ fine) × (and-then w more .count ≡ w .count + more tt .count)
-  unfolding and-then after-end counted after-miss
-  then-fine w more q = by-end (w .end) q
-    where
-      by-end : (e : End S) → after-end e (w .count) more .end ≡ fine → (e ≡ fine) × (more tt .end ≡ fine) × (after-end e (w .count) more .count ≡ w .count + more tt .count)
-      by-end fine q = (refl, q, refl)
-      by-end (missed p s) q = absurd (not-missed p s (more tt .end) q)
-      by-end (stopped n p u) q = absurd (subst Fine (sym q) tt)
-
   pub both-fine : (w : Walked S) (more : Unit {0} → Walked S) → w .end ≡ fine → more tt .end ≡ fine → (and-then w more .end ≡ fine) × (and-then w more .count ≡ w .count + more tt .count)
   unfolding and-then after-end counted
   both-fine w more p q = rw p (q, refl)
+
+  pub then-fine : (w : Walked S) (more : Unit {0} → Walked S) → and-then w more .end ≡ fine → (w .end ≡ fine) × (more tt .end ≡ fine) × (and-then w more .count ≡ w .count + more tt .count)
+  then-fine w more q = let parts = then-verified w more q in (parts .0, parts .1, both-fine w more (parts .0) (parts .1) .1)
 
 -- STATES of one length, the second of which knows whatever the first does.
 pub record Knows-more (size : ℕ) (s u : State) : Type 0 where

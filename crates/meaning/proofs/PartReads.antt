@@ -1,19 +1,21 @@
 -- What is read of a request in its parts: the facts, goals and whether entries that are written there, and lines and a plan that are those of the
 -- bytes from the lines on, so many bytes further on. Each part is taken off the reading of the whole. Assumes nothing.
-use Prim.Native.Nat.{ℕ, suc, _+_, _≤_}
+use Prim.Native.Nat.{ℕ, _+_, _≤_, _<_}
 use native.Mathlib.Omega.{arith}
 use mathlib.Core.Path.{_≡_, refl, sym, _∙_, ap, ap₂, subst}
 use mathlib.Core.List.{List, [], _∷_, _++_, map, append-assoc}
 use lib.ListN.{length, length-append, getD}
+use lib.Seq.{getD-append-add}
 use borrow.Author.Tests.{ltb-false}
 use Rattle.meaning.specs.Limits.{Limits}
-use Rattle.meaning.specs.Requests.{Table, Request, values}
-use Rattle.meaning.specs.Reading.{Got, got, fault, next, byte-at, count-at, below-at, Kind, literals, fluents, bound-of, entry-at, entries-at, list-at, section-at, effect-at, executability-at, knowledge-at, plan-at, table-at, placed, request-at, read-request}
+use Rattle.meaning.specs.Requests.{Table, Request}
+use Rattle.meaning.specs.Reading.{Got, got, fault, next, count-at, Kind, literals, fluents, list-at, section-at, effect-at, executability-at, knowledge-at, plan-at, table-at, request-at, read-request}
 use Rattle.meaning.specs.Layouts.{list-written}
 use Rattle.meaning.specs.Reuse.{Parts, before-plan, bytes-of}
 use Rattle.meaning.proofs.SettledLaws.{fault≢got, got-same, next-got}
-use Rattle.meaning.proofs.RangeLaws.{not-refused, after-got, got-place, byte-got}
-use Rattle.meaning.proofs.MovedReads.{next-is, Stands, stands-parts, whole-stands}
+use Rattle.meaning.proofs.RangeLaws.{not-refused, after-got, got-place}
+use Rattle.meaning.proofs.MovedReads.{next-is, Stands, stands-parts, count-copied, list-copied, whole-stands}
+use Rattle.meaning.proofs.KeptReads.{Kept, kept-next, kept-got, section-kept, effect-kept, executability-kept, knowledge-kept}
 use Rattle.meaning.proofs.ShiftedReads.{moved-request, moved-got, moved-effect, moved-executability, moved-knowledge, Shifted, shifted-got, shifted-next, section-shifted, effect-shifted, executability-shifted, knowledge-shifted, request-moved}
 use Rattle.meaning.proofs.ReleaseRows.{request-table}
 
@@ -35,58 +37,34 @@ pub behind-length : (pre v : List ℕ) → length (pre ++ v) ≡ length v + leng
 behind-length pre v = let all = length-append pre v in omega (arith, all)
 
 pub behind-byte : (pre v : List ℕ) (q : ℕ) → 0 ≤ q → getD (pre ++ v) (q + length pre) 0 ≡ getD v q 0
-behind-byte [] v q any = let same : q + 0 ≡ q = omega arith in ap (λ (k : ℕ). getD v k 0) same
-behind-byte (x ∷ pre) v q any =
-    let same : q + suc (length pre) ≡ suc (q + length pre) = omega arith in
-    ap (λ (k : ℕ). getD (x ∷ pre ++ v) k 0) same ∙ behind-byte pre v q any
+behind-byte pre v q any = let same : q + length pre ≡ length pre + q = omega arith in ap (λ (k : ℕ). getD (pre ++ v) k 0) same ∙ getD-append-add pre v q 0
+
+-- As many bytes that stand at one place are the same.
+stands-same : (s : List ℕ) (p : ℕ) (xs ys : List ℕ) (q e : ℕ) → length xs ≡ length ys → Stands s p xs q → Stands s p ys e → (ys ≡ xs) × (e ≡ q)
+stands-same s p [] [] q e many one other = (refl, sym other ∙ one)
+stands-same s p [] (y ∷ ys) q e many one other = absurd (omega (arith, many))
+stands-same s p (x ∷ xs) [] q e many one other = absurd (omega (arith, many))
+stands-same s p (x ∷ xs) (y ∷ ys) q e many one other =
+    let rest = stands-same s (p + 1) xs ys q e (omega (arith, many)) (one .2) (other .2) in
+    (ap₂ {C = List ℕ} (λ z zs. z ∷ zs) (sym (other .1) ∙ one .1) (rest .0), rest .1)
 
 -- A LIST that is read is the one that stands there.
-module _ (kind : Kind) (n : ℕ) (s : List ℕ) where
-  entry-is : (p floor x e : ℕ) → entry-at kind n s p floor ≡ got x e → (getD s p 0 ≡ x) × (p + 1 ≡ e)
-  unfolding entry-at below-at
-  entry-is p floor x e read =
-      after-got (below-at (bound-of kind n) s p) _ read λ y q below rest.
-      after-got (byte-at s p) _ below λ z i byte within.
-      let last = not-refused _ _ _ _ (not-refused _ _ _ _ rest .1) .1 in
-      let bounded = not-refused _ _ _ _ within .1 in
-      let here = byte-got s p z i byte in
-      (here .1 ∙ got-same bounded ∙ got-same last, here .2 ∙ got-place bounded ∙ got-place last)
+pub list-is : (kind : Kind) (n : ℕ) (s : List ℕ) (most : ℕ) (xs : List ℕ) (p q : ℕ) → Stands s p (list-written xs) q → (ys : List ℕ) (e : ℕ) → list-at kind n most s p ≡ got ys e → (ys ≡ xs) × (e ≡ q)
+unfolding list-written
+list-is kind n s most xs p q st ys e read =
+    let there = list-copied kind n s most p .holds ys e read .there in
+    stands-same s (p + 1) xs ys q e (sym (st .1) ∙ there .1) (st .2) (there .2)
 
-  entries-are : (xs : List ℕ) (p q : ℕ) → Stands s p xs q → (floor : ℕ) (ys : List ℕ) (e : ℕ) → entries-at kind n s (length xs) p floor ≡ got ys e → (ys ≡ xs) × (e ≡ q)
-  unfolding entries-at
-  entries-are [] p q st floor ys e read = (sym (got-same read), sym (got-place read) ∙ st)
-  entries-are (x ∷ xs) p q st floor ys e read =
-      after-got (entry-at kind n s p floor) _ read λ y i one rest.
-      after-got (entries-at kind n s (length xs) i (y + 1)) _ rest λ zs j more last.
-      let first = entry-is p floor y i one in
-      let here : y ≡ x = sym (first .0) ∙ st .1 in
-      let later = entries-are xs i q (subst (λ (k : ℕ). Stands s k xs q) (first .1) (st .2)) (y + 1) zs j more in
-      (sym (got-same last) ∙ ap₂ {C = List ℕ} (λ w ws. w ∷ ws) here (later .0), sym (got-place last) ∙ later .1)
-
-  pub list-is : (most : ℕ) (xs : List ℕ) (p q : ℕ) → Stands s p (list-written xs) q → (ys : List ℕ) (e : ℕ) → list-at kind n most s p ≡ got ys e → (ys ≡ xs) × (e ≡ q)
-  unfolding list-at count-at list-written
-  list-is most xs p q st ys e read =
-      after-got (count-at 0 most s p) _ read λ c i count rest.
-      after-got (byte-at s p) _ count λ d j byte within.
-      let bounded = not-refused _ _ _ _ within .1 in
-      let here = byte-got s p d j byte in
-      let many : c ≡ length xs = sym (got-same bounded) ∙ sym (here .1) ∙ st .1 in
-      let on : p + 1 ≡ i = here .2 ∙ got-place bounded in
-      entries-are xs i q (subst (λ (k : ℕ). Stands s k xs q) on (st .2)) 0 ys e (subst (λ (k : ℕ). entries-at kind n s k i 0 ≡ got ys e) many rest)
-
--- The entries of a list that was read, without their places.
-pub placed-values : (p : ℕ) (xs : List ℕ) → values (placed p xs) ≡ xs
-unfolding placed values
-placed-values p [] = refl
-placed-values p (x ∷ xs) = ap {B = List ℕ} (λ ys. x ∷ ys) (placed-values (p + 1) xs)
-
--- LINES, without the facts.
-unfoldable pub lines-at : Limits → (n m : ℕ) → List ℕ → ℕ → Got Table
-lines-at lim n m s p =
+-- A TABLE behind its facts, and its lines without them.
+abbrev pub table-behind : Limits → (n m : ℕ) → (facts s : List ℕ) → ℕ → Got Table
+table-behind lim n m facts s p =
     next (section-at (effect-at lim n m s) s p) λ effects t.
     next (section-at (executability-at lim n m s) s t) λ executability u.
     next (section-at (knowledge-at lim n m s) s u) λ knowledge e.
-    got (record { fluents = n; actions = m; facts = []; effects = effects; executability = executability; knowledge = knowledge }) e
+    got (record { fluents = n; actions = m; facts = facts; effects = effects; executability = executability; knowledge = knowledge }) e
+
+unfoldable pub lines-at : Limits → (n m : ℕ) → List ℕ → ℕ → Got Table
+lines-at lim n m = table-behind lim n m []
 
 abbrev pub knowing : List ℕ → Table → Table
 knowing facts t = record { fluents = t .fluents; actions = t .actions; facts = facts; effects = t .effects; executability = t .executability; knowledge = t .knowledge }
@@ -119,6 +97,16 @@ module _ (pre v : List ℕ) (lim : Limits) (n m : ℕ) where
       shifted-next s v far 0 long same (map (moved-knowledge far)) (moved-table far) (section-at (knowledge-at lim n m s) s (f + far)) (section-at (knowledge-at lim n m v) v f) _ _
       (section-shifted s v far 0 long same (moved-knowledge far) (knowledge-at lim n m s) (knowledge-at lim n m v) (knowledge-shifted s v far 0 long same lim n m) (f + far) f refl later) λ knowledge g last.
       (refl, last)
+
+-- Lines are read alike whatever follows them.
+pub lines-kept : (lim : Limits) (n m : ℕ) (s u : List ℕ) (far : ℕ) (room : far ≤ length u) (same : (p : ℕ) → p < far → getD u p 0 ≡ getD s p 0) (p : ℕ)
+    → Kept s u far room same p (lines-at lim n m s p) (lines-at lim n m u p)
+unfolding lines-at
+lines-kept lim n m s u far room same p =
+    kept-next s u far room same p (section-at (effect-at lim n m s) s p) (section-at (effect-at lim n m u) u p) _ _ (section-kept s u far room same _ _ (effect-kept s u far room same lim n m) p) λ effects i.
+    kept-next s u far room same i (section-at (executability-at lim n m s) s i) (section-at (executability-at lim n m u) u i) _ _ (section-kept s u far room same _ _ (executability-kept s u far room same lim n m) i) λ executability j.
+    kept-next s u far room same j (section-at (knowledge-at lim n m s) s j) (section-at (knowledge-at lim n m u) u j) _ _ (section-kept s u far room same _ _ (knowledge-kept s u far room same lim n m) j) λ knowledge e.
+    kept-got s u far room same _ e
 
 pub lines-counts : (lim : Limits) (n m : ℕ) (s : List ℕ) (p : ℕ) (l : Table) (e : ℕ) → lines-at lim n m s p ≡ got l e → (l .fluents ≡ n) × (l .actions ≡ m)
 unfolding lines-at
@@ -181,31 +169,15 @@ pub record Read-so (lim : Limits) (x : Parts) (r : Request) (e : ℕ) : Type 0 w
   pub short : length (bytes-of x) ≤ lim .request
   pub all : length (bytes-of x) ≤ e
 
-count-is : (least most : ℕ) (s : List ℕ) (p c q : ℕ) → count-at least most s p ≡ got c q → (c ≡ getD s p 0) × (q ≡ p + 1)
-unfolding count-at
-count-is least most s p c q read =
-    after-got (byte-at s p) _ read λ d j byte within.
-    let bounded = not-refused _ _ _ _ within .1 in
-    let here = byte-got s p d j byte in
-    (sym (here .1 ∙ got-same bounded), sym (here .2 ∙ got-place bounded))
-
 -- Behind the facts a table is its lines.
-module _ (lim : Limits) (n m : ℕ) (facts s : List ℕ) (p : ℕ) where
-  abbrev pub table-behind : Got Table
-  table-behind =
-      next (section-at (effect-at lim n m s) s p) λ effects t.
-      next (section-at (executability-at lim n m s) s t) λ executability u.
-      next (section-at (knowledge-at lim n m s) s u) λ knowledge e.
-      got (record { fluents = n; actions = m; facts = facts; effects = effects; executability = executability; knowledge = knowledge }) e
-
-  pub behind-is : (t : Table) (e : ℕ) → table-behind ≡ got t e → (l : Table) × (lines-at lim n m s p ≡ got l e) × (t ≡ knowing facts l)
-  unfolding lines-at
-  behind-is t e read =
-      let a = next-got (section-at (effect-at lim n m s) s p) _ read in
-      let b = next-got (section-at (executability-at lim n m s) s (a .1)) _ (a .3) in
-      let c = next-got (section-at (knowledge-at lim n m s) s (b .1)) _ (b .3) in
-      let l : Table = record { fluents = n; actions = m; facts = []; effects = a .0; executability = b .0; knowledge = c .0 } in
-      (l, next-is _ _ _ _ (a .2) ∙ next-is _ _ _ _ (b .2) ∙ next-is _ _ _ _ (c .2) ∙ ap (λ (q : ℕ). got l q) (got-place (c .3)), sym (got-same (c .3)))
+pub behind-is : (lim : Limits) (n m : ℕ) (facts s : List ℕ) (p : ℕ) (t : Table) (e : ℕ) → table-behind lim n m facts s p ≡ got t e → (l : Table) × (lines-at lim n m s p ≡ got l e) × (t ≡ knowing facts l)
+unfolding lines-at
+behind-is lim n m facts s p t e read =
+    let a = next-got (section-at (effect-at lim n m s) s p) _ read in
+    let b = next-got (section-at (executability-at lim n m s) s (a .1)) _ (a .3) in
+    let c = next-got (section-at (knowledge-at lim n m s) s (b .1)) _ (b .3) in
+    let l : Table = record { fluents = n; actions = m; facts = []; effects = a .0; executability = b .0; knowledge = c .0 } in
+    (l, next-is _ _ _ _ (a .2) ∙ next-is _ _ _ _ (b .2) ∙ next-is _ _ _ _ (c .2) ∙ ap (λ (q : ℕ). got l q) (got-place (c .3)), sym (got-same (c .3)))
 
 module _ (lim : Limits) (x : Parts) where
   abbrev s : List ℕ
@@ -224,17 +196,17 @@ module _ (lim : Limits) (x : Parts) where
       after-got (count-at 1 (lim .fluents) s 0) _ read λ n p₁ en e₁.
       after-got (count-at 1 (lim .actions) s p₁) _ e₁ λ m p₂ em e₂.
       after-got (list-at literals n (lim .listed) s p₂) _ e₂ λ facts p₃ ef e₃.
-      let one = count-is 1 (lim .fluents) s 0 n p₁ en in
-      let two = count-is 1 (lim .actions) s p₁ m p₂ em in
-      let second : p₁ ≡ 1 = omega (arith, one .1) in
-      let third : p₂ ≡ 2 = omega (arith, second, two .1) in
-      let many : m ≡ x .actions = two .0 ∙ ap (λ (k : ℕ). getD s k 0) second in
+      let one = count-copied s 1 (lim .fluents) 0 .holds n p₁ en .there in
+      let two = count-copied s 1 (lim .actions) p₁ .holds m p₂ em .there in
+      let second : p₁ ≡ 1 = omega (arith, one .2) in
+      let third : p₂ ≡ 2 = omega (arith, second, two .2) in
+      let many : m ≡ x .actions = sym (two .1) ∙ ap (λ (k : ℕ). getD s k 0) second in
       let list = list-is literals n s (lim .listed) (x .facts) 2 (2 + length (list-written (x .facts))) (part-stands (x .fluents ∷ x .actions ∷ []) (list-written (x .facts)) (tail-of x)) facts p₃
       (subst (λ (k : ℕ). list-at literals n (lim .listed) s k ≡ got facts p₃) third ef) in
       let behind = behind-is lim n m facts s p₃ t p e₃ in
       let fourth : p₃ ≡ on = list .1 ∙ omega arith in
       let there : lines-at lim (x .fluents) (x .actions) s on ≡ got (behind .0) p =
-      ap (λ (k : ℕ). lines-at lim k (x .actions) s on) (sym (one .0)) ∙ ap₂ (λ (k j : ℕ). lines-at lim n k s j) (sym many) (sym fourth) ∙ behind .1 in
+      ap (λ (k : ℕ). lines-at lim k (x .actions) s on) (one .1) ∙ ap₂ (λ (k j : ℕ). lines-at lim n k s j) (sym many) (sym fourth) ∙ behind .1 in
       let base = shifted-got s (tail-of x) on 0 (behind-length (head-of x) (tail-of x)) (behind-byte (head-of x) (tail-of x)) (moved-table on) _ _
       (lines-shifted (head-of x) (tail-of x) lim (x .fluents) (x .actions) on 0 (omega arith)) (behind .0) p there in
       (base .0, base .1, base .2, behind .2 ∙ ap₂ {C = Table} knowing (list .0) (base .3), base .4)

@@ -107,7 +107,7 @@ ended-unread lent other c fine = refl
 ended-unread lent other c (missed p s) = refl
 ended-unread lent other c (stopped n p u) = refl
 
-within-unread : (lent other : List ℕ) (budget : ℕ) (w : Walked State) → within lent budget w .answer ≡ within other budget w .answer
+pub within-unread : (lent other : List ℕ) (budget : ℕ) (w : Walked State) → within lent budget w .answer ≡ within other budget w .answer
 unfolding within
 within-unread lent other budget w =
     pick-map (λ (j : Judgement). j .answer) (ltb budget (w .count)) _ _
