@@ -5,7 +5,8 @@ use native.Mathlib.Omega.{arith}
 use mathlib.Core.Path.{_≡_, refl, sym, _∙_, ap}
 use mathlib.Core.Bool.{Bool, true, false}
 use mathlib.Core.List.{List, [], _∷_, _++_}
-use lib.ListN.{length, length-append, length-drop, getD, getD-replicate, length-replicate, replicate, take, drop}
+use lib.ListN.{length, length-append, length-drop, getD, getD-replicate, length-replicate, replicate, take, drop, List·getD-append}
+use lib.Seq.{length-take-le, getD-take, getD-drop, getD-append-add}
 use lib.Dec.{ltb, eqb}
 use borrow.Author.Tests.{eq-eqb, ltb-true, ltb-false, le-ltb}
 use Rattle.meaning.specs.declared.Answer.{Answer}
@@ -79,35 +80,14 @@ unfolding moved
 moved-number on a = pick-has (λ (b : Answer). b .number ≡ a .number) (eqb (a .input) Limits.the-request) _ _ (λ _. refl) (λ _. refl)
 
 -- LISTS: the first k entries of one, and another behind them.
-take-length : (k : ℕ) (xs : List ℕ) → k ≤ length xs → length (take k xs) ≡ k
-take-length zero xs fits = refl
-take-length (suc k) [] fits = absurd (omega (arith, fits))
-take-length (suc k) (x ∷ xs) fits = ap suc (take-length k xs (omega (arith, fits)))
-
-take-at : (k : ℕ) (xs : List ℕ) (i : ℕ) → i < k → getD (take k xs) i 0 ≡ getD xs i 0
-take-at zero xs i less = absurd (omega (arith, less))
-take-at (suc k) [] i less = refl
-take-at (suc k) (x ∷ xs) zero less = refl
-take-at (suc k) (x ∷ xs) (suc i) less = take-at k xs i (omega (arith, less))
-
-drop-at : (k : ℕ) (xs : List ℕ) (i : ℕ) → getD (drop k xs) i 0 ≡ getD xs (k + i) 0
-drop-at zero xs i = let same : i ≡ 0 + i = omega arith in ap (λ (j : ℕ). getD xs j 0) same
-drop-at (suc k) [] i = refl
-drop-at (suc k) (x ∷ xs) i = let same : suc (k + i) ≡ suc k + i = omega arith in drop-at k xs i ∙ ap (λ (j : ℕ). getD (x ∷ xs) j 0) same
-
 before-joint : (k : ℕ) (xs ys : List ℕ) → k ≤ length xs → (i : ℕ) → i < k → getD (take k xs ++ ys) i 0 ≡ getD xs i 0
-before-joint zero xs ys fits i less = absurd (omega (arith, less))
-before-joint (suc k) [] ys fits i less = absurd (omega (arith, fits))
-before-joint (suc k) (x ∷ xs) ys fits zero less = refl
-before-joint (suc k) (x ∷ xs) ys fits (suc i) less = before-joint k xs ys (omega (arith, fits)) i (omega (arith, less))
+before-joint k xs ys fits i less = let long = length-take-le k xs fits in List·getD-append (take k xs) ys 0 i (omega (arith, less, long)) ∙ getD-take k xs i 0 less
 
 behind-joint : (k : ℕ) (xs ys : List ℕ) → k ≤ length xs → (i : ℕ) → k ≤ i → getD (take k xs ++ ys) i 0 ≡ getD ys (i - k) 0
-behind-joint zero xs ys fits i more = let same : i ≡ i - 0 = omega arith in ap (λ (j : ℕ). getD ys j 0) same
-behind-joint (suc k) [] ys fits i more = absurd (omega (arith, fits))
-behind-joint (suc k) (x ∷ xs) ys fits zero more = absurd (omega (arith, more))
-behind-joint (suc k) (x ∷ xs) ys fits (suc i) more =
-    let same : i - k ≡ suc i - suc k = omega arith in
-    behind-joint k xs ys (omega (arith, fits)) i (omega (arith, more)) ∙ ap (λ (j : ℕ). getD ys j 0) same
+behind-joint k xs ys fits i more =
+    let long = length-take-le k xs fits in
+    let same : i ≡ length (take k xs) + (i - k) = omega (arith, long, more) in
+    ap (λ (j : ℕ). getD (take k xs ++ ys) j 0) same ∙ getD-append-add (take k xs) ys (i - k) 0
 
 -- A REQUEST that has this table in its first bytes, past 16 and 17. Whatever is read behind the table decides what it is settled to.
 module _ {A B : Type 0} where
@@ -154,12 +134,12 @@ module _ (lim : Limits) (t : Table) (end : ℕ) (clean : contradiction-in t ≡ 
     uncut = take end s ++ drop start s
 
     uncut-length : length s ≡ length uncut + on
-    uncut-length = let all = length-append (take end s) (drop start s) in omega (arith, all, take-length end s fits, length-drop start s, behind, inside)
+    uncut-length = let all = length-append (take end s) (drop start s) in omega (arith, all, length-take-le end s fits, length-drop start s, behind, inside)
 
     uncut-same : (q : ℕ) → end ≤ q → getD s (q + on) 0 ≡ getD uncut q 0
     uncut-same q more =
         let place : start + (q - end) ≡ q + (start - end) = omega (arith, more, behind) in
-        sym (behind-joint end s (drop start s) fits q more ∙ drop-at start s (q - end) ∙ ap (λ (k : ℕ). getD s k 0) place)
+        sym (behind-joint end s (drop start s) fits q more ∙ getD-drop start s (q - end) 0 ∙ ap (λ (k : ℕ). getD s k 0) place)
 
     uncut-read : request-at lim s t start ≡ moved-got on (request-at lim uncut t end)
     uncut-read = request-moved s uncut on end uncut-length uncut-same lim t start end (omega (arith, behind)) (omega arith)
@@ -168,8 +148,8 @@ module _ (lim : Limits) (t : Table) (end : ℕ) (clean : contradiction-in t ≡ 
     table-there : (ys : List ℕ) → table-at lim (take end s ++ ys) 0 ≡ got t end
     table-there ys =
         let long = length-append (take end s) ys in
-        kept-of s (take end s ++ ys) end (omega (arith, long, take-length end s fits)) (before-joint end s ys fits) 0 (table-at lim s 0) (table-at lim (take end s ++ ys) 0)
-        (table-kept s (take end s ++ ys) end (omega (arith, long, take-length end s fits)) (before-joint end s ys fits) lim 0) t end table .2 (omega arith)
+        kept-of s (take end s ++ ys) end (omega (arith, long, length-take-le end s fits)) (before-joint end s ys fits) 0 (table-at lim s 0) (table-at lim (take end s ++ ys) 0)
+        (table-kept s (take end s ++ ys) end (omega (arith, long, length-take-le end s fits)) (before-joint end s ys fits) lim 0) t end table .2 (omega arith)
 
     -- The plan that is read there, and what its own request is settled to.
     abbrev Alone : Got Request → Type 0
@@ -199,7 +179,7 @@ module _ (lim : Limits) (t : Table) (end : ℕ) (clean : contradiction-in t ≡ 
       cut-length =
           let all = length-append (take end s) (take (e - start) (drop start s)) in
           let rest = length-drop start s in
-          omega (arith, all, take-length end s fits, take-length (e - start) (drop start s) (omega (arith, goes .1, rest)))
+          omega (arith, all, length-take-le end s fits, length-take-le (e - start) (drop start s) (omega (arith, goes .1, rest)))
 
       cut-same : (i : ℕ) → i < end + (e - start) → getD cut i 0 ≡ getD uncut i 0
       cut-same i less =
@@ -208,7 +188,7 @@ module _ (lim : Limits) (t : Table) (end : ℕ) (clean : contradiction-in t ≡ 
           (λ f.
           let more = ltb-false i end f in
           behind-joint end s (take (e - start) (drop start s)) fits i more
-          ∙ take-at (e - start) (drop start s) (i - end) (omega (arith, less, more))
+          ∙ getD-take (e - start) (drop start s) (i - end) 0 (omega (arith, less, more))
           ∙ sym (behind-joint end s (drop start s) fits i more))
 
       by-read : (h : Got Request) → request-at lim uncut t end ≡ h → got r e ≡ moved-got on h → settled lim cut ≡ past-overlap h
