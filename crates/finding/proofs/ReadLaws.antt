@@ -13,12 +13,13 @@ use Rattle.meaning.specs.Lines.{effects-of, executability-of}
 use Rattle.meaning.specs.Reading
 use Rattle.meaning.specs.Reading.{Got, got, fault, literals, bound-of, byte-at, count-at, below-at, list-at, body-at, effect-at, executability-at, knowledge-at, repeated, section-at, plan-at, table-at, request-at, read-request}
 use Rattle.meaning.proofs.SettledLaws.{got-same}
+use Rattle.meaning.proofs.PlaceLaws.{Request-held, read-held}
 use Rattle.meaning.proofs.RangeLaws.{not-refused, after-got, count-within, section-read, repeated-length}
 use Rattle.reading.specs.Noted.{effects, executability, knowledge, effect-lines, run-lines, line-place, action-in, note-line, none-yet, count-slot, section-noted, table-noted, branch-place, branch-item, sensed-from, sensed-to, plan-slot, items-slot, goals-slot, sensed, slots, effects-slot, executability-slot, knowledge-slot, line-numbers}
 use Rattle.reading.specs.Ordered.{In-order}
 use Rattle.reading.specs.Listed.{listed, List-here}
 use Rattle.reading.specs.Planned.{items-of, bytes-of, plan-noted}
-use Rattle.reading.specs.Requested.{goals-place, plan-place, places-noted, tail-noted}
+use Rattle.reading.specs.Requested.{goals-place, plan-place, places-noted, tail-noted, request-noted}
 use Rattle.finding.specs.LinesHere.{effect-from, Effect-here, place-in, effects-in, Effects-here, knowledge-from, knowledge-in, Knowledge-here, Acting}
 use Rattle.reading.proofs.SectionLaws.{got-place, byte-got, number-got}
 use Rattle.reading.proofs.PlanSizes.{sequence-read, list-through}
@@ -105,7 +106,7 @@ pub record Parts (s : List ℕ) (x : Request) (e : ℕ) : Type 0 where
   pub table-read : table-at format s 0 ≡ got (x .table) place
   pub tail-read : request-at format s (x .table) place ≡ got x e
 
-pub parts : (s : List ℕ) (x : Request) (e : ℕ) → read-request format s ≡ got x e → Parts s x e
+parts : (s : List ℕ) (x : Request) (e : ℕ) → read-request format s ≡ got x e → Parts s x e
 unfolding read-request
 parts s x e read =
     after-got (table-at format s 0) _ (not-refused _ _ _ _ read .1) λ t p et e₁.
@@ -514,3 +515,22 @@ module _ (s : List ℕ) (bytes : (i : ℕ) → getD s i 0 < 256) (short : length
         ∙ blank-long;
     noted = λ j of. ap (λ (z : Table). getD (table-noted z blank) j 0) (sym (table-is s x p read));
   }
+
+-- A REQUEST that was read whole: its table, noted into notes that held nothing, is there, and the rest was read behind it.
+module _ (s : List ℕ) (bytes : (i : ℕ) → getD s i 0 < 256) (x : Request) (e : ℕ) (reads : read-request format s ≡ got x e) where
+  pub read-parts : Parts s x e
+  read-parts = parts s x e reads
+
+  pub read-comes : Table-here s (table-noted (x .table) blank)
+  read-comes = table-comes s bytes (subst (Request-held format s) reads (read-held format s) .1 .1) (x .table) (read-parts .place) (read-parts .table-read)
+
+  pub read-same : table-in s ≡ x .table
+  read-same = table-is s (x .table) (read-parts .place) (read-parts .table-read)
+
+  pub read-tail : request-at format s (table-in s) (read-parts .place) ≡ got x e
+  read-tail = ap (λ (z : Table). request-at format s z (read-parts .place)) read-same ∙ read-parts .tail-read
+
+-- What it leaves is what its table leaves, and then the rest.
+pub tail-of-notes : (x : Request) → request-noted x blank ≡ tail-noted x (table-noted (x .table) blank)
+unfolding request-noted
+tail-of-notes x = refl

@@ -1,5 +1,5 @@
 -- Refusals 16 to 18 after reading: a law for each way that they return. Assumes nothing.
-use Prim.Native.Nat.{ℕ, _-_, _*_, _≤_}
+use Prim.Native.Nat.{ℕ, _-_, _*_, _≤_, _<_}
 use native.Mathlib.Omega.{arith}
 use mathlib.Core.Path.{_≡_, refl, sym, _∙_, ap, subst}
 use mathlib.Core.List.{List, []}
@@ -12,7 +12,6 @@ use Rattle.meaning.specs.Reading.{Got, got, fault, next, table-at, request-at, 
 use Rattle.meaning.specs.Refusals
 use Rattle.meaning.specs.Refusals.{nowhere, at, contradictory, first-against, contradiction-in, mixed-in, overlap-in, refuse, settled}
 use Rattle.meaning.proofs.SettledLaws.{got-same, settled-is}
-use Rattle.meaning.proofs.PlaceLaws.{Request-held, read-held}
 use Rattle.bytes.specs.declared.lists.Passed.{Passed}
 use Rattle.bytes.specs.declared.lists.Passed.the-variants.{To, Fault as Stop}
 use Rattle.finding.specs.declared.places.Found.{Found}
@@ -23,13 +22,13 @@ use Rattle.reading.specs.Noted.{noting, outcome, table-noted, plan-slot, items-
 use Rattle.reading.specs.Planned.{items-of}
 use Rattle.reading.specs.Requested.{plan-place, tail-noted, request-noted}
 use Rattle.finding.specs.Places.{found}
-use Rattle.finding.specs.LinesHere.{effects-in, Effects-here, knowledge-in, Knowledge-here, Acting}
+use Rattle.finding.specs.LinesHere.{effects-in, Effects-here, knowledge-in, Knowledge-here}
 use Rattle.finding.specs.TablesHere.{blank, table-in, Table-here, Runs-here}
 use Rattle.refusing.specs.Refusal17.{Mixed-found}
 use Rattle.finding.specs.ReadHere.{Read-here}
 use Rattle.refusing.specs.Settled.{table-unmixed, table-settled, past-18}
 use Rattle.reading.proofs.SectionLaws.{noting-got, noting-fault}
-use Rattle.finding.proofs.ReadLaws.{Table-parts, table-parts, request-parts, Parts, parts, effects-counted, effects-are, effects-stand, knowledge-counted, plan-noted-at, items-noted, acting, knowledge-stands, effects-few, knowledge-few, tail-held, table-is, whole-table, runs-here, table-stays, table-comes}
+use Rattle.finding.proofs.ReadLaws.{Table-parts, table-parts, request-parts, effects-counted, effects-are, effects-stand, knowledge-counted, plan-noted-at, items-noted, acting, knowledge-stands, effects-few, knowledge-few, tail-held, whole-table, runs-here, table-stays, Parts, read-parts, read-comes, read-same, read-tail, tail-of-notes}
 use Rattle.finding.specs.PlansHeld.{Plan-held, Some-plan}
 use Rattle.refusing.specs.Refusal18.{Overlap-found}
 use Rattle.finding.proofs.FoundLaws.{found-at, found-none}
@@ -127,27 +126,26 @@ module _ (s t : List ℕ) (here : Table-here s t) where
 
 -- A REQUEST that was read: its table is there, and its plan behind it.
 module _ (s : List ℕ) (bytes : (i : ℕ) → Fits w8 (getD s i 0)) (t : List ℕ) (e : ℕ) (here : Read-here s t e) where
-  all-parts : Parts s (here .request) e
-  all-parts = parts s (here .request) e (here .reads)
+  abbrev small : (i : ℕ) → getD s i 0 < 256
+  small i = bytes i .fits
 
-  fits : length s ≤ format .request
-  fits = subst (Request-held format s) (here .reads) (read-held format s) .1 .1
+  abbrev there : Parts s (here .request) e
+  there = read-parts s small (here .request) e (here .reads)
 
   comes : Table-here s (table-noted (here .request .table) blank)
-  comes = table-comes s (λ i. bytes i .fits) fits (here .request .table) (all-parts .place) (all-parts .table-read)
+  comes = read-comes s small (here .request) e (here .reads)
 
   same-table : table-in s ≡ here .request .table
-  same-table = table-is s (here .request .table) (all-parts .place) (all-parts .table-read)
+  same-table = read-same s small (here .request) e (here .reads)
 
-  tail : request-at format s (table-in s) (all-parts .place) ≡ got (here .request) e
-  tail = ap (λ (z : Table). request-at format s z (all-parts .place)) same-table ∙ all-parts .tail-read
+  tail : request-at format s (table-in s) (there .place) ≡ got (here .request) e
+  tail = read-tail s small (here .request) e (here .reads)
 
   tail-is : t ≡ tail-noted (here .request) (table-noted (here .request .table) blank)
-  unfolding request-noted
-  tail-is = here .noted
+  tail-is = here .noted ∙ tail-of-notes (here .request)
 
   pub table-read-here : Table-here s t
-  table-read-here = subst (Table-here s) (sym tail-is) (table-stays s (table-noted (here .request .table) blank) comes (all-parts .place) (here .request) e tail)
+  table-read-here = subst (Table-here s) (sym tail-is) (table-stays s (table-noted (here .request .table) blank) comes (there .place) (here .request) e tail)
 
   whole-here : Table-parts s (table-in s) (comes .table-end)
   whole-here = whole-table s (table-noted (here .request .table) blank) comes
@@ -159,10 +157,10 @@ module _ (s : List ℕ) (bytes : (i : ℕ) → Fits w8 (getD s i 0)) (t : List �
   module _ (plan : ℕ) (is : plan ≡ getD t plan-slot 0) where
     pub table-ends : table-at format s 0 ≡ got (table-in s) plan
     table-ends =
-        let stands : plan-place (here .request) ≡ all-parts .place = request-parts s (table-in s) (all-parts .place) (here .request) e tail .placed in
-        let at : plan ≡ all-parts .place =
-        slot-is plan-slot plan is ∙ plan-noted-at s (table-in s) (whole-here .few) (whole-here .less) (all-parts .place) (here .request) e tail (table-noted (here .request .table) blank) (comes .sized) ∙ stands in
-        rw (same-table, at) (all-parts .table-read)
+        let stands : plan-place (here .request) ≡ there .place = request-parts s (table-in s) (there .place) (here .request) e tail .placed in
+        let at : plan ≡ there .place =
+        slot-is plan-slot plan is ∙ plan-noted-at s (table-in s) (whole-here .few) (whole-here .less) (there .place) (here .request) e tail (table-noted (here .request .table) blank) (comes .sized) ∙ stands in
+        rw (same-table, at) (there .table-read)
 
     settled-behind : settled format s ≡ next (table-settled (table-in s) plan) (λ _ _. past-18 s)
     unfolding settled past-18 next
@@ -180,12 +178,12 @@ module _ (s : List ℕ) (bytes : (i : ℕ) → Fits w8 (getD s i 0)) (t : List �
   -- 18.
   module _ (count : ℕ) (is : count ≡ getD t items-slot 0) where
     count-18 : items-of (here .request .plan) ≡ count
-    count-18 = sym (slot-is items-slot count is ∙ items-noted s (table-in s) (whole-here .few) (whole-here .less) (all-parts .place) (here .request) e tail (table-noted (here .request .table) blank) (comes .sized))
+    count-18 = sym (slot-is items-slot count is ∙ items-noted s (table-in s) (whole-here .few) (whole-here .less) (there .place) (here .request) e tail (table-noted (here .request .table) blank) (comes .sized))
 
     held-18 : Plan-held s t (here .request .plan)
     held-18 =
         subst (λ (u : List ℕ). Plan-held s u (here .request .plan)) (sym tail-is)
-        (tail-held s (table-in s) (whole-here .few) (whole-here .less) (all-parts .place) (here .request) e tail (table-noted (here .request .table) blank) (comes .sized))
+        (tail-held s (table-in s) (whole-here .few) (whole-here .less) (there .place) (here .request) e tail (table-noted (here .request .table) blank) (comes .sized))
 
     pub stand-18 : Some-plan s t count
     stand-18 = record { plan = here .request .plan; held = held-18; items = count-18 }

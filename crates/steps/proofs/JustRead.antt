@@ -17,7 +17,6 @@ use Rattle.meaning.specs.Reading.{got, literals, plan-at, request-at, read-requ
 use Rattle.meaning.specs.Refusals.{nowhere, contradiction-in}
 use Rattle.meaning.specs.Lines.{knowledge-of, sensing, senses}
 use Rattle.meaning.proofs.TestLaws.{same-test, some-has, has-some, some-those}
-use Rattle.meaning.proofs.PlaceLaws.{Request-held, read-held}
 use Rattle.reading.specs.Bits.{bit-of}
 use Rattle.reading.specs.Noted.{none-yet, count-slot, section-noted, table-noted, effect-lines, sensed-from, sensed-to, plan-slot, items-slot, goals-slot, word-bits, pair-slot, pair-there, slots, effects-slot, executability-slot, knowledge-slot}
 use Rattle.reading.specs.Planned.{items-of, plan-noted}
@@ -29,8 +28,7 @@ use Rattle.finding.specs.PlansHeld.{Plan-held}
 use Rattle.finding.specs.TablesHere.{blank, Table-here}
 use Rattle.finding.proofs.KeptLaws.{kept}
 use Rattle.finding.proofs.HereLaws.{list-here}
-use Rattle.finding.proofs.ReadLaws
-use Rattle.finding.proofs.ReadLaws.{Table-parts, Parts, parts, request-parts, whole-table, table-comes, table-stays, knowledge-good, with-runs, with-knowledge, runs-long, sensed-empty, after-sections, effects-ordered, runs-ordered, items-noted, plan-noted-at, goals-noted, tail-held}
+use Rattle.finding.proofs.ReadLaws.{Table-parts, request-parts, whole-table, table-stays, read-parts, read-comes, read-same, read-tail, tail-of-notes, knowledge-good, with-runs, with-knowledge, runs-long, sensed-empty, after-sections, effects-ordered, runs-ordered, items-noted, plan-noted-at, goals-noted, tail-held}
 use Rattle.steps.specs.Held.{plan-of, table-in, plan-in, goals-in, whether-in, request-in}
 use Rattle.steps.specs.LinesFound.{run-places, effect-places, Senses}
 use Rattle.steps.specs.Rests.{Nexts}
@@ -218,27 +216,11 @@ module _ (s t : List ℕ) (here : Table-here s t) (p : ℕ) (y : Request) (q : �
 
 -- A REQUEST that was read whole, into notes that held nothing.
 module _ (s : List ℕ) (bytes : (i : ℕ) → getD s i 0 < 256) (x : Request) (e : ℕ) (reads : read-request format s ≡ got x e) (t : List ℕ) (noted : t ≡ request-noted x blank) where
-  read-parts : Parts s x e
-  read-parts = parts s x e reads
-
-  fits : length s ≤ format .request
-  fits = subst (Request-held format s) reads (read-held format s) .1 .1
-
-  comes : Table-here s (table-noted (x .table) blank)
-  comes = table-comes s bytes fits (x .table) (read-parts .place) (read-parts .table-read)
-
-  same-table : table-in s ≡ x .table
-  same-table = ReadLaws.table-is s (x .table) (read-parts .place) (read-parts .table-read)
-
-  tail : request-at format s (table-in s) (read-parts .place) ≡ got x e
-  tail = ap (λ (z : Table). request-at format s z (read-parts .place)) same-table ∙ read-parts .tail-read
-
   tail-is : t ≡ tail-noted x (table-noted (x .table) blank)
-  unfolding request-noted
-  tail-is = noted
+  tail-is = noted ∙ tail-of-notes x
 
   pub read-at-hand : contradiction-in (x .table) ≡ nowhere → At-hand s t
-  read-at-hand passed = subst (At-hand s) (sym tail-is) (plan-at-hand s (table-noted (x .table) blank) comes (read-parts .place) x e tail (ap contradiction-in same-table ∙ passed))
+  read-at-hand passed = subst (At-hand s) (sym tail-is) (plan-at-hand s (table-noted (x .table) blank) (read-comes s bytes x e reads) (read-parts s bytes x e reads .place) x e (read-tail s bytes x e reads) (ap contradiction-in (read-same s bytes x e reads) ∙ passed))
 
   pub request-read : request-in s t ≡ x
-  request-read = ap (request-in s) tail-is ∙ plan-request s (table-noted (x .table) blank) comes (read-parts .place) x e tail
+  request-read = ap (request-in s) tail-is ∙ plan-request s (table-noted (x .table) blank) (read-comes s bytes x e reads) (read-parts s bytes x e reads .place) x e (read-tail s bytes x e reads)
