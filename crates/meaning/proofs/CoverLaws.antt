@@ -11,11 +11,11 @@ use Rattle.meaning.specs.Tests.{each-of, Has}
 use Rattle.meaning.specs.Limits
 use Rattle.meaning.specs.Literals.{exclusive}
 use Rattle.meaning.specs.Requests.{Effect, Knowledge, Table, Sequence, done, item, Item, act, branching, Branches, none, branch}
-use Rattle.meaning.specs.Refusals.{conditions-of, all-exclusive}
+use Rattle.meaning.specs.Refusals.{nowhere, conditions-of, all-exclusive}
 use Rattle.meaning.specs.Lines.{sensing}
 use Rattle.meaning.specs.States.{State, known, can-be-run, state-after, unknown-sensed, single, readings, outcome}
 use Rattle.meaning.specs.Walk.{in-state, Step, table-does, table-step}
-use Rattle.meaning.specs.Paths.{Ending, arrives, stops, Path, first-ran, go-on, arrivals, paths-step, paths, paths-item, paths-branch}
+use Rattle.meaning.specs.Paths.{Ending, arrives, stops, Path, first-ran, go-on, meetings, arrivals, paths-step, paths, paths-item, paths-branch}
 use Rattle.meaning.specs.Approximation.{Pair, Disjoint, true-in, _≼_, executable, sensing-action, Res, Result, failed, state, Sensed, Φ, None-true, Φ̂, Φ̂-item, Φ̂-case}
 use Rattle.meaning.specs.Reported.{pair-of}
 use Rattle.meaning.proofs.TestLaws.{by-test, clash, both-left, both-right, either-right, each-mono}
@@ -93,9 +93,9 @@ module _ (size : ℕ) where
 module _ (t : Table) (size : ℕ) (effects-within : (e : Effect) → Has (t .effects) e → e .literal < 2 * size) (knowledge-within : (k : Knowledge) → Has (t .knowledge) k → k .fluent < size) where
   -- EXACT.
   reaches-act : (p a : ℕ) (s : State) → length s ≡ size → (e : Ending State) → Ends (paths-item (table-step t) (act p a) s) e → Φ t a (pair-of s) (result-of e) × Sized size e
-  unfolding paths paths-step table-step table-does outcome arrivals
+  unfolding paths paths-step table-step table-does outcome meetings
   reaches-act p a s sized e h =
-      has-picked (λ (x : Step State). Ends (paths-step p a x) e) (can-be-run t a s) _ _ h ran (λ stuck k. rw (ends-one k) (runs-pair t a s ∙ stuck, tt))
+      has-picked (λ (x : Step State). Ends (paths-step (λ _. nowhere) p a x) e) (can-be-run t a s) _ _ h ran (λ stuck k. rw (ends-one k) (runs-pair t a s ∙ stuck, tt))
     where
       read : executable t a (pair-of s) ≡ true → sensing t a ≡ true → Ends (arrivals (readings (unknown-sensed t a s) s)) e → Φ t a (pair-of s) (result-of e) × Sized size e
       read runs senses k =
@@ -140,9 +140,9 @@ module _ (t : Table) (size : ℕ) (effects-within : (e : Effect) → Has (t .eff
 
   -- COVERING.
   covers-act : (p a : ℕ) (s : State) (δ : Pair) → Below size s δ → (x : Result) → Φ t a δ x → Covered size (paths-item (table-step t) (act p a) s) x
-  unfolding paths paths-step table-step table-does outcome arrivals
+  unfolding paths paths-step table-step table-does outcome meetings
   covers-act p a s δ below x h =
-      pick-has (λ (y : Step State). Covered size (paths-step p a y) x) (can-be-run t a s) _ _
+      pick-has (λ (y : Step State). Covered size (paths-step (λ _. nowhere) p a y) x) (can-be-run t a s) _ _
       (λ runs. ran (executable-grows t a (below .extends) (runs-pair t a s ∙ runs)) x h)
       (λ _. stops-cover size _ (Limits.not-executable, p, in-state s, inl refl) x)
     where

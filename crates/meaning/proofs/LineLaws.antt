@@ -28,7 +28,7 @@ lines-agree t u a same = record { does = λ s. rw (same .executability, same .kn
 -- The walk never reads a line of another action: tables that have the same lines of each of the plan's actions walk it alike.
 pub no-other-action's-line : (t u : Table) (p : Sequence ℕ) → On-actions (Same-lines-of t u) p → (k : State → Walked State) (s : State) → walk (table-step t) p k s ≡ walk (table-step u) p k s
 unfolding table-step
-no-other-action's-line t u p same = walk-agrees (table-step t) (table-step u) refl p (map-actions (lines-agree t u) p same)
+no-other-action's-line t u p same = walk-agrees (table-step t) (table-step u) refl refl p (map-actions (lines-agree t u) p same)
 
 -- LINES SAID TWICE.
 module _ {A : Type 0} {R : A → A → Type 0} (p : A → Bool) (fair : (x y : A) → R x y → p x ≡ p y) where
@@ -164,11 +164,11 @@ module _ (r q : Request) (same : Same-but-lines r q) where
   pub walked-same : (s : State) → unplaced-walk (walked r s) ≡ unplaced-walk (walked q s)
   unfolding walked table-step
   walked-same s =
-      walk-unplaced (table-step (r .table)) (r .plan) (judged r) s
-      ∙ walk-agrees (table-step (r .table)) (table-step (q .table)) refl (unplaced (r .plan)) (on-actions _ (tables-agree (r .table) (q .table) (same .tables)) (unplaced (r .plan))) _ s
+      walk-unplaced (table-step (r .table)) refl (r .plan) (judged r) s
+      ∙ walk-agrees (table-step (r .table)) (table-step (q .table)) refl refl (unplaced (r .plan)) (on-actions _ (tables-agree (r .table) (q .table) (same .tables)) (unplaced (r .plan))) _ s
       ∙ ap (λ (p : Sequence ℕ). walk (table-step (q .table)) p (λ t. unplaced-walk (judged r t)) s) (same .plan)
       ∙ ap (λ (k : State → Walked State). walk (table-step (q .table)) (unplaced (q .plan)) k s) (fun-ext judged-same)
-      ∙ sym (walk-unplaced (table-step (q .table)) (q .plan) (judged q) s)
+      ∙ sym (walk-unplaced (table-step (q .table)) refl (q .plan) (judged q) s)
 
 within-gist : (lent : List ℕ) (budget : ℕ) (w : Walked State) → gist (within lent budget w) ≡ gist (within lent budget (unplaced-walk w))
 unfolding within ended reported written-over pick

@@ -4,8 +4,9 @@ use Prim.Native.Nat.{ℕ}
 use mathlib.Core.Path.{_≡_, refl, ap}
 use Rattle.meaning.specs.Tests.{each-of}
 use Rattle.meaning.specs.Requests.{Sequence, done, item, Item, act, branching, Branches, none, branch}
+use Rattle.meaning.specs.Refusals.{Found, nowhere, at}
 use Rattle.meaning.specs.States.{Outcome, single, fork}
-use Rattle.meaning.specs.Walk.{Concerned, no-state, in-state, End, fine, missed, stopped, Walked, stopped-at, counted, keep-miss, after-miss, after-end, and-then, each-reading, Step, leads-to, refuses, Steps, after-step, run-action, walk, walk-item, walk-branch}
+use Rattle.meaning.specs.Walk.{Concerned, no-state, in-state, End, fine, missed, stopped, Walked, stopped-at, counted, keep-miss, after-miss, after-end, and-then, each-reading, Step, leads-to, refuses, Steps, after-step, unless-broken, meet, run-action, walk, walk-item, walk-branch}
 use Rattle.meaning.proofs.TestLaws.{pick-map}
 use Rattle.meaning.proofs.KeptEnds.{Outcome-has}
 
@@ -70,10 +71,20 @@ module _ {S T : Type 0} (f : S → T) where
     module _ {L : Type 0} (step : Steps S L) (other : Steps T L)
         (keeps : (a : ℕ) (s : S) → P s → Keeps (step .does a s))
         (does : (a : ℕ) (s : S) → P s → other .does a (f s) ≡ mapped-step (step .does a s))
-        (knows : (s : S) → other .knows (f s) ≡ step .knows s) where
+        (knows : (s : S) → other .knows (f s) ≡ step .knows s)
+        (lacks : (s : S) → other .lacks (f s) ≡ step .lacks s) where
+      -- A state that is met.
+      pub mapped-meet : (k : S → Walked S) (j : T → Walked T) → Same-walks k j → Same-walks (meet step k) (meet other j)
+      unfolding stopped-at
+      mapped-meet k j same s has = rw (lacks s) (by-found (step .lacks s))
+        where
+          by-found : (g : Found) → unless-broken g (f s) (j (f s)) ≡ mapped-walk (unless-broken g s (k s))
+          by-found nowhere = same s has
+          by-found (at p) = refl
+
       mapped-run : (p a : ℕ) (k : S → Walked S) (j : T → Walked T) → Same-walks k j → Same-walks (run-action step p a k) (run-action other p a j)
       unfolding run-action
-      mapped-run p a k j same s has = rw (does a s has) (mapped-after p (step .does a s) (keeps a s has) k j same)
+      mapped-run p a k j same s has = rw (does a s has) (mapped-after p (step .does a s) (keeps a s has) (meet step k) (meet other j) (mapped-meet k j same))
 
       mutual
         unfolding walk stopped-at

@@ -18,7 +18,7 @@ use Rattle.meaning.specs.States.{State, known, known-whether, first-stat
 use Rattle.meaning.specs.Walk.{in-state, End, fine, missed, stopped, Step, table-does, table-step, first-missed, missed-in}
 use Rattle.meaning.specs.Judging.{Judgement, written-over, reported, ended, within, judge, number, count}
 use Rattle.meaning.specs.Approximation.{Pair, true-in, state, None-true, Φ̂, Initial, Entailed}
-use Rattle.meaning.specs.Paths.{Ending, arrives, stops, arrivals, paths-step, paths, paths-item, paths-branch}
+use Rattle.meaning.specs.Paths.{Ending, arrives, stops, meetings, arrivals, paths-step, paths, paths-item, paths-branch}
 use Rattle.meaning.specs.Reported.{First, pair-of, Asked, goal, whether, asked-at, met-in, asked-by, All-met, Misses, all-paths, Missed-at, Item-in, Item-of, Item-under, item-place, Not-run, Stopped-at}
 use Rattle.meaning.proofs.TestLaws.{clash, pick-cases, each-has, has-each, has-split, has-map, map-has}
 use Rattle.meaning.proofs.PickLaws.{pick-has, has-picked}
@@ -96,7 +96,7 @@ sticks p u = stops Limits.not-executable p (in-state u)
 
 -- What an action leads to are arrivals.
 arrivals-go-on : (o : Outcome State) (p : ℕ) (u : State) → Ends (arrivals o) (sticks p u) → ⊥
-unfolding arrivals
+unfolding meetings
 arrivals-go-on (single s) p u h = arrives≢stops (sym (ends-one h))
 arrivals-go-on (fork o q) p u h = ⊎-elim (arrivals-go-on o p u) (arrivals-go-on (q tt) p u) (ends-split (arrivals o) (arrivals (q tt)) (sticks p u) h)
 
@@ -119,7 +119,7 @@ module _ (t : Table) where
 
     stops-of : (i : Item ℕ) (s : State) (p : ℕ) (u : State) → Ends (paths-item (table-step t) i s) (sticks p u) → Stop (Item-of i) p u
     stops-of (act q a) s p u h =
-        has-picked (λ (x : Step State). Ends (paths-step q a x) (sticks p u)) (can-be-run t a s) _ _ h
+        has-picked (λ (x : Step State). Ends (paths-step (λ _. nowhere) q a x) (sticks p u)) (can-be-run t a s) _ _ h
         (λ _ k. absurd (arrivals-go-on (outcome t a s) p u (ends-ran (a ∷ []) (arrivals (outcome t a s)) (sticks p u) .0 k)))
         (λ off k. let w = stops-same (ends-one k) in (act q a, refl, sym (w .0), rw (w .1) (runs-pair t a s ∙ off)))
     stops-of (branching q bs) s p u h =

@@ -5,7 +5,7 @@ use mathlib.Core.Path.{_≡_, refl}
 use mathlib.Core.List.{List, [], _∷_, map}
 use Rattle.meaning.specs.Limits.{format}
 use Rattle.meaning.specs.Judging.{judge}
-use Rattle.meaning.specs.Paths.{first-ran, goes-on, go-on, arrivals, paths-step, paths}
+use Rattle.meaning.specs.Paths.{first-ran, goes-on, go-on, meetings, paths-step, paths}
 use Rattle.meaning.specs.Layouts.{list-written, number-written}
 use Rattle.meaning.specs.Reuse.{Parts, before-plan, bytes-of, with-facts, items-said, join-plans, joined, one-if-arrives, arriving, ends-met, end-states}
 use Rattle.meaning.proofs.Compute.{all-open}
@@ -91,7 +91,7 @@ reuse-cases =
 
 -- The end states of the first of these.
 pub looks-ends : end-states format (bytes-of looks) ≡ 2
-unfolding all-open before-plan bytes-of list-written first-ran goes-on go-on arrivals paths-step paths one-if-arrives arriving ends-met end-states
+unfolding all-open before-plan bytes-of list-written first-ran goes-on go-on meetings paths-step paths one-if-arrives arriving ends-met end-states
 looks-ends = refl
 
 pub reuse-cases-hold : map (λ (c : Case). judge format (c .request) (c .lent) (c .budget)) reuse-cases ≡ map (λ (c : Case). c .gives) reuse-cases

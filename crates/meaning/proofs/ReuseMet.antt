@@ -9,7 +9,7 @@ use mathlib.Core.Logic.{_⊎_, inl}
 use Rattle.meaning.specs.Tests.{those-of}
 use Rattle.meaning.specs.Limits.{format}
 use Rattle.meaning.specs.Answers.{refusals}
-use Rattle.meaning.specs.Paths.{first-ran, goes-on, go-on, arrivals, paths-step, paths}
+use Rattle.meaning.specs.Paths.{first-ran, goes-on, go-on, meetings, paths-step, paths}
 use Rattle.meaning.specs.Layouts.{list-written, number-written}
 use Rattle.meaning.specs.Reuse.{before-plan, bytes-of, Cut-so, with-facts, asking, items-said, join-plans, joined, answer-on, Is-verified, one-if-arrives, arriving, ends-met, end-states}
 use Rattle.meaning.proofs.Compute.{all-open}
@@ -42,6 +42,6 @@ acts-still = ReuseLaws.fewer-goals format format-room lent-room acts acts-cut (�
 
 -- JOINING, with the budget that is named.
 pub looks-then-acts : Is-verified format lent-room 5 (joined looks acts)
-unfolding all-open refusals before-plan bytes-of list-written number-written items-said join-plans first-ran goes-on go-on arrivals paths-step paths one-if-arrives arriving ends-met end-states
+unfolding all-open refusals before-plan bytes-of list-written number-written items-said join-plans first-ran goes-on go-on meetings paths-step paths one-if-arrives arriving ends-met end-states
 looks-then-acts =
     ReuseLaws.joining format format-room lent-room looks acts looks-cut acts-cut (record { fluents = refl; actions = refl; lines = refl }) (λ l h. absurd h) usual usual 5 refl refl refl (omega arith) .0

@@ -114,7 +114,7 @@ module _ (lim big : Limits) (wider : Wider lim big) where
     unfolding walked table-step
     walked-same =
         ap (walked r) first-padded
-        ∙ walks-same (padded more) (λ (u : State). length u ≡ lim .state) (table-step (r .table)) (table-step (r .table)) does-keep does-same (padded-known more)
+        ∙ walks-same (padded more) (λ (u : State). length u ≡ lim .state) (table-step (r .table)) (table-step (r .table)) does-keep does-same (padded-known more) (λ s. refl)
         (r .plan) (judged r) (judged r) (λ s _. judged-same s) (first-state lim (r .table)) (first-length lim (r .table))
 
   -- THE WALK CALL.

@@ -10,6 +10,7 @@ pub mod States
 pub mod Walk
 pub mod Judging
 pub mod Releases
+pub mod Guards
 pub mod Asking
 pub mod Worlds
 pub mod Values
