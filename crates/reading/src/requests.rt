@@ -66,6 +66,7 @@ fn goals_at(n: usize, s: &[u8], plan: usize, items: usize, p: usize, t: &mut Not
             put(t, notes::PLAN, plan);
             put(t, notes::ITEMS, items);
             put(t, notes::GOALS, p);
+            put(t, notes::GUARDS, 0);
             list_at(Kind::Fluents, n, limits::LISTED, s, q)
         }
         Passed::Fault(k, q) => Passed::Fault(k, q),

@@ -2,9 +2,10 @@ ghost use mathlib.Core.Path.{_≡_};
 ghost use Rattle.meaning.specs.Limits.{format};
 ghost use Rattle.meaning.specs.Reading.{got, table-at};
 ghost use Rattle.meaning.specs.Refusals.{settled};
+ghost use Rattle.meaning.specs.Guards.{settled-guarded};
 ghost use Rattle.bytes.specs.Read.{passed};
 ghost use Rattle.reading.specs.Noted.{noting, outcome};
-ghost use Rattle.reading.specs.Requested.{request-noted};
+ghost use Rattle.reading.specs.Requested.{request-noted, guarded-noted};
 ghost use Rattle.finding.specs.ReadHere.{Read-here};
 ghost use Rattle.finding.specs.TablesHere.{blank, table-in, Table-here};
 ghost use Rattle.refusing.specs.Settled.{table-unmixed, table-settled, past-18};
@@ -14,6 +15,7 @@ use super::refusal_18::overlap;
 use bytes::limits;
 use bytes::lists::Passed;
 use finding::places::Found;
+use reader::whole::read_guarded;
 use reader::whole::read_request;
 use reading::notes;
 use reading::notes::Notes;
@@ -68,6 +70,17 @@ fn refused(s: &[u8], t: &Notes, e: usize) -> Passed
     match table_refused(s, t, plan) {
         Passed::To(_) => plan_refused(s, t, e),
         Passed::Fault(k, p) => Passed::Fault(k, p),
+    }
+}
+
+// A guarded request settled: read without a fault, and past 16, 17 and 18. The notes hold nothing before.
+pub fn settle_guarded(s: &[u8], t: &mut Notes) -> Passed
+    requires { ⌜ now t ≡ blank ⌝ }
+    ensures { λ r. ⌜ outcome r (now (t .exit)) ≡ noting guarded-noted (settled-guarded format (now (s .entry))) (now (t .entry)) ⌝ }
+{
+    match read_guarded(s, t) {
+        Passed::To(e) => refused(s, t, e),
+        Passed::Fault(k, q) => Passed::Fault(k, q),
     }
 }
 
