@@ -59,8 +59,8 @@ module _ (s t : List ℕ) (here : Table-here s t) where
       noted-runs : List ℕ
       noted-runs = with-runs s (here .bytes) x (here .table-end) whole
 
-      same : (j : ℕ) → effect-lines ≤ j → (j ≡ plan-slot → ⊥) → (j ≡ items-slot → ⊥) → (j ≡ goals-slot → ⊥) → getD t j 0 ≡ getD (with-knowledge s (here .bytes) x (here .table-end) whole) j 0
-      same j far = after-sections s (here .bytes) x (here .table-end) whole t (here .noted) j far
+      same : (j : ℕ) → Of-table j → getD t j 0 ≡ getD (with-knowledge s (here .bytes) x (here .table-end) whole) j 0
+      same = after-sections s (here .bytes) x (here .table-end) whole t (here .noted)
 
       from-same : getD t (sensed-from + a) 0 ≡ getD (with-knowledge s (here .bytes) x (here .table-end) whole) (sensed-from + a) 0
       from-same = same (sensed-from + a) (omega arith) (λ e. omega arith) (λ e. omega arith) (λ e. omega arith)
