@@ -6,7 +6,7 @@ use mathlib.Core.Bool.{Bool, true, false}
 use mathlib.Core.List.{List, [], _∷_}
 use lib.ListN.{length, getD, set}
 use lib.Dec.{ltb}
-use borrow.Author.Tests.{lt-ltb, le-ltb}
+use borrow.Author.Tests.{lt-ltb, le-ltb, ltb-false}
 use Rattle.meaning.specs.Tests.{pick}
 use Rattle.meaning.proofs.TestLaws.{pick-true, pick-false}
 use Rattle.meaning.proofs.SettledLaws.{got-same}
@@ -14,7 +14,7 @@ use Rattle.meaning.specs.Limits.{format}
 use Rattle.meaning.specs.Requests.{Table, Request}
 use Rattle.meaning.specs.Reading.{Got, got, fault, next, literals, fluents, count-at, list-at, section-at, effect-at, executability-at, knowledge-at, plan-at, placed, table-at, request-at, read-request}
 use Rattle.meaning.specs.Guards.{Guarded-request, read-guarded}
-use Rattle.meaning.proofs.RangeLaws.{count-within, after-got}
+use Rattle.meaning.proofs.RangeLaws.{not-refused, after-got, count-within}
 use Rattle.bytes.specs.declared.lists.Kind.the-variants.{Literals}
 use Rattle.bytes.specs.declared.lists.Passed.{Passed}
 use Rattle.bytes.specs.declared.lists.Passed.the-variants.{To, Fault as Stop}
@@ -264,3 +264,37 @@ module _ (s : List ℕ) where
             ap (λ (v : List ℕ). next (up-to s i) (λ _ j. got v j)) guards-set
             ∙ sym (ended guarded-noted (record { request = x; guards = placed (e + 1) guards }) i t (ltb i (length s))))
             ∙ sym (next-next (list-at literals (x .table .fluents) 64 s e) _ _))
+
+-- WHAT WAS READ of a whole request, without guards and with them.
+module _ (s : List ℕ) where
+  pub request-read : (x : Request) (e : ℕ) → read-request format s ≡ got x e → (length s ≤ format .request) × (sections-read s 0 ≡ got x e)
+  unfolding read-request
+  request-read x e is =
+      let short = ltb-false _ _ (not-refused _ _ _ _ is .0) in
+      after-got (sections-read s 0) _ (sym (plain-within s short) ∙ is) λ r q reads e₁. (short, reads ∙ not-refused _ _ _ _ e₁ .1)
+
+  pub record Guards-read (g : Guarded-request) (e : ℕ) : Type 0 where
+    pub short : length s ≤ format .request
+    pub reads : sections-read s 0 ≡ got (g .request) (guards-place (g .request))
+    pub literals-read : List ℕ
+    pub guards : list-at literals (g .request .table .fluents) 64 s (guards-place (g .request)) ≡ got literals-read e
+    pub guards-are : g .guards ≡ placed (guards-place (g .request) + 1) literals-read
+
+  pub guarded-read : (g : Guarded-request) (e : ℕ) → read-guarded format s ≡ got g e → Guards-read g e
+  unfolding read-guarded
+  guarded-read g e is =
+      let short = ltb-false _ _ (not-refused _ _ _ _ is .0) in
+      after-got (sections-read s 0) _ (sym (guarded-within s short) ∙ is) λ r q reads e₁.
+      after-got (list-at literals (r .table .fluents) 64 s q) _ e₁ λ xs i el e₂.
+      let at = parts s r q reads .ends in
+      subst on (not-refused _ _ _ _ e₂ .1) (record {
+        short = short;
+        reads = reads ∙ ap (got r) at;
+        literals-read = xs;
+        guards = ap (list-at literals (r .table .fluents) 64 s) (sym at) ∙ el;
+        guards-are = ap (λ (p : ℕ). placed (p + 1) xs) at;
+      })
+    where
+      on : Got Guarded-request → Type 0
+      on (got h i) = Guards-read h i
+      on (fault n i) = Unit {0}
