@@ -267,9 +267,9 @@ module _ (s : List ℕ) where
 
 -- WHAT WAS READ of a whole request, without guards and with them.
 module _ (s : List ℕ) where
-  pub request-read : (x : Request) (e : ℕ) → read-request format s ≡ got x e → (length s ≤ format .request) × (sections-read s 0 ≡ got x e)
+  pub plain-read : (x : Request) (e : ℕ) → read-request format s ≡ got x e → (length s ≤ format .request) × (sections-read s 0 ≡ got x e)
   unfolding read-request
-  request-read x e is =
+  plain-read x e is =
       let short = ltb-false _ _ (not-refused _ _ _ _ is .0) in
       after-got (sections-read s 0) _ (sym (plain-within s short) ∙ is) λ r q reads e₁. (short, reads ∙ not-refused _ _ _ _ e₁ .1)
 
