@@ -12,23 +12,25 @@ use Rattle.meaning.specs.Requests.{Effect, Executability, Knowledge, Table, Req
 use Rattle.meaning.specs.Lines.{effects-of, executability-of}
 use Rattle.meaning.specs.Reading
 use Rattle.meaning.specs.Reading.{Got, got, fault, literals, bound-of, byte-at, count-at, below-at, list-at, body-at, effect-at, executability-at, knowledge-at, repeated, section-at, plan-at, table-at, request-at, read-request}
+use Rattle.meaning.specs.Guards.{Guarded-request, read-guarded}
 use Rattle.meaning.proofs.SettledLaws.{got-same}
-use Rattle.meaning.proofs.PlaceLaws.{Request-held, read-held}
-use Rattle.meaning.proofs.RangeLaws.{not-refused, after-got, count-within, section-read, repeated-length}
+use Rattle.meaning.proofs.RangeLaws.{after-got, count-within, section-read, repeated-length}
 use Rattle.reading.specs.Noted.{effects, executability, knowledge, effect-lines, run-lines, line-place, action-in, note-line, none-yet, count-slot, section-noted, table-noted, branch-place, branch-item, sensed-from, sensed-to, plan-slot, items-slot, goals-slot, guards-slot, sensed, slots, effects-slot, executability-slot, knowledge-slot, line-numbers}
 use Rattle.reading.specs.Ordered.{In-order}
 use Rattle.reading.specs.Listed.{listed, List-here}
 use Rattle.reading.specs.Planned.{items-of, bytes-of, plan-noted}
-use Rattle.reading.specs.Requested.{goals-place, plan-place, places-noted, tail-with, request-with}
+use Rattle.reading.specs.Requested.{goals-place, plan-place, places-noted, tail-with, request-with, guards-place, guarded-noted}
 use Rattle.finding.specs.LinesHere.{effect-from, Effect-here, place-in, effects-in, Effects-here, knowledge-from, knowledge-in, Knowledge-here, Acting}
 use Rattle.reading.proofs.SectionLaws.{got-place, byte-got, number-got}
 use Rattle.reading.proofs.PlanSizes.{sequence-read, list-through}
 use Rattle.reading.proofs.RequestLaws.{placed-length}
+use Rattle.reader.proofs.WholeLaws.{Parts, parts, plain-read, guarded-read}
 use Rattle.finding.proofs.HereLaws.{list-here, effect-here}
 use Rattle.finding.proofs.KeptLaws.{kept, Outside, appended-kept, pair-kept, section-kept, section-counted, section-long, plan-kept, plan-long}
 use Rattle.finding.proofs.ChainLaws.{section-ordered, order-same, order-some}
 use Rattle.finding.specs.PlansHeld.{Kept, Plan-held}
 use Rattle.finding.specs.TablesHere.{blank, table-of, table-in, Of-table, Table-here, Runs-here}
+use Rattle.finding.specs.ReadHere.{Read-here}
 use Rattle.finding.proofs.PlanKept.{kept-agree}
 use Rattle.finding.proofs.WrittenLaws.{plan-held}
 use Rattle.finding.proofs.HoldsLaws.{Placed-in, effects-placed, placed-same, effects-found, effects-fit}
@@ -99,30 +101,6 @@ request-parts s t p y q e =
     on : Got Request → Type 0
     on (got x i) = Request-parts s t p x
     on (fault n i) = Unit {0}
-
--- A request that was read: its table from the start, and the rest behind it.
-pub record Parts (s : List ℕ) (x : Request) (e : ℕ) : Type 0 where
-  pub place : ℕ
-  pub table-read : table-at format s 0 ≡ got (x .table) place
-  pub tail-read : request-at format s (x .table) place ≡ got x e
-
-parts : (s : List ℕ) (x : Request) (e : ℕ) → read-request format s ≡ got x e → Parts s x e
-unfolding read-request
-parts s x e read =
-    after-got (table-at format s 0) _ (not-refused _ _ _ _ read .1) λ t p et e₁.
-    after-got (request-at format s t p) _ e₁ λ y q ey e₂.
-    let same : y .table ≡ t = request-parts s t p y q ey .table in
-    let is : got y q ≡ got x e = not-refused _ _ _ _ e₂ .1 in
-    let reads : Parts s y q = record {
-      place = p;
-      table-read = et ∙ ap (λ (z : Table). got z p) (sym same);
-      tail-read = ap (λ (z : Table). request-at format s z p) same ∙ ey;
-    } in
-    subst on is reads
-  where
-    on : Got Request → Type 0
-    on (got y q) = Parts s y q
-    on (fault n q) = Unit {0}
 
 -- How many lines a section has.
 pub section-length : {A : Type 0} (line : ℕ → Got A) (s : List ℕ) (p : ℕ) (xs : List A) (q : ℕ) → section-at line s p ≡ got xs q → length xs ≡ getD s p 0
@@ -526,21 +504,40 @@ module _ (s : List ℕ) (bytes : (i : ℕ) → getD s i 0 < 256) (short : length
     noted = λ j of. ap (λ (z : Table). getD (table-noted z blank) j 0) (sym (table-is s x p read));
   }
 
--- A REQUEST that was read whole: its table, noted into notes that held nothing, is there, and the rest was read behind it.
-module _ (s : List ℕ) (bytes : (i : ℕ) → getD s i 0 < 256) (x : Request) (e : ℕ) (reads : read-request format s ≡ got x e) where
-  pub read-parts : Parts s x e
-  read-parts = parts s x e reads
+-- A REQUEST that was read: its table, noted into notes that held nothing, is there, and the rest was read behind it.
+module _ (s : List ℕ) (bytes : (i : ℕ) → getD s i 0 < 256) (t : List ℕ) (here : Read-here s t) where
+  pub read-parts : Parts s (here .request) (here .end)
+  read-parts = parts s (here .request) (here .end) (here .reads)
 
-  pub read-comes : Table-here s (table-noted (x .table) blank)
-  read-comes = table-comes s bytes (subst (Request-held format s) reads (read-held format s) .1 .1) (x .table) (read-parts .place) (read-parts .table-read)
+  pub read-comes : Table-here s (table-noted (here .request .table) blank)
+  read-comes = table-comes s bytes (here .short) (here .request .table) (read-parts .place) (read-parts .table-read)
 
-  pub read-same : table-in s ≡ x .table
-  read-same = table-is s (x .table) (read-parts .place) (read-parts .table-read)
+  pub read-same : table-in s ≡ here .request .table
+  read-same = table-is s (here .request .table) (read-parts .place) (read-parts .table-read)
 
-  pub read-tail : request-at format s (table-in s) (read-parts .place) ≡ got x e
+  pub read-tail : request-at format s (table-in s) (read-parts .place) ≡ got (here .request) (here .end)
   read-tail = ap (λ (z : Table). request-at format s z (read-parts .place)) read-same ∙ read-parts .tail-read
 
--- What it leaves is what its table leaves, and then the rest.
-pub tail-of-notes : (g : ℕ) (x : Request) → request-with g x blank ≡ tail-with g x (table-noted (x .table) blank)
-unfolding request-with
-tail-of-notes g x = refl
+  -- The notes are what its table leaves, and then the rest.
+  pub read-noted : t ≡ tail-with (here .guards) (here .request) (table-noted (here .request .table) blank)
+  unfolding request-with
+  read-noted = here .noted
+
+-- It is there when it was read whole, without guards or with them.
+module _ (s t : List ℕ) where
+  abbrev pub plain-here : (x : Request) (e : ℕ) → read-request format s ≡ got x e → t ≡ request-with 0 x blank → Read-here s t
+  plain-here x e is noted = record { request = x; end = e; guards = 0; short = plain-read s x e is .0; reads = plain-read s x e is .1; noted = noted }
+
+  pub with-guards : (g : Guarded-request) → t ≡ guarded-noted g blank → t ≡ request-with (guards-place (g .request)) (g .request) blank
+  unfolding guarded-noted
+  with-guards g noted = noted
+
+  abbrev pub guarded-here : (g : Guarded-request) (e : ℕ) → read-guarded format s ≡ got g e → t ≡ guarded-noted g blank → Read-here s t
+  guarded-here g e is noted = record {
+    request = g .request;
+    end = guards-place (g .request);
+    guards = guards-place (g .request);
+    short = guarded-read s g e is .short;
+    reads = guarded-read s g e is .reads;
+    noted = with-guards g noted;
+  }

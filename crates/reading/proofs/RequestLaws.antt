@@ -90,7 +90,7 @@ module _ (s : List ℕ) (p : ℕ) (t : List ℕ) (count : Read) (read : count �
   fluents-there n q r w is e = rw (read-value (count-at 1 (format .fluents) s p) count n q read is) (e ∙ after-fluents n s q t)
 
 -- SECTIONS 7 AND 8.
-passed-outcome : {A : Type 0} (g : Got A) (u : List ℕ) → outcome (passed g) u ≡ next g (λ _ e. got u e)
+pub passed-outcome : {A : Type 0} (g : Got A) (u : List ℕ) → outcome (passed g) u ≡ next g (λ _ e. got u e)
 unfolding outcome passed next
 passed-outcome (got x p) u = refl
 passed-outcome (fault n p) u = refl
@@ -148,7 +148,7 @@ placed-length p [] = refl
 placed-length p (x ∷ xs) = ap suc (placed-length (p + 1) xs)
 
 module _ {A B : Type 0} where
-  next-where : (g : Got A) {k h : A → ℕ → Got B} → ((x : A) (p : ℕ) → g ≡ got x p → k x p ≡ h x p) → next g k ≡ next g h
+  pub next-where : (g : Got A) {k h : A → ℕ → Got B} → ((x : A) (p : ℕ) → g ≡ got x p → k x p ≡ h x p) → next g k ≡ next g h
   unfolding next
   next-where (got x p) e = e x p refl
   next-where (fault n p) e = refl
