@@ -1,6 +1,7 @@
 pub mod Compute
 pub mod Cases
 pub mod LineCases
+pub mod GuardedCases
 pub mod DerivationCases
 pub mod WhetherCases
 pub mod ReleaseCases
