@@ -39,6 +39,7 @@ pub mod PlacelessLaws
 pub mod MovedLines
 pub mod ShiftedReads
 pub mod KeptReads
+pub mod GuardedReads
 pub mod MovedWalk
 pub mod PairLaws
 pub mod ToldLaws
