@@ -27,6 +27,7 @@ pub mod KeptEnds
 pub mod PlaceLaws
 pub mod PartLaws
 pub mod AnswerLaws
+pub mod GuardedAnswers
 pub mod VerifiedLaws
 pub mod PathLaws
 pub mod RangeLaws
