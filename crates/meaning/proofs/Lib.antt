@@ -41,6 +41,7 @@ pub mod MovedLines
 pub mod ShiftedReads
 pub mod KeptReads
 pub mod GuardedReads
+pub mod GuardedSound
 pub mod MovedWalk
 pub mod PairLaws
 pub mod ToldLaws
