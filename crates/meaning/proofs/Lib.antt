@@ -57,6 +57,7 @@ pub mod ReadLines
 pub mod FollowsExact
 pub mod CoverLaws
 pub mod Exact
+pub mod GuardedExact
 pub mod AskingLaws
 pub mod ItemBytes
 pub mod ReportLaws
