@@ -5,18 +5,18 @@ use Prim.Native.Nat.{ℕ, _+_, _%_, _≤_, _<_}
 use native.Mathlib.Omega.{arith}
 use mathlib.Core.Path.{_≡_, refl, sym, _∙_, ap, subst}
 use mathlib.Core.Bool.{true, false, false≢true}
-use mathlib.Core.List.{List}
+use mathlib.Core.List.{List, []}
 use lib.ListN.{length, getD, set, length-set}
 use lib.Dec.{eqb, ltb}
 use borrow.Author.Tests.{ltb-true, lt-ltb, eq-eqb}
-use Rattle.meaning.specs.Tests.{either}
+use Rattle.meaning.specs.Tests.{either, pick}
 use Rattle.meaning.specs.Limits.{format, all-literals}
 use Rattle.meaning.specs.Requests.{Knowledge, Table, Request}
 use Rattle.meaning.specs.Reading
-use Rattle.meaning.specs.Reading.{got, literals, plan-at, request-at, read-request}
+use Rattle.meaning.specs.Reading.{got, literals, plan-at, placed, request-at, read-request}
 use Rattle.meaning.specs.Refusals.{nowhere, contradiction-in}
 use Rattle.meaning.specs.Lines.{knowledge-of, sensing, senses}
-use Rattle.meaning.proofs.TestLaws.{clash, same-test, some-has, has-some, some-those}
+use Rattle.meaning.proofs.TestLaws.{clash, pick-true, same-test, some-has, has-some, some-those}
 use Rattle.reading.specs.Bits.{bit-of}
 use Rattle.reading.specs.Noted.{none-yet, count-slot, section-noted, table-noted, effect-lines, sensed-from, sensed-to, plan-slot, items-slot, goals-slot, guards-slot, word-bits, pair-slot, pair-there, slots, effects-slot, executability-slot, knowledge-slot}
 use Rattle.reading.specs.Planned.{items-of, plan-noted}
@@ -29,7 +29,7 @@ use Rattle.finding.specs.TablesHere.{blank, Of-table, Table-here}
 use Rattle.finding.proofs.KeptLaws.{kept}
 use Rattle.finding.proofs.HereLaws.{list-here}
 use Rattle.finding.proofs.ReadLaws.{Table-parts, request-parts, whole-table, table-stays, read-parts, read-comes, read-same, read-tail, tail-of-notes, knowledge-good, with-runs, with-knowledge, runs-long, sensed-empty, after-sections, effects-ordered, runs-ordered, items-noted, plan-noted-at, goals-noted, guards-noted, tail-held}
-use Rattle.steps.specs.Held.{plan-of, table-in, plan-in, goals-in, whether-in, guards-at, request-in}
+use Rattle.steps.specs.Held.{plan-of, table-in, plan-in, goals-in, whether-in, guards-at, guards-in, request-in}
 use Rattle.steps.specs.LinesFound.{run-places, effect-places, Senses}
 use Rattle.steps.specs.Rests.{Nexts}
 use Rattle.steps.specs.AtHand.{At-hand}
@@ -199,6 +199,11 @@ module _ (s t : List ℕ) (here : Table-here s t) (g p : ℕ) (y : Request) (q :
   unfolding guards-at
   guards-slot-is = guards-noted s (table-in s) (parts-there .few) (parts-there .less) p y q read t g (here .sized)
 
+  -- THE GUARDS that it holds.
+  pub plan-guards : guards-in s (tail-with g y t) ≡ pick (eqb g 0) (λ _. []) (λ _. placed (g + 1) (listed s g))
+  unfolding guards-in
+  plan-guards = rw guards-slot-is refl
+
   pub plan-at-hand : contradiction-in (table-in s) ≡ nowhere → (eqb g 0 ≡ false → List-here all-literals s g) → At-hand s (tail-with g y t)
   unfolding run-places effect-places
   plan-at-hand passed guards =
@@ -219,6 +224,10 @@ module _ (s t : List ℕ) (here : Table-here s t) (g p : ℕ) (y : Request) (q :
         whether = rw (table-is, whether-at, whether-listed) (each .whether);
         guards = rw guards-slot-is guards;
       }
+
+-- Without guards there are none.
+pub plan-unguarded : (s t : List ℕ) (here : Table-here s t) (p : ℕ) (y : Request) (q : ℕ) → request-at format s (table-in s) p ≡ got y q → guards-in s (tail-noted y t) ≡ []
+plan-unguarded s t here p y q read = plan-guards s t here 0 p y q read ∙ pick-true (eqb 0 0) _ _ (eq-eqb 0 0 refl)
 
 -- A REQUEST that was read whole, into notes that held nothing.
 module _ (s : List ℕ) (bytes : (i : ℕ) → getD s i 0 < 256) (x : Request) (e : ℕ) (reads : read-request format s ≡ got x e) (t : List ℕ) (noted : t ≡ request-noted x blank) where
