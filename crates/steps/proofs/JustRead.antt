@@ -1,34 +1,37 @@
 -- A table that the notes hold, past 16, and a plan that was read behind it, wherever it stands, are a request at hand: sections 6 to 8 stand where they were
 -- read, the order of the lines and the slots of what is sensed are as the table left them, and those of the plan as reading it left them. So is
--- a request that was read whole, into notes that held nothing. Assumes nothing.
-use Prim.Native.Nat.{ℕ, _+_, _%_, _≤_, _<_}
+-- a request that was read whole, with guards or without, into notes that held nothing. Assumes nothing.
+use Prim.Native.Nat.{ℕ, _+_, _*_, _%_, _≤_, _<_}
 use native.Mathlib.Omega.{arith}
 use mathlib.Core.Path.{_≡_, refl, sym, _∙_, ap, subst}
 use mathlib.Core.Bool.{true, false, false≢true}
 use mathlib.Core.List.{List, []}
 use lib.ListN.{length, getD, set, length-set}
 use lib.Dec.{eqb, ltb}
-use borrow.Author.Tests.{ltb-true, lt-ltb, eq-eqb}
+use borrow.Author.Tests.{ltb-true, lt-ltb, eq-eqb, ne-eqb}
 use Rattle.meaning.specs.Tests.{either, pick}
 use Rattle.meaning.specs.Limits.{format, all-literals}
 use Rattle.meaning.specs.Requests.{Knowledge, Table, Request}
 use Rattle.meaning.specs.Reading
-use Rattle.meaning.specs.Reading.{got, literals, plan-at, placed, request-at, read-request}
+use Rattle.meaning.specs.Reading.{got, literals, bound-of, plan-at, placed, request-at, read-request}
+use Rattle.meaning.specs.Guards.{Guarded-request, read-guarded}
 use Rattle.meaning.specs.Refusals.{nowhere, contradiction-in}
 use Rattle.meaning.specs.Lines.{knowledge-of, sensing, senses}
 use Rattle.meaning.proofs.TestLaws.{clash, pick-true, same-test, some-has, has-some, some-those}
 use Rattle.reading.specs.Bits.{bit-of}
 use Rattle.reading.specs.Noted.{none-yet, count-slot, section-noted, table-noted, effect-lines, sensed-from, sensed-to, plan-slot, items-slot, goals-slot, guards-slot, word-bits, pair-slot, pair-there, slots, effects-slot, executability-slot, knowledge-slot}
 use Rattle.reading.specs.Planned.{items-of, plan-noted}
-use Rattle.reading.specs.Requested.{goals-place, plan-place, places-noted, tail-with, tail-noted, request-noted}
+use Rattle.reading.specs.Requested.{goals-place, plan-place, places-noted, tail-with, tail-noted, request-noted, guards-place, guarded-noted}
 use Rattle.reading.specs.Listed.{listed, List-here}
 use Rattle.reading.proofs.BitLaws.{no-bit}
 use Rattle.reading.proofs.PlanSizes.{sequence-read}
+use Rattle.reader.proofs.WholeLaws.{Guards-read, guarded-read}
 use Rattle.finding.specs.PlansHeld.{Plan-held}
 use Rattle.finding.specs.TablesHere.{blank, Of-table, Table-here}
+use Rattle.finding.specs.ReadHere.{Read-here}
 use Rattle.finding.proofs.KeptLaws.{kept}
 use Rattle.finding.proofs.HereLaws.{list-here}
-use Rattle.finding.proofs.ReadLaws.{Table-parts, request-parts, whole-table, table-stays, read-parts, read-comes, read-same, read-tail, tail-of-notes, knowledge-good, with-runs, with-knowledge, runs-long, sensed-empty, after-sections, effects-ordered, runs-ordered, items-noted, plan-noted-at, goals-noted, guards-noted, tail-held}
+use Rattle.finding.proofs.ReadLaws.{Table-parts, table-parts, request-parts, whole-table, table-stays, read-parts, read-comes, read-same, read-tail, read-noted, plain-here, guarded-here, knowledge-good, with-runs, with-knowledge, runs-long, sensed-empty, after-sections, effects-ordered, runs-ordered, items-noted, plan-noted-at, goals-noted, guards-noted, tail-held}
 use Rattle.steps.specs.Held.{plan-of, table-in, plan-in, goals-in, whether-in, guards-at, guards-in, request-in}
 use Rattle.steps.specs.LinesFound.{run-places, effect-places, Senses}
 use Rattle.steps.specs.Rests.{Nexts}
@@ -200,7 +203,7 @@ module _ (s t : List ℕ) (here : Table-here s t) (g p : ℕ) (y : Request) (q :
   guards-slot-is = guards-noted s (table-in s) (parts-there .few) (parts-there .less) p y q read t g (here .sized)
 
   -- THE GUARDS that it holds.
-  pub plan-guards : guards-in s (tail-with g y t) ≡ pick (eqb g 0) (λ _. []) (λ _. placed (g + 1) (listed s g))
+  plan-guards : guards-in s (tail-with g y t) ≡ pick (eqb g 0) (λ _. []) (λ _. placed (g + 1) (listed s g))
   unfolding guards-in
   plan-guards = rw guards-slot-is refl
 
@@ -229,16 +232,62 @@ module _ (s t : List ℕ) (here : Table-here s t) (g p : ℕ) (y : Request) (q :
 pub plan-unguarded : (s t : List ℕ) (here : Table-here s t) (p : ℕ) (y : Request) (q : ℕ) → request-at format s (table-in s) p ≡ got y q → guards-in s (tail-noted y t) ≡ []
 plan-unguarded s t here p y q read = plan-guards s t here 0 p y q read ∙ pick-true (eqb 0 0) _ _ (eq-eqb 0 0 refl)
 
--- A REQUEST that was read whole, into notes that held nothing.
-module _ (s : List ℕ) (bytes : (i : ℕ) → getD s i 0 < 256) (x : Request) (e : ℕ) (reads : read-request format s ≡ got x e) (t : List ℕ) (noted : t ≡ request-noted x blank) where
-  tail-is : t ≡ tail-noted x (table-noted (x .table) blank)
-  tail-is = noted ∙ tail-of-notes 0 x
+-- A REQUEST that was read from the start, into notes that held nothing.
+module _ (s : List ℕ) (bytes : (i : ℕ) → getD s i 0 < 256) (t : List ℕ) (read : Read-here s t) where
+  abbrev before : List ℕ
+  before = table-noted (read .request .table) blank
 
-  pub read-at-hand : contradiction-in (x .table) ≡ nowhere → At-hand s t
-  read-at-hand passed =
-      subst (At-hand s) (sym tail-is)
-      (plan-at-hand s (table-noted (x .table) blank) (read-comes s bytes x e reads) 0 (read-parts s bytes x e reads .place) x e (read-tail s bytes x e reads) (ap contradiction-in (read-same s bytes x e reads) ∙ passed)
-      (λ some. clash (eq-eqb 0 0 refl) some))
+  pub read-at-hand : contradiction-in (read .request .table) ≡ nowhere → (eqb (read .guards) 0 ≡ false → List-here all-literals s (read .guards)) → At-hand s t
+  read-at-hand passed guards =
+      subst (At-hand s) (sym (read-noted s bytes t read))
+      (plan-at-hand s before (read-comes s bytes t read) (read .guards) (read-parts s bytes t read .place) (read .request) (read .end) (read-tail s bytes t read) (ap contradiction-in (read-same s bytes t read) ∙ passed) guards)
 
-  pub request-read : request-in s t ≡ x
-  request-read = ap (request-in s) tail-is ∙ plan-request s (table-noted (x .table) blank) (read-comes s bytes x e reads) 0 (read-parts s bytes x e reads .place) x e (read-tail s bytes x e reads)
+  pub request-read : request-in s t ≡ read .request
+  request-read =
+      ap (request-in s) (read-noted s bytes t read)
+      ∙ plan-request s before (read-comes s bytes t read) (read .guards) (read-parts s bytes t read .place) (read .request) (read .end) (read-tail s bytes t read)
+
+  pub guards-read : guards-at t ≡ read .guards
+  guards-read =
+      ap guards-at (read-noted s bytes t read)
+      ∙ guards-slot-is s before (read-comes s bytes t read) (read .guards) (read-parts s bytes t read .place) (read .request) (read .end) (read-tail s bytes t read)
+
+-- Read WHOLE it has no guards,
+module _ (s : List ℕ) (bytes : (i : ℕ) → getD s i 0 < 256) (t : List ℕ) (x : Request) (e : ℕ) (reads : read-request format s ≡ got x e) (noted : t ≡ request-noted x blank) where
+  pub plain-at-hand : contradiction-in (x .table) ≡ nowhere → At-hand s t
+  plain-at-hand passed = read-at-hand s bytes t (plain-here s t x e reads noted) passed (λ some. clash (eq-eqb 0 0 refl) some)
+
+  pub plain-request : request-in s t ≡ x
+  plain-request = request-read s bytes t (plain-here s t x e reads noted)
+
+  pub plain-guards : guards-in s t ≡ []
+  unfolding guards-in pick
+  plain-guards = rw (guards-read s bytes t (plain-here s t x e reads noted)) refl
+
+-- or those that were read with it.
+module _ (s : List ℕ) (bytes : (i : ℕ) → getD s i 0 < 256) (t : List ℕ) (g : Guarded-request) (e : ℕ) (reads : read-guarded format s ≡ got g e) (noted : t ≡ guarded-noted g blank) where
+  abbrev place : ℕ
+  place = guards-place (g .request)
+
+  with-guards : Guards-read s g e
+  with-guards = guarded-read s g e reads
+
+  guards-here : (listed s place ≡ with-guards .literals-read) × ((bound : ℕ) → 2 * g .request .table .fluents ≤ bound → List-here bound s place)
+  unfolding bound-of
+  guards-here = list-here literals (g .request .table .fluents) s 64 place (with-guards .literals-read) e (with-guards .guards)
+
+  few : g .request .table .fluents ≤ format .fluents
+  few =
+      let there = read-parts s bytes t (guarded-here s t g e reads noted) in
+      table-parts s (g .request .table) (there .place) (there .table-read) .few
+
+  pub guarded-at-hand : contradiction-in (g .request .table) ≡ nowhere → At-hand s t
+  guarded-at-hand passed = read-at-hand s bytes t (guarded-here s t g e reads noted) passed (λ _. guards-here .1 all-literals (omega (arith, few)))
+
+  pub guarded-request : request-in s t ≡ g .request
+  guarded-request = request-read s bytes t (guarded-here s t g e reads noted)
+
+  pub guarded-guards : guards-in s t ≡ g .guards
+  unfolding guards-in guards-place pick
+  guarded-guards =
+      rw (guards-read s bytes t (guarded-here s t g e reads noted), ne-eqb place 0 (λ is. omega arith), guards-here .0) (sym (with-guards .guards-are))
