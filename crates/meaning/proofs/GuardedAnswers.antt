@@ -5,7 +5,7 @@ use Prim.Native.Nat.{ℕ, _≤_}
 use native.Mathlib.Omega.{arith}
 use mathlib.Core.Path.{_≡_, refl, sym, ap, subst}
 use mathlib.Core.Bool.{true, false}
-use mathlib.Core.List.{List, _∷_}
+use mathlib.Core.List.{List}
 use mathlib.Core.Logic.{⊎-elim}
 use lib.ListN.{length}
 use Rattle.meaning.specs.Tests.{both, either, fails, some-of, each-of}
@@ -19,7 +19,7 @@ use Rattle.meaning.specs.Judging.{Judgement, written-over, reported, end
 use Rattle.meaning.specs.Guards.{Guarded-request, settled-guarded, walk-of, guarded-settled, judge-guarded}
 use Rattle.meaning.specs.Answers.{refusals, answers, guarded-answers}
 use Rattle.meaning.specs.AnswerParts.{of-neither, Walk-input, at-start, Placed, of-walks, of-guarded-walks, Guarded-count, concerned, with-state, Guarded-state}
-use Rattle.meaning.proofs.TestLaws.{clash, either-right, fails-true}
+use Rattle.meaning.proofs.TestLaws.{clash, fails-true}
 use Rattle.meaning.proofs.LiteralLaws.{among-each}
 use Rattle.meaning.proofs.PickLaws.{pick-has}
 use Rattle.meaning.proofs.KeptEnds.{Stuck-guarded, guarded-stuck}

@@ -5,7 +5,6 @@ use mathlib.Core.Path.{_≡_, refl}
 use mathlib.Core.List.{List, [], _∷_, _++_, map}
 use lib.ListN.{set, replicate}
 use Rattle.meaning.specs.Limits.{format}
-use Rattle.meaning.specs.Judging.{Judgement}
 use Rattle.meaning.specs.Guards.{judge-guarded, line-guarded}
 use Rattle.meaning.proofs.Compute.{all-open}
 use Rattle.meaning.proofs.Cases.{lent-room, usual, marked, table-A, file-A}

@@ -5,11 +5,11 @@ use native.Mathlib.Omega.{arith}
 use mathlib.Core.Path.{_≡_, refl, sym, _∙_, ap, subst}
 use mathlib.Core.Bool.{true, false}
 use mathlib.Core.List.{List, [], _∷_}
-use mathlib.Core.Logic.{inl, inr, ⊎-elim, _↔_}
+use mathlib.Core.Logic.{⊎-elim, _↔_}
 use lib.ListN.{length}
 use lib.Dec.{ltb}
 use borrow.Author.Tests.{eq-eqb, ltb-true, lt-ltb, le-ltb}
-use Rattle.meaning.specs.Tests.{pick, Has}
+use Rattle.meaning.specs.Tests.{pick}
 use Rattle.meaning.specs.Limits
 use Rattle.meaning.specs.Limits.{Limits}
 use Rattle.meaning.specs.Requests.{Entry}
@@ -21,14 +21,14 @@ use Rattle.meaning.specs.Judging.{Judgement, written-over, reported, end
 use Rattle.meaning.specs.Guards.{Guarded-request, settled-guarded, walk-of, guarded-settled, judge-guarded, number, count}
 use Rattle.meaning.specs.Approximation.{true-in}
 use Rattle.meaning.specs.Paths.{arrives, stops, Path, stop-or-miss, walked-along}
-use Rattle.meaning.specs.Reported.{First, pair-of, Arrives}
+use Rattle.meaning.specs.Reported.{First, pair-of}
 use Rattle.meaning.specs.GuardedReported.{met-paths, First-stop, Broken-at}
 use Rattle.meaning.proofs.TestLaws.{pick-true, pick-false, pick-cases}
 use Rattle.meaning.proofs.PickLaws.{pick-has}
 use Rattle.meaning.proofs.RefusalLaws.{at≢nowhere, at-same}
-use Rattle.meaning.proofs.KeptEnds.{Sticks, Stuck-guarded, guarded-stuck}
+use Rattle.meaning.proofs.KeptEnds.{Stuck-guarded, guarded-stuck}
 use Rattle.meaning.proofs.PathLaws.{guarded-in-order}
-use Rattle.meaning.proofs.EndLaws.{first-here, first-later, Ends, Stops, all-arrive, stop-ends, first-stop-is, Misses-first, miss-ends, Says, end-says}
+use Rattle.meaning.proofs.EndLaws.{first-here, first-later, Ends, Stops, stop-ends, first-stop-is, Misses-first, miss-ends, Says, end-says}
 use Rattle.meaning.proofs.PairLaws.{true-in-pair}
 use Rattle.meaning.proofs.Exact.{answered, within-number}
 

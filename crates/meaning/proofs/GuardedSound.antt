@@ -3,7 +3,7 @@
 -- given to such a request only, by the cases of the judgement. Assumes nothing.
 use Prim.Native.Nat.{ℕ, _≤_}
 use native.Mathlib.Omega.{arith}
-use mathlib.Core.Path.{_≡_, refl, sym, _∙_, subst, fun-ext, ap}
+use mathlib.Core.Path.{_≡_, refl, _∙_, subst, fun-ext, ap}
 use mathlib.Core.Bool.{Bool, true}
 use mathlib.Core.List.{List}
 use mathlib.Core.Logic.{⊎-elim}

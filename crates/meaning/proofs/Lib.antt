@@ -82,6 +82,7 @@ pub mod PartReads
 pub mod PartsAlike
 pub mod MoreFacts
 pub mod ListReads
+pub mod GuardedEmpty
 pub mod CutReads
 pub mod FewerGoals
 pub mod JoinedWalk
