@@ -20,7 +20,7 @@ use Rattle.meaning.specs.Guards.{Guarded-request, settled-guarded, numbe
 use Rattle.meaning.specs.Approximation.{Pair, true-in, Result, state, None-true, Φ̂-item, least, Entailed}
 use Rattle.meaning.specs.Paths.{Ending, arrives, stops, Path, met-ending, meetings, arrivals, paths-step, paths, paths-item, paths-branch, paths-met}
 use Rattle.meaning.specs.Reported.{pair-of, all-paths}
-use Rattle.meaning.specs.GuardedReported.{met-paths, Met-in, Met-at, Met-under, Guards-true}
+use Rattle.meaning.specs.GuardedReported.{met-paths, First-stop, Met-in, Met-at, Met-under, Guards-true}
 use Rattle.meaning.proofs.TestLaws.{by-test, clash, both-left, both-right, pick-true, pick-false}
 use Rattle.meaning.proofs.PickLaws.{has-picked}
 use Rattle.meaning.proofs.SettledLaws.{Fit, Fit-item, Fit-branches}
@@ -32,7 +32,7 @@ use Rattle.meaning.proofs.CoverLaws.{knows-pair, knows-true, others-fal
 use Rattle.meaning.proofs.Exact.{walk-end, least-initial, first-below, effects-within, knowledge-within, end-entailed, ranged, says, entailed-fine}
 use Rattle.meaning.proofs.Exact
 use Rattle.meaning.proofs.GuardedReads.{own, parts, own-settled}
-use Rattle.meaning.proofs.GuardedExact.{guarded-fine-exactly}
+use Rattle.meaning.proofs.GuardedExact.{broken-exactly, guarded-stuck-exactly, guarded-fine-exactly, missed-otherwise}
 
 module _ (t : Table) (gs : List Entry) where
   abbrev lacks : State → Found
@@ -321,10 +321,27 @@ module _ (lim : Limits) (room : lim .fluents ≤ lim .state) (b lent : List ℕ)
           (λ δ m. guards .met (least (r .table)) (least-initial lim room r in-range apart) δ (subst (λ (σ : Pair). Met-in (r .table) (r .plan) σ δ) is-least m))
           x (on-met (r .table) (g .guards) (r .plan) first holds-first x h)
 
-  -- Verified, exactly where the goals and the whether fluents are entailed and each guard is true in every a-state that is met.
-  pub guarded-verified-exactly : count lim g ≤ budget → (number lim b lent budget ≡ Limits.verified) ↔ (Entailed r × Guards-true r (values (g .guards)))
-  guarded-verified-exactly enough =
-      let exactly = guarded-fine-exactly lim b lent budget g e lent-length past enough in (
-        λ q. let w = exactly .0 q in fine-entails (w .0) (w .1),
-        λ k. exactly .1 (entails-fine (k .0) (k .1)),
-      )
+  module _ (enough : count lim g ≤ budget) where
+    -- Verified, exactly where the goals and the whether fluents are entailed and each guard is true in every a-state that is met.
+    pub guarded-verified-exactly : (number lim b lent budget ≡ Limits.verified) ↔ (Entailed r × Guards-true r (values (g .guards)))
+    guarded-verified-exactly =
+        let exactly = guarded-fine-exactly lim b lent budget g e lent-length past enough in (
+          λ q. let w = exactly .0 q in fine-entails (w .0) (w .1),
+          λ k. exactly .1 (entails-fine (k .0) (k .1)),
+        )
+
+    -- A goal missed, exactly where neither is so nor a path stops in a state that lacks a guard, or at an item, as the first that stops.
+    pub guarded-missed-otherwise : (number lim b lent budget ≡ Limits.goal-missed)
+        ↔ (((p : ℕ) (u : State) → First-stop (met-paths lim g) Limits.guard-broken p u → ⊥) × ((p : ℕ) (u : State) → First-stop (met-paths lim g) Limits.not-executable p u → ⊥)
+        × (Entailed r × Guards-true r (values (g .guards)) → ⊥))
+    guarded-missed-otherwise =
+        let broken = broken-exactly lim b lent budget g e lent-length past enough in
+        let stuck = guarded-stuck-exactly lim b lent budget g e lent-length past enough in (
+          λ q. (
+            λ p u f. omega (arith, q, broken .1 (p, u, f)),
+            λ p u f. omega (arith, q, stuck .1 (p, u, f)),
+            λ k. omega (arith, q, guarded-verified-exactly .1 k),
+          ),
+          λ w. missed-otherwise lim b lent budget g e lent-length past enough
+              (λ q. let f = broken .0 q in w .0 (f .0) (f .1) (f .2)) (λ q. let f = stuck .0 q in w .1 (f .0) (f .1) (f .2)) (λ q. w .2 (guarded-verified-exactly .0 q)),
+        )
