@@ -62,7 +62,9 @@ pub mod GuardedMet
 pub mod AskingLaws
 pub mod ItemBytes
 pub mod ReportLaws
+pub mod GuardedReports
 pub mod ReportedLine
+pub mod GuardedLine
 pub mod Passed
 pub mod AcceptedExactly
 pub mod LayoutLaws
