@@ -75,7 +75,7 @@ past-is r past whole = rw (past .no-contradiction, past .not-mixed, past .no-ove
 
 -- SETTLED.
 module _ (lim : Limits) (b : List ℕ) (g : Guarded-request) (e : ℕ) (settles : settled-guarded lim b ≡ got g e) where
-  guarded-read : (read-guarded lim b ≡ got g e) × Past (g .request)
+  pub guarded-read : (read-guarded lim b ≡ got g e) × Past (g .request)
   unfolding settled-guarded
   guarded-read =
       let n = next-got (read-guarded lim b) _ settles in
