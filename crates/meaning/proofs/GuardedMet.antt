@@ -4,7 +4,7 @@
 use Prim.Native.Nat.{ℕ, _*_, _≤_, _<_}
 use native.Mathlib.Omega.{arith}
 use mathlib.Core.Path.{_≡_, refl, sym, _∙_, ap, subst}
-use mathlib.Core.Bool.{true, false}
+use mathlib.Core.Bool.{true}
 use mathlib.Core.List.{List, [], _∷_, _++_}
 use mathlib.Core.Logic.{_⊎_, inl, inr, ⊎-elim, _↔_}
 use lib.ListN.{length}
@@ -14,10 +14,11 @@ use Rattle.meaning.specs.Limits.{Limits}
 use Rattle.meaning.specs.Requests.{Effect, Knowledge, Table, Sequence, done, item, Item, act, branching, Branches, none, branch, Entry, Request, values}
 use Rattle.meaning.specs.Reading.{got}
 use Rattle.meaning.specs.Refusals.{Found, nowhere, at, conditions-of, all-exclusive, settled}
-use Rattle.meaning.specs.States.{State, known, first-state, Outcome, single, fork}
+use Rattle.meaning.specs.States.{State, known, first-state, Outcome, single, fork, readings, outcome}
+use Rattle.meaning.specs.Lines.{sensing}
 use Rattle.meaning.specs.Walk.{Concerned, in-state, fine, Step, leads-to, refuses, table-does, table-step, first-missed, missed-in, guarded-step}
 use Rattle.meaning.specs.Guards.{Guarded-request, settled-guarded, number, count}
-use Rattle.meaning.specs.Approximation.{Pair, true-in, Result, state, None-true, Φ̂-item, least, Entailed}
+use Rattle.meaning.specs.Approximation.{Pair, true-in, state, None-true, least, Entailed}
 use Rattle.meaning.specs.Paths.{Ending, arrives, stops, Path, met-ending, meetings, arrivals, paths-step, paths, paths-item, paths-branch, paths-met}
 use Rattle.meaning.specs.Reported.{pair-of, all-paths}
 use Rattle.meaning.specs.GuardedReported.{met-paths, First-stop, Met-in, Met-at, Met-under, Guards-true}
@@ -27,9 +28,11 @@ use Rattle.meaning.proofs.SettledLaws.{Fit, Fit-item, Fit-branches}
 use Rattle.meaning.proofs.RangeLaws.{Ranged}
 use Rattle.meaning.proofs.PathLaws.{by-found}
 use Rattle.meaning.proofs.EndLaws.{Ends, Stops, arrives≢stops, arrives-same, ends-one, ends-left, ends-right, ends-split, ends-ran, went-on, stops-on, stop-goes-on, arrives-on, Says, none-missed}
+use Rattle.meaning.proofs.PairLaws.{true-grows, true-in-pair}
+use Rattle.meaning.proofs.SensingLaws.{reading-is}
 use Rattle.meaning.proofs.ToldLaws.{first-length, first-least}
 use Rattle.meaning.proofs.CoverLaws.{knows-pair, knows-true, others-false, none-taken, Below, reaches-item, reaches-act, covers-act, covers-item}
-use Rattle.meaning.proofs.Exact.{walk-end, least-initial, first-below, effects-within, knowledge-within, end-entailed, ranged, says, entailed-fine}
+use Rattle.meaning.proofs.Exact.{least-initial, first-below, effects-within, knowledge-within, end-entailed, ranged, says, entailed-fine}
 use Rattle.meaning.proofs.Exact
 use Rattle.meaning.proofs.GuardedReads.{own, parts, own-settled}
 use Rattle.meaning.proofs.GuardedExact.{broken-exactly, guarded-stuck-exactly, guarded-fine-exactly, missed-otherwise}
@@ -320,6 +323,17 @@ module _ (lim : Limits) (room : lim .fluents ≤ lim .state) (b lent : List ℕ)
           plain (r .table) (g .guards) (lim .state) (effects-within lim room r in-range apart) (knowledge-within lim room r in-range apart) (r .plan) first (first-length lim (r .table))
           (λ δ m. guards .met (least (r .table)) (least-initial lim room r in-range apart) δ (subst (λ (σ : Pair). Met-in (r .table) (r .plan) σ δ) is-least m))
           x (on-met (r .table) (g .guards) (r .plan) first holds-first x h)
+
+  -- A reading takes away nothing that was known (FORMAT 21.15).
+  pub reading-keeps : (a : ℕ) (s : State) → length s ≡ lim .state → sensing (r .table) a ≡ true → (u : State) → Ends (arrivals (outcome (r .table) a s)) (arrives u)
+      → (l : ℕ) → known s l ≡ true → known u l ≡ true
+  unfolding outcome
+  reading-keeps a s sized senses u h l known-before =
+      has-picked (λ o. Ends (arrivals o) (arrives u)) (sensing (r .table) a) _ _ h
+      (λ _ k.
+      let w = reading-is (r .table) a s (λ n m. rw sized (knowledge-within lim room r in-range apart n m)) (arrives u) k in
+      rw (arrives-same (w .1)) (sym (true-in-pair (w .0) l) ∙ true-grows (w .3 .extends) l (true-in-pair s l ∙ known-before)))
+      (λ off _. clash senses off)
 
   module _ (enough : count lim g ≤ budget) where
     -- Verified, exactly where the goals and the whether fluents are entailed and each guard is true in every a-state that is met.
