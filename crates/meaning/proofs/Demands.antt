@@ -76,10 +76,10 @@ pub use Rattle.meaning.proofs.GuardedAnswers.{guarded-numbered, guarded
 pub use Rattle.meaning.proofs.GuardedExact.{in-guarded-order, guarded-spent-exactly, broken-exactly, guarded-stuck-exactly, guarded-missed-exactly, guarded-fine-exactly}
 -- In the 0-approximation's own terms: 0 where what is asked is entailed and the guards are true in every a-state that is met, and 1 otherwise.
 pub use Rattle.meaning.proofs.GuardedMet.{guarded-verified-exactly, guarded-missed-otherwise}
--- What answers 43 (FORMAT 21.24), 1 and 2 (21.14) report; a reading takes away nothing that was known (21.15).
+-- What answers 43 (FORMAT 21.24), 1 and 2 (21.14) report, and that the state of 43 is met; a reading takes away nothing that was known (21.15).
 pub use Rattle.meaning.proofs.GuardedExact.{broken-there}
 pub use Rattle.meaning.proofs.GuardedReports.{guarded-missed-there, guarded-stopped-there}
-pub use Rattle.meaning.proofs.GuardedMet.{reading-keeps}
+pub use Rattle.meaning.proofs.GuardedMet.{broken-where-met, reading-keeps}
 -- Demand 3 (FORMAT 21.25): where it is verified, it is carried out in every world with the initial facts, and its guards hold all along.
 pub use Rattle.meaning.proofs.GuardedSound.{guarded-sound}
 -- Without guards it answers as the walk call (FORMAT 21.17).
