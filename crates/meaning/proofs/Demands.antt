@@ -1,4 +1,4 @@
--- The demands (FORMAT section 11, and 17.38 to 17.41), each by citing where its argument stands. Read this file first. Assumes nothing.
+-- The demands (FORMAT section 11, 17.38 to 17.41 and 21.22 to 21.25), each by citing where its argument stands. Read this file first. Assumes nothing.
 use Prim.Native.Nat.{ℕ, _-_, _≤_, _<_}
 use native.Mathlib.Omega.{arith}
 use mathlib.Core.Path.{_≡_, refl, sym, _∙_, ap}
@@ -69,6 +69,23 @@ pub use Rattle.meaning.proofs.ReleaseRows.{each-row, behind-a-failure, 
 pub use Rattle.meaning.proofs.ReuseLaws.{each-request, lent-unread, more-facts, fewer-goals, joining, joining-by-product, plans-associate, no-items-before, no-items-after, answers-associate, answers-before, answers-after}
 -- What is not so of them, by rows of the proved cases.
 pub use Rattle.meaning.proofs.ReuseLaws.{reuse-cases, reuse-cases-hold, looks-ends}
+-- THE GUARDED CALL. Demand 1 (FORMAT 21.22): its number is one of its own; input, place, count and state are what the number says (21.10, 21.16).
+pub use Rattle.meaning.proofs.GuardedAnswers.{guarded-numbered, guarded-input, guarded-place, guarded-count, guarded-state}
+-- Demand 2 (FORMAT 21.23): the answer is what the list of paths says, with the states that are met; 3 where the count is above the budget; 43 and 2 as the
+-- first path that stops does; 1 and 0 where none does, by what is missed.
+pub use Rattle.meaning.proofs.GuardedExact.{in-guarded-order, guarded-spent-exactly, broken-exactly, guarded-stuck-exactly, guarded-missed-exactly, guarded-fine-exactly}
+-- In the 0-approximation's own terms: 0 where what is asked is entailed and the guards are true in every a-state that is met, and 1 otherwise.
+pub use Rattle.meaning.proofs.GuardedMet.{guarded-verified-exactly, guarded-missed-otherwise}
+-- What answers 43 (FORMAT 21.24), 1 and 2 (21.14) report, and that the state of 43 is met; a reading takes away nothing that was known (21.15).
+pub use Rattle.meaning.proofs.GuardedExact.{broken-there}
+pub use Rattle.meaning.proofs.GuardedReports.{guarded-missed-there, guarded-stopped-there}
+pub use Rattle.meaning.proofs.GuardedMet.{broken-where-met, reading-keeps}
+-- Demand 3 (FORMAT 21.25): where it is verified, it is carried out in every world with the initial facts, and its guards hold all along.
+pub use Rattle.meaning.proofs.GuardedSound.{guarded-sound}
+-- Without guards it answers as the walk call (FORMAT 21.17).
+pub use Rattle.meaning.proofs.GuardedEmpty.{walked-unguarded, without-guards}
+-- Answer 2 carries the line of the item at its place in the state left, and every other answer, 43 among them, none (FORMAT 21.20).
+pub use Rattle.meaning.proofs.GuardedLine.{guarded-line-there, guarded-no-line, no-line-broken, guarded-line-missing}
 
 -- Demand 1 (FORMAT 11.1): every input gets one of the numbered answers.
 pub numbered : (lim : Limits) (request lent : List ℕ) (budget : ℕ) → among (judge lim request lent budget .answer .number) answers ≡ true

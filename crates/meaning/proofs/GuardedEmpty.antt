@@ -22,7 +22,7 @@ use Rattle.meaning.specs.Layouts.{list-written}
 use Rattle.meaning.proofs.TestLaws.{by-test, pick-true, pick-false}
 use Rattle.meaning.proofs.PickLaws.{pick-has}
 use Rattle.meaning.proofs.MovedReads.{next-is}
-use Rattle.meaning.proofs.KeptReads.{Kept, kept-of, kept-fault, table-kept, request-kept}
+use Rattle.meaning.proofs.KeptReads.{kept-of, kept-fault, table-kept, request-kept}
 use Rattle.meaning.proofs.ListReads.{list-read}
 use Rattle.meaning.proofs.PartReads.{part-stands}
 
@@ -127,10 +127,10 @@ module _ (lim : Limits) (b : List ℕ) (short : length b < lim .request) where
 
 -- THE ANSWERS: with another number than 11 and 20 (and, the bytes being fewer than the limit, it is not 10).
 module _ (lim : Limits) (b lent : List ℕ) (budget : ℕ) (short : length b < lim .request) where
-  pub unguarded : (Judging.number lim b lent budget ≡ Limits.ends-too-soon → ⊥) → (Judging.number lim b lent budget ≡ Limits.bytes-after → ⊥)
+  pub without-guards : (Judging.number lim b lent budget ≡ Limits.ends-too-soon → ⊥) → (Judging.number lim b lent budget ≡ Limits.bytes-after → ⊥)
       → judge-guarded lim (b ++ (0 ∷ [])) lent budget ≡ judge lim b lent budget
   unfolding judge judge-guarded settled settled-guarded
-  unguarded not-11 not-20 =
+  without-guards not-11 not-20 =
       by-test (eqb (length lent) (lim .state))
       (λ t.
       let plain = pick-true (eqb (length lent) (lim .state)) (λ _. judge-settled lim lent budget (settled lim b)) _ t in

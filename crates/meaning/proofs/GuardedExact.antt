@@ -20,7 +20,7 @@ use Rattle.meaning.specs.Walk.{in-state, End, fine, missed, stopped, Wal
 use Rattle.meaning.specs.Judging.{Judgement, written-over, reported, ended, within}
 use Rattle.meaning.specs.Guards.{Guarded-request, settled-guarded, walk-of, guarded-settled, judge-guarded, number, count}
 use Rattle.meaning.specs.Approximation.{true-in}
-use Rattle.meaning.specs.Paths.{arrives, stops, Path, stop-or-miss, walked-along}
+use Rattle.meaning.specs.Paths.{arrives, Path, stop-or-miss, walked-along}
 use Rattle.meaning.specs.Reported.{First, pair-of}
 use Rattle.meaning.specs.GuardedReported.{met-paths, First-stop, Broken-at}
 use Rattle.meaning.proofs.TestLaws.{pick-true, pick-false, pick-cases}

@@ -1,11 +1,11 @@
 -- Answer 0 of the guarded call in the 0-approximation's own terms (FORMAT 21.23). Where no path with guards stops, its paths end as those without do, and
 -- every a-state that is met is above a state that lacks no guard. And where the guards are true in each a-state that is met, each state that is met lacks
--- none, since its pair is one of these. Assumes nothing.
+-- none, since its pair is one of these. So the state of answer 43 is met. Assumes nothing.
 use Prim.Native.Nat.{ℕ, _*_, _≤_, _<_}
 use native.Mathlib.Omega.{arith}
 use mathlib.Core.Path.{_≡_, refl, sym, _∙_, ap, subst}
-use mathlib.Core.Bool.{true, false}
-use mathlib.Core.List.{List, [], _∷_, _++_}
+use mathlib.Core.Bool.{true}
+use mathlib.Core.List.{List}
 use mathlib.Core.Logic.{_⊎_, inl, inr, ⊎-elim, _↔_}
 use lib.ListN.{length}
 use Rattle.meaning.specs.Tests.{each-of, Has}
@@ -13,191 +13,84 @@ use Rattle.meaning.specs.Limits
 use Rattle.meaning.specs.Limits.{Limits}
 use Rattle.meaning.specs.Requests.{Effect, Knowledge, Table, Sequence, done, item, Item, act, branching, Branches, none, branch, Entry, Request, values}
 use Rattle.meaning.specs.Reading.{got}
-use Rattle.meaning.specs.Refusals.{Found, nowhere, at, conditions-of, all-exclusive, settled}
-use Rattle.meaning.specs.States.{State, known, first-state, Outcome, single, fork}
-use Rattle.meaning.specs.Walk.{Concerned, in-state, fine, Step, leads-to, refuses, table-does, table-step, first-missed, missed-in, guarded-step}
-use Rattle.meaning.specs.Guards.{Guarded-request, settled-guarded, number, count}
-use Rattle.meaning.specs.Approximation.{Pair, true-in, Result, state, None-true, Φ̂-item, least, Entailed}
-use Rattle.meaning.specs.Paths.{Ending, arrives, stops, Path, met-ending, meetings, arrivals, paths-step, paths, paths-item, paths-branch, paths-met}
+use Rattle.meaning.specs.Refusals.{nowhere, at, conditions-of, all-exclusive, settled}
+use Rattle.meaning.specs.States.{State, known, first-state, can-be-run, outcome}
+use Rattle.meaning.specs.Lines.{sensing}
+use Rattle.meaning.specs.Walk.{Concerned, no-state, in-state, fine, table-does, table-step, first-missed, missed-in, guarded-step}
+use Rattle.meaning.specs.Guards.{Guarded-request, settled-guarded, judge-guarded, number, count}
+use Rattle.meaning.specs.Approximation.{Pair, true-in, state, None-true, least, Entailed}
+use Rattle.meaning.specs.Paths.{Ending, arrives, stops, Path, arrivals, paths, paths-item, paths-branch}
 use Rattle.meaning.specs.Reported.{pair-of, all-paths}
 use Rattle.meaning.specs.GuardedReported.{met-paths, First-stop, Met-in, Met-at, Met-under, Guards-true}
 use Rattle.meaning.proofs.TestLaws.{by-test, clash, both-left, both-right, pick-true, pick-false}
-use Rattle.meaning.proofs.PickLaws.{has-picked}
+use Rattle.meaning.proofs.PickLaws.{pick-has, has-picked}
 use Rattle.meaning.proofs.SettledLaws.{Fit, Fit-item, Fit-branches}
 use Rattle.meaning.proofs.RangeLaws.{Ranged}
-use Rattle.meaning.proofs.PathLaws.{by-found}
-use Rattle.meaning.proofs.EndLaws.{Ends, Stops, arrives≢stops, arrives-same, ends-one, ends-left, ends-right, ends-split, ends-ran, went-on, stops-on, stop-goes-on, arrives-on, Says, none-missed}
+use Rattle.meaning.proofs.RefusalLaws.{at≢nowhere}
+use Rattle.meaning.proofs.EndLaws.{Ends, Stops, arrives≢stops, arrives-same, ends-one, went-on, stop-goes-on, arrives-on, stop-ends, Says, none-missed}
+use Rattle.meaning.proofs.PairLaws.{true-grows, true-in-pair}
+use Rattle.meaning.proofs.SensingLaws.{reading-is}
 use Rattle.meaning.proofs.ToldLaws.{first-length, first-least}
 use Rattle.meaning.proofs.CoverLaws.{knows-pair, knows-true, others-false, none-taken, Below, reaches-item, reaches-act, covers-act, covers-item}
-use Rattle.meaning.proofs.Exact.{walk-end, least-initial, first-below, effects-within, knowledge-within, end-entailed, ranged, says, entailed-fine}
+use Rattle.meaning.proofs.Exact.{least-initial, first-below, effects-within, knowledge-within, end-entailed, ranged, says, entailed-fine}
 use Rattle.meaning.proofs.Exact
+use Rattle.meaning.proofs.GuardedPaths.{broken≢stuck, Never-broken, stop-still, still, still-item, still-branch, first-lacks, met-on, on-met, step-lacks, not-broken, was, was-item, step-broken, met-broken}
 use Rattle.meaning.proofs.GuardedReads.{own, parts, own-settled}
-use Rattle.meaning.proofs.GuardedExact.{broken-exactly, guarded-stuck-exactly, guarded-fine-exactly, missed-otherwise}
+use Rattle.meaning.proofs.GuardedExact.{broken-exactly, guarded-stuck-exactly, guarded-fine-exactly, missed-otherwise, broken-there}
 
 module _ (t : Table) (gs : List Entry) where
-  abbrev lacks : State → Found
-  lacks u = first-missed (known u) gs
-
   -- A state lacks none exactly where each guard is true in its pair.
   abbrev Pass : Pair → Type 0
   Pass δ = each-of (true-in δ) (values gs) ≡ true
 
-  pass-none : (u : State) → Pass (pair-of u) → lacks u ≡ nowhere
+  pass-none : (u : State) → Pass (pair-of u) → first-missed (known u) gs ≡ nowhere
   pass-none u pass = none-missed (known u) gs .1 (sym (knows-pair u (values gs)) ∙ pass)
 
-  none-pass : (u : State) (δ : Pair) (size : ℕ) → Below size u δ → lacks u ≡ nowhere → Pass δ
+  none-pass : (u : State) (δ : Pair) (size : ℕ) → Below size u δ → first-missed (known u) gs ≡ nowhere → Pass δ
   none-pass u δ size below q = knows-true u δ (below .extends) (values gs) (none-missed (known u) gs .0 q)
-
-  -- WITHOUT GUARDS AND WITH THEM. A path that ends so without them ends so with them, or some path stops there.
-  abbrev Still : List (Path State) → Ending State → Type 0
-  Still xs e = Stops xs ⊎ Ends xs e
-
-  one-met : (f : Found) (s : State) (e : Ending State) → e ≡ arrives s → Still (record { ran = []; ending = met-ending f s } ∷ []) e
-  one-met nowhere s e q = inr (inl q)
-  one-met (at p) s e q = inl (Limits.guard-broken, p, in-state s, inl refl)
-
-  still-left : (xs ys : List (Path State)) (e : Ending State) → Still xs e → Still (xs ++ ys) e
-  still-left xs ys e (inl w) = inl (w .0, w .1, w .2, ends-left xs ys _ (w .3))
-  still-left xs ys e (inr h) = inr (ends-left xs ys e h)
-
-  still-right : (xs ys : List (Path State)) (e : Ending State) → Still ys e → Still (xs ++ ys) e
-  still-right xs ys e (inl w) = inl (w .0, w .1, w .2, ends-right xs ys _ (w .3))
-  still-right xs ys e (inr h) = inr (ends-right xs ys e h)
-
-  meetings-still : (o : Outcome State) (e : Ending State) → Ends (arrivals o) e → Still (meetings lacks o) e
-  unfolding meetings
-  meetings-still (single s) e h = one-met (lacks s) s e (ends-one h)
-  meetings-still (fork o p) e h =
-      ⊎-elim (λ k. still-left (meetings lacks o) (meetings lacks (p tt)) e (meetings-still o e k)) (λ k. still-right (meetings lacks o) (meetings lacks (p tt)) e (meetings-still (p tt) e k))
-      (ends-split (arrivals o) (arrivals (p tt)) e h)
-
-  step-still : (p a : ℕ) (x : Step State) (e : Ending State) → Ends (paths-step (λ _. nowhere) p a x) e → Still (paths-step lacks p a x) e
-  unfolding paths-step
-  step-still p a (leads-to o) e h =
-      ⊎-elim (λ w. inl (w .0, w .1, w .2, ends-ran (a ∷ []) (meetings lacks o) _ .1 (w .3))) (λ k. inr (ends-ran (a ∷ []) (meetings lacks o) e .1 k))
-      (meetings-still o e (ends-ran (a ∷ []) (arrivals o) e .0 h))
-  step-still p a (refuses n u) e h = inr h
-
-  -- A stop that is still there is a stop.
-  stop-still : (xs : List (Path State)) (n p : ℕ) (u : Concerned State) → Still xs (stops n p u) → Stops xs
-  stop-still xs n p u (inl w) = w
-  stop-still xs n p u (inr h) = (n, p, u, h)
-
-  mutual
-    unfolding paths table-step guarded-step
-
-    still : (c : Sequence ℕ) (s : State) (e : Ending State) → Ends (paths (table-step t) c s) e → Still (paths (guarded-step t gs) c s) e
-    still done s e h = inr h
-    still (item i rest) s e h =
-        let more = paths (guarded-step t gs) rest in
-        let xs = paths-item (guarded-step t gs) i s in
-        ⊎-elim
-        (λ w. inl (stop-goes-on more xs (stop-still xs (w .0) (w .1) (w .2) (still-item i s (stops (w .0) (w .1) (w .2)) (w .3)))))
-        (λ w.
-        ⊎-elim
-        (λ stop. inl (stop-goes-on more xs stop))
-        (λ there. ⊎-elim (λ stop. inl (stop .0, stop .1, stop .2, arrives-on more xs (w .0) _ there (stop .3))) (λ k. inr (arrives-on more xs (w .0) e there k)) (still rest (w .0) e (w .2)))
-        (still-item i s (arrives (w .0)) (w .1)))
-        (went-on (paths (table-step t) rest) (paths-item (table-step t) i s) e h)
-
-    still-item : (i : Item ℕ) (s : State) (e : Ending State) → Ends (paths-item (table-step t) i s) e → Still (paths-item (guarded-step t gs) i s) e
-    still-item (act p a) s e h = step-still p a (table-does t a s) e h
-    still-item (branching p bs) s e h = still-branch bs p s e h
-
-    still-branch : (bs : Branches ℕ) (p : ℕ) (s : State) (e : Ending State) → Ends (paths-branch (table-step t) bs p s) e → Still (paths-branch (guarded-step t gs) bs p s) e
-    still-branch none p s e h = inr h
-    still-branch (branch c b bs) p s e h =
-        has-picked (λ xs. Ends xs e) (each-of (known s) c) _ _ h
-        (λ on k. subst (λ (xs : List (Path State)). Still xs e) (sym (pick-true _ _ _ on)) (still b s e k))
-        (λ off k. subst (λ (xs : List (Path State)). Still xs e) (sym (pick-false _ _ _ off)) (still-branch bs p s e k))
-
-  -- THE FIRST STATE is met.
-  first-lacks : (c : Sequence ℕ) (s : State) → (Stops (paths-met (guarded-step t gs) c s) → ⊥) → lacks s ≡ nowhere
-  unfolding paths-met meetings guarded-step
-  first-lacks c s never = by-found (lacks s) (λ q. q) (λ p q. absurd (never (stop-goes-on (paths (guarded-step t gs) c) _ (Limits.guard-broken, p, in-state s, inl (rw q refl)))))
-
-  met-on : (c : Sequence ℕ) (s : State) → lacks s ≡ nowhere → (e : Ending State) → Ends (paths (guarded-step t gs) c s) e → Ends (paths-met (guarded-step t gs) c s) e
-  unfolding paths-met meetings guarded-step
-  met-on c s q e h = arrives-on (paths (guarded-step t gs) c) _ s e (inl (rw q refl)) h
-
-  on-met : (c : Sequence ℕ) (s : State) → lacks s ≡ nowhere → (e : Ending State) → Ends (paths-met (guarded-step t gs) c s) e → Ends (paths (guarded-step t gs) c s) e
-  unfolding paths-met meetings guarded-step
-  on-met c s q e h =
-      ⊎-elim
-      (λ w. let stop : stops (w .0) (w .1) (w .2) ≡ met-ending (lacks s) s = ends-one (w .3) in absurd (arrives≢stops (sym (stop ∙ ap (λ (f : Found). met-ending f s) q))))
-      (λ w. let there : arrives (w .0) ≡ met-ending (lacks s) s = ends-one (w .1) in
-      subst (λ (v : State). Ends (paths (guarded-step t gs) c v) e) (arrives-same (there ∙ ap (λ (f : Found). met-ending f s) q)) (w .2))
-      (went-on (paths (guarded-step t gs) c) (meetings lacks (single s)) e h)
-
-  -- A state at which a path with guards arrives after an action lacks none.
-  one-lacks : (f : Found) (s u : State) → lacks s ≡ f → arrives u ≡ met-ending f s → lacks u ≡ nowhere
-  one-lacks nowhere s u q is = ap lacks (arrives-same is) ∙ q
-  one-lacks (at p) s u q is = absurd (arrives≢stops is)
-
-  arrived-lacks : (o : Outcome State) (u : State) → Ends (meetings lacks o) (arrives u) → lacks u ≡ nowhere
-  unfolding meetings
-  arrived-lacks (single s) u h = one-lacks (lacks s) s u refl (ends-one h)
-  arrived-lacks (fork o p) u h = ⊎-elim (arrived-lacks o u) (arrived-lacks (p tt) u) (ends-split (meetings lacks o) (meetings lacks (p tt)) (arrives u) h)
-
-  step-lacks : (p a : ℕ) (x : Step State) (u : State) → Ends (paths-step lacks p a x) (arrives u) → lacks u ≡ nowhere
-  unfolding paths-step
-  step-lacks p a (leads-to o) u h = arrived-lacks o u (ends-ran (a ∷ []) (meetings lacks o) (arrives u) .0 h)
-  step-lacks p a (refuses n v) u h = absurd (arrives≢stops (ends-one h))
-
-  -- Where each state lacks none, a path that ends so with guards ends so without.
-  meetings-plain : (o : Outcome State) → ((u : State) → Ends (arrivals o) (arrives u) → lacks u ≡ nowhere) → (e : Ending State) → Ends (meetings lacks o) e → Ends (arrivals o) e
-  unfolding meetings
-  meetings-plain (single s) each e h = inl (ends-one h ∙ ap (λ (f : Found). met-ending f s) (each s (inl refl)))
-  meetings-plain (fork o p) each e h =
-      ⊎-elim
-      (λ k. ends-left (arrivals o) (arrivals (p tt)) e (meetings-plain o (λ u m. each u (ends-left (arrivals o) (arrivals (p tt)) _ m)) e k))
-      (λ k. ends-right (arrivals o) (arrivals (p tt)) e (meetings-plain (p tt) (λ u m. each u (ends-right (arrivals o) (arrivals (p tt)) _ m)) e k))
-      (ends-split (meetings lacks o) (meetings lacks (p tt)) e h)
-
-  step-plain : (p a : ℕ) (x : Step State) → ((u : State) → Ends (paths-step (λ _. nowhere) p a x) (arrives u) → lacks u ≡ nowhere)
-      → (e : Ending State) → Ends (paths-step lacks p a x) e → Ends (paths-step (λ _. nowhere) p a x) e
-  unfolding paths-step
-  step-plain p a (leads-to o) each e h =
-      ends-ran (a ∷ []) (arrivals o) e .1
-      (meetings-plain o (λ u m. each u (ends-ran (a ∷ []) (arrivals o) (arrives u) .1 m)) e (ends-ran (a ∷ []) (meetings lacks o) e .0 h))
-  step-plain p a (refuses n u) each e h = h
 
   none-met : (bs : Branches ℕ) (σ δ : Pair) → None-true t bs σ → Met-under t bs σ δ → ⊥
   none-met none σ δ n m = m
   none-met (branch c b bs) σ δ n (inl m) = clash (m .0) (n .0)
   none-met (branch c b bs) σ δ n (inr m) = none-met bs σ δ (n .1) m
 
+  -- A state that lacks the guard at the place, and whose pair is met.
+  abbrev Lacking : (Pair → Type 0) → ℕ → Concerned State → Type 0
+  Lacking Met p u = (v : State) × (u ≡ in-state v) × (first-missed (known v) gs ≡ at p) × Met (pair-of v)
+
+  never-refused : (a : ℕ) (s : State) → Never-broken (table-does t a s)
+  unfolding table-does
+  never-refused a s = pick-has Never-broken (can-be-run t a s) _ _ (λ _. tt) (λ _ q. omega (arith, q))
+
   -- A table whose lines are within states of a size.
   module _ (size : ℕ) (effects-in : (e : Effect) → Has (t .effects) e → e .literal < 2 * size) (knowledge-in : (k : Knowledge) → Has (t .knowledge) k → k .fluent < size) where
     mutual
       unfolding paths table-step guarded-step
 
-      -- WHERE THE GUARDS ARE TRUE in each a-state that is met, the paths with guards end as those without.
-      plain : (c : Sequence ℕ) (s : State) → length s ≡ size → ((δ : Pair) → Met-in t c (pair-of s) δ → Pass δ) → (e : Ending State) → Ends (paths (guarded-step t gs) c s) e → Ends (paths (table-step t) c s) e
-      plain done s sized each e h = h
-      plain (item i rest) s sized each e h =
-          let more = paths (table-step t) rest in
-          let xs = paths-item (table-step t) i s in
-          let here : (x : Ending State) → Ends (paths-item (guarded-step t gs) i s) x → Ends xs x = λ x k. plain-item i s sized (λ δ m. each δ (inl m)) x k in
+      -- A STATE THAT LACKS A GUARD, in which a path stops, is met: its pair is an a-state that the plan meets.
+      broken-met : (c : Sequence ℕ) (s : State) → length s ≡ size → (p : ℕ) (u : Concerned State) → Ends (paths (guarded-step t gs) c s) (stops Limits.guard-broken p u) → Lacking (Met-in t c (pair-of s)) p u
+      broken-met done s sized p u h = absurd (arrives≢stops (sym (ends-one h)))
+      broken-met (item i rest) s sized p u h =
           ⊎-elim
-          (λ w. subst (Ends (paths (table-step t) (item i rest) s)) (sym (w .4)) (stops-on more xs (w .0) (w .1) (w .2) (here (stops (w .0) (w .1) (w .2)) (w .3))))
+          (λ w. let k = broken-item i s sized p u (subst (Ends (paths-item (guarded-step t gs) i s)) (sym (w .4)) (w .3)) in (k .0, k .1, k .2, inl (k .3)))
           (λ w.
-          let there = here (arrives (w .0)) (w .1) in
-          let led = reaches-item t size effects-in knowledge-in i s sized (arrives (w .0)) there in
-          arrives-on more xs (w .0) e there (plain rest (w .0) (led .1) (λ δ m. each δ (inr (pair-of (w .0), led .0, m))) e (w .2)))
-          (went-on (paths (guarded-step t gs) rest) (paths-item (guarded-step t gs) i s) e h)
+          let led = reaches-item t size effects-in knowledge-in i s sized (arrives (w .0)) (not-broken t gs (paths-item (table-step t) i s) (w .0) (was-item t gs i s (arrives (w .0)) (w .1))) in
+          let k = broken-met rest (w .0) (led .1) p u (w .2) in
+          (k .0, k .1, k .2, inr (pair-of (w .0), led .0, k .3)))
+          (went-on (paths (guarded-step t gs) rest) (paths-item (guarded-step t gs) i s) (stops Limits.guard-broken p u) h)
 
-      plain-item : (i : Item ℕ) (s : State) → length s ≡ size → ((δ : Pair) → Met-at t i (pair-of s) δ → Pass δ) → (e : Ending State) → Ends (paths-item (guarded-step t gs) i s) e → Ends (paths-item (table-step t) i s) e
-      plain-item (act p a) s sized each e h =
-          step-plain p a (table-does t a s) (λ u there. pass-none u (each (pair-of u) (reaches-act t size effects-in knowledge-in p a s sized (arrives u) there .0))) e h
-      plain-item (branching p bs) s sized each e h = plain-branch bs p s sized each e h
+      broken-item : (i : Item ℕ) (s : State) → length s ≡ size → (p : ℕ) (u : Concerned State) → Ends (paths-item (guarded-step t gs) i s) (stops Limits.guard-broken p u) → Lacking (Met-at t i (pair-of s)) p u
+      broken-item (act q a) s sized p u h =
+          let k = step-broken t gs q a (table-does t a s) (never-refused a s) p u h in
+          (k .0, k .1, k .2, reaches-act t size effects-in knowledge-in q a s sized (arrives (k .0)) (k .3) .0)
+      broken-item (branching q bs) s sized p u h = broken-under bs q s sized p u h
 
-      plain-branch : (bs : Branches ℕ) (p : ℕ) (s : State) → length s ≡ size → ((δ : Pair) → Met-under t bs (pair-of s) δ → Pass δ) → (e : Ending State) → Ends (paths-branch (guarded-step t gs) bs p s) e → Ends (paths-branch (table-step t) bs p s) e
-      plain-branch none p s sized each e h = h
-      plain-branch (branch c b bs) p s sized each e h =
-          has-picked (λ xs. Ends xs e) (each-of (known s) c) _ _ h
-          (λ on k. subst (λ (xs : List (Path State)). Ends xs e) (sym (pick-true _ _ _ on)) (plain b s sized (λ δ m. each δ (inl (knows-pair s c ∙ on, m))) e k))
-          (λ off k. subst (λ (xs : List (Path State)). Ends xs e) (sym (pick-false _ _ _ off)) (plain-branch bs p s sized (λ δ m. each δ (inr m)) e k))
+      broken-under : (bs : Branches ℕ) (q : ℕ) (s : State) → length s ≡ size → (p : ℕ) (u : Concerned State) → Ends (paths-branch (guarded-step t gs) bs q s) (stops Limits.guard-broken p u) → Lacking (Met-under t bs (pair-of s)) p u
+      broken-under none q s sized p u h = absurd (broken≢stuck (sym (ends-one h)))
+      broken-under (branch c b bs) q s sized p u h =
+          has-picked (λ xs. Ends xs (stops Limits.guard-broken p u)) (each-of (known s) c) _ _ h
+          (λ on k. let w = broken-met b s sized p u k in (w .0, w .1, w .2, inl (knows-pair s c ∙ on, w .3)))
+          (λ _ k. let w = broken-under bs q s sized p u k in (w .0, w .1, w .2, inr (w .3)))
 
     mutual
       unfolding paths table-step guarded-step conditions-of all-exclusive
@@ -212,12 +105,12 @@ module _ (t : Table) (gs : List Entry) where
           (λ w. met-pass-item i (fits .0) s σ below (λ stop. never (stop-goes-on more xs stop)) δ w)
           (λ w.
           ⊎-elim
-          (λ stop. absurd (never (stop-goes-on more xs (stop-still xs (stop .0) (stop .1) (stop .2) (still-item i s (stops (stop .0) (stop .1) (stop .2)) (stop .3))))))
+          (λ stop. absurd (never (stop-goes-on more xs (stop-still t gs xs (stop .0) (stop .1) (stop .2) (still-item t gs i s (stops (stop .0) (stop .1) (stop .2)) (stop .3))))))
           (λ v.
           ⊎-elim
           (λ stop. absurd (never (stop-goes-on more xs stop)))
           (λ there. met-pass rest (fits .1) (v .0) (w .0) (v .2) (λ stop. never (stop .0, stop .1, stop .2, arrives-on more xs (v .0) _ there (stop .3))) δ (w .2))
-          (still-item i s (arrives (v .0)) (v .1)))
+          (still-item t gs i s (arrives (v .0)) (v .1)))
           (covers-item t size effects-in knowledge-in i (fits .0) s σ below (state (w .0)) (w .1)))
           m
 
@@ -225,8 +118,8 @@ module _ (t : Table) (gs : List Entry) where
       met-pass-item (act p a) fits s σ below never δ m =
           let xs = paths-item (guarded-step t gs) (act p a) s in
           ⊎-elim
-          (λ stop. absurd (never (stop-still xs (stop .0) (stop .1) (stop .2) (still-item (act p a) s (stops (stop .0) (stop .1) (stop .2)) (stop .3)))))
-          (λ v. ⊎-elim (λ stop. absurd (never stop)) (λ there. none-pass (v .0) δ size (v .2) (step-lacks p a (table-does t a s) (v .0) there)) (still-item (act p a) s (arrives (v .0)) (v .1)))
+          (λ stop. absurd (never (stop-still t gs xs (stop .0) (stop .1) (stop .2) (still-item t gs (act p a) s (stops (stop .0) (stop .1) (stop .2)) (stop .3)))))
+          (λ v. ⊎-elim (λ stop. absurd (never stop)) (λ there. none-pass (v .0) δ size (v .2) (step-lacks t gs p a (table-does t a s) (v .0) there)) (still-item t gs (act p a) s (arrives (v .0)) (v .1)))
           (covers-act t size effects-in knowledge-in p a s σ below (state δ) m)
       met-pass-item (branching p bs) fits s σ below never δ m = met-pass-under bs p (fits .0) (fits .1) s σ below never δ m
 
@@ -245,12 +138,19 @@ module _ (t : Table) (gs : List Entry) where
           ⊎-elim
           (λ w.
           let stop = none-taken t bs p s σ (below .extends) (others (w .0)) in
-          absurd (later (stop-still (paths-branch (guarded-step t gs) bs p s) (stop .0) (stop .1) (stop .2) (still-branch bs p s (stops (stop .0) (stop .1) (stop .2)) (stop .3)))))
+          absurd (later (stop-still t gs (paths-branch (guarded-step t gs) bs p s) (stop .0) (stop .1) (stop .2) (still-branch t gs bs p s (stops (stop .0) (stop .1) (stop .2)) (stop .3)))))
           (λ w. met-pass-under bs p (both-right _ _ apart) (fits .1) s σ below later δ w)
           m)
         where
           others : each-of (true-in σ) c ≡ true → None-true t bs σ
           others holds = others-false t σ (below .disjoint) c holds bs (both-left _ _ apart)
+
+state-same : {u v : State} → in-state u ≡ in-state v → u ≡ v
+state-same {u} q = ap held q
+  where
+    held : Concerned State → State
+    held no-state = u
+    held (in-state v) = v
 
 -- THE THEOREMS.
 module _ (lim : Limits) (room : lim .fluents ≤ lim .state) (b lent : List ℕ) (budget : ℕ) (g : Guarded-request) (e : ℕ) (lent-length : length lent ≡ lim .state) (past : settled-guarded lim b ≡ got g e) where
@@ -299,15 +199,21 @@ module _ (lim : Limits) (room : lim .fluents ≤ lim .state) (b lent : List ℕ)
       plain-all : (u : State) → Ends (all-paths lim r) (arrives u) → missed-in r u ≡ nowhere
       plain-all u h = ⊎-elim (λ stop. absurd (never-behind stop)) (λ there. all u (met (arrives u) there)) (still (r .table) (g .guards) (r .plan) first (arrives u) h)
 
+  is-least : pair-of first ≡ least (r .table)
+  is-least = first-least lim room (r .table) in-range
+
+  -- A path that stops behind the first state, in one that lacks a guard, stops in one that is met from the least initial a-state.
+  broken-behind : (p : ℕ) (u : Concerned State) → Ends (with-guards (r .plan) first) (stops Limits.guard-broken p u) → Lacking (r .table) (g .guards) (Met-in (r .table) (r .plan) (least (r .table))) p u
+  broken-behind p u h =
+      let k = broken-met (r .table) (g .guards) (lim .state) (effects-within lim room r in-range apart) (knowledge-within lim room r in-range apart) (r .plan) first (first-length lim (r .table)) p u h in
+      (k .0, k .1, k .2, subst (λ (σ : Pair). Met-in (r .table) (r .plan) σ (pair-of (k .0))) is-least (k .3))
+
   entails-fine : Entailed r → Guards-true r (values (g .guards)) → (Stops (met-paths lim g) → ⊥) × ((u : State) → Ends (met-paths lim g) (arrives u) → missed-in r u ≡ nowhere)
   entails-fine k guards = (
     λ stop. plain-says .0 (stop .0, stop .1, stop .2, without _ (stop .3)),
     λ u h. plain-says .1 u (without (arrives u) h),
   )
     where
-      is-least : pair-of first ≡ least (r .table)
-      is-least = first-least lim room (r .table) in-range
-
       plain-says : Says (missed-in r) (all-paths lim r) fine
       plain-says = subst (Says (missed-in r) (all-paths lim r)) (entailed-fine lim room (own lim b g e past) r (parts lim b g e past .request-end) settles k)
           (says lim room (own lim b g e past) r (parts lim b g e past .request-end) settles)
@@ -315,11 +221,39 @@ module _ (lim : Limits) (room : lim .fluents ≤ lim .state) (b lent : List ℕ)
       holds-first : first-missed (known first) (g .guards) ≡ nowhere
       holds-first = pass-none (r .table) (g .guards) first (rw is-least (guards .first (least (r .table)) (least-initial lim room r in-range apart)))
 
+      -- A state that lacks a guard would be met.
+      never-lacking : (p : ℕ) (u : Concerned State) → Ends (with-guards (r .plan) first) (stops Limits.guard-broken p u) → ⊥
+      never-lacking p u h =
+          let k = broken-behind p u h in
+          at≢nowhere (sym (k .2) ∙ pass-none (r .table) (g .guards) (k .0) (guards .met (least (r .table)) (least-initial lim room r in-range apart) (pair-of (k .0)) (k .3)))
+
       without : (x : Ending State) → Ends (met-paths lim g) x → Ends (all-paths lim r) x
       without x h =
-          plain (r .table) (g .guards) (lim .state) (effects-within lim room r in-range apart) (knowledge-within lim room r in-range apart) (r .plan) first (first-length lim (r .table))
-          (λ δ m. guards .met (least (r .table)) (least-initial lim room r in-range apart) δ (subst (λ (σ : Pair). Met-in (r .table) (r .plan) σ δ) is-least m))
-          x (on-met (r .table) (g .guards) (r .plan) first holds-first x h)
+          let there = on-met (r .table) (g .guards) (r .plan) first holds-first x h in
+          ⊎-elim (λ w. absurd (never-lacking (w .0) (w .1) (subst (Ends (with-guards (r .plan) first)) (w .2) there))) (λ k. k) (was (r .table) (g .guards) (r .plan) first x there)
+
+  -- Where the answer is 43, the state left is the first one, or its pair is an a-state that is met.
+  pub broken-where-met : number lim b lent budget ≡ Limits.guard-broken
+      → (judge-guarded lim b lent budget .state ≡ first) ⊎ Met-in (r .table) (r .plan) (least (r .table)) (pair-of (judge-guarded lim b lent budget .state))
+  broken-where-met q =
+      let u : State = judge-guarded lim b lent budget .state in
+      let p : ℕ = judge-guarded lim b lent budget .answer .place in
+      let ends = stop-ends (met-paths lim g) Limits.guard-broken p (in-state u) (broken-there lim b lent budget g e lent-length past q .path) in
+      ⊎-elim
+      (λ is. inl (state-same is))
+      (λ h. let k = broken-behind p (in-state u) h in inr (subst (λ (v : State). Met-in (r .table) (r .plan) (least (r .table)) (pair-of v)) (sym (state-same (k .1))) (k .3)))
+      (met-broken (r .table) (g .guards) (r .plan) first p (in-state u) ends)
+
+  -- A reading takes away nothing that was known (FORMAT 21.15).
+  pub reading-keeps : (a : ℕ) (s : State) → length s ≡ lim .state → sensing (r .table) a ≡ true → (u : State) → Ends (arrivals (outcome (r .table) a s)) (arrives u)
+      → (l : ℕ) → known s l ≡ true → known u l ≡ true
+  unfolding outcome
+  reading-keeps a s sized senses u h l known-before =
+      has-picked (λ o. Ends (arrivals o) (arrives u)) (sensing (r .table) a) _ _ h
+      (λ _ k.
+      let w = reading-is (r .table) a s (λ n m. rw sized (knowledge-within lim room r in-range apart n m)) (arrives u) k in
+      rw (arrives-same (w .1)) (sym (true-in-pair (w .0) l) ∙ true-grows (w .3 .extends) l (true-in-pair s l ∙ known-before)))
+      (λ off _. clash senses off)
 
   module _ (enough : count lim g ≤ budget) where
     -- Verified, exactly where the goals and the whether fluents are entailed and each guard is true in every a-state that is met.

@@ -3,113 +3,31 @@
 -- known. Assumes nothing.
 use Prim.Native.Nat.{ℕ, _≤_}
 use native.Mathlib.Omega.{arith}
-use mathlib.Core.Path.{_≡_, refl, sym, _∙_, ap, subst}
-use mathlib.Core.List.{List, [], _∷_}
-use mathlib.Core.Logic.{_⊎_, inl, inr, ⊎-elim}
+use mathlib.Core.Path.{_≡_, sym, subst}
+use mathlib.Core.List.{List}
+use mathlib.Core.Logic.{⊎-elim}
 use lib.ListN.{length}
-use Rattle.meaning.specs.Tests.{each-of}
 use Rattle.meaning.specs.Limits
 use Rattle.meaning.specs.Limits.{Limits}
-use Rattle.meaning.specs.Requests.{Table, Sequence, done, item, Item, act, branching, Branches, none, branch, Entry}
 use Rattle.meaning.specs.Reading.{got}
-use Rattle.meaning.specs.Refusals.{Found, nowhere, at}
-use Rattle.meaning.specs.States.{State, known, first-state, Outcome, single, fork}
-use Rattle.meaning.specs.Walk.{Concerned, in-state, End, fine, missed, stopped, Step, leads-to, refuses, table-does, table-step, first-missed, missed-in, guarded-step}
+use Rattle.meaning.specs.Refusals.{at}
+use Rattle.meaning.specs.States.{State, first-state}
+use Rattle.meaning.specs.Walk.{in-state, End, fine, missed, stopped, missed-in}
 use Rattle.meaning.specs.Judging.{Judgement, written-over, reported, ended, within}
 use Rattle.meaning.specs.Guards.{Guarded-request, settled-guarded, judge-guarded, number, count}
 use Rattle.meaning.specs.Approximation.{Φ̂, least}
-use Rattle.meaning.specs.Paths.{Ending, arrives, stops, Path, met-ending, meetings, arrivals, paths-step, paths, paths-item, paths-branch, paths-met}
+use Rattle.meaning.specs.Paths.{Ending, arrives}
 use Rattle.meaning.specs.Reported.{all-paths, Missed-at, Stopped-at}
 use Rattle.meaning.specs.GuardedReported.{met-paths, First-stop}
-use Rattle.meaning.proofs.TestLaws.{pick-true, pick-false}
-use Rattle.meaning.proofs.PickLaws.{pick-has, has-picked}
+use Rattle.meaning.proofs.PickLaws.{pick-has}
 use Rattle.meaning.proofs.KeptEnds.{Stuck-guarded}
-use Rattle.meaning.proofs.EndLaws.{first-map, Ends, arrives≢stops, all-arrive, arrives-same, ends-one, ends-left, ends-right, ends-split, ends-ran, went-on, stops-on, arrives-on, stop-ends, miss-ends, Says}
+use Rattle.meaning.proofs.EndLaws.{first-map, Ends, all-arrive, stop-ends, miss-ends, Says}
 use Rattle.meaning.proofs.CoverLaws.{result-of}
 use Rattle.meaning.proofs.Exact.{leads, ranged, fits}
 use Rattle.meaning.proofs.ReportLaws.{nothing-missed, entry-missed, sticks, stops-in}
+use Rattle.meaning.proofs.GuardedPaths.{broken≢stuck, not-broken, met-was}
 use Rattle.meaning.proofs.GuardedReads.{own, parts, own-settled}
 use Rattle.meaning.proofs.GuardedExact.{guarded-by-walk, guarded-says, end-stuck, walk-end}
-
-module _ (t : Table) (gs : List Entry) where
-  abbrev lacks : State → Found
-  lacks u = first-missed (known u) gs
-
-  -- A path that ends so stopped in a state that lacks a guard, or ends so without guards.
-  abbrev Broken : Ending State → Type 0
-  Broken e = (p : ℕ) × (u : Concerned State) × (e ≡ stops Limits.guard-broken p u)
-
-  abbrev Was : List (Path State) → Ending State → Type 0
-  Was xs e = Broken e ⊎ Ends xs e
-
-  one-was : (f : Found) (s : State) (e : Ending State) → e ≡ met-ending f s → Was (record { ran = []; ending = arrives s } ∷ []) e
-  one-was nowhere s e q = inr (inl q)
-  one-was (at p) s e q = inl (p, in-state s, q)
-
-  meetings-was : (o : Outcome State) (e : Ending State) → Ends (meetings lacks o) e → Was (arrivals o) e
-  unfolding meetings
-  meetings-was (single s) e h = one-was (lacks s) s e (ends-one h)
-  meetings-was (fork o p) e h =
-      ⊎-elim
-      (λ k. ⊎-elim inl (λ m. inr (ends-left (arrivals o) (arrivals (p tt)) e m)) (meetings-was o e k))
-      (λ k. ⊎-elim inl (λ m. inr (ends-right (arrivals o) (arrivals (p tt)) e m)) (meetings-was (p tt) e k))
-      (ends-split (meetings lacks o) (meetings lacks (p tt)) e h)
-
-  step-was : (p a : ℕ) (x : Step State) (e : Ending State) → Ends (paths-step lacks p a x) e → Was (paths-step (λ _. nowhere) p a x) e
-  unfolding paths-step
-  step-was p a (leads-to o) e h =
-      ⊎-elim inl (λ m. inr (ends-ran (a ∷ []) (arrivals o) e .1 m)) (meetings-was o e (ends-ran (a ∷ []) (meetings lacks o) e .0 h))
-  step-was p a (refuses n u) e h = inr h
-
-  not-broken : (xs : List (Path State)) (u : State) → Was xs (arrives u) → Ends xs (arrives u)
-  not-broken xs u (inl w) = absurd (arrives≢stops (w .2))
-  not-broken xs u (inr h) = h
-
-  mutual
-    unfolding paths table-step guarded-step
-
-    was : (c : Sequence ℕ) (s : State) (e : Ending State) → Ends (paths (guarded-step t gs) c s) e → Was (paths (table-step t) c s) e
-    was done s e h = inr h
-    was (item i rest) s e h =
-        let more = paths (table-step t) rest in
-        let xs = paths-item (table-step t) i s in
-        ⊎-elim
-        (λ w.
-        ⊎-elim
-        (λ k. inl (k .0, k .1, w .4 ∙ k .2))
-        (λ k. inr (subst (Ends (paths (table-step t) (item i rest) s)) (sym (w .4)) (stops-on more xs (w .0) (w .1) (w .2) k)))
-        (was-item i s (stops (w .0) (w .1) (w .2)) (w .3)))
-        (λ w. ⊎-elim inl (λ k. inr (arrives-on more xs (w .0) e (not-broken xs (w .0) (was-item i s (arrives (w .0)) (w .1))) k)) (was rest (w .0) e (w .2)))
-        (went-on (paths (guarded-step t gs) rest) (paths-item (guarded-step t gs) i s) e h)
-
-    was-item : (i : Item ℕ) (s : State) (e : Ending State) → Ends (paths-item (guarded-step t gs) i s) e → Was (paths-item (table-step t) i s) e
-    was-item (act p a) s e h = step-was p a (table-does t a s) e h
-    was-item (branching p bs) s e h = was-branch bs p s e h
-
-    was-branch : (bs : Branches ℕ) (p : ℕ) (s : State) (e : Ending State) → Ends (paths-branch (guarded-step t gs) bs p s) e → Was (paths-branch (table-step t) bs p s) e
-    was-branch none p s e h = inr h
-    was-branch (branch c b bs) p s e h =
-        has-picked (λ xs. Ends xs e) (each-of (known s) c) _ _ h
-        (λ on k. subst (λ (xs : List (Path State)). Was xs e) (sym (pick-true _ _ _ on)) (was b s e k))
-        (λ off k. subst (λ (xs : List (Path State)). Was xs e) (sym (pick-false _ _ _ off)) (was-branch bs p s e k))
-
-  -- From a state that is met.
-  met-was : (c : Sequence ℕ) (s : State) (e : Ending State) → Ends (paths-met (guarded-step t gs) c s) e → Was (paths (table-step t) c s) e
-  unfolding paths-met meetings guarded-step
-  met-was c s e h =
-      ⊎-elim
-      (λ w. ⊎-elim (λ k. inl (k .0, k .1, w .4 ∙ k .2)) (λ k. absurd (arrives≢stops (sym (ends-one k)))) (one-was (lacks s) s (stops (w .0) (w .1) (w .2)) (ends-one (w .3))))
-      (λ w.
-      let one = not-broken (record { ran = []; ending = arrives s } ∷ []) (w .0) (one-was (lacks s) s (arrives (w .0)) (ends-one (w .1))) in
-      subst (λ (v : State). Was (paths (table-step t) c v) e) (arrives-same (ends-one one)) (was c (w .0) e (w .2)))
-      (went-on (paths (guarded-step t gs) c) (meetings lacks (single s)) e h)
-
-broken≢stuck : {p q : ℕ} {u v : Concerned State} → stops Limits.not-executable p u ≡ stops Limits.guard-broken q v → ⊥
-broken≢stuck e = omega (arith, ap numbered e)
-  where
-    numbered : Ending State → ℕ
-    numbered (arrives s) = 0
-    numbered (stops n p u) = n
 
 -- THE REPORTS, of a settled guarded request.
 module _ (lim : Limits) (room : lim .fluents ≤ lim .state) (b lent : List ℕ) (budget : ℕ) (g : Guarded-request) (e : ℕ) (lent-length : length lent ≡ lim .state) (past : settled-guarded lim b ≡ got g e) where

@@ -58,6 +58,7 @@ pub mod FollowsExact
 pub mod CoverLaws
 pub mod Exact
 pub mod GuardedExact
+pub mod GuardedPaths
 pub mod GuardedMet
 pub mod AskingLaws
 pub mod ItemBytes
