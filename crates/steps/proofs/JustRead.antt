@@ -13,15 +13,15 @@ use Rattle.meaning.specs.Tests.{either, pick}
 use Rattle.meaning.specs.Limits.{format, all-literals}
 use Rattle.meaning.specs.Requests.{Knowledge, Table, Request}
 use Rattle.meaning.specs.Reading
-use Rattle.meaning.specs.Reading.{got, literals, bound-of, plan-at, request-at, read-request}
+use Rattle.meaning.specs.Reading.{got, literals, bound-of, plan-at, placed, request-at, read-request}
 use Rattle.meaning.specs.Guards.{Guarded-request, read-guarded}
 use Rattle.meaning.specs.Refusals.{nowhere, contradiction-in}
 use Rattle.meaning.specs.Lines.{knowledge-of, sensing, senses}
-use Rattle.meaning.proofs.TestLaws.{clash, same-test, some-has, has-some, some-those}
+use Rattle.meaning.proofs.TestLaws.{clash, pick-true, same-test, some-has, has-some, some-those}
 use Rattle.reading.specs.Bits.{bit-of}
 use Rattle.reading.specs.Noted.{none-yet, count-slot, section-noted, table-noted, effect-lines, sensed-from, sensed-to, plan-slot, items-slot, goals-slot, guards-slot, word-bits, pair-slot, pair-there, slots, effects-slot, executability-slot, knowledge-slot}
 use Rattle.reading.specs.Planned.{items-of, plan-noted}
-use Rattle.reading.specs.Requested.{goals-place, plan-place, places-noted, tail-with, request-noted, guards-place, guarded-noted}
+use Rattle.reading.specs.Requested.{goals-place, plan-place, places-noted, tail-with, tail-noted, request-noted, guards-place, guarded-noted}
 use Rattle.reading.specs.Listed.{listed, List-here}
 use Rattle.reading.proofs.BitLaws.{no-bit}
 use Rattle.reading.proofs.PlanSizes.{sequence-read}
@@ -202,6 +202,11 @@ module _ (s t : List ℕ) (here : Table-here s t) (g p : ℕ) (y : Request) (q :
   unfolding guards-at
   guards-slot-is = guards-noted s (table-in s) (parts-there .few) (parts-there .less) p y q read t g (here .sized)
 
+  -- THE GUARDS that it holds.
+  plan-guards : guards-in s (tail-with g y t) ≡ pick (eqb g 0) (λ _. []) (λ _. placed (g + 1) (listed s g))
+  unfolding guards-in
+  plan-guards = rw guards-slot-is refl
+
   pub plan-at-hand : contradiction-in (table-in s) ≡ nowhere → (eqb g 0 ≡ false → List-here all-literals s g) → At-hand s (tail-with g y t)
   unfolding run-places effect-places
   plan-at-hand passed guards =
@@ -222,6 +227,10 @@ module _ (s t : List ℕ) (here : Table-here s t) (g p : ℕ) (y : Request) (q :
         whether = rw (table-is, whether-at, whether-listed) (each .whether);
         guards = rw guards-slot-is guards;
       }
+
+-- Without guards there are none.
+pub plan-unguarded : (s t : List ℕ) (here : Table-here s t) (p : ℕ) (y : Request) (q : ℕ) → request-at format s (table-in s) p ≡ got y q → guards-in s (tail-noted y t) ≡ []
+plan-unguarded s t here p y q read = plan-guards s t here 0 p y q read ∙ pick-true (eqb 0 0) _ _ (eq-eqb 0 0 refl)
 
 -- A REQUEST that was read from the start, into notes that held nothing.
 module _ (s : List ℕ) (bytes : (i : ℕ) → getD s i 0 < 256) (t : List ℕ) (read : Read-here s t) where

@@ -15,7 +15,7 @@ use Rattle.meaning.specs.Limits.{format}
 use Rattle.meaning.specs.Requests.{Sequence, done, item, Item, act, branching, Branches, none, branch}
 use Rattle.meaning.specs.Derivations.{join}
 use Rattle.meaning.specs.States.{State, known}
-use Rattle.meaning.specs.Walk.{Walked, Steps, run-action, walk, walk-item, walk-branch, judged, guarded-step}
+use Rattle.meaning.specs.Walk.{Walked, Steps, unless-broken, meet, run-action, walk, walk-item, walk-branch, judged, guarded-step}
 use Rattle.meaning.proofs.TestLaws.{by-test, clash, pick-true, pick-false}
 use Rattle.reading.specs.Listed.{listed, holds-as}
 use Rattle.reading.specs.declared.marks.Test.the-variants.{Known}
@@ -30,7 +30,7 @@ use Rattle.finding.proofs.PlanHere.{count-zero, count-some, some-item, place-is
 use Rattle.steps.specs.Held.{table-in, plan-in, request-in}
 use Rattle.steps.specs.AtHand.{At-hand}
 use Rattle.steps.specs.Rests.{rest-at, after-first, span, onward, Position, Branches-laid, Inside-laid, Item-laid}
-use Rattle.steps.specs.Steps.{step-in, walk-from, walk-after, Followed, Into, going-on, Chosen}
+use Rattle.steps.specs.Steps.{step-in, walk-from, walk-after, met-from, Followed, Into, going-on, Chosen}
 use Rattle.steps.proofs.HandLaws.{few-items}
 use Rattle.steps.proofs.RestLaws.{rest-past}
 use Rattle.steps.proofs.Laid.{item-laid}
@@ -331,3 +331,6 @@ module _ (s t : List ℕ) (here : At-hand s t) where
 pub followed-walks : (s t : List ℕ) (i r : ℕ) → Followed s t i r → (marks : State) → walk-after s t i marks ≡ walk-from s t r marks
 unfolding walk-from walk-after
 followed-walks s t i r follows marks = rw (follows .rest)
+
+pub followed-met : (s t : List ℕ) (i r : ℕ) → Followed s t i r → (marks : State) → meet (step-in s t) (walk-after s t i) marks ≡ met-from s t r marks
+followed-met s t i r follows marks = ap (unless-broken (step-in s t .lacks marks) marks) (followed-walks s t i r follows marks)
