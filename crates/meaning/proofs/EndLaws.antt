@@ -143,7 +143,7 @@ module _ {S : Type 0} where
         later (inl w) = inl (w .0, w .1, w .2, inr (w .3), w .4)
         later (inr w) = inr (w .0, inr (w .1), w .2)
 
-    stops-on : (xs : List (Path S)) (n p : ℕ) (u : Concerned S) → Ends xs (stops n p u) → Ends (go-on xs more) (stops n p u)
+    pub stops-on : (xs : List (Path S)) (n p : ℕ) (u : Concerned S) → Ends xs (stops n p u) → Ends (go-on xs more) (stops n p u)
     unfolding go-on goes-on
     stops-on [] n p u h = absurd h
     stops-on (x ∷ xs) n p u (inl q) = ends-left (goes-on (x .ran) (x .ending) more) (go-on xs more) (stops n p u) (subst (λ (g : Ending S). Ends (goes-on (x .ran) g more) (stops n p u)) q (inl refl))

@@ -74,6 +74,11 @@ module _ (gs : List Entry) (miss : State → Found) (xs : List (Path State)) whe
   not-spent (missed p u) stuck q = omega (arith, q)
   not-spent (stopped m p u) stuck q = ⊎-elim (λ is. omega (arith, q, is)) (λ is. let is-43 = is .0 in omega (arith, q, is-43)) (stuck .2)
 
+  the-other : (e : End State) → Stuck-guarded gs e → (answered e ≡ Limits.guard-broken → ⊥) → (answered e ≡ Limits.not-executable → ⊥) → (answered e ≡ Limits.verified → ⊥) → answered e ≡ Limits.goal-missed
+  the-other fine stuck b s v = absurd (v refl)
+  the-other (missed p u) stuck b s v = refl
+  the-other (stopped m p u) stuck b s v = absurd (⊎-elim s (λ is. b (is .0)) (stuck .2))
+
 -- GUARDS. Where a state lacks one, it is the first that is not true there.
 first-lacked : (u : State) (es : List Entry) (p : ℕ) → first-missed (known u) es ≡ at p
     → First (λ (x : Entry). true-in (pair-of u) (x .value) ≡ true) (λ x. (true-in (pair-of u) (x .value) ≡ false) × (x .place ≡ p)) es
@@ -84,12 +89,12 @@ first-lacked u (x ∷ es) p q =
 
 -- A SETTLED GUARDED REQUEST, with a lent state of its length.
 module _ (lim : Limits) (b lent : List ℕ) (budget : ℕ) (g : Guarded-request) (e : ℕ) (lent-length : length lent ≡ lim .state) (past : settled-guarded lim b ≡ got g e) where
-  abbrev walk-end : End State
+  abbrev pub walk-end : End State
   walk-end = walk-of lim g .end
 
-  judged-by-walk : judge-guarded lim b lent budget ≡ within lent budget (walk-of lim g)
+  pub guarded-by-walk : judge-guarded lim b lent budget ≡ within lent budget (walk-of lim g)
   unfolding judge-guarded guarded-settled
-  judged-by-walk = pick-true _ _ _ (eq-eqb _ _ lent-length) ∙ rw past
+  guarded-by-walk = pick-true _ _ _ (eq-eqb _ _ lent-length) ∙ rw past
 
   along : walk-of lim g ≡ walked-along (missed-in (g .request)) (met-paths lim g)
   unfolding walk-of
@@ -97,17 +102,17 @@ module _ (lim : Limits) (b lent : List ℕ) (budget : ℕ) (g : Guarded-request)
 
   -- The judgement is what the list of paths says: the answer's count, place and state are those of the walk along it.
   pub in-guarded-order : judge-guarded lim b lent budget ≡ within lent budget (walked-along (missed-in (g .request)) (met-paths lim g))
-  in-guarded-order = judged-by-walk ∙ ap (within lent budget) along
+  in-guarded-order = guarded-by-walk ∙ ap (within lent budget) along
 
   pub guarded-says : Says (missed-in (g .request)) (met-paths lim g) walk-end
   guarded-says = subst (λ (w : Walked State). Says (missed-in (g .request)) (met-paths lim g) (w .end)) (sym along) (end-says (missed-in (g .request)) (met-paths lim g))
 
-  end-stuck : Stuck-guarded (g .guards) walk-end
+  pub end-stuck : Stuck-guarded (g .guards) walk-end
   unfolding walk-of
   end-stuck = guarded-stuck (g .guards) (g .request) (first-state lim (g .request .table))
 
   number-is : number lim b lent budget ≡ pick (ltb budget (count lim g)) (λ _. Limits.budget-spent) (λ _. answered walk-end)
-  number-is = ap (λ (j : Judgement). j .answer .number) judged-by-walk ∙ within-number lent budget (walk-of lim g)
+  number-is = ap (λ (j : Judgement). j .answer .number) guarded-by-walk ∙ within-number lent budget (walk-of lim g)
 
   -- The budget is spent exactly where the walk counts more.
   pub guarded-spent-exactly : (number lim b lent budget ≡ Limits.budget-spent) ↔ (budget < count lim g)
@@ -150,10 +155,17 @@ module _ (lim : Limits) (b lent : List ℕ) (budget : ℕ) (g : Guarded-request)
       λ w. within-budget ∙ says-fine (g .guards) (missed-in (g .request)) (met-paths lim g) walk-end guarded-says (w .0) (w .1),
     )
 
+    -- It is a goal missed where it is none of the other three.
+    pub missed-otherwise : (number lim b lent budget ≡ Limits.guard-broken → ⊥) → (number lim b lent budget ≡ Limits.not-executable → ⊥) → (number lim b lent budget ≡ Limits.verified → ⊥)
+        → number lim b lent budget ≡ Limits.goal-missed
+    missed-otherwise not-43 not-2 not-0 =
+        within-budget
+        ∙ the-other (g .guards) (missed-in (g .request)) (met-paths lim g) walk-end end-stuck (λ q. not-43 (within-budget ∙ q)) (λ q. not-2 (within-budget ∙ q)) (λ q. not-0 (within-budget ∙ q))
+
   -- Where the answer is 43, its place and the state left are those of the first stop, and the guard at the place is the first that the state lacks.
   pub broken-there : number lim b lent budget ≡ Limits.guard-broken → Broken-at (g .guards) (met-paths lim g) (judge-guarded lim b lent budget .answer .place) (judge-guarded lim b lent budget .state)
   unfolding within ended reported written-over
-  broken-there = subst Says-broken (sym judged-by-walk) (pick-has Says-broken _ _ _ (λ _ q. absurd (omega (arith, q))) (λ _. by-end walk-end guarded-says end-stuck))
+  broken-there = subst Says-broken (sym guarded-by-walk) (pick-has Says-broken _ _ _ (λ _ q. absurd (omega (arith, q))) (λ _. by-end walk-end guarded-says end-stuck))
     where
       Says-broken : Judgement → Type 0
       Says-broken j = j .answer .number ≡ Limits.guard-broken → Broken-at (g .guards) (met-paths lim g) (j .answer .place) (j .state)

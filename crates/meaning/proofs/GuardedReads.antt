@@ -98,10 +98,10 @@ module _ (lim : Limits) (b : List ℕ) (g : Guarded-request) (e : ℕ) (settles 
       let request = kept-of b b 0 (omega arith) here (parts .table-end) _ _ (request-kept b b 0 (omega arith) here lim (parts .table) (parts .table-end)) (g .request) (parts .request-end) (parts .request-read) in
       (request .0, request .1 (table .1 (omega arith)))
 
-  own-length : length own ≡ parts .request-end
+  pub own-length : length own ≡ parts .request-end
   own-length = length-take-le (parts .request-end) b (own-within .1)
 
-  own-same : (i : ℕ) → i < parts .request-end → getD own i 0 ≡ getD b i 0
+  pub own-same : (i : ℕ) → i < parts .request-end → getD own i 0 ≡ getD b i 0
   own-same i less = getD-take (parts .request-end) b i 0 less
 
   own-room : parts .request-end ≤ length own

@@ -58,10 +58,13 @@ pub mod FollowsExact
 pub mod CoverLaws
 pub mod Exact
 pub mod GuardedExact
+pub mod GuardedMet
 pub mod AskingLaws
 pub mod ItemBytes
 pub mod ReportLaws
+pub mod GuardedReports
 pub mod ReportedLine
+pub mod GuardedLine
 pub mod Passed
 pub mod AcceptedExactly
 pub mod LayoutLaws

@@ -65,7 +65,7 @@ module _ (r : Request) (u : State) where
   goals-met = all-in (pair-of u) (known u) goal goal-met goal-at (r .goals)
 
   -- Where the walk misses nothing, all is met.
-  nothing-missed : missed-in r u ≡ nowhere → All-met r (pair-of u)
+  pub nothing-missed : missed-in r u ≡ nowhere → All-met r (pair-of u)
   unfolding asked-by
   nothing-missed q a h =
       let w = met r u .0 q in
@@ -73,7 +73,7 @@ module _ (r : Request) (u : State) where
       (has-split (map goal (r .goals)) (map whether (r .whether)) a h)
 
   -- Where it misses an entry, that is the first not met.
-  entry-missed : (p : ℕ) → missed-in r u ≡ at p → First (λ a. met-in (pair-of u) a ≡ true) (λ a. (met-in (pair-of u) a ≡ false) × (asked-at a ≡ p)) (asked-by r)
+  pub entry-missed : (p : ℕ) → missed-in r u ≡ at p → First (λ a. met-in (pair-of u) a ≡ true) (λ a. (met-in (pair-of u) a ≡ false) × (asked-at a ≡ p)) (asked-by r)
   unfolding missed-in or-else asked-by
   entry-missed p q =
       by-found (first-missed (known u) (r .goals))
@@ -91,7 +91,7 @@ entailed-met r σ δ initial led k a h =
     (has-split (map goal (r .goals)) (map whether (r .whether)) a h)
 
 -- ITEMS. How a path stops at an item that can't be run.
-abbrev sticks : ℕ → State → Ending State
+abbrev pub sticks : ℕ → State → Ending State
 sticks p u = stops Limits.not-executable p (in-state u)
 
 -- What an action leads to are arrivals.
@@ -102,14 +102,14 @@ arrivals-go-on (fork o q) p u h = ⊎-elim (arrivals-go-on o p u) (arrivals-go-o
 
 module _ (t : Table) where
   -- One of the items stands at the place and can't be run in the state.
-  abbrev Stop : (Item ℕ → Type 0) → ℕ → State → Type 0
+  abbrev pub Stop : (Item ℕ → Type 0) → ℕ → State → Type 0
   Stop Items p u = (i : Item ℕ) × Items i × (item-place i ≡ p) × Not-run t i (pair-of u)
 
   mutual
     unfolding paths paths-step table-step table-does item-place
 
     -- A path stops at an item of the plan that can't be run.
-    stops-in : (c : Sequence ℕ) (s : State) (p : ℕ) (u : State) → Ends (paths (table-step t) c s) (sticks p u) → Stop (Item-in c) p u
+    pub stops-in : (c : Sequence ℕ) (s : State) (p : ℕ) (u : State) → Ends (paths (table-step t) c s) (sticks p u) → Stop (Item-in c) p u
     stops-in done s p u h = absurd (arrives≢stops (sym (ends-one h)))
     stops-in (item i rest) s p u h =
         ⊎-elim

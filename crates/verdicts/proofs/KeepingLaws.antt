@@ -6,7 +6,7 @@ use mathlib.Core.List.{List, [], _∷_}
 use mathlib.Core.Logic.{inl, inr}
 use Rattle.meaning.specs.Tests.{Has}
 use Rattle.meaning.specs.Literals.{says-true, says-false}
-use Rattle.meaning.specs.Requests.{Table, Request}
+use Rattle.meaning.specs.Requests.{Table, Entry, Request}
 use Rattle.meaning.specs.States.{State, told, state-after, unknown-sensed, readings, outcome}
 use Rattle.meaning.specs.Walk.{Concerned, no-state, in-state, End, fine, missed, stopped, Walked, walked-guarded}
 use Rattle.meaning.proofs.PickLaws.{pick-has}

@@ -14,7 +14,7 @@ use borrow.Author.Tests.{eq-eqb, ne-eqb, lt-ltb, le-ltb}
 use Rattle.meaning.specs.declared.Answer.{Answer}
 use Rattle.meaning.specs.Limits
 use Rattle.meaning.specs.Limits.{format}
-use Rattle.meaning.specs.Requests.{Table, Request}
+use Rattle.meaning.specs.Requests.{Table, Entry, Request}
 use Rattle.meaning.specs.Reading.{Got, got, fault, next, Met, repeated, count-at, table-at, request-at}
 use Rattle.meaning.specs.Refusals
 use Rattle.meaning.specs.Refusals.{nowhere, at, contradiction-in, overlap-in, refuse}
@@ -461,7 +461,7 @@ module _ (s t row : List ℕ) (budget plans start k p : ℕ) (answers : Answerin
       pub answering-next : (left : List ℕ) → left ≡ with-answer row k a → Answering s u left budget plans start (k + 1) e
       unfolding after-plan
       answering-next left written = record {
-        here = subst (Table-here s) (sym (y .2)) (table-stays s t (answers .here) p (y .0) e (y .1));
+        here = subst (Table-here s) (sym (y .2)) (table-stays s t (answers .here) 0 p (y .0) e (y .1));
         few = omega arith;
         inside = plan-inside format s (table-in s) budget (table-below format s (table-in s) (answers .here .table-end) (answers .here .table)) p (answers .inside) (y .0) e (y .1);
         sized = rw written (put-long row k a ∙ answers .sized);
