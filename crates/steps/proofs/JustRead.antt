@@ -17,9 +17,9 @@ use Rattle.meaning.specs.Reading.{got, literals, bound-of, plan-at, placed, req
 use Rattle.meaning.specs.Guards.{Guarded-request, read-guarded}
 use Rattle.meaning.specs.Refusals.{nowhere, contradiction-in}
 use Rattle.meaning.specs.Lines.{knowledge-of, sensing, senses}
-use Rattle.meaning.proofs.TestLaws.{clash, pick-true, same-test, some-has, has-some, some-those}
+use Rattle.meaning.proofs.TestLaws.{clash, pick-true, pick-false, same-test, some-has, has-some, some-those}
 use Rattle.reading.specs.Bits.{bit-of}
-use Rattle.reading.specs.Noted.{none-yet, count-slot, section-noted, table-noted, effect-lines, sensed-from, sensed-to, plan-slot, items-slot, goals-slot, guards-slot, word-bits, pair-slot, pair-there, slots, effects-slot, executability-slot, knowledge-slot}
+use Rattle.reading.specs.Noted.{none-yet, count-slot, section-noted, table-noted, sensed-from, sensed-to, plan-slot, items-slot, goals-slot, guards-slot, word-bits, pair-slot, pair-there, slots, effects-slot, executability-slot, knowledge-slot}
 use Rattle.reading.specs.Planned.{items-of, plan-noted}
 use Rattle.reading.specs.Requested.{goals-place, plan-place, places-noted, tail-with, tail-noted, request-noted, guards-place, guarded-noted}
 use Rattle.reading.specs.Listed.{listed, List-here}
@@ -247,10 +247,10 @@ module _ (s : List ℕ) (bytes : (i : ℕ) → getD s i 0 < 256) (t : List ℕ) 
       ap (request-in s) (read-noted s bytes t read)
       ∙ plan-request s before (read-comes s bytes t read) (read .guards) (read-parts s bytes t read .place) (read .request) (read .end) (read-tail s bytes t read)
 
-  pub guards-read : guards-at t ≡ read .guards
+  guards-read : guards-in s t ≡ pick (eqb (read .guards) 0) (λ _. []) (λ _. placed (read .guards + 1) (listed s (read .guards)))
   guards-read =
-      ap guards-at (read-noted s bytes t read)
-      ∙ guards-slot-is s before (read-comes s bytes t read) (read .guards) (read-parts s bytes t read .place) (read .request) (read .end) (read-tail s bytes t read)
+      ap (guards-in s) (read-noted s bytes t read)
+      ∙ plan-guards s before (read-comes s bytes t read) (read .guards) (read-parts s bytes t read .place) (read .request) (read .end) (read-tail s bytes t read)
 
 -- Read WHOLE it has no guards,
 module _ (s : List ℕ) (bytes : (i : ℕ) → getD s i 0 < 256) (t : List ℕ) (x : Request) (e : ℕ) (reads : read-request format s ≡ got x e) (noted : t ≡ request-noted x blank) where
@@ -261,8 +261,7 @@ module _ (s : List ℕ) (bytes : (i : ℕ) → getD s i 0 < 256) (t : List ℕ) 
   plain-request = request-read s bytes t (plain-here s t x e reads noted)
 
   pub plain-guards : guards-in s t ≡ []
-  unfolding guards-in pick
-  plain-guards = rw (guards-read s bytes t (plain-here s t x e reads noted)) refl
+  plain-guards = guards-read s bytes t (plain-here s t x e reads noted) ∙ pick-true (eqb 0 0) _ _ (eq-eqb 0 0 refl)
 
 -- or those that were read with it.
 module _ (s : List ℕ) (bytes : (i : ℕ) → getD s i 0 < 256) (t : List ℕ) (g : Guarded-request) (e : ℕ) (reads : read-guarded format s ≡ got g e) (noted : t ≡ guarded-noted g blank) where
@@ -288,6 +287,9 @@ module _ (s : List ℕ) (bytes : (i : ℕ) → getD s i 0 < 256) (t : List ℕ) 
   guarded-request = request-read s bytes t (guarded-here s t g e reads noted)
 
   pub guarded-guards : guards-in s t ≡ g .guards
-  unfolding guards-in guards-place pick
+  unfolding guards-place
   guarded-guards =
-      rw (guards-read s bytes t (guarded-here s t g e reads noted), ne-eqb place 0 (λ is. omega arith), guards-here .0) (sym (with-guards .guards-are))
+      guards-read s bytes t (guarded-here s t g e reads noted)
+      ∙ pick-false (eqb place 0) _ _ (ne-eqb place 0 (λ is. omega arith))
+      ∙ ap (placed (place + 1)) (guards-here .0)
+      ∙ sym (with-guards .guards-are)
