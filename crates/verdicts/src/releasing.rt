@@ -32,7 +32,7 @@ use refusing::refusal_18::overlap;
 use refusing::settled::table_refused;
 
 // A row has four numbers for each plan.
-const ROW_NUMBERS: usize = 4;
+pub const ROW_NUMBERS: usize = 4;
 
 // An answer that counts nothing.
 fn uncounted(number: u8, input: u8, place: usize) -> Answer
