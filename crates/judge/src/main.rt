@@ -17,13 +17,14 @@ use programs::read_all;
 use programs::stack_is_enough;
 use verdicts::answers;
 
-// The last of so many arguments is this option.
-fn last_is(count: usize, option: &[u8]) -> bool {
-    if count <= 1 {
+// The argument that is so many from the end, counted from 1, is this option.
+fn option_asked(from_end: usize, option: &[u8]) -> bool {
+    let count = os::arg_count();
+    if count <= from_end {
         return false;
     }
     let mut text = io::buffer();
-    let n = os::arg(count - 1, &mut text);
+    let n = os::arg(count - from_end, &mut text);
     same_part(&text[..n], option)
 }
 
@@ -79,13 +80,19 @@ fn judge_input(budget: u32, guarded: bool, line: bool) {
 }
 
 fn main() {
-    let count = os::arg_count();
-    let line = last_is(count, b"--line");
-    let others = if line { count - 1 } else { count };
-    let guarded = last_is(others, b"--guarded");
+    let line = option_asked(1, b"--line");
+    let guarded = if line {
+        option_asked(2, b"--guarded")
+    } else {
+        option_asked(1, b"--guarded")
+    };
     // The program's name, and the options.
-    let options = if line { 1 } else { 0 } + if guarded { 1 } else { 0 };
-    match budget_asked(1 + options) {
+    let words = if line {
+        if guarded { 3 } else { 2 }
+    } else {
+        if guarded { 2 } else { 1 }
+    };
+    match budget_asked(words) {
         Asked::Number(budget) => judge_input(budget, guarded, line),
         Asked::Nothing => {
             io::write_all(
