@@ -39,13 +39,25 @@ pub fn independent(call: &Call) -> Left {
     Left { answer, lent, line: None }
 }
 
-/// What both leave, or how they differ. Four calls are made: the guarded one, the walk call on the same bytes, and both without guards.
+/// What both leave, or how they differ. Four calls are made, each both ways: the guarded one, the walk call on the same bytes, and both without
+/// guards.
 pub fn agreed(rng: &mut Rng, call: &Call) -> Result<Left, String> {
-    let (one, _) = timed(rng, call)?;
-    expect(&one, &independent(call), "the independent program")?;
-    let (plain, _) = calls::timed(rng, call).map_err(|why| format!("the walk call: {why}"))?;
+    let one = guarded_agreed(rng, call)?;
+    let plain = walk_agreed(rng, call).map_err(|why| format!("the walk call: {why}"))?;
     beside_walk(&one, &plain, call.request.len())?;
     without_guards(rng, call, &plain)?;
+    Ok(one)
+}
+
+fn guarded_agreed(rng: &mut Rng, call: &Call) -> Result<Left, String> {
+    let (one, _) = timed(rng, call)?;
+    expect(&one, &independent(call), "the independent program")?;
+    Ok(one)
+}
+
+fn walk_agreed(rng: &mut Rng, call: &Call) -> Result<Left, String> {
+    let (one, _) = calls::timed(rng, call)?;
+    expect(&one, &calls::independent(call), "the independent program")?;
     Ok(one)
 }
 
@@ -76,9 +88,9 @@ fn beside_walk(one: &Left, plain: &Left, length: usize) -> Result<(), String> {
 fn without_guards(rng: &mut Rng, call: &Call, plain: &Left) -> Result<(), String> {
     let eight = if plain.answer[0] == 20 { plain.answer[2] as usize } else { call.request.len() };
     let mut call = Call { request: call.request[..eight].to_vec(), lent: call.lent.clone(), budget: call.budget.min(MOST) };
-    let (walked, _) = calls::timed(rng, &call).map_err(|why| format!("the walk call on eight sections: {why}"))?;
+    let walked = walk_agreed(rng, &call).map_err(|why| format!("the walk call on eight sections: {why}"))?;
     call.request.push(0);
-    let (left, _) = timed(rng, &call).map_err(|why| format!("no guards: {why}"))?;
+    let left = guarded_agreed(rng, &call).map_err(|why| format!("no guards: {why}"))?;
     match matches!(walked.answer[0], 10 | 11 | 20) || call.request.len() > REQUEST_LIMIT {
         true => Ok(()),
         false => expect(&left, &walked, "the walk call without guards"),
