@@ -15,6 +15,7 @@ mod fence;
 mod generated;
 mod guarded;
 mod guarded_cases;
+mod guarded_hostile;
 mod hostile;
 mod largest;
 mod release_cases;
