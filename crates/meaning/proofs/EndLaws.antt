@@ -183,6 +183,16 @@ module _ {S : Type 0} where
       by-ending (arrives u) q (missed p s) none = none
       by-ending (stops n p s) q w stop = first-here (sym q)
 
+  -- The first path that stops is the walk's stop.
+  pub first-stop-is : (xs : List (Path S)) (n p : ℕ) (u : Concerned S) → Stops-first xs n p u → first-stop xs ≡ stopped n p u
+  unfolding first-stop stop-of
+  first-stop-is xs n p u f = ap first-stop (f .split) ∙ through (f .before) (f .otherwise)
+    where
+      through : (before : List (Path S)) → ((x : Path S) → Has before x → (s : S) × (x .ending ≡ arrives s)) → first-stop (before ++ (f .here ∷ f .after)) ≡ stopped n p u
+      through [] others = ap (λ (e : Ending S). stop-of e (first-stop (f .after))) (f .so)
+      through (x ∷ before) others =
+          ap (λ (e : Ending S). stop-of e (first-stop (before ++ (f .here ∷ f .after)))) (others x (inl refl) .1) ∙ through before (λ y h. others y (inr h))
+
 module _ {S : Type 0} (miss : S → Found) where
   -- The first path that misses.
   abbrev pub Misses-first : List (Path S) → ℕ → S → Type 0

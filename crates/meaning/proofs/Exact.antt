@@ -43,7 +43,7 @@ answered fine = Limits.verified
 answered (missed p s) = Limits.goal-missed
 answered (stopped n p u) = n
 
-within-number : (lent : List ℕ) (budget : ℕ) (w : Walked State) → within lent budget w .answer .number ≡ pick (ltb budget (w .count)) (λ _. Limits.budget-spent) (λ _. answered (w .end))
+pub within-number : (lent : List ℕ) (budget : ℕ) (w : Walked State) → within lent budget w .answer .number ≡ pick (ltb budget (w .count)) (λ _. Limits.budget-spent) (λ _. answered (w .end))
 unfolding within ended reported
 within-number lent budget w =
     pick-map (λ (j : Judgement). j .answer .number) (ltb budget (w .count)) _ _

@@ -1,6 +1,7 @@
 pub mod Compute
 pub mod Cases
 pub mod LineCases
+pub mod GuardedCases
 pub mod DerivationCases
 pub mod WhetherCases
 pub mod ReleaseCases
@@ -26,6 +27,7 @@ pub mod KeptEnds
 pub mod PlaceLaws
 pub mod PartLaws
 pub mod AnswerLaws
+pub mod GuardedAnswers
 pub mod VerifiedLaws
 pub mod PathLaws
 pub mod RangeLaws
@@ -38,6 +40,8 @@ pub mod PlacelessLaws
 pub mod MovedLines
 pub mod ShiftedReads
 pub mod KeptReads
+pub mod GuardedReads
+pub mod GuardedSound
 pub mod MovedWalk
 pub mod PairLaws
 pub mod ToldLaws
@@ -53,6 +57,7 @@ pub mod ReadLines
 pub mod FollowsExact
 pub mod CoverLaws
 pub mod Exact
+pub mod GuardedExact
 pub mod AskingLaws
 pub mod ItemBytes
 pub mod ReportLaws
@@ -77,6 +82,7 @@ pub mod PartReads
 pub mod PartsAlike
 pub mod MoreFacts
 pub mod ListReads
+pub mod GuardedEmpty
 pub mod CutReads
 pub mod FewerGoals
 pub mod JoinedWalk

@@ -258,6 +258,9 @@ module _ (miss : State → Found) where
       by-ending ran (stops n p u) = same-walk (omega arith) refl
 
   -- The walk is what its list of paths says.
+  pub walk-along : {L : Type 0} (step : Steps State L) (p : Sequence L) (s : State) → walk step p (judging miss) s ≡ walked-along miss (paths step p s)
+  walk-along step p s = walk-each-path step p (judging miss) s ∙ judged-along (paths step p s)
+
   -- And from a state that is met.
   pub met-along : {L : Type 0} (step : Steps State L) (p : Sequence L) (s : State) → meet step (walk step p (judging miss)) s ≡ walked-along miss (paths-met step p s)
   unfolding paths-met each-reading
@@ -270,9 +273,6 @@ module _ (miss : State → Found) where
       met-goes-on =
           sym (each-met (step .lacks) (λ u. each-path (judging miss) (paths step p u)) (single s))
           ∙ sym (each-gone-on (judging miss) (paths step p) (paths-inhabited step p) (meetings (step .lacks) (single s)))
-
-  pub walk-along : {L : Type 0} (step : Steps State L) (p : Sequence L) (s : State) → walk step p (judging miss) s ≡ walked-along miss (paths step p s)
-  walk-along step p s = walk-each-path step p (judging miss) s ∙ judged-along (paths step p s)
 
 -- The walk of a request's plan is what the list of the plan's paths says.
 pub walked-in-order : (r : Request) (s : State) → walked r s ≡ walked-along (missed-in r) (paths (table-step (r .table)) (r .plan) s)

@@ -1,5 +1,5 @@
--- The proved cases of the walk call, without the line and with it, of the derivation call, of the whether call and of the release call, one statement
--- over one list. Its parts were computed where they are. Assumes nothing.
+-- The proved cases of the walk call, without the line and with it, of the guarded call, of the derivation call, of the whether call and of the release
+-- call, one statement over one list. Its parts were computed where they are. Assumes nothing.
 use Prim.Native.Nat.{ℕ}
 use mathlib.Core.Path.{_≡_, sym, _∙_, ap, ap₂}
 use mathlib.Core.List.{List, _++_, map, map-map, map-append}
@@ -8,12 +8,14 @@ use Rattle.meaning.specs.declared.Layout.{Layout}
 use Rattle.meaning.specs.Limits.{format}
 use Rattle.meaning.specs.Judging.{Judgement, judge}
 use Rattle.meaning.specs.Asking.{line}
+use Rattle.meaning.specs.Guards.{judge-guarded, line-guarded}
 use Rattle.meaning.specs.Derivations.{check}
 use Rattle.meaning.specs.Releases.{Released, release}
 use Rattle.meaning.proofs.TestLaws.{map-same, same-map}
 use Rattle.meaning.proofs.Cases
 use Rattle.meaning.proofs.Cases.{cases, cases-hold}
 use Rattle.meaning.proofs.LineCases.{LineCase, line-cases, line-cases-hold, lines-hold}
+use Rattle.meaning.proofs.GuardedCases.{guarded-cases, guarded-cases-hold, guarded-lines-hold}
 use Rattle.meaning.proofs.DerivationCases
 use Rattle.meaning.proofs.DerivationCases.{derivations, derivations-hold}
 use Rattle.meaning.proofs.WhetherCases.{whethers, whethers-hold}
@@ -25,6 +27,7 @@ use Rattle.meaning.proofs.ReuseCases.{reuse-cases, reuse-cases-hold}
 pub data Call : Type 0 where
   judging : (request lent : List ℕ) → (budget : ℕ) → Call
   judging-line : (request lent : List ℕ) → (budget : ℕ) → Call
+  guarding-line : (request lent : List ℕ) → (budget : ℕ) → Call
   checking : Layout → (request derivation : List ℕ) → Call
   releasing : (file lent : List ℕ) → (budget : ℕ) → Call
 
@@ -37,6 +40,7 @@ pub data Given : Type 0 where
 abbrev pub outcome-of : Call → Given
 outcome-of (judging request lent budget) = judged (judge format request lent budget)
 outcome-of (judging-line request lent budget) = judged-line (judge format request lent budget) (line format request lent budget)
+outcome-of (guarding-line request lent budget) = judged-line (judge-guarded format request lent budget) (line-guarded format request lent budget)
 outcome-of (checking layout request derivation) = answered (check format layout request derivation)
 outcome-of (releasing file lent budget) = released (release format file lent budget)
 
@@ -50,6 +54,9 @@ judging-row c = record { call = judging (c .request) (c .lent) (c .budget); give
 abbrev line-row : LineCase → Row
 line-row c = record { call = judging-line (c .request) (c .lent) (c .budget); gives = judged-line (c .gives) (c .carries) }
 
+abbrev guarding-row : LineCase → Row
+guarding-row c = record { call = guarding-line (c .request) (c .lent) (c .budget); gives = judged-line (c .gives) (c .carries) }
+
 abbrev checking-row : DerivationCases.Case → Row
 checking-row c = record { call = checking (c .layout) (c .request) (c .derivation); gives = answered (c .gives) }
 
@@ -57,10 +64,10 @@ abbrev releasing-row : ReleaseCases.Case → Row
 releasing-row c = record { call = releasing (c .file) (c .lent) (c .budget); gives = released (c .gives) }
 
 -- Cases 1 to 13 and the rows beside them, those of the line, then case 14 and the rows beside it, then those of the closing layout, then those of
--- releases and those of reused verdicts.
+-- releases, those of reused verdicts and those of guarded plans.
 pub proved-cases : List Row
 proved-cases =
-    map judging-row cases ++ (map line-row line-cases ++ (map checking-row derivations ++ (map checking-row whethers ++ (map releasing-row releases ++ map judging-row reuse-cases))))
+    map judging-row cases ++ (map line-row line-cases ++ (map checking-row derivations ++ (map checking-row whethers ++ (map releasing-row releases ++ (map judging-row reuse-cases ++ map guarding-row guarded-cases)))))
 
 -- Each row's call gives what the row says.
 abbrev Hold : List Row → Type 0
@@ -77,19 +84,26 @@ judgings cs hold =
     ∙ map-map judged (λ (c : Cases.Case). c .gives) cs
     ∙ sym (map-map _ judging-row cs)
 
--- Two equations over one list are one over it.
-two-lists : (gives : LineCase → Judgement) (carries : LineCase → ℕ) (cs : List LineCase)
-    → map (λ (c : LineCase). judge format (c .request) (c .lent) (c .budget)) cs ≡ map gives cs → map (λ (c : LineCase). line format (c .request) (c .lent) (c .budget)) cs ≡ map carries cs
-    → map (λ (c : LineCase). judged-line (judge format (c .request) (c .lent) (c .budget)) (line format (c .request) (c .lent) (c .budget))) cs ≡ map (λ (c : LineCase). judged-line (gives c) (carries c)) cs
-two-lists gives carries cs h k =
-    same-map (λ (c : LineCase). judged-line (judge format (c .request) (c .lent) (c .budget)) (line format (c .request) (c .lent) (c .budget))) (λ (c : LineCase). judged-line (gives c) (carries c)) cs
-    (λ c has. ap₂ {C = Given} judged-line (map-same _ gives cs c h has) (map-same _ carries cs c k has))
+-- Two equations over one list are one over it, for a call that gives a judgement and its line.
+module _ (judges : (request lent : List ℕ) → (budget : ℕ) → Judgement) (tells : (request lent : List ℕ) → (budget : ℕ) → ℕ) where
+  two-lists : (gives : LineCase → Judgement) (carries : LineCase → ℕ) (cs : List LineCase)
+      → map (λ (c : LineCase). judges (c .request) (c .lent) (c .budget)) cs ≡ map gives cs → map (λ (c : LineCase). tells (c .request) (c .lent) (c .budget)) cs ≡ map carries cs
+      → map (λ (c : LineCase). judged-line (judges (c .request) (c .lent) (c .budget)) (tells (c .request) (c .lent) (c .budget))) cs ≡ map (λ (c : LineCase). judged-line (gives c) (carries c)) cs
+  two-lists gives carries cs h k =
+      same-map (λ (c : LineCase). judged-line (judges (c .request) (c .lent) (c .budget)) (tells (c .request) (c .lent) (c .budget))) (λ (c : LineCase). judged-line (gives c) (carries c)) cs
+      (λ c has. ap₂ {C = Given} judged-line (map-same _ gives cs c h has) (map-same _ carries cs c k has))
 
 linings : Hold (map line-row line-cases)
 linings =
     map-map _ line-row line-cases
-    ∙ two-lists (λ (c : LineCase). c .gives) (λ (c : LineCase). c .carries) line-cases line-cases-hold lines-hold
+    ∙ two-lists (judge format) (line format) (λ (c : LineCase). c .gives) (λ (c : LineCase). c .carries) line-cases line-cases-hold lines-hold
     ∙ sym (map-map _ line-row line-cases)
+
+guardings : Hold (map guarding-row guarded-cases)
+guardings =
+    map-map _ guarding-row guarded-cases
+    ∙ two-lists (judge-guarded format) (line-guarded format) (λ (c : LineCase). c .gives) (λ (c : LineCase). c .carries) guarded-cases guarded-cases-hold guarded-lines-hold
+    ∙ sym (map-map _ guarding-row guarded-cases)
 
 checkings : (cs : List DerivationCases.Case) → map (λ (c : DerivationCases.Case). check format (c .layout) (c .request) (c .derivation)) cs ≡ map (λ (c : DerivationCases.Case). c .gives) cs → Hold (map checking-row cs)
 checkings cs hold =
@@ -110,8 +124,9 @@ releasings =
 pub proved-cases-hold : map (λ (r : Row). outcome-of (r .call)) proved-cases ≡ map (λ (r : Row). r .gives) proved-cases
 unfolding proved-cases
 proved-cases-hold =
-    hold-both (map judging-row cases) (map line-row line-cases ++ (map checking-row derivations ++ (map checking-row whethers ++ (map releasing-row releases ++ map judging-row reuse-cases)))) (judgings cases cases-hold)
-    (hold-both (map line-row line-cases) (map checking-row derivations ++ (map checking-row whethers ++ (map releasing-row releases ++ map judging-row reuse-cases))) linings
-    (hold-both (map checking-row derivations) (map checking-row whethers ++ (map releasing-row releases ++ map judging-row reuse-cases)) (checkings derivations derivations-hold)
-    (hold-both (map checking-row whethers) (map releasing-row releases ++ map judging-row reuse-cases) (checkings whethers whethers-hold)
-    (hold-both (map releasing-row releases) (map judging-row reuse-cases) releasings (judgings reuse-cases reuse-cases-hold)))))
+    hold-both (map judging-row cases) (map line-row line-cases ++ (map checking-row derivations ++ (map checking-row whethers ++ (map releasing-row releases ++ (map judging-row reuse-cases ++ map guarding-row guarded-cases))))) (judgings cases cases-hold)
+    (hold-both (map line-row line-cases) (map checking-row derivations ++ (map checking-row whethers ++ (map releasing-row releases ++ (map judging-row reuse-cases ++ map guarding-row guarded-cases)))) linings
+    (hold-both (map checking-row derivations) (map checking-row whethers ++ (map releasing-row releases ++ (map judging-row reuse-cases ++ map guarding-row guarded-cases))) (checkings derivations derivations-hold)
+    (hold-both (map checking-row whethers) (map releasing-row releases ++ (map judging-row reuse-cases ++ map guarding-row guarded-cases)) (checkings whethers whethers-hold)
+    (hold-both (map releasing-row releases) (map judging-row reuse-cases ++ map guarding-row guarded-cases) releasings
+    (hold-both (map judging-row reuse-cases) (map guarding-row guarded-cases) (judgings reuse-cases reuse-cases-hold) guardings)))))

@@ -20,6 +20,7 @@ pub mod Approximation
 pub mod Paths
 pub mod Depth
 pub mod Reported
+pub mod GuardedReported
 pub mod SameLines
 pub mod Derivations
 pub mod Rules

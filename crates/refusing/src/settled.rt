@@ -8,7 +8,7 @@ ghost use Rattle.reading.specs.Noted.{noting, outcome};
 ghost use Rattle.reading.specs.Requested.{request-noted, guarded-noted};
 ghost use Rattle.finding.specs.ReadHere.{Read-here};
 ghost use Rattle.finding.specs.TablesHere.{blank, table-in, Table-here};
-ghost use Rattle.refusing.specs.Settled.{table-unmixed, table-settled, past-18};
+ghost use Rattle.refusing.specs.Settled.{table-unmixed, table-settled, past-18, past-all};
 use super::refusal_16::contradiction;
 use super::refusal_17::mixed;
 use super::refusal_18::overlap;
@@ -51,8 +51,8 @@ pub fn table_refused(s: &[u8], t: &Notes, e: usize) -> Passed
 
 // 18, of a request that was read up to e.
 fn plan_refused(s: &[u8], t: &Notes, e: usize) -> Passed
-    requires { ⌜ Read-here (now s) (now t) e ⌝ }
-    ensures { λ r. ⌜ r ≡ passed (past-18 (now (s .entry))) ⌝ }
+    requires { ⌜ Read-here (now s) (now t) ⌝ }
+    ensures { λ r. ⌜ r ≡ passed (past-18 (now (s .entry)) e) ⌝ }
 {
     let count = get(t, notes::ITEMS);
     match overlap(s, t, count) {
@@ -63,8 +63,8 @@ fn plan_refused(s: &[u8], t: &Notes, e: usize) -> Passed
 
 // 16 to 18, of a request that was read up to e. Its table ends where its plan starts.
 fn refused(s: &[u8], t: &Notes, e: usize) -> Passed
-    requires { ⌜ Read-here (now s) (now t) e ⌝ }
-    ensures { λ r. ⌜ r ≡ passed (settled format (now (s .entry))) ⌝ }
+    requires { ⌜ Read-here (now s) (now t) ⌝ }
+    ensures { λ r. ⌜ r ≡ passed (past-all (now (s .entry)) e) ⌝ }
 {
     let plan = get(t, notes::PLAN);
     match table_refused(s, t, plan) {

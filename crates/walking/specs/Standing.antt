@@ -73,7 +73,7 @@ pub record Held (before : List ℕ) (place : ℕ) (marks after : List ℕ) : Typ
   pub left : getD after 2 0 ≡ getD before 2 0
   pub marked : drop 3 after ≡ marks
 
--- A state is met, and this guard, if any, is found broken: then it stops the walk, and else nothing changes.
-pub record Passes (found : Found) (marks before : List ℕ) (passed : Bool) (after : List ℕ) : Type 0 where
-  pub on : passed ≡ true → (found ≡ nowhere) × (after ≡ before)
-  pub off : passed ≡ false → (p : ℕ) × (found ≡ at p) × (standing after ≡ so-far (getD before 2 0) (stopped Limits.guard-broken p (in-state marks)))
+-- A state is met, and this guard, if any, is found broken: that stops the walk, and else nothing changes.
+pub record Breaks (found : Found) (marks before : List ℕ) (broken : Bool) (after : List ℕ) : Type 0 where
+  pub stops : broken ≡ true → (p : ℕ) × (found ≡ at p) × (standing after ≡ so-far (getD before 2 0) (stopped Limits.guard-broken p (in-state marks)))
+  pub passes : broken ≡ false → (found ≡ nowhere) × (after ≡ before)

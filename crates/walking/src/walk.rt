@@ -2,13 +2,13 @@ ghost use mathlib.Core.Path.{_≡_};
 ghost use Prim.Native.Nat.{_<_};
 ghost use Rattle.meaning.specs.Limits.{format};
 ghost use Rattle.meaning.specs.Refusals.{nowhere};
-ghost use Rattle.meaning.specs.Walk.{meet, judged};
+ghost use Rattle.meaning.specs.Walk.{judged};
 ghost use Rattle.reading.specs.Planned.{items-of};
 ghost use Rattle.steps.specs.Held.{plan-in, request-in};
 ghost use Rattle.steps.specs.AtHand.{At-hand, Marked};
 ghost use Rattle.steps.specs.Rests.{Position};
 ghost use Rattle.steps.specs.Steps.{step-in, walk-from, met-from};
-ghost use Rattle.walking.specs.Standing.{add, standing, Going, Passes};
+ghost use Rattle.walking.specs.Standing.{add, standing, Going, Breaks};
 ghost use Rattle.walking.specs.Walks.{action-at, fork-from};
 use super::tally;
 use super::tally::Tally;
@@ -32,33 +32,29 @@ use steps::sensing::first_unknown;
 use steps::sensing::is_sensing;
 use steps::sensing::next_unknown;
 
-// A state that is met: whether it lacks no guard. A guard that it lacks stops the walk.
-fn passes(s: &[u8], t: &Notes, marks: &Marks, tally: &mut Tally) -> bool
+// A state that is met: whether it lacks a guard, which stops the walk.
+fn breaks(s: &[u8], t: &Notes, marks: &Marks, tally: &mut Tally) -> bool
     requires { ⌜ At-hand (now s) (now t) ⌝ }
     requires { ⌜ Marked (now marks) ⌝ }
     requires { ⌜ Going (now tally) ⌝ }
-    ensures { λ r. ⌜ Passes (step-in (now (s .entry)) (now (t .entry)) .lacks (now (marks .entry))) (now (marks .entry)) (now (tally .entry)) r (now (tally .exit)) ⌝ }
+    ensures { λ r. ⌜ Breaks (step-in (now (s .entry)) (now (t .entry)) .lacks (now (marks .entry))) (now (marks .entry)) (now (tally .entry)) r (now (tally .exit)) ⌝ }
 {
     match lacking(s, t, marks) {
         Found::At(p) => {
             note(tally, tally::BROKEN, p, marks);
-            false
+            true
         }
-        Found::Nowhere => true,
+        Found::Nowhere => false,
     }
 }
 
-// An end state is judged, if it lacks no guard.
+// An end state is judged.
 fn judge_end(s: &[u8], t: &Notes, marks: &Marks, tally: &mut Tally)
     requires { ⌜ At-hand (now s) (now t) ⌝ }
     requires { ⌜ Marked (now marks) ⌝ }
     requires { ⌜ Going (now tally) ⌝ }
-    ensures { λ _. ⌜ standing (now (tally .exit)) ≡ add (standing (now (tally .entry))) (meet (step-in (now (s .entry)) (now (t .entry))) (judged (request-in (now (s .entry)) (now (t .entry)))) (now (marks .entry))) ⌝ }
+    ensures { λ _. ⌜ standing (now (tally .exit)) ≡ add (standing (now (tally .entry))) (judged (request-in (now (s .entry)) (now (t .entry))) (now (marks .entry))) ⌝ }
 {
-    let passed = passes(s, t, marks, tally);
-    if !passed {
-        return;
-    }
     count_one(tally);
     if tally[0] == 0 {
         match missed(s, t, marks) {
@@ -84,8 +80,8 @@ pub fn walk(s: &[u8], t: &Notes, at: usize, marks: Marks, tally: &mut Tally)
     let mut i = at;
     let mut state = marks;
     while i < limits::ITEMS {
-        let passed = passes(s, t, &state, tally);
-        if !passed {
+        let broken = breaks(s, t, &state, tally);
+        if broken {
             return;
         }
         let slot = notes::ITEM_PLACE + i;
@@ -117,6 +113,10 @@ pub fn walk(s: &[u8], t: &Notes, at: usize, marks: Marks, tally: &mut Tally)
             return;
         }
         note(tally, tally::STUCK, p, &state);
+        return;
+    }
+    let broken = breaks(s, t, &state, tally);
+    if broken {
         return;
     }
     judge_end(s, t, &state, tally);

@@ -2,16 +2,10 @@
 #ifndef FRAME_H
 #define FRAME_H
 
-#include <stddef.h>
 #include <stdint.h>
 
 /* The exported calls. */
 enum { JUDGE, JUDGE_LINE, CHECK, CHECK_WHETHER, SHOW, RELEASE, PLANS, JUDGE_GUARDED, CALLS };
-
-/* The guarded call, and those of release files. */
-uint64_t glintstring_judge_guarded(const uint8_t *request, size_t request_length, uint8_t *state, size_t state_length, uint32_t budget);
-uint64_t glintstring_release(const uint8_t *file, size_t file_length, uint32_t *row, size_t row_length, uint32_t budget);
-uint32_t glintstring_plans(const uint8_t *file, size_t file_length);
 
 /* What a call takes. The bytes of its first input follow, which is the request or the release file, and then those of its second: the lent
    state, the derivation, or the lent row, of which each number has four bytes.
