@@ -77,11 +77,17 @@ pub fn timed(rng: &mut Rng, call: &Call) -> Result<(Left, Duration), String> {
 /// What answers walk calls in that form: the exported call, or one that stands in for it.
 pub type Judge = dyn Fn(&[u8], &mut [u8], u32) -> Packed;
 
-/// The same of any such call; in words also how the names of an answer differ from its numbers.
+/// The same of any such call.
 pub fn timed_by(rng: &mut Rng, call: &Call, judge: &Judge) -> Result<(Left, Duration), String> {
+    timed_and_named(rng, call, judge, glintstring::Answer::unpack)
+}
+
+/// A call between fences, whose answers have their names by `unpack`: what it leaves, and how long it took; in words what it changed that it may
+/// not, or in what the names of an answer differ from its numbers.
+pub fn timed_and_named(rng: &mut Rng, call: &Call, judge: &Judge, unpack: fn(Packed, &[u8]) -> glintstring::Answer) -> Result<(Left, Duration), String> {
     let (packed, lent, took) = fenced_by(rng, call, judge)?;
     let answer = numbers(packed);
-    let named = std::panic::catch_unwind(|| glintstring::Answer::unpack(packed, &lent)).map_err(|_| format!("{answer:?} is no answer"))?;
+    let named = std::panic::catch_unwind(|| unpack(packed, &lent)).map_err(|_| format!("{answer:?} is no answer"))?;
     let told = [named.number().into(), named.input().into(), named.place() as u64, named.count().into()];
     let wrote = named.state().is_none_or(|state| state.bytes() == lent[..]);
     if told != answer || !wrote {
@@ -90,8 +96,8 @@ pub fn timed_by(rng: &mut Rng, call: &Call, judge: &Judge) -> Result<(Left, Dura
     Ok((Left { answer, lent, line: None }, took))
 }
 
-/// A call between fences: its answer, the lent bytes afterwards and how long it took; in words what it changed that it may not.
-pub fn fenced_by(rng: &mut Rng, call: &Call, judge: &Judge) -> Result<(Packed, Vec<u8>, Duration), String> {
+/// Its answer, the lent bytes afterwards and how long it took.
+fn fenced_by(rng: &mut Rng, call: &Call, judge: &Judge) -> Result<(Packed, Vec<u8>, Duration), String> {
     let mut request = Fenced::new(rng, &call.request);
     let mut state = Fenced::new(rng, &call.lent);
     let (request_before, state_before) = (request.clone(), state.clone());

@@ -25,11 +25,6 @@ extern "C" {
     fn glintstring_plans(file: *const u8, file_length: usize) -> u32;
 }
 
-/// The guarded call.
-pub fn judge_guarded(request: &[u8], state: &mut [u8], budget: u32) -> glintstring::Packed {
-    glintstring::Packed(unsafe { glintstring_judge_guarded(request.as_ptr(), request.len(), state.as_mut_ptr(), state.len(), budget) })
-}
-
 /// The release call.
 pub fn release(file: &[u8], row: &mut [u32], budget: u32) -> u64 {
     unsafe { glintstring_release(file.as_ptr(), file.len(), row.as_mut_ptr(), row.len(), budget) }

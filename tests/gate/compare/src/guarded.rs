@@ -8,8 +8,7 @@ use oracle::guards::run::Tally;
 use oracle::reader::REQUEST_LIMIT;
 use oracle::rng::Rng;
 
-use crate::calls::{self, answer, expect, fenced_by, numbers, Call, Left};
-use crate::cases::judge_guarded;
+use crate::calls::{self, answer, expect, timed_and_named, Call, Left};
 use crate::crowded::crowded;
 use crate::generated::{change, cross};
 
@@ -21,14 +20,9 @@ const MOST: u32 = 20_000;
 const CALLS: u64 = 22;
 const FENCES: u64 = 23;
 
-/// The exported guarded call, between fences, and how long it took; in words what it changed that it may not.
+/// The exported guarded call, between fences, and how long it took.
 pub fn timed(rng: &mut Rng, call: &Call) -> Result<(Left, Duration), String> {
-    let (packed, lent, took) = fenced_by(rng, call, &judge_guarded)?;
-    let answer = numbers(packed);
-    if !matches!(answer[0], 1 | 2 | 43) && lent != call.lent {
-        return Err(format!("answer {answer:?} changed the lent state"));
-    }
-    Ok((Left { answer, lent, line: None }, took))
+    timed_and_named(rng, call, &glintstring::judge_guarded_packed, glintstring::Answer::unpack_guarded)
 }
 
 /// The independent program's.
