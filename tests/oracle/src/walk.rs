@@ -67,20 +67,20 @@ pub struct Met {
 
 /// Walks the plan of a settled request and stops once the count is above the budget.
 pub fn walk(request: &Request, budget: u32) -> Verdict {
-    unguarded(request, budget, &mut |_| {}, &mut |_| {})
+    unguarded::<false>(request, budget, |_| {}, |_| {})
 }
 
 /// Walks the plan of a settled guarded request in the same way, and stops also where a state is
 /// met that lacks a guard.
 pub fn walk_guarded(guarded: &Guarded, budget: u32) -> Result<Verdict, Broken> {
     let guards = (guarded.guards_place, &guarded.guards[..]);
-    walk_past(&guarded.request, guards, budget, &mut |_| {}, &mut |_| {})
+    walk_past::<true>(&guarded.request, guards, budget, |_| {}, |_| {})
 }
 
 /// The states that a walk without guards meets, in their order, as far as the budget lets it.
 pub fn met(request: &Request, budget: u32) -> Vec<Known> {
     let mut met = Vec::new();
-    unguarded(request, budget, &mut |_| {}, &mut |state| met.push(state));
+    unguarded::<true>(request, budget, |_| {}, |state| met.push(state));
     met
 }
 
@@ -88,40 +88,41 @@ pub fn met(request: &Request, budget: u32) -> Vec<Known> {
 /// before it has met them all.
 pub fn ends(request: &Request, budget: u32) -> Option<Vec<Known>> {
     let mut ends = Vec::new();
-    match unguarded(request, budget, &mut |state| ends.push(state), &mut |_| {}) {
+    match unguarded::<false>(request, budget, |state| ends.push(state), |_| {}) {
         Verdict::Verified { .. } | Verdict::Missed { .. } => Some(ends),
         Verdict::Stuck { .. } | Verdict::Over => None,
     }
 }
 
 /// The walk without guards, of which no state lacks one.
-fn unguarded(
+fn unguarded<const LOOKS: bool>(
     request: &Request,
     budget: u32,
-    at_end: &mut dyn FnMut(Known),
-    when_met: &mut dyn FnMut(Known),
+    at_end: impl FnMut(Known),
+    when_met: impl FnMut(Known),
 ) -> Verdict {
-    match walk_past(request, (0, &[]), budget, at_end, when_met) {
+    match walk_past::<LOOKS>(request, (0, &[]), budget, at_end, when_met) {
         Ok(verdict) => verdict,
         Err(_) => unreachable!("there is no guard to lack"),
     }
 }
 
 /// The walk, with the guards and where their count stands. It hands over each end state that it
-/// judges and each state that it meets.
-fn walk_past(
+/// judges and, where it looks at these, each state that it meets.
+fn walk_past<const LOOKS: bool>(
     request: &Request,
     (guards_place, guards): (usize, &[u8]),
     budget: u32,
-    at_end: &mut dyn FnMut(Known),
-    when_met: &mut dyn FnMut(Known),
+    at_end: impl FnMut(Known),
+    when_met: impl FnMut(Known),
 ) -> Result<Verdict, Broken> {
     let table = Table::new(request);
     let code = Code::new(&request.plan);
-    let mut walker = Walker {
+    let mut walker = Walker::<_, _, LOOKS> {
         request,
         guards_place,
         guards,
+        guarded: Known::of(guards),
         table: &table,
         code: &code,
         budget: u64::from(budget),
@@ -210,21 +211,26 @@ enum Halt {
     Broken(Broken),
 }
 
-struct Walker<'a> {
+/// One that looks at the states that it meets, for their guards, or one that doesn't.
+struct Walker<'a, AtEnd, WhenMet, const LOOKS: bool> {
     request: &'a Request,
     guards_place: usize,
     guards: &'a [u8],
+    /// All guards as one body.
+    guarded: Known,
     table: &'a Table,
     code: &'a Code,
     budget: u64,
     count: u64,
     missed: Option<(usize, Known)>,
     turns: Vec<Turn>,
-    at_end: &'a mut dyn FnMut(Known),
-    when_met: &'a mut dyn FnMut(Known),
+    at_end: AtEnd,
+    when_met: WhenMet,
 }
 
-impl Walker<'_> {
+impl<AtEnd: FnMut(Known), WhenMet: FnMut(Known), const LOOKS: bool>
+    Walker<'_, AtEnd, WhenMet, LOOKS>
+{
     fn walk(&mut self) -> Result<Verdict, Halt> {
         let state = Known::of(&self.request.facts);
         self.turns.push(Turn {
@@ -236,7 +242,7 @@ impl Walker<'_> {
         while let Some(turn) = self.turns.pop() {
             // The first state, or one that a reading leads to.
             let turn = self.fork(turn);
-            self.meet(turn)?;
+            self.meet(&turn)?;
             self.follow(turn)?;
         }
         Ok(match self.missed {
@@ -250,24 +256,32 @@ impl Walker<'_> {
     }
 
     /// Looks at a state that is met, before the next item is taken or the state is judged.
-    fn meet(&mut self, turn: Turn) -> Result<(), Halt> {
+    #[inline(always)]
+    fn meet(&mut self, turn: &Turn) -> Result<(), Halt> {
+        if !LOOKS {
+            return Ok(());
+        }
         (self.when_met)(turn.state);
-        let lacking = self
-            .guards
-            .iter()
-            .position(|&guard| !turn.state.holds(Known::of(&[guard])));
-        match lacking {
-            None => Ok(()),
-            Some(index) => Err(Halt::Broken(Broken {
-                place: self.guards_place + 1 + index,
-                count: self.count,
-                state: turn.state,
-                met: self.met(turn),
-            })),
+        match turn.state.holds(self.guarded) {
+            true => Ok(()),
+            false => Err(Halt::Broken(self.broken(turn))),
         }
     }
 
-    fn met(&self, turn: Turn) -> Met {
+    /// The first guard that a state lacks, which lacks some.
+    #[cold]
+    fn broken(&self, turn: &Turn) -> Broken {
+        let lacks = |&guard: &u8| !turn.state.holds(Known::of(&[guard]));
+        let index = self.guards.iter().position(lacks).expect("a guard");
+        Broken {
+            place: self.guards_place + 1 + index,
+            count: self.count,
+            state: turn.state,
+            met: self.met(turn),
+        }
+    }
+
+    fn met(&self, turn: &Turn) -> Met {
         let (at_end, before_stop) = match &self.code.nodes[turn.node] {
             Node::End => (true, false),
             Node::Run { action, .. } => (false, !self.table.runnable(*action, turn.state)),
@@ -294,7 +308,7 @@ impl Walker<'_> {
             turn.unread &= !bit;
             let mut other = turn;
             other.state.no |= bit;
-            other.later = true;
+            other.later = LOOKS;
             self.turns.push(other);
             turn.state.yes |= bit;
         }
@@ -331,7 +345,7 @@ impl Walker<'_> {
                     let senses = self.table.senses(*action);
                     if senses == 0 {
                         turn.state = self.table.step(*action, turn.state);
-                        self.meet(turn)?;
+                        self.meet(&turn)?;
                         continue;
                     }
                     turn.unread = senses & !turn.state.marked();
