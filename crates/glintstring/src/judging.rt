@@ -19,6 +19,9 @@ use refusing::settled::settle_guarded;
 use verdicts::answers;
 use verdicts::walked::walk_plan;
 
+// What a lent state is to have.
+const STATE_LENGTH: usize = limits::FLUENTS;
+
 // The walk of a settled request, and the line of the action that stopped it.
 fn walk_with_line(request: &[u8], t: &Notes, state: &mut [u8], budget: u32) -> Judged
     requires { ⌜ At-hand (now request) (now t) ⌝ }
@@ -67,7 +70,7 @@ pub fn judge(request: &[u8], state: &mut [u8], budget: u32) -> Judged
     ensures given { λ r. ⌜ record { answer = r .answer; state = now (state .exit) } ≡ judge format (now (request .entry)) (now (state .entry)) budget ⌝ }
     ensures line { λ r. ⌜ r .line ≡ line format (now (request .entry)) (now (state .entry)) budget ⌝ }
 {
-    if state.len() != limits::FLUENTS {
+    if state.len() != STATE_LENGTH {
         return without_walk(answers::STATE_LENGTH, answers::NEITHER_INPUT, 0);
     }
     let mut t: Notes = [0u16; notes::SLOTS];
@@ -82,7 +85,7 @@ pub fn judge_guarded(request: &[u8], state: &mut [u8], budget: u32) -> Judged
     ensures given { λ r. ⌜ record { answer = r .answer; state = now (state .exit) } ≡ judge-guarded format (now (request .entry)) (now (state .entry)) budget ⌝ }
     ensures line { λ r. ⌜ r .line ≡ line-guarded format (now (request .entry)) (now (state .entry)) budget ⌝ }
 {
-    if state.len() != limits::FLUENTS {
+    if state.len() != STATE_LENGTH {
         return without_walk(answers::STATE_LENGTH, answers::NEITHER_INPUT, 0);
     }
     let mut t: Notes = [0u16; notes::SLOTS];
