@@ -136,8 +136,13 @@ concerned-has P fine s is has = subst (Concerned-has P) is has
 concerned-has P (missed p u) s is has = subst (Concerned-has P) is has
 concerned-has P (stopped n p u) s is has = subst (Concerned-has P) is has
 
+-- What `Written` says, of a settled guarded request.
+abbrev pub Guarded-written : (request left : List ℕ) → Type 0
+Guarded-written request left =
+    (g : Guarded-request) × (e : ℕ) × (settled-guarded format request ≡ got g e) × (getD request 0 0 ≡ g .request .table .fluents) × Marked left × Blank-from (g .request .table .fluents) left
+
 pub guarded-written : (request lent : List ℕ) (budget : ℕ) → among (judge-guarded format request lent budget .answer .number) with-state ≡ true
-    → (g : Guarded-request) × (e : ℕ) × (settled-guarded format request ≡ got g e) × (getD request 0 0 ≡ g .request .table .fluents) × Kept-marks (g .request) (judge-guarded format request lent budget .state)
+    → Guarded-written request (judge-guarded format request lent budget .state)
 unfolding walk-of
 guarded-written request lent budget writes =
     let w = guarded-state format request lent budget .written writes in
@@ -146,5 +151,5 @@ guarded-written request lent budget writes =
     let past = own-settled format request (w .0) (w .1) (w .2) in
     let front = begins eight (w .0 .request) _ past in
     let more = front .second in
-    (w .0, w .1, w .2, sym (own-same format request (w .0) (w .1) (w .2) 0 (omega (arith, more, long))) ∙ front .fluents-are,
-    concerned-has (Kept-marks (w .0 .request)) _ _ (w .3) (ends-kept eight (w .0 .request) _ past (w .0 .guards)))
+    let kept = concerned-has (Kept-marks (w .0 .request)) _ _ (w .3) (ends-kept eight (w .0 .request) _ past (w .0 .guards)) in
+    (w .0, w .1, w .2, sym (own-same format request (w .0) (w .1) (w .2) 0 (omega (arith, more, long))) ∙ front .fluents-are, kept .0, kept .1)
