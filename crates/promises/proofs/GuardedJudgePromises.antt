@@ -110,22 +110,22 @@ module _ (request lent : List ℕ) (budget : ℕ) (answer : Answer) (left : List
       pub stuck-exactly : (answer .number ≡ Limits.not-executable) ↔ ((p : ℕ) × (u : State) × First-stop (met-paths format g) Limits.not-executable p u)
       stuck-exactly = rw (sym number-is) (Demands.guarded-stuck-exactly format request lent budget g e lent-length past enough)
 
-      pub missed-exactly : (answer .number ≡ Limits.goal-missed)
+      pub missed-on-paths : (answer .number ≡ Limits.goal-missed)
           ↔ ((Stops (met-paths format g) → ⊥) × ((p : ℕ) × (u : State) × Misses-first (missed-in (g .request)) (met-paths format g) p u))
-      missed-exactly = rw (sym number-is) (Demands.guarded-missed-exactly format request lent budget g e lent-length past enough)
+      missed-on-paths = rw (sym number-is) (Demands.guarded-missed-exactly format request lent budget g e lent-length past enough)
 
-      pub fine-exactly : (answer .number ≡ Limits.verified)
+      pub verified-on-paths : (answer .number ≡ Limits.verified)
           ↔ ((Stops (met-paths format g) → ⊥) × ((u : State) → Ends (met-paths format g) (arrives u) → missed-in (g .request) u ≡ nowhere))
-      fine-exactly = rw (sym number-is) (Demands.guarded-fine-exactly format request lent budget g e lent-length past enough)
+      verified-on-paths = rw (sym number-is) (Demands.guarded-fine-exactly format request lent budget g e lent-length past enough)
 
       pub verified-exactly : (answer .number ≡ Limits.verified) ↔ (Entailed (g .request) × Guards-true (g .request) (values (g .guards)))
       verified-exactly = rw (sym number-is) (Demands.guarded-verified-exactly format format-room request lent budget g e lent-length past enough)
 
-      pub missed-otherwise : (answer .number ≡ Limits.goal-missed)
+      pub missed-exactly : (answer .number ≡ Limits.goal-missed)
           ↔ (((p : ℕ) (u : State) → First-stop (met-paths format g) Limits.guard-broken p u → ⊥)
           × ((p : ℕ) (u : State) → First-stop (met-paths format g) Limits.not-executable p u → ⊥)
           × (Entailed (g .request) × Guards-true (g .request) (values (g .guards)) → ⊥))
-      missed-otherwise = rw (sym number-is) (Demands.guarded-missed-otherwise format format-room request lent budget g e lent-length past enough)
+      missed-exactly = rw (sym number-is) (Demands.guarded-missed-otherwise format format-room request lent budget g e lent-length past enough)
 
 -- THE LINE, where the number that the call gives beside its answer is the definition's.
 module _ (request lent : List ℕ) (budget : ℕ) (answer : Answer) (left : List ℕ) (is : record { answer = answer; state = left } ≡ judge-guarded format request lent budget)
