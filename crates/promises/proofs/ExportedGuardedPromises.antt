@@ -182,7 +182,7 @@ module _ (κs : Lfts 2) (given : Dens κs ps) where
         unfolding unpacked
         verified-on-paths = GuardedJudgePromises.verified-on-paths request lent budget (unpacked n) (left exit) judges g e lent-length past enough
 
-        -- A goal missed, exactly where none stops and one does.
+        -- A goal missed, exactly where none stops and an end state misses one.
         pub missed-on-paths : (n % 256 ≡ Limits.goal-missed)
             ↔ ((Stops (met-paths format g) → ⊥) × ((p : ℕ) × (u : State) × Misses-first (missed-in (g .request)) (met-paths format g) p u))
         unfolding unpacked

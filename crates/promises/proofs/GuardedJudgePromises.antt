@@ -110,14 +110,6 @@ module _ (request lent : List ℕ) (budget : ℕ) (answer : Answer) (left : List
       pub stuck-exactly : (answer .number ≡ Limits.not-executable) ↔ ((p : ℕ) × (u : State) × First-stop (met-paths format g) Limits.not-executable p u)
       stuck-exactly = rw (sym number-is) (Demands.guarded-stuck-exactly format request lent budget g e lent-length past enough)
 
-      pub missed-on-paths : (answer .number ≡ Limits.goal-missed)
-          ↔ ((Stops (met-paths format g) → ⊥) × ((p : ℕ) × (u : State) × Misses-first (missed-in (g .request)) (met-paths format g) p u))
-      missed-on-paths = rw (sym number-is) (Demands.guarded-missed-exactly format request lent budget g e lent-length past enough)
-
-      pub verified-on-paths : (answer .number ≡ Limits.verified)
-          ↔ ((Stops (met-paths format g) → ⊥) × ((u : State) → Ends (met-paths format g) (arrives u) → missed-in (g .request) u ≡ nowhere))
-      verified-on-paths = rw (sym number-is) (Demands.guarded-fine-exactly format request lent budget g e lent-length past enough)
-
       pub verified-exactly : (answer .number ≡ Limits.verified) ↔ (Entailed (g .request) × Guards-true (g .request) (values (g .guards)))
       verified-exactly = rw (sym number-is) (Demands.guarded-verified-exactly format format-room request lent budget g e lent-length past enough)
 
@@ -126,6 +118,14 @@ module _ (request lent : List ℕ) (budget : ℕ) (answer : Answer) (left : List
           × ((p : ℕ) (u : State) → First-stop (met-paths format g) Limits.not-executable p u → ⊥)
           × (Entailed (g .request) × Guards-true (g .request) (values (g .guards)) → ⊥))
       missed-exactly = rw (sym number-is) (Demands.guarded-missed-otherwise format format-room request lent budget g e lent-length past enough)
+
+      pub verified-on-paths : (answer .number ≡ Limits.verified)
+          ↔ ((Stops (met-paths format g) → ⊥) × ((u : State) → Ends (met-paths format g) (arrives u) → missed-in (g .request) u ≡ nowhere))
+      verified-on-paths = rw (sym number-is) (Demands.guarded-fine-exactly format request lent budget g e lent-length past enough)
+
+      pub missed-on-paths : (answer .number ≡ Limits.goal-missed)
+          ↔ ((Stops (met-paths format g) → ⊥) × ((p : ℕ) × (u : State) × Misses-first (missed-in (g .request)) (met-paths format g) p u))
+      missed-on-paths = rw (sym number-is) (Demands.guarded-missed-exactly format request lent budget g e lent-length past enough)
 
 -- THE LINE, where the number that the call gives beside its answer is the definition's.
 module _ (request lent : List ℕ) (budget : ℕ) (answer : Answer) (left : List ℕ) (is : record { answer = answer; state = left } ≡ judge-guarded format request lent budget)

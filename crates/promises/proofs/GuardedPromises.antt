@@ -156,7 +156,7 @@ module _ (κs : Lfts 2) (given : Dens κs ps) where
             ↔ ((Stops (met-paths format g) → ⊥) × ((u : State) → Ends (met-paths format g) (arrives u) → missed-in (g .request) u ≡ nowhere))
         verified-on-paths = GuardedJudgePromises.verified-on-paths request lent budget answer (left exit) (meets .0) g e lent-length past enough
 
-        -- A goal missed, exactly where none stops and one does.
+        -- A goal missed, exactly where none stops and an end state misses one.
         pub missed-on-paths : (answer .number ≡ Limits.goal-missed)
             ↔ ((Stops (met-paths format g) → ⊥) × ((p : ℕ) × (u : State) × Misses-first (missed-in (g .request)) (met-paths format g) p u))
         missed-on-paths = GuardedJudgePromises.missed-on-paths request lent budget answer (left exit) (meets .0) g e lent-length past enough
