@@ -16,7 +16,7 @@ use Rattle.meaning.specs.Limits.{format}
 use Rattle.meaning.specs.Literals.{among}
 use Rattle.meaning.specs.Requests.{Item, act, values}
 use Rattle.meaning.specs.Reading.{got}
-use Rattle.meaning.specs.Refusals.{nowhere}
+use Rattle.meaning.specs.Refusals.{nowhere, at}
 use Rattle.meaning.specs.States.{State, first-state}
 use Rattle.meaning.specs.Walk.{missed-in}
 use Rattle.meaning.specs.Lines.{executability-of}
@@ -24,14 +24,13 @@ use Rattle.meaning.specs.Judging
 use Rattle.meaning.specs.Judging.{Judgement, within, judge}
 use Rattle.meaning.specs.Guards.{Guarded-request, settled-guarded, judge-guarded, line-guarded, count}
 use Rattle.meaning.specs.Approximation.{least, Entailed}
-use Rattle.meaning.specs.Paths.{arrives, walked-along}
-use Rattle.meaning.specs.Reported.{pair-of, Missed-at, Item-in, item-place, Stopped-at, Nearest, item-line}
+use Rattle.meaning.specs.Paths.{arrives, Path, walked-along}
+use Rattle.meaning.specs.Reported.{pair-of, Arrives, Missed-at, Item-in, item-place, Stopped-at, Nearest, item-line}
 use Rattle.meaning.specs.GuardedReported.{met-paths, First-stop, Broken-at, Met-in, Guards-true}
 use Rattle.meaning.specs.Worlds.{Carried-out-under}
 use Rattle.meaning.specs.Answers.{guarded-answers}
 use Rattle.meaning.specs.AnswerParts.{Walk-input, Guarded-count, Guarded-state, with-state, Placed}
 use Rattle.meaning.specs.Tests.{Has}
-use Rattle.meaning.proofs.EndLaws.{Ends, Stops, Misses-first}
 use Rattle.meaning.proofs.ProvedCases.{guarding-line, judged-line, Row, proved-cases}
 use Rattle.steps.specs.AtHand.{Marked}
 use Rattle.glintstring.specs.declared.judging.Judged.{Judged}
@@ -151,14 +150,15 @@ module _ (κs : Lfts 2) (given : Dens κs ps) where
             × (Entailed (g .request) × Guards-true (g .request) (values (g .guards)) → ⊥))
         missed-exactly = GuardedJudgePromises.missed-exactly request lent budget answer (left exit) (meets .0) g e lent-length past enough
 
-        -- By the list of paths: verified, exactly where none stops and no end state misses an entry.
+        -- By the list of paths: verified, exactly where each arrives and no entry is missed there.
         pub verified-on-paths : (answer .number ≡ Limits.verified)
-            ↔ ((Stops (met-paths format g) → ⊥) × ((u : State) → Ends (met-paths format g) (arrives u) → missed-in (g .request) u ≡ nowhere))
+            ↔ ((x : Path State) → Has (met-paths format g) x → (u : State) × (x .ending ≡ arrives u) × (missed-in (g .request) u ≡ nowhere))
         verified-on-paths = GuardedJudgePromises.verified-on-paths request lent budget answer (left exit) (meets .0) g e lent-length past enough
 
-        -- A goal missed, exactly where none stops and an end state misses one.
+        -- A goal is missed, exactly where each arrives and an entry is missed on one.
         pub missed-on-paths : (answer .number ≡ Limits.goal-missed)
-            ↔ ((Stops (met-paths format g) → ⊥) × ((p : ℕ) × (u : State) × Misses-first (missed-in (g .request)) (met-paths format g) p u))
+            ↔ (((x : Path State) → Has (met-paths format g) x → Arrives x)
+            × ((x : Path State) × (u : State) × (p : ℕ) × Has (met-paths format g) x × (x .ending ≡ arrives u) × (missed-in (g .request) u ≡ at p)))
         missed-on-paths = GuardedJudgePromises.missed-on-paths request lent budget answer (left exit) (meets .0) g e lent-length past enough
 
     -- Input, count, place and state are what the number says (FORMAT 21.10, 21.16): neither input exactly with 0, 3 and 9.
