@@ -82,8 +82,12 @@ module _ (κs : Lfts 2) (given : Dens κs ps) where
     pub count-is : n / 4294967296 ≡ answer .count
     count-is = count-back answer (guarded-answer-small request lent budget) n (meets .0)
 
-    pub judges : record { answer = unpacked n; state = left exit } ≡ judge-guarded format request lent budget
-    judges = ap₂ {C = Judgement} (λ a s. record { answer = a; state = s }) (unpacks answer (guarded-answer-small request lent budget) n (meets .0)) (meets .1)
+    -- So the exported showing call, given the result, shows what the definition's answer names.
+    pub unpacked-is : unpacked n ≡ answer
+    unpacked-is = unpacks answer (guarded-answer-small request lent budget) n (meets .0)
+
+    judges : record { answer = unpacked n; state = left exit } ≡ judge-guarded format request lent budget
+    judges = ap₂ {C = Judgement} (λ a s. record { answer = a; state = s }) unpacked-is (meets .1)
 
     -- Demand 1 (FORMAT 21.22): it is one of the numbered answers of the guarded call.
     pub numbered : among (n % 256) guarded-answers ≡ true
