@@ -109,7 +109,7 @@ pub sound-for-values : {L : Type 0} (ls : Literals L) (lim : Limits) (r : Reques
 sound-for-values = ValueSound.walk-sound
 
 -- Theorems 3.1 and 3.3 of Zhao and Shen, for the plain layout and for the closing one: what an accepted derivation asks is verified by the walk
--- without a budget, the whether entries included (FORMAT 17.40). (With a budget it need not be: `DerivationCases.beyond-a-budget` has a
+-- without a budget, the whether entries included (FORMAT 17.40). (With a budget it need not be: `LongCases.beyond-a-budget` has a
 -- derivation accepted where the walk's budget is spent.)
 pub accepted-verified : (lim : Limits) → lim .fluents ≤ lim .state → (layout : Layout) (request derivation : List ℕ) → check lim layout request derivation .number ≡ Limits.verified
     → (r : Request) × (e : ℕ) × (settled lim request ≡ got r e) × Verified (walked r (first-state lim (r .table)))

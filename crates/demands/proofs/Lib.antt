@@ -11,6 +11,7 @@ pub mod DepthMet
 pub mod GuardedMet
 pub mod LayoutLaws
 pub mod DerivationSound
+pub mod LongCases
 pub mod ProvedCases
 pub mod WiderReads
 pub mod MappedWalk

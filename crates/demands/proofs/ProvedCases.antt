@@ -21,6 +21,7 @@ use Rattle.meaning.proofs.DerivationCases.{derivations, derivations-hold}
 use Rattle.meaning.proofs.WhetherCases.{whethers, whethers-hold}
 use Rattle.meaning.proofs.ReleaseCases
 use Rattle.meaning.proofs.ReleaseCases.{releases, releases-hold}
+use Rattle.demands.proofs.LongCases.{long-cases, long-cases-hold, long-releases, long-releases-hold}
 use Rattle.demands.proofs.ReuseCases.{reuse-cases, reuse-cases-hold}
 
 -- A call, and what it gives. A derivation in the plain layout is put to the derivation call, and one in the closing layout to the whether call.
@@ -64,10 +65,13 @@ abbrev releasing-row : ReleaseCases.Case → Row
 releasing-row c = record { call = releasing (c .file) (c .lent) (c .budget); gives = released (c .gives) }
 
 -- Cases 1 to 13 and the rows beside them, those of the line, then case 14 and the rows beside it, then those of the closing layout, then those of
--- releases, those of reused verdicts and those of guarded plans.
+-- releases, those of reused verdicts, those of guarded plans, and last the long ones.
+abbrev long-rows : List Row
+long-rows = map judging-row long-cases ++ map releasing-row long-releases
+
 pub proved-cases : List Row
 proved-cases =
-    map judging-row cases ++ (map line-row line-cases ++ (map checking-row derivations ++ (map checking-row whethers ++ (map releasing-row releases ++ (map judging-row reuse-cases ++ map guarding-row guarded-cases)))))
+    map judging-row cases ++ (map line-row line-cases ++ (map checking-row derivations ++ (map checking-row whethers ++ (map releasing-row releases ++ (map judging-row reuse-cases ++ (map guarding-row guarded-cases ++ long-rows))))))
 
 -- Each row's call gives what the row says.
 abbrev Hold : List Row → Type 0
@@ -113,20 +117,22 @@ checkings cs hold =
     ∙ map-map answered (λ (c : DerivationCases.Case). c .gives) cs
     ∙ sym (map-map _ checking-row cs)
 
-releasings : Hold (map releasing-row releases)
-releasings =
-    map-map _ releasing-row releases
-    ∙ sym (map-map released (λ (c : ReleaseCases.Case). release format (c .file) (c .lent) (c .budget)) releases)
-    ∙ ap (map released) releases-hold
-    ∙ map-map released (λ (c : ReleaseCases.Case). c .gives) releases
-    ∙ sym (map-map _ releasing-row releases)
+releasings : (cs : List ReleaseCases.Case) → map (λ (c : ReleaseCases.Case). release format (c .file) (c .lent) (c .budget)) cs ≡ map (λ (c : ReleaseCases.Case). c .gives) cs → Hold (map releasing-row cs)
+releasings cs hold =
+    map-map _ releasing-row cs
+    ∙ sym (map-map released (λ (c : ReleaseCases.Case). release format (c .file) (c .lent) (c .budget)) cs)
+    ∙ ap (map released) hold
+    ∙ map-map released (λ (c : ReleaseCases.Case). c .gives) cs
+    ∙ sym (map-map _ releasing-row cs)
 
 pub proved-cases-hold : map (λ (r : Row). outcome-of (r .call)) proved-cases ≡ map (λ (r : Row). r .gives) proved-cases
 unfolding proved-cases
 proved-cases-hold =
-    hold-both (map judging-row cases) (map line-row line-cases ++ (map checking-row derivations ++ (map checking-row whethers ++ (map releasing-row releases ++ (map judging-row reuse-cases ++ map guarding-row guarded-cases))))) (judgings cases cases-hold)
-    (hold-both (map line-row line-cases) (map checking-row derivations ++ (map checking-row whethers ++ (map releasing-row releases ++ (map judging-row reuse-cases ++ map guarding-row guarded-cases)))) linings
-    (hold-both (map checking-row derivations) (map checking-row whethers ++ (map releasing-row releases ++ (map judging-row reuse-cases ++ map guarding-row guarded-cases))) (checkings derivations derivations-hold)
-    (hold-both (map checking-row whethers) (map releasing-row releases ++ (map judging-row reuse-cases ++ map guarding-row guarded-cases)) (checkings whethers whethers-hold)
-    (hold-both (map releasing-row releases) (map judging-row reuse-cases ++ map guarding-row guarded-cases) releasings
-    (hold-both (map judging-row reuse-cases) (map guarding-row guarded-cases) (judgings reuse-cases reuse-cases-hold) guardings)))))
+    hold-both (map judging-row cases) (map line-row line-cases ++ (map checking-row derivations ++ (map checking-row whethers ++ (map releasing-row releases ++ (map judging-row reuse-cases ++ (map guarding-row guarded-cases ++ long-rows)))))) (judgings cases cases-hold)
+    (hold-both (map line-row line-cases) (map checking-row derivations ++ (map checking-row whethers ++ (map releasing-row releases ++ (map judging-row reuse-cases ++ (map guarding-row guarded-cases ++ long-rows))))) linings
+    (hold-both (map checking-row derivations) (map checking-row whethers ++ (map releasing-row releases ++ (map judging-row reuse-cases ++ (map guarding-row guarded-cases ++ long-rows)))) (checkings derivations derivations-hold)
+    (hold-both (map checking-row whethers) (map releasing-row releases ++ (map judging-row reuse-cases ++ (map guarding-row guarded-cases ++ long-rows))) (checkings whethers whethers-hold)
+    (hold-both (map releasing-row releases) (map judging-row reuse-cases ++ (map guarding-row guarded-cases ++ long-rows)) (releasings releases releases-hold)
+    (hold-both (map judging-row reuse-cases) (map guarding-row guarded-cases ++ long-rows) (judgings reuse-cases reuse-cases-hold)
+    (hold-both (map guarding-row guarded-cases) long-rows guardings
+    (hold-both (map judging-row long-cases) (map releasing-row long-releases) (judgings long-cases long-cases-hold) (releasings long-releases long-releases-hold))))))))

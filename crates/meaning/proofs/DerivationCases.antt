@@ -8,7 +8,6 @@ use Rattle.meaning.specs.declared.Answer.{Answer}
 use Rattle.meaning.specs.declared.Layout.{Layout}
 use Rattle.meaning.specs.declared.Layout.the-variants.{Plain}
 use Rattle.meaning.specs.Limits.{format}
-use Rattle.meaning.specs.Judging.{judge}
 use Rattle.meaning.specs.Derivations.{check}
 use Rattle.meaning.specs.Showing.{Part, show}
 use Rattle.meaning.proofs.Compute.{all-open}
@@ -156,16 +155,3 @@ showings-hold = refl
 pub derivations-hold : map (λ (c : Case). check format (c .layout) (c .request) (c .derivation)) derivations ≡ map (λ (c : Case). c .gives) derivations
 unfolding all-open table-A file-A request-14 lines-14 derivation-14 request-3-1 derivation-3-1 sensing-seven reading reading-lines cited-from seven-readings derivations
 derivations-hold = refl
-
--- A DERIVATION REACHES FURTHER THAN A BUDGET. Three actions that sense a fluent each: five lines for each of them and two to put them
--- together, while the walk counts 15. With k such actions there are 6 k - 1 lines and the walk counts 2 ^ (k + 1) - 1, so from k = 32 on the
--- budget is spent whatever it is.
-pub three-sensed : List ℕ
-three-sensed = 4 ∷ 3 ∷ 1 ∷ 6 ∷ 0 ∷ 3 ∷ 0 ∷ 0 ∷ 1 ∷ 0 ∷ 2 ∷ 0 ∷ 3 ∷ 0 ∷ 0 ∷ 1 ∷ 1 ∷ 2 ∷ 2 ∷ 0 ∷ 3 ∷ 0 ∷ 1 ∷ 2 ∷ 1 ∷ 6 ∷ 0 ∷ []
-
-pub three-derived : List ℕ
-three-derived = 0 ∷ 17 ∷ 2 ∷ 0 ∷ 6 ∷ 0 ∷ 0 ∷ 2 ∷ 0 ∷ 6 ∷ 1 ∷ 0 ∷ 2 ∷ 0 ∷ 6 ∷ 0 ∷ 0 ∷ 1 ∷ 6 ∷ 6 ∷ 1 ∷ 0 ∷ 0 ∷ 2 ∷ 1 ∷ 6 ∷ 0 ∷ 0 ∷ 2 ∷ 1 ∷ 6 ∷ 1 ∷ 0 ∷ 2 ∷ 1 ∷ 6 ∷ 0 ∷ 0 ∷ 1 ∷ 6 ∷ 6 ∷ 1 ∷ 0 ∷ 2 ∷ 1 ∷ 6 ∷ 0 ∷ 1 ∷ 0 ∷ 1 ∷ 6 ∷ 3 ∷ 2 ∷ 0 ∷ 1 ∷ 0 ∷ 3 ∷ 2 ∷ 2 ∷ 6 ∷ 0 ∷ 0 ∷ 2 ∷ 2 ∷ 6 ∷ 1 ∷ 0 ∷ 2 ∷ 2 ∷ 6 ∷ 0 ∷ 0 ∷ 1 ∷ 6 ∷ 6 ∷ 1 ∷ 0 ∷ 5 ∷ 2 ∷ 3 ∷ 6 ∷ 0 ∷ 0 ∷ 2 ∷ 3 ∷ 6 ∷ 1 ∷ 0 ∷ 2 ∷ 3 ∷ 6 ∷ 0 ∷ 0 ∷ 1 ∷ 6 ∷ 6 ∷ 1 ∷ 0 ∷ 7 ∷ 1 ∷ 6 ∷ 0 ∷ 1 ∷ 1 ∷ 1 ∷ 6 ∷ 3 ∷ 2 ∷ 0 ∷ 6 ∷ 0 ∷ 8 ∷ 2 ∷ 4 ∷ 6 ∷ 0 ∷ 0 ∷ 2 ∷ 4 ∷ 6 ∷ 1 ∷ 0 ∷ 2 ∷ 4 ∷ 6 ∷ 0 ∷ 0 ∷ 1 ∷ 6 ∷ 6 ∷ 1 ∷ 0 ∷ 10 ∷ 2 ∷ 5 ∷ 6 ∷ 0 ∷ 0 ∷ 2 ∷ 5 ∷ 6 ∷ 1 ∷ 0 ∷ 2 ∷ 5 ∷ 6 ∷ 0 ∷ 0 ∷ 1 ∷ 6 ∷ 6 ∷ 1 ∷ 0 ∷ 12 ∷ 1 ∷ 6 ∷ 0 ∷ 1 ∷ 2 ∷ 1 ∷ 6 ∷ 3 ∷ 2 ∷ 0 ∷ 11 ∷ 0 ∷ 13 ∷ 1 ∷ 6 ∷ 0 ∷ 2 ∷ 0 ∷ 1 ∷ 1 ∷ 6 ∷ 5 ∷ 2 ∷ 0 ∷ 4 ∷ 0 ∷ 9 ∷ 1 ∷ 6 ∷ 0 ∷ 3 ∷ 0 ∷ 1 ∷ 2 ∷ 1 ∷ 6 ∷ 5 ∷ 2 ∷ 0 ∷ 15 ∷ 0 ∷ 14 ∷ []
-
-pub beyond-a-budget : (check format Plain three-sensed three-derived .number ≡ 0) × (judge format three-sensed (replicate (format .state) 0) 14 .answer .number ≡ 3) × (judge format three-sensed (replicate (format .state) 0) 15 .answer .number ≡ 0)
-unfolding all-open three-sensed three-derived
-beyond-a-budget = (refl, refl, refl)
