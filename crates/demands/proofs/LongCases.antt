@@ -1,6 +1,6 @@
--- Rows that take long to compute, and that no edit of the definitions is refuted by: plans of as many items as there may be and of one more, and a
--- derivation beside the walk that it is shorter than. Assumes nothing.
-use Prim.Native.Nat.{ℕ}
+-- Rows that take long to compute, and that no edit of the definitions is refuted by: plans of as many items as there may be and of one more, a
+-- step that senses seven fluents, and a derivation that reaches further than a budget. Assumes nothing.
+use Prim.Native.Nat.{ℕ, zero, suc, _+_, _*_, _/_, _%_, _^_}
 use mathlib.Core.Path.{_≡_, refl}
 use mathlib.Core.List.{List, [], _∷_, _++_, map}
 use lib.ListN.{replicate}
@@ -11,6 +11,8 @@ use Rattle.meaning.specs.Derivations.{check}
 use Rattle.meaning.specs.Releases.{release}
 use Rattle.meaning.proofs.Compute.{all-open}
 use Rattle.meaning.proofs.Cases.{Case, refused, no-lines, opening, copies}
+use Rattle.meaning.proofs.DerivationCases
+use Rattle.meaning.proofs.DerivationCases.{row-in, sensing-seven}
 use Rattle.meaning.proofs.ReleaseCases
 use Rattle.meaning.proofs.ReleaseCases.{judged, no-item}
 
@@ -37,6 +39,33 @@ long-releases =
 pub long-releases-hold : map (λ (c : ReleaseCases.Case). release format (c .file) (c .lent) (c .budget)) long-releases ≡ map (λ (c : ReleaseCases.Case). c .gives) long-releases
 unfolding all-open no-item ReleaseCases.no-lines long-releases
 long-releases-hold = refl
+
+-- The literals of reading k, from fluent f on, and one line for each of a given number of readings, from k on: X the reading, nothing to do, nothing
+-- wanted, by rule 6 from line 0.
+reading : (left k f : ℕ) → List ℕ
+reading zero k f = []
+reading (suc left) k f = (2 * f + (k / 2 ^ left) % 2) ∷ reading left k (suc f)
+
+reading-lines : (left k : ℕ) → List ℕ
+reading-lines zero k = []
+reading-lines (suc left) k = 7 ∷ reading 7 k 0 ++ (0 ∷ 0 ∷ 0 ∷ 6 ∷ 1 ∷ 0 ∷ 0 ∷ []) ++ reading-lines left (suc k)
+
+cited-from : (left k : ℕ) → List ℕ
+cited-from zero k = []
+cited-from (suc left) k = 0 ∷ k ∷ cited-from left (suc k)
+
+seven-readings : List ℕ
+seven-readings = 0 ∷ 66 ∷ 0 ∷ 0 ∷ 0 ∷ 0 ∷ 1 ∷ 0 ∷ reading-lines 64 0 ++ (0 ∷ 0 ∷ 1 ∷ 0 ∷ 0 ∷ 3 ∷ 64 ∷ []) ++ cited-from 64 1
+
+pub long-derivations : List DerivationCases.Case
+long-derivations =
+    -- A sensing step over seven unknown fluents, with the lines of the first 64 of its 128 readings (FORMAT 10.32).
+    row-in Plain sensing-seven seven-readings 34 2 968 ∷
+    []
+
+pub long-derivations-hold : map (λ (c : DerivationCases.Case). check format (c .layout) (c .request) (c .derivation)) long-derivations ≡ map (λ (c : DerivationCases.Case). c .gives) long-derivations
+unfolding all-open sensing-seven reading reading-lines cited-from seven-readings long-derivations
+long-derivations-hold = refl
 
 -- A DERIVATION REACHES FURTHER THAN A BUDGET. Three actions that sense a fluent each: five lines for each of them and two to put them
 -- together, while the walk counts 15. With k such actions there are 6 k - 1 lines and the walk counts 2 ^ (k + 1) - 1, so from k = 32 on the

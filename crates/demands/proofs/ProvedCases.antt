@@ -21,7 +21,7 @@ use Rattle.meaning.proofs.DerivationCases.{derivations, derivations-hold}
 use Rattle.meaning.proofs.WhetherCases.{whethers, whethers-hold}
 use Rattle.meaning.proofs.ReleaseCases
 use Rattle.meaning.proofs.ReleaseCases.{releases, releases-hold}
-use Rattle.demands.proofs.LongCases.{long-cases, long-cases-hold, long-releases, long-releases-hold}
+use Rattle.demands.proofs.LongCases.{long-cases, long-cases-hold, long-derivations, long-derivations-hold, long-releases, long-releases-hold}
 use Rattle.demands.proofs.ReuseCases.{reuse-cases, reuse-cases-hold}
 
 -- A call, and what it gives. A derivation in the plain layout is put to the derivation call, and one in the closing layout to the whether call.
@@ -67,7 +67,7 @@ releasing-row c = record { call = releasing (c .file) (c .lent) (c .budget); giv
 -- Cases 1 to 13 and the rows beside them, those of the line, then case 14 and the rows beside it, then those of the closing layout, then those of
 -- releases, those of reused verdicts, those of guarded plans, and last the long ones.
 abbrev long-rows : List Row
-long-rows = map judging-row long-cases ++ map releasing-row long-releases
+long-rows = map judging-row long-cases ++ (map checking-row long-derivations ++ map releasing-row long-releases)
 
 pub proved-cases : List Row
 proved-cases =
@@ -135,4 +135,5 @@ proved-cases-hold =
     (hold-both (map releasing-row releases) (map judging-row reuse-cases ++ (map guarding-row guarded-cases ++ long-rows)) (releasings releases releases-hold)
     (hold-both (map judging-row reuse-cases) (map guarding-row guarded-cases ++ long-rows) (judgings reuse-cases reuse-cases-hold)
     (hold-both (map guarding-row guarded-cases) long-rows guardings
-    (hold-both (map judging-row long-cases) (map releasing-row long-releases) (judgings long-cases long-cases-hold) (releasings long-releases long-releases-hold))))))))
+    (hold-both (map judging-row long-cases) (map checking-row long-derivations ++ map releasing-row long-releases) (judgings long-cases long-cases-hold)
+    (hold-both (map checking-row long-derivations) (map releasing-row long-releases) (checkings long-derivations long-derivations-hold) (releasings long-releases long-releases-hold)))))))))
