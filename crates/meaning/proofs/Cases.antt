@@ -1,5 +1,5 @@
 -- The cases of the format (FORMAT 13.17 to 13.39, 13.56 to 13.76) and one row or more for each decision that a row can show, computed by
--- the definitions: one equation over one table. Assumes nothing.
+-- the definitions: one equation over one table. Rows that take long to compute are in `LongCases` of `demands`. Assumes nothing.
 use Prim.Native.Nat.{ℕ, zero, suc, _-_}
 use mathlib.Core.Path.{_≡_, refl}
 use mathlib.Core.List.{List, [], _∷_, _++_, map}
