@@ -21,10 +21,9 @@ use Rattle.meaning.specs.Guards.{Guarded-request, read-guarded, settled-
 use Rattle.meaning.specs.Layouts.{list-written}
 use Rattle.meaning.proofs.TestLaws.{by-test, pick-true, pick-false}
 use Rattle.meaning.proofs.PickLaws.{pick-has}
-use Rattle.meaning.proofs.MovedReads.{next-is}
+use Rattle.meaning.proofs.MovedReads.{next-is, part-stands}
 use Rattle.meaning.proofs.KeptReads.{kept-of, kept-fault, table-kept, request-kept}
 use Rattle.meaning.proofs.ListReads.{list-read}
-use Rattle.meaning.proofs.PartReads.{part-stands}
 
 -- A WALK WITHOUT GUARDS is the plain walk.
 pub walked-unguarded : (r : Request) (s : State) → walked-guarded r [] s ≡ walked r s

@@ -5,7 +5,6 @@ pub mod Requests
 pub mod Reading
 pub mod Lines
 pub mod Refusals
-pub mod Formerly
 pub mod States
 pub mod Walk
 pub mod Judging
@@ -18,7 +17,6 @@ pub mod ValueStates
 pub mod ValueWorlds
 pub mod Approximation
 pub mod Paths
-pub mod Depth
 pub mod Reported
 pub mod GuardedReported
 pub mod SameLines
@@ -29,5 +27,3 @@ pub mod Answers
 pub mod Showing
 pub mod Layouts
 pub mod AnswerParts
-pub mod Reuse
-pub mod Wider
