@@ -29,8 +29,8 @@ use Rattle.meaning.specs.Tests.{Has}
 use Rattle.meaning.proofs.RefusalLaws.{at≢nowhere}
 use Rattle.meaning.proofs.Exact.{format-room}
 use Rattle.meaning.proofs.EndLaws.{first-has, Ends, Stops, arrives≢stops, all-arrive, arrives-same}
-use Rattle.meaning.proofs.Demands
-use Rattle.meaning.proofs.ProvedCases.{guarding-line, Given, judged-line, Row, proved-cases}
+use Rattle.demands.proofs.Demands
+use Rattle.demands.proofs.ProvedCases.{guarding-line, Given, judged-line, Row, proved-cases}
 use Rattle.promises.proofs.LentLaws.{Guarded-written, guarded-written}
 use Rattle.promises.proofs.CasePromises.{row-holds}
 

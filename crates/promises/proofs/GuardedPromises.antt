@@ -31,7 +31,7 @@ use Rattle.meaning.specs.Worlds.{Carried-out-under}
 use Rattle.meaning.specs.Answers.{guarded-answers}
 use Rattle.meaning.specs.AnswerParts.{Walk-input, Guarded-count, Guarded-state, with-state, Placed}
 use Rattle.meaning.specs.Tests.{Has}
-use Rattle.meaning.proofs.ProvedCases.{guarding-line, judged-line, Row, proved-cases}
+use Rattle.demands.proofs.ProvedCases.{guarding-line, judged-line, Row, proved-cases}
 use Rattle.steps.specs.AtHand.{Marked}
 use Rattle.glintstring.specs.declared.judging.Judged.{Judged}
 use Rattle.promises.proofs.GuardedJudgePromises

@@ -28,7 +28,7 @@ use Rattle.meaning.proofs.AnswerLaws.{Numbered-in, settled-numbered}
 use Rattle.meaning.proofs.SettledLaws.{settled-is}
 use Rattle.meaning.proofs.RangeLaws.{read-ranged}
 use Rattle.meaning.proofs.GuardedReads.{own, own-length, own-same, own-settled}
-use Rattle.meaning.proofs.Demands.{guarded-state, walked-unguarded}
+use Rattle.demands.proofs.Demands.{guarded-state, walked-unguarded}
 use Rattle.reader.proofs.WholeLaws.{Front}
 use Rattle.finding.proofs.StartLaws.{request-starts}
 use Rattle.steps.specs.AtHand.{Marked}
