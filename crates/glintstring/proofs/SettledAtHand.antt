@@ -11,7 +11,7 @@ use Rattle.meaning.specs.Reading.{got, read-request}
 use Rattle.meaning.specs.Refusals.{settled}
 use Rattle.meaning.specs.Guards.{Guarded-request, settled-guarded}
 use Rattle.meaning.proofs.SettledLaws.{Settled, settled-is}
-use Rattle.meaning.proofs.GuardedReads.{guarded-read}
+use Rattle.meaning.proofs.GuardedReads.{guarded-past}
 use Rattle.bytes.specs.declared.lists.Passed.{Passed}
 use Rattle.bytes.specs.declared.lists.Passed.the-variants.{To}
 use Rattle.reading.specs.Noted.{noting, outcome}
@@ -54,11 +54,11 @@ module _ (s t u : List ℕ) (r : Passed) (settles : outcome r u ≡ noting guard
 
     pub guarded-hand : At-hand s u
     guarded-hand =
-        let read = guarded-read format s (guarded-got .0) e (guarded-got .1) in
+        let read = guarded-past format s (guarded-got .0) e (guarded-got .1) in
         guarded-at-hand s (λ i. bytes i .fits) u (guarded-got .0) e (read .0) noted-guarded (read .1 .no-contradiction)
 
     pub guarded-held : request-in s u ≡ guarded-got .0 .request
-    guarded-held = guarded-request s (λ i. bytes i .fits) u (guarded-got .0) e (guarded-read format s (guarded-got .0) e (guarded-got .1) .0) noted-guarded
+    guarded-held = guarded-request s (λ i. bytes i .fits) u (guarded-got .0) e (guarded-past format s (guarded-got .0) e (guarded-got .1) .0) noted-guarded
 
     pub guards-held : guards-in s u ≡ guarded-got .0 .guards
-    guards-held = guarded-guards s (λ i. bytes i .fits) u (guarded-got .0) e (guarded-read format s (guarded-got .0) e (guarded-got .1) .0) noted-guarded
+    guards-held = guarded-guards s (λ i. bytes i .fits) u (guarded-got .0) e (guarded-past format s (guarded-got .0) e (guarded-got .1) .0) noted-guarded

@@ -69,7 +69,7 @@ module _ {S : Type 0} where
       arrived (stops n p u) = ⊥
 
   -- A path of the list ends so.
-  has-ends : (xs : List (Path S)) (x : Path S) (e : Ending S) → Has xs x → x .ending ≡ e → Ends xs e
+  pub has-ends : (xs : List (Path S)) (x : Path S) (e : Ending S) → Has xs x → x .ending ≡ e → Ends xs e
   has-ends [] x e h q = absurd h
   has-ends (y ∷ ys) x e (inl r) q = inl (sym q ∙ ap (λ (z : Path S). z .ending) r)
   has-ends (y ∷ ys) x e (inr h) q = inr (has-ends ys x e h q)

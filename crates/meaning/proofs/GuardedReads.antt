@@ -75,16 +75,16 @@ past-is r past whole = rw (past .no-contradiction, past .not-mixed, past .no-ove
 
 -- SETTLED.
 module _ (lim : Limits) (b : List ℕ) (g : Guarded-request) (e : ℕ) (settles : settled-guarded lim b ≡ got g e) where
-  pub guarded-read : (read-guarded lim b ≡ got g e) × Past (g .request)
+  pub guarded-past : (read-guarded lim b ≡ got g e) × Past (g .request)
   unfolding settled-guarded
-  guarded-read =
+  guarded-past =
       let n = next-got (read-guarded lim b) _ settles in
       let past = is-past (n .0 .request) (got (n .0) (n .1)) g e (n .3) in
       let same : n .0 ≡ g = got-same (past .1) in
       (n .2 ∙ past .1, rw same at (past .0))
 
   pub parts : Guarded-parts lim b g
-  parts = guarded-parts lim b g e (guarded-read .0)
+  parts = guarded-parts lim b g e (guarded-past .0)
 
   -- The bytes of the first eight sections.
   abbrev pub own : List ℕ
@@ -124,4 +124,4 @@ module _ (lim : Limits) (b : List ℕ) (g : Guarded-request) (e : ℕ) (settles 
   -- They are a settled request.
   pub own-settled : settled lim own ≡ got (g .request) (parts .request-end)
   unfolding settled
-  own-settled = next-is (read-request lim own) _ (g .request) (parts .request-end) own-read ∙ past-is (g .request) (guarded-read .1) _
+  own-settled = next-is (read-request lim own) _ (g .request) (parts .request-end) own-read ∙ past-is (g .request) (guarded-past .1) _

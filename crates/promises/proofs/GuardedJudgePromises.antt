@@ -28,18 +28,13 @@ use Rattle.meaning.specs.AnswerParts.{Walk-input, Guarded-count, Guarded-state,
 use Rattle.meaning.specs.Tests.{Has}
 use Rattle.meaning.proofs.RefusalLaws.{at≢nowhere}
 use Rattle.meaning.proofs.Exact.{format-room}
-use Rattle.meaning.proofs.EndLaws.{first-has, Ends, Stops, arrives≢stops, all-arrive, arrives-same}
+use Rattle.meaning.proofs.EndLaws.{has-ends, first-has, Ends, Stops, arrives≢stops, all-arrive, arrives-same}
 use Rattle.demands.proofs.Demands
 use Rattle.demands.proofs.ProvedCases.{guarding-line, Given, judged-line, Row, proved-cases}
 use Rattle.promises.proofs.LentLaws.{Guarded-written, guarded-written}
 use Rattle.promises.proofs.CasePromises.{row-holds}
 
 -- THE PATHS OF A LIST, each by itself: how some path ends is how one of its paths does.
-path-ends : (xs : List (Path State)) (x : Path State) → Has xs x → Ends xs (x .ending)
-path-ends [] x has = absurd has
-path-ends (y ∷ ys) x (inl here) = inl (ap (λ (z : Path State). z .ending) here)
-path-ends (y ∷ ys) x (inr later) = inr (path-ends ys x later)
-
 ends-path : (xs : List (Path State)) (e : Ending State) → Ends xs e → (x : Path State) × Has xs x × (x .ending ≡ e)
 ends-path [] e ends = absurd ends
 ends-path (y ∷ ys) e (inl here) = (y, inl refl, sym here)
@@ -51,7 +46,7 @@ none-stops xs each f = arrives≢stops (sym (each (f .here) (first-has f) .1) �
 fine-each : (miss : State → Found) (xs : List (Path State))
     → ((Stops xs → ⊥) × ((u : State) → Ends xs (arrives u) → miss u ≡ nowhere)) ↔ ((x : Path State) → Has xs x → (u : State) × (x .ending ≡ arrives u) × (miss u ≡ nowhere))
 fine-each miss xs = (
-  λ w x has. let there = all-arrive xs (w .0) x has in (there .0, there .1, w .1 (there .0) (subst (Ends xs) (there .1) (path-ends xs x has))),
+  λ w x has. let there = all-arrive xs (w .0) x has in (there .0, there .1, w .1 (there .0) (has-ends xs x (arrives (there .0)) has (there .1))),
   λ each. (
     λ stop. let x = ends-path xs _ (stop .3) in arrives≢stops (sym (each (x .0) (x .1) .1) ∙ x .2),
     λ u ends. let x = ends-path xs (arrives u) ends in let fine = each (x .0) (x .1) in ap miss (arrives-same (sym (x .2) ∙ fine .1)) ∙ fine .2,

@@ -2,7 +2,6 @@
 
 use std::time::Duration;
 
-use glintstring::STATE_LENGTH;
 use oracle::guards::calls::{any_guarded_call, guarded, guarded_call};
 use oracle::guards::run::Tally;
 use oracle::reader::REQUEST_LIMIT;
@@ -10,12 +9,10 @@ use oracle::rng::Rng;
 
 use crate::calls::{self, answer, expect, timed_and_named, Call, Left};
 use crate::crowded::crowded;
-use crate::generated::{change, cross};
+use crate::generated::{varied, MOST};
 
 /// From so many calls on, all that has to occur is looked for.
 const ENOUGH: u64 = 20_000;
-/// The largest budget for a request whose walk nobody has counted before.
-const MOST: u32 = 20_000;
 /// Streams of random numbers: of the calls, and of what stands around request and lent state.
 const CALLS: u64 = 22;
 const FENCES: u64 = 23;
@@ -117,41 +114,21 @@ pub fn call(seed: u64, index: u64) -> Call {
     any_call(&mut Rng::new(seed, CALLS, index))
 }
 
-/// A call of the independent program's own generators, which make about three of ten requests wrong in some way; some requests are made wrong
-/// once more or are of another kind, or the budget or the lent state is another.
+/// A call of the independent program's own generators, which make about three of ten requests wrong in some way, and varied; a few requests are as
+/// long as one may be, or longer.
 pub fn any_call(rng: &mut Rng) -> Call {
-    let drawn = guarded_call(rng);
-    let mut call = Call { request: drawn.request, lent: drawn.lent, budget: drawn.budget };
-    match rng.below(100) {
-        0..=4 => {
-            for _ in 0..rng.range(1, 3) {
-                change(rng, &mut call.request);
-            }
-            call.budget = call.budget.min(MOST);
-        }
-        5..=6 => {
-            let other = guarded_call(rng).request;
-            cross(rng, &mut call.request, &other);
-            call.budget = call.budget.min(MOST);
-        }
-        7 => {
-            let most = *rng.pick(&[3, 5, 8, 255]);
-            call.request = (0..rng.below(60)).map(|_| rng.byte(0, most)).collect();
-            call.budget = rng.below(1_000) as u32;
-        }
-        8..=17 => call.budget = rng.below(80) as u32,
-        18..=20 => {
-            let request = crowded(rng);
-            let draft = guarded(rng, request);
-            call.request = any_guarded_call(rng, &draft).request;
-            call.budget = *rng.pick(&[0, 3, 20, 1_000, MOST]);
-        }
-        21 => call.lent = (0..rng.below(2 * STATE_LENGTH)).map(|_| rng.byte(0, 255)).collect(),
-        22 if rng.chance(20) => {
-            let length = *rng.pick(&[REQUEST_LIMIT - 1, REQUEST_LIMIT, REQUEST_LIMIT + 1, 20_000]);
-            call.request.resize(length, rng.byte(0, 3));
-        }
-        _ => {}
+    let drawn = |rng: &mut Rng| {
+        let drawn = guarded_call(rng);
+        Call { request: drawn.request, lent: drawn.lent, budget: drawn.budget }
+    };
+    let mut call = varied(rng, drawn, |rng| {
+        let request = crowded(rng);
+        let draft = guarded(rng, request);
+        any_guarded_call(rng, &draft).request
+    });
+    if rng.below(500) == 0 {
+        let length = *rng.pick(&[REQUEST_LIMIT - 1, REQUEST_LIMIT, REQUEST_LIMIT + 1, 20_000]);
+        call.request.resize(length, rng.byte(0, 3));
     }
     call
 }
