@@ -1,10 +1,10 @@
 /*
  * Glintstring: a proved verifier of conditional upgrade plans.
  *
- * A request has a domain table, a plan and goals in its bytes, a derivation has lines by which the plan reaches them, and a
- * release file has many plans over one table; docs/FORMAT.md is the format, and numbers such as FORMAT 4.3 are those of its
- * sentences. docs/STATEMENTS.md says what is proved of each call. Link libglintstring.a, which `rt staticlib glintstring` writes
- * for x86-64 Linux. C99 or later, or C++. examples/c/review.c is a small program that uses all of it.
+ * A request has a domain table, a plan and goals in its bytes, a guarded request has guards behind these, a derivation has lines by
+ * which the plan reaches its goals, and a release file has many plans over one table; docs/FORMAT.md is the format, and numbers such as
+ * FORMAT 4.3 are those of its sentences. docs/STATEMENTS.md says what is proved of each call. Link libglintstring.a, which `rt
+ * staticlib glintstring` writes for x86-64 Linux. C99 or later, or C++. examples/c/review.c is a small program that uses all of it.
  */
 #ifndef GLINTSTRING_H
 #define GLINTSTRING_H
@@ -22,16 +22,19 @@ extern "C" {
 #define GLINTSTRING_VERSION_MINOR 3
 #define GLINTSTRING_VERSION_PATCH 0
 
-/* The length of the state that the walk call is lent. */
+/* The length of the state that the walk call and the guarded call are lent. */
 #define GLINTSTRING_STATE_LENGTH 128
+
+/* Guards that a guarded request may have. */
+#define GLINTSTRING_MOST_GUARDS 64
 
 /* Plans that a release file may have, and numbers for each of them in the row that the release call is lent. */
 #define GLINTSTRING_MOST_PLANS 64
 #define GLINTSTRING_ROW_NUMBERS 4
 
 /*
- * Bytes that each input may have; a release file may have as many as a request. One byte more is answered as any longer input, so
- * that no more of a file need be read.
+ * Bytes that each input may have; a guarded request or a release file may have as many as a request. One byte more is answered as any
+ * longer input, so that no more of a file need be read.
  */
 #define GLINTSTRING_REQUEST_LIMIT 16384
 #define GLINTSTRING_DERIVATION_LIMIT 32768
@@ -50,10 +53,10 @@ extern "C" {
 #define GLINTSTRING_DERIVATION 2
 
 /*
- * The numbers of answers (FORMAT 4.3 to 4.25, 17.35, 17.36 and 19.10), each with what its place is. The walk call gives 0 to 3 and
- * 9 to 21, the derivation call 0, 10 to 21 and 30 to 35, the whether call 0, 10 to 21, 31 to 34 and 36. The release call itself
- * gives 0, 9 to 17 and 20, and to each plan 0 to 3, 11 to 15, 18, 19, 21 and 22. Of a derivation's faults 10 to 15 and 18 to 21 are
- * told by the same numbers as a request's: the answer names the input.
+ * The numbers of answers (FORMAT 4.3 to 4.25, 17.35, 17.36, 19.10 and 21.10), each with what its place is. The walk call gives 0 to 3
+ * and 9 to 21, the guarded call these and 43, the derivation call 0, 10 to 21 and 30 to 35, the whether call 0, 10 to 21, 31 to 34 and
+ * 36. The release call itself gives 0, 9 to 17 and 20, and to each plan 0 to 3, 11 to 15, 18, 19, 21 and 22. Of a derivation's faults
+ * 10 to 15 and 18 to 21 are told by the same numbers as a request's: the answer names the input.
  */
 #define GLINTSTRING_VERIFIED 0                  /* the walk verifies the plan; place 0 */
 #define GLINTSTRING_ACCEPTED 0                  /* the derivation call, the whether call: the derivation is accepted; place 0 */
@@ -90,12 +93,14 @@ extern "C" {
 #define GLINTSTRING_CLOSING_NOT_RIGHT 36        /* the closing list has another length than the request asks, and then its count
                                                    byte; or an entry of it names no line or another line than it is to name, and
                                                    then the first such entry */
+#define GLINTSTRING_GUARD_BROKEN 43             /* the guarded call: a state is met in which a guard is not known true; the first
+                                                   such guard */
 
 /*
  * An answer comes packed into one number: number + 2^8 * input + 2^16 * place + 2^32 * count. These take it apart.
  *
- * The place is the number of bytes that stand before it in its input. The count is that of the walk (actions run and end
- * states judged) for answers 0, 1 and 2 of the walk call, the budget for 3, and 0 for all others, which an accepted
+ * The place is the number of bytes that stand before it in its input. The count is that of the walk (actions run and end states judged)
+ * for answers 0, 1, 2 and 43 of the walk call and the guarded call, the budget for 3, and 0 for all others, which an accepted
  * derivation's 0 and the release call's own 0 are among. The answers in a row are not packed: there each number has its place.
  */
 static inline uint8_t glintstring_number(uint64_t answer) { return (uint8_t)(answer & 255u); }
@@ -134,6 +139,7 @@ static inline const char *glintstring_words(unsigned number) {
     case GLINTSTRING_DOES_NOT_FOLLOW: return "a line does not follow by its rule";
     case GLINTSTRING_NOT_THE_QUESTION: return "the last line differs from the question";
     case GLINTSTRING_CLOSING_NOT_RIGHT: return "the closing list is not what the request asks";
+    case GLINTSTRING_GUARD_BROKEN: return "guard broken";
     default: return "no answer that the format has";
     }
 }
@@ -176,6 +182,28 @@ uint64_t glintstring_judge(const uint8_t *request, size_t request_length, uint8_
  */
 uint64_t glintstring_judge_line(const uint8_t *request, size_t request_length, uint8_t *state, size_t state_length, uint32_t budget,
                                 uint32_t *line);
+
+/*
+ * The guarded call: walks the plan of a guarded request, which has a ninth section behind the eight of a request, its guards, a list of
+ * 0 to 64 literals (FORMAT 21.2). Each guard is to be known true in every state that the walk meets, which are the first state and
+ * every state to which an action leads.
+ *
+ * Promise (proved): for every request, lent state and budget the call ends, and its answer and the lent bytes afterwards are those of
+ * the format, each to the last number and byte. Any bytes may be given, of any length; a caller need not have tested anything. The
+ * first state met that lacks a guard ends the walk with guard broken (43), before the next item is taken and before the state is judged
+ * as an end state: the place is that of the first guard that it lacks, and the count is that of the walk, the action that leads to the
+ * state included. If that action takes the count over the budget, the answer is 3. All else is answered as glintstring_judge answers.
+ * Where it is 0, the plan can be carried out, and reaches its goals, from every world that has the initial facts, and the guards hold
+ * in every world still possible, at the start, after every action and after every reading.
+ *
+ * The lent state is written by answers 1, 2 and 43 and by no other, as glintstring_judge writes it; for 43 with the state that lacks
+ * the guard. Nothing in the bytes says whether guards follow: glintstring_judge gives 20 to a guarded request, placed at the count of
+ * its guards, and this call gives 11 to a request that ends with its eighth section. With no guards, one byte 0 behind a request, it
+ * answers as glintstring_judge does without that byte.
+ *
+ * The caller sees to the same as for glintstring_judge, and the call keeps nothing either.
+ */
+uint64_t glintstring_judge_guarded(const uint8_t *request, size_t request_length, uint8_t *state, size_t state_length, uint32_t budget);
 
 /*
  * The derivation call: checks a derivation, line by line, of what a request asks.

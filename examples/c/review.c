@@ -2,14 +2,16 @@
  * Judges requests, or checks derivations, and says in words what the answer is, with the bytes at its place.
  *
  *   review judge [--line] [--budget N] REQUEST...           (100,000 unless told otherwise)
+ *   review judge-guarded [--budget N] REQUEST...
  *   review check REQUEST DERIVATION [REQUEST DERIVATION]...
  *   review check-whether REQUEST DERIVATION [REQUEST DERIVATION]...
  *   review release [--budget N] FILE...
  *
  * `check` and `check-whether` do not walk the plan: a derivation may be accepted where every budget is spent. The second takes requests
  * with whether entries too, and derivations in the closing layout. With `--line` a walk that an action stops also says which executability line
- * of it was missing. `release` takes release files, each with many plans over one table, and has a line for each plan. The exit status is 0 where
- * each plan is verified or each derivation accepted, 1 where some answer is another, and 2 where something can't be read or written.
+ * of it was missing. `judge-guarded` takes guarded requests, whose guards are to be known true all the way. `release` takes release files, each with
+ * many plans over one table, and has a line for each plan. The exit status is 0 where each plan is verified or each derivation accepted, 1 where some
+ * answer is another, and 2 where something can't be read or written.
  */
 #define _POSIX_C_SOURCE 200809L
 #include <errno.h>
@@ -33,7 +35,7 @@ struct input {
     size_t length;
 };
 
-/* Prints the words, the numbers, the state that answers 1 and 2 wrote, and the bytes at the place. `derivation` is null after a walk. */
+/* Prints the words, the numbers, the state that answers 1, 2 and 43 wrote, and the bytes at the place. `derivation` is null after a walk. */
 static int tell(uint64_t answer, const struct input *request, const struct input *derivation, const uint8_t *state) {
     static const struct input none = {"", NULL, 0};
     const struct input *second = derivation ? derivation : &none;
@@ -48,7 +50,7 @@ static int tell(uint64_t answer, const struct input *request, const struct input
         printf("%s: ", request->name);
     puts(derivation && number == GLINTSTRING_ACCEPTED ? "accepted" : glintstring_words(number));
     printf("  number %u, place %u, count %lu\n", number, glintstring_place(answer), (unsigned long)glintstring_count(answer));
-    if (number == GLINTSTRING_GOAL_MISSED || number == GLINTSTRING_NOT_EXECUTABLE) {
+    if (number == GLINTSTRING_GOAL_MISSED || number == GLINTSTRING_NOT_EXECUTABLE || number == GLINTSTRING_GUARD_BROKEN) {
         printf("  state ");
         for (i = 0; i < request->bytes[0]; i++) /* a request that was walked starts with its number of fluents */
             putchar(state[i] == GLINTSTRING_TRUE ? '+' : state[i] == GLINTSTRING_FALSE ? '-' : '?');
@@ -108,6 +110,17 @@ static int judge(const char *name, uint32_t budget, int lined) {
     return status;
 }
 
+/* The same of a guarded request. */
+static int judge_guarded(const char *name, uint32_t budget) {
+    uint8_t state[GLINTSTRING_STATE_LENGTH] = {0};
+    struct input request;
+    int status = read_input(name, GLINTSTRING_REQUEST_LIMIT, &request);
+    if (status == GOOD)
+        status = tell(glintstring_judge_guarded(request.bytes, request.length, state, sizeof state, budget), &request, NULL, state);
+    free(request.bytes);
+    return status;
+}
+
 /* Prints a line for each plan, from the row. */
 static int tell_plans(const char *name, const uint32_t *row, uint32_t plans) {
     int status = GOOD;
@@ -163,8 +176,9 @@ static int is_budget(const char *word, uint32_t *budget) {
 }
 
 static int usage(void) {
-    fputs("usage: review judge [--line] [--budget N] REQUEST... | review check REQUEST DERIVATION [REQUEST DERIVATION]... | "
-          "review check-whether REQUEST DERIVATION [REQUEST DERIVATION]... | review release [--budget N] FILE...\n",
+    fputs("usage: review judge [--line] [--budget N] REQUEST... | review judge-guarded [--budget N] REQUEST... | "
+          "review check REQUEST DERIVATION [REQUEST DERIVATION]... | review check-whether REQUEST DERIVATION [REQUEST DERIVATION]... | "
+          "review release [--budget N] FILE...\n",
           stderr);
     return FAILED;
 }
@@ -175,15 +189,17 @@ static int review(int count, char **word) {
     const int whether = count > 0 && strcmp(word[0], "check-whether") == 0;
     const int checking = count > 2 && count % 2 == 1 && (whether || strcmp(word[0], "check") == 0);
     const int judging = count > 1 && strcmp(word[0], "judge") == 0;
+    const int guarded = count > 1 && strcmp(word[0], "judge-guarded") == 0;
     const int releasing = count > 1 && strcmp(word[0], "release") == 0;
     const int lined = judging && strcmp(word[1], "--line") == 0;
     const int after = lined ? 2 : 1;
-    const int budgeted = (judging || releasing) && count > after && strcmp(word[after], "--budget") == 0;
-    if (!(checking || judging || releasing) || count == after || (budgeted && (count < after + 3 || !is_budget(word[after + 1], &budget))))
+    const int budgeted = (judging || guarded || releasing) && count > after && strcmp(word[after], "--budget") == 0;
+    if (!(checking || judging || guarded || releasing) || count == after || (budgeted && (count < after + 3 || !is_budget(word[after + 1], &budget))))
         return usage();
     for (i = budgeted ? after + 2 : after; i < count; i += checking ? 2 : 1) {
         status = checking    ? check(whether ? glintstring_check_whether : glintstring_check, word[i], word[i + 1])
                  : releasing ? release(word[i], budget)
+                 : guarded   ? judge_guarded(word[i], budget)
                              : judge(word[i], budget, lined);
         worst = status > worst ? status : worst;
     }

@@ -1,4 +1,4 @@
-//! Answers with the format's names (docs/FORMAT.md, sections 4 and 17).
+//! Answers with the format's names (docs/FORMAT.md, sections 4, 17 and 21).
 
 use std::{error, fmt};
 
@@ -98,16 +98,16 @@ impl State {
     }
 }
 
-/// An answer of the walk call, the derivation call or the whether call, or what the release call says of its file as a whole. A place is the number of bytes that stand before it in its input: the
-/// derivation for 31 to 36, the request or the derivation where the answer says which, and the request for all others. To the release call its file is
-/// the request.
+/// An answer of the walk call, the guarded call, the derivation call or the whether call, or what the release call says of its file as a whole. A place is
+/// the number of bytes that stand before it in its input: the derivation for 31 to 36, the request or the derivation where the answer says which, and the
+/// request for all others. To the release call its file is the request.
 ///
 /// A number keeps its meaning from one version to the next, and a version may have numbers that the one before did not.
 #[must_use = "an answer other than 0 says that the plan is not to pass: see `is_verified` and `verified`"]
 #[non_exhaustive]
 #[derive(Clone, Copy, Debug, PartialEq, Eq, Hash)]
 pub enum Answer {
-    /// 0 of the walk call: the walk verifies the plan.
+    /// 0 of the walk call and of the guarded call: the walk verifies the plan.
     Verified {
         /// Actions run and end states judged.
         count: u32,
@@ -253,6 +253,15 @@ pub enum Answer {
         /// Its count byte where its length is another; or else its first entry that names no line, or another line than it is to name.
         place: usize,
     },
+    /// 43 of the guarded call: a state is met that lacks a guard, one that is not known true in it.
+    GuardBroken {
+        /// The first guard that it lacks.
+        place: usize,
+        /// Actions run and end states judged before it, the action that leads to it included.
+        count: u32,
+        /// That state.
+        state: State,
+    },
 }
 
 impl Answer {
@@ -274,6 +283,21 @@ impl Answer {
             number => Answer::refusal(number, Input::Request, place).unwrap_or_else(|| strange(packed)),
         };
         answer.if_packed(packed)
+    }
+
+    /// Takes an answer of the guarded call apart; `state` is what the lent bytes are after the call.
+    ///
+    /// # Panics
+    ///
+    /// Where [`Answer::unpack`] does, but for number 43, and where the state of 43 is no state. The proved library gives no such answer.
+    pub fn unpack_guarded(packed: Packed, state: &[u8]) -> Answer {
+        match packed.number() {
+            43 => {
+                let state = State::from_bytes(state).unwrap_or_else(|| strange(packed));
+                Answer::GuardBroken { place: packed.place(), count: packed.count(), state }.if_packed(packed)
+            }
+            _ => Answer::unpack(packed, state),
+        }
     }
 
     /// Takes an answer of the derivation call apart.
@@ -341,7 +365,8 @@ impl Answer {
 
     /// The answer is 0: the plan is verified by its walk, or by the derivation, which is accepted.
     ///
-    /// Then it can be carried out, and reaches its goals, from every world that has the initial facts. Of no other answer is that said.
+    /// Then it can be carried out, and reaches its goals, from every world that has the initial facts; after the guarded call the guards hold all the
+    /// way. Of no other answer is that said.
     #[must_use]
     pub fn is_verified(&self) -> bool {
         self.number() == 0
@@ -393,6 +418,7 @@ impl Answer {
             Answer::DoesNotFollow { .. } => 34,
             Answer::NotTheQuestion { .. } => 35,
             Answer::ClosingNotRight { .. } => 36,
+            Answer::GuardBroken { .. } => 43,
         }
     }
 
@@ -421,6 +447,7 @@ impl Answer {
             | Answer::TooManyItems { input, .. } => Some(input),
             Answer::GoalMissed { .. }
             | Answer::NotExecutable { .. }
+            | Answer::GuardBroken { .. }
             | Answer::Contradictory { .. }
             | Answer::EffectsAndKnowledge { .. }
             | Answer::WhetherAsked { .. } => Some(Input::Request),
@@ -439,6 +466,7 @@ impl Answer {
             Answer::Verified { .. } | Answer::Accepted | Answer::BudgetSpent { .. } | Answer::StateLength | Answer::TooLong { .. } => 0,
             Answer::GoalMissed { place, .. }
             | Answer::NotExecutable { place, .. }
+            | Answer::GuardBroken { place, .. }
             | Answer::InputEnds { place, .. }
             | Answer::CountNotWithinLimits { place, .. }
             | Answer::TooLarge { place, .. }
@@ -464,16 +492,16 @@ impl Answer {
     pub fn count(&self) -> u32 {
         match *self {
             Answer::Verified { count } => count,
-            Answer::GoalMissed { count, .. } | Answer::NotExecutable { count, .. } => count,
+            Answer::GoalMissed { count, .. } | Answer::NotExecutable { count, .. } | Answer::GuardBroken { count, .. } => count,
             Answer::BudgetSpent { budget } => budget,
             _ => 0,
         }
     }
 
-    /// The state that goes with answers 1 and 2.
+    /// The state that goes with answers 1, 2 and 43.
     pub fn state(&self) -> Option<&State> {
         match self {
-            Answer::GoalMissed { state, .. } | Answer::NotExecutable { state, .. } => Some(state),
+            Answer::GoalMissed { state, .. } | Answer::NotExecutable { state, .. } | Answer::GuardBroken { state, .. } => Some(state),
             _ => None,
         }
     }
@@ -515,6 +543,7 @@ pub(crate) fn words_of(number: u8) -> &'static str {
         34 => "a line does not follow by its rule",
         35 => "the last line differs from the question",
         36 => "the closing list is not what the request asks",
+        43 => "guard broken",
         _ => "no answer that the format has",
     }
 }

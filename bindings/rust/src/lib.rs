@@ -2,9 +2,10 @@
 //!
 //! A request has a domain table, a plan and goals in its bytes (docs/FORMAT.md). [`judge`] walks the plan over partial states and
 //! answers; that its answer, the state in it included, is that of the definition is proved, for every request and budget
-//! (docs/STATEMENTS.md). [`check`] checks a derivation, lines by which the plan reaches its goals, [`check_whether`] one that also says of
-//! fluents that they are known in the end, [`release`] walks every plan of a release file, which has many plans over one table, and [`show`] gives
-//! the part of an input that an answer is about; of these the same is proved. This crate adds names to the numbers and proves nothing.
+//! (docs/STATEMENTS.md). [`judge_guarded`] walks the plan of a guarded request, whose guards are to be known true all the way, [`check`] checks a
+//! derivation, lines by which the plan reaches its goals, [`check_whether`] one that also says of fluents that they are known in the end, [`release`]
+//! walks every plan of a release file, which has many plans over one table, and [`show`] gives the part of an input that an answer is about; of these
+//! the same is proved. This crate adds names to the numbers and proves nothing.
 //! `examples/rust` of the repository is a small program that uses it.
 //!
 //! ```
@@ -31,9 +32,9 @@
 //! # Stack
 //!
 //! A walk may need as much as [`STACK_NEEDED`] bytes of stack, more than the 2 MiB that a thread in Rust gets, and more than the 8 MiB that the
-//! first thread of a process has as a rule; the request decides how much. [`judge`] and [`release`] see to that: they walk on a thread of their own. A
-//! [`Judge`] keeps such a thread for many calls. [`judge_here`], [`judge_packed`], [`release_here`] and [`release_packed`] walk on the caller's stack,
-//! and a walk that has too little of it is ended by the system, and the process with it. [`check`], [`check_whether`], [`plans`] and [`show`] need far
+//! first thread of a process has as a rule; the request decides how much. [`judge`], [`judge_line`], [`judge_guarded`] and [`release`] see to
+//! that: they walk on a thread of their own. A [`Judge`] keeps such a thread for many calls. Those with `_here` or `_packed` in their names walk on the
+//! caller's stack, and a walk that has too little of it is ended by the system, and the process with it. [`check`], [`check_whether`], [`plans`] and [`show`] need far
 //! less, whatever their inputs, and a thread's 2 MiB will do.
 //!
 //! # The library
@@ -54,8 +55,11 @@ pub use serving::Judge;
 
 use std::{io, thread};
 
-/// The length of the lent state that [`judge_packed`] takes, which is the number of marks in a [`State`].
+/// The length of the lent state that [`judge_packed`] and [`judge_guarded_packed`] take, which is the number of marks in a [`State`].
 pub const STATE_LENGTH: usize = 128;
+
+/// Guards that a guarded request may have.
+pub const MOST_GUARDS: usize = 64;
 
 /// Plans that a release file may have.
 pub const MOST_PLANS: usize = 64;
@@ -63,7 +67,7 @@ pub const MOST_PLANS: usize = 64;
 /// Numbers that the lent row of [`release_packed`] has for each plan: number, place, count and input.
 pub const ROW_NUMBERS: usize = 4;
 
-/// Bytes that a request or a release file may have. One byte more is answered as any longer one, so that no more of a file need be read.
+/// Bytes that a request, a guarded request or a release file may have. One byte more is answered as any longer one, so that no more of a file need be read.
 pub const REQUEST_LIMIT: usize = 16_384;
 
 /// Bytes that a derivation may have, in the same way.
@@ -78,6 +82,7 @@ const STACK: usize = STACK_NEEDED + (1 << 20);
 extern "C" {
     // As include/glintstring.h has them.
     fn glintstring_judge(request: *const u8, request_length: usize, state: *mut u8, state_length: usize, budget: u32) -> u64;
+    fn glintstring_judge_guarded(request: *const u8, request_length: usize, state: *mut u8, state_length: usize, budget: u32) -> u64;
     fn glintstring_judge_line(request: *const u8, request_length: usize, state: *mut u8, state_length: usize, budget: u32, line: *mut u32) -> u64;
     fn glintstring_check(request: *const u8, request_length: usize, derivation: *const u8, derivation_length: usize) -> u64;
     fn glintstring_check_whether(request: *const u8, request_length: usize, derivation: *const u8, derivation_length: usize) -> u64;
@@ -214,6 +219,76 @@ pub fn judge_here(request: &[u8], budget: u32) -> Answer {
 pub fn judge_packed(request: &[u8], state: &mut [u8], budget: u32) -> Packed {
     // Each pointer is valid for its length, the state's for writing too and for nobody else, and the call keeps neither.
     Packed(unsafe { glintstring_judge(request.as_ptr(), request.len(), state.as_mut_ptr(), state.len(), budget) })
+}
+
+/// The guarded call: judges a guarded request by walking its plan, with a count of at most `budget`.
+///
+/// A guarded request has a ninth section behind the eight of a request, a list of at most [`MOST_GUARDS`] literals (FORMAT 21.2). Each of them is to be known
+/// true in every state that the walk meets: the first, and every one to which an action leads. The first state that lacks one ends the walk with
+/// [`Answer::GuardBroken`]; all else is answered as [`judge`] answers. Any bytes may be given, of any length. The walk runs on a thread of its own that has
+/// enough stack, and the caller waits for it; for many calls a [`Judge`] keeps one.
+///
+/// ```
+/// use glintstring::{judge, judge_guarded, show, Answer, Input};
+///
+/// # fn main() -> std::io::Result<()> {
+/// // Two fluents: open for writing, which is false, and new map. Action 0 opens, action 1 makes the map, action 2 closes; the plan is all three.
+/// let table = [2, 3, 2, 1, 3, 3, 0, 0, 0, 1, 2, 0, 2, 1, 0, 3, 0, 0, 1, 0, 2, 0, 0];
+/// let request = [&table[..], &[0, 3, 0, 1, 2, 2, 1, 2, 0]].concat();
+/// assert_eq!(judge(&request, 100)?, Answer::Verified { count: 4 });
+///
+/// // The same, guarded by this: not open for writing. And with no guards.
+/// let guarded = [&request[..], &[1, 1]].concat();
+/// let answer = judge_guarded(&guarded, 100)?;
+/// let Answer::GuardBroken { place, count, state } = answer else { panic!("{answer}") };
+/// assert_eq!((place, count), (33, 1));
+/// assert_eq!(state.line(2), "+-");
+/// assert_eq!(show(answer, &guarded, &[]), [1]);
+/// assert_eq!(judge_guarded(&[&request[..], &[0]].concat(), 100)?, Answer::Verified { count: 4 });
+///
+/// // Nothing in the bytes says whether guards follow.
+/// assert_eq!(judge_guarded(&request, 100)?, Answer::InputEnds { input: Input::Request, place: 32 });
+/// assert_eq!(judge(&guarded, 100)?, Answer::BytesLeftOver { input: Input::Request, place: 32 });
+/// # Ok(())
+/// # }
+/// ```
+///
+/// # Errors
+///
+/// Where the system gives no such thread. Then nothing is judged.
+///
+/// # Panics
+///
+/// Where the library linked gives an answer that the format does not have, which the proved one does not.
+pub fn judge_guarded(request: &[u8], budget: u32) -> io::Result<Answer> {
+    with_stack(|| judge_guarded_here(request, budget))
+}
+
+/// [`judge_guarded`] on the caller's own stack, as [`judge_here`] is [`judge`].
+///
+/// # Panics
+///
+/// Where the library linked gives an answer that the format does not have, which the proved one does not.
+pub fn judge_guarded_here(request: &[u8], budget: u32) -> Answer {
+    let mut state = [0; STATE_LENGTH];
+    let packed = judge_guarded_packed(request, &mut state, budget);
+    Answer::unpack_guarded(packed, &state)
+}
+
+/// The guarded call as it is exported: the same as [`judge_guarded_here`], with a lent state, and with the answer packed into one number.
+///
+/// After answers 1, 2 and 43 the lent bytes are the state concerned, which [`State::from_bytes`] reads; after every other answer they are what
+/// they were. Where there are not [`STATE_LENGTH`] of them, the answer is 9.
+///
+/// ```
+/// // One fluent, nothing known of it, one action and an empty plan; the guard is that the fluent is true.
+/// let request = [1, 1, 0, 0, 0, 0, 0, 0, 0, 0, 1, 0];
+/// let packed = glintstring::judge_guarded_packed(&request, &mut [0; 128], 0);
+/// assert_eq!((packed.number(), packed.input(), packed.place(), packed.count()), (43, 1, 11, 0));
+/// ```
+pub fn judge_guarded_packed(request: &[u8], state: &mut [u8], budget: u32) -> Packed {
+    // Each pointer is valid for its length, the state's for writing too and for nobody else, and the call keeps neither.
+    Packed(unsafe { glintstring_judge_guarded(request.as_ptr(), request.len(), state.as_mut_ptr(), state.len(), budget) })
 }
 
 /// The derivation call: checks a derivation of what a request asks.

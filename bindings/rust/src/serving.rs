@@ -3,7 +3,7 @@
 use std::sync::mpsc::{channel, Receiver, Sender};
 use std::{fmt, io, thread};
 
-use crate::{judge_line_packed, release_row, Answer, Judged, Packed, Released, REQUEST_LIMIT, STACK, STATE_LENGTH};
+use crate::{judge_guarded_packed, judge_line_packed, release_row, Answer, Judged, Packed, Released, REQUEST_LIMIT, STACK, STATE_LENGTH};
 
 /// A thread with enough stack for a walk, which is started once and serves many calls, one after the other.
 ///
@@ -38,13 +38,14 @@ pub struct Judge {
     answers: Receiver<Answered>,
 }
 
-/// What the walk call or the release call is given: a request or a release file, and a budget.
+/// What the walk call, the guarded call or the release call is given: a request, a guarded one or a release file, and a budget.
 enum Call {
     Walk(Vec<u8>, u32),
+    Guarded(Vec<u8>, u32),
     Release(Vec<u8>, u32),
 }
 
-/// What they leave: an answer, with the lent state and the line, or with the lent row.
+/// What they leave: an answer, with the lent state and the line, which the guarded call has not, or with the lent row.
 enum Answered {
     Walk(Packed, [u8; STATE_LENGTH], u32),
     Release(Packed, Vec<u32>),
@@ -74,7 +75,7 @@ impl Judge {
     ///
     /// Where the library linked gives an answer that the format does not have, which the proved one does not. The judge can be used after it.
     pub fn judge(&mut self, request: &[u8], budget: u32) -> Answer {
-        let (packed, state, _) = self.walk(request, budget);
+        let (packed, state, _) = self.walk(Call::Walk(copied(request), budget));
         Answer::unpack(packed, &state)
     }
 
@@ -84,8 +85,18 @@ impl Judge {
     ///
     /// As [`Judge::judge`] does.
     pub fn judge_line(&mut self, request: &[u8], budget: u32) -> Judged {
-        let (packed, state, line) = self.walk(request, budget);
+        let (packed, state, line) = self.walk(Call::Walk(copied(request), budget));
         Judged::unpack(packed, &state, line)
+    }
+
+    /// The guarded call, as [`judge_guarded`](crate::judge_guarded) makes it: judges a guarded request.
+    ///
+    /// # Panics
+    ///
+    /// As [`Judge::judge`] does.
+    pub fn judge_guarded(&mut self, request: &[u8], budget: u32) -> Answer {
+        let (packed, state, _) = self.walk(Call::Guarded(copied(request), budget));
+        Answer::unpack_guarded(packed, &state)
     }
 
     /// The release call, as [`release`](crate::release) makes it: answers every plan of a release file, each with a count of at most `budget`.
@@ -98,8 +109,8 @@ impl Judge {
         Released::unpack(packed, &row)
     }
 
-    fn walk(&mut self, request: &[u8], budget: u32) -> (Packed, [u8; STATE_LENGTH], u32) {
-        let Answered::Walk(packed, state, line) = self.served(Call::Walk(copied(request), budget)) else { unreachable!("{SERVES}") };
+    fn walk(&mut self, call: Call) -> (Packed, [u8; STATE_LENGTH], u32) {
+        let Answered::Walk(packed, state, line) = self.served(call) else { unreachable!("{SERVES}") };
         (packed, state, line)
     }
 
@@ -123,6 +134,11 @@ fn serve(calls: &Receiver<Call>, answers: &Sender<Answered>) {
                 let mut line = 0;
                 let packed = judge_line_packed(&request, &mut state, budget, &mut line);
                 Answered::Walk(packed, state, line)
+            }
+            Call::Guarded(request, budget) => {
+                let mut state = [0; STATE_LENGTH];
+                let packed = judge_guarded_packed(&request, &mut state, budget);
+                Answered::Walk(packed, state, 0)
             }
             Call::Release(file, budget) => {
                 let (packed, row) = release_row(&file, budget);

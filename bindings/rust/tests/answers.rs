@@ -6,8 +6,8 @@ use std::error::Error;
 
 use common::{deep, FILE_A};
 use glintstring::{check, check_packed, check_whether, check_whether_packed, judge, judge_here, judge_packed, show, show_start};
-use glintstring::{judge_line, judge_line_here, judge_line_packed};
-use glintstring::{Answer, Input, Judged, Mark, NotVerified, Packed, State, STATE_LENGTH};
+use glintstring::{judge_guarded, judge_guarded_here, judge_guarded_packed, judge_line, judge_line_here, judge_line_packed};
+use glintstring::{Answer, Input, Judge, Judged, Mark, NotVerified, Packed, State, STATE_LENGTH};
 
 /// Bytes 0 to 28 of File A, followed by these.
 fn from_29(rest: &[u8]) -> Vec<u8> {
@@ -70,10 +70,62 @@ fn other_answers_leave_the_lent_bytes() {
     assert_eq!(lent, [9; STATE_LENGTH]);
 }
 
-/// The thread of a test has 2 MiB, which this walk does not fit in.
+/// File A and these guards behind it.
+fn guarded_by(guards: &[u8]) -> Vec<u8> {
+    [&FILE_A[..], &[guards.len() as u8], guards].concat()
+}
+
 #[test]
-fn the_short_name_sees_to_its_stack() {
+fn a_broken_guard_has_its_state() {
+    // Not hurt, all the way; then, no new map: the conversion makes one, by the fourth that is counted.
+    assert_eq!(judge_guarded(&guarded_by(&[7]), 5).expect("a thread"), Answer::Verified { count: 5 });
+    let request = guarded_by(&[5, 7]);
+    let answer = judge_guarded(&request, 4).expect("a thread");
+    let Answer::GuardBroken { place, count, state } = answer else { panic!("{answer}") };
+    assert_eq!((place, count), (49, 4));
+    assert_eq!(state.line(4), "-++-");
+    let mut lent = [9; STATE_LENGTH];
+    assert_eq!(judge_guarded_packed(&request, &mut lent, 4), answer.packed());
+    assert_eq!((state.bytes(), answer.state()), (lent, Some(&state)));
+    assert_eq!((answer.input(), answer.named()), (1, Some(Input::Request)));
+    assert_eq!(show(answer, &request, &[]), [5, 7]);
+    assert_eq!(answer.to_string(), "guard broken (43, place 49, count 4)");
+    let error = answer.verified().unwrap_err();
+    assert_eq!(error.to_string(), "not verified: guard broken (answer 43, place 49 of the request)");
+    // The action that breaks it is counted, and a first state that lacks one counts nothing.
+    assert_eq!(judge_guarded_here(&request, 3), Answer::BudgetSpent { budget: 3 });
+    let first = judge_guarded_here(&guarded_by(&[1, 7]), 0);
+    assert_eq!((first.number(), first.place(), first.count()), (43, 49, 0));
+    assert_eq!(first.state().expect("a state").line(4), "?---");
+}
+
+/// With no guards the answer is the walk call's; and each call takes the other's request for what it is not.
+#[test]
+fn no_guards_and_no_ninth_section() {
+    let requests = [FILE_A.to_vec(), from_29(&[0, 1, 1, 1, 7, 1, 2]), from_29(&[0, 1, 2, 0, 0]), from_29(&[0, 0, 0, 0]), from_29(&[0, 1, 3, 0, 0])];
+    for request in &requests {
+        for budget in 0..=6 {
+            let expected = judge_here(request, budget);
+            assert_eq!(judge_guarded_here(&[&request[..], &[0]].concat(), budget), expected);
+        }
+    }
+    assert_eq!(judge_guarded_here(&FILE_A, 5), Answer::InputEnds { input: Input::Request, place: 48 });
+    assert_eq!(judge_here(&guarded_by(&[7]), 5), Answer::BytesLeftOver { input: Input::Request, place: 48 });
+    assert_eq!(judge_guarded_here(&guarded_by(&[7, 8]), 5), Answer::TooLarge { input: Input::Request, place: 50 });
+    assert_eq!(judge_guarded_here(&[&FILE_A[..], &[65]].concat(), 5), Answer::CountNotWithinLimits { input: Input::Request, place: 48 });
+    assert_eq!(judge_guarded_here(&[guarded_by(&[7]), vec![0]].concat(), 5), Answer::BytesLeftOver { input: Input::Request, place: 50 });
+}
+
+/// The thread of a test has 2 MiB, which these walks do not fit in.
+#[test]
+fn the_short_names_see_to_their_stack() {
     assert_eq!(judge(&deep(), 100_000).expect("a thread"), Answer::BudgetSpent { budget: 100_000 });
+    assert_eq!(judge_guarded(&[deep(), vec![0]].concat(), 100_000).expect("a thread"), Answer::BudgetSpent { budget: 100_000 });
+    let mut judge = Judge::new().expect("a thread");
+    assert_eq!(judge.judge_guarded(&[deep(), vec![0]].concat(), 5_000), Answer::BudgetSpent { budget: 5_000 });
+    assert_eq!(judge.judge_guarded(&guarded_by(&[5]), 5), judge_guarded_here(&guarded_by(&[5]), 5));
+    assert_eq!(judge.judge(&FILE_A, 5), Answer::Verified { count: 5 });
+    assert_eq!(judge.judge_guarded(&vec![1; 1 << 20], 5), Answer::TooLong { input: Input::Request });
 }
 
 /// As a caller in haste writes it.
@@ -107,6 +159,7 @@ fn zero_alone_is_verified() {
         assert_eq!((answer.is_verified(), answer.verified().is_ok()), (number == 0, number == 0), "{answer}");
     }
     assert!(!Answer::ClosingNotRight { place: 0 }.is_verified());
+    assert!(!Answer::unpack_guarded(Packed(43 + (1 << 8)), &[0; STATE_LENGTH]).is_verified());
 }
 
 #[test]
@@ -120,7 +173,12 @@ fn each_number_is_packed_as_it_came() {
         assert_eq!(answer.packed(), packed);
         assert_eq!(u64::from(answer.number()), number);
         assert_eq!(answer.state().is_some(), matches!(number, 1 | 2));
+        assert_eq!(Answer::unpack_guarded(packed, &[0; STATE_LENGTH]), answer);
     }
+    let packed = Packed(43 + (1 << 8) + (16_383 << 16) + (u64::from(u32::MAX) << 32));
+    let answer = Answer::unpack_guarded(packed, &[2; STATE_LENGTH]);
+    assert_eq!((answer.packed(), answer.number(), answer.count()), (packed, 43, u32::MAX));
+    assert_eq!(answer.state().expect("a state").marks(), &[Mark::False; STATE_LENGTH]);
 }
 
 /// What no library may give: numbers that the walk call does not have, an input, a place or a count that does not go with its number, and a
@@ -137,6 +195,13 @@ fn what_is_no_answer_is_refused() {
     assert!(refused(11, &[0; STATE_LENGTH]), "a refusal of neither input");
     assert!(refused(1 + (1 << 8), &[3; STATE_LENGTH]), "a mark 3");
     assert!(refused(1 + (1 << 8), &[0; STATE_LENGTH - 1]), "a state that is a byte short");
+    // The guarded call has 43 besides.
+    let refused = |packed: u64, lent: &[u8]| std::panic::catch_unwind(|| Answer::unpack_guarded(Packed(packed), lent)).is_err();
+    for number in (4..=8).chain(22..=255) {
+        assert_eq!(refused(number + (1 << 8), &[0; STATE_LENGTH]), number != 43, "number {number}");
+    }
+    assert!(refused(43, &[0; STATE_LENGTH]) && refused(43 + (2 << 8), &[0; STATE_LENGTH]), "a broken guard of another input");
+    assert!(refused(43 + (1 << 8), &[3; STATE_LENGTH]) && refused(43 + (1 << 8), &[]), "a broken guard without its state");
 }
 
 #[test]

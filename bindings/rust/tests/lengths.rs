@@ -1,7 +1,8 @@
 //! Each call at the ends of its lengths: inputs of no byte, of one, of as many as they may have and of one more, and lent states of every
 //! length from 0 to 258.
 
-use glintstring::{check_packed, check_whether_packed, judge_packed, show, show_start, Packed, DERIVATION_LIMIT, REQUEST_LIMIT, STATE_LENGTH};
+use glintstring::{check_packed, check_whether_packed, judge_guarded_packed, judge_packed, show, show_start};
+use glintstring::{Packed, DERIVATION_LIMIT, REQUEST_LIMIT, STATE_LENGTH};
 
 /// Number, input, place and count.
 fn numbers(packed: Packed) -> (u8, u8, usize, u32) {
@@ -46,19 +47,18 @@ fn largest_closing() -> (Vec<u8>, Vec<u8>) {
 const LONGEST: usize = 2 * STATE_LENGTH + 2;
 const FENCE: usize = 64;
 
-#[test]
-fn requests_and_lent_states() {
-    let (largest, place) = largest_request();
+/// The walk call or the guarded call, with a request that has as many bytes as there may be and stops the walk by this answer, before anything is known.
+fn requests_and_lent_states(call: fn(&[u8], &mut [u8], u32) -> Packed, largest: &[u8], stop: (u8, u8, usize, u32)) {
     assert_eq!(largest.len(), REQUEST_LIMIT);
-    let longer = [&largest[..], &[0]].concat();
+    let longer = [largest, &[0]].concat();
     let rows: [(&[u8], (u8, u8, usize, u32)); 5] =
-        [(&[], (11, 1, 0, 0)), (&[0], (12, 1, 0, 0)), (&[1], (11, 1, 1, 0)), (&largest, (2, 1, place, 0)), (&longer, (10, 1, 0, 0))];
+        [(&[], (11, 1, 0, 0)), (&[0], (12, 1, 0, 0)), (&[1], (11, 1, 1, 0)), (largest, stop), (&longer, (10, 1, 0, 0))];
     for (request, answer) in rows {
         for length in 0..=LONGEST {
             let mut around = [9; FENCE + LONGEST + FENCE];
-            let packed = judge_packed(request, &mut around[FENCE..FENCE + length], 7);
+            let packed = call(request, &mut around[FENCE..FENCE + length], 7);
             assert_eq!(numbers(packed), if length == STATE_LENGTH { answer } else { (9, 0, 0, 0) }, "{} bytes, {length} lent", request.len());
-            if length == STATE_LENGTH && answer.0 == 2 {
+            if length == STATE_LENGTH && answer == stop {
                 let state = &mut around[FENCE..FENCE + STATE_LENGTH];
                 assert_eq!(state, [0; STATE_LENGTH]);
                 state.fill(9);
@@ -66,6 +66,21 @@ fn requests_and_lent_states() {
             assert_eq!(around, [9; FENCE + LONGEST + FENCE], "{} bytes, {length} lent", request.len());
         }
     }
+}
+
+#[test]
+fn requests_that_are_walked() {
+    let (largest, place) = largest_request();
+    requests_and_lent_states(judge_packed, &largest, (2, 1, place, 0));
+}
+
+/// The last two actions are left out, for a guard that the first state lacks.
+#[test]
+fn guarded_requests_that_are_walked() {
+    let (mut largest, place) = largest_request();
+    largest[place - 1] -= 2;
+    largest[REQUEST_LIMIT - 2..].copy_from_slice(&[1, 255]);
+    requests_and_lent_states(judge_guarded_packed, &largest, (43, 1, REQUEST_LIMIT - 1, 0));
 }
 
 fn requests_and_derivations(call: fn(&[u8], &[u8]) -> Packed, (request, largest): (Vec<u8>, Vec<u8>)) {

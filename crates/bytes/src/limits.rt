@@ -23,6 +23,8 @@ pub const CITATIONS: usize = 64;
 
 pub const PLANS: usize = 64;
 
+pub const GUARDS: usize = 64;
+
 // A line's number in its section is a byte (FORMAT 2.14 to 2.16).
 pub const LINE_NUMBERS: usize = 256;
 

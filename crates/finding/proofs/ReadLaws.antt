@@ -12,23 +12,25 @@ use Rattle.meaning.specs.Requests.{Effect, Executability, Knowledge, Table, Req
 use Rattle.meaning.specs.Lines.{effects-of, executability-of}
 use Rattle.meaning.specs.Reading
 use Rattle.meaning.specs.Reading.{Got, got, fault, literals, bound-of, byte-at, count-at, below-at, list-at, body-at, effect-at, executability-at, knowledge-at, repeated, section-at, plan-at, table-at, request-at, read-request}
+use Rattle.meaning.specs.Guards.{Guarded-request, read-guarded}
 use Rattle.meaning.proofs.SettledLaws.{got-same}
-use Rattle.meaning.proofs.PlaceLaws.{Request-held, read-held}
-use Rattle.meaning.proofs.RangeLaws.{not-refused, after-got, count-within, section-read, repeated-length}
-use Rattle.reading.specs.Noted.{effects, executability, knowledge, effect-lines, run-lines, line-place, action-in, note-line, none-yet, count-slot, section-noted, table-noted, branch-place, branch-item, sensed-from, sensed-to, plan-slot, items-slot, goals-slot, sensed, slots, effects-slot, executability-slot, knowledge-slot, line-numbers}
+use Rattle.meaning.proofs.RangeLaws.{after-got, count-within, section-read, repeated-length}
+use Rattle.reading.specs.Noted.{effects, executability, knowledge, effect-lines, run-lines, line-place, action-in, note-line, none-yet, count-slot, section-noted, table-noted, branch-place, branch-item, sensed-from, sensed-to, plan-slot, items-slot, goals-slot, guards-slot, sensed, slots, effects-slot, executability-slot, knowledge-slot, line-numbers}
 use Rattle.reading.specs.Ordered.{In-order}
 use Rattle.reading.specs.Listed.{listed, List-here}
 use Rattle.reading.specs.Planned.{items-of, bytes-of, plan-noted}
-use Rattle.reading.specs.Requested.{goals-place, plan-place, places-noted, tail-noted, request-noted}
+use Rattle.reading.specs.Requested.{goals-place, plan-place, places-noted, tail-with, request-with, guards-place, guarded-noted}
 use Rattle.finding.specs.LinesHere.{effect-from, Effect-here, place-in, effects-in, Effects-here, knowledge-from, knowledge-in, Knowledge-here, Acting}
 use Rattle.reading.proofs.SectionLaws.{got-place, byte-got, number-got}
 use Rattle.reading.proofs.PlanSizes.{sequence-read, list-through}
 use Rattle.reading.proofs.RequestLaws.{placed-length}
+use Rattle.reader.proofs.WholeLaws.{Parts, parts, plain-read, guarded-read}
 use Rattle.finding.proofs.HereLaws.{list-here, effect-here}
 use Rattle.finding.proofs.KeptLaws.{kept, Outside, appended-kept, pair-kept, section-kept, section-counted, section-long, plan-kept, plan-long}
 use Rattle.finding.proofs.ChainLaws.{section-ordered, order-same, order-some}
 use Rattle.finding.specs.PlansHeld.{Kept, Plan-held}
 use Rattle.finding.specs.TablesHere.{blank, table-of, table-in, Of-table, Table-here, Runs-here}
+use Rattle.finding.specs.ReadHere.{Read-here}
 use Rattle.finding.proofs.PlanKept.{kept-agree}
 use Rattle.finding.proofs.WrittenLaws.{plan-held}
 use Rattle.finding.proofs.HoldsLaws.{Placed-in, effects-placed, placed-same, effects-found, effects-fit}
@@ -100,30 +102,6 @@ request-parts s t p y q e =
     on (got x i) = Request-parts s t p x
     on (fault n i) = Unit {0}
 
--- A request that was read: its table from the start, and the rest behind it.
-pub record Parts (s : List ℕ) (x : Request) (e : ℕ) : Type 0 where
-  pub place : ℕ
-  pub table-read : table-at format s 0 ≡ got (x .table) place
-  pub tail-read : request-at format s (x .table) place ≡ got x e
-
-parts : (s : List ℕ) (x : Request) (e : ℕ) → read-request format s ≡ got x e → Parts s x e
-unfolding read-request
-parts s x e read =
-    after-got (table-at format s 0) _ (not-refused _ _ _ _ read .1) λ t p et e₁.
-    after-got (request-at format s t p) _ e₁ λ y q ey e₂.
-    let same : y .table ≡ t = request-parts s t p y q ey .table in
-    let is : got y q ≡ got x e = not-refused _ _ _ _ e₂ .1 in
-    let reads : Parts s y q = record {
-      place = p;
-      table-read = et ∙ ap (λ (z : Table). got z p) (sym same);
-      tail-read = ap (λ (z : Table). request-at format s z p) same ∙ ey;
-    } in
-    subst on is reads
-  where
-    on : Got Request → Type 0
-    on (got y q) = Parts s y q
-    on (fault n q) = Unit {0}
-
 -- How many lines a section has.
 pub section-length : {A : Type 0} (line : ℕ → Got A) (s : List ℕ) (p : ℕ) (xs : List A) (q : ℕ) → section-at line s p ≡ got xs q → length xs ≡ getD s p 0
 unfolding section-at
@@ -189,14 +167,14 @@ pub record Apart (j : ℕ) : Type 0 where
   pub far : effect-lines ≤ j
   pub action : (a : ℕ) → a < format .actions → (j ≡ sensed-from + a → ⊥) × (j ≡ sensed-to + a → ⊥)
   pub sensed : j < sensed
-  pub other : (j ≡ knowledge-slot → ⊥) × (j ≡ plan-slot → ⊥) × (j ≡ items-slot → ⊥) × (j ≡ goals-slot → ⊥)
+  pub other : (j ≡ knowledge-slot → ⊥) × (j ≡ plan-slot → ⊥) × (j ≡ items-slot → ⊥) × (j ≡ goals-slot → ⊥) × (j ≡ guards-slot → ⊥)
 
 lines-apart : (j : ℕ) → effect-lines ≤ j → j < sensed-from → Apart j
 lines-apart j far near = record {
   far = far;
   action = λ a h. (λ e. omega arith, λ e. omega arith);
   sensed = omega arith;
-  other = (λ e. omega arith, λ e. omega arith, λ e. omega arith, λ e. omega arith);
+  other = (λ e. omega arith, λ e. omega arith, λ e. omega arith, λ e. omega arith, λ e. omega arith);
 }
 
 module _ (s : List ℕ) (bytes : (i : ℕ) → getD s i 0 < 256) (x : Table) (p : ℕ) (whole : Table-parts s x p) where
@@ -260,13 +238,13 @@ module _ (s : List ℕ) (bytes : (i : ℕ) → getD s i 0 < 256) (x : Table) (p 
 
   -- NOTES THAT HOLD THE TABLE, whatever plan they hold too.
   module _ (u : List ℕ) (noted : (j : ℕ) → Of-table j → getD u j 0 ≡ getD (table-noted x blank) j 0) where
-    pub after-sections : (j : ℕ) → effect-lines ≤ j → (j ≡ plan-slot → ⊥) → (j ≡ items-slot → ⊥) → (j ≡ goals-slot → ⊥) → getD u j 0 ≡ getD with-knowledge j 0
+    pub after-sections : (j : ℕ) → Of-table j → getD u j 0 ≡ getD with-knowledge j 0
     unfolding table-noted with-knowledge with-runs with-effects
-    after-sections j far a b c = noted j (record { far = far; other = (a, b, c) })
+    after-sections j of = noted j of
 
     after-runs : (j : ℕ) → Apart j → getD u j 0 ≡ getD with-runs j 0
     unfolding with-knowledge
-    after-runs j apart = after-sections j (apart .far) (apart .other .1) (apart .other .2) (apart .other .3) ∙ knowledge-kept with-runs j apart
+    after-runs j apart = after-sections j (record { far = apart .far; other = (apart .other .1, apart .other .2, apart .other .3, apart .other .4) }) ∙ knowledge-kept with-runs j apart
 
     after-effects : (j : ℕ) → Apart j → Outside run-lines j → (j ≡ executability-slot → ⊥) → getD u j 0 ≡ getD with-effects j 0
     unfolding with-runs
@@ -275,7 +253,7 @@ module _ (s : List ℕ) (bytes : (i : ℕ) → getD s i 0 < 256) (x : Table) (p 
     pub knowledge-counted : getD u knowledge-slot 0 ≡ length (x .knowledge)
     unfolding with-knowledge note-line action-in count-slot
     knowledge-counted =
-        after-sections knowledge-slot (omega arith) (λ e. omega arith) (λ e. omega arith) (λ e. omega arith)
+        after-sections knowledge-slot (record { far = omega arith; other = (λ e. omega arith, λ e. omega arith, λ e. omega arith, λ e. omega arith) })
         ∙ section-counted knowledge knowledge-slot (λ (l : Knowledge). l .action < format .actions)
         (λ last k l v small _ _. pair-kept knowledge-slot (l .action) (l .fluent) v (omega arith) (λ e. omega arith) (λ e. omega arith)) (λ l small. small)
         (x .knowledge) with-runs (knowledge-good s x p whole) knowledge-few refl (omega (arith, runs-long))
@@ -287,7 +265,7 @@ module _ (s : List ℕ) (bytes : (i : ℕ) → getD s i 0 < 256) (x : Table) (p 
           far = omega arith;
           action = λ a h. (λ e. omega arith, λ e. omega arith);
           sensed = omega arith;
-          other = (λ e. omega arith, λ e. omega arith, λ e. omega arith, λ e. omega arith);
+          other = (λ e. omega arith, λ e. omega arith, λ e. omega arith, λ e. omega arith, λ e. omega arith);
         })
         (λ i h e. omega arith) (λ e. omega arith)
         ∙ section-counted effects effects-slot (λ (e : Effect). e .action < format .actions)
@@ -343,8 +321,8 @@ module _ (s : List ℕ) (bytes : (i : ℕ) → getD s i 0 < 256) (x : Table) (p 
       slot = λ a small. order-some (λ (e : Effect). e .place) (λ (e : Effect). eqb (e .action) a) u effect-lines a (x .effects) (effects-ordered a small);
     }
 
--- SECTIONS 6 TO 8, over any table and any notes.
-module _ (s : List ℕ) (x : Table) (few : x .fluents ≤ format .fluents) (less : x .actions ≤ format .actions) (p : ℕ) (y : Request) (q : ℕ) (read : request-at format s x p ≡ got y q) (t : List ℕ) where
+-- SECTIONS 6 TO 8, over any table and any notes, with guards at a place.
+module _ (s : List ℕ) (x : Table) (few : x .fluents ≤ format .fluents) (less : x .actions ≤ format .actions) (p : ℕ) (y : Request) (q : ℕ) (read : request-at format s x p ≡ got y q) (t : List ℕ) (g : ℕ) where
   of-request : Request-parts s x p y
   of-request = request-parts s x p y q read
 
@@ -364,22 +342,26 @@ module _ (s : List ℕ) (x : Table) (few : x .fluents ≤ format .fluents) (less
   abbrev placed-items : List ℕ
   placed-items = set placed-plan items-slot (items-of (y .plan))
 
-  tail-is : tail-noted y t ≡ set placed-items goals-slot (goals-place y)
-  unfolding tail-noted places-noted planned
+  abbrev placed-goals : List ℕ
+  placed-goals = set placed-items goals-slot (goals-place y)
+
+  tail-is : tail-with g y t ≡ set placed-goals guards-slot g
+  unfolding tail-with places-noted planned
   tail-is = refl
 
-  slot-in : (j v : ℕ) → getD (set placed-items goals-slot (goals-place y)) j 0 ≡ v → getD (tail-noted y t) j 0 ≡ v
-  slot-in j v is = ap (λ (u : List ℕ). getD u j 0) tail-is ∙ is
+  slot-in : (j v : ℕ) → (j ≡ guards-slot → ⊥) → getD placed-goals j 0 ≡ v → getD (tail-with g y t) j 0 ≡ v
+  slot-in j v other is = ap (λ (u : List ℕ). getD u j 0) tail-is ∙ kept placed-goals guards-slot j g other ∙ is
 
-  before-places : (j : ℕ) → (j ≡ plan-slot → ⊥) → (j ≡ items-slot → ⊥) → (j ≡ goals-slot → ⊥) → getD (tail-noted y t) j 0 ≡ getD planned j 0
-  before-places j a b c =
-      slot-in j _ (kept placed-items goals-slot j (goals-place y) c ∙ kept placed-plan items-slot j (items-of (y .plan)) b ∙ kept planned plan-slot j (plan-place y) a)
+  before-places : (j : ℕ) → (j ≡ plan-slot → ⊥) × (j ≡ items-slot → ⊥) × (j ≡ goals-slot → ⊥) × (j ≡ guards-slot → ⊥) → getD (tail-with g y t) j 0 ≡ getD planned j 0
+  before-places j other =
+      slot-in j _ (other .3)
+      (kept placed-items goals-slot j (goals-place y) (other .2) ∙ kept placed-plan items-slot j (items-of (y .plan)) (other .1) ∙ kept planned plan-slot j (plan-place y) (other .0))
 
   -- They leave the table as it was.
-  pub tail-kept : (j : ℕ) → Of-table j → getD (tail-noted y t) j 0 ≡ getD t j 0
+  pub tail-kept : (j : ℕ) → Of-table j → getD (tail-with g y t) j 0 ≡ getD t j 0
   unfolding planned
   tail-kept j of =
-      before-places j (of .other .0) (of .other .1) (of .other .2)
+      before-places j (of .other)
       ∙ plan-kept j (of .far) (plan-place y) t (y .plan) (items-most .1)
 
   module _ (sized : length t ≡ slots) where
@@ -393,35 +375,41 @@ module _ (s : List ℕ) (x : Table) (few : x .fluents ≤ format .fluents) (less
     items-long : length placed-items ≡ slots
     items-long = length-set placed-plan items-slot (items-of (y .plan)) ∙ plan-long-too
 
-    pub tail-long : length (tail-noted y t) ≡ slots
-    tail-long = ap length tail-is ∙ length-set placed-items goals-slot (goals-place y) ∙ items-long
+    goals-long : length placed-goals ≡ slots
+    goals-long = length-set placed-items goals-slot (goals-place y) ∙ items-long
 
-    pub items-noted : getD (tail-noted y t) items-slot 0 ≡ items-of (y .plan)
+    pub tail-long : length (tail-with g y t) ≡ slots
+    tail-long = ap length tail-is ∙ length-set placed-goals guards-slot g ∙ goals-long
+
+    pub items-noted : getD (tail-with g y t) items-slot 0 ≡ items-of (y .plan)
     items-noted =
-        slot-in items-slot _ (kept placed-items goals-slot items-slot (goals-place y) (λ e. omega arith)
+        slot-in items-slot _ (λ e. omega arith) (kept placed-items goals-slot items-slot (goals-place y) (λ e. omega arith)
         ∙ getD-set-same placed-plan items-slot (items-of (y .plan)) 0 (omega (arith, plan-long-too)))
 
-    pub plan-noted-at : getD (tail-noted y t) plan-slot 0 ≡ plan-place y
+    pub plan-noted-at : getD (tail-with g y t) plan-slot 0 ≡ plan-place y
     plan-noted-at =
-        slot-in plan-slot _ (kept placed-items goals-slot plan-slot (goals-place y) (λ e. omega arith)
+        slot-in plan-slot _ (λ e. omega arith) (kept placed-items goals-slot plan-slot (goals-place y) (λ e. omega arith)
         ∙ kept placed-plan items-slot plan-slot (items-of (y .plan)) (λ e. omega arith)
         ∙ getD-set-same planned plan-slot (plan-place y) 0 (omega (arith, planned-long)))
 
-    pub goals-noted : getD (tail-noted y t) goals-slot 0 ≡ goals-place y
-    goals-noted = slot-in goals-slot _ (getD-set-same placed-items goals-slot (goals-place y) 0 (omega (arith, items-long)))
+    pub goals-noted : getD (tail-with g y t) goals-slot 0 ≡ goals-place y
+    goals-noted = slot-in goals-slot _ (λ e. omega arith) (getD-set-same placed-items goals-slot (goals-place y) 0 (omega (arith, items-long)))
+
+    pub guards-noted : getD (tail-with g y t) guards-slot 0 ≡ g
+    guards-noted = ap (λ (u : List ℕ). getD u guards-slot 0) tail-is ∙ getD-set-same placed-goals guards-slot g 0 (omega (arith, goals-long))
 
     -- 18 finds the plan.
-    pub tail-held : Plan-held s (tail-noted y t) (y .plan)
+    pub tail-held : Plan-held s (tail-with g y t) (y .plan)
     unfolding planned
     tail-held =
         let held = plan-held (x .fluents) (x .actions) s few less p t (record { value = y .plan; items = of-request .items }) (of-request .plan-end) (omega (arith, sized)) (of-request .plan-read) in
-        let same : (j : ℕ) → j < effect-lines → getD (tail-noted y t) j 0 ≡ getD (plan-noted (plan-place y) t (y .plan)) j 0 = λ j near.
-        before-places j (λ e. omega arith) (λ e. omega arith) (λ e. omega arith) in
+        let same : (j : ℕ) → j < effect-lines → getD (tail-with g y t) j 0 ≡ getD (plan-noted (plan-place y) t (y .plan)) j 0 = λ j near.
+        before-places j (λ e. omega arith, λ e. omega arith, λ e. omega arith, λ e. omega arith) in
         let small = held .few in
         record {
           few = small;
           written = held .written;
-          kept = kept-agree (y .plan) 0 (plan-noted (plan-place y) t (y .plan)) (tail-noted y t)
+          kept = kept-agree (y .plan) 0 (plan-noted (plan-place y) t (y .plan)) (tail-with g y t)
               (record {
                 places = λ j _ less. same (0 + j) (omega arith);
                 ends = λ j _ less. same (branch-place + j) (omega arith);
@@ -489,14 +477,14 @@ module _ (s t : List ℕ) (here : Table-here s t) where
   }
 
   -- A plan that is noted leaves the table there.
-  pub table-stays : (p : ℕ) (y : Request) (q : ℕ) → request-at format s (table-in s) p ≡ got y q → Table-here s (tail-noted y t)
-  table-stays p y q read = record {
+  pub table-stays : (g p : ℕ) (y : Request) (q : ℕ) → request-at format s (table-in s) p ≡ got y q → Table-here s (tail-with g y t)
+  table-stays g p y q read = record {
     bytes = here .bytes;
     short = here .short;
     table-end = here .table-end;
     table = here .table;
-    sized = tail-long s (table-in s) (whole-table .few) (whole-table .less) p y q read t (here .sized);
-    noted = λ j of. tail-kept s (table-in s) (whole-table .few) (whole-table .less) p y q read t j of ∙ here .noted j of;
+    sized = tail-long s (table-in s) (whole-table .few) (whole-table .less) p y q read t g (here .sized);
+    noted = λ j of. tail-kept s (table-in s) (whole-table .few) (whole-table .less) p y q read t g j of ∙ here .noted j of;
   }
 
 -- A table that was noted into notes that held nothing is there.
@@ -516,21 +504,40 @@ module _ (s : List ℕ) (bytes : (i : ℕ) → getD s i 0 < 256) (short : length
     noted = λ j of. ap (λ (z : Table). getD (table-noted z blank) j 0) (sym (table-is s x p read));
   }
 
--- A REQUEST that was read whole: its table, noted into notes that held nothing, is there, and the rest was read behind it.
-module _ (s : List ℕ) (bytes : (i : ℕ) → getD s i 0 < 256) (x : Request) (e : ℕ) (reads : read-request format s ≡ got x e) where
-  pub read-parts : Parts s x e
-  read-parts = parts s x e reads
+-- A REQUEST that was read: its table, noted into notes that held nothing, is there, and the rest was read behind it.
+module _ (s : List ℕ) (bytes : (i : ℕ) → getD s i 0 < 256) (t : List ℕ) (here : Read-here s t) where
+  pub read-parts : Parts s (here .request) (here .end)
+  read-parts = parts s (here .request) (here .end) (here .reads)
 
-  pub read-comes : Table-here s (table-noted (x .table) blank)
-  read-comes = table-comes s bytes (subst (Request-held format s) reads (read-held format s) .1 .1) (x .table) (read-parts .place) (read-parts .table-read)
+  pub read-comes : Table-here s (table-noted (here .request .table) blank)
+  read-comes = table-comes s bytes (here .short) (here .request .table) (read-parts .place) (read-parts .table-read)
 
-  pub read-same : table-in s ≡ x .table
-  read-same = table-is s (x .table) (read-parts .place) (read-parts .table-read)
+  pub read-same : table-in s ≡ here .request .table
+  read-same = table-is s (here .request .table) (read-parts .place) (read-parts .table-read)
 
-  pub read-tail : request-at format s (table-in s) (read-parts .place) ≡ got x e
+  pub read-tail : request-at format s (table-in s) (read-parts .place) ≡ got (here .request) (here .end)
   read-tail = ap (λ (z : Table). request-at format s z (read-parts .place)) read-same ∙ read-parts .tail-read
 
--- What it leaves is what its table leaves, and then the rest.
-pub tail-of-notes : (x : Request) → request-noted x blank ≡ tail-noted x (table-noted (x .table) blank)
-unfolding request-noted
-tail-of-notes x = refl
+  -- The notes are what its table leaves, and then the rest.
+  pub read-noted : t ≡ tail-with (here .guards) (here .request) (table-noted (here .request .table) blank)
+  unfolding request-with
+  read-noted = here .noted
+
+-- It is there when it was read whole, without guards or with them.
+module _ (s t : List ℕ) where
+  abbrev pub plain-here : (x : Request) (e : ℕ) → read-request format s ≡ got x e → t ≡ request-with 0 x blank → Read-here s t
+  plain-here x e is noted = record { request = x; end = e; guards = 0; short = plain-read s x e is .0; reads = plain-read s x e is .1; noted = noted }
+
+  pub with-guards : (g : Guarded-request) → t ≡ guarded-noted g blank → t ≡ request-with (guards-place (g .request)) (g .request) blank
+  unfolding guarded-noted
+  with-guards g noted = noted
+
+  abbrev pub guarded-here : (g : Guarded-request) (e : ℕ) → read-guarded format s ≡ got g e → t ≡ guarded-noted g blank → Read-here s t
+  guarded-here g e is noted = record {
+    request = g .request;
+    end = guards-place (g .request);
+    guards = guards-place (g .request);
+    short = guarded-read s g e is .short;
+    reads = guarded-read s g e is .reads;
+    noted = with-guards g noted;
+  }

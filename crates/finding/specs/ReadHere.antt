@@ -1,15 +1,20 @@
 -- A request that was read from the start of its input.
-use Prim.Native.Nat.{ℕ}
+use Prim.Native.Nat.{ℕ, _≤_}
 use mathlib.Core.Path.{_≡_}
 use mathlib.Core.List.{List}
+use lib.ListN.{length}
 use Rattle.meaning.specs.Limits.{format}
 use Rattle.meaning.specs.Requests.{Request}
-use Rattle.meaning.specs.Reading.{got, read-request}
-use Rattle.reading.specs.Requested.{request-noted}
+use Rattle.meaning.specs.Reading.{got}
+use Rattle.reading.specs.Requested.{request-with}
+use Rattle.reader.specs.Sections.{sections-read}
 use Rattle.finding.specs.TablesHere.{blank}
 
--- A request was read up to e, into notes that held nothing before.
-pub record Read-here (s t : List ℕ) (e : ℕ) : Type 0 where
+-- All eight sections of a request were read, into notes that held nothing before, with guards at a place, 0 for none.
+pub record Read-here (s t : List ℕ) : Type 0 where
   pub request : Request
-  pub reads : read-request format s ≡ got request e
-  pub noted : t ≡ request-noted request blank
+  pub end : ℕ
+  pub guards : ℕ
+  pub short : length s ≤ format .request
+  pub reads : sections-read s 0 ≡ got request end
+  pub noted : t ≡ request-with guards request blank

@@ -8,7 +8,7 @@ use Rattle.meaning.specs.Limits.{format, all-literals}
 use Rattle.meaning.specs.Requests.{Executability, Table}
 use Rattle.meaning.specs.Lines.{executability-of}
 use Rattle.meaning.specs.Reading.{Got, got, fault, table-at}
-use Rattle.reading.specs.Noted.{effect-lines, run-lines, plan-slot, items-slot, goals-slot, slots, table-noted}
+use Rattle.reading.specs.Noted.{effect-lines, run-lines, plan-slot, items-slot, goals-slot, guards-slot, slots, table-noted}
 use Rattle.reading.specs.Ordered.{In-order}
 use Rattle.reading.specs.Listed.{listed, List-here}
 
@@ -25,10 +25,10 @@ table-in s = table-of (table-at format s 0)
 unfoldable pub blank : List ℕ
 blank = replicate slots 0
 
--- THE TABLE IN THE NOTES. The slots that a table alone writes are those behind the plan's, but for the three places of a plan.
+-- THE TABLE IN THE NOTES. The slots that a table alone writes are those behind the plan's, but for the four places that go with a plan.
 pub record Of-table (j : ℕ) : Type 0 where
   pub far : effect-lines ≤ j
-  pub other : (j ≡ plan-slot → ⊥) × (j ≡ items-slot → ⊥) × (j ≡ goals-slot → ⊥)
+  pub other : (j ≡ plan-slot → ⊥) × (j ≡ items-slot → ⊥) × (j ≡ goals-slot → ⊥) × (j ≡ guards-slot → ⊥)
 
 -- Sections 1 to 5 stand at the start of the input, and these slots are as noting the table leaves them. A plan that is noted too changes none of them.
 pub record Table-here (s t : List ℕ) : Type 0 where

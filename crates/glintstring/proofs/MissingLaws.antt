@@ -1,5 +1,5 @@
--- The line that the walk call gives. A walk stops at the first byte of an item of its plan, and what asking names there stands in the request; so the line
--- is that of the answer and of the bytes left, which are the definition's. Assumes nothing.
+-- The line that goes with a walk's answer. A walk that stops with 2 does so at the first byte of an item of its plan, and what asking names there stands in
+-- the request; so the line is that of the answer and of the bytes left. Assumes nothing.
 use Prim.Native.Nat.{ℕ, _+_, _≤_, _<_}
 use native.Mathlib.Omega.{arith}
 use mathlib.Core.Path.{_≡_, sym, _∙_, ap, subst}
@@ -7,41 +7,29 @@ use mathlib.Core.List.{List}
 use lib.ListN.{length, getD, set, replicate, length-set, length-replicate}
 use lib.Seq.{getD-set-same, getD-set-other, ext-getD}
 use lib.Dec.{eqb}
-use mir.Syntax.{w8}
-use mir.Val.{Fits}
 use borrow.Author.Tests.{eqb-true, eqb-false, eq-eqb, ne-eqb}
 use Rattle.meaning.specs.declared.Answer.{Answer}
 use Rattle.meaning.specs.declared.Runs.{Runs}
 use Rattle.meaning.specs.declared.Runs.the-variants.{By, Short, Never}
 use Rattle.meaning.specs.Limits
 use Rattle.meaning.specs.Limits.{format}
-use Rattle.meaning.specs.Requests.{Item, act, branching, Request}
-use Rattle.meaning.specs.Refusals.{settled}
-use Rattle.meaning.specs.States.{State, first-state, outcome}
-use Rattle.meaning.specs.Walk.{End, fine, missed, stopped, Walked, walked}
-use Rattle.meaning.specs.Judging.{Judgement, reported, ended, within, judge}
-use Rattle.meaning.specs.Asking.{asked, line-of, line-at, line-told, line-settled, line}
+use Rattle.meaning.specs.Requests.{Item, act, branching, Entry}
+use Rattle.meaning.specs.States.{State, outcome}
+use Rattle.meaning.specs.Walk.{End, fine, missed, stopped, Walked, walked-guarded}
+use Rattle.meaning.specs.Judging.{Judgement, reported, ended, within}
+use Rattle.meaning.specs.Asking.{asked, line-of, line-at, line-told}
 use Rattle.meaning.specs.Reported.{Item-in, item-place}
 use Rattle.meaning.proofs.TestLaws.{by-test, pick-true, pick-false}
 use Rattle.meaning.proofs.PickLaws.{pick-has}
-use Rattle.meaning.proofs.KeptEnds.{End-so, any-outcome, walked-so}
+use Rattle.meaning.proofs.KeptEnds.{End-so, any-outcome, walked-guarded-so}
 use Rattle.meaning.proofs.AskingLaws.{Line-of, Of-action, asked-of-action}
 use Rattle.meaning.proofs.ItemBytes.{Stands-there, plan-there, places-on}
-use Rattle.meaning.proofs.ReportedLine.{no-line}
-use Rattle.bytes.specs.declared.lists.Passed.{Passed}
-use Rattle.bytes.specs.declared.lists.Passed.the-variants.{To, Fault as Stop}
-use Rattle.reading.specs.Noted as Noted
-use Rattle.reading.specs.Noted.{noting, plan-slot, items-slot}
-use Rattle.reading.specs.Requested.{request-noted}
-use Rattle.reading.proofs.SectionLaws.{noting-fault}
-use Rattle.finding.specs.TablesHere.{blank}
+use Rattle.reading.specs.Noted.{plan-slot, items-slot}
 use Rattle.steps.specs.Held.{table-in, plan-in, goals-in, request-in}
 use Rattle.steps.specs.AtHand.{At-hand}
 use Rattle.steps.proofs.HandLaws.{sections}
 use Rattle.finding.proofs.ReadLaws.{run-stands}
 use Rattle.glintstring.specs.Missing.{Item-byte}
-use Rattle.glintstring.proofs.SettledAtHand.{settled-got, settled-held}
-use Rattle.glintstring.proofs.JudgingLaws.{judge-9, judge-walked}
 
 -- COPIED below fluent f.
 pub record Copying (state marks : List ℕ) (f : ℕ) : Type 0 where
@@ -83,15 +71,15 @@ module _ (s t : List ℕ) (here : At-hand s t) where
   items-here i has =
       item-byte i (plan-there format (table-in s .fluents) (table-in s .actions) s (getD t plan-slot 0) (record { value = plan-in s t; items = getD t items-slot 0 }) (goals-in t) (here .plan) i has)
 
-  -- At the first byte of an item.
+  -- With 2, at the first byte of an item.
   abbrev Stops-there : End State → Type 0
-  Stops-there = End-so (λ _ _. Unit {0}) (λ _ p _. Item-byte s p)
+  Stops-there = End-so (λ _ _. Unit {0}) (λ n p _. n ≡ Limits.not-executable → Item-byte s p)
 
-  walk-stops : (u : State) → Stops-there (walked (request-in s t) u .end)
+  walk-stops : (gs : List Entry) (u : State) → Stops-there (walked-guarded (request-in s t) gs u .end)
   unfolding request-in
-  walk-stops u =
-      walked-so (λ _ _. Unit {0}) _ (λ _. Unit {0}) (Item-byte s) (λ v _ p stands. stands) (request-in s t) (λ a v _. any-outcome (outcome (table-in s) a v)) (λ v _ p _. tt)
-      (places-on (Item-byte s) (plan-in s t) items-here) u tt
+  walk-stops gs u =
+      walked-guarded-so (λ _ _. Unit {0}) _ (λ _. Unit {0}) (Item-byte s) (λ v _ p stands _. stands) (request-in s t) gs (λ a v _. any-outcome (outcome (table-in s) a v)) (λ v _ p _. tt)
+      (λ v _ p _ two. absurd (omega (arith, two))) (places-on (Item-byte s) (plan-in s t) items-here) u tt
 
   abbrev Stands : Judgement → Type 0
   Stands j = j .answer .number ≡ Limits.not-executable → Item-byte s (j .answer .place)
@@ -100,15 +88,15 @@ module _ (s t : List ℕ) (here : At-hand s t) where
   unfolding ended reported
   ended-stands lent c fine stops two = absurd (omega (arith, two))
   ended-stands lent c (missed p v) stops two = absurd (omega (arith, two))
-  ended-stands lent c (stopped n p v) stops two = stops
+  ended-stands lent c (stopped n p v) stops two = stops two
 
   within-stands : (lent : List ℕ) (budget : ℕ) (w : Walked State) → Stops-there (w .end) → Stands (within lent budget w)
   unfolding within
   within-stands lent budget w stops = pick-has Stands _ _ _ (λ _ two. absurd (omega (arith, two))) (λ _. ended-stands lent (w .count) (w .end) stops)
 
-  pub stop-byte : (lent left : List ℕ) (budget : ℕ) (answer : Answer) (u : State) → record { answer = answer; state = left } ≡ within lent budget (walked (request-in s t) u)
+  pub stop-byte : (lent left : List ℕ) (budget : ℕ) (answer : Answer) (gs : List Entry) (u : State) → record { answer = answer; state = left } ≡ within lent budget (walked-guarded (request-in s t) gs u)
       → answer .number ≡ Limits.not-executable → Item-byte s (answer .place)
-  stop-byte lent left budget answer u is = subst Stands (sym is) (within-stands lent budget (walked (request-in s t) u) (walk-stops u))
+  stop-byte lent left budget answer gs u is = subst Stands (sym is) (within-stands lent budget (walked-guarded (request-in s t) gs u) (walk-stops gs u))
 
 -- THE LINE of the item there.
 module _ (s : List ℕ) (place : ℕ) (state : List ℕ) where
@@ -161,26 +149,3 @@ module _ (s : List ℕ) (answer : Answer) (left : List ℕ) where
   pub told-none : (answer .number ≡ Limits.not-executable → ⊥) → 0 ≡ line-told (table-in s) s (record { answer = answer; state = left })
   unfolding line-told
   told-none other = sym (pick-false _ _ _ (ne-eqb _ _ other))
-
--- THE CALL.
-module _ (s lent : List ℕ) (budget : ℕ) where
-  not-stuck : (answer : Answer) (left : List ℕ) → record { answer = answer; state = left } ≡ judge format s lent budget → (answer .number ≡ Limits.not-executable → ⊥) → 0 ≡ line format s lent budget
-  not-stuck answer left is other = sym (no-line format s lent budget (λ two. other (ap (λ (j : Judgement). j .answer .number) is ∙ two)))
-
-  pub line-9 : (length lent ≡ format .state → ⊥) → 0 ≡ line format s lent budget
-  line-9 other = not-stuck _ _ (judge-9 s lent budget other) (λ two. absurd (omega (arith, two)))
-
-  module _ (t u : List ℕ) (r : Passed) (settles : Noted.outcome r u ≡ noting request-noted (settled format s) t) where
-    pub line-walked : (e : ℕ) → r ≡ To e → ((i : ℕ) → Fits w8 (getD s i 0)) → t ≡ blank → length lent ≡ format .state → (answer : Answer) (left : List ℕ)
-        → record { answer = answer; state = left } ≡ within lent budget (walked (request-in s u) (first-state format (table-in s)))
-        → (v : ℕ) → v ≡ line-told (table-in s) s (record { answer = answer; state = left }) → v ≡ line format s lent budget
-    unfolding request-in line line-settled
-    line-walked e passes bytes empty sized answer left walks v is =
-        is
-        ∙ ap (λ (x : Request). line-told (x .table) s (record { answer = answer; state = left })) (settled-held s t u r settles e passes bytes empty)
-        ∙ ap (line-told (settled-got s t u r settles e passes .0 .table) s) (judge-walked s lent budget t u r settles e passes bytes empty sized answer left walks)
-        ∙ sym (ap (line-settled s (judge format s lent budget)) (settled-got s t u r settles e passes .1))
-
-    pub line-refused : (k p : ℕ) → r ≡ Stop k p → 0 ≡ line format s lent budget
-    unfolding line line-settled
-    line-refused k p stops = sym (ap (line-settled s (judge format s lent budget)) (noting-fault request-noted (settled format s) r t u settles k p stops))

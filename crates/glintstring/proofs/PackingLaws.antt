@@ -8,10 +8,12 @@ use Rattle.meaning.specs.declared.Answer.{Answer}
 use Rattle.meaning.specs.declared.Layout.{Layout}
 use Rattle.meaning.specs.Limits.{format}
 use Rattle.meaning.specs.Judging.{Judgement, judge}
+use Rattle.meaning.specs.Guards.{judge-guarded}
 use Rattle.meaning.specs.Derivations.{check}
 use Rattle.meaning.specs.Releases.{Released, release}
 use Rattle.meaning.proofs.PickLaws.{pick-has}
 use Rattle.meaning.proofs.PartLaws.{place-limited, limit-of, check-place-limited}
+use Rattle.meaning.proofs.GuardedAnswers.{guarded-place-limited}
 use Rattle.meaning.proofs.ReleaseLaws.{own-place-limited}
 use Rattle.glintstring.specs.Packing.{packed}
 
@@ -24,6 +26,9 @@ packs a = refl
 pub place-small : (s lent : List ℕ) (budget : ℕ) → judge format s lent budget .answer .place < 65536
 place-small s lent budget = let most = place-limited format s lent budget in omega (arith, most)
 
+pub guarded-place-small : (s lent : List ℕ) (budget : ℕ) → judge-guarded format s lent budget .answer .place < 65536
+guarded-place-small s lent budget = let most = guarded-place-limited format s lent budget in omega (arith, most)
+
 pub check-place-small : (layout : Layout) (s d : List ℕ) → check format layout s d .place < 65536
 check-place-small layout s d =
     let most = check-place-limited format layout s d in
@@ -33,16 +38,20 @@ check-place-small layout s d =
 pub own-place-small : (s lent : List ℕ) (budget : ℕ) → release format s lent budget .answer .place < 65536
 own-place-small s lent budget = let most = own-place-limited format s lent budget in omega (arith, most)
 
--- WHAT THE EXPORTED WALK CALL RETURNS, where the walk call has given an answer and left these bytes.
-module _ (s lent : List ℕ) (budget : ℕ) (a : Answer) (left : List ℕ) (judges : record { answer = a; state = left } ≡ judge format s lent budget) where
-  pub judged-small : a .place < 65536
-  judged-small = subst (λ (j : Judgement). j .answer .place < 65536) (sym judges) (place-small s lent budget)
+-- WHAT THE EXPORTED WALK CALL AND THE EXPORTED GUARDED CALL RETURN, where the call has given an answer and left these bytes.
+module _ (a : Answer) (left : List ℕ) where
+  pub judged-small : (s lent : List ℕ) (budget : ℕ) → record { answer = a; state = left } ≡ judge format s lent budget → a .place < 65536
+  judged-small s lent budget judges = subst (λ (j : Judgement). j .answer .place < 65536) (sym judges) (place-small s lent budget)
 
-  pub judged-packed : (r : ℕ) → r ≡ packed a → r ≡ packed (judge format s lent budget .answer)
-  judged-packed r is = is ∙ ap (λ (j : Judgement). packed (j .answer)) judges
+  pub guarded-small : (s lent : List ℕ) (budget : ℕ) → record { answer = a; state = left } ≡ judge-guarded format s lent budget → a .place < 65536
+  guarded-small s lent budget judges = subst (λ (j : Judgement). j .answer .place < 65536) (sym judges) (guarded-place-small s lent budget)
 
-  pub judged-left : left ≡ judge format s lent budget .state
-  judged-left = ap (λ (j : Judgement). j .state) judges
+  module _ (judged : Judgement) (judges : record { answer = a; state = left } ≡ judged) where
+    pub judged-packed : (r : ℕ) → r ≡ packed a → r ≡ packed (judged .answer)
+    judged-packed r is = is ∙ ap (λ (j : Judgement). packed (j .answer)) judges
+
+    pub judged-left : left ≡ judged .state
+    judged-left = ap (λ (j : Judgement). j .state) judges
 
 -- WHAT THE EXPORTED CALLS FOR DERIVATIONS RETURN, where the call for that layout has given an answer.
 module _ (layout : Layout) (s d : List ℕ) (a : Answer) (checks : a ≡ check format layout s d) where

@@ -2,10 +2,11 @@ ghost use mathlib.Core.Path.{_≡_};
 ghost use lib.ListN.{length};
 ghost use Rattle.meaning.specs.Limits.{format};
 ghost use Rattle.meaning.specs.States.{first-state};
-ghost use Rattle.meaning.specs.Walk.{walked};
+ghost use Rattle.meaning.specs.Walk.{walked-guarded};
 ghost use Rattle.meaning.specs.Judging.{within, judge};
+ghost use Rattle.meaning.specs.Guards.{judge-guarded, line-guarded};
 ghost use Rattle.meaning.specs.Asking.{line-told, line};
-ghost use Rattle.steps.specs.Held.{table-in, request-in};
+ghost use Rattle.steps.specs.Held.{table-in, guards-in, request-in};
 ghost use Rattle.steps.specs.AtHand.{At-hand};
 use super::missing::line_at;
 use bytes::limits;
@@ -14,14 +15,18 @@ use meaning::Answer;
 use reading::notes;
 use reading::notes::Notes;
 use refusing::settled::settle;
+use refusing::settled::settle_guarded;
 use verdicts::answers;
 use verdicts::walked::walk_plan;
+
+// What a lent state is to have.
+const STATE_LENGTH: usize = limits::FLUENTS;
 
 // The walk of a settled request, and the line of the action that stopped it.
 fn walk_with_line(request: &[u8], t: &Notes, state: &mut [u8], budget: u32) -> Judged
     requires { ⌜ At-hand (now request) (now t) ⌝ }
     requires { ⌜ length (now state) ≡ format .state ⌝ }
-    ensures given { λ r. ⌜ record { answer = r .answer; state = now (state .exit) } ≡ within (now (state .entry)) budget (walked (request-in (now (request .entry)) (now (t .entry))) (first-state format (table-in (now (request .entry))))) ⌝ }
+    ensures given { λ r. ⌜ record { answer = r .answer; state = now (state .exit) } ≡ within (now (state .entry)) budget (walked-guarded (request-in (now (request .entry)) (now (t .entry))) (guards-in (now (request .entry)) (now (t .entry))) (first-state format (table-in (now (request .entry))))) ⌝ }
     ensures line { λ r. ⌜ r .line ≡ line-told (table-in (now (request .entry))) (now (request .entry)) (record { answer = r .answer; state = now (state .exit) }) ⌝ }
 {
     let answer = walk_plan(request, t, state, budget);
@@ -44,33 +49,48 @@ pub struct Judged {
     pub line: u32,
 }
 
+// An answer that no walk gives: its count is 0, and it carries no line.
+fn without_walk(number: u8, input: u8, place: usize) -> Judged
+    ensures { λ r. ⌜ r .answer ≡ record { number = number; input = input; place = place; count = 0 } ⌝ }
+    ensures { λ r. ⌜ r .line ≡ 0 ⌝ }
+{
+    Judged {
+        answer: Answer {
+            number: number,
+            input: input,
+            place: place,
+            count: 0,
+        },
+        line: 0,
+    }
+}
+
 // The walk call (FORMAT 1.15). Answers 1 and 2 leave the state concerned in the lent bytes; every other leaves these as they are.
 pub fn judge(request: &[u8], state: &mut [u8], budget: u32) -> Judged
     ensures given { λ r. ⌜ record { answer = r .answer; state = now (state .exit) } ≡ judge format (now (request .entry)) (now (state .entry)) budget ⌝ }
     ensures line { λ r. ⌜ r .line ≡ line format (now (request .entry)) (now (state .entry)) budget ⌝ }
 {
-    if state.len() != limits::FLUENTS {
-        return Judged {
-            answer: Answer {
-                number: answers::STATE_LENGTH,
-                input: answers::NEITHER_INPUT,
-                place: 0,
-                count: 0,
-            },
-            line: 0,
-        };
+    if state.len() != STATE_LENGTH {
+        return without_walk(answers::STATE_LENGTH, answers::NEITHER_INPUT, 0);
     }
     let mut t: Notes = [0u16; notes::SLOTS];
     match settle(request, &mut t) {
         Passed::To(_) => walk_with_line(request, &t, state, budget),
-        Passed::Fault(k, p) => Judged {
-            answer: Answer {
-                number: k,
-                input: answers::THE_REQUEST,
-                place: p,
-                count: 0,
-            },
-            line: 0,
-        },
+        Passed::Fault(k, p) => without_walk(k, answers::THE_REQUEST, p),
+    }
+}
+
+// The guarded call (FORMAT 21.1). Answers 1, 2 and 43 leave the state concerned in the lent bytes; every other leaves these as they are.
+pub fn judge_guarded(request: &[u8], state: &mut [u8], budget: u32) -> Judged
+    ensures given { λ r. ⌜ record { answer = r .answer; state = now (state .exit) } ≡ judge-guarded format (now (request .entry)) (now (state .entry)) budget ⌝ }
+    ensures line { λ r. ⌜ r .line ≡ line-guarded format (now (request .entry)) (now (state .entry)) budget ⌝ }
+{
+    if state.len() != STATE_LENGTH {
+        return without_walk(answers::STATE_LENGTH, answers::NEITHER_INPUT, 0);
+    }
+    let mut t: Notes = [0u16; notes::SLOTS];
+    match settle_guarded(request, &mut t) {
+        Passed::To(_) => walk_with_line(request, &t, state, budget),
+        Passed::Fault(k, p) => without_walk(k, answers::THE_REQUEST, p),
     }
 }

@@ -1,7 +1,8 @@
-// Judges the request on standard input, and says so on standard output (FORMAT 12.1 to 12.6, 12.13, 12.21, 18.17).
+// Judges the request on standard input, and says so on standard output (FORMAT 12.1 to 12.6, 12.13, 12.21, 18.17, 21.19, 21.20).
 use bytes::limits;
 use comparing::parts::same_part;
 use glintstring::judging::judge;
+use glintstring::judging::judge_guarded;
 use libc::STDIN_FILENO;
 use libc::STDOUT_FILENO;
 use programs::Asked;
@@ -16,25 +17,29 @@ use programs::read_all;
 use programs::stack_is_enough;
 use verdicts::answers;
 
-// The last argument asks for the line.
-fn line_asked() -> bool {
+// The argument that is so many from the end, counted from 1, is this option.
+fn option_asked(from_end: usize, option: &[u8]) -> bool {
     let count = os::arg_count();
-    if count <= 1 {
+    if count <= from_end {
         return false;
     }
     let mut text = io::buffer();
-    let n = os::arg(count - 1, &mut text);
-    same_part(&text[..n], b"--line")
+    let n = os::arg(count - from_end, &mut text);
+    same_part(&text[..n], option)
 }
 
-// The answer, for 1 and 2 the state, and where it is asked for the line. The first byte of a request that gets one of these is its fluent count. Without
+// The answer, for 1, 2 and 43 the state, and where it is asked for the line. The first byte of a request that gets one of these is its fluent count. Without
 // enough stack there is none, which is said.
-fn answer_to(request: &[u8], budget: u32, line: bool) -> bool {
+fn answer_to(request: &[u8], budget: u32, guarded: bool, line: bool) -> bool {
     if !stack_is_enough(b"judge", b"", request.len()) {
         return true;
     }
     let mut state = [0u8; limits::FLUENTS];
-    let judged = judge(request, &mut state, budget);
+    let judged = if guarded {
+        judge_guarded(request, &mut state, budget)
+    } else {
+        judge(request, &mut state, budget)
+    };
     let answer = judged.answer;
     if !put_line(
         STDOUT_FILENO,
@@ -44,7 +49,10 @@ fn answer_to(request: &[u8], budget: u32, line: bool) -> bool {
     ) {
         return false;
     }
-    if answer.number == answers::GOAL_MISSED || answer.number == answers::NOT_EXECUTABLE {
+    if answer.number == answers::GOAL_MISSED
+        || answer.number == answers::NOT_EXECUTABLE
+        || answer.number == answers::GUARD_BROKEN
+    {
         if request.len() == 0 {
             return false;
         }
@@ -58,12 +66,12 @@ fn answer_to(request: &[u8], budget: u32, line: bool) -> bool {
     true
 }
 
-fn judge_input(budget: u32, line: bool) {
+fn judge_input(budget: u32, guarded: bool, line: bool) {
     // One byte more than a request may have: a longer one is refused whatever it holds.
     let mut bytes = [0u8; REQUEST_ROOM];
     match read_all(STDIN_FILENO, &mut bytes) {
         Input::Bytes(n) => {
-            if !answer_to(&bytes[..n], budget, line) {
+            if !answer_to(&bytes[..n], budget, guarded, line) {
                 os::fail(b"judge: standard output");
             }
         }
@@ -72,11 +80,20 @@ fn judge_input(budget: u32, line: bool) {
 }
 
 fn main() {
-    let line = line_asked();
-    // The program's name, and the option.
-    let words = if line { 2 } else { 1 };
+    let line = option_asked(1, b"--line");
+    let guarded = if line {
+        option_asked(2, b"--guarded")
+    } else {
+        option_asked(1, b"--guarded")
+    };
+    // The program's name, and the options.
+    let words = if line {
+        if guarded { 3 } else { 2 }
+    } else {
+        if guarded { 2 } else { 1 }
+    };
     match budget_asked(words) {
-        Asked::Number(budget) => judge_input(budget, line),
+        Asked::Number(budget) => judge_input(budget, guarded, line),
         Asked::Nothing => {
             io::write_all(
                 libc::STDERR_FILENO,

@@ -1,5 +1,5 @@
 -- The cases of the format (FORMAT 13.17 to 13.39, 13.56 to 13.76) and one row or more for each decision that a row can show, computed by
--- the definitions: one equation over one table. Assumes nothing.
+-- the definitions: one equation over one table. Rows that take long to compute are in `LongCases` of `demands`. Assumes nothing.
 use Prim.Native.Nat.{ℕ, zero, suc, _-_}
 use mathlib.Core.Path.{_≡_, refl}
 use mathlib.Core.List.{List, [], _∷_, _++_, map}
@@ -44,7 +44,7 @@ missed request place count marks = row request lent-room usual 1 1 place count (
 abbrev pub stuck : (request : List ℕ) → (place count : ℕ) → (marks : List ℕ) → Case
 stuck request place count marks = row request lent-room usual 2 1 place count (marked marks)
 
-abbrev refused : (request : List ℕ) → (number place : ℕ) → Case
+abbrev pub refused : (request : List ℕ) → (number place : ℕ) → Case
 refused request number place = row request lent-room usual number 1 place 0 lent-room
 
 -- File A: its bytes 0 to 28, and those from 29 on.
@@ -55,14 +55,14 @@ unfoldable pub file-A : List ℕ
 file-A = table-A ++ (0 ∷ 2 ∷ 0 ∷ 255 ∷ 2 ∷ 1 ∷ 1 ∷ 0 ∷ 2 ∷ 1 ∷ 2 ∷ 1 ∷ 0 ∷ 0 ∷ 0 ∷ 1 ∷ 7 ∷ 1 ∷ 2 ∷ [])
 
 -- One fluent, one action, no facts and no lines: the six bytes before the plan.
-no-lines : List ℕ
+unfoldable pub no-lines : List ℕ
 no-lines = 1 ∷ 1 ∷ 0 ∷ 0 ∷ 0 ∷ 0 ∷ []
 
 -- A sequence of one branching with one branch and no condition, up to that branch's sequence.
-opening : List ℕ
+unfoldable pub opening : List ℕ
 opening = 0 ∷ 1 ∷ 255 ∷ 1 ∷ 0 ∷ []
 
-copies : ℕ → List ℕ → List ℕ
+unfoldable pub copies : ℕ → List ℕ → List ℕ
 copies zero xs = []
 copies (suc k) xs = xs ++ copies k xs
 
@@ -130,12 +130,6 @@ cases =
     -- D5
     refused (2 ∷ 1 ∷ 129 ∷ []) 12 2 ∷
     refused (no-lines ++ copies 8 opening ++ (0 ∷ 1 ∷ 255 ∷ [])) 19 48 ∷
-    -- D6, D7
-    refused (no-lines ++ (4 ∷ 1 ∷ []) ++ replicate 1024 0 ++ (255 ∷ [])) 21 1032 ∷
-    refused (no-lines ++ (4 ∷ 1 ∷ []) ++ replicate 1024 0) 11 1032 ∷
-    -- The ninth branching inside one another is the 1,025th item: 21 goes before 19 (FORMAT 5.6). As the 1,024th item it is 19.
-    refused (no-lines ++ copies 8 opening ++ (3 ∷ 249 ∷ []) ++ replicate 1016 0 ++ (255 ∷ [])) 21 1064 ∷
-    refused (no-lines ++ copies 8 opening ++ (3 ∷ 249 ∷ []) ++ replicate 1015 0 ++ (255 ∷ [])) 19 1063 ∷
     -- D9, D10
     refused (take 30 file-A) 11 30 ∷
     refused (table-A ++ (255 ∷ 255 ∷ [])) 11 31 ∷

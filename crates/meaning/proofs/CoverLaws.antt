@@ -11,11 +11,11 @@ use Rattle.meaning.specs.Tests.{each-of, Has}
 use Rattle.meaning.specs.Limits
 use Rattle.meaning.specs.Literals.{exclusive}
 use Rattle.meaning.specs.Requests.{Effect, Knowledge, Table, Sequence, done, item, Item, act, branching, Branches, none, branch}
-use Rattle.meaning.specs.Refusals.{conditions-of, all-exclusive}
+use Rattle.meaning.specs.Refusals.{nowhere, conditions-of, all-exclusive}
 use Rattle.meaning.specs.Lines.{sensing}
 use Rattle.meaning.specs.States.{State, known, can-be-run, state-after, unknown-sensed, single, readings, outcome}
 use Rattle.meaning.specs.Walk.{in-state, Step, table-does, table-step}
-use Rattle.meaning.specs.Paths.{Ending, arrives, stops, Path, first-ran, go-on, arrivals, paths-step, paths, paths-item, paths-branch}
+use Rattle.meaning.specs.Paths.{Ending, arrives, stops, Path, first-ran, go-on, meetings, arrivals, paths-step, paths, paths-item, paths-branch}
 use Rattle.meaning.specs.Approximation.{Pair, Disjoint, true-in, _≼_, executable, sensing-action, Res, Result, failed, state, Sensed, Φ, None-true, Φ̂, Φ̂-item, Φ̂-case}
 use Rattle.meaning.specs.Reported.{pair-of}
 use Rattle.meaning.proofs.TestLaws.{by-test, clash, both-left, both-right, either-right, each-mono}
@@ -53,7 +53,7 @@ module _ (t : Table) where
   none-chosen (branch c b bs) δ x n (inl h) = clash (h .0) (n .0)
   none-chosen (branch c b bs) δ x n (inr h) = none-chosen bs δ x (n .1) h
 
-  none-taken : (bs : Branches ℕ) (p : ℕ) (s : State) (δ : Pair) → pair-of s ≼ δ → None-true t bs δ → Stops (paths-branch (table-step t) bs p s)
+  pub none-taken : (bs : Branches ℕ) (p : ℕ) (s : State) (δ : Pair) → pair-of s ≼ δ → None-true t bs δ → Stops (paths-branch (table-step t) bs p s)
   unfolding paths table-step
   none-taken none p s δ more n = (Limits.not-executable, p, in-state s, inl refl)
   none-taken (branch c b bs) p s δ more n =
@@ -92,10 +92,10 @@ module _ (size : ℕ) where
 -- A table whose lines are within states of a size.
 module _ (t : Table) (size : ℕ) (effects-within : (e : Effect) → Has (t .effects) e → e .literal < 2 * size) (knowledge-within : (k : Knowledge) → Has (t .knowledge) k → k .fluent < size) where
   -- EXACT.
-  reaches-act : (p a : ℕ) (s : State) → length s ≡ size → (e : Ending State) → Ends (paths-item (table-step t) (act p a) s) e → Φ t a (pair-of s) (result-of e) × Sized size e
-  unfolding paths paths-step table-step table-does outcome arrivals
+  pub reaches-act : (p a : ℕ) (s : State) → length s ≡ size → (e : Ending State) → Ends (paths-item (table-step t) (act p a) s) e → Φ t a (pair-of s) (result-of e) × Sized size e
+  unfolding paths paths-step table-step table-does outcome meetings
   reaches-act p a s sized e h =
-      has-picked (λ (x : Step State). Ends (paths-step p a x) e) (can-be-run t a s) _ _ h ran (λ stuck k. rw (ends-one k) (runs-pair t a s ∙ stuck, tt))
+      has-picked (λ (x : Step State). Ends (paths-step (λ _. nowhere) p a x) e) (can-be-run t a s) _ _ h ran (λ stuck k. rw (ends-one k) (runs-pair t a s ∙ stuck, tt))
     where
       read : executable t a (pair-of s) ≡ true → sensing t a ≡ true → Ends (arrivals (readings (unknown-sensed t a s) s)) e → Φ t a (pair-of s) (result-of e) × Sized size e
       read runs senses k =
@@ -127,7 +127,7 @@ module _ (t : Table) (size : ℕ) (effects-within : (e : Effect) → Has (t .eff
         (inr (pair-of (w .0), here .0, there .0), there .1))
         (went-on (paths (table-step t) rest) (paths-item (table-step t) i s) e h)
 
-    reaches-item : (i : Item ℕ) (s : State) → length s ≡ size → (e : Ending State) → Ends (paths-item (table-step t) i s) e → Φ̂-item t i (pair-of s) (result-of e) × Sized size e
+    pub reaches-item : (i : Item ℕ) (s : State) → length s ≡ size → (e : Ending State) → Ends (paths-item (table-step t) i s) e → Φ̂-item t i (pair-of s) (result-of e) × Sized size e
     reaches-item (act p a) s sized e h = reaches-act p a s sized e h
     reaches-item (branching p bs) s sized e h = reaches-branch bs p s sized e h
 
@@ -139,10 +139,10 @@ module _ (t : Table) (size : ℕ) (effects-within : (e : Effect) → Has (t .eff
         (λ k j. let w = reaches-branch bs p s sized e j in (⊎-elim (λ x. inl (inr x)) (λ x. inr ((knows-pair s c ∙ k, x .0), x .1)) (w .0), w .1))
 
   -- COVERING.
-  covers-act : (p a : ℕ) (s : State) (δ : Pair) → Below size s δ → (x : Result) → Φ t a δ x → Covered size (paths-item (table-step t) (act p a) s) x
-  unfolding paths paths-step table-step table-does outcome arrivals
+  pub covers-act : (p a : ℕ) (s : State) (δ : Pair) → Below size s δ → (x : Result) → Φ t a δ x → Covered size (paths-item (table-step t) (act p a) s) x
+  unfolding paths paths-step table-step table-does outcome meetings
   covers-act p a s δ below x h =
-      pick-has (λ (y : Step State). Covered size (paths-step p a y) x) (can-be-run t a s) _ _
+      pick-has (λ (y : Step State). Covered size (paths-step (λ _. nowhere) p a y) x) (can-be-run t a s) _ _
       (λ runs. ran (executable-grows t a (below .extends) (runs-pair t a s ∙ runs)) x h)
       (λ _. stops-cover size _ (Limits.not-executable, p, in-state s, inl refl) x)
     where
@@ -188,7 +188,7 @@ module _ (t : Table) (size : ℕ) (effects-within : (e : Effect) → Has (t .eff
         (λ w. covers-then size more xs (w .0) x (covers-item i (fits .0) s δ below (state (w .0)) (w .1)) (λ u under. covers rest (fits .1) u (w .0) under x (w .2)))
         h
 
-    covers-item : (i : Item ℕ) → Fit-item i → (s : State) (δ : Pair) → Below size s δ → (x : Result) → Φ̂-item t i δ x → Covered size (paths-item (table-step t) i s) x
+    pub covers-item : (i : Item ℕ) → Fit-item i → (s : State) (δ : Pair) → Below size s δ → (x : Result) → Φ̂-item t i δ x → Covered size (paths-item (table-step t) i s) x
     covers-item (act p a) fits s δ below x h = covers-act p a s δ below x h
     covers-item (branching p bs) fits s δ below x h = covers-branch bs p (fits .0) (fits .1) s δ below x h
 

@@ -1,6 +1,6 @@
 -- The derivation cases of the format (FORMAT 13.40 to 13.54), the derivation of example 3.1 of Zhao and Shen, and a row or more for each
 -- refusal and decision about derivations and about showing, computed by the definitions. Assumes nothing.
-use Prim.Native.Nat.{ℕ, zero, suc, _+_, _*_, _/_, _%_, _^_}
+use Prim.Native.Nat.{ℕ}
 use mathlib.Core.Path.{_≡_, refl}
 use mathlib.Core.List.{List, [], _∷_, _++_, map}
 use lib.ListN.{take, replicate}
@@ -8,7 +8,6 @@ use Rattle.meaning.specs.declared.Answer.{Answer}
 use Rattle.meaning.specs.declared.Layout.{Layout}
 use Rattle.meaning.specs.declared.Layout.the-variants.{Plain}
 use Rattle.meaning.specs.Limits.{format}
-use Rattle.meaning.specs.Judging.{judge}
 use Rattle.meaning.specs.Derivations.{check}
 use Rattle.meaning.specs.Showing.{Part, show}
 use Rattle.meaning.proofs.Compute.{all-open}
@@ -48,23 +47,6 @@ derivation-3-1 = 0 ∷ 7 ∷ 3 ∷ 1 ∷ 3 ∷ 5 ∷ 0 ∷ 1 ∷ 2 ∷ 3 ∷ 0 �
 -- One action that senses seven fluents, all unknown.
 unfoldable pub sensing-seven : List ℕ
 sensing-seven = 7 ∷ 1 ∷ 0 ∷ 0 ∷ 1 ∷ 0 ∷ 0 ∷ 7 ∷ 0 ∷ 0 ∷ 0 ∷ 1 ∷ 0 ∷ 2 ∷ 0 ∷ 3 ∷ 0 ∷ 4 ∷ 0 ∷ 5 ∷ 0 ∷ 6 ∷ 0 ∷ 1 ∷ 0 ∷ 0 ∷ 0 ∷ []
-
--- The literals of reading k, from fluent f on, and one line for each of a given number of readings, from k on: X the reading, nothing to do, nothing
--- wanted, by rule 6 from line 0.
-reading : (left k f : ℕ) → List ℕ
-reading zero k f = []
-reading (suc left) k f = (2 * f + (k / 2 ^ left) % 2) ∷ reading left k (suc f)
-
-reading-lines : (left k : ℕ) → List ℕ
-reading-lines zero k = []
-reading-lines (suc left) k = 7 ∷ reading 7 k 0 ++ (0 ∷ 0 ∷ 0 ∷ 6 ∷ 1 ∷ 0 ∷ 0 ∷ []) ++ reading-lines left (suc k)
-
-cited-from : (left k : ℕ) → List ℕ
-cited-from zero k = []
-cited-from (suc left) k = 0 ∷ k ∷ cited-from left (suc k)
-
-seven-readings : List ℕ
-seven-readings = 0 ∷ 66 ∷ 0 ∷ 0 ∷ 0 ∷ 0 ∷ 1 ∷ 0 ∷ reading-lines 64 0 ++ (0 ∷ 0 ∷ 1 ∷ 0 ∷ 0 ∷ 3 ∷ 64 ∷ []) ++ cited-from 64 1
 
 pub derivations : List Case
 derivations =
@@ -114,8 +96,6 @@ derivations =
     row request-14 (0 ∷ 3 ∷ 3 ∷ 3 ∷ 5 ∷ 7 ∷ 0 ∷ 0 ∷ 3 ∷ 3 ∷ 5 ∷ 7 ∷ 1 ∷ 0 ∷ 3 ∷ 3 ∷ 5 ∷ 7 ∷ 0 ∷ 0 ∷ 1 ∷ 7 ∷ 6 ∷ 1 ∷ 0 ∷ 0 ∷ 3 ∷ 3 ∷ 5 ∷ 7 ∷ 0 ∷ 1 ∷ 255 ∷ 2 ∷ 1 ∷ 1 ∷ 0 ∷ 2 ∷ 1 ∷ 2 ∷ 1 ∷ 0 ∷ 0 ∷ 0 ∷ 1 ∷ 7 ∷ 4 ∷ 1 ∷ 0 ∷ 1 ∷ []) 34 2 26 ∷
     -- 34 goes before 35 (D30).
     row request-14 (0 ∷ 1 ∷ 0 ∷ 0 ∷ 0 ∷ 1 ∷ 7 ∷ 1 ∷ 0 ∷ []) 34 2 2 ∷
-    -- A sensing step over seven unknown fluents, with the lines of the first 64 of its 128 readings (FORMAT 10.32).
-    row sensing-seven seven-readings 34 2 968 ∷
     []
 
 -- SHOWING: an answer, both inputs, and the part that is shown.
@@ -154,18 +134,5 @@ showings-hold = refl
 
 -- Every derivation is answered as its row says.
 pub derivations-hold : map (λ (c : Case). check format (c .layout) (c .request) (c .derivation)) derivations ≡ map (λ (c : Case). c .gives) derivations
-unfolding all-open table-A file-A request-14 lines-14 derivation-14 request-3-1 derivation-3-1 sensing-seven reading reading-lines cited-from seven-readings derivations
+unfolding all-open table-A file-A request-14 lines-14 derivation-14 request-3-1 derivation-3-1 derivations
 derivations-hold = refl
-
--- A DERIVATION REACHES FURTHER THAN A BUDGET. Three actions that sense a fluent each: five lines for each of them and two to put them
--- together, while the walk counts 15. With k such actions there are 6 k - 1 lines and the walk counts 2 ^ (k + 1) - 1, so from k = 32 on the
--- budget is spent whatever it is.
-pub three-sensed : List ℕ
-three-sensed = 4 ∷ 3 ∷ 1 ∷ 6 ∷ 0 ∷ 3 ∷ 0 ∷ 0 ∷ 1 ∷ 0 ∷ 2 ∷ 0 ∷ 3 ∷ 0 ∷ 0 ∷ 1 ∷ 1 ∷ 2 ∷ 2 ∷ 0 ∷ 3 ∷ 0 ∷ 1 ∷ 2 ∷ 1 ∷ 6 ∷ 0 ∷ []
-
-pub three-derived : List ℕ
-three-derived = 0 ∷ 17 ∷ 2 ∷ 0 ∷ 6 ∷ 0 ∷ 0 ∷ 2 ∷ 0 ∷ 6 ∷ 1 ∷ 0 ∷ 2 ∷ 0 ∷ 6 ∷ 0 ∷ 0 ∷ 1 ∷ 6 ∷ 6 ∷ 1 ∷ 0 ∷ 0 ∷ 2 ∷ 1 ∷ 6 ∷ 0 ∷ 0 ∷ 2 ∷ 1 ∷ 6 ∷ 1 ∷ 0 ∷ 2 ∷ 1 ∷ 6 ∷ 0 ∷ 0 ∷ 1 ∷ 6 ∷ 6 ∷ 1 ∷ 0 ∷ 2 ∷ 1 ∷ 6 ∷ 0 ∷ 1 ∷ 0 ∷ 1 ∷ 6 ∷ 3 ∷ 2 ∷ 0 ∷ 1 ∷ 0 ∷ 3 ∷ 2 ∷ 2 ∷ 6 ∷ 0 ∷ 0 ∷ 2 ∷ 2 ∷ 6 ∷ 1 ∷ 0 ∷ 2 ∷ 2 ∷ 6 ∷ 0 ∷ 0 ∷ 1 ∷ 6 ∷ 6 ∷ 1 ∷ 0 ∷ 5 ∷ 2 ∷ 3 ∷ 6 ∷ 0 ∷ 0 ∷ 2 ∷ 3 ∷ 6 ∷ 1 ∷ 0 ∷ 2 ∷ 3 ∷ 6 ∷ 0 ∷ 0 ∷ 1 ∷ 6 ∷ 6 ∷ 1 ∷ 0 ∷ 7 ∷ 1 ∷ 6 ∷ 0 ∷ 1 ∷ 1 ∷ 1 ∷ 6 ∷ 3 ∷ 2 ∷ 0 ∷ 6 ∷ 0 ∷ 8 ∷ 2 ∷ 4 ∷ 6 ∷ 0 ∷ 0 ∷ 2 ∷ 4 ∷ 6 ∷ 1 ∷ 0 ∷ 2 ∷ 4 ∷ 6 ∷ 0 ∷ 0 ∷ 1 ∷ 6 ∷ 6 ∷ 1 ∷ 0 ∷ 10 ∷ 2 ∷ 5 ∷ 6 ∷ 0 ∷ 0 ∷ 2 ∷ 5 ∷ 6 ∷ 1 ∷ 0 ∷ 2 ∷ 5 ∷ 6 ∷ 0 ∷ 0 ∷ 1 ∷ 6 ∷ 6 ∷ 1 ∷ 0 ∷ 12 ∷ 1 ∷ 6 ∷ 0 ∷ 1 ∷ 2 ∷ 1 ∷ 6 ∷ 3 ∷ 2 ∷ 0 ∷ 11 ∷ 0 ∷ 13 ∷ 1 ∷ 6 ∷ 0 ∷ 2 ∷ 0 ∷ 1 ∷ 1 ∷ 6 ∷ 5 ∷ 2 ∷ 0 ∷ 4 ∷ 0 ∷ 9 ∷ 1 ∷ 6 ∷ 0 ∷ 3 ∷ 0 ∷ 1 ∷ 2 ∷ 1 ∷ 6 ∷ 5 ∷ 2 ∷ 0 ∷ 15 ∷ 0 ∷ 14 ∷ []
-
-pub beyond-a-budget : (check format Plain three-sensed three-derived .number ≡ 0) × (judge format three-sensed (replicate (format .state) 0) 14 .answer .number ≡ 3) × (judge format three-sensed (replicate (format .state) 0) 15 .answer .number ≡ 0)
-unfolding all-open three-sensed three-derived
-beyond-a-budget = (refl, refl, refl)

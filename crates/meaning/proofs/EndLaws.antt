@@ -69,7 +69,7 @@ module _ {S : Type 0} where
       arrived (stops n p u) = ⊥
 
   -- A path of the list ends so.
-  has-ends : (xs : List (Path S)) (x : Path S) (e : Ending S) → Has xs x → x .ending ≡ e → Ends xs e
+  pub has-ends : (xs : List (Path S)) (x : Path S) (e : Ending S) → Has xs x → x .ending ≡ e → Ends xs e
   has-ends [] x e h q = absurd h
   has-ends (y ∷ ys) x e (inl r) q = inl (sym q ∙ ap (λ (z : Path S). z .ending) r)
   has-ends (y ∷ ys) x e (inr h) q = inr (has-ends ys x e h q)
@@ -143,7 +143,7 @@ module _ {S : Type 0} where
         later (inl w) = inl (w .0, w .1, w .2, inr (w .3), w .4)
         later (inr w) = inr (w .0, inr (w .1), w .2)
 
-    stops-on : (xs : List (Path S)) (n p : ℕ) (u : Concerned S) → Ends xs (stops n p u) → Ends (go-on xs more) (stops n p u)
+    pub stops-on : (xs : List (Path S)) (n p : ℕ) (u : Concerned S) → Ends xs (stops n p u) → Ends (go-on xs more) (stops n p u)
     unfolding go-on goes-on
     stops-on [] n p u h = absurd h
     stops-on (x ∷ xs) n p u (inl q) = ends-left (goes-on (x .ran) (x .ending) more) (go-on xs more) (stops n p u) (subst (λ (g : Ending S). Ends (goes-on (x .ran) g more) (stops n p u)) q (inl refl))
@@ -182,6 +182,16 @@ module _ {S : Type 0} where
       by-ending (arrives u) q (stopped n p s) stop = first-later (u, sym q) stop
       by-ending (arrives u) q (missed p s) none = none
       by-ending (stops n p s) q w stop = first-here (sym q)
+
+  -- The first path that stops is the walk's stop.
+  pub first-stop-is : (xs : List (Path S)) (n p : ℕ) (u : Concerned S) → Stops-first xs n p u → first-stop xs ≡ stopped n p u
+  unfolding first-stop stop-of
+  first-stop-is xs n p u f = ap first-stop (f .split) ∙ through (f .before) (f .otherwise)
+    where
+      through : (before : List (Path S)) → ((x : Path S) → Has before x → (s : S) × (x .ending ≡ arrives s)) → first-stop (before ++ (f .here ∷ f .after)) ≡ stopped n p u
+      through [] others = ap (λ (e : Ending S). stop-of e (first-stop (f .after))) (f .so)
+      through (x ∷ before) others =
+          ap (λ (e : Ending S). stop-of e (first-stop (before ++ (f .here ∷ f .after)))) (others x (inl refl) .1) ∙ through before (λ y h. others y (inr h))
 
 module _ {S : Type 0} (miss : S → Found) where
   -- The first path that misses.

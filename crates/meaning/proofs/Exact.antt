@@ -31,7 +31,7 @@ use Rattle.meaning.proofs.RangeLaws.{Ranged, read-ranged}
 use Rattle.meaning.proofs.EndLaws.{Ends, Stops, stop-ends, miss-ends, Says, end-says, none-missed}
 use Rattle.meaning.proofs.PairLaws.{true-in-true, true-in-false, false-in-true, true-in-pair, pair-disjoint}
 use Rattle.meaning.proofs.ToldLaws.{first-length, first-known, first-least}
-use Rattle.meaning.proofs.CoverLaws.{result-of, knows-pair, knows-true, reaches, Covered, covers}
+use Rattle.meaning.proofs.CoverLaws.{result-of, knows-pair, knows-true, reaches, Below, Covered, covers}
 
 -- The end of the whole walk.
 abbrev pub walk-end : Limits → Request → End State
@@ -43,7 +43,7 @@ answered fine = Limits.verified
 answered (missed p s) = Limits.goal-missed
 answered (stopped n p u) = n
 
-within-number : (lent : List ℕ) (budget : ℕ) (w : Walked State) → within lent budget w .answer .number ≡ pick (ltb budget (w .count)) (λ _. Limits.budget-spent) (λ _. answered (w .end))
+pub within-number : (lent : List ℕ) (budget : ℕ) (w : Walked State) → within lent budget w .answer .number ≡ pick (ltb budget (w .count)) (λ _. Limits.budget-spent) (λ _. answered (w .end))
 unfolding within ended reported
 within-number lent budget w =
     pick-map (λ (j : Judgement). j .answer .number) (ltb budget (w .count)) _ _
@@ -103,10 +103,10 @@ module _ (lim : Limits) (room : lim .fluents ≤ lim .state) (r : Request) (rang
         (true-in-pair (first-state lim (r .table)) l ∙ first-known lim room (r .table) ranged l ∙ has-some (eqb l) (r .table .facts) l h (eq-eqb l l refl)));
   }
 
-  effects-within : (x : Effect) → Has (r .table .effects) x → x .literal < 2 * lim .state
+  pub effects-within : (x : Effect) → Has (r .table .effects) x → x .literal < 2 * lim .state
   effects-within x h = omega (arith, ranged .effects x h, ranged .fluents)
 
-  knowledge-within : (k : Knowledge) → Has (r .table .knowledge) k → k .fluent < lim .state
+  pub knowledge-within : (k : Knowledge) → Has (r .table .knowledge) k → k .fluent < lim .state
   knowledge-within k h = omega (arith, ranged .knowledge k h, ranged .fluents)
 
   -- Where a path ends, the function leads from the least initial a-state.
@@ -115,15 +115,18 @@ module _ (lim : Limits) (room : lim .fluents ≤ lim .state) (r : Request) (rang
       subst (λ (σ : Pair). Φ̂ (r .table) (r .plan) σ (result-of g)) (first-least lim room (r .table) ranged)
       (reaches (r .table) (lim .state) effects-within knowledge-within (r .plan) (first-state lim (r .table)) (first-length lim (r .table)) g h .0)
 
+  -- The first state is below every initial a-state.
+  pub first-below : (σ : Pair) → Initial (r .table) σ → Below (lim .state) (first-state lim (r .table)) σ
+  first-below σ initial = record {
+    sized = first-length lim (r .table);
+    extends = rw (first-least lim room (r .table) ranged) (least-below (r .table) σ initial);
+    disjoint = initial .disjoint;
+  }
+
   -- Wherever it leads from an initial a-state, some path stops or ends below.
   covered : (σ : Pair) → Initial (r .table) σ → (x : Result) → Φ̂ (r .table) (r .plan) σ x → Covered (lim .state) (all-paths lim r) x
   covered σ initial =
-      covers (r .table) (lim .state) effects-within knowledge-within (r .plan) fits (first-state lim (r .table)) σ
-      (record {
-        sized = first-length lim (r .table);
-        extends = rw (first-least lim room (r .table) ranged) (least-below (r .table) σ initial);
-        disjoint = initial .disjoint;
-      })
+      covers (r .table) (lim .state) effects-within knowledge-within (r .plan) fits (first-state lim (r .table)) σ (first-below σ initial)
 
   not-failed : (Stops (all-paths lim r) → ⊥) → Φ̂ (r .table) (r .plan) (least (r .table)) failed → ⊥
   not-failed none h = none (covered (least (r .table)) least-initial failed h)
@@ -135,7 +138,7 @@ module _ (lim : Limits) (room : lim .fluents ≤ lim .state) (r : Request) (rang
   end-failed (stopped m p u) stuck says = (λ _. leads (stops m p u) (stop-ends (all-paths lim r) m p u says), λ _. stuck .0)
 
   -- The walk is fine exactly where what is asked is entailed.
-  end-entailed : (n : End State) → Stuck n → Says (missed-in r) (all-paths lim r) n → (answered n ≡ Limits.verified) ↔ Entailed r
+  pub end-entailed : (n : End State) → Stuck n → Says (missed-in r) (all-paths lim r) n → (answered n ≡ Limits.verified) ↔ Entailed r
   end-entailed fine stuck says = (
     λ _. (
       entails (λ σ. each-of (true-in σ) (values (r .goals))) (λ u δ more q. knows-true u δ more _ (met r u .0 q .0)),

@@ -1,12 +1,15 @@
 -- What is so of a walk's end: whatever is so of each miss in which what follows may end, of each refusal of a step, and of each branching that
 -- can't be run, is so of the end of the whole walk. A walk ends in one of these, and so this goes by induction on the plan. Assumes nothing.
 use Prim.Native.Nat.{ℕ}
-use mathlib.Core.Path.{_≡_, refl}
+use mathlib.Core.Path.{_≡_, refl, sym}
+use mathlib.Core.List.{List}
+use mathlib.Core.Logic.{_⊎_, inl, inr}
 use Rattle.meaning.specs.Limits
-use Rattle.meaning.specs.Requests.{Sequence, done, item, Item, act, branching, Branches, none, branch, Request}
+use Rattle.meaning.specs.Requests.{Sequence, done, item, Item, act, branching, Branches, none, branch, Entry, Request}
 use Rattle.meaning.specs.Refusals.{Found, nowhere, at}
-use Rattle.meaning.specs.States.{State, Outcome, single, fork, outcome}
-use Rattle.meaning.specs.Walk.{Concerned, in-state, End, fine, missed, stopped, Walked, stopped-at, counted, keep-miss, after-miss, after-end, and-then, each-reading, Step, leads-to, refuses, Steps, after-step, run-action, walk, walk-item, walk-branch, table-does, table-step, missed-in, end-of, judged, walked}
+use Rattle.meaning.specs.States.{State, known, Outcome, single, fork, outcome}
+use Rattle.meaning.specs.Walk.{Concerned, in-state, End, fine, missed, stopped, Walked, stopped-at, counted, keep-miss, after-miss, after-end, and-then, each-reading, Step, leads-to, refuses, Steps, after-step, unless-broken, meet, run-action, walk, walk-item, walk-branch, table-does, table-step, first-missed, missed-in, end-of, judged, walked, guarded-step, walked-guarded}
+use Rattle.meaning.proofs.RefusalLaws.{at≢nowhere}
 use Rattle.meaning.proofs.PickLaws.{pick-has}
 
 -- PLACES. Each item of a plan stands at such a place.
@@ -91,7 +94,17 @@ module _ {S : Type 0} (Miss : ℕ → S → Type 0) (Stop : ℕ → ℕ → Conc
 
       module _ {L : Type 0} (step : Steps S L)
           (does : (a : ℕ) (s : S) → P s → Step-so (step .does a s))
-          (none-known : (s : S) → P s → (p : ℕ) → Place p → Stop Limits.not-executable p (in-state s)) where
+          (none-known : (s : S) → P s → (p : ℕ) → Place p → Stop Limits.not-executable p (in-state s))
+          (breaks : (s : S) → P s → (p : ℕ) → step .lacks s ≡ at p → Stop Limits.guard-broken p (in-state s)) where
+        -- A state that is met.
+        pub meet-so : (k : S → Walked S) → Ends-so k → Ends-so (meet step k)
+        unfolding stopped-at
+        meet-so k ends s has = by-found (step .lacks s) refl
+          where
+            by-found : (f : Found) → step .lacks s ≡ f → End-so (unless-broken f s (k s) .end)
+            by-found nowhere q = ends s has
+            by-found (at p) q = breaks s has p q
+
         mutual
           unfolding walk run-action stopped-at
 
@@ -100,7 +113,7 @@ module _ {S : Type 0} (Miss : ℕ → S → Type 0) (Stop : ℕ → ℕ → Conc
           walk-so (item i rest) on k ends s has = item-so i (on .0) (walk step rest k) (walk-so rest (on .1) k ends) s has
 
           item-so : (i : Item L) → On-places-item Place i → (k : S → Walked S) → Ends-so k → Ends-so (walk-item step i k)
-          item-so (act p a) on k ends s has = step-so p on (step .does a s) (does a s has) k ends
+          item-so (act p a) on k ends s has = step-so p on (step .does a s) (does a s has) (meet step k) (meet-so k ends)
           item-so (branching p bs) on k ends s has = branch-so bs p (on .0) (on .1) k ends s has
 
           branch-so : (bs : Branches L) (p : ℕ) → Place p → On-places-below Place bs → (k : S → Walked S) → Ends-so k → Ends-so (walk-branch step bs p k)
@@ -122,7 +135,18 @@ module _ (Miss : ℕ → State → Type 0) (Stop : ℕ → ℕ → Concerned Sta
     walked-so r leads misses on =
         walk-so Miss Stop P Place (table-step (r .table))
         (λ a s has. pick-has (Step-so Miss Stop P Place) _ _ _ (λ _. leads a s has) (λ _. stuck s has))
-        stuck (r .plan) on (judged r) (λ s has. end-of-so (missed-in r s) s (misses s has))
+        stuck (λ s has p q. absurd (at≢nowhere (sym q))) (r .plan) on (judged r) (λ s has. end-of-so (missed-in r s) s (misses s has))
+
+    -- With guards, where a state that lacks one is such a stop.
+    pub walked-guarded-so : (r : Request) (gs : List Entry) → ((a : ℕ) (s : State) → P s → Outcome-has P (outcome (r .table) a s))
+        → ((s : State) → P s → (p : ℕ) → missed-in r s ≡ at p → Miss p s) → ((s : State) → P s → (p : ℕ) → first-missed (known s) gs ≡ at p → Stop Limits.guard-broken p (in-state s))
+        → On-places Place (r .plan) → Ends-so Miss Stop P (walked-guarded r gs)
+    unfolding walked-guarded judged guarded-step table-does
+    walked-guarded-so r gs leads misses breaks on =
+        let does : (a : ℕ) (s : State) → P s → Step-so Miss Stop P Place (table-does (r .table) a s) =
+        λ a s has. pick-has (Step-so Miss Stop P Place) _ _ _ (λ _. leads a s has) (λ _. stuck s has) in
+        meet-so Miss Stop P Place (guarded-step (r .table) gs) does stuck breaks (walk (guarded-step (r .table) gs) (r .plan) (judged r))
+        (walk-so Miss Stop P Place (guarded-step (r .table) gs) does stuck breaks (r .plan) on (judged r) (λ s has. end-of-so (missed-in r s) s (misses s has)))
 
 -- STOPS of a walk have the number 2, and the state in which the item can't be run.
 abbrev pub Stuck : End State → Type 0
@@ -132,3 +156,19 @@ pub walked-stuck : (r : Request) (s : State) → Stuck (walked r s .end)
 walked-stuck r s =
     walked-so (λ _ _. Unit {0}) _ (λ _. Unit {0}) (λ _. Unit {0}) (λ s _ p _. (refl, (s, refl))) r (λ a s _. any-outcome (outcome (r .table) a s)) (λ s _ p _. tt)
     (on-places (λ _. Unit {0}) (λ _. tt) (r .plan)) s tt
+
+-- Those of a walk with guards: an item that can't be run stops it with 2, and a state that lacks a guard with 43, at the first that it lacks.
+module _ (gs : List Entry) where
+  abbrev pub Sticks : ℕ → ℕ → State → Type 0
+  Sticks n p s = (n ≡ Limits.not-executable) ⊎ ((n ≡ Limits.guard-broken) × (first-missed (known s) gs ≡ at p))
+
+  abbrev pub Guarded-stop : ℕ → ℕ → Concerned State → Type 0
+  Guarded-stop n p u = (s : State) × (u ≡ in-state s) × Sticks n p s
+
+  abbrev pub Stuck-guarded : End State → Type 0
+  Stuck-guarded = End-so (λ _ _. Unit {0}) Guarded-stop
+
+  pub guarded-stuck : (r : Request) (s : State) → Stuck-guarded (walked-guarded r gs s .end)
+  guarded-stuck r s =
+      walked-guarded-so (λ _ _. Unit {0}) Guarded-stop (λ _. Unit {0}) (λ _. Unit {0}) (λ s _ p _. (s, refl, inl refl)) r gs (λ a s _. any-outcome (outcome (r .table) a s)) (λ s _ p _. tt)
+      (λ s _ p q. (s, refl, inr (refl, q))) (on-places (λ _. Unit {0}) (λ _. tt) (r .plan)) s tt

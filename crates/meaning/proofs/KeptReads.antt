@@ -1,5 +1,6 @@
 -- What was read up to a place is read from every input that has the same bytes up to there: a reader goes on from where it began, and looks at no byte
--- behind the place where it stops. By going through the readers. Assumes nothing.
+-- behind the place where it stops. A fault other than 11 is met in every input that begins with all of the bytes. By going through the readers.
+-- Assumes nothing.
 use Prim.Native.Nat.{ℕ, zero, suc, _+_, _*_, _≤_, _<_}
 use native.Mathlib.Omega.{arith}
 use mathlib.Core.Path.{_≡_, refl, _∙_, ap, subst}
@@ -9,6 +10,7 @@ use lib.ListN.{length, getD}
 use lib.Dec.{leb}
 use borrow.Author.Tests.{leb-false, lt-leb}
 use Rattle.meaning.specs.Tests.{pick}
+use Rattle.meaning.specs.Limits
 use Rattle.meaning.specs.Limits.{Limits}
 use Rattle.meaning.specs.Requests.{Table, Sequence, Item}
 use Rattle.meaning.specs.Reading.{Got, got, fault, next, byte-at, two-bytes-at, count-at, below-at, Kind, literals, fluents, bound-of, entry-at, entries-at, list-at, repeated, section-at, body-at, effect-at, executability-at, knowledge-at, Part, item-at, items-at, sequence-at, branches-at, branching-at, plan-at, table-at, request-at}
@@ -19,10 +21,18 @@ use Rattle.meaning.proofs.MovedReads.{next-is}
 -- The input u has the bytes of s up to `far`.
 module _ (s u : List ℕ) (far : ℕ) (room : far ≤ length u) (same : (p : ℕ) → p < far → getD u p 0 ≡ getD s p 0) where
   module _ {A : Type 0} where
-    -- What was read in s from p on stops behind p and within s; and where it stops no later than `far`, it was read in u.
+    -- What was read in s from p on stops behind p and within s; and where it stops no later than `far`, it was read in u. Where u has all bytes of s, a
+    -- fault other than 11 is met there too.
     abbrev pub Kept : ℕ → Got A → Got A → Type 0
     Kept p (got x e) h = (p ≤ e) × (p ≤ length s → e ≤ length s) × (e ≤ far → h ≡ got x e)
-    Kept p (fault n i) h = Unit {0}
+    Kept p (fault n i) h = p ≤ length s → length s ≤ far → (n ≡ Limits.ends-too-soon → ⊥) → h ≡ fault n i
+
+    pub kept-fault : (p : ℕ) (g h : Got A) → Kept p g h → (n i : ℕ) → g ≡ fault n i → Kept p (fault n i) h
+    kept-fault p g h kept n i read = subst (λ (y : Got A). Kept p y h) read kept
+
+    -- One fault, read in both.
+    kept-same : (p n i : ℕ) → Kept p (fault n i) (fault n i)
+    kept-same p n i _ _ _ = refl
 
     pub kept-of : (p : ℕ) (g h : Got A) → Kept p g h → (x : A) (e : ℕ) → g ≡ got x e → Kept p (got x e) h
     kept-of p g h kept x e read = subst (λ (y : Got A). Kept p y h) read kept
@@ -38,19 +48,19 @@ module _ (s u : List ℕ) (far : ℕ) (room : far ≤ length u) (same : (p : ℕ
     -- From where another reader has stopped.
     kept-after : (p q : ℕ) → p ≤ q → (p ≤ length s → q ≤ length s) → (g h j : Got A) → (q ≤ far → j ≡ h) → Kept q g h → Kept p g j
     kept-after p q on inside (got x e) h j is kept = (omega (arith, on, kept .0), λ fits. kept .1 (inside fits), λ few. is (omega (arith, kept .0, few)) ∙ kept .2 few)
-    kept-after p q on inside (fault n i) h j is kept = tt
+    kept-after p q on inside (fault n i) h j is kept = λ fits all not. is (let stops = inside fits in omega (arith, stops, all)) ∙ kept (inside fits) all not
 
   module _ {A B : Type 0} where
     pub kept-next : (p : ℕ) (g h : Got A) (k j : A → ℕ → Got B) → Kept p g h → ((x : A) (q : ℕ) → Kept q (k x q) (j x q)) → Kept p (next g k) (next h j)
     unfolding next
     kept-next p (got x q) h k j one f = kept-after p q (one .0) (one .1) (k x q) (j x q) (next h j) (λ few. next-is h j x q (one .2 few)) (f x q)
-    kept-next p (fault n i) h k j one f = tt
+    kept-next p (fault n i) h k j one f = λ fits all not. ap (λ (y : Got A). next y j) (one fits all not)
 
   -- BYTES, NUMBERS AND LISTS.
   byte-next : {B : Type 0} (p : ℕ) (k j : ℕ → ℕ → Got B) → ((x : ℕ) → Kept (p + 1) (k x (p + 1)) (j x (p + 1))) → Kept p (next (byte-at s p) k) (next (byte-at u p) j)
   unfolding next byte-at
   byte-next p k j f =
-      pick-has (λ (g : Got ℕ). Kept p (next g k) (next (byte-at u p) j)) (leb (length s) p) _ _ (λ _. tt) λ inside.
+      pick-has (λ (g : Got ℕ). Kept p (next g k) (next (byte-at u p) j)) (leb (length s) p) _ _ (λ _ _ _ not. absurd (not refl)) λ inside.
       let less = leb-false (length s) p inside in
       kept-after p (p + 1) (omega arith) (λ _. omega (arith, less)) (k (getD s p 0) (p + 1)) (j (getD s p 0) (p + 1)) (next (byte-at u p) j)
       (λ few. next-is (byte-at u p) j (getD s p 0) (p + 1) (pick-false _ _ _ (lt-leb (length u) p (omega (arith, few, room))) ∙ ap (λ (x : ℕ). got x (p + 1)) (same p (omega (arith, few)))))
@@ -62,18 +72,18 @@ module _ (s u : List ℕ) (far : ℕ) (room : far ≤ length u) (same : (p : ℕ
 
   count-kept : (least most p : ℕ) → Kept p (count-at least most s p) (count-at least most u p)
   unfolding count-at
-  count-kept least most p = byte-next p _ _ λ c. kept-pick _ (p + 1) _ _ _ _ tt (kept-got c (p + 1))
+  count-kept least most p = byte-next p _ _ λ c. kept-pick _ (p + 1) _ _ _ _ (kept-same (p + 1) _ _) (kept-got c (p + 1))
 
   below-kept : (bound p : ℕ) → Kept p (below-at bound s p) (below-at bound u p)
   unfolding below-at
-  below-kept bound p = byte-next p _ _ λ x. kept-pick _ (p + 1) _ _ _ _ tt (kept-got x (p + 1))
+  below-kept bound p = byte-next p _ _ λ x. kept-pick _ (p + 1) _ _ _ _ (kept-same (p + 1) _ _) (kept-got x (p + 1))
 
   module _ (kind : Kind) (n : ℕ) where
     entry-kept : (p floor : ℕ) → Kept p (entry-at kind n s p floor) (entry-at kind n u p floor)
     unfolding entry-at
     entry-kept p floor =
         kept-next p (below-at (bound-of kind n) s p) (below-at (bound-of kind n) u p) _ _ (below-kept (bound-of kind n) p) λ x q.
-        kept-pick _ q _ _ _ _ tt (kept-pick _ q _ _ _ _ tt (kept-got x q))
+        kept-pick _ q _ _ _ _ (kept-same q _ _) (kept-pick _ q _ _ _ _ (kept-same q _ _) (kept-got x q))
 
     entries-kept : (left p floor : ℕ) → Kept p (entries-at kind n s left p floor) (entries-at kind n u left p floor)
     unfolding entries-at
@@ -82,7 +92,7 @@ module _ (s u : List ℕ) (far : ℕ) (room : far ≤ length u) (same : (p : ℕ
         kept-next p (entry-at kind n s p floor) (entry-at kind n u p floor) _ _ (entry-kept p floor) λ x q.
         kept-next q (entries-at kind n s left q (x + 1)) (entries-at kind n u left q (x + 1)) _ _ (entries-kept left q (x + 1)) λ xs r. kept-got (x ∷ xs) r
 
-    list-kept : (most p : ℕ) → Kept p (list-at kind n most s p) (list-at kind n most u p)
+    pub list-kept : (most p : ℕ) → Kept p (list-at kind n most s p) (list-at kind n most u p)
     unfolding list-at
     list-kept most p = kept-next p (count-at 0 most s p) (count-at 0 most u p) _ _ (count-kept 0 most p) λ c q. entries-kept c q 0
 
@@ -136,7 +146,7 @@ module _ (s u : List ℕ) (far : ℕ) (room : far ≤ length u) (same : (p : ℕ
     unfolding item-at
     item-kept deeper other kept p met =
         byte-next p _ _ λ x.
-        kept-pick _ (p + 1) _ _ _ _ tt (kept-pick _ (p + 1) _ _ _ _ (kept p (met + 1)) (kept-pick _ (p + 1) _ _ _ _ tt (kept-got _ (p + 1))))
+        kept-pick _ (p + 1) _ _ _ _ (kept-same (p + 1) _ _) (kept-pick _ (p + 1) _ _ _ _ (kept p (met + 1)) (kept-pick _ (p + 1) _ _ _ _ (kept-same (p + 1) _ _) (kept-got _ (p + 1))))
 
     pub items-kept : (one other : Part (Item ℕ)) → Parts-kept one other → (left : ℕ) → Parts-kept (items-at lim n m s one left) (items-at lim n m u other left)
     unfolding items-at
@@ -161,7 +171,7 @@ module _ (s u : List ℕ) (far : ℕ) (room : far ≤ length u) (same : (p : ℕ
 
     pub branching-kept : (left : ℕ) → Behind-kept (branching-at lim n m s left) (branching-at lim n m u left)
     unfolding branching-at
-    branching-kept zero p met = tt
+    branching-kept zero p met = kept-same (p + 1) _ p
     branching-kept (suc left) p met =
         kept-next (p + 1) (count-at 1 (lim .branches) s (p + 1)) (count-at 1 (lim .branches) u (p + 1)) _ _ (count-kept 1 (lim .branches) (p + 1)) λ c q.
         kept-next q (branches-at lim n m s (sequence-at lim n m s (branching-at lim n m s left)) c q met) (branches-at lim n m u (sequence-at lim n m u (branching-at lim n m u left)) c q met) _ _

@@ -179,3 +179,17 @@ stands-whole (y ∷ s) (x ∷ xs) st = ap₂ {C = List ℕ} (λ z zs. z ∷ zs) 
 pub stands-inside : (s : List ℕ) (p : ℕ) (xs : List ℕ) (e : ℕ) → p ≤ length s → Stands s p xs e → e ≤ length s
 stands-inside s p [] e h st = omega arith
 stands-inside s p (x ∷ xs) e h st = let inside = st .0 in stands-inside s (p + 1) xs e (omega arith) (st .2)
+
+-- Bytes that stand somewhere reach as far as they are long; and a part of an input stands behind what is before it.
+pub stands-length : (s : List ℕ) (p : ℕ) (xs : List ℕ) (e : ℕ) → Stands s p xs e → e ≡ p + length xs
+stands-length s p [] e st = omega (arith, st)
+stands-length s p (x ∷ xs) e st = let more = stands-length s (p + 1) xs e (st .2) in omega (arith, more)
+
+pub part-stands : (pre xs post : List ℕ) → Stands (pre ++ (xs ++ post)) (length pre) xs (length pre + length xs)
+part-stands pre xs post =
+    let s = pre ++ (xs ++ post) in
+    let one = stands-parts s 0 pre (xs ++ post) (length s) (whole-stands s) in
+    let two = stands-parts s (one .0) xs post (length s) (one .2) in
+    let first : one .0 ≡ length pre = stands-length s 0 pre (one .0) (one .1) ∙ omega arith in
+    let second : two .0 ≡ length pre + length xs = stands-length s (one .0) xs (two .0) (two .1) ∙ ap (λ (k : ℕ). k + length xs) first in
+    subst (λ (p : ℕ). Stands s p xs (length pre + length xs)) first (subst (λ (q : ℕ). Stands s (one .0) xs q) second (two .1))

@@ -94,7 +94,7 @@ module _ (on : ℕ) where
     step-moved p (leads-to o) k j same = ap (counted 1) (readings-moved o k j same)
     step-moved p (refuses n u) k j same = refl
 
-    module _ (step : Steps S ℕ) where
+    module _ (step : Steps S ℕ) (free : step .lacks ≡ (λ _. nowhere)) where
       mutual
         unfolding walk run-action stopped-at
 
@@ -103,7 +103,7 @@ module _ (on : ℕ) where
         walk-moved (item i rest) k j same s = walk-moved-item i (walk step rest k) (walk step (moved-plan on rest) j) (walk-moved rest k j same) s
 
         walk-moved-item : (i : Item ℕ) (k j : S → Walked S) → Same-walks k j → Same-walks (walk-item step i k) (walk-item step (moved-item on i) j)
-        walk-moved-item (act p a) k j same s = step-moved p (step .does a s) k j same
+        walk-moved-item (act p a) k j same s = rw free (step-moved p (step .does a s) k j same)
         walk-moved-item (branching p bs) k j same s = walk-moved-branch bs p k j same s
 
         walk-moved-branch : (bs : Branches ℕ) (p : ℕ) (k j : S → Walked S) → Same-walks k j → Same-walks (walk-branch step bs p k) (walk-branch step (moved-branches on bs) (p + on) j)
@@ -120,5 +120,5 @@ module _ (on : ℕ) where
       by-found (at p) = refl
 
   pub walked-moved : (r : Request) (s : State) → walked (moved-request on r) s ≡ moved-walk (walked r s)
-  unfolding walked
-  walked-moved r s = walk-moved (table-step (r .table)) (r .plan) (judged r) (judged (moved-request on r)) (judged-moved r) s
+  unfolding walked table-step
+  walked-moved r s = walk-moved (table-step (r .table)) refl (r .plan) (judged r) (judged (moved-request on r)) (judged-moved r) s

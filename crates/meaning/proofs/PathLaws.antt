@@ -7,11 +7,11 @@ use mathlib.Core.Path.{_≡_, refl, sym, _∙_, ap, fun-ext}
 use mathlib.Core.List.{List, [], _∷_, _++_}
 use lib.ListN.{length, length-append}
 use Rattle.meaning.specs.Tests.{each-of}
-use Rattle.meaning.specs.Requests.{Sequence, done, item, Item, act, branching, Branches, none, branch, Request}
+use Rattle.meaning.specs.Requests.{Sequence, done, item, Item, act, branching, Branches, none, branch, Entry, Request}
 use Rattle.meaning.specs.Refusals.{Found, nowhere, at}
 use Rattle.meaning.specs.States.{State, Outcome, single, fork}
-use Rattle.meaning.specs.Walk.{Concerned, End, fine, missed, stopped, Walked, stopped-at, counted, keep-miss, after-miss, after-end, and-then, each-reading, Step, leads-to, refuses, Steps, after-step, run-action, walk, walk-item, walk-branch, table-step, missed-in, end-of, judged, walked}
-use Rattle.meaning.specs.Paths.{Ending, arrives, stops, Path, first-ran, goes-on, go-on, arrivals, paths-step, paths, paths-item, paths-branch, count-of, count-in, stop-of, first-stop, miss-of, first-miss, stop-or-miss, walked-along}
+use Rattle.meaning.specs.Walk.{Concerned, End, fine, missed, stopped, Walked, stopped-at, counted, keep-miss, after-miss, after-end, and-then, each-reading, Step, leads-to, refuses, Steps, after-step, unless-broken, meet, run-action, walk, walk-item, walk-branch, table-step, missed-in, end-of, judged, walked, guarded-step, walked-guarded}
+use Rattle.meaning.specs.Paths.{Ending, arrives, stops, Path, first-ran, goes-on, go-on, met-ending, meetings, paths-step, paths, paths-item, paths-branch, paths-met, count-of, count-in, stop-of, first-stop, miss-of, first-miss, stop-or-miss, walked-along}
 use Rattle.meaning.proofs.TestLaws.{pick-map}
 use Rattle.meaning.proofs.PickLaws.{pick-has}
 
@@ -126,10 +126,15 @@ module _ {S : Type 0} where
       by-ending ran (arrives s) = each-first-ran k ran (more s) (some s)
       by-ending ran (stops n p u) = none-after _
 
-  each-arrival : (k : S → Walked S) (o : Outcome S) → each-path k (arrivals o) ≡ each-reading o k
-  unfolding arrivals each-reading
-  each-arrival k (single s) = each-arrives k s
-  each-arrival k (fork o p) = each-appended k (arrivals o) (arrivals (p tt)) ∙ rw (each-arrival k o, each-arrival k (p tt))
+  -- A state that is met, by the guard that it lacks.
+  each-found : (k : S → Walked S) (f : Found) (s : S) → each-path k (record { ran = []; ending = met-ending f s } ∷ []) ≡ unless-broken f s (k s)
+  each-found k nowhere s = each-arrives k s
+  each-found k (at p) s = each-stops k _ p _
+
+  each-met : (lacks : S → Found) (k : S → Walked S) (o : Outcome S) → each-path k (meetings lacks o) ≡ each-reading o (λ s. unless-broken (lacks s) s (k s))
+  unfolding meetings each-reading
+  each-met lacks k (single s) = each-found k (lacks s) s
+  each-met lacks k (fork o p) = each-appended k (meetings lacks o) (meetings lacks (p tt)) ∙ rw (each-met lacks k o, each-met lacks k (p tt))
 
   -- Each list of paths has one.
   appended-inhabited : (xs ys : List (Path S)) → Inhabited xs → Inhabited (xs ++ ys)
@@ -150,21 +155,21 @@ module _ {S : Type 0} where
       by-ending ran (arrives s) = ran-inhabited ran (more s) (each s)
       by-ending ran (stops n p u) = tt
 
-  arrivals-inhabited : (o : Outcome S) → Inhabited (arrivals o)
-  unfolding arrivals
-  arrivals-inhabited (single s) = tt
-  arrivals-inhabited (fork o p) = appended-inhabited (arrivals o) _ (arrivals-inhabited o)
+  met-inhabited : (lacks : S → Found) (o : Outcome S) → Inhabited (meetings lacks o)
+  unfolding meetings
+  met-inhabited lacks (single s) = tt
+  met-inhabited lacks (fork o p) = appended-inhabited (meetings lacks o) _ (met-inhabited lacks o)
 
-  step-inhabited : (p a : ℕ) (x : Step S) → Inhabited (paths-step p a x)
+  step-inhabited : (lacks : S → Found) (p a : ℕ) (x : Step S) → Inhabited (paths-step lacks p a x)
   unfolding paths-step
-  step-inhabited p a (leads-to o) = ran-inhabited (a ∷ []) (arrivals o) (arrivals-inhabited o)
-  step-inhabited p a (refuses n u) = tt
+  step-inhabited lacks p a (leads-to o) = ran-inhabited (a ∷ []) (meetings lacks o) (met-inhabited lacks o)
+  step-inhabited lacks p a (refuses n u) = tt
 
   -- A step and what follows it.
-  each-step : (p a : ℕ) (x : Step S) (k : S → Walked S) → after-step p x k ≡ each-path k (paths-step p a x)
+  each-step : (lacks : S → Found) (p a : ℕ) (x : Step S) (k : S → Walked S) → after-step p x (λ s. unless-broken (lacks s) s (k s)) ≡ each-path k (paths-step lacks p a x)
   unfolding after-step paths-step
-  each-step p a (leads-to o) k = sym (each-first-ran k (a ∷ []) (arrivals o) (arrivals-inhabited o) ∙ ap (counted 1) (each-arrival k o))
-  each-step p a (refuses n u) k = sym (each-stops k n p u)
+  each-step lacks p a (leads-to o) k = sym (each-first-ran k (a ∷ []) (meetings lacks o) (met-inhabited lacks o) ∙ ap (counted 1) (each-met lacks k o))
+  each-step lacks p a (refuses n u) k = sym (each-stops k n p u)
 
 module _ {S L : Type 0} (step : Steps S L) where
   mutual
@@ -175,7 +180,7 @@ module _ {S L : Type 0} (step : Steps S L) where
     paths-inhabited (item i rest) s = gone-on-inhabited (paths step rest) (paths-inhabited rest) (paths-item step i s) (item-inhabited i s)
 
     item-inhabited : (i : Item L) (s : S) → Inhabited (paths-item step i s)
-    item-inhabited (act p a) s = step-inhabited p a (step .does a s)
+    item-inhabited (act p a) s = step-inhabited (step .lacks) p a (step .does a s)
     item-inhabited (branching p bs) s = branch-inhabited bs p s
 
     branch-inhabited : (bs : Branches L) (p : ℕ) (s : S) → Inhabited (paths-branch step bs p s)
@@ -195,7 +200,7 @@ module _ {S L : Type 0} (step : Steps S L) where
         ∙ sym (each-gone-on k (paths step rest) (paths-inhabited rest) (paths-item step i s))
 
     item-each-path : (i : Item L) (k : S → Walked S) (s : S) → walk-item step i k s ≡ each-path k (paths-item step i s)
-    item-each-path (act p a) k s = each-step p a (step .does a s) k
+    item-each-path (act p a) k s = each-step (step .lacks) p a (step .does a s) k
     item-each-path (branching p bs) k s = branch-each-path bs p k s
 
     branch-each-path : (bs : Branches L) (p : ℕ) (k : S → Walked S) (s : S) → walk-branch step bs p k s ≡ each-path k (paths-branch step bs p s)
@@ -256,7 +261,25 @@ module _ (miss : State → Found) where
   pub walk-along : {L : Type 0} (step : Steps State L) (p : Sequence L) (s : State) → walk step p (judging miss) s ≡ walked-along miss (paths step p s)
   walk-along step p s = walk-each-path step p (judging miss) s ∙ judged-along (paths step p s)
 
+  -- And from a state that is met.
+  pub met-along : {L : Type 0} (step : Steps State L) (p : Sequence L) (s : State) → meet step (walk step p (judging miss)) s ≡ walked-along miss (paths-met step p s)
+  unfolding paths-met each-reading
+  met-along step p s =
+      ap (λ (j : State → Walked State). meet step j s) (fun-ext (walk-each-path step p (judging miss)))
+      ∙ met-goes-on
+      ∙ judged-along (paths-met step p s)
+    where
+      met-goes-on : meet step (λ u. each-path (judging miss) (paths step p u)) s ≡ each-path (judging miss) (go-on (meetings (step .lacks) (single s)) (paths step p))
+      met-goes-on =
+          sym (each-met (step .lacks) (λ u. each-path (judging miss) (paths step p u)) (single s))
+          ∙ sym (each-gone-on (judging miss) (paths step p) (paths-inhabited step p) (meetings (step .lacks) (single s)))
+
 -- The walk of a request's plan is what the list of the plan's paths says.
 pub walked-in-order : (r : Request) (s : State) → walked r s ≡ walked-along (missed-in r) (paths (table-step (r .table)) (r .plan) s)
 unfolding walked judged
 walked-in-order r s = walk-along (missed-in r) (table-step (r .table)) (r .plan) s
+
+-- And with guards.
+pub guarded-in-order : (r : Request) (gs : List Entry) (s : State) → walked-guarded r gs s ≡ walked-along (missed-in r) (paths-met (guarded-step (r .table) gs) (r .plan) s)
+unfolding walked-guarded judged
+guarded-in-order r gs s = met-along (missed-in r) (guarded-step (r .table) gs) (r .plan) s

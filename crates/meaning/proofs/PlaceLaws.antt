@@ -16,9 +16,10 @@ use Rattle.meaning.specs.Limits.{Limits}
 use Rattle.meaning.specs.Literals.{among}
 use Rattle.meaning.specs.Requests.{Effect, Executability, Knowledge, Table, Sequence, done, item, Item, act, branching, Branches, none, branch, Entry, Request}
 use Rattle.meaning.specs.Reading.{Got, got, next, byte-at, two-bytes-at, count-at, below-at, Kind, literals, fluents, bound-of, entry-at, entries-at, list-at, repeated, section-at, body-at, effect-at, executability-at, knowledge-at, Met, plan-at, table-at, placed, request-at, read-request}
-use Rattle.meaning.specs.Refusals.{Found, nowhere, at, or-else, contradictory, first-against, contradiction-in, mixed-in, overlap-in, overlap-at, overlap-below, refuse, settled}
-use Rattle.meaning.specs.States.{State, outcome}
-use Rattle.meaning.specs.Walk.{End, first-missed, missed-in, walked}
+use Rattle.meaning.specs.Refusals.{Found, nowhere, at, or-else, contradictory, first-against, contradiction-in, mixed-in, overlap-in, overlap-at, overlap-below, refuse, past-refusals, settled}
+use Rattle.meaning.specs.States.{State, known, outcome}
+use Rattle.meaning.specs.Walk.{End, first-missed, missed-in, walked, walked-guarded}
+use Rattle.meaning.specs.Guards.{Guarded-request, read-guarded, settled-guarded}
 use Rattle.meaning.specs.Derivations.{Conclusion, Line, Derivation, Concluded, list-concluded, fluent-concluded, conclusion-at, concluded-at, closing-at, line-at, read-derivation, overlap-in-lines, check-lines, check-last, all-asked, check-entries, check-closing, check-end, check-derivation}
 use Rattle.meaning.specs.Answers.{refusals, end-fault}
 use Rattle.meaning.specs.AnswerParts.{of-neither, at-start, Placed}
@@ -29,7 +30,7 @@ use Rattle.meaning.proofs.GotLaws
 use Rattle.meaning.proofs.GotLaws.{held-got, held-then, held-faulty, next-held}
 use Rattle.meaning.proofs.PlanReads
 use Rattle.meaning.proofs.PlanReads.{About, Said, Passed-on, Faults}
-use Rattle.meaning.proofs.KeptEnds.{On-places, On-places-item, On-places-below, any-outcome, End-so, walked-so}
+use Rattle.meaning.proofs.KeptEnds.{On-places, On-places-item, On-places-below, any-outcome, End-so, walked-so, walked-guarded-so}
 
 -- The faults of counts and entries, which sections 1 to 5 have alone; those of items; and all the faults of reading that are placed at a byte.
 unfoldable pub entry-faults : List ℕ
@@ -156,6 +157,12 @@ module _ (size : ℕ) where
   walked-below r h s =
       walked-so _ _ (λ _. Unit {0}) (λ p. p < size) (λ _ _ p here. here) r (λ a u _. any-outcome (outcome (r .table) a u))
       (λ u _ p q. subst Found-below q (missed-below r h u)) (h .plan) s tt
+
+  -- With guards, each at a byte, it stops in a state at the guard that it lacks.
+  pub walked-guarded-below : (r : Request) → Request-below r → (gs : List Entry) → Each-below (λ (e : Entry). e .place) gs → (s : State) → End-below (walked-guarded r gs s .end)
+  walked-guarded-below r h gs guards s =
+      walked-guarded-so _ _ (λ _. Unit {0}) (λ p. p < size) (λ _ _ p here. here) r gs (λ a u _. any-outcome (outcome (r .table) a u))
+      (λ u _ p q. subst Found-below q (missed-below r h u)) (λ u _ p q. subst Found-below q (first-missed-below (known u) gs guards)) (h .plan) s tt
 
 -- READING an input, where `Bad n p` is what is said of a fault with number n at place p.
 module _ (s : List ℕ) (Bad : ℕ → ℕ → Type 0) where
@@ -473,14 +480,48 @@ module _ (lim : Limits) (s : List ℕ) where
       by-next s Request-fault (λ (r : Request) (q : ℕ). Request-below (length s) r) Request-read (request-at lim s t p) _ (request-held s Request-fault ends entry lim (λ n p is. byte n p (item-byte n is)) t p table fits) λ r e fits₂ so.
       pick-has Request-held _ _ _ (λ more. byte _ e refl (ltb-true _ _ more)) (λ _. (fits₂, (so, short)))
 
+  -- What was read of it, past 16, 17 and 18.
+  module _ {A : Type 0} (so : A → ℕ → Type 0) (r : Request) (below : Request-below (length s) r) (short : length s ≤ lim .request) where
+    past-held : (whole : Got A) → Held s Request-fault so whole → Held s Request-fault so (past-refusals r whole)
+    unfolding among refusals at-start of-neither some-of either
+    past-held whole held =
+        let refused = byte-fault refusals (lim .request) (length s) short in
+        by-refuse s Request-fault so _ _ _ (λ p. refused _ p refl refl) (contradiction-below (length s) (r .table) (below .table .effects))
+        (by-refuse s Request-fault so _ _ _ (λ p. refused _ p refl refl) (mixed-below (length s) (r .table .effects) (r .table .knowledge) (below .table .knowledge))
+        (by-refuse s Request-fault so _ _ _ (λ p. refused _ p refl refl) (overlap-in-below (length s) (r .plan) (below .plan)) held))
+
   pub settled-held : Request-held (settled lim s)
-  unfolding settled among refusals at-start of-neither some-of either
-  settled-held =
-      by-next s Request-fault Request-read Request-read (read-request lim s) _ read-held λ r e fits so.
-      let refused = byte-fault refusals (lim .request) (length s) (so .1) in
-      by-refuse s Request-fault Request-read _ _ _ (λ p. refused _ p refl refl) (contradiction-below (length s) (r .table) (so .0 .table .effects))
-      (by-refuse s Request-fault Request-read _ _ _ (λ p. refused _ p refl refl) (mixed-below (length s) (r .table .effects) (r .table .knowledge) (so .0 .table .knowledge))
-      (by-refuse s Request-fault Request-read _ _ _ (λ p. refused _ p refl refl) (overlap-in-below (length s) (r .plan) (so .0 .plan)) (fits, so)))
+  unfolding settled
+  settled-held = by-next s Request-fault Request-read Request-read (read-request lim s) _ read-held λ r e fits so. past-held Request-read r (so .0) (so .1) (got r e) (fits, so)
+
+  -- A guarded request: so are its guards.
+  pub record Guarded-below (g : Guarded-request) (e : ℕ) : Type 0 where
+    pub request : Request-below (length s) (g .request)
+    pub guards : Each-below (length s) (λ (x : Entry). x .place) (g .guards)
+    pub short : length s ≤ lim .request
+
+  abbrev pub Guarded-held : Got Guarded-request → Type 0
+  Guarded-held = Held s Request-fault Guarded-below
+
+  guarded-read-held : Guarded-held (read-guarded lim s)
+  unfolding read-guarded among refusals byte-faults some-of either each-of both
+  guarded-read-held =
+      pick-has Guarded-held _ _ _ (λ _. too-long-fault refusals (lim .request) (length s) refl) λ f.
+      let short = ltb-false (lim .request) (length s) f in
+      let ends = ends-fault refusals (lim .request) (length s) short refl in
+      let byte = reading-fault refusals (lim .request) (length s) short refl in
+      let entry : (n p : ℕ) → among n entry-faults ≡ true → p < length s → Request-fault n p = λ n p is. byte n p (entry-byte n is) in
+      by-next s Request-fault (λ (t : Table) (q : ℕ). Table-below (length s) t) Guarded-below (table-at lim s 0) _ (table-held s Request-fault ends entry lim 0) λ t p fits table.
+      by-next s Request-fault (λ (r : Request) (q : ℕ). Request-below (length s) r) Guarded-below (request-at lim s t p) _ (request-held s Request-fault ends entry lim (λ n p is. byte n p (item-byte n is)) t p table fits) λ r q _ so.
+      by-next s Request-fault (λ (gs : List ℕ) (e : ℕ). e ≡ q + 1 + length gs) Guarded-below (list-at literals (t .fluents) Limits.most-guards s q) _
+      (list-held s Request-fault ends entry literals (t .fluents) Limits.most-guards q) λ gs e fits₂ long.
+      pick-has Guarded-held _ _ _ (λ more. byte _ e refl (ltb-true _ _ more))
+      (λ _. (fits₂, record { request = so; guards = placed-below (length s) (q + 1) gs (omega (arith, fits₂, long)); short = short }))
+
+  pub guarded-held : Guarded-held (settled-guarded lim s)
+  unfolding settled-guarded
+  guarded-held =
+      by-next s Request-fault Guarded-below Guarded-below (read-guarded lim s) _ guarded-read-held λ g e fits so. past-held Guarded-below (g .request) (so .request) (so .short) (got g e) (fits, so)
 
 -- A DERIVATION, for a request. It gets neither 16 nor 17. What the layout decides stands last, so that the others are found in any layout.
 unfoldable pub derivation-faults : Layout → List ℕ

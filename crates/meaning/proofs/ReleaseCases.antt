@@ -1,13 +1,13 @@
 -- Releases over the table of File A, computed by the definitions: one equation over one table. Every answer of the call's own and every number that
 -- a plan can get has a row or more. Assumes nothing.
-use Prim.Native.Nat.{ℕ, zero, suc}
+use Prim.Native.Nat.{ℕ}
 use mathlib.Core.Path.{_≡_, refl}
 use mathlib.Core.List.{List, [], _∷_, _++_, map}
 use lib.ListN.{set, replicate, take}
 use Rattle.meaning.specs.Limits.{format}
 use Rattle.meaning.specs.Releases.{Released, release, plans-in}
 use Rattle.meaning.proofs.Compute.{all-open}
-use Rattle.meaning.proofs.Cases.{table-A, usual}
+use Rattle.meaning.proofs.Cases.{table-A, usual, copies}
 
 -- A file, the lent row, the budget, and what the call gives.
 pub record Case : Type 0 where
@@ -29,7 +29,7 @@ abbrev nines : ℕ → List ℕ
 nines n = replicate n 9
 
 -- A file that is judged, and one that is refused.
-abbrev judged : (file : List ℕ) → (size : ℕ) → (left : List ℕ) → Case
+abbrev pub judged : (file : List ℕ) → (size : ℕ) → (left : List ℕ) → Case
 judged file size left = row file (nines size) usual 0 0 0 left
 
 abbrev refused : (file : List ℕ) → (size number place : ℕ) → Case
@@ -42,7 +42,7 @@ wrong-length file size = row file (nines size) usual 9 0 0 (nines size)
 plan-A : List ℕ
 plan-A = 0 ∷ 2 ∷ 0 ∷ 255 ∷ 2 ∷ 1 ∷ 1 ∷ 0 ∷ 2 ∷ 1 ∷ 2 ∷ 1 ∷ 0 ∷ 0 ∷ 0 ∷ 1 ∷ 7 ∷ 1 ∷ 2 ∷ []
 
-no-item : List ℕ
+unfoldable pub no-item : List ℕ
 no-item = 0 ∷ 0 ∷ 0 ∷ 0 ∷ []
 
 -- One that misses its goal, at its fifth byte; one whose item can't be run, at its third.
@@ -65,12 +65,8 @@ over-A : ℕ → List ℕ
 over-A k = table-A ++ (k ∷ [])
 
 -- One fluent, one action and no lines, and a plan count. The plans begin at 7.
-no-lines : ℕ → List ℕ
+unfoldable pub no-lines : ℕ → List ℕ
 no-lines k = 1 ∷ 1 ∷ 0 ∷ 0 ∷ 0 ∷ 0 ∷ k ∷ []
-
-copies : ℕ → List ℕ → List ℕ
-copies zero xs = []
-copies (suc k) xs = xs ++ copies k xs
 
 pub releases : List Case
 releases =
@@ -100,12 +96,11 @@ releases =
     judged (over-A 3 ++ no-item ++ no-item) 12 (0 ∷ 0 ∷ 1 ∷ 0 ∷ 0 ∷ 0 ∷ 1 ∷ 0 ∷ 11 ∷ 38 ∷ 0 ∷ 1 ∷ []) ∷
     judged (over-A 3 ++ no-item) 12 (0 ∷ 0 ∷ 1 ∷ 0 ∷ 11 ∷ 34 ∷ 0 ∷ 1 ∷ 22 ∷ 0 ∷ 0 ∷ 0 ∷ []) ∷
     judged (over-A 1) 4 (11 ∷ 30 ∷ 0 ∷ 1 ∷ []) ∷
-    -- The other faults of a plan, its goals and its whether list: 12, 14, 15, 19, 21.
+    -- The other faults of a plan, its goals and its whether list: 12, 14, 15, 19; `LongCases` has 21.
     judged (over-A 2 ++ no-item ++ (0 ∷ 0 ∷ 129 ∷ 0 ∷ [])) 8 (0 ∷ 0 ∷ 1 ∷ 0 ∷ 12 ∷ 36 ∷ 0 ∷ 1 ∷ []) ∷
     judged (over-A 2 ++ (0 ∷ 0 ∷ 2 ∷ 3 ∷ 0 ∷ 0 ∷ []) ++ no-item) 8 (14 ∷ 34 ∷ 0 ∷ 1 ∷ 22 ∷ 0 ∷ 0 ∷ 0 ∷ []) ∷
     judged (over-A 2 ++ (0 ∷ 0 ∷ 2 ∷ 2 ∷ 3 ∷ 0 ∷ []) ++ no-item) 8 (15 ∷ 34 ∷ 0 ∷ 1 ∷ 22 ∷ 0 ∷ 0 ∷ 0 ∷ []) ∷
     judged (no-lines 2 ++ no-item ++ copies 9 (0 ∷ 1 ∷ 255 ∷ 1 ∷ 0 ∷ [])) 8 (0 ∷ 0 ∷ 1 ∷ 0 ∷ 19 ∷ 53 ∷ 0 ∷ 1 ∷ []) ∷
-    judged (no-lines 2 ++ no-item ++ (4 ∷ 1 ∷ []) ++ replicate 1025 0) 8 (0 ∷ 0 ∷ 1 ∷ 0 ∷ 21 ∷ 1037 ∷ 0 ∷ 1 ∷ []) ∷
     -- THE CALL'S OWN. 10, before all else.
     refused (replicate 16385 0) 4 10 0 ∷
     refused (replicate 16385 0) 0 10 0 ∷

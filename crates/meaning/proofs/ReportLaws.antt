@@ -18,7 +18,7 @@ use Rattle.meaning.specs.States.{State, known, known-whether, first-stat
 use Rattle.meaning.specs.Walk.{in-state, End, fine, missed, stopped, Step, table-does, table-step, first-missed, missed-in}
 use Rattle.meaning.specs.Judging.{Judgement, written-over, reported, ended, within, judge, number, count}
 use Rattle.meaning.specs.Approximation.{Pair, true-in, state, None-true, Φ̂, Initial, Entailed}
-use Rattle.meaning.specs.Paths.{Ending, arrives, stops, arrivals, paths-step, paths, paths-item, paths-branch}
+use Rattle.meaning.specs.Paths.{Ending, arrives, stops, meetings, arrivals, paths-step, paths, paths-item, paths-branch}
 use Rattle.meaning.specs.Reported.{First, pair-of, Asked, goal, whether, asked-at, met-in, asked-by, All-met, Misses, all-paths, Missed-at, Item-in, Item-of, Item-under, item-place, Not-run, Stopped-at}
 use Rattle.meaning.proofs.TestLaws.{clash, pick-cases, each-has, has-each, has-split, has-map, map-has}
 use Rattle.meaning.proofs.PickLaws.{pick-has, has-picked}
@@ -65,7 +65,7 @@ module _ (r : Request) (u : State) where
   goals-met = all-in (pair-of u) (known u) goal goal-met goal-at (r .goals)
 
   -- Where the walk misses nothing, all is met.
-  nothing-missed : missed-in r u ≡ nowhere → All-met r (pair-of u)
+  pub nothing-missed : missed-in r u ≡ nowhere → All-met r (pair-of u)
   unfolding asked-by
   nothing-missed q a h =
       let w = met r u .0 q in
@@ -73,7 +73,7 @@ module _ (r : Request) (u : State) where
       (has-split (map goal (r .goals)) (map whether (r .whether)) a h)
 
   -- Where it misses an entry, that is the first not met.
-  entry-missed : (p : ℕ) → missed-in r u ≡ at p → First (λ a. met-in (pair-of u) a ≡ true) (λ a. (met-in (pair-of u) a ≡ false) × (asked-at a ≡ p)) (asked-by r)
+  pub entry-missed : (p : ℕ) → missed-in r u ≡ at p → First (λ a. met-in (pair-of u) a ≡ true) (λ a. (met-in (pair-of u) a ≡ false) × (asked-at a ≡ p)) (asked-by r)
   unfolding missed-in or-else asked-by
   entry-missed p q =
       by-found (first-missed (known u) (r .goals))
@@ -91,25 +91,25 @@ entailed-met r σ δ initial led k a h =
     (has-split (map goal (r .goals)) (map whether (r .whether)) a h)
 
 -- ITEMS. How a path stops at an item that can't be run.
-abbrev sticks : ℕ → State → Ending State
+abbrev pub sticks : ℕ → State → Ending State
 sticks p u = stops Limits.not-executable p (in-state u)
 
 -- What an action leads to are arrivals.
 arrivals-go-on : (o : Outcome State) (p : ℕ) (u : State) → Ends (arrivals o) (sticks p u) → ⊥
-unfolding arrivals
+unfolding meetings
 arrivals-go-on (single s) p u h = arrives≢stops (sym (ends-one h))
 arrivals-go-on (fork o q) p u h = ⊎-elim (arrivals-go-on o p u) (arrivals-go-on (q tt) p u) (ends-split (arrivals o) (arrivals (q tt)) (sticks p u) h)
 
 module _ (t : Table) where
   -- One of the items stands at the place and can't be run in the state.
-  abbrev Stop : (Item ℕ → Type 0) → ℕ → State → Type 0
+  abbrev pub Stop : (Item ℕ → Type 0) → ℕ → State → Type 0
   Stop Items p u = (i : Item ℕ) × Items i × (item-place i ≡ p) × Not-run t i (pair-of u)
 
   mutual
     unfolding paths paths-step table-step table-does item-place
 
     -- A path stops at an item of the plan that can't be run.
-    stops-in : (c : Sequence ℕ) (s : State) (p : ℕ) (u : State) → Ends (paths (table-step t) c s) (sticks p u) → Stop (Item-in c) p u
+    pub stops-in : (c : Sequence ℕ) (s : State) (p : ℕ) (u : State) → Ends (paths (table-step t) c s) (sticks p u) → Stop (Item-in c) p u
     stops-in done s p u h = absurd (arrives≢stops (sym (ends-one h)))
     stops-in (item i rest) s p u h =
         ⊎-elim
@@ -119,7 +119,7 @@ module _ (t : Table) where
 
     stops-of : (i : Item ℕ) (s : State) (p : ℕ) (u : State) → Ends (paths-item (table-step t) i s) (sticks p u) → Stop (Item-of i) p u
     stops-of (act q a) s p u h =
-        has-picked (λ (x : Step State). Ends (paths-step q a x) (sticks p u)) (can-be-run t a s) _ _ h
+        has-picked (λ (x : Step State). Ends (paths-step (λ _. nowhere) q a x) (sticks p u)) (can-be-run t a s) _ _ h
         (λ _ k. absurd (arrivals-go-on (outcome t a s) p u (ends-ran (a ∷ []) (arrivals (outcome t a s)) (sticks p u) .0 k)))
         (λ off k. let w = stops-same (ends-one k) in (act q a, refl, sym (w .0), rw (w .1) (runs-pair t a s ∙ off)))
     stops-of (branching q bs) s p u h =

@@ -28,13 +28,13 @@ use Rattle.meaning.proofs.ItemBytes.{First-byte, items-there}
 use Rattle.meaning.proofs.ReportLaws.{stopped-there}
 
 -- AN ITEM by its first byte.
-line-of-item : (t : Table) (s : List ℕ) (m : ℕ) (i : Item ℕ) → First-byte s m i → (u : State) → line-at t (getD s (item-place i) 0) u ≡ item-line t i u
+pub line-of-item : (t : Table) (s : List ℕ) (m : ℕ) (i : Item ℕ) → First-byte s m i → (u : State) → line-at t (getD s (item-place i) 0) u ≡ item-line t i u
 unfolding line-at item-line item-place
 line-of-item t s m (act p a) byte u = rw (byte .0) (pick-false _ _ _ (ne-eqb _ _ (byte .2)))
 line-of-item t s m (branching p bs) byte u = pick-true _ _ _ (eq-eqb _ _ byte)
 
 -- OTHER ANSWERS.
-told-not : (t : Table) (request : List ℕ) (j : Judgement) → (j .answer .number ≡ Limits.not-executable → ⊥) → line-told t request j ≡ 0
+pub told-not : (t : Table) (request : List ℕ) (j : Judgement) → (j .answer .number ≡ Limits.not-executable → ⊥) → line-told t request j ≡ 0
 unfolding line-told
 told-not t request j other = pick-false _ _ _ (ne-eqb _ _ other)
 
@@ -71,7 +71,7 @@ unfolding asked first-allowing nearest
 never-asked t a s none = rw none
 
 -- AN ACTION THAT CAN'T BE RUN: no line allows it.
-not-run-near : (t : Table) (a : ℕ) (s : State) → can-be-run t a s ≡ false
+pub not-run-near : (t : Table) (a : ℕ) (s : State) → can-be-run t a s ≡ false
     → ((executability-of t a ≡ []) × (line-of (asked t a s) ≡ 0)) ⊎ Nearest s (executability-of t a) (line-of (asked t a s))
 unfolding allows line-of
 not-run-near t a s not = by-case (asked t a s) (sym (can-be-run-asked t a s) ∙ not) (asked-stands t a s)
@@ -81,7 +81,7 @@ not-run-near t a s not = by-case (asked t a s) (sym (can-be-run-asked t a s) ∙
 
 -- Where answer 2 is placed at an action, that action can't be run in the state left: whatever item the walk stopped at has the same first byte.
 module _ (lim : Limits) (room : lim .fluents ≤ lim .state) (b lent : List ℕ) (budget : ℕ) (r : Request) (e : ℕ) (lent-length : length lent ≡ lim .state) (past : settled lim b ≡ got r e) where
-  same-action : (p a : ℕ) → Item-in (r .plan) (act p a) → (i : Item ℕ) → Item-in (r .plan) i → item-place i ≡ p → (u : State) → Not-run (r .table) i (pair-of u) → can-be-run (r .table) a u ≡ false
+  pub same-action : (p a : ℕ) → Item-in (r .plan) (act p a) → (i : Item ℕ) → Item-in (r .plan) i → item-place i ≡ p → (u : State) → Not-run (r .table) i (pair-of u) → can-be-run (r .table) a u ≡ false
   unfolding item-place
   same-action p a within i has at u not =
       let reads = settled-is lim b r e past .reads in

@@ -15,7 +15,7 @@ use Rattle.meaning.specs.Literals.{says-true, says-false, fluent-of, com
 use Rattle.meaning.specs.Requests.{Knowledge, Table}
 use Rattle.meaning.specs.Lines.{knowledge-of, senses}
 use Rattle.meaning.specs.States.{State, known, known-whether, told, told-all, unknown-from, unknown-sensed, Outcome, single, fork, readings}
-use Rattle.meaning.specs.Paths.{Ending, arrives, arrivals}
+use Rattle.meaning.specs.Paths.{Ending, arrives, meetings, arrivals}
 use Rattle.meaning.specs.Approximation.{Pair, true-in, _≼_, K, Sensed}
 use Rattle.meaning.specs.Reported.{pair-of}
 use Rattle.meaning.specs.Derivations.{states-of}
@@ -84,7 +84,7 @@ distinct-consistent (x ∷ ls) d l (inr h) (inr k) = distinct-consistent ls (d .
 
 -- Each reading tells a literal of each fluent read.
 readings-end : (fs : List ℕ) (s : State) (e : Ending State) → Ends (arrivals (readings fs s)) e → (ls : List ℕ) × (map fluent-of ls ≡ fs) × (e ≡ arrives (told-all ls s))
-unfolding arrivals readings told-all
+unfolding meetings readings told-all
 readings-end [] s e (inl q) = ([], refl, q)
 readings-end (f ∷ fs) s e h =
     ⊎-elim
@@ -94,7 +94,7 @@ readings-end (f ∷ fs) s e h =
 
 -- Whichever are told, a reading tells them.
 readings-to : (ls : List ℕ) (s : State) → Ends (arrivals (readings (map fluent-of ls) s)) (arrives (told-all ls s))
-unfolding arrivals readings told-all
+unfolding meetings readings told-all
 readings-to [] s = inl refl
 readings-to (l ∷ ls) s =
     by-literal (λ k. Ends (arrivals (readings (fluent-of k ∷ map fluent-of ls) s)) (arrives (told-all ls (told k s))))
@@ -219,12 +219,12 @@ module _ (t : Table) (a : ℕ) (s : State) (within : (k : Knowledge) → Has (t 
 
 -- The states that paths arrive in are those of the outcome.
 pub arrived : (o : Outcome State) (u : State) → Ends (arrivals o) (arrives u) → Has (states-of o) u
-unfolding arrivals states-of
+unfolding meetings states-of
 arrived (single s) u h = inl (arrives-same (ends-one h))
 arrived (fork o p) u h = ⊎-elim (λ k. has-left (states-of o) (states-of (p tt)) u (arrived o u k)) (λ k. has-right (states-of o) (states-of (p tt)) u (arrived (p tt) u k)) (ends-split (arrivals o) (arrivals (p tt)) (arrives u) h)
 
 pub arrives-in : (o : Outcome State) (u : State) → Has (states-of o) u → Ends (arrivals o) (arrives u)
-unfolding arrivals states-of
+unfolding meetings states-of
 arrives-in (single s) u h = ⊎-elim (λ q. inl (ap arrives q)) absurd h
 arrives-in (fork o p) u h =
     ⊎-elim (λ k. ends-left (arrivals o) (arrivals (p tt)) (arrives u) (arrives-in o u k)) (λ k. ends-right (arrivals o) (arrivals (p tt)) (arrives u) (arrives-in (p tt) u k))

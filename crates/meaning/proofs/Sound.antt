@@ -3,14 +3,14 @@
 use Prim.Native.Nat.{ℕ}
 use mathlib.Core.Path.{_≡_, refl, sym, _∙_, ap, subst}
 use mathlib.Core.Bool.{Bool, true, false}
-use mathlib.Core.List.{List, _∷_}
+use mathlib.Core.List.{List, [], _∷_}
 use mathlib.Core.Logic.{_⊎_, inl, inr, ⊎-elim}
 use Rattle.meaning.specs.Tests.{pick, each-of, Has}
 use Rattle.meaning.specs.Requests.{Sequence, done, item, Item, act, branching, Branches, none, branch}
-use Rattle.meaning.specs.Refusals.{conditions-of}
+use Rattle.meaning.specs.Refusals.{Found, nowhere, at, conditions-of}
 use Rattle.meaning.specs.States.{Outcome, single, fork}
-use Rattle.meaning.specs.Walk.{Concerned, End, fine, missed, stopped, Walked, Verified, stopped-at, counted, keep-miss, after-miss, after-end, and-then, each-reading, Step, leads-to, refuses, Steps, after-step, run-action, walk, walk-item, walk-branch}
-use Rattle.meaning.specs.Worlds.{Domain, Worlds, Sure, Kept, Moved, Acted, None-sure, Carried, Carried-item, Chosen}
+use Rattle.meaning.specs.Walk.{Concerned, End, fine, missed, stopped, Walked, Verified, stopped-at, counted, keep-miss, after-miss, after-end, and-then, each-reading, Step, leads-to, refuses, Steps, after-step, unless-broken, meet, run-action, walk, walk-item, walk-branch}
+use Rattle.meaning.specs.Worlds.{Domain, Worlds, Sure, Kept, Moved, Acted, None-sure, Guarded, Carried-under, Carried-item, Chosen}
 use Rattle.meaning.proofs.TestLaws.{by-test, each-mono}
 use Rattle.meaning.proofs.WalkLaws.{On-conditions, On-conditions-item, On-conditions-below}
 
@@ -117,7 +117,9 @@ seen-sound {L = L} step d other seen Apart Agrees same sound =
       others = sound .others;
     }
 
-module _ {S W L R : Type 0} (step : Steps S L) (d : Domain W L R) (Apart : List (List L) → Type 0) (Agrees : W → S → Type 0) (sound : Sound-step step d Apart Agrees) where
+-- With guards, each known true in every state that does not lack one.
+module _ {S W L R : Type 0} (step : Steps S L) (d : Domain W L R) (Apart : List (List L) → Type 0) (Agrees : W → S → Type 0) (sound : Sound-step step d Apart Agrees)
+    (gs : List L) (guarded : (s : S) → step .lacks s ≡ nowhere → each-of (step .knows s) gs ≡ true) where
   -- Every possible world agrees with the state, and the true one is among them.
   pub record Known (v : W) (P : Worlds W) (s : S) : Type 0 where
     pub agree : (w : W) → P w → Agrees w s
@@ -146,9 +148,22 @@ module _ {S W L R : Type 0} (step : Steps S L) (d : Domain W L R) (Apart : List 
       (λ q. no-e e (inl refl) (sure e g q v (g .actual)))
       (λ q. none-followed k bs p g (rw (q, pick) at r) (λ i m. no-e i (inr m)))
 
-  run-sound : (p a : ℕ) (k : S → Walked S) (K : W → Worlds W → Type 0) → Follows k K → Follows (run-action step p a k) (Acted d a K)
-  unfolding run-action after-step
-  run-sound p a k K then s v P g e = by-step (step .does a s) refl e
+  -- A STATE THAT IS MET and lacks no guard.
+  with-guards : (hs : List L) (K : W → Worlds W → Type 0) (v : W) (P : Worlds W) → Sure d hs P → K v P → Guarded d hs K v P
+  with-guards [] K v P sure-of then = then
+  with-guards (h ∷ hs) K v P sure-of then = (sure-of, then)
+
+  pub meet-sound : (k : S → Walked S) (K : W → Worlds W → Type 0) → Follows k K → Follows (meet step k) (Guarded d gs K)
+  meet-sound k K then s v P g e = by-found (step .lacks s) refl e
+    where
+      by-found : (f : Found) → step .lacks s ≡ f → Verified (unless-broken f s (k s)) → Guarded d gs K v P
+      by-found nowhere q fine-after = with-guards gs K v P (sure gs g (guarded s q)) (then s v P g fine-after)
+      by-found (at p) q fine-after = absurd (stopped-not-verified _ p _ fine-after)
+
+  -- An action, and what follows it.
+  act-sound : (p a : ℕ) (k : S → Walked S) (K : W → Worlds W → Type 0) → Follows k K → Follows (λ s. after-step p (step .does a s) k) (Acted d a K)
+  unfolding after-step
+  act-sound p a k K then s v P g e = by-step (step .does a s) refl e
     where
       by-step : (x : Step S) → step .does a s ≡ x → Verified (after-step p x k) → Acted d a K v P
       by-step (refuses n u) is e = absurd (stopped-not-verified n p u e)
@@ -167,21 +182,25 @@ module _ {S W L R : Type 0} (step : Steps S L) (d : Domain W L R) (Apart : List 
                 (t .2);
           }
 
+  run-sound : (p a : ℕ) (k : S → Walked S) (K : W → Worlds W → Type 0) → Follows k K → Follows (run-action step p a k) (Acted d a (Guarded d gs K))
+  unfolding run-action
+  run-sound p a k K then = act-sound p a (meet step k) (Guarded d gs K) (meet-sound k K then)
+
   mutual
     unfolding walk pick conditions-of
 
     -- DEMAND 3 from the record: where what follows is sound, so is the plan before it.
-    pub plan-sound : (p : Sequence L) → On-conditions Apart p → (k : S → Walked S) (K : W → Worlds W → Type 0) → Follows k K → Follows (walk step p k) (Carried d p K)
+    pub plan-sound : (p : Sequence L) → On-conditions Apart p → (k : S → Walked S) (K : W → Worlds W → Type 0) → Follows k K → Follows (walk step p k) (Carried-under d gs p K)
     plan-sound done fit k K then s v P g e = then s v P g e
     plan-sound (item i rest) fit k K then s v P g e =
-        item-sound i (fit .0) (walk step rest k) (Carried d rest K) (plan-sound rest (fit .1) k K then) s v P g e
+        item-sound i (fit .0) (walk step rest k) (Carried-under d gs rest K) (plan-sound rest (fit .1) k K then) s v P g e
 
-    item-sound : (i : Item L) → On-conditions-item Apart i → (k : S → Walked S) (K : W → Worlds W → Type 0) → Follows k K → Follows (walk-item step i k) (Carried-item d i K)
+    item-sound : (i : Item L) → On-conditions-item Apart i → (k : S → Walked S) (K : W → Worlds W → Type 0) → Follows k K → Follows (walk-item step i k) (Carried-item d gs i K)
     item-sound (act p a) fit k K then s v P g e = run-sound p a k K then s v P g e
     item-sound (branching p bs) fit k K then s v P g e = branches-sound bs (fit .0) (fit .1) p k K then s v P g e
 
     branches-sound : (bs : Branches L) → Apart (conditions-of bs) → On-conditions-below Apart bs → (p : ℕ) (k : S → Walked S) (K : W → Worlds W → Type 0) → Follows k K
-        → Follows (walk-branch step bs p k) (Chosen d bs K)
+        → Follows (walk-branch step bs p k) (Chosen d gs bs K)
     branches-sound none apart fit p k K then s v P g e = stopped-not-verified _ p _ e
     branches-sound (branch c b bs) apart fit p k K then s v P g e =
         by-test (each-of (step .knows s) c)

@@ -15,11 +15,11 @@ use Rattle.meaning.specs.Tests.{both, either, fails, pick, some-of, each
 use Rattle.meaning.specs.Limits
 use Rattle.meaning.specs.Limits.{Limits}
 use Rattle.meaning.specs.Literals.{says-true, says-false, fluent-of, complement, among, exclusive}
-use Rattle.meaning.specs.Requests.{Effect, Executability, Knowledge, Table, Request}
-use Rattle.meaning.specs.Refusals.{clashing, runs-with, contradictory, all-exclusive}
+use Rattle.meaning.specs.Requests.{Effect, Executability, Knowledge, Table, Entry, Request}
+use Rattle.meaning.specs.Refusals.{nowhere, clashing, runs-with, contradictory, all-exclusive}
 use Rattle.meaning.specs.Lines.{effects-of, executability-of, knowledge-of, allowed, given, sensing, senses}
 use Rattle.meaning.specs.States.{State, Outcome, fork, mark-of, known, possible, known-whether, told, told-all, state-of, first-state, can-be-run, known-after, mark-after, marks-after, state-after, unknown-from, unknown-sensed, readings, outcome}
-use Rattle.meaning.specs.Walk.{table-does, table-step, missed-in, judged, walked}
+use Rattle.meaning.specs.Walk.{table-does, table-step, first-missed, missed-in, judged, walked, guarded-step, walked-guarded}
 use Rattle.meaning.specs.Worlds.{World, holds, may-be-run, moved, shown, table-domain}
 use Rattle.meaning.specs.Values
 use Rattle.meaning.specs.ValueStates
@@ -234,7 +234,11 @@ same-table-does t a s = rw (same-can-be-run t a s, same-outcome t a s)
 
 pub same-table-step : (t : Table) → table-step t ≡ ValueStates.table-step flags t
 unfolding table-step ValueStates.table-step
-same-table-step t = λ i. record { does = fun-ext (λ (a : ℕ). fun-ext (same-table-does t a)) i; knows = known-is i }
+same-table-step t = λ i. record { does = fun-ext (λ (a : ℕ). fun-ext (same-table-does t a)) i; knows = known-is i; lacks = λ _. nowhere }
+
+pub same-guarded-step : (t : Table) (gs : List Entry) → guarded-step t gs ≡ ValueStates.guarded-step flags t gs
+unfolding guarded-step ValueStates.guarded-step
+same-guarded-step t gs = λ i. record { does = fun-ext (λ (a : ℕ). fun-ext (same-table-does t a)) i; knows = known-is i; lacks = λ s. first-missed (known-is i s) gs }
 
 -- THE WALK.
 pub same-judged : (r : Request) (s : State) → judged r s ≡ ValueStates.judged flags r s
@@ -245,6 +249,10 @@ same-judged r s =
 pub same-walked : (r : Request) (s : State) → walked r s ≡ ValueStates.walked flags r s
 unfolding walked ValueStates.walked
 same-walked r s = rw (same-table-step (r .table), fun-ext (same-judged r))
+
+pub same-walked-guarded : (r : Request) (gs : List Entry) (s : State) → walked-guarded r gs s ≡ ValueStates.walked-guarded flags r gs s
+unfolding walked-guarded ValueStates.walked-guarded
+same-walked-guarded r gs s = rw (same-guarded-step (r .table) gs, fun-ext (same-judged r))
 
 -- REFUSALS.
 literal-fits : (b : List ℕ) (l v : ℕ) → Has b l → fits flags b (fluent-of l) v ≡ true → flags .satisfied l v ≡ true

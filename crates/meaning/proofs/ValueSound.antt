@@ -14,21 +14,21 @@ use borrow.Author.Tests.{eqb-true, eq-eqb, ne-eqb}
 use Rattle.meaning.specs.Tests.{either, fails, each-of, those-of, Has}
 use Rattle.meaning.specs.Limits
 use Rattle.meaning.specs.Limits.{Limits}
-use Rattle.meaning.specs.Requests.{Effect-over, Executability-over, Knowledge, Table-over, Request-over, values}
+use Rattle.meaning.specs.Requests.{Effect-over, Executability-over, Knowledge, Table-over, Entry-over, Request-over, values}
 use Rattle.meaning.specs.Refusals.{Found, nowhere, at}
 use Rattle.meaning.specs.Lines.{effects-of, executability-of, knowledge-of, allowed, sensing, senses}
 use Rattle.meaning.specs.States.{State, Outcome}
-use Rattle.meaning.specs.Walk.{fine, Verified, Step, leads-to, refuses, end-of}
-use Rattle.meaning.specs.Worlds.{Domain, Worlds, Carried}
+use Rattle.meaning.specs.Walk.{fine, Verified, Step, leads-to, refuses, walk, first-missed, end-of}
+use Rattle.meaning.specs.Worlds.{Domain, Worlds, Guarded, Carried-under, Carried}
 use Rattle.meaning.specs.Values.{Literals, numbers, values-of, fits, set-by, disagree, exclusive, clashing, runs-with, contradictory, all-exclusive}
-use Rattle.meaning.specs.ValueStates.{mark-left, told, is-known, known-as, known, possible, known-whether, first-state, can-be-run, known-after, mark-after, state-after, unknown-sensed, readings, outcome, table-does, table-step, missed-in, judged, walked}
+use Rattle.meaning.specs.ValueStates.{mark-left, told, is-known, known-as, known, possible, known-whether, first-state, can-be-run, known-after, mark-after, state-after, unknown-sensed, readings, outcome, table-does, table-step, missed-in, judged, walked, guarded-step, walked-guarded}
 use Rattle.meaning.specs.ValueWorlds.{World, shown, Within, holds, may-be-run, moved, table-domain, Facts, Reached, Carried-out}
 use Rattle.meaning.proofs.TestLaws.{by-test, clash, both-left, both-right, both-true, either-split, fails-true, fails-false, pick-true, pick-false, pick-cases, some-has, has-some, each-has, has-each, some-mono, each-mono, those-has, has-those, some-those, map-same, same-map}
 use Rattle.meaning.proofs.WalkLaws.{On-conditions}
 use Rattle.meaning.proofs.SettledLaws.{or-else-nowhere}
 use Rattle.meaning.proofs.EndLaws.{none-missed}
 use Rattle.meaning.proofs.ValueLaws.{has-numbers, numbers-has, known-there, first-such-cases, one-left, told-elsewhere, told-there, told-far, some-value}
-use Rattle.meaning.proofs.Sound.{Some-state, some-state-map, missed≢fine, Sound-step, Seen, seen-sound, plan-sound}
+use Rattle.meaning.proofs.Sound.{Some-state, some-state-map, missed≢fine, Sound-step, Seen, seen-sound, meet-sound, plan-sound}
 
 -- A state missed nothing where it ends fine.
 fine-nowhere : (f : Found) (s : State) → end-of f s ≡ fine → f ≡ nowhere
@@ -196,9 +196,9 @@ module _ {L : Type 0} (ls : Literals L) where
   unfolding unknown-sensed
   unknown-is-sensed t a s f h = both-left _ _ (those-has _ (numbers 0 (length s)) f h .1)
 
-  pub table-sound : (t : Table-over L) → Sound-step (table-step ls t) (table-domain ls t) Exclusive Agrees
-  unfolding table-step table-domain can-be-run may-be-run outcome all-exclusive
-  table-sound t =
+  pub guarded-sound : (t : Table-over L) (gs : List (Entry-over L)) → Sound-step (guarded-step ls t gs) (table-domain ls t) Exclusive Agrees
+  unfolding guarded-step table-domain can-be-run may-be-run outcome all-exclusive
+  guarded-sound t gs =
       record {
         runs = λ a s o is w g. allowed-mono (known ls s) (holds ls w) (known-holds w s g) (executability-of t a) (does-lead t a s o is .0);
         moves = λ a s o is off.
@@ -242,25 +242,38 @@ module _ {L : Type 0} (ls : Literals L) where
 
   -- DEMAND 3, for any structure of literals, and for worlds of any kind that are seen as giving values: where every two conditions of each
   -- branching are exclusive, a plan whose walk is verified is carried out from all worlds with the initial facts. What is wanted at its end
-  -- is to follow from this: the true world is possible, the goals hold in each possible world, and these agree on each whether fluent.
+  -- is to follow from this: the true world is possible, the goals hold in each possible world, and these agree on each whether fluent. Where the
+  -- walk is guarded, the guards hold as well.
   module _ (r : Request-over L) {U Q : Type 0} (d : Domain U L Q) (valued : U → World) (same : Seen d (table-domain ls (r .table)) valued) where
-    pub seen-walk-sound : (lim : Limits) → On-conditions Exclusive (r .plan) → Verified (walked ls r (first-state ls lim (r .table)))
+    pub seen-guarded-sound : (gs : List (Entry-over L)) (lim : Limits) → On-conditions Exclusive (r .plan) → Verified (walked-guarded ls r gs (first-state ls lim (r .table)))
         → (K : U → Worlds U → Type 0)
         → ((v : U) (P : Worlds U) → P v → ((w : U) → P w → each-of (holds ls (valued w)) (values (r .goals)) ≡ true)
         → ((w u : U) → P w → P u → (f : ℕ) → Has (values (r .whether)) f → valued w f ≡ valued u f) → K v P)
-        → (P : Worlds U) → ((w : U) → P w → Facts ls (r .table) (valued w)) → (v : U) → P v → Carried d (r .plan) K v P
-    unfolding walked
-    seen-walk-sound lim apart fine-end K reached P facts v h =
-        plan-sound (table-step ls (r .table)) d Exclusive (λ w s. Agrees (valued w) s)
-        (seen-sound (table-step ls (r .table)) d (table-domain ls (r .table)) valued Exclusive Agrees same (table-sound (r .table)))
+        → (P : Worlds U) → ((w : U) → P w → Facts ls (r .table) (valued w)) → (v : U) → P v → Guarded d (values gs) (Carried-under d (values gs) (r .plan) K) v P
+    unfolding walked-guarded guarded-step
+    seen-guarded-sound gs lim apart fine-end K reached P facts v h =
+        let sound = seen-sound (guarded-step ls (r .table) gs) d (table-domain ls (r .table)) valued Exclusive Agrees same (guarded-sound (r .table) gs) in
+        let guarded : (s : State) → first-missed (known ls s) gs ≡ nowhere → each-of (known ls s) (values gs) ≡ true = λ s. none-missed (known ls s) gs .0 in
+        meet-sound (guarded-step ls (r .table) gs) d Exclusive (λ w s. Agrees (valued w) s) sound (values gs) guarded
+        (walk (guarded-step ls (r .table) gs) (r .plan) (judged ls r)) (Carried-under d (values gs) (r .plan) K)
+        (plan-sound (guarded-step ls (r .table) gs) d Exclusive (λ w s. Agrees (valued w) s) sound (values gs) guarded
         (r .plan) apart (judged ls r) K
         (λ s u A g e.
         let q = nothing-missed r s e in
         reached u A (g .actual)
         (λ w m. each-mono (known ls s) (holds ls (valued w)) (known-holds (valued w) s (g .agree w m)) _ (q .0))
-        (λ w x m n f i. known-value s (valued w) (valued x) (g .agree w m) (g .agree x n) f (each-has _ (values (r .whether)) f (q .1) i)))
+        (λ w x m n f i. known-value s (valued w) (valued x) (g .agree w m) (g .agree x n) f (each-has _ (values (r .whether)) f (q .1) i))))
         (first-state ls lim (r .table)) v P
         (record { agree = λ w m. first-agrees lim (r .table) (valued w) (facts w m); actual = h }) fine-end
+
+    -- Without guards.
+    pub seen-walk-sound : (lim : Limits) → On-conditions Exclusive (r .plan) → Verified (walked ls r (first-state ls lim (r .table)))
+        → (K : U → Worlds U → Type 0)
+        → ((v : U) (P : Worlds U) → P v → ((w : U) → P w → each-of (holds ls (valued w)) (values (r .goals)) ≡ true)
+        → ((w u : U) → P w → P u → (f : ℕ) → Has (values (r .whether)) f → valued w f ≡ valued u f) → K v P)
+        → (P : Worlds U) → ((w : U) → P w → Facts ls (r .table) (valued w)) → (v : U) → P v → Carried d (r .plan) K v P
+    unfolding walked walked-guarded table-step guarded-step first-missed values
+    seen-walk-sound = seen-guarded-sound []
 
   -- And of the worlds of the structure itself.
   pub walk-sound : (lim : Limits) (r : Request-over L) → On-conditions Exclusive (r .plan) → Verified (walked ls r (first-state ls lim (r .table))) → Carried-out ls r

@@ -5,7 +5,7 @@ use mathlib.Core.Path.{_≡_, refl, _∙_, ap, fun-ext}
 use mathlib.Core.List.{List}
 use Rattle.meaning.specs.Tests.{each-of}
 use Rattle.meaning.specs.Requests.{Sequence, done, item, Item, act, branching, Branches, none, branch, unplaced, unplaced-item, unplaced-branches}
-use Rattle.meaning.specs.Refusals.{conditions-of}
+use Rattle.meaning.specs.Refusals.{nowhere, conditions-of}
 use Rattle.meaning.specs.States.{Outcome, single, fork}
 use Rattle.meaning.specs.Walk.{Concerned, End, fine, missed, stopped, Walked, stopped-at, counted, keep-miss, after-miss, after-end, and-then, each-reading, Step, leads-to, refuses, Steps, after-step, run-action, walk, walk-item, walk-branch}
 use Rattle.meaning.specs.SameLines.{On-actions, On-item, On-branches}
@@ -59,10 +59,10 @@ module _ {L : Type 0} (Q : List (List L) → Type 0) where
 pub record Agree {S L : Type 0} (step other : Steps S L) (a : ℕ) : Type 0 where
   pub does : (s : S) → step .does a s ≡ other .does a s
 
-module _ {S L : Type 0} (step other : Steps S L) (knows : step .knows ≡ other .knows) where
+module _ {S L : Type 0} (step other : Steps S L) (knows : step .knows ≡ other .knows) (lacks : step .lacks ≡ other .lacks) where
   run-agrees : (p a : ℕ) → Agree step other a → (k : S → Walked S) (s : S) → run-action step p a k s ≡ run-action other p a k s
   unfolding run-action
-  run-agrees p a same k s = rw (same .does s)
+  run-agrees p a same k s = rw (same .does s, lacks)
 
   mutual
     unfolding walk
@@ -120,10 +120,11 @@ module _ {S : Type 0} where
   unplaced-step p (leads-to o) k = ap (counted 1) (unplaced-readings o k)
   unplaced-step p (refuses n u) k = unplaced-stopped n p u
 
-module _ {S L : Type 0} (step : Steps S L) where
+-- Where no state lacks a guard.
+module _ {S L : Type 0} (step : Steps S L) (free : step .lacks ≡ (λ _. nowhere)) where
   unplaced-run : (p a : ℕ) (k : S → Walked S) (s : S) → unplaced-walk (run-action step p a k s) ≡ run-action step 0 a (λ t. unplaced-walk (k t)) s
   unfolding run-action
-  unplaced-run p a k s = unplaced-step p (step .does a s) k
+  unplaced-run p a k s = rw free (unplaced-step p (step .does a s) k)
 
   mutual
     unfolding walk

@@ -26,7 +26,7 @@ use Rattle.meaning.proofs.ValueSound
 use Rattle.meaning.proofs.ValueSound.{seen-walk-sound}
 use Rattle.meaning.proofs.TwoValues.{valued, valued-same, valued-within, same-given, same-given-other, same-walked, same-first-state, same-contradictory, same-all-exclusive, same-holds, same-domain}
 
-holds-is : (w : World) → holds w ≡ ValueWorlds.holds flags (valued w)
+pub holds-is : (w : World) → holds w ≡ ValueWorlds.holds flags (valued w)
 holds-is w = fun-ext (same-holds w)
 
 -- THE WALK IS SOUND.

@@ -1,4 +1,4 @@
--- What an answer's input, place and count are, by its number (FORMAT 4.3 to 4.44, 17.35, 17.36).
+-- What an answer's input, place and count are, by its number (FORMAT 4.3 to 4.44, 17.35, 17.36, 21.10, 21.16).
 use Prim.Native.Nat.{ℕ, _≤_, _<_}
 use mathlib.Core.Path.{_≡_}
 use mathlib.Core.Bool.{true, false}
@@ -13,8 +13,10 @@ use Rattle.meaning.specs.Literals.{among}
 use Rattle.meaning.specs.Requests.{Request}
 use Rattle.meaning.specs.Reading.{got}
 use Rattle.meaning.specs.Refusals.{settled}
-use Rattle.meaning.specs.States.{first-state}
-use Rattle.meaning.specs.Walk.{walked}
+use Rattle.meaning.specs.States.{State, first-state}
+use Rattle.meaning.specs.Walk.{Concerned, no-state, in-state, End, fine, missed, stopped, walked}
+use Rattle.meaning.specs.Judging.{Judgement}
+use Rattle.meaning.specs.Guards.{Guarded-request, settled-guarded, walk-of}
 use Rattle.meaning.specs.Answers.{row-answers}
 
 -- INPUT. The numbers that name neither (FORMAT 4.27), those that only the request gets, and those that only a derivation gets.
@@ -71,6 +73,29 @@ pub record Walk-count (lim : Limits) (request : List ℕ) (budget : ℕ) (a : An
   pub walk : among (a .number) of-walks ≡ true → (r : Request) × (e : ℕ) × (settled lim request ≡ got r e) × (a .count ≡ walked r (first-state lim (r .table)) .count)
   pub spent : a .number ≡ Limits.budget-spent → a .count ≡ budget
   pub other : among (a .number) (Limits.budget-spent ∷ of-walks) ≡ false → a .count ≡ 0
+
+-- The guarded call counts its walk with 43 too (FORMAT 21.10).
+unfoldable pub of-guarded-walks : List ℕ
+of-guarded-walks = Limits.guard-broken ∷ of-walks
+
+pub record Guarded-count (lim : Limits) (request : List ℕ) (budget : ℕ) (a : Answer) : Type 0 where
+  pub walk : among (a .number) of-guarded-walks ≡ true → (g : Guarded-request) × (e : ℕ) × (settled-guarded lim request ≡ got g e) × (a .count ≡ walk-of lim g .count)
+  pub spent : a .number ≡ Limits.budget-spent → a .count ≡ budget
+  pub other : among (a .number) (Limits.budget-spent ∷ of-guarded-walks) ≡ false → a .count ≡ 0
+
+-- STATE. The state that the end of a walk concerns, and the numbers of the guarded call that come with one (FORMAT 4.45 to 4.49, 21.10).
+unfoldable pub concerned : End State → Concerned State
+concerned fine = no-state
+concerned (missed p s) = in-state s
+concerned (stopped n p u) = u
+
+unfoldable pub with-state : List ℕ
+with-state = Limits.goal-missed ∷ Limits.not-executable ∷ Limits.guard-broken ∷ []
+
+-- With 1, 2 and 43 the lent bytes are written with that state, and with every other number they stay.
+pub record Guarded-state (lim : Limits) (request lent : List ℕ) (j : Judgement) : Type 0 where
+  pub written : among (j .answer .number) with-state ≡ true → (g : Guarded-request) × (e : ℕ) × (settled-guarded lim request ≡ got g e) × (concerned (walk-of lim g .end) ≡ in-state (j .state))
+  pub as-lent : among (j .answer .number) with-state ≡ false → j .state ≡ lent
 
 -- THE ROW of a release: what its four numbers are at most, over a file of this size.
 pub record Row-parts (size budget : ℕ) (a : Answer) : Type 0 where

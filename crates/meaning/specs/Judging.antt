@@ -39,17 +39,25 @@ within lent budget w =
     (λ _. record { answer = record { number = Limits.budget-spent; input = Limits.neither-input; place = 0; count = budget }; state = lent })
     (λ _. ended lent (w .count) (w .end))
 
--- A refusal names the request and counts 0 (FORMAT 4.27, 4.44); else the plan is walked from the first state (FORMAT 8.1).
+-- A refusal names the request and counts 0 (FORMAT 4.27, 4.44).
+abbrev pub refused-at : (lent : List ℕ) → (number place : ℕ) → Judgement
+refused-at lent n p = record { answer = record { number = n; input = Limits.the-request; place = p; count = 0 }; state = lent }
+
+-- A lent state of another length (FORMAT 4.7).
+abbrev pub wrong-length : (lent : List ℕ) → Judgement
+wrong-length lent = record { answer = record { number = Limits.state-length; input = Limits.neither-input; place = 0; count = 0 }; state = lent }
+
+-- What is not refused is walked from the first state (FORMAT 8.1).
 unfoldable pub judge-settled : Limits → (lent : List ℕ) → (budget : ℕ) → Got Request → Judgement
 judge-settled lim lent budget (got r e) = within lent budget (walked r (first-state lim (r .table)))
-judge-settled lim lent budget (fault n p) = record { answer = record { number = n; input = Limits.the-request; place = p; count = 0 }; state = lent }
+judge-settled lim lent budget (fault n p) = refused-at lent n p
 
 -- The lent state's length goes first (FORMAT 5.1).
 unfoldable pub judge : Limits → (request lent : List ℕ) → (budget : ℕ) → Judgement
 judge lim request lent budget =
     pick (eqb (length lent) (lim .state))
     (λ _. judge-settled lim lent budget (settled lim request))
-    (λ _. record { answer = record { number = Limits.state-length; input = Limits.neither-input; place = 0; count = 0 }; state = lent })
+    (λ _. wrong-length lent)
 
 -- WHAT STATEMENTS SAY OF IT. The answer's number, and the count of the whole walk.
 abbrev pub number : Limits → (request lent : List ℕ) → (budget : ℕ) → ℕ

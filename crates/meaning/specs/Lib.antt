@@ -5,11 +5,11 @@ pub mod Requests
 pub mod Reading
 pub mod Lines
 pub mod Refusals
-pub mod Formerly
 pub mod States
 pub mod Walk
 pub mod Judging
 pub mod Releases
+pub mod Guards
 pub mod Asking
 pub mod Worlds
 pub mod Values
@@ -17,8 +17,8 @@ pub mod ValueStates
 pub mod ValueWorlds
 pub mod Approximation
 pub mod Paths
-pub mod Depth
 pub mod Reported
+pub mod GuardedReported
 pub mod SameLines
 pub mod Derivations
 pub mod Rules
@@ -27,5 +27,3 @@ pub mod Answers
 pub mod Showing
 pub mod Layouts
 pub mod AnswerParts
-pub mod Reuse
-pub mod Wider

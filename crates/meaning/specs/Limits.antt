@@ -54,6 +54,10 @@ former = record {
 abbrev pub most-plans : ℕ
 most-plans = 64
 
+-- The guards that a guarded request may have; only the guarded call speaks of it (FORMAT 21.2).
+abbrev pub most-guards : ℕ
+most-guards = 64
+
 -- The format's literals are below twice its fluents (FORMAT 2.2, 2.3).
 abbrev pub all-literals : ℕ
 all-literals = 2 * format .fluents
@@ -62,7 +66,7 @@ all-literals = 2 * format .fluents
 abbrev pub branching-byte : ℕ
 branching-byte = 255
 
--- Answers (FORMAT 4.3 to 4.25, 17.35, 17.36).
+-- Answers (FORMAT 4.3 to 4.25, 17.35, 17.36, 21.10).
 abbrev pub verified : ℕ
 verified = 0
 
@@ -137,6 +141,9 @@ not-the-question = 35
 
 abbrev pub closing-not-right : ℕ
 closing-not-right = 36
+
+abbrev pub guard-broken : ℕ
+guard-broken = 43
 
 -- The rules of a derivation (FORMAT 10.12 to 10.17, 17.21 to 17.25).
 abbrev pub empty-rule : ℕ

@@ -9,7 +9,8 @@ use Rattle.meaning.specs.Refusals.{Found, nowhere, at}
 use Rattle.meaning.specs.States.{Outcome, single, fork}
 use Rattle.meaning.specs.Walk.{Concerned, in-state, End, fine, missed, stopped, Walked, Step, leads-to, refuses, Steps}
 
--- A path arrives in an end state, or stops at an item that is refused: with an answer's number, the item's place and the state concerned.
+-- A path arrives in an end state, or stops, at an item that is refused or in a state that lacks a guard: with an answer's number, the place and
+-- the state concerned.
 pub data Ending (S : Type 0) : Type 0 where
   arrives : S → Ending S
   stops : (number place : ℕ) → Concerned S → Ending S
@@ -34,14 +35,23 @@ module _ {S : Type 0} where
   go-on [] more = []
   go-on (x ∷ xs) more = goes-on (x .ran) (x .ending) more ++ go-on xs more
 
-  unfoldable pub arrivals : Outcome S → List (Path S)
-  arrivals (single s) = record { ran = []; ending = arrives s } ∷ []
-  arrivals (fork o p) = arrivals o ++ arrivals (p tt)
+  -- A state that is met: the path stops there where it lacks a guard (FORMAT 21.9, 21.10).
+  abbrev pub met-ending : Found → S → Ending S
+  met-ending nowhere s = arrives s
+  met-ending (at p) s = stops Limits.guard-broken p (in-state s)
+
+  unfoldable pub meetings : (S → Found) → Outcome S → List (Path S)
+  meetings lacks (single s) = record { ran = []; ending = met-ending (lacks s) s } ∷ []
+  meetings lacks (fork o p) = meetings lacks o ++ meetings lacks (p tt)
+
+  -- Without guards each arrives.
+  abbrev pub arrivals : Outcome S → List (Path S)
+  arrivals = meetings (λ _. nowhere)
 
   -- The paths of an action at a place, by what it does.
-  unfoldable pub paths-step : (place action : ℕ) → Step S → List (Path S)
-  paths-step p a (leads-to o) = first-ran (a ∷ []) (arrivals o)
-  paths-step p a (refuses n u) = record { ran = []; ending = stops n p u } ∷ []
+  unfoldable pub paths-step : (S → Found) → (place action : ℕ) → Step S → List (Path S)
+  paths-step lacks p a (leads-to o) = first-ran (a ∷ []) (meetings lacks o)
+  paths-step lacks p a (refuses n u) = record { ran = []; ending = stops n p u } ∷ []
 
 module _ {S L : Type 0} (step : Steps S L) where
   unfoldable mutual
@@ -50,12 +60,16 @@ module _ {S L : Type 0} (step : Steps S L) where
     paths (item i rest) s = go-on (paths-item i s) (paths rest)
 
     pub paths-item : Item L → S → List (Path S)
-    paths-item (act p a) s = paths-step p a (step .does a s)
+    paths-item (act p a) s = paths-step (step .lacks) p a (step .does a s)
     paths-item (branching p bs) s = paths-branch bs p s
 
     pub paths-branch : Branches L → ℕ → S → List (Path S)
     paths-branch none p s = record { ran = []; ending = stops Limits.not-executable p (in-state s) } ∷ []
     paths-branch (branch c b bs) p s = pick (each-of (step .knows s) c) (λ _. paths b s) (λ _. paths-branch bs p s)
+
+  -- From a state that is met (FORMAT 21.6).
+  unfoldable pub paths-met : Sequence L → S → List (Path S)
+  paths-met p s = go-on (meetings (step .lacks) (single s)) (paths p)
 
 module _ {S : Type 0} where
   -- The count: the actions run and the end states met, up to the first path that stops.

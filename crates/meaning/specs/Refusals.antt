@@ -81,11 +81,14 @@ module _ {A : Type 0} where
   refuse number nowhere k = k tt
   refuse number (at p) k = fault number p
 
--- A request settled: read without a fault, and past the three (FORMAT 5.1).
-unfoldable pub settled : Limits → List ℕ → Got Request
-settled lim s =
-    next (read-request lim s) λ r e.
+-- What was read of a request, past the three (FORMAT 5.1, 5.16).
+abbrev pub past-refusals : {A : Type 0} → Request → Got A → Got A
+past-refusals r whole =
     refuse Limits.contradictory-effects (contradiction-in (r .table)) λ _.
     refuse Limits.effect-and-knowledge (mixed-in (r .table .effects) (r .table .knowledge)) λ _.
     refuse Limits.not-exclusive (overlap-in (r .plan)) λ _.
-    got r e
+    whole
+
+-- A request settled: read without a fault, and past the three (FORMAT 5.1).
+unfoldable pub settled : Limits → List ℕ → Got Request
+settled lim s = next (read-request lim s) λ r e. past-refusals r (got r e)

@@ -8,11 +8,11 @@ use lib.Dec.{eqb}
 use Rattle.meaning.specs.Tests.{both, either, fails, pick, some-of, those-of}
 use Rattle.meaning.specs.Limits
 use Rattle.meaning.specs.Limits.{Limits}
-use Rattle.meaning.specs.Requests.{Effect-over, Table-over, Request-over}
-use Rattle.meaning.specs.Refusals.{Found, or-else}
+use Rattle.meaning.specs.Requests.{Effect-over, Table-over, Entry-over, Request-over}
+use Rattle.meaning.specs.Refusals.{Found, nowhere, or-else}
 use Rattle.meaning.specs.Lines.{effects-of, executability-of, knowledge-of, allowed, sensing, senses}
 use Rattle.meaning.specs.States.{State, Outcome, single, fork}
-use Rattle.meaning.specs.Walk.{in-state, Walked, Step, leads-to, refuses, Steps, walk, first-missed, end-of}
+use Rattle.meaning.specs.Walk.{in-state, Walked, Step, leads-to, refuses, Steps, meet, walk, first-missed, end-of}
 use Rattle.meaning.specs.Values.{Literals, numbers, first-such, values-of, set-by, fits}
 
 -- The value is the one known of the fluent (FORMAT 7.1).
@@ -89,7 +89,7 @@ module _ {L : Type 0} (ls : Literals L) where
   table-does t a s = pick (can-be-run t a s) (λ _. leads-to (outcome t a s)) (λ _. refuses Limits.not-executable (in-state s))
 
   unfoldable pub table-step : Table-over L → Steps State L
-  table-step t = record { does = table-does t; knows = known }
+  table-step t = record { does = table-does t; knows = known; lacks = λ _. nowhere }
 
   -- An end state is judged: goals in order, then whether entries in order (FORMAT 4.36, 8.6, 8.7).
   unfoldable pub missed-in : Request-over L → State → Found
@@ -102,3 +102,10 @@ module _ {L : Type 0} (ls : Literals L) where
   -- The whole walk of a request's plan from a state.
   unfoldable pub walked : Request-over L → State → Walked State
   walked r = walk (table-step (r .table)) (r .plan) (judged r)
+
+  -- With guards, each of which is to be known true in every state met, the first among them (FORMAT 21.6, 21.7).
+  unfoldable pub guarded-step : Table-over L → List (Entry-over L) → Steps State L
+  guarded-step t gs = record { does = table-does t; knows = known; lacks = λ s. first-missed (known s) gs }
+
+  unfoldable pub walked-guarded : Request-over L → List (Entry-over L) → State → Walked State
+  walked-guarded r gs = meet (guarded-step (r .table) gs) (walk (guarded-step (r .table) gs) (r .plan) (judged r))

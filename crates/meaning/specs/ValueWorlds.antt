@@ -8,7 +8,7 @@ use lib.Dec.{eqb}
 use Rattle.meaning.specs.Tests.{each-of}
 use Rattle.meaning.specs.Requests.{Knowledge, Table-over, Request-over, values}
 use Rattle.meaning.specs.Lines.{effects-of, executability-of, knowledge-of, allowed, sensing}
-use Rattle.meaning.specs.Worlds.{Domain, Worlds, Carried}
+use Rattle.meaning.specs.Worlds.{Domain, Worlds, Guarded, Carried-under, Carried}
 use Rattle.meaning.specs.Values.{Literals, first-such, values-of, set-by}
 
 -- A world gives every fluent a value (FORMAT 9.1).
@@ -53,3 +53,9 @@ module _ {L : Type 0} (ls : Literals L) where
   -- The plan carried out from any true world with the initial facts, knowing only these and the readings (FORMAT 11.7, 11.8).
   abbrev pub Carried-out : Request-over L → Type 0
   Carried-out r = (v : World) → Facts (r .table) v → Carried (table-domain (r .table)) (r .plan) (Reached r) v (Facts (r .table))
+
+  -- And with these guards (FORMAT 21.25).
+  abbrev pub Carried-out-under : List L → Request-over L → Type 0
+  Carried-out-under gs r =
+      (v : World) → Facts (r .table) v
+      → Guarded (table-domain (r .table)) gs (Carried-under (table-domain (r .table)) gs (r .plan) (Reached r)) v (Facts (r .table))

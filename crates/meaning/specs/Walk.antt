@@ -14,8 +14,8 @@ pub data Concerned (S : Type 0) : Type 0 where
   no-state : Concerned S
   in-state : S → Concerned S
 
--- How a walk ends: nothing is missed; or the first entry missed, with the end state; or what stopped it, with the answer's number, the item's
--- place and the state concerned (FORMAT 8.16). Only a stop keeps a walk from going on, and it goes before any miss; a miss stops nothing.
+-- How a walk ends: nothing is missed; or the first entry missed, with the end state; or what stopped it, with the answer's number, the place
+-- and the state concerned (FORMAT 8.16, 21.10). Only a stop keeps a walk from going on, and it goes before any miss; a miss stops nothing.
 pub data End (S : Type 0) : Type 0 where
   fine : End S
   missed : (place : ℕ) → S → End S
@@ -73,15 +73,26 @@ pub data Step (S : Type 0) : Type 0 where
 pub record Steps (S L : Type 0) : Type 0 where
   pub does : ℕ → S → Step S
   pub knows : S → L → Bool
+  -- the first guard that a state lacks (FORMAT 21.7)
+  pub lacks : S → Found
 
 -- A step at a place, and what follows it (FORMAT 8.9, 8.10).
 unfoldable pub after-step : {S : Type 0} → (place : ℕ) → Step S → (S → Walked S) → Walked S
 after-step p (leads-to o) k = counted 1 (each-reading o k)
 after-step p (refuses n u) k = stopped-at n p u
 
+-- A state in which a guard is found broken stops the walk (FORMAT 21.9, 21.10).
+abbrev pub unless-broken : {S : Type 0} → Found → S → Walked S → Walked S
+unless-broken nowhere s w = w
+unless-broken (at p) s w = stopped-at Limits.guard-broken p (in-state s)
+
 module _ {S L : Type 0} (step : Steps S L) where
+  -- A state is met, and k walks on from it (FORMAT 21.6, 21.8).
+  abbrev pub meet : (S → Walked S) → S → Walked S
+  meet k s = unless-broken (step .lacks s) s (k s)
+
   unfoldable pub run-action : (place action : ℕ) → (S → Walked S) → S → Walked S
-  run-action p a k s = after-step p (step .does a s) k
+  run-action p a k s = after-step p (step .does a s) (meet k)
 
   -- k walks what follows.
   unfoldable mutual
@@ -103,7 +114,7 @@ unfoldable pub table-does : Table → ℕ → State → Step State
 table-does t a s = pick (can-be-run t a s) (λ _. leads-to (outcome t a s)) (λ _. refuses Limits.not-executable (in-state s))
 
 unfoldable pub table-step : Table → Steps State ℕ
-table-step t = record { does = table-does t; knows = known }
+table-step t = record { does = table-does t; knows = known; lacks = λ _. nowhere }
 
 -- The first entry that fails the test (FORMAT 4.36).
 unfoldable pub first-missed : {A : Type 0} → (A → Bool) → List (Entry-over A) → Found
@@ -125,3 +136,10 @@ judged r s = record { count = 1; end = end-of (missed-in r s) s }
 -- The whole walk of a request's plan from a state.
 unfoldable pub walked : Request → State → Walked State
 walked r = walk (table-step (r .table)) (r .plan) (judged r)
+
+-- WITH GUARDS, each of which is to be known true in every state met, the first among them (FORMAT 21.6, 21.7).
+unfoldable pub guarded-step : Table → List (Entry-over ℕ) → Steps State ℕ
+guarded-step t gs = record { does = table-does t; knows = known; lacks = λ s. first-missed (known s) gs }
+
+unfoldable pub walked-guarded : Request → List (Entry-over ℕ) → State → Walked State
+walked-guarded r gs = meet (guarded-step (r .table) gs) (walk (guarded-step (r .table) gs) (r .plan) (judged r))

@@ -2,7 +2,7 @@
 use Prim.Native.Nat.{ℕ}
 use mathlib.Core.Path.{_≡_}
 use mathlib.Core.Bool.{Bool, true, false}
-use mathlib.Core.List.{List, map}
+use mathlib.Core.List.{List, [], _∷_, map}
 use mathlib.Core.Logic.{_⊎_}
 use Rattle.meaning.specs.Tests.{fails, pick, each-of}
 use Rattle.meaning.specs.Literals.{says-true, says-false, fluent-of, positive}
@@ -47,20 +47,29 @@ module _ {W L R : Type 0} (d : Domain W L R) where
   None-sure none P = Unit {0}
   None-sure (branch c b bs) P = (Sure c P → ⊥) × None-sure bs P
 
-  -- A plan is carried out, and K is wanted at its end. At a branching exactly one condition holds in every possible world, and its branch is
-  -- followed (FORMAT 9.10, 11.10).
+  -- The guards, where there are any, hold in every possible world, and K is wanted besides (FORMAT 21.25).
+  abbrev pub Guarded : List L → (W → Worlds W → Type 0) → W → Worlds W → Type 0
+  Guarded [] K v P = K v P
+  Guarded (g ∷ gs) K v P = Sure (g ∷ gs) P × K v P
+
+  -- A plan is carried out, and K is wanted at its end. After each action the guards hold (FORMAT 21.25). At a branching exactly one condition
+  -- holds in every possible world, and its branch is followed (FORMAT 9.10, 11.10).
   abbrev mutual
-    pub Carried : Sequence L → (W → Worlds W → Type 0) → W → Worlds W → Type 0
-    Carried done K v P = K v P
-    Carried (item i rest) K v P = Carried-item i (Carried rest K) v P
+    pub Carried-under : (guards : List L) → Sequence L → (W → Worlds W → Type 0) → W → Worlds W → Type 0
+    Carried-under gs done K v P = K v P
+    Carried-under gs (item i rest) K v P = Carried-item gs i (Carried-under gs rest K) v P
 
-    pub Carried-item : Item L → (W → Worlds W → Type 0) → W → Worlds W → Type 0
-    Carried-item (act p a) K v P = Acted a K v P
-    Carried-item (branching p bs) K v P = Chosen bs K v P
+    pub Carried-item : (guards : List L) → Item L → (W → Worlds W → Type 0) → W → Worlds W → Type 0
+    Carried-item gs (act p a) K v P = Acted a (Guarded gs K) v P
+    Carried-item gs (branching p bs) K v P = Chosen gs bs K v P
 
-    pub Chosen : Branches L → (W → Worlds W → Type 0) → W → Worlds W → Type 0
-    Chosen none K v P = ⊥
-    Chosen (branch c b bs) K v P = (Sure c P × None-sure bs P × Carried b K v P) ⊎ ((Sure c P → ⊥) × Chosen bs K v P)
+    pub Chosen : (guards : List L) → Branches L → (W → Worlds W → Type 0) → W → Worlds W → Type 0
+    Chosen gs none K v P = ⊥
+    Chosen gs (branch c b bs) K v P = (Sure c P × None-sure bs P × Carried-under gs b K v P) ⊎ ((Sure c P → ⊥) × Chosen gs bs K v P)
+
+  -- Without guards.
+  abbrev pub Carried : Sequence L → (W → Worlds W → Type 0) → W → Worlds W → Type 0
+  Carried = Carried-under []
 
 -- A world gives every fluent a value (FORMAT 9.1).
 abbrev pub World : Type 0
@@ -106,3 +115,9 @@ pub record Reached (r : Request) (v : World) (P : Worlds World) : Type 0 where
 -- The plan carried out from any true world with the initial facts, knowing only these and the readings (FORMAT 11.7, 11.8).
 abbrev pub Carried-out : Request → Type 0
 Carried-out r = (v : World) → Facts (r .table) v → Carried (table-domain (r .table)) (r .plan) (Reached r) v (Facts (r .table))
+
+-- And with these guards: they hold in every possible world at the start and after every action and reading (FORMAT 21.25).
+abbrev pub Carried-out-under : List ℕ → Request → Type 0
+Carried-out-under gs r =
+    (v : World) → Facts (r .table) v
+    → Guarded (table-domain (r .table)) gs (Carried-under (table-domain (r .table)) gs (r .plan) (Reached r)) v (Facts (r .table))

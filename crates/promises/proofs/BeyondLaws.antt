@@ -12,10 +12,10 @@ use lib.Seq.{getD-set-other}
 use Rattle.meaning.specs.Tests.{Has}
 use Rattle.meaning.specs.Limits.{format}
 use Rattle.meaning.specs.Literals.{says-true, says-false, fluent-of}
-use Rattle.meaning.specs.Requests.{Table, Request}
+use Rattle.meaning.specs.Requests.{Table, Entry, Request}
 use Rattle.meaning.specs.Lines.{effects-of}
 use Rattle.meaning.specs.States.{State, mark-of, known, told, told-all, state-of, first-state, known-after, mark-after, state-after}
-use Rattle.meaning.specs.Walk.{walked}
+use Rattle.meaning.specs.Walk.{walked-guarded}
 use Rattle.meaning.proofs.TestLaws.{by-test, both-left, clash, either-split, pick-false}
 use Rattle.meaning.proofs.RangeLaws.{Ranged}
 use Rattle.meaning.proofs.StateLaws.{known-true, known-false, unknown-mark, after-length}
@@ -71,6 +71,6 @@ module _ (t : Table) (ranged : Ranged format t) where
     acts = after-blank;
   }
 
--- THE WALK from the first state.
-pub walked-blank : (r : Request) → Ranged format (r .table) → End-has (Blank-from (r .table .fluents)) (walked r (first-state format (r .table)) .end)
-walked-blank r ranged = walked-kept (Blank-from (r .table .fluents)) r (table-blank (r .table) ranged) (first-state format (r .table)) (first-blank (r .table) ranged)
+-- THE WALK from the first state, with guards or without.
+pub walked-blank : (r : Request) (gs : List Entry) → Ranged format (r .table) → End-has (Blank-from (r .table .fluents)) (walked-guarded r gs (first-state format (r .table)) .end)
+walked-blank r gs ranged = walked-kept (Blank-from (r .table .fluents)) r gs (table-blank (r .table) ranged) (first-state format (r .table)) (first-blank (r .table) ranged)

@@ -9,7 +9,7 @@ use Rattle.meaning.specs.declared.Answer.{Answer}
 use Rattle.meaning.specs.Showing.{Part, show}
 use Rattle.meaning.specs.Tests.{Has}
 use Rattle.meaning.proofs.DerivationCases.{Shown, showings, showings-hold}
-use Rattle.meaning.proofs.ProvedCases.{Call, outcome-of, Row, proved-cases, proved-cases-hold}
+use Rattle.demands.proofs.ProvedCases.{Call, outcome-of, Row, proved-cases, proved-cases-hold}
 
 module _ {A B : Type 0} (f g : A → B) where
   entry-same : (xs : List A) → map f xs ≡ map g xs → (x : A) → Has xs x → f x ≡ g x

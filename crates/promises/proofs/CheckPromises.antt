@@ -24,8 +24,8 @@ use Rattle.meaning.specs.AnswerParts.{Check-input, Placed, named}
 use Rattle.meaning.specs.Tests.{Has}
 use Rattle.meaning.proofs.AcceptedExactly.{format-citations}
 use Rattle.meaning.proofs.Exact.{format-room}
-use Rattle.meaning.proofs.Demands
-use Rattle.meaning.proofs.ProvedCases.{checking, answered, Row, proved-cases}
+use Rattle.demands.proofs.Demands
+use Rattle.demands.proofs.ProvedCases.{checking, answered, Row, proved-cases}
 use Rattle.glintstring.specs.Packing.{packed, unpacked}
 use Rattle.promises.proofs.CasePromises.{row-holds}
 use Rattle.promises.proofs.UnpackingLaws.{number-back, input-back, place-back, count-back, unpacks, check-small}

@@ -25,7 +25,7 @@ use Rattle.meaning.specs.Accepted.{Accepted}
 use Rattle.meaning.specs.Answers.{check-answers}
 use Rattle.meaning.specs.AnswerParts.{Check-input, Placed, named}
 use Rattle.meaning.specs.Tests.{Has}
-use Rattle.meaning.proofs.ProvedCases.{checking, answered, Row, proved-cases}
+use Rattle.demands.proofs.ProvedCases.{checking, answered, Row, proved-cases}
 use Rattle.promises.proofs.CheckPromises
 use Rattle.glintstring.proofs.check_calls.check.Kinds.{ps, r}
 use Rattle.glintstring.proofs.check_calls.check.Reads.{Pre, Post}

@@ -24,7 +24,7 @@ use Rattle.meaning.specs.Reported.{Item-in, item-place, Nearest, item-line, Mis
 use Rattle.meaning.specs.Worlds.{Carried-out}
 use Rattle.meaning.specs.Answers.{answers}
 use Rattle.meaning.specs.Tests.{Has}
-use Rattle.meaning.proofs.ProvedCases.{judging-line, judged-line, Row, proved-cases, judging, judged}
+use Rattle.demands.proofs.ProvedCases.{judging-line, judged-line, Row, proved-cases, judging, judged}
 use Rattle.steps.specs.AtHand.{Marked}
 use Rattle.glintstring.specs.Packing.{packed, unpacked}
 use Rattle.promises.proofs.UnpackingLaws.{number-back, input-back, place-back, count-back, unpacks, answer-small}
@@ -36,7 +36,7 @@ use Rattle.meaning.specs.Walk.{table-step, missed-in}
 use Rattle.meaning.specs.Approximation.{failed, Φ̂, least, Entailed}
 use Rattle.meaning.specs.Paths.{paths, walked-along}
 use Rattle.meaning.specs.AnswerParts.{Walk-input, Walk-count, Placed}
-use Rattle.meaning.specs.Wider.{Same-judgement}
+use Rattle.demands.specs.Wider.{Same-judgement}
 
 -- WHAT THE CALL IS GIVEN, by the values of its parameters. What the lent number was before does not matter.
 module _ (κs : Lfts 3) (given : Dens κs ps) where

@@ -25,9 +25,9 @@ use Rattle.meaning.specs.Reported.{Misses, all-paths, Missed-at, Stopped-at}
 use Rattle.meaning.specs.Worlds.{Carried-out}
 use Rattle.meaning.specs.Answers.{answers}
 use Rattle.meaning.specs.AnswerParts.{Walk-input, Walk-count, Placed}
-use Rattle.meaning.specs.Wider.{Same-judgement}
+use Rattle.demands.specs.Wider.{Same-judgement}
 use Rattle.meaning.specs.Tests.{Has}
-use Rattle.meaning.proofs.ProvedCases.{judging, judged, Row, proved-cases}
+use Rattle.demands.proofs.ProvedCases.{judging, judged, Row, proved-cases}
 use Rattle.steps.specs.AtHand.{Marked}
 use Rattle.glintstring.specs.Packing.{packed, unpacked}
 use Rattle.promises.proofs.UnpackingLaws.{number-back, input-back, place-back, count-back, unpacks, answer-small}

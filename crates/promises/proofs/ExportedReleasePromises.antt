@@ -23,8 +23,8 @@ use Rattle.meaning.specs.Worlds.{Carried-out}
 use Rattle.meaning.specs.Answers.{release-answers}
 use Rattle.meaning.specs.Tests.{Has}
 use Rattle.meaning.specs.AnswerParts.{Walk-input, Placed, Row-parts}
-use Rattle.meaning.proofs.Demands
-use Rattle.meaning.proofs.ProvedCases.{releasing, released, Row, proved-cases}
+use Rattle.demands.proofs.Demands
+use Rattle.demands.proofs.ProvedCases.{releasing, released, Row, proved-cases}
 use Rattle.glintstring.specs.Packing.{packed, unpacked}
 use Rattle.promises.proofs.UnpackingLaws.{number-back, input-back, place-back, count-back, unpacks, own-small}
 use Rattle.promises.proofs.ReleasePromises

@@ -23,11 +23,11 @@ use Rattle.meaning.specs.Reported.{Misses, all-paths, Missed-at, Item-in, item-
 use Rattle.meaning.specs.Worlds.{Carried-out}
 use Rattle.meaning.specs.Answers.{answers}
 use Rattle.meaning.specs.AnswerParts.{Walk-input, Walk-count, Placed}
-use Rattle.meaning.specs.Wider.{Same-judgement}
+use Rattle.demands.specs.Wider.{Same-judgement}
 use Rattle.meaning.specs.Tests.{Has}
 use Rattle.meaning.proofs.Exact.{format-room}
-use Rattle.meaning.proofs.Demands
-use Rattle.meaning.proofs.ProvedCases.{judging, judging-line, Given, judged, judged-line, Row, proved-cases}
+use Rattle.demands.proofs.Demands
+use Rattle.demands.proofs.ProvedCases.{judging, judging-line, Given, judged, judged-line, Row, proved-cases}
 use Rattle.glintstring.specs.LentState.{Writes, Written}
 use Rattle.promises.proofs.LentLaws.{judge-kept, judge-written}
 use Rattle.promises.proofs.CasePromises.{row-holds}

@@ -16,7 +16,7 @@ use Rattle.meaning.specs.Limits.{format}
 use Rattle.meaning.specs.Reading.{got}
 use Rattle.meaning.specs.Derivations.{Derivation, check}
 use Rattle.meaning.specs.Layouts.{Bytes, written, plain-rules, names-last, closed-by-last, read-for, In-closing-layout, In-plain-layout}
-use Rattle.meaning.proofs.LayoutLaws.{plain-to-closing, closing-to-plain}
+use Rattle.demands.proofs.LayoutLaws.{plain-to-closing, closing-to-plain}
 use Rattle.promises.proofs.DerivationPromises
 use Rattle.promises.proofs.WhetherPromises
 use Rattle.promises.proofs.ExportedDerivationPromises

@@ -1,28 +1,35 @@
 -- The definition writes the lent bytes at answers 1 and 2 only: every other case leaves them. Those two are of a settled request, since every
--- fault has another number, and they leave the state where its walk ended, which has what the walk keeps. Assumes nothing.
+-- fault has another number, and they leave the state where its walk ended, which has what the walk keeps. With guards 43 is written too: those three
+-- answers leave the state that the end of the walk concerns, which has what that walk keeps. Assumes nothing.
 use Prim.Native.Nat.{ℕ}
 use native.Mathlib.Omega.{arith}
-use mathlib.Core.Path.{_≡_, refl, sym, subst}
+use mathlib.Core.Path.{_≡_, refl, sym, _∙_, subst}
 use mathlib.Core.Bool.{true}
-use mathlib.Core.List.{List}
+use mathlib.Core.List.{List, []}
 use mathlib.Core.Logic.{⊎-elim}
+use lib.ListN.{getD}
 use Rattle.meaning.specs.Tests.{either, some-of}
 use Rattle.meaning.specs.Limits
 use Rattle.meaning.specs.Limits.{Limits, format}
 use Rattle.meaning.specs.Literals.{among}
-use Rattle.meaning.specs.Requests.{Request}
+use Rattle.meaning.specs.Requests.{Entry, Request}
 use Rattle.meaning.specs.Reading.{Got, got, fault}
 use Rattle.meaning.specs.Refusals.{settled}
 use Rattle.meaning.specs.States.{State, first-state}
-use Rattle.meaning.specs.Walk.{Concerned, End, fine, missed, stopped, Walked, walked}
+use Rattle.meaning.specs.Walk.{Concerned, in-state, End, fine, missed, stopped, Walked, walked, walked-guarded}
 use Rattle.meaning.specs.Judging.{Judgement, written-over, reported, ended, within, judge-settled, judge}
 use Rattle.meaning.proofs.TestLaws.{clash}
 use Rattle.meaning.proofs.PickLaws.{pick-has}
+use Rattle.meaning.specs.Guards.{Guarded-request, settled-guarded, walk-of, judge-guarded}
 use Rattle.meaning.specs.Answers.{refusals}
+use Rattle.meaning.specs.AnswerParts.{concerned, with-state}
 use Rattle.meaning.proofs.KeptEnds.{Stuck, walked-stuck}
 use Rattle.meaning.proofs.AnswerLaws.{Numbered-in, settled-numbered}
 use Rattle.meaning.proofs.SettledLaws.{settled-is}
 use Rattle.meaning.proofs.RangeLaws.{read-ranged}
+use Rattle.meaning.proofs.GuardedReads.{own, own-length, own-same, own-settled}
+use Rattle.demands.proofs.Demands.{guarded-state, walked-unguarded}
+use Rattle.reader.proofs.WholeLaws.{Front}
 use Rattle.finding.proofs.StartLaws.{request-starts}
 use Rattle.steps.specs.AtHand.{Marked}
 use Rattle.glintstring.specs.LentState.{Writes, Blank-from, Written}
@@ -102,11 +109,47 @@ module _ (P : Request → State → Type 0) (lim : Limits) (lent : List ℕ) (bu
       (λ _. settled-leaves (settled lim request) (settled-numbered lim request) has)
       (λ _ writes. absurd (length-writes-nothing writes))
 
+-- WHAT BOTH WALKS KEEP, of the bytes of a settled request: marks, and none beyond its fluents.
+abbrev Kept-marks : Request → State → Type 0
+Kept-marks x s = Marked s × Blank-from (x .table .fluents) s
+
+module _ (request : List ℕ) (x : Request) (e : ℕ) (past : settled format request ≡ got x e) where
+  ends-kept : (gs : List Entry) → End-has (Kept-marks x) (walked-guarded x gs (first-state format (x .table)) .end)
+  ends-kept gs =
+      let from : State = first-state format (x .table) in
+      end-both Marked (Blank-from (x .table .fluents)) (walked-guarded x gs from .end)
+      (walked-marked x gs from (first-marked (x .table))) (walked-blank x gs (read-ranged format request x e (settled-is format request x e past .reads)))
+
+  begins : Front request 0 (x .table)
+  begins = request-starts request x e (settled-is format request x e past .reads) .front
+
 pub judge-written : (request lent : List ℕ) (budget : ℕ) → Writes (judge format request lent budget .answer .number) → Written request (judge format request lent budget .state)
 judge-written request lent budget writes =
-    let w = judge-leaves (λ (x : Request) (s : State). Marked s × Blank-from (x .table .fluents) s) format lent budget request
-    (λ x e past.
-    let from : State = first-state format (x .table) in
-    end-both Marked (Blank-from (x .table .fluents)) (walked x from .end) (walked-marked x from (first-marked (x .table))) (walked-blank x (read-ranged format request x e (settled-is format request x e past .reads))))
-    writes in
-    (w .0, w .1, w .2, request-starts request (w .0) (w .1) (settled-is format request (w .0) (w .1) (w .2) .reads) .front .fluents-are, w .3 .0, w .3 .1)
+    let w = judge-leaves Kept-marks format lent budget request
+    (λ x e past. subst (λ (v : Walked State). End-has (Kept-marks x) (v .end)) (walked-unguarded x (first-state format (x .table))) (ends-kept request x e past [])) writes in
+    (w .0, w .1, w .2, begins request (w .0) (w .1) (w .2) .fluents-are, w .3 .0, w .3 .1)
+
+-- THE GUARDED CALL: the state that an end concerns has what the end has.
+concerned-has : (P : State → Type 0) (e : End State) (s : State) → concerned e ≡ in-state s → End-has P e → P s
+unfolding concerned
+concerned-has P fine s is has = subst (Concerned-has P) is has
+concerned-has P (missed p u) s is has = subst (Concerned-has P) is has
+concerned-has P (stopped n p u) s is has = subst (Concerned-has P) is has
+
+-- What `Written` says, of a settled guarded request.
+abbrev pub Guarded-written : (request left : List ℕ) → Type 0
+Guarded-written request left =
+    (g : Guarded-request) × (e : ℕ) × (settled-guarded format request ≡ got g e) × (getD request 0 0 ≡ g .request .table .fluents) × Marked left × Blank-from (g .request .table .fluents) left
+
+pub guarded-written : (request lent : List ℕ) (budget : ℕ) → among (judge-guarded format request lent budget .answer .number) with-state ≡ true
+    → Guarded-written request (judge-guarded format request lent budget .state)
+unfolding walk-of
+guarded-written request lent budget writes =
+    let w = guarded-state format request lent budget .written writes in
+    let eight = own format request (w .0) (w .1) (w .2) in
+    let long = own-length format request (w .0) (w .1) (w .2) in
+    let past = own-settled format request (w .0) (w .1) (w .2) in
+    let front = begins eight (w .0 .request) _ past in
+    let more = front .second in
+    let kept = concerned-has (Kept-marks (w .0 .request)) _ _ (w .3) (ends-kept eight (w .0 .request) _ past (w .0 .guards)) in
+    (w .0, w .1, w .2, sym (own-same format request (w .0) (w .1) (w .2) 0 (omega (arith, more, long))) ∙ front .fluents-are, kept .0, kept .1)

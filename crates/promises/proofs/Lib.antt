@@ -6,6 +6,9 @@ pub mod JudgePromises
 pub mod Promises
 pub mod ExportedPromises
 pub mod ExportedLinePromises
+pub mod GuardedJudgePromises
+pub mod GuardedPromises
+pub mod ExportedGuardedPromises
 pub mod ReusePromises
 pub mod CheckPromises
 pub mod DerivationPromises

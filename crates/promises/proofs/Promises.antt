@@ -28,9 +28,9 @@ use Rattle.meaning.specs.Reported.{Misses, all-paths, Missed-at, Item-in, item-
 use Rattle.meaning.specs.Worlds.{Carried-out}
 use Rattle.meaning.specs.Answers.{answers}
 use Rattle.meaning.specs.AnswerParts.{Walk-input, Walk-count, Placed}
-use Rattle.meaning.specs.Wider.{Same-judgement}
+use Rattle.demands.specs.Wider.{Same-judgement}
 use Rattle.meaning.specs.Tests.{Has}
-use Rattle.meaning.proofs.ProvedCases.{judging, judging-line, judged, judged-line, Row, proved-cases}
+use Rattle.demands.proofs.ProvedCases.{judging, judging-line, judged, judged-line, Row, proved-cases}
 use Rattle.steps.specs.AtHand.{Marked}
 use Rattle.glintstring.specs.declared.judging.Judged.{Judged}
 use Rattle.promises.proofs.JudgePromises

@@ -22,8 +22,8 @@ use Rattle.meaning.specs.Worlds.{Carried-out}
 use Rattle.meaning.specs.Answers.{release-answers}
 use Rattle.meaning.specs.Tests.{Has}
 use Rattle.meaning.specs.AnswerParts.{Walk-input, Placed, Row-parts}
-use Rattle.meaning.proofs.Demands
-use Rattle.meaning.proofs.ProvedCases.{releasing, released, Row, proved-cases}
+use Rattle.demands.proofs.Demands
+use Rattle.demands.proofs.ProvedCases.{releasing, released, Row, proved-cases}
 use Rattle.promises.proofs.ReleasePromises
 use Rattle.verdicts.proofs.releasing.release.Kinds.{ps, r}
 use Rattle.verdicts.proofs.releasing.release.Reads.{Pre, Post}

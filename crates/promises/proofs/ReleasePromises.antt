@@ -18,8 +18,8 @@ use Rattle.meaning.specs.Answers.{release-answers}
 use Rattle.meaning.specs.Tests.{Has}
 use Rattle.meaning.specs.AnswerParts.{Walk-input, Placed, Row-parts}
 use Rattle.meaning.proofs.ReleaseLaws.{opens, judged}
-use Rattle.meaning.proofs.Demands
-use Rattle.meaning.proofs.ProvedCases.{releasing, released, Row, proved-cases}
+use Rattle.demands.proofs.Demands
+use Rattle.demands.proofs.ProvedCases.{releasing, released, Row, proved-cases}
 use Rattle.promises.proofs.CasePromises.{row-holds}
 use Rattle.meaning.proofs.TestLaws.{by-test}
 use lib.Dec.{eqb}

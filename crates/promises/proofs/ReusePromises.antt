@@ -15,9 +15,9 @@ use Rattle.meaning.specs.Literals.{among}
 use Rattle.meaning.specs.Judging.{Judgement, judge}
 use Rattle.meaning.specs.Answers.{refusals}
 use Rattle.meaning.specs.Tests.{those-of, Has}
-use Rattle.meaning.specs.Reuse.{Parts, bytes-of, Cut-so, with-facts, with-plan, asking, One-table, join-plans, no-items, joined, answer-on, end-states}
+use Rattle.demands.specs.Reuse.{Parts, bytes-of, Cut-so, with-facts, with-plan, asking, One-table, join-plans, no-items, joined, answer-on, end-states}
 use Rattle.meaning.proofs.Exact.{format-room}
-use Rattle.meaning.proofs.Demands
+use Rattle.demands.proofs.Demands
 use Rattle.glintstring.specs.declared.judging.Judged.{Judged}
 use Rattle.glintstring.specs.Packing.{unpacked}
 use Rattle.glintstring.proofs.judging.judge.Kinds as judge-kinds

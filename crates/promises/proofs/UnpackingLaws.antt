@@ -1,5 +1,6 @@
 -- An answer in one number gives its parts back: each part is smaller than the room that it has, so division and remainder find it. Every answer
--- of the walk call, of the derivation call and of the whether call and every own answer of the release call is such an answer. Assumes nothing.
+-- of the walk call, of the guarded call, of the derivation call and of the whether call and every own answer of the release call is such an answer.
+-- Assumes nothing.
 use Prim.Native.Nat.{ℕ, _/_, _%_, _<_}
 use native.Mathlib.Omega.{arith}
 use mathlib.Core.Path.{_≡_, refl, _∙_, ap}
@@ -15,18 +16,20 @@ use Rattle.meaning.specs.Limits.{format}
 use Rattle.meaning.specs.Literals.{among}
 use Rattle.meaning.specs.Judging.{judge}
 use Rattle.meaning.specs.Derivations.{check}
+use Rattle.meaning.specs.Guards.{judge-guarded}
 use Rattle.meaning.specs.Releases.{release}
-use Rattle.meaning.specs.Answers.{refusals, answers, end-fault, faults, check-answers, release-refusals, release-answers}
-use Rattle.meaning.specs.AnswerParts.{of-neither, inputs-of}
+use Rattle.meaning.specs.Answers.{refusals, answers, guarded-answers, end-fault, faults, check-answers, release-refusals, release-answers}
+use Rattle.meaning.specs.AnswerParts.{of-neither, Walk-input, inputs-of}
 use Rattle.meaning.proofs.TestLaws.{by-test}
 use Rattle.meaning.proofs.LiteralLaws.{among-each}
 use Rattle.meaning.proofs.PickLaws.{pick-has}
 use Rattle.meaning.proofs.AnswerLaws.{every-answer-numbered}
 use Rattle.meaning.proofs.Passed.{every-check-numbered}
 use Rattle.meaning.proofs.PartLaws.{input-exactly, check-input-exactly}
+use Rattle.meaning.proofs.GuardedAnswers.{guarded-numbered, guarded-input}
 use Rattle.meaning.proofs.ReleaseLaws.{own-numbered, own-input}
 use Rattle.glintstring.specs.Packing.{packed, unpacked}
-use Rattle.glintstring.proofs.PackingLaws.{place-small, check-place-small, own-place-small}
+use Rattle.glintstring.proofs.PackingLaws.{place-small, guarded-place-small, check-place-small, own-place-small}
 
 -- An answer whose parts have room.
 pub record Small (a : Answer) : Type 0 where
@@ -60,23 +63,35 @@ module _ (a : Answer) (small : Small a) (n : ℕ) (packs : n ≡ packed a) where
       ∙ ap (λ (p : ℕ). record { number = a .number; input = a .input; place = p; count = n / 4294967296 }) place-back
       ∙ ap (λ (c : ℕ). record { number = a .number; input = a .input; place = a .place; count = c }) count-back
 
+-- An answer that names neither input or the request.
+input-small : (a : Answer) → Walk-input a → a .input < 256
+input-small a input =
+    by-test (among (a .number) of-neither)
+    (λ t. let is = input .neither .1 t in omega (arith, is))
+    (λ f. let is = input .request f in omega (arith, is))
+
 -- THE WALK CALL'S ANSWERS. Each number is one of a few.
 number-small : (n : ℕ) → among n answers ≡ true → n < 256
 unfolding answers refusals each-of both
 number-small n is = ltb-true _ _ (among-each (λ (m : ℕ). ltb m 256) answers refl n is)
 
-input-small : (s lent : List ℕ) (budget : ℕ) → judge format s lent budget .answer .input < 256
-input-small s lent budget =
-    let input = input-exactly format s lent budget in
-    by-test (among (judge format s lent budget .answer .number) of-neither)
-    (λ t. let is = input .neither .1 t in omega (arith, is))
-    (λ f. let is = input .request f in omega (arith, is))
-
 pub answer-small : (s lent : List ℕ) (budget : ℕ) → Small (judge format s lent budget .answer)
 answer-small s lent budget = record {
   number = number-small _ (every-answer-numbered format s lent budget);
-  input = input-small s lent budget;
+  input = input-small _ (input-exactly format s lent budget);
   place = place-small s lent budget;
+}
+
+-- THE GUARDED CALL'S ANSWERS.
+guarded-number-small : (n : ℕ) → among n guarded-answers ≡ true → n < 256
+unfolding guarded-answers answers refusals each-of both
+guarded-number-small n is = ltb-true _ _ (among-each (λ (m : ℕ). ltb m 256) guarded-answers refl n is)
+
+pub guarded-answer-small : (s lent : List ℕ) (budget : ℕ) → Small (judge-guarded format s lent budget .answer)
+guarded-answer-small s lent budget = record {
+  number = guarded-number-small _ (guarded-numbered format s lent budget);
+  input = input-small _ (guarded-input format s lent budget);
+  place = guarded-place-small s lent budget;
 }
 
 -- THE OWN ANSWERS OF THE RELEASE CALL.
@@ -84,17 +99,10 @@ own-number-small : (n : ℕ) → among n release-answers ≡ true → n < 256
 unfolding release-answers release-refusals each-of both
 own-number-small n is = ltb-true _ _ (among-each (λ (m : ℕ). ltb m 256) release-answers refl n is)
 
-own-input-small : (s lent : List ℕ) (budget : ℕ) → release format s lent budget .answer .input < 256
-own-input-small s lent budget =
-    let input = own-input format s lent budget in
-    by-test (among (release format s lent budget .answer .number) of-neither)
-    (λ t. let is = input .neither .1 t in omega (arith, is))
-    (λ f. let is = input .request f in omega (arith, is))
-
 pub own-small : (s lent : List ℕ) (budget : ℕ) → Small (release format s lent budget .answer)
 own-small s lent budget = record {
   number = own-number-small _ (own-numbered format s lent budget);
-  input = own-input-small s lent budget;
+  input = input-small _ (own-input format s lent budget);
   place = own-place-small s lent budget;
 }
 

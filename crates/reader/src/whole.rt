@@ -1,17 +1,23 @@
 ghost use mathlib.Core.Path.{_≡_};
-ghost use Prim.Native.Nat.{_≤_};
-ghost use lib.ListN.{length};
+ghost use Prim.Native.Nat.{_≤_, _<_};
+ghost use lib.ListN.{length, getD};
 ghost use Rattle.meaning.specs.Limits.{format};
 ghost use Rattle.meaning.specs.Reading.{read-request};
+ghost use Rattle.meaning.specs.Guards.{read-guarded};
+ghost use Rattle.bytes.specs.Read.{passed};
 ghost use Rattle.reading.specs.Noted.{noting, outcome};
-ghost use Rattle.reading.specs.Requested.{request-noted};
-ghost use Rattle.reader.specs.Sections.{sections-read};
+ghost use Rattle.reading.specs.Requested.{request-noted, guarded-noted};
+ghost use Rattle.reader.specs.Sections.{sections-read, up-to, guards-first};
 use super::Reader;
 use super::new;
 use bytes::bytes::wide;
 use bytes::limits;
+use bytes::lists::Kind;
 use bytes::lists::Passed;
+use bytes::lists::list_at;
+use reading::notes;
 use reading::notes::Notes;
+use reading::notes::put;
 use reading::requests::request_at;
 use reading::requests::table_at;
 
@@ -47,6 +53,47 @@ fn read_sections(s: &[u8], t: &mut Notes) -> Passed
     sections(new(s), t)
 }
 
+// Nothing stands after what was read up to e.
+fn nothing_after(s: &[u8], e: usize) -> Passed
+    ensures { λ r. ⌜ r ≡ passed (up-to (now (s .entry)) e) ⌝ }
+{
+    if e < s.len() {
+        return Passed::Fault(limits::BYTES_AFTER, e);
+    }
+    Passed::To(e)
+}
+
+// The guards, behind all eight sections that end at q, and nothing after them.
+fn guards_at(s: &[u8], q: usize, t: &mut Notes) -> Passed
+    requires { ⌜ length (now s) ≤ format .request ⌝ }
+    requires { ⌜ q < 65536 ⌝ }
+    requires { ⌜ 0 < length (now s) ⌝ }
+    requires { ⌜ getD (now s) 0 0 ≤ format .fluents ⌝ }
+    ensures { λ r. ⌜ outcome r (now (t .exit)) ≡ guards-first (now (s .entry)) q (now (t .entry)) ⌝ }
+{
+    let n = wide(s[0]);
+    match list_at(Kind::Literals, n, limits::GUARDS, s, q) {
+        Passed::To(e) => {
+            put(t, notes::GUARDS, q);
+            nothing_after(s, e)
+        }
+        Passed::Fault(k, p) => Passed::Fault(k, p),
+    }
+}
+
+// A guarded request: at most the limit, all nine sections, and nothing after them.
+pub fn read_guarded(s: &[u8], t: &mut Notes) -> Passed
+    ensures { λ r. ⌜ outcome r (now (t .exit)) ≡ noting guarded-noted (read-guarded format (now (s .entry))) (now (t .entry)) ⌝ }
+{
+    if limits::REQUEST < s.len() {
+        return Passed::Fault(limits::TOO_LONG, 0);
+    }
+    match read_sections(s, t) {
+        Passed::To(q) => guards_at(s, q, t),
+        Passed::Fault(k, q) => Passed::Fault(k, q),
+    }
+}
+
 // A request: at most the limit, all eight sections, and nothing after them.
 pub fn read_request(s: &[u8], t: &mut Notes) -> Passed
     ensures { λ r. ⌜ outcome r (now (t .exit)) ≡ noting request-noted (read-request format (now (s .entry))) (now (t .entry)) ⌝ }
@@ -55,12 +102,7 @@ pub fn read_request(s: &[u8], t: &mut Notes) -> Passed
         return Passed::Fault(limits::TOO_LONG, 0);
     }
     match read_sections(s, t) {
-        Passed::To(e) => {
-            if e < s.len() {
-                return Passed::Fault(limits::BYTES_AFTER, e);
-            }
-            Passed::To(e)
-        }
+        Passed::To(e) => nothing_after(s, e),
         Passed::Fault(k, q) => Passed::Fault(k, q),
     }
 }

@@ -15,9 +15,9 @@ use Rattle.bytes.specs.declared.lists.Passed.{Passed}
 use Rattle.bytes.specs.declared.lists.Passed.the-variants.{To, Fault as Stop}
 use Rattle.bytes.specs.Read.{number-read, passed, kind-of}
 use Rattle.reading.specs.Noted.{effects, executability, knowledge, line-at, table-noted, three-sections, facts-first, actions-first, noting, outcome}
-use Rattle.reading.specs.Noted.{plan-slot, items-slot, goals-slot}
+use Rattle.reading.specs.Noted.{plan-slot, items-slot, goals-slot, guards-slot}
 use Rattle.reading.specs.Planned.{items-of, bytes-of, plan-noted, noting-met, outcome-met}
-use Rattle.reading.specs.Requested.{goals-first, plan-first, places-noted, goals-place, plan-place, tail-noted, request-noted}
+use Rattle.reading.specs.Requested.{goals-first, plan-first, places-noted, goals-place, plan-place, tail-with, request-with, tail-noted, request-noted}
 use Rattle.bytes.proofs.ByteLaws.{read-value, read-fault}
 use Rattle.bytes.proofs.ListLaws.{passed-to, passed-stop}
 use Rattle.reading.proofs.NotingLaws.{with-items, met-value, met-fault, fault-met}
@@ -90,23 +90,28 @@ module _ (s : List ℕ) (p : ℕ) (t : List ℕ) (count : Read) (read : count �
   fluents-there n q r w is e = rw (read-value (count-at 1 (format .fluents) s p) count n q read is) (e ∙ after-fluents n s q t)
 
 -- SECTIONS 7 AND 8.
-passed-outcome : {A : Type 0} (g : Got A) (u : List ℕ) → outcome (passed g) u ≡ next g (λ _ e. got u e)
+pub passed-outcome : {A : Type 0} (g : Got A) (u : List ℕ) → outcome (passed g) u ≡ next g (λ _ e. got u e)
 unfolding outcome passed next
 passed-outcome (got x p) u = refl
 passed-outcome (fault n p) u = refl
+
+pub put-all : (plan items goals : ℕ) (t u v w z : List ℕ) → u ≡ set t plan-slot plan → v ≡ set u items-slot items → w ≡ set v goals-slot goals → z ≡ set w guards-slot 0
+    → z ≡ places-noted plan items goals 0 t
+unfolding places-noted
+put-all plan items goals t u v w z eu ev ew ez =
+    ez ∙ ap (λ (x : List ℕ). set x guards-slot 0) (ew ∙ ap (λ (x : List ℕ). set x goals-slot goals) (ev ∙ ap (λ (x : List ℕ). set x items-slot items) eu))
 
 module _ (n : ℕ) (s : List ℕ) (plan items p : ℕ) (t : List ℕ) (goals : Passed) (read : goals ≡ passed (list-at (kind-of Literals) n (format .listed) s p)) where
   pub goals-fault : (k q : ℕ) (v : List ℕ) → goals ≡ Stop k q → outcome (Stop k q) v ≡ goals-first n s plan items p t
   unfolding goals-first next outcome kind-of
   goals-fault k q v is = rw (passed-stop (list-at literals n (format .listed) s p) k q (sym read ∙ is))
 
-  pub goals-passed : (q : ℕ) (whether : Passed) (u v w : List ℕ) → goals ≡ To q → u ≡ set t plan-slot plan → v ≡ set u items-slot items → w ≡ set v goals-slot p
-      → whether ≡ passed (list-at (kind-of Fluents) n (format .listed) s q) → outcome whether w ≡ goals-first n s plan items p t
-  unfolding goals-first places-noted next kind-of
-  goals-passed q whether u v w is eu ev ew last =
-      let noted : w ≡ places-noted plan items p t = ew ∙ ap (λ (x : List ℕ). set x goals-slot p) (ev ∙ ap (λ (x : List ℕ). set x items-slot items) eu) in
+  pub goals-passed : (q : ℕ) (whether : Passed) (z : List ℕ) → goals ≡ To q → z ≡ places-noted plan items p 0 t
+      → whether ≡ passed (list-at (kind-of Fluents) n (format .listed) s q) → outcome whether z ≡ goals-first n s plan items p t
+  unfolding goals-first next kind-of
+  goals-passed q whether z is noted last =
       rw (passed-to (list-at literals n (format .listed) s p) q (sym read ∙ is) .1)
-      (ap (λ (x : Passed). outcome x w) last ∙ passed-outcome (list-at fluents n (format .listed) s q) w ∙ ap (λ (x : List ℕ). next (list-at fluents n (format .listed) s q) (λ _ e. got x e)) noted)
+      (ap (λ (x : Passed). outcome x z) last ∙ passed-outcome (list-at fluents n (format .listed) s q) z ∙ ap (λ (x : List ℕ). next (list-at fluents n (format .listed) s q) (λ _ e. got x e)) noted)
 
 -- SECTIONS 6 TO 8.
 module _ (n m : ℕ) (s : List ℕ) (p : ℕ) (t u : List ℕ) (plan : Read) (read : outcome-met plan u ≡ noting-met (plan-noted p t) (plan-at format n m s p)) where
@@ -143,7 +148,7 @@ placed-length p [] = refl
 placed-length p (x ∷ xs) = ap suc (placed-length (p + 1) xs)
 
 module _ {A B : Type 0} where
-  next-where : (g : Got A) {k h : A → ℕ → Got B} → ((x : A) (p : ℕ) → g ≡ got x p → k x p ≡ h x p) → next g k ≡ next g h
+  pub next-where : (g : Got A) {k h : A → ℕ → Got B} → ((x : A) (p : ℕ) → g ≡ got x p → k x p ≡ h x p) → next g k ≡ next g h
   unfolding next
   next-where (got x p) e = e x p refl
   next-where (fault n p) e = refl
@@ -166,8 +171,8 @@ module _ (s : List ℕ) (x : Table) (p : ℕ) where
 
   places-same : (t : List ℕ) (plan : Met (Sequence ℕ)) (q : ℕ) → plan-at format (x .fluents) (x .actions) s p ≡ got plan q
       → (goals : List ℕ) (r : ℕ) → list-at literals (x .fluents) (format .listed) s q ≡ got goals r → (whether : List ℕ)
-      → places-noted p (plan .items) q (plan-noted p t (plan .value)) ≡ tail-noted (request-of plan q goals r whether) t
-  unfolding plan-at tail-noted goals-place plan-place
+      → places-noted p (plan .items) q 0 (plan-noted p t (plan .value)) ≡ tail-noted (request-of plan q goals r whether) t
+  unfolding plan-at tail-with goals-place plan-place
   places-same t plan q e goals r eg whether =
       let sized = sequence-read (x .fluents) (x .actions) s 8 p 0 (omega arith) .holds plan q e in
       let through = list-through s literals (x .fluents) (format .listed) q .holds goals r eg in
@@ -189,7 +194,7 @@ module _ (s : List ℕ) (x : Table) (p : ℕ) where
       ∙ sym (request-then (λ y e. got (tail-noted y t) e))
 
   pub plan-whole : (t : List ℕ) → plan-first (x .fluents) (x .actions) s p (table-noted x t) ≡ noting request-noted (request-at format s x p) t
-  unfolding noting request-noted
+  unfolding noting request-with
   plan-whole t =
       tail-whole (table-noted x t)
       ∙ request-then (λ y e. got (tail-noted y (table-noted x t)) e)

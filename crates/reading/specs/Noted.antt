@@ -86,6 +86,10 @@ knowledge-slot = plan-slot + 4
 abbrev pub goals-slot : ℕ
 goals-slot = plan-slot + 5
 
+-- The place of the guards' count, or 0 where there are none to look at.
+abbrev pub guards-slot : ℕ
+guards-slot = plan-slot + 6
+
 -- Action a and fluent f, with a row of fluents for each action: a bit, which is there where a knowledge line has both. A slot has as many bits
 -- as its number has, and so many fluents of one action.
 abbrev pub sensed : ℕ

@@ -44,6 +44,8 @@ pub const COUNT_OF_KNOWLEDGE: usize = PLAN + 4;
 
 pub const GOALS: usize = PLAN + 5;
 
+pub const GUARDS: usize = PLAN + 6;
+
 pub const SENSED: usize = PLAN + 8;
 
 pub const WORD_BITS: usize = 16;

@@ -4,7 +4,7 @@ ghost use lib.ListN.{length};
 ghost use Rattle.meaning.specs.Limits.{format};
 ghost use Rattle.meaning.specs.Reading.{table-at};
 ghost use Rattle.reading.specs.Noted.{facts-first, actions-first, table-noted, noting, outcome};
-ghost use Rattle.reading.specs.Requested.{goals-first, plan-first};
+ghost use Rattle.reading.specs.Requested.{places-noted, goals-first, plan-first};
 use super::notes;
 use super::notes::Notes;
 use super::notes::put;
@@ -53,6 +53,19 @@ pub fn table_at(s: &[u8], p: usize, t: &mut Notes) -> Passed
     }
 }
 
+// Where the plan and the goals stand and how many items the plan has; of guards there are none so far.
+fn put_places(plan: usize, items: usize, goals: usize, t: &mut Notes)
+    requires { ⌜ plan < 65536 ⌝ }
+    requires { ⌜ items < 65536 ⌝ }
+    requires { ⌜ goals < 65536 ⌝ }
+    ensures { λ _. ⌜ now (t .exit) ≡ places-noted plan items goals 0 (now (t .entry)) ⌝ }
+{
+    put(t, notes::PLAN, plan);
+    put(t, notes::ITEMS, items);
+    put(t, notes::GOALS, goals);
+    put(t, notes::GUARDS, 0);
+}
+
 // Sections 7 and 8, after a plan of a given number of items whose count stands at `plan`.
 fn goals_at(n: usize, s: &[u8], plan: usize, items: usize, p: usize, t: &mut Notes) -> Passed
     requires { ⌜ n ≤ format .fluents ⌝ }
@@ -63,9 +76,7 @@ fn goals_at(n: usize, s: &[u8], plan: usize, items: usize, p: usize, t: &mut Not
 {
     match list_at(Kind::Literals, n, limits::LISTED, s, p) {
         Passed::To(q) => {
-            put(t, notes::PLAN, plan);
-            put(t, notes::ITEMS, items);
-            put(t, notes::GOALS, p);
+            put_places(plan, items, p, t);
             list_at(Kind::Fluents, n, limits::LISTED, s, q)
         }
         Passed::Fault(k, q) => Passed::Fault(k, q),

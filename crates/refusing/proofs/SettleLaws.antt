@@ -9,9 +9,9 @@ use mir.Val.{Fits}
 use Rattle.meaning.specs.Limits.{format}
 use Rattle.meaning.specs.Requests.{Effect, Knowledge, Table, Request}
 use Rattle.meaning.specs.Reading.{Got, got, fault, next, table-at, request-at, read-request}
+use Rattle.meaning.specs.Guards.{Guarded-request, read-guarded, settled-guarded}
 use Rattle.meaning.specs.Refusals
-use Rattle.meaning.specs.Refusals.{nowhere, at, contradictory, first-against, contradiction-in, mixed-in, overlap-in, refuse, settled}
-use Rattle.meaning.proofs.SettledLaws.{got-same, settled-is}
+use Rattle.meaning.specs.Refusals.{nowhere, at, contradictory, first-against, contradiction-in, mixed-in, overlap-in, refuse, past-refusals, settled}
 use Rattle.bytes.specs.declared.lists.Passed.{Passed}
 use Rattle.bytes.specs.declared.lists.Passed.the-variants.{To, Fault as Stop}
 use Rattle.finding.specs.declared.places.Found.{Found}
@@ -20,25 +20,20 @@ use Rattle.bytes.specs.Read.{passed}
 use Rattle.bytes.proofs.ListLaws.{passed-to, passed-stop}
 use Rattle.reading.specs.Noted.{noting, outcome, table-noted, plan-slot, items-slot, effects-slot, knowledge-slot}
 use Rattle.reading.specs.Planned.{items-of}
-use Rattle.reading.specs.Requested.{plan-place, tail-noted, request-noted}
+use Rattle.reading.specs.Requested.{plan-place, tail-with, request-noted, guards-place, guarded-noted}
+use Rattle.reader.specs.Sections.{sections-read}
+use Rattle.reader.proofs.WholeLaws.{Parts, plain-read, guarded-read}
 use Rattle.finding.specs.Places.{found}
 use Rattle.finding.specs.LinesHere.{effects-in, Effects-here, knowledge-in, Knowledge-here}
 use Rattle.finding.specs.TablesHere.{blank, table-in, Table-here, Runs-here}
 use Rattle.refusing.specs.Refusal17.{Mixed-found}
 use Rattle.finding.specs.ReadHere.{Read-here}
-use Rattle.refusing.specs.Settled.{table-unmixed, table-settled, past-18}
+use Rattle.refusing.specs.Settled.{table-unmixed, table-settled, past-18, past-all}
 use Rattle.reading.proofs.SectionLaws.{noting-got, noting-fault}
-use Rattle.finding.proofs.ReadLaws.{Table-parts, table-parts, request-parts, effects-counted, effects-are, effects-stand, knowledge-counted, plan-noted-at, items-noted, acting, knowledge-stands, effects-few, knowledge-few, tail-held, whole-table, runs-here, table-stays, Parts, read-parts, read-comes, read-same, read-tail, tail-of-notes}
+use Rattle.finding.proofs.ReadLaws.{Table-parts, table-parts, request-parts, effects-counted, effects-are, effects-stand, knowledge-counted, plan-noted-at, items-noted, acting, knowledge-stands, effects-few, knowledge-few, tail-held, whole-table, runs-here, table-stays, read-parts, read-comes, read-same, read-tail, read-noted, plain-here, guarded-here}
 use Rattle.finding.specs.PlansHeld.{Plan-held, Some-plan}
 use Rattle.refusing.specs.Refusal18.{Overlap-found}
 use Rattle.finding.proofs.FoundLaws.{found-at, found-none}
-
--- The notes are the same at every answer.
-module _ {A : Type 0} (note : A → List ℕ → List ℕ) where
-  pub outcome-same : (g : Got A) (u t : List ℕ) → ((y : A) (q : ℕ) → g ≡ got y q → u ≡ note y t) → outcome (passed g) u ≡ noting note g t
-  unfolding outcome passed noting next
-  outcome-same (got y q) u t h = ap (λ (v : List ℕ). got v q) (h y q refl)
-  outcome-same (fault n q) u t h = refl
 
 -- What comes behind 16 and 17 of a table.
 module _ {B : Type 0} (x : Table) (e : ℕ) (k : Got B) where
@@ -125,95 +120,145 @@ module _ (s t : List ℕ) (here : Table-here s t) where
       none-17 g = rw (found-none (mixed-in (table-in s .effects) (table-in s .knowledge)) f sought-17 g)
 
 -- A REQUEST that was read: its table is there, and its plan behind it.
-module _ (s : List ℕ) (bytes : (i : ℕ) → Fits w8 (getD s i 0)) (t : List ℕ) (e : ℕ) (here : Read-here s t e) where
+module _ (s : List ℕ) (bytes : (i : ℕ) → Fits w8 (getD s i 0)) (t : List ℕ) (here : Read-here s t) where
   abbrev small : (i : ℕ) → getD s i 0 < 256
   small i = bytes i .fits
 
-  abbrev there : Parts s (here .request) e
-  there = read-parts s small (here .request) e (here .reads)
+  abbrev x : Request
+  x = here .request
 
-  comes : Table-here s (table-noted (here .request .table) blank)
-  comes = read-comes s small (here .request) e (here .reads)
+  -- What its table left.
+  abbrev u : List ℕ
+  u = table-noted (x .table) blank
 
-  same-table : table-in s ≡ here .request .table
-  same-table = read-same s small (here .request) e (here .reads)
+  abbrev there : Parts s x (here .end)
+  there = read-parts s small t here
 
-  tail : request-at format s (table-in s) (there .place) ≡ got (here .request) e
-  tail = read-tail s small (here .request) e (here .reads)
+  comes : Table-here s u
+  comes = read-comes s small t here
 
-  tail-is : t ≡ tail-noted (here .request) (table-noted (here .request .table) blank)
-  tail-is = here .noted ∙ tail-of-notes (here .request)
+  same-table : table-in s ≡ x .table
+  same-table = read-same s small t here
+
+  tail : request-at format s (table-in s) (there .place) ≡ got x (here .end)
+  tail = read-tail s small t here
+
+  tail-is : t ≡ tail-with (here .guards) x u
+  tail-is = read-noted s small t here
 
   pub table-read-here : Table-here s t
-  table-read-here = subst (Table-here s) (sym tail-is) (table-stays s (table-noted (here .request .table) blank) comes (there .place) (here .request) e tail)
+  table-read-here = subst (Table-here s) (sym tail-is) (table-stays s u comes (here .guards) (there .place) x (here .end) tail)
 
   whole-here : Table-parts s (table-in s) (comes .table-end)
-  whole-here = whole-table s (table-noted (here .request .table) blank) comes
+  whole-here = whole-table s u comes
 
-  slot-is : (j count : ℕ) → count ≡ getD t j 0 → count ≡ getD (tail-noted (here .request) (table-noted (here .request .table) blank)) j 0
-  slot-is j count is = is ∙ ap (λ (u : List ℕ). getD u j 0) tail-is
+  slot-is : (j count : ℕ) → count ≡ getD t j 0 → count ≡ getD (tail-with (here .guards) x u) j 0
+  slot-is j count is = is ∙ ap (λ (v : List ℕ). getD v j 0) tail-is
 
   -- The table ends where the plan starts.
   module _ (plan : ℕ) (is : plan ≡ getD t plan-slot 0) where
     pub table-ends : table-at format s 0 ≡ got (table-in s) plan
     table-ends =
-        let stands : plan-place (here .request) ≡ there .place = request-parts s (table-in s) (there .place) (here .request) e tail .placed in
-        let at : plan ≡ there .place =
-        slot-is plan-slot plan is ∙ plan-noted-at s (table-in s) (whole-here .few) (whole-here .less) (there .place) (here .request) e tail (table-noted (here .request .table) blank) (comes .sized) ∙ stands in
+        let place = there .place in
+        let stands : plan-place x ≡ place = request-parts s (table-in s) place x (here .end) tail .placed in
+        let at : plan ≡ place = slot-is plan-slot plan is ∙ plan-noted-at s (table-in s) (whole-here .few) (whole-here .less) place x (here .end) tail u (here .guards) (comes .sized) ∙ stands in
         rw (same-table, at) (there .table-read)
 
-    settled-behind : settled format s ≡ next (table-settled (table-in s) plan) (λ _ _. past-18 s)
-    unfolding settled past-18 next
-    settled-behind = rw (here .reads, same-table) (behind-table (here .request .table) plan (refuse 18 (overlap-in (here .request .plan)) (λ _. got (here .request) e)))
+    module _ (e : ℕ) where
+      settled-behind : past-all s e ≡ next (table-settled (table-in s) plan) (λ _ _. past-18 s e)
+      unfolding past-all past-18 next
+      settled-behind = rw (here .reads, same-table) (behind-table (x .table) plan (refuse 18 (overlap-in (x .plan)) (λ _. got x e)))
 
-    module _ (first : Passed) (asked : first ≡ passed (table-settled (table-in s) plan)) where
-      pub refused-first : (k p : ℕ) → first ≡ Stop k p → Stop k p ≡ passed (settled format s)
-      unfolding next passed
-      refused-first k p stops = rw (settled-behind, passed-stop (table-settled (table-in s) plan) k p (sym asked ∙ stops))
+      module _ (first : Passed) (asked : first ≡ passed (table-settled (table-in s) plan)) where
+        pub refused-first : (k p : ℕ) → first ≡ Stop k p → Stop k p ≡ passed (past-all s e)
+        unfolding next passed
+        refused-first k p stops = rw (settled-behind, passed-stop (table-settled (table-in s) plan) k p (sym asked ∙ stops))
 
-      pub refused-then : (q : ℕ) (r : Passed) → first ≡ To q → r ≡ passed (past-18 s) → r ≡ passed (settled format s)
-      unfolding next
-      refused-then q r goes h = h ∙ ap passed (rw (settled-behind, passed-to (table-settled (table-in s) plan) q (sym asked ∙ goes) .1))
+        pub refused-then : (q : ℕ) (r : Passed) → first ≡ To q → r ≡ passed (past-18 s e) → r ≡ passed (past-all s e)
+        unfolding next
+        refused-then q r goes h = h ∙ ap passed (rw (settled-behind, passed-to (table-settled (table-in s) plan) q (sym asked ∙ goes) .1))
 
   -- 18.
   module _ (count : ℕ) (is : count ≡ getD t items-slot 0) where
-    count-18 : items-of (here .request .plan) ≡ count
-    count-18 = sym (slot-is items-slot count is ∙ items-noted s (table-in s) (whole-here .few) (whole-here .less) (there .place) (here .request) e tail (table-noted (here .request .table) blank) (comes .sized))
+    count-18 : items-of (x .plan) ≡ count
+    count-18 = sym (slot-is items-slot count is ∙ items-noted s (table-in s) (whole-here .few) (whole-here .less) (there .place) x (here .end) tail u (here .guards) (comes .sized))
 
-    held-18 : Plan-held s t (here .request .plan)
+    held-18 : Plan-held s t (x .plan)
     held-18 =
-        subst (λ (u : List ℕ). Plan-held s u (here .request .plan)) (sym tail-is)
-        (tail-held s (table-in s) (whole-here .few) (whole-here .less) (there .place) (here .request) e tail (table-noted (here .request .table) blank) (comes .sized))
+        subst (λ (v : List ℕ). Plan-held s v (x .plan)) (sym tail-is)
+        (tail-held s (table-in s) (whole-here .few) (whole-here .less) (there .place) x (here .end) tail u (here .guards) (comes .sized))
 
     pub stand-18 : Some-plan s t count
-    stand-18 = record { plan = here .request .plan; held = held-18; items = count-18 }
+    stand-18 = record { plan = x .plan; held = held-18; items = count-18 }
 
-    module _ (f : Found) (answer : Overlap-found s t count f) where
-      sought-18 : f ≡ found (overlap-in (here .request .plan))
-      sought-18 = answer .holds (here .request .plan) held-18 count-18
+    module _ (f : Found) (answer : Overlap-found s t count f) (e : ℕ) where
+      sought-18 : f ≡ found (overlap-in (x .plan))
+      sought-18 = answer .holds (x .plan) held-18 count-18
 
-      pub at-18 : (p : ℕ) → f ≡ At p → Stop 18 p ≡ passed (past-18 s)
+      pub at-18 : (p : ℕ) → f ≡ At p → Stop 18 p ≡ passed (past-18 s e)
       unfolding past-18 next refuse passed
-      at-18 p g = rw (here .reads, found-at (overlap-in (here .request .plan)) f sought-18 p g)
+      at-18 p g = rw (here .reads, found-at (overlap-in (x .plan)) f sought-18 p g)
 
-      pub none-18 : f ≡ Nowhere → To e ≡ passed (past-18 s)
+      pub none-18 : f ≡ Nowhere → To e ≡ passed (past-18 s e)
       unfolding past-18 next refuse passed
-      none-18 g = rw (here .reads, found-none (overlap-in (here .request .plan)) f sought-18 g)
+      none-18 g = rw (here .reads, found-none (overlap-in (x .plan)) f sought-18 g)
 
--- SETTLED.
+-- SETTLED, of whatever has a request in it. The notes are the same at every answer.
+module _ {A : Type 0} (note : A → List ℕ → List ℕ) (t u : List ℕ) where
+  alike : (x : Request) (y : A) (e : ℕ) → u ≡ note y t → (f h k : Refusals.Found)
+      → outcome (passed (refuse 16 f (λ _. refuse 17 h (λ _. refuse 18 k (λ _. got x e))))) u ≡ noting note (refuse 16 f (λ _. refuse 17 h (λ _. refuse 18 k (λ _. got y e)))) t
+  unfolding outcome passed noting next refuse
+  alike x y e noted (at i) h k = refl
+  alike x y e noted nowhere (at i) k = refl
+  alike x y e noted nowhere nowhere (at i) = refl
+  alike x y e noted nowhere nowhere nowhere = ap (λ (v : List ℕ). got v e) noted
+
+  module _ (of : A → Request) (g : Got A) where
+    abbrev past : Got A
+    past = next g λ y e. past-refusals (of y) (got y e)
+
+    stopped : (k q : ℕ) (v : List ℕ) → g ≡ fault k q → outcome (Stop k q) v ≡ noting note past t
+    unfolding noting next outcome
+    stopped k q v is = rw is
+
+    went : (s : List ℕ) (y : A) (e q : ℕ) → g ≡ got y e → u ≡ note y t → sections-read s 0 ≡ got (of y) q → (r : Passed) → r ≡ passed (past-all s e) → outcome r u ≡ noting note past t
+    unfolding past-all next
+    went s y e q is noted reads r h =
+        ap (λ (a : Passed). outcome a u) h
+        ∙ rw (reads, is) (alike (of y) y e noted (contradiction-in (of y .table)) (mixed-in (of y .table .effects) (of y .table .knowledge)) (overlap-in (of y .plan)))
+
+-- Without guards.
 module _ (s t u : List ℕ) (empty : t ≡ blank) (all : Passed) (read : outcome all u ≡ noting request-noted (read-request format s) t) where
   pub settle-fault : (k q : ℕ) (v : List ℕ) → all ≡ Stop k q → outcome (Stop k q) v ≡ noting request-noted (settled format s) t
-  unfolding settled noting next outcome
-  settle-fault k q v is = rw (noting-fault request-noted (read-request format s) all t u read k q is)
+  unfolding settled
+  settle-fault k q v is = stopped request-noted t u (λ x. x) (read-request format s) k q v (noting-fault request-noted (read-request format s) all t u read k q is)
 
   module _ (e : ℕ) (is : all ≡ To e) where
     read-got : (x : Request) × (read-request format s ≡ got x e) × (u ≡ request-noted x t)
     read-got = noting-got request-noted (read-request format s) all t u read e is
 
-    pub settle-here : Read-here s u e
-    settle-here = record { request = read-got .0; reads = read-got .1; noted = read-got .2 ∙ ap (request-noted (read-got .0)) empty }
+    pub settle-here : Read-here s u
+    settle-here = plain-here s u (read-got .0) e (read-got .1) (read-got .2 ∙ ap (request-noted (read-got .0)) empty)
 
-    pub settle-there : (r : Passed) → r ≡ passed (settled format s) → outcome r u ≡ noting request-noted (settled format s) t
-    settle-there r h =
-        ap (λ (y : Passed). outcome y u) h
-        ∙ outcome-same request-noted (settled format s) u t (λ y q g. read-got .2 ∙ ap (λ (z : Request). request-noted z t) (got-same (sym (read-got .1) ∙ settled-is format s y q g .reads)))
+    pub settle-there : (r : Passed) → r ≡ passed (past-all s e) → outcome r u ≡ noting request-noted (settled format s) t
+    unfolding settled
+    settle-there = went request-noted t u (λ x. x) (read-request format s) s (read-got .0) e e (read-got .1) (read-got .2) (plain-read s (read-got .0) e (read-got .1) .1)
+
+-- With guards.
+module _ (s t u : List ℕ) (empty : t ≡ blank) (all : Passed) (read : outcome all u ≡ noting guarded-noted (read-guarded format s) t) where
+  pub guarded-fault : (k q : ℕ) (v : List ℕ) → all ≡ Stop k q → outcome (Stop k q) v ≡ noting guarded-noted (settled-guarded format s) t
+  unfolding settled-guarded
+  guarded-fault k q v is = stopped guarded-noted t u (λ g. g .request) (read-guarded format s) k q v (noting-fault guarded-noted (read-guarded format s) all t u read k q is)
+
+  module _ (e : ℕ) (is : all ≡ To e) where
+    guarded-got : (g : Guarded-request) × (read-guarded format s ≡ got g e) × (u ≡ guarded-noted g t)
+    guarded-got = noting-got guarded-noted (read-guarded format s) all t u read e is
+
+    pub guarded-stands : Read-here s u
+    guarded-stands = guarded-here s u (guarded-got .0) e (guarded-got .1) (guarded-got .2 ∙ ap (guarded-noted (guarded-got .0)) empty)
+
+    pub guarded-there : (r : Passed) → r ≡ passed (past-all s e) → outcome r u ≡ noting guarded-noted (settled-guarded format s) t
+    unfolding settled-guarded
+    guarded-there =
+        went guarded-noted t u (λ g. g .request) (read-guarded format s) s (guarded-got .0) e (guards-place (guarded-got .0 .request)) (guarded-got .1) (guarded-got .2)
+        (guarded-read s (guarded-got .0) e (guarded-got .1) .reads)

@@ -2,18 +2,20 @@ ghost use mathlib.Core.Path.{_≡_};
 ghost use Rattle.meaning.specs.Limits.{format};
 ghost use Rattle.meaning.specs.Reading.{got, table-at};
 ghost use Rattle.meaning.specs.Refusals.{settled};
+ghost use Rattle.meaning.specs.Guards.{settled-guarded};
 ghost use Rattle.bytes.specs.Read.{passed};
 ghost use Rattle.reading.specs.Noted.{noting, outcome};
-ghost use Rattle.reading.specs.Requested.{request-noted};
+ghost use Rattle.reading.specs.Requested.{request-noted, guarded-noted};
 ghost use Rattle.finding.specs.ReadHere.{Read-here};
 ghost use Rattle.finding.specs.TablesHere.{blank, table-in, Table-here};
-ghost use Rattle.refusing.specs.Settled.{table-unmixed, table-settled, past-18};
+ghost use Rattle.refusing.specs.Settled.{table-unmixed, table-settled, past-18, past-all};
 use super::refusal_16::contradiction;
 use super::refusal_17::mixed;
 use super::refusal_18::overlap;
 use bytes::limits;
 use bytes::lists::Passed;
 use finding::places::Found;
+use reader::whole::read_guarded;
 use reader::whole::read_request;
 use reading::notes;
 use reading::notes::Notes;
@@ -49,8 +51,8 @@ pub fn table_refused(s: &[u8], t: &Notes, e: usize) -> Passed
 
 // 18, of a request that was read up to e.
 fn plan_refused(s: &[u8], t: &Notes, e: usize) -> Passed
-    requires { ⌜ Read-here (now s) (now t) e ⌝ }
-    ensures { λ r. ⌜ r ≡ passed (past-18 (now (s .entry))) ⌝ }
+    requires { ⌜ Read-here (now s) (now t) ⌝ }
+    ensures { λ r. ⌜ r ≡ passed (past-18 (now (s .entry)) e) ⌝ }
 {
     let count = get(t, notes::ITEMS);
     match overlap(s, t, count) {
@@ -61,13 +63,24 @@ fn plan_refused(s: &[u8], t: &Notes, e: usize) -> Passed
 
 // 16 to 18, of a request that was read up to e. Its table ends where its plan starts.
 fn refused(s: &[u8], t: &Notes, e: usize) -> Passed
-    requires { ⌜ Read-here (now s) (now t) e ⌝ }
-    ensures { λ r. ⌜ r ≡ passed (settled format (now (s .entry))) ⌝ }
+    requires { ⌜ Read-here (now s) (now t) ⌝ }
+    ensures { λ r. ⌜ r ≡ passed (past-all (now (s .entry)) e) ⌝ }
 {
     let plan = get(t, notes::PLAN);
     match table_refused(s, t, plan) {
         Passed::To(_) => plan_refused(s, t, e),
         Passed::Fault(k, p) => Passed::Fault(k, p),
+    }
+}
+
+// A guarded request settled: read without a fault, and past 16, 17 and 18. The notes hold nothing before.
+pub fn settle_guarded(s: &[u8], t: &mut Notes) -> Passed
+    requires { ⌜ now t ≡ blank ⌝ }
+    ensures { λ r. ⌜ outcome r (now (t .exit)) ≡ noting guarded-noted (settled-guarded format (now (s .entry))) (now (t .entry)) ⌝ }
+{
+    match read_guarded(s, t) {
+        Passed::To(e) => refused(s, t, e),
+        Passed::Fault(k, q) => Passed::Fault(k, q),
     }
 }
 

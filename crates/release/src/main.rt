@@ -12,17 +12,17 @@ use programs::put_number;
 use programs::read_all;
 use programs::stack_is_enough;
 use verdicts::answers;
+use verdicts::releasing::ROW_NUMBERS;
 use verdicts::releasing::plans;
 use verdicts::releasing::release;
 
-// A row has four numbers for each plan, and this is room for the most plans.
-const NUMBERS: usize = 4;
-
-const ROW_ROOM: usize = NUMBERS * limits::PLANS;
+// Room for the row of a file with the most plans. What is lent is cut from it: as many numbers as the file's own plans have, since a row of
+// another length is answered by 9.
+const ROW_ROOM: usize = ROW_NUMBERS * limits::PLANS;
 
 // Number i of a row, and what stands behind it: after each four the line ends.
 fn put_at(i: usize, number: u32) -> bool {
-    if i % NUMBERS == NUMBERS - 1 {
+    if i % ROW_NUMBERS == ROW_NUMBERS - 1 {
         return put_number(number as u64) && put(b"\n");
     }
     put_number(number as u64) && put(b" ")
@@ -42,10 +42,10 @@ fn put_row(row: &[u32]) -> bool {
 
 // The call's own answer, and where it is 0 the row, for so many plans.
 fn answer_plans(file: &[u8], budget: u32, count: usize, row: &mut [u32]) -> bool {
-    if row.len() / NUMBERS < count {
+    if row.len() / ROW_NUMBERS < count {
         return false;
     }
-    let lent = &mut row[..NUMBERS * count];
+    let lent = &mut row[..ROW_NUMBERS * count];
     let answer = release(file, lent, budget);
     if !put_line(
         STDOUT_FILENO,

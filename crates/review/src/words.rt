@@ -28,6 +28,7 @@ pub fn put_words(number: u8) -> bool {
         34 => put(b"a line does not follow by its rule"),
         35 => put(b"the last line differs from the question"),
         36 => put(b"the closing list is not what the request asks"),
+        43 => put(b"guard broken"),
         _ => put(b"no answer that the format has"),
     }
 }

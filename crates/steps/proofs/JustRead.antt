@@ -1,35 +1,38 @@
 -- A table that the notes hold, past 16, and a plan that was read behind it, wherever it stands, are a request at hand: sections 6 to 8 stand where they were
 -- read, the order of the lines and the slots of what is sensed are as the table left them, and those of the plan as reading it left them. So is
--- a request that was read whole, into notes that held nothing. Assumes nothing.
-use Prim.Native.Nat.{ℕ, _+_, _%_, _≤_, _<_}
+-- a request that was read whole, with guards or without, into notes that held nothing. Assumes nothing.
+use Prim.Native.Nat.{ℕ, _+_, _*_, _%_, _≤_, _<_}
 use native.Mathlib.Omega.{arith}
 use mathlib.Core.Path.{_≡_, refl, sym, _∙_, ap, subst}
 use mathlib.Core.Bool.{true, false, false≢true}
-use mathlib.Core.List.{List}
+use mathlib.Core.List.{List, []}
 use lib.ListN.{length, getD, set, length-set}
 use lib.Dec.{eqb, ltb}
-use borrow.Author.Tests.{ltb-true, lt-ltb, eq-eqb}
-use Rattle.meaning.specs.Tests.{either}
-use Rattle.meaning.specs.Limits.{format}
+use borrow.Author.Tests.{ltb-true, lt-ltb, eq-eqb, ne-eqb}
+use Rattle.meaning.specs.Tests.{either, pick}
+use Rattle.meaning.specs.Limits.{format, all-literals}
 use Rattle.meaning.specs.Requests.{Knowledge, Table, Request}
 use Rattle.meaning.specs.Reading
-use Rattle.meaning.specs.Reading.{got, literals, plan-at, request-at, read-request}
+use Rattle.meaning.specs.Reading.{got, literals, bound-of, plan-at, placed, request-at, read-request}
+use Rattle.meaning.specs.Guards.{Guarded-request, read-guarded}
 use Rattle.meaning.specs.Refusals.{nowhere, contradiction-in}
 use Rattle.meaning.specs.Lines.{knowledge-of, sensing, senses}
-use Rattle.meaning.proofs.TestLaws.{same-test, some-has, has-some, some-those}
+use Rattle.meaning.proofs.TestLaws.{clash, pick-true, pick-false, same-test, some-has, has-some, some-those}
 use Rattle.reading.specs.Bits.{bit-of}
-use Rattle.reading.specs.Noted.{none-yet, count-slot, section-noted, table-noted, effect-lines, sensed-from, sensed-to, plan-slot, items-slot, goals-slot, word-bits, pair-slot, pair-there, slots, effects-slot, executability-slot, knowledge-slot}
+use Rattle.reading.specs.Noted.{none-yet, count-slot, section-noted, table-noted, sensed-from, sensed-to, plan-slot, items-slot, goals-slot, guards-slot, word-bits, pair-slot, pair-there, slots, effects-slot, executability-slot, knowledge-slot}
 use Rattle.reading.specs.Planned.{items-of, plan-noted}
-use Rattle.reading.specs.Requested.{goals-place, plan-place, places-noted, tail-noted, request-noted}
-use Rattle.reading.specs.Listed.{listed}
+use Rattle.reading.specs.Requested.{goals-place, plan-place, places-noted, tail-with, tail-noted, request-noted, guards-place, guarded-noted}
+use Rattle.reading.specs.Listed.{listed, List-here}
 use Rattle.reading.proofs.BitLaws.{no-bit}
 use Rattle.reading.proofs.PlanSizes.{sequence-read}
+use Rattle.reader.proofs.WholeLaws.{Guards-read, guarded-read}
 use Rattle.finding.specs.PlansHeld.{Plan-held}
-use Rattle.finding.specs.TablesHere.{blank, Table-here}
+use Rattle.finding.specs.TablesHere.{blank, Of-table, Table-here}
+use Rattle.finding.specs.ReadHere.{Read-here}
 use Rattle.finding.proofs.KeptLaws.{kept}
 use Rattle.finding.proofs.HereLaws.{list-here}
-use Rattle.finding.proofs.ReadLaws.{Table-parts, request-parts, whole-table, table-stays, read-parts, read-comes, read-same, read-tail, tail-of-notes, knowledge-good, with-runs, with-knowledge, runs-long, sensed-empty, after-sections, effects-ordered, runs-ordered, items-noted, plan-noted-at, goals-noted, tail-held}
-use Rattle.steps.specs.Held.{plan-of, table-in, plan-in, goals-in, whether-in, request-in}
+use Rattle.finding.proofs.ReadLaws.{Table-parts, table-parts, request-parts, whole-table, table-stays, read-parts, read-comes, read-same, read-tail, read-noted, plain-here, guarded-here, knowledge-good, with-runs, with-knowledge, runs-long, sensed-empty, after-sections, effects-ordered, runs-ordered, items-noted, plan-noted-at, goals-noted, guards-noted, tail-held}
+use Rattle.steps.specs.Held.{plan-of, table-in, plan-in, goals-in, whether-in, guards-at, guards-in, request-in}
 use Rattle.steps.specs.LinesFound.{run-places, effect-places, Senses}
 use Rattle.steps.specs.Rests.{Nexts}
 use Rattle.steps.specs.AtHand.{At-hand}
@@ -48,7 +51,7 @@ module _ (s t : List ℕ) (here : Table-here s t) where
   knowledge-sensed : (a : ℕ) → a < format .actions → Sensed t a (seen-after a (λ _. false) (x .knowledge))
   unfolding with-knowledge section-noted count-slot pair-there
   knowledge-sensed a small = record {
-    pair = λ f low. ap (λ (w : ℕ). bit-of w (f % word-bits)) (same (pair-slot a f) (omega arith) (λ e. omega arith) (λ e. omega arith) (λ e. omega arith)) ∙ after .pair f low;
+    pair = λ f low. ap (λ (w : ℕ). bit-of w (f % word-bits)) (same (pair-slot a f) (record { far = omega arith; other = (λ e. omega arith, λ e. omega arith, λ e. omega arith, λ e. omega arith) })) ∙ after .pair f low;
     most = rw from-same (after .most);
     from = λ f e. rw from-same (after .from f e);
     to = λ f e. rw to-same (after .to f e);
@@ -59,14 +62,14 @@ module _ (s t : List ℕ) (here : Table-here s t) where
       noted-runs : List ℕ
       noted-runs = with-runs s (here .bytes) x (here .table-end) whole
 
-      same : (j : ℕ) → effect-lines ≤ j → (j ≡ plan-slot → ⊥) → (j ≡ items-slot → ⊥) → (j ≡ goals-slot → ⊥) → getD t j 0 ≡ getD (with-knowledge s (here .bytes) x (here .table-end) whole) j 0
-      same j far = after-sections s (here .bytes) x (here .table-end) whole t (here .noted) j far
+      same : (j : ℕ) → Of-table j → getD t j 0 ≡ getD (with-knowledge s (here .bytes) x (here .table-end) whole) j 0
+      same = after-sections s (here .bytes) x (here .table-end) whole t (here .noted)
 
       from-same : getD t (sensed-from + a) 0 ≡ getD (with-knowledge s (here .bytes) x (here .table-end) whole) (sensed-from + a) 0
-      from-same = same (sensed-from + a) (omega arith) (λ e. omega arith) (λ e. omega arith) (λ e. omega arith)
+      from-same = same (sensed-from + a) (record { far = omega arith; other = (λ e. omega arith, λ e. omega arith, λ e. omega arith, λ e. omega arith) })
 
       to-same : getD t (sensed-to + a) 0 ≡ getD (with-knowledge s (here .bytes) x (here .table-end) whole) (sensed-to + a) 0
-      to-same = same (sensed-to + a) (omega arith) (λ e. omega arith) (λ e. omega arith) (λ e. omega arith)
+      to-same = same (sensed-to + a) (record { far = omega arith; other = (λ e. omega arith, λ e. omega arith, λ e. omega arith, λ e. omega arith) })
 
       start : List ℕ
       start = set (with-runs s (here .bytes) x (here .table-end) whole) knowledge-slot (length (x .knowledge))
@@ -127,10 +130,10 @@ module _ (s t : List ℕ) (here : Table-here s t) where
       sensed : Sensed t a (seen-after a (λ _. false) (x .knowledge))
       sensed = knowledge-sensed a small
 
--- A PLAN that was read behind such a table, and noted.
-module _ (s t : List ℕ) (here : Table-here s t) (p : ℕ) (y : Request) (q : ℕ) (read : request-at format s (table-in s) p ≡ got y q) where
+-- A PLAN that was read behind such a table, and noted, with guards at a place.
+module _ (s t : List ℕ) (here : Table-here s t) (g p : ℕ) (y : Request) (q : ℕ) (read : request-at format s (table-in s) p ≡ got y q) where
   abbrev u : List ℕ
-  u = tail-noted y t
+  u = tail-with g y t
 
   parts-there : Table-parts s (table-in s) (here .table-end)
   parts-there = whole-table s t here
@@ -142,7 +145,7 @@ module _ (s t : List ℕ) (here : Table-here s t) (p : ℕ) (y : Request) (q : �
   each = request-sections s (table-in s) p y q read
 
   plan-slot-is : getD u plan-slot 0 ≡ plan-place y
-  plan-slot-is = plan-noted-at s (table-in s) (parts-there .few) (parts-there .less) p y q read t (here .sized)
+  plan-slot-is = plan-noted-at s (table-in s) (parts-there .few) (parts-there .less) p y q read t g (here .sized)
 
   plan-is : plan-in s u ≡ y .plan
   unfolding plan-in plan-of
@@ -151,13 +154,13 @@ module _ (s t : List ℕ) (here : Table-here s t) (p : ℕ) (y : Request) (q : �
   items-is : getD u items-slot 0 ≡ each .items
   unfolding plan-at
   items-is =
-      let noted = items-noted s (table-in s) (parts-there .few) (parts-there .less) p y q read t (here .sized) in
+      let noted = items-noted s (table-in s) (parts-there .few) (parts-there .less) p y q read t g (here .sized) in
       let counted = sequence-read (y .table .fluents) (y .table .actions) s 8 (plan-place y) 0 (omega arith) .holds (record { value = y .plan; items = each .items }) (goals-place y) (each .plan) .counted in
       omega arith
 
   goals-at : goals-in u ≡ goals-place y
   unfolding goals-in
-  goals-at = goals-noted s (table-in s) (parts-there .few) (parts-there .less) p y q read t (here .sized)
+  goals-at = goals-noted s (table-in s) (parts-there .few) (parts-there .less) p y q read t g (here .sized)
 
   whether-at : whether-in s u ≡ y .whether-place
   unfolding whether-in
@@ -170,33 +173,43 @@ module _ (s t : List ℕ) (here : Table-here s t) (p : ℕ) (y : Request) (q : �
   whether-listed = list-here Reading.fluents (y .table .fluents) s (format .listed) (y .whether-place) (each .whether-list) (each .whether-end) (each .whether) .0
 
   -- THE REQUEST that is held has that table and what was read.
-  pub plan-request : request-in s (tail-noted y t) ≡ y
+  pub plan-request : request-in s (tail-with g y t) ≡ y
   unfolding request-in
   plan-request = rw (table-is, plan-is, whether-at, goals-at, goals-listed, whether-listed, sym (each .goals-are), sym (each .whether-are)) refl
 
   plan-held-there : Plan-held s u (y .plan)
-  plan-held-there = tail-held s (table-in s) (parts-there .few) (parts-there .less) p y q read t (here .sized)
+  plan-held-there = tail-held s (table-in s) (parts-there .few) (parts-there .less) p y q read t g (here .sized)
 
   request-nexts : Nexts u (format .items) 0 (y .plan)
-  unfolding tail-noted places-noted
+  unfolding tail-with places-noted
   request-nexts =
       let planned : List ℕ = plan-noted (plan-place y) t (y .plan) in
       let few = plan-held-there .few in
-      nexts-agree (y .plan) (format .items) 0 planned (tail-noted y t)
+      nexts-agree (y .plan) (format .items) 0 planned (tail-with g y t)
       (record {
         slot = λ j _ less.
-            kept (set (set planned plan-slot (plan-place y)) items-slot (items-of (y .plan))) goals-slot (format .items + j) (goals-place y) (λ e. omega (arith, e, less, few))
+            kept (set (set (set planned plan-slot (plan-place y)) items-slot (items-of (y .plan))) goals-slot (goals-place y)) guards-slot (format .items + j) g (λ e. omega (arith, e, less, few))
+            ∙ kept (set (set planned plan-slot (plan-place y)) items-slot (items-of (y .plan))) goals-slot (format .items + j) (goals-place y) (λ e. omega (arith, e, less, few))
             ∙ kept (set planned plan-slot (plan-place y)) items-slot (format .items + j) (items-of (y .plan)) (λ e. omega (arith, e, less, few))
             ∙ kept planned plan-slot (format .items + j) (plan-place y) (λ e. omega (arith, e, less, few));
       })
       (plan-nexts (plan-place y) t (y .plan) few (omega (arith, here .sized)))
 
   stays : Table-here s u
-  stays = table-stays s t here p y q read
+  stays = table-stays s t here g p y q read
 
-  pub plan-at-hand : contradiction-in (table-in s) ≡ nowhere → At-hand s (tail-noted y t)
+  guards-slot-is : guards-at u ≡ g
+  unfolding guards-at
+  guards-slot-is = guards-noted s (table-in s) (parts-there .few) (parts-there .less) p y q read t g (here .sized)
+
+  -- THE GUARDS that it holds.
+  plan-guards : guards-in s (tail-with g y t) ≡ pick (eqb g 0) (λ _. []) (λ _. placed (g + 1) (listed s g))
+  unfolding guards-in
+  plan-guards = rw guards-slot-is refl
+
+  pub plan-at-hand : contradiction-in (table-in s) ≡ nowhere → (eqb g 0 ≡ false → List-here all-literals s g) → At-hand s (tail-with g y t)
   unfolding run-places effect-places
-  plan-at-hand passed =
+  plan-at-hand passed guards =
       record {
         bytes = here .bytes;
         short = here .short;
@@ -212,15 +225,71 @@ module _ (s t : List ℕ) (here : Table-here s t) (p : ℕ) (y : Request) (q : �
         goals = rw (table-is, goals-at, goals-listed, whether-at) (each .goals);
         whether-end = each .whether-end;
         whether = rw (table-is, whether-at, whether-listed) (each .whether);
+        guards = rw guards-slot-is guards;
       }
 
--- A REQUEST that was read whole, into notes that held nothing.
-module _ (s : List ℕ) (bytes : (i : ℕ) → getD s i 0 < 256) (x : Request) (e : ℕ) (reads : read-request format s ≡ got x e) (t : List ℕ) (noted : t ≡ request-noted x blank) where
-  tail-is : t ≡ tail-noted x (table-noted (x .table) blank)
-  tail-is = noted ∙ tail-of-notes x
+-- Without guards there are none.
+pub plan-unguarded : (s t : List ℕ) (here : Table-here s t) (p : ℕ) (y : Request) (q : ℕ) → request-at format s (table-in s) p ≡ got y q → guards-in s (tail-noted y t) ≡ []
+plan-unguarded s t here p y q read = plan-guards s t here 0 p y q read ∙ pick-true (eqb 0 0) _ _ (eq-eqb 0 0 refl)
 
-  pub read-at-hand : contradiction-in (x .table) ≡ nowhere → At-hand s t
-  read-at-hand passed = subst (At-hand s) (sym tail-is) (plan-at-hand s (table-noted (x .table) blank) (read-comes s bytes x e reads) (read-parts s bytes x e reads .place) x e (read-tail s bytes x e reads) (ap contradiction-in (read-same s bytes x e reads) ∙ passed))
+-- A REQUEST that was read from the start, into notes that held nothing.
+module _ (s : List ℕ) (bytes : (i : ℕ) → getD s i 0 < 256) (t : List ℕ) (read : Read-here s t) where
+  abbrev before : List ℕ
+  before = table-noted (read .request .table) blank
 
-  pub request-read : request-in s t ≡ x
-  request-read = ap (request-in s) tail-is ∙ plan-request s (table-noted (x .table) blank) (read-comes s bytes x e reads) (read-parts s bytes x e reads .place) x e (read-tail s bytes x e reads)
+  pub read-at-hand : contradiction-in (read .request .table) ≡ nowhere → (eqb (read .guards) 0 ≡ false → List-here all-literals s (read .guards)) → At-hand s t
+  read-at-hand passed guards =
+      subst (At-hand s) (sym (read-noted s bytes t read))
+      (plan-at-hand s before (read-comes s bytes t read) (read .guards) (read-parts s bytes t read .place) (read .request) (read .end) (read-tail s bytes t read) (ap contradiction-in (read-same s bytes t read) ∙ passed) guards)
+
+  pub request-read : request-in s t ≡ read .request
+  request-read =
+      ap (request-in s) (read-noted s bytes t read)
+      ∙ plan-request s before (read-comes s bytes t read) (read .guards) (read-parts s bytes t read .place) (read .request) (read .end) (read-tail s bytes t read)
+
+  guards-read : guards-in s t ≡ pick (eqb (read .guards) 0) (λ _. []) (λ _. placed (read .guards + 1) (listed s (read .guards)))
+  guards-read =
+      ap (guards-in s) (read-noted s bytes t read)
+      ∙ plan-guards s before (read-comes s bytes t read) (read .guards) (read-parts s bytes t read .place) (read .request) (read .end) (read-tail s bytes t read)
+
+-- Read WHOLE it has no guards,
+module _ (s : List ℕ) (bytes : (i : ℕ) → getD s i 0 < 256) (t : List ℕ) (x : Request) (e : ℕ) (reads : read-request format s ≡ got x e) (noted : t ≡ request-noted x blank) where
+  pub plain-at-hand : contradiction-in (x .table) ≡ nowhere → At-hand s t
+  plain-at-hand passed = read-at-hand s bytes t (plain-here s t x e reads noted) passed (λ some. clash (eq-eqb 0 0 refl) some)
+
+  pub plain-request : request-in s t ≡ x
+  plain-request = request-read s bytes t (plain-here s t x e reads noted)
+
+  pub plain-guards : guards-in s t ≡ []
+  plain-guards = guards-read s bytes t (plain-here s t x e reads noted) ∙ pick-true (eqb 0 0) _ _ (eq-eqb 0 0 refl)
+
+-- or those that were read with it.
+module _ (s : List ℕ) (bytes : (i : ℕ) → getD s i 0 < 256) (t : List ℕ) (g : Guarded-request) (e : ℕ) (reads : read-guarded format s ≡ got g e) (noted : t ≡ guarded-noted g blank) where
+  abbrev place : ℕ
+  place = guards-place (g .request)
+
+  with-guards : Guards-read s g e
+  with-guards = guarded-read s g e reads
+
+  guards-here : (listed s place ≡ with-guards .literals-read) × ((bound : ℕ) → 2 * g .request .table .fluents ≤ bound → List-here bound s place)
+  unfolding bound-of
+  guards-here = list-here literals (g .request .table .fluents) s 64 place (with-guards .literals-read) e (with-guards .guards)
+
+  few : g .request .table .fluents ≤ format .fluents
+  few =
+      let there = read-parts s bytes t (guarded-here s t g e reads noted) in
+      table-parts s (g .request .table) (there .place) (there .table-read) .few
+
+  pub guarded-at-hand : contradiction-in (g .request .table) ≡ nowhere → At-hand s t
+  guarded-at-hand passed = read-at-hand s bytes t (guarded-here s t g e reads noted) passed (λ _. guards-here .1 all-literals (omega (arith, few)))
+
+  pub guarded-request : request-in s t ≡ g .request
+  guarded-request = request-read s bytes t (guarded-here s t g e reads noted)
+
+  pub guarded-guards : guards-in s t ≡ g .guards
+  unfolding guards-place
+  guarded-guards =
+      guards-read s bytes t (guarded-here s t g e reads noted)
+      ∙ pick-false (eqb place 0) _ _ (ne-eqb place 0 (λ is. omega arith))
+      ∙ ap (placed (place + 1)) (guards-here .0)
+      ∙ sym (with-guards .guards-are)

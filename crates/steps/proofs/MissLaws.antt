@@ -1,14 +1,14 @@
 -- What an end state misses: one entry, a list of entries one after another, the goals and then the whether entries. Assumes nothing.
 use Prim.Native.Nat.{ℕ, _+_, _-_, _≤_, _<_}
 use native.Mathlib.Omega.{arith}
-use mathlib.Core.Path.{_≡_, sym, _∙_, ap, subst}
+use mathlib.Core.Path.{_≡_, refl, sym, _∙_, ap, subst}
 use mathlib.Core.Bool.{Bool, true, false}
 use mathlib.Core.List.{List}
 use lib.ListN.{length, getD}
 use lib.Dec.{eqb, ltb}
 use mir.Syntax.{w64}
 use mir.Val.{Fits}
-use borrow.Author.Tests.{lt-ltb, le-ltb, eqb-true, eqb-false}
+use borrow.Author.Tests.{lt-ltb, le-ltb, eqb-true, eqb-false, eq-eqb, ne-eqb}
 use Rattle.meaning.specs.Tests.{either, pick}
 use Rattle.meaning.specs.Limits.{format, all-literals}
 use Rattle.meaning.specs.Requests.{Entry}
@@ -26,11 +26,11 @@ use Rattle.finding.specs.Places.{found}
 use Rattle.finding.specs.Branches.{sequence-place}
 use Rattle.reading.specs.Listed.{bytes-from, listed, List-here, holds-as}
 use Rattle.reading.proofs.MarkLaws.{bytes-next, bytes-done}
-use Rattle.reading.specs.Noted.{goals-slot}
+use Rattle.reading.specs.Noted.{goals-slot, guards-slot}
 use Rattle.finding.proofs.FoundLaws.{found-none, found-at}
 use Rattle.steps.specs.declared.goals.Asked.{Asked}
 use Rattle.steps.specs.declared.goals.Asked.the-variants.{Goal, Whether}
-use Rattle.steps.specs.Held.{goals-in, whether-in, request-in}
+use Rattle.steps.specs.Held.{goals-in, whether-in, guards-at, guards-in, request-in}
 use Rattle.steps.specs.AtHand.{At-hand, Marked}
 use Rattle.steps.specs.Steps.{bound-as, met-as}
 use Rattle.steps.proofs.HandLaws.{goals-here, whether-here}
@@ -157,3 +157,22 @@ module _ (s t : List ℕ) (here : At-hand s t) (goals : ℕ) (is : goals ≡ get
         asked
         ∙ ap (λ (es : List Entry). found (first-missed (known-whether marks) es)) (whether-is x byte)
         ∙ rw is
+
+-- THE GUARDS, where the notes have a place of them.
+module _ (s t : List ℕ) (here : At-hand s t) (guards : ℕ) (is : guards ≡ getD t guards-slot 0) where
+  slot-is : guards-at t ≡ guards
+  unfolding guards-at
+  slot-is = sym is
+
+  pub none-lacked : (marks : State) → guards ≡ 0 → Nowhere ≡ found (first-missed (known marks) (guards-in s t))
+  unfolding guards-in first-missed found
+  none-lacked marks none = rw (slot-is, none) (ap (λ (es : List Entry). found (first-missed (known marks) es)) (sym (pick-true (eqb 0 0) _ _ (eq-eqb 0 0 refl))))
+
+  module _ (some : guards ≡ 0 → ⊥) where
+    pub guards-there : List-here (bound-as Goal) s guards
+    unfolding bound-as
+    guards-there = subst (List-here all-literals s) slot-is (here .guards (rw slot-is (ne-eqb guards 0 some)))
+
+    pub first-lacked : (marks : State) (r : Code.Found) → r ≡ found (first-missed (met-as Goal marks) (placed (guards + 1) (listed s guards))) → r ≡ found (first-missed (known marks) (guards-in s t))
+    unfolding guards-in met-as
+    first-lacked marks r looked = looked ∙ rw slot-is (ap (λ (es : List Entry). found (first-missed (known marks) es)) (sym (pick-false _ _ _ (ne-eqb guards 0 some))))

@@ -15,7 +15,7 @@ use Rattle.meaning.specs.Limits.{format}
 use Rattle.meaning.specs.Requests.{Sequence, done, item, Item, act, branching, Branches, none, branch}
 use Rattle.meaning.specs.Derivations.{join}
 use Rattle.meaning.specs.States.{State, known}
-use Rattle.meaning.specs.Walk.{Walked, Steps, run-action, walk, walk-item, walk-branch, table-step, judged}
+use Rattle.meaning.specs.Walk.{Walked, Steps, unless-broken, meet, run-action, walk, walk-item, walk-branch, judged, guarded-step}
 use Rattle.meaning.proofs.TestLaws.{by-test, clash, pick-true, pick-false}
 use Rattle.reading.specs.Listed.{listed, holds-as}
 use Rattle.reading.specs.declared.marks.Test.the-variants.{Known}
@@ -30,7 +30,7 @@ use Rattle.finding.proofs.PlanHere.{count-zero, count-some, some-item, place-is
 use Rattle.steps.specs.Held.{table-in, plan-in, request-in}
 use Rattle.steps.specs.AtHand.{At-hand}
 use Rattle.steps.specs.Rests.{rest-at, after-first, span, onward, Position, Branches-laid, Inside-laid, Item-laid}
-use Rattle.steps.specs.Steps.{walk-from, walk-after, Followed, Into, going-on, Chosen}
+use Rattle.steps.specs.Steps.{step-in, walk-from, walk-after, met-from, Followed, Into, going-on, Chosen}
 use Rattle.steps.proofs.HandLaws.{few-items}
 use Rattle.steps.proofs.RestLaws.{rest-past}
 use Rattle.steps.proofs.Laid.{item-laid}
@@ -145,7 +145,7 @@ module _ (s t : List ℕ) (i p met q : ℕ) (at : q ≡ sequence-place s p) (emp
 -- WHERE A BRANCHING GOES ON. Its walk is the walk by these branches, and then by what is after it.
 abbrev pub Walks-by : (s t : List ℕ) (i : ℕ) → State → Sequence ℕ → Branches ℕ → Type 0
 Walks-by s t i marks after branches =
-    walk-from s t i marks ≡ walk-branch (table-step (table-in s)) branches (getD t (0 + i) 0) (walk (table-step (table-in s)) after (judged (request-in s t))) marks
+    walk-from s t i marks ≡ walk-branch (step-in s t) branches (getD t (0 + i) 0) (walk (step-in s t) after (judged (request-in s t))) marks
 
 -- None of the branches before p has a condition known true; those from there on are `branches`.
 pub record Choosing (s t : List ℕ) (i : ℕ) (marks : State) (left p met : ℕ) : Type 0 where
@@ -232,7 +232,7 @@ module _ (s t : List ℕ) (i : ℕ) (marks : State) where
       condition-is c e = rw (tested, sym e)
 
       pub choosing-next : known-here ≡ false → (q j : ℕ) → q ≡ place-after s t p met → j ≡ item-after s t p met → Choosing s t i marks (left - 1) q j
-      unfolding branches-in Branches-written Branches-laid walk-branch table-step
+      unfolding branches-in Branches-written Branches-laid walk-branch step-in guarded-step
       choosing-next fails q j placed counted = step (choosing .branches) (choosing .count) (choosing .written) (choosing .laid) (choosing .goes)
         where
           step : (bs : Branches ℕ) → left ≡ branches-in bs → Branches-written s p bs → Branches-laid t (plan-in s t) met p (choosing .after) bs
@@ -256,7 +256,7 @@ module _ (s t : List ℕ) (i : ℕ) (marks : State) where
               }
 
       pub chosen-at : known-here ≡ true → (r : ℕ) → Into s t i p met r → Chosen s t i marks (At r)
-      unfolding branches-in Branches-written Branches-laid walk-branch table-step walk-from own-items items-of
+      unfolding branches-in Branches-written Branches-laid walk-branch step-in guarded-step walk-from own-items items-of
       chosen-at holds r into = by-branch (choosing .branches) (choosing .count) (choosing .written) (choosing .laid) (choosing .goes)
         where
           by-branch : (bs : Branches ℕ) → left ≡ branches-in bs → Branches-written s p bs → Branches-laid t (plan-in s t) met p (choosing .after) bs
@@ -277,7 +277,7 @@ module _ (s t : List ℕ) (i : ℕ) (marks : State) where
               (chosen-there met
               (goes
               ∙ pick-true _ _ _ (condition-is c (w .0 .condition) ∙ holds)
-              ∙ sym (walk-join (table-step (table-in s)) (item x d) (choosing .after) (judged (request-in s t)) marks)
+              ∙ sym (walk-join (step-in s t) (item x d) (choosing .after) (judged (request-in s t)) marks)
               ∙ rw (l .0 .rest some))
               beyond
               (record { most = branch-first s t left p met more (choosing .here) .few; there = λ _. l .0 .there some }))
@@ -323,7 +323,7 @@ module _ (s t : List ℕ) (here : At-hand s t) where
         unfolding An-act
         action-small = rw byte (the-act .2)
 
-        pub action-walked : (marks : State) → walk-from s t i marks ≡ run-action (table-step (table-in s)) p a (walk-after s t i) marks
+        pub action-walked : (marks : State) → walk-from s t i marks ≡ run-action (step-in s t) p a (walk-after s t i) marks
         unfolding An-act walk-from walk-after walk after-first
         action-walked marks = rw (the-act .1, byte)
 
@@ -331,3 +331,6 @@ module _ (s t : List ℕ) (here : At-hand s t) where
 pub followed-walks : (s t : List ℕ) (i r : ℕ) → Followed s t i r → (marks : State) → walk-after s t i marks ≡ walk-from s t r marks
 unfolding walk-from walk-after
 followed-walks s t i r follows marks = rw (follows .rest)
+
+pub followed-met : (s t : List ℕ) (i r : ℕ) → Followed s t i r → (marks : State) → meet (step-in s t) (walk-after s t i) marks ≡ met-from s t r marks
+followed-met s t i r follows marks = ap (unless-broken (step-in s t .lacks marks) marks) (followed-walks s t i r follows marks)

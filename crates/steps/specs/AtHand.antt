@@ -2,16 +2,18 @@
 -- notes came to be, and what the input has behind the whether list, is not asked.
 use Prim.Native.Nat.{ℕ, _≤_, _<_}
 use mathlib.Core.Path.{_≡_}
+use mathlib.Core.Bool.{false}
 use mathlib.Core.List.{List}
 use lib.ListN.{length, getD}
-use Rattle.meaning.specs.Limits.{format}
+use lib.Dec.{eqb}
+use Rattle.meaning.specs.Limits.{format, all-literals}
 use Rattle.meaning.specs.Refusals.{nowhere, contradiction-in}
 use Rattle.meaning.specs.Reading.{got, literals, fluents, list-at, plan-at, table-at}
 use Rattle.reading.specs.Noted.{effect-lines, run-lines, plan-slot, items-slot}
 use Rattle.reading.specs.Ordered.{In-order}
-use Rattle.reading.specs.Listed.{listed}
+use Rattle.reading.specs.Listed.{listed, List-here}
 use Rattle.finding.specs.PlansHeld.{Plan-held}
-use Rattle.steps.specs.Held.{table-in, plan-in, goals-in, whether-in}
+use Rattle.steps.specs.Held.{table-in, plan-in, goals-in, whether-in, guards-at}
 use Rattle.steps.specs.LinesFound.{run-places, effect-places, Senses}
 use Rattle.steps.specs.Rests.{Nexts}
 
@@ -35,6 +37,8 @@ pub record At-hand (s t : List ℕ) : Type 0 where
   pub goals : list-at literals (table-in s .fluents) (format .listed) s (goals-in t) ≡ got (listed s (goals-in t)) (whether-in s t)
   pub whether-end : ℕ
   pub whether : list-at fluents (table-in s .fluents) (format .listed) s (whether-in s t) ≡ got (listed s (whether-in s t)) whether-end
+  -- The guards stand where their slot says, unless it says that there are none.
+  pub guards : eqb (guards-at t) 0 ≡ false → List-here all-literals s (guards-at t)
 
 -- Each of the marks is one of the three.
 pub record Marked (marks : List ℕ) : Type 0 where

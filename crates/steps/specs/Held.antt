@@ -1,12 +1,14 @@
 -- The request that an input and notes hold: sections 1 to 5 as they stand at the input's start, and the plan, the goals and the whether
 -- entries as they stand where the notes say. It does not depend on what else the input has.
 use Prim.Native.Nat.{ℕ, _+_}
-use mathlib.Core.List.{List}
+use mathlib.Core.List.{List, []}
 use lib.ListN.{getD}
+use lib.Dec.{eqb}
 use Rattle.meaning.specs.Limits.{format}
-use Rattle.meaning.specs.Requests.{Sequence, Request}
+use Rattle.meaning.specs.Tests.{pick}
+use Rattle.meaning.specs.Requests.{Sequence, Entry, Request}
 use Rattle.meaning.specs.Reading.{Got, got, fault, Met, plan-at, placed}
-use Rattle.reading.specs.Noted.{plan-slot, goals-slot}
+use Rattle.reading.specs.Noted.{plan-slot, goals-slot, guards-slot}
 use Rattle.reading.specs.Listed.{listed}
 -- THE TABLE (FORMAT 2.12 to 2.16).
 pub use Rattle.finding.specs.TablesHere.{table-in}
@@ -26,6 +28,13 @@ goals-in t = getD t goals-slot 0
 
 unfoldable pub whether-in : (s t : List ℕ) → ℕ
 whether-in s t = goals-in t + 1 + getD s (goals-in t) 0
+
+-- THE GUARDS, where the notes have a place of them (FORMAT 21.2).
+unfoldable pub guards-at : List ℕ → ℕ
+guards-at t = getD t guards-slot 0
+
+unfoldable pub guards-in : (s t : List ℕ) → List Entry
+guards-in s t = pick (eqb (guards-at t) 0) (λ _. []) (λ _. placed (guards-at t + 1) (listed s (guards-at t)))
 
 -- THE REQUEST.
 unfoldable pub request-in : (s t : List ℕ) → Request

@@ -8,14 +8,14 @@ use Rattle.meaning.specs.Limits.{format, all-literals}
 use Rattle.meaning.specs.Requests.{Table}
 use Rattle.meaning.specs.Lines.{knowledge-of}
 use Rattle.meaning.specs.States.{State, known, known-whether, unknown-from}
-use Rattle.meaning.specs.Walk.{Walked, stuck-at, walk, table-step, judged}
+use Rattle.meaning.specs.Walk.{Walked, stuck-at, Steps, meet, walk, judged, guarded-step}
 use Rattle.reading.specs.Noted.{item-place}
 use Rattle.finding.specs.Branches.{sequence-place, no-item}
 use Rattle.finding.specs.declared.places.Found as Code
 use Rattle.finding.specs.declared.places.Found.the-variants.{Nowhere, At}
 use Rattle.steps.specs.declared.goals.Asked.{Asked}
 use Rattle.steps.specs.declared.goals.Asked.the-variants.{Goal, Whether}
-use Rattle.steps.specs.Held.{table-in, plan-in, request-in}
+use Rattle.steps.specs.Held.{table-in, plan-in, guards-in, request-in}
 use Rattle.steps.specs.Rests.{rest-at, after-first, Position}
 
 -- The sensed fluents from f up that are unknown.
@@ -35,13 +35,21 @@ bound-as asked = elim asked [ Goal ↦ all-literals | Whether ↦ format .fluent
 unfoldable pub met-as : Asked → State → ℕ → Bool
 met-as asked = elim asked [ Goal ↦ known | Whether ↦ known-whether ]
 
+-- The step: with guards, where there are any.
+unfoldable pub step-in : (s t : List ℕ) → Steps State ℕ
+step-in s t = guarded-step (table-in s) (guards-in s t)
+
 -- The walk from a position of the plan on.
 unfoldable pub walk-from : (s t : List ℕ) → (at : ℕ) → State → Walked State
-walk-from s t at = walk (table-step (table-in s)) (rest-at (plan-in s t) at) (judged (request-in s t))
+walk-from s t at = walk (step-in s t) (rest-at (plan-in s t) at) (judged (request-in s t))
 
 -- What follows item i.
 unfoldable pub walk-after : (s t : List ℕ) → (i : ℕ) → State → Walked State
-walk-after s t i = walk (table-step (table-in s)) (after-first (rest-at (plan-in s t) i)) (judged (request-in s t))
+walk-after s t i = walk (step-in s t) (after-first (rest-at (plan-in s t) i)) (judged (request-in s t))
+
+-- The same from a state that is met there.
+abbrev pub met-from : (s t : List ℕ) → (at : ℕ) → State → Walked State
+met-from s t at = meet (step-in s t) (walk-from s t at)
 
 -- The position after item i.
 pub record Followed (s t : List ℕ) (i r : ℕ) : Type 0 where

@@ -4,7 +4,8 @@ ghost use Rattle.meaning.specs.Reading.{placed};
 ghost use Rattle.meaning.specs.Walk.{first-missed, missed-in};
 ghost use Rattle.finding.specs.Places.{found};
 ghost use Rattle.reading.specs.Listed.{listed, List-here};
-ghost use Rattle.steps.specs.Held.{request-in};
+ghost use Rattle.meaning.specs.States.{known};
+ghost use Rattle.steps.specs.Held.{guards-in, request-in};
 ghost use Rattle.steps.specs.AtHand.{At-hand, Marked};
 ghost use Rattle.steps.specs.Steps.{met-as, bound-as};
 use bytes::bytes::wide;
@@ -51,6 +52,19 @@ fn first_missed(asked: Asked, marks: &Marks, s: &[u8], p: usize) -> Found
         return Found::At(i);
     }
     Found::Nowhere
+}
+
+// The first guard that a state lacks. Where the notes have no place of guards there are none.
+pub fn lacking(s: &[u8], t: &Notes, marks: &Marks) -> Found
+    requires { ⌜ At-hand (now s) (now t) ⌝ }
+    requires { ⌜ Marked (now marks) ⌝ }
+    ensures { λ r. ⌜ r ≡ found (first-missed (known (now (marks .entry))) (guards-in (now (s .entry)) (now (t .entry)))) ⌝ }
+{
+    let guards = get(t, notes::GUARDS);
+    if guards == 0 {
+        return Found::Nowhere;
+    }
+    first_missed(Asked::Goal, marks, s, guards)
 }
 
 // The first goal or whether entry that an end state misses.

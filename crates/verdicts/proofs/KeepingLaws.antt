@@ -6,11 +6,11 @@ use mathlib.Core.List.{List, [], _∷_}
 use mathlib.Core.Logic.{inl, inr}
 use Rattle.meaning.specs.Tests.{Has}
 use Rattle.meaning.specs.Literals.{says-true, says-false}
-use Rattle.meaning.specs.Requests.{Table, Request}
+use Rattle.meaning.specs.Requests.{Table, Entry, Request}
 use Rattle.meaning.specs.States.{State, told, state-after, unknown-sensed, readings, outcome}
-use Rattle.meaning.specs.Walk.{Concerned, no-state, in-state, End, fine, missed, stopped, Walked, walked}
+use Rattle.meaning.specs.Walk.{Concerned, no-state, in-state, End, fine, missed, stopped, Walked, walked-guarded}
 use Rattle.meaning.proofs.PickLaws.{pick-has}
-use Rattle.meaning.proofs.KeptEnds.{on-places, Outcome-has, End-so, walked-so}
+use Rattle.meaning.proofs.KeptEnds.{on-places, Outcome-has, End-so, walked-guarded-so}
 
 module _ (P : State → Type 0) where
   -- ENDS: each state in them.
@@ -43,9 +43,9 @@ module _ (P : State → Type 0) where
   abbrev pub Keeps : (State → Walked State) → Type 0
   Keeps k = (s : State) → P s → End-has (k s .end)
 
-  pub walked-kept : (r : Request) → Kept-by (r .table) → Keeps (walked r)
-  walked-kept r kept =
-      walked-so _ _ P (λ _. Unit {0}) (λ s has p _. has) r (outcome-kept (r .table) kept) (λ s has p _. has) (on-places (λ _. Unit {0}) (λ _. tt) (r .plan))
+  pub walked-kept : (r : Request) (gs : List Entry) → Kept-by (r .table) → Keeps (walked-guarded r gs)
+  walked-kept r gs kept =
+      walked-guarded-so _ _ P (λ _. Unit {0}) (λ s has p _. has) r gs (outcome-kept (r .table) kept) (λ s has p _. has) (λ s has p _. has) (on-places (λ _. Unit {0}) (λ _. tt) (r .plan))
 
 -- An end that has the one and the other has both.
 pub end-both : (P Q : State → Type 0) (e : End State) → End-has P e → End-has Q e → End-has (λ (s : State). P s × Q s) e

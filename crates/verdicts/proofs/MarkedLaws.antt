@@ -1,10 +1,11 @@
 -- A walk from a state of marks 0, 1 and 2 ends in such a state, wherever it misses or stops: what sets a mark sets one of the three, and a
 -- walk keeps what its steps keep. Assumes nothing.
+use mathlib.Core.List.{List}
 use Rattle.meaning.specs.Limits.{format}
 use Rattle.meaning.specs.Literals.{says-true, says-false}
-use Rattle.meaning.specs.Requests.{Table, Request}
+use Rattle.meaning.specs.Requests.{Table, Entry, Request}
 use Rattle.meaning.specs.States.{State, first-state}
-use Rattle.meaning.specs.Walk.{End, walked}
+use Rattle.meaning.specs.Walk.{End, walked-guarded}
 use Rattle.steps.specs.AtHand.{Marked}
 use Rattle.steps.proofs.LookLaws.{marked-after}
 use Rattle.steps.proofs.ToldMarks.{told-marked, state-marked}
@@ -25,5 +26,5 @@ table-marked t = record {
   acts = λ a s marked. marked-after t a s marked;
 }
 
-pub walked-marked : (r : Request) → Keeps Marked (walked r)
-walked-marked r = walked-kept Marked r (table-marked (r .table))
+pub walked-marked : (r : Request) (gs : List Entry) → Keeps Marked (walked-guarded r gs)
+walked-marked r gs = walked-kept Marked r gs (table-marked (r .table))

@@ -4,7 +4,7 @@ use Prim.Native.Nat.{ℕ, suc, _+_, _-_, _*_, _≤_, _<_}
 use native.Mathlib.Omega.{arith}
 use mathlib.Core.Path.{_≡_, refl, sym, _∙_, ap, subst}
 use mathlib.Core.Bool.{Bool, true, false}
-use mathlib.Core.List.{List, [], _∷_, _++_, append-assoc}
+use mathlib.Core.List.{List, [], _∷_, _++_, append-assoc, append-nil}
 use lib.ListN.{length, length-append, getD, set, length-set, take, replicate}
 use lib.Seq.{take-all, length-take-le, take-at, sets-eq, length-sets}
 use lib.Dec.{ltb}
@@ -14,18 +14,20 @@ use borrow.Author.Tests.{eq-eqb, ne-eqb, lt-ltb, le-ltb}
 use Rattle.meaning.specs.declared.Answer.{Answer}
 use Rattle.meaning.specs.Limits
 use Rattle.meaning.specs.Limits.{format}
-use Rattle.meaning.specs.Requests.{Table, Request}
+use Rattle.meaning.specs.Requests.{Table, Entry, Request}
 use Rattle.meaning.specs.Reading.{Got, got, fault, next, Met, repeated, count-at, table-at, request-at}
 use Rattle.meaning.specs.Refusals
 use Rattle.meaning.specs.Refusals.{nowhere, at, contradiction-in, overlap-in, refuse}
 use Rattle.meaning.specs.States.{State, first-state}
-use Rattle.meaning.specs.Walk.{End, fine, missed, stopped, Walked, walked}
-use Rattle.meaning.specs.Judging.{Judgement, reported, ended, within, judge-settled}
+use Rattle.meaning.specs.Walk.{Walked, walked-guarded}
+use Rattle.meaning.specs.Judging.{Judgement, within, judge-settled}
 use Rattle.meaning.specs.Releases.{Opening, opening, plans-at, byte-after, plan-answer, unreached, after-plan, answers-at, in-row, rows, settled-plans, own-answer, released, release-opened, release, plans-of, plans-in}
 use Rattle.meaning.specs.Tests.{pick}
-use Rattle.meaning.proofs.TestLaws.{pick-true, pick-false}
+use Rattle.meaning.proofs.TestLaws.{clash, pick-true, pick-false}
 use Rattle.meaning.proofs.SettledLaws.{got-same, next-got, refuse-got}
 use Rattle.meaning.proofs.RangeLaws.{got-place, count-within}
+use Rattle.meaning.proofs.VerifiedLaws.{within-unread}
+use Rattle.meaning.proofs.GuardedEmpty.{walked-unguarded}
 use Rattle.meaning.proofs.ReleaseLaws.{Opened, opened, answer-placed, plan-inside, table-below}
 use Rattle.bytes.specs.declared.bytes.Read.{Read}
 use Rattle.bytes.specs.declared.bytes.Read.the-variants.{Value, Fault}
@@ -50,10 +52,10 @@ use Rattle.finding.proofs.StartLaws.{table-starts}
 use Rattle.refusing.specs.Settled.{table-settled}
 use Rattle.refusing.specs.Refusal18.{Overlap-found}
 use Rattle.refusing.proofs.SettleLaws.{behind-table}
-use Rattle.steps.specs.Held.{plan-in, request-in}
+use Rattle.steps.specs.Held.{plan-in, guards-in, request-in}
 use Rattle.steps.specs.AtHand.{At-hand}
 use Rattle.steps.proofs.HandLaws.{items-are}
-use Rattle.steps.proofs.JustRead.{plan-at-hand, plan-request}
+use Rattle.steps.proofs.JustRead.{plan-at-hand, plan-request, plan-unguarded}
 use Rattle.verdicts.specs.Releasing.{opening-noted, Opened-here, Counted, with-answer, with-unreached, past-table}
 
 -- Notes that hold nothing, as the code makes them.
@@ -293,21 +295,6 @@ module _ (s : List ℕ) (n m : ℕ) (counted : Counted s n m) (plans start left 
     seeking-none over = sym (ap found (all-read ∙ pick-false _ _ _ (le-ltb _ _ over)))
 
 -- ONE PLAN at hand. The lent state does not matter to the answer.
-picked-answer : (b : Bool) (f g h k : Unit {0} → Judgement) → f tt .answer ≡ h tt .answer → g tt .answer ≡ k tt .answer → pick b f g .answer ≡ pick b h k .answer
-unfolding pick
-picked-answer true f g h k first second = first
-picked-answer false f g h k first second = second
-
-ended-answer : (one other : List ℕ) (c : ℕ) (e : End State) → ended one c e .answer ≡ ended other c e .answer
-unfolding ended reported
-ended-answer one other c fine = refl
-ended-answer one other c (missed p s) = refl
-ended-answer one other c (stopped n p u) = refl
-
-within-answer : (one other : List ℕ) (budget : ℕ) (w : Walked State) → within one budget w .answer ≡ within other budget w .answer
-unfolding within
-within-answer one other budget w = picked-answer (ltb budget (w .count)) _ _ _ _ refl (ended-answer one other (w .count) (w .end))
-
 module _ (s t : List ℕ) (here : At-hand s t) (items : ℕ) (is : items ≡ getD t items-slot 0) where
   counts-items : items-of (plan-in s t) ≡ items
   counts-items = sym (is ∙ items-are s t here)
@@ -323,12 +310,14 @@ module _ (s t : List ℕ) (here : At-hand s t) (items : ℕ) (is : items ≡ get
     unfolding plan-answer judge-settled next refuse request-in
     plan-18 p met a said = said ∙ sym (ap (λ (g : Refusals.Found). judge-settled format [] budget (refuse 18 g (λ _. got (request-in s t) 0)) .answer) (found-at (overlap-in (plan-in s t)) f overlap-is p met))
 
-    pub plan-walked : f ≡ Nowhere → (lent left : List ℕ) (a : Answer) → record { answer = a; state = left } ≡ within lent budget (walked (request-in s t) (first-state format (table-in s)))
-        → a ≡ plan-answer format budget (got (request-in s t) 0)
+    pub plan-walked : f ≡ Nowhere → (lent left : List ℕ) (a : Answer) → record { answer = a; state = left } ≡ within lent budget (walked-guarded (request-in s t) (guards-in s t) (first-state format (table-in s)))
+        → guards-in s t ≡ [] → a ≡ plan-answer format budget (got (request-in s t) 0)
     unfolding plan-answer judge-settled next refuse request-in
-    plan-walked none lent left a walks =
+    plan-walked none lent left a walks unguarded =
         ap (λ (j : Judgement). j .answer) walks
-        ∙ within-answer lent [] budget (walked (request-in s t) (first-state format (table-in s)))
+        ∙ within-unread lent [] budget (walked-guarded (request-in s t) (guards-in s t) (first-state format (table-in s)))
+        ∙ ap (λ (gs : List Entry). within [] budget (walked-guarded (request-in s t) gs (first-state format (table-in s))) .answer) unguarded
+        ∙ ap (λ (w : Walked State). within [] budget w .answer) (walked-unguarded (request-in s t) (first-state format (table-in s)))
         ∙ sym (ap (λ (g : Refusals.Found). judge-settled format [] budget (refuse 18 g (λ _. got (request-in s t) 0)) .answer) (found-none (overlap-in (plan-in s t)) f overlap-is none))
 
 -- THE ROW, from the left.
@@ -368,10 +357,6 @@ put-next : (row : List ℕ) (k : ℕ) (a : Answer) (rest : List Answer) → 4 * 
 unfolding rows
 put-next row k a rest room = sym (append-assoc (take (4 * k) row) (in-row a) (rows rest)) ∙ ap (λ (xs : List ℕ). xs ++ rows rest) (sym (put-there row k a room))
 
-append-none : (xs : List ℕ) → xs ++ [] ≡ xs
-append-none [] = refl
-append-none (x ∷ xs) = ap (λ (ys : List ℕ). x ∷ ys) (append-none xs)
-
 -- Plans that are not reached.
 pub record Leaving (all row : List ℕ) (plans i : ℕ) : Type 0 where
   pub few : i ≤ plans
@@ -403,7 +388,7 @@ module _ (all row : List ℕ) (plans i : ℕ) (leaves : Leaving all row plans i)
       let sized = leaves .sized in
       let few = leaves .few in
       let none : plans - i ≡ 0 = omega arith in
-      sym (leaves .so-far ∙ ap (λ (k : ℕ). take (4 * i) row ++ rows (replicate k unreached)) none ∙ append-none (take (4 * i) row) ∙ take-all (4 * i) row (omega arith))
+      sym (leaves .so-far ∙ ap (λ (k : ℕ). take (4 * i) row ++ rows (replicate k unreached)) none ∙ append-nil (take (4 * i) row) ∙ take-all (4 * i) row (omega arith))
 
 -- THE SECOND PASS.
 pub record Answering (s t row : List ℕ) (budget plans start k p : ℕ) : Type 0 where
@@ -454,10 +439,13 @@ module _ (s t row : List ℕ) (budget plans start k p : ℕ) (answers : Answerin
     y = plan-got s n m counted p t u r read e is
 
     pub answering-hand : contradiction-in (table-in s) ≡ nowhere → At-hand s u
-    answering-hand clean = subst (At-hand s) (sym (y .2)) (plan-at-hand s t (answers .here) p (y .0) e (y .1) clean)
+    answering-hand clean = subst (At-hand s) (sym (y .2)) (plan-at-hand s t (answers .here) 0 p (y .0) e (y .1) clean (λ some. clash (eq-eqb 0 0 refl) some))
+
+    pub answering-unguarded : guards-in s u ≡ []
+    answering-unguarded = ap (guards-in s) (y .2) ∙ plan-unguarded s t (answers .here) p (y .0) e (y .1)
 
     held-is : request-in s u ≡ y .0
-    held-is = ap (request-in s) (y .2) ∙ plan-request s t (answers .here) p (y .0) e (y .1)
+    held-is = ap (request-in s) (y .2) ∙ plan-request s t (answers .here) 0 p (y .0) e (y .1)
 
     module _ (a : Answer) (given : a ≡ plan-answer format budget (got (request-in s u) 0)) where
       answer-is : a ≡ plan-answer format budget (request-at format s (table-in s) p)
@@ -473,7 +461,7 @@ module _ (s t row : List ℕ) (budget plans start k p : ℕ) (answers : Answerin
       pub answering-next : (left : List ℕ) → left ≡ with-answer row k a → Answering s u left budget plans start (k + 1) e
       unfolding after-plan
       answering-next left written = record {
-        here = subst (Table-here s) (sym (y .2)) (table-stays s t (answers .here) p (y .0) e (y .1));
+        here = subst (Table-here s) (sym (y .2)) (table-stays s t (answers .here) 0 p (y .0) e (y .1));
         few = omega arith;
         inside = plan-inside format s (table-in s) budget (table-below format s (table-in s) (answers .here .table-end) (answers .here .table)) p (answers .inside) (y .0) e (y .1);
         sized = rw written (put-long row k a ∙ answers .sized);
@@ -523,4 +511,4 @@ module _ (s t row : List ℕ) (budget plans start k p : ℕ) (answers : Answerin
       let sized = answers .sized in
       let few = answers .few in
       let none : plans - k ≡ 0 = omega arith in
-      sym (answers .so-far ∙ ap (λ (i : ℕ). take (4 * k) row ++ rows (answers-at format s (table-in s) budget i p)) none ∙ append-none (take (4 * k) row) ∙ take-all (4 * k) row (omega arith))
+      sym (answers .so-far ∙ ap (λ (i : ℕ). take (4 * k) row ++ rows (answers-at format s (table-in s) budget i p)) none ∙ append-nil (take (4 * k) row) ∙ take-all (4 * k) row (omega arith))

@@ -5,21 +5,23 @@ use native.Mathlib.Omega.{arith}
 use mathlib.Core.Path.{_≡_, sym, _∙_, ap, subst}
 use mathlib.Core.Bool.{true, false}
 use mathlib.Core.List.{List}
+use mathlib.Core.Logic.{⊎-elim}
 use lib.ListN.{length, getD, drop}
 use lib.Dec.{eqb, ltb}
 use borrow.Author.Tests.{eqb-true, eqb-false, ltb-false}
 use Rattle.meaning.specs.declared.Answer.{Answer}
 use Rattle.meaning.specs.Limits.{format}
+use Rattle.meaning.specs.Requests.{Entry}
 use Rattle.meaning.specs.States.{State, state-of, first-state}
-use Rattle.meaning.specs.Walk.{End, fine, Walked, walked}
+use Rattle.meaning.specs.Walk.{End, fine, Walked, walked-guarded}
 use Rattle.meaning.specs.Judging.{ended, within}
 use Rattle.meaning.proofs.TestLaws.{by-test, pick-true, pick-false}
-use Rattle.meaning.proofs.KeptEnds.{Stuck, walked-stuck}
+use Rattle.meaning.proofs.KeptEnds.{Stuck-guarded, guarded-stuck}
 use Rattle.reading.specs.Noted.{items-slot}
 use Rattle.reading.specs.Listed.{listed}
-use Rattle.steps.specs.Held.{table-in, request-in}
+use Rattle.steps.specs.Held.{table-in, guards-in, request-in}
 use Rattle.steps.specs.AtHand.{At-hand, Marked}
-use Rattle.steps.specs.Steps.{walk-from}
+use Rattle.steps.specs.Steps.{met-from}
 use Rattle.walking.specs.Standing.{Standing, nothing, spent, so-far, spend, add, end-in, standing, Going, tally-slots}
 use Rattle.walking.proofs.StandingLaws.{stands-open, end-missed, end-stopped, sized-after}
 use Rattle.verdicts.specs.Telling.{start, told, Tallied}
@@ -85,42 +87,44 @@ module _ (budget : ℕ) (w : Walked State) where
         (λ f. subst End-marked (end-stopped tally sized some (eqb-false _ _ f)) marked)
 
     -- It holds 0, 1, or the number with which the walk stopped.
-    end-small : Stuck (end-in tally) → getD tally 0 0 < 256
-    end-small stuck =
+    end-small : (gs : List Entry) → Stuck-guarded gs (end-in tally) → getD tally 0 0 < 256
+    end-small gs stuck =
         by-test (eqb (getD tally 0 0) 0)
         (λ t. let none : getD tally 0 0 ≡ 0 = eqb-true _ _ t in omega (arith, none))
         (λ n.
         by-test (eqb (getD tally 0 0) 1)
         (λ t. let one : getD tally 0 0 ≡ 1 = eqb-true _ _ t in omega (arith, one))
-        (λ f. let two : getD tally 0 0 ≡ 2 = subst Stuck (end-stopped tally sized (eqb-false _ _ n) (eqb-false _ _ f)) stuck .0 in omega (arith, two)))
+        (λ f.
+        let stop = subst (Stuck-guarded gs) (end-stopped tally sized (eqb-false _ _ n) (eqb-false _ _ f)) stuck in
+        ⊎-elim (λ two. omega (arith, two)) (λ broken. let number = broken .0 in omega (arith, number)) (stop .2)))
 
-    tallied : End-marked (w .end) → Stuck (w .end) → Tallied tally budget
-    tallied marked stuck = record {
+    tallied : (gs : List Entry) → End-marked (w .end) → Stuck-guarded gs (w .end) → Tallied tally budget
+    tallied gs marked stuck = record {
       sized = sized;
       fewer = λ going. let left = left-same (within-is going) in omega (arith, left);
-      small = λ going. end-small (subst Stuck (sym (end-same (within-is going))) stuck);
+      small = λ going. end-small gs (subst (Stuck-guarded gs) (sym (end-same (within-is going))) stuck);
       marked = λ going some. end-state some (subst End-marked (sym (end-same (within-is going))) marked);
     }
 
 -- THE WALK of a request at hand, from its first state.
 module _ (s t : List ℕ) (here : At-hand s t) (items at : ℕ) (counted : items ≡ getD t items-slot 0) (starts : at ≡ start items)
     (marks : State) (is : marks ≡ state-of format (listed s 2)) (budget : ℕ) (before after : List ℕ)
-    (opens : standing before ≡ so-far budget fine) (going : Going before) (walks : standing after ≡ add (standing before) (walk-from s t at marks)) where
+    (opens : standing before ≡ so-far budget fine) (going : Going before) (walks : standing after ≡ add (standing before) (met-from s t at marks)) where
   whole : Walked State
-  whole = walked (request-in s t) (first-state format (table-in s))
+  whole = walked-guarded (request-in s t) (guards-in s t) (first-state format (table-in s))
 
   stands-so : standing after ≡ spend budget (λ e. e) whole
   unfolding add whole
-  stands-so = walks ∙ ap (λ (a : Standing). add a (walk-from s t at marks)) opens ∙ ap (spend budget (λ e. e)) (walks-first s t here items at counted starts marks is)
+  stands-so = walks ∙ ap (λ (a : Standing). add a (met-from s t at marks)) opens ∙ ap (spend budget (λ e. e)) (walks-first s t here items at counted starts marks is)
 
   pub plan-tallied : Tallied after budget
   unfolding whole first-state
   plan-tallied =
-      tallied budget whole after (sized-after before going (walk-from s t at marks) after walks) stands-so
-      (walked-marked (request-in s t) (first-state format (table-in s)) (first-marked (table-in s)))
-      (walked-stuck (request-in s t) (first-state format (table-in s)))
+      tallied budget whole after (sized-after before going (met-from s t at marks) after walks) stands-so (guards-in s t)
+      (walked-marked (request-in s t) (guards-in s t) (first-state format (table-in s)) (first-marked (table-in s)))
+      (guarded-stuck (guards-in s t) (request-in s t) (first-state format (table-in s)))
 
   pub plan-judged : (lent left : List ℕ) (answer : Answer) → record { answer = answer; state = left } ≡ told lent budget (standing after)
-      → record { answer = answer; state = left } ≡ within lent budget (walked (request-in s t) (first-state format (table-in s)))
+      → record { answer = answer; state = left } ≡ within lent budget (walked-guarded (request-in s t) (guards-in s t) (first-state format (table-in s)))
   unfolding whole
   plan-judged lent left answer says = says ∙ ap (told lent budget) stands-so ∙ told-within budget whole lent

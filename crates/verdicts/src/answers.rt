@@ -11,6 +11,8 @@ pub const STATE_LENGTH: u8 = 9;
 
 pub const NOT_REACHED: u8 = 22;
 
+pub const GUARD_BROKEN: u8 = 43;
+
 pub const NEITHER_INPUT: u8 = 0;
 
 pub const THE_REQUEST: u8 = 1;

@@ -2,6 +2,7 @@
 // the first is answered, since the row stays as lent where bytes follow the last of them (FORMAT 19.13).
 ghost use mathlib.Core.Path.{_≡_};
 ghost use Prim.Native.Nat.{_+_, _*_, _≤_, _<_};
+ghost use mathlib.Core.List.{[]};
 ghost use lib.ListN.{length};
 ghost use Rattle.meaning.specs.Limits.{format};
 ghost use Rattle.meaning.specs.Refusals.{nowhere, contradiction-in};
@@ -10,7 +11,7 @@ ghost use Rattle.meaning.specs.Releases.{plans-at, byte-after, plan-answer, ans
 ghost use Rattle.reading.specs.Planned.{outcome-met};
 ghost use Rattle.finding.specs.Places.{found};
 ghost use Rattle.finding.specs.TablesHere.{table-in, Table-here};
-ghost use Rattle.steps.specs.Held.{request-in};
+ghost use Rattle.steps.specs.Held.{guards-in, request-in};
 ghost use Rattle.steps.specs.AtHand.{At-hand};
 ghost use Rattle.verdicts.specs.Releasing.{opening-noted, Counted, Opened-here, with-answer, with-unreached, past-table};
 use super::answers;
@@ -31,7 +32,7 @@ use refusing::refusal_18::overlap;
 use refusing::settled::table_refused;
 
 // A row has four numbers for each plan.
-const ROW_NUMBERS: usize = 4;
+pub const ROW_NUMBERS: usize = 4;
 
 // An answer that counts nothing.
 fn uncounted(number: u8, input: u8, place: usize) -> Answer
@@ -86,6 +87,7 @@ fn byte_after(n: usize, m: usize, file: &[u8], plans: usize, start: usize) -> Fo
 // What the walk call answers of the plan at hand: 18, or how its walk ended. The state concerned is handed to nobody.
 fn answer_plan(file: &[u8], t: &Notes, budget: u32) -> Answer
     requires { ⌜ At-hand (now file) (now t) ⌝ }
+    requires { ⌜ guards-in (now file) (now t) ≡ [] ⌝ }
     ensures { λ r. ⌜ r ≡ plan-answer format budget (got (request-in (now (file .entry)) (now (t .entry))) 0) ⌝ }
 {
     let items = get(t, notes::ITEMS);

@@ -11,11 +11,11 @@ use lib.Dec.{ltb}
 use Rattle.meaning.specs.Limits.{format}
 use Rattle.meaning.specs.Literals.{says-true, says-false}
 use Rattle.meaning.specs.States.{State, told, readings}
-use Rattle.meaning.specs.Walk.{Walked, each-reading}
+use Rattle.meaning.specs.Walk.{Walked, each-reading, meet}
 use Rattle.steps.specs.Held.{table-in}
 use Rattle.steps.specs.AtHand.{Marked}
-use Rattle.steps.specs.Steps.{walk-from, walk-after, first-of, unknown-above, Followed}
-use Rattle.steps.proofs.OnwardLaws.{followed-walks}
+use Rattle.steps.specs.Steps.{step-in, walk-after, met-from, first-of, unknown-above, Followed}
+use Rattle.steps.proofs.OnwardLaws.{followed-met}
 use Rattle.steps.proofs.LookLaws.{first-marked, second-marked, told-true, told-false, unknown-after-set, unknown-first, unknown-first-above, unknown-no-first}
 use Rattle.walking.specs.Standing.{Standing, add, standing}
 use Rattle.walking.specs.Walks.{action-at, read-on, fork-from}
@@ -34,7 +34,7 @@ module _ (s t : List ℕ) (i f : ℕ) (marks : State) (small : f < format .fluen
       let first : unknown-above table a (set marks f 1) (f + 1) ≡ above = unknown-after-set table a marks f 1 in
       let second : unknown-above table a (set (set marks f 1) f 2) (f + 1) ≡ above = unknown-after-set table a (set marks f 1) f 2 ∙ first in
       let twice : set (set marks f 1) f 2 ≡ set marks f 2 = set-set marks f 1 2 in
-      add-then b (each-reading (readings above (told (says-true f) marks)) (walk-after s t i)) (λ _. each-reading (readings above (told (says-false f) marks)) (walk-after s t i))
+      add-then b (each-reading (readings above (told (says-true f) marks)) (meet (step-in s t) (walk-after s t i))) (λ _. each-reading (readings above (told (says-false f) marks)) (meet (step-in s t) (walk-after s t i)))
       ∙ rw (told-true f marks, told-false f marks, first, second, twice)
 
   module _ (p a : ℕ) (place : p ≡ getD t (0 + i) 0) (action : a ≡ getD s p 0) (g : ℕ) (next : g ≡ first-of (unknown-above (table-in s) a (set marks f 1) (f + 1))) where
@@ -60,10 +60,10 @@ module _ (s t : List ℕ) (i f : ℕ) (marks : State) (small : f < format .fluen
 
     -- There is none.
     walks : (m : State) → Marked m → g ≡ first-of (unknown-above (table-in s) (action-at s t i) m (f + 1)) → format .fluents ≤ g → (r : ℕ) → Followed s t i r
-        → walk-from s t r m ≡ read-on s t i (unknown-above (table-in s) (action-at s t i) m (f + 1)) m
+        → met-from s t r m ≡ read-on s t i (unknown-above (table-in s) (action-at s t i) m (f + 1)) m
     unfolding read-on readings each-reading
     walks m good is far r follows =
-        sym (followed-walks s t i r follows m) ∙ ap (λ (fs : List ℕ). each-reading (readings fs m) (walk-after s t i)) (sym (unknown-no-first (table-in s) (action-at s t i) m good (f + 1) g is far))
+        sym (followed-met s t i r follows m) ∙ ap (λ (fs : List ℕ). each-reading (readings fs m) (meet (step-in s t) (walk-after s t i))) (sym (unknown-no-first (table-in s) (action-at s t i) m good (f + 1) g is far))
 
     module _ (tally after : List ℕ) where
       -- The second reading is not tried where the walk has stopped or is spent with the first.
@@ -89,11 +89,11 @@ module _ (s t : List ℕ) (i f : ℕ) (marks : State) (small : f < format .fluen
             both-read (first ∙ ap (add (standing tally)) (forks (set marks f 1) (first-marked f marks small marked) first-next near)) last
             (second ∙ ap (add (standing after)) (forks (set (set marks f 1) f 2) (second-marked f marks small marked) second-next near))
 
-      module _ (far : format .fluents ≤ g) (r : ℕ) (follows : Followed s t i r) (first : standing after ≡ add (standing tally) (walk-from s t r (set marks f 1))) where
+      module _ (far : format .fluents ≤ g) (r : ℕ) (follows : Followed s t i r) (first : standing after ≡ add (standing tally) (met-from s t r (set marks f 1))) where
         pub last-stops : (on : Bool) → on ≡ ltb (getD after 0 0) 2 → on ≡ false → standing after ≡ add (standing tally) (fork-from s t i f marks)
         last-stops = stops (first ∙ ap (add (standing tally)) (walks (set marks f 1) (first-marked f marks small marked) first-next far r follows))
 
-        pub last-walks : (last : List ℕ) → standing last ≡ add (standing after) (walk-from s t r (set (set marks f 1) f 2)) → standing last ≡ add (standing tally) (fork-from s t i f marks)
+        pub last-walks : (last : List ℕ) → standing last ≡ add (standing after) (met-from s t r (set (set marks f 1) f 2)) → standing last ≡ add (standing tally) (fork-from s t i f marks)
         last-walks last second =
             both-read (first ∙ ap (add (standing tally)) (walks (set marks f 1) (first-marked f marks small marked) first-next far r follows)) last
             (second ∙ ap (add (standing after)) (walks (set (set marks f 1) f 2) (second-marked f marks small marked) second-next far r follows))

@@ -1,7 +1,7 @@
 -- The walk's arms: each is what the definition gives for the item met, by the standing that the tally held before. Assumes nothing.
 use Prim.Native.Nat.{ℕ, _+_, _≤_, _<_}
 use native.Mathlib.Omega.{arith}
-use mathlib.Core.Path.{_≡_, refl, sym, _∙_, ap}
+use mathlib.Core.Path.{_≡_, refl, sym, _∙_, ap, subst}
 use mathlib.Core.Bool.{Bool, true, false}
 use mathlib.Core.List.{List, _∷_}
 use lib.ListN.{length, getD}
@@ -14,22 +14,22 @@ use Rattle.meaning.specs.Requests.{Request}
 use Rattle.meaning.specs.Refusals
 use Rattle.meaning.specs.Refusals.{nowhere, at}
 use Rattle.meaning.specs.Lines.{sensing}
-use Rattle.meaning.specs.States.{State, can-be-run, state-after, unknown-sensed, readings, Outcome, outcome}
-use Rattle.meaning.specs.Walk.{in-state, fine, missed, Walked, stuck-at, counted, and-then, after-end, each-reading, Step, after-step, run-action, table-does, table-step, missed-in, end-of, judged}
-use Rattle.meaning.proofs.TestLaws.{pick-true, pick-false}
+use Rattle.meaning.specs.States.{State, known, can-be-run, state-after, unknown-sensed, readings, Outcome, outcome}
+use Rattle.meaning.specs.Walk.{in-state, fine, missed, Walked, stuck-at, counted, and-then, after-end, each-reading, Step, after-step, unless-broken, meet, run-action, table-does, first-missed, missed-in, end-of, judged, guarded-step}
+use Rattle.meaning.proofs.TestLaws.{clash, pick-true, pick-false}
 use Rattle.reading.specs.Planned.{items-of}
 use Rattle.reading.specs.Noted.{sensed}
 use Rattle.finding.specs.Places.{found}
 use Rattle.finding.specs.declared.places.Found.{Found}
 use Rattle.finding.specs.declared.places.Found.the-variants.{Nowhere, At}
 use Rattle.finding.proofs.FoundLaws.{found-none, found-at}
-use Rattle.steps.specs.Held.{table-in, plan-in, request-in}
+use Rattle.steps.specs.Held.{table-in, plan-in, guards-in, request-in}
 use Rattle.steps.specs.AtHand.{At-hand, Marked}
 use Rattle.steps.specs.Rests.{Position}
-use Rattle.steps.specs.Steps.{walk-from, walk-after, first-of, unknown-above, Followed, Chosen, going-on}
-use Rattle.steps.proofs.OnwardLaws.{end-judged, action-small, action-walked, followed-walks}
+use Rattle.steps.specs.Steps.{step-in, walk-from, walk-after, met-from, first-of, unknown-above, Followed, Chosen, going-on}
+use Rattle.steps.proofs.OnwardLaws.{end-judged, action-small, action-walked, followed-met}
 use Rattle.steps.proofs.LookLaws.{sensed-first, sensed-no-first}
-use Rattle.walking.specs.Standing.{Standing, so-far, add, one, standing, Going, end-by, tally-slots}
+use Rattle.walking.specs.Standing.{Standing, so-far, add, one, standing, Going, Breaks, end-by, tally-slots}
 use Rattle.walking.specs.Walks.{action-at, read-on, fork-from}
 use Rattle.walking.proofs.FallLaws.{action-there}
 use Rattle.walking.proofs.StandingLaws.{add-then, add-counted, add-over, add-stopped, sized-after, stands-fine, add-fine, add-kept}
@@ -41,8 +41,8 @@ going-again tally after w going is on says yes-on = record { sized = sized-after
 pub going-after-fork : (s t : List ℕ) (i f : ℕ) (marks : State) (tally after : List ℕ) → length tally ≡ tally-slots → getD tally 0 0 < 2 → standing after ≡ add (standing tally) (fork-from s t i f marks) → (on : Bool) → on ≡ ltb (getD after 0 0) 2 → on ≡ true → Going after
 going-after-fork s t i f marks tally after sized first = going-again tally after (fork-from s t i f marks) (record { sized = sized; on = first })
 
-pub going-after-walk : (s t : List ℕ) (q : ℕ) (marks : State) (tally after : List ℕ) → length tally ≡ tally-slots → getD tally 0 0 < 2 → standing after ≡ add (standing tally) (walk-from s t q marks) → (on : Bool) → on ≡ ltb (getD after 0 0) 2 → on ≡ true → Going after
-going-after-walk s t q marks tally after sized first = going-again tally after (walk-from s t q marks) (record { sized = sized; on = first })
+pub going-after-walk : (s t : List ℕ) (q : ℕ) (marks : State) (tally after : List ℕ) → length tally ≡ tally-slots → getD tally 0 0 < 2 → standing after ≡ add (standing tally) (met-from s t q marks) → (on : Bool) → on ≡ ltb (getD after 0 0) 2 → on ≡ true → Going after
+going-after-walk s t q marks tally after sized first = going-again tally after (met-from s t q marks) (record { sized = sized; on = first })
 
 pub going-after-one : (tally counts : List ℕ) → Going tally → standing counts ≡ add (standing tally) one → (on : Bool) → on ≡ ltb (getD counts 0 0) 2 → on ≡ true → Going counts
 going-after-one tally counts = going-again tally counts one
@@ -50,6 +50,38 @@ going-after-one tally counts = going-again tally counts one
 -- And where it doesn't, nothing more is added.
 pub over : (after : List ℕ) (on : Bool) → on ≡ ltb (getD after 0 0) 2 → on ≡ false → (w : Walked State) → standing after ≡ add (standing after) w
 over after on says no-more w = add-over after (λ h. let a = ltb-false (getD after 0 0) 2 (sym says ∙ no-more) in omega arith) w
+
+-- A STATE THAT IS MET.
+module _ (s t : List ℕ) (marks : State) (tally : List ℕ) (broken : Bool) (after : List ℕ) (looked : Breaks (step-in s t .lacks marks) marks tally broken after) where
+  -- It lacks no guard.
+  module _ (none : broken ≡ false) where
+    pub passed-going : Going tally → Going after
+    passed-going going = subst Going (sym (looked .passes none .1)) going
+
+    pub passed-lacks : step-in s t .lacks marks ≡ nowhere
+    passed-lacks = looked .passes none .0
+
+    pub passed-on : (k : State → Walked State) → add (standing tally) (meet (step-in s t) k marks) ≡ add (standing after) (k marks)
+    passed-on k =
+        ap (λ (f : Refusals.Found). add (standing tally) (unless-broken f marks (k marks))) passed-lacks
+        ∙ ap (λ (u : List ℕ). add (standing u) (k marks)) (sym (looked .passes none .1))
+
+  -- It lacks one.
+  pub broken-stops : broken ≡ true → Going tally → (k : State → Walked State) → standing after ≡ add (standing tally) (meet (step-in s t) k marks)
+  broken-stops some going k =
+      let is = looked .stops some in
+      is .2 ∙ add-stopped tally going Limits.guard-broken (is .0) (in-state marks)
+      ∙ ap (λ (f : Refusals.Found). add (standing tally) (unless-broken f marks (k marks))) (sym (is .1))
+
+-- What was found broken, as it is noted.
+module _ (s t : List ℕ) (marks : State) (tally : List ℕ) (f : Found) (answer : f ≡ found (first-missed (known marks) (guards-in s t))) where
+  pub breaks-noted : (p : ℕ) → f ≡ At p → (after : List ℕ) → standing after ≡ so-far (getD tally 2 0) (end-by Limits.guard-broken p marks) → Breaks (step-in s t .lacks marks) marks tally true after
+  unfolding step-in guarded-step end-by pick
+  breaks-noted p is after noted = record { stops = λ _. (p, found-at _ f answer p is, noted); passes = λ e. clash refl e }
+
+  pub breaks-none : f ≡ Nowhere → Breaks (step-in s t .lacks marks) marks tally false tally
+  unfolding step-in guarded-step
+  breaks-none is = record { stops = λ e. clash e refl; passes = λ _. (found-none _ f answer is, refl) }
 
 -- AN END STATE.
 module _ (tally counts : List ℕ) (going : Going tally) (one-more : standing counts ≡ add (standing tally) one) where
@@ -86,42 +118,42 @@ module _ (s t : List ℕ) (here : At-hand s t) (i : ℕ) (less : i < items-of (p
     (runs : Bool) (asked : runs ≡ can-be-run (table-in s) a state) where
   -- It can't be run.
   pub item-stuck : runs ≡ false → (after : List ℕ) → standing after ≡ so-far (getD tally 2 0) (end-by 2 p state) → standing after ≡ add (standing tally) (walk-from s t i state)
-  unfolding run-action after-step table-step table-does end-by pick
+  unfolding run-action after-step step-in guarded-step table-does end-by pick
   item-stuck no-run after noted =
       noted ∙ add-stopped tally going Limits.not-executable p (in-state state)
       ∙ ap (add (standing tally))
-      (sym (action-walked s t here i less p placed-there other a is-action state ∙ ap (λ (x : Step State). after-step p x (walk-after s t i)) (pick-false _ _ _ (sym asked ∙ no-run))))
+      (sym (action-walked s t here i less p placed-there other a is-action state ∙ ap (λ (x : Step State). after-step p x (meet (step-in s t) (walk-after s t i))) (pick-false _ _ _ (sym asked ∙ no-run))))
 
   module _ (can : runs ≡ true) (counts : List ℕ) (one-more : standing counts ≡ add (standing tally) one) where
     -- It is run and counted; then each reading is followed by what follows the action.
-    run-on : add (standing tally) (walk-from s t i state) ≡ add (standing counts) (each-reading (outcome (table-in s) a state) (walk-after s t i))
-    unfolding run-action after-step table-step table-does
+    run-on : add (standing tally) (walk-from s t i state) ≡ add (standing counts) (each-reading (outcome (table-in s) a state) (meet (step-in s t) (walk-after s t i)))
+    unfolding run-action after-step step-in guarded-step table-does
     run-on =
         ap (add (standing tally))
-        (action-walked s t here i less p placed-there other a is-action state ∙ ap (λ (x : Step State). after-step p x (walk-after s t i)) (pick-true _ _ _ (sym asked ∙ can)))
-        ∙ add-counted (standing tally) (each-reading (outcome (table-in s) a state) (walk-after s t i))
-        ∙ ap (λ (b : Standing). add b (each-reading (outcome (table-in s) a state) (walk-after s t i))) (sym one-more)
+        (action-walked s t here i less p placed-there other a is-action state ∙ ap (λ (x : Step State). after-step p x (meet (step-in s t) (walk-after s t i))) (pick-true _ _ _ (sym asked ∙ can)))
+        ∙ add-counted (standing tally) (each-reading (outcome (table-in s) a state) (meet (step-in s t) (walk-after s t i)))
+        ∙ ap (λ (b : Standing). add b (each-reading (outcome (table-in s) a state) (meet (step-in s t) (walk-after s t i)))) (sym one-more)
 
     module _ (on : Bool) (says : on ≡ ltb (getD counts 0 0) 2) where
       -- The budget was spent with it.
       pub run-spent : on ≡ false → standing counts ≡ add (standing tally) (walk-from s t i state)
-      run-spent no-more = over counts on says no-more (each-reading (outcome (table-in s) a state) (walk-after s t i)) ∙ sym run-on
+      run-spent no-more = over counts on says no-more (each-reading (outcome (table-in s) a state) (meet (step-in s t) (walk-after s t i))) ∙ sym run-on
 
     module _ (senses : Bool) (sensed : senses ≡ sensing (table-in s) a) where
       -- It moves the state.
       pub run-moves : senses ≡ false → (next : State) → next ≡ state-after (table-in s) a state → (r : ℕ) → Followed s t i r
-          → add (standing tally) (walk-from s t i state) ≡ add (standing counts) (walk-from s t r next)
+          → add (standing tally) (walk-from s t i state) ≡ add (standing counts) (met-from s t r next)
       unfolding outcome each-reading
       run-moves none next is r follows =
           run-on
-          ∙ ap (λ (o : Outcome State). add (standing counts) (each-reading o (walk-after s t i))) (pick-false _ _ _ (sym sensed ∙ none))
-          ∙ ap (λ (m : State). add (standing counts) (walk-after s t i m)) (sym is)
-          ∙ ap (add (standing counts)) (followed-walks s t i r follows next)
+          ∙ ap (λ (o : Outcome State). add (standing counts) (each-reading o (meet (step-in s t) (walk-after s t i)))) (pick-false _ _ _ (sym sensed ∙ none))
+          ∙ ap (λ (m : State). add (standing counts) (meet (step-in s t) (walk-after s t i) m)) (sym is)
+          ∙ ap (add (standing counts)) (followed-met s t i r follows next)
 
       module _ (marked : Marked state) (f : ℕ) (first : f ≡ first-of (unknown-sensed (table-in s) a state)) (some : senses ≡ true) where
         reads-on : add (standing tally) (walk-from s t i state) ≡ add (standing counts) (read-on s t i (unknown-sensed (table-in s) a state) state)
         unfolding outcome read-on
-        reads-on = run-on ∙ ap (λ (o : Outcome State). add (standing counts) (each-reading o (walk-after s t i))) (pick-true _ _ _ (sym sensed ∙ some))
+        reads-on = run-on ∙ ap (λ (o : Outcome State). add (standing counts) (each-reading o (meet (step-in s t) (walk-after s t i)))) (pick-true _ _ _ (sym sensed ∙ some))
 
         -- It forks a fluent.
         pub run-forks : f < format .fluents → (after : List ℕ) → standing after ≡ add (standing counts) (fork-from s t i f state) → standing after ≡ add (standing tally) (walk-from s t i state)
@@ -134,12 +166,12 @@ module _ (s t : List ℕ) (here : At-hand s t) (i : ℕ) (less : i < items-of (p
             ∙ sym reads-on
 
         -- It forks none.
-        pub run-sees : format .fluents ≤ f → (r : ℕ) → Followed s t i r → add (standing tally) (walk-from s t i state) ≡ add (standing counts) (walk-from s t r state)
+        pub run-sees : format .fluents ≤ f → (r : ℕ) → Followed s t i r → add (standing tally) (walk-from s t i state) ≡ add (standing counts) (met-from s t r state)
         unfolding read-on readings each-reading
         run-sees none r follows =
             reads-on
             ∙ ap (λ (fs : List ℕ). add (standing counts) (read-on s t i fs state)) (sensed-no-first (table-in s) a state marked f first none)
-            ∙ ap (add (standing counts)) (followed-walks s t i r follows state)
+            ∙ ap (add (standing counts)) (followed-met s t i r follows state)
 
 -- Its number is small.
 pub action-low : (s t : List ℕ) → At-hand s t → (i : ℕ) → i < items-of (plan-in s t) → (p : ℕ) → p ≡ getD t (0 + i) 0 → (getD s p 0 ≡ 255 → ⊥) → action-at s t i < format .actions
@@ -148,9 +180,10 @@ action-low s t here i less p place other = action-there s t i p (getD s p 0) pla
 
 -- A BRANCHING that is item i.
 module _ (s t : List ℕ) (i : ℕ) (marks : State) (f : Found) (chosen : Chosen s t i marks f) (tally : List ℕ) where
-  pub branch-taken : (q : ℕ) → f ≡ At q → (after : List ℕ) → standing after ≡ add (standing tally) (walk-from s t q marks) → standing after ≡ add (standing tally) (walk-from s t i marks)
+  pub branch-taken : step-in s t .lacks marks ≡ nowhere → (q : ℕ) → f ≡ At q → (after : List ℕ) → standing after ≡ add (standing tally) (met-from s t q marks) → standing after ≡ add (standing tally) (walk-from s t i marks)
   unfolding going-on
-  branch-taken q is after walked = walked ∙ ap (add (standing tally)) (sym (chosen .goes ∙ ap (going-on s t (getD t (0 + i) 0) marks) is))
+  branch-taken passed q is after walked =
+      walked ∙ ap (λ (g : Refusals.Found). add (standing tally) (unless-broken g marks (walk-from s t q marks))) passed ∙ ap (add (standing tally)) (sym (chosen .goes ∙ ap (going-on s t (getD t (0 + i) 0) marks) is))
 
   pub none-taken : Going tally → f ≡ Nowhere → (p : ℕ) → p ≡ getD t (0 + i) 0 → (after : List ℕ) → standing after ≡ so-far (getD tally 2 0) (end-by 2 p marks) → standing after ≡ add (standing tally) (walk-from s t i marks)
   unfolding going-on end-by pick
@@ -161,16 +194,20 @@ module _ (s t : List ℕ) (i : ℕ) (marks : State) (f : Found) (chosen : Chosen
 
 -- THE LOOP over the actions of a sequence: what is left to add from the position now is what was to be added from the first.
 pub record Walking (s t : List ℕ) (start : ℕ) (marks : State) (tally₀ tally : List ℕ) (i : ℕ) (state : State) : Type 0 where
+  pub here : At-hand s t
   pub position : Position (plan-in s t) i
   pub marked : Marked state
   pub going : Going tally
   pub later : start ≤ i
-  pub same : add (standing tally₀) (walk-from s t start marks) ≡ add (standing tally) (walk-from s t i state)
+  pub same : add (standing tally₀) (met-from s t start marks) ≡ add (standing tally) (met-from s t i state)
 
-pub walking-starts : (s t : List ℕ) (start : ℕ) (marks : State) (tally : List ℕ) → Position (plan-in s t) start → Marked marks → Going tally → Walking s t start marks tally tally start marks
-walking-starts s t start marks tally position marked going = record { position = position; marked = marked; going = going; later = omega arith; same = refl }
+pub walking-starts : (s t : List ℕ) (start : ℕ) (marks : State) (tally : List ℕ) → At-hand s t → Position (plan-in s t) start → Marked marks → Going tally → Walking s t start marks tally tally start marks
+walking-starts s t start marks tally here position marked going = record { here = here; position = position; marked = marked; going = going; later = omega arith; same = refl }
 
 module _ (s t : List ℕ) (start : ℕ) (marks : State) (tally₀ tally : List ℕ) (i : ℕ) (state : State) (now : Walking s t start marks tally₀ tally i state) where
+  pub walking-here : At-hand s t
+  walking-here = now .here
+
   pub walking-there : i < format .items → i < items-of (plan-in s t)
   walking-there less = now .position .there (λ e. omega arith)
 
@@ -183,25 +220,38 @@ module _ (s t : List ℕ) (start : ℕ) (marks : State) (tally₀ tally : List �
   pub walking-going : Going tally
   walking-going = now .going
 
-  pub walking-counted : (counts : List ℕ) → standing counts ≡ add (standing tally) one → (on : Bool) → on ≡ ltb (getD counts 0 0) 2 → on ≡ true → Going counts
-  walking-counted counts = going-again tally counts one (now .going)
-
   pub walking-later : start ≤ i
   walking-later = now .later
 
-  -- One of the walk's ends.
-  pub walking-ends : (after : List ℕ) → standing after ≡ add (standing tally) (walk-from s t i state) → standing after ≡ add (standing tally₀) (walk-from s t start marks)
-  walking-ends after is = is ∙ sym (now .same)
+  module _ (broken : Bool) (passed : List ℕ) (looked : Breaks (step-in s t .lacks state) state tally broken passed) where
+    -- The state lacks a guard.
+    pub walking-broken : broken ≡ true → standing passed ≡ add (standing tally₀) (met-from s t start marks)
+    walking-broken some = broken-stops s t state tally broken passed looked some (now .going) (walk-from s t i) ∙ sym (now .same)
 
-  pub walking-judged : At-hand s t → format .items ≤ i → (after : List ℕ) → standing after ≡ add (standing tally) (judged (request-in s t) state) → standing after ≡ add (standing tally₀) (walk-from s t start marks)
-  walking-judged here done after is =
-      let most = now .position .most in
-      let end : i ≡ (format .items) = omega arith in
-      walking-ends after (is ∙ ap (add (standing tally)) (sym (end-judged s t here state) ∙ ap (λ (j : ℕ). walk-from s t j state) (sym end)))
+    -- It lacks none.
+    module _ (none : broken ≡ false) where
+      pub walking-passed : Going passed
+      walking-passed = passed-going s t state tally broken passed looked none (now .going)
 
-  -- The next item.
-  pub walking-on : (after : List ℕ) → Going after → (next : State) → Marked next → (r : ℕ) → Followed s t i r → add (standing tally) (walk-from s t i state) ≡ add (standing after) (walk-from s t r next) → Walking s t start marks tally₀ after r next
-  walking-on after going next marked r follows is =
-      let before = now .later in
-      let beyond = follows .later in
-      record { position = follows .at; marked = marked; going = going; later = omega arith; same = now .same ∙ is }
+      pub walking-counted : (counts : List ℕ) → standing counts ≡ add (standing passed) one → (on : Bool) → on ≡ ltb (getD counts 0 0) 2 → on ≡ true → Going counts
+      walking-counted counts = going-again passed counts one walking-passed
+
+      left : add (standing tally₀) (met-from s t start marks) ≡ add (standing passed) (walk-from s t i state)
+      left = now .same ∙ passed-on s t state tally broken passed looked none (walk-from s t i)
+
+      -- One of the walk's ends.
+      pub walking-ends : (after : List ℕ) → standing after ≡ add (standing passed) (walk-from s t i state) → standing after ≡ add (standing tally₀) (met-from s t start marks)
+      walking-ends after is = is ∙ sym left
+
+      pub walking-judged : format .items ≤ i → (after : List ℕ) → standing after ≡ add (standing passed) (judged (request-in s t) state) → standing after ≡ add (standing tally₀) (met-from s t start marks)
+      walking-judged done after is =
+          let most = now .position .most in
+          let end : i ≡ (format .items) = omega arith in
+          walking-ends after (is ∙ ap (add (standing passed)) (sym (end-judged s t (now .here) state) ∙ ap (λ (j : ℕ). walk-from s t j state) (sym end)))
+
+      -- The next item.
+      pub walking-on : (after : List ℕ) → Going after → (next : State) → Marked next → (r : ℕ) → Followed s t i r → add (standing passed) (walk-from s t i state) ≡ add (standing after) (met-from s t r next) → Walking s t start marks tally₀ after r next
+      walking-on after going next marked r follows is =
+          let before = now .later in
+          let beyond = follows .later in
+          record { here = now .here; position = follows .at; marked = marked; going = going; later = omega arith; same = left ∙ is }

@@ -1,12 +1,14 @@
 -- How a walk stands within its budget, and what the walk of a part adds to that. The defined walk knows no budget; this ties the two.
 use Prim.Native.Nat.{ℕ, _+_, _-_, _≤_, _<_}
 use mathlib.Core.Path.{_≡_}
+use mathlib.Core.Bool.{Bool, true, false}
 use mathlib.Core.List.{List}
 use lib.ListN.{length, getD, drop}
 use lib.Dec.{eqb, ltb}
 use Rattle.meaning.specs.Tests.{pick}
 use Rattle.meaning.specs.Limits.{format}
 use Rattle.meaning.specs.Limits
+use Rattle.meaning.specs.Refusals.{Found, nowhere, at}
 use Rattle.meaning.specs.States.{State}
 use Rattle.meaning.specs.Walk.{in-state, End, fine, missed, stopped, Walked, keep-miss}
 
@@ -70,3 +72,8 @@ pub record Held (before : List ℕ) (place : ℕ) (marks after : List ℕ) : Typ
   pub placed : getD after 1 0 ≡ place
   pub left : getD after 2 0 ≡ getD before 2 0
   pub marked : drop 3 after ≡ marks
+
+-- A state is met, and this guard, if any, is found broken: that stops the walk, and else nothing changes.
+pub record Breaks (found : Found) (marks before : List ℕ) (broken : Bool) (after : List ℕ) : Type 0 where
+  pub stops : broken ≡ true → (p : ℕ) × (found ≡ at p) × (standing after ≡ so-far (getD before 2 0) (stopped Limits.guard-broken p (in-state marks)))
+  pub passes : broken ≡ false → (found ≡ nowhere) × (after ≡ before)

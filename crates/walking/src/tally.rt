@@ -20,6 +20,8 @@ pub const STUCK: u32 = 2;
 
 pub const SPENT: u32 = 3;
 
+pub const BROKEN: u32 = 43;
+
 // Nothing is walked yet.
 pub fn opened(budget: u32) -> Tally
     ensures stands { λ r. ⌜ standing r ≡ so-far budget fine ⌝ }

@@ -1,13 +1,14 @@
 ghost use mathlib.Core.Path.{_≡_};
 ghost use Prim.Native.Nat.{_<_};
 ghost use Rattle.meaning.specs.Limits.{format};
+ghost use Rattle.meaning.specs.Refusals.{nowhere};
 ghost use Rattle.meaning.specs.Walk.{judged};
 ghost use Rattle.reading.specs.Planned.{items-of};
 ghost use Rattle.steps.specs.Held.{plan-in, request-in};
 ghost use Rattle.steps.specs.AtHand.{At-hand, Marked};
 ghost use Rattle.steps.specs.Rests.{Position};
-ghost use Rattle.steps.specs.Steps.{walk-from};
-ghost use Rattle.walking.specs.Standing.{add, standing, Going};
+ghost use Rattle.steps.specs.Steps.{step-in, walk-from, met-from};
+ghost use Rattle.walking.specs.Standing.{add, standing, Going, Breaks};
 ghost use Rattle.walking.specs.Walks.{action-at, fork-from};
 use super::tally;
 use super::tally::Tally;
@@ -23,12 +24,29 @@ use reading::notes::Notes;
 use reading::notes::get;
 use steps::actions::can_be_run;
 use steps::actions::state_after;
+use steps::goals::lacking;
 use steps::goals::missed;
 use steps::onward::chosen;
 use steps::onward::follow;
 use steps::sensing::first_unknown;
 use steps::sensing::is_sensing;
 use steps::sensing::next_unknown;
+
+// A state that is met: whether it lacks a guard, which stops the walk.
+fn breaks(s: &[u8], t: &Notes, marks: &Marks, tally: &mut Tally) -> bool
+    requires { ⌜ At-hand (now s) (now t) ⌝ }
+    requires { ⌜ Marked (now marks) ⌝ }
+    requires { ⌜ Going (now tally) ⌝ }
+    ensures { λ r. ⌜ Breaks (step-in (now (s .entry)) (now (t .entry)) .lacks (now (marks .entry))) (now (marks .entry)) (now (tally .entry)) r (now (tally .exit)) ⌝ }
+{
+    match lacking(s, t, marks) {
+        Found::At(p) => {
+            note(tally, tally::BROKEN, p, marks);
+            true
+        }
+        Found::Nowhere => false,
+    }
+}
 
 // An end state is judged.
 fn judge_end(s: &[u8], t: &Notes, marks: &Marks, tally: &mut Tally)
@@ -51,17 +69,21 @@ fn judge_end(s: &[u8], t: &Notes, marks: &Marks, tally: &mut Tally)
     }
 }
 
-// The plan from a position on.
+// The plan from a position on, from a state that is met.
 pub fn walk(s: &[u8], t: &Notes, at: usize, marks: Marks, tally: &mut Tally)
     requires { ⌜ At-hand (now s) (now t) ⌝ }
     requires { ⌜ Position (plan-in (now s) (now t)) at ⌝ }
     requires { ⌜ Marked marks ⌝ }
     requires { ⌜ Going (now tally) ⌝ }
-    ensures { λ _. ⌜ standing (now (tally .exit)) ≡ add (standing (now (tally .entry))) (walk-from (now (s .entry)) (now (t .entry)) at marks) ⌝ }
+    ensures { λ _. ⌜ standing (now (tally .exit)) ≡ add (standing (now (tally .entry))) (met-from (now (s .entry)) (now (t .entry)) at marks) ⌝ }
 {
     let mut i = at;
     let mut state = marks;
     while i < limits::ITEMS {
+        let broken = breaks(s, t, &state, tally);
+        if broken {
+            return;
+        }
         let slot = notes::ITEM_PLACE + i;
         let p = get(t, slot);
         if s[p] == limits::BRANCHING_BYTE {
@@ -93,12 +115,17 @@ pub fn walk(s: &[u8], t: &Notes, at: usize, marks: Marks, tally: &mut Tally)
         note(tally, tally::STUCK, p, &state);
         return;
     }
+    let broken = breaks(s, t, &state, tally);
+    if broken {
+        return;
+    }
     judge_end(s, t, &state, tally);
 }
 
-// The branching that is item i.
+// The branching that is item i, in a state that lacks no guard.
 fn walk_branching(s: &[u8], t: &Notes, i: usize, marks: Marks, tally: &mut Tally)
     requires { ⌜ At-hand (now s) (now t) ⌝ }
+    requires { ⌜ step-in (now s) (now t) .lacks marks ≡ nowhere ⌝ }
     requires { ⌜ i < items-of (plan-in (now s) (now t)) ⌝ }
     requires { ⌜ action-at (now s) (now t) i ≡ 255 ⌝ }
     requires { ⌜ Marked marks ⌝ }

@@ -1,14 +1,16 @@
 //! Judges requests, or checks derivations, and says in words what the answer is, with the bytes at its place.
 //!
 //!     review judge [--line] [--budget N] REQUEST...           (100,000 unless told otherwise)
+//!     review judge-guarded [--budget N] REQUEST...
 //!     review check REQUEST DERIVATION [REQUEST DERIVATION]...
 //!     review check-whether REQUEST DERIVATION [REQUEST DERIVATION]...
 //!     review release [--budget N] FILE...
 //!
 //! `check` and `check-whether` do not walk the plan: a derivation may be accepted where every budget is spent. The second takes requests
 //! with whether entries too, and derivations in the closing layout. With `--line` a walk that an action stops also says which executability line
-//! of it was missing. `release` takes release files, each with many plans over one table, and has a line for each plan. The exit status is 0 where
-//! each plan is verified or each derivation accepted, 1 where some answer is another, and 2 where something can't be read or written.
+//! of it was missing. `judge-guarded` takes guarded requests, whose guards are to be known true all the way. `release` takes release files, each with
+//! many plans over one table, and has a line for each plan. The exit status is 0 where each plan is verified or each derivation accepted, 1 where some
+//! answer is another, and 2 where something can't be read or written.
 
 use std::env;
 use std::fs::File;
@@ -17,8 +19,9 @@ use std::process::ExitCode;
 
 use glintstring::{check, check_whether, show, Answer, Input, Judge, PlanAnswer, Released, DERIVATION_LIMIT, REQUEST_LIMIT};
 
-const USAGE: &str = "usage: review judge [--line] [--budget N] REQUEST... | review check REQUEST DERIVATION [REQUEST DERIVATION]... | \
-                     review check-whether REQUEST DERIVATION [REQUEST DERIVATION]... | review release [--budget N] FILE...";
+const USAGE: &str = "usage: review judge [--line] [--budget N] REQUEST... | review judge-guarded [--budget N] REQUEST... | \
+                     review check REQUEST DERIVATION [REQUEST DERIVATION]... | review check-whether REQUEST DERIVATION [REQUEST DERIVATION]... | \
+                     review release [--budget N] FILE...";
 const BUDGET: u32 = 100_000;
 
 /// How many bytes are printed of the part that an answer is about.
@@ -37,7 +40,7 @@ fn read(name: &str, limit: usize) -> Result<Vec<u8>, String> {
     Ok(bytes)
 }
 
-/// Prints the words, the numbers, the state of answers 1 and 2, and the bytes at the place.
+/// Prints the words, the numbers, the state of answers 1, 2 and 43, and the bytes at the place.
 fn print(name: &str, answer: Answer, request: &[u8], derivation: &[u8]) -> io::Result<()> {
     let mut out = io::stdout().lock();
     writeln!(out, "{name}: {}", answer.words())?;
@@ -84,6 +87,12 @@ fn judge_file(judge: &mut Judge, name: &str, budget: u32, lined: bool) -> Result
         print_line(&request, judged.line).map_err(|error| format!("standard output: {error}"))?;
     }
     Ok(told)
+}
+
+/// The same of a guarded request.
+fn judge_guarded_file(judge: &mut Judge, name: &str, budget: u32) -> Result<u8, String> {
+    let request = read(name, REQUEST_LIMIT)?;
+    tell(name, judge.judge_guarded(&request, budget), &request, &[])
 }
 
 fn print_plans(name: &str, plans: &[PlanAnswer]) -> io::Result<()> {
@@ -141,12 +150,16 @@ fn main() -> ExitCode {
         _ => (words, false),
     };
     let judge_all = |names: &[&str], budget| walk_all(names, |judge, name| judge_file(judge, name, budget, lined));
+    let guarded_all = |names: &[&str], budget| walk_all(names, |judge, name| judge_guarded_file(judge, name, budget));
     let release_all = |names: &[&str], budget| walk_all(names, |judge, name| release_file(judge, name, budget));
     let check_all = |call: Call, names: &[&str]| names.chunks_exact(2).map(|pair| status(check_files(call, pair[0], pair[1]))).max();
     let worst = match words[..] {
         ["judge", "--budget", budget, ref names @ ..] => budget.parse().ok().and_then(|budget| judge_all(names, budget)),
         ["judge", "--budget"] => None,
         ["judge", ref names @ ..] => judge_all(names, BUDGET),
+        ["judge-guarded", "--budget", budget, ref names @ ..] => budget.parse().ok().and_then(|budget| guarded_all(names, budget)),
+        ["judge-guarded", "--budget"] => None,
+        ["judge-guarded", ref names @ ..] => guarded_all(names, BUDGET),
         ["release", "--budget", budget, ref names @ ..] => budget.parse().ok().and_then(|budget| release_all(names, budget)),
         ["release", "--budget"] => None,
         ["release", ref names @ ..] => release_all(names, BUDGET),

@@ -2,15 +2,10 @@
 #ifndef FRAME_H
 #define FRAME_H
 
-#include <stddef.h>
 #include <stdint.h>
 
 /* The exported calls. */
-enum { JUDGE, JUDGE_LINE, CHECK, CHECK_WHETHER, SHOW, RELEASE, PLANS, CALLS };
-
-/* Those of release files. */
-uint64_t glintstring_release(const uint8_t *file, size_t file_length, uint32_t *row, size_t row_length, uint32_t budget);
-uint32_t glintstring_plans(const uint8_t *file, size_t file_length);
+enum { JUDGE, JUDGE_LINE, CHECK, CHECK_WHETHER, SHOW, RELEASE, PLANS, JUDGE_GUARDED, CALLS };
 
 /* What a call takes. The bytes of its first input follow, which is the request or the release file, and then those of its second: the lent
    state, the derivation, or the lent row, of which each number has four bytes.
@@ -20,7 +15,7 @@ struct frame {
     uint64_t answer; /* of the showing call */
     uint64_t request_length;
     uint64_t second_length;
-    uint32_t budget; /* of the walk call and the release call */
+    uint32_t budget; /* of the walk call, the guarded call and the release call */
     uint8_t call;
     uint8_t request_at;
     uint8_t second_at;
@@ -30,7 +25,7 @@ struct frame {
 /* What it may not change, and changed. */
 enum { NOTHING, REQUEST, AROUND_REQUEST, DERIVATION, AROUND_SECOND, AROUND_LINE };
 
-/* What it gave. After a walk call or a release call the lent bytes follow. */
+/* What it gave. After a walk call, a guarded call or a release call the lent bytes follow. */
 struct reply {
     uint64_t answer;
     uint32_t changed;

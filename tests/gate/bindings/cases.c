@@ -73,8 +73,8 @@ static int worded(void) {
     unsigned one, other;
     for (one = 0; one <= 300; one++)
         for (other = 0; other < one; other++) {
-            const int known = one <= 3 || (9 <= one && one <= 22) || (30 <= one && one <= 36);
-            const int known_too = other <= 3 || (9 <= other && other <= 22) || (30 <= other && other <= 36);
+            const int known = one <= 3 || (9 <= one && one <= 22) || (30 <= one && one <= 36) || one == 43;
+            const int known_too = other <= 3 || (9 <= other && other <= 22) || (30 <= other && other <= 36) || other == 43;
             if ((strcmp(glintstring_words(one), glintstring_words(other)) == 0) != (!known && !known_too)) return 0;
         }
     return strcmp(glintstring_words(GLINTSTRING_VERIFIED), "verified") == 0;
@@ -124,6 +124,30 @@ int main(void) {
     line = 7;
     if (!is(glintstring_judge_line(NULL, 0, NULL, 0, 4, &line), GLINTSTRING_STATE_LENGTH_WRONG, GLINTSTRING_NEITHER, 0, 0) || line != 0)
         return puts("bindings: 22"), 1;
+
+    /* File A guarded by "not hurt" is verified, and by "no new map" it is broken by the conversion, or before that the budget is spent; File A and
+       one byte 0 is File A; and each of the two calls takes the other's request for what it is not. */
+    memcpy(other, file_a, 48);
+    memcpy(other + 48, "\1\7", 2);
+    memset(state, 9, sizeof state);
+    if (!is(glintstring_judge_guarded(other, 50, state, sizeof state, 100000), GLINTSTRING_VERIFIED, GLINTSTRING_NEITHER, 0, 5) || !untouched())
+        return puts("bindings: 28"), 1;
+    memcpy(other + 48, "\2\5\7", 3);
+    if (!is(glintstring_judge_guarded(other, 51, state, sizeof state, 3), GLINTSTRING_BUDGET_SPENT, GLINTSTRING_NEITHER, 0, 3) || !untouched())
+        return puts("bindings: 29"), 1;
+    answer = glintstring_judge_guarded(other, 51, state, sizeof state, 4);
+    if (!is(answer, GLINTSTRING_GUARD_BROKEN, GLINTSTRING_REQUEST, 49, 4) || glintstring_show(answer, other, 51, NULL, 0) != 49 ||
+        !marked(GLINTSTRING_FALSE, GLINTSTRING_TRUE, GLINTSTRING_TRUE, GLINTSTRING_FALSE))
+        return puts("bindings: 30"), 1;
+    memset(state, 9, sizeof state);
+    if (!is(glintstring_judge(other, 51, state, sizeof state, 100000), GLINTSTRING_BYTES_LEFT_OVER, GLINTSTRING_REQUEST, 48, 0) ||
+        !is(glintstring_judge_guarded(other, 48, state, sizeof state, 100000), GLINTSTRING_INPUT_ENDS, GLINTSTRING_REQUEST, 48, 0) ||
+        !is(glintstring_judge_guarded(other, 51, state, 64, 100000), GLINTSTRING_STATE_LENGTH_WRONG, GLINTSTRING_NEITHER, 0, 0) || !untouched())
+        return puts("bindings: 31"), 1;
+    other[48] = 0;
+    if (!is(glintstring_judge_guarded(other, 49, state, sizeof state, 5), GLINTSTRING_VERIFIED, GLINTSTRING_NEITHER, 0, 5) ||
+        !is(glintstring_judge_guarded(other, 49, state, sizeof state, 4), GLINTSTRING_BUDGET_SPENT, GLINTSTRING_NEITHER, 0, 4) || !untouched())
+        return puts("bindings: 32"), 1;
 
     /* A release of four plans: File A's own, open unseen, an action that there is not, and one that is not reached. */
     memcpy(file, file_a, 29);
@@ -215,6 +239,6 @@ int main(void) {
     if (!worded())
         return puts("bindings: words"), 1;
 
-    puts("bindings: 32 calls as the format says, and what is shown of their answers");
+    puts("bindings: 41 calls as the format says, and what is shown of their answers");
     return 0;
 }

@@ -163,24 +163,30 @@ static int same_with_line(uint64_t answer, const uint8_t *bytes, size_t length, 
     return 1;
 }
 
-/* The walk call on these bytes, with count 0, and with lent states of every length: 9 for all but one, and 2 alone writes the state. */
-static int walks(const uint8_t *bytes, size_t length, unsigned number, unsigned place) {
+typedef uint64_t (*walk_call)(const uint8_t *, size_t, uint8_t *, size_t, uint32_t);
+
+/* The walk call or the guarded call on these bytes, with count 0, and with lent states of every length: 9 for all but one, and 2 or 43 alone writes
+   the state, in which nothing is known. */
+static int walks(walk_call call, const uint8_t *bytes, size_t length, unsigned number, unsigned place) {
     size_t lent, i;
     int at_end;
     for (lent = 0; lent <= STATES; lent++)
         for (at_end = 0; at_end <= 1; at_end++) {
-            const int written = number == GLINTSTRING_NOT_EXECUTABLE && lent == GLINTSTRING_STATE_LENGTH;
+            const int stops = number == GLINTSTRING_NOT_EXECUTABLE || number == GLINTSTRING_GUARD_BROKEN;
+            const int written = stops && lent == GLINTSTRING_STATE_LENGTH;
             uint8_t *state = at_end ? state_room + ROOM - lent : state_room;
             uint64_t answer;
             memset(state_room, LENT, ROOM);
-            answer = glintstring_judge(bytes, length, lent == 0 && at_end ? NULL : state, lent, 7);
+            answer = call(bytes, length, lent == 0 && at_end ? NULL : state, lent, 7);
             if (!(lent == GLINTSTRING_STATE_LENGTH ? is(answer, number, GLINTSTRING_REQUEST, place, 0)
                                                    : is(answer, GLINTSTRING_STATE_LENGTH_WRONG, GLINTSTRING_NEITHER, 0, 0)))
                 return printf("lengths: a request of %lu bytes, %lu lent\n", (unsigned long)length, (unsigned long)lent), 0;
-            if (written)
-                memset(state, LENT, lent);
-            if (!same_with_line(answer, bytes, length, lent == 0 && at_end ? NULL : state, lent, at_end))
-                return printf("lengths: with the line, a request of %lu bytes, %lu lent\n", (unsigned long)length, (unsigned long)lent), 0;
+            if (call == glintstring_judge) {
+                if (written)
+                    memset(state, LENT, lent);
+                if (!same_with_line(answer, bytes, length, lent == 0 && at_end ? NULL : state, lent, at_end))
+                    return printf("lengths: with the line, a request of %lu bytes, %lu lent\n", (unsigned long)length, (unsigned long)lent), 0;
+            }
             if (written) {
                 for (i = 0; i < lent; i++)
                     if (state[i] != GLINTSTRING_UNKNOWN) return printf("lengths: fluent %lu is known\n", (unsigned long)i), 0;
@@ -193,20 +199,37 @@ static int walks(const uint8_t *bytes, size_t length, unsigned number, unsigned 
     return 1;
 }
 
-static int judged(void) {
-    unsigned place = 0;
+/* What both calls are asked, with a request that has as many bytes as there may be and stops the walk by this number. */
+static int walked(walk_call call, const uint8_t *largest, unsigned number, unsigned place) {
     int at_end;
-    largest_request(request, &place);
     for (at_end = 0; at_end <= 1; at_end++) {
         const uint8_t zero = 0, one = 1;
-        if (!walks(put(request_room, &zero, 1, at_end), 1, GLINTSTRING_COUNT_NOT_WITHIN_LIMITS, 0) ||
-            !walks(put(request_room, &one, 1, at_end), 1, GLINTSTRING_INPUT_ENDS, 1) ||
-            !walks(put(request_room, request, GLINTSTRING_REQUEST_LIMIT, at_end), GLINTSTRING_REQUEST_LIMIT, GLINTSTRING_NOT_EXECUTABLE, place) ||
-            !walks(put(request_room, request, sizeof request, at_end), sizeof request, GLINTSTRING_TOO_LONG, 0))
+        if (!walks(call, put(request_room, &zero, 1, at_end), 1, GLINTSTRING_COUNT_NOT_WITHIN_LIMITS, 0) ||
+            !walks(call, put(request_room, &one, 1, at_end), 1, GLINTSTRING_INPUT_ENDS, 1) ||
+            !walks(call, put(request_room, largest, GLINTSTRING_REQUEST_LIMIT, at_end), GLINTSTRING_REQUEST_LIMIT, number, place) ||
+            !walks(call, put(request_room, largest, GLINTSTRING_REQUEST_LIMIT + 1, at_end), GLINTSTRING_REQUEST_LIMIT + 1, GLINTSTRING_TOO_LONG, 0))
             return 0;
     }
     /* No byte: null, and an address where nothing may be read. */
-    return walks(NULL, 0, GLINTSTRING_INPUT_ENDS, 0) && walks(request_room - 1, 0, GLINTSTRING_INPUT_ENDS, 0);
+    return walks(call, NULL, 0, GLINTSTRING_INPUT_ENDS, 0) && walks(call, request_room - 1, 0, GLINTSTRING_INPUT_ENDS, 0);
+}
+
+static int judged(void) {
+    unsigned place = 0;
+    largest_request(request, &place);
+    return walked(glintstring_judge, request, GLINTSTRING_NOT_EXECUTABLE, place);
+}
+
+/* The largest guarded request is the largest request with its last two actions left out, and a guard, which the first state lacks. */
+static int guarded(void) {
+    static uint8_t bytes[GLINTSTRING_REQUEST_LIMIT + 1];
+    unsigned place = 0;
+    largest_request(request, &place);
+    memcpy(bytes, request, GLINTSTRING_REQUEST_LIMIT);
+    bytes[place - 1] = (uint8_t)(bytes[place - 1] - 2);
+    bytes[GLINTSTRING_REQUEST_LIMIT - 2] = 1;
+    bytes[GLINTSTRING_REQUEST_LIMIT - 1] = 255;
+    return walked(glintstring_judge_guarded, bytes, GLINTSTRING_GUARD_BROKEN, GLINTSTRING_REQUEST_LIMIT - 1);
 }
 
 typedef uint64_t (*derivation_call)(const uint8_t *, size_t, const uint8_t *, size_t);
@@ -324,7 +347,7 @@ int main(void) {
     derivation_room = stretch();
     state_room = stretch();
     line_room = stretch();
-    if (!request_room || !derivation_room || !state_room || !line_room || !judged() || !checked(glintstring_check, 0) ||
+    if (!request_room || !derivation_room || !state_room || !line_room || !judged() || !guarded() || !checked(glintstring_check, 0) ||
         !checked(glintstring_check_whether, 1) || !released() || !shown())
         return 1;
     printf("lengths: %lu calls at the ends of their lengths, lent states of 0 to %d bytes and rows of 0 to %d numbers\n", calls, STATES, ROWS);

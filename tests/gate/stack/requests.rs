@@ -1,7 +1,8 @@
 //! The requests on which the walk goes deepest, and some beside them: writes each into the folder given, and prints a line for each, with
 //! the file's name, the budget, the number of items and what the request is. Beside them derivations, and lists of these (`derivations`, and
-//! `whether` for the closing layout), with the request's file, the derivation's, its number of lines and what it is; and release files, and a
-//! list of these (`releases`), with the file's name, the budget, the number of plans and what it is.
+//! `whether` for the closing layout), with the request's file, the derivation's, its number of lines and what it is; release files, and a
+//! list of these (`releases`), with the file's name, the budget, the number of plans and what it is; and guarded requests, and a list of these
+//! (`guarded`), with the file's name, the budget, the number of guards and what it is.
 
 use std::{env, fs};
 
@@ -90,12 +91,25 @@ enum Goals {
 
 /// The whole request.
 fn request(forgets: Forgets, goals: Goals, plan: &[Item]) -> Vec<u8> {
+    request_keeping(0, forgets, goals, plan)
+}
+
+/// One with so many guards: of the fluents before the last so many are true, and nothing changes them.
+fn guarded(guards: u8, forgets: Forgets, goals: Goals, plan: &[Item]) -> Vec<u8> {
+    let bytes = [request_keeping(guards, forgets, goals, plan), section((LAST - guards..LAST).map(|f| [2 * f]))].concat();
+    assert!(bytes.len() <= 16384, "beyond the limits");
+    bytes
+}
+
+/// The request in which so many fluents are kept.
+fn request_keeping(kept: u8, forgets: Forgets, goals: Goals, plan: &[Item]) -> Vec<u8> {
+    let changed = LAST - kept;
     let made_false = |action, count| (0..count).map(move |f| vec![action, 2 * f + 1, 1, 2 * LAST]);
-    let made_true = (0..LAST).map(|f| vec![FORGET, 2 * f, 1, 2 * LAST + 1]);
-    let work = (0..LAST).map(|f| vec![WORK, 2 * f + 1, 1, 2 * f + 2]);
+    let made_true = (0..changed).map(|f| vec![FORGET, 2 * f, 1, 2 * LAST + 1]);
+    let work = (0..changed).map(|f| vec![WORK, 2 * f + 1, 1, 2 * f + 2]);
     let made_true = made_true.filter(|_| matches!(forgets, Forgets::Known));
     let used = |action: u8| actions(plan) >> action & 1 == 1;
-    let effects = made_false(FORGET, LAST).chain(made_true).chain(made_false(FORGET_SOME, SOME)).chain(work);
+    let effects = made_false(FORGET, changed).chain(made_true).chain(made_false(FORGET_SOME, SOME)).chain(work);
     let effects = section(effects.filter(|line| used(line[0])));
     let runs = section((0..ACTIONS).filter(|&action| used(action) && action != NEVER).map(|action| [action, 0]));
     let looks = [(LOOK, LAST), (LOOK_AT_ALL, FLUENTS), (LOOK_AT_HALF, FLUENTS / 2), (LOOK_AT_ONE, 1), (LOOK_AT_SOME, SOME)];
@@ -105,7 +119,8 @@ fn request(forgets: Forgets, goals: Goals, plan: &[Item]) -> Vec<u8> {
         Goals::None => vec![0, 0],
         Goals::All => [section((0..FLUENTS).map(|f| [2 * f])), section((0..FLUENTS).map(|f| [f]))].concat(),
     };
-    let bytes = [vec![FLUENTS, ACTIONS, 0], effects, runs, knowledge, sequence(plan), wanted].concat();
+    let facts = section((changed..LAST).map(|f| [2 * f]));
+    let bytes = [vec![FLUENTS, ACTIONS], facts, effects, runs, knowledge, sequence(plan), wanted].concat();
     assert!(size(plan) <= 1024 && bytes.len() <= 16384, "beyond the limits");
     bytes
 }
@@ -187,6 +202,9 @@ fn derivations(folder: &str) {
 /// A request: what it is, the budget, and what it is made of.
 type Deep = (&'static str, u32, Forgets, Goals, Vec<Item>);
 
+/// Guards that a request may have.
+const MOST_GUARDS: u8 = 64;
+
 /// A plan without items, goals and whether entries.
 const EMPTY: [u8; 4] = [0; 4];
 
@@ -198,6 +216,19 @@ fn release(request: &[u8], plan: &[Item], goals: Goals, before: usize) -> Vec<u8
     };
     let (table, plan) = request.split_at(request.len() - plan_length);
     [table, &[before as u8 + 1], &EMPTY.repeat(before), plan].concat()
+}
+
+/// The deepest requests with guards: none, one, or as many as there can be.
+fn guarded_requests(folder: &str, requests: &[Deep], short: &Deep) {
+    let mut lines = String::new();
+    let all = requests.iter().flat_map(|deep| [0, 1, MOST_GUARDS].map(|guards| (guards, deep))).chain([(0, short)]);
+    for (number, (guards, (name, budget, forgets, goals, plan))) in all.enumerate() {
+        let file = format!("{number}.guarded");
+        fs::write(format!("{folder}/{file}"), guarded(guards, *forgets, *goals, plan)).expect("a file written");
+        let less = if guards == 0 { "no guards".to_string() } else { format!("but for {guards} guarded") };
+        lines += &format!("{file} {budget} {guards} {name}, {less}\n");
+    }
+    fs::write(format!("{folder}/guarded"), lines).expect("a file written");
 }
 
 /// Release files in which the deepest plans are the only one, or the last of 64 where the file need not be short.
@@ -256,6 +287,7 @@ fn main() {
         ("no item", SOON, Forgets::Known, Goals::All, vec![]),
     ];
     let short_file = ("84 looked at, forgotten, in 1,023 bytes", SOON, Forgets::True, Goals::None, short(left));
+    guarded_requests(&folder, &requests[..5], &short_file);
     releases(&folder, &[&requests[..5], &[short_file]].concat());
     for (number, (name, budget, forgets, goals, plan)) in requests.into_iter().enumerate() {
         let file = format!("{number}.request");

@@ -8,7 +8,7 @@ use crate::model::{Line, Request};
 use crate::prove::{free, many_readings, natural, pad};
 use crate::reader::{DERIVATION_LIMIT, LINE_LIMIT, REQUEST_LIMIT};
 use crate::rng::Rng;
-use crate::walk::{walk, Verdict};
+use crate::walk::walk;
 use crate::STATE_LENGTH;
 
 /// Counts above this aren't walked to their end.
@@ -121,17 +121,21 @@ fn within_limit(rng: &mut Rng, source: fn(&mut Rng) -> Request) -> Request {
 }
 
 /// A lent state full of anything.
-fn lent_state(rng: &mut Rng) -> Vec<u8> {
+pub(crate) fn lent_state(rng: &mut Rng) -> Vec<u8> {
     (0..STATE_LENGTH).map(|_| rng.byte(0, 255)).collect()
 }
 
 /// A budget below, at, just above or far above the walk's count.
 fn budget(rng: &mut Rng, draft: &Request) -> u32 {
-    let count = match walk(draft, COUNT_CAP) {
-        Verdict::Over => return *rng.pick(&[0, 7, 1_000, COUNT_CAP]),
-        Verdict::Verified { count } => count as u32,
-        Verdict::Missed { count, .. } | Verdict::Stuck { count, .. } => count as u32,
+    budget_near(rng, walk(draft, COUNT_CAP).count())
+}
+
+/// The same by the count, or by none where it is too large.
+pub(crate) fn budget_near(rng: &mut Rng, count: Option<u64>) -> u32 {
+    let Some(count) = count else {
+        return *rng.pick(&[0, 7, 1_000, COUNT_CAP]);
     };
+    let count = count as u32;
     match rng.below(100) {
         0..=11 => count.saturating_sub(1),
         12..=21 => rng.below(count as usize + 1) as u32,

@@ -1,6 +1,6 @@
-//! Writing requests, release files and derivations as bytes, with a mark on each byte that damage may aim at.
+//! Writing requests, guarded requests, release files and derivations as bytes, with a mark on each byte that damage may aim at.
 
-use crate::model::{Conclusion, Item, Line, Proof, ProofLine, Request};
+use crate::model::{Conclusion, Guarded, Item, Line, Proof, ProofLine, Request};
 use crate::reader::BRANCHING;
 
 /// What a byte, or the first byte of two, stands for.
@@ -45,6 +45,13 @@ pub fn encode_request(request: &Request) -> Encoded {
     let mut out = Encoded::default();
     out.table(request);
     out.asked(request);
+    out
+}
+
+/// Writes a guarded request: a request, and then its guards.
+pub fn encode_guarded(guarded: &Guarded) -> Encoded {
+    let mut out = encode_request(&guarded.request);
+    out.list(Kind::Literal, &guarded.guards);
     out
 }
 

@@ -12,6 +12,7 @@ pub mod encode;
 pub mod examples;
 pub mod forge;
 pub mod generate;
+pub mod guards;
 pub mod model;
 pub mod paths;
 pub mod prove;
@@ -29,6 +30,7 @@ pub mod whether;
 pub mod worlds;
 
 pub use answer::Answer;
+pub use guards::call::{judge_guarded, judge_guarded_line};
 pub use releases::call::{plans, release};
 
 use answer::{Fault, DERIVATION, NEITHER, REQUEST};

@@ -6,20 +6,23 @@ use std::process::ExitCode;
 use std::{env, fs};
 
 use oracle::examples::{self, DEFAULT_BUDGET};
+use oracle::guards;
 use oracle::releases::{self, call::ROW_NUMBERS};
 use oracle::text::{parse_bytes, state_line};
 use oracle::{
-    check, check_whether, judge_line, plans, release, rows, run, whether, Answer, STATE_LENGTH,
+    check, check_whether, judge_guarded_line, judge_line, plans, release, rows, run, whether,
+    Answer, STATE_LENGTH,
 };
 
 const HELP: &str = "\
 oracle: an independent reference program for Glintstring's verifier of conditional plans
 
 usage:
-  oracle judge FILE [--budget N] [--line] [--text]
-      Judges a request and prints number, input, place and count; for answers 1 and 2 a second
-      line has one of ?+- for each fluent. The budget is 100,000 unless told otherwise. With
-      --line a last line has the place of the executability line that answer 2 carries, or 0.
+  oracle judge FILE [--budget N] [--guarded] [--line] [--text]
+      Judges a request and prints number, input, place and count; for answers 1, 2 and 43 a
+      second line has one of ?+- for each fluent. The budget is 100,000 unless told otherwise.
+      With --guarded the request has guards. With --line a last line has the place of the
+      executability line that answer 2 carries, or 0.
   oracle check REQUEST DERIVATION [--text]
       Checks a derivation and prints number, input, place and count.
   oracle check-whether REQUEST DERIVATION [--text]
@@ -30,26 +33,31 @@ usage:
   oracle plans FILE [--text]
       Prints how many plans a release file has, or 0.
   oracle run [--seed S] [--requests N] [--derivations M] [--whether K] [--releases L]
-      Makes random calls (seed 1, 100,000 requests, 20,000 derivations in each layout, and
-      20,000 release files unless told otherwise), checks every answer, and prints how often
-      each occurred. The last line is `oracle: ok`, or `oracle: FAILED` and why, with exit
-      status 1.
+             [--guarded G]
+      Makes random calls (seed 1, 100,000 requests, 20,000 derivations in each layout, 20,000
+      release files and 20,000 guarded requests unless told otherwise), checks every answer, and
+      prints how often each occurred. The last line is `oracle: ok`, or `oracle: FAILED` and why,
+      with exit status 1.
   oracle run-whether [--seed S] [--derivations K]
       Makes the random calls with derivations in the second layout only.
   oracle run-releases [--seed S] [--releases L]
       Makes the random release calls only.
+  oracle run-guarded [--seed S] [--guarded G]
+      Makes the random guarded calls only.
   oracle rows [--seed S] [--count N] [--derivations M] [--whether K] [--releases L]
-      Prints N judging calls, M derivation calls, K in the second layout and L release calls with
-      their answers, one per line:
+              [--guarded G]
+      Prints N judging calls, M derivation calls, K in the second layout, L release calls and G
+      guarded calls with their answers, one per line:
         J REQUEST LENT BUDGET NUMBER INPUT PLACE COUNT STATE LINE
         D REQUEST DERIVATION NUMBER INPUT PLACE COUNT
         W REQUEST DERIVATION NUMBER INPUT PLACE COUNT
         R FILE LENT BUDGET NUMBER INPUT PLACE COUNT PLANS ROW
+        G REQUEST LENT BUDGET NUMBER INPUT PLACE COUNT STATE LINE
       Bytes are decimal with commas between; `-` is no byte; the three words REP BYTE N are N
       times one byte. LENT is the length of the lent state; STATE is all its bytes after answers
-      1 and 2, and `-` where it stays as lent; LINE is what --line prints. In rows R, LENT is the
-      length of the lent row, PLANS what the plans call gives, and ROW the row's numbers after own
-      answer 0, and `-` otherwise. (Seed 1, 300, 0, 0 and 0 unless told otherwise.)
+      1, 2 and 43, and `-` where it stays as lent; LINE is what --line prints. In rows R, LENT is
+      the length of the lent row, PLANS what the plans call gives, and ROW the row's numbers after
+      own answer 0, and `-` otherwise. (Seed 1, 300, 0, 0, 0 and 0 unless told otherwise.)
   oracle examples [FOLDER]
       Runs the example files and prints a tally.
   oracle --help
@@ -88,11 +96,13 @@ fn command(words: &[String]) -> Result<ExitCode, String> {
                 "--derivations",
                 "--whether",
                 "--releases",
+                "--guarded",
             ],
             0,
             0,
         )?),
         "run-releases" => run_releases(&Options::parse(rest, &["--seed", "--releases"], 0, 0)?),
+        "run-guarded" => run_guarded(&Options::parse(rest, &["--seed", "--guarded"], 0, 0)?),
         "run-whether" => run_whether(&Options::parse(rest, &["--seed", "--derivations"], 0, 0)?),
         "rows" => print_rows(&Options::parse(
             rest,
@@ -102,6 +112,7 @@ fn command(words: &[String]) -> Result<ExitCode, String> {
                 "--derivations",
                 "--whether",
                 "--releases",
+                "--guarded",
             ],
             0,
             0,
@@ -121,6 +132,7 @@ struct Options {
     numbers: Vec<(String, u64)>,
     text: bool,
     line: bool,
+    guarded: bool,
 }
 
 impl Options {
@@ -135,6 +147,7 @@ impl Options {
             numbers: Vec::new(),
             text: false,
             line: false,
+            guarded: false,
         };
         let mut words = words.iter();
         while let Some(word) = words.next() {
@@ -142,6 +155,8 @@ impl Options {
                 options.text = true;
             } else if word == "--line" && known.contains(&"--budget") {
                 options.line = true;
+            } else if word == "--guarded" && known.contains(&"--budget") {
+                options.guarded = true;
             } else if known.contains(&word.as_str()) {
                 let value = words.next().ok_or(format!("{word} needs a number"))?;
                 let value = value
@@ -189,8 +204,8 @@ fn budget_of(options: &Options) -> Result<u32, String> {
 }
 
 fn release_file(options: &Options) -> Result<ExitCode, String> {
-    if options.line {
-        return Err("no such option here: --line".to_string());
+    if options.line || options.guarded {
+        return Err("no such option here: --line or --guarded".to_string());
     }
     let file = options.bytes(0)?;
     let mut row = vec![0; ROW_NUMBERS * plans(&file) as usize];
@@ -213,9 +228,12 @@ fn judge_file(options: &Options) -> Result<ExitCode, String> {
     let request = options.bytes(0)?;
     let budget = budget_of(options)?;
     let mut lent = [0; STATE_LENGTH];
-    let (answer, line) = judge_line(&request, &mut lent, budget);
+    let (answer, line) = match options.guarded {
+        true => judge_guarded_line(&request, &mut lent, budget),
+        false => judge_line(&request, &mut lent, budget),
+    };
     println!("{answer}");
-    if matches!(answer.number, 1 | 2) {
+    if matches!(answer.number, 1 | 2 | 43) {
         println!("{}", state_line(&lent, request[0]));
     }
     if options.line {
@@ -240,14 +258,25 @@ fn run_calls(options: &Options) -> Result<ExitCode, String> {
     print!("{}", whether.report());
     let releases = releases::run::run(seed, options.number("--releases", 20_000));
     print!("{}", releases.report());
+    let guarded = guards::run::run(seed, options.number("--guarded", 20_000));
+    print!("{}", guarded.report());
     let verdict = tally.verdict().and(whether.verdict());
-    Ok(conclude(verdict.and(releases.verdict())))
+    let verdict = verdict.and(releases.verdict());
+    Ok(conclude(verdict.and(guarded.verdict())))
 }
 
 fn run_releases(options: &Options) -> Result<ExitCode, String> {
     let seed = options.number("--seed", 1);
     println!("seed: {seed}");
     let tally = releases::run::run(seed, options.number("--releases", 20_000));
+    print!("{}", tally.report());
+    Ok(conclude(tally.verdict()))
+}
+
+fn run_guarded(options: &Options) -> Result<ExitCode, String> {
+    let seed = options.number("--seed", 1);
+    println!("seed: {seed}");
+    let tally = guards::run::run(seed, options.number("--guarded", 20_000));
     print!("{}", tally.report());
     Ok(conclude(tally.verdict()))
 }
@@ -282,8 +311,9 @@ fn print_rows(options: &Options) -> Result<ExitCode, String> {
     let mut out = io::BufWriter::new(io::stdout().lock());
     let whether = whether::rows::whether_rows(seed, whether);
     let releases = releases::rows::release_rows(seed, options.number("--releases", 0));
+    let guarded = guards::rows::guarded_rows(seed, options.number("--guarded", 0));
     let derived = rows::rows(seed, judging, checking).chain(whether);
-    for row in derived.chain(releases) {
+    for row in derived.chain(releases).chain(guarded) {
         writeln!(out, "{row}").map_err(|error| error.to_string())?;
     }
     out.flush().map_err(|error| error.to_string())?;

@@ -145,6 +145,15 @@ impl Request {
     }
 }
 
+/// A guarded request: the eight sections of a request, and the guards.
+#[derive(Clone, Debug, Default)]
+pub struct Guarded {
+    pub request: Request,
+    /// Where the guards' count stands; guard `i` stands `i + 1` bytes later.
+    pub guards_place: usize,
+    pub guards: Vec<u8>,
+}
+
 /// A release file past its plan count, as far as it can be read.
 #[derive(Clone, Debug)]
 pub struct Release {

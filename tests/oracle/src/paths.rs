@@ -6,7 +6,7 @@
 //! and line are then read off the finished list.
 
 use crate::answer::narrow_count;
-use crate::model::{is_positive, Branch, Item, Request};
+use crate::model::{is_positive, Branch, Guarded, Item, Request};
 use crate::Answer;
 
 const UNKNOWN: u8 = b'?';
@@ -32,12 +32,20 @@ struct Event {
 struct Path {
     event: usize,
     marks: Marks,
-    /// The item that can't be run, if one has been met, and the line that it lacks least of.
-    stuck: Option<(usize, usize)>,
+    /// What stops it, if anything does.
+    stop: Option<Stop>,
 }
 
-/// What the list of paths tells: the answer of the judging call, the marks of answers 1 and 2, and
-/// the line.
+#[derive(Clone, Copy, Debug)]
+enum Stop {
+    /// The item that can't be run, and the line that it lacks least of.
+    Stuck(usize, usize),
+    /// The place of the first guard that the path's state lacks.
+    Broken(usize),
+}
+
+/// What the list of paths tells: the answer of the judging call, the marks of answers 1, 2 and 43,
+/// and the line.
 #[derive(Clone, Debug)]
 pub struct Told {
     pub answer: Answer,
@@ -58,9 +66,25 @@ impl Told {
 /// The answer of the judging call for a settled request, or nothing where it can't be told from
 /// the first `most` paths.
 ///
-/// Every path but one that is stuck counts at least one, so no more paths than the budget and
+/// Every path but one that is stopped counts at least one, so no more paths than the budget and
 /// one are ever needed.
 pub fn answer(request: &Request, budget: u32, most: usize) -> Option<Told> {
+    answer_with(request, &[], budget, most)
+}
+
+/// The same of the guarded call, for a settled guarded request.
+pub fn answer_guarded(guarded: &Guarded, budget: u32, most: usize) -> Option<Told> {
+    let guards = (guarded.guards_place + 1..).zip(guarded.guards.iter().copied());
+    let guards: Vec<(usize, u8)> = guards.collect();
+    answer_with(&guarded.request, &guards, budget, most)
+}
+
+fn answer_with(
+    request: &Request,
+    guards: &[(usize, u8)],
+    budget: u32,
+    most: usize,
+) -> Option<Told> {
     let most = most.min(usize::try_from(budget).unwrap_or(most).saturating_add(1));
     let root = Event {
         ran: false,
@@ -69,15 +93,17 @@ pub fn answer(request: &Request, budget: u32, most: usize) -> Option<Told> {
     };
     let mut list = List {
         request,
+        guards,
         most,
         events: vec![root],
         cut: false,
     };
-    let paths = list.through(&request.plan, vec![first_path(request)]);
+    let first = list.guarded(first_path(request));
+    let paths = list.through(&request.plan, vec![first]);
     if list.events.len() > EVENTS {
         return None;
     }
-    let end = paths.iter().position(|path| path.stuck.is_some());
+    let end = paths.iter().position(|path| path.stop.is_some());
     let walked = match end {
         Some(index) => &paths[..=index],
         None => &paths[..],
@@ -101,22 +127,26 @@ fn first_path(request: &Request) -> Path {
     Path {
         event: 0,
         marks,
-        stuck: None,
+        stop: None,
     }
 }
 
-/// Answers 0, 1 and 2 from the paths walked.
+/// Answers 0, 1, 2 and 43 from the paths walked.
 fn conclude(request: &Request, walked: &[Path], count: u64) -> Told {
     if let Some(Path {
-        stuck: Some((place, line)),
+        stop: Some(stop),
         marks,
         ..
     }) = walked.last()
     {
+        let (number, place, line) = match *stop {
+            Stop::Stuck(place, line) => (2, place, line),
+            Stop::Broken(place) => (43, place, 0),
+        };
         return Told {
-            answer: Answer::of_walk(2, *place, count),
+            answer: Answer::of_walk(number, place, count),
             marks: Some(marks.clone()),
-            line: *line,
+            line,
         };
     }
     let missed = walked.iter().find_map(|path| {
@@ -151,6 +181,8 @@ fn misses(request: &Request, marks: &Marks) -> Vec<usize> {
 
 struct List<'a> {
     request: &'a Request,
+    /// The guards with their places.
+    guards: &'a [(usize, u8)],
     most: usize,
     events: Vec<Event>,
     /// Whether paths were left out.
@@ -165,7 +197,7 @@ impl List<'_> {
         let mut before = 0;
         for path in walked {
             count += self.own_runs(path.event, before);
-            count += u64::from(path.stuck.is_none());
+            count += u64::from(path.stop.is_none());
             before = path.event;
         }
         count
@@ -212,13 +244,28 @@ impl List<'_> {
     }
 
     fn successors(&mut self, item: &Item, path: Path) -> Vec<Path> {
-        if path.stuck.is_some() {
+        if path.stop.is_some() {
             return vec![path];
         }
         match item {
-            Item::Action { place, action } => self.run(*place, *action, path),
+            Item::Action { place, action } => {
+                let after = self.run(*place, *action, path);
+                after.into_iter().map(|path| self.guarded(path)).collect()
+            }
             Item::Branching { place, branches } => self.choose(*place, branches, path),
         }
+    }
+
+    /// A path that goes on is stopped where its state lacks a guard.
+    fn guarded(&self, mut path: Path) -> Path {
+        let mut lacking = self
+            .guards
+            .iter()
+            .filter(|(_, guard)| !is_known(&path.marks, *guard));
+        if path.stop.is_none() {
+            path.stop = lacking.next().map(|&(place, _)| Stop::Broken(place));
+        }
+        path
     }
 
     fn run(&mut self, place: usize, action: u8, mut path: Path) -> Vec<Path> {
@@ -338,7 +385,7 @@ impl List<'_> {
 }
 
 fn stop(place: usize, line: usize, mut path: Path) -> Vec<Path> {
-    path.stuck = Some((place, line));
+    path.stop = Some(Stop::Stuck(place, line));
     vec![path]
 }
 

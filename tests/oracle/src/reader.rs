@@ -1,12 +1,12 @@
-//! Reading of requests, release files and derivations from the left; the first fault met is the
+//! Reading of requests, guarded requests, release files and derivations from the left; the first fault met is the
 //! answer.
 //!
 //! At one byte the order is 11, 21, 19, 12, 13, 14, 15; 20 is looked for when all is read.
 
 use crate::answer::Fault;
 use crate::model::{
-    Allowance, Branch, Conclusion, Effect, Item, Knowledge, Line, Plan, Proof, ProofLine, Release,
-    Request,
+    Allowance, Branch, Conclusion, Effect, Guarded, Item, Knowledge, Line, Plan, Proof, ProofLine,
+    Release, Request,
 };
 
 /// Longest request in bytes.
@@ -27,6 +27,8 @@ pub const BRANCH_LIMIT: usize = 8;
 pub const NESTING_LIMIT: usize = 8;
 /// Most items of a plan, nested ones counted.
 pub const ITEM_LIMIT: usize = 1_024;
+/// Most guards of a guarded request.
+pub const GUARD_LIMIT: usize = 64;
 /// Most plans of a release file.
 pub const PLAN_LIMIT: usize = 64;
 /// Most lines of a derivation.
@@ -50,6 +52,8 @@ pub enum Part {
     Condition,
     Goals,
     Whether,
+    /// The ninth section.
+    Guards,
     /// X.
     Before,
     /// Y.
@@ -67,6 +71,15 @@ pub fn read_request(bytes: &[u8]) -> Read<Request> {
     let request = reader.request()?;
     reader.end()?;
     Ok(request)
+}
+
+/// Reads a guarded request in the same way, of nine sections.
+pub fn read_guarded(bytes: &[u8]) -> Read<Guarded> {
+    refuse_length(bytes, REQUEST_LIMIT)?;
+    let mut reader = Reader::new(bytes, 0, 0);
+    let guarded = reader.guarded()?;
+    reader.end()?;
+    Ok(guarded)
 }
 
 /// Reads a release file: 10, then from the left sections 1 to 5 and the plan count, in which the
@@ -122,6 +135,13 @@ pub fn read_proof(bytes: &[u8], request: &Request) -> Read<Proof> {
 pub fn last_of_request(bytes: &[u8]) -> Part {
     let mut reader = Reader::new(bytes, 0, 0);
     let _ = reader.request();
+    reader.part
+}
+
+/// The part of a guarded request in which its reading ends.
+pub fn last_of_guarded(bytes: &[u8]) -> Part {
+    let mut reader = Reader::new(bytes, 0, 0);
+    let _ = reader.guarded();
     reader.part
 }
 
@@ -281,6 +301,18 @@ impl Reader<'_> {
     fn request(&mut self) -> Read<Request> {
         let table = self.table()?;
         self.asked(table)
+    }
+
+    fn guarded(&mut self) -> Read<Guarded> {
+        let request = self.request()?;
+        let guards_place = self.at;
+        self.part = Part::Guards;
+        let guards = self.literals(GUARD_LIMIT)?;
+        Ok(Guarded {
+            request,
+            guards_place,
+            guards,
+        })
     }
 
     /// Sections 1 to 5.

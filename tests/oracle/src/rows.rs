@@ -357,7 +357,7 @@ fn unasked(request: Request) -> Request {
 }
 
 /// A small shape, of which each draft is spread.
-fn spread_shape(rng: &mut Rng) -> Shape {
+pub(crate) fn spread_shape(rng: &mut Rng) -> Shape {
     Shape {
         spread: 100,
         ..*small_shape(rng)

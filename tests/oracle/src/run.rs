@@ -16,14 +16,14 @@ use crate::walk::{walk, Verdict};
 use crate::{check, judge_line, open, paths, shown, worlds, STATE_LENGTH};
 
 /// Most paths that the second walk follows.
-const MOST_PATHS: usize = 3_000;
+pub(crate) const MOST_PATHS: usize = 3_000;
 /// The budget of the walk that an accepted derivation is compared with.
 pub(crate) const WALK_BUDGET: u32 = 50_000;
 /// Failures told in full.
 pub(crate) const TOLD: usize = 10;
 /// Least share of each of the answers 0 to 3, in per cent of all requests judged, damaged ones
 /// included.
-const LEAST_SHARE: u64 = 5;
+pub(crate) const LEAST_SHARE: u64 = 5;
 
 /// The answers that a run must meet at least once, by call and input named.
 const OF_JUDGING: [u8; 17] = [
@@ -206,23 +206,12 @@ impl Tally {
             let other = other.line;
             return Err(format!("line {line}, the second walk's is {other}"));
         }
-        let Some(marks) = other.marks else {
-            return Ok(());
-        };
-        let mut state = [0; STATE_LENGTH];
-        for (byte, mark) in state.iter_mut().zip(marks) {
-            *byte = match mark {
-                b'+' => 1,
-                b'-' => 2,
-                _ => 0,
-            };
-        }
-        if lent != state {
-            return Err(format!(
+        match other.marks.map(state_of) {
+            Some(state) if lent != state => Err(format!(
                 "answer {answer}: the second walk's state is another"
-            ));
+            )),
+            _ => Ok(()),
         }
-        Ok(())
     }
 
     /// 16 is given where an action may be run in some world in which its effects would set a
@@ -472,6 +461,19 @@ fn some_clash(effects: &[Effect]) -> bool {
         .any(|(index, one)| effects[..index].iter().any(|other| clashing(one, other)))
 }
 
+/// The lent state that the second walk's marks stand for.
+pub(crate) fn state_of(marks: Vec<u8>) -> [u8; STATE_LENGTH] {
+    let mut state = [0; STATE_LENGTH];
+    for (byte, mark) in state.iter_mut().zip(marks) {
+        *byte = match mark {
+            b'+' => 1,
+            b'-' => 2,
+            _ => 0,
+        };
+    }
+    state
+}
+
 /// What every answer keeps to: its input, place and count, and what the showing call shows.
 pub(crate) fn expect_form(answer: Answer, request: &[u8], derivation: &[u8]) -> Result<(), String> {
     let length = match answer.input {
@@ -488,7 +490,7 @@ pub(crate) fn expect_form(answer: Answer, request: &[u8], derivation: &[u8]) -> 
         _ if neither => place == 0,
         _ => place < length,
     };
-    let counted = answer.number <= 3 || answer.count == 0;
+    let counted = matches!(answer.number, 0..=3 | 43) || answer.count == 0;
     let rest = shown(answer, request, derivation).len();
     let right = if neither {
         rest == 0

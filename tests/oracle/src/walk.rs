@@ -4,7 +4,7 @@
 //! is one number whatever the nesting, and a reading that still has to be tried is that number
 //! with a copy of the state.
 
-use crate::model::{Item, Request};
+use crate::model::{Guarded, Item, Request};
 use crate::table::{bit, Known, Mask, Table};
 
 /// How a whole walk ends.
@@ -30,27 +30,99 @@ pub enum Verdict {
     Over,
 }
 
+impl Verdict {
+    /// The count, but for a walk that is over its budget.
+    pub fn count(self) -> Option<u64> {
+        match self {
+            Verdict::Verified { count } => Some(count),
+            Verdict::Missed { count, .. } | Verdict::Stuck { count, .. } => Some(count),
+            Verdict::Over => None,
+        }
+    }
+}
+
+/// Answer 43, how a guarded walk ends where it meets a state that lacks a guard: the first guard
+/// lacking, the state, and what was so when it was met.
+#[derive(Clone, Copy, Debug, PartialEq, Eq)]
+pub struct Broken {
+    pub place: usize,
+    pub count: u64,
+    pub state: Known,
+    pub met: Met,
+}
+
+/// What is so of a state that lacks a guard when it is met. None of it is answered; it is told so
+/// that what occurs can be counted.
+#[derive(Clone, Copy, Debug, PartialEq, Eq)]
+pub struct Met {
+    /// Some reading before it was not the first one tried.
+    pub later_reading: bool,
+    /// No item is left, so it would be judged.
+    pub at_end: bool,
+    /// The next item can't be run in it.
+    pub before_stop: bool,
+    /// An end state judged before it misses an entry.
+    pub after_miss: bool,
+}
+
 /// Walks the plan of a settled request and stops once the count is above the budget.
 pub fn walk(request: &Request, budget: u32) -> Verdict {
-    walk_past(request, budget, &mut |_| {})
+    unguarded::<false>(request, budget, |_| {}, |_| {})
+}
+
+/// Walks the plan of a settled guarded request in the same way, and stops also where a state is
+/// met that lacks a guard.
+pub fn walk_guarded(guarded: &Guarded, budget: u32) -> Result<Verdict, Broken> {
+    let guards = (guarded.guards_place, &guarded.guards[..]);
+    walk_past::<true>(&guarded.request, guards, budget, |_| {}, |_| {})
+}
+
+/// The states that a walk without guards meets, in their order, as far as the budget lets it.
+pub fn met(request: &Request, budget: u32) -> Vec<Known> {
+    let mut met = Vec::new();
+    unguarded::<true>(request, budget, |_| {}, |state| met.push(state));
+    met
 }
 
 /// The end states of such a walk in the order in which it meets them, or nothing where it stops
 /// before it has met them all.
 pub fn ends(request: &Request, budget: u32) -> Option<Vec<Known>> {
-    let mut met = Vec::new();
-    match walk_past(request, budget, &mut |state| met.push(state)) {
-        Verdict::Verified { .. } | Verdict::Missed { .. } => Some(met),
+    let mut ends = Vec::new();
+    match unguarded::<false>(request, budget, |state| ends.push(state), |_| {}) {
+        Verdict::Verified { .. } | Verdict::Missed { .. } => Some(ends),
         Verdict::Stuck { .. } | Verdict::Over => None,
     }
 }
 
-/// The walk, which hands over each end state that it judges.
-fn walk_past(request: &Request, budget: u32, at_end: &mut dyn FnMut(Known)) -> Verdict {
+/// The walk without guards, of which no state lacks one.
+fn unguarded<const LOOKS: bool>(
+    request: &Request,
+    budget: u32,
+    at_end: impl FnMut(Known),
+    when_met: impl FnMut(Known),
+) -> Verdict {
+    match walk_past::<LOOKS>(request, (0, &[]), budget, at_end, when_met) {
+        Ok(verdict) => verdict,
+        Err(_) => unreachable!("there is no guard to lack"),
+    }
+}
+
+/// The walk, with the guards and where their count stands. It hands over each end state that it
+/// judges and, where it looks at these, each state that it meets.
+fn walk_past<const LOOKS: bool>(
+    request: &Request,
+    (guards_place, guards): (usize, &[u8]),
+    budget: u32,
+    at_end: impl FnMut(Known),
+    when_met: impl FnMut(Known),
+) -> Result<Verdict, Broken> {
     let table = Table::new(request);
     let code = Code::new(&request.plan);
-    let mut walker = Walker {
+    let mut walker = Walker::<_, _, LOOKS> {
         request,
+        guards_place,
+        guards,
+        guarded: Known::of(guards),
         table: &table,
         code: &code,
         budget: u64::from(budget),
@@ -58,8 +130,12 @@ fn walk_past(request: &Request, budget: u32, at_end: &mut dyn FnMut(Known)) -> V
         missed: None,
         turns: Vec::new(),
         at_end,
+        when_met,
     };
-    walker.walk()
+    match walker.walk() {
+        Ok(verdict) | Err(Halt::Ended(verdict)) => Ok(verdict),
+        Err(Halt::Broken(broken)) => Err(broken),
+    }
 }
 
 enum Node {
@@ -119,46 +195,108 @@ impl Code {
     }
 }
 
-/// Where to go on, with which state, and which fluents have still to be forked before that.
+/// Where to go on, with which state, and which fluents have still to be forked before that; and
+/// whether a reading that led here was not the first one tried.
 #[derive(Clone, Copy)]
 struct Turn {
     node: usize,
     state: Known,
     unread: Mask,
+    later: bool,
 }
 
-struct Walker<'a> {
+/// Why a walk goes no further.
+enum Halt {
+    Ended(Verdict),
+    Broken(Broken),
+}
+
+/// One that looks at the states that it meets, for their guards, or one that doesn't.
+struct Walker<'a, AtEnd, WhenMet, const LOOKS: bool> {
     request: &'a Request,
+    guards_place: usize,
+    guards: &'a [u8],
+    /// All guards as one body.
+    guarded: Known,
     table: &'a Table,
     code: &'a Code,
     budget: u64,
     count: u64,
     missed: Option<(usize, Known)>,
     turns: Vec<Turn>,
-    at_end: &'a mut dyn FnMut(Known),
+    at_end: AtEnd,
+    when_met: WhenMet,
 }
 
-impl Walker<'_> {
-    fn walk(&mut self) -> Verdict {
+impl<AtEnd: FnMut(Known), WhenMet: FnMut(Known), const LOOKS: bool>
+    Walker<'_, AtEnd, WhenMet, LOOKS>
+{
+    fn walk(&mut self) -> Result<Verdict, Halt> {
         let state = Known::of(&self.request.facts);
         self.turns.push(Turn {
             node: self.code.start,
             state,
             unread: 0,
+            later: false,
         });
         while let Some(turn) = self.turns.pop() {
+            // The first state, or one that a reading leads to.
             let turn = self.fork(turn);
-            if let Err(verdict) = self.follow(turn) {
-                return verdict;
-            }
+            self.meet(&turn)?;
+            self.follow(turn)?;
         }
-        match self.missed {
+        Ok(match self.missed {
             None => Verdict::Verified { count: self.count },
             Some((place, state)) => Verdict::Missed {
                 place,
                 count: self.count,
                 state,
             },
+        })
+    }
+
+    /// Looks at a state that is met, before the next item is taken or the state is judged.
+    #[inline(always)]
+    fn meet(&mut self, turn: &Turn) -> Result<(), Halt> {
+        if !LOOKS {
+            return Ok(());
+        }
+        (self.when_met)(turn.state);
+        match turn.state.holds(self.guarded) {
+            true => Ok(()),
+            false => Err(Halt::Broken(self.broken(turn))),
+        }
+    }
+
+    /// The first guard that a state lacks, which lacks some.
+    #[cold]
+    fn broken(&self, turn: &Turn) -> Broken {
+        let lacks = |&guard: &u8| !turn.state.holds(Known::of(&[guard]));
+        let index = self.guards.iter().position(lacks).expect("a guard");
+        Broken {
+            place: self.guards_place + 1 + index,
+            count: self.count,
+            state: turn.state,
+            met: self.met(turn),
+        }
+    }
+
+    fn met(&self, turn: &Turn) -> Met {
+        let (at_end, before_stop) = match &self.code.nodes[turn.node] {
+            Node::End => (true, false),
+            Node::Run { action, .. } => (false, !self.table.runnable(*action, turn.state)),
+            Node::Choose { branches, .. } => {
+                let followed = branches
+                    .iter()
+                    .any(|(condition, _)| turn.state.holds(*condition));
+                (false, !followed)
+            }
+        };
+        Met {
+            later_reading: turn.later,
+            at_end,
+            before_stop,
+            after_miss: self.missed.is_some(),
         }
     }
 
@@ -170,6 +308,7 @@ impl Walker<'_> {
             turn.unread &= !bit;
             let mut other = turn;
             other.state.no |= bit;
+            other.later = LOOKS;
             self.turns.push(other);
             turn.state.yes |= bit;
         }
@@ -177,7 +316,7 @@ impl Walker<'_> {
     }
 
     /// Follows one reading until the plan ends or the next fork.
-    fn follow(&mut self, mut turn: Turn) -> Result<(), Verdict> {
+    fn follow(&mut self, mut turn: Turn) -> Result<(), Halt> {
         loop {
             match &self.code.nodes[turn.node] {
                 Node::End => {
@@ -206,6 +345,7 @@ impl Walker<'_> {
                     let senses = self.table.senses(*action);
                     if senses == 0 {
                         turn.state = self.table.step(*action, turn.state);
+                        self.meet(&turn)?;
                         continue;
                     }
                     turn.unread = senses & !turn.state.marked();
@@ -217,21 +357,21 @@ impl Walker<'_> {
     }
 
     /// Counts an action run or an end state judged.
-    fn tick(&mut self) -> Result<(), Verdict> {
+    fn tick(&mut self) -> Result<(), Halt> {
         self.count += 1;
         if self.count > self.budget {
-            return Err(Verdict::Over);
+            return Err(Halt::Ended(Verdict::Over));
         }
         Ok(())
     }
 
-    fn stuck(&self, place: usize, state: Known, line: usize) -> Verdict {
-        Verdict::Stuck {
+    fn stuck(&self, place: usize, state: Known, line: usize) -> Halt {
+        Halt::Ended(Verdict::Stuck {
             place,
             count: self.count,
             state,
             line,
-        }
+        })
     }
 
     /// Keeps the first end state that misses an entry. A missed goal doesn't end the walk.

@@ -5,7 +5,7 @@
 //! go together as a party: each member is a true world, and the worlds where the members now
 //! are make up the set of possible worlds of each of them.
 
-use crate::model::{is_positive, Item, Request};
+use crate::model::{is_positive, Guarded, Item, Request};
 
 /// Most fluents for which worlds are enumerated.
 pub const WORLD_FLUENTS: u8 = 10;
@@ -23,6 +23,8 @@ pub enum Failure {
     Goal,
     /// A whether fluent has two values across the possible worlds.
     Whether,
+    /// A guard doesn't hold in all possible worlds, at the start or after some action or reading.
+    Guard,
 }
 
 /// A set of fluents that are true; the others are false.
@@ -60,13 +62,27 @@ impl Demand {
 ///
 /// The request has at most ten fluents.
 pub fn carry_out(request: &Request) -> Result<u64, Failure> {
+    carry_out_with(request, &[])
+}
+
+/// The same of a settled guarded request: the guards hold in every possible world at the start,
+/// after every action and after every reading.
+pub fn carry_out_guarded(guarded: &Guarded) -> Result<u64, Failure> {
+    carry_out_with(&guarded.request, &guarded.guards)
+}
+
+fn carry_out_with(request: &Request, guards: &[u8]) -> Result<u64, Failure> {
     assert!(request.fluents <= WORLD_FLUENTS);
     let facts = Demand::new(&request.facts);
     let start: Party = (0..1u16 << request.fluents)
         .filter(|&world| facts.holds(world))
         .collect();
     let worlds = start.len();
-    let carrier = Carrier::new(request);
+    let carrier = Carrier {
+        guards: Demand::new(guards),
+        ..Carrier::new(request)
+    };
+    carrier.guarded(&start)?;
     let parties = carrier.through(&request.plan, vec![start])?;
     assert_eq!(
         parties.iter().map(Vec::len).sum::<usize>(),
@@ -107,8 +123,9 @@ fn judge(request: &Request, party: &Party) -> Result<(), Failure> {
     Ok(())
 }
 
-/// The table's lines by action.
+/// The guards, and the table's lines by action.
 struct Carrier {
+    guards: Demand,
     allowances: Vec<Vec<Demand>>,
     effects: Vec<Vec<(Demand, Demand)>>,
     sensed: Vec<Option<World>>,
@@ -118,6 +135,7 @@ impl Carrier {
     fn new(request: &Request) -> Carrier {
         let actions = usize::from(request.actions);
         let mut carrier = Carrier {
+            guards: Demand::new(&[]),
             allowances: vec![Vec::new(); actions],
             effects: vec![Vec::new(); actions],
             sensed: vec![None; actions],
@@ -147,7 +165,11 @@ impl Carrier {
 
     fn item(&self, item: &Item, party: Party) -> Result<Vec<Party>, Failure> {
         match item {
-            Item::Action { action, .. } => self.act(usize::from(*action), party),
+            Item::Action { action, .. } => {
+                let after = self.act(usize::from(*action), party)?;
+                after.iter().try_for_each(|party| self.guarded(party))?;
+                Ok(after)
+            }
             Item::Branching { branches, .. } => {
                 let mut known = branches.iter().filter(|branch| {
                     let condition = Demand::new(&branch.condition);
@@ -158,6 +180,14 @@ impl Carrier {
                     _ => Err(Failure::NoBranch),
                 }
             }
+        }
+    }
+
+    /// The guards hold in each possible world.
+    fn guarded(&self, party: &Party) -> Result<(), Failure> {
+        match party.iter().all(|&world| self.guards.holds(world)) {
+            true => Ok(()),
+            false => Err(Failure::Guard),
         }
     }
 

@@ -5,6 +5,9 @@ use std::collections::{BTreeMap, BTreeSet};
 use oracle::edges::{self, Met};
 use oracle::encode::encode_request;
 use oracle::generate::{request, spread, MIDDLE, SMALL, TINY};
+use oracle::guards;
+use oracle::guards::rows::guarded_rows;
+use oracle::guards::run::{events, Event, NUMBERS};
 use oracle::releases;
 use oracle::releases::rows::release_rows;
 use oracle::releases::run::{OF_PLANS, OWN};
@@ -14,7 +17,9 @@ use oracle::run::run;
 use oracle::text::parse_bytes;
 use oracle::whether;
 use oracle::whether::rows::whether_rows;
-use oracle::{check, check_whether, judge, judge_line, plans, release, STATE_LENGTH};
+use oracle::{
+    check, check_whether, judge, judge_guarded_line, judge_line, plans, release, STATE_LENGTH,
+};
 
 #[test]
 fn small_runs_show_no_difference() {
@@ -40,6 +45,21 @@ fn small_runs_of_release_files_show_no_difference() {
         assert_eq!(tally.differences(), &[] as &[String]);
         assert_eq!(tally.verdict(), Ok(()));
     }
+}
+
+#[test]
+fn small_runs_of_guarded_requests_show_no_difference() {
+    for seed in 1..=3 {
+        let tally = guards::run::run(seed, 4_000);
+        assert_eq!(tally.differences(), &[] as &[String]);
+        assert_eq!(tally.verdict(), Ok(()));
+    }
+}
+
+#[test]
+fn a_run_of_guarded_requests_too_small_fails() {
+    let verdict = guards::run::run(1, 10).verdict();
+    assert!(verdict.is_err_and(|reason| reason.starts_with("never met")));
 }
 
 #[test]
@@ -200,6 +220,38 @@ fn rows_of_release_files_can_be_computed_again() {
     let once: Vec<String> = release_rows(9, 40).collect();
     assert_eq!(once, release_rows(9, 40).collect::<Vec<_>>());
     assert_ne!(once, release_rows(10, 40).collect::<Vec<_>>());
+}
+
+#[test]
+fn rows_of_guarded_requests_can_be_computed_again() {
+    let (mut met, mut shown) = (BTreeSet::new(), BTreeSet::new());
+    for row in guarded_rows(5, 150) {
+        let mut words = row.split(' ');
+        assert_eq!(words.next(), Some("G"));
+        let request = take(&mut words);
+        let mut lent = vec![77; number(&mut words) as usize];
+        let budget = number(&mut words);
+        let (answer, line) = judge_guarded_line(&request, &mut lent, budget);
+        let told: Vec<u32> = (0..4).map(|_| number(&mut words)).collect();
+        let found = [
+            answer.number.into(),
+            answer.input.into(),
+            answer.place,
+            answer.count,
+        ];
+        assert_eq!(told, found, "{row}");
+        let written = matches!(answer.number, 1 | 2 | 43).then_some(lent);
+        assert_eq!(take(&mut words), written.unwrap_or_default(), "{row}");
+        assert_eq!(number(&mut words), line, "{row}");
+        assert_eq!(words.next(), None);
+        met.insert(answer.number);
+        shown.extend(events(&request, budget, answer));
+    }
+    assert_eq!(met, BTreeSet::from(NUMBERS));
+    assert_eq!(shown, BTreeSet::from(Event::ALL));
+    let once: Vec<String> = guarded_rows(9, 40).collect();
+    assert_eq!(once, guarded_rows(9, 40).collect::<Vec<_>>());
+    assert_ne!(once, guarded_rows(10, 40).collect::<Vec<_>>());
 }
 
 #[test]

@@ -79,6 +79,25 @@ pub type Judge = dyn Fn(&[u8], &mut [u8], u32) -> Packed;
 
 /// The same of any such call.
 pub fn timed_by(rng: &mut Rng, call: &Call, judge: &Judge) -> Result<(Left, Duration), String> {
+    timed_and_named(rng, call, judge, glintstring::Answer::unpack)
+}
+
+/// A call between fences, whose answers have their names by `unpack`: what it leaves, and how long it took; in words what it changed that it may
+/// not, or in what the names of an answer differ from its numbers.
+pub fn timed_and_named(rng: &mut Rng, call: &Call, judge: &Judge, unpack: fn(Packed, &[u8]) -> glintstring::Answer) -> Result<(Left, Duration), String> {
+    let (packed, lent, took) = fenced_by(rng, call, judge)?;
+    let answer = numbers(packed);
+    let named = std::panic::catch_unwind(|| unpack(packed, &lent)).map_err(|_| format!("{answer:?} is no answer"))?;
+    let told = [named.number().into(), named.input().into(), named.place() as u64, named.count().into()];
+    let wrote = named.state().is_none_or(|state| state.bytes() == lent[..]);
+    if told != answer || !wrote {
+        return Err(format!("answer {answer:?} is named {named}"));
+    }
+    Ok((Left { answer, lent, line: None }, took))
+}
+
+/// Its answer, the lent bytes afterwards and how long it took.
+fn fenced_by(rng: &mut Rng, call: &Call, judge: &Judge) -> Result<(Packed, Vec<u8>, Duration), String> {
     let mut request = Fenced::new(rng, &call.request);
     let mut state = Fenced::new(rng, &call.lent);
     let (request_before, state_before) = (request.clone(), state.clone());
@@ -92,14 +111,7 @@ pub fn timed_by(rng: &mut Rng, call: &Call, judge: &Judge) -> Result<(Left, Dura
     if state != state_before.with(&lent) {
         return Err("what stands around the lent state was changed".to_string());
     }
-    let answer = numbers(packed);
-    let named = std::panic::catch_unwind(|| glintstring::Answer::unpack(packed, &lent)).map_err(|_| format!("{answer:?} is no answer"))?;
-    let told = [named.number().into(), named.input().into(), named.place() as u64, named.count().into()];
-    let wrote = named.state().is_none_or(|state| state.bytes() == lent[..]);
-    if told != answer || !wrote {
-        return Err(format!("answer {answer:?} is named {named}"));
-    }
-    Ok((Left { answer, lent, line: None }, took))
+    Ok((packed, lent, took))
 }
 
 /// The independent program's.

@@ -6,7 +6,7 @@ use oracle::text::{parse_bytes, state_line};
 
 use crate::calls::{agreed, expect, Call, Left};
 use crate::checks::{self, Check};
-use crate::{release_cases, whether_cases};
+use crate::{guarded_cases, release_cases, whether_cases};
 
 pub const FILE_A: &str = "4 3 3 3 5 7 3 1 2 0 1 6 1 0 2 4 0 3 0 0 1 1 3 2 1 2 1 0 0 0 2 0 255 2 1 1 0 2 1 2 1 0 0 0 1 7 1 2";
 const BUDGET: u32 = 100_000;
@@ -16,6 +16,7 @@ const LAST_FALSE: &str = "??????????????????????????????????????????????????????
 
 extern "C" {
     fn glintstring_judge(request: *const u8, request_length: usize, state: *mut u8, state_length: usize, budget: u32) -> u64;
+    fn glintstring_judge_guarded(request: *const u8, request_length: usize, state: *mut u8, state_length: usize, budget: u32) -> u64;
     fn glintstring_judge_line(request: *const u8, request_length: usize, state: *mut u8, state_length: usize, budget: u32, line: *mut u32) -> u64;
     fn glintstring_check(request: *const u8, request_length: usize, derivation: *const u8, derivation_length: usize) -> u64;
     fn glintstring_check_whether(request: *const u8, request_length: usize, derivation: *const u8, derivation_length: usize) -> u64;
@@ -36,7 +37,7 @@ pub fn plans(file: &[u8]) -> u32 {
 
 /// How a row gives its request.
 #[derive(Clone, Copy)]
-enum Request {
+pub enum Request {
     FileA,
     /// Bytes 0 to 28 of File A, followed by these.
     From29(&'static str),
@@ -256,11 +257,11 @@ fn compare_derivations(rng: &mut Rng) -> Result<(), String> {
     Ok(())
 }
 
-fn bytes(text: &str) -> Vec<u8> {
+pub fn bytes(text: &str) -> Vec<u8> {
     parse_bytes(text).expect("bytes of a row")
 }
 
-fn request(row: Request) -> Vec<u8> {
+pub fn request(row: Request) -> Vec<u8> {
     let file_a = bytes(FILE_A);
     match row {
         FileA => file_a,
@@ -280,9 +281,8 @@ fn request(row: Request) -> Vec<u8> {
     }
 }
 
-/// What the row says is left: the state's marks with zeros behind them, or the bytes as lent.
-fn expected(row: &Row, lent: &[u8]) -> Left {
-    let (_, _, _, _, _, [number, place, count], state) = *row;
+/// What a row says is left: the state's marks with zeros behind them, or the bytes as lent.
+pub fn expected([number, place, count]: [u64; 3], state: Option<&str>, lent: &[u8]) -> Left {
     let input = u64::from(!matches!(number, 0 | 3 | 9));
     let marks = |line: &str| -> Vec<u8> { line.bytes().map(|mark| b"?+-".iter().position(|&m| m == mark).expect("a mark") as u8).collect() };
     let lent = match state {
@@ -302,6 +302,10 @@ fn without_bytes() -> Result<(), String> {
     let mut lines = [7; 2];
     let no_request_line = unsafe { glintstring_judge_line(null(), 0, state.as_mut_ptr(), state.len(), 0, &mut lines[0]) };
     let no_state_line = unsafe { glintstring_judge_line(null(), 0, null_mut(), 0, 0, &mut lines[1]) };
+    let no_guarded = unsafe { [glintstring_judge_guarded(null(), 0, state.as_mut_ptr(), state.len(), 0), glintstring_judge_guarded(null(), 0, null_mut(), 0, 0)] };
+    if no_guarded != [no_request, no_state] {
+        return Err(format!("null and length 0: {no_guarded:?} with guards"));
+    }
     if ([no_request_line, no_state_line], lines) != ([no_request, no_state], [0, 0]) {
         return Err(format!("null and length 0: {no_request_line} and {no_state_line} with the lines {lines:?}"));
     }
@@ -339,8 +343,8 @@ pub fn calls() -> Vec<Call> {
 pub fn compare() -> Result<String, String> {
     let mut rng = Rng::new(1, 5, 0);
     for (row, call) in ROWS.iter().zip(calls()) {
-        let (sentence, name, ..) = *row;
-        let same = agreed(&mut rng, &call).and_then(|left| expect(&left, &expected(row, &call.lent), "the format"));
+        let (sentence, name, _, _, _, answer, state) = *row;
+        let same = agreed(&mut rng, &call).and_then(|left| expect(&left, &expected(answer, state, &call.lent), "the format"));
         same.map_err(|why| format!("FORMAT {sentence}, {name}: {why}; {call}"))?;
     }
     for (sentence, given, budget, length, [number, place, line]) in LINE_ROWS {
@@ -353,10 +357,11 @@ pub fn compare() -> Result<String, String> {
     compare_derivations(&mut rng)?;
     let whether = whether_cases::compare(&mut rng)?;
     let releases = release_cases::compare(&mut rng)?;
+    let guarded = guarded_cases::compare(&mut rng)?;
     without_bytes()?;
     let (walks, lines, checks) = (ROWS.len(), LINE_ROWS.len(), DERIVATION_ROWS.len());
     Ok(format!(
-        "{walks} rows of the format, {lines} for the line, {checks} for derivations, {whether} for those in the closing layout and {releases} for release \
-         files answered as it says, and null pointers with length 0"
+        "{walks} rows of the format, {lines} for the line, {checks} for derivations, {whether} for those in the closing layout, {releases} for release \
+         files and {guarded} for guarded requests answered as it says, and null pointers with length 0"
     ))
 }

@@ -5,11 +5,21 @@ use std::{fs, thread};
 use oracle::rng::Rng;
 
 use crate::calls::{expect, exported, independent, Call};
+use crate::guarded;
 
 /// The requests of a folder, of which the file `list` has a line each: file, budget, items, name.
 pub fn requests(folder: &str) -> Result<Vec<(String, Call)>, String> {
+    listed(folder, "list")
+}
+
+/// The guarded requests, of which the file `guarded` has a line each: file, budget, guards, name.
+pub fn guarded_requests(folder: &str) -> Result<Vec<(String, Call)>, String> {
+    listed(folder, "guarded")
+}
+
+fn listed(folder: &str, list: &str) -> Result<Vec<(String, Call)>, String> {
     let read = |name: &str| fs::read(format!("{folder}/{name}")).map_err(|error| format!("{folder}/{name}: {error}"));
-    let list = String::from_utf8(read("list")?).map_err(|error| error.to_string())?;
+    let list = String::from_utf8(read(list)?).map_err(|error| error.to_string())?;
     let request = |line: &str| {
         let words: Vec<&str> = line.splitn(4, ' ').collect();
         let [file, budget, _, name] = words[..] else { return Err(format!("a line that is none: {line}")) };
@@ -22,15 +32,22 @@ pub fn requests(folder: &str) -> Result<Vec<(String, Call)>, String> {
     }
 }
 
+/// A call on such a thread.
+fn on_thread<T: Send>(call: impl FnOnce() -> T + Send) -> T {
+    thread::scope(|scope| thread::Builder::new().stack_size(glintstring::STACK_NEEDED).spawn_scoped(scope, call).expect("a thread").join().expect("a call"))
+}
+
 /// Compares them.
 pub fn compare(folder: &str) -> Result<String, String> {
-    let requests = requests(folder)?;
+    let (requests, guarded) = (requests(folder)?, guarded_requests(folder)?);
     for (index, (name, call)) in requests.iter().enumerate() {
-        let on_thread = thread::scope(|scope| {
-            let calling = || exported(&mut Rng::new(1, 6, index as u64), call);
-            thread::Builder::new().stack_size(glintstring::STACK_NEEDED).spawn_scoped(scope, calling).expect("a thread").join().expect("a call")
-        });
-        on_thread.and_then(|one| expect(&one, &independent(call), "the independent program")).map_err(|why| format!("{name}: {why}; {call}"))?;
+        let one = on_thread(|| exported(&mut Rng::new(1, 6, index as u64), call));
+        one.and_then(|one| expect(&one, &independent(call), "the independent program")).map_err(|why| format!("{name}: {why}; {call}"))?;
     }
-    Ok(format!("{} deep requests agree, on a thread of {} bytes of stack", requests.len(), glintstring::STACK_NEEDED))
+    for (index, (name, call)) in guarded.iter().enumerate() {
+        let one = on_thread(|| guarded::timed(&mut Rng::new(2, 6, index as u64), call));
+        one.and_then(|(one, _)| expect(&one, &guarded::independent(call), "the independent program")).map_err(|why| format!("{name}: {why}; {call}"))?;
+    }
+    let stack = glintstring::STACK_NEEDED;
+    Ok(format!("{} deep requests and {} guarded ones agree, on a thread of {stack} bytes of stack", requests.len(), guarded.len()))
 }

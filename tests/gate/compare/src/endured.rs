@@ -10,7 +10,7 @@ use oracle::rng::Rng;
 use crate::calls::{self, expect};
 use crate::checks::Layout;
 use crate::hostile::{self, Input, Named};
-use crate::{checks, derivations, generated, releases, whether};
+use crate::{checks, derivations, generated, guarded, releases, whether};
 
 /// What a call may take, and what it may take for each count more: far more than was ever seen (docs/MEASURED.md).
 const A: Duration = Duration::from_secs(1);
@@ -53,6 +53,11 @@ fn call(rng: &mut Rng, input: &Input) -> Result<Taken, String> {
         Input::Walk(call) => {
             let (left, took) = calls::timed(rng, call)?;
             expect(&left, &calls::independent(call), "the independent program")?;
+            Ok(Taken { answer: left.answer, took })
+        }
+        Input::Guarded(call) => {
+            let (left, took) = guarded::timed(rng, call)?;
+            expect(&left, &guarded::independent(call), "the independent program")?;
             Ok(Taken { answer: left.answer, took })
         }
         Input::Derivation(check) => checks::timed(rng, check).map(|(answer, took)| Taken { answer, took }),
@@ -151,25 +156,30 @@ impl Written {
 }
 
 /// Writes the inputs of a folder's deepest walks, the others by name, and so many generated and random ones as files into another folder.
-/// There `walks` has the names of requests, `checks` those of requests and derivations, and `whether` the same in the closing layout; beside
-/// them are the answers, by the independent program, walks under this budget.
+/// There `walks` has the names of requests, `guarded` those of guarded requests, `checks` those of requests and derivations, and `whether` the same
+/// in the closing layout; beside them are the answers, by the independent program, walks under this budget.
 pub fn write(deepest: &str, folder: &str, budget: u32, count: u64) -> Result<String, String> {
     let mut inputs: Vec<Input> = hostile::named(deepest)?.into_iter().chain(hostile::random(1, count)).map(|(_, input)| input).collect();
     inputs.extend((0..count).map(|index| Input::Walk(generated::call(1, index))));
+    inputs.extend((0..count).map(|index| Input::Guarded(guarded::call(1, index))));
     inputs.extend((0..count).map(|index| Input::Derivation(derivations::call(1, index))));
     inputs.extend((0..count).map(|index| Input::Derivation(whether::call(1, index))));
-    // The programs for which files are written take requests and derivations.
+    // The programs for which files are written take requests, guarded or not, and derivations.
     inputs.retain(|input| !matches!(input, Input::Release(_)));
     let save = |name: String, bytes: &[u8]| fs::write(format!("{folder}/{name}"), bytes).map_err(|error| format!("{folder}/{name}: {error}"));
-    let (mut walks, mut plain, mut closing) = (Written::default(), Written::default(), Written::default());
+    let [mut walks, mut guards, mut plain, mut closing] = std::array::from_fn(|_| Written::default());
     for (index, input) in inputs.iter_mut().enumerate() {
         match input {
-            Input::Walk(call) => {
+            Input::Walk(call) | Input::Guarded(call) => {
                 call.budget = budget;
                 call.lent = vec![0; glintstring::STATE_LENGTH];
                 save(format!("{index}.request"), &call.request)?;
-                walks.add(&format!("{folder}/{index}.request"), calls::independent(call).answer);
             }
+            _ => {}
+        }
+        match input {
+            Input::Walk(call) => walks.add(&format!("{folder}/{index}.request"), calls::independent(call).answer),
+            Input::Guarded(call) => guards.add(&format!("{folder}/{index}.request"), guarded::independent(call).answer),
             Input::Derivation(check) => {
                 save(format!("{index}.request"), &check.request)?;
                 save(format!("{index}.derivation"), &check.derivation)?;
@@ -182,7 +192,7 @@ pub fn write(deepest: &str, folder: &str, budget: u32, count: u64) -> Result<Str
             Input::Release(_) => unreachable!("no release file is written"),
         }
     }
-    for (name, written) in [("walks", walks), ("checks", plain), ("whether", closing)] {
+    for (name, written) in [("walks", walks), ("guarded", guards), ("checks", plain), ("whether", closing)] {
         save(name.to_string(), written.names.as_bytes())?;
         save(format!("{name}.expected"), written.expected.as_bytes())?;
     }

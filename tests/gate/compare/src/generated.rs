@@ -19,7 +19,7 @@ const NUMBERS: [u64; 17] = [0, 1, 2, 3, 9, 10, 11, 12, 13, 14, 15, 16, 17, 18, 1
 /// From so many calls on, all that has to occur is looked for.
 const ENOUGH: u64 = 100_000;
 /// The largest budget for a request whose walk nobody has counted before.
-const MOST: u32 = 20_000;
+pub const MOST: u32 = 20_000;
 /// Streams of random numbers: of the calls, and of what stands around the lent bytes.
 const CALLS: u64 = 3;
 const FENCES: u64 = 4;
@@ -63,11 +63,25 @@ pub fn call(seed: u64, index: u64) -> Call {
     any_call(&mut Rng::new(seed, CALLS, index))
 }
 
-/// A call of the independent program's own generators, which make about three of ten requests wrong in some way; of some calls the request is
-/// made wrong once more or is one of another kind, or the budget or the lent state is another.
+/// A call of the independent program's own generators, which make about three of ten requests wrong in some way, and varied.
 pub fn any_call(rng: &mut Rng) -> Call {
-    let drawn = judge_call(rng);
-    let mut call = Call { request: drawn.request, lent: drawn.lent, budget: drawn.budget };
+    let drawn = |rng: &mut Rng| {
+        let drawn = judge_call(rng);
+        Call { request: drawn.request, lent: drawn.lent, budget: drawn.budget }
+    };
+    varied(rng, drawn, |rng| {
+        let draft = crowded(rng);
+        match rng.chance(40) {
+            true => damage_request(rng, &draft).bytes,
+            false => encode_request(&draft).bytes,
+        }
+    })
+}
+
+/// A call that is drawn; of some the request is made wrong once more or is one of another kind, or the budget or the lent state is another. A crowded
+/// request has lines, items and entries up to their limits.
+pub fn varied(rng: &mut Rng, drawn: impl Fn(&mut Rng) -> Call, crowded: impl Fn(&mut Rng) -> Vec<u8>) -> Call {
+    let mut call = drawn(rng);
     match rng.below(100) {
         0..=4 => {
             for _ in 0..rng.range(1, 3) {
@@ -76,7 +90,7 @@ pub fn any_call(rng: &mut Rng) -> Call {
             call.budget = call.budget.min(MOST);
         }
         5..=6 => {
-            let other = judge_call(rng).request;
+            let other = drawn(rng).request;
             cross(rng, &mut call.request, &other);
             call.budget = call.budget.min(MOST);
         }
@@ -87,11 +101,7 @@ pub fn any_call(rng: &mut Rng) -> Call {
         }
         8..=17 => call.budget = rng.below(80) as u32,
         18..=20 => {
-            let draft = crowded(rng);
-            call.request = match rng.chance(40) {
-                true => damage_request(rng, &draft).bytes,
-                false => encode_request(&draft).bytes,
-            };
+            call.request = crowded(rng);
             call.budget = *rng.pick(&[0, 3, 20, 1_000, MOST]);
         }
         21 => call.lent = (0..rng.below(2 * STATE_LENGTH)).map(|_| rng.byte(0, 255)).collect(),

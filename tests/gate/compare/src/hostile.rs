@@ -12,7 +12,7 @@ use crate::checks::Check;
 use crate::deepest;
 use crate::largest::{self, line};
 use crate::releases::Release;
-use crate::{release_hostile, whether_hostile};
+use crate::{guarded_hostile, release_hostile, whether_hostile};
 
 /// The stream of random numbers of the bytes that have no meaning.
 const BYTES: u64 = 10;
@@ -29,6 +29,7 @@ pub const SECTION: usize = 255;
 /// What a call takes.
 pub enum Input {
     Walk(Call),
+    Guarded(Call),
     Derivation(Check),
     Release(Release),
 }
@@ -60,6 +61,7 @@ pub fn named(folder: &str) -> Result<Vec<Named>, String> {
     inputs.extend(all_alike());
     inputs.extend(whether_hostile::named());
     inputs.extend(release_hostile::named(&releases));
+    inputs.extend(guarded_hostile::named(deepest::guarded_requests(folder)?));
     Ok(inputs)
 }
 
@@ -68,7 +70,8 @@ pub fn longest() -> Vec<Named> {
     sensed_at_once(&[LARGEST_BUDGET])
 }
 
-/// Any bytes, as a request, as a derivation in either layout and as a release file; those of every other four start as their input may.
+/// Any bytes, as a request, guarded or not, as a derivation in either layout and as a release file; those of every other five start as their input
+/// may.
 pub fn random(seed: u64, count: u64) -> Vec<Named> {
     let mut inputs = Vec::new();
     for index in 0..count {
@@ -90,6 +93,8 @@ pub fn random(seed: u64, count: u64) -> Vec<Named> {
         inputs.push(whether_hostile::check(&format!("random derivation {index}"), &wide(), closing));
         let plans = [release_hostile::table(&wide()), bytes(rng, REQUEST_LIMIT / 2, [64, 0])].concat();
         inputs.push(release_hostile::release(&format!("random plans {index}"), plans, FEW));
+        let ninth = [encode_request(&wide()).bytes, bytes(rng, REQUEST_LIMIT / 2, [64, 0])].concat();
+        inputs.push(guarded_hostile::guarded(&format!("random guards {index}"), ninth, FEW));
     }
     inputs
 }

@@ -1,5 +1,5 @@
-//! The exported calls timed beside two walks in Rust, on the same requests within one run; the release call timed beside walk calls; and the two
-//! walks against the independent program.
+//! The exported calls timed beside two walks in Rust, on the same requests within one run; the release call and the guarded call timed beside walk
+//! calls; and the two walks against the independent program.
 
 mod answers;
 mod best;
@@ -18,6 +18,7 @@ mod fence;
 #[allow(dead_code)]
 #[path = "../../../gate/compare/src/generated.rs"]
 mod generated;
+mod guards;
 mod plain;
 mod programs;
 mod releases;
@@ -34,7 +35,7 @@ use words::{number, obey, Failure};
 const STACK: usize = 256 << 20;
 
 const HELP: &str = "usage: bench check SEED COUNT | bench walks SEED ROUNDS COUNT | bench derivations SEED ROUNDS | bench releases SEED ROUNDS | \
-     bench only PROGRAM CLASS whole|reading COUNT PASSES";
+     bench guards SEED ROUNDS | bench only PROGRAM CLASS whole|reading COUNT PASSES";
 
 fn main() -> ExitCode {
     obey("bench", STACK, |words| {
@@ -43,6 +44,7 @@ fn main() -> ExitCode {
             ["walks", seed, rounds, count] => walks::time(number(seed)?, number(rounds)?, number(count)?),
             ["derivations", seed, rounds] => derivations::time(number(seed)?, number(rounds)?),
             ["releases", seed, rounds] => releases::time(number(seed)?, number(rounds)?),
+            ["guards", seed, rounds] => guards::time(number(seed)?, number(rounds)?),
             ["only", program, class, part, count, passes] => walks::only(program, class, part, number(count)?, number(passes)?),
             _ => return Err(Failure::Usage(HELP.to_string())),
         };

@@ -21,6 +21,12 @@ mod fence;
 #[allow(dead_code)]
 #[path = "../../../gate/compare/src/generated.rs"]
 mod generated;
+#[allow(dead_code)]
+#[path = "../../../gate/compare/src/guarded.rs"]
+mod guarded;
+#[allow(dead_code)]
+#[path = "../../../gate/compare/src/guarded_cases.rs"]
+mod guarded_cases;
 pub mod input;
 #[allow(dead_code)]
 #[path = "../../../gate/compare/src/release_cases.rs"]
@@ -48,6 +54,7 @@ pub fn agreed(bytes: &[u8]) -> Result<[u64; 4], String> {
     let mut rng = Rng::new(1, FENCES, bytes.len() as u64);
     match given(bytes) {
         Given::Walk(call) => calls::agreed(&mut rng, &call).map(|left| left.answer).map_err(|why| format!("{why}; {call}")),
+        Given::Guarded(call) => guarded::agreed(&mut rng, &call).map(|left| left.answer).map_err(|why| format!("{why}; {call}")),
         Given::Derivation(check) => checks::agreed(&mut rng, &check).map_err(|why| format!("{why}; {check}")),
         Given::Release(call) => releases::agreed(&mut rng, &call).map(|left| left.summed()).map_err(|why| format!("{why}; {call}")),
     }

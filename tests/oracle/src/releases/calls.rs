@@ -15,7 +15,7 @@ use crate::model::{Item, Request};
 use crate::plans;
 use crate::reader::{ITEM_LIMIT, NESTING_LIMIT, PLAN_LIMIT, REQUEST_LIMIT};
 use crate::rng::Rng;
-use crate::walk::{walk, Verdict};
+use crate::walk::walk;
 
 /// The largest budget for a file of many plans in which one counts more.
 const MANY_CAP: u32 = 2_000;
@@ -254,11 +254,7 @@ pub fn lend_wrongly(rng: &mut Rng, call: &mut ReleaseCall) {
 /// A budget below, at, just above or far above the count of one of the walks.
 fn budget(rng: &mut Rng, draft: &Draft) -> u32 {
     let cap = most_counted(draft);
-    let counted = |plan: &Request| match walk(plan, cap) {
-        Verdict::Over => None,
-        Verdict::Verified { count } => Some(count as u32),
-        Verdict::Missed { count, .. } | Verdict::Stuck { count, .. } => Some(count as u32),
-    };
+    let counted = |plan: &Request| walk(plan, cap).count().map(|count| count as u32);
     let counts: Option<Vec<u32>> = draft.plans.iter().map(counted).collect();
     let Some(counts) = counts else {
         return *rng.pick(&[0, 7, 1_000, cap]);

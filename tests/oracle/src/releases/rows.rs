@@ -16,7 +16,7 @@ use crate::reader::{read_release, REQUEST_LIMIT};
 use crate::rng::Rng;
 use crate::rows::{rounds, tell_bytes, Wanted, LONG_BYTES};
 use crate::settle::settle_plan;
-use crate::walk::{walk, Verdict};
+use crate::walk::walk;
 
 /// Most bytes of a file, of the few that are longer, and of one with 64 plans.
 const BYTES: usize = 150;
@@ -134,11 +134,7 @@ fn is_light(call: &ReleaseCall) -> bool {
     };
     let counts = read.plans.iter().flat_map(|plan| &plan.read);
     let counts = counts.filter(|plan| settle_plan(plan).is_ok());
-    let counts = counts.map(|plan| match walk(plan, COUNT as u32) {
-        Verdict::Verified { count } => count,
-        Verdict::Missed { count, .. } | Verdict::Stuck { count, .. } => count,
-        Verdict::Over => COUNT + 1,
-    });
+    let counts = counts.map(|plan| walk(plan, COUNT as u32).count().unwrap_or(COUNT + 1));
     counts.sum::<u64>() <= COUNT
 }
 

@@ -14,7 +14,7 @@ use Rattle.refusing.proofs.settled.settle.Reads as settle-reads
 settle-requires : tie.Need-settle-requires
 settle-requires c κs = search blank-is
 
--- src/check_calls.rt:69:49
+-- src/check_calls.rt:69:57
 enum-told : tie.Need-enum-told
 enum-told c = search needs
 

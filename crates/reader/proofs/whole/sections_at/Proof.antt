@@ -9,47 +9,47 @@ use Rattle.bytes.proofs.bytes.wide.Reads as wide-reads
 use Rattle.reading.proofs.requests.request_at.Reads as request-at-reads
 use Rattle.reading.proofs.requests.table_at.Reads as table-at-reads
 
--- src/whole.rt:23:11
+-- src/whole.rt:29:11
 table-at-requires : tie.Need-table-at-requires
 table-at-requires c κs = search needs
 
--- src/whole.rt:24:20
+-- src/whole.rt:30:20
 enum-known-q : tie.Need-enum-known-q
 enum-known-q c = search needs
 
--- src/whole.rt:25:26
+-- src/whole.rt:31:26
 shared-slice-read-wide : tie.Need-shared-slice-read-wide
 shared-slice-read-wide c = search first-there
 
--- src/whole.rt:25:17
+-- src/whole.rt:31:17
 wide-requires : tie.Need-wide-requires
 wide-requires c κs = search needs
 
--- src/whole.rt:26:26
+-- src/whole.rt:32:26
 add-second : tie.Need-add-second
 add-second c = search (needs, second-fits)
 
--- src/whole.rt:27:26
+-- src/whole.rt:33:26
 shared-slice-read-wide-2 : tie.Need-shared-slice-read-wide-2
 shared-slice-read-wide-2 c = search second-there
 
--- src/whole.rt:27:17
+-- src/whole.rt:33:17
 wide-requires-2 : tie.Need-wide-requires-2
 wide-requires-2 c κs = search needs
 
--- src/whole.rt:28:13
+-- src/whole.rt:34:13
 request-at-requires : tie.Need-request-at-requires
 request-at-requires c κs = search (needs, fluents-most)
 
--- src/whole.rt:30:23
+-- src/whole.rt:36:23
 enum-known-k : tie.Need-enum-known-k
 enum-known-k c = search needs
 
--- src/whole.rt:19:1
+-- src/whole.rt:25:1
 returns : tie.Need-returns
 returns c = search sections-there
 
--- src/whole.rt:19:1
+-- src/whole.rt:25:1
 returns-2 : tie.Need-returns-2
 returns-2 c = search sections-fault
 

@@ -8,31 +8,31 @@ use Rattle.reading.proofs.notes.append_line.Lts as lts
 use Rattle.reading.proofs.notes.before.Reads as before-reads
 use Rattle.reading.proofs.notes.put.Reads as put-reads
 
--- src/notes.rt:136:12
+-- src/notes.rt:138:12
 add-put : tie.Need-add-put
 add-put c = search needs
 
--- src/notes.rt:136:5
+-- src/notes.rt:138:5
 put-requires : tie.Need-put-requires
 put-requires c κs = search needs
 
--- src/notes.rt:137:9
+-- src/notes.rt:139:9
 before-requires : tie.Need-before-requires
 before-requires c κs = search needs
 
--- src/notes.rt:138:12
+-- src/notes.rt:140:12
 add-put-2 : tie.Need-add-put-2
 add-put-2 c = search needs
 
--- src/notes.rt:138:12
+-- src/notes.rt:140:12
 add-put-3 : tie.Need-add-put-3
 add-put-3 c = search (needs, link-fits)
 
--- src/notes.rt:138:5
+-- src/notes.rt:140:5
 put-requires-2 : tie.Need-put-requires-2
 put-requires-2 c κs = search (needs, link-there)
 
--- src/notes.rt:129:1
+-- src/notes.rt:131:1
 returns : tie.Need-returns
 returns c = search line-appended
 

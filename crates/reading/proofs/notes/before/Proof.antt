@@ -7,19 +7,19 @@ use Rattle.reading.proofs.notes.before.Reads as reads
 use Rattle.reading.proofs.notes.before.Lts as lts
 use Rattle.bytes.proofs.bytes.wide.Reads as wide-reads
 
--- src/notes.rt:123:16
+-- src/notes.rt:125:16
 add-result : tie.Need-add-result
 add-result c = search needs
 
--- src/notes.rt:123:9
+-- src/notes.rt:125:9
 returns : tie.Need-returns
 returns c = search before-first
 
--- src/notes.rt:125:5
+-- src/notes.rt:127:5
 wide-requires : tie.Need-wide-requires
 wide-requires c κs = search needs
 
--- src/notes.rt:118:1
+-- src/notes.rt:120:1
 returns-2 : tie.Need-returns-2
 returns-2 c = search before-later
 

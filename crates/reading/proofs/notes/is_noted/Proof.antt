@@ -8,23 +8,23 @@ use Rattle.reading.proofs.notes.is_noted.Lts as lts
 use Rattle.reading.proofs.bits.has_bit.Reads as has-bit-reads
 use Rattle.reading.proofs.notes.pair_slot.Reads as pair-slot-reads
 
--- src/notes.rt:167:9
+-- src/notes.rt:169:9
 pair-slot-requires : tie.Need-pair-slot-requires
 pair-slot-requires c κs = search needs
 
--- src/notes.rt:168:13
+-- src/notes.rt:170:13
 mul-has-bit : tie.Need-mul-has-bit
 mul-has-bit c = search needs
 
--- src/notes.rt:168:13
+-- src/notes.rt:170:13
 element-copy-out-has-bit : tie.Need-element-copy-out-has-bit
 element-copy-out-has-bit c = search needs
 
--- src/notes.rt:168:5
+-- src/notes.rt:170:5
 has-bit-requires : tie.Need-has-bit-requires
 has-bit-requires c κs = search needs
 
--- src/notes.rt:162:1
+-- src/notes.rt:164:1
 returns : tie.Need-returns
 returns c = search pair-got
 

@@ -7,15 +7,15 @@ use Rattle.reading.proofs.notes.line_place.Reads as reads
 use Rattle.reading.proofs.notes.line_place.Lts as lts
 use Rattle.reading.proofs.notes.get.Reads as get-reads
 
--- src/notes.rt:93:16
+-- src/notes.rt:95:16
 add-slot : tie.Need-add-slot
 add-slot c = search needs
 
--- src/notes.rt:94:5
+-- src/notes.rt:96:5
 get-requires : tie.Need-get-requires
 get-requires c κs = search needs
 
--- src/notes.rt:88:1
+-- src/notes.rt:90:1
 returns : tie.Need-returns
 returns c = search place-got
 

@@ -7,19 +7,19 @@ use Rattle.reading.proofs.notes.next_line.Reads as reads
 use Rattle.reading.proofs.notes.next_line.Lts as lts
 use Rattle.reading.proofs.notes.get.Reads as get-reads
 
--- src/notes.rt:103:16
+-- src/notes.rt:105:16
 add-slot : tie.Need-add-slot
 add-slot c = search needs
 
--- src/notes.rt:103:16
+-- src/notes.rt:105:16
 add-slot-2 : tie.Need-add-slot-2
 add-slot-2 c = search needs
 
--- src/notes.rt:104:5
+-- src/notes.rt:106:5
 get-requires : tie.Need-get-requires
 get-requires c κs = search needs
 
--- src/notes.rt:98:1
+-- src/notes.rt:100:1
 returns : tie.Need-returns
 returns c = search next-got
 

@@ -8,19 +8,19 @@ use Rattle.reading.proofs.notes.raise.Lts as lts
 use Rattle.reading.proofs.notes.get.Reads as get-reads
 use Rattle.reading.proofs.notes.put.Reads as put-reads
 
--- src/notes.rt:147:8
+-- src/notes.rt:149:8
 get-requires : tie.Need-get-requires
 get-requires c κs = search needs
 
--- src/notes.rt:148:9
+-- src/notes.rt:150:9
 put-requires : tie.Need-put-requires
 put-requires c κs = search needs
 
--- src/notes.rt:142:1
+-- src/notes.rt:144:1
 returns : tie.Need-returns
 returns c = search raise-set
 
--- src/notes.rt:142:1
+-- src/notes.rt:144:1
 returns-2 : tie.Need-returns-2
 returns-2 c = search raise-not
 

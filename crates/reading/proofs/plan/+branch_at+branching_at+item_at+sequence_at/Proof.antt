@@ -81,7 +81,7 @@ branching-at-Inv-loop n m deep s start i t₀ inner count up c q left₀ p₀ me
 abbrev branching-at-μ-loop : branching-at-lts.MeasureT-loop
 branching-at-μ-loop n m deep s start i t₀ inner count up c q left₀ p₀ met₀ t left p met = left
 
--- src/plan.rt:93:1
+-- src/plan.rt:95:1
 item-at-returns-4 : (t : ℕ) → item-at-lts.Need-returns-4 (
   byte-at-reads.Asked,
   byte-at-reads.Learnt,

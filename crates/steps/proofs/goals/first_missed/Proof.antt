@@ -21,51 +21,51 @@ Inv-loop asked marks s p end i₀ i = (p ≤ i) × (found (first-missed (met-as 
 abbrev μ-loop : tie.MeasureT-loop
 μ-loop asked marks s p end i₀ i = end - i
 
--- src/goals.rt:42:24
+-- src/goals.rt:43:24
 shared-slice-read-wide : tie.Need-shared-slice-read-wide Inv-loop μ-loop
 shared-slice-read-wide c = search list-there
 
--- src/goals.rt:42:19
+-- src/goals.rt:43:19
 wide-requires : tie.Need-wide-requires Inv-loop μ-loop
 wide-requires c κs = search needs
 
--- src/goals.rt:42:15
+-- src/goals.rt:43:15
 add-end : tie.Need-add-end Inv-loop μ-loop
 add-end c = search list-fits
 
--- src/goals.rt:44:5
+-- src/goals.rt:45:5
 loop-holds : tie.Need-loop-holds Inv-loop μ-loop
 loop-holds c = search (needs, missed-starts)
 
--- src/goals.rt:45:9
+-- src/goals.rt:46:9
 add-i : tie.Need-add-i Inv-loop μ-loop
 add-i c = search entry-fits
 
--- src/goals.rt:46:22
+-- src/goals.rt:47:22
 shared-slice-read-wide-2 : tie.Need-shared-slice-read-wide-2 Inv-loop μ-loop
 shared-slice-read-wide-2 c = search entry-there
 
--- src/goals.rt:46:13
+-- src/goals.rt:47:13
 wide-requires-2 : tie.Need-wide-requires-2 Inv-loop μ-loop
 wide-requires-2 c κs = search needs
 
--- src/goals.rt:47:13
+-- src/goals.rt:48:13
 met-requires : tie.Need-met-requires Inv-loop μ-loop
 met-requires c κs = search (needs, entry-below)
 
--- src/goals.rt:44:5
+-- src/goals.rt:45:5
 loop-less : tie.Need-loop-less Inv-loop μ-loop
 loop-less c = search needs
 
--- src/goals.rt:44:5
+-- src/goals.rt:45:5
 loop-again : tie.Need-loop-again Inv-loop μ-loop
 loop-again c = search (needs, missed-next)
 
--- src/goals.rt:51:9
+-- src/goals.rt:52:9
 returns : tie.Need-returns Inv-loop μ-loop
 returns c = search missed-here
 
--- src/goals.rt:37:1
+-- src/goals.rt:38:1
 returns-2 : tie.Need-returns-2 Inv-loop μ-loop
 returns-2 c = search missed-done
 

@@ -3,7 +3,7 @@
 use Rattle.steps.proofs.LookLaws.{first-marked, second-marked, after-marked}
 use Rattle.steps.proofs.AfterLaws.{runs-there}
 use Rattle.walking.proofs.FallLaws.{walk-measure, branching-measure, fork-measure, fork-falls, fork-walk-falls, walk-branching-falls, walk-fork-falls, branching-walk-falls, follow-falls, followed-position, chosen-position, marked-sized, opens-branching, is-branching, action-here}
-use Rattle.walking.proofs.WalkArms.{going-after-fork, going-after-walk, going-after-one, walking-counted, action-low, item-stuck, run-spent, run-moves, run-forks, run-sees, branch-taken, none-taken, Walking, walking-starts, walking-there, walking-marked, walking-sized, walking-going, walking-later, walking-ends, walking-judged, walking-on}
+use Rattle.walking.proofs.WalkArms.{going-after-fork, going-after-walk, going-after-one, walking-counted, action-low, item-stuck, run-spent, run-moves, run-forks, run-sees, branch-taken, none-taken, Walking, walking-starts, walking-here, walking-there, walking-marked, walking-sized, walking-going, walking-later, walking-broken, walking-passed, walking-ends, walking-judged, walking-on, passed-lacks}
 use Rattle.walking.proofs.ForkLaws.{fork-rises, fork-stops, fork-forks, last-stops, last-walks}
 use Rattle.walking.proofs.StandingLaws.{notable}
 use Rattle.walking.proofs.PlacesFit.{item-fits}
@@ -34,6 +34,7 @@ use Rattle.steps.proofs.sensing.next_unknown.Reads as next-unknown-reads
 use Rattle.walking.proofs.tally.count_one.Reads as count-one-reads
 use Rattle.walking.proofs.tally.goes_on.Reads as goes-on-reads
 use Rattle.walking.proofs.tally.note.Reads as note-reads
+use Rattle.walking.proofs.walk.breaks.Reads as breaks-reads
 use Rattle.walking.proofs.walk.judge_end.Reads as judge-end-reads
 use Rattle.walking.proofs.walk.+fork+walk+walk_branching.{statement}
 use Rattle.walking.proofs.walk.+fork+walk+walk_branching.Tie.{close}
@@ -153,6 +154,8 @@ pub +fork+walk+walk-branching-spec : {M : Type 1} → statement M
     (λ c. search last-walks)
     (λ c. search last-stops))
     (λ t. walk-lts.spec (
+      breaks-reads.Asked,
+      breaks-reads.Learnt,
       get-reads.Asked,
       get-reads.Learnt,
       walk-branching-below t,
@@ -185,31 +188,35 @@ pub +fork+walk+walk-branching-spec : {M : Type 1} → statement M
     walk-Inv-loop
     walk-μ-loop
     (λ c. search walking-starts)
+    (λ c κs. (search needs, (search walking-marked, search walking-going)))
+    (λ c. search walking-broken)
     (λ c. search (place-fits, walking-there))
     (λ c κs. search (place-there, walking-there))
     (λ c. search (item-inside, walking-there))
-    (λ c κs. (search (walk-branching-falls, walking-later), (search needs, (search walking-there, (search is-branching, (search walking-marked, search walking-going))))))
+    (λ c κs. (search (walk-branching-falls, walking-later), (search needs, (search passed-lacks, (search walking-there, (search is-branching, (search walking-marked, search walking-passed)))))))
     (λ c. search (branch-taken, walking-ends))
     (λ c. search (item-inside, walking-there))
     (λ c κs. search needs)
     (λ c κs. (search needs, search (action-small, walking-there)))
-    (λ c κs. search walking-going)
+    (λ c κs. search walking-passed)
     (λ c κs. search needs)
     (λ c κs. (search needs, search (action-small, walking-there)))
     (λ c κs. (search needs, (search (action-small, walking-there), search walking-marked)))
-    (λ c κs. (search (walk-fork-falls, walking-later), (search needs, (search walking-there, (action-low _ _ (search needs) _ (search walking-there) _ (c .before .before .before .before .before .before .before .before .before .before .before .before .before .before .before .before .before .before .get .ensures) (c .before .before .before .before .before .before .before .before .before .before .before .before .before .before .before .before .if1 .left), (search needs, (search walking-marked, going-after-one _ _ (search walking-going) (c .before .before .before .before .before .before .before .before .before .count-one .ensures) _ (c .before .before .before .before .before .before .before .goes-on .ensures) (c .before .before .before .before .before .before .if3 .taken))))))))
-    (λ c. search (walking-ends, run-forks, walking-there, walking-going, walking-marked))
+    (λ c κs. (search (walk-fork-falls, walking-later), (search walking-here, (search walking-there, (action-low _ _ (search walking-here) _ (search walking-there) _ (c .before .before .before .before .before .before .before .before .before .before .before .before .before .before .before .before .before .before .get .ensures) (c .before .before .before .before .before .before .before .before .before .before .before .before .before .before .before .before .if2 .left), (search needs, (search walking-marked, going-after-one _ _ (search walking-passed) (c .before .before .before .before .before .before .before .before .before .count-one .ensures) _ (c .before .before .before .before .before .before .before .goes-on .ensures) (c .before .before .before .before .before .before .if4 .taken))))))))
+    (λ c. search (walking-ends, run-forks, walking-here, walking-there, walking-passed, walking-marked))
     (λ c κs. (search needs, search walking-there))
     (λ c. search follow-falls)
-    (λ c. search (walking-on, walking-counted, walking-marked, run-sees, walking-there, walking-going))
-    (λ c κs. (search needs, (search (action-small, walking-there), (search walking-marked, search runs-there))))
+    (λ c. search (walking-on, walking-counted, walking-marked, run-sees, walking-there, walking-passed))
+    (λ c κs. (search needs, (search (action-small, walking-there), (search walking-marked, runs-there _ _ _ _ (c .before .before .before .before .before .before .before .before .before .can-be-run .ensures) (c .before .before .before .before .before .before .before .before .if3 .taken)))))
     (λ c κs. (search needs, search walking-there))
     (λ c. search follow-falls)
-    (λ c. search (walking-on, walking-counted, after-marked, walking-marked, run-moves, walking-there, walking-going))
-    (λ c. search (walking-ends, run-spent, walking-there, walking-going))
-    (λ c κs. (search walking-going, (search walking-sized, (search (needs, notable), search (item-fits, walking-there)))))
-    (λ c. search (walking-ends, item-stuck, walking-there, walking-going))
+    (λ c. search (walking-on, walking-counted, after-marked, walking-marked, run-moves, walking-there, walking-passed))
+    (λ c. search (walking-ends, run-spent, walking-there, walking-passed))
+    (λ c κs. (search walking-passed, (search walking-sized, (search (needs, notable), search (item-fits, walking-there)))))
+    (λ c. search (walking-ends, item-stuck, walking-there, walking-passed))
     (λ c κs. (search needs, (search walking-marked, search walking-going)))
+    (λ c. search walking-broken)
+    (λ c κs. (search needs, (search walking-marked, search walking-passed)))
     (λ c. search walking-judged))
     λ t. walk-branching-lts.spec (
       chosen-reads.Asked,

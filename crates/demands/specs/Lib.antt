@@ -1,0 +1,4 @@
+pub mod Formerly
+pub mod Depth
+pub mod Reuse
+pub mod Wider

@@ -1,0 +1,69 @@
+-- The three ways out, as of the walk call.
+use Rattle.glintstring.proofs.JudgingLaws.{guarded-9, guarded-line-9, guarded-walked, guarded-line-walked, guarded-refused, guarded-line-refused}
+use Rattle.glintstring.proofs.SettledAtHand.{guarded-hand}
+use Rattle.verdicts.proofs.ReleasingLaws.{blank-is}
+use borrow.Author.Needs.{needs}
+use Rattle.glintstring.proofs.judging.judge_guarded.Statement.{statement}
+use Rattle.glintstring.proofs.judging.judge_guarded.Tie as tie
+use Rattle.glintstring.proofs.judging.judge_guarded.Reads as reads
+use Rattle.glintstring.proofs.judging.judge_guarded.Lts as lts
+use Rattle.glintstring.proofs.judging.walk_with_line.Reads as walk-with-line-reads
+use Rattle.glintstring.proofs.judging.without_walk.Reads as without-walk-reads
+use Rattle.refusing.proofs.settled.settle_guarded.Reads as settle-guarded-reads
+
+-- src/judging.rt:86:9
+without-walk-requires : tie.Need-without-walk-requires
+without-walk-requires c κs = search needs
+
+-- src/judging.rt:86:9
+returns : tie.Need-returns
+returns c = (search guarded-9, search guarded-line-9)
+
+-- src/judging.rt:89:11
+settle-guarded-requires : tie.Need-settle-guarded-requires
+settle-guarded-requires c κs = search blank-is
+
+-- src/judging.rt:90:50
+enum-told : tie.Need-enum-told
+enum-told c = search needs
+
+-- src/judging.rt:90:26
+walk-with-line-requires : tie.Need-walk-with-line-requires
+walk-with-line-requires c κs =
+    let settles = c .before .before .before .before in
+    (guarded-hand _ _ _ _ (settles .settle-guarded .ensures) _ (c .before .before .enum-told .given .1) (settles .before .before .before .before .shared-slice-known .given) blank-is, search needs)
+
+-- src/judging.rt:91:23
+enum-known-k : tie.Need-enum-known-k
+enum-known-k c = search needs
+
+-- src/judging.rt:91:32
+without-walk-requires-2 : tie.Need-without-walk-requires-2
+without-walk-requires-2 c κs = search needs
+
+-- src/judging.rt:81:1
+same-length : tie.Need-same-length
+same-length c = search needs
+
+-- src/judging.rt:81:1
+returns-2 : tie.Need-returns-2
+returns-2 c = (search (guarded-walked, blank-is), search (guarded-line-walked, blank-is))
+
+-- src/judging.rt:81:1
+returns-3 : tie.Need-returns-3
+returns-3 c = (search guarded-refused, search guarded-line-refused)
+
+pub judge-guarded-spec : {M : Type 1} → statement M
+judge-guarded-spec =
+    tie.close
+    (tie.spec
+    without-walk-requires
+    returns
+    settle-guarded-requires
+    enum-told
+    walk-with-line-requires
+    enum-known-k
+    without-walk-requires-2
+    same-length
+    returns-2
+    returns-3)

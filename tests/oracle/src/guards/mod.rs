@@ -1,0 +1,6 @@
+//! Guarded plans: the guarded call, random calls, a run of them, and rows.
+
+pub mod call;
+pub mod calls;
+pub mod rows;
+pub mod run;
