@@ -198,8 +198,8 @@ uint64_t glintstring_judge_line(const uint8_t *request, size_t request_length, u
  *
  * The lent state is written by answers 1, 2 and 43 and by no other, as glintstring_judge writes it; for 43 with the state that lacks
  * the guard. Nothing in the bytes says whether guards follow: glintstring_judge gives 20 to a guarded request, placed at the count of
- * its guards, and this call gives 11 to a request that ends with its eighth section. With no guards, one byte 0 behind a request, it
- * answers as glintstring_judge does without that byte.
+ * its guards, and this call gives 11 to a request that ends with its eighth section. With no guards, one byte 0 behind a request of
+ * less than 16,384 bytes, it answers as glintstring_judge does without that byte.
  *
  * The caller sees to the same as for glintstring_judge, and the call keeps nothing either.
  */

@@ -83,7 +83,8 @@ pub use Rattle.demands.proofs.GuardedMet.{broken-where-met, reading-kee
 -- Demand 3 (FORMAT 21.25): where it is verified, it is carried out in every world with the initial facts, and its guards hold all along.
 pub use Rattle.demands.proofs.GuardedSound.{guarded-sound}
 -- Without guards it answers as the walk call (FORMAT 21.17).
-pub use Rattle.meaning.proofs.GuardedEmpty.{walked-unguarded, without-guards}
+pub use Rattle.meaning.proofs.KeptEnds.{walked-unguarded}
+pub use Rattle.meaning.proofs.GuardedEmpty.{without-guards}
 -- Answer 2 carries the line of the item at its place in the state left, and every other answer, 43 among them, none (FORMAT 21.20).
 pub use Rattle.meaning.proofs.GuardedLine.{guarded-line-there, guarded-no-line, no-line-broken, guarded-line-missing}
 

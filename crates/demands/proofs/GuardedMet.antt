@@ -27,7 +27,7 @@ use Rattle.meaning.proofs.PickLaws.{pick-has, has-picked}
 use Rattle.meaning.proofs.SettledLaws.{Fit, Fit-item, Fit-branches}
 use Rattle.meaning.proofs.RangeLaws.{Ranged}
 use Rattle.meaning.proofs.RefusalLaws.{at≢nowhere}
-use Rattle.meaning.proofs.EndLaws.{Ends, Stops, arrives≢stops, arrives-same, ends-one, went-on, stop-goes-on, arrives-on, stop-ends, Says, none-missed}
+use Rattle.meaning.proofs.EndLaws.{Ends, Stops, arrives≢stops, arrives-same, ends-one, went-on, stop-goes-on, arrives-on, stop-ends, fine-each, Says, none-missed}
 use Rattle.meaning.proofs.PairLaws.{true-grows, true-in-pair}
 use Rattle.meaning.proofs.SensingLaws.{reading-is}
 use Rattle.meaning.proofs.ToldLaws.{first-length, first-least}
@@ -259,9 +259,10 @@ module _ (lim : Limits) (room : lim .fluents ≤ lim .state) (b lent : List ℕ)
     -- Verified, exactly where the goals and the whether fluents are entailed and each guard is true in every a-state that is met.
     pub guarded-verified-exactly : (number lim b lent budget ≡ Limits.verified) ↔ (Entailed r × Guards-true r (values (g .guards)))
     guarded-verified-exactly =
-        let exactly = guarded-fine-exactly lim b lent budget g e lent-length past enough in (
-          λ q. let w = exactly .0 q in fine-entails (w .0) (w .1),
-          λ k. exactly .1 (entails-fine (k .0) (k .1)),
+        let exactly = guarded-fine-exactly lim b lent budget g e lent-length past enough in
+        let each = fine-each (missed-in r) (met-paths lim g) in (
+          λ q. let w = each .1 (exactly .0 q) in fine-entails (w .0) (w .1),
+          λ k. exactly .1 (each .0 (entails-fine (k .0) (k .1))),
         )
 
     -- A goal missed, exactly where neither is so nor a path stops in a state that lacks a guard, or at an item, as the first that stops.

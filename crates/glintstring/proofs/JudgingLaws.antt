@@ -14,12 +14,12 @@ use Rattle.meaning.specs.Limits.{format}
 use Rattle.meaning.specs.Requests.{Entry, Request}
 use Rattle.meaning.specs.Refusals.{settled}
 use Rattle.meaning.specs.States.{State, first-state}
-use Rattle.meaning.specs.Walk.{Walked, walked, walked-guarded}
-use Rattle.meaning.specs.Judging.{Judgement, within, judge-settled, judge, refused-at, wrong-length}
+use Rattle.meaning.specs.Walk.{Walked, walked-guarded}
+use Rattle.meaning.specs.Judging.{Judgement, within, judge-settled, judge, wrong-length}
 use Rattle.meaning.specs.Guards.{Guarded-request, settled-guarded, walk-of, guarded-settled, judge-guarded, line-guarded-settled, line-guarded}
 use Rattle.meaning.specs.Asking.{line-told, line-settled, line}
 use Rattle.meaning.proofs.TestLaws.{pick-true, pick-false}
-use Rattle.meaning.proofs.GuardedEmpty.{walked-unguarded}
+use Rattle.meaning.proofs.KeptEnds.{walked-unguarded}
 use Rattle.meaning.proofs.ReportedLine.{no-line}
 use Rattle.meaning.proofs.GuardedLine.{guarded-no-line}
 use Rattle.bytes.specs.declared.lists.Passed.{Passed}

@@ -7,7 +7,7 @@ use mir.Syntax.{w8}
 use mir.Val.{Fits}
 use Rattle.meaning.specs.Limits.{format}
 use Rattle.meaning.specs.Requests.{Request}
-use Rattle.meaning.specs.Reading.{got, read-request}
+use Rattle.meaning.specs.Reading.{got}
 use Rattle.meaning.specs.Refusals.{settled}
 use Rattle.meaning.specs.Guards.{Guarded-request, settled-guarded}
 use Rattle.meaning.proofs.SettledLaws.{Settled, settled-is}

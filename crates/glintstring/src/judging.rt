@@ -17,10 +17,11 @@ use reading::notes::Notes;
 use refusing::settled::settle;
 use refusing::settled::settle_guarded;
 use verdicts::answers;
+use verdicts::answers::uncounted;
 use verdicts::walked::walk_plan;
 
-// What a lent state is to have.
-const STATE_LENGTH: usize = limits::FLUENTS;
+// The length of a lent state.
+const STATE_BYTES: usize = limits::FLUENTS;
 
 // The walk of a settled request, and the line of the action that stopped it.
 fn walk_with_line(request: &[u8], t: &Notes, state: &mut [u8], budget: u32) -> Judged
@@ -49,18 +50,13 @@ pub struct Judged {
     pub line: u32,
 }
 
-// An answer that no walk gives: its count is 0, and it carries no line.
+// An answer that no walk gives, and that carries no line.
 fn without_walk(number: u8, input: u8, place: usize) -> Judged
     ensures { λ r. ⌜ r .answer ≡ record { number = number; input = input; place = place; count = 0 } ⌝ }
     ensures { λ r. ⌜ r .line ≡ 0 ⌝ }
 {
     Judged {
-        answer: Answer {
-            number: number,
-            input: input,
-            place: place,
-            count: 0,
-        },
+        answer: uncounted(number, input, place),
         line: 0,
     }
 }
@@ -70,7 +66,7 @@ pub fn judge(request: &[u8], state: &mut [u8], budget: u32) -> Judged
     ensures given { λ r. ⌜ record { answer = r .answer; state = now (state .exit) } ≡ judge format (now (request .entry)) (now (state .entry)) budget ⌝ }
     ensures line { λ r. ⌜ r .line ≡ line format (now (request .entry)) (now (state .entry)) budget ⌝ }
 {
-    if state.len() != STATE_LENGTH {
+    if state.len() != STATE_BYTES {
         return without_walk(answers::STATE_LENGTH, answers::NEITHER_INPUT, 0);
     }
     let mut t: Notes = [0u16; notes::SLOTS];
@@ -85,7 +81,7 @@ pub fn judge_guarded(request: &[u8], state: &mut [u8], budget: u32) -> Judged
     ensures given { λ r. ⌜ record { answer = r .answer; state = now (state .exit) } ≡ judge-guarded format (now (request .entry)) (now (state .entry)) budget ⌝ }
     ensures line { λ r. ⌜ r .line ≡ line-guarded format (now (request .entry)) (now (state .entry)) budget ⌝ }
 {
-    if state.len() != STATE_LENGTH {
+    if state.len() != STATE_BYTES {
         return without_walk(answers::STATE_LENGTH, answers::NEITHER_INPUT, 0);
     }
     let mut t: Notes = [0u16; notes::SLOTS];

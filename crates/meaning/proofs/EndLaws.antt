@@ -74,6 +74,11 @@ module _ {S : Type 0} where
   has-ends (y ∷ ys) x e (inl r) q = inl (sym q ∙ ap (λ (z : Path S). z .ending) r)
   has-ends (y ∷ ys) x e (inr h) q = inr (has-ends ys x e h q)
 
+  ends-has : (xs : List (Path S)) (e : Ending S) → Ends xs e → (x : Path S) × Has xs x × (x .ending ≡ e)
+  ends-has [] e ends = absurd ends
+  ends-has (y ∷ ys) e (inl here) = (y, inl refl, sym here)
+  ends-has (y ∷ ys) e (inr later) = let w = ends-has ys e later in (w .0, inr (w .1), w .2)
+
   -- Where none stops, each arrives.
   pub all-arrive : (xs : List (Path S)) → (Stops xs → ⊥) → (x : Path S) → Has xs x → (u : S) × (x .ending ≡ arrives u)
   all-arrive xs none x h = by-ending (x .ending) refl
@@ -222,6 +227,16 @@ module _ {S : Type 0} (miss : S → Found) where
           (λ r. rw (misses-not miss u w r) (later w says (λ v k. ap miss (arrives-same (k ∙ sym q)) ∙ r)))
           (λ p r. rw (misses-here miss u w p r) (first-here (sym q, r)))
       by-ending (stops n p s) q w says = unfold miss-of in later w says (λ v k. absurd (arrives≢stops (k ∙ sym q)))
+
+  -- No path stops and none misses anything, exactly where each arrives and misses nothing.
+  pub fine-each : (xs : List (Path S)) → ((Stops xs → ⊥) × ((u : S) → Ends xs (arrives u) → miss u ≡ nowhere)) ↔ ((x : Path S) → Has xs x → (u : S) × (x .ending ≡ arrives u) × (miss u ≡ nowhere))
+  fine-each xs = (
+    λ w x has. let there = all-arrive xs (w .0) x has in (there .0, there .1, w .1 (there .0) (has-ends xs x (arrives (there .0)) has (there .1))),
+    λ each. (
+      λ stop. let x = ends-has xs _ (stop .3) in arrives≢stops (sym (each (x .0) (x .1) .1) ∙ x .2),
+      λ u ends. let x = ends-has xs (arrives u) ends in let fine = each (x .0) (x .1) in ap miss (arrives-same (sym (x .2) ∙ fine .1)) ∙ fine .2,
+    ),
+  )
 
   -- What the end of the walk along a list says of it.
   abbrev pub Says : List (Path S) → End S → Type 0

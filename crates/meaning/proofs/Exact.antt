@@ -7,9 +7,9 @@ use mathlib.Core.Bool.{Bool, true}
 use mathlib.Core.List.{List}
 use mathlib.Core.Logic.{⊎-elim, _↔_}
 use lib.ListN.{length}
-use lib.Dec.{ltb, eqb}
-use borrow.Author.Tests.{eqb-true, eq-eqb, ltb-true, lt-ltb, le-ltb}
-use Rattle.meaning.specs.Tests.{either, pick, some-of, each-of, Has}
+use lib.Dec.{eqb}
+use borrow.Author.Tests.{eqb-true, eq-eqb}
+use Rattle.meaning.specs.Tests.{either, some-of, each-of, Has}
 use Rattle.meaning.specs.Limits
 use Rattle.meaning.specs.Limits.{Limits, format}
 use Rattle.meaning.specs.Literals.{says-true, among}
@@ -18,12 +18,13 @@ use Rattle.meaning.specs.Reading.{got}
 use Rattle.meaning.specs.Refusals.{nowhere, or-else, settled}
 use Rattle.meaning.specs.States.{State, known, known-whether, first-state}
 use Rattle.meaning.specs.Walk.{End, fine, missed, stopped, Walked, table-step, first-missed, missed-in, walked}
-use Rattle.meaning.specs.Judging.{Judgement, reported, ended, within, judge-settled, judge, number, count}
+use Rattle.meaning.specs.Judging.{within, judge-settled, judge, number, count}
 use Rattle.meaning.specs.Approximation.{Pair, Disjoint, true-in, false-in, _≼_, Result, failed, state, Φ̂, least, Initial, Entails, Entailed}
 use Rattle.meaning.specs.Paths.{Ending, arrives, stops, paths, walked-along}
 use Rattle.meaning.specs.Reported.{pair-of, all-paths}
-use Rattle.meaning.proofs.TestLaws.{either-left, either-right, either-split, pick-true, pick-false, pick-cases, pick-map, some-has, has-some, each-has, has-each}
+use Rattle.meaning.proofs.TestLaws.{either-left, either-right, either-split, pick-true, some-has, has-some, each-has, has-each}
 use Rattle.meaning.proofs.KeptEnds.{Stuck, walked-stuck}
+use Rattle.meaning.proofs.WithinLaws.{answered, walked-never, answered-fine, answered-else, enough-within, spent-within}
 use Rattle.meaning.proofs.RefusalLaws.{at≢nowhere}
 use Rattle.meaning.proofs.SettledLaws.{or-else-nowhere, Settled, settled-is, Fit, fit}
 use Rattle.meaning.proofs.PathLaws.{walked-in-order}
@@ -36,33 +37,6 @@ use Rattle.meaning.proofs.CoverLaws.{result-of, knows-pair, knows-true,
 -- The end of the whole walk.
 abbrev pub walk-end : Limits → Request → End State
 walk-end lim r = walked r (first-state lim (r .table)) .end
-
--- NUMBERS. The number of an end; a walk stops with 2.
-abbrev pub answered : End State → ℕ
-answered fine = Limits.verified
-answered (missed p s) = Limits.goal-missed
-answered (stopped n p u) = n
-
-pub within-number : (lent : List ℕ) (budget : ℕ) (w : Walked State) → within lent budget w .answer .number ≡ pick (ltb budget (w .count)) (λ _. Limits.budget-spent) (λ _. answered (w .end))
-unfolding within ended reported
-within-number lent budget w =
-    pick-map (λ (j : Judgement). j .answer .number) (ltb budget (w .count)) _ _
-    ∙ ap (λ (n : ℕ). pick (ltb budget (w .count)) (λ _. Limits.budget-spent) (λ _. n)) (by-end (w .end))
-  where
-    by-end : (n : End State) → ended lent (w .count) n .answer .number ≡ answered n
-    by-end fine = refl
-    by-end (missed p s) = refl
-    by-end (stopped m p u) = refl
-
-not-spent : (n : End State) → Stuck n → answered n ≡ Limits.budget-spent → ⊥
-not-spent fine stuck q = omega arith
-not-spent (missed p s) stuck q = omega arith
-not-spent (stopped m p u) stuck q = omega (arith, stuck .0)
-
-the-third : (n : End State) → Stuck n → (answered n ≡ Limits.not-executable → ⊥) → (answered n ≡ Limits.verified → ⊥) → answered n ≡ Limits.goal-missed
-the-third fine stuck s v = absurd (v refl)
-the-third (missed p u) stuck s v = refl
-the-third (stopped m p u) stuck s v = absurd (s (stuck .0))
 
 -- MISSES. An end state misses nothing exactly where every goal is known and every whether fluent is known whether.
 pub met : (r : Request) (u : State) → (missed-in r u ≡ nowhere) ↔ ((each-of (known u) (values (r .goals)) ≡ true) × (each-of (known-whether u) (values (r .whether)) ≡ true))
@@ -192,12 +166,7 @@ module _ (lim : Limits) (room : lim .fluents ≤ lim .state) (b : List ℕ) (r :
 
   -- Where what is asked is entailed, the walk without a budget is verified.
   pub entailed-fine : Entailed r → walked r (first-state lim (r .table)) .end ≡ fine
-  entailed-fine k = is-fine (walk-end lim r) end-stuck (entailed-exactly .1 k)
-    where
-      is-fine : (n : End State) → Stuck n → answered n ≡ Limits.verified → n ≡ fine
-      is-fine fine stuck q = refl
-      is-fine (missed p u) stuck q = absurd (omega arith)
-      is-fine (stopped m p u) stuck q = absurd (omega (arith, stuck .0))
+  entailed-fine k = answered-fine (walk-end lim r) (walked-never Limits.verified (λ z. omega arith) r _) (entailed-exactly .1 k)
 
 -- THE THEOREMS.
 module _ (lim : Limits) (room : lim .fluents ≤ lim .state) (b lent : List ℕ) (budget : ℕ) (r : Request) (e : ℕ) (lent-length : length lent ≡ lim .state) (past : settled lim b ≡ got r e) where
@@ -205,11 +174,8 @@ module _ (lim : Limits) (room : lim .fluents ≤ lim .state) (b lent : List ℕ)
   unfolding judge judge-settled
   judged-by-walk = pick-true _ _ _ (eq-eqb _ _ lent-length) ∙ rw past
 
-  number-is : number lim b lent budget ≡ pick (ltb budget (count lim r)) (λ _. Limits.budget-spent) (λ _. answered (walk-end lim r))
-  number-is = ap (λ (j : Judgement). j .answer .number) judged-by-walk ∙ within-number lent budget (walked r (first-state lim (r .table)))
-
   within-budget : count lim r ≤ budget → number lim b lent budget ≡ answered (walk-end lim r)
-  within-budget enough = number-is ∙ pick-false _ _ _ (le-ltb budget (count lim r) enough)
+  within-budget = enough-within lent budget _ _ judged-by-walk
 
   -- The judgement is what the list of paths says: the answer's count, place and state are those of the walk along it.
   pub in-order : judge lim b lent budget ≡ within lent budget (walked-along (missed-in r) (paths (table-step (r .table)) (r .plan) (first-state lim (r .table))))
@@ -217,10 +183,7 @@ module _ (lim : Limits) (room : lim .fluents ≤ lim .state) (b lent : List ℕ)
 
   -- The budget is spent exactly where the walk counts more.
   pub spent-exactly : (number lim b lent budget ≡ Limits.budget-spent) ↔ (budget < count lim r)
-  spent-exactly = (
-    λ q. pick-cases _ _ _ (sym number-is ∙ q) (λ t _. ltb-true _ _ t) (λ _ k. absurd (not-spent (walk-end lim r) (end-stuck lim room b r e past) k)),
-    λ h. number-is ∙ pick-true _ _ _ (lt-ltb budget (count lim r) h),
-  )
+  spent-exactly = spent-within lent budget _ _ judged-by-walk (walked-never Limits.budget-spent (λ z. omega arith) r _)
 
   -- Not executable, exactly where the plan fails from the least initial a-state.
   pub stuck-exactly : count lim r ≤ budget → (number lim b lent budget ≡ Limits.not-executable) ↔ Φ̂ (r .table) (r .plan) (least (r .table)) failed
@@ -234,7 +197,9 @@ module _ (lim : Limits) (room : lim .fluents ≤ lim .state) (b lent : List ℕ)
   pub missed-exactly : count lim r ≤ budget → (number lim b lent budget ≡ Limits.goal-missed) ↔ ((Φ̂ (r .table) (r .plan) (least (r .table)) failed → ⊥) × (Entailed r → ⊥))
   missed-exactly enough = (
     λ q. (λ h. omega (arith, q, stuck-exactly enough .1 h), λ k. omega (arith, q, verified-exactly enough .1 k)),
-    λ w. within-budget enough ∙ the-third (walk-end lim r) (end-stuck lim room b r e past) (λ q. w .0 (stuck-exactly enough .0 (within-budget enough ∙ q))) (λ q. w .1 (verified-exactly enough .0 (within-budget enough ∙ q))),
+    λ w.
+        within-budget enough
+        ∙ answered-else (walk-end lim r) (walked-never _ (λ q. w .0 (failed-exactly lim room b r e past .0 q)) r _) (λ q. w .1 (entailed-exactly lim room b r e past .0 q)),
   )
 
 -- The format's own limits have the room.

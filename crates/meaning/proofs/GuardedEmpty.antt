@@ -13,22 +13,17 @@ use Rattle.meaning.specs.Limits.{Limits}
 use Rattle.meaning.specs.Requests.{Table, Request}
 use Rattle.meaning.specs.Reading.{Got, got, fault, next, literals, list-at, placed, table-at, request-at, read-request}
 use Rattle.meaning.specs.Refusals.{Found, nowhere, at, refuse, past-refusals, contradiction-in, mixed-in, overlap-in, settled}
-use Rattle.meaning.specs.States.{State, first-state}
-use Rattle.meaning.specs.Walk.{table-step, first-missed, walked, guarded-step, walked-guarded}
+use Rattle.meaning.specs.States.{first-state}
 use Rattle.meaning.specs.Judging.{Judgement, within, judge-settled, judge}
 use Rattle.meaning.specs.Judging
 use Rattle.meaning.specs.Guards.{Guarded-request, read-guarded, settled-guarded, walk-of, guarded-settled, judge-guarded}
 use Rattle.meaning.specs.Layouts.{list-written}
 use Rattle.meaning.proofs.TestLaws.{by-test, pick-true, pick-false}
 use Rattle.meaning.proofs.PickLaws.{pick-has}
+use Rattle.meaning.proofs.KeptEnds.{walked-unguarded}
 use Rattle.meaning.proofs.MovedReads.{next-is, part-stands}
 use Rattle.meaning.proofs.KeptReads.{kept-of, kept-fault, table-kept, request-kept}
 use Rattle.meaning.proofs.ListReads.{list-read}
-
--- A WALK WITHOUT GUARDS is the plain walk.
-pub walked-unguarded : (r : Request) (s : State) → walked-guarded r [] s ≡ walked r s
-unfolding walked walked-guarded table-step guarded-step first-missed
-walked-unguarded r s = refl
 
 -- A request without guards.
 abbrev without : Request → Guarded-request

@@ -7,77 +7,41 @@ use mathlib.Core.Bool.{true, false}
 use mathlib.Core.List.{List, [], _∷_}
 use mathlib.Core.Logic.{⊎-elim, _↔_}
 use lib.ListN.{length}
-use lib.Dec.{ltb}
-use borrow.Author.Tests.{eq-eqb, ltb-true, lt-ltb, le-ltb}
-use Rattle.meaning.specs.Tests.{pick}
+use borrow.Author.Tests.{eq-eqb}
+use Rattle.meaning.specs.Tests.{Has}
 use Rattle.meaning.specs.Limits
 use Rattle.meaning.specs.Limits.{Limits}
 use Rattle.meaning.specs.Requests.{Entry}
 use Rattle.meaning.specs.Reading.{got}
 use Rattle.meaning.specs.Refusals.{Found, nowhere, at}
 use Rattle.meaning.specs.States.{State, known, first-state}
-use Rattle.meaning.specs.Walk.{in-state, End, fine, missed, stopped, Walked, first-missed, missed-in}
-use Rattle.meaning.specs.Judging.{Judgement, written-over, reported, ended, within}
+use Rattle.meaning.specs.Walk.{Concerned, in-state, End, fine, missed, stopped, Walked, first-missed, missed-in}
+use Rattle.meaning.specs.Judging.{written-over, within}
 use Rattle.meaning.specs.Guards.{Guarded-request, settled-guarded, walk-of, guarded-settled, judge-guarded, number, count}
 use Rattle.meaning.specs.Approximation.{true-in}
 use Rattle.meaning.specs.Paths.{arrives, Path, stop-or-miss, walked-along}
-use Rattle.meaning.specs.Reported.{First, pair-of}
+use Rattle.meaning.specs.Reported.{First, pair-of, Arrives}
 use Rattle.meaning.specs.GuardedReported.{met-paths, First-stop, Broken-at}
-use Rattle.meaning.proofs.TestLaws.{pick-true, pick-false, pick-cases}
-use Rattle.meaning.proofs.PickLaws.{pick-has}
+use Rattle.meaning.proofs.TestLaws.{pick-true, pick-cases}
 use Rattle.meaning.proofs.RefusalLaws.{at≢nowhere, at-same}
-use Rattle.meaning.proofs.KeptEnds.{Stuck-guarded, guarded-stuck}
+use Rattle.meaning.proofs.KeptEnds.{Sticks, Stuck-guarded, guarded-stuck}
+use Rattle.meaning.proofs.WithinLaws.{answered, Never, guarded-never, answered-fine, answered-missed, answered-stopped, answered-else, enough-within, spent-within, stopped-within}
 use Rattle.meaning.proofs.PathLaws.{guarded-in-order}
-use Rattle.meaning.proofs.EndLaws.{first-here, first-later, Ends, Stops, stop-ends, first-stop-is, Misses-first, miss-ends, Says, end-says}
+use Rattle.meaning.proofs.EndLaws.{first-here, first-later, first-has, Ends, Stops, arrives≢stops, has-ends, all-arrive, stop-ends, first-stop-is, miss-ends, Says, end-says, fine-each}
 use Rattle.meaning.proofs.PairLaws.{true-in-pair}
-use Rattle.meaning.proofs.Exact.{answered, within-number}
 
--- THE END OF A WALK ALONG PATHS, where stops have the numbers 2 and 43: its number tells what the list says of it.
-module _ (gs : List Entry) (miss : State → Found) (xs : List (Path State)) where
-  abbrev end : End State
-  end = walked-along miss xs .end
-
-  -- A stop.
-  stop-first : (n : ℕ) → (n ≡ Limits.verified → ⊥) → (n ≡ Limits.goal-missed → ⊥) → (e : End State) → Says miss xs e → Stuck-guarded gs e → answered e ≡ n → (p : ℕ) × (u : State) × First-stop xs n p u
-  stop-first n not-0 not-1 fine says stuck q = absurd (not-0 (sym q))
-  stop-first n not-0 not-1 (missed p u) says stuck q = absurd (not-1 (sym q))
-  stop-first n not-0 not-1 (stopped m p u) says stuck q = (p, stuck .0, subst (λ (i : ℕ). First-stop xs i p (stuck .0)) q (rw (stuck .1) at says))
-
-  first-stops : (n p : ℕ) (u : State) → First-stop xs n p u → answered end ≡ n
-  unfolding walked-along stop-or-miss
-  first-stops n p u f = rw (first-stop-is xs n p (in-state u) f)
-
-  -- None.
-  fine-says : (e : End State) → Says miss xs e → Stuck-guarded gs e → answered e ≡ Limits.verified → (Stops xs → ⊥) × ((u : State) → Ends xs (arrives u) → miss u ≡ nowhere)
-  fine-says fine says stuck q = says
-  fine-says (missed p u) says stuck q = absurd (omega (arith, q))
-  fine-says (stopped m p u) says stuck q = absurd (⊎-elim (λ is. omega (arith, q, is)) (λ is. let is-43 = is .0 in omega (arith, q, is-43)) (stuck .2))
-
-  pub says-fine : (e : End State) → Says miss xs e → (Stops xs → ⊥) → ((u : State) → Ends xs (arrives u) → miss u ≡ nowhere) → answered e ≡ Limits.verified
+-- WHAT MAKES AN END. By what its walk says of the list of paths.
+module _ (miss : State → Found) (xs : List (Path State)) where
+  says-fine : (e : End State) → Says miss xs e → (Stops xs → ⊥) → ((u : State) → Ends xs (arrives u) → miss u ≡ nowhere) → answered e ≡ Limits.verified
   says-fine fine says none all = refl
   says-fine (missed p u) says none all = absurd (at≢nowhere (sym (says .1 .so .1) ∙ all u (miss-ends miss xs p u (says .1))))
   says-fine (stopped m p u) says none all = absurd (none (m, p, u, stop-ends xs m p u says))
 
-  -- A miss.
-  missed-says : (e : End State) → Says miss xs e → Stuck-guarded gs e → answered e ≡ Limits.goal-missed → (Stops xs → ⊥) × ((p : ℕ) × (u : State) × Misses-first miss xs p u)
-  missed-says fine says stuck q = absurd (omega (arith, q))
-  missed-says (missed p u) says stuck q = (says .0, (p, u, says .1))
-  missed-says (stopped m p u) says stuck q = absurd (⊎-elim (λ is. omega (arith, q, is)) (λ is. let is-43 = is .0 in omega (arith, q, is-43)) (stuck .2))
-
-  says-missed : (e : End State) → Says miss xs e → (Stops xs → ⊥) → (p : ℕ) (u : State) → Misses-first miss xs p u → answered e ≡ Limits.goal-missed
-  says-missed fine says none p u f = absurd (at≢nowhere (sym (f .so .1) ∙ says .1 u (miss-ends miss xs p u f)))
-  says-missed (missed q v) says none p u f = refl
-  says-missed (stopped m q v) says none p u f = absurd (none (m, q, v, stop-ends xs m q v says))
-
-  not-spent : (e : End State) → Stuck-guarded gs e → answered e ≡ Limits.budget-spent → ⊥
-  not-spent fine stuck q = omega (arith, q)
-  not-spent (missed p u) stuck q = omega (arith, q)
-  not-spent (stopped m p u) stuck q = ⊎-elim (λ is. omega (arith, q, is)) (λ is. let is-43 = is .0 in omega (arith, q, is-43)) (stuck .2)
-
-  the-other : (e : End State) → Stuck-guarded gs e → (answered e ≡ Limits.guard-broken → ⊥) → (answered e ≡ Limits.not-executable → ⊥) → (answered e ≡ Limits.verified → ⊥) → answered e ≡ Limits.goal-missed
-  the-other fine stuck b s v = absurd (v refl)
-  the-other (missed p u) stuck b s v = refl
-  the-other (stopped m p u) stuck b s v = absurd (⊎-elim s (λ is. b (is .0)) (stuck .2))
+  says-missed : (e : End State) → Says miss xs e → ((x : Path State) → Has xs x → Arrives x) → (x : Path State) (u : State) (p : ℕ) → Has xs x → x .ending ≡ arrives u → miss u ≡ at p
+      → answered e ≡ Limits.goal-missed
+  says-missed fine says all x u p has is q = absurd (at≢nowhere (sym q ∙ says .1 u (has-ends xs x (arrives u) has is)))
+  says-missed (missed i v) says all x u p has is q = refl
+  says-missed (stopped m i v) says all x u p has is q = absurd (arrives≢stops (sym (all (says .here) (first-has says) .1) ∙ says .so))
 
 -- GUARDS. Where a state lacks one, it is the first that is not true there.
 first-lacked : (u : State) (es : List Entry) (p : ℕ) → first-missed (known u) es ≡ at p
@@ -111,24 +75,31 @@ module _ (lim : Limits) (b lent : List ℕ) (budget : ℕ) (g : Guarded-request)
   unfolding walk-of
   end-stuck = guarded-stuck (g .guards) (g .request) (first-state lim (g .request .table))
 
-  number-is : number lim b lent budget ≡ pick (ltb budget (count lim g)) (λ _. Limits.budget-spent) (λ _. answered walk-end)
-  number-is = ap (λ (j : Judgement). j .answer .number) guarded-by-walk ∙ within-number lent budget (walk-of lim g)
+  -- No stop has another number than 2 and 43.
+  pub end-never : (i : ℕ) → (i ≡ Limits.not-executable → ⊥) → (i ≡ Limits.guard-broken → ⊥) → Never i walk-end
+  unfolding walk-of
+  end-never i not-2 not-43 = guarded-never i not-2 not-43 (g .request) (g .guards) _
+
+  -- A stop of the walk is the first on the paths, and has a state.
+  stop-told : (n p : ℕ) (u : Concerned State) → walk-end ≡ stopped n p u → (s : State) × (u ≡ in-state s) × First-stop (met-paths lim g) n p s × Sticks (g .guards) n p s
+  stop-told n p u q =
+      let stuck = subst (Stuck-guarded (g .guards)) q end-stuck in
+      let says = subst (Says (missed-in (g .request)) (met-paths lim g)) q guarded-says in
+      (stuck .0, stuck .1, rw (stuck .1) at says, stuck .2)
 
   -- The budget is spent exactly where the walk counts more.
   pub guarded-spent-exactly : (number lim b lent budget ≡ Limits.budget-spent) ↔ (budget < count lim g)
-  guarded-spent-exactly = (
-    λ q. pick-cases _ _ _ (sym number-is ∙ q) (λ t _. ltb-true _ _ t) (λ _ k. absurd (not-spent (g .guards) (missed-in (g .request)) (met-paths lim g) walk-end end-stuck k)),
-    λ h. number-is ∙ pick-true _ _ _ (lt-ltb budget (count lim g) h),
-  )
+  guarded-spent-exactly = spent-within lent budget _ _ guarded-by-walk (end-never Limits.budget-spent (λ z. omega arith) (λ z. omega arith))
 
   module _ (enough : count lim g ≤ budget) where
     pub within-budget : number lim b lent budget ≡ answered walk-end
-    within-budget = number-is ∙ pick-false _ _ _ (le-ltb budget (count lim g) enough)
+    within-budget = enough-within lent budget _ _ guarded-by-walk enough
 
     stops-exactly : (n : ℕ) → (n ≡ Limits.verified → ⊥) → (n ≡ Limits.goal-missed → ⊥) → (number lim b lent budget ≡ n) ↔ ((p : ℕ) × (u : State) × First-stop (met-paths lim g) n p u)
+    unfolding walked-along stop-or-miss
     stops-exactly n not-0 not-1 = (
-      λ q. stop-first (g .guards) (missed-in (g .request)) (met-paths lim g) n not-0 not-1 walk-end guarded-says end-stuck (sym within-budget ∙ q),
-      λ w. within-budget ∙ ap (λ (v : Walked State). answered (v .end)) along ∙ first-stops (g .guards) (missed-in (g .request)) (met-paths lim g) n (w .0) (w .1) (w .2),
+      λ q. let m = answered-stopped n not-0 not-1 walk-end (sym within-budget ∙ q) in let t = stop-told n (m .0) (m .1) (m .2) in (m .0, t .0, t .2),
+      λ w. within-budget ∙ ap (λ (v : Walked State). answered (v .end)) along ∙ rw (first-stop-is (met-paths lim g) n (w .0) (in-state (w .1)) (w .2)),
     )
 
     -- Guard broken, exactly where the first path that stops, stops in a state that lacks one.
@@ -141,40 +112,45 @@ module _ (lim : Limits) (b lent : List ℕ) (budget : ℕ) (g : Guarded-request)
 
     -- A goal missed, exactly where no path stops and one misses an entry.
     pub guarded-missed-exactly : (number lim b lent budget ≡ Limits.goal-missed)
-        ↔ ((Stops (met-paths lim g) → ⊥) × ((p : ℕ) × (u : State) × Misses-first (missed-in (g .request)) (met-paths lim g) p u))
+        ↔ (((x : Path State) → Has (met-paths lim g) x → Arrives x)
+        × ((x : Path State) × (u : State) × (p : ℕ) × Has (met-paths lim g) x × (x .ending ≡ arrives u) × (missed-in (g .request) u ≡ at p)))
     guarded-missed-exactly = (
-      λ q. missed-says (g .guards) (missed-in (g .request)) (met-paths lim g) walk-end guarded-says end-stuck (sym within-budget ∙ q),
-      λ w. within-budget ∙ says-missed (g .guards) (missed-in (g .request)) (met-paths lim g) walk-end guarded-says (w .0) (w .1 .0) (w .1 .1) (w .1 .2),
+      λ q.
+          let m = answered-missed walk-end (end-never Limits.goal-missed (λ z. omega arith) (λ z. omega arith)) (sym within-budget ∙ q) in
+          let says = subst (Says (missed-in (g .request)) (met-paths lim g)) (m .2) guarded-says in
+          let f = says .1 in
+          (all-arrive (met-paths lim g) (says .0), (f .here, m .1, m .0, first-has f, f .so .0, f .so .1)),
+      λ w. let x = w .1 in within-budget ∙ says-missed (missed-in (g .request)) (met-paths lim g) walk-end guarded-says (w .0) (x .0) (x .1) (x .2) (x .3) (x .4) (x .5),
     )
 
-    -- Verified, exactly where no path stops and none misses anything.
+    -- Verified, exactly where each path arrives and misses nothing.
     pub guarded-fine-exactly : (number lim b lent budget ≡ Limits.verified)
-        ↔ ((Stops (met-paths lim g) → ⊥) × ((u : State) → Ends (met-paths lim g) (arrives u) → missed-in (g .request) u ≡ nowhere))
-    guarded-fine-exactly = (
-      λ q. fine-says (g .guards) (missed-in (g .request)) (met-paths lim g) walk-end guarded-says end-stuck (sym within-budget ∙ q),
-      λ w. within-budget ∙ says-fine (g .guards) (missed-in (g .request)) (met-paths lim g) walk-end guarded-says (w .0) (w .1),
-    )
+        ↔ ((x : Path State) → Has (met-paths lim g) x → (u : State) × (x .ending ≡ arrives u) × (missed-in (g .request) u ≡ nowhere))
+    guarded-fine-exactly =
+        let each = fine-each (missed-in (g .request)) (met-paths lim g) in (
+          λ q.
+              let is-fine = answered-fine walk-end (end-never Limits.verified (λ z. omega arith) (λ z. omega arith)) (sym within-budget ∙ q) in
+              each .0 (subst (Says (missed-in (g .request)) (met-paths lim g)) is-fine guarded-says),
+          λ all. let w = each .1 all in within-budget ∙ says-fine (missed-in (g .request)) (met-paths lim g) walk-end guarded-says (w .0) (w .1),
+        )
 
     -- It is a goal missed where it is none of the other three.
     pub missed-otherwise : (number lim b lent budget ≡ Limits.guard-broken → ⊥) → (number lim b lent budget ≡ Limits.not-executable → ⊥) → (number lim b lent budget ≡ Limits.verified → ⊥)
         → number lim b lent budget ≡ Limits.goal-missed
     missed-otherwise not-43 not-2 not-0 =
-        within-budget
-        ∙ the-other (g .guards) (missed-in (g .request)) (met-paths lim g) walk-end end-stuck (λ q. not-43 (within-budget ∙ q)) (λ q. not-2 (within-budget ∙ q)) (λ q. not-0 (within-budget ∙ q))
+        within-budget ∙ answered-else walk-end (end-never (answered walk-end) (λ q. not-2 (within-budget ∙ q)) (λ q. not-43 (within-budget ∙ q))) (λ q. not-0 (within-budget ∙ q))
 
-  -- Where the answer is 43, its place and the state left are those of the first stop, and the guard at the place is the first that the state lacks.
+  -- Where the answer is a stop, its place and the state left are those of the first stop.
+  pub stop-there : (n : ℕ) → (n ≡ Limits.verified → ⊥) → (n ≡ Limits.goal-missed → ⊥) → (n ≡ Limits.budget-spent → ⊥) → number lim b lent budget ≡ n
+      → First-stop (met-paths lim g) n (judge-guarded lim b lent budget .answer .place) (judge-guarded lim b lent budget .state)
+      × Sticks (g .guards) n (judge-guarded lim b lent budget .answer .place) (judge-guarded lim b lent budget .state)
+  unfolding written-over
+  stop-there n not-0 not-1 not-3 q =
+      stopped-within lent budget _ _ guarded-by-walk (λ p u. First-stop (met-paths lim g) n p u × Sticks (g .guards) n p u) n not-0 not-1 not-3 q
+      (λ p u is. let t = stop-told n p u is in rw (t .1) (t .2, t .3))
+
+  -- Where it is 43, the guard at the place is the first that the state lacks.
   pub broken-there : number lim b lent budget ≡ Limits.guard-broken → Broken-at (g .guards) (met-paths lim g) (judge-guarded lim b lent budget .answer .place) (judge-guarded lim b lent budget .state)
-  unfolding within ended reported written-over
-  broken-there = subst Says-broken (sym guarded-by-walk) (pick-has Says-broken _ _ _ (λ _ q. absurd (omega (arith, q))) (λ _. by-end walk-end guarded-says end-stuck))
-    where
-      Says-broken : Judgement → Type 0
-      Says-broken j = j .answer .number ≡ Limits.guard-broken → Broken-at (g .guards) (met-paths lim g) (j .answer .place) (j .state)
-
-      by-end : (n : End State) → Says (missed-in (g .request)) (met-paths lim g) n → Stuck-guarded (g .guards) n → Says-broken (ended lent (count lim g) n)
-      by-end fine says stuck k = absurd (omega (arith, k))
-      by-end (missed p u) says stuck k = absurd (omega (arith, k))
-      by-end (stopped m p u) says stuck k =
-          rw (stuck .1) (record {
-            path = subst (λ (i : ℕ). First-stop (met-paths lim g) i p (stuck .0)) k (rw (stuck .1) at says);
-            guard = first-lacked (stuck .0) (g .guards) p (⊎-elim (λ is. absurd (omega (arith, k, is))) (λ is. is .1) (stuck .2));
-          })
+  broken-there q =
+      let t = stop-there Limits.guard-broken (λ z. omega arith) (λ z. omega arith) (λ z. omega arith) q in
+      record { path = t .0; guard = first-lacked _ (g .guards) _ (⊎-elim (λ is. absurd (omega (arith, is))) (λ is. is .1) (t .1)) }

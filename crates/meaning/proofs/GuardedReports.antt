@@ -3,31 +3,28 @@
 -- known. Assumes nothing.
 use Prim.Native.Nat.{ℕ, _≤_}
 use native.Mathlib.Omega.{arith}
-use mathlib.Core.Path.{_≡_, sym, subst}
+use mathlib.Core.Path.{_≡_, subst}
 use mathlib.Core.List.{List}
 use mathlib.Core.Logic.{⊎-elim}
 use lib.ListN.{length}
 use Rattle.meaning.specs.Limits
 use Rattle.meaning.specs.Limits.{Limits}
 use Rattle.meaning.specs.Reading.{got}
-use Rattle.meaning.specs.Refusals.{at}
 use Rattle.meaning.specs.States.{State, first-state}
-use Rattle.meaning.specs.Walk.{in-state, End, fine, missed, stopped, missed-in}
-use Rattle.meaning.specs.Judging.{Judgement, written-over, reported, ended, within}
-use Rattle.meaning.specs.Guards.{Guarded-request, settled-guarded, judge-guarded, number, count}
+use Rattle.meaning.specs.Walk.{in-state, missed, missed-in}
+use Rattle.meaning.specs.Guards.{Guarded-request, settled-guarded, judge-guarded, number}
 use Rattle.meaning.specs.Approximation.{Φ̂, least}
 use Rattle.meaning.specs.Paths.{Ending, arrives}
 use Rattle.meaning.specs.Reported.{all-paths, Missed-at, Stopped-at}
 use Rattle.meaning.specs.GuardedReported.{met-paths, First-stop}
-use Rattle.meaning.proofs.PickLaws.{pick-has}
-use Rattle.meaning.proofs.KeptEnds.{Stuck-guarded}
+use Rattle.meaning.proofs.WithinLaws.{missed-within}
 use Rattle.meaning.proofs.EndLaws.{first-map, Ends, all-arrive, stop-ends, miss-ends, Says}
 use Rattle.meaning.proofs.CoverLaws.{result-of}
 use Rattle.meaning.proofs.Exact.{leads, ranged, fits}
 use Rattle.meaning.proofs.ReportLaws.{nothing-missed, entry-missed, sticks, stops-in}
 use Rattle.meaning.proofs.GuardedPaths.{broken≢stuck, not-broken, met-was}
 use Rattle.meaning.proofs.GuardedReads.{own, parts, own-settled}
-use Rattle.meaning.proofs.GuardedExact.{guarded-by-walk, guarded-says, end-stuck, walk-end}
+use Rattle.meaning.proofs.GuardedExact.{guarded-by-walk, guarded-says, end-never, stop-there}
 
 -- THE REPORTS, of a settled guarded request.
 module _ (lim : Limits) (room : lim .fluents ≤ lim .state) (b lent : List ℕ) (budget : ℕ) (g : Guarded-request) (e : ℕ) (lent-length : length lent ≡ lim .state) (past : settled-guarded lim b ≡ got g e) where
@@ -63,33 +60,12 @@ module _ (lim : Limits) (room : lim .fluents ≤ lim .state) (b lent : List ℕ)
 
   -- Where the answer is 1, its place and the state left are those of the first miss.
   pub guarded-missed-there : number lim b lent budget ≡ Limits.goal-missed → Missed-at (g .request) (met-paths lim g) (judge-guarded lim b lent budget .answer .place) (judge-guarded lim b lent budget .state)
-  unfolding within ended reported written-over
-  guarded-missed-there =
-      subst Says-missed (sym (guarded-by-walk lim b lent budget g e lent-length past))
-      (pick-has Says-missed _ _ _ (λ _ q. absurd (omega (arith, q)))
-      (λ _. by-end (walk-end lim b lent budget g e lent-length past) (guarded-says lim b lent budget g e lent-length past) (end-stuck lim b lent budget g e lent-length past)))
-    where
-      Says-missed : Judgement → Type 0
-      Says-missed j = j .answer .number ≡ Limits.goal-missed → Missed-at (g .request) (met-paths lim g) (j .answer .place) (j .state)
-
-      by-end : (n : End State) → Says (missed-in (g .request)) (met-paths lim g) n → Stuck-guarded (g .guards) n → Says-missed (ended lent (count lim g) n)
-      by-end fine says stuck k = absurd (omega (arith, k))
-      by-end (missed p u) says stuck k = missed-reports p u says
-      by-end (stopped m p u) says stuck k = absurd (⊎-elim (λ is. omega (arith, k, is)) (λ is. let is-43 = is .0 in omega (arith, k, is-43)) (stuck .2))
+  guarded-missed-there q =
+      missed-within lent budget _ _ (guarded-by-walk lim b lent budget g e lent-length past) (Missed-at (g .request) (met-paths lim g))
+      (end-never lim b lent budget g e lent-length past Limits.goal-missed (λ z. omega arith) (λ z. omega arith)) q
+      (λ p u is. missed-reports p u (subst (Says (missed-in (g .request)) (met-paths lim g)) is (guarded-says lim b lent budget g e lent-length past)))
 
   -- Where it is 2, they are those of the first stop, at an item that can't be run.
   pub guarded-stopped-there : number lim b lent budget ≡ Limits.not-executable → Stopped-at (g .request) (met-paths lim g) (judge-guarded lim b lent budget .answer .place) (judge-guarded lim b lent budget .state)
-  unfolding within ended reported written-over
-  guarded-stopped-there =
-      subst Says-stopped (sym (guarded-by-walk lim b lent budget g e lent-length past))
-      (pick-has Says-stopped _ _ _ (λ _ q. absurd (omega (arith, q)))
-      (λ _. by-end (walk-end lim b lent budget g e lent-length past) (guarded-says lim b lent budget g e lent-length past) (end-stuck lim b lent budget g e lent-length past)))
-    where
-      Says-stopped : Judgement → Type 0
-      Says-stopped j = j .answer .number ≡ Limits.not-executable → Stopped-at (g .request) (met-paths lim g) (j .answer .place) (j .state)
-
-      by-end : (n : End State) → Says (missed-in (g .request)) (met-paths lim g) n → Stuck-guarded (g .guards) n → Says-stopped (ended lent (count lim g) n)
-      by-end fine says stuck k = absurd (omega (arith, k))
-      by-end (missed p u) says stuck k = absurd (omega (arith, k))
-      by-end (stopped m p u) says stuck k =
-          rw (stuck .1) (stuck-reports p (stuck .0) (subst (λ (i : ℕ). First-stop (met-paths lim g) i p (stuck .0)) k (rw (stuck .1) at says)))
+  guarded-stopped-there q =
+      stuck-reports _ _ (stop-there lim b lent budget g e lent-length past Limits.not-executable (λ z. omega arith) (λ z. omega arith) (λ z. omega arith) q .0)

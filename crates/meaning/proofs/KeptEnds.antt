@@ -1,8 +1,8 @@
 -- What is so of a walk's end: whatever is so of each miss in which what follows may end, of each refusal of a step, and of each branching that
 -- can't be run, is so of the end of the whole walk. A walk ends in one of these, and so this goes by induction on the plan. Assumes nothing.
 use Prim.Native.Nat.{ℕ}
-use mathlib.Core.Path.{_≡_, refl, sym}
-use mathlib.Core.List.{List}
+use mathlib.Core.Path.{_≡_, refl, sym, subst}
+use mathlib.Core.List.{List, []}
 use mathlib.Core.Logic.{_⊎_, inl, inr}
 use Rattle.meaning.specs.Limits
 use Rattle.meaning.specs.Requests.{Sequence, done, item, Item, act, branching, Branches, none, branch, Entry, Request}
@@ -121,6 +121,11 @@ module _ {S : Type 0} (Miss : ℕ → S → Type 0) (Stop : ℕ → ℕ → Conc
           branch-so (branch c b bs) p here on k ends s has =
               pick-has (λ (w : Walked S). End-so (w .end)) _ _ _ (λ _. walk-so b (on .0) k ends s has) (λ _. branch-so bs p here (on .1) k ends s has)
 
+-- A WALK WITHOUT GUARDS is the plain walk.
+pub walked-unguarded : (r : Request) (s : State) → walked-guarded r [] s ≡ walked r s
+unfolding walked walked-guarded table-step guarded-step first-missed
+walked-unguarded r s = refl
+
 -- OF A REQUEST, whose table's step refuses with 2 and the state.
 module _ (Miss : ℕ → State → Type 0) (Stop : ℕ → ℕ → Concerned State → Type 0) where
   end-of-so : (f : Found) (s : State) → ((p : ℕ) → f ≡ at p → Miss p s) → End-so Miss Stop (end-of f s)
@@ -129,15 +134,7 @@ module _ (Miss : ℕ → State → Type 0) (Stop : ℕ → ℕ → Concerned Sta
   end-of-so (at p) s here = here p refl
 
   module _ (P : State → Type 0) (Place : ℕ → Type 0) (stuck : (s : State) → P s → (p : ℕ) → Place p → Stop Limits.not-executable p (in-state s)) where
-    pub walked-so : (r : Request) → ((a : ℕ) (s : State) → P s → Outcome-has P (outcome (r .table) a s)) → ((s : State) → P s → (p : ℕ) → missed-in r s ≡ at p → Miss p s)
-        → On-places Place (r .plan) → Ends-so Miss Stop P (walked r)
-    unfolding walked judged table-step table-does
-    walked-so r leads misses on =
-        walk-so Miss Stop P Place (table-step (r .table))
-        (λ a s has. pick-has (Step-so Miss Stop P Place) _ _ _ (λ _. leads a s has) (λ _. stuck s has))
-        stuck (λ s has p q. absurd (at≢nowhere (sym q))) (r .plan) on (judged r) (λ s has. end-of-so (missed-in r s) s (misses s has))
-
-    -- With guards, where a state that lacks one is such a stop.
+    -- A state that lacks a guard is such a stop.
     pub walked-guarded-so : (r : Request) (gs : List Entry) → ((a : ℕ) (s : State) → P s → Outcome-has P (outcome (r .table) a s))
         → ((s : State) → P s → (p : ℕ) → missed-in r s ≡ at p → Miss p s) → ((s : State) → P s → (p : ℕ) → first-missed (known s) gs ≡ at p → Stop Limits.guard-broken p (in-state s))
         → On-places Place (r .plan) → Ends-so Miss Stop P (walked-guarded r gs)
@@ -147,6 +144,12 @@ module _ (Miss : ℕ → State → Type 0) (Stop : ℕ → ℕ → Concerned Sta
         λ a s has. pick-has (Step-so Miss Stop P Place) _ _ _ (λ _. leads a s has) (λ _. stuck s has) in
         meet-so Miss Stop P Place (guarded-step (r .table) gs) does stuck breaks (walk (guarded-step (r .table) gs) (r .plan) (judged r))
         (walk-so Miss Stop P Place (guarded-step (r .table) gs) does stuck breaks (r .plan) on (judged r) (λ s has. end-of-so (missed-in r s) s (misses s has)))
+
+    pub walked-so : (r : Request) → ((a : ℕ) (s : State) → P s → Outcome-has P (outcome (r .table) a s)) → ((s : State) → P s → (p : ℕ) → missed-in r s ≡ at p → Miss p s)
+        → On-places Place (r .plan) → Ends-so Miss Stop P (walked r)
+    unfolding first-missed
+    walked-so r leads misses on s has =
+        subst (λ (w : Walked State). End-so Miss Stop (w .end)) (walked-unguarded r s) (walked-guarded-so r [] leads misses (λ _ _ p q. absurd (at≢nowhere (sym q))) on s has)
 
 -- STOPS of a walk have the number 2, and the state in which the item can't be run.
 abbrev pub Stuck : End State → Type 0

@@ -22,6 +22,7 @@ pub mod PickLaws
 pub mod GotLaws
 pub mod PlanReads
 pub mod KeptEnds
+pub mod WithinLaws
 pub mod PlaceLaws
 pub mod PartLaws
 pub mod AnswerLaws

@@ -1,6 +1,6 @@
 -- The carried-out property is neither always true nor only true of what is verified: it fails for case 3's plan, for a branching unseen, for an
 -- empty plan with a whether entry over an unknown fluent and for an action that drops a world, and it holds for case 10's plan, which gets
--- answer 1. And the failed state of an action is in the set of every plan that starts with it. Assumes nothing.
+-- answer 1. With a guard it fails where the first worlds leave the guard open, and where an action breaks it. And the failed state of an action is in the set of every plan that starts with it. Assumes nothing.
 use Prim.Native.Nat.{ℕ}
 use mathlib.Core.Path.{_≡_, refl, ap, _∙_}
 use mathlib.Core.Bool.{Bool, true, false, false≢true}
@@ -14,8 +14,9 @@ use Rattle.meaning.specs.Requests.{Table, done, item, act, Request, valu
 use Rattle.meaning.specs.Reading.{got}
 use Rattle.meaning.specs.Refusals.{settled}
 use Rattle.meaning.specs.Judging.{judge}
+use Rattle.meaning.specs.Guards.{Guarded-request, settled-guarded}
 use Rattle.meaning.specs.Approximation.{executable, least, failed, Φ̂}
-use Rattle.meaning.specs.Worlds.{World, holds, may-be-run, moved, table-domain, Carried-out}
+use Rattle.meaning.specs.Worlds.{World, holds, may-be-run, moved, table-domain, Carried-out, Carried-out-under}
 use Rattle.meaning.proofs.TestLaws.{both-true}
 use Rattle.meaning.proofs.Compute.{all-open}
 use Rattle.meaning.proofs.Cases.{table-A}
@@ -62,6 +63,26 @@ unsure-action = 1 ∷ 1 ∷ 0 ∷ 0 ∷ 1 ∷ 0 ∷ 1 ∷ 0 ∷ 0 ∷ 0 ∷ 1 �
 pub unsure-action-not-carried-out : (r : Request) × (e : ℕ) × (settled format unsure-action ≡ got r e) × (Carried-out r → ⊥)
 unfolding all-open all-false holds may-be-run table-domain
 unsure-action-not-carried-out = (_, _, refl, λ c. false≢true (c all-false refl .allowed all-false refl))
+
+-- GUARDS. An empty plan over one unknown fluent, which is guarded: it holds in the true world and not in another.
+abbrev pub guard-unknown : List ℕ
+guard-unknown = 1 ∷ 1 ∷ 0 ∷ 0 ∷ 0 ∷ 0 ∷ 0 ∷ 0 ∷ 0 ∷ 0 ∷ 1 ∷ 0 ∷ []
+
+pub guard-unknown-not-carried-out : (g : Guarded-request) × (e : ℕ) × (settled-guarded format guard-unknown ≡ got g e) × (Carried-out-under (values (g .guards)) (g .request) → ⊥)
+unfolding all-open all-false bit-set holds table-domain values
+guard-unknown-not-carried-out = (_, _, refl, λ c. false≢true (c bit-set refl .0 all-false refl))
+
+-- What is wanted besides is left aside.
+guards-of : {A B : Type 0} → A × B → A
+guards-of both = both .0
+
+-- One action, which makes true what is guarded as false, and nothing is asked.
+abbrev pub guard-broken : List ℕ
+guard-broken = 1 ∷ 1 ∷ 1 ∷ 1 ∷ 1 ∷ 0 ∷ 0 ∷ 0 ∷ 1 ∷ 0 ∷ 0 ∷ 0 ∷ 0 ∷ 1 ∷ 0 ∷ 0 ∷ 0 ∷ 1 ∷ 1 ∷ []
+
+pub guard-broken-not-carried-out : (g : Guarded-request) × (e : ℕ) × (settled-guarded format guard-broken ≡ got g e) × (Carried-out-under (values (g .guards)) (g .request) → ⊥)
+unfolding all-open all-false holds may-be-run moved table-domain values
+guard-broken-not-carried-out = (_, _, refl, λ c. false≢true (guards-of (c all-false refl .1 .done refl) _ (all-false, refl, refl, refl)))
 
 -- Case 10: the fluent is made true by one effect or by the other.
 abbrev pub case-10 : List ℕ

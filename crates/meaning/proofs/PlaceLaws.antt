@@ -18,7 +18,7 @@ use Rattle.meaning.specs.Requests.{Effect, Executability, Knowledge, Tab
 use Rattle.meaning.specs.Reading.{Got, got, next, byte-at, two-bytes-at, count-at, below-at, Kind, literals, fluents, bound-of, entry-at, entries-at, list-at, repeated, section-at, body-at, effect-at, executability-at, knowledge-at, Met, plan-at, table-at, placed, request-at, read-request}
 use Rattle.meaning.specs.Refusals.{Found, nowhere, at, or-else, contradictory, first-against, contradiction-in, mixed-in, overlap-in, overlap-at, overlap-below, refuse, past-refusals, settled}
 use Rattle.meaning.specs.States.{State, known, outcome}
-use Rattle.meaning.specs.Walk.{End, first-missed, missed-in, walked, walked-guarded}
+use Rattle.meaning.specs.Walk.{End, Walked, first-missed, missed-in, walked, walked-guarded}
 use Rattle.meaning.specs.Guards.{Guarded-request, read-guarded, settled-guarded}
 use Rattle.meaning.specs.Derivations.{Conclusion, Line, Derivation, Concluded, list-concluded, fluent-concluded, conclusion-at, concluded-at, closing-at, line-at, read-derivation, overlap-in-lines, check-lines, check-last, all-asked, check-entries, check-closing, check-end, check-derivation}
 use Rattle.meaning.specs.Answers.{refusals, end-fault}
@@ -30,7 +30,7 @@ use Rattle.meaning.proofs.GotLaws
 use Rattle.meaning.proofs.GotLaws.{held-got, held-then, held-faulty, next-held}
 use Rattle.meaning.proofs.PlanReads
 use Rattle.meaning.proofs.PlanReads.{About, Said, Passed-on, Faults}
-use Rattle.meaning.proofs.KeptEnds.{On-places, On-places-item, On-places-below, any-outcome, End-so, walked-so, walked-guarded-so}
+use Rattle.meaning.proofs.KeptEnds.{On-places, On-places-item, On-places-below, any-outcome, End-so, walked-unguarded, walked-guarded-so}
 
 -- The faults of counts and entries, which sections 1 to 5 have alone; those of items; and all the faults of reading that are placed at a byte.
 unfoldable pub entry-faults : List ℕ
@@ -153,16 +153,14 @@ module _ (size : ℕ) where
   abbrev pub End-below : End State → Type 0
   End-below = End-so (λ p _. p < size) (λ _ p _. p < size)
 
-  pub walked-below : (r : Request) → Request-below r → (s : State) → End-below (walked r s .end)
-  walked-below r h s =
-      walked-so _ _ (λ _. Unit {0}) (λ p. p < size) (λ _ _ p here. here) r (λ a u _. any-outcome (outcome (r .table) a u))
-      (λ u _ p q. subst Found-below q (missed-below r h u)) (h .plan) s tt
-
   -- With guards, each at a byte, it stops in a state at the guard that it lacks.
   pub walked-guarded-below : (r : Request) → Request-below r → (gs : List Entry) → Each-below (λ (e : Entry). e .place) gs → (s : State) → End-below (walked-guarded r gs s .end)
   walked-guarded-below r h gs guards s =
       walked-guarded-so _ _ (λ _. Unit {0}) (λ p. p < size) (λ _ _ p here. here) r gs (λ a u _. any-outcome (outcome (r .table) a u))
       (λ u _ p q. subst Found-below q (missed-below r h u)) (λ u _ p q. subst Found-below q (first-missed-below (known u) gs guards)) (h .plan) s tt
+
+  pub walked-below : (r : Request) → Request-below r → (s : State) → End-below (walked r s .end)
+  walked-below r h s = subst (λ (w : Walked State). End-below (w .end)) (walked-unguarded r s) (walked-guarded-below r h [] tt s)
 
 -- READING an input, where `Bad n p` is what is said of a fault with number n at place p.
 module _ (s : List ℕ) (Bad : ℕ → ℕ → Type 0) where

@@ -14,15 +14,16 @@ use Rattle.meaning.specs.Limits.{Limits}
 use Rattle.meaning.specs.Requests.{Table, Sequence, done, item, Item, act, branching, Branches, none, branch, Entry, Request, values}
 use Rattle.meaning.specs.Reading.{got}
 use Rattle.meaning.specs.Refusals.{nowhere, at, or-else, settled}
-use Rattle.meaning.specs.States.{State, known, known-whether, first-state, can-be-run, Outcome, single, fork, outcome}
-use Rattle.meaning.specs.Walk.{in-state, End, fine, missed, stopped, Step, table-does, table-step, first-missed, missed-in}
-use Rattle.meaning.specs.Judging.{Judgement, written-over, reported, ended, within, judge, number, count}
+use Rattle.meaning.specs.States.{State, known, known-whether, can-be-run, Outcome, single, fork, outcome}
+use Rattle.meaning.specs.Walk.{in-state, End, missed, stopped, Step, table-does, table-step, first-missed, missed-in}
+use Rattle.meaning.specs.Judging.{written-over, judge, number, count}
 use Rattle.meaning.specs.Approximation.{Pair, true-in, state, None-true, Φ̂, Initial, Entailed}
 use Rattle.meaning.specs.Paths.{Ending, arrives, stops, meetings, arrivals, paths-step, paths, paths-item, paths-branch}
 use Rattle.meaning.specs.Reported.{First, pair-of, Asked, goal, whether, asked-at, met-in, asked-by, All-met, Misses, all-paths, Missed-at, Item-in, Item-of, Item-under, item-place, Not-run, Stopped-at}
 use Rattle.meaning.proofs.TestLaws.{clash, pick-cases, each-has, has-each, has-split, has-map, map-has}
-use Rattle.meaning.proofs.PickLaws.{pick-has, has-picked}
+use Rattle.meaning.proofs.PickLaws.{has-picked}
 use Rattle.meaning.proofs.KeptEnds.{Stuck, walked-stuck}
+use Rattle.meaning.proofs.WithinLaws.{walked-never, missed-within, stopped-within}
 use Rattle.meaning.proofs.RefusalLaws.{at≢nowhere, at-same}
 use Rattle.meaning.proofs.PathLaws.{by-found}
 use Rattle.meaning.proofs.EndLaws.{first-here, first-later, first-has, first-left, first-right, first-map, Ends, arrives≢stops, all-arrive, stops-same, ends-one, ends-split, ends-ran, went-on, stop-ends, miss-ends, Says, none-missed}
@@ -167,29 +168,16 @@ module _ (lim : Limits) (room : lim .fluents ≤ lim .state) (b lent : List ℕ)
 
   -- Where the answer is 1, its place and the state left are those of the first miss.
   pub missed-there : number lim b lent budget ≡ Limits.goal-missed → Missed-at r (all-paths lim r) (judge lim b lent budget .answer .place) (judge lim b lent budget .state)
-  unfolding within ended reported written-over
-  missed-there = subst Says-missed (sym (judged-by-walk lim room b lent budget r e lent-length past)) (pick-has Says-missed _ _ _ (λ _ q. absurd (omega (arith, q))) (λ _. by-end (walk-end lim r) refl (walked-stuck r (first-state lim (r .table)))))
-    where
-      Says-missed : Judgement → Type 0
-      Says-missed j = j .answer .number ≡ Limits.goal-missed → Missed-at r (all-paths lim r) (j .answer .place) (j .state)
-
-      by-end : (n : End State) → walk-end lim r ≡ n → Stuck n → Says-missed (ended lent (count lim r) n)
-      by-end fine q stuck k = absurd (omega (arith, k))
-      by-end (missed p u) q stuck k = missed-reports p u q
-      by-end (stopped m p u) q stuck k = absurd (omega (arith, k, stuck .0))
+  missed-there q =
+      missed-within lent budget _ _ (judged-by-walk lim room b lent budget r e lent-length past) (Missed-at r (all-paths lim r)) (walked-never Limits.goal-missed (λ z. omega arith) r _) q missed-reports
 
   -- Where it is 2, they are those of the first stop.
   pub stopped-there : number lim b lent budget ≡ Limits.not-executable → Stopped-at r (all-paths lim r) (judge lim b lent budget .answer .place) (judge lim b lent budget .state)
-  unfolding within ended reported written-over
-  stopped-there = subst Says-stopped (sym (judged-by-walk lim room b lent budget r e lent-length past)) (pick-has Says-stopped _ _ _ (λ _ q. absurd (omega (arith, q))) (λ _. by-end (walk-end lim r) refl (walked-stuck r (first-state lim (r .table)))))
-    where
-      Says-stopped : Judgement → Type 0
-      Says-stopped j = j .answer .number ≡ Limits.not-executable → Stopped-at r (all-paths lim r) (j .answer .place) (j .state)
-
-      by-end : (n : End State) → walk-end lim r ≡ n → Stuck n → Says-stopped (ended lent (count lim r) n)
-      by-end fine q stuck k = absurd (omega (arith, k))
-      by-end (missed p u) q stuck k = absurd (omega (arith, k))
-      by-end (stopped m p u) q stuck k = rw (stuck .1 .1) (stuck-reports p (stuck .1 .0) (q ∙ rw (stuck .0, stuck .1 .1)))
+  unfolding written-over
+  stopped-there q =
+      stopped-within lent budget _ _ (judged-by-walk lim room b lent budget r e lent-length past) (Stopped-at r (all-paths lim r)) Limits.not-executable
+      (λ z. omega arith) (λ z. omega arith) (λ z. omega arith) q
+      (λ p u is. let state = subst Stuck is (walked-stuck r _) .1 in rw (state .1) (stuck-reports p (state .0) (rw (state .1) at is)))
 
   -- A goal is missed, exactly where every path can be run and an entry is not met in some end state.
   pub missed-in-an-end-state : count lim r ≤ budget → (number lim b lent budget ≡ Limits.goal-missed) ↔ Misses r

@@ -16,7 +16,7 @@ use Rattle.meaning.specs.Limits
 use Rattle.meaning.specs.Limits.{Limits}
 use Rattle.meaning.specs.Literals.{says-true, says-false, fluent-of, complement, among, exclusive}
 use Rattle.meaning.specs.Requests.{Effect, Executability, Knowledge, Table, Entry, Request}
-use Rattle.meaning.specs.Refusals.{nowhere, clashing, runs-with, contradictory, all-exclusive}
+use Rattle.meaning.specs.Refusals.{clashing, runs-with, contradictory, all-exclusive}
 use Rattle.meaning.specs.Lines.{effects-of, executability-of, knowledge-of, allowed, given, sensing, senses}
 use Rattle.meaning.specs.States.{State, Outcome, fork, mark-of, known, possible, known-whether, told, told-all, state-of, first-state, can-be-run, known-after, mark-after, marks-after, state-after, unknown-from, unknown-sensed, readings, outcome}
 use Rattle.meaning.specs.Walk.{table-does, table-step, first-missed, missed-in, judged, walked, guarded-step, walked-guarded}
@@ -232,13 +232,13 @@ pub same-table-does : (t : Table) (a : ℕ) (s : State) → table-does t a s ≡
 unfolding table-does ValueStates.table-does
 same-table-does t a s = rw (same-can-be-run t a s, same-outcome t a s)
 
-pub same-table-step : (t : Table) → table-step t ≡ ValueStates.table-step flags t
-unfolding table-step ValueStates.table-step
-same-table-step t = λ i. record { does = fun-ext (λ (a : ℕ). fun-ext (same-table-does t a)) i; knows = known-is i; lacks = λ _. nowhere }
-
 pub same-guarded-step : (t : Table) (gs : List Entry) → guarded-step t gs ≡ ValueStates.guarded-step flags t gs
 unfolding guarded-step ValueStates.guarded-step
 same-guarded-step t gs = λ i. record { does = fun-ext (λ (a : ℕ). fun-ext (same-table-does t a)) i; knows = known-is i; lacks = λ s. first-missed (known-is i s) gs }
+
+pub same-table-step : (t : Table) → table-step t ≡ ValueStates.table-step flags t
+unfolding table-step ValueStates.table-step guarded-step ValueStates.guarded-step first-missed
+same-table-step t = same-guarded-step t []
 
 -- THE WALK.
 pub same-judged : (r : Request) (s : State) → judged r s ≡ ValueStates.judged flags r s

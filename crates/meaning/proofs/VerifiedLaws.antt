@@ -7,7 +7,7 @@ use mathlib.Core.Bool.{false}
 use mathlib.Core.List.{List}
 use lib.ListN.{length}
 use lib.Dec.{eqb, ltb}
-use borrow.Author.Tests.{eqb-true, eq-eqb, ltb-false, le-ltb}
+use borrow.Author.Tests.{eqb-true, eq-eqb, le-ltb}
 use Rattle.meaning.specs.Tests.{either, pick, some-of}
 use Rattle.meaning.specs.Limits
 use Rattle.meaning.specs.Limits.{Limits}
@@ -20,34 +20,19 @@ use Rattle.meaning.specs.Walk.{End, fine, missed, stopped, Walked, Verif
 use Rattle.meaning.specs.Judging.{Judgement, reported, ended, within, judge-settled, judge, number, count}
 use Rattle.meaning.specs.Answers.{refusals}
 use Rattle.meaning.proofs.TestLaws.{by-test, clash, pick-true, pick-false, pick-map}
-use Rattle.meaning.proofs.KeptEnds.{Stuck, walked-stuck}
+use Rattle.meaning.proofs.WithinLaws.{walked-never, fine-within}
 use Rattle.meaning.proofs.AnswerLaws.{Numbered-in, settled-numbered}
 
 -- THE WALK of a verified answer.
 module _ (lim : Limits) (lent : List ℕ) (budget : ℕ) where
-  ends-fine : (c : ℕ) (e : End State) → Stuck e → ended lent c e .answer .number ≡ Limits.verified → (e ≡ fine) × (ended lent c e .answer .count ≡ c)
-  unfolding ended reported
-  ends-fine c fine stuck q = (refl, refl)
-  ends-fine c (missed p s) stuck q = absurd (omega arith)
-  ends-fine c (stopped n p u) stuck q = absurd (omega (arith, stuck .0))
-
   -- It ends fine within the budget, and the answer has its count.
   abbrev Fine-within : Judgement → Walked State → Type 0
   Fine-within j w = Verified w × (w .count ≤ budget) × (j .answer .count ≡ w .count)
 
-  fine-within : (w : Walked State) → Stuck (w .end) → within lent budget w .answer .number ≡ Limits.verified → Fine-within (within lent budget w) w
-  unfolding within pick
-  fine-within w stuck q =
-      by-test (ltb budget (w .count))
-      (λ t. absurd (let three : _≡_ {A = ℕ} 3 0 = rw (t, pick) at q in omega arith))
-      (λ f.
-      let e = ends-fine (w .count) (w .end) stuck (rw (f, pick) at q) in
-      (e .0, ltb-false budget (w .count) f, ap (λ (j : Judgement). j .answer .count) (pick-false _ _ _ f) ∙ e .1))
-
   settled-fine : (x : Got Request) → Numbered-in refusals x → judge-settled lim lent budget x .answer .number ≡ Limits.verified
       → (r : Request) × (e : ℕ) × (x ≡ got r e) × Fine-within (judge-settled lim lent budget x) (walked r (first-state lim (r .table)))
   unfolding judge-settled among refusals some-of either
-  settled-fine (got r e) n q = (r, e, refl, fine-within _ (walked-stuck r _) q)
+  settled-fine (got r e) n q = (r, e, refl, fine-within lent budget _ _ refl (walked-never Limits.verified (λ z. omega arith) r _) q)
   settled-fine (fault k p) n q = clash n (ap (λ (i : ℕ). among i refusals) q)
 
   -- What is not refused is settled.

@@ -1,7 +1,6 @@
 -- What the exported release call and the exported plans call promise: each theorem is of a number and of a row that meet the call's own contract.
 -- Whatever `ReleasePromises` says of an own answer and of a row is so of these, by `releases`. Assumes nothing.
 use Prim.Native.Nat.{ℕ, _/_, _%_, _-_, _*_, _<_}
-use native.Mathlib.Omega.{arith}
 use mathlib.Core.Path.{_≡_, sym, _∙_, ap₂}
 use mathlib.Core.Bool.{true}
 use mathlib.Core.List.{List, _∷_}

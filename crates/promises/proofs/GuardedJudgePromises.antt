@@ -1,9 +1,9 @@
 -- What the guarded call promises, once: of an answer and of lent bytes that are the definition's. Assumes nothing.
 use Prim.Native.Nat.{ℕ, _≤_, _<_}
-use mathlib.Core.Path.{_≡_, refl, sym, _∙_, ap, ap₂, subst}
+use mathlib.Core.Path.{_≡_, sym, _∙_, ap, ap₂, subst}
 use mathlib.Core.Bool.{true, false}
 use mathlib.Core.List.{List, [], _∷_, _++_}
-use mathlib.Core.Logic.{_⊎_, inl, inr, _↔_}
+use mathlib.Core.Logic.{_⊎_, _↔_}
 use lib.ListN.{length}
 use Rattle.meaning.specs.declared.Answer.{Answer}
 use Rattle.meaning.specs.Limits
@@ -11,7 +11,7 @@ use Rattle.meaning.specs.Limits.{format}
 use Rattle.meaning.specs.Literals.{among}
 use Rattle.meaning.specs.Requests.{Item, act, values}
 use Rattle.meaning.specs.Reading.{got}
-use Rattle.meaning.specs.Refusals.{Found, nowhere, at}
+use Rattle.meaning.specs.Refusals.{nowhere, at}
 use Rattle.meaning.specs.States.{State, first-state}
 use Rattle.meaning.specs.Walk.{missed-in}
 use Rattle.meaning.specs.Lines.{executability-of}
@@ -19,39 +19,18 @@ use Rattle.meaning.specs.Judging
 use Rattle.meaning.specs.Judging.{Judgement, within, judge}
 use Rattle.meaning.specs.Guards.{Guarded-request, settled-guarded, judge-guarded, line-guarded, count}
 use Rattle.meaning.specs.Approximation.{least, Entailed}
-use Rattle.meaning.specs.Paths.{Ending, arrives, Path, walked-along}
+use Rattle.meaning.specs.Paths.{arrives, Path, walked-along}
 use Rattle.meaning.specs.Reported.{pair-of, Arrives, Missed-at, Item-in, item-place, Stopped-at, Nearest, item-line}
 use Rattle.meaning.specs.GuardedReported.{met-paths, First-stop, Broken-at, Met-in, Guards-true}
 use Rattle.meaning.specs.Worlds.{Carried-out-under}
 use Rattle.meaning.specs.Answers.{guarded-answers}
 use Rattle.meaning.specs.AnswerParts.{Walk-input, Guarded-count, Guarded-state, with-state, Placed}
 use Rattle.meaning.specs.Tests.{Has}
-use Rattle.meaning.proofs.RefusalLaws.{at≢nowhere}
 use Rattle.meaning.proofs.Exact.{format-room}
-use Rattle.meaning.proofs.EndLaws.{has-ends, first-has, Ends, Stops, arrives≢stops, all-arrive, arrives-same}
 use Rattle.demands.proofs.Demands
 use Rattle.demands.proofs.ProvedCases.{guarding-line, Given, judged-line, Row, proved-cases}
 use Rattle.promises.proofs.LentLaws.{Guarded-written, guarded-written}
 use Rattle.promises.proofs.CasePromises.{row-holds}
-
--- THE PATHS OF A LIST, each by itself: how some path ends is how one of its paths does.
-ends-path : (xs : List (Path State)) (e : Ending State) → Ends xs e → (x : Path State) × Has xs x × (x .ending ≡ e)
-ends-path [] e ends = absurd ends
-ends-path (y ∷ ys) e (inl here) = (y, inl refl, sym here)
-ends-path (y ∷ ys) e (inr later) = let w = ends-path ys e later in (w .0, inr (w .1), w .2)
-
-none-stops : (xs : List (Path State)) → ((x : Path State) → Has xs x → Arrives x) → {n p : ℕ} {u : State} → First-stop xs n p u → ⊥
-none-stops xs each f = arrives≢stops (sym (each (f .here) (first-has f) .1) ∙ f .so)
-
-fine-each : (miss : State → Found) (xs : List (Path State))
-    → ((Stops xs → ⊥) × ((u : State) → Ends xs (arrives u) → miss u ≡ nowhere)) ↔ ((x : Path State) → Has xs x → (u : State) × (x .ending ≡ arrives u) × (miss u ≡ nowhere))
-fine-each miss xs = (
-  λ w x has. let there = all-arrive xs (w .0) x has in (there .0, there .1, w .1 (there .0) (has-ends xs x (arrives (there .0)) has (there .1))),
-  λ each. (
-    λ stop. let x = ends-path xs _ (stop .3) in arrives≢stops (sym (each (x .0) (x .1) .1) ∙ x .2),
-    λ u ends. let x = ends-path xs (arrives u) ends in let fine = each (x .0) (x .1) in ap miss (arrives-same (sym (x .2) ∙ fine .1)) ∙ fine .2,
-  ),
-)
 
 -- THE GUARDED CALL.
 module _ (request lent : List ℕ) (budget : ℕ) (answer : Answer) (left : List ℕ) (is : record { answer = answer; state = left } ≡ judge-guarded format request lent budget) where
@@ -142,28 +121,12 @@ module _ (request lent : List ℕ) (budget : ℕ) (answer : Answer) (left : List
 
       pub verified-on-paths : (answer .number ≡ Limits.verified)
           ↔ ((x : Path State) → Has (met-paths format g) x → (u : State) × (x .ending ≡ arrives u) × (missed-in (g .request) u ≡ nowhere))
-      verified-on-paths =
-          let exactly = Demands.guarded-fine-exactly format request lent budget g e lent-length past enough in
-          let each = fine-each (missed-in (g .request)) (met-paths format g) in
-          (λ q. each .0 (exactly .0 (number-is ∙ q)), λ h. sym number-is ∙ exactly .1 (each .1 h))
+      verified-on-paths = rw (sym number-is) (Demands.guarded-fine-exactly format request lent budget g e lent-length past enough)
 
       pub missed-on-paths : (answer .number ≡ Limits.goal-missed)
           ↔ (((x : Path State) → Has (met-paths format g) x → Arrives x)
           × ((x : Path State) × (u : State) × (p : ℕ) × Has (met-paths format g) x × (x .ending ≡ arrives u) × (missed-in (g .request) u ≡ at p)))
-      missed-on-paths = (
-        λ q.
-            let w = Demands.guarded-missed-exactly format request lent budget g e lent-length past enough .0 (number-is ∙ q) in
-            let f = w .1 .2 in
-            (all-arrive (met-paths format g) (w .0), (f .here, w .1 .1, w .1 .0, first-has f, f .so .0, f .so .1)),
-        λ w. missed-exactly .1 (
-          λ p u f. none-stops (met-paths format g) (w .0) f,
-          λ p u f. none-stops (met-paths format g) (w .0) f,
-          λ k.
-              let misses = w .1 in
-              let fine = verified-on-paths .0 (verified-exactly .1 k) (misses .0) (misses .3) in
-              at≢nowhere (sym (misses .5) ∙ ap (missed-in (g .request)) (arrives-same (sym (misses .4) ∙ fine .1)) ∙ fine .2),
-        ),
-      )
+      missed-on-paths = rw (sym number-is) (Demands.guarded-missed-exactly format request lent budget g e lent-length past enough)
 
 -- THE LINE, where the number that the call gives beside its answer is the definition's.
 module _ (request lent : List ℕ) (budget : ℕ) (answer : Answer) (left : List ℕ) (is : record { answer = answer; state = left } ≡ judge-guarded format request lent budget)

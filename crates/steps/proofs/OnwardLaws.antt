@@ -27,7 +27,7 @@ use Rattle.finding.specs.PlansHeld.{own-items, branches-in, Item-written, Branc
 use Rattle.finding.specs.Branches.{sequence-place, no-item, place-after, item-after, Branches-here, Item-here}
 use Rattle.finding.proofs.ByBranch.{branch-first, branches-next}
 use Rattle.finding.proofs.PlanHere.{count-zero, count-some, some-item, place-is, item-is, plan-here}
-use Rattle.steps.specs.Held.{table-in, plan-in, request-in}
+use Rattle.steps.specs.Held.{plan-in, request-in}
 use Rattle.steps.specs.AtHand.{At-hand}
 use Rattle.steps.specs.Rests.{rest-at, after-first, span, onward, Position, Branches-laid, Inside-laid, Item-laid}
 use Rattle.steps.specs.Steps.{step-in, walk-from, walk-after, met-from, Followed, Into, going-on, Chosen}

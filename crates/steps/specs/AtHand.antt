@@ -1,5 +1,5 @@
 -- A request at hand: the input has each section of it where the notes say, and the notes lead to its lines and through its plan. How the
--- notes came to be, and what the input has behind the whether list, is not asked.
+-- notes came to be, and what else the input has, is not asked.
 use Prim.Native.Nat.{ℕ, _≤_, _<_}
 use mathlib.Core.Path.{_≡_}
 use mathlib.Core.Bool.{false}

@@ -1,5 +1,5 @@
--- The request that an input and notes hold: sections 1 to 5 as they stand at the input's start, and the plan, the goals and the whether
--- entries as they stand where the notes say. It does not depend on what else the input has.
+-- The request that an input and notes hold: sections 1 to 5 as they stand at the input's start, and the plan, the goals, the whether entries
+-- and the guards as they stand where the notes say. It does not depend on what else the input has.
 use Prim.Native.Nat.{ℕ, _+_}
 use mathlib.Core.List.{List, []}
 use lib.ListN.{getD}

@@ -3,7 +3,6 @@
 use Prim.Native.Nat.{ℕ, suc, _+_, _-_, _*_, _≤_, _<_}
 use native.Mathlib.Omega.{arith}
 use mathlib.Core.Path.{_≡_, refl, sym, _∙_, ap, subst}
-use mathlib.Core.Bool.{Bool, true, false}
 use mathlib.Core.List.{List, [], _∷_, _++_, append-assoc, append-nil}
 use lib.ListN.{length, length-append, getD, set, length-set, take, replicate}
 use lib.Seq.{take-all, length-take-le, take-at, sets-eq, length-sets}
@@ -27,7 +26,7 @@ use Rattle.meaning.proofs.TestLaws.{clash, pick-true, pick-false}
 use Rattle.meaning.proofs.SettledLaws.{got-same, next-got, refuse-got}
 use Rattle.meaning.proofs.RangeLaws.{got-place, count-within}
 use Rattle.meaning.proofs.VerifiedLaws.{within-unread}
-use Rattle.meaning.proofs.GuardedEmpty.{walked-unguarded}
+use Rattle.meaning.proofs.KeptEnds.{walked-unguarded}
 use Rattle.meaning.proofs.ReleaseLaws.{Opened, opened, answer-placed, plan-inside, table-below}
 use Rattle.bytes.specs.declared.bytes.Read.{Read}
 use Rattle.bytes.specs.declared.bytes.Read.the-variants.{Value, Fault}

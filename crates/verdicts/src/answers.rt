@@ -1,3 +1,6 @@
+ghost use mathlib.Core.Path.{_≡_};
+use meaning::Answer;
+
 // Answers that are no refusal of a request, and the input that a place is in, named once as in the definitions' Limits (FORMAT 4.3 to 4.7, 4.26).
 pub const VERIFIED: u8 = 0;
 
@@ -20,3 +23,15 @@ pub const THE_REQUEST: u8 = 1;
 pub const THE_DERIVATION: u8 = 2;
 
 pub const WHETHER_ASKED: u8 = 30;
+
+// An answer that counts nothing.
+pub fn uncounted(number: u8, input: u8, place: usize) -> Answer
+    ensures { λ r. ⌜ r ≡ record { number = number; input = input; place = place; count = 0 } ⌝ }
+{
+    Answer {
+        number: number,
+        input: input,
+        place: place,
+        count: 0,
+    }
+}

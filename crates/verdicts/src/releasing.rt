@@ -15,6 +15,7 @@ ghost use Rattle.steps.specs.Held.{guards-in, request-in};
 ghost use Rattle.steps.specs.AtHand.{At-hand};
 ghost use Rattle.verdicts.specs.Releasing.{opening-noted, Counted, Opened-here, with-answer, with-unreached, past-table};
 use super::answers;
+use super::answers::uncounted;
 use super::walked::walk_plan;
 use bytes::bytes::Read;
 use bytes::bytes::count_at;
@@ -33,18 +34,6 @@ use refusing::settled::table_refused;
 
 // A row has four numbers for each plan.
 pub const ROW_NUMBERS: usize = 4;
-
-// An answer that counts nothing.
-fn uncounted(number: u8, input: u8, place: usize) -> Answer
-    ensures { λ r. ⌜ r ≡ record { number = number; input = input; place = place; count = 0 } ⌝ }
-{
-    Answer {
-        number: number,
-        input: input,
-        place: place,
-        count: 0,
-    }
-}
 
 // What stands before the plans: sections 1 to 5, which are noted, and the number of plans.
 fn open_file(file: &[u8], t: &mut Notes) -> Read

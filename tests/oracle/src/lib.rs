@@ -24,6 +24,7 @@ pub mod rules;
 pub mod run;
 pub mod settle;
 pub mod table;
+mod tally;
 pub mod text;
 pub mod walk;
 pub mod whether;

@@ -25,6 +25,7 @@ use crate::calls::{
 };
 use crate::edges::{of_derivation, of_judging, Edge, OF_DERIVATIONS, OF_JUDGING};
 use crate::generate::{drawn, filled, forgetful, Shape, MIDDLE, SMALL, TINY};
+use crate::guards::run::BROKEN;
 use crate::model::Request;
 use crate::prove::natural;
 use crate::reader::{Part, DERIVATION_LIMIT, LIST_LIMIT, REQUEST_LIMIT};
@@ -180,7 +181,7 @@ fn judging_row(rng: &mut Rng, wanted: Wanted<u8>) -> String {
             judging_call(rng, wanted, most)
         }
     };
-    tell_judging(&call)
+    tell_judging("J", &call, judged(&call))
 }
 
 /// A call that shows an edge, with a small request unless its lists are full.
@@ -264,14 +265,18 @@ fn judged(call: &JudgeCall) -> (Answer, u32, Vec<u8>) {
     (answer, line, lent)
 }
 
-fn tell_judging(call: &JudgeCall) -> String {
-    let (answer, line, lent) = judged(call);
+/// A row that begins with this letter, of a call with answer, line and lent state.
+pub(crate) fn tell_judging(
+    letter: &str,
+    call: &JudgeCall,
+    (answer, line, lent): (Answer, u32, Vec<u8>),
+) -> String {
     let state = match answer.number {
-        1 | 2 => comma_separated(&lent),
+        1 | 2 | BROKEN => comma_separated(&lent),
         _ => "-".to_string(),
     };
     let (request, length, budget) = (tell_bytes(&call.request), call.lent.len(), call.budget);
-    format!("J {request} {length} {budget} {answer} {state} {line}")
+    format!("{letter} {request} {length} {budget} {answer} {state} {line}")
 }
 
 /// A row as wanted.

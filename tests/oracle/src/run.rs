@@ -11,6 +11,7 @@ use crate::model::{Effect, Line, Request};
 use crate::reader::{read_derivation, read_request};
 use crate::rng::Rng;
 use crate::settle::clashing;
+use crate::tally::{all_met, each, never, titled, Differences};
 use crate::text::comma_separated;
 use crate::walk::{walk, Verdict};
 use crate::{check, judge_line, open, paths, shown, worlds, STATE_LENGTH};
@@ -19,8 +20,6 @@ use crate::{check, judge_line, open, paths, shown, worlds, STATE_LENGTH};
 pub(crate) const MOST_PATHS: usize = 3_000;
 /// The budget of the walk that an accepted derivation is compared with.
 pub(crate) const WALK_BUDGET: u32 = 50_000;
-/// Failures told in full.
-pub(crate) const TOLD: usize = 10;
 /// Least share of each of the answers 0 to 3, in per cent of all requests judged, damaged ones
 /// included.
 pub(crate) const LEAST_SHARE: u64 = 5;
@@ -110,8 +109,7 @@ pub struct Tally {
     accepted_beyond_walk: u64,
     rules: BTreeMap<u8, u64>,
     readings: BTreeMap<usize, u64>,
-    failed: u64,
-    failures: Vec<String>,
+    differences: Differences,
 }
 
 /// Makes so many calls of each kind from a seed.
@@ -120,7 +118,7 @@ pub fn run(seed: u64, requests: u64, derivations: u64) -> Tally {
     for index in 0..requests {
         let call = judge_call(&mut Rng::new(seed, 1, index));
         if let Err(difference) = tally.judge(&call) {
-            tally.fail(format!(
+            tally.differences.add(format!(
                 "request {index}: {difference}: {}",
                 told(&call.request)
             ));
@@ -129,7 +127,7 @@ pub fn run(seed: u64, requests: u64, derivations: u64) -> Tally {
     for index in 0..derivations {
         let call = check_call(&mut Rng::new(seed, 2, index));
         if let Err(difference) = tally.check(&call) {
-            tally.fail(format!(
+            tally.differences.add(format!(
                 "derivation {index}: {difference}: {} {}",
                 told(&call.request),
                 told(&call.derivation)
@@ -147,13 +145,6 @@ pub(crate) fn told(bytes: &[u8]) -> String {
 }
 
 impl Tally {
-    fn fail(&mut self, failure: String) {
-        self.failed += 1;
-        if self.failures.len() < TOLD {
-            self.failures.push(failure);
-        }
-    }
-
     /// Makes a judging call and checks its answer.
     fn judge(&mut self, call: &JudgeCall) -> Result<(), String> {
         self.requests += 1;
@@ -307,18 +298,13 @@ impl Tally {
 
     /// The differences found, as far as they are told.
     pub fn differences(&self) -> &[String] {
-        &self.failures
+        self.differences.told()
     }
 
     /// What keeps the run from being right, in short.
     pub fn verdict(&self) -> Result<(), String> {
-        if self.failed > 0 {
-            return Err(format!("{} differences", self.failed));
-        }
-        let never = self.never_met();
-        if !never.is_empty() {
-            return Err(format!("never met: {}", never.join(", ")));
-        }
+        self.differences.verdict()?;
+        all_met(&self.never_met())?;
         if self.clashing_apart * 100 < self.requests * LEAST_SHARE {
             return Err("effects rarely clash where their action can't be run".to_string());
         }
@@ -330,18 +316,15 @@ impl Tally {
     }
 
     fn never_met(&self) -> Vec<String> {
-        let judging = OF_JUDGING
-            .iter()
-            .filter(|number| !self.judged.contains_key(number))
-            .map(|number| format!("{number} in judging"));
-        let stops = Stop::ALL
-            .iter()
-            .filter(|stop| !self.stops.contains_key(stop))
-            .map(|stop| format!("answer 2 at {stop:?}"));
-        let checking = OF_CHECKING
-            .iter()
-            .filter(|pair| !self.checked.contains_key(pair))
-            .map(|(number, input)| format!("{number} of input {input} in checking"));
+        let judging = never(&OF_JUDGING, &self.judged, |number| {
+            format!("{number} in judging")
+        });
+        let stops = never(&Stop::ALL, &self.stops, |stop| {
+            format!("answer 2 at {stop:?}")
+        });
+        let checking = never(&OF_CHECKING, &self.checked, |(number, input)| {
+            format!("{number} of input {input} in checking")
+        });
         let of_judging = self.judged_edges.never(&edges::OF_JUDGING);
         let of_checking = self.checked_edges.never(edges::OF_DERIVATIONS);
         judging
@@ -375,34 +358,24 @@ impl Tally {
 
     /// The tallies as text, one to a line.
     pub fn report(&self) -> String {
-        let mut out = String::new();
-        for failure in &self.failures {
-            let _ = writeln!(out, "difference: {failure}");
-        }
+        let mut out = self.differences.report();
         let _ = writeln!(out, "requests judged: {}", self.requests);
         for (number, times) in &self.judged {
             let share = *times as f64 * 100.0 / self.requests as f64;
             let _ = writeln!(out, "  answer {number}: {times} ({share:.2} per cent)");
         }
-        for (stop, times) in &self.stops {
-            let _ = writeln!(out, "  answer 2 at {stop:?}: {times}");
-        }
+        out += &each(&self.stops, |stop| format!("  answer 2 at {stop:?}"));
         out += &self.judged_edges.told(&edges::OF_JUDGING);
         let _ = writeln!(out, "derivations checked: {}", self.derivations);
-        for ((number, input), times) in &self.checked {
-            let _ = writeln!(out, "  answer {number}, input {input}: {times}");
-        }
+        out += &each(&self.checked, |(number, input)| {
+            format!("  answer {number}, input {input}")
+        });
         out += &self.checked_edges.told(edges::OF_DERIVATIONS);
-        for (rule, times) in &self.rules {
-            let _ = writeln!(out, "accepted lines by rule {rule}: {times}");
-        }
-        for (readings, times) in &self.readings {
-            let _ = writeln!(out, "  rule 3 over {readings} readings: {times}");
-        }
-        for (title, times) in self.titled() {
-            let _ = writeln!(out, "{title}: {times}");
-        }
-        out
+        out += &each(&self.rules, |rule| format!("accepted lines by rule {rule}"));
+        out += &each(&self.readings, |readings| {
+            format!("  rule 3 over {readings} readings")
+        });
+        out + &titled(&self.titled())
     }
 
     fn titled(&self) -> [(&'static str, u64); 12] {

@@ -3,14 +3,11 @@
 use std::collections::BTreeMap;
 
 use oracle::edges::{Edge, Met};
-use oracle::rng::Rng;
 use oracle::Answer;
 
 use crate::calls;
 use crate::checks::{agreed, Check};
-
-/// From so many calls on, all that has to occur is looked for.
-const ENOUGH: u64 = 20_000;
+use crate::many::{all_met, each_agreed, ENOUGH};
 
 /// Calls from a seed, what they are called, the stream of random numbers of what stands around the inputs, what each input can be
 /// refused by, where 0 is given for neither, and what has to occur at the limits, told from request, derivation and answer.
@@ -30,10 +27,7 @@ impl Series {
         let mut seen: BTreeMap<(u64, u64), u64> = BTreeMap::new();
         let mut edges = Met::default();
         let (mut longest, mut most_lines) = (0, 0);
-        for index in 0..count {
-            let check = (self.call)(seed, index);
-            let answer = agreed(&mut Rng::new(seed, self.fences, index), &check);
-            let answer = answer.map_err(|why| format!("seed {seed}, call {index}: {why}; {check}"))?;
+        each_agreed((seed, count), self.fences, self.call, agreed, |check, answer| {
             let [number, input, ..] = answer;
             *seen.entry((number, input)).or_default() += 1;
             edges.note((self.edges_of)(&check.request, &check.derivation, calls::answer(answer)));
@@ -41,7 +35,7 @@ impl Series {
             if let ([high, low, ..], 0 | 31..) = (&check.derivation[..], number) {
                 most_lines = most_lines.max(u16::from_be_bytes([*high, *low]));
             }
-        }
+        })?;
         for ((number, input), times) in &seen {
             let whose = ["", " of the request", " of the derivation"][*input as usize];
             println!("  answer {number}{whose}: {times}");
@@ -51,9 +45,7 @@ impl Series {
         let missing = self.expected().filter(|answer| !seen.contains_key(answer));
         let missing = missing.map(|(number, input)| format!("answer {number} of input {input}"));
         let missing: Vec<String> = missing.chain(edges.never(self.edges)).collect();
-        if count >= ENOUGH && !missing.is_empty() {
-            return Err(format!("seed {seed}: never in {count} {what}: {}", missing.join(", ")));
-        }
+        all_met((seed, count), ENOUGH, what, &missing)?;
         Ok(format!("{count} {what} of seed {seed} agree; the longest has {longest} bytes, and up to {most_lines} lines were gone through"))
     }
 

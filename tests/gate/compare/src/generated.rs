@@ -13,6 +13,7 @@ use oracle::run::Stop;
 
 use crate::calls::{agreed, answer, Call};
 use crate::crowded::crowded;
+use crate::many::{all_met, each_agreed};
 
 /// The numbers of the walk call, each of which has to occur, as have what stands at the limits and answer 2 at items of every kind.
 const NUMBERS: [u64; 17] = [0, 1, 2, 3, 9, 10, 11, 12, 13, 14, 15, 16, 17, 18, 19, 20, 21];
@@ -30,10 +31,7 @@ pub fn compare(seed: u64, count: u64) -> Result<String, String> {
     let mut stops: BTreeMap<Stop, u64> = BTreeMap::new();
     let mut edges = Met::default();
     let mut longest = 0;
-    for index in 0..count {
-        let call = call(seed, index);
-        let left = agreed(&mut Rng::new(seed, FENCES, index), &call);
-        let left = left.map_err(|why| format!("seed {seed}, call {index}: {why}; {call}"))?;
+    each_agreed((seed, count), FENCES, call, agreed, |call, left| {
         *seen.entry(left.answer[0]).or_default() += 1;
         if let (2, Ok(request)) = (left.answer[0], open(&call.request)) {
             let stop = Stop::of(&request, call.request[left.answer[2] as usize], left.line.unwrap_or(0));
@@ -41,7 +39,7 @@ pub fn compare(seed: u64, count: u64) -> Result<String, String> {
         }
         edges.note(of_judging(&call.request, call.lent.len(), answer(left.answer)));
         longest = longest.max(call.request.len());
-    }
+    })?;
     for (number, times) in &seen {
         println!("  answer {number}: {times}");
     }
@@ -52,9 +50,7 @@ pub fn compare(seed: u64, count: u64) -> Result<String, String> {
     let missing = NUMBERS.iter().filter(|number| !seen.contains_key(number)).map(|number| format!("answer {number}"));
     let stops = Stop::ALL.iter().filter(|stop| !stops.contains_key(stop)).map(|stop| format!("answer 2 at {stop:?}"));
     let missing: Vec<String> = missing.chain(stops).chain(edges.never(&OF_JUDGING)).collect();
-    if count >= ENOUGH && !missing.is_empty() {
-        return Err(format!("seed {seed}: never in {count} calls: {}", missing.join(", ")));
-    }
+    all_met((seed, count), ENOUGH, "calls", &missing)?;
     Ok(format!("{count} calls of seed {seed} agree; the longest request has {longest} bytes"))
 }
 

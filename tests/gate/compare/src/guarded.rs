@@ -10,9 +10,8 @@ use oracle::rng::Rng;
 use crate::calls::{self, answer, expect, timed_and_named, Call, Left};
 use crate::crowded::crowded;
 use crate::generated::{varied, MOST};
+use crate::many::{all_met, each_agreed, ENOUGH};
 
-/// From so many calls on, all that has to occur is looked for.
-const ENOUGH: u64 = 20_000;
 /// Streams of random numbers: of the calls, and of what stands around request and lent state.
 const CALLS: u64 = 22;
 const FENCES: u64 = 23;
@@ -92,20 +91,14 @@ fn without_guards(rng: &mut Rng, call: &Call, plain: &Left) -> Result<(), String
 pub fn compare(seed: u64, count: u64) -> Result<String, String> {
     let mut tally = Tally::default();
     let mut longest = 0;
-    for index in 0..count {
-        let call = call(seed, index);
-        let left = agreed(&mut Rng::new(seed, FENCES, index), &call);
-        let left = left.map_err(|why| format!("seed {seed}, call {index}: {why}; {call}"))?;
+    each_agreed((seed, count), FENCES, call, agreed, |call, left| {
         tally.note(&call.request, call.budget, answer(left.answer));
         longest = longest.max(call.request.len());
-    }
+    })?;
     for line in tally.report().lines() {
         println!("  {line}");
     }
-    let missing = tally.never_met();
-    if count >= ENOUGH && !missing.is_empty() {
-        return Err(format!("seed {seed}: never in {count} guarded calls: {}", missing.join(", ")));
-    }
+    all_met((seed, count), ENOUGH, "guarded calls", &tally.never_met())?;
     Ok(format!("{count} guarded calls of seed {seed} agree, and so do the walk calls beside them; the longest request has {longest} bytes"))
 }
 

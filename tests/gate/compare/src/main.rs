@@ -18,6 +18,7 @@ mod guarded_cases;
 mod guarded_hostile;
 mod hostile;
 mod largest;
+mod many;
 mod release_cases;
 mod release_hostile;
 mod releases;

@@ -16,9 +16,8 @@ use crate::cases;
 use crate::crowded::{crowded, crowded_plan};
 use crate::fence::Fenced;
 use crate::generated::{change, cross};
+use crate::many::{all_met, each_agreed, ENOUGH};
 
-/// From so many calls on, all that has to occur is looked for.
-const ENOUGH: u64 = 20_000;
 /// The largest budget for a file whose walks nobody has counted before.
 const MOST: u32 = 2_000;
 /// Streams of random numbers: of the calls, and of what stands around file and row.
@@ -130,20 +129,14 @@ pub fn expect(one: &Left, other: &Left, whose: &str) -> Result<(), String> {
 pub fn compare(seed: u64, count: u64) -> Result<String, String> {
     let mut tally = Tally::default();
     let mut longest = 0;
-    for index in 0..count {
-        let call = call(seed, index);
-        let left = agreed(&mut Rng::new(seed, FENCES, index), &call);
-        let left = left.map_err(|why| format!("seed {seed}, call {index}: {why}; {call}"))?;
+    each_agreed((seed, count), FENCES, call, agreed, |call, left| {
         tally.note(&call.file, call.lent.len(), answer(left.own), &left.row);
         longest = longest.max(call.file.len());
-    }
+    })?;
     for line in tally.report().lines() {
         println!("  {line}");
     }
-    let missing = tally.never_met();
-    if count >= ENOUGH && !missing.is_empty() {
-        return Err(format!("seed {seed}: never in {count} release calls: {}", missing.join(", ")));
-    }
+    all_met((seed, count), ENOUGH, "release calls", &tally.never_met())?;
     Ok(format!("{count} release calls of seed {seed} agree; the longest file has {longest} bytes"))
 }
 

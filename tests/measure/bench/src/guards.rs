@@ -10,9 +10,8 @@ use oracle::reader::{FLUENT_LIMIT, GUARD_LIMIT, ITEM_LIMIT, REQUEST_LIMIT};
 use oracle::rng::Rng;
 use oracle::walk::{met, walk};
 
-use crate::clock;
 use crate::crowded::crowded_of;
-use crate::walks::quartiles;
+use crate::walks::side_by_side;
 
 /// The stream of random numbers of the requests.
 const REQUESTS: u64 = 140;
@@ -114,6 +113,14 @@ fn timed(rng: &mut Rng, kind: &Kind) -> Timed {
 }
 
 impl Timed {
+    fn guarded(&mut self) {
+        _ = black_box(judge_guarded_packed(black_box(&self.guarded), &mut self.lent, BUDGET));
+    }
+
+    fn walk(&mut self) {
+        _ = black_box(judge_packed(black_box(&self.plain), &mut self.lent, BUDGET));
+    }
+
     /// Both calls answer alike, and the independent program answers so too.
     fn agreed(&mut self) -> Result<u32, String> {
         let guarded = judge_guarded_packed(&self.guarded, &mut self.lent, BUDGET);
@@ -127,23 +134,6 @@ impl Timed {
     }
 }
 
-/// All requests by the guarded call and by the walk call, in nanoseconds.
-fn round_of(requests: &mut [Timed], round: usize) -> [f64; 2] {
-    let mut taken = [0.0; 2];
-    for (index, timed) in requests.iter_mut().enumerate() {
-        for turn in 0..2 {
-            let way = (round + index + turn) % 2;
-            let start = clock::now();
-            match way {
-                0 => _ = black_box(judge_guarded_packed(black_box(&timed.guarded), &mut timed.lent, BUDGET)),
-                _ => _ = black_box(judge_packed(black_box(&timed.plain), &mut timed.lent, BUDGET)),
-            }
-            taken[way] += clock::now() - start;
-        }
-    }
-    taken
-}
-
 /// The table, after a comparison of all answers.
 pub fn time(seed: u64, rounds: u64) -> Result<String, String> {
     let mut out = String::from("| requests | bytes, mean | guards, mean | count, mean | guarded call, ns | walk call, ns | ratio | quartiles |\n");
@@ -151,9 +141,7 @@ pub fn time(seed: u64, rounds: u64) -> Result<String, String> {
     for (row, kind) in KINDS.iter().enumerate() {
         let mut requests: Vec<Timed> = (0..COUNT).map(|index| timed(&mut Rng::new(seed, REQUESTS + row as u64, index), kind)).collect();
         let counts: u32 = requests.iter_mut().map(Timed::agreed).sum::<Result<u32, String>>()?;
-        let times: Vec<[f64; 2]> = (0..rounds as usize).map(|round| round_of(&mut requests, round)).collect();
-        let [guarded, plain] = [0, 1].map(|way| quartiles(times.iter().map(|taken| taken[way]).collect())[1] / COUNT as f64);
-        let [low, middle, high] = quartiles(times.iter().map(|[guarded, plain]| guarded / plain).collect());
+        let ([guarded, plain], [low, middle, high]) = side_by_side(&mut requests, rounds, [Timed::guarded, Timed::walk]);
         let mean = |of: fn(&Timed) -> usize| requests.iter().map(of).sum::<usize>() / requests.len();
         let (bytes, guards, count) = (mean(|timed| timed.guarded.len()), mean(|timed| timed.guards), u64::from(counts) / COUNT);
         let name = kind.name;

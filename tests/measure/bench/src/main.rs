@@ -19,6 +19,9 @@ mod fence;
 #[path = "../../../gate/compare/src/generated.rs"]
 mod generated;
 mod guards;
+#[allow(dead_code)]
+#[path = "../../../gate/compare/src/many.rs"]
+mod many;
 mod plain;
 mod programs;
 mod releases;

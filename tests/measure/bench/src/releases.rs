@@ -10,9 +10,8 @@ use oracle::reader::{PLAN_LIMIT, REQUEST_LIMIT};
 use oracle::rng::Rng;
 use oracle::walk::{walk, Verdict};
 
-use crate::clock;
 use crate::crowded::crowded_of;
-use crate::walks::quartiles;
+use crate::walks::side_by_side;
 
 extern "C" {
     // As crates/glintstring/src/exports.rt has it.
@@ -131,6 +130,12 @@ impl Timed {
         unsafe { glintstring_release(file.as_ptr(), file.len(), row.as_mut_ptr(), row.len(), BUDGET) }
     }
 
+    fn walks(&mut self) {
+        for request in &self.requests {
+            _ = black_box(judge_packed(black_box(request), &mut self.lent, BUDGET));
+        }
+    }
+
     /// The row has the walk calls' answers, and so has the independent program's.
     fn agreed(&mut self) -> Result<(), String> {
         let own = self.release();
@@ -149,27 +154,6 @@ impl Timed {
     }
 }
 
-/// All files by the release call and by walk calls, in nanoseconds.
-fn round_of(files: &mut [Timed], round: usize) -> [f64; 2] {
-    let mut taken = [0.0; 2];
-    for (index, file) in files.iter_mut().enumerate() {
-        for turn in 0..2 {
-            let way = (round + index + turn) % 2;
-            let start = clock::now();
-            match way {
-                0 => _ = black_box(file.release()),
-                _ => {
-                    for request in &file.requests {
-                        _ = black_box(judge_packed(black_box(request), &mut file.lent, BUDGET));
-                    }
-                }
-            }
-            taken[way] += clock::now() - start;
-        }
-    }
-    taken
-}
-
 /// The table, after a comparison of all answers.
 pub fn time(seed: u64, rounds: u64) -> Result<String, String> {
     let mut out = String::from("| tables | bytes of a table, mean | plans | bytes of a plan, mean | release call, ns | walk calls, ns | ratio | quartiles |\n");
@@ -181,9 +165,8 @@ pub fn time(seed: u64, rounds: u64) -> Result<String, String> {
         }
         let tables: usize = files.iter().map(|file| file.table).sum();
         let plans: usize = files.iter().map(|file| file.file.len() - file.table - 1).sum();
-        let times: Vec<[f64; 2]> = (0..rounds as usize).map(|round| round_of(&mut files, round)).collect();
-        let [release, walks] = [0, 1].map(|way| quartiles(times.iter().map(|taken| taken[way]).collect())[1] / COUNT as f64);
-        let [low, middle, high] = quartiles(times.iter().map(|[release, walks]| release / walks).collect());
+        let ways = [|file: &mut Timed| _ = black_box(file.release()), Timed::walks];
+        let ([release, walks], [low, middle, high]) = side_by_side(&mut files, rounds, ways);
         let (table, plan) = (tables / files.len(), plans / files.len() / kind.plans);
         let (name, count) = (kind.name, kind.plans);
         if row == 0 && middle > BAR {

@@ -43,6 +43,25 @@ pub fn quartiles(mut numbers: Vec<f64>) -> [f64; 3] {
     [1, 2, 3].map(|quarter| numbers[quarter * (numbers.len() - 1) / 4])
 }
 
+/// All inputs in two ways, by turns: the median of each way for one input, in nanoseconds, and the quartiles of the ratio.
+pub fn side_by_side<Timed>(inputs: &mut [Timed], rounds: u64, ways: [fn(&mut Timed); 2]) -> ([f64; 2], [f64; 3]) {
+    let mut times: Vec<[f64; 2]> = Vec::new();
+    for round in 0..rounds as usize {
+        let mut taken = [0.0; 2];
+        for (index, timed) in inputs.iter_mut().enumerate() {
+            for turn in 0..2 {
+                let way = (round + index + turn) % 2;
+                let start = clock::now();
+                ways[way](timed);
+                taken[way] += clock::now() - start;
+            }
+        }
+        times.push(taken);
+    }
+    let medians = [0, 1].map(|way| quartiles(times.iter().map(|taken| taken[way]).collect())[1] / inputs.len() as f64);
+    (medians, quartiles(times.iter().map(|[one, other]| one / other).collect()))
+}
+
 /// All times of one class: by part, program and round.
 type Times = [[Vec<f64>; 3]; 2];
 

@@ -29,6 +29,9 @@ mod guarded;
 mod guarded_cases;
 pub mod input;
 #[allow(dead_code)]
+#[path = "../../../gate/compare/src/many.rs"]
+mod many;
+#[allow(dead_code)]
 #[path = "../../../gate/compare/src/release_cases.rs"]
 mod release_cases;
 #[allow(dead_code)]

@@ -13,8 +13,9 @@ use crate::calls::{lend_wrongly, JudgeCall};
 use crate::generate::{drawn, filled};
 use crate::reader::{LIST_LIMIT, REQUEST_LIMIT};
 use crate::rng::Rng;
-use crate::rows::{rounds, small_shape, spread_shape, tell_bytes, Wanted, FULL_BYTES, LONG_BYTES};
-use crate::text::comma_separated;
+use crate::rows::{
+    rounds, small_shape, spread_shape, tell_judging, Wanted, FULL_BYTES, LONG_BYTES,
+};
 use crate::walk::{walk_guarded, Verdict};
 
 /// Most bytes of a request.
@@ -100,7 +101,7 @@ fn row(rng: &mut Rng, wanted: Wanted<Shown>) -> String {
         Shown::Event(Event::MostGuards) => call(rng, wanted, FULL_BYTES),
         _ => call(rng, wanted, BYTES),
     };
-    tell(&call)
+    tell_judging("G", &call, judged(&call))
 }
 
 /// A call that shows what is wanted.
@@ -152,14 +153,4 @@ fn judged(call: &JudgeCall) -> (Answer, u32, Vec<u8>) {
     let mut lent = call.lent.clone();
     let (answer, line) = judge_guarded_line(&call.request, &mut lent, call.budget);
     (answer, line, lent)
-}
-
-fn tell(call: &JudgeCall) -> String {
-    let (answer, line, lent) = judged(call);
-    let state = match answer.number {
-        1 | 2 | BROKEN => comma_separated(&lent),
-        _ => "-".to_string(),
-    };
-    let (request, length, budget) = (tell_bytes(&call.request), call.lent.len(), call.budget);
-    format!("G {request} {length} {budget} {answer} {state} {line}")
 }

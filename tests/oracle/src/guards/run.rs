@@ -15,8 +15,9 @@ use crate::reader::{
 };
 use crate::rng::Rng;
 use crate::run::{
-    expect_bytes, expect_form, expect_outlook, state_of, told, LEAST_SHARE, MOST_PATHS, TOLD,
+    expect_bytes, expect_form, expect_outlook, state_of, told, LEAST_SHARE, MOST_PATHS,
 };
+use crate::tally::{all_met, each, never, titled, Differences};
 use crate::walk::walk_guarded;
 use crate::{judge_line, paths, worlds};
 
@@ -189,8 +190,7 @@ pub struct Tally {
     carried_out: u64,
     true_worlds: u64,
     broken_though_held: u64,
-    failed: u64,
-    failures: Vec<String>,
+    differences: Differences,
 }
 
 /// Makes so many calls from a seed.
@@ -201,12 +201,10 @@ pub fn run(seed: u64, calls: u64) -> Tally {
         let call = guarded_call(rng);
         let made = tally.judge(&call).and_then(|()| without_guards(rng));
         if let Err(difference) = made {
-            tally.failed += 1;
-            if tally.failures.len() < TOLD {
-                let request = told(&call.request);
-                let failure = format!("guarded request {index}: {difference}: {request}");
-                tally.failures.push(failure);
-            }
+            tally.differences.add(format!(
+                "guarded request {index}: {difference}: {}",
+                told(&call.request)
+            ));
         }
     }
     tally
@@ -295,18 +293,13 @@ impl Tally {
 
     /// The differences found, as far as they are told.
     pub fn differences(&self) -> &[String] {
-        &self.failures
+        self.differences.told()
     }
 
     /// What keeps the run from being right, in short.
     pub fn verdict(&self) -> Result<(), String> {
-        if self.failed > 0 {
-            return Err(format!("{} differences", self.failed));
-        }
-        let never = self.never_met();
-        if !never.is_empty() {
-            return Err(format!("never met: {}", never.join(", ")));
-        }
+        self.differences.verdict()?;
+        all_met(&self.never_met())?;
         let rare = |number: &u8| self.numbers[number] * 100 < self.calls * LEAST_SHARE;
         match [0, 1, 2, 3, BROKEN].iter().find(|number| rare(number)) {
             Some(number) => Err(format!("below {LEAST_SHARE} per cent: answer {number}")),
@@ -316,30 +309,20 @@ impl Tally {
 
     /// What has to occur and didn't, in words.
     pub fn never_met(&self) -> Vec<String> {
-        let numbers = NUMBERS.iter();
-        let numbers = numbers.filter(|number| !self.numbers.contains_key(number));
-        let numbers = numbers.map(|number| format!("answer {number} with guards"));
-        let events = Event::ALL.iter();
-        let events = events.filter(|event| !self.events.contains_key(event));
-        numbers
-            .chain(events.map(|event| format!("{event:?}")))
-            .collect()
+        let numbers = never(&NUMBERS, &self.numbers, |number| {
+            format!("answer {number} with guards")
+        });
+        let events = never(&Event::ALL, &self.events, |event| format!("{event:?}"));
+        numbers.chain(events).collect()
     }
 
     /// The tallies as text, one to a line.
     pub fn report(&self) -> String {
-        let mut out = String::new();
-        for failure in &self.failures {
-            let _ = writeln!(out, "difference: {failure}");
-        }
+        let mut out = self.differences.report();
         let _ = writeln!(out, "guarded requests judged: {}", self.calls);
-        for (number, times) in &self.numbers {
-            let _ = writeln!(out, "  answer {number}: {times}");
-        }
-        for (event, times) in &self.events {
-            let _ = writeln!(out, "  {event:?}: {times}");
-        }
-        for (title, times) in [
+        out += &each(&self.numbers, |number| format!("  answer {number}"));
+        out += &each(&self.events, |event| format!("  {event:?}"));
+        let mut numbers = vec![
             (
                 "guarded walks compared with the second walk",
                 self.second_walks,
@@ -353,12 +336,9 @@ impl Tally {
                 "answer 43 though every world holds the guards",
                 self.broken_though_held,
             ),
-        ] {
-            if times > 0 {
-                let _ = writeln!(out, "{title}: {times}");
-            }
-        }
-        out
+        ];
+        numbers.retain(|(_, number)| *number > 0);
+        out + &titled(&numbers)
     }
 }
 

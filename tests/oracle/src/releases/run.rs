@@ -11,7 +11,8 @@ use crate::encode::encode_release;
 use crate::model::Release;
 use crate::reader::{read_release, PLAN_LIMIT};
 use crate::rng::Rng;
-use crate::run::{expect_bytes, told, TOLD};
+use crate::run::{expect_bytes, told};
+use crate::tally::{all_met, each, never, Differences};
 use crate::{judge, STATE_LENGTH};
 
 /// The numbers of the call's own answer, and those of a plan, each of which has to occur.
@@ -151,8 +152,7 @@ pub struct Tally {
     own: BTreeMap<u8, u64>,
     of_plans: BTreeMap<u8, u64>,
     events: BTreeMap<Event, u64>,
-    failed: u64,
-    failures: Vec<String>,
+    differences: Differences,
 }
 
 /// Makes so many calls from a seed.
@@ -161,12 +161,10 @@ pub fn run(seed: u64, files: u64) -> Tally {
     for index in 0..files {
         let call = release_call(&mut Rng::new(seed, 14, index));
         if let Err(difference) = tally.release(&call) {
-            tally.failed += 1;
-            if tally.failures.len() < TOLD {
-                let file = told(&call.file);
-                let failure = format!("release file {index}: {difference}: {file}");
-                tally.failures.push(failure);
-            }
+            tally.differences.add(format!(
+                "release file {index}: {difference}: {}",
+                told(&call.file)
+            ));
         }
     }
     tally
@@ -214,51 +212,33 @@ impl Tally {
 
     /// The differences found, as far as they are told.
     pub fn differences(&self) -> &[String] {
-        &self.failures
+        self.differences.told()
     }
 
     /// What keeps the run from being right, in short.
     pub fn verdict(&self) -> Result<(), String> {
-        if self.failed > 0 {
-            return Err(format!("{} differences", self.failed));
-        }
-        match self.never_met() {
-            never if never.is_empty() => Ok(()),
-            never => Err(format!("never met: {}", never.join(", "))),
-        }
+        self.differences.verdict()?;
+        all_met(&self.never_met())
     }
 
     /// What has to occur and didn't, in words.
     pub fn never_met(&self) -> Vec<String> {
-        let own = OWN.iter().filter(|number| !self.own.contains_key(number));
-        let own = own.map(|number| format!("own answer {number}"));
-        let of_plans = OF_PLANS.iter();
-        let of_plans = of_plans.filter(|number| !self.of_plans.contains_key(number));
-        let of_plans = of_plans.map(|number| format!("{number} for a plan"));
-        let events = Event::ALL.iter();
-        let events = events.filter(|event| !self.events.contains_key(event));
-        let events = events.map(|event| format!("{event:?}"));
+        let own = never(&OWN, &self.own, |number| format!("own answer {number}"));
+        let of_plans = never(&OF_PLANS, &self.of_plans, |number| {
+            format!("{number} for a plan")
+        });
+        let events = never(&Event::ALL, &self.events, |event| format!("{event:?}"));
         own.chain(of_plans).chain(events).collect()
     }
 
     /// The tallies as text, one to a line.
     pub fn report(&self) -> String {
-        let mut out = String::new();
-        for failure in &self.failures {
-            let _ = writeln!(out, "difference: {failure}");
-        }
+        let mut out = self.differences.report();
         let _ = writeln!(out, "release files: {}", self.files);
-        for (number, times) in &self.own {
-            let _ = writeln!(out, "  own answer {number}: {times}");
-        }
+        out += &each(&self.own, |number| format!("  own answer {number}"));
         let _ = writeln!(out, "plans of these: {}", self.plans);
-        for (number, times) in &self.of_plans {
-            let _ = writeln!(out, "  plan with {number}: {times}");
-        }
-        for (event, times) in &self.events {
-            let _ = writeln!(out, "  {event:?}: {times}");
-        }
-        out
+        out += &each(&self.of_plans, |number| format!("  plan with {number}"));
+        out + &each(&self.events, |event| format!("  {event:?}"))
     }
 }
 

@@ -14,7 +14,8 @@ use crate::encode::{encode_derivation, encode_proof};
 use crate::model::{Conclusion, Proof, ProofLine, Request};
 use crate::reader::{read_derivation, read_proof};
 use crate::rng::Rng;
-use crate::run::{expect_bytes, expect_form, expect_outlook, told, TOLD, WALK_BUDGET};
+use crate::run::{expect_bytes, expect_form, expect_outlook, told, WALK_BUDGET};
+use crate::tally::{all_met, each, titled, Differences};
 use crate::walk::{walk, Verdict};
 use crate::whether::calls::whether_call;
 use crate::whether::translate::{as_lines, as_proof};
@@ -82,8 +83,7 @@ pub struct WhetherTally {
     lines_beyond_walk: u64,
     translated: u64,
     translated_back: u64,
-    failed: u64,
-    failures: Vec<String>,
+    differences: Differences,
 }
 
 /// The call with this number from a seed.
@@ -108,13 +108,11 @@ pub fn run(seed: u64, derivations: u64) -> WhetherTally {
 impl WhetherTally {
     fn note(&mut self, found: Result<(), String>, what: &str, index: u64, call: &CheckCall) {
         let Err(difference) = found else { return };
-        self.failed += 1;
-        if self.failures.len() < TOLD {
-            let (request, derivation) = (told(&call.request), told(&call.derivation));
-            self.failures.push(format!(
-                "{what} {index}: {difference}: {request} {derivation}"
-            ));
-        }
+        self.differences.add(format!(
+            "{what} {index}: {difference}: {} {}",
+            told(&call.request),
+            told(&call.derivation)
+        ));
     }
 
     /// Makes a call and checks its answer.
@@ -261,21 +259,16 @@ impl WhetherTally {
 
     /// The differences found, as far as they are told.
     pub fn differences(&self) -> &[String] {
-        &self.failures
+        self.differences.told()
     }
 
     /// What keeps the run from being right, in short.
     pub fn verdict(&self) -> Result<(), String> {
-        if self.failed > 0 {
-            return Err(format!("{} differences", self.failed));
-        }
+        self.differences.verdict()?;
         if self.derivations < ENOUGH {
             return Ok(());
         }
-        let never = self.never_met();
-        if !never.is_empty() {
-            return Err(format!("never met: {}", never.join(", ")));
-        }
+        all_met(&self.never_met())?;
         let accepted = self.answers.get(&(0, NEITHER)).copied().unwrap_or(0);
         if accepted * 100 < self.derivations * LEAST_SHARE {
             return Err(format!("accepted below {LEAST_SHARE} per cent"));
@@ -323,10 +316,7 @@ impl WhetherTally {
 
     /// The tallies as text, one to a line.
     pub fn report(&self) -> String {
-        let mut out = String::new();
-        for failure in &self.failures {
-            let _ = writeln!(out, "difference: {failure}");
-        }
+        let mut out = self.differences.report();
         let _ = writeln!(out, "whether derivations checked: {}", self.derivations);
         for ((number, input), times) in &self.answers {
             let share = *times as f64 * 100.0 / self.derivations as f64;
@@ -340,19 +330,16 @@ impl WhetherTally {
             let times = self.ways.get(&way).copied().unwrap_or(0);
             let _ = writeln!(out, "  36 with {words}: {times}");
         }
-        for ((number, rule), times) in &self.refused_rules {
-            let _ = writeln!(out, "  {number} of rule {rule}: {times}");
-        }
-        for (rule, times) in &self.accepted_rules {
-            let _ = writeln!(out, "accepted lines by rule {rule}: {times}");
-        }
-        for (entries, times) in &self.asked {
-            let _ = writeln!(out, "accepted with {entries} whether entries: {times}");
-        }
-        for (title, times) in self.titled() {
-            let _ = writeln!(out, "{title}: {times}");
-        }
-        out
+        out += &each(&self.refused_rules, |(number, rule)| {
+            format!("  {number} of rule {rule}")
+        });
+        out += &each(&self.accepted_rules, |rule| {
+            format!("accepted lines by rule {rule}")
+        });
+        out += &each(&self.asked, |entries| {
+            format!("accepted with {entries} whether entries")
+        });
+        out + &titled(&self.titled())
     }
 
     fn titled(&self) -> [(&'static str, u64); 8] {

@@ -8,7 +8,7 @@ use Rattle.verdicts.proofs.releasing.answer_file.Lts as lts
 use Rattle.bytes.proofs.bytes.wide.Reads as wide-reads
 use Rattle.verdicts.proofs.releasing.answer_plans.Reads as answer-plans-reads
 use Rattle.verdicts.proofs.releasing.byte_after.Reads as byte-after-reads
-use Rattle.verdicts.proofs.releasing.uncounted.Reads as uncounted-reads
+use Rattle.verdicts.proofs.answers.uncounted.Reads as uncounted-reads
 
 -- src/releasing.rt:183:18
 shared-slice-read-wide : tie.Need-shared-slice-read-wide

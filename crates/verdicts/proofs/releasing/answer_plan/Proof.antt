@@ -6,7 +6,7 @@ use Rattle.verdicts.proofs.releasing.answer_plan.Tie as tie
 use Rattle.verdicts.proofs.releasing.answer_plan.Reads as reads
 use Rattle.verdicts.proofs.releasing.answer_plan.Lts as lts
 use Rattle.verdicts.proofs.walked.walk_plan.Reads as walk-plan-reads
-use Rattle.verdicts.proofs.releasing.uncounted.Reads as uncounted-reads
+use Rattle.verdicts.proofs.answers.uncounted.Reads as uncounted-reads
 use Rattle.reading.proofs.notes.get.Reads as get-reads
 use Rattle.refusing.proofs.refusal_18.overlap.Reads as overlap-reads
 

@@ -9,7 +9,7 @@ use Rattle.verdicts.proofs.releasing.answer_plans.Lts as lts
 use Rattle.verdicts.proofs.releasing.answer_plan.Reads as answer-plan-reads
 use Rattle.verdicts.proofs.releasing.leave_unreached.Reads as leave-unreached-reads
 use Rattle.verdicts.proofs.releasing.put_answer.Reads as put-answer-reads
-use Rattle.verdicts.proofs.releasing.uncounted.Reads as uncounted-reads
+use Rattle.verdicts.proofs.answers.uncounted.Reads as uncounted-reads
 use Rattle.reading.proofs.requests.request_at.Reads as request-at-reads
 
 abbrev Inv-loop : tie.InvT-loop

@@ -8,7 +8,7 @@ use Rattle.verdicts.proofs.releasing.leave_unreached.Tie as tie
 use Rattle.verdicts.proofs.releasing.leave_unreached.Reads as reads
 use Rattle.verdicts.proofs.releasing.leave_unreached.Lts as lts
 use Rattle.verdicts.proofs.releasing.put_answer.Reads as put-answer-reads
-use Rattle.verdicts.proofs.releasing.uncounted.Reads as uncounted-reads
+use Rattle.verdicts.proofs.answers.uncounted.Reads as uncounted-reads
 
 abbrev Inv-loop : tie.InvT-loop
 Inv-loop row₀ k plans i₀ row i = Leaving (with-unreached row₀ k plans) row plans i

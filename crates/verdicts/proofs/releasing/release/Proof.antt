@@ -7,7 +7,7 @@ use Rattle.verdicts.proofs.releasing.release.Reads as reads
 use Rattle.verdicts.proofs.releasing.release.Lts as lts
 use Rattle.verdicts.proofs.releasing.open_file.Reads as open-file-reads
 use Rattle.verdicts.proofs.releasing.release_opened.Reads as release-opened-reads
-use Rattle.verdicts.proofs.releasing.uncounted.Reads as uncounted-reads
+use Rattle.verdicts.proofs.answers.uncounted.Reads as uncounted-reads
 
 -- src/releasing.rt:220:11
 open-file-requires : tie.Need-open-file-requires

@@ -6,7 +6,7 @@ use Rattle.verdicts.proofs.releasing.release_opened.Tie as tie
 use Rattle.verdicts.proofs.releasing.release_opened.Reads as reads
 use Rattle.verdicts.proofs.releasing.release_opened.Lts as lts
 use Rattle.verdicts.proofs.releasing.answer_file.Reads as answer-file-reads
-use Rattle.verdicts.proofs.releasing.uncounted.Reads as uncounted-reads
+use Rattle.verdicts.proofs.answers.uncounted.Reads as uncounted-reads
 use Rattle.refusing.proofs.settled.table_refused.Reads as table-refused-reads
 
 -- src/releasing.rt:206:21
