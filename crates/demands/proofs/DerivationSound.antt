@@ -62,7 +62,7 @@ state-same {σ} e = ap pair e
     pair (state δ) = δ
 
 module _ (t : Table) where
-  none-true-same : (bs cs : Branches ℕ) → same-branches bs cs ≡ true → (σ : Pair) → None-true t cs σ → None-true t bs σ
+  none-true-same : (bs cs : Branches ℕ) → same-branches bs cs ≡ true → (σ : Pair) → None-true cs σ → None-true bs σ
   unfolding same-plan
   none-true-same none none e σ n = tt
   none-true-same none (branch d q cs) e σ n = tt
@@ -240,7 +240,7 @@ module _ (t : Table) where
 
   -- Rules 4 and 12. The branch taken is the one whose condition is true.
   abbrev Taken : List ℕ → Branches ℕ → Sequence ℕ → Conclusion → Line → Pair → Type 0
-  Taken X bs rest Y cited σ = (b : Sequence ℕ) × (says cited X (join b rest) Y ≡ true) × ((x : Result) → Φ̂-case t bs σ x → Φ̂ t b σ x) × (None-true t bs σ → ⊥)
+  Taken X bs rest Y cited σ = (b : Sequence ℕ) × (says cited X (join b rest) Y ≡ true) × ((x : Result) → Φ̂-case t bs σ x → Φ̂ t b σ x) × (None-true bs σ → ⊥)
 
   taken : (X : List ℕ) (bs : Branches ℕ) (rest : Sequence ℕ) (Y : Conclusion) (cited : Line) → takes-branch X bs rest Y cited ≡ true → all-exclusive (conditions-of bs) ≡ true
       → (σ : Pair) → Disjoint σ → each-of (true-in σ) X ≡ true → Taken X bs rest Y cited σ
@@ -249,7 +249,7 @@ module _ (t : Table) where
   taken X (branch c b bs) rest Y cited e apart σ d h =
       ⊎-elim here (λ w. later (taken X bs rest Y cited w (both-right _ _ apart) σ d h)) (either-split _ _ e)
     where
-      others : each-of (true-in σ) c ≡ true → None-true t bs σ
+      others : each-of (true-in σ) c ≡ true → None-true bs σ
       others holds = others-false t σ d c holds bs (both-left _ _ apart)
 
       here : both (included c X) (says cited X (join b rest) Y) ≡ true → Taken X (branch c b bs) rest Y cited σ

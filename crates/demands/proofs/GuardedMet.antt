@@ -49,7 +49,7 @@ module _ (t : Table) (gs : List Entry) where
   none-pass : (u : State) (δ : Pair) (size : ℕ) → Below size u δ → first-missed (known u) gs ≡ nowhere → Pass δ
   none-pass u δ size below q = knows-true u δ (below .extends) (values gs) (none-missed (known u) gs .0 q)
 
-  none-met : (bs : Branches ℕ) (σ δ : Pair) → None-true t bs σ → Met-under t bs σ δ → ⊥
+  none-met : (bs : Branches ℕ) (σ δ : Pair) → None-true bs σ → Met-under t bs σ δ → ⊥
   none-met none σ δ n m = m
   none-met (branch c b bs) σ δ n (inl m) = clash (m .0) (n .0)
   none-met (branch c b bs) σ δ n (inr m) = none-met bs σ δ (n .1) m
@@ -142,7 +142,7 @@ module _ (t : Table) (gs : List Entry) where
           (λ w. met-pass-under bs p (both-right _ _ apart) (fits .1) s σ below later δ w)
           m)
         where
-          others : each-of (true-in σ) c ≡ true → None-true t bs σ
+          others : each-of (true-in σ) c ≡ true → None-true bs σ
           others holds = others-false t σ (below .disjoint) c holds bs (both-left _ _ apart)
 
 state-same : {u v : State} → in-state u ≡ in-state v → u ≡ v

@@ -14,7 +14,7 @@ use Rattle.meaning.specs.Literals.{among}
 use Rattle.meaning.specs.Requests.{values}
 use Rattle.meaning.specs.Reading.{Got, got, fault}
 use Rattle.meaning.specs.Walk.{Verified}
-use Rattle.meaning.specs.Judging.{Judgement}
+use Rattle.meaning.specs.Judging.{Judgement, judge-got}
 use Rattle.meaning.specs.Guards.{Guarded-request, settled-guarded, walk-of, guarded-settled, judge-guarded, number, count}
 use Rattle.meaning.specs.Worlds.{Carried-out-under}
 use Rattle.meaning.specs.Answers.{refusals}
@@ -30,7 +30,7 @@ use Rattle.meaning.proofs.GuardedAnswers.{guarded-numbered-in}
 module _ (lim : Limits) (lent : List ℕ) (budget : ℕ) where
   settled-fine : (x : Got Guarded-request) → Numbered-in refusals x → guarded-settled lim lent budget x .answer .number ≡ Limits.verified
       → (g : Guarded-request) × (e : ℕ) × (x ≡ got g e) × Verified (walk-of lim g) × (count lim g ≤ budget)
-  unfolding guarded-settled walk-of among refusals some-of either
+  unfolding judge-got walk-of among refusals some-of either
   settled-fine (got g e) n q = let w = fine-within lent budget _ _ refl (guarded-never Limits.verified (λ z. omega arith) (λ z. omega arith) (g .request) (g .guards) _) q in (g, e, refl, w .0, w .1)
   settled-fine (fault k p) n q = clash n (ap (λ (i : ℕ). among i refusals) q)
 

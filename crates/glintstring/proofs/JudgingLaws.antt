@@ -15,7 +15,7 @@ use Rattle.meaning.specs.Requests.{Entry, Request}
 use Rattle.meaning.specs.Refusals.{settled}
 use Rattle.meaning.specs.States.{State, first-state}
 use Rattle.meaning.specs.Walk.{Walked, walked-guarded}
-use Rattle.meaning.specs.Judging.{Judgement, within, judge-settled, judge, wrong-length}
+use Rattle.meaning.specs.Judging.{Judgement, within, judge-settled, judge, wrong-length, judge-got}
 use Rattle.meaning.specs.Guards.{Guarded-request, settled-guarded, walk-of, guarded-settled, judge-guarded, line-guarded-settled, line-guarded}
 use Rattle.meaning.specs.Asking.{line-told, line-settled, line}
 use Rattle.meaning.proofs.TestLaws.{pick-true, pick-false}
@@ -69,7 +69,7 @@ module _ (s lent : List ℕ) (budget : ℕ) where
       x = settled-got s t u r settles e passes .0
 
       pub judge-walked : record { answer = answer; state = left } ≡ judge format s lent budget
-      unfolding judge judge-settled x
+      unfolding judge judge-got x
       judge-walked =
           walks
           ∙ ap (within lent budget) (held-walk s u x [] (settled-held s t u r settles e passes bytes empty) (settled-unguarded s t u r settles e passes bytes empty) ∙ walked-unguarded x (first-state format (x .table)))
@@ -86,7 +86,7 @@ module _ (s lent : List ℕ) (budget : ℕ) where
 
     module _ (k p : ℕ) (stops : r ≡ Stop k p) (a : Answer) (v : ℕ) (none : v ≡ 0) where
       pub judge-refused : length lent ≡ format .state → a ≡ record { number = k; input = 1; place = p; count = 0 } → record { answer = a; state = lent } ≡ judge format s lent budget
-      unfolding judge judge-settled
+      unfolding judge judge-got
       judge-refused sized is =
           ap (λ (b : Answer). record { answer = b; state = lent }) is
           ∙ sym (pick-true _ _ _ (eq-eqb _ _ sized) ∙ ap (judge-settled format lent budget) (noting-fault request-noted (settled format s) r t u settles k p stops))
@@ -117,7 +117,7 @@ module _ (s lent : List ℕ) (budget : ℕ) where
       g = guarded-got s t u r settles e passes .0
 
       pub guarded-walked : record { answer = answer; state = left } ≡ judge-guarded format s lent budget
-      unfolding judge-guarded guarded-settled walk-of g
+      unfolding judge-guarded judge-got walk-of g
       guarded-walked =
           walks
           ∙ ap (within lent budget) (held-walk s u (g .request) (g .guards) (guarded-held s t u r settles e passes bytes empty) (guards-held s t u r settles e passes bytes empty))
@@ -134,7 +134,7 @@ module _ (s lent : List ℕ) (budget : ℕ) where
 
     module _ (k p : ℕ) (stops : r ≡ Stop k p) (a : Answer) (v : ℕ) (none : v ≡ 0) where
       pub guarded-refused : length lent ≡ format .state → a ≡ record { number = k; input = 1; place = p; count = 0 } → record { answer = a; state = lent } ≡ judge-guarded format s lent budget
-      unfolding judge-guarded guarded-settled
+      unfolding judge-guarded judge-got
       guarded-refused sized is =
           ap (λ (b : Answer). record { answer = b; state = lent }) is
           ∙ sym (pick-true _ _ _ (eq-eqb _ _ sized) ∙ ap (guarded-settled format lent budget) (noting-fault guarded-noted (settled-guarded format s) r t u settles k p stops))

@@ -12,7 +12,7 @@ use Rattle.meaning.specs.Reading.{Got, got, fault}
 use Rattle.meaning.specs.Refusals.{settled}
 use Rattle.meaning.specs.States.{State}
 use Rattle.meaning.specs.Walk.{End, fine, missed, stopped}
-use Rattle.meaning.specs.Judging.{Judgement, reported, ended, within, judge-settled, judge}
+use Rattle.meaning.specs.Judging.{Judgement, reported, ended, within, judge-settled, judge, judge-got}
 use Rattle.meaning.specs.Answers.{refusals, answers}
 use Rattle.meaning.proofs.TestLaws.{either-right}
 use Rattle.meaning.proofs.KeptEnds.{Stuck, walked-stuck}
@@ -50,7 +50,7 @@ unfolding among answers some-of
 refusal-numbered n h = either-right _ _ (either-right _ _ (either-right _ _ (either-right _ _ (either-right _ _ h))))
 
 settled-answer-numbered : (lim : Limits) (lent : List ℕ) (budget : ℕ) (x : Got Request) → Numbered-in refusals x → among (judge-settled lim lent budget x .answer .number) answers ≡ true
-unfolding judge-settled within among answers refusals some-of either
+unfolding judge-got within among answers refusals some-of either
 settled-answer-numbered lim lent budget (got r e) h = picked-numbered _ _ _ refl (ended-numbered lent _ _ (walked-stuck r _))
 settled-answer-numbered lim lent budget (fault n p) h = refusal-numbered n h
 

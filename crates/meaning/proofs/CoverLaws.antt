@@ -42,18 +42,18 @@ knows-true s δ more c e = each-mono _ _ (true-grows more) c (knows-pair s c ∙
 
 module _ (t : Table) where
   -- Where one of the conditions is true, no other is.
-  pub others-false : (δ : Pair) → Disjoint δ → (c : List ℕ) → each-of (true-in δ) c ≡ true → (bs : Branches ℕ) → each-of (exclusive c) (conditions-of bs) ≡ true → None-true t bs δ
+  pub others-false : (δ : Pair) → Disjoint δ → (c : List ℕ) → each-of (true-in δ) c ≡ true → (bs : Branches ℕ) → each-of (exclusive c) (conditions-of bs) ≡ true → None-true bs δ
   unfolding conditions-of each-of
   others-false δ apart c holds none e = tt
   others-false δ apart c holds (branch d b bs) e =
       (by-test _ (λ too. absurd (exclusive-clash (true-in δ) (true-in δ) (not-both δ apart) c d (both-left _ _ e) holds too)) (λ f. f), others-false δ apart c holds bs (both-right _ _ e))
 
-  pub none-chosen : (bs : Branches ℕ) (δ : Pair) (x : Result) → None-true t bs δ → Φ̂-case t bs δ x → ⊥
+  pub none-chosen : (bs : Branches ℕ) (δ : Pair) (x : Result) → None-true bs δ → Φ̂-case t bs δ x → ⊥
   none-chosen none δ x n h = h
   none-chosen (branch c b bs) δ x n (inl h) = clash (h .0) (n .0)
   none-chosen (branch c b bs) δ x n (inr h) = none-chosen bs δ x (n .1) h
 
-  pub none-taken : (bs : Branches ℕ) (p : ℕ) (s : State) (δ : Pair) → pair-of s ≼ δ → None-true t bs δ → Stops (paths-branch (table-step t) bs p s)
+  pub none-taken : (bs : Branches ℕ) (p : ℕ) (s : State) (δ : Pair) → pair-of s ≼ δ → None-true bs δ → Stops (paths-branch (table-step t) bs p s)
   unfolding paths table-step
   none-taken none p s δ more n = (Limits.not-executable, p, in-state s, inl refl)
   none-taken (branch c b bs) p s δ more n =
@@ -199,7 +199,7 @@ module _ (t : Table) (size : ℕ) (effects-within : (e : Effect) → Has (t .eff
         (λ k. here (knows-true s δ (below .extends) c k) (λ w. covers b (fits .0) s δ below x w) h)
         (λ _. later (λ w. covers-branch bs p (both-right _ _ apart) (fits .1) s δ below x w) h)
       where
-        others : each-of (true-in δ) c ≡ true → None-true t bs δ
+        others : each-of (true-in δ) c ≡ true → None-true bs δ
         others holds = others-false t δ (below .disjoint) c holds bs (both-left _ _ apart)
 
         -- The condition is known in the state, so it is the one that is true.

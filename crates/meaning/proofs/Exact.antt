@@ -18,7 +18,7 @@ use Rattle.meaning.specs.Reading.{got}
 use Rattle.meaning.specs.Refusals.{nowhere, or-else, settled}
 use Rattle.meaning.specs.States.{State, known, known-whether, first-state}
 use Rattle.meaning.specs.Walk.{End, fine, missed, stopped, Walked, table-step, first-missed, missed-in, walked}
-use Rattle.meaning.specs.Judging.{within, judge-settled, judge, number, count}
+use Rattle.meaning.specs.Judging.{within, judge-got, judge, number, count}
 use Rattle.meaning.specs.Approximation.{Pair, Disjoint, true-in, false-in, _≼_, Result, failed, state, Φ̂, least, Initial, Entails, Entailed}
 use Rattle.meaning.specs.Paths.{Ending, arrives, stops, paths, walked-along}
 use Rattle.meaning.specs.Reported.{pair-of, all-paths}
@@ -171,7 +171,7 @@ module _ (lim : Limits) (room : lim .fluents ≤ lim .state) (b : List ℕ) (r :
 -- THE THEOREMS.
 module _ (lim : Limits) (room : lim .fluents ≤ lim .state) (b lent : List ℕ) (budget : ℕ) (r : Request) (e : ℕ) (lent-length : length lent ≡ lim .state) (past : settled lim b ≡ got r e) where
   pub judged-by-walk : judge lim b lent budget ≡ within lent budget (walked r (first-state lim (r .table)))
-  unfolding judge judge-settled
+  unfolding judge judge-got
   judged-by-walk = pick-true _ _ _ (eq-eqb _ _ lent-length) ∙ rw past
 
   within-budget : count lim r ≤ budget → number lim b lent budget ≡ answered (walk-end lim r)

@@ -15,7 +15,7 @@ use Rattle.meaning.specs.Literals.{among}
 use Rattle.meaning.specs.Reading.{Got, got, fault}
 use Rattle.meaning.specs.States.{State, first-state}
 use Rattle.meaning.specs.Walk.{Concerned, in-state, End, fine, missed, stopped}
-use Rattle.meaning.specs.Judging.{Judgement, written-over, reported, ended, within, refused-at, wrong-length}
+use Rattle.meaning.specs.Judging.{Judgement, written-over, reported, count-told, ended, within, refused-at, wrong-length, judge-got}
 use Rattle.meaning.specs.Guards.{Guarded-request, settled-guarded, walk-of, guarded-settled, judge-guarded}
 use Rattle.meaning.specs.Answers.{refusals, answers, guarded-answers}
 use Rattle.meaning.specs.AnswerParts.{of-neither, Walk-input, at-start, Placed, of-walks, of-guarded-walks, Guarded-count, concerned, with-state, Guarded-state}
@@ -76,7 +76,7 @@ module _ (lim : Limits) (request lent : List ℕ) (budget : ℕ) where
     counted = walk-of lim g .count
 
     ended-parts : (end : End State) → walk-of lim g .end ≡ end → End-below (length request) end → Stuck-guarded (g .guards) end → Parts (ended lent counted end)
-    unfolding ended reported written-over concerned among guarded-answers answers of-neither at-start of-guarded-walks of-walks with-state some-of either
+    unfolding ended reported count-told written-over concerned among guarded-answers answers of-neither at-start of-guarded-walks of-walks with-state some-of either
     ended-parts fine is less stuck = record {
       number = refl;
       input = record { neither = (λ _. refl, λ _. refl); request = λ f. clash refl f };
@@ -139,7 +139,7 @@ module _ (lim : Limits) (request lent : List ℕ) (budget : ℕ) where
   }
 
   settled-parts : (x : Got Guarded-request) → settled-guarded lim request ≡ x → Guarded-held lim request x → Parts (guarded-settled lim lent budget x)
-  unfolding guarded-settled within walk-of
+  unfolding judge-got within walk-of
   settled-parts (got g e) past h =
       pick-has Parts _ _ _ (λ _. spent-parts)
       (λ _. ended-parts g e past (h .1 .short) _ refl (walked-guarded-below (length request) (g .request) (h .1 .request) (g .guards) (h .1 .guards) (first-state lim (g .request .table)))

@@ -18,8 +18,8 @@ use Rattle.meaning.specs.Requests.{Request}
 use Rattle.meaning.specs.Reading.{Got, got, fault}
 use Rattle.meaning.specs.Refusals.{settled}
 use Rattle.meaning.specs.States.{State, first-state}
-use Rattle.meaning.specs.Walk.{End, fine, missed, stopped, walked}
-use Rattle.meaning.specs.Judging.{Judgement, reported, ended, within, judge-settled, judge}
+use Rattle.meaning.specs.Walk.{Concerned, in-state, End, fine, missed, stopped, walked}
+use Rattle.meaning.specs.Judging.{Judgement, reported, count-told, ended, within, judge-settled, judge, judge-got}
 use Rattle.meaning.specs.Derivations.{check-derivation, answer, accepted-if, check-settled, check}
 use Rattle.meaning.specs.Answers.{refusals, end-fault}
 use Rattle.meaning.specs.AnswerParts.{of-neither, of-requests, of-derivations, inputs-of, Walk-input, Check-input, at-start, Placed, named, of-walks, Walk-count}
@@ -64,7 +64,7 @@ module _ (lim : Limits) (request : List ℕ) (budget : ℕ) where
     count = walked r (first-state lim (r .table)) .count
 
     ended-parts : (end : End State) → End-below (length request) end → Stuck end → Judged (ended lent count end)
-    unfolding ended reported among of-neither at-start of-walks some-of either
+    unfolding ended reported count-told among of-neither at-start of-walks some-of either
     ended-parts fine less stuck = record {
       input = record { neither = (λ _. refl, λ _. refl); request = λ f. clash refl f };
       count = record { walk = λ _. (r, e, past, refl); spent = λ q. absurd (omega (arith, q)); other = λ f. clash refl f };
@@ -78,12 +78,13 @@ module _ (lim : Limits) (request : List ℕ) (budget : ℕ) where
       fits = omega (arith, less, short);
     }
     ended-parts (stopped n p u) less stuck =
-        subst (λ (m : ℕ). Judged (ended lent count (stopped m p u))) (sym (stuck .0)) (record {
+        subst (λ (v : Concerned State). Judged (ended lent count (stopped n p v))) (sym (stuck .1 .1))
+        (subst (λ (m : ℕ). Judged (ended lent count (stopped m p (in-state (stuck .1 .0))))) (sym (stuck .0)) (record {
           input = record { neither = (λ q. absurd (omega (arith, q)), λ h. clash h refl); request = λ _. refl };
           count = record { walk = λ _. (r, e, past, refl); spent = λ q. absurd (omega (arith, q)); other = λ f. clash refl f };
           place = placed-byte (length request) Limits.not-executable p refl less;
           fits = omega (arith, less, short);
-        })
+        }))
 
   fault-parts : (n p : ℕ) → Fault-in refusals (lim .request) (length request) n p → Walk-parts (record { number = n; input = Limits.the-request; place = p; count = 0 })
   unfolding among refusals of-neither of-walks some-of either each-of both fails
@@ -102,7 +103,7 @@ module _ (lim : Limits) (request : List ℕ) (budget : ℕ) where
   }
 
   settled-parts : (lent : List ℕ) (x : Got Request) → settled lim request ≡ x → Request-held lim request x → Judged (judge-settled lim lent budget x)
-  unfolding judge-settled within
+  unfolding judge-got within
   settled-parts lent (got r e) past h =
       pick-has Judged _ _ _ (λ _. spent-parts)
       (λ _. ended-parts r e past (h .1 .1) lent _ (walked-below (length request) r (h .1 .0) (first-state lim (r .table))) (walked-stuck r (first-state lim (r .table))))

@@ -130,7 +130,7 @@ module _ (t : Table) where
         (stops-under bs q s p u h)
 
     stops-under : (bs : Branches ℕ) (q : ℕ) (s : State) (p : ℕ) (u : State) → Ends (paths-branch (table-step t) bs q s) (sticks p u)
-        → Stop (Item-under bs) p u ⊎ ((p ≡ q) × (u ≡ s) × None-true t bs (pair-of s))
+        → Stop (Item-under bs) p u ⊎ ((p ≡ q) × (u ≡ s) × None-true bs (pair-of s))
     stops-under none q s p u h = let w = stops-same (ends-one h) in inr (w .0, w .1, tt)
     stops-under (branch c b bs) q s p u h =
         has-picked (λ xs. Ends xs (sticks p u)) (each-of (known s) c) _ _ h

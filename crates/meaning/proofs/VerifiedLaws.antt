@@ -17,7 +17,7 @@ use Rattle.meaning.specs.Reading.{Got, got, fault}
 use Rattle.meaning.specs.Refusals.{settled}
 use Rattle.meaning.specs.States.{State, first-state}
 use Rattle.meaning.specs.Walk.{End, fine, missed, stopped, Walked, Verified, walked}
-use Rattle.meaning.specs.Judging.{Judgement, reported, ended, within, judge-settled, judge, number, count}
+use Rattle.meaning.specs.Judging.{Judgement, reported, ended, within, judge-settled, judge, number, count, judge-got}
 use Rattle.meaning.specs.Answers.{refusals}
 use Rattle.meaning.proofs.TestLaws.{by-test, clash, pick-true, pick-false, pick-map}
 use Rattle.meaning.proofs.WithinLaws.{walked-never, fine-within}
@@ -31,13 +31,13 @@ module _ (lim : Limits) (lent : List ℕ) (budget : ℕ) where
 
   settled-fine : (x : Got Request) → Numbered-in refusals x → judge-settled lim lent budget x .answer .number ≡ Limits.verified
       → (r : Request) × (e : ℕ) × (x ≡ got r e) × Fine-within (judge-settled lim lent budget x) (walked r (first-state lim (r .table)))
-  unfolding judge-settled among refusals some-of either
+  unfolding judge-got among refusals some-of either
   settled-fine (got r e) n q = (r, e, refl, fine-within lent budget _ _ refl (walked-never Limits.verified (λ z. omega arith) r _) q)
   settled-fine (fault k p) n q = clash n (ap (λ (i : ℕ). among i refusals) q)
 
   -- What is not refused is settled.
   settled-there : (x : Got Request) → Numbered-in refusals x → among (judge-settled lim lent budget x .answer .number) refusals ≡ false → (r : Request) × (e : ℕ) × (x ≡ got r e)
-  unfolding judge-settled
+  unfolding judge-got
   settled-there (got r e) n q = (r, e, refl)
   settled-there (fault k p) n q = clash n q
 
@@ -71,7 +71,7 @@ module _ (lim : Limits) (request lent : List ℕ) (budget : ℕ) where
   module _ (sized : length lent ≡ lim .state) where
     pub so-verified : (r : Request) (e : ℕ) → settled lim request ≡ got r e → Verified (walked r (first-state lim (r .table))) → count lim r ≤ budget
         → (number lim request lent budget ≡ Limits.verified) × (judge lim request lent budget .answer .count ≡ count lim r)
-    unfolding judge judge-settled within ended
+    unfolding judge judge-got within ended
     so-verified r e settles is-fine enough =
         let w = walked r (first-state lim (r .table)) in
         let is : judge lim request lent budget ≡ ended lent (w .count) fine =
@@ -99,7 +99,7 @@ within-unread lent other budget w =
     ∙ rw (ended-unread lent other (w .count) (w .end)) (sym (pick-map (λ (j : Judgement). j .answer) (ltb budget (w .count)) _ _))
 
 settled-unread : (lim : Limits) (lent other : List ℕ) (budget : ℕ) (x : Got Request) → judge-settled lim lent budget x .answer ≡ judge-settled lim other budget x .answer
-unfolding judge-settled
+unfolding judge-got
 settled-unread lim lent other budget (got r e) = within-unread lent other budget (walked r (first-state lim (r .table)))
 settled-unread lim lent other budget (fault n p) = refl
 

@@ -11,8 +11,8 @@ use Rattle.meaning.specs.Tests.{pick}
 use Rattle.meaning.specs.Limits
 use Rattle.meaning.specs.Requests.{Entry, Request}
 use Rattle.meaning.specs.States.{State}
-use Rattle.meaning.specs.Walk.{Concerned, End, fine, missed, stopped, Walked, Verified, walked, walked-guarded}
-use Rattle.meaning.specs.Judging.{Judgement, written-over, reported, ended, within}
+use Rattle.meaning.specs.Walk.{Concerned, no-state, in-state, End, fine, missed, stopped, Walked, Verified, walked, walked-guarded}
+use Rattle.meaning.specs.Judging.{Judgement, written-over, reported, count-told, ended, within}
 use Rattle.meaning.proofs.TestLaws.{pick-true, pick-false, pick-cases, pick-map, by-test}
 use Rattle.meaning.proofs.KeptEnds.{End-so, Stuck, walked-stuck, Stuck-guarded, guarded-stuck}
 
@@ -27,6 +27,12 @@ unfolding ended reported
 ended-number lent c fine = refl
 ended-number lent c (missed p s) = refl
 ended-number lent c (stopped n p u) = refl
+
+-- The count that is told of a stop is not above that of the walk.
+pub told-fewer : (u : Concerned State) (c : ℕ) → count-told u c ≤ c
+unfolding count-told
+told-fewer no-state c = omega arith
+told-fewer (in-state s) c = omega arith
 
 pub within-number : (lent : List ℕ) (budget : ℕ) (w : Walked State) → within lent budget w .answer .number ≡ pick (ltb budget (w .count)) (λ _. Limits.budget-spent) (λ _. answered (w .end))
 unfolding within

@@ -11,11 +11,13 @@ pub mod Judging
 pub mod Releases
 pub mod Guards
 pub mod Asking
+pub mod ByCases
 pub mod Worlds
 pub mod Values
 pub mod ValueStates
 pub mod ValueWorlds
 pub mod Approximation
+pub mod CaseApproximation
 pub mod Paths
 pub mod Reported
 pub mod GuardedReported

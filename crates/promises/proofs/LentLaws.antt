@@ -17,7 +17,7 @@ use Rattle.meaning.specs.Reading.{Got, got, fault}
 use Rattle.meaning.specs.Refusals.{settled}
 use Rattle.meaning.specs.States.{State, first-state}
 use Rattle.meaning.specs.Walk.{Concerned, in-state, End, fine, missed, stopped, Walked, walked, walked-guarded}
-use Rattle.meaning.specs.Judging.{Judgement, written-over, reported, ended, within, judge-settled, judge}
+use Rattle.meaning.specs.Judging.{Judgement, written-over, reported, ended, within, judge-settled, judge, judge-got}
 use Rattle.meaning.proofs.TestLaws.{clash}
 use Rattle.meaning.proofs.PickLaws.{pick-has}
 use Rattle.meaning.specs.Guards.{Guarded-request, settled-guarded, walk-of, judge-guarded}
@@ -52,7 +52,7 @@ module _ (lim : Limits) (lent : List ℕ) (budget : ℕ) where
   within-kept w stuck = pick-has Kept _ _ _ (λ _ one two. refl) (λ _. ended-kept (w .count) (w .end) stuck)
 
   settled-kept : (x : Got Request) → Kept (judge-settled lim lent budget x)
-  unfolding judge-settled
+  unfolding judge-got
   settled-kept (got r e) = within-kept _ (walked-stuck r _)
   settled-kept (fault n p) = λ one two. refl
 
@@ -97,7 +97,7 @@ module _ (P : Request → State → Type 0) (lim : Limits) (lent : List ℕ) (bu
 
   settled-leaves : (g : Got Request) → Numbered-in refusals g → ((x : Request) (e : ℕ) → g ≡ got x e → Walk-has x)
       → Writes (judge-settled lim lent budget g .answer .number) → (x : Request) × (e : ℕ) × (g ≡ got x e) × P x (judge-settled lim lent budget g .state)
-  unfolding judge-settled
+  unfolding judge-got
   settled-leaves (got x e) numbered has writes = (x, e, refl, within-leaves (P x) lent budget (walked x (first-state lim (x .table))) (walked-stuck x _) (has x e refl) writes)
   settled-leaves (fault n p) numbered has writes = absurd (refusal-writes-nothing n numbered writes)
 

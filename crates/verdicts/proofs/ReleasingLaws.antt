@@ -19,7 +19,7 @@ use Rattle.meaning.specs.Refusals
 use Rattle.meaning.specs.Refusals.{nowhere, at, contradiction-in, overlap-in, refuse}
 use Rattle.meaning.specs.States.{State, first-state}
 use Rattle.meaning.specs.Walk.{Walked, walked-guarded}
-use Rattle.meaning.specs.Judging.{Judgement, within, judge-settled}
+use Rattle.meaning.specs.Judging.{Judgement, within, judge-settled, judge-got}
 use Rattle.meaning.specs.Releases.{Opening, opening, plans-at, byte-after, plan-answer, unreached, after-plan, answers-at, in-row, rows, settled-plans, own-answer, released, release-opened, release, plans-of, plans-in}
 use Rattle.meaning.specs.Tests.{pick}
 use Rattle.meaning.proofs.TestLaws.{clash, pick-true, pick-false}
@@ -306,12 +306,12 @@ module _ (s t : List ℕ) (here : At-hand s t) (items : ℕ) (is : items ≡ get
     overlap-is = answer .holds (plan-in s t) (here .held) counts-items
 
     pub plan-18 : (p : ℕ) → f ≡ At p → (a : Answer) → a ≡ record { number = 18; input = 1; place = p; count = 0 } → a ≡ plan-answer format budget (got (request-in s t) 0)
-    unfolding plan-answer judge-settled next refuse request-in
+    unfolding plan-answer judge-got next refuse request-in
     plan-18 p met a said = said ∙ sym (ap (λ (g : Refusals.Found). judge-settled format [] budget (refuse 18 g (λ _. got (request-in s t) 0)) .answer) (found-at (overlap-in (plan-in s t)) f overlap-is p met))
 
     pub plan-walked : f ≡ Nowhere → (lent left : List ℕ) (a : Answer) → record { answer = a; state = left } ≡ within lent budget (walked-guarded (request-in s t) (guards-in s t) (first-state format (table-in s)))
         → guards-in s t ≡ [] → a ≡ plan-answer format budget (got (request-in s t) 0)
-    unfolding plan-answer judge-settled next refuse request-in
+    unfolding plan-answer judge-got next refuse request-in
     plan-walked none lent left a walks unguarded =
         ap (λ (j : Judgement). j .answer) walks
         ∙ within-unread lent [] budget (walked-guarded (request-in s t) (guards-in s t) (first-state format (table-in s)))
@@ -408,7 +408,7 @@ answering-starts s t row budget plans start here inside sized = record {
 
 -- Where a plan ends does not matter to its answer.
 past-answer : (y : Request) (budget e : ℕ) (f : Refusals.Found) → judge-settled format [] budget (refuse 18 f (λ _. got y e)) .answer ≡ judge-settled format [] budget (refuse 18 f (λ _. got y 0)) .answer
-unfolding refuse judge-settled
+unfolding refuse judge-got
 past-answer y budget e nowhere = refl
 past-answer y budget e (at p) = refl
 
@@ -477,7 +477,7 @@ module _ (s t row : List ℕ) (budget plans start k p : ℕ) (answers : Answerin
     fails-there = plan-stop s n m counted p t u r read number q is
 
     pub answering-fault : (a : Answer) → a ≡ record { number = number; input = 1; place = q; count = 0 } → a .place < 65536
-    unfolding plan-answer next judge-settled
+    unfolding plan-answer next judge-got
     answering-fault a said =
         let at : a .place ≡ q = ap (λ (x : Answer). x .place) said in
         let inside = answer-inside in
@@ -496,7 +496,7 @@ module _ (s t row : List ℕ) (budget plans start k p : ℕ) (answers : Answerin
       answering-sized = rw put (put-long row k a ∙ answers .sized)
 
       pub answering-stops : (last : List ℕ) → last ≡ with-unreached left (k + 1) plans → last ≡ rows (answers-at format s (table-in s) budget plans start)
-      unfolding with-unreached plan-answer next judge-settled after-plan
+      unfolding with-unreached plan-answer next judge-got after-plan
       answering-stops last rest =
           rest
           ∙ ap (λ (xs : List ℕ). take (4 * (k + 1)) xs ++ rows (replicate (plans - (k + 1)) unreached)) written
