@@ -3,4 +3,5 @@ pub mod Small
 pub mod LinesFound
 pub mod Rests
 pub mod AtHand
+pub mod Opened
 pub mod Steps

@@ -1,0 +1,28 @@
+-- The open fluents of an action, as the code holds them: their number, and then so many fluents.
+use Prim.Native.Nat.{ℕ, _+_, _≤_, _<_}
+use mathlib.Core.Path.{_≡_}
+use mathlib.Core.Bool.{false}
+use mathlib.Core.List.{List}
+use lib.ListN.{length, getD, take, drop}
+use Rattle.meaning.specs.Limits.{format, most-open}
+use Rattle.meaning.specs.States.{State, known-whether}
+use Rattle.steps.specs.AtHand.{Marked}
+
+-- The fluents that are held.
+unfoldable pub open-in : List ℕ → List ℕ
+open-in open = take (getD open 0 0) (drop 1 open)
+
+-- These fluents are held, unless there are more than the limit; then the number says so.
+pub record Opened (fs open : List ℕ) : Type 0 where
+  pub sized : length open ≡ 1 + most-open
+  pub number : length fs ≤ most-open → getD open 0 0 ≡ length fs
+  pub fluents : length fs ≤ most-open → open-in open ≡ fs
+  pub more : most-open < length fs → most-open < getD open 0 0
+
+-- A state in which the fluents from number i up are still to be filled: they are fluents, unknown in it, and each stands there once.
+pub record Filling (fs : List ℕ) (i : ℕ) (marks : State) : Type 0 where
+  pub marked : Marked marks
+  pub few : length fs ≤ most-open
+  pub small : (j : ℕ) → j < length fs → getD fs j 0 < format .fluents
+  pub unknown : (j : ℕ) → i ≤ j → j < length fs → known-whether marks (getD fs j 0) ≡ false
+  pub once : (j k : ℕ) → j < k → k < length fs → getD fs j 0 ≡ getD fs k 0 → ⊥

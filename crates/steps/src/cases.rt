@@ -1,0 +1,195 @@
+// Reasoning by cases (FORMAT section 22). Of the unknown fluents only the open ones are filled, which stand in a body of the action: no other changes what it does.
+ghost use mathlib.Core.Path.{_≡_};
+ghost use mathlib.Core.Bool.{true, false};
+ghost use mathlib.Core.List.{[], _∷_};
+ghost use Prim.Native.Nat.{_<_};
+ghost use lib.ListN.{drop};
+ghost use Rattle.meaning.specs.Tests.{each-of};
+ghost use Rattle.meaning.specs.Limits.{format};
+ghost use Rattle.meaning.specs.States.{can-be-run};
+ghost use Rattle.meaning.specs.ByCases.{fillings, runs-by-cases, shared-marks, after-each, after-cases, open-fluents, too-many, cases-does};
+ghost use Rattle.steps.specs.Held.{table-in};
+ghost use Rattle.steps.specs.AtHand.{At-hand, Marked};
+ghost use Rattle.steps.specs.Steps.{tried-as};
+ghost use Rattle.steps.specs.Opened.{open-in, Opened, Filling};
+use super::actions::can_be_run;
+use super::actions::state_after;
+use bytes::bytes::wide;
+use bytes::limits;
+use reading::marks::Marks;
+use reading::notes;
+use reading::notes::Notes;
+use reading::notes::first_line;
+use reading::notes::line_place;
+use reading::notes::next_line;
+
+// What trying an action gives: it can be run, it can't, or it has too many cases.
+pub enum Tried {
+    Runs,
+    Stuck,
+    Many,
+}
+
+// The open fluents of an action, ascending, behind their number, which is one more than the limit where there are more.
+const OPEN_SLOTS: usize = 1 + limits::OPEN;
+
+type Open = [u8; OPEN_SLOTS];
+
+// The unknown fluents of the body at p get a flag.
+fn flag_body(s: &[u8], p: usize, marks: &Marks, flags: &mut Marks) {
+    let end = p + wide(s[p]);
+    let mut i = p;
+    while i < end {
+        i += 1;
+        let f = wide(s[i]) / 2;
+        if marks[f] == 0 {
+            flags[f] = 1;
+        }
+    }
+}
+
+// Those of all bodies of the action.
+fn open_flags(s: &[u8], t: &Notes, a: usize, marks: &Marks) -> Marks {
+    let mut flags = [0u8; limits::FLUENTS];
+    let mut k = first_line(t, notes::EFFECTS, a);
+    while 0 < k {
+        let p = line_place(t, notes::EFFECTS, k);
+        k = next_line(t, notes::EFFECTS, k);
+        let body = p + 2;
+        flag_body(s, body, marks, &mut flags);
+    }
+    let mut j = first_line(t, notes::EXECUTABILITY, a);
+    while 0 < j {
+        let p = line_place(t, notes::EXECUTABILITY, j);
+        j = next_line(t, notes::EXECUTABILITY, j);
+        let body = p + 1;
+        flag_body(s, body, marks, &mut flags);
+    }
+    flags
+}
+
+// The fluents that have a flag.
+fn gathered(flags: &Marks) -> Open {
+    let mut open = [0u8; OPEN_SLOTS];
+    let mut k = 0;
+    let mut f = 0;
+    while f < limits::FLUENTS {
+        if flags[f] == 1 {
+            k += 1;
+            if limits::OPEN < k {
+                open[0] = k as u8;
+                return open;
+            }
+            open[k] = f as u8;
+        }
+        f += 1;
+    }
+    open[0] = k as u8;
+    open
+}
+
+// The open fluents of the action.
+fn opened(s: &[u8], t: &Notes, a: usize, marks: &Marks) -> Open
+    requires { ⌜ At-hand (now s) (now t) ⌝ }
+    requires { ⌜ a < format .actions ⌝ }
+    requires { ⌜ Marked (now marks) ⌝ }
+    ensures { λ r. ⌜ Opened (open-fluents (table-in (now (s .entry))) a (now (marks .entry))) r ⌝ }
+{
+    let flags = open_flags(s, t, a, marks);
+    gathered(&flags)
+}
+
+// The action can be run in each filling of the open fluents from number i up.
+fn runs_in_each(s: &[u8], t: &Notes, a: usize, open: &Open, i: usize, marks: Marks) -> bool
+    requires { ⌜ At-hand (now s) (now t) ⌝ }
+    requires { ⌜ a < format .actions ⌝ }
+    requires { ⌜ Filling (open-in (now open)) i marks ⌝ }
+    ensures { λ r. ⌜ r ≡ each-of (can-be-run (table-in (now (s .entry))) a) (fillings (drop i (open-in (now (open .entry)))) marks) ⌝ }
+{
+    if i < wide(open[0]) {
+        let next = i + 1;
+        let f = wide(open[next]);
+        let mut state = marks;
+        state[f] = limits::TRUE_MARK;
+        let first = runs_in_each(s, t, a, open, next, state);
+        if first {
+            state[f] = limits::FALSE_MARK;
+            return runs_in_each(s, t, a, open, next, state);
+        }
+        return false;
+    }
+    can_be_run(s, t, a, &marks)
+}
+
+// What two states share.
+fn shared(one: &Marks, other: &Marks) -> Marks
+    requires { ⌜ Marked (now one) ⌝ }
+    requires { ⌜ Marked (now other) ⌝ }
+    ensures { λ r. ⌜ r ≡ shared-marks (now (one .entry) ∷ now (other .entry) ∷ []) 0 (now (one .entry)) ⌝ }
+{
+    let mut both = *one;
+    let mut f = 0;
+    while f < limits::FLUENTS {
+        if one[f] != other[f] {
+            both[f] = limits::UNKNOWN_MARK;
+        }
+        f += 1;
+    }
+    both
+}
+
+// What the states after the action share, which is run in each filling of the open fluents from number i up.
+fn after_in_each(s: &[u8], t: &Notes, a: usize, open: &Open, i: usize, marks: Marks) -> Marks
+    requires { ⌜ At-hand (now s) (now t) ⌝ }
+    requires { ⌜ a < format .actions ⌝ }
+    requires { ⌜ Filling (open-in (now open)) i marks ⌝ }
+    requires { ⌜ each-of (can-be-run (table-in (now s)) a) (fillings (drop i (open-in (now open))) marks) ≡ true ⌝ }
+    ensures { λ r. ⌜ r ≡ after-each (table-in (now (s .entry))) a (fillings (drop i (open-in (now (open .entry)))) marks) marks ⌝ }
+{
+    if i < wide(open[0]) {
+        let next = i + 1;
+        let f = wide(open[next]);
+        let mut state = marks;
+        state[f] = limits::TRUE_MARK;
+        let one = after_in_each(s, t, a, open, next, state);
+        state[f] = limits::FALSE_MARK;
+        let other = after_in_each(s, t, a, open, next, state);
+        return shared(&one, &other);
+    }
+    state_after(s, t, a, &marks)
+}
+
+// The action is tried by cases. Where it can be run by what is known, no case is looked at.
+pub fn try_cases(s: &[u8], t: &Notes, a: usize, marks: &Marks) -> Tried
+    requires { ⌜ At-hand (now s) (now t) ⌝ }
+    requires { ⌜ a < format .actions ⌝ }
+    requires { ⌜ Marked (now marks) ⌝ }
+    ensures { λ r. ⌜ cases-does (table-in (now (s .entry))) a (now (marks .entry)) ≡ tried-as 1 (table-in (now (s .entry))) a (now (marks .entry)) r ⌝ }
+{
+    let open = opened(s, t, a, marks);
+    if limits::OPEN < wide(open[0]) {
+        return Tried::Many;
+    }
+    let known = can_be_run(s, t, a, marks);
+    if known {
+        return Tried::Runs;
+    }
+    let runs = runs_in_each(s, t, a, &open, 0, *marks);
+    if runs {
+        return Tried::Runs;
+    }
+    Tried::Stuck
+}
+
+// The state after an action that is not a sensing one and can be run by cases.
+pub fn after_cases(s: &[u8], t: &Notes, a: usize, marks: &Marks) -> Marks
+    requires { ⌜ At-hand (now s) (now t) ⌝ }
+    requires { ⌜ a < format .actions ⌝ }
+    requires { ⌜ Marked (now marks) ⌝ }
+    requires { ⌜ too-many (table-in (now s)) a (now marks) ≡ false ⌝ }
+    requires { ⌜ runs-by-cases (table-in (now s)) a (now marks) ≡ true ⌝ }
+    ensures { λ r. ⌜ r ≡ after-cases (table-in (now (s .entry))) a (now (marks .entry)) ⌝ }
+{
+    let open = opened(s, t, a, marks);
+    after_in_each(s, t, a, &open, 0, *marks)
+}
