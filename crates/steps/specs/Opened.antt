@@ -10,14 +10,14 @@ use Rattle.steps.specs.AtHand.{Marked}
 
 -- The fluents that are held.
 unfoldable pub open-in : List ℕ → List ℕ
-open-in open = take (getD open 0 0) (drop 1 open)
+open-in held = take (getD held 0 0) (drop 1 held)
 
 -- These fluents are held, unless there are more than the limit; then the number says so.
-pub record Opened (fs open : List ℕ) : Type 0 where
-  pub sized : length open ≡ 1 + most-open
-  pub number : length fs ≤ most-open → getD open 0 0 ≡ length fs
-  pub fluents : length fs ≤ most-open → open-in open ≡ fs
-  pub more : most-open < length fs → most-open < getD open 0 0
+pub record Opened (fs held : List ℕ) : Type 0 where
+  pub sized : length held ≡ 1 + most-open
+  pub number : length fs ≤ most-open → getD held 0 0 ≡ length fs
+  pub fluents : length fs ≤ most-open → open-in held ≡ fs
+  pub more : most-open < length fs → most-open < getD held 0 0
 
 -- A state in which the fluents from number i up are still to be filled: they are fluents, unknown in it, and each stands there once.
 pub record Filling (fs : List ℕ) (i : ℕ) (marks : State) : Type 0 where

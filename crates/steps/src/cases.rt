@@ -7,21 +7,19 @@ ghost use lib.ListN.{drop};
 ghost use Rattle.meaning.specs.Tests.{each-of};
 ghost use Rattle.meaning.specs.Limits.{format};
 ghost use Rattle.meaning.specs.States.{can-be-run};
-ghost use Rattle.meaning.specs.ByCases.{fillings, runs-by-cases, shared-marks, after-each, after-cases, open-fluents, too-many, cases-does};
+ghost use Rattle.meaning.specs.ByCases.{fillings, runs-by-cases, shared-marks, after-each, after-cases, too-many, cases-does};
 ghost use Rattle.steps.specs.Held.{table-in};
 ghost use Rattle.steps.specs.AtHand.{At-hand, Marked};
 ghost use Rattle.steps.specs.Steps.{tried-as};
-ghost use Rattle.steps.specs.Opened.{open-in, Opened, Filling};
+ghost use Rattle.steps.specs.Opened.{open-in, Filling};
 use super::actions::can_be_run;
 use super::actions::state_after;
+use super::opening::Open;
+use super::opening::opened;
 use bytes::bytes::wide;
 use bytes::limits;
 use reading::marks::Marks;
-use reading::notes;
 use reading::notes::Notes;
-use reading::notes::first_line;
-use reading::notes::line_place;
-use reading::notes::next_line;
 
 // What trying an action gives: it can be run, it can't, or it has too many cases.
 pub enum Tried {
@@ -30,91 +28,22 @@ pub enum Tried {
     Many,
 }
 
-// The open fluents of an action, ascending, behind their number, which is one more than the limit where there are more.
-const OPEN_SLOTS: usize = 1 + limits::OPEN;
-
-type Open = [u8; OPEN_SLOTS];
-
-// The unknown fluents of the body at p get a flag.
-fn flag_body(s: &[u8], p: usize, marks: &Marks, flags: &mut Marks) {
-    let end = p + wide(s[p]);
-    let mut i = p;
-    while i < end {
-        i += 1;
-        let f = wide(s[i]) / 2;
-        if marks[f] == 0 {
-            flags[f] = 1;
-        }
-    }
-}
-
-// Those of all bodies of the action.
-fn open_flags(s: &[u8], t: &Notes, a: usize, marks: &Marks) -> Marks {
-    let mut flags = [0u8; limits::FLUENTS];
-    let mut k = first_line(t, notes::EFFECTS, a);
-    while 0 < k {
-        let p = line_place(t, notes::EFFECTS, k);
-        k = next_line(t, notes::EFFECTS, k);
-        let body = p + 2;
-        flag_body(s, body, marks, &mut flags);
-    }
-    let mut j = first_line(t, notes::EXECUTABILITY, a);
-    while 0 < j {
-        let p = line_place(t, notes::EXECUTABILITY, j);
-        j = next_line(t, notes::EXECUTABILITY, j);
-        let body = p + 1;
-        flag_body(s, body, marks, &mut flags);
-    }
-    flags
-}
-
-// The fluents that have a flag.
-fn gathered(flags: &Marks) -> Open {
-    let mut open = [0u8; OPEN_SLOTS];
-    let mut k = 0;
-    let mut f = 0;
-    while f < limits::FLUENTS {
-        if flags[f] == 1 {
-            k += 1;
-            if limits::OPEN < k {
-                open[0] = k as u8;
-                return open;
-            }
-            open[k] = f as u8;
-        }
-        f += 1;
-    }
-    open[0] = k as u8;
-    open
-}
-
-// The open fluents of the action.
-fn opened(s: &[u8], t: &Notes, a: usize, marks: &Marks) -> Open
-    requires { ⌜ At-hand (now s) (now t) ⌝ }
-    requires { ⌜ a < format .actions ⌝ }
-    requires { ⌜ Marked (now marks) ⌝ }
-    ensures { λ r. ⌜ Opened (open-fluents (table-in (now (s .entry))) a (now (marks .entry))) r ⌝ }
-{
-    let flags = open_flags(s, t, a, marks);
-    gathered(&flags)
-}
-
 // The action can be run in each filling of the open fluents from number i up.
-fn runs_in_each(s: &[u8], t: &Notes, a: usize, open: &Open, i: usize, marks: Marks) -> bool
+fn runs_in_each(s: &[u8], t: &Notes, a: usize, held: &Open, i: usize, marks: Marks) -> bool
     requires { ⌜ At-hand (now s) (now t) ⌝ }
     requires { ⌜ a < format .actions ⌝ }
-    requires { ⌜ Filling (open-in (now open)) i marks ⌝ }
-    ensures { λ r. ⌜ r ≡ each-of (can-be-run (table-in (now (s .entry))) a) (fillings (drop i (open-in (now (open .entry)))) marks) ⌝ }
+    requires { ⌜ Filling (open-in (now held)) i marks ⌝ }
+    ensures { λ r. ⌜ r ≡ each-of (can-be-run (table-in (now (s .entry))) a) (fillings (drop i (open-in (now (held .entry)))) marks) ⌝ }
 {
-    if i < wide(open[0]) {
+    if i < wide(held[0]) {
         let next = i + 1;
-        let f = wide(open[next]);
+        let f = wide(held[next]);
         let mut state = marks;
         state[f] = limits::TRUE_MARK;
-        let first = runs_in_each(s, t, a, open, next, state);
+        let first = runs_in_each(s, t, a, held, next, state);
         if first {
             state[f] = limits::FALSE_MARK;
-            return runs_in_each(s, t, a, open, next, state);
+            return runs_in_each(s, t, a, held, next, state);
         }
         return false;
     }
@@ -139,21 +68,21 @@ fn shared(one: &Marks, other: &Marks) -> Marks
 }
 
 // What the states after the action share, which is run in each filling of the open fluents from number i up.
-fn after_in_each(s: &[u8], t: &Notes, a: usize, open: &Open, i: usize, marks: Marks) -> Marks
+fn after_in_each(s: &[u8], t: &Notes, a: usize, held: &Open, i: usize, marks: Marks) -> Marks
     requires { ⌜ At-hand (now s) (now t) ⌝ }
     requires { ⌜ a < format .actions ⌝ }
-    requires { ⌜ Filling (open-in (now open)) i marks ⌝ }
-    requires { ⌜ each-of (can-be-run (table-in (now s)) a) (fillings (drop i (open-in (now open))) marks) ≡ true ⌝ }
-    ensures { λ r. ⌜ r ≡ after-each (table-in (now (s .entry))) a (fillings (drop i (open-in (now (open .entry)))) marks) marks ⌝ }
+    requires { ⌜ Filling (open-in (now held)) i marks ⌝ }
+    requires { ⌜ each-of (can-be-run (table-in (now s)) a) (fillings (drop i (open-in (now held))) marks) ≡ true ⌝ }
+    ensures { λ r. ⌜ r ≡ after-each (table-in (now (s .entry))) a (fillings (drop i (open-in (now (held .entry)))) marks) marks ⌝ }
 {
-    if i < wide(open[0]) {
+    if i < wide(held[0]) {
         let next = i + 1;
-        let f = wide(open[next]);
+        let f = wide(held[next]);
         let mut state = marks;
         state[f] = limits::TRUE_MARK;
-        let one = after_in_each(s, t, a, open, next, state);
+        let one = after_in_each(s, t, a, held, next, state);
         state[f] = limits::FALSE_MARK;
-        let other = after_in_each(s, t, a, open, next, state);
+        let other = after_in_each(s, t, a, held, next, state);
         return shared(&one, &other);
     }
     state_after(s, t, a, &marks)
@@ -166,15 +95,15 @@ pub fn try_cases(s: &[u8], t: &Notes, a: usize, marks: &Marks) -> Tried
     requires { ⌜ Marked (now marks) ⌝ }
     ensures { λ r. ⌜ cases-does (table-in (now (s .entry))) a (now (marks .entry)) ≡ tried-as 1 (table-in (now (s .entry))) a (now (marks .entry)) r ⌝ }
 {
-    let open = opened(s, t, a, marks);
-    if limits::OPEN < wide(open[0]) {
+    let held = opened(s, t, a, marks);
+    if limits::OPEN < wide(held[0]) {
         return Tried::Many;
     }
     let known = can_be_run(s, t, a, marks);
     if known {
         return Tried::Runs;
     }
-    let runs = runs_in_each(s, t, a, &open, 0, *marks);
+    let runs = runs_in_each(s, t, a, &held, 0, *marks);
     if runs {
         return Tried::Runs;
     }
@@ -190,6 +119,6 @@ pub fn after_cases(s: &[u8], t: &Notes, a: usize, marks: &Marks) -> Marks
     requires { ⌜ runs-by-cases (table-in (now s)) a (now marks) ≡ true ⌝ }
     ensures { λ r. ⌜ r ≡ after-cases (table-in (now (s .entry))) a (now (marks .entry)) ⌝ }
 {
-    let open = opened(s, t, a, marks);
-    after_in_each(s, t, a, &open, 0, *marks)
+    let held = opened(s, t, a, marks);
+    after_in_each(s, t, a, &held, 0, *marks)
 }
