@@ -54,6 +54,8 @@ pub mod AskingLaws
 pub mod ItemBytes
 pub mod ReportLaws
 pub mod GuardedReports
+pub mod CaseSteps
+pub mod CaseWalks
 pub mod ReportedLine
 pub mod GuardedLine
 pub mod Passed
