@@ -1,5 +1,5 @@
 -- The walk by cases is the walk without the limit, or it stops with 44. Two steps that do the same wherever the first is not refused so walk alike up to the
--- first such refusal, which is the end of the first walk. By induction on the plan. Assumes nothing.
+-- first such refusal, which is the end of the first walk. By induction on the plan. What stops it is a 2 with a state, or a 44 without one. Assumes nothing.
 use Prim.Native.Nat.{ℕ}
 use mathlib.Core.Path.{_≡_, refl, sym, _∙_, ap, subst}
 use mathlib.Core.Logic.{_⊎_, inl, inr, ⊎-elim}
@@ -7,10 +7,14 @@ use Rattle.meaning.specs.Tests.{each-of}
 use Rattle.meaning.specs.Limits
 use Rattle.meaning.specs.Requests.{Table, Sequence, done, item, Item, act, branching, Branches, none, branch, Request}
 use Rattle.meaning.specs.Refusals.{Found, nowhere, at}
-use Rattle.meaning.specs.States.{State, Outcome, single, fork}
-use Rattle.meaning.specs.Walk.{Concerned, no-state, End, fine, missed, stopped, Walked, stopped-at, counted, keep-miss, after-miss, after-end, and-then, each-reading, Step, leads-to, refuses, Steps, after-step, unless-broken, meet, run-action, walk, walk-item, walk-branch, judged}
-use Rattle.meaning.specs.ByCases.{too-many, cases-does, cases-step, walked-by-cases}
+use Rattle.meaning.specs.States.{State, Outcome, single, fork, outcome-to}
+use Rattle.meaning.specs.Walk.{Concerned, no-state, in-state, End, fine, missed, stopped, Walked, stopped-at, counted, keep-miss, after-miss, after-end, and-then, each-reading, Step, leads-to, refuses, Steps, after-step, unless-broken, meet, run-action, walk, walk-item, walk-branch, judged}
+use Rattle.meaning.specs.ByCases.{after-cases, too-many, cases-does, cases-step, walked-by-cases}
 use Rattle.meaning.proofs.TestLaws.{by-test, pick-true, pick-false}
+use Rattle.meaning.proofs.PickLaws.{pick-has}
+use Rattle.meaning.proofs.RefusalLaws.{at≢nowhere}
+use Rattle.meaning.proofs.KeptEnds.{on-places, any-outcome, End-so, Step-so, judged-so}
+use Rattle.meaning.proofs.WithinLaws.{Never, so-never}
 use Rattle.meaning.proofs.CaseSteps.{unlimited-does, unlimited-step}
 
 -- TWO WALKS. They are the same, or the first stops with this number and state.
@@ -89,3 +93,29 @@ does-limited t a s = by-test (too-many t a s) (λ many. inr (pick-true _ _ _ man
 pub limited : (r : Request) (s : State) → (walked-by-cases r s ≡ walk (unlimited-step (r .table)) (r .plan) (judged r) s) ⊎ ((p : ℕ) × (walked-by-cases r s .end ≡ stopped Limits.too-many-cases p no-state))
 unfolding walked-by-cases cases-step unlimited-step
 limited r s = walk-limited Limits.too-many-cases no-state (cases-step (r .table)) (unlimited-step (r .table)) refl refl (does-limited (r .table)) (r .plan) (judged r) (judged r) (λ v. inl refl) s
+
+-- STOPS of the walk by cases: an item that can't be run stops it with 2, and the state; an action with too many cases stops it with 44, and no state.
+abbrev pub Case-stop : ℕ → ℕ → Concerned State → Type 0
+Case-stop n p u = ((n ≡ Limits.not-executable) × ((s : State) × (u ≡ in-state s))) ⊎ ((n ≡ Limits.too-many-cases) × (u ≡ no-state))
+
+abbrev pub Stuck-by-cases : End State → Type 0
+Stuck-by-cases = End-so (λ _ _. Unit {0}) Case-stop
+
+pub cases-stuck : (r : Request) (s : State) → Stuck-by-cases (walked-by-cases r s .end)
+unfolding walked-by-cases cases-step cases-does
+cases-stuck r s =
+    judged-so (λ _ _. Unit {0}) Case-stop (λ _. Unit {0}) (λ _. Unit {0}) (λ v _ p _. inl (refl, (v, refl))) (cases-step (r .table)) does
+    (λ v _ p q. absurd (at≢nowhere (sym q))) r (λ v _ p _. tt) (on-places (λ _. Unit {0}) (λ _. tt) (r .plan)) s tt
+  where
+    So : Step State → Type 0
+    So = Step-so (λ _ _. Unit {0}) Case-stop (λ _. Unit {0}) (λ _. Unit {0})
+
+    does : (a : ℕ) (v : State) → Unit {0} → So (cases-does (r .table) a v)
+    does a v _ =
+        pick-has So _ _ _ (λ _ p _. inr (refl, refl)) λ _.
+        pick-has So _ _ _ (λ _. any-outcome (outcome-to (r .table) a v (after-cases (r .table) a v))) (λ _ p _. inl (refl, (v, refl)))
+
+-- No stop has another number than 2 and 44.
+pub cases-never : (i : ℕ) → (i ≡ Limits.not-executable → ⊥) → (i ≡ Limits.too-many-cases → ⊥) → (r : Request) (s : State) → Never i (walked-by-cases r s .end)
+cases-never i not-2 not-44 r s =
+    so-never i Case-stop (λ n p u stuck q. ⊎-elim (λ is. not-2 (sym q ∙ is .0)) (λ is. not-44 (sym q ∙ is .0)) stuck) (walked-by-cases r s .end) (cases-stuck r s)

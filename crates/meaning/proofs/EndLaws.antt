@@ -74,7 +74,7 @@ module _ {S : Type 0} where
   has-ends (y ∷ ys) x e (inl r) q = inl (sym q ∙ ap (λ (z : Path S). z .ending) r)
   has-ends (y ∷ ys) x e (inr h) q = inr (has-ends ys x e h q)
 
-  ends-has : (xs : List (Path S)) (e : Ending S) → Ends xs e → (x : Path S) × Has xs x × (x .ending ≡ e)
+  pub ends-has : (xs : List (Path S)) (e : Ending S) → Ends xs e → (x : Path S) × Has xs x × (x .ending ≡ e)
   ends-has [] e ends = absurd ends
   ends-has (y ∷ ys) e (inl here) = (y, inl refl, sym here)
   ends-has (y ∷ ys) e (inr later) = let w = ends-has ys e later in (w .0, inr (w .1), w .2)
