@@ -56,6 +56,7 @@ pub mod ReportLaws
 pub mod GuardedReports
 pub mod CaseSteps
 pub mod CaseWalks
+pub mod CaseReports
 pub mod ReportedLine
 pub mod GuardedLine
 pub mod Passed
