@@ -15,7 +15,7 @@ use Rattle.meaning.specs.Requests.{Table, Sequence, done, item, Item, ac
 use Rattle.meaning.specs.Reading.{got}
 use Rattle.meaning.specs.Refusals.{nowhere, settled}
 use Rattle.meaning.specs.States.{State, first-state}
-use Rattle.meaning.specs.Walk.{Concerned, no-state, in-state, End, stopped, Walked, Step, leads-to, refuses, Steps, missed-in, judged}
+use Rattle.meaning.specs.Walk.{Concerned, no-state, stopped, Walked, Step, leads-to, refuses, Steps, missed-in, judged}
 use Rattle.meaning.specs.Judging.{written-over, within, judge-got}
 use Rattle.meaning.specs.Paths.{Ending, arrives, stops, arrivals, paths-step, paths, paths-item, paths-branch, stop-or-miss, walked-along}
 use Rattle.meaning.specs.ByCases.{too-many, cases-does, cases-step, walked-by-cases, walk-of, judge-by-cases, number, count}
