@@ -41,6 +41,7 @@ pub mod PairLaws
 pub mod ToldLaws
 pub mod EndLaws
 pub mod SensingLaws
+pub mod FillingLaws
 pub mod SetLaws
 pub mod RulesExact
 pub mod ReadingsExact
@@ -57,6 +58,7 @@ pub mod GuardedReports
 pub mod CaseSteps
 pub mod CaseWalks
 pub mod CaseReports
+pub mod CaseSound
 pub mod ReportedLine
 pub mod GuardedLine
 pub mod Passed
