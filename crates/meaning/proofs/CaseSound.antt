@@ -3,7 +3,7 @@
 use Prim.Native.Nat.{ℕ, _+_}
 use native.Mathlib.Omega.{arith}
 use native.Mathlib.Decide.{decLt, ℕ-discrete}
-use mathlib.Core.Path.{_≡_, refl, sym, _∙_, ap, subst}
+use mathlib.Core.Path.{_≡_, refl, sym, _∙_, subst}
 use mathlib.Core.Bool.{Bool, true, false}
 use mathlib.Core.List.{List, [], _∷_, map}
 use mathlib.Core.Logic.{_⊎_, inl, inr, ⊎-elim}
@@ -31,7 +31,7 @@ use Rattle.meaning.proofs.PickLaws.{pick-has}
 use Rattle.meaning.proofs.LiteralLaws.{fluent-true, fluent-false}
 use Rattle.meaning.proofs.PairLaws.{mark-by}
 use Rattle.meaning.proofs.Sound.{leads-same, refuses≢leads, Sound-step}
-use Rattle.meaning.proofs.ValueSound.{Agrees, Exclusive, Leads, after-agrees, told-agrees, runs-agree, led-sound}
+use Rattle.meaning.proofs.ValueSound.{Agrees, Exclusive, after-agrees, told-agrees, runs-agree, led-sound}
 use Rattle.meaning.proofs.TwoValues.{sets-true, sets-false, known-value, known-is, told-true, told-false, same-can-be-run, same-state-after, same-unknown-sensed, same-readings}
 use Rattle.meaning.proofs.WalkSound.{stepped-walk-sound}
 use Rattle.meaning.proofs.FillingLaws.{shared-length, shared-at}
