@@ -5,6 +5,7 @@ pub mod Narrowed
 pub mod DepthLaws
 pub mod MovedLines
 pub mod GuardedSound
+pub mod CaseVerified
 pub mod UnknownLaws
 pub mod DepthBound
 pub mod DepthMet
