@@ -25,6 +25,7 @@ pub mod MoreKnown
 pub mod PartReads
 pub mod PartsAlike
 pub mod MoreFacts
+pub mod CaseMore
 pub mod CutReads
 pub mod FewerGoals
 pub mod JoinedWalk
