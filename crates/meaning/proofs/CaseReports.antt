@@ -1,6 +1,6 @@
 -- Answer 44 is given exactly where the first path that stops, stops so and the count is within the budget, at that place; and a path stops so only at an action
 -- that it meets in a state in which the action has too many cases, by induction on the plan (FORMAT 22.11, 22.12, 22.19). Assumes nothing.
-use Prim.Native.Nat.{ℕ, _≤_, _<_}
+use Prim.Native.Nat.{ℕ, _≤_}
 use native.Mathlib.Omega.{arith}
 use mathlib.Core.Path.{_≡_, refl, sym, _∙_, ap, subst}
 use mathlib.Core.Bool.{true}
@@ -22,10 +22,10 @@ use Rattle.meaning.specs.ByCases.{too-many, cases-does, cases-step, walk
 use Rattle.meaning.specs.CaseReported.{case-paths, First-too-many, Meets-in, Meets-at, Meets-under, Too-many-at}
 use Rattle.meaning.proofs.TestLaws.{pick-true, pick-cases}
 use Rattle.meaning.proofs.PickLaws.{has-picked}
-use Rattle.meaning.proofs.WithinLaws.{answered, answered-stopped, enough-within, spent-within, ended-within, stopped-within}
+use Rattle.meaning.proofs.WithinLaws.{answered, answered-stopped, enough-within, ended-within, stopped-within}
 use Rattle.meaning.proofs.PathLaws.{walk-along}
 use Rattle.meaning.proofs.EndLaws.{Ends, arrives≢stops, ends-has, ends-one, ends-ran, arrivals-go-on, went-on, stop-ends, first-stop-is, Says, end-says}
-use Rattle.meaning.proofs.CaseWalks.{Stuck-by-cases, cases-stuck, cases-never}
+use Rattle.meaning.proofs.CaseWalks.{Stuck-by-cases, cases-stuck}
 
 -- STOPS. What a stop says.
 abbrev numbered : Ending State → ℕ
@@ -118,10 +118,6 @@ module _ (lim : Limits) (b lent : List ℕ) (budget : ℕ) (r : Request) (e : �
       let none : u ≡ no-state = ⊎-elim (λ is. absurd (omega (arith, is .0))) (λ is. is .1) (subst Stuck-by-cases q (cases-stuck r (first-state lim (r .table)))) in
       let says = subst (Says (missed-in r) (case-paths lim r)) q cases-say in
       (none, rw none at says)
-
-  -- The budget is spent exactly where the walk counts more.
-  pub cases-spent-exactly : (number lim b lent budget ≡ Limits.budget-spent) ↔ (budget < count lim r)
-  cases-spent-exactly = spent-within lent budget _ _ cases-by-walk (cases-never Limits.budget-spent (λ z. omega arith) (λ z. omega arith) r _)
 
   -- Too many cases, exactly where the count is within the budget and the first path that stops, stops so.
   pub many-exactly : (number lim b lent budget ≡ Limits.too-many-cases) ↔ ((count lim r ≤ budget) × ((p : ℕ) × First-too-many (case-paths lim r) p))
