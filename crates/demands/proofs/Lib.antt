@@ -5,6 +5,7 @@ pub mod Narrowed
 pub mod DepthLaws
 pub mod MovedLines
 pub mod GuardedSound
+pub mod CaseVerified
 pub mod UnknownLaws
 pub mod DepthBound
 pub mod DepthMet
@@ -24,6 +25,7 @@ pub mod MoreKnown
 pub mod PartReads
 pub mod PartsAlike
 pub mod MoreFacts
+pub mod CaseMore
 pub mod CutReads
 pub mod FewerGoals
 pub mod JoinedWalk

@@ -41,6 +41,7 @@ pub mod PairLaws
 pub mod ToldLaws
 pub mod EndLaws
 pub mod SensingLaws
+pub mod FillingLaws
 pub mod SetLaws
 pub mod RulesExact
 pub mod ReadingsExact
@@ -54,6 +55,10 @@ pub mod AskingLaws
 pub mod ItemBytes
 pub mod ReportLaws
 pub mod GuardedReports
+pub mod CaseSteps
+pub mod CaseWalks
+pub mod CaseReports
+pub mod CaseSound
 pub mod ReportedLine
 pub mod GuardedLine
 pub mod Passed

@@ -14,11 +14,11 @@ use Rattle.meaning.specs.Limits.{Limits}
 use Rattle.meaning.specs.Requests.{Table, Sequence, done, item, Item, act, branching, Branches, none, branch, Entry, Request, values}
 use Rattle.meaning.specs.Reading.{got}
 use Rattle.meaning.specs.Refusals.{nowhere, at, or-else, settled}
-use Rattle.meaning.specs.States.{State, known, known-whether, can-be-run, Outcome, single, fork, outcome}
+use Rattle.meaning.specs.States.{State, known, known-whether, can-be-run, outcome}
 use Rattle.meaning.specs.Walk.{in-state, End, missed, stopped, Step, table-does, table-step, first-missed, missed-in}
 use Rattle.meaning.specs.Judging.{written-over, judge, number, count}
 use Rattle.meaning.specs.Approximation.{Pair, true-in, state, None-true, Φ̂, Initial, Entailed}
-use Rattle.meaning.specs.Paths.{Ending, arrives, stops, meetings, arrivals, paths-step, paths, paths-item, paths-branch}
+use Rattle.meaning.specs.Paths.{Ending, arrives, stops, arrivals, paths-step, paths, paths-item, paths-branch}
 use Rattle.meaning.specs.Reported.{First, pair-of, Asked, goal, whether, asked-at, met-in, asked-by, All-met, Misses, all-paths, Missed-at, Item-in, Item-of, Item-under, item-place, Not-run, Stopped-at}
 use Rattle.meaning.proofs.TestLaws.{clash, pick-cases, each-has, has-each, has-split, has-map, map-has}
 use Rattle.meaning.proofs.PickLaws.{has-picked}
@@ -26,7 +26,7 @@ use Rattle.meaning.proofs.KeptEnds.{Stuck, walked-stuck}
 use Rattle.meaning.proofs.WithinLaws.{walked-never, missed-within, stopped-within}
 use Rattle.meaning.proofs.RefusalLaws.{at≢nowhere, at-same}
 use Rattle.meaning.proofs.PathLaws.{by-found}
-use Rattle.meaning.proofs.EndLaws.{first-here, first-later, first-has, first-left, first-right, first-map, Ends, arrives≢stops, all-arrive, stops-same, ends-one, ends-split, ends-ran, went-on, stop-ends, miss-ends, Says, none-missed}
+use Rattle.meaning.proofs.EndLaws.{first-here, first-later, first-has, first-left, first-right, first-map, Ends, arrives≢stops, all-arrive, stops-same, ends-one, ends-ran, arrivals-go-on, went-on, stop-ends, miss-ends, Says, none-missed}
 use Rattle.meaning.proofs.PairLaws.{true-in-pair, runs-pair}
 use Rattle.meaning.proofs.CoverLaws.{knows-pair}
 use Rattle.meaning.proofs.Exact.{walk-end, met, whether-pair, whether-in, least-initial, leads, ranged, fits, says, judged-by-walk, missed-exactly}
@@ -95,12 +95,6 @@ entailed-met r σ δ initial led k a h =
 abbrev pub sticks : ℕ → State → Ending State
 sticks p u = stops Limits.not-executable p (in-state u)
 
--- What an action leads to are arrivals.
-arrivals-go-on : (o : Outcome State) (p : ℕ) (u : State) → Ends (arrivals o) (sticks p u) → ⊥
-unfolding meetings
-arrivals-go-on (single s) p u h = arrives≢stops (sym (ends-one h))
-arrivals-go-on (fork o q) p u h = ⊎-elim (arrivals-go-on o p u) (arrivals-go-on (q tt) p u) (ends-split (arrivals o) (arrivals (q tt)) (sticks p u) h)
-
 module _ (t : Table) where
   -- One of the items stands at the place and can't be run in the state.
   abbrev pub Stop : (Item ℕ → Type 0) → ℕ → State → Type 0
@@ -121,7 +115,7 @@ module _ (t : Table) where
     stops-of : (i : Item ℕ) (s : State) (p : ℕ) (u : State) → Ends (paths-item (table-step t) i s) (sticks p u) → Stop (Item-of i) p u
     stops-of (act q a) s p u h =
         has-picked (λ (x : Step State). Ends (paths-step (λ _. nowhere) q a x) (sticks p u)) (can-be-run t a s) _ _ h
-        (λ _ k. absurd (arrivals-go-on (outcome t a s) p u (ends-ran (a ∷ []) (arrivals (outcome t a s)) (sticks p u) .0 k)))
+        (λ _ k. absurd (arrivals-go-on (outcome t a s) Limits.not-executable p (in-state u) (ends-ran (a ∷ []) (arrivals (outcome t a s)) (sticks p u) .0 k)))
         (λ off k. let w = stops-same (ends-one k) in (act q a, refl, sym (w .0), rw (w .1) (runs-pair t a s ∙ off)))
     stops-of (branching q bs) s p u h =
         ⊎-elim

@@ -21,6 +21,7 @@ pub mod CaseApproximation
 pub mod Paths
 pub mod Reported
 pub mod GuardedReported
+pub mod CaseReported
 pub mod SameLines
 pub mod Derivations
 pub mod Rules
