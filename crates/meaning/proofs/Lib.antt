@@ -47,6 +47,7 @@ pub mod ReadingsExact
 pub mod ReadLines
 pub mod FollowsExact
 pub mod CoverLaws
+pub mod ExactEnds
 pub mod Exact
 pub mod GuardedExact
 pub mod GuardedPaths

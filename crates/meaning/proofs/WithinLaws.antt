@@ -46,13 +46,13 @@ module _ (i : ℕ) where
   Never = End-so (λ _ _. Unit {0}) (λ n _ _. n ≡ i → ⊥)
 
   module _ (not-2 : i ≡ Limits.not-executable → ⊥) where
+    pub stuck-never : (e : End State) → Stuck e → Never e
+    stuck-never fine stuck = tt
+    stuck-never (missed p u) stuck = tt
+    stuck-never (stopped n p u) stuck = λ q. not-2 (sym q ∙ stuck .0)
+
     pub walked-never : (r : Request) (s : State) → Never (walked r s .end)
-    walked-never r s = by-end (walked r s .end) (walked-stuck r s)
-      where
-        by-end : (e : End State) → Stuck e → Never e
-        by-end fine stuck = tt
-        by-end (missed p u) stuck = tt
-        by-end (stopped n p u) stuck = λ q. not-2 (sym q ∙ stuck .0)
+    walked-never r s = stuck-never (walked r s .end) (walked-stuck r s)
 
     pub guarded-never : (i ≡ Limits.guard-broken → ⊥) → (r : Request) (gs : List Entry) (s : State) → Never (walked-guarded r gs s .end)
     guarded-never not-43 r gs s = by-end (walked-guarded r gs s .end) (guarded-stuck gs r s)
