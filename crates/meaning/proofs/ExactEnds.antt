@@ -22,7 +22,7 @@ use Rattle.meaning.specs.Paths.{Ending, arrives, stops, Path, paths}
 use Rattle.meaning.specs.Reported.{pair-of}
 use Rattle.meaning.proofs.TestLaws.{either-left, either-right, either-split, some-has, has-some, each-has, has-each}
 use Rattle.meaning.proofs.KeptEnds.{Stuck}
-use Rattle.meaning.proofs.WithinLaws.{answered, stuck-never, answered-else}
+use Rattle.meaning.proofs.WithinLaws.{answered, so-never, answered-else}
 use Rattle.meaning.proofs.RefusalLaws.{at≢nowhere}
 use Rattle.meaning.proofs.SettledLaws.{or-else-nowhere, Fit}
 use Rattle.meaning.proofs.PathLaws.{walk-along}
@@ -167,7 +167,7 @@ module _ (lim : Limits) (room : lim .fluents ≤ lim .state) (r : Request) (rang
     entailed = entailed-is;
     neither = (
       λ q. (λ h. omega (arith, q, failed-is .1 h), λ k. omega (arith, q, entailed-is .1 k)),
-      λ w. is ∙ answered-else (walk-by .end) (stuck-never _ (λ q. w .0 (failed-is .0 (is ∙ q))) (walk-by .end) stuck) (λ q. w .1 (entailed-is .0 (is ∙ q))),
+      λ w. is ∙ answered-else (walk-by .end) (so-never _ _ (λ n p u at-item q. w .0 (failed-is .0 (is ∙ sym q ∙ at-item .0))) (walk-by .end) stuck) (λ q. w .1 (entailed-is .0 (is ∙ q))),
     );
   }
     where

@@ -41,6 +41,8 @@ pub mod PairLaws
 pub mod ToldLaws
 pub mod EndLaws
 pub mod SensingLaws
+pub mod FillingLaws
+pub mod CompleteLaws
 pub mod SetLaws
 pub mod RulesExact
 pub mod ReadingsExact
@@ -55,6 +57,7 @@ pub mod AskingLaws
 pub mod ItemBytes
 pub mod ReportLaws
 pub mod GuardedReports
+pub mod CaseSteps
 pub mod ReportedLine
 pub mod GuardedLine
 pub mod Passed

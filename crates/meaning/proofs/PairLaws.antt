@@ -165,16 +165,17 @@ module _ (t : Table) (a : ℕ) where
   unfolding Res e⁻ F⁺ known-after pair-of
   after-false s f = rw (given-pair (true-in (pair-of s)) (says-false f), given-pair (possibly-true (pair-of s)) (says-true f), true-test s, possible-test s, complement-false f)
 
-abbrev mark-by : Bool → Bool → ℕ
+-- The mark of a fluent by what is known of it.
+abbrev pub mark-by : Bool → Bool → ℕ
 mark-by x y = pick x (λ _. Limits.true-mark) (λ _. pick y (λ _. Limits.false-mark) (λ _. Limits.unknown-mark))
 
-marked-true : (x y : Bool) → eqb (mark-by x y) Limits.true-mark ≡ x
+pub marked-true : (x y : Bool) → eqb (mark-by x y) Limits.true-mark ≡ x
 unfolding pick
 marked-true true y = refl
 marked-true false true = refl
 marked-true false false = refl
 
-marked-false : (x y : Bool) → both x y ≡ false → eqb (mark-by x y) Limits.false-mark ≡ y
+pub marked-false : (x y : Bool) → both x y ≡ false → eqb (mark-by x y) Limits.false-mark ≡ y
 unfolding pick both
 marked-false true y e = sym e
 marked-false false true e = refl

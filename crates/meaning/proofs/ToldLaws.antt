@@ -35,6 +35,11 @@ unfolding either
 either-assoc true b c = refl
 either-assoc false b c = refl
 
+-- What is known of other fluents stays.
+pub told-keeps : (l : ℕ) (s : State) (k : ℕ) → (fluent-of k ≡ fluent-of l → ⊥) → known (told l s) k ≡ known s k
+unfolding known told
+told-keeps l s k other = ap (λ (m : ℕ). eqb m (mark-of k)) (getD-set-other s (fluent-of l) (fluent-of k) (mark-of l) Limits.unknown-mark other)
+
 module _ (l : ℕ) (s : State) (within : fluent-of l < length s) where
   pub told-here : known (told l s) l ≡ true
   unfolding known told
@@ -45,8 +50,7 @@ module _ (l : ℕ) (s : State) (within : fluent-of l < length s) where
   told-beside = ne-eqb _ (mark-of (complement l)) (rw (fluent-complement l, getD-set-same s (fluent-of l) (mark-of l) Limits.unknown-mark within) (mark-complement l))
 
   pub told-elsewhere : (k : ℕ) → (fluent-of k ≡ fluent-of l → ⊥) → known (told l s) k ≡ known s k
-  unfolding known told
-  told-elsewhere k other = ap (λ (m : ℕ). eqb m (mark-of k)) (getD-set-other s (fluent-of l) (fluent-of k) (mark-of l) Limits.unknown-mark other)
+  told-elsewhere = told-keeps l s
 
   told-known : known s (complement l) ≡ false → (k : ℕ) → known (told l s) k ≡ either (known s k) (eqb k l)
   told-known free k = elim (ℕ-discrete (fluent-of k) (fluent-of l)) [ yes same ↦ ⊎-elim here beside (same-fluent k l same) | no other ↦ elsewhere other ]
