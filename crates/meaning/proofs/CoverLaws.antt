@@ -81,7 +81,7 @@ module _ (size : ℕ) where
   Covered xs failed = Stops xs
   Covered xs (state δ) = Stops xs ⊎ ((u : State) × Ends xs (arrives u) × Below u δ)
 
-  stops-cover : (xs : List (Path State)) → Stops xs → (x : Result) → Covered xs x
+  pub stops-cover : (xs : List (Path State)) → Stops xs → (x : Result) → Covered xs x
   stops-cover xs stop failed = stop
   stops-cover xs stop (state δ) = inl stop
 

@@ -58,6 +58,7 @@ pub mod ItemBytes
 pub mod ReportLaws
 pub mod GuardedReports
 pub mod CaseSteps
+pub mod CaseCovers
 pub mod ReportedLine
 pub mod GuardedLine
 pub mod Passed
