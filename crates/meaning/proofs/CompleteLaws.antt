@@ -11,7 +11,7 @@ use lib.ListN.{length, length-set}
 use lib.Dec.{ltb, eqb}
 use borrow.Author.Tests.{eqb-true, eq-eqb, ne-eqb, ltb-true, lt-ltb}
 use Rattle.meaning.specs.Tests.{both, either, fails, some-of, Has}
-use Rattle.meaning.specs.Literals.{says-true, says-false, fluent-of, complement, among}
+use Rattle.meaning.specs.Literals.{says-true, says-false, fluent-of, among}
 use Rattle.meaning.specs.Requests.{Table}
 use Rattle.meaning.specs.States.{State, mark-of, known, known-whether, told}
 use Rattle.meaning.specs.ByCases.{upward, fillings, complete}
@@ -24,7 +24,7 @@ use Rattle.meaning.proofs.LiteralLaws.{fluent-true, fluent-false, one-o
 use Rattle.meaning.proofs.StateLaws.{known-one}
 use Rattle.meaning.proofs.ToldLaws.{either-none, either-assoc, told-here, told-keeps}
 use Rattle.meaning.proofs.PairLaws.{true-in-true, true-in-false, true-grows, pair-disjoint, true-in-pair}
-use Rattle.meaning.proofs.FillingLaws.{filling-length, filling-more}
+use Rattle.meaning.proofs.FillingLaws.{filling-more}
 
 -- THE FLUENTS of a table.
 upward-has : (f n g : ℕ) → Has (upward f n) g → (f ≤ g) × (g < f + n)

@@ -1,18 +1,18 @@
 -- The fillings of a state, and what states share (FORMAT 22.2 to 22.4): a filling knows no less than its state, there is one, and a literal is known in what
 -- states share exactly where it is known in each of them. By induction on the fluents that are filled, and on the marks. Assumes nothing.
-use Prim.Native.Nat.{ℕ, zero, suc, _+_, _≤_, _<_}
+use Prim.Native.Nat.{ℕ, zero, suc, _+_, _<_}
 use native.Mathlib.Omega.{arith}
-use native.Mathlib.Decide.{decLt, ℕ-discrete}
+use native.Mathlib.Decide.{ℕ-discrete}
 use native.Mathlib.Nat.{not-suc-le-zero, le-of-suc-le-suc}
 use mathlib.Core.Path.{_≡_, refl, sym, _∙_, ap}
 use mathlib.Core.Bool.{true, false}
-use mathlib.Core.List.{List, [], _∷_, _++_, map}
+use mathlib.Core.List.{List, [], _∷_, map}
 use mathlib.Core.Logic.{inl, ⊎-elim}
 use lib.ListN.{length, getD, length-set}
 use lib.Dec.{eqb}
 use Rattle.meaning.specs.Tests.{both, each-of, Has}
 use Rattle.meaning.specs.Limits
-use Rattle.meaning.specs.Literals.{says-true, says-false, fluent-of, complement}
+use Rattle.meaning.specs.Literals.{says-true, says-false, fluent-of}
 use Rattle.meaning.specs.Requests.{Table}
 use Rattle.meaning.specs.States.{State, mark-of, known, known-whether, told, state-after}
 use Rattle.meaning.specs.ByCases.{upward, fillings, complete, shared-mark, shared-marks, after-each, after-cases}

@@ -58,7 +58,9 @@ pub mod ItemBytes
 pub mod ReportLaws
 pub mod GuardedReports
 pub mod CaseSteps
+pub mod CaseWalks
 pub mod CaseCovers
+pub mod CaseExact
 pub mod ReportedLine
 pub mod GuardedLine
 pub mod Passed
