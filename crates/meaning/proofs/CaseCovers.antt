@@ -142,10 +142,13 @@ module _ (t : Table) (size : ℕ) (wide : t .fluents ≤ size) (effects-within :
       ran : runs-by-cases t a s ≡ true → Ends (first-ran (a ∷ []) (arrivals (outcome-to t a s (after-cases t a s)))) e → Φ₁ t a (pair-of s) (result-of e) × Sized size e
       ran runs k =
           let w = outcome-reaches t size knowledge-within a s (after-cases t a s) (cases-length t a s ∙ sized) sized e k in
-          rw (w .1)
-          ((λ δ c. runs-above t a s wide-here runs δ (c .extends, completed t (pair-of s) δ c),
-          ⊎-elim (λ m. inl (m .0, rw (m .1) (after-shared t a s wide-here (λ n i. rw sized (effects-within n i))))) inr (w .3)),
-          w .2)
+          rw (w .1) (
+            (
+              λ δ c. runs-above t a s wide-here runs δ (c .extends, completed t (pair-of s) δ c),
+              ⊎-elim (λ m. inl (m .0, rw (m .1) (after-shared t a s wide-here (λ n i. rw sized (effects-within n i))))) inr (w .3),
+            ),
+            w .2,
+          )
 
   cases-cover : (p a : ℕ) (s : State) (δ : Pair) → Below size s δ → (x : Result) → Φ₁ t a δ x → Covered size (paths-item (step-by (unlimited-does t)) (act p a) s) x
   unfolding paths paths-step unlimited-does

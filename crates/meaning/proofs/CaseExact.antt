@@ -2,7 +2,7 @@
 -- the 1-approximation. There the walk is that of the step without the limit, which goes together with the 1-transition function. Assumes nothing.
 use Prim.Native.Nat.{ℕ, _≤_, _<_}
 use native.Mathlib.Omega.{arith}
-use mathlib.Core.Path.{_≡_, sym, _∙_, ap, subst}
+use mathlib.Core.Path.{_≡_, _∙_, ap, subst}
 use mathlib.Core.List.{List}
 use mathlib.Core.Logic.{⊎-elim, _↔_}
 use lib.ListN.{length}
@@ -15,7 +15,7 @@ use Rattle.meaning.specs.Refusals.{settled}
 use Rattle.meaning.specs.States.{State, first-state}
 use Rattle.meaning.specs.Walk.{End, fine, missed, stopped, Walked, walk, judged}
 use Rattle.meaning.specs.Judging.{within, judge-got}
-use Rattle.meaning.specs.ByCases.{walked-by-cases, walk-of, judge-by-cases, number, count}
+use Rattle.meaning.specs.ByCases.{walk-of, judge-by-cases, number, count}
 use Rattle.meaning.specs.Approximation.{failed, least}
 use Rattle.meaning.specs.CaseApproximation.{Φ₁, Φ̂₁, Entailed₁}
 use Rattle.meaning.proofs.TestLaws.{pick-true}
@@ -45,8 +45,8 @@ module _ (lim : Limits) (room : lim .fluents ≤ lim .state) (b lent : List ℕ)
   judged-by-walk = pick-true _ _ _ (eq-eqb _ _ lent-length) ∙ rw past
 
   -- The budget is spent exactly where the walk counts more.
-  pub spent-exactly : (number lim b lent budget ≡ Limits.budget-spent) ↔ (budget < count lim r)
-  spent-exactly = spent-within lent budget _ _ judged-by-walk (cases-never Limits.budget-spent (λ z. omega arith) (λ z. omega arith) r _)
+  pub cases-spent-exactly : (number lim b lent budget ≡ Limits.budget-spent) ↔ (budget < count lim r)
+  cases-spent-exactly = spent-within lent budget _ _ judged-by-walk (cases-never Limits.budget-spent (λ z. omega arith) (λ z. omega arith) r _)
 
   module _ (enough : count lim r ≤ budget) (few : number lim b lent budget ≡ Limits.too-many-cases → ⊥) where
     is-end : number lim b lent budget ≡ answered (walk-of lim r .end)
@@ -65,13 +65,13 @@ module _ (lim : Limits) (room : lim .fluents ≤ lim .state) (b lent : List ℕ)
         (number lim b lent budget) (is-end ∙ ap (λ (w : Walked State). answered (w .end)) unlimited)
 
     -- Not executable, exactly where the plan fails from the least initial a-state.
-    pub stuck-exactly : (number lim b lent budget ≡ Limits.not-executable) ↔ Φ̂₁ (r .table) (r .plan) (least (r .table)) failed
-    stuck-exactly = exact .fails
+    pub cases-stuck-exactly : (number lim b lent budget ≡ Limits.not-executable) ↔ Φ̂₁ (r .table) (r .plan) (least (r .table)) failed
+    cases-stuck-exactly = exact .fails
 
     -- Verified, exactly where the goals and the whether fluents are entailed.
-    pub verified-exactly : (number lim b lent budget ≡ Limits.verified) ↔ Entailed₁ r
-    verified-exactly = exact .entailed
+    pub cases-verified-exactly : (number lim b lent budget ≡ Limits.verified) ↔ Entailed₁ r
+    cases-verified-exactly = exact .entailed
 
     -- A goal is missed, exactly where neither is so.
-    pub missed-exactly : (number lim b lent budget ≡ Limits.goal-missed) ↔ ((Φ̂₁ (r .table) (r .plan) (least (r .table)) failed → ⊥) × (Entailed₁ r → ⊥))
-    missed-exactly = exact .neither
+    pub cases-missed-exactly : (number lim b lent budget ≡ Limits.goal-missed) ↔ ((Φ̂₁ (r .table) (r .plan) (least (r .table)) failed → ⊥) × (Entailed₁ r → ⊥))
+    cases-missed-exactly = exact .neither

@@ -138,8 +138,8 @@ module _ (t : Table) (s : State) (wide : t .fluents ≤ length s) where
   unfolding complete pair-of
   filling-below δ more valued =
       let w =
-          filling-passes (true-in δ) (upward 0 (t .fluents)) s fluents-within (λ k e. true-grows more k (true-in-pair s k ∙ e))
-          (λ f h. rw (true-in-true δ f, true-in-false δ f) (valued f (omega (arith, upward-has 0 (t .fluents) f h .1)))) in
+      filling-passes (true-in δ) (upward 0 (t .fluents)) s fluents-within (λ k e. true-grows more k (true-in-pair s k ∙ e))
+      (λ f h. rw (true-in-true δ f, true-in-false δ f) (valued f (omega (arith, upward-has 0 (t .fluents) f h .1)))) in
       (w .0, w .1, record { T = λ f e. sym (true-in-true δ f) ∙ w .2 (says-true f) e; F = λ f e. sym (true-in-false δ f) ∙ w .2 (says-false f) e })
 
 -- COMPLETIONS have each fluent of the table true or false.

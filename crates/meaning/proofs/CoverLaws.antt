@@ -238,6 +238,10 @@ module _ (t : Table) (size : ℕ) (effects-within : (e : Effect) → Has (t .eff
   unfolding table-step
   reaches-item = item-reaches size (table-does t) (Φ t) together
 
+  pub covers : (p : Sequence ℕ) → Fit p → (s : State) (δ : Pair) → Below size s δ → (x : Result) → Φ̂ t p δ x → Covered size (paths (table-step t) p s) x
+  unfolding table-step
+  covers = plan-covers size (table-does t) (Φ t) together
+
   pub covers-item : (i : Item ℕ) → Fit-item i → (s : State) (δ : Pair) → Below size s δ → (x : Result) → Φ̂-item t i δ x → Covered size (paths-item (table-step t) i s) x
   unfolding table-step
   covers-item = item-covers size (table-does t) (Φ t) together
