@@ -1,6 +1,8 @@
--- The walk by cases is the walk without the limit, or it stops with 44. Two steps that do the same wherever the first is not refused so walk alike up to the
--- first such refusal, which is the end of the first walk. By induction on the plan. What stops it is a 2 with a state, or a 44 without one. Assumes nothing.
-use Prim.Native.Nat.{ℕ}
+-- The walk by cases is the walk without the limit, or it stops with 44 and counts no more: two steps that do the same wherever the first is not refused so
+-- walk alike up to the first such refusal, which ends the first walk. By induction on the plan. Each stop of it is a 2 with a state, or a 44 without one.
+-- Assumes nothing.
+use Prim.Native.Nat.{ℕ, _≤_}
+use native.Mathlib.Omega.{arith}
 use mathlib.Core.Path.{_≡_, refl, sym, _∙_, ap, subst}
 use mathlib.Core.Logic.{_⊎_, inl, inr, ⊎-elim}
 use Rattle.meaning.specs.Tests.{each-of}
@@ -17,27 +19,38 @@ use Rattle.meaning.proofs.KeptEnds.{on-places, any-outcome, End-so, Ste
 use Rattle.meaning.proofs.WithinLaws.{Never, so-never}
 use Rattle.meaning.proofs.CaseSteps.{unlimited-does, unlimited-step}
 
--- TWO WALKS. They are the same, or the first stops with this number and state.
+-- One walk after another counts no less than the first.
+then-counts : {S : Type 0} (w : Walked S) (more : Unit {0} → Walked S) → w .count ≤ and-then w more .count
+unfolding and-then after-end counted after-miss
+then-counts {S} w more = by-end (w .end)
+  where
+    by-end : (e : End S) → w .count ≤ after-end e (w .count) more .count
+    by-end fine = omega arith
+    by-end (missed p s) = omega arith
+    by-end (stopped m p s) = omega arith
+
+-- TWO WALKS. They are the same, or the first stops with this number and state, and counts no more.
 module _ {S : Type 0} (n : ℕ) (u : Concerned S) where
   abbrev pub Limited : Walked S → Walked S → Type 0
-  Limited v w = (v ≡ w) ⊎ ((p : ℕ) × (v .end ≡ stopped n p u))
+  Limited v w = (v ≡ w) ⊎ ((p : ℕ) × (v .end ≡ stopped n p u) × (v .count ≤ w .count))
 
   counted-limited : (c : ℕ) (v w : Walked S) → Limited v w → Limited (counted c v) (counted c w)
   unfolding counted
   counted-limited c v w (inl same) = inl (ap (counted c) same)
-  counted-limited c v w (inr stop) = inr stop
+  counted-limited c v w (inr stop) = inr (stop .0, stop .1, omega (arith, stop .2))
 
   -- One after another.
   then-limited : (v w : Walked S) (more last : Unit {0} → Walked S) → Limited v w → Limited (more tt) (last tt) → Limited (and-then v more) (and-then w last)
   unfolding and-then after-end counted after-miss keep-miss
-  then-limited v w more last (inr stop) later = inr (stop .0, ap (λ (e : End S). after-end e (v .count) more .end) (stop .1))
+  then-limited v w more last (inr stop) later =
+      inr (stop .0, ap (λ (e : End S). after-end e (v .count) more .end) (stop .1), omega (arith, stop .2, ap (λ (e : End S). after-end e (v .count) more .count) (stop .1), then-counts w last))
   then-limited v w more last (inl same) later = subst (λ (x : Walked S). Limited (and-then v more) (and-then x last)) same (by-end (v .end) later)
     where
       by-end : (e : End S) → Limited (more tt) (last tt) → Limited (after-end e (v .count) more) (after-end e (v .count) last)
       by-end fine (inl alike) = inl (ap (counted (v .count)) alike)
-      by-end fine (inr stop) = inr stop
+      by-end fine (inr stop) = inr (stop .0, stop .1, omega (arith, stop .2))
       by-end (missed p s) (inl alike) = inl (ap (λ (x : Walked S). counted (v .count) (after-miss p s x)) alike)
-      by-end (missed p s) (inr stop) = inr (stop .0, ap (keep-miss p s) (stop .1))
+      by-end (missed p s) (inr stop) = inr (stop .0, ap (keep-miss p s) (stop .1), omega (arith, stop .2))
       by-end (stopped m p s) h = inl refl
 
   each-limited : (o : Outcome S) (j k : S → Walked S) → ((s : S) → Limited (j s) (k s)) → Limited (each-reading o j) (each-reading o k)
@@ -51,7 +64,7 @@ module _ {S : Type 0} (n : ℕ) (u : Concerned S) where
 
   step-limited : (p : ℕ) (x y : Step S) → Limits-to x y → (j k : S → Walked S) → ((s : S) → Limited (j s) (k s)) → Limited (after-step p x j) (after-step p y k)
   unfolding after-step stopped-at
-  step-limited p x y (inr refused) j k then = inr (p, ap (λ (z : Step S). after-step p z j .end) refused)
+  step-limited p x y (inr refused) j k then = inr (p, ap (λ (z : Step S). after-step p z j .end) refused, omega (arith, ap (λ (z : Step S). after-step p z j .count) refused))
   step-limited p x y (inl same) j k then = subst (λ (z : Step S). Limited (after-step p x j) (after-step p z k)) same (by-step x)
     where
       by-step : (z : Step S) → Limited (after-step p z j) (after-step p z k)
@@ -90,9 +103,16 @@ does-limited : (t : Table) (a : ℕ) (s : State) → Limits-to Limits.too-many-c
 unfolding cases-does unlimited-does
 does-limited t a s = by-test (too-many t a s) (λ many. inr (pick-true _ _ _ many)) (λ few. inl (pick-false _ _ _ few))
 
-pub limited : (r : Request) (s : State) → (walked-by-cases r s ≡ walk (unlimited-step (r .table)) (r .plan) (judged r) s) ⊎ ((p : ℕ) × (walked-by-cases r s .end ≡ stopped Limits.too-many-cases p no-state))
-unfolding walked-by-cases cases-step unlimited-step
-limited r s = walk-limited Limits.too-many-cases no-state (cases-step (r .table)) (unlimited-step (r .table)) refl refl (does-limited (r .table)) (r .plan) (judged r) (judged r) (λ v. inl refl) s
+module _ (r : Request) (s : State) where
+  abbrev pub unlimited-walk : Walked State
+  unlimited-walk = walk (unlimited-step (r .table)) (r .plan) (judged r) s
+
+  pub counts-no-more : Limited Limits.too-many-cases no-state (walked-by-cases r s) unlimited-walk
+  unfolding walked-by-cases cases-step unlimited-step
+  counts-no-more = walk-limited Limits.too-many-cases no-state (cases-step (r .table)) (unlimited-step (r .table)) refl refl (does-limited (r .table)) (r .plan) (judged r) (judged r) (λ v. inl refl) s
+
+  pub limited : (walked-by-cases r s ≡ unlimited-walk) ⊎ ((p : ℕ) × (walked-by-cases r s .end ≡ stopped Limits.too-many-cases p no-state))
+  limited = ⊎-elim inl (λ stop. inr (stop .0, stop .1)) counts-no-more
 
 -- STOPS of the walk by cases: an item that can't be run stops it with 2, and the state; an action with too many cases stops it with 44, and no state.
 abbrev pub Case-stop : ℕ → ℕ → Concerned State → Type 0
