@@ -250,12 +250,12 @@ module _ (t : Table) where
       ⊎-elim here (λ w. later (taken X bs rest Y cited w (both-right _ _ apart) σ d h)) (either-split _ _ e)
     where
       others : each-of (true-in σ) c ≡ true → None-true bs σ
-      others holds = others-false t σ d c holds bs (both-left _ _ apart)
+      others holds = others-false σ d c holds bs (both-left _ _ apart)
 
       here : both (included c X) (says cited X (join b rest) Y) ≡ true → Taken X (branch c b bs) rest Y cited σ
       here w =
           let holds = included-true c X (both-left _ _ w) σ h in
-          (b, both-right _ _ w, λ x z. ⊎-elim (λ v. v .1) (λ v. absurd (none-chosen t bs σ x (others holds) v)) z, λ n. clash holds (n .0))
+          (b, both-right _ _ w, λ x z. ⊎-elim (λ v. v .1) (λ v. absurd (none-chosen (Φ t) bs σ x (others holds) v)) z, λ n. clash holds (n .0))
 
       later : Taken X bs rest Y cited σ → Taken X (branch c b bs) rest Y cited σ
       later m = (m .0, m .1, λ x z. ⊎-elim (λ v. absurd (m .3 (others (v .0)))) (m .2 x) z, λ n. m .3 (n .1))

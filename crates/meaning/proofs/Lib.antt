@@ -42,12 +42,14 @@ pub mod ToldLaws
 pub mod EndLaws
 pub mod SensingLaws
 pub mod FillingLaws
+pub mod CompleteLaws
 pub mod SetLaws
 pub mod RulesExact
 pub mod ReadingsExact
 pub mod ReadLines
 pub mod FollowsExact
 pub mod CoverLaws
+pub mod ExactEnds
 pub mod Exact
 pub mod GuardedExact
 pub mod GuardedPaths
@@ -59,6 +61,8 @@ pub mod CaseSteps
 pub mod CaseWalks
 pub mod CaseReports
 pub mod CaseSound
+pub mod CaseCovers
+pub mod CaseExact
 pub mod ReportedLine
 pub mod GuardedLine
 pub mod Passed

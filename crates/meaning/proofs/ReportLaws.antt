@@ -29,7 +29,8 @@ use Rattle.meaning.proofs.PathLaws.{by-found}
 use Rattle.meaning.proofs.EndLaws.{first-here, first-later, first-has, first-left, first-right, first-map, Ends, arrives≢stops, all-arrive, stops-same, ends-one, ends-ran, arrivals-go-on, went-on, stop-ends, miss-ends, Says, none-missed}
 use Rattle.meaning.proofs.PairLaws.{true-in-pair, runs-pair}
 use Rattle.meaning.proofs.CoverLaws.{knows-pair}
-use Rattle.meaning.proofs.Exact.{walk-end, met, whether-pair, whether-in, least-initial, leads, ranged, fits, says, judged-by-walk, missed-exactly}
+use Rattle.meaning.proofs.ExactEnds.{met, whether-pair, whether-in, least-initial}
+use Rattle.meaning.proofs.Exact.{walk-end, leads, ranged, fits, says, judged-by-walk, missed-exactly}
 
 -- ENTRIES. One list of them, where each is met exactly where its value passes a test.
 module _ (σ : Pair) (test : ℕ → Bool) (asks : Entry → Asked) (same : (e : Entry) → met-in σ (asks e) ≡ test (e .value)) (stands : (e : Entry) → asked-at (asks e) ≡ e .place) where
@@ -189,6 +190,6 @@ module _ (lim : Limits) (room : lim .fluents ≤ lim .state) (b lent : List ℕ)
     λ m.
         missed-exactly lim room b lent budget r e lent-length past enough .1 (
           m .executable,
-          λ k. clash (entailed-met r _ (m .end-state) (least-initial lim room r (ranged lim room b r e past) (fits lim room b r e past)) (m .reached) k (m .entry) (m .asked)) (m .not-met),
+          λ k. clash (entailed-met r _ (m .end-state) (least-initial lim room (r .table) (ranged lim room b r e past)) (m .reached) k (m .entry) (m .asked)) (m .not-met),
         ),
   )

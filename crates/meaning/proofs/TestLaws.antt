@@ -127,6 +127,12 @@ module _ {A : Type 0} where
   has-each p [] f = refl
   has-each p (x ∷ xs) f = both-true _ _ (f x (inl refl)) (has-each p xs (λ y h. f y (inr h)))
 
+  -- Not each passes: here is one that fails.
+  pub not-each : (p : A → Bool) (xs : List A) → each-of p xs ≡ false → (x : A) × Has xs x × (p x ≡ false)
+  unfolding each-of both
+  not-each p [] e = clash refl e
+  not-each p (x ∷ xs) e = by-test (p x) (λ t. let w = not-each p xs (rw t at e) in (w .0, inr (w .1), w .2)) (λ f. (x, inl refl, f))
+
   pub has-left : (xs ys : List A) (x : A) → Has xs x → Has (xs ++ ys) x
   has-left [] ys x h = absurd h
   has-left (z ∷ zs) ys x h = ⊎-elim inl (λ m. inr (has-left zs ys x m)) h
