@@ -14,3 +14,4 @@ pub mod Sweeps
 pub mod LookLaws
 pub mod ActionLaws
 pub mod AfterLaws
+pub mod FlagLaws
