@@ -17,19 +17,19 @@ use Rattle.meaning.proofs.TestLaws.{either-split, pick-false, some-has,
 use Rattle.meaning.proofs.RangeLaws.{Ranged}
 
 -- FLUENTS FROM ONE UP. None passes.
-pub upward-none : (p : ℕ → Bool) (n f : ℕ) → ((g : ℕ) → f ≤ g → p g ≡ false) → those-of p (upward f n) ≡ []
+upward-none : (p : ℕ → Bool) (n f : ℕ) → ((g : ℕ) → f ≤ g → g < f + n → p g ≡ false) → those-of p (upward f n) ≡ []
 unfolding those-of upward
 upward-none p zero f none = refl
-upward-none p (suc n) f none = pick-false _ _ _ (none f (omega arith)) ∙ upward-none p n (f + 1) (λ g h. none g (omega arith))
+upward-none p (suc n) f none = pick-false _ _ _ (none f (omega arith) (omega arith)) ∙ upward-none p n (f + 1) (λ g h i. none g (omega arith) (omega arith))
 
--- Two tests that agree on the first of them, where none of the others passes.
-pub upward-same : (p q : ℕ → Bool) (n m f : ℕ) → n ≤ m → ((g : ℕ) → g < f + n → p g ≡ q g) → ((g : ℕ) → f + n ≤ g → p g ≡ false)
+-- Two tests that agree on the first n of them, where none of the others passes.
+pub upward-same : (p q : ℕ → Bool) (n m f : ℕ) → n ≤ m → ((g : ℕ) → g < f + n → p g ≡ q g) → ((g : ℕ) → f + n ≤ g → g < f + m → p g ≡ false)
     → those-of p (upward f m) ≡ those-of q (upward f n)
 unfolding those-of upward
-upward-same p q zero m f less same none = upward-none p m f (λ g h. none g (omega arith))
+upward-same p q zero m f less same none = upward-none p m f (λ g h i. none g (omega arith) (omega arith))
 upward-same p q (suc n) zero f less same none = absurd (omega arith)
 upward-same p q (suc n) (suc m) f less same none =
-    rw (same f (omega arith), upward-same p q n m (f + 1) (omega arith) (λ g h. same g (omega arith)) (λ g h. none g (omega arith)))
+    rw (same f (omega arith), upward-same p q n m (f + 1) (omega arith) (λ g h. same g (omega arith)) (λ g h i. none g (omega arith) (omega arith)))
 
 -- BODIES of a table that was read.
 module _ (lim : Limits) (t : Table) (ranged : Ranged lim t) (a f : ℕ) where

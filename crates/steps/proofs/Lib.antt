@@ -15,3 +15,4 @@ pub mod LookLaws
 pub mod ActionLaws
 pub mod AfterLaws
 pub mod FlagLaws
+pub mod OpenedLaws
