@@ -1,7 +1,6 @@
 -- From no flag on, those of the effects' bodies are set, and then those of the executability lines' bodies.
 use Rattle.steps.proofs.FlagLaws.{open-flagged}
 use borrow.Author.Needs.{needs}
-use borrow.Author.Needs.{needs}
 use Rattle.steps.proofs.opening.open_flags.Statement.{statement}
 use Rattle.steps.proofs.opening.open_flags.Tie as tie
 use Rattle.steps.proofs.opening.open_flags.Reads as reads
