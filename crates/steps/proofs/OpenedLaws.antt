@@ -3,20 +3,17 @@
 use Prim.Native.Nat.{ℕ, suc, _+_, _-_, _≤_, _<_}
 use native.Mathlib.Omega.{arith}
 use mathlib.Core.Path.{_≡_, refl, sym, _∙_, ap, subst}
-use mathlib.Core.Bool.{Bool, true, false}
+use mathlib.Core.Bool.{Bool}
 use mathlib.Core.List.{List, [], _∷_, _++_, append-nil}
 use lib.ListN.{length, getD, set, take, drop, replicate, length-set, length-drop, length-append, length-replicate}
 use lib.Seq.{length-take-le, append-snoc, getD-set-same, drop-set-lt, drop-set-add, take-suc-set}
 use lib.Dec.{eqb}
-use mir.Syntax.{w64}
-use mir.Val.{Fits}
 use borrow.Author.Tests.{eq-eqb, ne-eqb}
 use Rattle.meaning.specs.Tests.{both, fails, pick, those-of}
 use Rattle.meaning.specs.Limits.{format, most-open}
 use Rattle.meaning.specs.States.{State, known-whether}
 use Rattle.meaning.specs.ByCases.{upward, in-bodies, open-fluents}
 use Rattle.meaning.proofs.TestLaws.{by-test, both-left, pick-true, pick-false}
-use Rattle.meaning.proofs.PickLaws.{pick-has}
 use Rattle.meaning.proofs.RangeLaws.{Ranged, table-ranged}
 use Rattle.meaning.proofs.OpenLaws.{upward-same, in-bodies-within}
 use Rattle.steps.specs.Held.{table-in}
@@ -52,20 +49,23 @@ module _ (flags held : List ℕ) (k f : ℕ) (gathers : Gathering flags held k f
   number-beside : (n : ℕ) → drop 1 (set held 0 n) ≡ drop 1 held
   number-beside n = drop-set-lt 1 held 0 n (omega arith)
 
-  pub gather-done : format .fluents ≤ f → Opened (with-flag flags) (set held 0 k)
-  unfolding flagged-from those-of upward open-in
-  gather-done far =
-      let all : with-flag flags ≡ take k (drop 1 held) =
-          let none : format .fluents - f ≡ 0 = omega arith in
-          gathers .same ∙ ap (λ (n : ℕ). take k (drop 1 held) ++ those-of (λ (g : ℕ). eqb (getD flags g 0) 1) (upward f n)) none ∙ append-nil (take k (drop 1 held)) in
-      let long : length (with-flag flags) ≡ k = ap length all ∙ held-first in
-      let most = gathers .few in
-      record {
-        sized = length-set held 0 k ∙ gathers .sized;
-        number = λ _. number-there k ∙ sym long;
-        fluents = λ _. rw (number-there k, number-beside k) (sym all);
-        more = λ h. absurd (omega arith);
-      }
+  -- None is to come.
+  module _ (far : format .fluents ≤ f) where
+    all-held : with-flag flags ≡ take k (drop 1 held)
+    unfolding flagged-from those-of upward
+    all-held = let none : format .fluents - f ≡ 0 = omega arith in gathers .same ∙ rw none (append-nil (take k (drop 1 held)))
+
+    all-counted : length (with-flag flags) ≡ k
+    all-counted = ap length all-held ∙ held-first
+
+    pub gather-done : Opened (with-flag flags) (set held 0 k)
+    unfolding open-in
+    gather-done = record {
+      sized = length-set held 0 k ∙ gathers .sized;
+      number = λ _. number-there k ∙ sym all-counted;
+      fluents = λ _. rw (number-there k, number-beside k) (sym all-held);
+      more = λ h. let counted = all-counted in let most = gathers .few in absurd (omega arith);
+    }
 
   module _ (near : f < format .fluents) where
     from-here : flagged-from flags f ≡ pick (eqb (getD flags f 0) 1) (λ _. f ∷ flagged-from flags (f + 1)) (λ _. flagged-from flags (f + 1))
@@ -85,37 +85,38 @@ module _ (flags held : List ℕ) (k f : ℕ) (gathers : Gathering flags held k f
       one-more : with-flag flags ≡ take k (drop 1 held) ++ f ∷ flagged-from flags (f + 1)
       one-more = gathers .same ∙ ap (λ (fs : List ℕ). take k (drop 1 held) ++ fs) (from-here ∙ pick-true _ _ _ (eq-eqb _ _ flag))
 
-      pub gather-more : k + 1 ≤ most-open → Gathering flags (set held (k + 1) f) (k + 1) (f + 1)
-      gather-more less =
-          let place : k + 1 ≡ 1 + k = omega arith in
-          let up : k + 1 ≡ suc k = omega arith in
-          let holds : take (k + 1) (drop 1 (set held (k + 1) f)) ≡ take k (drop 1 held) ++ (f ∷ []) =
-              ap (λ (i : ℕ). take (k + 1) (drop 1 (set held i f))) place
-              ∙ ap (take (k + 1)) (drop-set-add 1 held k f)
-              ∙ ap (λ (n : ℕ). take n (set (drop 1 held) k f)) up
-              ∙ take-suc-set (drop 1 held) k f (rw room (omega arith)) in
-          record {
-            sized = length-set held (k + 1) f ∙ gathers .sized;
-            few = less;
-            same =
-                one-more
-                ∙ sym (append-snoc (take k (drop 1 held)) f (flagged-from flags (f + 1)))
-                ∙ ap (λ (fs : List ℕ). fs ++ flagged-from flags (f + 1)) (sym holds);
-          }
+      module _ (less : k + 1 ≤ most-open) where
+        more-held : take (k + 1) (drop 1 (set held (k + 1) f)) ≡ take k (drop 1 held) ++ (f ∷ [])
+        more-held =
+            let place : k + 1 ≡ 1 + k = omega arith in
+            let up : 1 + k ≡ suc k = omega arith in
+            rw (place, drop-set-add 1 held k f, up) (take-suc-set (drop 1 held) k f (rw room (omega arith)))
+
+        pub gather-more : Gathering flags (set held (k + 1) f) (k + 1) (f + 1)
+        gather-more = record {
+          sized = length-set held (k + 1) f ∙ gathers .sized;
+          few = less;
+          same =
+              one-more
+              ∙ sym (append-snoc (take k (drop 1 held)) f (flagged-from flags (f + 1)))
+              ∙ ap (λ (fs : List ℕ). fs ++ flagged-from flags (f + 1)) (sym more-held);
+        }
 
       -- It is one more than the limit.
-      pub gather-over : most-open < k + 1 → Opened (with-flag flags) (set held 0 (k + 1))
-      gather-over over =
-          let most : most-open < length (with-flag flags) =
-              let long = ap length one-more ∙ length-append (take k (drop 1 held)) (f ∷ flagged-from flags (f + 1)) in
-              let first = held-first in
-              omega arith in
-          record {
-            sized = length-set held 0 (k + 1) ∙ gathers .sized;
-            number = λ h. absurd (omega arith);
-            fluents = λ h. absurd (omega arith);
-            more = λ _. rw (number-there (k + 1)) over;
-          }
+      module _ (over : most-open < k + 1) where
+        more-than-held : most-open < length (with-flag flags)
+        more-than-held =
+            let counted = ap length one-more ∙ length-append (take k (drop 1 held)) (f ∷ flagged-from flags (f + 1)) in
+            let first = held-first in
+            omega arith
+
+        pub gather-over : Opened (with-flag flags) (set held 0 (k + 1))
+        gather-over = record {
+          sized = length-set held 0 (k + 1) ∙ gathers .sized;
+          number = λ h. let most = more-than-held in absurd (omega arith);
+          fluents = λ h. let most = more-than-held in absurd (omega arith);
+          more = λ _. rw (number-there (k + 1)) over;
+        }
 
 -- THE OPEN FLUENTS are those with a flag.
 module _ (s t : List ℕ) (a : ℕ) (marks flags : State) (here : At-hand s t) (open-are : Open-flags (table-in s) a marks flags) where
