@@ -14,3 +14,5 @@ pub mod Sweeps
 pub mod LookLaws
 pub mod ActionLaws
 pub mod AfterLaws
+pub mod FlagLaws
+pub mod OpenedLaws

@@ -83,11 +83,11 @@ module _ (ks : List Knowledge) where
   unknown-alike marks other f (m ∷ ms) alike = rw (alike f (omega arith), unknown-alike marks other (f + 1) ms (λ g h. alike g (omega arith)))
 
 -- What a mark says of its fluent.
-unmarked-unknown : (marks : State) (f : ℕ) → getD marks f 0 ≡ 0 → known-whether marks f ≡ false
+pub unmarked-unknown : (marks : State) (f : ℕ) → getD marks f 0 ≡ 0 → known-whether marks f ≡ false
 unfolding known-whether either
 unmarked-unknown marks f e = rw (known-true marks f, known-false marks f, e)
 
-marked-known : (marks : State) (f : ℕ) → Marked marks → (getD marks f 0 ≡ 0 → ⊥) → known-whether marks f ≡ true
+pub marked-known : (marks : State) (f : ℕ) → Marked marks → (getD marks f 0 ≡ 0 → ⊥) → known-whether marks f ≡ true
 unfolding known-whether
 marked-known marks f marked some =
     by-test (eqb (getD marks f 0) 1)
