@@ -41,6 +41,8 @@ pub mod PairLaws
 pub mod ToldLaws
 pub mod EndLaws
 pub mod SensingLaws
+pub mod FillingLaws
+pub mod FillLaws
 pub mod SetLaws
 pub mod RulesExact
 pub mod ReadingsExact
