@@ -7,24 +7,24 @@ use mathlib.Core.Path.{_≡_, refl, sym, _∙_, ap, ap₂, subst}
 use mathlib.Core.Bool.{Bool, true, false}
 use mathlib.Core.List.{List, [], _∷_, _++_, map}
 use mathlib.Core.Logic.{inl, inr, ⊎-elim}
-use lib.ListN.{length, getD, length-set}
+use lib.ListN.{length, length-set}
 use lib.Seq.{ext-getD}
 use lib.Dec.{eqb}
 use borrow.Author.Tests.{eqb-false}
-use Rattle.meaning.specs.Tests.{both, either, fails, pick, some-of, each-of, those-of, Has}
+use Rattle.meaning.specs.Tests.{both, either, fails, some-of, each-of, those-of, Has}
 use Rattle.meaning.specs.Limits
 use Rattle.meaning.specs.Literals.{says-true, says-false, fluent-of, complement}
 use Rattle.meaning.specs.Requests.{Effect, Executability, Table}
 use Rattle.meaning.specs.Lines.{effects-of, executability-of, allowed, given}
 use Rattle.meaning.specs.States.{State, mark-of, known, known-whether, possible, told, can-be-run, known-after, state-after}
 use Rattle.meaning.specs.ByCases.{upward, fillings, complete, runs-by-cases, shared-mark, shared-marks, after-each, after-cases, in-body, in-bodies, open-fluents}
-use Rattle.meaning.proofs.TestLaws.{by-test, clash, both-true, both-all, both-same, both-crossed, either-false, fails-false, pick-true, pick-false, each-append, each-mapped, has-each, each-mono, some-mono, has-those, those-has}
+use Rattle.meaning.proofs.TestLaws.{by-test, both-none, both-all, both-same, both-crossed, either-false, pick-true, pick-false, each-append, each-mapped, has-each, each-mono, some-mono, those-has}
 use Rattle.meaning.proofs.LiteralLaws.{fluent-true, fluent-false, fluent-complement, complement-true, complement-false, by-literal, one-of-two}
 use Rattle.meaning.proofs.StateLaws.{unknown-far, after-length}
-use Rattle.meaning.proofs.ToldLaws.{told-keeps, told-here, told-beside, whether-keeps, told-swap}
+use Rattle.meaning.proofs.ToldLaws.{told-keeps, told-beside, whether-keeps, told-swap}
 use Rattle.meaning.proofs.PairLaws.{after-known}
 use Rattle.meaning.proofs.SensingLaws.{Distinct, unknown-neither}
-use Rattle.meaning.proofs.FillingLaws.{filling-more, some-filling, shared-length, shared-at, shared-known}
+use Rattle.meaning.proofs.FillingLaws.{filling-more, shared-length, shared-at, shared-known}
 
 -- THE FLUENTS of a table, each once.
 pub upward-within : (f n g : ℕ) → Has (upward f n) g → (f ≤ g) × (g < f + n)
@@ -45,6 +45,28 @@ those-distinct p (f ∷ fs) once =
     by-test (p f)
     (λ e. subst Distinct (sym (pick-true (p f) _ _ e)) (λ h. once .0 (those-has p fs f h .0), those-distinct p fs (once .1)))
     (λ e. subst Distinct (sym (pick-false (p f) _ _ e)) (those-distinct p fs (once .1)))
+
+-- WHAT STATES SHARE, fluent by fluent.
+pub shared-alike : (us vs : List State) (s r : State) → length s ≡ length r → ((f : ℕ) → f < length s → shared-mark us f ≡ shared-mark vs f) → shared-marks us 0 s ≡ shared-marks vs 0 r
+unfolding shared-mark
+shared-alike us vs s r long same =
+    ext-getD Limits.unknown-mark (shared-marks us 0 s) (shared-marks vs 0 r) (shared-length us 0 s ∙ long ∙ sym (shared-length vs 0 r))
+    (λ f h. let near : f < length s = omega (arith, h, shared-length us 0 s) in shared-at us s f near ∙ same f near ∙ sym (shared-at vs r f (omega (arith, near, long))))
+
+-- What two lists of states share is what the states share that each of the two lists shares.
+pub shared-joined : (us vs : List State) (u v : State) → Has us u → Has vs v → (s r q : State) → length r ≡ length s → length q ≡ length s
+    → shared-marks (us ++ vs) 0 s ≡ shared-marks (shared-marks us 0 r ∷ shared-marks vs 0 q ∷ []) 0 (shared-marks us 0 r)
+unfolding shared-mark each-of
+shared-joined us vs u v has has-too s r q long long-too =
+    shared-alike (us ++ vs) (shared-marks us 0 r ∷ shared-marks vs 0 q ∷ []) s (shared-marks us 0 r) (sym (shared-length us 0 r ∙ long))
+    (λ f near. rw (same (says-true f) (rw (fluent-true f) near), same (says-false f) (rw (fluent-false f) near)))
+  where
+    same : (k : ℕ) → fluent-of k < length s → each-of (λ (w : State). known w k) (us ++ vs) ≡ both (known (shared-marks us 0 r) k) (both (known (shared-marks vs 0 q) k) true)
+    same k near =
+        each-append (λ (w : State). known w k) us vs
+        ∙ ap₂ both
+        (sym (shared-known us r u has k (omega (arith, near, long))))
+        (sym (both-all (known (shared-marks vs 0 q) k) ∙ shared-known vs q v has-too k (omega (arith, near, long-too))))
 
 -- ONE FLUENT: known it is not filled, and else it is made true, and made false.
 pub filled-known : (f : ℕ) (fs : List ℕ) (s : State) → known-whether s f ≡ true → fillings (f ∷ fs) s ≡ fillings fs s
@@ -161,6 +183,39 @@ module _ (f : ℕ) (test other : ℕ → Bool) (agree : (l : ℕ) → (fluent-of
   given-same [] none l = refl
   given-same (e ∷ es) none l = let w = either-false _ _ none in ap₂ either (ap (both (eqb (e .literal) l)) (body-same (e .body) (w .0))) (given-same es (w .1) l)
 
+-- Two tests with the rest in common.
+shared-out : (x y g p : Bool) → both (both (either x g) p) (both (either y g) p) ≡ both (either (both x y) g) p
+unfolding both either
+shared-out true true g p = both-same p
+shared-out true false true p = both-same p
+shared-out true false false true = refl
+shared-out true false false false = refl
+shared-out false true true p = both-same p
+shared-out false false true p = both-same p
+shared-out false y false p = refl
+
+-- Of an unknown fluent nothing is known in both of its fillings, and of others what was.
+both-told : (f : ℕ) (s : State) → f < length s → known-whether s f ≡ false → (k : ℕ) → both (known (told (says-true f) s) k) (known (told (says-false f) s) k) ≡ known s k
+unfolding both
+both-told f s near off k =
+    elim (ℕ-discrete (fluent-of k) f) [
+      | yes same ↦ ⊎-elim (λ q. one (q ∙ ap says-true same)) (λ q. other (q ∙ ap says-false same)) (one-of-two k) ∙ sym (unknown-neither s k (rw same off))
+      | no apart ↦ ap₂ both (told-keeps (says-true f) s k (λ q. apart (q ∙ fluent-true f))) (told-keeps (says-false f) s k (λ q. apart (q ∙ fluent-false f))) ∙ both-same _
+    ]
+  where
+    one : k ≡ says-true f → both (known (told (says-true f) s) k) (known (told (says-false f) s) k) ≡ false
+    one q = ap (both (known (told (says-true f) s) k)) (ap (known (told (says-false f) s)) (q ∙ sym (complement-false f)) ∙ told-beside (says-false f) s (rw (fluent-false f) near)) ∙ both-none (known (told (says-true f) s) k)
+
+    other : k ≡ says-false f → both (known (told (says-true f) s) k) (known (told (says-false f) s) k) ≡ false
+    other q = rw (ap (known (told (says-true f) s)) (q ∙ sym (complement-true f)) ∙ told-beside (says-true f) s (rw (fluent-true f) near)) refl
+
+-- Nothing is known beyond the state's end.
+none-after : (t : Table) (a : ℕ) (s : State) (k : ℕ) → length s ≤ fluent-of k → known (state-after t a s) k ≡ false
+none-after t a s =
+    by-literal (λ k. length s ≤ fluent-of k → known (state-after t a s) k ≡ false)
+    (λ f. rw (fluent-true f) λ far. unknown-far (state-after t a s) f (rw (after-length t a s) far) .0)
+    (λ f. rw (fluent-false f) λ far. unknown-far (state-after t a s) f (rw (after-length t a s) far) .1)
+
 -- A fluent in no body of the action.
 module _ (t : Table) (a f : ℕ) (none : in-bodies t a f ≡ false) where
   effects-without : some-of (λ (e : Effect). in-body f (e .body)) (effects-of t a) ≡ false
@@ -192,3 +247,59 @@ module _ (t : Table) (a f : ℕ) (none : in-bodies t a f ≡ false) where
   -- It does not matter to whether the action can be run,
   pub runs-idle : (n : ℕ) → Idle n (can-be-run t a) f
   runs-idle n = record { passes = λ s long off. ap₂ both (runs-told (says-true f) (fluent-true f) s) (runs-told (says-false f) (fluent-false f) s) ∙ both-same _ }
+
+  -- nor to whether a literal is known afterwards.
+  module _ (n : ℕ) (near : f < n) (k : ℕ) where
+    after-near : (s : State) → length s ≡ n → known-whether s f ≡ false → fluent-of k < length s
+        → both (known (state-after t a (told (says-true f) s)) k) (known (state-after t a (told (says-false f) s)) k) ≡ known (state-after t a s) k
+    unfolding known-after
+    after-near s long off within =
+        ap₂ both (side (says-true f) (fluent-true f)) (side (says-false f) (fluent-false f))
+        ∙ shared-out (known (told (says-true f) s) k) (known (told (says-false f) s) k) _ _
+        ∙ ap (λ (b : Bool). both (either b (given (known s) (effects-of t a) k)) (fails (given (possible s) (effects-of t a) (complement k)))) (both-told f s (omega (arith, near, long)) off k)
+        ∙ sym (after-known t a s k within)
+      where
+        side : (l : ℕ) → fluent-of l ≡ f
+            → known (state-after t a (told l s)) k ≡ both (either (known (told l s) k) (given (known s) (effects-of t a) k)) (fails (given (possible s) (effects-of t a) (complement k)))
+        side l of = after-known t a (told l s) k (rw (told-long (length s) l s refl) within) ∙ after-told l of s k
+
+    pub after-idle : Idle n (λ (u : State). known (state-after t a u) k) f
+    unfolding both
+    after-idle = record { passes = λ s long off. elim (decLt (fluent-of k) (length s)) [
+      | yes within ↦ after-near s long off within
+      | no far ↦ rw (none-after t a (told (says-true f) s) k (rw (told-long (length s) (says-true f) s refl) (omega (arith, far))), none-after t a s k (omega (arith, far)))
+    ] }
+
+-- IT IS ENOUGH to fill the open fluents, for a test to which no other fluent of the table matters.
+module _ (t : Table) (a : ℕ) (s : State) (wide : t .fluents ≤ length s) where
+  open-enough : (test : State → Bool) → ((f : ℕ) → f < length s → in-bodies t a f ≡ false → Idle (length s) test f) → each-of test (complete t s) ≡ each-of test (fillings (open-fluents t a s) s)
+  unfolding complete open-fluents
+  open-enough test idle =
+      chosen-enough (length s) test (in-bodies t a) (upward 0 (t .fluents)) (upward-distinct 0 (t .fluents))
+      (λ f h none. idle f (omega (arith, upward-within 0 (t .fluents) f h .1, wide)) none) s refl
+      ∙ ap (each-of test) (known-left-out (in-bodies t a) (known-whether s) (upward 0 (t .fluents)) (upward-distinct 0 (t .fluents)) s (λ f h. refl))
+
+  -- The action can be run by cases exactly where it can be run in each filling of its open fluents.
+  pub fills-run : runs-by-cases t a s ≡ each-of (can-be-run t a) (fillings (open-fluents t a s) s)
+  unfolding runs-by-cases
+  fills-run = open-enough (can-be-run t a) (λ f near none. runs-idle t a f none (length s))
+
+  shared-same : (f : ℕ) → shared-mark (map (state-after t a) (complete t s)) f ≡ shared-mark (map (state-after t a) (fillings (open-fluents t a s) s)) f
+  unfolding shared-mark
+  shared-same f = rw (same (says-true f), same (says-false f))
+    where
+      same : (k : ℕ) → each-of (λ (u : State). known u k) (map (state-after t a) (complete t s)) ≡ each-of (λ (u : State). known u k) (map (state-after t a) (fillings (open-fluents t a s) s))
+      same k =
+          each-mapped (state-after t a) (λ (u : State). known u k) (complete t s)
+          ∙ open-enough (λ (u : State). known (state-after t a u) k) (λ g near none. after-idle t a g none (length s) near k)
+          ∙ sym (each-mapped (state-after t a) (λ (u : State). known u k) (fillings (open-fluents t a s) s))
+
+  -- What the states after it share is the same.
+  pub fills-after : after-cases t a s ≡ after-each t a (fillings (open-fluents t a s) s) s
+  unfolding after-cases after-each
+  fills-after = shared-alike (map (state-after t a) (complete t s)) (map (state-after t a) (fillings (open-fluents t a s) s)) s s refl (λ f _. shared-same f)
+
+-- What can be run where it is known, can be run by cases.
+pub known-runs : (t : Table) (a : ℕ) (s : State) → can-be-run t a s ≡ true → runs-by-cases t a s ≡ true
+unfolding runs-by-cases complete can-be-run allowed
+known-runs t a s can = has-each _ (complete t s) (λ u h. some-mono _ _ (λ x. each-mono _ _ (filling-more (upward 0 (t .fluents)) s u h) (x .body)) (executability-of t a) can)
