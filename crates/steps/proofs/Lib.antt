@@ -12,5 +12,6 @@ pub mod MissLaws
 pub mod OnwardLaws
 pub mod Sweeps
 pub mod LookLaws
+pub mod CaseLaws
 pub mod ActionLaws
 pub mod AfterLaws
