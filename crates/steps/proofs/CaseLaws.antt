@@ -63,6 +63,10 @@ shared-marked us s long = record {
   ];
 }
 
+after-each-marked : (t : Table) (a : ℕ) (us : List State) (s r : State) → Marked s → r ≡ after-each t a us s → Marked r
+unfolding after-each
+after-each-marked t a us s r marked is = subst Marked (sym is) (shared-marked (map (state-after t a) us) s (marked .sized))
+
 -- TWO STATES share a mark where they have the same one.
 module _ (one other : State) (g : ℕ) where
   two-marks : shared-mark (one ∷ other ∷ []) g
@@ -217,6 +221,12 @@ module _ (held : List ℕ) (i : ℕ) (marks : State) (filling : Filling held i m
             pub second-can : each-of (can-be-run t a) (fillings (drop (i + 1) (open-in held)) (set (set marks f 1) f 2)) ≡ true
             second-can = both-right _ _ both-can
 
+          pub one-marked : (us : List State) (one : State) → one ≡ after-each t a us (set marks f 1) → Marked one
+          one-marked us one = after-each-marked t a us (set marks f 1) one (first-filling .marked)
+
+          pub other-marked : (us : List State) (other : State) → other ≡ after-each t a us (set (set marks f 1) f 2) → Marked other
+          other-marked us other = after-each-marked t a us (set (set marks f 1) f 2) other (second-filling .marked)
+
           module _ (one other : State)
               (first : one ≡ after-each t a (fillings (drop (i + 1) (open-in held)) (set marks f 1)) (set marks f 1))
               (second : other ≡ after-each t a (fillings (drop (i + 1) (open-in held)) (set (set marks f 1) f 2)) (set (set marks f 1) f 2)) where
@@ -247,7 +257,3 @@ module _ (held : List ℕ) (i : ℕ) (marks : State) (filling : Filling held i m
       after-last r is-after =
           is-after ∙ sym (shared-one (state-after t a marks) marks (marked-after t a marks (filling .marked)) (sym (after-length t a marks)))
           ∙ ap (λ (fs : List ℕ). shared-marks (map (state-after t a) (fillings fs marks)) 0 marks) (sym (none-left all))
-
-pub after-each-marked : (t : Table) (a : ℕ) (us : List State) (s r : State) → Marked s → r ≡ after-each t a us s → Marked r
-unfolding after-each
-after-each-marked t a us s r marked is = subst Marked (sym is) (shared-marked (map (state-after t a) us) s (marked .sized))
