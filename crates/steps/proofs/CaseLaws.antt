@@ -30,18 +30,12 @@ use Rattle.meaning.proofs.FillLaws.{filled-both, shared-joined}
 use Rattle.steps.specs.Held.{table-in}
 use Rattle.steps.specs.AtHand.{At-hand, Marked}
 use Rattle.steps.specs.Opened.{open-in, Opened, Filling}
+use Rattle.steps.proofs.AfterLaws.{mark-told}
 use Rattle.steps.proofs.LookLaws.{marked-set, first-marked, second-marked, told-true, told-false, known-set, marked-after}
 
--- A MARK by what is known of its fluent.
-mark-again : (m : ℕ) → m ≤ 2 → mark-by (eqb m Limits.true-mark) (eqb m Limits.false-mark) ≡ m
-unfolding pick
-mark-again zero h = refl
-mark-again (suc zero) h = refl
-mark-again (suc (suc zero)) h = refl
-mark-again (suc (suc (suc m))) h = absurd (omega (arith, h))
-
-mark-most : (x y : Bool) → mark-by x y ≤ 2
-mark-most x y = pick-has (λ (m : ℕ). m ≤ 2) x _ _ (λ _. omega arith) (λ _. pick-has (λ (m : ℕ). m ≤ 2) y _ _ (λ _. omega arith) (λ _. omega arith))
+-- A MARK by two tests is one of the three.
+mark-by-most : (x y : Bool) → mark-by x y ≤ 2
+mark-by-most x y = pick-has (λ (m : ℕ). m ≤ 2) x _ _ (λ _. omega arith) (λ _. pick-has (λ (m : ℕ). m ≤ 2) y _ _ (λ _. omega arith) (λ _. omega arith))
 
 -- What one state shares with itself.
 pub shared-one : (r s : State) → Marked r → length s ≡ length r → shared-marks (r ∷ []) 0 s ≡ r
@@ -51,14 +45,14 @@ shared-one r s marked long =
     (λ f h.
     shared-at (r ∷ []) s f (omega (arith, h, shared-length (r ∷ []) 0 s))
     ∙ ap₂ mark-by (both-all _ ∙ known-true r f) (both-all _ ∙ known-false r f)
-    ∙ mark-again (getD r f 0) (marked .small f))
+    ∙ sym (mark-told (getD r f 0) (marked .small f)))
 
 -- What states share is marked.
 pub shared-marked : (us : List State) (s : State) → length s ≡ format .state → Marked (shared-marks us 0 s)
 shared-marked us s long = record {
   sized = shared-length us 0 s ∙ long;
   small = λ f. elim (decLt f (length s)) [
-    | yes near ↦ rw (shared-at us s f near) (mark-most _ _)
+    | yes near ↦ rw (shared-at us s f near) (mark-by-most _ _)
     | no far ↦ rw (List·getD-eq-default (shared-marks us 0 s) 0 {n = f} (rw (shared-length us 0 s) (omega (arith, far)))) (omega arith)
   ];
 }
@@ -75,7 +69,7 @@ module _ (one other : State) (g : ℕ) where
   two-marks = rw (known-true one g, known-true other g, known-false one g, known-false other g)
 
   alike-mark : getD one g 0 ≤ 2 → getD one g 0 ≡ getD other g 0 → shared-mark (one ∷ other ∷ []) g ≡ getD one g 0
-  alike-mark most same = two-marks ∙ rw (sym same) (ap₂ mark-by (twice _) (twice _) ∙ mark-again (getD one g 0) most)
+  alike-mark most same = two-marks ∙ rw (sym same) (ap₂ mark-by (twice _) (twice _) ∙ sym (mark-told (getD one g 0) most))
     where
       twice : (b : Bool) → both b (both b true) ≡ b
       twice b = ap (both b) (both-all b) ∙ both-same b
