@@ -16,3 +16,5 @@ pub mod ActionLaws
 pub mod AfterLaws
 pub mod FlagLaws
 pub mod OpenedLaws
+pub mod CaseLaws
+pub mod TriedLaws

@@ -97,7 +97,7 @@ marked-known marks f marked some =
     let most = marked .small f in
     either-right _ _ (known-false marks f ∙ eq-eqb (getD marks f 0) 2 (omega (arith, one, most, some))))
 
-known-set : (marks : State) (f m g : ℕ) → (g ≡ f → ⊥) → known-whether (set marks f m) g ≡ known-whether marks g
+pub known-set : (marks : State) (f m g : ℕ) → (g ≡ f → ⊥) → known-whether (set marks f m) g ≡ known-whether marks g
 unfolding known-whether
 known-set marks f m g other =
     rw (known-true (set marks f m) g, known-false (set marks f m) g, known-true marks g, known-false marks g, getD-set-other marks f g m 0 other)
