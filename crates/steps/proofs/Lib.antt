@@ -18,3 +18,5 @@ pub mod FlagLaws
 pub mod OpenedLaws
 pub mod CaseLaws
 pub mod TriedLaws
+pub mod ModeLaws
+pub mod ModeHand
