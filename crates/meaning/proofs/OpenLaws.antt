@@ -1,4 +1,4 @@
--- The open fluents of an action: fluents from one up that pass a test, and that no fluent stands in a body that the table does not have. Assumes nothing.
+-- The fluents from one up that pass a test, and the bodies of a table that was read: each of their fluents is one of the table's. Assumes nothing.
 use Prim.Native.Nat.{ℕ, zero, suc, _+_, _*_, _/_, _≤_, _<_}
 use native.Mathlib.Omega.{arith}
 use mathlib.Core.Path.{_≡_, refl, _∙_}
