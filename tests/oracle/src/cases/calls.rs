@@ -60,9 +60,14 @@ pub fn sound_cases_call(rng: &mut Rng, draft: &Request) -> JudgeCall {
 }
 
 /// A request with lines split into cases, mostly one that is verified by cases and not by what is
-/// known. Of a few an action of the plan gets other executability lines.
+/// known. Of a few an action of the plan gets other executability lines, and a few look at what is known
+/// by cases.
 fn split_request(rng: &mut Rng) -> Request {
     let shape = *rng.pick(&[TINY, TINY, SMALL, SMALL, SMALL, MIDDLE]);
+    if rng.chance(5) {
+        let draft = drawn(rng, &shape);
+        return look_for_nothing(rng, draft);
+    }
     let mut draft = split_drawn(rng, &shape);
     if rng.chance(10) {
         starve(rng, &mut draft);
@@ -84,6 +89,38 @@ fn split_request(rng: &mut Rng) -> Request {
 pub(crate) fn split_drawn(rng: &mut Rng, shape: &Shape) -> Request {
     let draft = drawn(rng, shape);
     split(rng, &draft)
+}
+
+/// The same request, if it has room, where somewhere in the plan a new fluent is made true if it is false, and
+/// is sensed then. By cases it is known, so less is counted.
+pub(crate) fn look_for_nothing(rng: &mut Rng, mut request: Request) -> Request {
+    if !has_room(&request) {
+        return request;
+    }
+    let fluent = request.fluents;
+    let [set, look] = [request.actions, request.actions + 1];
+    let literal = 2 * fluent + rng.byte(0, 1);
+    request.fluents += 1;
+    request.actions += 2;
+    request.effects.push(Effect {
+        place: 0,
+        action: set,
+        literal,
+        body: vec![literal ^ 1],
+    });
+    for action in [set, look] {
+        let body = Vec::new();
+        request.allowances.push(Allowance { action, body });
+    }
+    request.knowledge.push(Knowledge {
+        place: 0,
+        action: look,
+        fluent,
+    });
+    let place = rng.below(request.plan.len() + 1);
+    request.plan.insert(place, Item::act(look));
+    request.plan.insert(place, Item::act(set));
+    request
 }
 
 /// It is verified by cases and not by what is known.

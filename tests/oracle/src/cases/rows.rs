@@ -7,7 +7,7 @@
 //! and one that is too long stand in the first round only.
 
 use super::call::{judge_by_cases_line, TOO_MANY};
-use super::calls::{sound_cases_call, split_drawn, widen};
+use super::calls::{look_for_nothing, sound_cases_call, split_drawn, widen};
 use super::run::{events, Event};
 use super::way::{walk_filling, Filled};
 use crate::answer::Answer;
@@ -149,6 +149,10 @@ fn draft(rng: &mut Rng, wanted: Shown) -> Request {
         fluents: (1, 5),
         ..TINY
     };
+    if rng.chance(5) {
+        let draft = drawn(rng, &shape);
+        return look_for_nothing(rng, draft);
+    }
     let mut draft = split_drawn(rng, &shape);
     if rng.chance(10) {
         starve(rng, &mut draft);
