@@ -54,7 +54,7 @@ fn worlds_say_more_than_the_walk() {
     assert_eq!(beyond(false), known);
     assert_eq!(
         beyond(true),
-        ["copied", "remembering", "two-steps-by-cases"]
+        ["copied", "remembering", "short-sight", "two-steps-by-cases"]
     );
 }
 

@@ -8,7 +8,7 @@ use crate::calls::{
     COUNT_CAP,
 };
 use crate::encode::encode_request;
-use crate::generate::{drawn, starve, Shape, MIDDLE, SMALL, TINY};
+use crate::generate::{body, drawn, starve, Shape, MIDDLE, SMALL, TINY};
 use crate::model::{item_count, Allowance, Branch, Effect, Item, Knowledge, Request};
 use crate::reader::{ACTION_LIMIT, BODY_LIMIT, FLUENT_LIMIT, ITEM_LIMIT};
 use crate::rng::Rng;
@@ -26,8 +26,8 @@ const WIDER: usize = 40;
 /// A call by cases of any kind. About one of five requests is damaged.
 pub fn cases_call(rng: &mut Rng) -> JudgeCall {
     let draft = match rng.below(100) {
-        0..=21 => return judge_call(rng),
-        22..=79 => split_request(rng),
+        0..=19 => return judge_call(rng),
+        20..=74 => split_request(rng),
         _ => wide_request(rng),
     };
     any_cases_call(rng, &draft)
@@ -60,8 +60,8 @@ pub fn sound_cases_call(rng: &mut Rng, draft: &Request) -> JudgeCall {
 }
 
 /// A request with lines split into cases, mostly one that is verified by cases and not by what is
-/// known. Of a few an action of the plan gets other executability lines, and a few look at what is known
-/// by cases.
+/// known. Of a few an action of the plan gets other executability lines, a few have any goals, and a few look at
+/// what is known by cases.
 fn split_request(rng: &mut Rng) -> Request {
     let shape = *rng.pick(&[TINY, TINY, SMALL, SMALL, SMALL, MIDDLE]);
     if rng.chance(5) {
@@ -73,7 +73,11 @@ fn split_request(rng: &mut Rng) -> Request {
         starve(rng, &mut draft);
         return draft;
     }
-    if rng.chance(15) {
+    if rng.chance(10) {
+        draft.goals = body(rng, draft.fluents, 2);
+        return draft;
+    }
+    if rng.chance(10) {
         return draft;
     }
     for _ in 1..TRIES {
