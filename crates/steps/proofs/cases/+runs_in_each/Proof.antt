@@ -27,6 +27,17 @@ runs-in-each-below t =
     (falls 3 runs-in-each-kinds.ps _<_ μ-runs-in-each t)
     runs-in-each.Pre
 
+-- src/cases.rt:46:13
+runs-in-each-returns : (t : ℕ) → runs-in-each-lts.Need-returns (
+  wide-reads.Asked,
+  wide-reads.Learnt,
+  runs-in-each-below t,
+  runs-in-each.Post,
+  can-be-run-reads.Asked,
+  can-be-run-reads.Learnt,
+) (runs-in-each-at t) runs-in-each.Post
+runs-in-each-returns t c = search runs-both
+
 pub +runs-in-each-spec : {M : Type 1} → statement M
 +runs-in-each-spec = close μ-runs-in-each λ t. runs-in-each-lts.spec (
   wide-reads.Asked,
@@ -47,7 +58,7 @@ pub +runs-in-each-spec : {M : Type 1} → statement M
     (λ c κs. (search left-falls, (search needs, (search needs, first-filling _ _ _ (c .before .before .before .before .before .before .pre .1 .1 .1) _ (c .before .before .before .wide .ensures) (c .before .before .if1 .taken) _ (c .wide2 .ensures)))))
     (λ c. search fluent-held)
     (λ c κs. (search left-falls, (search needs, (search needs, second-filling _ _ _ (c .before .before .before .before .before .before .before .before .pre .1 .1 .1) _ (c .before .before .before .before .before .wide .ensures) (c .before .before .before .before .if1 .taken) _ (c .before .before .wide2 .ensures)))))
-    (λ c. search runs-both)
+    (runs-in-each-returns t)
     (λ c. search runs-not)
     (λ c κs. search needs)
     (λ c. search runs-last)
