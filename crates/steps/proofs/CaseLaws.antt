@@ -1,37 +1,34 @@
 -- Reasoning by cases in code: the fluents that are held are the open ones, each of them is made true and made false, and what the results share is put
 -- together two by two. Assumes nothing.
-use Prim.Native.Nat.{ℕ, zero, suc, _+_, _-_, _≤_, _<_}
+use Prim.Native.Nat.{ℕ, suc, _+_, _-_, _≤_, _<_}
 use native.Mathlib.Omega.{arith}
 use native.Mathlib.Decide.{ℕ-discrete, decLt}
-use native.Mathlib.Nat.{not-suc-le-zero, le-of-suc-le-suc}
+use native.Mathlib.Nat.{not-suc-le-zero}
 use mathlib.Core.Path.{_≡_, refl, sym, _∙_, ap, ap₂, subst}
 use mathlib.Core.Bool.{Bool, true, false}
 use mathlib.Core.List.{List, [], _∷_, _++_, map, map-append}
-use mathlib.Core.Logic.{inl, inr}
-use lib.ListN.{length, getD, set, take, drop, length-set, drop-of-length-le, List·getD-eq-default}
+use lib.ListN.{length, getD, set, drop, length-set, drop-of-length-le, List·getD-eq-default}
 use lib.Seq.{getD-set-same, getD-set-other, getD-take, getD-drop, drop-cons, set-set, ext-getD}
-use lib.Dec.{eqb, ltb}
+use lib.Dec.{eqb}
 use mir.Syntax.{w64}
 use mir.Val.{Fits}
 use borrow.Author.Tests.{eqb-true}
-use Rattle.meaning.specs.Tests.{both, fails, pick, each-of, those-of, Has}
+use Rattle.meaning.specs.Tests.{both, pick, each-of}
 use Rattle.meaning.specs.Limits
 use Rattle.meaning.specs.Limits.{format, most-open}
-use Rattle.meaning.specs.Literals.{says-true, says-false}
 use Rattle.meaning.specs.Requests.{Table}
-use Rattle.meaning.specs.States.{State, known, known-whether, told, can-be-run, state-after}
-use Rattle.meaning.specs.ByCases.{fillings, shared-mark, shared-marks, after-each, open-fluents}
-use Rattle.meaning.proofs.TestLaws.{by-test, both-left, both-right, both-true, both-none, both-all, both-same, has-map, each-append, each-has}
+use Rattle.meaning.specs.States.{State, known-whether, can-be-run, state-after}
+use Rattle.meaning.specs.ByCases.{fillings, shared-mark, shared-marks, after-each}
+use Rattle.meaning.proofs.TestLaws.{by-test, both-left, both-right, both-all, both-same, has-map, each-append}
 use Rattle.meaning.proofs.PickLaws.{pick-has}
 use Rattle.meaning.proofs.StateLaws.{known-true, known-false, after-length}
 use Rattle.meaning.proofs.PairLaws.{mark-by}
 use Rattle.meaning.proofs.FillingLaws.{some-filling, shared-length, shared-at}
 use Rattle.meaning.proofs.FillLaws.{filled-both, shared-joined}
-use Rattle.steps.specs.Held.{table-in}
-use Rattle.steps.specs.AtHand.{At-hand, Marked}
-use Rattle.steps.specs.Opened.{open-in, Opened, Filling}
+use Rattle.steps.specs.AtHand.{Marked}
+use Rattle.steps.specs.Opened.{open-in, Filling}
 use Rattle.steps.proofs.AfterLaws.{mark-told}
-use Rattle.steps.proofs.LookLaws.{marked-set, first-marked, second-marked, told-true, told-false, known-set, marked-after}
+use Rattle.steps.proofs.LookLaws.{first-marked, second-marked, told-true, told-false, known-set, marked-after}
 
 -- A MARK by two tests is one of the three.
 mark-by-most : (x y : Bool) → mark-by x y ≤ 2
@@ -199,9 +196,9 @@ module _ (held : List ℕ) (i : ℕ) (marks : State) (filling : Filling held i m
           unfolding both
           runs-both yields r second = second ∙ sym (runs-split ∙ rw yields refl)
 
-          pub runs-not : first ≡ false → false ≡ each-of (can-be-run t a) (fillings (drop i (open-in held)) marks)
+          pub runs-not : first ≡ false → first ≡ each-of (can-be-run t a) (fillings (drop i (open-in held)) marks)
           unfolding both
-          runs-not fails-there = sym (runs-split ∙ rw fails-there refl)
+          runs-not stuck = stuck ∙ sym (runs-split ∙ rw stuck refl)
 
         -- The state after it in each.
         module _ (t : Table) (a : ℕ) where

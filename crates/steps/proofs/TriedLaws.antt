@@ -1,6 +1,6 @@
 -- An action tried by cases, and in the mode of the walk. More open fluents than the limit end the walk; else those that are held are the open ones, and it is
 -- enough to fill these. Assumes nothing.
-use Prim.Native.Nat.{ℕ, zero, suc, _+_, _≤_, _<_}
+use Prim.Native.Nat.{ℕ, zero, suc, _≤_, _<_}
 use native.Mathlib.Omega.{arith}
 use native.Mathlib.Decide.{decLt}
 use native.Mathlib.Nat.{not-suc-le-zero, le-of-suc-le-suc}
@@ -9,7 +9,7 @@ use mathlib.Core.Bool.{Bool, true, false}
 use mathlib.Core.List.{List, [], _∷_}
 use mathlib.Core.Logic.{inl, inr}
 use lib.ListN.{length, getD, drop}
-use lib.Dec.{eqb, ltb}
+use lib.Dec.{eqb}
 use borrow.Author.Tests.{eq-eqb, ne-eqb, lt-ltb, le-ltb, ltb-false}
 use Rattle.meaning.specs.Tests.{both, fails, pick, each-of, Has}
 use Rattle.meaning.specs.Limits
@@ -18,7 +18,7 @@ use Rattle.meaning.specs.Requests.{Table}
 use Rattle.meaning.specs.States.{State, known-whether, can-be-run, state-after, Outcome, outcome, outcome-to}
 use Rattle.meaning.specs.Walk.{Concerned, no-state, in-state, Step, leads-to, refuses, table-does}
 use Rattle.meaning.specs.ByCases.{upward, fillings, runs-by-cases, after-each, after-cases, in-bodies, open-fluents, too-many, cases-does}
-use Rattle.meaning.proofs.TestLaws.{clash, both-right, fails-true, pick-true, pick-false, pick-cases, those-has}
+use Rattle.meaning.proofs.TestLaws.{both-right, fails-true, pick-true, pick-false, pick-cases, those-has}
 use Rattle.meaning.proofs.SensingLaws.{Distinct}
 use Rattle.meaning.proofs.FillLaws.{upward-within, upward-distinct, those-distinct, fills-run, fills-after, known-runs}
 use Rattle.reading.specs.Noted.{mode-slot}

@@ -45,7 +45,7 @@ fn runs_in_each(s: &[u8], t: &Notes, a: usize, held: &Open, i: usize, marks: Mar
             state[f] = limits::FALSE_MARK;
             return runs_in_each(s, t, a, held, next, state);
         }
-        return false;
+        return first;
     }
     can_be_run(s, t, a, &marks)
 }

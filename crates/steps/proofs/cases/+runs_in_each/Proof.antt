@@ -27,105 +27,6 @@ runs-in-each-below t =
     (falls 3 runs-in-each-kinds.ps _<_ μ-runs-in-each t)
     runs-in-each.Pre
 
--- src/cases.rt:38:17
-runs-in-each-element-copy-out-wide : (t : ℕ) → runs-in-each-lts.Need-element-copy-out-wide (
-  wide-reads.Asked,
-  wide-reads.Learnt,
-  runs-in-each-below t,
-  runs-in-each.Post,
-  can-be-run-reads.Asked,
-  can-be-run-reads.Learnt,
-) (runs-in-each-at t) runs-in-each.Post
-runs-in-each-element-copy-out-wide t c = search needs
-
--- src/cases.rt:38:12
-runs-in-each-wide-requires : (t : ℕ) → runs-in-each-lts.Need-wide-requires (
-  wide-reads.Asked,
-  wide-reads.Learnt,
-  runs-in-each-below t,
-  runs-in-each.Post,
-  can-be-run-reads.Asked,
-  can-be-run-reads.Learnt,
-) (runs-in-each-at t) runs-in-each.Post
-runs-in-each-wide-requires t c κs = search needs
-
--- src/cases.rt:39:20
-runs-in-each-add-next : (t : ℕ) → runs-in-each-lts.Need-add-next (
-  wide-reads.Asked,
-  wide-reads.Learnt,
-  runs-in-each-below t,
-  runs-in-each.Post,
-  can-be-run-reads.Asked,
-  can-be-run-reads.Learnt,
-) (runs-in-each-at t) runs-in-each.Post
-runs-in-each-add-next t c = search next-fits
-
--- src/cases.rt:40:22
-runs-in-each-element-copy-out-wide-2 : (t : ℕ) → runs-in-each-lts.Need-element-copy-out-wide-2 (
-  wide-reads.Asked,
-  wide-reads.Learnt,
-  runs-in-each-below t,
-  runs-in-each.Post,
-  can-be-run-reads.Asked,
-  can-be-run-reads.Learnt,
-) (runs-in-each-at t) runs-in-each.Post
-runs-in-each-element-copy-out-wide-2 t c = search next-held
-
--- src/cases.rt:40:13
-runs-in-each-wide-requires-2 : (t : ℕ) → runs-in-each-lts.Need-wide-requires-2 (
-  wide-reads.Asked,
-  wide-reads.Learnt,
-  runs-in-each-below t,
-  runs-in-each.Post,
-  can-be-run-reads.Asked,
-  can-be-run-reads.Learnt,
-) (runs-in-each-at t) runs-in-each.Post
-runs-in-each-wide-requires-2 t c κs = search needs
-
--- src/cases.rt:42:9
-runs-in-each-array-write-state : (t : ℕ) → runs-in-each-lts.Need-array-write-state (
-  wide-reads.Asked,
-  wide-reads.Learnt,
-  runs-in-each-below t,
-  runs-in-each.Post,
-  can-be-run-reads.Asked,
-  can-be-run-reads.Learnt,
-) (runs-in-each-at t) runs-in-each.Post
-runs-in-each-array-write-state t c = search fluent-held
-
--- src/cases.rt:43:13
-runs-in-each-runs-in-each-requires : (t : ℕ) → runs-in-each-lts.Need-runs-in-each-requires (
-  wide-reads.Asked,
-  wide-reads.Learnt,
-  runs-in-each-below t,
-  runs-in-each.Post,
-  can-be-run-reads.Asked,
-  can-be-run-reads.Learnt,
-) (runs-in-each-at t) runs-in-each.Post
-runs-in-each-runs-in-each-requires t c κs = (search left-falls, (search needs, (search needs, first-filling _ _ _ (c .before .before .before .before .before .before .pre .1 .1 .1) _ (c .before .before .before .wide .ensures) (c .before .before .if1 .taken) _ (c .wide2 .ensures))))
-
--- src/cases.rt:45:13
-runs-in-each-array-write-state-2 : (t : ℕ) → runs-in-each-lts.Need-array-write-state-2 (
-  wide-reads.Asked,
-  wide-reads.Learnt,
-  runs-in-each-below t,
-  runs-in-each.Post,
-  can-be-run-reads.Asked,
-  can-be-run-reads.Learnt,
-) (runs-in-each-at t) runs-in-each.Post
-runs-in-each-array-write-state-2 t c = search fluent-held
-
--- src/cases.rt:46:13
-runs-in-each-runs-in-each-requires-2 : (t : ℕ) → runs-in-each-lts.Need-runs-in-each-requires-2 (
-  wide-reads.Asked,
-  wide-reads.Learnt,
-  runs-in-each-below t,
-  runs-in-each.Post,
-  can-be-run-reads.Asked,
-  can-be-run-reads.Learnt,
-) (runs-in-each-at t) runs-in-each.Post
-runs-in-each-runs-in-each-requires-2 t c κs = (search left-falls, (search needs, (search needs, second-filling _ _ _ (c .before .before .before .before .before .before .before .before .pre .1 .1 .1) _ (c .before .before .before .before .before .wide .ensures) (c .before .before .before .before .if1 .taken) _ (c .before .before .wide2 .ensures))))
-
 -- src/cases.rt:46:13
 runs-in-each-returns : (t : ℕ) → runs-in-each-lts.Need-returns (
   wide-reads.Asked,
@@ -136,39 +37,6 @@ runs-in-each-returns : (t : ℕ) → runs-in-each-lts.Need-returns (
   can-be-run-reads.Learnt,
 ) (runs-in-each-at t) runs-in-each.Post
 runs-in-each-returns t c = search runs-both
-
--- src/cases.rt:48:9
-runs-in-each-returns-2 : (t : ℕ) → runs-in-each-lts.Need-returns-2 (
-  wide-reads.Asked,
-  wide-reads.Learnt,
-  runs-in-each-below t,
-  runs-in-each.Post,
-  can-be-run-reads.Asked,
-  can-be-run-reads.Learnt,
-) (runs-in-each-at t) runs-in-each.Post
-runs-in-each-returns-2 t c = search runs-not
-
--- src/cases.rt:50:5
-runs-in-each-can-be-run-requires : (t : ℕ) → runs-in-each-lts.Need-can-be-run-requires (
-  wide-reads.Asked,
-  wide-reads.Learnt,
-  runs-in-each-below t,
-  runs-in-each.Post,
-  can-be-run-reads.Asked,
-  can-be-run-reads.Learnt,
-) (runs-in-each-at t) runs-in-each.Post
-runs-in-each-can-be-run-requires t c κs = search needs
-
--- src/cases.rt:32:1
-runs-in-each-returns-3 : (t : ℕ) → runs-in-each-lts.Need-returns-3 (
-  wide-reads.Asked,
-  wide-reads.Learnt,
-  runs-in-each-below t,
-  runs-in-each.Post,
-  can-be-run-reads.Asked,
-  can-be-run-reads.Learnt,
-) (runs-in-each-at t) runs-in-each.Post
-runs-in-each-returns-3 t c = search runs-last
 
 pub +runs-in-each-spec : {M : Type 1} → statement M
 +runs-in-each-spec = close μ-runs-in-each λ t. runs-in-each-lts.spec (
@@ -181,16 +49,16 @@ pub +runs-in-each-spec : {M : Type 1} → statement M
 )
     (runs-in-each-at t)
     runs-in-each.Post
-    (runs-in-each-element-copy-out-wide t)
-    (runs-in-each-wide-requires t)
-    (runs-in-each-add-next t)
-    (runs-in-each-element-copy-out-wide-2 t)
-    (runs-in-each-wide-requires-2 t)
-    (runs-in-each-array-write-state t)
-    (runs-in-each-runs-in-each-requires t)
-    (runs-in-each-array-write-state-2 t)
-    (runs-in-each-runs-in-each-requires-2 t)
+    (λ c. search needs)
+    (λ c κs. search needs)
+    (λ c. search next-fits)
+    (λ c. search next-held)
+    (λ c κs. search needs)
+    (λ c. search fluent-held)
+    (λ c κs. (search left-falls, (search needs, (search needs, first-filling _ _ _ (c .before .before .before .before .before .before .pre .1 .1 .1) _ (c .before .before .before .wide .ensures) (c .before .before .if1 .taken) _ (c .wide2 .ensures)))))
+    (λ c. search fluent-held)
+    (λ c κs. (search left-falls, (search needs, (search needs, second-filling _ _ _ (c .before .before .before .before .before .before .before .before .pre .1 .1 .1) _ (c .before .before .before .before .before .wide .ensures) (c .before .before .before .before .if1 .taken) _ (c .before .before .wide2 .ensures)))))
     (runs-in-each-returns t)
-    (runs-in-each-returns-2 t)
-    (runs-in-each-can-be-run-requires t)
-    (runs-in-each-returns-3 t)
+    (λ c. search runs-not)
+    (λ c κs. search needs)
+    (λ c. search runs-last)
