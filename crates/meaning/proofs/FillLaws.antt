@@ -1,5 +1,6 @@
--- It is enough to fill the open fluents of an action (FORMAT 22.22). A fluent that is unknown and in no body of the action changes neither whether the action can be run nor, in both
--- of its fillings together, what is known afterwards. So it need not be filled: by induction on the fluents, which stand once each. Assumes nothing.
+-- It is enough to fill the open fluents of an action (FORMAT 22.22). A fluent that is unknown and in no body of the action changes neither whether the action can
+-- be run nor, in both of its fillings together, what is known afterwards, so it need not be filled. By induction on the fluents, which stand once each.
+-- Assumes nothing.
 use Prim.Native.Nat.{ℕ, zero, suc, _+_, _≤_, _<_}
 use native.Mathlib.Omega.{arith}
 use native.Mathlib.Decide.{decLt, ℕ-discrete}

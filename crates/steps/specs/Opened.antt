@@ -19,7 +19,8 @@ pub record Opened (fs held : List ℕ) : Type 0 where
   pub fluents : length fs ≤ most-open → open-in held ≡ fs
   pub more : most-open < length fs → most-open < getD held 0 0
 
--- A state in which the fluents that are held from number i up are still to be filled: there are as many as the number says, and no more than the limit; they are fluents, unknown in it, and each stands there once.
+-- A state in which the fluents that are held from number i up are still to be filled. As many are held as the number says, no more than the limit; they are
+-- fluents, those from number i up are unknown in the state, and each stands there once.
 pub record Filling (held : List ℕ) (i : ℕ) (marks : State) : Type 0 where
   pub marked : Marked marks
   pub few : getD held 0 0 ≤ most-open

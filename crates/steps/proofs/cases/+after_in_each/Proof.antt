@@ -1,5 +1,5 @@
--- What the states after the action share in the fillings of the fluents from number i up is what the two states share that this gives with fluent i true and with it false. At
--- each call a fluent less is left, so the calls end.
+-- What the states after the action share is what two states share: those that the calls give with fluent i true and with it false. At each call a fluent less is
+-- left, so the calls end.
 use Rattle.steps.proofs.CaseLaws.{fluents-left, next-fits, next-held, left-falls, fluent-held, filling-marked, first-filling, second-filling, first-can, second-can, one-marked, other-marked, after-both, last-can, after-last}
 use borrow.Author.Needs.{needs}
 use Prim.Native.Nat.{ℕ, _<_}

@@ -1,4 +1,5 @@
--- The fillings of the fluents from number i up are those with fluent i true and then those with it false. At each call a fluent less is left, so the calls end.
+-- The fillings of the fluents from number i up are those with fluent i true and then those with it false. At each call a fluent less is left, so the
+-- calls end.
 use Rattle.steps.proofs.CaseLaws.{fluents-left, next-fits, next-held, left-falls, fluent-held, first-filling, second-filling, runs-both, runs-not, runs-last}
 use borrow.Author.Needs.{needs}
 use Prim.Native.Nat.{ℕ, _<_}
