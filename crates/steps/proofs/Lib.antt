@@ -19,4 +19,5 @@ pub mod OpenedLaws
 pub mod CaseLaws
 pub mod TriedLaws
 pub mod ModeLaws
+pub mod HeldEnds
 pub mod ModeHand
