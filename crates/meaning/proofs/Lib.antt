@@ -43,6 +43,7 @@ pub mod EndLaws
 pub mod SensingLaws
 pub mod FillingLaws
 pub mod CompleteLaws
+pub mod FillLaws
 pub mod SetLaws
 pub mod RulesExact
 pub mod ReadingsExact
