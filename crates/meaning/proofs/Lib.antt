@@ -2,6 +2,7 @@ pub mod Compute
 pub mod Cases
 pub mod LineCases
 pub mod GuardedCases
+pub mod CaseRows
 pub mod DerivationCases
 pub mod WhetherCases
 pub mod ReleaseCases
