@@ -25,6 +25,7 @@ pub mod PlanReads
 pub mod KeptEnds
 pub mod WithinLaws
 pub mod PlaceLaws
+pub mod JudgedParts
 pub mod PartLaws
 pub mod AnswerLaws
 pub mod GuardedAnswers
@@ -61,6 +62,7 @@ pub mod ReportLaws
 pub mod GuardedReports
 pub mod CaseSteps
 pub mod CaseWalks
+pub mod CaseAnswers
 pub mod CaseReports
 pub mod CaseSound
 pub mod CaseCovers
