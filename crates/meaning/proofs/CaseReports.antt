@@ -24,34 +24,15 @@ use Rattle.meaning.proofs.TestLaws.{pick-true, pick-cases}
 use Rattle.meaning.proofs.PickLaws.{has-picked}
 use Rattle.meaning.proofs.WithinLaws.{answered, answered-stopped, enough-within, ended-within, stopped-within}
 use Rattle.meaning.proofs.PathLaws.{walk-along}
-use Rattle.meaning.proofs.EndLaws.{Ends, arrives≢stops, ends-has, ends-one, ends-ran, arrivals-go-on, went-on, stop-ends, first-stop-is, Says, end-says}
+use Rattle.meaning.proofs.EndLaws.{Ends, arrives≢stops, ends-has, ends-one, ends-ran, arrivals-go-on, went-on, stop-ends, stop-numbered, step-stops, first-stop-is, Says, end-says}
+use Rattle.meaning.proofs.ReportLaws.{leads≢refuses, refuses-numbered}
 use Rattle.meaning.proofs.CaseWalks.{Stuck-by-cases, cases-stuck}
-
--- STOPS. What a stop says.
-abbrev numbered : Ending State → ℕ
-numbered (arrives s) = 0
-numbered (stops n p u) = n
-
-abbrev placed : Ending State → ℕ
-placed (arrives s) = 0
-placed (stops n p u) = p
 
 -- A PATH THAT STOPS with another number than 2, where no state lacks a guard, stops at an action that it meets in a state in which the step is refused so.
 module _ (step : Steps State ℕ) (free : step .lacks ≡ (λ _. nowhere)) (n : ℕ) (not-2 : n ≡ Limits.not-executable → ⊥) (p : ℕ) (u : Concerned State) where
-  abbrev concerned : Ending State → Concerned State
-  concerned (arrives s) = u
-  concerned (stops m q v) = v
-
   -- At one of these items.
   abbrev pub Met-so : (Item ℕ → State → Type 0) → Type 0
   Met-so Meets = (a : ℕ) × (v : State) × Meets (act p a) v × (step .does a v ≡ refuses n u)
-
-  step-met : (q a : ℕ) (x : Step State) → Ends (paths-step (λ _. nowhere) q a x) (stops n p u) → (p ≡ q) × (x ≡ refuses n u)
-  unfolding paths-step
-  step-met q a (leads-to o) h = absurd (arrivals-go-on o n p u (ends-ran (a ∷ []) (arrivals o) (stops n p u) .0 h))
-  step-met q a (refuses m v) h =
-      let is = ends-one h in
-      (ap placed is, ap (λ (e : Ending State). refuses (numbered e) v) (sym is) ∙ ap (λ (e : Ending State). refuses n (concerned e)) (sym is))
 
   mutual
     unfolding paths
@@ -69,12 +50,12 @@ module _ (step : Steps State ℕ) (free : step .lacks ≡ (λ _. nowhere)) (n : 
 
     stop-met-at : (i : Item ℕ) (s : State) → Ends (paths-item step i s) (stops n p u) → Met-so (Meets-at step i s)
     stop-met-at (act q a) s h =
-        let w = step-met q a (step .does a s) (rw free at h) in
+        let w = step-stops n p u q a (step .does a s) (rw free at h) in
         (a, s, (ap (λ (i : ℕ). act i a) (w .0), refl), w .1)
     stop-met-at (branching q bs) s h = let m = stop-met-under bs q s h in (m .0, m .1, inr (m .2), m .3)
 
     stop-met-under : (bs : Branches ℕ) (q : ℕ) (s : State) → Ends (paths-branch step bs q s) (stops n p u) → Met-so (Meets-under step bs s)
-    stop-met-under none q s h = absurd (not-2 (ap numbered (ends-one h)))
+    stop-met-under none q s h = absurd (not-2 (stop-numbered (ends-one h)))
     stop-met-under (branch c b bs) q s h =
         has-picked (λ xs. Ends xs (stops n p u)) (each-of (step .knows s) c) _ _ h
         (λ on k. let m = stop-met b s k in (m .0, m .1, inl (on, m .2), m .3))
@@ -85,15 +66,7 @@ refused-many : (t : Table) (a : ℕ) (s : State) (u : Concerned State) → cases
 unfolding cases-does
 refused-many t a s u e =
     pick-cases _ _ _ e (λ many _. many) λ _ k.
-    pick-cases _ _ _ k (λ _ is. absurd (subst refused (sym is) tt)) (λ _ is. absurd (omega (arith, ap number-of is)))
-  where
-    refused : Step State → Type 0
-    refused (leads-to o) = ⊥
-    refused (refuses m v) = Unit {0}
-
-    number-of : Step State → ℕ
-    number-of (leads-to o) = 0
-    number-of (refuses m v) = m
+    pick-cases _ _ _ k (λ _ is. absurd (leads≢refuses is)) (λ _ is. absurd (omega (arith, refuses-numbered is)))
 
 -- A SETTLED REQUEST, with a lent state of its length.
 module _ (lim : Limits) (b lent : List ℕ) (budget : ℕ) (r : Request) (e : ℕ) (lent-length : length lent ≡ lim .state) (past : settled lim b ≡ got r e) where

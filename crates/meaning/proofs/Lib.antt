@@ -69,6 +69,7 @@ pub mod CaseCovers
 pub mod CaseExact
 pub mod ReportedLine
 pub mod GuardedLine
+pub mod CaseLine
 pub mod Passed
 pub mod AcceptedExactly
 pub mod ReleaseLaws
