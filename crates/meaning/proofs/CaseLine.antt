@@ -15,7 +15,7 @@ use Rattle.meaning.specs.Reading.{got}
 use Rattle.meaning.specs.Refusals.{settled}
 use Rattle.meaning.specs.Lines.{executability-of}
 use Rattle.meaning.specs.States.{State, can-be-run, first-state}
-use Rattle.meaning.specs.Walk.{Concerned, in-state, stopped, refuses}
+use Rattle.meaning.specs.Walk.{in-state, stopped, refuses}
 use Rattle.meaning.specs.Judging.{written-over}
 use Rattle.meaning.specs.Asking.{asked, line-of, line-at, line-told, line-settled}
 use Rattle.meaning.specs.ByCases.{runs-by-cases, cases-does, cases-step, walk-of, judge-by-cases, line-by-cases, number}

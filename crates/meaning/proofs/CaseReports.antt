@@ -4,7 +4,7 @@ use Prim.Native.Nat.{ℕ, _≤_}
 use native.Mathlib.Omega.{arith}
 use mathlib.Core.Path.{_≡_, refl, sym, _∙_, ap, subst}
 use mathlib.Core.Bool.{true}
-use mathlib.Core.List.{List, [], _∷_}
+use mathlib.Core.List.{List}
 use mathlib.Core.Logic.{inl, inr, ⊎-elim, _↔_}
 use lib.ListN.{length}
 use borrow.Author.Tests.{eq-eqb}
@@ -15,16 +15,16 @@ use Rattle.meaning.specs.Requests.{Table, Sequence, done, item, Item, ac
 use Rattle.meaning.specs.Reading.{got}
 use Rattle.meaning.specs.Refusals.{nowhere, settled}
 use Rattle.meaning.specs.States.{State, first-state}
-use Rattle.meaning.specs.Walk.{Concerned, no-state, stopped, Walked, Step, leads-to, refuses, Steps, missed-in, judged}
+use Rattle.meaning.specs.Walk.{Concerned, no-state, stopped, Walked, refuses, Steps, missed-in, judged}
 use Rattle.meaning.specs.Judging.{written-over, within, judge-got}
-use Rattle.meaning.specs.Paths.{Ending, arrives, stops, arrivals, paths-step, paths, paths-item, paths-branch, stop-or-miss, walked-along}
+use Rattle.meaning.specs.Paths.{arrives, stops, paths, paths-item, paths-branch, stop-or-miss, walked-along}
 use Rattle.meaning.specs.ByCases.{too-many, cases-does, cases-step, walked-by-cases, walk-of, judge-by-cases, number, count}
 use Rattle.meaning.specs.CaseReported.{case-paths, First-too-many, Meets-in, Meets-at, Meets-under, Too-many-at}
 use Rattle.meaning.proofs.TestLaws.{pick-true, pick-cases}
 use Rattle.meaning.proofs.PickLaws.{has-picked}
 use Rattle.meaning.proofs.WithinLaws.{answered, answered-stopped, enough-within, ended-within, stopped-within}
 use Rattle.meaning.proofs.PathLaws.{walk-along}
-use Rattle.meaning.proofs.EndLaws.{Ends, arrives≢stops, ends-has, ends-one, ends-ran, arrivals-go-on, went-on, stop-ends, stop-numbered, step-stops, first-stop-is, Says, end-says}
+use Rattle.meaning.proofs.EndLaws.{Ends, arrives≢stops, ends-has, ends-one, went-on, stop-ends, stop-numbered, step-stops, first-stop-is, Says, end-says}
 use Rattle.meaning.proofs.ReportLaws.{leads≢refuses, refuses-numbered}
 use Rattle.meaning.proofs.CaseWalks.{Stuck-by-cases, cases-stuck}
 
