@@ -103,8 +103,9 @@ pub use Rattle.demands.proofs.CaseVerified.{cases-sound}
 pub use Rattle.demands.proofs.CaseMore.{cases-verify-more}
 -- It is enough to fill the open fluents of an action (FORMAT 22.22), and what can be run as known can be run by cases.
 pub use Rattle.meaning.proofs.FillLaws.{fills-run, fills-after, known-runs}
--- Answer 2 carries the line of the item at its place in the state left, which can't be run there by cases, and every other answer, 44 among them, none (FORMAT 22.14).
-pub use Rattle.meaning.proofs.CaseLine.{cases-stopped-there, cases-line-there, cases-no-line, no-line-many, cases-line-missing}
+-- What answers 1 and 2 report (FORMAT 22.14). Answer 2 carries the line of the item at its place in the state left, and every other answer, 44 among them, none.
+pub use Rattle.meaning.proofs.CaseReports.{cases-missed-there, cases-stopped-there}
+pub use Rattle.meaning.proofs.CaseLine.{cases-line-there, cases-no-line, no-line-many, cases-line-missing}
 
 -- Demand 1 (FORMAT 11.1): every input gets one of the numbered answers.
 pub numbered : (lim : Limits) (request lent : List ℕ) (budget : ℕ) → among (judge lim request lent budget .answer .number) answers ≡ true

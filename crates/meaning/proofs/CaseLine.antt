@@ -2,10 +2,10 @@
 -- none (FORMAT 18.10 to 18.12, 22.14). An action that can't be run by cases can't be run as known, so none of its lines is known true there. Assumes nothing.
 use Prim.Native.Nat.{ℕ, _≤_}
 use native.Mathlib.Omega.{arith}
-use mathlib.Core.Path.{_≡_, refl, sym, _∙_, ap, subst}
+use mathlib.Core.Path.{_≡_, refl, sym, _∙_, ap}
 use mathlib.Core.Bool.{false}
 use mathlib.Core.List.{List, []}
-use mathlib.Core.Logic.{_⊎_, ⊎-elim}
+use mathlib.Core.Logic.{_⊎_}
 use lib.ListN.{length, getD}
 use borrow.Author.Tests.{eq-eqb}
 use Rattle.meaning.specs.Limits
@@ -14,38 +14,22 @@ use Rattle.meaning.specs.Requests.{Table, Item, act, branching, Request}
 use Rattle.meaning.specs.Reading.{got}
 use Rattle.meaning.specs.Refusals.{settled}
 use Rattle.meaning.specs.Lines.{executability-of}
-use Rattle.meaning.specs.States.{State, can-be-run, first-state}
-use Rattle.meaning.specs.Walk.{in-state, stopped, refuses}
-use Rattle.meaning.specs.Judging.{written-over}
+use Rattle.meaning.specs.States.{State, can-be-run}
 use Rattle.meaning.specs.Asking.{asked, line-of, line-at, line-told, line-settled}
-use Rattle.meaning.specs.ByCases.{runs-by-cases, cases-does, cases-step, walk-of, judge-by-cases, line-by-cases, number}
+use Rattle.meaning.specs.ByCases.{runs-by-cases, judge-by-cases, line-by-cases, number}
 use Rattle.meaning.specs.Reported.{pair-of, Item-in, item-place, Not-run, Nearest, item-line}
-use Rattle.meaning.specs.CaseReported.{case-paths}
-use Rattle.meaning.proofs.TestLaws.{clash, by-test, pick-true, pick-cases}
-use Rattle.meaning.proofs.WithinLaws.{stopped-within}
+use Rattle.meaning.specs.CaseReported.{Not-by-cases}
+use Rattle.meaning.proofs.TestLaws.{clash, by-test, pick-true}
 use Rattle.meaning.proofs.SettledLaws.{settled-is}
 use Rattle.meaning.proofs.PairLaws.{runs-pair}
 use Rattle.meaning.proofs.FillLaws.{known-runs}
-use Rattle.meaning.proofs.EndLaws.{stop-ends, Says}
 use Rattle.meaning.proofs.ItemBytes.{items-there}
-use Rattle.meaning.proofs.ReportLaws.{Stuck-item, Stop-so, stops-so, leads≢refuses, refuses-same, refuses-numbered}
 use Rattle.meaning.proofs.ReportedLine.{line-of-item, settled-not, not-run-near, same-action}
-use Rattle.meaning.proofs.CaseWalks.{Stuck-by-cases, cases-stuck}
-use Rattle.meaning.proofs.CaseReports.{cases-by-walk, cases-say}
+use Rattle.meaning.proofs.CaseReports.{cases-stopped-there}
 
 -- NOT BY CASES, and so not as known.
 pub not-known : (t : Table) (a : ℕ) (s : State) → runs-by-cases t a s ≡ false → can-be-run t a s ≡ false
 not-known t a s not = by-test (can-be-run t a s) (λ can. clash (known-runs t a s can) not) (λ f. f)
-
-module _ (t : Table) where
-  abbrev pub Not-by-cases : ℕ → State → Type 0
-  Not-by-cases a u = runs-by-cases t a u ≡ false
-
-  cases-refused : (a : ℕ) (s u : State) → cases-does t a s ≡ refuses Limits.not-executable (in-state u) → Not-by-cases a u
-  unfolding cases-does
-  cases-refused a s u e =
-      pick-cases _ _ _ e (λ _ k. absurd (omega (arith, refuses-numbered k))) λ _ k.
-      pick-cases _ _ _ k (λ _ l. absurd (leads≢refuses l)) (λ off l. subst (Not-by-cases a) (refuses-same l) off)
 
 -- OTHER ANSWERS have the line 0.
 module _ (lim : Limits) (b lent : List ℕ) (budget : ℕ) where
@@ -70,34 +54,20 @@ module _ (lim : Limits) (b lent : List ℕ) (budget : ℕ) where
         ∙ ap (λ (p : ℕ). line-at (r .table) (getD b p 0) (judge-by-cases lim b lent budget .state)) (sym at)
         ∙ line-of-item (r .table) b (r .table .actions) i (items-there lim b r e (settled-is lim b r e past .reads) i within .byte) (judge-by-cases lim b lent budget .state)
 
-    module _ (lent-length : length lent ≡ lim .state) (stuck : number lim b lent budget ≡ Limits.not-executable) where
-      -- The walk stopped at an item of the plan that can't be run by cases in the state left.
-      pub cases-stopped-there : Stop-so (Not-by-cases (r .table)) (Item-in (r .plan)) (judge-by-cases lim b lent budget .answer .place) (judge-by-cases lim b lent budget .state)
-      unfolding written-over cases-step
-      cases-stopped-there =
-          stopped-within lent budget _ _ (cases-by-walk lim b lent budget r e lent-length past) (Stop-so (Not-by-cases (r .table)) (Item-in (r .plan))) Limits.not-executable
-          (λ z. omega arith) (λ z. omega arith) (λ z. omega arith) stuck
-          (λ p u is.
-          let state = ⊎-elim (λ s. s .1) (λ s. absurd (omega (arith, s .0))) (subst Stuck-by-cases is (cases-stuck r (first-state lim (r .table)))) in
-          rw (state .1) (at-item p (state .0) (rw (state .1) at is)))
-        where
-          at-item : (p : ℕ) (u : State) → walk-of lim r .end ≡ stopped Limits.not-executable p (in-state u) → Stop-so (Not-by-cases (r .table)) (Item-in (r .plan)) p u
-          at-item p u is = stops-so (cases-does (r .table)) (Not-by-cases (r .table)) (cases-refused (r .table)) (r .plan) (first-state lim (r .table)) p u
-              (stop-ends (case-paths lim r) Limits.not-executable p (in-state u) (subst (Says _ (case-paths lim r)) is (cases-say lim b lent budget r e lent-length past)))
-
-      -- Where it is placed at an action, the line is 0 where the action has none; else none is short by fewer, and none before it by as few (FORMAT 18.21).
-      pub cases-line-missing : lim .fluents ≤ lim .state → (a : ℕ) → Item-in (r .plan) (act (judge-by-cases lim b lent budget .answer .place) a)
-          → ((executability-of (r .table) a ≡ []) × (line-by-cases lim b lent budget ≡ 0))
-          ⊎ Nearest (judge-by-cases lim b lent budget .state) (executability-of (r .table) a) (line-by-cases lim b lent budget)
-      unfolding item-place item-line
-      cases-line-missing room a within =
-          let there = cases-stopped-there in
-          let u : State = judge-by-cases lim b lent budget .state in
-          let place : ℕ = judge-by-cases lim b lent budget .answer .place in
-          let not = same-action lim room b lent budget r e lent-length past place a within (there .0) (there .1) (there .2) u (not-run (there .0) u (there .3)) in
-          let is : line-by-cases lim b lent budget ≡ line-of (asked (r .table) a u) = cases-line-there stuck (act place a) within refl in
-          rw is (not-run-near (r .table) a u not)
-        where
-          not-run : (i : Item ℕ) (u : State) → Stuck-item (Not-by-cases (r .table)) i u → Not-run (r .table) i (pair-of u)
-          not-run (act p c) u not = runs-pair (r .table) c u ∙ not-known (r .table) c u not
-          not-run (branching p bs) u not = not
+    -- Where it is placed at an action, the line is 0 where the action has none; else none is short by fewer, and none before it by as few (FORMAT 18.21).
+    pub cases-line-missing : lim .fluents ≤ lim .state → length lent ≡ lim .state → number lim b lent budget ≡ Limits.not-executable
+        → (a : ℕ) → Item-in (r .plan) (act (judge-by-cases lim b lent budget .answer .place) a)
+        → ((executability-of (r .table) a ≡ []) × (line-by-cases lim b lent budget ≡ 0))
+        ⊎ Nearest (judge-by-cases lim b lent budget .state) (executability-of (r .table) a) (line-by-cases lim b lent budget)
+    unfolding item-place item-line
+    cases-line-missing room lent-length stuck a within =
+        let there = cases-stopped-there lim b lent budget r e lent-length past stuck in
+        let u : State = judge-by-cases lim b lent budget .state in
+        let place : ℕ = judge-by-cases lim b lent budget .answer .place in
+        let not = same-action lim room b lent budget r e lent-length past place a within (there .stop) (there .in-plan) (there .stands) u (not-run (there .stop) u (there .not-run)) in
+        let is : line-by-cases lim b lent budget ≡ line-of (asked (r .table) a u) = cases-line-there stuck (act place a) within refl in
+        rw is (not-run-near (r .table) a u not)
+      where
+        not-run : (i : Item ℕ) (u : State) → Not-by-cases (r .table) i u → Not-run (r .table) i (pair-of u)
+        not-run (act p c) u not = runs-pair (r .table) c u ∙ not-known (r .table) c u not
+        not-run (branching p bs) u not = not

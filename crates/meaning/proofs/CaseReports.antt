@@ -3,7 +3,7 @@
 use Prim.Native.Nat.{ℕ, _≤_}
 use native.Mathlib.Omega.{arith}
 use mathlib.Core.Path.{_≡_, refl, sym, _∙_, ap, subst}
-use mathlib.Core.Bool.{true}
+use mathlib.Core.Bool.{true, false}
 use mathlib.Core.List.{List}
 use mathlib.Core.Logic.{inl, inr, ⊎-elim, _↔_}
 use lib.ListN.{length}
@@ -15,18 +15,18 @@ use Rattle.meaning.specs.Requests.{Table, Sequence, done, item, Item, ac
 use Rattle.meaning.specs.Reading.{got}
 use Rattle.meaning.specs.Refusals.{nowhere, settled}
 use Rattle.meaning.specs.States.{State, first-state}
-use Rattle.meaning.specs.Walk.{Concerned, no-state, stopped, Walked, refuses, Steps, missed-in, judged}
+use Rattle.meaning.specs.Walk.{Concerned, no-state, in-state, stopped, Walked, refuses, Steps, missed-in, judged}
 use Rattle.meaning.specs.Judging.{written-over, within, judge-got}
 use Rattle.meaning.specs.Paths.{arrives, stops, paths, paths-item, paths-branch, stop-or-miss, walked-along}
-use Rattle.meaning.specs.ByCases.{too-many, cases-does, cases-step, walked-by-cases, walk-of, judge-by-cases, number, count}
-use Rattle.meaning.specs.CaseReported.{case-paths, First-too-many, Meets-in, Meets-at, Meets-under, Too-many-at}
+use Rattle.meaning.specs.ByCases.{runs-by-cases, too-many, cases-does, cases-step, walked-by-cases, walk-of, judge-by-cases, number, count}
+use Rattle.meaning.specs.CaseReported.{case-paths, First-too-many, Misses-at, Not-by-cases, Sticks-at, Meets-in, Meets-at, Meets-under, Too-many-at}
 use Rattle.meaning.proofs.TestLaws.{pick-true, pick-cases}
 use Rattle.meaning.proofs.PickLaws.{has-picked}
-use Rattle.meaning.proofs.WithinLaws.{answered, answered-stopped, enough-within, ended-within, stopped-within}
+use Rattle.meaning.proofs.WithinLaws.{answered, answered-stopped, enough-within, ended-within, missed-within, stopped-within}
 use Rattle.meaning.proofs.PathLaws.{walk-along}
-use Rattle.meaning.proofs.EndLaws.{Ends, arrives≢stops, ends-has, ends-one, went-on, stop-ends, stop-numbered, step-stops, first-stop-is, Says, end-says}
-use Rattle.meaning.proofs.ReportLaws.{leads≢refuses, refuses-numbered}
-use Rattle.meaning.proofs.CaseWalks.{Stuck-by-cases, cases-stuck}
+use Rattle.meaning.proofs.EndLaws.{first-map, Ends, arrives≢stops, all-arrive, ends-has, ends-one, went-on, stop-ends, stop-numbered, step-stops, first-stop-is, Says, end-says}
+use Rattle.meaning.proofs.ReportLaws.{nothing-missed, entry-missed, Stuck-item, stops-so, leads≢refuses, refuses-numbered, refuses-same}
+use Rattle.meaning.proofs.CaseWalks.{Stuck-by-cases, cases-stuck, cases-never}
 
 -- A PATH THAT STOPS with another number than 2, where no state lacks a guard, stops at an action that it meets in a state in which the step is refused so.
 module _ (step : Steps State ℕ) (free : step .lacks ≡ (λ _. nowhere)) (n : ℕ) (not-2 : n ≡ Limits.not-executable → ⊥) (p : ℕ) (u : Concerned State) where
@@ -67,6 +67,13 @@ unfolding cases-does
 refused-many t a s u e =
     pick-cases _ _ _ e (λ many _. many) λ _ k.
     pick-cases _ _ _ k (λ _ is. absurd (leads≢refuses is)) (λ _ is. absurd (omega (arith, refuses-numbered is)))
+
+-- It is refused with 2 where the action can't be run by cases, in the state named.
+stuck-by-cases : (t : Table) (a : ℕ) (s u : State) → cases-does t a s ≡ refuses Limits.not-executable (in-state u) → runs-by-cases t a u ≡ false
+unfolding cases-does
+stuck-by-cases t a s u e =
+    pick-cases _ _ _ e (λ _ k. absurd (omega (arith, refuses-numbered k))) λ _ k.
+    pick-cases _ _ _ k (λ _ l. absurd (leads≢refuses l)) (λ off l. subst (λ (v : State). runs-by-cases t a v ≡ false) (refuses-same l) off)
 
 -- A SETTLED REQUEST, with a lent state of its length.
 module _ (lim : Limits) (b lent : List ℕ) (budget : ℕ) (r : Request) (e : ℕ) (lent-length : length lent ≡ lim .state) (past : settled lim b ≡ got r e) where
@@ -119,3 +126,37 @@ module _ (lim : Limits) (b lent : List ℕ) (budget : ℕ) (r : Request) (e : �
   many-there q =
       stopped-within lent budget _ _ cases-by-walk (λ p s. Too-many-at lim r p × (s ≡ lent)) Limits.too-many-cases (λ z. omega arith) (λ z. omega arith) (λ z. omega arith) q
       (λ p u is. let t = many-told p u is in (many-at p (t .1), ap (written-over lent) (t .0)))
+
+  -- Where it is 1, its place and the state left are those of the first miss.
+  pub cases-missed-there : number lim b lent budget ≡ Limits.goal-missed → Misses-at lim r (judge-by-cases lim b lent budget .answer .place) (judge-by-cases lim b lent budget .state)
+  cases-missed-there q =
+      missed-within lent budget _ _ cases-by-walk (Misses-at lim r) (cases-never Limits.goal-missed (λ z. omega arith) (λ z. omega arith) r (first-state lim (r .table))) q
+      (λ p u is.
+      let w = subst (Says (missed-in r) (case-paths lim r)) is cases-say in
+      record {
+        all-arrive = all-arrive (case-paths lim r) (w .0);
+        path = first-map (λ x none v at. nothing-missed r v (none v at)) (λ x at. at .0) (w .1);
+        entry = entry-missed r u p (w .1 .so .1);
+      })
+
+  -- Where it is 2, they are those of the first stop, at an item that can't be run.
+  pub cases-stopped-there : number lim b lent budget ≡ Limits.not-executable → Sticks-at lim r (judge-by-cases lim b lent budget .answer .place) (judge-by-cases lim b lent budget .state)
+  unfolding written-over cases-step
+  cases-stopped-there q =
+      stopped-within lent budget _ _ cases-by-walk (Sticks-at lim r) Limits.not-executable (λ z. omega arith) (λ z. omega arith) (λ z. omega arith) q
+      (λ p u is.
+      let state = ⊎-elim (λ s. s .1) (λ s. absurd (omega (arith, s .0))) (subst Stuck-by-cases is (cases-stuck r (first-state lim (r .table)))) in
+      rw (state .1) (sticks-at p (state .0) (rw (state .1) at is)))
+    where
+      Not : ℕ → State → Type 0
+      Not a v = runs-by-cases (r .table) a v ≡ false
+
+      by-item : (i : Item ℕ) (u : State) → Stuck-item Not i u → Not-by-cases (r .table) i u
+      by-item (act p a) u not = not
+      by-item (branching p bs) u not = not
+
+      sticks-at : (p : ℕ) (u : State) → walk-of lim r .end ≡ stopped Limits.not-executable p (in-state u) → Sticks-at lim r p u
+      sticks-at p u is =
+          let w = subst (Says (missed-in r) (case-paths lim r)) is cases-say in
+          let v = stops-so (cases-does (r .table)) Not (stuck-by-cases (r .table)) (r .plan) (first-state lim (r .table)) p u (stop-ends (case-paths lim r) Limits.not-executable p (in-state u) w) in
+          record { path = w; stop = v .0; in-plan = v .1; stands = v .2; not-run = by-item (v .0) u (v .3) }
