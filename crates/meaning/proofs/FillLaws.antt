@@ -265,10 +265,12 @@ module _ (t : Table) (a f : ℕ) (none : in-bodies t a f ≡ false) where
 
     pub after-idle : Idle n (λ (u : State). known (state-after t a u) k) f
     unfolding both
-    after-idle = record { passes = λ s long off. elim (decLt (fluent-of k) (length s)) [
-      | yes within ↦ after-near s long off within
-      | no far ↦ rw (none-after t a (told (says-true f) s) k (rw (told-long (length s) (says-true f) s refl) (omega (arith, far))), none-after t a s k (omega (arith, far)))
-    ] }
+    after-idle = record {
+      passes = λ s long off. elim (decLt (fluent-of k) (length s)) [
+        | yes within ↦ after-near s long off within
+        | no far ↦ rw (none-after t a (told (says-true f) s) k (rw (told-long (length s) (says-true f) s refl) (omega (arith, far))), none-after t a s k (omega (arith, far)))
+      ];
+    }
 
 -- IT IS ENOUGH to fill the open fluents, for a test to which no other fluent of the table matters.
 module _ (t : Table) (a : ℕ) (s : State) (wide : t .fluents ≤ length s) where

@@ -128,7 +128,7 @@ walked-unguarded r s = refl
 
 -- OF A REQUEST, whose table's step refuses with 2 and the state.
 module _ (Miss : ℕ → State → Type 0) (Stop : ℕ → ℕ → Concerned State → Type 0) where
-  end-of-so : (f : Found) (s : State) → ((p : ℕ) → f ≡ at p → Miss p s) → End-so Miss Stop (end-of f s)
+  pub end-of-so : (f : Found) (s : State) → ((p : ℕ) → f ≡ at p → Miss p s) → End-so Miss Stop (end-of f s)
   unfolding end-of
   end-of-so nowhere s here = tt
   end-of-so (at p) s here = here p refl

@@ -32,6 +32,7 @@ pub mod GuardedAnswers
 pub mod VerifiedLaws
 pub mod PathLaws
 pub mod RangeLaws
+pub mod OpenLaws
 pub mod MovedReads
 pub mod MovedPlans
 pub mod PlacelessLaws

@@ -19,10 +19,11 @@ pub record Opened (fs held : List ℕ) : Type 0 where
   pub fluents : length fs ≤ most-open → open-in held ≡ fs
   pub more : most-open < length fs → most-open < getD held 0 0
 
--- A state in which the fluents from number i up are still to be filled: they are fluents, unknown in it, and each stands there once.
-pub record Filling (fs : List ℕ) (i : ℕ) (marks : State) : Type 0 where
+-- A state in which the fluents that are held from number i up are still to be filled: there are as many as the number says, and no more than the limit; they are fluents, unknown in it, and each stands there once.
+pub record Filling (held : List ℕ) (i : ℕ) (marks : State) : Type 0 where
   pub marked : Marked marks
-  pub few : length fs ≤ most-open
-  pub small : (j : ℕ) → j < length fs → getD fs j 0 < format .fluents
-  pub unknown : (j : ℕ) → i ≤ j → j < length fs → known-whether marks (getD fs j 0) ≡ false
-  pub once : (j k : ℕ) → j < k → k < length fs → getD fs j 0 ≡ getD fs k 0 → ⊥
+  pub few : getD held 0 0 ≤ most-open
+  pub number : length (open-in held) ≡ getD held 0 0
+  pub small : (j : ℕ) → j < length (open-in held) → getD (open-in held) j 0 < format .fluents
+  pub unknown : (j : ℕ) → i ≤ j → j < length (open-in held) → known-whether marks (getD (open-in held) j 0) ≡ false
+  pub once : (j k : ℕ) → j < k → k < length (open-in held) → getD (open-in held) j 0 ≡ getD (open-in held) k 0 → ⊥

@@ -10,7 +10,7 @@ use Rattle.meaning.specs.Limits
 use Rattle.meaning.specs.Limits.{format, all-literals}
 use Rattle.meaning.specs.Requests.{Table}
 use Rattle.meaning.specs.Lines.{knowledge-of}
-use Rattle.meaning.specs.States.{State, known, known-whether, state-after, unknown-from, outcome-to}
+use Rattle.meaning.specs.States.{State, known, known-whether, first-state, state-after, unknown-from, outcome-to}
 use Rattle.meaning.specs.Walk.{no-state, in-state, Walked, stuck-at, Step, leads-to, refuses, Steps, meet, walk, table-does, first-missed, judged}
 use Rattle.meaning.specs.ByCases.{after-cases, cases-does}
 use Rattle.reading.specs.Noted.{item-place, mode-slot}
@@ -77,6 +77,10 @@ walk-after s t i = walk (step-in s t) (after-first (rest-at (plan-in s t) i)) (j
 -- The same from a state that is met there.
 abbrev pub met-from : (s t : List ℕ) → (at : ℕ) → State → Walked State
 met-from s t at = meet (step-in s t) (walk-from s t at)
+
+-- The whole walk of the request that is held, from its first state.
+unfoldable pub walk-held : (s t : List ℕ) → Walked State
+walk-held s t = meet (step-in s t) (walk (step-in s t) (plan-in s t) (judged (request-in s t))) (first-state format (table-in s))
 
 -- The position after item i.
 pub record Followed (s t : List ℕ) (i r : ℕ) : Type 0 where

@@ -32,7 +32,7 @@ pub enum Tried {
 fn runs_in_each(s: &[u8], t: &Notes, a: usize, held: &Open, i: usize, marks: Marks) -> bool
     requires { ⌜ At-hand (now s) (now t) ⌝ }
     requires { ⌜ a < format .actions ⌝ }
-    requires { ⌜ Filling (open-in (now held)) i marks ⌝ }
+    requires { ⌜ Filling (now held) i marks ⌝ }
     ensures { λ r. ⌜ r ≡ each-of (can-be-run (table-in (now (s .entry))) a) (fillings (drop i (open-in (now (held .entry)))) marks) ⌝ }
 {
     if i < wide(held[0]) {
@@ -45,7 +45,7 @@ fn runs_in_each(s: &[u8], t: &Notes, a: usize, held: &Open, i: usize, marks: Mar
             state[f] = limits::FALSE_MARK;
             return runs_in_each(s, t, a, held, next, state);
         }
-        return false;
+        return first;
     }
     can_be_run(s, t, a, &marks)
 }
@@ -59,10 +59,12 @@ fn shared(one: &Marks, other: &Marks) -> Marks
     let mut both = *one;
     let mut f = 0;
     while f < limits::FLUENTS {
-        if one[f] != other[f] {
-            both[f] = limits::UNKNOWN_MARK;
-        }
+        let g = f;
         f += 1;
+        if one[g] != other[g] {
+            both[g] = limits::UNKNOWN_MARK;
+            continue;
+        }
     }
     both
 }
@@ -71,7 +73,7 @@ fn shared(one: &Marks, other: &Marks) -> Marks
 fn after_in_each(s: &[u8], t: &Notes, a: usize, held: &Open, i: usize, marks: Marks) -> Marks
     requires { ⌜ At-hand (now s) (now t) ⌝ }
     requires { ⌜ a < format .actions ⌝ }
-    requires { ⌜ Filling (open-in (now held)) i marks ⌝ }
+    requires { ⌜ Filling (now held) i marks ⌝ }
     requires { ⌜ each-of (can-be-run (table-in (now s)) a) (fillings (drop i (open-in (now held))) marks) ≡ true ⌝ }
     ensures { λ r. ⌜ r ≡ after-each (table-in (now (s .entry))) a (fillings (drop i (open-in (now (held .entry)))) marks) marks ⌝ }
 {

@@ -26,7 +26,6 @@ use Rattle.meaning.proofs.TestLaws.{clash, pick-true, pick-false}
 use Rattle.meaning.proofs.SettledLaws.{got-same, next-got, refuse-got}
 use Rattle.meaning.proofs.RangeLaws.{got-place, count-within}
 use Rattle.meaning.proofs.VerifiedLaws.{within-unread}
-use Rattle.meaning.proofs.KeptEnds.{walked-unguarded}
 use Rattle.meaning.proofs.ReleaseLaws.{Opened, opened, answer-placed, plan-inside, table-below}
 use Rattle.bytes.specs.declared.bytes.Read.{Read}
 use Rattle.bytes.specs.declared.bytes.Read.the-variants.{Value, Fault}
@@ -54,6 +53,9 @@ use Rattle.refusing.proofs.SettleLaws.{behind-table}
 use Rattle.steps.specs.Held.{plan-in, guards-in, request-in}
 use Rattle.steps.specs.AtHand.{At-hand}
 use Rattle.steps.proofs.HandLaws.{items-are}
+use Rattle.steps.specs.Steps.{mode-in, walk-held}
+use Rattle.steps.proofs.ModeLaws.{held-plain}
+use Rattle.steps.proofs.ModeHand.{table-mode}
 use Rattle.steps.proofs.JustRead.{plan-at-hand, plan-request, plan-unguarded}
 use Rattle.verdicts.specs.Releasing.{opening-noted, Opened-here, Counted, with-answer, with-unreached, past-table}
 
@@ -309,14 +311,13 @@ module _ (s t : List ℕ) (here : At-hand s t) (items : ℕ) (is : items ≡ get
     unfolding plan-answer judge-got next refuse request-in
     plan-18 p met a said = said ∙ sym (ap (λ (g : Refusals.Found). judge-settled format [] budget (refuse 18 g (λ _. got (request-in s t) 0)) .answer) (found-at (overlap-in (plan-in s t)) f overlap-is p met))
 
-    pub plan-walked : f ≡ Nowhere → (lent left : List ℕ) (a : Answer) → record { answer = a; state = left } ≡ within lent budget (walked-guarded (request-in s t) (guards-in s t) (first-state format (table-in s)))
-        → guards-in s t ≡ [] → a ≡ plan-answer format budget (got (request-in s t) 0)
+    pub plan-walked : f ≡ Nowhere → (lent left : List ℕ) (a : Answer) → record { answer = a; state = left } ≡ within lent budget (walk-held s t)
+        → guards-in s t ≡ [] → mode-in t ≡ 0 → a ≡ plan-answer format budget (got (request-in s t) 0)
     unfolding plan-answer judge-got next refuse request-in
-    plan-walked none lent left a walks unguarded =
+    plan-walked none lent left a walks unguarded known =
         ap (λ (j : Judgement). j .answer) walks
-        ∙ within-unread lent [] budget (walked-guarded (request-in s t) (guards-in s t) (first-state format (table-in s)))
-        ∙ ap (λ (gs : List Entry). within [] budget (walked-guarded (request-in s t) gs (first-state format (table-in s))) .answer) unguarded
-        ∙ ap (λ (w : Walked State). within [] budget w .answer) (walked-unguarded (request-in s t) (first-state format (table-in s)))
+        ∙ within-unread lent [] budget (walk-held s t)
+        ∙ ap (λ (w : Walked State). within [] budget w .answer) (held-plain s t known unguarded)
         ∙ sym (ap (λ (g : Refusals.Found). judge-settled format [] budget (refuse 18 g (λ _. got (request-in s t) 0)) .answer) (found-none (overlap-in (plan-in s t)) f overlap-is none))
 
 -- THE ROW, from the left.
@@ -442,6 +443,10 @@ module _ (s t row : List ℕ) (budget plans start k p : ℕ) (answers : Answerin
 
     pub answering-unguarded : guards-in s u ≡ []
     answering-unguarded = ap (guards-in s) (y .2) ∙ plan-unguarded s t (answers .here) p (y .0) e (y .1)
+
+    -- And no mode.
+    pub answering-known : mode-in u ≡ 0
+    answering-known = ap mode-in (y .2) ∙ table-mode s (tail-noted (y .0) t) (table-stays s t (answers .here) 0 p (y .0) e (y .1))
 
     held-is : request-in s u ≡ y .0
     held-is = ap (request-in s) (y .2) ∙ plan-request s t (answers .here) 0 p (y .0) e (y .1)

@@ -6,8 +6,10 @@ ghost use Rattle.steps.specs.AtHand.{Marked};
 ghost use Rattle.walking.specs.Standing.{standing, tally-slots};
 ghost use Rattle.verdicts.specs.Telling.{told, Tallied};
 use super::answers;
+use super::answers::uncounted;
 use bytes::limits;
 use meaning::Answer;
+use walking::tally::MANY;
 use walking::tally::SPENT;
 use walking::tally::Tally;
 
@@ -54,6 +56,13 @@ pub(crate) fn tell(tally: &Tally, state: &mut [u8], budget: u32) -> Answer
             place: 0,
             count: budget,
         };
+    }
+    if number == MANY {
+        return uncounted(
+            answers::TOO_MANY_CASES,
+            answers::THE_REQUEST,
+            widened(tally[1]),
+        );
     }
     let count = budget - tally[2];
     if number == 0 {

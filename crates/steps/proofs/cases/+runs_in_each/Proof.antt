@@ -1,3 +1,6 @@
+-- The fillings of the fluents from number i up are those with fluent i true and then those with it false. At each call a fluent less is left, so the calls end.
+use Rattle.steps.proofs.CaseLaws.{fluents-left, next-fits, next-held, left-falls, fluent-held, first-filling, second-filling, runs-both, runs-not, runs-last}
+use borrow.Author.Needs.{needs}
 use Prim.Native.Nat.{ℕ, _<_}
 use borrow.Fn.Kinds.{In}
 use borrow.Fn.PlainCycle.{Measures, is, falls, and}
@@ -10,7 +13,7 @@ use Rattle.steps.proofs.cases.+runs_in_each.{statement}
 use Rattle.steps.proofs.cases.+runs_in_each.Tie.{close}
 
 abbrev μ-runs-in-each : Measures 3 runs-in-each-kinds.ps ℕ
-μ-runs-in-each κs a = ?
+μ-runs-in-each κs a = fluents-left (a .1 .1 .1 .1 .0)
 
 abbrev runs-in-each-at : ℕ → In 3 runs-in-each-kinds.ps
 runs-in-each-at t =
@@ -24,105 +27,6 @@ runs-in-each-below t =
     (falls 3 runs-in-each-kinds.ps _<_ μ-runs-in-each t)
     runs-in-each.Pre
 
--- src/cases.rt:38:17
-runs-in-each-element-copy-out-wide : (t : ℕ) → runs-in-each-lts.Need-element-copy-out-wide (
-  wide-reads.Asked,
-  wide-reads.Learnt,
-  runs-in-each-below t,
-  runs-in-each.Post,
-  can-be-run-reads.Asked,
-  can-be-run-reads.Learnt,
-) (runs-in-each-at t) runs-in-each.Post
-runs-in-each-element-copy-out-wide t c = ?
-
--- src/cases.rt:38:12
-runs-in-each-wide-requires : (t : ℕ) → runs-in-each-lts.Need-wide-requires (
-  wide-reads.Asked,
-  wide-reads.Learnt,
-  runs-in-each-below t,
-  runs-in-each.Post,
-  can-be-run-reads.Asked,
-  can-be-run-reads.Learnt,
-) (runs-in-each-at t) runs-in-each.Post
-runs-in-each-wide-requires t c κs = ?
-
--- src/cases.rt:39:20
-runs-in-each-add-next : (t : ℕ) → runs-in-each-lts.Need-add-next (
-  wide-reads.Asked,
-  wide-reads.Learnt,
-  runs-in-each-below t,
-  runs-in-each.Post,
-  can-be-run-reads.Asked,
-  can-be-run-reads.Learnt,
-) (runs-in-each-at t) runs-in-each.Post
-runs-in-each-add-next t c = ?
-
--- src/cases.rt:40:22
-runs-in-each-element-copy-out-wide-2 : (t : ℕ) → runs-in-each-lts.Need-element-copy-out-wide-2 (
-  wide-reads.Asked,
-  wide-reads.Learnt,
-  runs-in-each-below t,
-  runs-in-each.Post,
-  can-be-run-reads.Asked,
-  can-be-run-reads.Learnt,
-) (runs-in-each-at t) runs-in-each.Post
-runs-in-each-element-copy-out-wide-2 t c = ?
-
--- src/cases.rt:40:13
-runs-in-each-wide-requires-2 : (t : ℕ) → runs-in-each-lts.Need-wide-requires-2 (
-  wide-reads.Asked,
-  wide-reads.Learnt,
-  runs-in-each-below t,
-  runs-in-each.Post,
-  can-be-run-reads.Asked,
-  can-be-run-reads.Learnt,
-) (runs-in-each-at t) runs-in-each.Post
-runs-in-each-wide-requires-2 t c κs = ?
-
--- src/cases.rt:42:9
-runs-in-each-array-write-state : (t : ℕ) → runs-in-each-lts.Need-array-write-state (
-  wide-reads.Asked,
-  wide-reads.Learnt,
-  runs-in-each-below t,
-  runs-in-each.Post,
-  can-be-run-reads.Asked,
-  can-be-run-reads.Learnt,
-) (runs-in-each-at t) runs-in-each.Post
-runs-in-each-array-write-state t c = ?
-
--- src/cases.rt:43:13
-runs-in-each-runs-in-each-requires : (t : ℕ) → runs-in-each-lts.Need-runs-in-each-requires (
-  wide-reads.Asked,
-  wide-reads.Learnt,
-  runs-in-each-below t,
-  runs-in-each.Post,
-  can-be-run-reads.Asked,
-  can-be-run-reads.Learnt,
-) (runs-in-each-at t) runs-in-each.Post
-runs-in-each-runs-in-each-requires t c κs = ?
-
--- src/cases.rt:45:13
-runs-in-each-array-write-state-2 : (t : ℕ) → runs-in-each-lts.Need-array-write-state-2 (
-  wide-reads.Asked,
-  wide-reads.Learnt,
-  runs-in-each-below t,
-  runs-in-each.Post,
-  can-be-run-reads.Asked,
-  can-be-run-reads.Learnt,
-) (runs-in-each-at t) runs-in-each.Post
-runs-in-each-array-write-state-2 t c = ?
-
--- src/cases.rt:46:13
-runs-in-each-runs-in-each-requires-2 : (t : ℕ) → runs-in-each-lts.Need-runs-in-each-requires-2 (
-  wide-reads.Asked,
-  wide-reads.Learnt,
-  runs-in-each-below t,
-  runs-in-each.Post,
-  can-be-run-reads.Asked,
-  can-be-run-reads.Learnt,
-) (runs-in-each-at t) runs-in-each.Post
-runs-in-each-runs-in-each-requires-2 t c κs = ?
-
 -- src/cases.rt:46:13
 runs-in-each-returns : (t : ℕ) → runs-in-each-lts.Need-returns (
   wide-reads.Asked,
@@ -132,40 +36,7 @@ runs-in-each-returns : (t : ℕ) → runs-in-each-lts.Need-returns (
   can-be-run-reads.Asked,
   can-be-run-reads.Learnt,
 ) (runs-in-each-at t) runs-in-each.Post
-runs-in-each-returns t c = ?
-
--- src/cases.rt:48:9
-runs-in-each-returns-2 : (t : ℕ) → runs-in-each-lts.Need-returns-2 (
-  wide-reads.Asked,
-  wide-reads.Learnt,
-  runs-in-each-below t,
-  runs-in-each.Post,
-  can-be-run-reads.Asked,
-  can-be-run-reads.Learnt,
-) (runs-in-each-at t) runs-in-each.Post
-runs-in-each-returns-2 t c = ?
-
--- src/cases.rt:50:5
-runs-in-each-can-be-run-requires : (t : ℕ) → runs-in-each-lts.Need-can-be-run-requires (
-  wide-reads.Asked,
-  wide-reads.Learnt,
-  runs-in-each-below t,
-  runs-in-each.Post,
-  can-be-run-reads.Asked,
-  can-be-run-reads.Learnt,
-) (runs-in-each-at t) runs-in-each.Post
-runs-in-each-can-be-run-requires t c κs = ?
-
--- src/cases.rt:32:1
-runs-in-each-returns-3 : (t : ℕ) → runs-in-each-lts.Need-returns-3 (
-  wide-reads.Asked,
-  wide-reads.Learnt,
-  runs-in-each-below t,
-  runs-in-each.Post,
-  can-be-run-reads.Asked,
-  can-be-run-reads.Learnt,
-) (runs-in-each-at t) runs-in-each.Post
-runs-in-each-returns-3 t c = ?
+runs-in-each-returns t c = search runs-both
 
 pub +runs-in-each-spec : {M : Type 1} → statement M
 +runs-in-each-spec = close μ-runs-in-each λ t. runs-in-each-lts.spec (
@@ -178,16 +49,16 @@ pub +runs-in-each-spec : {M : Type 1} → statement M
 )
     (runs-in-each-at t)
     runs-in-each.Post
-    (runs-in-each-element-copy-out-wide t)
-    (runs-in-each-wide-requires t)
-    (runs-in-each-add-next t)
-    (runs-in-each-element-copy-out-wide-2 t)
-    (runs-in-each-wide-requires-2 t)
-    (runs-in-each-array-write-state t)
-    (runs-in-each-runs-in-each-requires t)
-    (runs-in-each-array-write-state-2 t)
-    (runs-in-each-runs-in-each-requires-2 t)
+    (λ c. search needs)
+    (λ c κs. search needs)
+    (λ c. search next-fits)
+    (λ c. search next-held)
+    (λ c κs. search needs)
+    (λ c. search fluent-held)
+    (λ c κs. (search left-falls, (search needs, (search needs, first-filling _ _ _ (c .before .before .before .before .before .before .pre .1 .1 .1) _ (c .before .before .before .wide .ensures) (c .before .before .if1 .taken) _ (c .wide2 .ensures)))))
+    (λ c. search fluent-held)
+    (λ c κs. (search left-falls, (search needs, (search needs, second-filling _ _ _ (c .before .before .before .before .before .before .before .before .pre .1 .1 .1) _ (c .before .before .before .before .before .wide .ensures) (c .before .before .before .before .if1 .taken) _ (c .before .before .wide2 .ensures)))))
     (runs-in-each-returns t)
-    (runs-in-each-returns-2 t)
-    (runs-in-each-can-be-run-requires t)
-    (runs-in-each-returns-3 t)
+    (λ c. search runs-not)
+    (λ c κs. search needs)
+    (λ c. search runs-last)
