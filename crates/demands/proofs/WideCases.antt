@@ -90,10 +90,10 @@ alone b reads =
     let begins = reads .begins in
     let met : State = after-cases (t b begins) (begins .action) (first b begins) in
     gives b begins _ (
-      leads b begins
-      ∙ ap (after b begins) (pick-false _ _ _ (reads .plain))
-      ∙ ap (λ (c : Sequence ℕ). counted 1 (walk (cases-step (t b begins)) c (judged (begins .r)) met)) (reads .last)
-      ∙ ap (counted 1) (nothing-asked (begins .r) met (reads .goals) (reads .whether))
+    leads b begins
+    ∙ ap (after b begins) (pick-false _ _ _ (reads .plain))
+    ∙ ap (λ (c : Sequence ℕ). counted 1 (walk (cases-step (t b begins)) c (judged (begins .r)) met)) (reads .last)
+    ∙ ap (counted 1) (nothing-asked (begins .r) met (reads .goals) (reads .whether))
     )
 
 -- FOLLOWED. It senses nothing, and in the state after it, which is found by its open fluents alone, the walk stops with 44.
@@ -108,10 +108,10 @@ unfolding after-step counted each-reading stopped-at
 followed b q reads =
     let begins = reads .begins in
     gives b begins _ (
-      leads b begins
-      ∙ ap (after b begins) (pick-false _ _ _ (reads .plain))
-      ∙ ap (λ (u : State). counted 1 (then b begins u)) (fills-after (t b begins) (begins .action) (first b begins) (ltb-false _ _ (reads .fits)))
-      ∙ ap (counted 1) (reads .stops)
+    leads b begins
+    ∙ ap (after b begins) (pick-false _ _ _ (reads .plain))
+    ∙ ap (λ (u : State). counted 1 (then b begins u)) (fills-after (t b begins) (begins .action) (first b begins) (ltb-false _ _ (reads .fits)))
+    ∙ ap (counted 1) (reads .stops)
     )
 
 -- READ. It senses one unknown fluent. In the first reading a goal is missed, and in the second the walk stops with 44.
@@ -130,9 +130,9 @@ unfolding after-step counted each-reading readings stopped-at and-then after-end
 read b q reads =
     let begins = reads .begins in
     gives b begins _ (
-      leads b begins
-      ∙ ap (after b begins) (pick-true _ _ _ (reads .sensed) ∙ ap (λ (fs : List ℕ). readings fs (first b begins)) (reads .one))
-      ∙ ap₂ {C = Walked State} (λ v w. counted 1 (and-then v (λ _. w))) (reads .misses) (reads .stops)
+    leads b begins
+    ∙ ap (after b begins) (pick-true _ _ _ (reads .sensed) ∙ ap (λ (fs : List ℕ). readings fs (first b begins)) (reads .one))
+    ∙ ap₂ {C = Walked State} (λ v w. counted 1 (and-then v (λ _. w))) (reads .misses) (reads .stops)
     )
 
 -- THE REQUESTS. The effects of action 0 that set one fluent after another where fluent 0 is true, so many from this literal on.

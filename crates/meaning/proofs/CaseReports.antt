@@ -1,5 +1,6 @@
 -- Answer 44 is given exactly where the first path that stops, stops so and the count is within the budget, at that place; and a path stops so only at an action
--- that it meets in a state in which the action has too many cases, by induction on the plan (FORMAT 22.11, 22.12, 22.19). Assumes nothing.
+-- that it meets in a state in which the action has too many cases, by induction on the plan (FORMAT 22.11, 22.12, 22.19). Answers 1 and 2 report the first miss
+-- and the first stop on the paths, as those of the walk call do (FORMAT 22.14). Assumes nothing.
 use Prim.Native.Nat.{ℕ, _≤_}
 use native.Mathlib.Omega.{arith}
 use mathlib.Core.Path.{_≡_, refl, sym, _∙_, ap, subst}
