@@ -13,6 +13,7 @@ pub mod GuardedMet
 pub mod LayoutLaws
 pub mod DerivationSound
 pub mod LongCases
+pub mod WideCases
 pub mod ProvedCases
 pub mod WiderReads
 pub mod MappedWalk

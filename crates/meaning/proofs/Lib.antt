@@ -2,6 +2,7 @@ pub mod Compute
 pub mod Cases
 pub mod LineCases
 pub mod GuardedCases
+pub mod CaseRows
 pub mod DerivationCases
 pub mod WhetherCases
 pub mod ReleaseCases
@@ -24,6 +25,7 @@ pub mod PlanReads
 pub mod KeptEnds
 pub mod WithinLaws
 pub mod PlaceLaws
+pub mod JudgedParts
 pub mod PartLaws
 pub mod AnswerLaws
 pub mod GuardedAnswers
@@ -61,12 +63,14 @@ pub mod ReportLaws
 pub mod GuardedReports
 pub mod CaseSteps
 pub mod CaseWalks
+pub mod CaseAnswers
 pub mod CaseReports
 pub mod CaseSound
 pub mod CaseCovers
 pub mod CaseExact
 pub mod ReportedLine
 pub mod GuardedLine
+pub mod CaseLine
 pub mod Passed
 pub mod AcceptedExactly
 pub mod ReleaseLaws
