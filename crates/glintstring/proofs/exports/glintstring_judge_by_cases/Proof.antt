@@ -1,3 +1,5 @@
+-- The answer of the call by cases, packed; its place is small, since it lies within a request that was not too long.
+use Rattle.glintstring.proofs.PackingLaws.{cases-small, judged-packed, judged-left}
 use borrow.Author.Needs.{needs}
 use Rattle.glintstring.proofs.exports.glintstring_judge_by_cases.Statement.{statement}
 use Rattle.glintstring.proofs.exports.glintstring_judge_by_cases.Tie as tie
@@ -12,7 +14,7 @@ judge-by-cases-requires c κs = search needs
 
 -- src/exports.rt:62:5
 pack-requires : tie.Need-pack-requires
-pack-requires c κs = ?
+pack-requires c κs = search cases-small
 
 -- src/exports.rt:56:1
 same-length : tie.Need-same-length
@@ -20,7 +22,7 @@ same-length c = search needs
 
 -- src/exports.rt:56:1
 returns : tie.Need-returns
-returns c = ?
+returns c = (search judged-packed, search judged-left)
 
 pub glintstring-judge-by-cases-spec : {M : Type 1} → statement M
 glintstring-judge-by-cases-spec =

@@ -1,3 +1,7 @@
+-- The three ways out, as of the walk call; the mode is put into the notes of a settled request.
+use Rattle.glintstring.proofs.JudgingLaws.{cases-9, cases-line-9, cases-walked, cases-line-walked, cases-refused, cases-line-refused}
+use Rattle.glintstring.proofs.SettledAtHand.{cases-hand}
+use Rattle.verdicts.proofs.ReleasingLaws.{blank-is}
 use borrow.Author.Needs.{needs}
 use Rattle.glintstring.proofs.judging.judge_by_cases.Statement.{statement}
 use Rattle.glintstring.proofs.judging.judge_by_cases.Tie as tie
@@ -14,11 +18,11 @@ without-walk-requires c κs = search needs
 
 -- src/judging.rt:104:9
 returns : tie.Need-returns
-returns c = ?
+returns c = (search cases-9, search cases-line-9)
 
 -- src/judging.rt:107:11
 settle-requires : tie.Need-settle-requires
-settle-requires c κs = ?
+settle-requires c κs = search blank-is
 
 -- src/judging.rt:109:17
 enum-told : tie.Need-enum-told
@@ -30,7 +34,9 @@ put-requires c κs = search needs
 
 -- src/judging.rt:110:13
 walk-with-line-requires : tie.Need-walk-with-line-requires
-walk-with-line-requires c κs = ?
+walk-with-line-requires c κs =
+    let settles = c .before .before .before .before .before .before in
+    (cases-hand _ _ _ _ (settles .settle .ensures) _ (c .before .before .before .before .enum-told .given .1) (settles .before .before .before .before .shared-slice-known .given) blank-is _ (c .before .before .put .ensures), search needs)
 
 -- src/judging.rt:112:23
 enum-known-k : tie.Need-enum-known-k
@@ -46,11 +52,11 @@ same-length c = search needs
 
 -- src/judging.rt:99:1
 returns-2 : tie.Need-returns-2
-returns-2 c = ?
+returns-2 c = (search (cases-walked, blank-is), search (cases-line-walked, blank-is))
 
 -- src/judging.rt:99:1
 returns-3 : tie.Need-returns-3
-returns-3 c = ?
+returns-3 c = (search cases-refused, search cases-line-refused)
 
 pub judge-by-cases-spec : {M : Type 1} → statement M
 judge-by-cases-spec =
