@@ -1,6 +1,6 @@
 -- The definition writes the lent bytes at answers 1 and 2 only: every other case leaves them. Those two are of a settled request, since every
 -- fault has another number, and they leave the state where its walk ended, which has what the walk keeps. With guards 43 is written too: those three
--- answers leave the state that the end of the walk concerns, which has what that walk keeps. By cases 1 and 2 do. Assumes nothing.
+-- answers leave the state that the end of the walk concerns, which has what that walk keeps. By cases answers 1 and 2 leave such a state. Assumes nothing.
 use Prim.Native.Nat.{ℕ}
 use native.Mathlib.Omega.{arith}
 use mathlib.Core.Path.{_≡_, refl, sym, _∙_, subst}
