@@ -1,10 +1,11 @@
 //! The exported calls against the independent program: the walk call on the format's cases, on the deepest requests, and on generated and
 //! damaged ones, the derivation call, the whether call and the showing call on derivations at their limits, and on generated, forged and
-//! damaged ones; the release call and the plans call on release files; the guarded call; the call by cases; and all but the last on hostile inputs. The exit status is 0 where all agree and 1 at the first difference; what is told of it is
+//! damaged ones; the release call and the plans call on release files; the guarded call; the call by cases; and all of them on hostile inputs. The exit status is 0 where all agree and 1 at the first difference; what is told of it is
 //! enough to make the call again.
 
 mod answered;
 mod by_cases;
+mod by_cases_hostile;
 mod by_cases_rows;
 mod calls;
 mod cases;
