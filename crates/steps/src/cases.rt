@@ -21,11 +21,11 @@ use bytes::limits;
 use reading::marks::Marks;
 use reading::notes::Notes;
 
-// What trying an action gives: it can be run, it can't, or it has too many cases.
+// What trying an action gives: it can't be run, it has too many cases, or it can be run.
 pub enum Tried {
-    Runs,
     Stuck,
     Many,
+    Runs,
 }
 
 // The action can be run in each filling of the open fluents from number i up.
