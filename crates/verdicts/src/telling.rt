@@ -42,7 +42,7 @@ fn hand_over(tally: &Tally, state: &mut [u8])
     }
 }
 
-// What the tally says once the walk is over. A miss and whatever stopped the walk are told in one way.
+// What the tally says once the walk is over. A miss and whatever stopped the walk are told in one way, but for 44, which has neither a count nor a state.
 pub(crate) fn tell(tally: &Tally, state: &mut [u8], budget: u32) -> Answer
     requires { ⌜ length (now state) ≡ format .state ⌝ }
     requires { ⌜ Tallied (now tally) budget ⌝ }
