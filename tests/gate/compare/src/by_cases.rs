@@ -4,14 +4,13 @@ use std::time::Duration;
 
 use oracle::cases::calls::{any_cases_call, cases_call};
 use oracle::cases::run::Tally;
-use oracle::reader::REQUEST_LIMIT;
 use oracle::rng::Rng;
 
-use crate::calls::{self, answer, expect, fenced_by, numbers, Call, Left};
+use crate::calls::{self, expect, fenced_by, numbers, Call, Left};
 use crate::cases::judge_by_cases;
 use crate::crowded::crowded;
 use crate::generated::varied;
-use crate::many::{all_met, each_agreed, ENOUGH};
+use crate::many::{all_met, longest_agreed, print_indented, some_longest, ENOUGH};
 
 /// Streams of random numbers: of the calls, and of what stands around request and lent state.
 const CALLS: u64 = 27;
@@ -62,14 +61,8 @@ fn beside_walk(one: &Left, walked: &Left) -> Result<(), String> {
 /// Makes so many calls from a seed; in words how often each number occurred, or the first difference.
 pub fn compare(seed: u64, count: u64) -> Result<String, String> {
     let mut tally = Tally::default();
-    let mut longest = 0;
-    each_agreed((seed, count), FENCES, call, agreed, |call, left| {
-        tally.note(&call.request, call.budget, answer(left.answer));
-        longest = longest.max(call.request.len());
-    })?;
-    for line in tally.report().lines() {
-        println!("  {line}");
-    }
+    let longest = longest_agreed((seed, count), FENCES, call, agreed, |request, budget, answer| tally.note(request, budget, answer))?;
+    print_indented(&tally.report());
     all_met((seed, count), ENOUGH, "calls by cases", &tally.never_met())?;
     let only = tally.only_by_cases();
     Ok(format!(
@@ -90,14 +83,11 @@ pub fn any_call(rng: &mut Rng) -> Call {
         let drawn = cases_call(rng);
         Call { request: drawn.request, lent: drawn.lent, budget: drawn.budget }
     };
-    let mut call = varied(rng, drawn, |rng| {
+    let call = varied(rng, drawn, |rng| {
         let draft = crowded(rng);
         any_cases_call(rng, &draft).request
     });
-    if rng.below(500) == 0 {
-        let length = *rng.pick(&[REQUEST_LIMIT - 1, REQUEST_LIMIT, REQUEST_LIMIT + 1, 20_000]);
-        call.request.resize(length, rng.byte(0, 3));
-    }
+    let mut call = some_longest(rng, call);
     call.budget = call.budget.min(MOST);
     call
 }

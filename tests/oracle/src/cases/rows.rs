@@ -15,9 +15,9 @@ use crate::calls::{damaged_judge_call, lend_wrongly, JudgeCall};
 use crate::generate::{drawn, starve, Shape, TINY};
 use crate::model::Request;
 use crate::open;
-use crate::reader::{LIST_LIMIT, REQUEST_LIMIT};
 use crate::rng::Rng;
-use crate::rows::{rounds, tell_judging, Wanted, LONG_BYTES};
+use crate::rows::Shown::{self, Number};
+use crate::rows::{judged_by, rounds, tell_judging, too_long, LONG_BYTES};
 use crate::walk::Verdict;
 
 /// Most bytes of a request, and of one whose walk ends with 44, or may.
@@ -27,17 +27,8 @@ const WIDE_BYTES: usize = 240;
 const COUNT: u32 = 300;
 const FILLINGS: u128 = 300;
 
-/// What a row is wanted for.
-#[derive(Clone, Copy, Debug)]
-enum Shown {
-    Number(u8),
-    Event(Event),
-}
-
-use Shown::Number;
-
 /// How often each comes in a round of calls.
-const BY_CASES: [(Shown, u64); 41] = [
+const BY_CASES: [(Shown<Event>, u64); 41] = [
     (Shown::Event(Event::VerifiedThoughMissed), 12),
     (Shown::Event(Event::VerifiedThoughStuck), 16),
     (Shown::Event(Event::VerifiedThoughSpent), 1),
@@ -82,25 +73,21 @@ const BY_CASES: [(Shown, u64); 41] = [
 ];
 
 /// Those that take long requests, which stand in the first round only.
-const LONG: [Shown; 2] = [Number(10), Number(21)];
+const LONG: [Shown<Event>; 2] = [Number(10), Number(21)];
 
 /// So many rows.
 pub fn cases_rows(seed: u64, count: u64) -> impl Iterator<Item = String> {
     rounds(seed, 25, count, &BY_CASES, &LONG, &[])
         .zip(0..)
-        .map(move |(wanted, index)| row(&mut Rng::new(seed, 26, index), wanted))
+        .map(move |(wanted, index)| row(&mut Rng::new(seed, 26, index), wanted.answered()))
 }
 
 /// A row as wanted.
-fn row(rng: &mut Rng, wanted: Wanted<Shown>) -> String {
-    let Wanted::Answered(wanted) = wanted else {
-        unreachable!("no edge is asked for");
-    };
+fn row(rng: &mut Rng, wanted: Shown<Event>) -> String {
     let call = match wanted {
         Number(10) => {
-            let mut call = call(rng, Number(11), BYTES);
-            call.request = vec![rng.byte(0, LIST_LIMIT as u8); REQUEST_LIMIT + 1];
-            call
+            let call = call(rng, Number(11), BYTES);
+            too_long(rng, call)
         }
         Number(21) => call(rng, wanted, LONG_BYTES),
         _ if is_wide(wanted) => call(rng, wanted, WIDE_BYTES),
@@ -110,7 +97,7 @@ fn row(rng: &mut Rng, wanted: Wanted<Shown>) -> String {
 }
 
 /// It takes an action with too many open fluents.
-fn is_wide(wanted: Shown) -> bool {
+fn is_wide(wanted: Shown<Event>) -> bool {
     match wanted {
         Number(number) => number == TOO_MANY,
         Shown::Event(event) => event >= Event::ThirteenOpen,
@@ -118,7 +105,7 @@ fn is_wide(wanted: Shown) -> bool {
 }
 
 /// A call that shows what is wanted.
-fn call(rng: &mut Rng, wanted: Shown, most: usize) -> JudgeCall {
+fn call(rng: &mut Rng, wanted: Shown<Event>, most: usize) -> JudgeCall {
     loop {
         let draft = draft(rng, wanted);
         let walked = match wanted {
@@ -139,7 +126,7 @@ fn call(rng: &mut Rng, wanted: Shown, most: usize) -> JudgeCall {
 }
 
 /// A request that may show it.
-fn draft(rng: &mut Rng, wanted: Shown) -> Request {
+fn draft(rng: &mut Rng, wanted: Shown<Event>) -> Request {
     if is_wide(wanted) {
         let shape = Shape { spread: 0, ..TINY };
         let draft = drawn(rng, &shape);
@@ -160,12 +147,9 @@ fn draft(rng: &mut Rng, wanted: Shown) -> Request {
     draft
 }
 
-fn shows(call: &JudgeCall, wanted: Shown) -> bool {
+fn shows(call: &JudgeCall, wanted: Shown<Event>) -> bool {
     let (answer, ..) = judged(call);
-    match wanted {
-        Number(number) => answer.number == number,
-        Shown::Event(event) => events(&call.request, call.budget, answer).contains(&event),
-    }
+    wanted.is_shown(answer.number, || events(&call.request, call.budget, answer))
 }
 
 /// The whole walk, if it is reached, counts little, and has few complete fillings.
@@ -178,7 +162,5 @@ fn is_light(call: &JudgeCall) -> bool {
 }
 
 fn judged(call: &JudgeCall) -> (Answer, u32, Vec<u8>) {
-    let mut lent = call.lent.clone();
-    let (answer, line) = judge_by_cases_line(&call.request, &mut lent, call.budget);
-    (answer, line, lent)
+    judged_by(call, judge_by_cases_line)
 }

@@ -1,9 +1,6 @@
 //! A run of calls by cases: each answer against a second walk, the walk call, the worlds and what is
 //! certain of it, and the tallies.
 
-use std::collections::BTreeMap;
-use std::fmt::Write;
-
 use super::call::{judge_by_cases_line, TOO_MANY};
 use super::calls::cases_call;
 use super::way::{open_fluents, walk_by_cases, walk_filling, Filled, CASE_LIMIT};
@@ -13,10 +10,11 @@ use crate::encode::encode_request;
 use crate::model::Request;
 use crate::rng::Rng;
 use crate::run::{
-    expect_bytes, expect_form, expect_outlook, state_of, told, LEAST_SHARE, MOST_PATHS,
+    expect_bytes, expect_form, expect_left, expect_outlook, expect_told, told, LEAST_SHARE,
+    MOST_PATHS,
 };
 use crate::table::{Known, Table};
-use crate::tally::{all_met, each, never, titled, Differences};
+use crate::tally::{all_met, CarriedOut, Differences, Occurred};
 use crate::walk::{walk, TooMany, Verdict};
 use crate::{judge_line, open, paths, worlds};
 
@@ -187,14 +185,11 @@ fn number_of(verdict: Verdict) -> u8 {
 /// How often each thing happened.
 #[derive(Clone, Debug, Default)]
 pub struct Tally {
-    calls: u64,
-    numbers: BTreeMap<u8, u64>,
-    events: BTreeMap<Event, u64>,
+    occurred: Occurred<Event>,
     only_by_cases: u64,
     second_walks: u64,
     second_walks_left: u64,
-    carried_out: u64,
-    true_worlds: u64,
+    carried_out: CarriedOut,
     not_enumerated: u64,
     missed_though_reached: u64,
     differences: Differences,
@@ -219,8 +214,6 @@ pub fn run(seed: u64, calls: u64) -> Tally {
 impl Tally {
     /// Notes a call with its answer.
     pub fn note(&mut self, request: &[u8], budget: u32, answer: Answer) {
-        self.calls += 1;
-        *self.numbers.entry(answer.number).or_default() += 1;
         let events = events(request, budget, answer);
         let only = [
             Event::VerifiedThoughMissed,
@@ -228,9 +221,7 @@ impl Tally {
             Event::VerifiedThoughSpent,
         ];
         self.only_by_cases += u64::from(events.iter().any(|event| only.contains(event)));
-        for event in events {
-            *self.events.entry(event).or_default() += 1;
-        }
+        self.occurred.note(answer.number, events);
     }
 
     /// Makes a call by cases and checks its answer.
@@ -244,12 +235,7 @@ impl Tally {
             outlook => expect_outlook(answer, outlook)?,
         }
         let written = matches!(answer.number, 1 | 2);
-        if !written && lent != call.lent {
-            return Err(format!("answer {answer} changed the lent state"));
-        }
-        if answer.number != 2 && line != 0 {
-            return Err(format!("answer {answer} carries the line {line}"));
-        }
+        expect_left(call, written, (answer, line), &lent)?;
         compare_plain(call, answer)?;
         if !matches!(answer.number, 0..=3 | TOO_MANY) {
             return Ok(());
@@ -273,18 +259,7 @@ impl Tally {
             return Ok(());
         };
         self.second_walks += 1;
-        if (other.answer, other.line) != (answer, line as usize) {
-            let (by, its) = (other.answer, other.line);
-            return Err(format!(
-                "answer {answer}, line {line}, by the second walk {by}, line {its}"
-            ));
-        }
-        match other.marks.map(state_of) {
-            Some(state) if lent != state => Err(format!(
-                "answer {answer}: the second walk's state is another"
-            )),
-            _ => Ok(()),
-        }
+        expect_told(other, (answer, line), lent)
     }
 
     /// A verified plan works in every true world.
@@ -296,15 +271,8 @@ impl Tally {
         if matches!(answer.number, 3 | TOO_MANY) {
             return Ok(());
         }
-        match (answer.number, worlds::carry_out(request)) {
-            (0, Ok(worlds)) => {
-                self.carried_out += 1;
-                self.true_worlds += worlds;
-            }
-            (0, Err(failure)) => return Err(format!("verified, but in worlds {failure:?}")),
-            (_, Ok(_)) => self.missed_though_reached += 1,
-            _ => {}
-        }
+        let reached = self.carried_out.note(answer, worlds::carry_out(request))?;
+        self.missed_though_reached += u64::from(reached);
         Ok(())
     }
 
@@ -322,31 +290,21 @@ impl Tally {
     pub fn verdict(&self) -> Result<(), String> {
         self.differences.verdict()?;
         all_met(&self.never_met())?;
-        let rare = |number: &u8| self.numbers[number] * 100 < self.calls * LEAST_SHARE;
-        match [0, 1, 2, 3, TOO_MANY].iter().find(|number| rare(number)) {
-            Some(number) => Err(format!("below {LEAST_SHARE} per cent: answer {number}")),
-            None => Ok(()),
-        }
+        self.occurred
+            .none_rare(&[0, 1, 2, 3, TOO_MANY], LEAST_SHARE)
     }
 
     /// What has to occur and didn't, or not often enough, in words.
     pub fn never_met(&self) -> Vec<String> {
-        let only = self.only_by_cases * 100 < self.calls * LEAST_ONLY;
+        let only = self.only_by_cases * 100 < self.occurred.calls() * LEAST_ONLY;
         let only = only.then(|| format!("verified by cases only in {LEAST_ONLY} per cent"));
-        let numbers = never(&NUMBERS, &self.numbers, |number| {
-            format!("answer {number} by cases")
-        });
-        let events = never(&Event::ALL, &self.events, |event| format!("{event:?}"));
-        numbers.chain(events).chain(only).collect()
+        let never = self.occurred.never(&NUMBERS, "by cases", &Event::ALL);
+        never.chain(only).collect()
     }
 
     /// The tallies as text, one to a line.
     pub fn report(&self) -> String {
-        let mut out = self.differences.report();
-        let _ = writeln!(out, "requests judged by cases: {}", self.calls);
-        out += &each(&self.numbers, |number| format!("  answer {number}"));
-        out += &each(&self.events, |event| format!("  {event:?}"));
-        let mut numbers = vec![
+        let numbers = [
             ("verified by cases only", self.only_by_cases),
             (
                 "walks by cases compared with the second walk",
@@ -358,9 +316,9 @@ impl Tally {
             ),
             (
                 "verified by cases and carried out in all worlds",
-                self.carried_out,
+                self.carried_out.plans(),
             ),
-            ("true worlds of these", self.true_worlds),
+            ("true worlds of these", self.carried_out.worlds()),
             (
                 "verified by cases with more than ten fluents",
                 self.not_enumerated,
@@ -370,8 +328,7 @@ impl Tally {
                 self.missed_though_reached,
             ),
         ];
-        numbers.retain(|(_, number)| *number > 0);
-        out + &titled(&numbers)
+        self.differences.report() + &self.occurred.report("requests judged by cases", &numbers)
     }
 }
 
