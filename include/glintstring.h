@@ -22,11 +22,14 @@ extern "C" {
 #define GLINTSTRING_VERSION_MINOR 3
 #define GLINTSTRING_VERSION_PATCH 0
 
-/* The length of the state that the walk call and the guarded call are lent. */
+/* The length of the state that the walk call, the guarded call and the call by cases are lent. */
 #define GLINTSTRING_STATE_LENGTH 128
 
 /* Guards that a guarded request may have. */
 #define GLINTSTRING_MOST_GUARDS 64
+
+/* Open fluents that an action may have where the call by cases meets it (FORMAT 22.8). */
+#define GLINTSTRING_MOST_OPEN 12
 
 /* Plans that a release file may have, and numbers for each of them in the row that the release call is lent. */
 #define GLINTSTRING_MOST_PLANS 64
@@ -53,10 +56,11 @@ extern "C" {
 #define GLINTSTRING_DERIVATION 2
 
 /*
- * The numbers of answers (FORMAT 4.3 to 4.25, 17.35, 17.36, 19.10 and 21.10), each with what its place is. The walk call gives 0 to 3
- * and 9 to 21, the guarded call these and 43, the derivation call 0, 10 to 21 and 30 to 35, the whether call 0, 10 to 21, 31 to 34 and
- * 36. The release call itself gives 0, 9 to 17 and 20, and to each plan 0 to 3, 11 to 15, 18, 19, 21 and 22. Of a derivation's faults
- * 10 to 15 and 18 to 21 are told by the same numbers as a request's: the answer names the input.
+ * The numbers of answers (FORMAT 4.3 to 4.25, 17.35, 17.36, 19.10, 21.10 and 22.9), each with what its place is. The walk call gives 0
+ * to 3 and 9 to 21, the guarded call also 43, and the call by cases also 44 and not 43; the derivation call gives 0, 10 to 21 and 30 to
+ * 35, the whether call 0, 10 to 21, 31 to 34 and 36. The release call itself gives 0, 9 to 17 and 20, and to each plan 0 to 3, 11 to 15,
+ * 18, 19, 21 and 22. Of a derivation's faults 10 to 15 and 18 to 21 are told by the same numbers as a request's: the answer names the
+ * input.
  */
 #define GLINTSTRING_VERIFIED 0                  /* the walk verifies the plan; place 0 */
 #define GLINTSTRING_ACCEPTED 0                  /* the derivation call, the whether call: the derivation is accepted; place 0 */
@@ -95,13 +99,16 @@ extern "C" {
                                                    then the first such entry */
 #define GLINTSTRING_GUARD_BROKEN 43             /* the guarded call: a state is met in which a guard is not known true; the first
                                                    such guard */
+#define GLINTSTRING_TOO_MANY_CASES 44           /* the call by cases: an action is met in a state in which it has more than 12 open
+                                                   fluents; that item */
 
 /*
  * An answer comes packed into one number: number + 2^8 * input + 2^16 * place + 2^32 * count. These take it apart.
  *
  * The place is the number of bytes that stand before it in its input. The count is that of the walk (actions run and end states judged)
- * for answers 0, 1, 2 and 43 of the walk call and the guarded call, the budget for 3, and 0 for all others, which an accepted
- * derivation's 0 and the release call's own 0 are among. The answers in a row are not packed: there each number has its place.
+ * for answers 0, 1, 2 and 43 of the walk call, the guarded call and the call by cases, the budget for 3, and 0 for all others, which 44,
+ * an accepted derivation's 0 and the release call's own 0 are among. The answers in a row are not packed: there each number has its
+ * place.
  */
 static inline uint8_t glintstring_number(uint64_t answer) { return (uint8_t)(answer & 255u); }
 static inline uint8_t glintstring_input(uint64_t answer) { return (uint8_t)((answer >> 8) & 255u); }
@@ -140,6 +147,7 @@ static inline const char *glintstring_words(unsigned number) {
     case GLINTSTRING_NOT_THE_QUESTION: return "the last line differs from the question";
     case GLINTSTRING_CLOSING_NOT_RIGHT: return "the closing list is not what the request asks";
     case GLINTSTRING_GUARD_BROKEN: return "guard broken";
+    case GLINTSTRING_TOO_MANY_CASES: return "too many cases";
     default: return "no answer that the format has";
     }
 }
@@ -204,6 +212,29 @@ uint64_t glintstring_judge_line(const uint8_t *request, size_t request_length, u
  * The caller sees to the same as for glintstring_judge, and the call keeps nothing either.
  */
 uint64_t glintstring_judge_guarded(const uint8_t *request, size_t request_length, uint8_t *state, size_t state_length, uint32_t budget);
+
+/*
+ * The call by cases: walks the plan of a request as glintstring_judge does, except that an action is tried in every complete filling of
+ * the state, which gives each unknown fluent one of true and false (FORMAT 22.2). It can be run where it can be run in each filling, by
+ * the same line or by others; what is known afterwards is what all the results share. So a plan may be verified here to which
+ * glintstring_judge gives 1 or 2. Branchings, goals, whether entries and readings go by what is known, as there.
+ *
+ * Promise (proved): for every request, lent state and budget the call ends, and its answer and the lent bytes afterwards are those of
+ * the format, each to the last number and byte. Any bytes may be given, of any length; a caller need not have tested anything. Where the
+ * answer is not 44, it is 0, 1, 2 or 3 exactly where the 1-approximation semantics of Son and Baral gives it, walked in the format's
+ * order and within the budget. Where it is 0, the plan can be carried out, and reaches its goals, from every world that has the initial
+ * facts. Where glintstring_judge gives 0, this call gives 0 or 44 with the same budget.
+ *
+ * An action's open fluents are the unknown ones that stand in a body of its effects or of its executability lines. The first action met
+ * that has more than 12 of them ends the walk with too many cases (44), before it is asked whether it can be run and before it is
+ * counted. Its place is that of the item, its count is 0, and the lent state has the bytes that it had before. So 44 is also given where
+ * glintstring_judge would go on. An action adds one to the count however many fillings it was run in, and may take as long as the 4,096
+ * fillings of 12 fluents do.
+ *
+ * The lent state is written by answers 1 and 2 and by no other, as glintstring_judge writes it. The caller sees to the same as for
+ * glintstring_judge, and the call keeps nothing either.
+ */
+uint64_t glintstring_judge_by_cases(const uint8_t *request, size_t request_length, uint8_t *state, size_t state_length, uint32_t budget);
 
 /*
  * The derivation call: checks a derivation, line by line, of what a request asks.

@@ -3,15 +3,16 @@
  *
  *   review judge [--line] [--budget N] REQUEST...           (100,000 unless told otherwise)
  *   review judge-guarded [--budget N] REQUEST...
+ *   review judge-by-cases [--budget N] REQUEST...
  *   review check REQUEST DERIVATION [REQUEST DERIVATION]...
  *   review check-whether REQUEST DERIVATION [REQUEST DERIVATION]...
  *   review release [--budget N] FILE...
  *
  * `check` and `check-whether` do not walk the plan: a derivation may be accepted where every budget is spent. The second takes requests
  * with whether entries too, and derivations in the closing layout. With `--line` a walk that an action stops also says which executability line
- * of it was missing. `judge-guarded` takes guarded requests, whose guards are to be known true all the way. `release` takes release files, each with
- * many plans over one table, and has a line for each plan. The exit status is 0 where each plan is verified or each derivation accepted, 1 where some
- * answer is another, and 2 where something can't be read or written.
+ * of it was missing. `judge-guarded` takes guarded requests, whose guards are to be known true all the way. `judge-by-cases` tries each action in every
+ * filling of what is unknown. `release` takes release files, each with many plans over one table, and has a line for each plan. The exit status is 0
+ * where each plan is verified or each derivation accepted, 1 where some answer is another, and 2 where something can't be read or written.
  */
 #define _POSIX_C_SOURCE 200809L
 #include <errno.h>
@@ -110,13 +111,16 @@ static int judge(const char *name, uint32_t budget, int lined) {
     return status;
 }
 
-/* The same of a guarded request. */
-static int judge_guarded(const char *name, uint32_t budget) {
+/* The guarded call or the call by cases. */
+typedef uint64_t walking_call(const uint8_t *request, size_t request_length, uint8_t *state, size_t state_length, uint32_t budget);
+
+/* The same by another call. */
+static int judge_by(walking_call *call, const char *name, uint32_t budget) {
     uint8_t state[GLINTSTRING_STATE_LENGTH] = {0};
     struct input request;
     int status = read_input(name, GLINTSTRING_REQUEST_LIMIT, &request);
     if (status == GOOD)
-        status = tell(glintstring_judge_guarded(request.bytes, request.length, state, sizeof state, budget), &request, NULL, state);
+        status = tell(call(request.bytes, request.length, state, sizeof state, budget), &request, NULL, state);
     free(request.bytes);
     return status;
 }
@@ -177,8 +181,8 @@ static int is_budget(const char *word, uint32_t *budget) {
 
 static int usage(void) {
     fputs("usage: review judge [--line] [--budget N] REQUEST... | review judge-guarded [--budget N] REQUEST... | "
-          "review check REQUEST DERIVATION [REQUEST DERIVATION]... | review check-whether REQUEST DERIVATION [REQUEST DERIVATION]... | "
-          "review release [--budget N] FILE...\n",
+          "review judge-by-cases [--budget N] REQUEST... | review check REQUEST DERIVATION [REQUEST DERIVATION]... | "
+          "review check-whether REQUEST DERIVATION [REQUEST DERIVATION]... | review release [--budget N] FILE...\n",
           stderr);
     return FAILED;
 }
@@ -190,16 +194,19 @@ static int review(int count, char **word) {
     const int checking = count > 2 && count % 2 == 1 && (whether || strcmp(word[0], "check") == 0);
     const int judging = count > 1 && strcmp(word[0], "judge") == 0;
     const int guarded = count > 1 && strcmp(word[0], "judge-guarded") == 0;
+    const int by_cases = count > 1 && strcmp(word[0], "judge-by-cases") == 0;
     const int releasing = count > 1 && strcmp(word[0], "release") == 0;
     const int lined = judging && strcmp(word[1], "--line") == 0;
     const int after = lined ? 2 : 1;
-    const int budgeted = (judging || guarded || releasing) && count > after && strcmp(word[after], "--budget") == 0;
-    if (!(checking || judging || guarded || releasing) || count == after || (budgeted && (count < after + 3 || !is_budget(word[after + 1], &budget))))
+    const int walking = judging || guarded || by_cases || releasing;
+    const int budgeted = walking && count > after && strcmp(word[after], "--budget") == 0;
+    if (!(checking || walking) || count == after || (budgeted && (count < after + 3 || !is_budget(word[after + 1], &budget))))
         return usage();
     for (i = budgeted ? after + 2 : after; i < count; i += checking ? 2 : 1) {
         status = checking    ? check(whether ? glintstring_check_whether : glintstring_check, word[i], word[i + 1])
                  : releasing ? release(word[i], budget)
-                 : guarded   ? judge_guarded(word[i], budget)
+                 : guarded   ? judge_by(glintstring_judge_guarded, word[i], budget)
+                 : by_cases  ? judge_by(glintstring_judge_by_cases, word[i], budget)
                              : judge(word[i], budget, lined);
         worst = status > worst ? status : worst;
     }

@@ -1,4 +1,4 @@
-//! Answers with the format's names (docs/FORMAT.md, sections 4, 17 and 21).
+//! Answers with the format's names (docs/FORMAT.md, sections 4, 17, 21 and 22).
 
 use std::{error, fmt};
 
@@ -98,16 +98,16 @@ impl State {
     }
 }
 
-/// An answer of the walk call, the guarded call, the derivation call or the whether call, or what the release call says of its file as a whole. A place is
-/// the number of bytes that stand before it in its input: the derivation for 31 to 36, the request or the derivation where the answer says which, and the
-/// request for all others. To the release call its file is the request.
+/// An answer of the walk call, the guarded call, the call by cases, the derivation call or the whether call, or what the release call says of its file as a
+/// whole. A place is the number of bytes that stand before it in its input: the derivation for 31 to 36, the request or the derivation where the answer says
+/// which, and the request for all others. To the release call its file is the request.
 ///
 /// A number keeps its meaning from one version to the next, and a version may have numbers that the one before did not.
 #[must_use = "an answer other than 0 says that the plan is not to pass: see `is_verified` and `verified`"]
 #[non_exhaustive]
 #[derive(Clone, Copy, Debug, PartialEq, Eq, Hash)]
 pub enum Answer {
-    /// 0 of the walk call and of the guarded call: the walk verifies the plan.
+    /// 0 of the walk call, of the guarded call and of the call by cases: the walk verifies the plan.
     Verified {
         /// Actions run and end states judged.
         count: u32,
@@ -262,6 +262,11 @@ pub enum Answer {
         /// That state.
         state: State,
     },
+    /// 44 of the call by cases: an action is met that has more open fluents than [`MOST_OPEN`](crate::MOST_OPEN), which are the unknown ones in its bodies.
+    TooManyCases {
+        /// That item.
+        place: usize,
+    },
 }
 
 impl Answer {
@@ -296,6 +301,18 @@ impl Answer {
                 let state = State::from_bytes(state).unwrap_or_else(|| strange(packed));
                 Answer::GuardBroken { place: packed.place(), count: packed.count(), state }.if_packed(packed)
             }
+            _ => Answer::unpack(packed, state),
+        }
+    }
+
+    /// Takes an answer of the call by cases apart; `state` is what the lent bytes are after the call.
+    ///
+    /// # Panics
+    ///
+    /// Where [`Answer::unpack`] does, but for number 44, and where input and count do not go with 44. The proved library gives no such answer.
+    pub fn unpack_by_cases(packed: Packed, state: &[u8]) -> Answer {
+        match packed.number() {
+            44 => Answer::TooManyCases { place: packed.place() }.if_packed(packed),
             _ => Answer::unpack(packed, state),
         }
     }
@@ -419,6 +436,7 @@ impl Answer {
             Answer::NotTheQuestion { .. } => 35,
             Answer::ClosingNotRight { .. } => 36,
             Answer::GuardBroken { .. } => 43,
+            Answer::TooManyCases { .. } => 44,
         }
     }
 
@@ -448,6 +466,7 @@ impl Answer {
             Answer::GoalMissed { .. }
             | Answer::NotExecutable { .. }
             | Answer::GuardBroken { .. }
+            | Answer::TooManyCases { .. }
             | Answer::Contradictory { .. }
             | Answer::EffectsAndKnowledge { .. }
             | Answer::WhetherAsked { .. } => Some(Input::Request),
@@ -467,6 +486,7 @@ impl Answer {
             Answer::GoalMissed { place, .. }
             | Answer::NotExecutable { place, .. }
             | Answer::GuardBroken { place, .. }
+            | Answer::TooManyCases { place }
             | Answer::InputEnds { place, .. }
             | Answer::CountNotWithinLimits { place, .. }
             | Answer::TooLarge { place, .. }
@@ -488,7 +508,7 @@ impl Answer {
         }
     }
 
-    /// The count: the walk's, or the budget where it is spent, and 0 for refusals and for an accepted derivation.
+    /// The count: the walk's, or the budget where it is spent, and 0 for refusals, for too many cases and for an accepted derivation.
     pub fn count(&self) -> u32 {
         match *self {
             Answer::Verified { count } => count,
@@ -544,6 +564,7 @@ pub(crate) fn words_of(number: u8) -> &'static str {
         35 => "the last line differs from the question",
         36 => "the closing list is not what the request asks",
         43 => "guard broken",
+        44 => "too many cases",
         _ => "no answer that the format has",
     }
 }

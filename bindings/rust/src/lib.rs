@@ -2,10 +2,10 @@
 //!
 //! A request has a domain table, a plan and goals in its bytes (docs/FORMAT.md). [`judge`] walks the plan over partial states and
 //! answers; that its answer, the state in it included, is that of the definition is proved, for every request and budget
-//! (docs/STATEMENTS.md). [`judge_guarded`] walks the plan of a guarded request, whose guards are to be known true all the way, [`check`] checks a
-//! derivation, lines by which the plan reaches its goals, [`check_whether`] one that also says of fluents that they are known in the end, [`release`]
-//! walks every plan of a release file, which has many plans over one table, and [`show`] gives the part of an input that an answer is about; of these
-//! the same is proved. This crate adds names to the numbers and proves nothing.
+//! (docs/STATEMENTS.md). [`judge_guarded`] walks the plan of a guarded request, whose guards are to be known true all the way, [`judge_by_cases`] walks a
+//! plan with each action tried in every filling of what is unknown, [`check`] checks a derivation, lines by which the plan reaches its goals,
+//! [`check_whether`] one that also says of fluents that they are known in the end, [`release`] walks every plan of a release file, which has many plans
+//! over one table, and [`show`] gives the part of an input that an answer is about; of these the same is proved. This crate adds names to the numbers and proves nothing.
 //! `examples/rust` of the repository is a small program that uses it.
 //!
 //! ```
@@ -32,8 +32,8 @@
 //! # Stack
 //!
 //! A walk may need as much as [`STACK_NEEDED`] bytes of stack, more than the 2 MiB that a thread in Rust gets, and more than the 8 MiB that the
-//! first thread of a process has as a rule; the request decides how much. [`judge`], [`judge_line`], [`judge_guarded`] and [`release`] see to
-//! that: they walk on a thread of their own. A [`Judge`] keeps such a thread for many calls. Those with `_here` or `_packed` in their names walk on the
+//! first thread of a process has as a rule; the request decides how much. [`judge`], [`judge_line`], [`judge_guarded`], [`judge_by_cases`] and
+//! [`release`] see to that: they walk on a thread of their own. A [`Judge`] keeps such a thread for many calls. Those with `_here` or `_packed` in their names walk on the
 //! caller's stack, and a walk that has too little of it is ended by the system, and the process with it. [`check`], [`check_whether`], [`plans`] and [`show`] need far
 //! less, whatever their inputs, and a thread's 2 MiB will do.
 //!
@@ -55,11 +55,15 @@ pub use serving::Judge;
 
 use std::{io, thread};
 
-/// The length of the lent state that [`judge_packed`] and [`judge_guarded_packed`] take, which is the number of marks in a [`State`].
+/// The length of the lent state that [`judge_packed`], [`judge_guarded_packed`] and [`judge_by_cases_packed`] take, which is the number of marks in a
+/// [`State`].
 pub const STATE_LENGTH: usize = 128;
 
 /// Guards that a guarded request may have.
 pub const MOST_GUARDS: usize = 64;
+
+/// Open fluents that an action may have where the call by cases meets it (FORMAT 22.8).
+pub const MOST_OPEN: usize = 12;
 
 /// Plans that a release file may have.
 pub const MOST_PLANS: usize = 64;
@@ -83,6 +87,7 @@ extern "C" {
     // As include/glintstring.h has them.
     fn glintstring_judge(request: *const u8, request_length: usize, state: *mut u8, state_length: usize, budget: u32) -> u64;
     fn glintstring_judge_guarded(request: *const u8, request_length: usize, state: *mut u8, state_length: usize, budget: u32) -> u64;
+    fn glintstring_judge_by_cases(request: *const u8, request_length: usize, state: *mut u8, state_length: usize, budget: u32) -> u64;
     fn glintstring_judge_line(request: *const u8, request_length: usize, state: *mut u8, state_length: usize, budget: u32, line: *mut u32) -> u64;
     fn glintstring_check(request: *const u8, request_length: usize, derivation: *const u8, derivation_length: usize) -> u64;
     fn glintstring_check_whether(request: *const u8, request_length: usize, derivation: *const u8, derivation_length: usize) -> u64;
@@ -289,6 +294,72 @@ pub fn judge_guarded_here(request: &[u8], budget: u32) -> Answer {
 pub fn judge_guarded_packed(request: &[u8], state: &mut [u8], budget: u32) -> Packed {
     // Each pointer is valid for its length, the state's for writing too and for nobody else, and the call keeps neither.
     Packed(unsafe { glintstring_judge_guarded(request.as_ptr(), request.len(), state.as_mut_ptr(), state.len(), budget) })
+}
+
+/// The call by cases: judges a request by walking its plan, with a count of at most `budget` and with each action tried in every complete filling of the state.
+///
+/// A filling gives each unknown fluent one of true and false. An action can be run where it can be run in each filling, and what is known afterwards is what
+/// all the results share; branchings, goals and whether entries go by what is known, as with [`judge`] (FORMAT 22.1 to 22.6). So more plans are verified. An
+/// action that has more than [`MOST_OPEN`] unknown fluents in its bodies ends the walk with [`Answer::TooManyCases`], also where [`judge`] would go on; all
+/// else is answered as [`judge`] answers. Any bytes may be given, of any length. The walk runs on a thread of its own that has enough stack, and the caller
+/// waits for it; for many calls a [`Judge`] keeps one. An action may take as long as 4,096 fillings do, and is counted once.
+///
+/// ```
+/// use glintstring::{judge, judge_by_cases, show, Answer};
+///
+/// # fn main() -> std::io::Result<()> {
+/// // Case 10 of the format: two fluents, nothing known of them. Action 0 makes the first true where the second is true, and where it is false.
+/// let request = [2, 1, 0, 2, 0, 0, 1, 2, 0, 0, 1, 3, 1, 0, 0, 0, 0, 1, 0, 1, 0, 0];
+/// assert_eq!(judge(&request, 100)?.number(), 1);
+/// assert_eq!(judge_by_cases(&request, 100)?, Answer::Verified { count: 2 });
+///
+/// // The action makes fluent 0 true where 13 fluents are, of which nothing is known.
+/// let table = [13, 1, 0, 1, 0, 0, 13, 0, 2, 4, 6, 8, 10, 12, 14, 16, 18, 20, 22, 24, 1, 0, 0, 0];
+/// let wide = [&table[..], &[0, 1, 0, 0, 0]].concat();
+/// let answer = judge_by_cases(&wide, 100)?;
+/// assert_eq!(answer, Answer::TooManyCases { place: 26 });
+/// assert_eq!(show(answer, &wide, &[]), [0, 0, 0]);
+/// assert_eq!(judge(&wide, 100)?, Answer::Verified { count: 2 });
+/// # Ok(())
+/// # }
+/// ```
+///
+/// # Errors
+///
+/// Where the system gives no such thread. Then nothing is judged.
+///
+/// # Panics
+///
+/// Where the library linked gives an answer that the format does not have, which the proved one does not.
+pub fn judge_by_cases(request: &[u8], budget: u32) -> io::Result<Answer> {
+    with_stack(|| judge_by_cases_here(request, budget))
+}
+
+/// [`judge_by_cases`] on the caller's own stack, as [`judge_here`] is [`judge`].
+///
+/// # Panics
+///
+/// Where the library linked gives an answer that the format does not have, which the proved one does not.
+pub fn judge_by_cases_here(request: &[u8], budget: u32) -> Answer {
+    let mut state = [0; STATE_LENGTH];
+    let packed = judge_by_cases_packed(request, &mut state, budget);
+    Answer::unpack_by_cases(packed, &state)
+}
+
+/// The call by cases as it is exported: the same as [`judge_by_cases_here`], with a lent state, and with the answer packed into one number.
+///
+/// After answers 1 and 2 the lent bytes are the state concerned, which [`State::from_bytes`] reads; after every other answer, 44 too, they are what
+/// they were. Where there are not [`STATE_LENGTH`] of them, the answer is 9.
+///
+/// ```
+/// // One fluent, nothing known of it; action 0 makes it true where it is false, and is the plan.
+/// let request = [1, 1, 0, 1, 0, 0, 1, 1, 1, 0, 0, 0, 0, 1, 0, 1, 0, 0];
+/// let packed = glintstring::judge_by_cases_packed(&request, &mut [0; 128], 2);
+/// assert_eq!((packed.number(), packed.input(), packed.place(), packed.count()), (0, 0, 0, 2));
+/// ```
+pub fn judge_by_cases_packed(request: &[u8], state: &mut [u8], budget: u32) -> Packed {
+    // Each pointer is valid for its length, the state's for writing too and for nobody else, and the call keeps neither.
+    Packed(unsafe { glintstring_judge_by_cases(request.as_ptr(), request.len(), state.as_mut_ptr(), state.len(), budget) })
 }
 
 /// The derivation call: checks a derivation of what a request asks.

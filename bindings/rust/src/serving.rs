@@ -3,7 +3,7 @@
 use std::sync::mpsc::{channel, Receiver, Sender};
 use std::{fmt, io, thread};
 
-use crate::{judge_guarded_packed, judge_line_packed, release_row, Answer, Judged, Packed, Released, REQUEST_LIMIT, STACK, STATE_LENGTH};
+use crate::{judge_by_cases_packed, judge_guarded_packed, judge_line_packed, release_row, Answer, Judged, Packed, Released, REQUEST_LIMIT, STACK, STATE_LENGTH};
 
 /// A thread with enough stack for a walk, which is started once and serves many calls, one after the other.
 ///
@@ -38,14 +38,15 @@ pub struct Judge {
     answers: Receiver<Answered>,
 }
 
-/// What the walk call, the guarded call or the release call is given: a request, a guarded one or a release file, and a budget.
+/// What the walk call, the guarded call, the call by cases or the release call is given: a request, a guarded one or a release file, and a budget.
 enum Call {
     Walk(Vec<u8>, u32),
     Guarded(Vec<u8>, u32),
+    ByCases(Vec<u8>, u32),
     Release(Vec<u8>, u32),
 }
 
-/// What they leave: an answer, with the lent state and the line, which the guarded call has not, or with the lent row.
+/// What they leave: an answer, with the lent state and the line, which the walk call alone has, or with the lent row.
 enum Answered {
     Walk(Packed, [u8; STATE_LENGTH], u32),
     Release(Packed, Vec<u32>),
@@ -99,6 +100,16 @@ impl Judge {
         Answer::unpack_guarded(packed, &state)
     }
 
+    /// The call by cases, as [`judge_by_cases`](crate::judge_by_cases) makes it.
+    ///
+    /// # Panics
+    ///
+    /// As [`Judge::judge`] does.
+    pub fn judge_by_cases(&mut self, request: &[u8], budget: u32) -> Answer {
+        let (packed, state, _) = self.walk(Call::ByCases(copied(request), budget));
+        Answer::unpack_by_cases(packed, &state)
+    }
+
     /// The release call, as [`release`](crate::release) makes it: answers every plan of a release file, each with a count of at most `budget`.
     ///
     /// # Panics
@@ -138,6 +149,11 @@ fn serve(calls: &Receiver<Call>, answers: &Sender<Answered>) {
             Call::Guarded(request, budget) => {
                 let mut state = [0; STATE_LENGTH];
                 let packed = judge_guarded_packed(&request, &mut state, budget);
+                Answered::Walk(packed, state, 0)
+            }
+            Call::ByCases(request, budget) => {
+                let mut state = [0; STATE_LENGTH];
+                let packed = judge_by_cases_packed(&request, &mut state, budget);
                 Answered::Walk(packed, state, 0)
             }
             Call::Release(file, budget) => {

@@ -6,8 +6,9 @@ use std::error::Error;
 
 use common::{deep, FILE_A};
 use glintstring::{check, check_packed, check_whether, check_whether_packed, judge, judge_here, judge_packed, show, show_start};
+use glintstring::{judge_by_cases, judge_by_cases_here, judge_by_cases_packed};
 use glintstring::{judge_guarded, judge_guarded_here, judge_guarded_packed, judge_line, judge_line_here, judge_line_packed};
-use glintstring::{Answer, Input, Judge, Judged, Mark, NotVerified, Packed, State, STATE_LENGTH};
+use glintstring::{Answer, Input, Judge, Judged, Mark, NotVerified, Packed, State, MOST_OPEN, STATE_LENGTH};
 
 /// Bytes 0 to 28 of File A, followed by these.
 fn from_29(rest: &[u8]) -> Vec<u8> {
@@ -116,12 +117,72 @@ fn no_guards_and_no_ninth_section() {
     assert_eq!(judge_guarded_here(&[guarded_by(&[7]), vec![0]].concat(), 5), Answer::BytesLeftOver { input: Input::Request, place: 50 });
 }
 
+/// One action, which makes fluent 0 true where so many fluents are true, of which nothing is known; then this plan of it.
+fn open(fluents: u8, plan: &[u8]) -> Vec<u8> {
+    let body: Vec<u8> = (0..fluents).map(|fluent| 2 * fluent).collect();
+    [&[fluents, 1, 0, 1, 0, 0, fluents], &body[..], &[1, 0, 0, 0, 0, plan.len() as u8], plan, &[0, 0]].concat()
+}
+
+#[test]
+fn by_cases_more_is_known() {
+    // Case 10 of the format, and what the walk call says of it.
+    let request = [2, 1, 0, 2, 0, 0, 1, 2, 0, 0, 1, 3, 1, 0, 0, 0, 0, 1, 0, 1, 0, 0];
+    assert_eq!(judge_by_cases(&request, 2).expect("a thread"), Answer::Verified { count: 2 });
+    assert_eq!(judge_by_cases_here(&request, 1), Answer::BudgetSpent { budget: 1 });
+    assert_eq!((judge_here(&request, 2).number(), judge_here(&request, 2).place()), (1, 20));
+    // Two lines, of which one allows the action where the fluent is true and the other where it is false; and one line alone.
+    let lines = [1, 1, 0, 0, 2, 0, 1, 0, 0, 1, 1, 0, 0, 1, 0, 0, 0];
+    assert_eq!(judge_by_cases_here(&lines, 100), Answer::Verified { count: 2 });
+    assert_eq!((judge_here(&lines, 100).number(), judge_here(&lines, 100).place()), (2, 14));
+    let answer = judge_by_cases_here(&[1, 1, 0, 0, 1, 0, 1, 0, 0, 0, 1, 0, 0, 0], 100);
+    let Answer::NotExecutable { place, count, state } = answer else { panic!("{answer}") };
+    assert_eq!((place, count, state.line(1).as_str()), (11, 0, "?"));
+}
+
+#[test]
+fn too_many_cases_have_a_place_alone() {
+    let most = MOST_OPEN as u8;
+    assert_eq!(judge_by_cases_here(&open(most, &[0, 0]), 3), Answer::Verified { count: 3 });
+    let request = open(most + 1, &[0, 0]);
+    assert_eq!(judge_here(&request, 3), Answer::Verified { count: 3 });
+    for budget in [0, 3, u32::MAX] {
+        let mut lent = [9; STATE_LENGTH];
+        let answer = Answer::unpack_by_cases(judge_by_cases_packed(&request, &mut lent, budget), &lent);
+        assert_eq!((answer, lent), (Answer::TooManyCases { place: 26 }, [9; STATE_LENGTH]));
+        assert_eq!((answer.number(), answer.input(), answer.count(), answer.state()), (44, 1, 0, None));
+        assert_eq!(answer.named(), Some(Input::Request));
+        assert_eq!(show(answer, &request, &[]), [0, 0, 0, 0]);
+        assert_eq!(answer.to_string(), "too many cases (44, place 26, count 0)");
+        let error = answer.verified().unwrap_err();
+        assert_eq!(error.to_string(), "not verified: too many cases (answer 44, place 26 of the request)");
+    }
+}
+
+/// Where the walk call refuses, so does the call by cases, and on File A, where every action goes by what is known, they answer alike.
+#[test]
+fn by_cases_refused_alike() {
+    for end in 0..=FILE_A.len() {
+        for budget in 0..=5 {
+            assert_eq!(judge_by_cases_here(&FILE_A[..end], budget), judge_here(&FILE_A[..end], budget));
+        }
+    }
+    for length in [0, 1, STATE_LENGTH - 1, STATE_LENGTH + 1, 200] {
+        let mut lent = vec![9; length];
+        assert_eq!(judge_by_cases_packed(&open(13, &[0]), &mut lent, 7).0, 9);
+        assert_eq!(lent, vec![9; length]);
+    }
+    assert_eq!(judge_by_cases_here(&vec![1; 16_385], 7), Answer::TooLong { input: Input::Request });
+}
+
 /// The thread of a test has 2 MiB, which these walks do not fit in.
 #[test]
 fn the_short_names_see_to_their_stack() {
     assert_eq!(judge(&deep(), 100_000).expect("a thread"), Answer::BudgetSpent { budget: 100_000 });
     assert_eq!(judge_guarded(&[deep(), vec![0]].concat(), 100_000).expect("a thread"), Answer::BudgetSpent { budget: 100_000 });
+    assert_eq!(judge_by_cases(&deep(), 5_000).expect("a thread"), judge(&deep(), 5_000).expect("a thread"));
     let mut judge = Judge::new().expect("a thread");
+    assert_eq!(judge.judge_by_cases(&deep(), 5_000), Answer::BudgetSpent { budget: 5_000 });
+    assert_eq!(judge.judge_by_cases(&open(13, &[0]), 5), Answer::TooManyCases { place: 26 });
     assert_eq!(judge.judge_guarded(&[deep(), vec![0]].concat(), 5_000), Answer::BudgetSpent { budget: 5_000 });
     assert_eq!(judge.judge_guarded(&guarded_by(&[5]), 5), judge_guarded_here(&guarded_by(&[5]), 5));
     assert_eq!(judge.judge(&FILE_A, 5), Answer::Verified { count: 5 });
@@ -160,6 +221,7 @@ fn zero_alone_is_verified() {
     }
     assert!(!Answer::ClosingNotRight { place: 0 }.is_verified());
     assert!(!Answer::unpack_guarded(Packed(43 + (1 << 8)), &[0; STATE_LENGTH]).is_verified());
+    assert!(!Answer::unpack_by_cases(Packed(44 + (1 << 8)), &[0; STATE_LENGTH]).is_verified());
 }
 
 #[test]
@@ -174,11 +236,16 @@ fn each_number_is_packed_as_it_came() {
         assert_eq!(u64::from(answer.number()), number);
         assert_eq!(answer.state().is_some(), matches!(number, 1 | 2));
         assert_eq!(Answer::unpack_guarded(packed, &[0; STATE_LENGTH]), answer);
+        assert_eq!(Answer::unpack_by_cases(packed, &[0; STATE_LENGTH]), answer);
     }
     let packed = Packed(43 + (1 << 8) + (16_383 << 16) + (u64::from(u32::MAX) << 32));
     let answer = Answer::unpack_guarded(packed, &[2; STATE_LENGTH]);
     assert_eq!((answer.packed(), answer.number(), answer.count()), (packed, 43, u32::MAX));
     assert_eq!(answer.state().expect("a state").marks(), &[Mark::False; STATE_LENGTH]);
+    // What the lent bytes are does not matter to 44.
+    let packed = Packed(44 + (1 << 8) + (16_383 << 16));
+    let answer = Answer::unpack_by_cases(packed, &[9; STATE_LENGTH]);
+    assert_eq!((answer.packed(), answer.number(), answer.place(), answer.state()), (packed, 44, 16_383, None));
 }
 
 /// What no library may give: numbers that the walk call does not have, an input, a place or a count that does not go with its number, and a
@@ -202,6 +269,13 @@ fn what_is_no_answer_is_refused() {
     }
     assert!(refused(43, &[0; STATE_LENGTH]) && refused(43 + (2 << 8), &[0; STATE_LENGTH]), "a broken guard of another input");
     assert!(refused(43 + (1 << 8), &[3; STATE_LENGTH]) && refused(43 + (1 << 8), &[]), "a broken guard without its state");
+    // The call by cases has 44 besides, and not 43.
+    let refused = |packed: u64, lent: &[u8]| std::panic::catch_unwind(|| Answer::unpack_by_cases(Packed(packed), lent)).is_err();
+    for number in (4..=8).chain(22..=255) {
+        assert_eq!(refused(number + (1 << 8), &[0; STATE_LENGTH]), number != 44, "number {number}");
+    }
+    assert!(refused(44, &[0; STATE_LENGTH]) && refused(44 + (2 << 8), &[0; STATE_LENGTH]), "too many cases in another input");
+    assert!(refused(44 + (1 << 8) + (1 << 32), &[0; STATE_LENGTH]), "too many cases with a count");
 }
 
 #[test]

@@ -1,7 +1,7 @@
 //! Each call at the ends of its lengths: inputs of no byte, of one, of as many as they may have and of one more, and lent states of every
 //! length from 0 to 258.
 
-use glintstring::{check_packed, check_whether_packed, judge_guarded_packed, judge_packed, show, show_start};
+use glintstring::{check_packed, check_whether_packed, judge_by_cases_packed, judge_guarded_packed, judge_packed, show, show_start};
 use glintstring::{Packed, DERIVATION_LIMIT, REQUEST_LIMIT, STATE_LENGTH};
 
 /// Number, input, place and count.
@@ -47,7 +47,7 @@ fn largest_closing() -> (Vec<u8>, Vec<u8>) {
 const LONGEST: usize = 2 * STATE_LENGTH + 2;
 const FENCE: usize = 64;
 
-/// The walk call or the guarded call, with a request that has as many bytes as there may be and stops the walk by this answer, before anything is known.
+/// A call that walks, with a request that has as many bytes as there may be and stops the walk by this answer, before anything is known.
 fn requests_and_lent_states(call: fn(&[u8], &mut [u8], u32) -> Packed, largest: &[u8], stop: (u8, u8, usize, u32)) {
     assert_eq!(largest.len(), REQUEST_LIMIT);
     let longer = [largest, &[0]].concat();
@@ -58,7 +58,7 @@ fn requests_and_lent_states(call: fn(&[u8], &mut [u8], u32) -> Packed, largest: 
             let mut around = [9; FENCE + LONGEST + FENCE];
             let packed = call(request, &mut around[FENCE..FENCE + length], 7);
             assert_eq!(numbers(packed), if length == STATE_LENGTH { answer } else { (9, 0, 0, 0) }, "{} bytes, {length} lent", request.len());
-            if length == STATE_LENGTH && answer == stop {
+            if length == STATE_LENGTH && answer == stop && matches!(answer.0, 2 | 43) {
                 let state = &mut around[FENCE..FENCE + STATE_LENGTH];
                 assert_eq!(state, [0; STATE_LENGTH]);
                 state.fill(9);
@@ -81,6 +81,16 @@ fn guarded_requests_that_are_walked() {
     largest[place - 1] -= 2;
     largest[REQUEST_LIMIT - 2..].copy_from_slice(&[1, 255]);
     requests_and_lent_states(judge_guarded_packed, &largest, (43, 1, REQUEST_LIMIT - 1, 0));
+}
+
+/// The same request; and with its last action put first, which has 16 open fluents where it is met.
+#[test]
+fn requests_that_are_walked_by_cases() {
+    let (mut largest, place) = largest_request();
+    requests_and_lent_states(judge_by_cases_packed, &largest, (2, 1, place, 0));
+    largest.copy_within(place..REQUEST_LIMIT - 1, place + 1);
+    largest[place] = 0;
+    requests_and_lent_states(judge_by_cases_packed, &largest, (44, 1, place, 0));
 }
 
 fn requests_and_derivations(call: fn(&[u8], &[u8]) -> Packed, (request, largest): (Vec<u8>, Vec<u8>)) {

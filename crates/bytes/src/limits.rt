@@ -25,6 +25,8 @@ pub const PLANS: usize = 64;
 
 pub const GUARDS: usize = 64;
 
+pub const OPEN: usize = 12;
+
 // A line's number in its section is a byte (FORMAT 2.14 to 2.16).
 pub const LINE_NUMBERS: usize = 256;
 

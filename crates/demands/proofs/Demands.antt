@@ -1,4 +1,4 @@
--- The demands (FORMAT section 11, 17.38 to 17.41 and 21.22 to 21.25), each by citing where its argument stands. Read this file first. Assumes nothing.
+-- The demands (FORMAT section 11, 17.38 to 17.41, 21.22 to 21.25 and 22.17 to 22.22), each by citing where its argument stands. Read this file first. Assumes nothing.
 use Prim.Native.Nat.{ℕ, _-_, _≤_, _<_}
 use native.Mathlib.Omega.{arith}
 use mathlib.Core.Path.{_≡_, refl, sym, _∙_, ap}
@@ -87,6 +87,25 @@ pub use Rattle.meaning.proofs.KeptEnds.{walked-unguarded}
 pub use Rattle.meaning.proofs.GuardedEmpty.{without-guards}
 -- Answer 2 carries the line of the item at its place in the state left, and every other answer, 43 among them, none (FORMAT 21.20).
 pub use Rattle.meaning.proofs.GuardedLine.{guarded-line-there, guarded-no-line, no-line-broken, guarded-line-missing}
+-- THE CALL BY CASES. Demand 1 (FORMAT 22.17): its number is one of its own; input, place, count and state are what the number says (22.11, 22.14).
+pub use Rattle.meaning.proofs.CaseAnswers.{cases-numbered, cases-input, cases-place, cases-count, cases-state}
+-- Demand 2 (FORMAT 22.18): the answer is what the list of paths says; 3 where the count is above the budget, and else, where it is not 44, that of the
+-- 1-approximation.
+pub use Rattle.meaning.proofs.CaseReports.{in-case-order}
+pub use Rattle.meaning.proofs.CaseExact.{cases-spent-exactly, cases-stuck-exactly, cases-verified-exactly, cases-missed-exactly}
+-- 44 exactly where the first path that stops, stops so, and what it reports: an action that is met with more than 12 open fluents (FORMAT 22.19). The walk without
+-- this limit is the same walk, wherever it is not stopped so.
+pub use Rattle.meaning.proofs.CaseReports.{many-exactly, many-at, many-there}
+pub use Rattle.meaning.proofs.CaseWalks.{limited}
+-- Demand 3 (FORMAT 22.20): where it is verified, it is carried out in every world with the initial facts.
+pub use Rattle.demands.proofs.CaseVerified.{cases-sound}
+-- What the walk call verifies, it verifies, or has too many cases (FORMAT 22.21).
+pub use Rattle.demands.proofs.CaseMore.{cases-verify-more}
+-- It is enough to fill the open fluents of an action (FORMAT 22.22), and what can be run as known can be run by cases.
+pub use Rattle.meaning.proofs.FillLaws.{fills-run, fills-after, known-runs}
+-- What answers 1 and 2 report (FORMAT 22.14). Answer 2 carries the line of the item at its place in the state left, and every other answer, 44 among them, none.
+pub use Rattle.meaning.proofs.CaseReports.{cases-missed-there, cases-stopped-there}
+pub use Rattle.meaning.proofs.CaseLine.{cases-line-there, cases-no-line, no-line-many, cases-line-missing}
 
 -- Demand 1 (FORMAT 11.1): every input gets one of the numbered answers.
 pub numbered : (lim : Limits) (request lent : List ℕ) (budget : ℕ) → among (judge lim request lent budget .answer .number) answers ≡ true

@@ -62,7 +62,7 @@ state-same {σ} e = ap pair e
     pair (state δ) = δ
 
 module _ (t : Table) where
-  none-true-same : (bs cs : Branches ℕ) → same-branches bs cs ≡ true → (σ : Pair) → None-true t cs σ → None-true t bs σ
+  none-true-same : (bs cs : Branches ℕ) → same-branches bs cs ≡ true → (σ : Pair) → None-true cs σ → None-true bs σ
   unfolding same-plan
   none-true-same none none e σ n = tt
   none-true-same none (branch d q cs) e σ n = tt
@@ -240,7 +240,7 @@ module _ (t : Table) where
 
   -- Rules 4 and 12. The branch taken is the one whose condition is true.
   abbrev Taken : List ℕ → Branches ℕ → Sequence ℕ → Conclusion → Line → Pair → Type 0
-  Taken X bs rest Y cited σ = (b : Sequence ℕ) × (says cited X (join b rest) Y ≡ true) × ((x : Result) → Φ̂-case t bs σ x → Φ̂ t b σ x) × (None-true t bs σ → ⊥)
+  Taken X bs rest Y cited σ = (b : Sequence ℕ) × (says cited X (join b rest) Y ≡ true) × ((x : Result) → Φ̂-case t bs σ x → Φ̂ t b σ x) × (None-true bs σ → ⊥)
 
   taken : (X : List ℕ) (bs : Branches ℕ) (rest : Sequence ℕ) (Y : Conclusion) (cited : Line) → takes-branch X bs rest Y cited ≡ true → all-exclusive (conditions-of bs) ≡ true
       → (σ : Pair) → Disjoint σ → each-of (true-in σ) X ≡ true → Taken X bs rest Y cited σ
@@ -249,13 +249,13 @@ module _ (t : Table) where
   taken X (branch c b bs) rest Y cited e apart σ d h =
       ⊎-elim here (λ w. later (taken X bs rest Y cited w (both-right _ _ apart) σ d h)) (either-split _ _ e)
     where
-      others : each-of (true-in σ) c ≡ true → None-true t bs σ
-      others holds = others-false t σ d c holds bs (both-left _ _ apart)
+      others : each-of (true-in σ) c ≡ true → None-true bs σ
+      others holds = others-false σ d c holds bs (both-left _ _ apart)
 
       here : both (included c X) (says cited X (join b rest) Y) ≡ true → Taken X (branch c b bs) rest Y cited σ
       here w =
           let holds = included-true c X (both-left _ _ w) σ h in
-          (b, both-right _ _ w, λ x z. ⊎-elim (λ v. v .1) (λ v. absurd (none-chosen t bs σ x (others holds) v)) z, λ n. clash holds (n .0))
+          (b, both-right _ _ w, λ x z. ⊎-elim (λ v. v .1) (λ v. absurd (none-chosen (Φ t) bs σ x (others holds) v)) z, λ n. clash holds (n .0))
 
       later : Taken X bs rest Y cited σ → Taken X (branch c b bs) rest Y cited σ
       later m = (m .0, m .1, λ x z. ⊎-elim (λ v. absurd (m .3 (others (v .0)))) (m .2 x) z, λ n. m .3 (n .1))

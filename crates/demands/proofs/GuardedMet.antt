@@ -32,7 +32,8 @@ use Rattle.meaning.proofs.PairLaws.{true-grows, true-in-pair}
 use Rattle.meaning.proofs.SensingLaws.{reading-is}
 use Rattle.meaning.proofs.ToldLaws.{first-length, first-least}
 use Rattle.meaning.proofs.CoverLaws.{knows-pair, knows-true, others-false, none-taken, Below, reaches-item, reaches-act, covers-act, covers-item}
-use Rattle.meaning.proofs.Exact.{least-initial, first-below, effects-within, knowledge-within, end-entailed, ranged, says, entailed-fine}
+use Rattle.meaning.proofs.ExactEnds.{least-initial, first-below, effects-within, knowledge-within}
+use Rattle.meaning.proofs.Exact.{end-entailed, ranged, says, entailed-fine}
 use Rattle.meaning.proofs.Exact
 use Rattle.meaning.proofs.GuardedPaths.{broken≢stuck, Never-broken, stop-still, still, still-item, still-branch, first-lacks, met-on, on-met, step-lacks, not-broken, was, was-item, step-broken, met-broken}
 use Rattle.meaning.proofs.GuardedReads.{own, parts, own-settled}
@@ -49,7 +50,7 @@ module _ (t : Table) (gs : List Entry) where
   none-pass : (u : State) (δ : Pair) (size : ℕ) → Below size u δ → first-missed (known u) gs ≡ nowhere → Pass δ
   none-pass u δ size below q = knows-true u δ (below .extends) (values gs) (none-missed (known u) gs .0 q)
 
-  none-met : (bs : Branches ℕ) (σ δ : Pair) → None-true t bs σ → Met-under t bs σ δ → ⊥
+  none-met : (bs : Branches ℕ) (σ δ : Pair) → None-true bs σ → Met-under t bs σ δ → ⊥
   none-met none σ δ n m = m
   none-met (branch c b bs) σ δ n (inl m) = clash (m .0) (n .0)
   none-met (branch c b bs) σ δ n (inr m) = none-met bs σ δ (n .1) m
@@ -137,13 +138,13 @@ module _ (t : Table) (gs : List Entry) where
           let later : Stops (paths-branch (guarded-step t gs) bs p s) → ⊥ = λ stop. never (subst (λ (xs : List (Path State)). Stops xs) (sym (pick-false _ _ _ off)) stop) in
           ⊎-elim
           (λ w.
-          let stop = none-taken t bs p s σ (below .extends) (others (w .0)) in
+          let stop = none-taken (table-does t) bs p s σ (below .extends) (others (w .0)) in
           absurd (later (stop-still t gs (paths-branch (guarded-step t gs) bs p s) (stop .0) (stop .1) (stop .2) (still-branch t gs bs p s (stops (stop .0) (stop .1) (stop .2)) (stop .3)))))
           (λ w. met-pass-under bs p (both-right _ _ apart) (fits .1) s σ below later δ w)
           m)
         where
-          others : each-of (true-in σ) c ≡ true → None-true t bs σ
-          others holds = others-false t σ (below .disjoint) c holds bs (both-left _ _ apart)
+          others : each-of (true-in σ) c ≡ true → None-true bs σ
+          others holds = others-false σ (below .disjoint) c holds bs (both-left _ _ apart)
 
 state-same : {u v : State} → in-state u ≡ in-state v → u ≡ v
 state-same {u} q = ap held q
@@ -177,9 +178,9 @@ module _ (lim : Limits) (room : lim .fluents ≤ lim .state) (b lent : List ℕ)
   fine-entails never all = (
     end-entailed lim room r in-range apart fine tt (plain-never, plain-all) .0 refl,
     record {
-      first = λ σ initial. none-pass (r .table) (g .guards) first σ (lim .state) (first-below lim room r in-range apart σ initial) holds-first;
-      met = λ σ initial. met-pass (r .table) (g .guards) (lim .state) (effects-within lim room r in-range apart) (knowledge-within lim room r in-range apart) (r .plan) apart first σ
-          (first-below lim room r in-range apart σ initial) never-behind;
+      first = λ σ initial. none-pass (r .table) (g .guards) first σ (lim .state) (first-below lim room (r .table) in-range σ initial) holds-first;
+      met = λ σ initial. met-pass (r .table) (g .guards) (lim .state) (effects-within lim room (r .table) in-range) (knowledge-within lim room (r .table) in-range) (r .plan) apart first σ
+          (first-below lim room (r .table) in-range σ initial) never-behind;
     },
   )
     where
@@ -205,7 +206,7 @@ module _ (lim : Limits) (room : lim .fluents ≤ lim .state) (b lent : List ℕ)
   -- A path that stops behind the first state, in one that lacks a guard, stops in one that is met from the least initial a-state.
   broken-behind : (p : ℕ) (u : Concerned State) → Ends (with-guards (r .plan) first) (stops Limits.guard-broken p u) → Lacking (r .table) (g .guards) (Met-in (r .table) (r .plan) (least (r .table))) p u
   broken-behind p u h =
-      let k = broken-met (r .table) (g .guards) (lim .state) (effects-within lim room r in-range apart) (knowledge-within lim room r in-range apart) (r .plan) first (first-length lim (r .table)) p u h in
+      let k = broken-met (r .table) (g .guards) (lim .state) (effects-within lim room (r .table) in-range) (knowledge-within lim room (r .table) in-range) (r .plan) first (first-length lim (r .table)) p u h in
       (k .0, k .1, k .2, subst (λ (σ : Pair). Met-in (r .table) (r .plan) σ (pair-of (k .0))) is-least (k .3))
 
   entails-fine : Entailed r → Guards-true r (values (g .guards)) → (Stops (met-paths lim g) → ⊥) × ((u : State) → Ends (met-paths lim g) (arrives u) → missed-in r u ≡ nowhere)
@@ -219,13 +220,13 @@ module _ (lim : Limits) (room : lim .fluents ≤ lim .state) (b lent : List ℕ)
           (says lim room (own lim b g e past) r (parts lim b g e past .request-end) settles)
 
       holds-first : first-missed (known first) (g .guards) ≡ nowhere
-      holds-first = pass-none (r .table) (g .guards) first (rw is-least (guards .first (least (r .table)) (least-initial lim room r in-range apart)))
+      holds-first = pass-none (r .table) (g .guards) first (rw is-least (guards .first (least (r .table)) (least-initial lim room (r .table) in-range)))
 
       -- A state that lacks a guard would be met.
       never-lacking : (p : ℕ) (u : Concerned State) → Ends (with-guards (r .plan) first) (stops Limits.guard-broken p u) → ⊥
       never-lacking p u h =
           let k = broken-behind p u h in
-          at≢nowhere (sym (k .2) ∙ pass-none (r .table) (g .guards) (k .0) (guards .met (least (r .table)) (least-initial lim room r in-range apart) (pair-of (k .0)) (k .3)))
+          at≢nowhere (sym (k .2) ∙ pass-none (r .table) (g .guards) (k .0) (guards .met (least (r .table)) (least-initial lim room (r .table) in-range) (pair-of (k .0)) (k .3)))
 
       without : (x : Ending State) → Ends (met-paths lim g) x → Ends (all-paths lim r) x
       without x h =
@@ -251,7 +252,7 @@ module _ (lim : Limits) (room : lim .fluents ≤ lim .state) (b lent : List ℕ)
   reading-keeps a s sized senses u h l known-before =
       has-picked (λ o. Ends (arrivals o) (arrives u)) (sensing (r .table) a) _ _ h
       (λ _ k.
-      let w = reading-is (r .table) a s (λ n m. rw sized (knowledge-within lim room r in-range apart n m)) (arrives u) k in
+      let w = reading-is (r .table) a s (λ n m. rw sized (knowledge-within lim room (r .table) in-range n m)) (arrives u) k in
       rw (arrives-same (w .1)) (sym (true-in-pair (w .0) l) ∙ true-grows (w .3 .extends) l (true-in-pair s l ∙ known-before)))
       (λ off _. clash senses off)
 

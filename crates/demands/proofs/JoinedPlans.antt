@@ -34,7 +34,8 @@ use Rattle.meaning.proofs.PathLaws.{Inhabited, paths-inhabited, each-path, walk
 use Rattle.meaning.proofs.ToldLaws.{first-length, first-known}
 use Rattle.meaning.proofs.EndLaws.{Ends, Stops, Says}
 use Rattle.meaning.proofs.CoverLaws.{reaches}
-use Rattle.meaning.proofs.Exact.{met, fits, ranged, says}
+use Rattle.meaning.proofs.ExactEnds.{met}
+use Rattle.meaning.proofs.Exact.{fits, ranged, says}
 use Rattle.meaning.proofs.VerifiedLaws.{verified-so, so-verified, not-refused-settled}
 use Rattle.demands.proofs.MoreKnown.{Knows-more, walk-more}
 use Rattle.meaning.proofs.ReadLines.{placed-values}

@@ -5,6 +5,7 @@ pub mod Narrowed
 pub mod DepthLaws
 pub mod MovedLines
 pub mod GuardedSound
+pub mod CaseVerified
 pub mod UnknownLaws
 pub mod DepthBound
 pub mod DepthMet
@@ -12,6 +13,7 @@ pub mod GuardedMet
 pub mod LayoutLaws
 pub mod DerivationSound
 pub mod LongCases
+pub mod WideCases
 pub mod ProvedCases
 pub mod WiderReads
 pub mod MappedWalk
@@ -24,6 +26,7 @@ pub mod MoreKnown
 pub mod PartReads
 pub mod PartsAlike
 pub mod MoreFacts
+pub mod CaseMore
 pub mod CutReads
 pub mod FewerGoals
 pub mod JoinedWalk

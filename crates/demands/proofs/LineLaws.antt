@@ -14,7 +14,7 @@ use Rattle.meaning.specs.Refusals.{Found, nowhere, at, clashing, runs-with, con
 use Rattle.meaning.specs.Lines.{effects-of, executability-of, knowledge-of, allowed, given, sensing, senses}
 use Rattle.meaning.specs.States.{State, known, known-whether, state-of, first-state, can-be-run, known-after, mark-after, marks-after, state-after, unknown-from, unknown-sensed, outcome}
 use Rattle.meaning.specs.Walk.{End, fine, missed, stopped, Walked, walk, table-does, table-step, first-missed, missed-in, end-of, judged, walked}
-use Rattle.meaning.specs.Judging.{Judgement, written-over, reported, ended, within, judge-settled, judge}
+use Rattle.meaning.specs.Judging.{Judgement, written-over, reported, ended, within, judge-settled, judge, judge-got}
 use Rattle.meaning.specs.SameLines.{On-actions, Same-lines-of, Same-set, Same-effect, Same-tables, Same-but-lines, Gist, gist}
 use Rattle.meaning.proofs.TestLaws.{clash, same-test, pick-map, some-has, has-some, some-those}
 use Rattle.meaning.proofs.WalkLaws.{on-actions, map-actions, Agree, walk-agrees, unplaced-end, unplaced-walk, walk-unplaced}
@@ -189,14 +189,14 @@ module _ (lim : Limits) (lent : List ℕ) (budget : ℕ) where
   after-refusal x = gist (judge-settled lim lent budget x)
 
   refuse-gist : (n : ℕ) (f g : Found) → unplaced-found f ≡ unplaced-found g → (j k : Unit {0} → Got Request) → after-refusal (j tt) ≡ after-refusal (k tt) → after-refusal (refuse n f j) ≡ after-refusal (refuse n g k)
-  unfolding after-refusal refuse judge-settled
+  unfolding after-refusal refuse judge-got
   refuse-gist n nowhere nowhere e j k h = h
   refuse-gist n (at p) (at q) e j k h = refl
   refuse-gist n (at p) nowhere e j k h = absurd (at≢nowhere e)
   refuse-gist n nowhere (at q) e j k h = absurd (at≢nowhere (sym e))
 
   walks-alike : (r q : Request) (e f : ℕ) → Same-but-lines r q → after-refusal (got r e) ≡ after-refusal (got q f)
-  unfolding after-refusal judge-settled first-state
+  unfolding after-refusal judge-got first-state
   walks-alike r q e f same =
       within-gist lent budget _
       ∙ ap (λ (w : Walked State). gist (within lent budget w)) (walked-same r q same (first-state lim (r .table)))

@@ -1,5 +1,5 @@
--- A walk from a state that knows more: where the one from a state that knows less is verified, this one is, with a count no larger. The same actions can
--- be run, each leads to a state that knows no less, the same branch is chosen, since the others exclude it, and where the first state forks and the
+-- A walk from a state that knows more, by the table's step or one that does no less: where the walk by the table's from a state that knows less is verified,
+-- this one is, with a count no larger. The same actions can be run, each leads to a state that knows no less, the same branch is chosen, since the others exclude it, and where the first state forks and the
 -- second knows the fluent, one reading stands for two. By induction over the plan; what follows an item is carried through as such a pair of
 -- walks. Assumes nothing.
 use Prim.Native.Nat.{ℕ, _+_, _*_, _≤_, _<_}
@@ -14,10 +14,10 @@ use Rattle.meaning.specs.Tests.{both, fails, pick, each-of, those-of, Has}
 use Rattle.meaning.specs.Limits
 use Rattle.meaning.specs.Literals.{says-true, says-false, fluent-of}
 use Rattle.meaning.specs.Requests.{Effect, Knowledge, Table, Sequence, done, item, Item, act, branching, Branches, none, branch}
-use Rattle.meaning.specs.Refusals.{conditions-of, all-exclusive}
+use Rattle.meaning.specs.Refusals.{Found, nowhere, conditions-of, all-exclusive}
 use Rattle.meaning.specs.Lines.{executability-of, knowledge-of, allowed, sensing, senses}
-use Rattle.meaning.specs.States.{State, mark-of, known, known-whether, told, can-be-run, state-after, unknown-from, unknown-sensed, single, readings, outcome}
-use Rattle.meaning.specs.Walk.{in-state, End, fine, missed, stopped, Walked, stopped-at, counted, after-end, and-then, each-reading, Step, leads-to, refuses, after-step, run-action, walk, walk-item, walk-branch, table-does, table-step}
+use Rattle.meaning.specs.States.{State, mark-of, known, known-whether, told, can-be-run, state-after, unknown-from, unknown-sensed, single, readings, outcome-to, outcome}
+use Rattle.meaning.specs.Walk.{in-state, End, fine, missed, stopped, Walked, stopped-at, counted, after-end, and-then, each-reading, leads-to, refuses, Steps, after-step, unless-broken, meet, run-action, walk, walk-item, walk-branch, table-does, table-step}
 use Rattle.meaning.specs.Approximation.{_≼_}
 use Rattle.meaning.specs.Reported.{pair-of}
 use Rattle.meaning.proofs.TestLaws.{by-test, clash, both-left, both-right, either-left, either-right, either-split, fails-false, pick-true, pick-false, each-has, some-mono, each-mono}
@@ -173,16 +173,42 @@ unknown-fewer ks s u more f (m ∷ ms) (n ∷ ns) same = by-tests (senses ks f) 
     by-tests true false true grows is ih = ih ∙ sym (pick-false _ _ _ (ap fails is))
     by-tests true false false grows is ih = ap {B = List ℕ} (λ fs. f ∷ fs) ih ∙ sym (pick-true _ _ _ (ap fails is))
 
--- THE TABLE'S STEP, for a table whose lines are within states of a size.
-module _ (t : Table) (size : ℕ) (effects-within : (e : Effect) → Has (t .effects) e → e .literal < 2 * size) (j k : State → Walked State) (follows : Follows size j k) where
-  module _ (a : ℕ) (s u : State) (more : Knows-more size s u) where
-    after-more : Knows-more size (state-after t a s) (state-after t a u)
-    after-more = record {
-      first = after-length t a s ∙ more .first;
-      second = after-length t a u ∙ more .second;
-      more = pair-known _ _ (rw (pair-after t a s (λ e h. rw (more .first) (effects-within e h)), pair-after t a u (λ e h. rw (more .second) (effects-within e h))) (Res-grows t a (known-pair s u (more .more))));
+-- A STEP THAT DOES NO LESS than the table's: what it knows is what a state does, no state lacks a guard, and where an action can be run in a state, it leads one
+-- that knows more to where the table's leads, but for the state after, which is to know more than the first's.
+pub record Does-more (t : Table) (size : ℕ) (step : Steps State ℕ) : Type 0 where
+  pub knows : step .knows ≡ known
+  pub lacks : step .lacks ≡ (λ _. nowhere)
+  pub after : ℕ → State → State
+  pub leads : (a : ℕ) (s u : State) → Knows-more size s u → can-be-run t a s ≡ true → step .does a u ≡ leads-to (outcome-to t a u (after a u))
+  pub more : (a : ℕ) (s u : State) → Knows-more size s u → Knows-more size (state-after t a s) (after a u)
+
+-- The table's own is one, where its lines are within states of the size.
+module _ (t : Table) (a : ℕ) (size : ℕ) (s u : State) (more : Knows-more size s u) where
+  pub runs-more : can-be-run t a s ≡ true → can-be-run t a u ≡ true
+  unfolding can-be-run allowed
+  runs-more = some-mono _ _ (λ x. each-mono _ _ (more .more) (x .body)) (executability-of t a)
+
+  pub after-more : ((e : Effect) → Has (t .effects) e → e .literal < 2 * size) → Knows-more size (state-after t a s) (state-after t a u)
+  after-more effects-within = record {
+    first = after-length t a s ∙ more .first;
+    second = after-length t a u ∙ more .second;
+    more = pair-known _ _ (rw (pair-after t a s (λ e h. rw (more .first) (effects-within e h)), pair-after t a u (λ e h. rw (more .second) (effects-within e h))) (Res-grows t a (known-pair s u (more .more))));
+  }
+
+table-more : (t : Table) (size : ℕ) → ((e : Effect) → Has (t .effects) e → e .literal < 2 * size) → Does-more t size (table-step t)
+unfolding table-step table-does outcome
+table-more t size effects-within =
+    record {
+      knows = refl;
+      lacks = refl;
+      after = state-after t;
+      leads = λ a s u more runs. pick-true _ _ _ (runs-more t a size s u more runs);
+      more = λ a s u more. after-more t a size s u more effects-within;
     }
 
+-- AN ACTION, and what follows it.
+module _ (t : Table) (size : ℕ) (step : Steps State ℕ) (does : Does-more t size step) (j k : State → Walked State) (follows : Follows size j k) where
+  module _ (a : ℕ) (s u : State) (more : Knows-more size s u) where
     sensed-more : No-worse (each-reading (readings (unknown-sensed t a u) u) j) (each-reading (readings (unknown-sensed t a s) s) k)
     unfolding unknown-sensed
     sensed-more =
@@ -192,64 +218,65 @@ module _ (t : Table) (size : ℕ) (effects-within : (e : Effect) → Has (t .eff
         within : (f : ℕ) → Has (unknown-from (knowledge-of t a) s 0 s) f → f < size
         within f h = let w = read-is t a s f h in omega (arith, w .0, more .first)
 
-    outcome-more : No-worse (each-reading (outcome t a u) j) (each-reading (outcome t a s) k)
+    outcome-more : No-worse (each-reading (outcome-to t a u (does .after a u)) j) (each-reading (outcome t a s) k)
     unfolding outcome each-reading pick
     outcome-more = by-sensing (sensing t a)
       where
-        by-sensing : (b : Bool) → No-worse (each-reading (pick b (λ _. readings (unknown-sensed t a u) u) (λ _. single (state-after t a u))) j) (each-reading (pick b (λ _. readings (unknown-sensed t a s) s) (λ _. single (state-after t a s))) k)
+        by-sensing : (b : Bool) → No-worse (each-reading (pick b (λ _. readings (unknown-sensed t a u) u) (λ _. single (does .after a u))) j) (each-reading (pick b (λ _. readings (unknown-sensed t a s) s) (λ _. single (state-after t a s))) k)
         by-sensing true = sensed-more
-        by-sensing false = follows _ _ after-more
+        by-sensing false = follows _ _ (does .more a s u more)
 
-    runs-more : can-be-run t a s ≡ true → can-be-run t a u ≡ true
-    unfolding can-be-run allowed
-    runs-more = some-mono _ _ (λ x. each-mono _ _ (more .more) (x .body)) (executability-of t a)
-
-    act-more : (p : ℕ) → No-worse (run-action (table-step t) p a j u) (run-action (table-step t) p a k s)
+    act-more : (p : ℕ) → No-worse (run-action step p a j u) (run-action (table-step t) p a k s)
     unfolding run-action table-step table-does after-step pick counted stopped-at
-    act-more p = by-runs (can-be-run t a s) (can-be-run t a u) runs-more
+    act-more p = by-runs (can-be-run t a s) refl
       where
-        step : Bool → State → Step State
-        step b v = pick b (λ _. leads-to (outcome t a v)) (λ _. refuses Limits.not-executable (in-state v))
+        none-lacked : meet step j ≡ j
+        none-lacked = ap {B = State → Walked State} (λ (lacks : State → Found). λ v. unless-broken (lacks v) v (j v)) (does .lacks)
 
-        by-runs : (b c : Bool) → (b ≡ true → c ≡ true) → No-worse (after-step p (step c u) j) (after-step p (step b s) k)
-        by-runs true true runs q = let w = outcome-more q in (w .0, omega (arith, w .1))
-        by-runs true false runs q = clash (runs refl) refl
-        by-runs false c runs q = absurd (subst Fine (sym q) tt)
+        by-runs : (b : Bool) → can-be-run t a s ≡ b
+            → No-worse (after-step p (step .does a u) (meet step j)) (after-step p (pick b (λ _. leads-to (outcome t a s)) (λ _. refuses Limits.not-executable (in-state s))) k)
+        by-runs true runs = rw (does .leads a s u more runs, none-lacked) (λ q. let w = outcome-more q in (w .0, omega (arith, w .1)))
+        by-runs false runs = λ q. absurd (subst Fine (sym q) tt)
 
 -- THE WALK.
-module _ (t : Table) (size : ℕ) (effects-within : (e : Effect) → Has (t .effects) e → e .literal < 2 * size) where
-  -- Where a branching is gone through, one of its conditions is known.
-  chosen : (bs : Branches ℕ) (p : ℕ) (k : State → Walked State) (s : State) → walk-branch (table-step t) bs p k s .end ≡ fine → (c : List ℕ) × Has (conditions-of bs) c × (each-of (known s) c ≡ true)
-  unfolding walk table-step stopped-at conditions-of
-  chosen none p k s q = absurd (subst Fine (sym q) tt)
-  chosen (branch c b bs) p k s q =
-      by-test (each-of (known s) c)
-      (λ holds. (c, inl refl, holds))
-      (λ not. let w = chosen bs p k s (sym (ap (λ (v : Walked State). v .end) (pick-false _ _ _ not)) ∙ q) in (w .0, inr (w .1), w .2))
+-- Where a branching is gone through, one of its conditions is known.
+chosen : (t : Table) (bs : Branches ℕ) (p : ℕ) (k : State → Walked State) (s : State) → walk-branch (table-step t) bs p k s .end ≡ fine → (c : List ℕ) × Has (conditions-of bs) c × (each-of (known s) c ≡ true)
+unfolding walk table-step stopped-at conditions-of
+chosen t none p k s q = absurd (subst Fine (sym q) tt)
+chosen t (branch c b bs) p k s q =
+    by-test (each-of (known s) c)
+    (λ holds. (c, inl refl, holds))
+    (λ not. let w = chosen t bs p k s (sym (ap (λ (v : Walked State). v .end) (pick-false _ _ _ not)) ∙ q) in (w .0, inr (w .1), w .2))
 
+module _ (t : Table) (size : ℕ) (step : Steps State ℕ) (does : Does-more t size step) where
   mutual
     unfolding walk table-step conditions-of all-exclusive pick stopped-at
 
-    pub walk-more : (b : Sequence ℕ) → Fit b → (j k : State → Walked State) → Follows size j k → Follows size (walk (table-step t) b j) (walk (table-step t) b k)
-    walk-more done fits j k follows s u more = follows s u more
-    walk-more (item i rest) fits j k follows s u more = item-more i (fits .0) (walk (table-step t) rest j) (walk (table-step t) rest k) (walk-more rest (fits .1) j k follows) s u more
+    pub step-more : (b : Sequence ℕ) → Fit b → (j k : State → Walked State) → Follows size j k → Follows size (walk step b j) (walk (table-step t) b k)
+    step-more done fits j k follows s u more = follows s u more
+    step-more (item i rest) fits j k follows s u more = item-more i (fits .0) (walk step rest j) (walk (table-step t) rest k) (step-more rest (fits .1) j k follows) s u more
 
-    item-more : (i : Item ℕ) → Fit-item i → (j k : State → Walked State) → Follows size j k → Follows size (walk-item (table-step t) i j) (walk-item (table-step t) i k)
-    item-more (act p a) fits j k follows s u more = act-more t size effects-within j k follows a s u more p
+    item-more : (i : Item ℕ) → Fit-item i → (j k : State → Walked State) → Follows size j k → Follows size (walk-item step i j) (walk-item (table-step t) i k)
+    item-more (act p a) fits j k follows s u more = act-more t size step does j k follows a s u more p
     item-more (branching p bs) fits j k follows s u more = branch-more bs p (fits .0) (fits .1) j k follows s u more
 
     branch-more : (bs : Branches ℕ) (p : ℕ) → all-exclusive (conditions-of bs) ≡ true → Fit-branches bs → (j k : State → Walked State) → Follows size j k
-        → Follows size (walk-branch (table-step t) bs p j) (walk-branch (table-step t) bs p k)
+        → Follows size (walk-branch step bs p j) (walk-branch (table-step t) bs p k)
     branch-more none p apart fits j k follows s u more = λ q. absurd (subst Fine (sym q) tt)
     branch-more (branch c b bs) p apart fits j k follows s u more =
-        by-known (each-of (known s) c) (each-of (known u) c) refl refl
-        (walk-more b (fits .0) j k follows s u more) (branch-more bs p (both-right _ _ apart) (fits .1) j k follows s u more)
+        by-known (each-of (known s) c) (each-of (step .knows u) c) refl (ap (λ (knows : State → ℕ → Bool). each-of (knows u) c) (sym (does .knows)))
+        (step-more b (fits .0) j k follows s u more) (branch-more bs p (both-right _ _ apart) (fits .1) j k follows s u more)
       where
-        by-known : (one other : Bool) → each-of (known s) c ≡ one → each-of (known u) c ≡ other → No-worse (walk (table-step t) b j u) (walk (table-step t) b k s) → No-worse (walk-branch (table-step t) bs p j u) (walk-branch (table-step t) bs p k s)
-            → No-worse (pick other (λ _. walk (table-step t) b j u) (λ _. walk-branch (table-step t) bs p j u)) (pick one (λ _. walk (table-step t) b k s) (λ _. walk-branch (table-step t) bs p k s))
+        by-known : (one other : Bool) → each-of (known s) c ≡ one → each-of (known u) c ≡ other → No-worse (walk step b j u) (walk (table-step t) b k s) → No-worse (walk-branch step bs p j u) (walk-branch (table-step t) bs p k s)
+            → No-worse (pick other (λ _. walk step b j u) (λ _. walk-branch step bs p j u)) (pick one (λ _. walk (table-step t) b k s) (λ _. walk-branch (table-step t) bs p k s))
         by-known true true is is-too here later = here
         by-known true false is is-too here later = clash (each-mono _ _ (more .more) c is) is-too
         by-known false false is is-too here later = later
         by-known false true is is-too here later = λ q.
-            let d = chosen bs p k s q in
+            let d = chosen t bs p k s q in
             absurd (exclusive-clash (known u) (known u) (λ l one two. clash two (known-one u l one)) c (d .0) (each-has _ (conditions-of bs) (d .0) (both-left _ _ apart) (d .1)) is-too (each-mono _ _ (more .more) (d .0) (d .2)))
+
+-- By the table's step on both sides.
+pub walk-more : (t : Table) (size : ℕ) → ((e : Effect) → Has (t .effects) e → e .literal < 2 * size) → (b : Sequence ℕ) → Fit b → (j k : State → Walked State) → Follows size j k
+    → Follows size (walk (table-step t) b j) (walk (table-step t) b k)
+walk-more t size effects-within = step-more t size (table-step t) (table-more t size effects-within)

@@ -1,5 +1,5 @@
--- The proved cases of the walk call, without the line and with it, of the guarded call, of the derivation call, of the whether call and of the release
--- call, one statement over one list. Its parts were computed where they are. Assumes nothing.
+-- The proved cases of the walk call, without the line and with it, of the guarded call, of the call by cases, of the derivation call, of the whether call
+-- and of the release call, one statement over one list. Its parts were computed where they are. Assumes nothing.
 use Prim.Native.Nat.{ℕ}
 use mathlib.Core.Path.{_≡_, sym, _∙_, ap, ap₂}
 use mathlib.Core.List.{List, _++_, map, map-map, map-append}
@@ -9,6 +9,7 @@ use Rattle.meaning.specs.Limits.{format}
 use Rattle.meaning.specs.Judging.{Judgement, judge}
 use Rattle.meaning.specs.Asking.{line}
 use Rattle.meaning.specs.Guards.{judge-guarded, line-guarded}
+use Rattle.meaning.specs.ByCases.{judge-by-cases, line-by-cases}
 use Rattle.meaning.specs.Derivations.{check}
 use Rattle.meaning.specs.Releases.{Released, release}
 use Rattle.meaning.proofs.TestLaws.{map-same, same-map}
@@ -16,12 +17,14 @@ use Rattle.meaning.proofs.Cases
 use Rattle.meaning.proofs.Cases.{cases, cases-hold}
 use Rattle.meaning.proofs.LineCases.{LineCase, line-cases, line-cases-hold, lines-hold}
 use Rattle.meaning.proofs.GuardedCases.{guarded-cases, guarded-cases-hold, guarded-lines-hold}
+use Rattle.meaning.proofs.CaseRows.{by-cases, by-cases-hold, by-cases-lines-hold}
 use Rattle.meaning.proofs.DerivationCases
 use Rattle.meaning.proofs.DerivationCases.{derivations, derivations-hold}
 use Rattle.meaning.proofs.WhetherCases.{whethers, whethers-hold}
 use Rattle.meaning.proofs.ReleaseCases
 use Rattle.meaning.proofs.ReleaseCases.{releases, releases-hold}
 use Rattle.demands.proofs.LongCases.{long-cases, long-cases-hold, long-derivations, long-derivations-hold, long-releases, long-releases-hold}
+use Rattle.demands.proofs.WideCases.{wide-cases, wide-cases-hold, wide-lines-hold}
 use Rattle.demands.proofs.ReuseCases.{reuse-cases, reuse-cases-hold}
 
 -- A call, and what it gives. A derivation in the plain layout is put to the derivation call, and one in the closing layout to the whether call.
@@ -29,6 +32,7 @@ pub data Call : Type 0 where
   judging : (request lent : List ℕ) → (budget : ℕ) → Call
   judging-line : (request lent : List ℕ) → (budget : ℕ) → Call
   guarding-line : (request lent : List ℕ) → (budget : ℕ) → Call
+  by-cases-line : (request lent : List ℕ) → (budget : ℕ) → Call
   checking : Layout → (request derivation : List ℕ) → Call
   releasing : (file lent : List ℕ) → (budget : ℕ) → Call
 
@@ -42,6 +46,7 @@ abbrev pub outcome-of : Call → Given
 outcome-of (judging request lent budget) = judged (judge format request lent budget)
 outcome-of (judging-line request lent budget) = judged-line (judge format request lent budget) (line format request lent budget)
 outcome-of (guarding-line request lent budget) = judged-line (judge-guarded format request lent budget) (line-guarded format request lent budget)
+outcome-of (by-cases-line request lent budget) = judged-line (judge-by-cases format request lent budget) (line-by-cases format request lent budget)
 outcome-of (checking layout request derivation) = answered (check format layout request derivation)
 outcome-of (releasing file lent budget) = released (release format file lent budget)
 
@@ -58,6 +63,9 @@ line-row c = record { call = judging-line (c .request) (c .lent) (c .budget); gi
 abbrev guarding-row : LineCase → Row
 guarding-row c = record { call = guarding-line (c .request) (c .lent) (c .budget); gives = judged-line (c .gives) (c .carries) }
 
+abbrev by-cases-row : LineCase → Row
+by-cases-row c = record { call = by-cases-line (c .request) (c .lent) (c .budget); gives = judged-line (c .gives) (c .carries) }
+
 abbrev checking-row : DerivationCases.Case → Row
 checking-row c = record { call = checking (c .layout) (c .request) (c .derivation); gives = answered (c .gives) }
 
@@ -65,13 +73,13 @@ abbrev releasing-row : ReleaseCases.Case → Row
 releasing-row c = record { call = releasing (c .file) (c .lent) (c .budget); gives = released (c .gives) }
 
 -- Cases 1 to 13 and the rows beside them, those of the line, then case 14 and the rows beside it, then those of the closing layout, then those of
--- releases, those of reused verdicts, those of guarded plans, and last the long ones.
+-- releases, those of reused verdicts, those of guarded plans, those by cases, and last the long ones.
 abbrev long-rows : List Row
 long-rows = map judging-row long-cases ++ (map checking-row long-derivations ++ map releasing-row long-releases)
 
 pub proved-cases : List Row
 proved-cases =
-    map judging-row cases ++ (map line-row line-cases ++ (map checking-row derivations ++ (map checking-row whethers ++ (map releasing-row releases ++ (map judging-row reuse-cases ++ (map guarding-row guarded-cases ++ long-rows))))))
+    map judging-row cases ++ (map line-row line-cases ++ (map checking-row derivations ++ (map checking-row whethers ++ (map releasing-row releases ++ (map judging-row reuse-cases ++ (map guarding-row guarded-cases ++ (map by-cases-row by-cases ++ (map by-cases-row wide-cases ++ long-rows))))))))
 
 -- Each row's call gives what the row says.
 abbrev Hold : List Row → Type 0
@@ -109,6 +117,13 @@ guardings =
     ∙ two-lists (judge-guarded format) (line-guarded format) (λ (c : LineCase). c .gives) (λ (c : LineCase). c .carries) guarded-cases guarded-cases-hold guarded-lines-hold
     ∙ sym (map-map _ guarding-row guarded-cases)
 
+by-cases-rows : (cs : List LineCase) → map (λ (c : LineCase). judge-by-cases format (c .request) (c .lent) (c .budget)) cs ≡ map (λ (c : LineCase). c .gives) cs
+    → map (λ (c : LineCase). line-by-cases format (c .request) (c .lent) (c .budget)) cs ≡ map (λ (c : LineCase). c .carries) cs → Hold (map by-cases-row cs)
+by-cases-rows cs judges lines =
+    map-map _ by-cases-row cs
+    ∙ two-lists (judge-by-cases format) (line-by-cases format) (λ (c : LineCase). c .gives) (λ (c : LineCase). c .carries) cs judges lines
+    ∙ sym (map-map _ by-cases-row cs)
+
 checkings : (cs : List DerivationCases.Case) → map (λ (c : DerivationCases.Case). check format (c .layout) (c .request) (c .derivation)) cs ≡ map (λ (c : DerivationCases.Case). c .gives) cs → Hold (map checking-row cs)
 checkings cs hold =
     map-map _ checking-row cs
@@ -128,12 +143,14 @@ releasings cs hold =
 pub proved-cases-hold : map (λ (r : Row). outcome-of (r .call)) proved-cases ≡ map (λ (r : Row). r .gives) proved-cases
 unfolding proved-cases
 proved-cases-hold =
-    hold-both (map judging-row cases) (map line-row line-cases ++ (map checking-row derivations ++ (map checking-row whethers ++ (map releasing-row releases ++ (map judging-row reuse-cases ++ (map guarding-row guarded-cases ++ long-rows)))))) (judgings cases cases-hold)
-    (hold-both (map line-row line-cases) (map checking-row derivations ++ (map checking-row whethers ++ (map releasing-row releases ++ (map judging-row reuse-cases ++ (map guarding-row guarded-cases ++ long-rows))))) linings
-    (hold-both (map checking-row derivations) (map checking-row whethers ++ (map releasing-row releases ++ (map judging-row reuse-cases ++ (map guarding-row guarded-cases ++ long-rows)))) (checkings derivations derivations-hold)
-    (hold-both (map checking-row whethers) (map releasing-row releases ++ (map judging-row reuse-cases ++ (map guarding-row guarded-cases ++ long-rows))) (checkings whethers whethers-hold)
-    (hold-both (map releasing-row releases) (map judging-row reuse-cases ++ (map guarding-row guarded-cases ++ long-rows)) (releasings releases releases-hold)
-    (hold-both (map judging-row reuse-cases) (map guarding-row guarded-cases ++ long-rows) (judgings reuse-cases reuse-cases-hold)
-    (hold-both (map guarding-row guarded-cases) long-rows guardings
+    hold-both (map judging-row cases) (map line-row line-cases ++ (map checking-row derivations ++ (map checking-row whethers ++ (map releasing-row releases ++ (map judging-row reuse-cases ++ (map guarding-row guarded-cases ++ (map by-cases-row by-cases ++ (map by-cases-row wide-cases ++ long-rows)))))))) (judgings cases cases-hold)
+    (hold-both (map line-row line-cases) (map checking-row derivations ++ (map checking-row whethers ++ (map releasing-row releases ++ (map judging-row reuse-cases ++ (map guarding-row guarded-cases ++ (map by-cases-row by-cases ++ (map by-cases-row wide-cases ++ long-rows))))))) linings
+    (hold-both (map checking-row derivations) (map checking-row whethers ++ (map releasing-row releases ++ (map judging-row reuse-cases ++ (map guarding-row guarded-cases ++ (map by-cases-row by-cases ++ (map by-cases-row wide-cases ++ long-rows)))))) (checkings derivations derivations-hold)
+    (hold-both (map checking-row whethers) (map releasing-row releases ++ (map judging-row reuse-cases ++ (map guarding-row guarded-cases ++ (map by-cases-row by-cases ++ (map by-cases-row wide-cases ++ long-rows))))) (checkings whethers whethers-hold)
+    (hold-both (map releasing-row releases) (map judging-row reuse-cases ++ (map guarding-row guarded-cases ++ (map by-cases-row by-cases ++ (map by-cases-row wide-cases ++ long-rows)))) (releasings releases releases-hold)
+    (hold-both (map judging-row reuse-cases) (map guarding-row guarded-cases ++ (map by-cases-row by-cases ++ (map by-cases-row wide-cases ++ long-rows))) (judgings reuse-cases reuse-cases-hold)
+    (hold-both (map guarding-row guarded-cases) (map by-cases-row by-cases ++ (map by-cases-row wide-cases ++ long-rows)) guardings
+    (hold-both (map by-cases-row by-cases) (map by-cases-row wide-cases ++ long-rows) (by-cases-rows by-cases by-cases-hold by-cases-lines-hold)
+    (hold-both (map by-cases-row wide-cases) long-rows (by-cases-rows wide-cases wide-cases-hold wide-lines-hold)
     (hold-both (map judging-row long-cases) (map checking-row long-derivations ++ map releasing-row long-releases) (judgings long-cases long-cases-hold)
-    (hold-both (map checking-row long-derivations) (map releasing-row long-releases) (checkings long-derivations long-derivations-hold) (releasings long-releases long-releases-hold)))))))))
+    (hold-both (map checking-row long-derivations) (map releasing-row long-releases) (checkings long-derivations long-derivations-hold) (releasings long-releases long-releases-hold)))))))))))

@@ -23,7 +23,7 @@ use Rattle.meaning.proofs.LiteralLaws.{by-literal, complement-true, complement-
 use Rattle.meaning.proofs.ApartLaws.{given-apart}
 use Rattle.meaning.proofs.StateLaws.{known-true, known-false, unknown-far}
 use Rattle.meaning.proofs.PairLaws.{after-mark}
-use Rattle.meaning.proofs.ToldLaws.{told-here, told-elsewhere}
+use Rattle.meaning.proofs.ToldLaws.{told-here, whether-keeps}
 
 -- HOW MANY numbers below n fail a test.
 unfoldable pub failing : (ℕ → Bool) → ℕ → ℕ
@@ -84,9 +84,7 @@ module _ (l : ℕ) (s : State) (within : fluent-of l < length s) where
       (λ f e. rw (fluent-true f) (either-left _ _ e)) (λ f e. rw (fluent-false f) (either-right _ _ e)) l (told-here l s within)
 
   pub whether-elsewhere : (g : ℕ) → (g ≡ fluent-of l → ⊥) → known-whether (told l s) g ≡ known-whether s g
-  unfolding known-whether
-  whether-elsewhere g other =
-      rw (told-elsewhere l s within (says-true g) (λ q. other (sym (fluent-true g) ∙ q)), told-elsewhere l s within (says-false g) (λ q. other (sym (fluent-false g) ∙ q)))
+  whether-elsewhere = whether-keeps l s
 
   pub one-known : known-whether s (fluent-of l) ≡ false → (n : ℕ) → fluent-of l < n → suc (unknown-below n (told l s)) ≡ unknown-below n s
   one-known unknown = one-fewer (known-whether s) (known-whether (told l s)) (fluent-of l) unknown known-then whether-elsewhere

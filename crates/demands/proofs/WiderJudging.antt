@@ -18,7 +18,7 @@ use Rattle.meaning.specs.Reading.{Got, got, fault}
 use Rattle.meaning.specs.Refusals.{Found, nowhere, at, settled}
 use Rattle.meaning.specs.States.{State, can-be-run, outcome, first-state}
 use Rattle.meaning.specs.Walk.{in-state, End, fine, missed, stopped, Walked, leads-to, refuses, table-does, table-step, missed-in, end-of, judged, walked}
-use Rattle.meaning.specs.Judging.{Judgement, written-over, reported, ended, within, judge-settled, judge, number}
+use Rattle.meaning.specs.Judging.{Judgement, written-over, reported, count-told, ended, within, judge-settled, judge, number, judge-got}
 use Rattle.meaning.specs.Answers.{refusals}
 use Rattle.demands.specs.Wider.{Wider, padded, Same-judgement}
 use Rattle.meaning.proofs.TestLaws.{clash, pick-true, pick-map}
@@ -57,7 +57,7 @@ module _ (more : ℕ) (small large : List ℕ) where
   picked-same false f g h k first second = second
 
   ended-same : (c : ℕ) (e : End State) → Sized-end (length small) e → Same (ended small c e) (ended large c (mapped-end (padded more) e))
-  unfolding ended reported written-over
+  unfolding ended reported count-told written-over
   ended-same c fine sized = record { answer = refl; told = ⊎-elim (λ q. absurd (omega (arith, q))) (λ q. absurd (omega (arith, q))); untold = λ _ _. (refl, refl) }
   ended-same c (missed p s) sized = record { answer = refl; told = λ _. (sized, refl); untold = λ no _. absurd (no refl) }
   ended-same c (stopped n p u) sized = rw (sized .1 .1) (record { answer = refl; told = λ _. (sized .1 .2, refl); untold = λ _ no. absurd (no (sized .0)) })
@@ -121,7 +121,7 @@ module _ (lim big : Limits) (wider : Wider lim big) where
   module _ (small large : List ℕ) (fits : length small ≡ lim .state) (fits-wider : length large ≡ big .state) (budget : ℕ) where
     settled-same : (g h : Got Request) → Alike g h → ((r : Request) (e : ℕ) → g ≡ got r e → Ranged lim (r .table)) → Numbered-in refusals g
         → (judge-settled lim small budget g .answer .number ≡ Limits.count-outside → ⊥) → Same-judgement more small large (judge-settled lim small budget g) (judge-settled big large budget h)
-    unfolding judge-settled
+    unfolding judge-got
     settled-same (got r e) h (inl o) ranged numbered other = absurd o
     settled-same (got r e) h (inr q) ranged numbered other =
         rw (q, walked-same r (ranged r e refl)) (within-same more small large budget (walked r (first-state lim (r .table))) (walked-sized (length small) r (first-state lim (r .table)) (first-length lim (r .table) ∙ sym fits)))

@@ -15,7 +15,7 @@ use Rattle.meaning.specs.Reading.{Got, got, fault, literals, bound-of, byte-at,
 use Rattle.meaning.specs.Guards.{Guarded-request, read-guarded}
 use Rattle.meaning.proofs.SettledLaws.{got-same}
 use Rattle.meaning.proofs.RangeLaws.{after-got, count-within, section-read, repeated-length}
-use Rattle.reading.specs.Noted.{effects, executability, knowledge, effect-lines, run-lines, line-place, action-in, note-line, none-yet, count-slot, section-noted, table-noted, branch-place, branch-item, sensed-from, sensed-to, plan-slot, items-slot, goals-slot, guards-slot, sensed, slots, effects-slot, executability-slot, knowledge-slot, line-numbers}
+use Rattle.reading.specs.Noted.{effects, executability, knowledge, effect-lines, run-lines, line-place, action-in, note-line, none-yet, count-slot, section-noted, table-noted, branch-place, branch-item, sensed-from, sensed-to, plan-slot, items-slot, goals-slot, guards-slot, mode-slot, sensed, slots, effects-slot, executability-slot, knowledge-slot, line-numbers}
 use Rattle.reading.specs.Ordered.{In-order}
 use Rattle.reading.specs.Listed.{listed, List-here}
 use Rattle.reading.specs.Planned.{items-of, bytes-of, plan-noted}
@@ -249,6 +249,17 @@ module _ (s : List ℕ) (bytes : (i : ℕ) → getD s i 0 < 256) (x : Table) (p 
     after-effects : (j : ℕ) → Apart j → Outside run-lines j → (j ≡ executability-slot → ⊥) → getD u j 0 ≡ getD with-effects j 0
     unfolding with-runs
     after-effects j apart out other = after-runs j apart ∙ runs-kept with-effects j out other
+
+    -- The mode is 0.
+    pub mode-empty : getD u mode-slot 0 ≡ 0
+    mode-empty =
+        after-runs mode-slot (record {
+          far = omega arith;
+          action = λ a h. (λ e. omega arith, λ e. omega arith);
+          sensed = omega arith;
+          other = (λ e. omega arith, λ e. omega arith, λ e. omega arith, λ e. omega arith, λ e. omega arith);
+        })
+        ∙ sensed-empty mode-slot (omega arith) (omega arith) (λ e. omega arith) (λ e. omega arith)
 
     pub knowledge-counted : getD u knowledge-slot 0 ≡ length (x .knowledge)
     unfolding with-knowledge note-line action-in count-slot

@@ -13,21 +13,24 @@ use Rattle.meaning.specs.declared.Runs.{Runs}
 use Rattle.meaning.specs.declared.Runs.the-variants.{By, Short, Never}
 use Rattle.meaning.specs.Limits
 use Rattle.meaning.specs.Limits.{format}
-use Rattle.meaning.specs.Requests.{Item, act, branching, Entry}
-use Rattle.meaning.specs.States.{State, outcome}
-use Rattle.meaning.specs.Walk.{End, fine, missed, stopped, Walked, walked-guarded}
+use Rattle.meaning.specs.Requests.{Item, act, branching}
+use Rattle.meaning.specs.States.{State, state-after, outcome-to}
+use Rattle.meaning.specs.Walk.{End, fine, missed, stopped, Walked}
+use Rattle.meaning.specs.ByCases.{after-cases}
 use Rattle.meaning.specs.Judging.{Judgement, reported, ended, within}
 use Rattle.meaning.specs.Asking.{asked, line-of, line-at, line-told}
 use Rattle.meaning.specs.Reported.{Item-in, item-place}
 use Rattle.meaning.proofs.TestLaws.{by-test, pick-true, pick-false}
 use Rattle.meaning.proofs.PickLaws.{pick-has}
-use Rattle.meaning.proofs.KeptEnds.{End-so, any-outcome, walked-guarded-so}
+use Rattle.meaning.proofs.KeptEnds.{End-so, any-outcome}
 use Rattle.meaning.proofs.AskingLaws.{Line-of, Of-action, asked-of-action}
 use Rattle.meaning.proofs.ItemBytes.{Stands-there, plan-there, places-on}
 use Rattle.reading.specs.Noted.{plan-slot, items-slot}
-use Rattle.steps.specs.Held.{table-in, plan-in, goals-in, request-in}
+use Rattle.steps.specs.Held.{table-in, plan-in, goals-in}
 use Rattle.steps.specs.AtHand.{At-hand}
+use Rattle.steps.specs.Steps.{walk-held}
 use Rattle.steps.proofs.HandLaws.{sections}
+use Rattle.steps.proofs.HeldEnds.{held-so}
 use Rattle.finding.proofs.ReadLaws.{run-stands}
 use Rattle.glintstring.specs.Missing.{Item-byte}
 
@@ -75,11 +78,12 @@ module _ (s t : List ℕ) (here : At-hand s t) where
   abbrev Stops-there : End State → Type 0
   Stops-there = End-so (λ _ _. Unit {0}) (λ n p _. n ≡ Limits.not-executable → Item-byte s p)
 
-  walk-stops : (gs : List Entry) (u : State) → Stops-there (walked-guarded (request-in s t) gs u .end)
-  unfolding request-in
-  walk-stops gs u =
-      walked-guarded-so (λ _ _. Unit {0}) _ (λ _. Unit {0}) (Item-byte s) (λ v _ p stands _. stands) (request-in s t) gs (λ a v _. any-outcome (outcome (table-in s) a v)) (λ v _ p _. tt)
-      (λ v _ p _ two. absurd (omega (arith, two))) (places-on (Item-byte s) (plan-in s t) items-here) u tt
+  walk-stops : Stops-there (walk-held s t .end)
+  walk-stops =
+      held-so (λ _ _. Unit {0}) (λ n p _. n ≡ Limits.not-executable → Item-byte s p) (λ _. Unit {0}) (Item-byte s)
+      (record { misses = λ _ _ _. tt; stuck = λ _ _ p stands _. stands; many = λ _ _ two. absurd (omega (arith, two)); breaks = λ _ _ _ two. absurd (omega (arith, two)) }) s t
+      (λ a u _. any-outcome (outcome-to (table-in s) a u (state-after (table-in s) a u))) (λ a u _. any-outcome (outcome-to (table-in s) a u (after-cases (table-in s) a u)))
+      (places-on (Item-byte s) (plan-in s t) items-here) tt
 
   abbrev Stands : Judgement → Type 0
   Stands j = j .answer .number ≡ Limits.not-executable → Item-byte s (j .answer .place)
@@ -94,9 +98,9 @@ module _ (s t : List ℕ) (here : At-hand s t) where
   unfolding within
   within-stands lent budget w stops = pick-has Stands _ _ _ (λ _ two. absurd (omega (arith, two))) (λ _. ended-stands lent (w .count) (w .end) stops)
 
-  pub stop-byte : (lent left : List ℕ) (budget : ℕ) (answer : Answer) (gs : List Entry) (u : State) → record { answer = answer; state = left } ≡ within lent budget (walked-guarded (request-in s t) gs u)
+  pub stop-byte : (lent left : List ℕ) (budget : ℕ) (answer : Answer) → record { answer = answer; state = left } ≡ within lent budget (walk-held s t)
       → answer .number ≡ Limits.not-executable → Item-byte s (answer .place)
-  stop-byte lent left budget answer gs u is = subst Stands (sym is) (within-stands lent budget (walked-guarded (request-in s t) gs u) (walk-stops gs u))
+  stop-byte lent left budget answer is = subst Stands (sym is) (within-stands lent budget (walk-held s t) walk-stops)
 
 -- THE LINE of the item there.
 module _ (s : List ℕ) (place : ℕ) (state : List ℕ) where

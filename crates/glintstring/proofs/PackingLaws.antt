@@ -9,11 +9,13 @@ use Rattle.meaning.specs.declared.Layout.{Layout}
 use Rattle.meaning.specs.Limits.{format}
 use Rattle.meaning.specs.Judging.{Judgement, judge}
 use Rattle.meaning.specs.Guards.{judge-guarded}
+use Rattle.meaning.specs.ByCases.{judge-by-cases}
 use Rattle.meaning.specs.Derivations.{check}
 use Rattle.meaning.specs.Releases.{Released, release}
 use Rattle.meaning.proofs.PickLaws.{pick-has}
 use Rattle.meaning.proofs.PartLaws.{place-limited, limit-of, check-place-limited}
 use Rattle.meaning.proofs.GuardedAnswers.{guarded-place-limited}
+use Rattle.meaning.proofs.CaseAnswers.{cases-place-limited}
 use Rattle.meaning.proofs.ReleaseLaws.{own-place-limited}
 use Rattle.glintstring.specs.Packing.{packed}
 
@@ -29,6 +31,9 @@ place-small s lent budget = let most = place-limited format s lent budget in ome
 pub guarded-place-small : (s lent : List ℕ) (budget : ℕ) → judge-guarded format s lent budget .answer .place < 65536
 guarded-place-small s lent budget = let most = guarded-place-limited format s lent budget in omega (arith, most)
 
+pub cases-place-small : (s lent : List ℕ) (budget : ℕ) → judge-by-cases format s lent budget .answer .place < 65536
+cases-place-small s lent budget = let most = cases-place-limited format s lent budget in omega (arith, most)
+
 pub check-place-small : (layout : Layout) (s d : List ℕ) → check format layout s d .place < 65536
 check-place-small layout s d =
     let most = check-place-limited format layout s d in
@@ -38,13 +43,16 @@ check-place-small layout s d =
 pub own-place-small : (s lent : List ℕ) (budget : ℕ) → release format s lent budget .answer .place < 65536
 own-place-small s lent budget = let most = own-place-limited format s lent budget in omega (arith, most)
 
--- WHAT THE EXPORTED WALK CALL AND THE EXPORTED GUARDED CALL RETURN, where the call has given an answer and left these bytes.
+-- WHAT THE EXPORTED WALK CALL, GUARDED CALL AND CALL BY CASES RETURN, where the call has given an answer and left these bytes.
 module _ (a : Answer) (left : List ℕ) where
   pub judged-small : (s lent : List ℕ) (budget : ℕ) → record { answer = a; state = left } ≡ judge format s lent budget → a .place < 65536
   judged-small s lent budget judges = subst (λ (j : Judgement). j .answer .place < 65536) (sym judges) (place-small s lent budget)
 
   pub guarded-small : (s lent : List ℕ) (budget : ℕ) → record { answer = a; state = left } ≡ judge-guarded format s lent budget → a .place < 65536
   guarded-small s lent budget judges = subst (λ (j : Judgement). j .answer .place < 65536) (sym judges) (guarded-place-small s lent budget)
+
+  pub cases-small : (s lent : List ℕ) (budget : ℕ) → record { answer = a; state = left } ≡ judge-by-cases format s lent budget → a .place < 65536
+  cases-small s lent budget judges = subst (λ (j : Judgement). j .answer .place < 65536) (sym judges) (cases-place-small s lent budget)
 
   module _ (judged : Judgement) (judges : record { answer = a; state = left } ≡ judged) where
     pub judged-packed : (r : ℕ) → r ≡ packed a → r ≡ packed (judged .answer)

@@ -1,26 +1,32 @@
 -- A settled request is at hand, with guards or without: it was read from the start, into notes that held nothing, and 16 let it pass. Assumes nothing.
 use Prim.Native.Nat.{ℕ}
+use native.Mathlib.Omega.{arith}
 use mathlib.Core.Path.{_≡_, _∙_, ap}
 use mathlib.Core.List.{List, []}
-use lib.ListN.{getD}
+use lib.ListN.{length, getD, set}
 use mir.Syntax.{w8}
 use mir.Val.{Fits}
 use Rattle.meaning.specs.Limits.{format}
 use Rattle.meaning.specs.Requests.{Request}
 use Rattle.meaning.specs.Reading.{got}
 use Rattle.meaning.specs.Refusals.{settled}
+use Rattle.meaning.specs.States.{first-state}
+use Rattle.meaning.specs.ByCases.{walked-by-cases}
 use Rattle.meaning.specs.Guards.{Guarded-request, settled-guarded}
 use Rattle.meaning.proofs.SettledLaws.{Settled, settled-is}
 use Rattle.meaning.proofs.GuardedReads.{guarded-past}
 use Rattle.bytes.specs.declared.lists.Passed.{Passed}
 use Rattle.bytes.specs.declared.lists.Passed.the-variants.{To}
-use Rattle.reading.specs.Noted.{noting, outcome}
+use Rattle.reading.specs.Noted.{mode-slot, slots, noting, outcome}
 use Rattle.reading.specs.Requested.{request-noted, guarded-noted}
 use Rattle.reading.proofs.SectionLaws.{noting-got}
 use Rattle.finding.specs.TablesHere.{blank}
 use Rattle.steps.specs.Held.{guards-in, request-in}
 use Rattle.steps.specs.AtHand.{At-hand}
-use Rattle.steps.proofs.JustRead.{plain-at-hand, plain-request, plain-guards, guarded-at-hand, guarded-request, guarded-guards}
+use Rattle.steps.specs.Steps.{mode-in, walk-held}
+use Rattle.steps.proofs.ModeLaws.{held-cases}
+use Rattle.steps.proofs.ModeHand.{table-mode, new-mode, same-request, same-guarded, hand-stays}
+use Rattle.steps.proofs.JustRead.{plain-at-hand, plain-request, plain-table, plain-guards, guarded-at-hand, guarded-request, guarded-table, guarded-guards}
 
 -- WITHOUT GUARDS.
 module _ (s t u : List ℕ) (r : Passed) (settles : outcome r u ≡ noting request-noted (settled format s) t) (e : ℕ) (passes : r ≡ To e) where
@@ -39,6 +45,12 @@ module _ (s t u : List ℕ) (r : Passed) (settles : outcome r u ≡ noting reque
 
     pub settled-held : request-in s u ≡ settled-got .0
     settled-held = plain-request s (λ i. bytes i .fits) u (settled-got .0) e (past .reads) noted
+
+    pub settled-known : mode-in u ≡ 0
+    settled-known = table-mode s u (plain-table s (λ i. bytes i .fits) u (settled-got .0) e (past .reads) noted)
+
+    pub settled-sized : length u ≡ slots
+    settled-sized = plain-table s (λ i. bytes i .fits) u (settled-got .0) e (past .reads) noted .sized
 
     pub settled-unguarded : guards-in s u ≡ []
     settled-unguarded = plain-guards s (λ i. bytes i .fits) u (settled-got .0) e (past .reads) noted
@@ -60,5 +72,22 @@ module _ (s t u : List ℕ) (r : Passed) (settles : outcome r u ≡ noting guard
     pub guarded-held : request-in s u ≡ guarded-got .0 .request
     guarded-held = guarded-request s (λ i. bytes i .fits) u (guarded-got .0) e (guarded-past format s (guarded-got .0) e (guarded-got .1) .0) noted-guarded
 
+    pub guarded-known : mode-in u ≡ 0
+    guarded-known = table-mode s u (guarded-table s (λ i. bytes i .fits) u (guarded-got .0) e (guarded-past format s (guarded-got .0) e (guarded-got .1) .0) noted-guarded)
+
     pub guards-held : guards-in s u ≡ guarded-got .0 .guards
     guards-held = guarded-guards s (λ i. bytes i .fits) u (guarded-got .0) e (guarded-past format s (guarded-got .0) e (guarded-got .1) .0) noted-guarded
+
+-- BY CASES it is the same request, with the mode put into the notes.
+module _ (s t u : List ℕ) (r : Passed) (settles : outcome r u ≡ noting request-noted (settled format s) t) (e : ℕ) (passes : r ≡ To e) (bytes : (i : ℕ) → Fits w8 (getD s i 0)) (empty : t ≡ blank)
+    (v : List ℕ) (put : v ≡ set u mode-slot 1) where
+  pub cases-hand : At-hand s v
+  cases-hand = rw put (hand-stays s u 1 (settled-at-hand s t u r settles e passes bytes empty))
+
+  pub cases-walk : walk-held s v ≡ walked-by-cases (settled-got s t u r settles e passes .0) (first-state format (settled-got s t u r settles e passes .0 .table))
+  unfolding request-in
+  cases-walk =
+      ap (walk-held s) put
+      ∙ held-cases s (set u mode-slot 1) (λ none. let one = new-mode s u 1 (settled-sized s t u r settles e passes bytes empty) in omega (arith, none, one))
+      (same-guarded s u 1 ∙ settled-unguarded s t u r settles e passes bytes empty)
+      ∙ ap (λ (x : Request). walked-by-cases x (first-state format (x .table))) (same-request s u 1 ∙ settled-held s t u r settles e passes bytes empty)

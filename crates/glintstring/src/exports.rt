@@ -5,6 +5,7 @@ ghost use Rattle.meaning.specs.declared.Layout.the-variants.{Plain, Closing};
 ghost use Rattle.meaning.specs.Limits.{format};
 ghost use Rattle.meaning.specs.Judging.{judge};
 ghost use Rattle.meaning.specs.Guards.{judge-guarded};
+ghost use Rattle.meaning.specs.ByCases.{judge-by-cases};
 ghost use Rattle.meaning.specs.Asking;
 ghost use Rattle.meaning.specs.Derivations.{check};
 ghost use Rattle.meaning.specs.Releases.{plans-in, release};
@@ -13,6 +14,7 @@ ghost use Rattle.glintstring.specs.Packing.{packed, unpacked};
 use super::check_calls::check;
 use super::check_calls::check_whether;
 use super::judging::judge;
+use super::judging::judge_by_cases;
 use super::judging::judge_guarded;
 use meaning::Answer;
 use verdicts::answers;
@@ -47,6 +49,16 @@ pub extern "C" fn glintstring_judge_guarded(request: &[u8], state: &mut [u8], bu
     ensures { λ _. ⌜ now (state .exit) ≡ judge-guarded format (now (request .entry)) (now (state .entry)) budget .state ⌝ }
 {
     let judged = judge_guarded(request, state, budget);
+    pack(judged.answer)
+}
+
+// The call by cases (FORMAT 22.1), with its answer in one number. It may be called with anything.
+#[no_mangle]
+pub extern "C" fn glintstring_judge_by_cases(request: &[u8], state: &mut [u8], budget: u32) -> u64
+    ensures { λ r. ⌜ r ≡ packed (judge-by-cases format (now (request .entry)) (now (state .entry)) budget .answer) ⌝ }
+    ensures { λ _. ⌜ now (state .exit) ≡ judge-by-cases format (now (request .entry)) (now (state .entry)) budget .state ⌝ }
+{
+    let judged = judge_by_cases(request, state, budget);
     pack(judged.answer)
 }
 

@@ -1,19 +1,20 @@
 ghost use mathlib.Core.Path.{_≡_};
 ghost use lib.ListN.{length};
 ghost use Rattle.meaning.specs.Limits.{format};
-ghost use Rattle.meaning.specs.States.{first-state};
-ghost use Rattle.meaning.specs.Walk.{walked-guarded};
 ghost use Rattle.meaning.specs.Judging.{within, judge};
 ghost use Rattle.meaning.specs.Guards.{judge-guarded, line-guarded};
 ghost use Rattle.meaning.specs.Asking.{line-told, line};
-ghost use Rattle.steps.specs.Held.{table-in, guards-in, request-in};
+ghost use Rattle.meaning.specs.ByCases.{judge-by-cases, line-by-cases};
+ghost use Rattle.steps.specs.Held.{table-in};
 ghost use Rattle.steps.specs.AtHand.{At-hand};
+ghost use Rattle.steps.specs.Steps.{walk-held};
 use super::missing::line_at;
 use bytes::limits;
 use bytes::lists::Passed;
 use meaning::Answer;
 use reading::notes;
 use reading::notes::Notes;
+use reading::notes::put;
 use refusing::settled::settle;
 use refusing::settled::settle_guarded;
 use verdicts::answers;
@@ -23,11 +24,14 @@ use verdicts::walked::walk_plan;
 // The length of a lent state.
 const STATE_BYTES: usize = limits::FLUENTS;
 
+// The mode of the call by cases; every other call's is 0.
+const BY_CASES: usize = 1;
+
 // The walk of a settled request, and the line of the action that stopped it.
 fn walk_with_line(request: &[u8], t: &Notes, state: &mut [u8], budget: u32) -> Judged
     requires { ⌜ At-hand (now request) (now t) ⌝ }
     requires { ⌜ length (now state) ≡ format .state ⌝ }
-    ensures given { λ r. ⌜ record { answer = r .answer; state = now (state .exit) } ≡ within (now (state .entry)) budget (walked-guarded (request-in (now (request .entry)) (now (t .entry))) (guards-in (now (request .entry)) (now (t .entry))) (first-state format (table-in (now (request .entry))))) ⌝ }
+    ensures given { λ r. ⌜ record { answer = r .answer; state = now (state .exit) } ≡ within (now (state .entry)) budget (walk-held (now (request .entry)) (now (t .entry))) ⌝ }
     ensures line { λ r. ⌜ r .line ≡ line-told (table-in (now (request .entry))) (now (request .entry)) (record { answer = r .answer; state = now (state .exit) }) ⌝ }
 {
     let answer = walk_plan(request, t, state, budget);
@@ -87,6 +91,24 @@ pub fn judge_guarded(request: &[u8], state: &mut [u8], budget: u32) -> Judged
     let mut t: Notes = [0u16; notes::SLOTS];
     match settle_guarded(request, &mut t) {
         Passed::To(_) => walk_with_line(request, &t, state, budget),
+        Passed::Fault(k, p) => without_walk(k, answers::THE_REQUEST, p),
+    }
+}
+
+// The call by cases (FORMAT 22.1). Answers 1 and 2 leave the state concerned in the lent bytes; every other leaves these as they are.
+pub fn judge_by_cases(request: &[u8], state: &mut [u8], budget: u32) -> Judged
+    ensures given { λ r. ⌜ record { answer = r .answer; state = now (state .exit) } ≡ judge-by-cases format (now (request .entry)) (now (state .entry)) budget ⌝ }
+    ensures line { λ r. ⌜ r .line ≡ line-by-cases format (now (request .entry)) (now (state .entry)) budget ⌝ }
+{
+    if state.len() != STATE_BYTES {
+        return without_walk(answers::STATE_LENGTH, answers::NEITHER_INPUT, 0);
+    }
+    let mut t: Notes = [0u16; notes::SLOTS];
+    match settle(request, &mut t) {
+        Passed::To(_) => {
+            put(&mut t, notes::MODE, BY_CASES);
+            walk_with_line(request, &t, state, budget)
+        }
         Passed::Fault(k, p) => without_walk(k, answers::THE_REQUEST, p),
     }
 }

@@ -1,7 +1,8 @@
-// Judges the request on standard input, and says so on standard output (FORMAT 12.1 to 12.6, 12.13, 12.21, 18.17, 21.19, 21.20).
+// Judges the request on standard input, and says so on standard output (FORMAT 12.1 to 12.6, 12.13, 12.21, 18.17, 21.19, 21.20, 22.16).
 use bytes::limits;
 use comparing::parts::same_part;
 use glintstring::judging::judge;
+use glintstring::judging::judge_by_cases;
 use glintstring::judging::judge_guarded;
 use libc::STDIN_FILENO;
 use libc::STDOUT_FILENO;
@@ -17,6 +18,13 @@ use programs::read_all;
 use programs::stack_is_enough;
 use verdicts::answers;
 
+// The call that is made.
+enum Call {
+    Walk,
+    Guarded,
+    ByCases,
+}
+
 // The argument that is so many from the end, counted from 1, is this option.
 fn option_asked(from_end: usize, option: &[u8]) -> bool {
     let count = os::arg_count();
@@ -30,15 +38,15 @@ fn option_asked(from_end: usize, option: &[u8]) -> bool {
 
 // The answer, for 1, 2 and 43 the state, and where it is asked for the line. The first byte of a request that gets one of these is its fluent count. Without
 // enough stack there is none, which is said.
-fn answer_to(request: &[u8], budget: u32, guarded: bool, line: bool) -> bool {
+fn answer_to(request: &[u8], budget: u32, call: Call, line: bool) -> bool {
     if !stack_is_enough(b"judge", b"", request.len()) {
         return true;
     }
     let mut state = [0u8; limits::FLUENTS];
-    let judged = if guarded {
-        judge_guarded(request, &mut state, budget)
-    } else {
-        judge(request, &mut state, budget)
+    let judged = match call {
+        Call::Walk => judge(request, &mut state, budget),
+        Call::Guarded => judge_guarded(request, &mut state, budget),
+        Call::ByCases => judge_by_cases(request, &mut state, budget),
     };
     let answer = judged.answer;
     if !put_line(
@@ -66,12 +74,12 @@ fn answer_to(request: &[u8], budget: u32, guarded: bool, line: bool) -> bool {
     true
 }
 
-fn judge_input(budget: u32, guarded: bool, line: bool) {
+fn judge_input(budget: u32, call: Call, line: bool) {
     // One byte more than a request may have: a longer one is refused whatever it holds.
     let mut bytes = [0u8; REQUEST_ROOM];
     match read_all(STDIN_FILENO, &mut bytes) {
         Input::Bytes(n) => {
-            if !answer_to(&bytes[..n], budget, guarded, line) {
+            if !answer_to(&bytes[..n], budget, call, line) {
                 os::fail(b"judge: standard output");
             }
         }
@@ -81,19 +89,22 @@ fn judge_input(budget: u32, guarded: bool, line: bool) {
 
 fn main() {
     let line = option_asked(1, b"--line");
-    let guarded = if line {
-        option_asked(2, b"--guarded")
-    } else {
-        option_asked(1, b"--guarded")
-    };
+    let from_end = if line { 2 } else { 1 };
+    let guarded = option_asked(from_end, b"--guarded");
+    let by_cases = option_asked(from_end, b"--by-cases");
     // The program's name, and the options.
-    let words = if line {
-        if guarded { 3 } else { 2 }
+    let words = if guarded || by_cases {
+        if line { 3 } else { 2 }
     } else {
-        if guarded { 2 } else { 1 }
+        from_end
+    };
+    let call = if guarded {
+        Call::Guarded
+    } else {
+        if by_cases { Call::ByCases } else { Call::Walk }
     };
     match budget_asked(words) {
-        Asked::Number(budget) => judge_input(budget, guarded, line),
+        Asked::Number(budget) => judge_input(budget, call, line),
         Asked::Nothing => {
             io::write_all(
                 libc::STDERR_FILENO,

@@ -54,6 +54,10 @@ table-A = 4 ∷ 3 ∷ 3 ∷ 3 ∷ 5 ∷ 7 ∷ 3 ∷ 1 ∷ 2 ∷ 0 ∷ 1 ∷ 6 �
 unfoldable pub file-A : List ℕ
 file-A = table-A ++ (0 ∷ 2 ∷ 0 ∷ 255 ∷ 2 ∷ 1 ∷ 1 ∷ 0 ∷ 2 ∷ 1 ∷ 2 ∷ 1 ∷ 0 ∷ 0 ∷ 0 ∷ 1 ∷ 7 ∷ 1 ∷ 2 ∷ [])
 
+-- Case 10: every world reaches the goal.
+unfoldable pub case-10 : List ℕ
+case-10 = 2 ∷ 1 ∷ 0 ∷ 2 ∷ 0 ∷ 0 ∷ 1 ∷ 2 ∷ 0 ∷ 0 ∷ 1 ∷ 3 ∷ 1 ∷ 0 ∷ 0 ∷ 0 ∷ 0 ∷ 1 ∷ 0 ∷ 1 ∷ 0 ∷ 0 ∷ []
+
 -- One fluent, one action, no facts and no lines: the six bytes before the plan.
 unfoldable pub no-lines : List ℕ
 no-lines = 1 ∷ 1 ∷ 0 ∷ 0 ∷ 0 ∷ 0 ∷ []
@@ -88,7 +92,7 @@ cases =
     -- Case 9.
     verified (table-A ++ (0 ∷ 2 ∷ 0 ∷ 0 ∷ 0 ∷ 0 ∷ [])) 5 ∷
     -- Case 10.
-    missed (2 ∷ 1 ∷ 0 ∷ 2 ∷ 0 ∷ 0 ∷ 1 ∷ 2 ∷ 0 ∷ 0 ∷ 1 ∷ 3 ∷ 1 ∷ 0 ∷ 0 ∷ 0 ∷ 0 ∷ 1 ∷ 0 ∷ 1 ∷ 0 ∷ 0 ∷ []) 20 2 (0 ∷ 0 ∷ []) ∷
+    missed case-10 20 2 (0 ∷ 0 ∷ []) ∷
     -- A goal missed in both readings: the first is named, the second still walked.
     missed (table-A ++ (0 ∷ 1 ∷ 0 ∷ 1 ∷ 2 ∷ 0 ∷ [])) 33 3 (1 ∷ 2 ∷ 2 ∷ 2 ∷ []) ∷
     -- A goal missed in the first reading, and an item that can't be run in the second.
@@ -179,5 +183,5 @@ cases =
 
 -- Every case is judged as its row says.
 pub cases-hold : map (λ (c : Case). judge format (c .request) (c .lent) (c .budget)) cases ≡ map (λ (c : Case). c .gives) cases
-unfolding all-open table-A file-A no-lines opening copies cases
+unfolding all-open table-A file-A case-10 no-lines opening copies cases
 cases-hold = refl

@@ -8,8 +8,9 @@ use mathlib.Core.Bool.{Bool, true}
 use Rattle.meaning.specs.Tests.{each-of, Has}
 use Rattle.meaning.specs.Requests.{Entry-over, values}
 use Rattle.meaning.specs.Refusals.{Found, nowhere, at}
-use Rattle.meaning.specs.Walk.{Concerned, no-state, in-state, End, fine, missed, stopped, first-missed}
-use Rattle.meaning.specs.Paths.{Ending, arrives, stops, Path, first-ran, goes-on, go-on, stop-of, first-stop, miss-of, first-miss, stop-or-miss, walked-along}
+use Rattle.meaning.specs.States.{Outcome, single, fork}
+use Rattle.meaning.specs.Walk.{Concerned, no-state, in-state, End, fine, missed, stopped, Step, leads-to, refuses, first-missed}
+use Rattle.meaning.specs.Paths.{Ending, arrives, stops, Path, first-ran, goes-on, go-on, meetings, arrivals, paths-step, stop-of, first-stop, miss-of, first-miss, stop-or-miss, walked-along}
 use Rattle.meaning.specs.Reported.{First}
 use Rattle.meaning.proofs.TestLaws.{both-left, both-right, both-true, pick-true, pick-cases, has-right}
 use Rattle.meaning.proofs.RefusalLaws.{at≢nowhere}
@@ -74,7 +75,7 @@ module _ {S : Type 0} where
   has-ends (y ∷ ys) x e (inl r) q = inl (sym q ∙ ap (λ (z : Path S). z .ending) r)
   has-ends (y ∷ ys) x e (inr h) q = inr (has-ends ys x e h q)
 
-  ends-has : (xs : List (Path S)) (e : Ending S) → Ends xs e → (x : Path S) × Has xs x × (x .ending ≡ e)
+  pub ends-has : (xs : List (Path S)) (e : Ending S) → Ends xs e → (x : Path S) × Has xs x × (x .ending ≡ e)
   ends-has [] e ends = absurd ends
   ends-has (y ∷ ys) e (inl here) = (y, inl refl, sym here)
   ends-has (y ∷ ys) e (inr later) = let w = ends-has ys e later in (w .0, inr (w .1), w .2)
@@ -129,6 +130,33 @@ module _ {S : Type 0} where
   unfolding first-ran
   ends-ran before [] e = (λ h. h, λ h. h)
   ends-ran before (x ∷ xs) e = (λ h. h, λ h. h)
+
+  -- What an action leads to are arrivals.
+  pub arrivals-go-on : (o : Outcome S) (n p : ℕ) (u : Concerned S) → Ends (arrivals o) (stops n p u) → ⊥
+  unfolding meetings
+  arrivals-go-on (single s) n p u h = arrives≢stops (sym (ends-one h))
+  arrivals-go-on (fork o q) n p u h = ⊎-elim (arrivals-go-on o n p u) (arrivals-go-on (q tt) n p u) (ends-split (arrivals o) (arrivals (q tt)) (stops n p u) h)
+
+  -- A stop's number; and a step that stops so is refused so, at its place, where no state lacks a guard.
+  pub stop-numbered : {m n p q : ℕ} {u v : Concerned S} → stops m p u ≡ stops n q v → m ≡ n
+  stop-numbered {m} e = ap number e
+    where
+      number : Ending S → ℕ
+      number (arrives s) = m
+      number (stops n p u) = n
+
+  pub step-stops : (n p : ℕ) (u : Concerned S) (q a : ℕ) (x : Step S) → Ends (paths-step (λ _. nowhere) q a x) (stops n p u) → (p ≡ q) × (x ≡ refuses n u)
+  unfolding paths-step
+  step-stops n p u q a (leads-to o) h = absurd (arrivals-go-on o n p u (ends-ran (a ∷ []) (arrivals o) (stops n p u) .0 h))
+  step-stops n p u q a (refuses m v) h = let is = ends-one h in (ap place is, ap refusal (sym is))
+    where
+      place : Ending S → ℕ
+      place (arrives s) = p
+      place (stops m q v) = q
+
+      refusal : Ending S → Step S
+      refusal (arrives s) = refuses m v
+      refusal (stops i q w) = refuses i w
 
   module _ (more : S → List (Path S)) where
     -- A path stopped before, or went on from where one arrived.

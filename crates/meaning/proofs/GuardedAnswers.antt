@@ -1,29 +1,24 @@
 -- Every answer of the guarded call is one of its numbers (demand 1, FORMAT 21.22), and its input, place, count and state are what the number says
--- (FORMAT 21.10, 21.16): each answer is written with them in one place, its place is one that was read or walked to, and no fault has a number of a
--- walk. Assumes nothing.
+-- (FORMAT 21.10, 21.16): it judges by its walk, whose stops have the number 2 or 43 and a state (`JudgedParts`). Assumes nothing.
 use Prim.Native.Nat.{ℕ, _≤_}
-use native.Mathlib.Omega.{arith}
-use mathlib.Core.Path.{_≡_, refl, sym, ap, subst}
-use mathlib.Core.Bool.{true, false}
+use mathlib.Core.Path.{_≡_, refl, sym, subst}
+use mathlib.Core.Bool.{true}
 use mathlib.Core.List.{List}
 use mathlib.Core.Logic.{⊎-elim}
 use lib.ListN.{length}
 use Rattle.meaning.specs.Tests.{both, either, fails, some-of, each-of}
-use Rattle.meaning.specs.Limits
 use Rattle.meaning.specs.Limits.{Limits}
 use Rattle.meaning.specs.Literals.{among}
+use Rattle.meaning.specs.Requests.{Entry}
 use Rattle.meaning.specs.Reading.{Got, got, fault}
 use Rattle.meaning.specs.States.{State, first-state}
 use Rattle.meaning.specs.Walk.{Concerned, in-state, End, fine, missed, stopped}
-use Rattle.meaning.specs.Judging.{Judgement, written-over, reported, ended, within, refused-at, wrong-length}
-use Rattle.meaning.specs.Guards.{Guarded-request, settled-guarded, walk-of, guarded-settled, judge-guarded}
+use Rattle.meaning.specs.Guards.{Guarded-request, settled-guarded, walk-of, judge-guarded}
 use Rattle.meaning.specs.Answers.{refusals, answers, guarded-answers}
-use Rattle.meaning.specs.AnswerParts.{of-neither, Walk-input, at-start, Placed, of-walks, of-guarded-walks, Guarded-count, concerned, with-state, Guarded-state}
-use Rattle.meaning.proofs.TestLaws.{clash, fails-true}
-use Rattle.meaning.proofs.LiteralLaws.{among-each}
-use Rattle.meaning.proofs.PickLaws.{pick-has}
+use Rattle.meaning.specs.AnswerParts.{of-neither, Walk-input, at-start, Placed, of-walks, of-guarded-walks, Guarded-count, with-state, Guarded-state}
 use Rattle.meaning.proofs.KeptEnds.{Stuck-guarded, guarded-stuck}
-use Rattle.meaning.proofs.PlaceLaws.{End-below, walked-guarded-below, placed-start, placed-byte, Fault-in, Guarded-held, guarded-held}
+use Rattle.meaning.proofs.PlaceLaws.{walked-guarded-below, Guarded-held, guarded-held}
+use Rattle.meaning.proofs.JudgedParts.{Tells, Stop-told, Stops-told, Walks-within, Parts, judged-parts}
 use Rattle.meaning.proofs.AnswerLaws.{Numbered-in}
 
 -- A guarded request that is not settled is refused by one of 10 to 21.
@@ -34,121 +29,35 @@ guarded-numbered-in lim s = by-fault (settled-guarded lim s) (guarded-held lim s
     by-fault (got g e) h = tt
     by-fault (fault n p) h = h .number
 
--- A refusal is none of the numbers of a list that has none of them.
-not-among : (ns : List ℕ) → each-of (λ (m : ℕ). fails (among m ns)) refusals ≡ true → (n : ℕ) → among n refusals ≡ true → among n ns ≡ false
-not-among ns none n is = fails-true _ (among-each (λ (m : ℕ). fails (among m ns)) refusals none n is)
+guarded-tells : Tells guarded-answers of-guarded-walks with-state
+unfolding among guarded-answers answers refusals of-guarded-walks of-walks with-state some-of either each-of both fails
+guarded-tells = record { fine = (refl, refl, refl); missed = (refl, refl, refl); spent = (refl, refl, refl); length = (refl, refl, refl); refused = refl }
+
+-- Its stops are told so: they have the number 2 or 43, and a state.
+stuck-told : (gs : List Entry) (end : End State) → Stuck-guarded gs end → Stops-told guarded-answers of-guarded-walks with-state end
+unfolding among guarded-answers answers of-neither at-start of-guarded-walks of-walks with-state some-of either
+stuck-told gs fine stuck = tt
+stuck-told gs (missed p s) stuck = tt
+stuck-told gs (stopped n p u) stuck =
+    subst (λ (v : Concerned State). Stop-told guarded-answers of-guarded-walks with-state n p v) (sym (stuck .1))
+    (⊎-elim (λ q. subst In-the-state (sym q) (refl, refl, (refl, refl, refl))) (λ q. subst In-the-state (sym (q .0)) (refl, refl, (refl, refl, refl))) (stuck .2))
+  where
+    In-the-state : ℕ → Type 0
+    In-the-state m = Stop-told guarded-answers of-guarded-walks with-state m p (in-state (stuck .0))
 
 module _ (lim : Limits) (request lent : List ℕ) (budget : ℕ) where
-  -- All that the number says.
-  record Parts (j : Judgement) : Type 0 where
-    number : among (j .answer .number) guarded-answers ≡ true
-    input : Walk-input (j .answer)
-    count : Guarded-count lim request budget (j .answer)
-    place : Placed (length request) (j .answer .number) (j .answer .place)
-    fits : j .answer .place ≤ lim .request
-    state : Guarded-state lim request lent j
+  walks-within : (x : Got Guarded-request) → Guarded-held lim request x → Walks-within guarded-answers of-guarded-walks with-state (walk-of lim) lim request x
+  unfolding walk-of
+  walks-within (got g e) h = (
+    h .1 .short,
+    walked-guarded-below (length request) (g .request) (h .1 .request) (g .guards) (h .1 .guards) (first-state lim (g .request .table)),
+    stuck-told (g .guards) (walk-of lim g .end) (guarded-stuck (g .guards) (g .request) (first-state lim (g .request .table))),
+  )
+  walks-within (fault n p) h = h
 
-  spent-parts : Parts (record { answer = record { number = Limits.budget-spent; input = Limits.neither-input; place = 0; count = budget }; state = lent })
-  unfolding among guarded-answers answers of-neither at-start of-guarded-walks of-walks with-state some-of either
-  spent-parts = record {
-    number = refl;
-    input = record { neither = (λ _. refl, λ _. refl); request = λ f. clash refl f };
-    count = record { walk = λ h. clash h refl; spent = λ _. refl; other = λ f. clash refl f };
-    place = placed-start (length request) Limits.budget-spent refl;
-    fits = omega arith;
-    state = record { written = λ h. clash h refl; as-lent = λ _. refl };
-  }
-
-  length-parts : Parts (wrong-length lent)
-  unfolding among guarded-answers answers of-neither at-start of-guarded-walks of-walks with-state some-of either
-  length-parts = record {
-    number = refl;
-    input = record { neither = (λ _. refl, λ _. refl); request = λ f. clash refl f };
-    count = record { walk = λ h. clash h refl; spent = λ q. absurd (omega (arith, q)); other = λ _. refl };
-    place = placed-start (length request) Limits.state-length refl;
-    fits = omega arith;
-    state = record { written = λ h. clash h refl; as-lent = λ _. refl };
-  }
-
-  -- A walk that ended, of the settled request.
-  module _ (g : Guarded-request) (e : ℕ) (past : settled-guarded lim request ≡ got g e) (short : length request ≤ lim .request) where
-    abbrev counted : ℕ
-    counted = walk-of lim g .count
-
-    ended-parts : (end : End State) → walk-of lim g .end ≡ end → End-below (length request) end → Stuck-guarded (g .guards) end → Parts (ended lent counted end)
-    unfolding ended reported written-over concerned among guarded-answers answers of-neither at-start of-guarded-walks of-walks with-state some-of either
-    ended-parts fine is less stuck = record {
-      number = refl;
-      input = record { neither = (λ _. refl, λ _. refl); request = λ f. clash refl f };
-      count = record { walk = λ _. (g, e, past, refl); spent = λ q. absurd (omega (arith, q)); other = λ f. clash refl f };
-      place = placed-start (length request) Limits.verified refl;
-      fits = omega arith;
-      state = record { written = λ h. clash h refl; as-lent = λ _. refl };
-    }
-    ended-parts (missed p s) is less stuck = record {
-      number = refl;
-      input = record { neither = (λ q. absurd (omega (arith, q)), λ h. clash h refl); request = λ _. refl };
-      count = record { walk = λ _. (g, e, past, refl); spent = λ q. absurd (omega (arith, q)); other = λ f. clash refl f };
-      place = placed-byte (length request) Limits.goal-missed p refl less;
-      fits = omega (arith, less, short);
-      state = record { written = λ _. (g, e, past, rw is refl); as-lent = λ f. clash refl f };
-    }
-    ended-parts (stopped n p u) is less stuck =
-        subst (λ (v : Concerned State). Parts (ended lent counted (stopped n p v))) (sym (stuck .1))
-        (⊎-elim (λ q. subst Stopped-parts (sym q) stuck-parts) (λ q. subst Stopped-parts (sym (q .0)) broken-parts) (stuck .2))
-      where
-        Stopped-parts : ℕ → Type 0
-        Stopped-parts m = Parts (ended lent counted (stopped m p (in-state (stuck .0))))
-
-        in-the-state : concerned (walk-of lim g .end) ≡ in-state (stuck .0)
-        in-the-state = rw is (stuck .1)
-
-        stuck-parts : Stopped-parts Limits.not-executable
-        stuck-parts = record {
-          number = refl;
-          input = record { neither = (λ q. absurd (omega (arith, q)), λ h. clash h refl); request = λ _. refl };
-          count = record { walk = λ _. (g, e, past, refl); spent = λ q. absurd (omega (arith, q)); other = λ f. clash refl f };
-          place = placed-byte (length request) Limits.not-executable p refl less;
-          fits = omega (arith, less, short);
-          state = record { written = λ _. (g, e, past, in-the-state); as-lent = λ f. clash refl f };
-        }
-
-        broken-parts : Stopped-parts Limits.guard-broken
-        broken-parts = record {
-          number = refl;
-          input = record { neither = (λ q. absurd (omega (arith, q)), λ h. clash h refl); request = λ _. refl };
-          count = record { walk = λ _. (g, e, past, refl); spent = λ q. absurd (omega (arith, q)); other = λ f. clash refl f };
-          place = placed-byte (length request) Limits.guard-broken p refl less;
-          fits = omega (arith, less, short);
-          state = record { written = λ _. (g, e, past, in-the-state); as-lent = λ f. clash refl f };
-        }
-
-  fault-parts : (n p : ℕ) → Fault-in refusals (lim .request) (length request) n p → Parts (refused-at lent n p)
-  unfolding among guarded-answers answers refusals of-neither of-guarded-walks of-walks with-state some-of either each-of both fails
-  fault-parts n p h = record {
-    number = among-each (λ (m : ℕ). among m guarded-answers) refusals refl n (h .number);
-    input = record { neither = (λ q. absurd (omega (arith, q)), λ t. clash t (not-among of-neither refl n (h .number))); request = λ _. refl };
-    count = record {
-      walk = λ t. clash t (not-among of-guarded-walks refl n (h .number));
-      spent = λ q. clash (h .number) (ap (λ (m : ℕ). among m refusals) q);
-      other = λ _. refl;
-    };
-    place = h .placed;
-    fits = h .fits;
-    state = record { written = λ t. clash t (not-among with-state refl n (h .number)); as-lent = λ _. refl };
-  }
-
-  settled-parts : (x : Got Guarded-request) → settled-guarded lim request ≡ x → Guarded-held lim request x → Parts (guarded-settled lim lent budget x)
-  unfolding guarded-settled within walk-of
-  settled-parts (got g e) past h =
-      pick-has Parts _ _ _ (λ _. spent-parts)
-      (λ _. ended-parts g e past (h .1 .short) _ refl (walked-guarded-below (length request) (g .request) (h .1 .request) (g .guards) (h .1 .guards) (first-state lim (g .request .table)))
-      (guarded-stuck (g .guards) (g .request) (first-state lim (g .request .table))))
-  settled-parts (fault n p) past h = fault-parts n p h
-
-  parts : Parts (judge-guarded lim request lent budget)
+  parts : Parts guarded-answers of-guarded-walks with-state (walk-of lim) lim request lent budget (settled-guarded lim request) (judge-guarded lim request lent budget)
   unfolding judge-guarded
-  parts = pick-has Parts _ _ _ (λ _. settled-parts (settled-guarded lim request) refl (guarded-held lim request)) (λ _. length-parts)
+  parts = judged-parts guarded-answers of-guarded-walks with-state (walk-of lim) lim request lent budget (settled-guarded lim request) guarded-tells (walks-within (settled-guarded lim request) (guarded-held lim request))
 
   -- DEMAND 1: the number is one of 0 to 3, 9 to 21 and 43 (FORMAT 21.22).
   pub guarded-numbered : among (judge-guarded lim request lent budget .answer .number) guarded-answers ≡ true

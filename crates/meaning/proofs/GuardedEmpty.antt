@@ -14,7 +14,7 @@ use Rattle.meaning.specs.Requests.{Table, Request}
 use Rattle.meaning.specs.Reading.{Got, got, fault, next, literals, list-at, placed, table-at, request-at, read-request}
 use Rattle.meaning.specs.Refusals.{Found, nowhere, at, refuse, past-refusals, contradiction-in, mixed-in, overlap-in, settled}
 use Rattle.meaning.specs.States.{first-state}
-use Rattle.meaning.specs.Judging.{Judgement, within, judge-settled, judge}
+use Rattle.meaning.specs.Judging.{Judgement, within, judge-settled, judge, judge-got}
 use Rattle.meaning.specs.Judging
 use Rattle.meaning.specs.Guards.{Guarded-request, read-guarded, settled-guarded, walk-of, guarded-settled, judge-guarded}
 use Rattle.meaning.specs.Layouts.{list-written}
@@ -99,19 +99,19 @@ module _ (lim : Limits) (b : List ℕ) (short : length b < lim .request) where
     Alike x h = guarded-settled lim lent budget h ≡ judge-settled lim lent budget x
 
     refused-alike : (n : ℕ) (f : Found) (x : Got Request) (h : Got Guarded-request) → Alike x h → Alike (refuse n f (λ _. x)) (refuse n f (λ _. h))
-    unfolding refuse guarded-settled judge-settled
+    unfolding refuse judge-got
     refused-alike n nowhere x h alike = alike
     refused-alike n (at p) x h alike = refl
 
     walked-alike : (r : Request) (e : ℕ) → Alike (got r e) (got (without r) (e + 1))
-    unfolding guarded-settled judge-settled walk-of
+    unfolding judge-got walk-of
     walked-alike r e = ap (within lent budget) (walked-unguarded r (first-state lim (r .table)))
 
     by-read : (x : Got Request) (h : Got Guarded-request) → Empty x h
         → (judge-settled lim lent budget (next x λ r e. past-refusals r (got r e)) .answer .number ≡ Limits.ends-too-soon → ⊥)
         → (judge-settled lim lent budget (next x λ r e. past-refusals r (got r e)) .answer .number ≡ Limits.bytes-after → ⊥)
         → Alike (next x λ r e. past-refusals r (got r e)) (next h λ g e. past-refusals (g .request) (got g e))
-    unfolding next judge-settled guarded-settled
+    unfolding next judge-got
     by-read (got r e) h is not-11 not-20 =
         rw is
         (refused-alike Limits.contradictory-effects (contradiction-in (r .table)) _ _

@@ -16,8 +16,8 @@ use Rattle.meaning.specs.Reading.{got}
 use Rattle.meaning.specs.Refusals.{Found, nowhere, at}
 use Rattle.meaning.specs.States.{State, known, first-state}
 use Rattle.meaning.specs.Walk.{Concerned, in-state, End, fine, missed, stopped, Walked, first-missed, missed-in}
-use Rattle.meaning.specs.Judging.{written-over, within}
-use Rattle.meaning.specs.Guards.{Guarded-request, settled-guarded, walk-of, guarded-settled, judge-guarded, number, count}
+use Rattle.meaning.specs.Judging.{written-over, within, judge-got}
+use Rattle.meaning.specs.Guards.{Guarded-request, settled-guarded, walk-of, judge-guarded, number, count}
 use Rattle.meaning.specs.Approximation.{true-in}
 use Rattle.meaning.specs.Paths.{arrives, Path, stop-or-miss, walked-along}
 use Rattle.meaning.specs.Reported.{First, pair-of, Arrives}
@@ -57,7 +57,7 @@ module _ (lim : Limits) (b lent : List ℕ) (budget : ℕ) (g : Guarded-request)
   walk-end = walk-of lim g .end
 
   pub guarded-by-walk : judge-guarded lim b lent budget ≡ within lent budget (walk-of lim g)
-  unfolding judge-guarded guarded-settled
+  unfolding judge-guarded judge-got
   guarded-by-walk = pick-true _ _ _ (eq-eqb _ _ lent-length) ∙ rw past
 
   along : walk-of lim g ≡ walked-along (missed-in (g .request)) (met-paths lim g)

@@ -128,22 +128,30 @@ walked-unguarded r s = refl
 
 -- OF A REQUEST, whose table's step refuses with 2 and the state.
 module _ (Miss : ℕ → State → Type 0) (Stop : ℕ → ℕ → Concerned State → Type 0) where
-  end-of-so : (f : Found) (s : State) → ((p : ℕ) → f ≡ at p → Miss p s) → End-so Miss Stop (end-of f s)
+  pub end-of-so : (f : Found) (s : State) → ((p : ℕ) → f ≡ at p → Miss p s) → End-so Miss Stop (end-of f s)
   unfolding end-of
   end-of-so nowhere s here = tt
   end-of-so (at p) s here = here p refl
 
   module _ (P : State → Type 0) (Place : ℕ → Type 0) (stuck : (s : State) → P s → (p : ℕ) → Place p → Stop Limits.not-executable p (in-state s)) where
+    -- By any step.
+    pub judged-so : (step : Steps State ℕ) → ((a : ℕ) (s : State) → P s → Step-so Miss Stop P Place (step .does a s))
+        → ((s : State) → P s → (p : ℕ) → step .lacks s ≡ at p → Stop Limits.guard-broken p (in-state s)) → (r : Request)
+        → ((s : State) → P s → (p : ℕ) → missed-in r s ≡ at p → Miss p s) → On-places Place (r .plan) → Ends-so Miss Stop P (walk step (r .plan) (judged r))
+    unfolding judged
+    judged-so step does breaks r misses on =
+        walk-so Miss Stop P Place step does stuck breaks (r .plan) on (judged r) (λ s has. end-of-so (missed-in r s) s (misses s has))
+
     -- A state that lacks a guard is such a stop.
     pub walked-guarded-so : (r : Request) (gs : List Entry) → ((a : ℕ) (s : State) → P s → Outcome-has P (outcome (r .table) a s))
         → ((s : State) → P s → (p : ℕ) → missed-in r s ≡ at p → Miss p s) → ((s : State) → P s → (p : ℕ) → first-missed (known s) gs ≡ at p → Stop Limits.guard-broken p (in-state s))
         → On-places Place (r .plan) → Ends-so Miss Stop P (walked-guarded r gs)
-    unfolding walked-guarded judged guarded-step table-does
+    unfolding walked-guarded guarded-step table-does
     walked-guarded-so r gs leads misses breaks on =
         let does : (a : ℕ) (s : State) → P s → Step-so Miss Stop P Place (table-does (r .table) a s) =
         λ a s has. pick-has (Step-so Miss Stop P Place) _ _ _ (λ _. leads a s has) (λ _. stuck s has) in
         meet-so Miss Stop P Place (guarded-step (r .table) gs) does stuck breaks (walk (guarded-step (r .table) gs) (r .plan) (judged r))
-        (walk-so Miss Stop P Place (guarded-step (r .table) gs) does stuck breaks (r .plan) on (judged r) (λ s has. end-of-so (missed-in r s) s (misses s has)))
+        (judged-so (guarded-step (r .table) gs) does breaks r misses on)
 
     pub walked-so : (r : Request) → ((a : ℕ) (s : State) → P s → Outcome-has P (outcome (r .table) a s)) → ((s : State) → P s → (p : ℕ) → missed-in r s ≡ at p → Miss p s)
         → On-places Place (r .plan) → Ends-so Miss Stop P (walked r)

@@ -1,4 +1,4 @@
--- The cases of the line (FORMAT 18.24 to 18.43), computed by the definitions: what the walk call gives, and the line that its answer carries.
+-- The cases of the line (FORMAT 18.24 to 18.43, 22.28), computed by the definitions: what the walk call gives, and the line that its answer carries.
 -- Assumes nothing.
 use Prim.Native.Nat.{ℕ}
 use mathlib.Core.Path.{_≡_, refl}
@@ -18,7 +18,7 @@ pub record LineCase : Type 0 where
   pub gives : Judgement
   pub carries : ℕ
 
-abbrev row : (request lent : List ℕ) → (budget number input place count : ℕ) → (state : List ℕ) → (carries : ℕ) → LineCase
+abbrev pub row : (request lent : List ℕ) → (budget number input place count : ℕ) → (state : List ℕ) → (carries : ℕ) → LineCase
 row request lent budget number input place count state carries = record {
   request = request;
   lent = lent;
@@ -27,7 +27,7 @@ row request lent budget number input place count state carries = record {
   carries = carries;
 }
 
-abbrev stuck : (request : List ℕ) → (place count : ℕ) → (marks : List ℕ) → (carries : ℕ) → LineCase
+abbrev pub stuck : (request : List ℕ) → (place count : ℕ) → (marks : List ℕ) → (carries : ℕ) → LineCase
 stuck request place count marks carries = row request lent-room usual 2 1 place count (marked marks) carries
 
 -- The bytes before section 4 (FORMAT 18.22): of four fluents, 0 is known true and 1 known false.
@@ -40,6 +40,10 @@ one-action = 0 ∷ 0 ∷ 1 ∷ 0 ∷ 0 ∷ 0 ∷ []
 
 known-there : List ℕ
 known-there = 1 ∷ 2 ∷ []
+
+-- One line allows the action where a fluent is true, another where it is false (FORMAT 22.27).
+unfoldable pub either-line : List ℕ
+either-line = 1 ∷ 1 ∷ 0 ∷ 0 ∷ 2 ∷ 0 ∷ 1 ∷ 0 ∷ 0 ∷ 1 ∷ 1 ∷ 0 ∷ 0 ∷ 1 ∷ 0 ∷ 0 ∷ 0 ∷ []
 
 pub line-cases : List LineCase
 line-cases =
@@ -78,13 +82,15 @@ line-cases =
     row file-A lent-room 4 3 0 0 4 lent-room 0 ∷
     row (table-A ++ (0 ∷ 1 ∷ 2 ∷ 0 ∷ 0 ∷ [])) [] usual 9 0 0 0 [] 0 ∷
     row (take 47 file-A) lent-room usual 11 1 47 0 lent-room 0 ∷
+    -- By what is known neither line allows it, whichever does by cases (FORMAT 22.28).
+    stuck either-line 14 0 (0 ∷ []) 5 ∷
     []
 
 -- Every case is judged as its row says, and its answer carries the row's line.
 pub line-cases-hold : map (λ (c : LineCase). judge format (c .request) (c .lent) (c .budget)) line-cases ≡ map (λ (c : LineCase). c .gives) line-cases
-unfolding all-open table-A file-A front one-action known-there line-cases
+unfolding all-open table-A file-A front one-action known-there either-line line-cases
 line-cases-hold = refl
 
 pub lines-hold : map (λ (c : LineCase). line format (c .request) (c .lent) (c .budget)) line-cases ≡ map (λ (c : LineCase). c .carries) line-cases
-unfolding all-open table-A file-A front one-action known-there line-cases
+unfolding all-open table-A file-A front one-action known-there either-line line-cases
 lines-hold = refl

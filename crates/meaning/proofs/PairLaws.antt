@@ -11,7 +11,7 @@ use lib.Dec.{eqb}
 use borrow.Author.Tests.{eqb-true}
 use Rattle.meaning.specs.Tests.{both, either, fails, pick, some-of, Has}
 use Rattle.meaning.specs.Limits
-use Rattle.meaning.specs.Literals.{says-true, says-false, complement}
+use Rattle.meaning.specs.Literals.{says-true, says-false, fluent-of, complement}
 use Rattle.meaning.specs.Requests.{Effect, Knowledge, Table}
 use Rattle.meaning.specs.Lines.{effects-of, executability-of, knowledge-of, allowed, given, sensing, senses}
 use Rattle.meaning.specs.States.{State, known, possible, can-be-run, known-after, mark-after, state-after}
@@ -165,16 +165,17 @@ module _ (t : Table) (a : ℕ) where
   unfolding Res e⁻ F⁺ known-after pair-of
   after-false s f = rw (given-pair (true-in (pair-of s)) (says-false f), given-pair (possibly-true (pair-of s)) (says-true f), true-test s, possible-test s, complement-false f)
 
-abbrev mark-by : Bool → Bool → ℕ
+-- The mark of a fluent by what is known of it.
+abbrev pub mark-by : Bool → Bool → ℕ
 mark-by x y = pick x (λ _. Limits.true-mark) (λ _. pick y (λ _. Limits.false-mark) (λ _. Limits.unknown-mark))
 
-marked-true : (x y : Bool) → eqb (mark-by x y) Limits.true-mark ≡ x
+pub marked-true : (x y : Bool) → eqb (mark-by x y) Limits.true-mark ≡ x
 unfolding pick
 marked-true true y = refl
 marked-true false true = refl
 marked-true false false = refl
 
-marked-false : (x y : Bool) → both x y ≡ false → eqb (mark-by x y) Limits.false-mark ≡ y
+pub marked-false : (x y : Bool) → both x y ≡ false → eqb (mark-by x y) Limits.false-mark ≡ y
 unfolding pick both
 marked-false true y e = sym e
 marked-false false true e = refl
@@ -183,6 +184,17 @@ marked-false false false e = refl
 pub after-mark : (t : Table) (a : ℕ) (s : State) (f : ℕ) → f < length s → getD (state-after t a s) f Limits.unknown-mark ≡ mark-after (effects-of t a) s f
 unfolding state-after
 after-mark t a s f near = marks-at (effects-of t a) s 0 s f near ∙ ap (mark-after (effects-of t a) s) (omega arith)
+
+-- A literal of the state's fluents is known in the state after exactly where the definition says so.
+pub after-known : (t : Table) (a : ℕ) (s : State) (l : ℕ) → fluent-of l < length s → known (state-after t a s) l ≡ known-after (effects-of t a) s l
+unfolding mark-after
+after-known t a s =
+    by-literal (λ l. fluent-of l < length s → known (state-after t a s) l ≡ known-after (effects-of t a) s l)
+    (λ f. rw (fluent-true f) λ near. known-true (state-after t a s) f ∙ ap (λ (m : ℕ). eqb m Limits.true-mark) (after-mark t a s f near) ∙ marked-true _ _)
+    (λ f. rw (fluent-false f) λ near. known-false (state-after t a s) f ∙ ap (λ (m : ℕ). eqb m Limits.false-mark) (after-mark t a s f near) ∙ marked-false _ _ (apart f))
+  where
+    apart : (f : ℕ) → both (known-after (effects-of t a) s (says-true f)) (known-after (effects-of t a) s (says-false f)) ≡ false
+    apart f = rw (after-true t a s f, after-false t a s f) at (Res-disjoint t a (pair-of s) (pair-disjoint s) f)
 
 -- What effects give is below the bound of their literals.
 pub caused-within : (t : Table) (a n : ℕ) → ((e : Effect) → Has (t .effects) e → e .literal < 2 * n) → (test : ℕ → Bool) (l : ℕ) → 2 * n ≤ l → caused t a test l ≡ false
@@ -201,14 +213,10 @@ module _ (t : Table) (a : ℕ) (s : State) (within : (e : Effect) → Has (t .ef
   Known-as-in-Res f = (known (state-after t a s) (says-true f) ≡ Res t a (pair-of s) .T f) × (known (state-after t a s) (says-false f) ≡ Res t a (pair-of s) .F f)
 
   known-near : (f : ℕ) → f < length s → Known-as-in-Res f
-  unfolding mark-after
   known-near f near = (
-    known-true (state-after t a s) f ∙ ap (λ (m : ℕ). eqb m Limits.true-mark) (after-mark t a s f near) ∙ marked-true _ _ ∙ sym (after-true t a s f),
-    known-false (state-after t a s) f ∙ ap (λ (m : ℕ). eqb m Limits.false-mark) (after-mark t a s f near) ∙ marked-false _ _ apart ∙ sym (after-false t a s f),
+    after-known t a s (says-true f) (rw (fluent-true f) near) ∙ sym (after-true t a s f),
+    after-known t a s (says-false f) (rw (fluent-false f) near) ∙ sym (after-false t a s f),
   )
-    where
-      apart : both (known-after (effects-of t a) s (says-true f)) (known-after (effects-of t a) s (says-false f)) ≡ false
-      apart = rw (after-true t a s f, after-false t a s f) at (Res-disjoint t a (pair-of s) (pair-disjoint s) f)
 
   known-far : (f : ℕ) → length s ≤ f → Known-as-in-Res f
   unfolding Res e⁺ e⁻ pair-of says-true says-false either both

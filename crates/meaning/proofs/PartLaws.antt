@@ -1,5 +1,5 @@
--- Every answer's input, place and count are what its number says (FORMAT 4.26 to 4.44): each answer is written with them in one place, its
--- place is one that was read or walked to, and no fault has a number of a walk. Assumes nothing.
+-- Every answer's input, place and count are what its number says (FORMAT 4.26 to 4.44). The walk call judges by its walk, whose stops have the number 2 and a
+-- state (`JudgedParts`). Each answer of the derivation call is written with them in one place, and its place is one that was read. Assumes nothing.
 use Prim.Native.Nat.{ℕ, _≤_, _<_}
 use native.Mathlib.Omega.{arith}
 use mathlib.Core.Path.{_≡_, refl, sym, _∙_, ap, subst}
@@ -18,100 +18,41 @@ use Rattle.meaning.specs.Requests.{Request}
 use Rattle.meaning.specs.Reading.{Got, got, fault}
 use Rattle.meaning.specs.Refusals.{settled}
 use Rattle.meaning.specs.States.{State, first-state}
-use Rattle.meaning.specs.Walk.{End, fine, missed, stopped, walked}
-use Rattle.meaning.specs.Judging.{Judgement, reported, ended, within, judge-settled, judge}
+use Rattle.meaning.specs.Walk.{Concerned, in-state, End, fine, missed, stopped}
+use Rattle.meaning.specs.Judging.{walk-of, judge}
 use Rattle.meaning.specs.Derivations.{check-derivation, answer, accepted-if, check-settled, check}
-use Rattle.meaning.specs.Answers.{refusals, end-fault}
-use Rattle.meaning.specs.AnswerParts.{of-neither, of-requests, of-derivations, inputs-of, Walk-input, Check-input, at-start, Placed, named, of-walks, Walk-count}
-use Rattle.meaning.proofs.TestLaws.{clash, fails-true}
+use Rattle.meaning.specs.Answers.{refusals, answers, end-fault}
+use Rattle.meaning.specs.AnswerParts.{of-neither, of-requests, of-derivations, inputs-of, Walk-input, Check-input, at-start, Placed, named, of-walks, Walk-count, stated}
+use Rattle.meaning.proofs.TestLaws.{clash}
 use Rattle.meaning.proofs.LiteralLaws.{among-each}
 use Rattle.meaning.proofs.PickLaws.{pick-has}
 use Rattle.meaning.proofs.KeptEnds.{Stuck, walked-stuck}
-use Rattle.meaning.proofs.PlaceLaws.{End-below, walked-below, placed-start, placed-byte, Fault-in, Request-held, settled-held, byte-faults, derivation-faults, Checked, derivation-checked}
+use Rattle.meaning.proofs.PlaceLaws.{walked-below, placed-start, placed-byte, Fault-in, Request-held, settled-held, byte-faults, derivation-faults, Checked, derivation-checked}
+use Rattle.meaning.proofs.JudgedParts.{Tells, Stop-told, Stops-told, Walks-within, Parts, judged-parts}
 
 -- THE WALK CALL.
-module _ (lim : Limits) (request : List ℕ) (budget : ℕ) where
-  record Walk-parts (a : Answer) : Type 0 where
-    input : Walk-input a
-    count : Walk-count lim request budget a
-    place : Placed (length request) (a .number) (a .place)
-    fits : a .place ≤ lim .request
+walk-tells : Tells answers of-walks stated
+unfolding among answers refusals of-walks stated some-of either each-of both fails
+walk-tells = record { fine = (refl, refl, refl); missed = (refl, refl, refl); spent = (refl, refl, refl); length = (refl, refl, refl); refused = refl }
 
-  abbrev Judged : Judgement → Type 0
-  Judged j = Walk-parts (j .answer)
-
-  spent-parts : Walk-parts (record { number = Limits.budget-spent; input = Limits.neither-input; place = 0; count = budget })
-  unfolding among of-neither at-start of-walks some-of either
-  spent-parts = record {
-    input = record { neither = (λ _. refl, λ _. refl); request = λ f. clash refl f };
-    count = record { walk = λ h. clash h refl; spent = λ _. refl; other = λ f. clash refl f };
-    place = placed-start (length request) Limits.budget-spent refl;
-    fits = omega arith;
-  }
-
-  length-parts : Walk-parts (record { number = Limits.state-length; input = Limits.neither-input; place = 0; count = 0 })
-  unfolding among of-neither at-start of-walks some-of either
-  length-parts = record {
-    input = record { neither = (λ _. refl, λ _. refl); request = λ f. clash refl f };
-    count = record { walk = λ h. clash h refl; spent = λ q. absurd (omega (arith, q)); other = λ _. refl };
-    place = placed-start (length request) Limits.state-length refl;
-    fits = omega arith;
-  }
-
-  -- A walk that ended, of the settled request.
-  module _ (r : Request) (e : ℕ) (past : settled lim request ≡ got r e) (short : length request ≤ lim .request) (lent : List ℕ) where
-    abbrev count : ℕ
-    count = walked r (first-state lim (r .table)) .count
-
-    ended-parts : (end : End State) → End-below (length request) end → Stuck end → Judged (ended lent count end)
-    unfolding ended reported among of-neither at-start of-walks some-of either
-    ended-parts fine less stuck = record {
-      input = record { neither = (λ _. refl, λ _. refl); request = λ f. clash refl f };
-      count = record { walk = λ _. (r, e, past, refl); spent = λ q. absurd (omega (arith, q)); other = λ f. clash refl f };
-      place = placed-start (length request) Limits.verified refl;
-      fits = omega arith;
-    }
-    ended-parts (missed p s) less stuck = record {
-      input = record { neither = (λ q. absurd (omega (arith, q)), λ h. clash h refl); request = λ _. refl };
-      count = record { walk = λ _. (r, e, past, refl); spent = λ q. absurd (omega (arith, q)); other = λ f. clash refl f };
-      place = placed-byte (length request) Limits.goal-missed p refl less;
-      fits = omega (arith, less, short);
-    }
-    ended-parts (stopped n p u) less stuck =
-        subst (λ (m : ℕ). Judged (ended lent count (stopped m p u))) (sym (stuck .0)) (record {
-          input = record { neither = (λ q. absurd (omega (arith, q)), λ h. clash h refl); request = λ _. refl };
-          count = record { walk = λ _. (r, e, past, refl); spent = λ q. absurd (omega (arith, q)); other = λ f. clash refl f };
-          place = placed-byte (length request) Limits.not-executable p refl less;
-          fits = omega (arith, less, short);
-        })
-
-  fault-parts : (n p : ℕ) → Fault-in refusals (lim .request) (length request) n p → Walk-parts (record { number = n; input = Limits.the-request; place = p; count = 0 })
-  unfolding among refusals of-neither of-walks some-of either each-of both fails
-  fault-parts n p h = record {
-    input = record {
-      neither = (λ q. absurd (omega (arith, q)), λ t. clash t (fails-true _ (among-each (λ (m : ℕ). fails (among m of-neither)) refusals refl n (h .number))));
-      request = λ _. refl;
-    };
-    count = record {
-      walk = λ t. clash t (fails-true _ (among-each (λ (m : ℕ). fails (among m of-walks)) refusals refl n (h .number)));
-      spent = λ q. clash (h .number) (ap (λ (m : ℕ). among m refusals) q);
-      other = λ _. refl;
-    };
-    place = h .placed;
-    fits = h .fits;
-  }
-
-  settled-parts : (lent : List ℕ) (x : Got Request) → settled lim request ≡ x → Request-held lim request x → Judged (judge-settled lim lent budget x)
-  unfolding judge-settled within
-  settled-parts lent (got r e) past h =
-      pick-has Judged _ _ _ (λ _. spent-parts)
-      (λ _. ended-parts r e past (h .1 .1) lent _ (walked-below (length request) r (h .1 .0) (first-state lim (r .table))) (walked-stuck r (first-state lim (r .table))))
-  settled-parts lent (fault n p) past h = fault-parts n p h
+-- Its stops are told so: they have the number 2, and a state.
+stuck-told : (end : End State) → Stuck end → Stops-told answers of-walks stated end
+unfolding among answers of-neither at-start of-walks stated some-of either
+stuck-told fine stuck = tt
+stuck-told (missed p s) stuck = tt
+stuck-told (stopped n p u) stuck =
+    subst (λ (v : Concerned State). Stop-told answers of-walks stated n p v) (sym (stuck .1 .1))
+    (subst (λ (m : ℕ). Stop-told answers of-walks stated m p (in-state (stuck .1 .0))) (sym (stuck .0)) (refl, refl, (refl, refl, refl)))
 
 module _ (lim : Limits) (request lent : List ℕ) (budget : ℕ) where
-  walk-parts : Judged lim request budget (judge lim request lent budget)
+  walks-within : (x : Got Request) → Request-held lim request x → Walks-within answers of-walks stated (walk-of lim) lim request x
+  walks-within (got r e) h = (h .1 .1, walked-below (length request) r (h .1 .0) (first-state lim (r .table)), stuck-told (walk-of lim r .end) (walked-stuck r (first-state lim (r .table))))
+  walks-within (fault n p) h = h
+
+  -- All that the number says.
+  pub walk-parts : Parts answers of-walks stated (walk-of lim) lim request lent budget (settled lim request) (judge lim request lent budget)
   unfolding judge
-  walk-parts = pick-has (Judged lim request budget) _ _ _ (λ _. settled-parts lim request budget lent (settled lim request) refl (settled-held lim request)) (λ _. length-parts lim request budget)
+  walk-parts = judged-parts answers of-walks stated (walk-of lim) lim request lent budget (settled lim request) walk-tells (walks-within (settled lim request) (settled-held lim request))
 
   -- Neither input is named exactly with 0, 3 and 9, and the request with every other number (FORMAT 4.26, 4.27).
   pub input-exactly : Walk-input (judge lim request lent budget .answer)

@@ -167,12 +167,13 @@ module _ (lim : Limits) (n m : ℕ) (s : List ℕ) where
       subst (λ (y : Effect). (y .literal < 2 * n) × ((l : ℕ) → Has (y .body) l → l < 2 * n) × Consistent (y .body)) (got-same same)
       (below-bound (2 * n) s i l j below, list-within n (lim .body) s j b k eb, list-consistent n (lim .body) s j b k eb)
 
-  executability-within : (p : ℕ) (x : Executability) (q : ℕ) → executability-at lim n m s p ≡ got x q → Consistent (x .body)
+  executability-within : (p : ℕ) (x : Executability) (q : ℕ) → executability-at lim n m s p ≡ got x q → ((l : ℕ) → Has (x .body) l → l < 2 * n) × Consistent (x .body)
   unfolding executability-at body-at
   executability-within p x q e =
       after-got (below-at m s p) _ e λ a i _ e′.
       after-got (body-at lim n s i) _ e′ λ b k eb same.
-      subst (λ (y : Executability). Consistent (y .body)) (got-same same) (list-consistent n (lim .body) s i b k eb)
+      subst (λ (y : Executability). ((l : ℕ) → Has (y .body) l → l < 2 * n) × Consistent (y .body)) (got-same same)
+      (list-within n (lim .body) s i b k eb, list-consistent n (lim .body) s i b k eb)
 
   knowledge-within : (p : ℕ) (x : Knowledge) (q : ℕ) → knowledge-at lim n m s p ≡ got x q → x .fluent < n
   unfolding knowledge-at
@@ -189,10 +190,11 @@ pub record Ranged (lim : Limits) (t : Table) : Type 0 where
   pub effects : (e : Effect) → Has (t .effects) e → e .literal < 2 * t .fluents
   pub bodies : (e : Effect) → Has (t .effects) e → (l : ℕ) → Has (e .body) l → l < 2 * t .fluents
   pub effects-consistent : (e : Effect) → Has (t .effects) e → Consistent (e .body)
+  pub lines : (x : Executability) → Has (t .executability) x → (l : ℕ) → Has (x .body) l → l < 2 * t .fluents
   pub lines-consistent : (x : Executability) → Has (t .executability) x → Consistent (x .body)
   pub knowledge : (k : Knowledge) → Has (t .knowledge) k → k .fluent < t .fluents
 
-table-ranged : (lim : Limits) (s : List ℕ) (p : ℕ) (t : Table) (q : ℕ) → table-at lim s p ≡ got t q → Ranged lim t
+pub table-ranged : (lim : Limits) (s : List ℕ) (p : ℕ) (t : Table) (q : ℕ) → table-at lim s p ≡ got t q → Ranged lim t
 unfolding table-at
 table-ranged lim s p t q e =
     after-got (count-at 1 (lim .fluents) s p) _ e λ n p₁ en e₁.
@@ -209,7 +211,8 @@ table-ranged lim s p t q e =
       effects = λ g h. let w = section-read (effect-at lim n m s) s p₃ effects p₄ ee g h in effect-within lim n m s (w .0) g (w .1) (w .2) .0;
       bodies = λ g h. let w = section-read (effect-at lim n m s) s p₃ effects p₄ ee g h in effect-within lim n m s (w .0) g (w .1) (w .2) .1;
       effects-consistent = λ g h. let w = section-read (effect-at lim n m s) s p₃ effects p₄ ee g h in effect-within lim n m s (w .0) g (w .1) (w .2) .2;
-      lines-consistent = λ x h. let w = section-read (executability-at lim n m s) s p₄ executability p₅ ex x h in executability-within lim n m s (w .0) x (w .1) (w .2);
+      lines = λ x h. let w = section-read (executability-at lim n m s) s p₄ executability p₅ ex x h in executability-within lim n m s (w .0) x (w .1) (w .2) .0;
+      lines-consistent = λ x h. let w = section-read (executability-at lim n m s) s p₄ executability p₅ ex x h in executability-within lim n m s (w .0) x (w .1) (w .2) .1;
       knowledge = λ k h. let w = section-read (knowledge-at lim n m s) s p₅ knowledge p₆ ek k h in knowledge-within lim n m s (w .0) k (w .1) (w .2);
     })
 

@@ -18,7 +18,7 @@ use Rattle.meaning.specs.Reading.{Got, got, fault, count-at, table-at, r
 use Rattle.meaning.specs.Refusals.{Found, nowhere, at, contradiction-in, mixed-in, overlap-in, refuse}
 use Rattle.meaning.specs.Walk.{End, fine, missed, stopped, walked}
 use Rattle.meaning.specs.States.{State, first-state}
-use Rattle.meaning.specs.Judging.{Judgement, reported, ended, within, judge-settled}
+use Rattle.meaning.specs.Judging.{Judgement, reported, ended, within, judge-settled, judge-got}
 use Rattle.meaning.specs.Releases.{Opening, opening, plans-at, byte-after, plan-answer, unreached, after-plan, answers-at, in-row, rows, settled-plans, Released, own-answer, released, release-opened, release, plans-of, plans-in, row-of}
 use Rattle.meaning.specs.Answers.{release-refusals, release-answers, row-answers}
 use Rattle.meaning.specs.AnswerParts.{of-neither, Walk-input, at-start, Placed, Row-parts}
@@ -29,6 +29,7 @@ use Rattle.meaning.proofs.SettledLaws.{fault≢got, got-same, refuse-go
 use Rattle.meaning.proofs.RangeLaws.{got-place, count-least}
 use Rattle.meaning.proofs.GotLaws.{Held, Faulty, held-got, next-held}
 use Rattle.meaning.proofs.KeptEnds.{Stuck, walked-stuck}
+use Rattle.meaning.proofs.WithinLaws.{told-fewer}
 use Rattle.meaning.proofs.PlaceLaws.{entry-faults, item-faults, Found-below, Table-below, Request-below, contradiction-below, mixed-below, overlap-in-below, End-below, walked-below, count-held, table-held, request-held, placed-start, Fault-in, too-long-fault, ends-fault, byte-fault, listed-fault}
 
 -- THE CALL'S OWN ANSWER. A fault before the plans, and 16, 17 and 20, have one of its numbers, and a place as the number says.
@@ -295,10 +296,10 @@ module _ (lim : Limits) (s : List ℕ) (t : Table) (budget : ℕ) where
   unfolding ended reported among row-answers some-of either
   ended-in-row c fine few below stuck = record { number = refl; place = omega arith; count = few; input = omega arith }
   ended-in-row c (missed p u) few below stuck = record { number = refl; place = omega (arith, below); count = few; input = omega arith }
-  ended-in-row c (stopped n p u) few below stuck = record { number = ap (λ (m : ℕ). among m row-answers) (stuck .0); place = omega (arith, below); count = few; input = omega arith }
+  ended-in-row c (stopped n p u) few below stuck = record { number = ap (λ (m : ℕ). among m row-answers) (stuck .0); place = omega (arith, below); count = omega (arith, few, told-fewer u c); input = omega arith }
 
   settled-in-row : (x : Got Request) → Held Row-fault (λ r e. Request-below (length s) r) x → In-row (judge-settled lim [] budget x .answer)
-  unfolding judge-settled within among row-answers some-of either
+  unfolding judge-got within among row-answers some-of either
   settled-in-row (got r e) below =
       let first = first-state lim (r .table) in
       pick-has (λ (j : Judgement). In-row (j .answer)) (ltb budget (walked r first .count)) _ _ (λ _. record { number = refl; place = omega arith; count = omega arith; input = omega arith })

@@ -19,7 +19,7 @@ use Rattle.meaning.specs.Reading.{Got, got, fault, next, repeated, plan-
 use Rattle.meaning.specs.Refusals.{Found, nowhere, at, contradiction-in, mixed-in, overlap-in, refuse, settled}
 use Rattle.meaning.specs.States.{State, first-state}
 use Rattle.meaning.specs.Walk.{End, fine, missed, stopped, Walked, walked}
-use Rattle.meaning.specs.Judging.{Judgement, reported, ended, within, judge-settled, judge}
+use Rattle.meaning.specs.Judging.{Judgement, reported, ended, within, judge-settled, judge, judge-got}
 use Rattle.meaning.specs.Releases.{Opening, opening, plans-at, plan-answer, unreached, after-plan, answers-at, in-row, release, plan-bytes, own-request, moved, row-of}
 use Rattle.meaning.specs.Answers.{refusals, answers}
 use Rattle.meaning.proofs.TestLaws.{by-test, clash, pick-true, pick-false}
@@ -66,7 +66,7 @@ module _ (on : ℕ) where
     within-moved w = picked-moved (ltb budget (w .count)) _ _ _ _ refl (ended-moved (w .count) (w .end))
 
     settled-moved : (x : Got Request) → judge-settled lim [] budget (moved-got on x) .answer ≡ moved on (judge-settled lim lent budget x .answer)
-    unfolding judge-settled moved pick
+    unfolding judge-got moved pick
     settled-moved (got r e) = rw (walked-moved on r (first-state lim (r .table))) (within-moved (walked r (first-state lim (r .table))))
     settled-moved (fault n p) = refl
 

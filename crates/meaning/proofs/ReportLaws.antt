@@ -3,7 +3,7 @@
 -- at an item that can't be run, by induction on the plan. Assumes nothing.
 use Prim.Native.Nat.{ℕ, _≤_}
 use native.Mathlib.Omega.{arith}
-use mathlib.Core.Path.{_≡_, refl, sym, _∙_, subst}
+use mathlib.Core.Path.{_≡_, refl, sym, _∙_, ap, subst}
 use mathlib.Core.Bool.{Bool, true, false}
 use mathlib.Core.List.{List, [], _∷_, map}
 use mathlib.Core.Logic.{_⊎_, inl, inr, ⊎-elim, _↔_}
@@ -14,11 +14,11 @@ use Rattle.meaning.specs.Limits.{Limits}
 use Rattle.meaning.specs.Requests.{Table, Sequence, done, item, Item, act, branching, Branches, none, branch, Entry, Request, values}
 use Rattle.meaning.specs.Reading.{got}
 use Rattle.meaning.specs.Refusals.{nowhere, at, or-else, settled}
-use Rattle.meaning.specs.States.{State, known, known-whether, can-be-run, Outcome, single, fork, outcome}
-use Rattle.meaning.specs.Walk.{in-state, End, missed, stopped, Step, table-does, table-step, first-missed, missed-in}
+use Rattle.meaning.specs.States.{State, known, known-whether, Outcome}
+use Rattle.meaning.specs.Walk.{Concerned, no-state, in-state, End, missed, stopped, Step, leads-to, refuses, Steps, table-does, table-step, first-missed, missed-in}
 use Rattle.meaning.specs.Judging.{written-over, judge, number, count}
-use Rattle.meaning.specs.Approximation.{Pair, true-in, state, None-true, Φ̂, Initial, Entailed}
-use Rattle.meaning.specs.Paths.{Ending, arrives, stops, meetings, arrivals, paths-step, paths, paths-item, paths-branch}
+use Rattle.meaning.specs.Approximation.{Pair, true-in, executable, state, None-true, Φ̂, Initial, Entailed}
+use Rattle.meaning.specs.Paths.{Ending, arrives, stops, paths, paths-item, paths-branch}
 use Rattle.meaning.specs.Reported.{First, pair-of, Asked, goal, whether, asked-at, met-in, asked-by, All-met, Misses, all-paths, Missed-at, Item-in, Item-of, Item-under, item-place, Not-run, Stopped-at}
 use Rattle.meaning.proofs.TestLaws.{clash, pick-cases, each-has, has-each, has-split, has-map, map-has}
 use Rattle.meaning.proofs.PickLaws.{has-picked}
@@ -26,10 +26,11 @@ use Rattle.meaning.proofs.KeptEnds.{Stuck, walked-stuck}
 use Rattle.meaning.proofs.WithinLaws.{walked-never, missed-within, stopped-within}
 use Rattle.meaning.proofs.RefusalLaws.{at≢nowhere, at-same}
 use Rattle.meaning.proofs.PathLaws.{by-found}
-use Rattle.meaning.proofs.EndLaws.{first-here, first-later, first-has, first-left, first-right, first-map, Ends, arrives≢stops, all-arrive, stops-same, ends-one, ends-split, ends-ran, went-on, stop-ends, miss-ends, Says, none-missed}
+use Rattle.meaning.proofs.EndLaws.{first-here, first-later, first-has, first-left, first-right, first-map, Ends, arrives≢stops, all-arrive, stops-same, ends-one, went-on, step-stops, stop-ends, miss-ends, Says, none-missed}
 use Rattle.meaning.proofs.PairLaws.{true-in-pair, runs-pair}
 use Rattle.meaning.proofs.CoverLaws.{knows-pair}
-use Rattle.meaning.proofs.Exact.{walk-end, met, whether-pair, whether-in, least-initial, leads, ranged, fits, says, judged-by-walk, missed-exactly}
+use Rattle.meaning.proofs.ExactEnds.{met, whether-pair, whether-in, least-initial}
+use Rattle.meaning.proofs.Exact.{walk-end, leads, ranged, fits, says, judged-by-walk, missed-exactly}
 
 -- ENTRIES. One list of them, where each is met exactly where its value passes a test.
 module _ (σ : Pair) (test : ℕ → Bool) (asks : Entry → Asked) (same : (e : Entry) → met-in σ (asks e) ≡ test (e .value)) (stands : (e : Entry) → asked-at (asks e) ≡ e .place) where
@@ -95,47 +96,90 @@ entailed-met r σ δ initial led k a h =
 abbrev pub sticks : ℕ → State → Ending State
 sticks p u = stops Limits.not-executable p (in-state u)
 
--- What an action leads to are arrivals.
-arrivals-go-on : (o : Outcome State) (p : ℕ) (u : State) → Ends (arrivals o) (sticks p u) → ⊥
-unfolding meetings
-arrivals-go-on (single s) p u h = arrives≢stops (sym (ends-one h))
-arrivals-go-on (fork o q) p u h = ⊎-elim (arrivals-go-on o p u) (arrivals-go-on (q tt) p u) (ends-split (arrivals o) (arrivals (q tt)) (sticks p u) h)
+-- An item can't be run in a state: this is so of an action, and no condition of a branching is true.
+abbrev pub Stuck-item : (ℕ → State → Type 0) → Item ℕ → State → Type 0
+Stuck-item Not (act p a) u = Not a u
+Stuck-item Not (branching p bs) u = None-true bs (pair-of u)
 
-module _ (t : Table) where
-  -- One of the items stands at the place and can't be run in the state.
-  abbrev pub Stop : (Item ℕ → Type 0) → ℕ → State → Type 0
-  Stop Items p u = (i : Item ℕ) × Items i × (item-place i ≡ p) × Not-run t i (pair-of u)
+-- One of the items stands at the place and can't be run in the state.
+abbrev pub Stop-so : (ℕ → State → Type 0) → (Item ℕ → Type 0) → ℕ → State → Type 0
+Stop-so Not Items p u = (i : Item ℕ) × Items i × (item-place i ≡ p) × Stuck-item Not i u
+
+-- A step without guards that goes by what is known, and what is so where it refuses an action with 2.
+module _ (does : ℕ → State → Step State) (Not : ℕ → State → Type 0) (refused : (a : ℕ) (s u : State) → does a s ≡ refuses Limits.not-executable (in-state u) → Not a u) where
+  abbrev step : Steps State ℕ
+  step = record { does = does; knows = known; lacks = λ _. nowhere }
 
   mutual
-    unfolding paths paths-step table-step table-does item-place
+    unfolding paths item-place
 
     -- A path stops at an item of the plan that can't be run.
-    pub stops-in : (c : Sequence ℕ) (s : State) (p : ℕ) (u : State) → Ends (paths (table-step t) c s) (sticks p u) → Stop (Item-in c) p u
-    stops-in done s p u h = absurd (arrives≢stops (sym (ends-one h)))
-    stops-in (item i rest) s p u h =
+    pub stops-so : (c : Sequence ℕ) (s : State) (p : ℕ) (u : State) → Ends (paths step c s) (sticks p u) → Stop-so Not (Item-in c) p u
+    stops-so done s p u h = absurd (arrives≢stops (sym (ends-one h)))
+    stops-so (item i rest) s p u h =
         ⊎-elim
-        (λ w. let v = stops-of i s p u (subst (Ends (paths-item (table-step t) i s)) (sym (w .4)) (w .3)) in (v .0, inl (v .1), v .2, v .3))
-        (λ w. let v = stops-in rest (w .0) p u (w .2) in (v .0, inr (v .1), v .2, v .3))
-        (went-on (paths (table-step t) rest) (paths-item (table-step t) i s) (sticks p u) h)
+        (λ w. let v = stops-of i s p u (subst (Ends (paths-item step i s)) (sym (w .4)) (w .3)) in (v .0, inl (v .1), v .2, v .3))
+        (λ w. let v = stops-so rest (w .0) p u (w .2) in (v .0, inr (v .1), v .2, v .3))
+        (went-on (paths step rest) (paths-item step i s) (sticks p u) h)
 
-    stops-of : (i : Item ℕ) (s : State) (p : ℕ) (u : State) → Ends (paths-item (table-step t) i s) (sticks p u) → Stop (Item-of i) p u
-    stops-of (act q a) s p u h =
-        has-picked (λ (x : Step State). Ends (paths-step (λ _. nowhere) q a x) (sticks p u)) (can-be-run t a s) _ _ h
-        (λ _ k. absurd (arrivals-go-on (outcome t a s) p u (ends-ran (a ∷ []) (arrivals (outcome t a s)) (sticks p u) .0 k)))
-        (λ off k. let w = stops-same (ends-one k) in (act q a, refl, sym (w .0), rw (w .1) (runs-pair t a s ∙ off)))
+    stops-of : (i : Item ℕ) (s : State) (p : ℕ) (u : State) → Ends (paths-item step i s) (sticks p u) → Stop-so Not (Item-of i) p u
+    stops-of (act q a) s p u h = let w = step-stops Limits.not-executable p (in-state u) q a (does a s) h in (act q a, refl, sym (w .0), refused a s u (w .1))
     stops-of (branching q bs) s p u h =
         ⊎-elim
         (λ w. (w .0, inr (w .1), w .2, w .3))
         (λ w. (branching q bs, inl refl, sym (w .0), rw (w .1) (w .2)))
         (stops-under bs q s p u h)
 
-    stops-under : (bs : Branches ℕ) (q : ℕ) (s : State) (p : ℕ) (u : State) → Ends (paths-branch (table-step t) bs q s) (sticks p u)
-        → Stop (Item-under bs) p u ⊎ ((p ≡ q) × (u ≡ s) × None-true t bs (pair-of s))
+    stops-under : (bs : Branches ℕ) (q : ℕ) (s : State) (p : ℕ) (u : State) → Ends (paths-branch step bs q s) (sticks p u) → Stop-so Not (Item-under bs) p u ⊎ ((p ≡ q) × (u ≡ s) × None-true bs (pair-of s))
     stops-under none q s p u h = let w = stops-same (ends-one h) in inr (w .0, w .1, tt)
     stops-under (branch c b bs) q s p u h =
         has-picked (λ xs. Ends xs (sticks p u)) (each-of (known s) c) _ _ h
-        (λ _ k. let w = stops-in b s p u k in inl (w .0, inl (w .1), w .2, w .3))
+        (λ _ k. let w = stops-so b s p u k in inl (w .0, inl (w .1), w .2, w .3))
         (λ off k. ⊎-elim (λ w. inl (w .0, inr (w .1), w .2, w .3)) (λ w. inr (w .0, w .1, (knows-pair s c ∙ off, w .2))) (stops-under bs q s p u k))
+
+-- A step that leads somewhere does not refuse, and one that refuses has its number and names its state.
+pub leads≢refuses : {o : Outcome State} {n : ℕ} {u : Concerned State} → leads-to o ≡ refuses n u → ⊥
+leads≢refuses e = subst leads e tt
+  where
+    leads : Step State → Type 0
+    leads (leads-to o) = Unit {0}
+    leads (refuses n u) = ⊥
+
+pub refuses-numbered : {m n : ℕ} {u v : Concerned State} → refuses m u ≡ refuses n v → m ≡ n
+refuses-numbered {m} e = ap number-of e
+  where
+    number-of : Step State → ℕ
+    number-of (leads-to o) = m
+    number-of (refuses n u) = n
+
+pub refuses-same : {m n : ℕ} {s u : State} → refuses m (in-state s) ≡ refuses n (in-state u) → s ≡ u
+refuses-same {s = s} e = ap state-of e
+  where
+    state-of : Step State → State
+    state-of (leads-to o) = s
+    state-of (refuses n no-state) = s
+    state-of (refuses n (in-state u)) = u
+
+-- The table's.
+module _ (t : Table) where
+  abbrev pub Stop : (Item ℕ → Type 0) → ℕ → State → Type 0
+  Stop Items p u = (i : Item ℕ) × Items i × (item-place i ≡ p) × Not-run t i (pair-of u)
+
+  abbrev Not-executable : ℕ → State → Type 0
+  Not-executable a u = executable t a (pair-of u) ≡ false
+
+  table-refused : (a : ℕ) (s u : State) → table-does t a s ≡ refuses Limits.not-executable (in-state u) → Not-executable a u
+  unfolding table-does
+  table-refused a s u e =
+      pick-cases _ _ _ e (λ _ k. absurd (leads≢refuses k)) (λ off k. subst (Not-executable a) (refuses-same k) (runs-pair t a s ∙ off))
+
+  pub stops-in : (c : Sequence ℕ) (s : State) (p : ℕ) (u : State) → Ends (paths (table-step t) c s) (sticks p u) → Stop (Item-in c) p u
+  unfolding table-step
+  stops-in c s p u h = let w = stops-so (table-does t) Not-executable table-refused c s p u h in (w .0, w .1, w .2, by-item (w .0) (w .3))
+    where
+      by-item : (i : Item ℕ) → Stuck-item Not-executable i u → Not-run t i (pair-of u)
+      by-item (act q a) not = not
+      by-item (branching q bs) not = not
 
 -- THE REPORTS, of a settled request.
 module _ (lim : Limits) (room : lim .fluents ≤ lim .state) (b lent : List ℕ) (budget : ℕ) (r : Request) (e : ℕ) (lent-length : length lent ≡ lim .state) (past : settled lim b ≡ got r e) where
@@ -195,6 +239,6 @@ module _ (lim : Limits) (room : lim .fluents ≤ lim .state) (b lent : List ℕ)
     λ m.
         missed-exactly lim room b lent budget r e lent-length past enough .1 (
           m .executable,
-          λ k. clash (entailed-met r _ (m .end-state) (least-initial lim room r (ranged lim room b r e past) (fits lim room b r e past)) (m .reached) k (m .entry) (m .asked)) (m .not-met),
+          λ k. clash (entailed-met r _ (m .end-state) (least-initial lim room (r .table) (ranged lim room b r e past)) (m .reached) k (m .entry) (m .asked)) (m .not-met),
         ),
   )

@@ -38,7 +38,7 @@ pub told-not : (t : Table) (request : List ℕ) (j : Judgement) → (j .answer .
 unfolding line-told
 told-not t request j other = pick-false _ _ _ (ne-eqb _ _ other)
 
-settled-not : (request : List ℕ) (j : Judgement) → (j .answer .number ≡ Limits.not-executable → ⊥) → (x : Got Request) → line-settled request j x ≡ 0
+pub settled-not : (request : List ℕ) (j : Judgement) → (j .answer .number ≡ Limits.not-executable → ⊥) → (x : Got Request) → line-settled request j x ≡ 0
 unfolding line-settled
 settled-not request j other (got r e) = told-not (r .table) request j other
 settled-not request j other (fault n p) = refl

@@ -112,7 +112,7 @@ followed δ (f ∷ fs) valued =
     (λ e. (says-false f ∷ w .0, rw (fluent-false f, w .1), λ l. ⊎-elim (λ q. rw q (true-in-false δ f ∙ e)) (w .2 l)))
     (either-split _ _ (valued f (inl refl)))
 
-unknown-neither : (s : State) (l : ℕ) → known-whether s (fluent-of l) ≡ false → known s l ≡ false
+pub unknown-neither : (s : State) (l : ℕ) → known-whether s (fluent-of l) ≡ false → known s l ≡ false
 unfolding known-whether
 unknown-neither s =
     by-literal (λ l. known-whether s (fluent-of l) ≡ false → known s l ≡ false)

@@ -46,6 +46,21 @@ module _ {S : Type 0} where
   unfolding counted
   counted-verified c w e = e
 
+  -- STEPS. A step that leads to an outcome leads to no other, and is not refused.
+  pub leads-same : {o x : Outcome S} → leads-to o ≡ leads-to x → o ≡ x
+  leads-same {o} e = ap led e
+    where
+      led : Step S → Outcome S
+      led (leads-to x) = x
+      led (refuses n u) = o
+
+  pub refuses≢leads : {o : Outcome S} {n : ℕ} {u : Concerned S} → refuses n u ≡ leads-to o → ⊥
+  refuses≢leads e = subst refused e tt
+    where
+      refused : Step S → Type 0
+      refused (leads-to x) = ⊥
+      refused (refuses n u) = Unit {0}
+
   -- Two walks, one after the other, are verified where both are.
   pub then-verified : (w : Walked S) (more : Unit {0} → Walked S) → Verified (and-then w more) → Verified w × Verified (more tt)
   unfolding and-then after-end counted after-miss keep-miss

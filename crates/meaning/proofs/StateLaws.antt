@@ -11,11 +11,11 @@ use lib.ListN.{length, getD, replicate, getD-replicate, length-replicate, List·
 use lib.Dec.{eqb}
 use borrow.Author.Tests.{eqb-true, ne-eqb}
 use Rattle.meaning.specs.Limits
-use Rattle.meaning.specs.Literals.{says-true, says-false, complement}
+use Rattle.meaning.specs.Literals.{says-true, says-false, fluent-of, complement}
 use Rattle.meaning.specs.Requests.{Effect, Table}
 use Rattle.meaning.specs.Lines.{effects-of}
 use Rattle.meaning.specs.States.{State, mark-of, known, possible, mark-after, marks-after, state-after}
-use Rattle.meaning.proofs.TestLaws.{fails-false, pick-true, pick-false}
+use Rattle.meaning.proofs.TestLaws.{clash, fails-false, pick-true, pick-false}
 use Rattle.meaning.proofs.LiteralLaws.{positive-true, positive-false, fluent-true, fluent-false, fluent-complement, complement-true, complement-false, by-literal}
 
 pub mark-true : (f : ℕ) → mark-of (says-true f) ≡ Limits.true-mark
@@ -52,6 +52,13 @@ known-possible s l e = fails-false _ (known-one s l e)
 -- Nothing is known of a fluent past the state's end.
 pub unknown-far : (s : State) (f : ℕ) → length s ≤ f → (known s (says-true f) ≡ false) × (known s (says-false f) ≡ false)
 unknown-far s f far = let none = List·getD-eq-default s Limits.unknown-mark {n = f} far in (known-true s f ∙ rw none, known-false s f ∙ rw none)
+
+-- So what is known is of a fluent within it.
+pub known-within : (s : State) (l : ℕ) → known s l ≡ true → fluent-of l < length s
+known-within s =
+    by-literal (λ l. known s l ≡ true → fluent-of l < length s)
+    (λ f. rw (fluent-true f) λ e. elim (decLt f (length s)) [ yes near ↦ near | no far ↦ clash e (unknown-far s f (omega arith) .0) ])
+    (λ f. rw (fluent-false f) λ e. elim (decLt f (length s)) [ yes near ↦ near | no far ↦ clash e (unknown-far s f (omega arith) .1) ])
 
 -- A state in which nothing is known.
 abbrev pub nothing-told : ℕ → State

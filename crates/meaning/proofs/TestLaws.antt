@@ -45,6 +45,18 @@ unfolding both
 both-all true = refl
 both-all false = refl
 
+pub both-same : (a : Bool) → both a a ≡ a
+unfolding both
+both-same true = refl
+both-same false = refl
+
+-- Of four tests in two pairs, the other two pairs.
+pub both-crossed : (a b c d : Bool) → both (both a b) (both c d) ≡ both (both a c) (both b d)
+unfolding both
+both-crossed true true c d = refl
+both-crossed true false c d = sym (both-none c)
+both-crossed false b c d = refl
+
 pub either-left : (a b : Bool) → a ≡ true → either a b ≡ true
 unfolding either
 either-left true b e = refl
@@ -59,6 +71,11 @@ pub either-split : (a b : Bool) → either a b ≡ true → (a ≡ true) ⊎ (b 
 unfolding either
 either-split true b e = inl refl
 either-split false b e = inr e
+
+pub either-false : (a b : Bool) → either a b ≡ false → (a ≡ false) × (b ≡ false)
+unfolding either
+either-false true b e = clash refl e
+either-false false b e = (refl, e)
 
 pub fails-true : (a : Bool) → fails a ≡ true → a ≡ false
 unfolding fails
@@ -126,6 +143,21 @@ module _ {A : Type 0} where
   unfolding each-of
   has-each p [] f = refl
   has-each p (x ∷ xs) f = both-true _ _ (f x (inl refl)) (has-each p xs (λ y h. f y (inr h)))
+
+  -- Not each passes: here is one that fails.
+  pub not-each : (p : A → Bool) (xs : List A) → each-of p xs ≡ false → (x : A) × Has xs x × (p x ≡ false)
+  unfolding each-of both
+  not-each p [] e = clash refl e
+  not-each p (x ∷ xs) e = by-test (p x) (λ t. let w = not-each p xs (rw t at e) in (w .0, inr (w .1), w .2)) (λ f. (x, inl refl, f))
+
+  pub each-append : (p : A → Bool) (xs ys : List A) → each-of p (xs ++ ys) ≡ both (each-of p xs) (each-of p ys)
+  unfolding each-of both
+  each-append p [] ys = refl
+  each-append p (x ∷ xs) ys = step (p x) (each-append p xs ys)
+    where
+      step : (b : Bool) → each-of p (xs ++ ys) ≡ both (each-of p xs) (each-of p ys) → both b (each-of p (xs ++ ys)) ≡ both (both b (each-of p xs)) (each-of p ys)
+      step true ih = ih
+      step false ih = refl
 
   pub has-left : (xs ys : List A) (x : A) → Has xs x → Has (xs ++ ys) x
   has-left [] ys x h = absurd h
@@ -203,6 +235,11 @@ module _ {A B : Type 0} (g h : A → B) where
   same-map (x ∷ xs) same = ap₂ {C = List B} (λ y ys. y ∷ ys) (same x (inl refl)) (same-map xs (λ y m. same y (inr m)))
 
 module _ {A B : Type 0} (g : A → B) where
+  pub each-mapped : (test : B → Bool) (xs : List A) → each-of test (map g xs) ≡ each-of (λ (x : A). test (g x)) xs
+  unfolding each-of
+  each-mapped test [] = refl
+  each-mapped test (x ∷ xs) = ap (both (test (g x))) (each-mapped test xs)
+
   -- Some entry of a mapped list passes a test where some entry passes the test that agrees with it.
   pub some-mapped : (test : B → Bool) (p : A → Bool) (xs : List A) → ((x : A) → Has xs x → test (g x) ≡ p x) → some-of test (map g xs) ≡ some-of p xs
   unfolding some-of

@@ -8,7 +8,7 @@ use mathlib.Core.Bool.{Bool, true, false}
 use mathlib.Core.List.{List, [], _∷_}
 use mathlib.Core.Logic.{inl, inr, ⊎-elim}
 use lib.ListN.{length, length-set, length-replicate}
-use lib.Seq.{getD-set-same, getD-set-other}
+use lib.Seq.{getD-set-same, getD-set-other, set-comm}
 use lib.Dec.{eqb}
 use borrow.Author.Tests.{eq-eqb, ne-eqb}
 use Rattle.meaning.specs.Tests.{either, some-of, Has}
@@ -16,12 +16,12 @@ use Rattle.meaning.specs.Limits
 use Rattle.meaning.specs.Limits.{Limits}
 use Rattle.meaning.specs.Literals.{says-true, says-false, fluent-of, complement, among}
 use Rattle.meaning.specs.Requests.{Table}
-use Rattle.meaning.specs.States.{State, mark-of, known, told, told-all, state-of, first-state}
+use Rattle.meaning.specs.States.{State, mark-of, known, known-whether, told, told-all, state-of, first-state}
 use Rattle.meaning.specs.Approximation.{least}
 use Rattle.meaning.specs.Reported.{pair-of}
 use Rattle.meaning.proofs.TestLaws.{either-right}
 use Rattle.meaning.proofs.RangeLaws.{Ranged}
-use Rattle.meaning.proofs.LiteralLaws.{complement-other, fluent-complement, same-fluent}
+use Rattle.meaning.proofs.LiteralLaws.{complement-other, fluent-true, fluent-false, fluent-complement, same-fluent}
 use Rattle.meaning.proofs.StateLaws.{nothing-told, mark-complement, none-known}
 
 -- ONE LITERAL TOLD, whose complement was not known.
@@ -35,18 +35,22 @@ unfolding either
 either-assoc true b c = refl
 either-assoc false b c = refl
 
+-- What is known of other fluents stays.
+pub told-keeps : (l : ℕ) (s : State) (k : ℕ) → (fluent-of k ≡ fluent-of l → ⊥) → known (told l s) k ≡ known s k
+unfolding known told
+told-keeps l s k other = ap (λ (m : ℕ). eqb m (mark-of k)) (getD-set-other s (fluent-of l) (fluent-of k) (mark-of l) Limits.unknown-mark other)
+
 module _ (l : ℕ) (s : State) (within : fluent-of l < length s) where
   pub told-here : known (told l s) l ≡ true
   unfolding known told
   told-here = eq-eqb _ (mark-of l) (getD-set-same s (fluent-of l) (mark-of l) Limits.unknown-mark within)
 
-  told-beside : known (told l s) (complement l) ≡ false
+  pub told-beside : known (told l s) (complement l) ≡ false
   unfolding known told
   told-beside = ne-eqb _ (mark-of (complement l)) (rw (fluent-complement l, getD-set-same s (fluent-of l) (mark-of l) Limits.unknown-mark within) (mark-complement l))
 
   pub told-elsewhere : (k : ℕ) → (fluent-of k ≡ fluent-of l → ⊥) → known (told l s) k ≡ known s k
-  unfolding known told
-  told-elsewhere k other = ap (λ (m : ℕ). eqb m (mark-of k)) (getD-set-other s (fluent-of l) (fluent-of k) (mark-of l) Limits.unknown-mark other)
+  told-elsewhere = told-keeps l s
 
   told-known : known s (complement l) ≡ false → (k : ℕ) → known (told l s) k ≡ either (known s k) (eqb k l)
   told-known free k = elim (ℕ-discrete (fluent-of k) (fluent-of l)) [ yes same ↦ ⊎-elim here beside (same-fluent k l same) | no other ↦ elsewhere other ]
@@ -59,6 +63,15 @@ module _ (l : ℕ) (s : State) (within : fluent-of l < length s) where
 
       elsewhere : (fluent-of k ≡ fluent-of l → ⊥) → known (told l s) k ≡ either (known s k) (eqb k l)
       elsewhere other = told-elsewhere k other ∙ sym (rw (ne-eqb k l (λ q. other (ap fluent-of q))) (either-none (known s k)))
+
+pub whether-keeps : (l : ℕ) (s : State) (g : ℕ) → (g ≡ fluent-of l → ⊥) → known-whether (told l s) g ≡ known-whether s g
+unfolding known-whether
+whether-keeps l s g other = rw (told-keeps l s (says-true g) (λ q. other (sym (fluent-true g) ∙ q)), told-keeps l s (says-false g) (λ q. other (sym (fluent-false g) ∙ q)))
+
+-- Two literals of different fluents are told in either order.
+pub told-swap : (l k : ℕ) (s : State) → (fluent-of l ≡ fluent-of k → ⊥) → told k (told l s) ≡ told l (told k s)
+unfolding told
+told-swap l k s other = set-comm s (fluent-of l) (fluent-of k) (mark-of l) (mark-of k) other
 
 -- MANY TOLD: none has its complement known or among the others.
 pub record Tellable (s : State) (ls : List ℕ) : Type 0 where

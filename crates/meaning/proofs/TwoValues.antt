@@ -39,10 +39,10 @@ some-value : (p : ℕ → Bool) (f : ℕ) → some-of p (values-of flags f) ≡ 
 unfolding some-of values-of numbers
 some-value p f = ap (either (p 0)) (either-none (p 1))
 
-sets-true : (f : ℕ) → flags .sets (says-true f) ≡ 0
+pub sets-true : (f : ℕ) → flags .sets (says-true f) ≡ 0
 sets-true f = pick-true _ _ _ (positive-true f)
 
-sets-false : (f : ℕ) → flags .sets (says-false f) ≡ 1
+pub sets-false : (f : ℕ) → flags .sets (says-false f) ≡ 1
 sets-false f = pick-false _ _ _ (positive-false f)
 
 says-0 : (f v : ℕ) → flags .satisfied (says-true f) v ≡ eqb v 0
@@ -98,7 +98,7 @@ known-value-1 : (s : State) (f : ℕ) → eqb (getD s f Limits.unknown-mark) Lim
 unfolding is-known
 known-value-1 s f = refl
 
-known-value : (s : State) (l : ℕ) → known s l ≡ is-known s (fluent-of l) (flags .sets l)
+pub known-value : (s : State) (l : ℕ) → known s l ≡ is-known s (fluent-of l) (flags .sets l)
 known-value s =
     by-literal (λ l. known s l ≡ is-known s (fluent-of l) (flags .sets l))
     (λ f. known-true s f ∙ rw (fluent-true f, sets-true f) (known-value-0 s f))
@@ -163,14 +163,14 @@ same-told l s = ap (set s (fluent-of l)) (mark-is l)
         (λ f. mark-true f ∙ ap (λ (v : ℕ). v + 1) (sym (sets-true f)))
         (λ f. mark-false f ∙ ap (λ (v : ℕ). v + 1) (sym (sets-false f)))
 
-told-true : (f : ℕ) (s : State) → told (says-true f) s ≡ ValueStates.told f 0 s
+pub told-true : (f : ℕ) (s : State) → told (says-true f) s ≡ ValueStates.told f 0 s
 told-true f s = same-told (says-true f) s ∙ rw (fluent-true f, sets-true f)
 
-told-false : (f : ℕ) (s : State) → told (says-false f) s ≡ ValueStates.told f 1 s
+pub told-false : (f : ℕ) (s : State) → told (says-false f) s ≡ ValueStates.told f 1 s
 told-false f s = same-told (says-false f) s ∙ rw (fluent-false f, sets-false f)
 
 -- THE STEP.
-known-is : known ≡ ValueStates.known flags
+pub known-is : known ≡ ValueStates.known flags
 known-is = fun-ext (λ s. fun-ext (same-known s))
 
 pub same-can-be-run : (t : Table) (a : ℕ) (s : State) → can-be-run t a s ≡ ValueStates.can-be-run flags t a s

@@ -11,24 +11,24 @@ use mathlib.Core.Logic.{_⊎_, inl, inr, ⊎-elim}
 use lib.ListN.{length}
 use lib.Dec.{eqb}
 use borrow.Author.Tests.{eqb-true, eq-eqb, ne-eqb}
-use Rattle.meaning.specs.Tests.{either, fails, each-of, those-of, Has}
+use Rattle.meaning.specs.Tests.{either, fails, pick, each-of, those-of, Has}
 use Rattle.meaning.specs.Limits
 use Rattle.meaning.specs.Limits.{Limits}
 use Rattle.meaning.specs.Requests.{Effect-over, Executability-over, Knowledge, Table-over, Entry-over, Request-over, values}
 use Rattle.meaning.specs.Refusals.{Found, nowhere, at}
 use Rattle.meaning.specs.Lines.{effects-of, executability-of, knowledge-of, allowed, sensing, senses}
-use Rattle.meaning.specs.States.{State, Outcome}
-use Rattle.meaning.specs.Walk.{fine, Verified, Step, leads-to, refuses, walk, first-missed, end-of}
+use Rattle.meaning.specs.States.{State, Outcome, single}
+use Rattle.meaning.specs.Walk.{fine, Verified, leads-to, Steps, meet, walk, first-missed, end-of}
 use Rattle.meaning.specs.Worlds.{Domain, Worlds, Guarded, Carried-under, Carried}
 use Rattle.meaning.specs.Values.{Literals, numbers, values-of, fits, set-by, disagree, exclusive, clashing, runs-with, contradictory, all-exclusive}
-use Rattle.meaning.specs.ValueStates.{mark-left, told, is-known, known-as, known, possible, known-whether, first-state, can-be-run, known-after, mark-after, state-after, unknown-sensed, readings, outcome, table-does, table-step, missed-in, judged, walked, guarded-step, walked-guarded}
+use Rattle.meaning.specs.ValueStates.{mark-left, told, is-known, known-as, known, possible, known-whether, first-state, can-be-run, known-after, mark-after, state-after, unknown-sensed, readings, outcome, table-does, table-step, missed-in, judged, walked, guarded-step}
 use Rattle.meaning.specs.ValueWorlds.{World, shown, Within, holds, may-be-run, moved, table-domain, Facts, Reached, Carried-out}
 use Rattle.meaning.proofs.TestLaws.{by-test, clash, both-left, both-right, both-true, either-split, fails-true, fails-false, pick-true, pick-false, pick-cases, some-has, has-some, each-has, has-each, some-mono, each-mono, those-has, has-those, some-those, map-same, same-map}
 use Rattle.meaning.proofs.WalkLaws.{On-conditions}
 use Rattle.meaning.proofs.SettledLaws.{or-else-nowhere}
 use Rattle.meaning.proofs.EndLaws.{none-missed}
 use Rattle.meaning.proofs.ValueLaws.{has-numbers, numbers-has, known-there, first-such-cases, one-left, told-elsewhere, told-there, told-far, some-value}
-use Rattle.meaning.proofs.Sound.{Some-state, some-state-map, missed≢fine, Sound-step, Seen, seen-sound, meet-sound, plan-sound}
+use Rattle.meaning.proofs.Sound.{Some-state, some-state-map, missed≢fine, leads-same, refuses≢leads, Sound-step, Seen, seen-sound, meet-sound, plan-sound}
 
 -- A state missed nothing where it ends fine.
 fine-nowhere : (f : Found) (s : State) → end-of f s ≡ fine → f ≡ nowhere
@@ -120,7 +120,7 @@ module _ {L : Type 0} (ls : Literals L) where
       (subst (λ (x : ℕ). x < ls .count f) same (value-within f u h), subst (λ (x : ℕ). known-after ls es s f x ≡ true) same is))
       (λ none q. absurd (omega (arith, e, q)))
 
-  after-agrees : (t : Table-over L) (a : ℕ) (s : State) (w : World) → Agrees w s → Agrees (moved ls t a w) (state-after ls t a s)
+  pub after-agrees : (t : Table-over L) (a : ℕ) (s : State) (w : World) → Agrees w s → Agrees (moved ls t a w) (state-after ls t a s)
   unfolding state-after known-after
   after-agrees t a s w g =
       record {
@@ -134,7 +134,7 @@ module _ {L : Type 0} (ls : Literals L) where
       }
 
   -- A READING IS SOUND. A state is told the world's value.
-  told-agrees : (w : World) (s : State) (f v : ℕ) → w f ≡ v → Agrees w s → Agrees w (told f v s)
+  pub told-agrees : (w : World) (s : State) (f v : ℕ) → w f ≡ v → Agrees w s → Agrees w (told f v s)
   told-agrees w s f v is g =
       record {
         within = g .within;
@@ -175,43 +175,61 @@ module _ {L : Type 0} (ls : Literals L) where
       let f = ls .fluent (t .0) in
       clash (has-some _ (values-of ls f) (w f) (has-value f (w f) (low f)) (both-true _ _ (held-fits w c hc f) (held-fits w e he f))) (fails-true _ (both-right _ _ (t .2)))
 
-  -- THE RECORD, for the step of a table.
-  abbrev pub Exclusive : List (List L) → Type 0
-  Exclusive cs = all-exclusive ls cs ≡ true
-
-  -- What the table's step leads to is the outcome of an action that can be run.
-  does-lead : (t : Table-over L) (a : ℕ) (s : State) (o : Outcome State) → table-does ls t a s ≡ leads-to o → (can-be-run ls t a s ≡ true) × (outcome ls t a s ≡ o)
-  unfolding table-does
-  does-lead t a s o e = pick-cases _ _ _ e (λ run is. (run, ap led is)) (λ _ is. absurd (subst refused is tt))
-    where
-      led : Step State → Outcome State
-      led (leads-to x) = x
-      led (refuses n u) = o
-
-      refused : Step State → Type 0
-      refused (leads-to x) = ⊥
-      refused (refuses n u) = Unit {0}
+  -- ONE ACTION. Where it can be run in a state, it may be run in each world that agrees.
+  pub runs-agree : (t : Table-over L) (a : ℕ) (s : State) (w : World) → Agrees w s → can-be-run ls t a s ≡ true → may-be-run ls t a w ≡ true
+  unfolding can-be-run may-be-run
+  runs-agree t a s w g = allowed-mono (known ls s) (holds ls w) (known-holds w s g) (executability-of t a)
 
   unknown-is-sensed : (t : Table-over L) (a : ℕ) (s : State) (f : ℕ) → Has (unknown-sensed ls t a s) f → senses (knowledge-of t a) f ≡ true
   unfolding unknown-sensed
   unknown-is-sensed t a s f h = both-left _ _ (those-has _ (numbers 0 (length s)) f h .1)
 
-  pub guarded-sound : (t : Table-over L) (gs : List (Entry-over L)) → Sound-step (guarded-step ls t gs) (table-domain ls t) Exclusive Agrees
-  unfolding guarded-step table-domain can-be-run may-be-run outcome all-exclusive
-  guarded-sound t gs =
+  -- One of its readings agrees with each world that agreed and shows what v shows.
+  sensed-agree : (t : Table-over L) (a : ℕ) (s : State) (v : World) → Agrees v s
+      → Some-state (readings ls (unknown-sensed ls t a s) s) (λ u. (w : World) → Agrees w s → shown t a w ≡ shown t a v → Agrees w u)
+  sensed-agree t a s v g =
+      some-state-map (λ u h w agree same. h w (agree, same)) (readings ls (unknown-sensed ls t a s) s)
+      (readings-agree (unknown-sensed ls t a s) s v (λ w. Agrees w s × (shown t a w ≡ shown t a v)) (g .within) (λ w p. p .0)
+      (λ f m w p. shown-same t a w v f (p .1) (unknown-is-sensed t a s f m)))
+
+  -- THE RECORD, for any step that knows what a state does, and whose action, where it is not refused, leads to the readings of the state or to another that
+  -- agrees with the worlds moved.
+  abbrev pub Exclusive : List (List L) → Type 0
+  Exclusive cs = all-exclusive ls cs ≡ true
+
+  pub record Leads (t : Table-over L) (a : ℕ) (s : State) (o : Outcome State) : Type 0 where
+    pub after : State
+    pub is : o ≡ pick (sensing t a) (λ _. readings ls (unknown-sensed ls t a s) s) (λ _. single after)
+    pub runs : (w : World) → Agrees w s → may-be-run ls t a w ≡ true
+    pub agrees : (w : World) → Agrees w s → Agrees (moved ls t a w) after
+
+  pub led-sound : (t : Table-over L) (step : Steps State L) → step .knows ≡ known ls → ((a : ℕ) (s : State) (o : Outcome State) → step .does a s ≡ leads-to o → Leads t a s o)
+      → Sound-step step (table-domain ls t) Exclusive Agrees
+  unfolding table-domain all-exclusive
+  led-sound t step knowing leads =
       record {
-        runs = λ a s o is w g. allowed-mono (known ls s) (holds ls w) (known-holds w s g) (executability-of t a) (does-lead t a s o is .0);
+        runs = λ a s o is. leads a s o is .runs;
         moves = λ a s o is off.
-            subst (λ (x : Outcome State). Some-state x (λ u. (w : World) → Agrees w s → Agrees (moved ls t a w) u)) (sym (pick-false _ _ _ off) ∙ does-lead t a s o is .1) (after-agrees t a s);
+            let led = leads a s o is in
+            subst (λ (x : Outcome State). Some-state x (λ u. (w : World) → Agrees w s → Agrees (moved ls t a w) u)) (sym (led .is ∙ pick-false _ _ _ off)) (led .agrees);
         reads = λ a s o is v on g.
-            subst (λ (x : Outcome State). Some-state x (λ u. (w : World) → Agrees w s → shown t a w ≡ shown t a v → Agrees w u)) (sym (pick-true _ _ _ on) ∙ does-lead t a s o is .1)
-            (some-state-map (λ u h w agree same. h w (agree, same)) (readings ls (unknown-sensed ls t a s) s)
-            (readings-agree (unknown-sensed ls t a s) s v (λ w. Agrees w s × (shown t a w ≡ shown t a v)) (g .within) (λ w p. p .0)
-            (λ f m w p. shown-same t a w v f (p .1) (unknown-is-sensed t a s f m))));
-        knows = λ l w s g. known-holds w s g l;
+            subst (λ (x : Outcome State). Some-state x (λ u. (w : World) → Agrees w s → shown t a w ≡ shown t a v → Agrees w u)) (sym (leads a s o is .is ∙ pick-true _ _ _ on)) (sensed-agree t a s v g);
+        knows = λ l w s g k. known-holds w s g l (sym (ap (λ (k : State → L → Bool). k s l) knowing) ∙ k);
         apart = λ c cs x w s g hc e m he. exclusive-apart c e w (g .within) (each-has (exclusive ls c) cs e (both-left _ _ x) m) hc he;
         others = λ c cs x. both-right _ _ x;
       }
+
+  -- What the table's step leads to is the outcome of an action that can be run.
+  does-lead : (t : Table-over L) (a : ℕ) (s : State) (o : Outcome State) → table-does ls t a s ≡ leads-to o → (can-be-run ls t a s ≡ true) × (outcome ls t a s ≡ o)
+  unfolding table-does
+  does-lead t a s o e = pick-cases _ _ _ e (λ run is. (run, leads-same is)) (λ _ is. absurd (refuses≢leads is))
+
+  pub guarded-sound : (t : Table-over L) (gs : List (Entry-over L)) → Sound-step (guarded-step ls t gs) (table-domain ls t) Exclusive Agrees
+  unfolding guarded-step outcome
+  guarded-sound t gs =
+      led-sound t (guarded-step ls t gs) refl λ a s o is.
+      let led = does-lead t a s o is in
+      record { after = state-after ls t a s; is = sym (led .1); runs = λ w g. runs-agree t a s w g (led .0); agrees = after-agrees t a s }
 
   -- THE FIRST STATE agrees with every world that has the facts.
   first-agrees : (lim : Limits) (t : Table-over L) (w : World) → Facts ls t w → Agrees w (first-state ls lim t)
@@ -245,35 +263,33 @@ module _ {L : Type 0} (ls : Literals L) where
   -- is to follow from this: the true world is possible, the goals hold in each possible world, and these agree on each whether fluent. Where the
   -- walk is guarded, the guards hold as well.
   module _ (r : Request-over L) {U Q : Type 0} (d : Domain U L Q) (valued : U → World) (same : Seen d (table-domain ls (r .table)) valued) where
-    pub seen-guarded-sound : (gs : List (Entry-over L)) (lim : Limits) → On-conditions Exclusive (r .plan) → Verified (walked-guarded ls r gs (first-state ls lim (r .table)))
-        → (K : U → Worlds U → Type 0)
-        → ((v : U) (P : Worlds U) → P v → ((w : U) → P w → each-of (holds ls (valued w)) (values (r .goals)) ≡ true)
-        → ((w u : U) → P w → P u → (f : ℕ) → Has (values (r .whether)) f → valued w f ≡ valued u f) → K v P)
-        → (P : Worlds U) → ((w : U) → P w → Facts ls (r .table) (valued w)) → (v : U) → P v → Guarded d (values gs) (Carried-under d (values gs) (r .plan) K) v P
-    unfolding walked-guarded guarded-step
-    seen-guarded-sound gs lim apart fine-end K reached P facts v h =
-        let sound = seen-sound (guarded-step ls (r .table) gs) d (table-domain ls (r .table)) valued Exclusive Agrees same (guarded-sound (r .table) gs) in
-        let guarded : (s : State) → first-missed (known ls s) gs ≡ nowhere → each-of (known ls s) (values gs) ≡ true = λ s. none-missed (known ls s) gs .0 in
-        meet-sound (guarded-step ls (r .table) gs) d Exclusive (λ w s. Agrees (valued w) s) sound (values gs) guarded
-        (walk (guarded-step ls (r .table) gs) (r .plan) (judged ls r)) (Carried-under d (values gs) (r .plan) K)
-        (plan-sound (guarded-step ls (r .table) gs) d Exclusive (λ w s. Agrees (valued w) s) sound (values gs) guarded
-        (r .plan) apart (judged ls r) K
-        (λ s u A g e.
-        let q = nothing-missed r s e in
-        reached u A (g .actual)
-        (λ w m. each-mono (known ls s) (holds ls (valued w)) (known-holds (valued w) s (g .agree w m)) _ (q .0))
-        (λ w x m n f i. known-value s (valued w) (valued x) (g .agree w m) (g .agree x n) f (each-has _ (values (r .whether)) f (q .1) i))))
-        (first-state ls lim (r .table)) v P
-        (record { agree = λ w m. first-agrees lim (r .table) (valued w) (facts w m); actual = h }) fine-end
+    -- By any step that is sound, with guards each of which is known true in every state that lacks none.
+    module _ (step : Steps State L) (sound : Sound-step step (table-domain ls (r .table)) Exclusive Agrees) (gs : List L) (guarded : (s : State) → step .lacks s ≡ nowhere → each-of (step .knows s) gs ≡ true) where
+      pub seen-stepped-sound : (lim : Limits) → On-conditions Exclusive (r .plan) → Verified (meet step (walk step (r .plan) (judged ls r)) (first-state ls lim (r .table)))
+          → (K : U → Worlds U → Type 0)
+          → ((v : U) (P : Worlds U) → P v → ((w : U) → P w → each-of (holds ls (valued w)) (values (r .goals)) ≡ true)
+          → ((w u : U) → P w → P u → (f : ℕ) → Has (values (r .whether)) f → valued w f ≡ valued u f) → K v P)
+          → (P : Worlds U) → ((w : U) → P w → Facts ls (r .table) (valued w)) → (v : U) → P v → Guarded d gs (Carried-under d gs (r .plan) K) v P
+      seen-stepped-sound lim apart fine-end K reached P facts v h =
+          let seen = seen-sound step d (table-domain ls (r .table)) valued Exclusive Agrees same sound in
+          meet-sound step d Exclusive (λ w s. Agrees (valued w) s) seen gs guarded (walk step (r .plan) (judged ls r)) (Carried-under d gs (r .plan) K)
+          (plan-sound step d Exclusive (λ w s. Agrees (valued w) s) seen gs guarded (r .plan) apart (judged ls r) K
+          (λ s u A g e.
+          let q = nothing-missed r s e in
+          reached u A (g .actual)
+          (λ w m. each-mono (known ls s) (holds ls (valued w)) (known-holds (valued w) s (g .agree w m)) _ (q .0))
+          (λ w x m n f i. known-value s (valued w) (valued x) (g .agree w m) (g .agree x n) f (each-has _ (values (r .whether)) f (q .1) i))))
+          (first-state ls lim (r .table)) v P
+          (record { agree = λ w m. first-agrees lim (r .table) (valued w) (facts w m); actual = h }) fine-end
 
-    -- Without guards.
+    -- By the table's own, without guards.
     pub seen-walk-sound : (lim : Limits) → On-conditions Exclusive (r .plan) → Verified (walked ls r (first-state ls lim (r .table)))
         → (K : U → Worlds U → Type 0)
         → ((v : U) (P : Worlds U) → P v → ((w : U) → P w → each-of (holds ls (valued w)) (values (r .goals)) ≡ true)
         → ((w u : U) → P w → P u → (f : ℕ) → Has (values (r .whether)) f → valued w f ≡ valued u f) → K v P)
         → (P : Worlds U) → ((w : U) → P w → Facts ls (r .table) (valued w)) → (v : U) → P v → Carried d (r .plan) K v P
-    unfolding walked walked-guarded table-step guarded-step first-missed values
-    seen-walk-sound = seen-guarded-sound []
+    unfolding walked table-step guarded-step first-missed each-of
+    seen-walk-sound = seen-stepped-sound (table-step ls (r .table)) (guarded-sound (r .table) []) [] (λ s _. refl)
 
   -- And of the worlds of the structure itself.
   pub walk-sound : (lim : Limits) (r : Request-over L) → On-conditions Exclusive (r .plan) → Verified (walked ls r (first-state ls lim (r .table))) → Carried-out ls r

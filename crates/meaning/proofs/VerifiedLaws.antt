@@ -17,46 +17,41 @@ use Rattle.meaning.specs.Reading.{Got, got, fault}
 use Rattle.meaning.specs.Refusals.{settled}
 use Rattle.meaning.specs.States.{State, first-state}
 use Rattle.meaning.specs.Walk.{End, fine, missed, stopped, Walked, Verified, walked}
-use Rattle.meaning.specs.Judging.{Judgement, reported, ended, within, judge-settled, judge, number, count}
+use Rattle.meaning.specs.Judging.{Judgement, reported, ended, within, judge-got, judge-by, walk-of, judge-settled, judge, number, count}
 use Rattle.meaning.specs.Answers.{refusals}
 use Rattle.meaning.proofs.TestLaws.{by-test, clash, pick-true, pick-false, pick-map}
-use Rattle.meaning.proofs.WithinLaws.{walked-never, fine-within}
+use Rattle.meaning.proofs.WithinLaws.{Never, walked-never, fine-within}
 use Rattle.meaning.proofs.AnswerLaws.{Numbered-in, settled-numbered}
 
--- THE WALK of a verified answer.
-module _ (lim : Limits) (lent : List ℕ) (budget : ℕ) where
+-- BY WHATEVER WALK a call makes of what is settled, where no stop of it has the number 0.
+pub record Verified-by {A : Type 0} (walk : A → Walked State) (lim : Limits) (x : Got A) (lent : List ℕ) (budget : ℕ) (j : Judgement) : Type 0 where
+  pub sized : length lent ≡ lim .state
+  pub says : A
+  pub end : ℕ
+  pub settles : x ≡ got says end
+  pub fine : Verified (walk says)
+  pub within : walk says .count ≤ budget
+  pub counts : j .answer .count ≡ walk says .count
+
+module _ {A : Type 0} (walk : A → Walked State) (lim : Limits) (lent : List ℕ) (budget : ℕ) where
   -- It ends fine within the budget, and the answer has its count.
   abbrev Fine-within : Judgement → Walked State → Type 0
   Fine-within j w = Verified w × (w .count ≤ budget) × (j .answer .count ≡ w .count)
 
-  settled-fine : (x : Got Request) → Numbered-in refusals x → judge-settled lim lent budget x .answer .number ≡ Limits.verified
-      → (r : Request) × (e : ℕ) × (x ≡ got r e) × Fine-within (judge-settled lim lent budget x) (walked r (first-state lim (r .table)))
-  unfolding judge-settled among refusals some-of either
-  settled-fine (got r e) n q = (r, e, refl, fine-within lent budget _ _ refl (walked-never Limits.verified (λ z. omega arith) r _) q)
-  settled-fine (fault k p) n q = clash n (ap (λ (i : ℕ). among i refusals) q)
+  got-fine : ((y : A) → Never Limits.verified (walk y .end)) → (x : Got A) → Numbered-in refusals x → judge-got walk lent budget x .answer .number ≡ Limits.verified
+      → (y : A) × (e : ℕ) × (x ≡ got y e) × Fine-within (judge-got walk lent budget x) (walk y)
+  unfolding judge-got among refusals some-of either
+  got-fine never (got y e) n q = (y, e, refl, fine-within lent budget _ _ refl (never y) q)
+  got-fine never (fault k p) n q = clash n (ap (λ (i : ℕ). among i refusals) q)
 
-  -- What is not refused is settled.
-  settled-there : (x : Got Request) → Numbered-in refusals x → among (judge-settled lim lent budget x .answer .number) refusals ≡ false → (r : Request) × (e : ℕ) × (x ≡ got r e)
-  unfolding judge-settled
-  settled-there (got r e) n q = (r, e, refl)
-  settled-there (fault k p) n q = clash n q
-
-pub record Verified-so (lim : Limits) (request lent : List ℕ) (budget : ℕ) : Type 0 where
-  pub sized : length lent ≡ lim .state
-  pub says : Request
-  pub end : ℕ
-  pub settles : settled lim request ≡ got says end
-  pub fine : Verified (walked says (first-state lim (says .table)))
-  pub within : count lim says ≤ budget
-  pub counts : judge lim request lent budget .answer .count ≡ count lim says
-
-module _ (lim : Limits) (request lent : List ℕ) (budget : ℕ) where
-  pub verified-so : judge lim request lent budget .answer .number ≡ Limits.verified → Verified-so lim request lent budget
-  unfolding judge pick
-  verified-so q =
+  -- What a verified answer says.
+  pub verified-by : ((y : A) → Never Limits.verified (walk y .end)) → (x : Got A) → Numbered-in refusals x → judge-by walk lim x lent budget .answer .number ≡ Limits.verified
+      → Verified-by walk lim x lent budget (judge-by walk lim x lent budget)
+  unfolding pick
+  verified-by never x n q =
       by-test (eqb (length lent) (lim .state))
       (λ t.
-      let w = settled-fine lim lent budget (settled lim request) (settled-numbered lim request) (rw (t, pick) at q) in
+      let w = got-fine never x n (rw (t, pick) at q) in
       record {
         sized = eqb-true _ _ t;
         says = w .0;
@@ -68,15 +63,37 @@ module _ (lim : Limits) (request lent : List ℕ) (budget : ℕ) where
       })
       (λ f. absurd (let nine : _≡_ {A = ℕ} 9 0 = rw (f, pick) at q in omega arith))
 
+  -- What makes one.
+  pub by-verified : length lent ≡ lim .state → (x : Got A) (y : A) (e : ℕ) → x ≡ got y e → Verified (walk y) → walk y .count ≤ budget
+      → (judge-by walk lim x lent budget .answer .number ≡ Limits.verified) × (judge-by walk lim x lent budget .answer .count ≡ walk y .count)
+  unfolding judge-got within ended
+  by-verified sized x y e settles is-fine enough =
+      let w = walk y in
+      let is : judge-by walk lim x lent budget ≡ ended lent (w .count) fine =
+      pick-true _ _ _ (eq-eqb _ _ sized) ∙ ap (judge-got walk lent budget) settles ∙ pick-false _ _ _ (le-ltb budget (w .count) enough) ∙ ap (ended lent (w .count)) is-fine in
+      (ap (λ (j : Judgement). j .answer .number) is, ap (λ (j : Judgement). j .answer .count) is)
+
+-- THE WALK CALL.
+module _ (lim : Limits) (lent : List ℕ) (budget : ℕ) where
+  -- What is not refused is settled.
+  settled-there : (x : Got Request) → Numbered-in refusals x → among (judge-settled lim lent budget x .answer .number) refusals ≡ false → (r : Request) × (e : ℕ) × (x ≡ got r e)
+  unfolding judge-got
+  settled-there (got r e) n q = (r, e, refl)
+  settled-there (fault k p) n q = clash n q
+
+module _ (lim : Limits) (request lent : List ℕ) (budget : ℕ) where
+  abbrev pub Verified-so : Type 0
+  Verified-so = Verified-by (walk-of lim) lim (settled lim request) lent budget (judge lim request lent budget)
+
+  pub verified-so : judge lim request lent budget .answer .number ≡ Limits.verified → Verified-so
+  unfolding judge
+  verified-so = verified-by (walk-of lim) lim lent budget (λ r. walked-never Limits.verified (λ z. omega arith) r _) (settled lim request) (settled-numbered lim request)
+
   module _ (sized : length lent ≡ lim .state) where
     pub so-verified : (r : Request) (e : ℕ) → settled lim request ≡ got r e → Verified (walked r (first-state lim (r .table))) → count lim r ≤ budget
         → (number lim request lent budget ≡ Limits.verified) × (judge lim request lent budget .answer .count ≡ count lim r)
-    unfolding judge judge-settled within ended
-    so-verified r e settles is-fine enough =
-        let w = walked r (first-state lim (r .table)) in
-        let is : judge lim request lent budget ≡ ended lent (w .count) fine =
-        pick-true _ _ _ (eq-eqb _ _ sized) ∙ ap (judge-settled lim lent budget) settles ∙ pick-false _ _ _ (le-ltb budget (w .count) enough) ∙ ap (ended lent (w .count)) is-fine in
-        (ap (λ (j : Judgement). j .answer .number) is, ap (λ (j : Judgement). j .answer .count) is)
+    unfolding judge
+    so-verified = by-verified (walk-of lim) lim lent budget sized (settled lim request)
 
     -- What is not refused by 10 to 21 is settled.
     pub not-refused-settled : among (number lim request lent budget) refusals ≡ false → (r : Request) × (e : ℕ) × (settled lim request ≡ got r e)
@@ -99,7 +116,7 @@ within-unread lent other budget w =
     ∙ rw (ended-unread lent other (w .count) (w .end)) (sym (pick-map (λ (j : Judgement). j .answer) (ltb budget (w .count)) _ _))
 
 settled-unread : (lim : Limits) (lent other : List ℕ) (budget : ℕ) (x : Got Request) → judge-settled lim lent budget x .answer ≡ judge-settled lim other budget x .answer
-unfolding judge-settled
+unfolding judge-got
 settled-unread lim lent other budget (got r e) = within-unread lent other budget (walked r (first-state lim (r .table)))
 settled-unread lim lent other budget (fault n p) = refl
 

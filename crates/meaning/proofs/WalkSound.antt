@@ -5,14 +5,15 @@ use Prim.Native.Nat.{ℕ}
 use mathlib.Core.Path.{_≡_, sym, _∙_, subst, fun-ext}
 use mathlib.Core.Bool.{Bool, true}
 use mathlib.Core.List.{List, []}
+use Rattle.meaning.specs.Tests.{each-of}
 use Rattle.meaning.specs.Limits.{Limits}
 use Rattle.meaning.specs.Literals.{fluent-of, complement}
 use Rattle.meaning.specs.Requests.{Table, Entry, Request, values}
 use Rattle.meaning.specs.Reading.{got}
 use Rattle.meaning.specs.Refusals.{nowhere, contradiction-in, settled}
 use Rattle.meaning.specs.Lines.{effects-of, given}
-use Rattle.meaning.specs.States.{first-state}
-use Rattle.meaning.specs.Walk.{Verified, table-step, first-missed, walked, guarded-step, walked-guarded}
+use Rattle.meaning.specs.States.{State, known, first-state}
+use Rattle.meaning.specs.Walk.{Verified, Steps, meet, walk, table-step, first-missed, judged, walked, guarded-step, walked-guarded}
 use Rattle.meaning.specs.Worlds.{World, holds, may-be-run, table-domain, Facts, Reached, Carried-out, Carried-out-under}
 use Rattle.meaning.specs.ValueStates
 use Rattle.meaning.specs.ValueWorlds
@@ -22,18 +23,22 @@ use Rattle.meaning.proofs.RefusalLaws.{past-16}
 use Rattle.meaning.proofs.RangeLaws.{read-ranged}
 use Rattle.meaning.proofs.SettledLaws.{Settled, settled-is, fit}
 use Rattle.meaning.proofs.WalkLaws.{On-conditions}
+use Rattle.meaning.proofs.EndLaws.{none-missed}
+use Rattle.meaning.proofs.Sound.{Sound-step}
 use Rattle.meaning.proofs.ValueSound
-use Rattle.meaning.proofs.ValueSound.{seen-guarded-sound}
-use Rattle.meaning.proofs.TwoValues.{valued, valued-same, valued-within, same-given, same-given-other, same-walked-guarded, same-first-state, same-contradictory, same-all-exclusive, same-holds, same-domain}
+use Rattle.meaning.proofs.ValueSound.{Agrees, Exclusive, guarded-sound, seen-stepped-sound}
+use Rattle.meaning.proofs.TwoValues.{valued, valued-same, valued-within, same-given, same-given-other, same-guarded-step, same-judged, same-first-state, same-contradictory, same-all-exclusive, same-holds, same-domain}
 
 pub holds-is : (w : World) → holds w ≡ ValueWorlds.holds flags (valued w)
 holds-is w = fun-ext (same-holds w)
 
--- THE WALK IS SOUND, of a settled request and any guards.
-pub guarded-walk-sound : (lim : Limits) (b : List ℕ) (r : Request) (e : ℕ) → settled lim b ≡ got r e → (gs : List Entry)
-    → Verified (walked-guarded r gs (first-state lim (r .table))) → Carried-out-under (values gs) r
-guarded-walk-sound lim b r e past gs fine-end =
-    seen-guarded-sound flags r (table-domain (r .table)) valued (same-domain (r .table)) gs lim
+-- THE WALK IS SOUND, of a settled request, by any step that is, and with any guards, each of which is known true in every state that lacks none.
+pub stepped-walk-sound : (lim : Limits) (b : List ℕ) (r : Request) (e : ℕ) → settled lim b ≡ got r e → (step : Steps State ℕ)
+    → Sound-step step (ValueWorlds.table-domain flags (r .table)) (Exclusive flags) (Agrees flags) → (gs : List ℕ)
+    → ((s : State) → step .lacks s ≡ nowhere → each-of (step .knows s) gs ≡ true)
+    → Verified (meet step (walk step (r .plan) (judged r)) (first-state lim (r .table))) → Carried-out-under gs r
+stepped-walk-sound lim b r e past step sound gs guarded fine-end =
+    seen-stepped-sound flags r (table-domain (r .table)) valued (same-domain (r .table)) step sound gs guarded lim
     (subst (λ (p : List (List ℕ) → Bool). On-conditions (λ cs. p cs ≡ true) (r .plan)) (fun-ext same-all-exclusive) (fit (r .plan) (passed .no-overlap)))
     (subst Verified same-walk fine-end)
     (Reached r)
@@ -47,8 +52,17 @@ guarded-walk-sound lim b r e past gs fine-end =
     passed : Settled lim b r e
     passed = settled-is lim b r e past
 
-    same-walk : walked-guarded r gs (first-state lim (r .table)) ≡ ValueStates.walked-guarded flags r gs (ValueStates.first-state flags lim (r .table))
-    same-walk = same-walked-guarded r gs _ ∙ rw (same-first-state lim (r .table) (read-ranged lim b r e (passed .reads) .consistent))
+    same-walk : meet step (walk step (r .plan) (judged r)) (first-state lim (r .table)) ≡ meet step (walk step (r .plan) (ValueStates.judged flags r)) (ValueStates.first-state flags lim (r .table))
+    same-walk = rw (fun-ext (same-judged r), same-first-state lim (r .table) (read-ranged lim b r e (passed .reads) .consistent))
+
+-- By the table's own.
+pub guarded-walk-sound : (lim : Limits) (b : List ℕ) (r : Request) (e : ℕ) → settled lim b ≡ got r e → (gs : List Entry)
+    → Verified (walked-guarded r gs (first-state lim (r .table))) → Carried-out-under (values gs) r
+unfolding walked-guarded guarded-step
+guarded-walk-sound lim b r e past gs =
+    stepped-walk-sound lim b r e past (guarded-step (r .table) gs)
+    (subst (λ (step : Steps State ℕ). Sound-step step (ValueWorlds.table-domain flags (r .table)) (Exclusive flags) (Agrees flags)) (sym (same-guarded-step (r .table) gs)) (guarded-sound flags (r .table) gs))
+    (values gs) (λ s. none-missed (known s) gs .0)
 
 -- Without guards.
 pub walk-sound : (lim : Limits) (b : List ℕ) (r : Request) (e : ℕ) → settled lim b ≡ got r e → Verified (walked r (first-state lim (r .table))) → Carried-out r

@@ -11,10 +11,10 @@ use Rattle.meaning.specs.Tests.{pick}
 use Rattle.meaning.specs.Limits
 use Rattle.meaning.specs.Requests.{Entry, Request}
 use Rattle.meaning.specs.States.{State}
-use Rattle.meaning.specs.Walk.{Concerned, End, fine, missed, stopped, Walked, Verified, walked, walked-guarded}
-use Rattle.meaning.specs.Judging.{Judgement, written-over, reported, ended, within}
+use Rattle.meaning.specs.Walk.{Concerned, no-state, in-state, End, fine, missed, stopped, Walked, Verified, walked, walked-guarded}
+use Rattle.meaning.specs.Judging.{Judgement, written-over, reported, count-told, ended, within}
 use Rattle.meaning.proofs.TestLaws.{pick-true, pick-false, pick-cases, pick-map, by-test}
-use Rattle.meaning.proofs.KeptEnds.{End-so, Stuck, walked-stuck, Stuck-guarded, guarded-stuck}
+use Rattle.meaning.proofs.KeptEnds.{End-so, walked-stuck, Guarded-stop, guarded-stuck}
 
 -- NUMBERS. The number of an end.
 abbrev pub answered : End State → ℕ
@@ -28,6 +28,12 @@ ended-number lent c fine = refl
 ended-number lent c (missed p s) = refl
 ended-number lent c (stopped n p u) = refl
 
+-- The count that is told of a stop is not above that of the walk.
+pub told-fewer : (u : Concerned State) (c : ℕ) → count-told u c ≤ c
+unfolding count-told
+told-fewer no-state c = omega arith
+told-fewer (in-state s) c = omega arith
+
 pub within-number : (lent : List ℕ) (budget : ℕ) (w : Walked State) → within lent budget w .answer .number ≡ pick (ltb budget (w .count)) (λ _. Limits.budget-spent) (λ _. answered (w .end))
 unfolding within
 within-number lent budget w =
@@ -39,22 +45,19 @@ module _ (i : ℕ) where
   abbrev pub Never : End State → Type 0
   Never = End-so (λ _ _. Unit {0}) (λ n _ _. n ≡ i → ⊥)
 
+  -- Where each stop is so, and then has another number.
+  pub so-never : (Stop : ℕ → ℕ → Concerned State → Type 0) → ((n p : ℕ) (u : Concerned State) → Stop n p u → n ≡ i → ⊥) → (e : End State) → End-so (λ _ _. Unit {0}) Stop e → Never e
+  so-never Stop other fine so = tt
+  so-never Stop other (missed p u) so = tt
+  so-never Stop other (stopped n p u) so = other n p u so
+
   module _ (not-2 : i ≡ Limits.not-executable → ⊥) where
     pub walked-never : (r : Request) (s : State) → Never (walked r s .end)
-    walked-never r s = by-end (walked r s .end) (walked-stuck r s)
-      where
-        by-end : (e : End State) → Stuck e → Never e
-        by-end fine stuck = tt
-        by-end (missed p u) stuck = tt
-        by-end (stopped n p u) stuck = λ q. not-2 (sym q ∙ stuck .0)
+    walked-never r s = so-never _ (λ n p u stuck q. not-2 (sym q ∙ stuck .0)) (walked r s .end) (walked-stuck r s)
 
     pub guarded-never : (i ≡ Limits.guard-broken → ⊥) → (r : Request) (gs : List Entry) (s : State) → Never (walked-guarded r gs s .end)
-    guarded-never not-43 r gs s = by-end (walked-guarded r gs s .end) (guarded-stuck gs r s)
-      where
-        by-end : (e : End State) → Stuck-guarded gs e → Never e
-        by-end fine stuck = tt
-        by-end (missed p u) stuck = tt
-        by-end (stopped n p u) stuck = λ q. ⊎-elim (λ is. not-2 (sym q ∙ is)) (λ is. not-43 (sym q ∙ is .0)) (stuck .2)
+    guarded-never not-43 r gs s =
+        so-never (Guarded-stop gs) (λ n p u stuck q. ⊎-elim (λ is. not-2 (sym q ∙ is)) (λ is. not-43 (sym q ∙ is .0)) (stuck .2)) (walked-guarded r gs s .end) (guarded-stuck gs r s)
 
 -- THE END that a number tells.
 pub answered-fine : (e : End State) → Never Limits.verified e → answered e ≡ Limits.verified → e ≡ fine
@@ -95,7 +98,7 @@ module _ (lent : List ℕ) (budget : ℕ) (w : Walked State) (j : Judgement) (is
   )
 
   -- With another number than 3 it is what the walk's end says.
-  ended-within : (j .answer .number ≡ Limits.budget-spent → ⊥) → (w .count ≤ budget) × (j ≡ ended lent (w .count) (w .end)) × (j .answer .number ≡ answered (w .end))
+  pub ended-within : (j .answer .number ≡ Limits.budget-spent → ⊥) → (w .count ≤ budget) × (j ≡ ended lent (w .count) (w .end)) × (j .answer .number ≡ answered (w .end))
   unfolding within
   ended-within not-3 =
       by-test (ltb budget (w .count))

@@ -1,4 +1,5 @@
--- What an answer's input, place and count are, by its number (FORMAT 4.3 to 4.44, 17.35, 17.36, 21.10, 21.16).
+-- What an answer's input, place and count are, by its number (FORMAT 4.3 to 4.44, 17.35, 17.36, 21.10, 21.16, 22.11,
+-- 22.14).
 use Prim.Native.Nat.{ℕ, _≤_, _<_}
 use mathlib.Core.Path.{_≡_}
 use mathlib.Core.Bool.{true, false}
@@ -10,13 +11,15 @@ use Rattle.meaning.specs.Tests.{pick}
 use Rattle.meaning.specs.Limits
 use Rattle.meaning.specs.Limits.{Limits}
 use Rattle.meaning.specs.Literals.{among}
-use Rattle.meaning.specs.Requests.{Request}
-use Rattle.meaning.specs.Reading.{got}
+use Rattle.meaning.specs.Reading.{Got, got}
 use Rattle.meaning.specs.Refusals.{settled}
-use Rattle.meaning.specs.States.{State, first-state}
-use Rattle.meaning.specs.Walk.{Concerned, no-state, in-state, End, fine, missed, stopped, walked}
+use Rattle.meaning.specs.States.{State}
+use Rattle.meaning.specs.Walk.{Concerned, no-state, in-state, End, fine, missed, stopped, Walked}
+use Rattle.meaning.specs.Judging
 use Rattle.meaning.specs.Judging.{Judgement}
-use Rattle.meaning.specs.Guards.{Guarded-request, settled-guarded, walk-of}
+use Rattle.meaning.specs.Guards
+use Rattle.meaning.specs.Guards.{settled-guarded}
+use Rattle.meaning.specs.ByCases
 use Rattle.meaning.specs.Answers.{row-answers}
 
 -- INPUT. The numbers that name neither (FORMAT 4.27), those that only the request gets, and those that only a derivation gets.
@@ -67,35 +70,51 @@ named a request derivation = pick (eqb (a .input) Limits.the-derivation) (λ _. 
 unfoldable pub of-walks : List ℕ
 of-walks = Limits.verified ∷ Limits.goal-missed ∷ Limits.not-executable ∷ []
 
--- The walk call counts the walk of the settled request with 0, 1 and 2, the budget with 3, and 0 with every other number (FORMAT 4.42 to
--- 4.44).
-pub record Walk-count (lim : Limits) (request : List ℕ) (budget : ℕ) (a : Answer) : Type 0 where
-  pub walk : among (a .number) of-walks ≡ true → (r : Request) × (e : ℕ) × (settled lim request ≡ got r e) × (a .count ≡ walked r (first-state lim (r .table)) .count)
+-- The count of a call that judges by a walk what was read: that of the walk with these numbers, the budget with 3, and 0 with every other number (FORMAT 4.42
+-- to 4.44).
+pub record Counted {A : Type 0} (walks : A → Walked State) (read : Got A) (told : List ℕ) (budget : ℕ) (a : Answer) : Type 0 where
+  pub walk : among (a .number) told ≡ true → (x : A) × (e : ℕ) × (read ≡ got x e) × (a .count ≡ walks x .count)
   pub spent : a .number ≡ Limits.budget-spent → a .count ≡ budget
-  pub other : among (a .number) (Limits.budget-spent ∷ of-walks) ≡ false → a .count ≡ 0
+  pub other : among (a .number) (Limits.budget-spent ∷ told) ≡ false → a .count ≡ 0
+
+-- The walk call counts the walk of the settled request with 0, 1 and 2.
+abbrev pub Walk-count : Limits → (request : List ℕ) → (budget : ℕ) → Answer → Type 0
+Walk-count lim request = Counted (Judging.walk-of lim) (settled lim request) of-walks
 
 -- The guarded call counts its walk with 43 too (FORMAT 21.10).
 unfoldable pub of-guarded-walks : List ℕ
 of-guarded-walks = Limits.guard-broken ∷ of-walks
 
-pub record Guarded-count (lim : Limits) (request : List ℕ) (budget : ℕ) (a : Answer) : Type 0 where
-  pub walk : among (a .number) of-guarded-walks ≡ true → (g : Guarded-request) × (e : ℕ) × (settled-guarded lim request ≡ got g e) × (a .count ≡ walk-of lim g .count)
-  pub spent : a .number ≡ Limits.budget-spent → a .count ≡ budget
-  pub other : among (a .number) (Limits.budget-spent ∷ of-guarded-walks) ≡ false → a .count ≡ 0
+abbrev pub Guarded-count : Limits → (request : List ℕ) → (budget : ℕ) → Answer → Type 0
+Guarded-count lim request = Counted (Guards.walk-of lim) (settled-guarded lim request) of-guarded-walks
 
--- STATE. The state that the end of a walk concerns, and the numbers of the guarded call that come with one (FORMAT 4.45 to 4.49, 21.10).
+-- The call by cases doesn't with 44 (FORMAT 22.11).
+abbrev pub Cases-count : Limits → (request : List ℕ) → (budget : ℕ) → Answer → Type 0
+Cases-count lim request = Counted (ByCases.walk-of lim) (settled lim request) of-walks
+
+-- STATE. The state that the end of a walk concerns.
 unfoldable pub concerned : End State → Concerned State
 concerned fine = no-state
 concerned (missed p s) = in-state s
 concerned (stopped n p u) = u
 
+-- The lent bytes of such a call: with these numbers they are written with that state, and with every other number they stay (FORMAT 4.45 to 4.49).
+pub record Written {A : Type 0} (walks : A → Walked State) (read : Got A) (told : List ℕ) (lent : List ℕ) (j : Judgement) : Type 0 where
+  pub written : among (j .answer .number) told ≡ true → (x : A) × (e : ℕ) × (read ≡ got x e) × (concerned (walks x .end) ≡ in-state (j .state))
+  pub as-lent : among (j .answer .number) told ≡ false → j .state ≡ lent
+
+-- The numbers of the walk call and of the call by cases that come with a state, and those of the guarded call (FORMAT 21.10, 22.11).
+unfoldable pub stated : List ℕ
+stated = Limits.goal-missed ∷ Limits.not-executable ∷ []
+
 unfoldable pub with-state : List ℕ
 with-state = Limits.goal-missed ∷ Limits.not-executable ∷ Limits.guard-broken ∷ []
 
--- With 1, 2 and 43 the lent bytes are written with that state, and with every other number they stay.
-pub record Guarded-state (lim : Limits) (request lent : List ℕ) (j : Judgement) : Type 0 where
-  pub written : among (j .answer .number) with-state ≡ true → (g : Guarded-request) × (e : ℕ) × (settled-guarded lim request ≡ got g e) × (concerned (walk-of lim g .end) ≡ in-state (j .state))
-  pub as-lent : among (j .answer .number) with-state ≡ false → j .state ≡ lent
+abbrev pub Guarded-state : Limits → (request lent : List ℕ) → Judgement → Type 0
+Guarded-state lim request = Written (Guards.walk-of lim) (settled-guarded lim request) with-state
+
+abbrev pub Cases-state : Limits → (request lent : List ℕ) → Judgement → Type 0
+Cases-state lim request = Written (ByCases.walk-of lim) (settled lim request) stated
 
 -- THE ROW of a release: what its four numbers are at most, over a file of this size.
 pub record Row-parts (size budget : ℕ) (a : Answer) : Type 0 where

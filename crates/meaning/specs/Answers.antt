@@ -1,4 +1,4 @@
--- The numbers that each call answers (FORMAT section 4, 11.1, 17.38, 21.22).
+-- The numbers that each call answers (FORMAT section 4, 11.1, 17.38, 21.22, 22.17).
 use Prim.Native.Nat.{ℕ}
 use mathlib.Core.List.{List, [], _∷_}
 use Rattle.meaning.specs.declared.Layout.{Layout}
@@ -17,6 +17,10 @@ answers = Limits.verified ∷ Limits.goal-missed ∷ Limits.not-executable ∷ L
 -- All that the guarded call answers.
 unfoldable pub guarded-answers : List ℕ
 guarded-answers = Limits.guard-broken ∷ answers
+
+-- All that the call by cases answers.
+unfoldable pub cases-answers : List ℕ
+cases-answers = Limits.too-many-cases ∷ answers
 
 -- The release call's own refusals but 9, all its own answers, and what a plan's row may say.
 unfoldable pub release-refusals : List ℕ

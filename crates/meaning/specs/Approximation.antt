@@ -91,25 +91,42 @@ abbrev pub Φ : Table → ℕ → Pair → Results
 abbrev pub Union : Results → (Pair → Results) → Results
 Union Σ G x = (Σ failed × (x ≡ failed)) ⊎ ((σ : Pair) × Σ (state σ) × G σ x)
 
-module _ (t : Table) where
-  -- None of the conditions is true.
-  abbrev pub None-true : Branches ℕ → Pair → Type 0
-  None-true none σ = Unit {0}
-  None-true (branch c b bs) σ = (each-of (true-in σ) c ≡ false) × None-true bs σ
+-- None of the conditions is true.
+abbrev pub None-true : Branches ℕ → Pair → Type 0
+None-true none σ = Unit {0}
+None-true (branch c b bs) σ = (each-of (true-in σ) c ≡ false) × None-true bs σ
 
-  -- The extended transition function, definition 2.3.
+-- The extended transition function, definition 2.3, of a transition function.
+module _ (one : ℕ → Pair → Results) where
   abbrev mutual
-    pub Φ̂ : Sequence ℕ → Pair → Results
-    Φ̂ done σ x = x ≡ state σ
-    Φ̂ (item i rest) σ x = Union (λ y. Φ̂-item i σ y) (λ δ y. Φ̂ rest δ y) x
+    pub extended : Sequence ℕ → Pair → Results
+    extended done σ x = x ≡ state σ
+    extended (item i rest) σ x = Union (λ y. extended-item i σ y) (λ δ y. extended rest δ y) x
 
-    pub Φ̂-item : Item ℕ → Pair → Results
-    Φ̂-item (act p a) σ x = Φ t a σ x
-    Φ̂-item (branching p bs) σ x = Φ̂-case bs σ x ⊎ (None-true bs σ × (x ≡ failed))
+    pub extended-item : Item ℕ → Pair → Results
+    extended-item (act p a) σ x = one a σ x
+    extended-item (branching p bs) σ x = extended-case bs σ x ⊎ (None-true bs σ × (x ≡ failed))
 
-    pub Φ̂-case : Branches ℕ → Pair → Results
-    Φ̂-case none σ x = ⊥
-    Φ̂-case (branch c b bs) σ x = ((each-of (true-in σ) c ≡ true) × Φ̂ b σ x) ⊎ Φ̂-case bs σ x
+    pub extended-case : Branches ℕ → Pair → Results
+    extended-case none σ x = ⊥
+    extended-case (branch c b bs) σ x = ((each-of (true-in σ) c ≡ true) × extended b σ x) ⊎ extended-case bs σ x
+
+-- What is asked of an a-state: that literals are true, or that a fluent is true or false.
+abbrev pub all-true : List ℕ → Pair → Bool
+all-true X σ = each-of (true-in σ) X
+
+abbrev pub true-or-false : ℕ → Pair → Bool
+true-or-false f σ = either (true-in σ (says-true f)) (false-in σ (says-true f))
+
+module _ (t : Table) where
+  abbrev pub Φ̂ : Sequence ℕ → Pair → Results
+  Φ̂ = extended (Φ t)
+
+  abbrev pub Φ̂-item : Item ℕ → Pair → Results
+  Φ̂-item = extended-item (Φ t)
+
+  abbrev pub Φ̂-case : Branches ℕ → Pair → Results
+  Φ̂-case = extended-case (Φ t)
 
   -- The least initial a-state: the initial facts and nothing else.
   unfoldable pub least : Pair
@@ -120,19 +137,28 @@ module _ (t : Table) where
     pub disjoint : Disjoint σ
     pub facts : each-of (true-in σ) (t .facts) ≡ true
 
-  -- Entailment, definition 2.4: from every initial a-state the plan is 0-executable, and what is asked is true in each a-state it leads to.
-  pub record Entails (c : Sequence ℕ) (asked : Pair → Bool) : Type 0 where
-    pub executable : (σ : Pair) → Initial σ → Φ̂ c σ failed → ⊥
-    pub true-after : (σ : Pair) → Initial σ → (δ : Pair) → Φ̂ c σ (state δ) → asked δ ≡ true
+  -- Entailment, definition 2.4, of a transition function: from every initial a-state the plan can be carried out, and what is asked is true in
+  -- each a-state that it leads to.
+  pub record Entails-by (one : ℕ → Pair → Results) (c : Sequence ℕ) (asked : Pair → Bool) : Type 0 where
+    pub executable : (σ : Pair) → Initial σ → extended one c σ failed → ⊥
+    pub true-after : (σ : Pair) → Initial σ → (δ : Pair) → extended one c σ (state δ) → asked δ ≡ true
 
-  -- Knows X after c.
+  -- In the 0-approximation.
+  abbrev pub Entails : Sequence ℕ → (Pair → Bool) → Type 0
+  Entails = Entails-by (Φ t)
+
+  -- Knows X after c, and Kwhether f after c.
   abbrev pub Knows-after : List ℕ → Sequence ℕ → Type 0
-  Knows-after X c = Entails c (λ σ. each-of (true-in σ) X)
+  Knows-after X c = Entails c (all-true X)
 
-  -- Kwhether f after c.
   abbrev pub Kwhether-after : ℕ → Sequence ℕ → Type 0
-  Kwhether-after f c = Entails c (λ σ. either (true-in σ (says-true f)) (false-in σ (says-true f)))
+  Kwhether-after f c = Entails c (true-or-false f)
 
 -- What a request asks is entailed: the goals are known after the plan, and of each whether fluent it is known whether.
+abbrev pub Entailed-by : (ℕ → Pair → Results) → Request → Type 0
+Entailed-by one r =
+    Entails-by (r .table) one (r .plan) (all-true (values (r .goals)))
+    × ((f : ℕ) → Has (values (r .whether)) f → Entails-by (r .table) one (r .plan) (true-or-false f))
+
 abbrev pub Entailed : Request → Type 0
-Entailed r = Knows-after (r .table) (values (r .goals)) (r .plan) × ((f : ℕ) → Has (values (r .whether)) f → Kwhether-after (r .table) f (r .plan))
+Entailed r = Entailed-by (Φ (r .table)) r

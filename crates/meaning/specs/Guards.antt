@@ -2,7 +2,7 @@
 use Prim.Native.Nat.{ℕ, _+_}
 use mathlib.Core.List.{List}
 use lib.ListN.{length}
-use lib.Dec.{ltb, eqb}
+use lib.Dec.{ltb}
 use Rattle.meaning.specs.Tests.{pick}
 use Rattle.meaning.specs.Limits
 use Rattle.meaning.specs.Limits.{Limits}
@@ -11,7 +11,7 @@ use Rattle.meaning.specs.Reading.{Got, got, fault, next, literals, list-
 use Rattle.meaning.specs.Refusals.{past-refusals}
 use Rattle.meaning.specs.States.{State, first-state}
 use Rattle.meaning.specs.Walk.{Walked, walked-guarded}
-use Rattle.meaning.specs.Judging.{Judgement, within, refused-at, wrong-length}
+use Rattle.meaning.specs.Judging.{Judgement, judge-got, judge-by}
 use Rattle.meaning.specs.Asking.{line-told}
 
 -- A request and its guards (FORMAT 21.2).
@@ -37,16 +37,12 @@ settled-guarded lim s = next (read-guarded lim s) λ g e. past-refusals (g .requ
 unfoldable pub walk-of : Limits → Guarded-request → Walked State
 walk-of lim g = walked-guarded (g .request) (g .guards) (first-state lim (g .request .table))
 
-unfoldable pub guarded-settled : Limits → (lent : List ℕ) → (budget : ℕ) → Got Guarded-request → Judgement
-guarded-settled lim lent budget (got g e) = within lent budget (walk-of lim g)
-guarded-settled lim lent budget (fault n p) = refused-at lent n p
+abbrev pub guarded-settled : Limits → (lent : List ℕ) → (budget : ℕ) → Got Guarded-request → Judgement
+guarded-settled lim = judge-got (walk-of lim)
 
 -- The lent state's length goes first (FORMAT 21.5).
 unfoldable pub judge-guarded : Limits → (request lent : List ℕ) → (budget : ℕ) → Judgement
-judge-guarded lim request lent budget =
-    pick (eqb (length lent) (lim .state))
-    (λ _. guarded-settled lim lent budget (settled-guarded lim request))
-    (λ _. wrong-length lent)
+judge-guarded lim request = judge-by (walk-of lim) lim (settled-guarded lim request)
 
 -- The line that answer 2 carries (FORMAT 18.10 to 18.12, 21.20).
 unfoldable pub line-guarded-settled : (request : List ℕ) → Judgement → Got Guarded-request → ℕ

@@ -26,11 +26,16 @@ written-over lent (in-state s) = s
 unfoldable pub reported : (lent : List ℕ) → (count number place : ℕ) → Concerned State → Judgement
 reported lent c n p u = record { answer = record { number = n; input = Limits.the-request; place = p; count = c }; state = written-over lent u }
 
+-- The count that is told of a stop: that of the walk, and 0 where no state is concerned (FORMAT 4.42, 22.11).
+unfoldable pub count-told : Concerned State → (count : ℕ) → ℕ
+count-told no-state c = 0
+count-told (in-state s) c = c
+
 -- The answer of a walk that ended so, within its budget (FORMAT 4.42, 4.45 to 4.49, 8.16).
 unfoldable pub ended : (lent : List ℕ) → (count : ℕ) → End State → Judgement
 ended lent c fine = record { answer = record { number = Limits.verified; input = Limits.neither-input; place = 0; count = c }; state = lent }
 ended lent c (missed p s) = reported lent c Limits.goal-missed p (in-state s)
-ended lent c (stopped n p u) = reported lent c n p u
+ended lent c (stopped n p u) = reported lent (count-told u c) n p u
 
 -- Budget spent exactly when the walk's count is above it (FORMAT 4.43, 8.14).
 unfoldable pub within : (lent : List ℕ) → (budget : ℕ) → Walked State → Judgement
@@ -47,21 +52,28 @@ refused-at lent n p = record { answer = record { number = n; input = Limits.the-
 abbrev pub wrong-length : (lent : List ℕ) → Judgement
 wrong-length lent = record { answer = record { number = Limits.state-length; input = Limits.neither-input; place = 0; count = 0 }; state = lent }
 
--- What is not refused is walked from the first state (FORMAT 8.1).
-unfoldable pub judge-settled : Limits → (lent : List ℕ) → (budget : ℕ) → Got Request → Judgement
-judge-settled lim lent budget (got r e) = within lent budget (walked r (first-state lim (r .table)))
-judge-settled lim lent budget (fault n p) = refused-at lent n p
+-- What is not refused is judged by the walk that the call makes of it, whichever call it is.
+unfoldable pub judge-got : {A : Type 0} → (A → Walked State) → (lent : List ℕ) → (budget : ℕ) → Got A → Judgement
+judge-got walk lent budget (got x e) = within lent budget (walk x)
+judge-got walk lent budget (fault n p) = refused-at lent n p
 
 -- The lent state's length goes first (FORMAT 5.1).
+abbrev pub judge-by : {A : Type 0} → (A → Walked State) → Limits → Got A → (lent : List ℕ) → (budget : ℕ) → Judgement
+judge-by walk lim x lent budget = pick (eqb (length lent) (lim .state)) (λ _. judge-got walk lent budget x) (λ _. wrong-length lent)
+
+-- THE WALK CALL walks the plan from the first state (FORMAT 8.1).
+abbrev pub walk-of : Limits → Request → Walked State
+walk-of lim r = walked r (first-state lim (r .table))
+
+abbrev pub judge-settled : Limits → (lent : List ℕ) → (budget : ℕ) → Got Request → Judgement
+judge-settled lim = judge-got (walk-of lim)
+
 unfoldable pub judge : Limits → (request lent : List ℕ) → (budget : ℕ) → Judgement
-judge lim request lent budget =
-    pick (eqb (length lent) (lim .state))
-    (λ _. judge-settled lim lent budget (settled lim request))
-    (λ _. wrong-length lent)
+judge lim request = judge-by (walk-of lim) lim (settled lim request)
 
 -- WHAT STATEMENTS SAY OF IT. The answer's number, and the count of the whole walk.
 abbrev pub number : Limits → (request lent : List ℕ) → (budget : ℕ) → ℕ
 number lim request lent budget = judge lim request lent budget .answer .number
 
 abbrev pub count : Limits → Request → ℕ
-count lim r = walked r (first-state lim (r .table)) .count
+count lim r = walk-of lim r .count

@@ -11,14 +11,17 @@ pub mod Judging
 pub mod Releases
 pub mod Guards
 pub mod Asking
+pub mod ByCases
 pub mod Worlds
 pub mod Values
 pub mod ValueStates
 pub mod ValueWorlds
 pub mod Approximation
+pub mod CaseApproximation
 pub mod Paths
 pub mod Reported
 pub mod GuardedReported
+pub mod CaseReported
 pub mod SameLines
 pub mod Derivations
 pub mod Rules

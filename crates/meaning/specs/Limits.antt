@@ -58,6 +58,10 @@ most-plans = 64
 abbrev pub most-guards : ℕ
 most-guards = 64
 
+-- The unknown fluents that the bodies of an action may have where it is reasoned by cases; only the call by cases speaks of it (FORMAT 22.9).
+abbrev pub most-open : ℕ
+most-open = 12
+
 -- The format's literals are below twice its fluents (FORMAT 2.2, 2.3).
 abbrev pub all-literals : ℕ
 all-literals = 2 * format .fluents
@@ -66,7 +70,7 @@ all-literals = 2 * format .fluents
 abbrev pub branching-byte : ℕ
 branching-byte = 255
 
--- Answers (FORMAT 4.3 to 4.25, 17.35, 17.36, 21.10).
+-- Answers (FORMAT 4.3 to 4.25, 17.35, 17.36, 21.10, 22.9).
 abbrev pub verified : ℕ
 verified = 0
 
@@ -144,6 +148,9 @@ closing-not-right = 36
 
 abbrev pub guard-broken : ℕ
 guard-broken = 43
+
+abbrev pub too-many-cases : ℕ
+too-many-cases = 44
 
 -- The rules of a derivation (FORMAT 10.12 to 10.17, 17.21 to 17.25).
 abbrev pub empty-rule : ℕ

@@ -95,7 +95,7 @@ item-place (branching p bs) = p
 -- It can't be run in an a-state: an action has no ex-proposition true there, a branching no condition.
 abbrev pub Not-run : Table → Item ℕ → Pair → Type 0
 Not-run t (act p a) σ = executable t a σ ≡ false
-Not-run t (branching p bs) σ = None-true t bs σ
+Not-run t (branching p bs) σ = None-true bs σ
 
 -- The first path that stops, stops in u, at the place of an item that can't be run in u.
 pub record Stopped-at (r : Request) (xs : List (Path State)) (place : ℕ) (u : State) : Type 0 where

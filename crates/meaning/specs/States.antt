@@ -91,5 +91,9 @@ unfoldable pub readings : List ℕ → State → Outcome State
 readings [] s = single s
 readings (f ∷ fs) s = fork (readings fs (told (says-true f) s)) (λ _. readings fs (told (says-false f) s))
 
+-- Where an action that does not sense leads to the last state.
+abbrev pub outcome-to : Table → ℕ → State → State → Outcome State
+outcome-to t a s after = pick (sensing t a) (λ _. readings (unknown-sensed t a s) s) (λ _. single after)
+
 unfoldable pub outcome : Table → ℕ → State → Outcome State
-outcome t a s = pick (sensing t a) (λ _. readings (unknown-sensed t a s) s) (λ _. single (state-after t a s))
+outcome t a s = outcome-to t a s (state-after t a s)

@@ -1,28 +1,34 @@
 -- A walk knows nothing beyond the fluents of its request (FORMAT 4.48): the facts, the literals of effects and the sensed fluents were read below
--- their bound, so no step sets a mark from there up, and a walk keeps what its steps keep. Assumes nothing.
+-- their bound, and fillings fill no other fluents, so no step sets a mark from there up, and a walk keeps what its steps keep. Assumes nothing.
 use Prim.Native.Nat.{ℕ, _*_, _≤_, _<_}
 use native.Mathlib.Omega.{arith}
 use native.Mathlib.Decide.{decLt}
 use mathlib.Core.Path.{_≡_, refl, sym, _∙_}
 use mathlib.Core.Bool.{false}
-use mathlib.Core.List.{List, [], _∷_}
+use mathlib.Core.List.{List, [], _∷_, map}
 use mathlib.Core.Logic.{inl, inr, ⊎-elim}
 use lib.ListN.{length, getD, replicate, List·getD-eq-default}
 use lib.Seq.{getD-set-other}
-use Rattle.meaning.specs.Tests.{Has}
+use borrow.Author.Tests.{le-ltb}
+use Rattle.meaning.specs.Tests.{either, each-of, Has}
 use Rattle.meaning.specs.Limits.{format}
 use Rattle.meaning.specs.Literals.{says-true, says-false, fluent-of}
 use Rattle.meaning.specs.Requests.{Table, Entry, Request}
 use Rattle.meaning.specs.Lines.{effects-of}
-use Rattle.meaning.specs.States.{State, mark-of, known, told, told-all, state-of, first-state, known-after, mark-after, state-after}
-use Rattle.meaning.specs.Walk.{walked-guarded}
-use Rattle.meaning.proofs.TestLaws.{by-test, both-left, clash, either-split, pick-false}
+use Rattle.meaning.specs.States.{State, mark-of, known, known-whether, told, told-all, state-of, first-state, known-after, mark-after, state-after}
+use Rattle.meaning.specs.Walk.{guarded-step, walked-guarded}
+use Rattle.meaning.specs.ByCases.{upward, complete, after-each, after-cases, cases-step, walked-by-cases}
+use Rattle.meaning.specs.Reported.{pair-of}
+use Rattle.meaning.proofs.TestLaws.{by-test, both-left, clash, either-split, pick-false, each-has, has-map}
+use Rattle.meaning.proofs.LiteralLaws.{fluent-true, fluent-false}
 use Rattle.meaning.proofs.RangeLaws.{Ranged}
 use Rattle.meaning.proofs.StateLaws.{known-true, known-false, unknown-mark, after-length}
-use Rattle.meaning.proofs.PairLaws.{given-pair, after-mark, caused-within}
-use Rattle.meaning.proofs.SensingLaws.{sensed-within, read-is}
+use Rattle.meaning.proofs.PairLaws.{given-pair, after-mark, after-known, caused-within}
+use Rattle.meaning.proofs.SensingLaws.{unknown-neither, sensed-within, read-is}
+use Rattle.meaning.proofs.FillingLaws.{filling-length, some-filling, shared-at, cases-length}
+use Rattle.meaning.proofs.CompleteLaws.{filling-completes}
 use Rattle.glintstring.specs.LentState.{Blank-from}
-use Rattle.verdicts.proofs.KeepingLaws.{End-has, Kept-by, walked-kept}
+use Rattle.verdicts.proofs.KeepingLaws.{End-has, Kept-by, table-keeps, cases-keep, walked-kept}
 
 module _ (n : ℕ) where
   told-blank : (l : ℕ) → fluent-of l < n → (s : State) → Blank-from n s → Blank-from n (told l s)
@@ -62,15 +68,59 @@ module _ (t : Table) (ranged : Ranged format t) where
         | no beyond ↦ List·getD-eq-default (state-after t a s) 0 {n = f} (rw (after-length t a s) (omega arith))
       ]
 
-  table-blank : Kept-by (Blank-from (t .fluents)) t
+  -- BY CASES a filling knows no fluent from there up, and there is one: so its result shares no mark there.
+  filling-unknown : (s u : State) → Has (complete t s) u → (f : ℕ) → t .fluents ≤ f → f < length s → getD s f 0 ≡ 0 → known-whether u f ≡ false
+  unfolding pair-of known-whether either
+  filling-unknown s u h f far near none =
+      filling-completes t s (omega (arith, far, near)) u h .domain f
+      ∙ rw (known-true s f, known-false s f, none, le-ltb f (t .fluents) far) refl
+
+  shared-unknown : (a : ℕ) (s : State) (f : ℕ) → t .fluents ≤ f → f < length s → getD s f 0 ≡ 0 → (l : ℕ) → fluent-of l ≡ f
+      → each-of (λ (u : State). known u l) (map (state-after t a) (complete t s)) ≡ false
+  unfolding complete fluent-of
+  shared-unknown a s f far near none l of-f =
+      let w = some-filling (upward 0 (t .fluents)) s in
+      let u : State = w .0 in
+      let long = filling-length (upward 0 (t .fluents)) s u (w .1) in
+      by-test _
+      (λ e. clash (each-has (λ (v : State). known v l) (map (state-after t a) (complete t s)) (state-after t a u) e (has-map (state-after t a) (complete t s) u (w .1)))
+      (after-known t a u l (omega (arith, of-f, near, long)) ∙ still-unknown a u l (omega (arith, of-f, far)) (unknown-neither u l (rw of-f (filling-unknown s u (w .1) f far near none)))))
+      (λ e. e)
+
+  after-cases-blank : (a : ℕ) (s : State) → Blank-from (t .fluents) s → Blank-from (t .fluents) (after-cases t a s)
+  unfolding after-cases after-each
+  after-cases-blank a s blank f far =
+      elim (decLt f (length s)) [
+        | yes near ↦
+            shared-at (map (state-after t a) (complete t s)) s f near
+            ∙ pick-false _ _ _ (shared-unknown a s f far near (blank f far) (says-true f) (fluent-true f))
+            ∙ pick-false _ _ _ (shared-unknown a s f far near (blank f far) (says-false f) (fluent-false f))
+        | no beyond ↦ List·getD-eq-default (after-cases t a s) 0 {n = f} (rw (cases-length t a s) (omega arith))
+      ]
+
+  -- Neither does a reading set one.
+  blank-by : (after : ℕ → State → State) → ((a : ℕ) (s : State) → Blank-from (t .fluents) s → Blank-from (t .fluents) (after a s)) → Kept-by (Blank-from (t .fluents)) t after
   unfolding says-true says-false fluent-of
-  table-blank = record {
+  blank-by after acts = record {
     reads = λ a s f h u blank.
         let near = sensed-within t a (t .fluents) (ranged .knowledge) f (read-is t a s f h .1) in
         (told-blank (t .fluents) (says-true f) (omega arith) u blank, told-blank (t .fluents) (says-false f) (omega arith) u blank);
-    acts = after-blank;
+    acts = acts;
   }
 
--- THE WALK from the first state, with guards or without.
-pub walked-blank : (r : Request) (gs : List Entry) → Ranged format (r .table) → End-has (Blank-from (r .table .fluents)) (walked-guarded r gs (first-state format (r .table)) .end)
-walked-blank r gs ranged = walked-kept (Blank-from (r .table .fluents)) r gs (table-blank (r .table) ranged) (first-state format (r .table)) (first-blank (r .table) ranged)
+-- THE WALK from the first state, with guards or without, and by cases.
+module _ (r : Request) (ranged : Ranged format (r .table)) where
+  abbrev Blank : State → Type 0
+  Blank = Blank-from (r .table .fluents)
+
+  pub walked-blank : (gs : List Entry) → End-has Blank (walked-guarded r gs (first-state format (r .table)) .end)
+  unfolding walked-guarded guarded-step
+  walked-blank gs =
+      walked-kept Blank r (guarded-step (r .table) gs) (table-keeps Blank (r .table) (blank-by (r .table) ranged (state-after (r .table)) (after-blank (r .table) ranged)))
+      (first-state format (r .table)) (first-blank (r .table) ranged)
+
+  pub walked-cases-blank : End-has Blank (walked-by-cases r (first-state format (r .table)) .end)
+  unfolding walked-by-cases cases-step
+  walked-cases-blank =
+      walked-kept Blank r (cases-step (r .table)) (cases-keep Blank (r .table) (blank-by (r .table) ranged (after-cases (r .table)) (after-cases-blank (r .table) ranged)))
+      (first-state format (r .table)) (first-blank (r .table) ranged)

@@ -1,6 +1,6 @@
 -- The definition writes the lent bytes at answers 1 and 2 only: every other case leaves them. Those two are of a settled request, since every
 -- fault has another number, and they leave the state where its walk ended, which has what the walk keeps. With guards 43 is written too: those three
--- answers leave the state that the end of the walk concerns, which has what that walk keeps. Assumes nothing.
+-- answers leave the state that the end of the walk concerns, which has what that walk keeps. By cases answers 1 and 2 leave such a state. Assumes nothing.
 use Prim.Native.Nat.{ℕ}
 use native.Mathlib.Omega.{arith}
 use mathlib.Core.Path.{_≡_, refl, sym, _∙_, subst}
@@ -16,26 +16,27 @@ use Rattle.meaning.specs.Requests.{Entry, Request}
 use Rattle.meaning.specs.Reading.{Got, got, fault}
 use Rattle.meaning.specs.Refusals.{settled}
 use Rattle.meaning.specs.States.{State, first-state}
-use Rattle.meaning.specs.Walk.{Concerned, in-state, End, fine, missed, stopped, Walked, walked, walked-guarded}
-use Rattle.meaning.specs.Judging.{Judgement, written-over, reported, ended, within, judge-settled, judge}
+use Rattle.meaning.specs.Walk.{Concerned, in-state, End, fine, missed, stopped, Walked, walked, guarded-step, walked-guarded}
+use Rattle.meaning.specs.Judging.{Judgement, written-over, reported, ended, within, judge-settled, judge, judge-got}
 use Rattle.meaning.proofs.TestLaws.{clash}
 use Rattle.meaning.proofs.PickLaws.{pick-has}
 use Rattle.meaning.specs.Guards.{Guarded-request, settled-guarded, walk-of, judge-guarded}
+use Rattle.meaning.specs.ByCases.{cases-step, walked-by-cases, judge-by-cases}
 use Rattle.meaning.specs.Answers.{refusals}
-use Rattle.meaning.specs.AnswerParts.{concerned, with-state}
+use Rattle.meaning.specs.AnswerParts.{concerned, stated, with-state}
 use Rattle.meaning.proofs.KeptEnds.{Stuck, walked-stuck}
 use Rattle.meaning.proofs.AnswerLaws.{Numbered-in, settled-numbered}
 use Rattle.meaning.proofs.SettledLaws.{settled-is}
-use Rattle.meaning.proofs.RangeLaws.{read-ranged}
+use Rattle.meaning.proofs.RangeLaws.{Ranged, read-ranged}
 use Rattle.meaning.proofs.GuardedReads.{own, own-length, own-same, own-settled}
-use Rattle.demands.proofs.Demands.{guarded-state, walked-unguarded}
+use Rattle.demands.proofs.Demands.{guarded-state, walked-unguarded, cases-state}
 use Rattle.reader.proofs.WholeLaws.{Front}
 use Rattle.finding.proofs.StartLaws.{request-starts}
 use Rattle.steps.specs.AtHand.{Marked}
 use Rattle.glintstring.specs.LentState.{Writes, Blank-from, Written}
-use Rattle.verdicts.proofs.KeepingLaws.{Concerned-has, End-has, end-both}
-use Rattle.verdicts.proofs.MarkedLaws.{first-marked, walked-marked}
-use Rattle.promises.proofs.BeyondLaws.{walked-blank}
+use Rattle.verdicts.proofs.KeepingLaws.{Concerned-has, End-has, walked-kept, end-both}
+use Rattle.verdicts.proofs.MarkedLaws.{first-marked, known-marked, cases-marked}
+use Rattle.promises.proofs.BeyondLaws.{walked-blank, walked-cases-blank}
 
 module _ (lim : Limits) (lent : List ℕ) (budget : ℕ) where
   abbrev pub Kept : Judgement → Type 0
@@ -52,7 +53,7 @@ module _ (lim : Limits) (lent : List ℕ) (budget : ℕ) where
   within-kept w stuck = pick-has Kept _ _ _ (λ _ one two. refl) (λ _. ended-kept (w .count) (w .end) stuck)
 
   settled-kept : (x : Got Request) → Kept (judge-settled lim lent budget x)
-  unfolding judge-settled
+  unfolding judge-got
   settled-kept (got r e) = within-kept _ (walked-stuck r _)
   settled-kept (fault n p) = λ one two. refl
 
@@ -97,7 +98,7 @@ module _ (P : Request → State → Type 0) (lim : Limits) (lent : List ℕ) (bu
 
   settled-leaves : (g : Got Request) → Numbered-in refusals g → ((x : Request) (e : ℕ) → g ≡ got x e → Walk-has x)
       → Writes (judge-settled lim lent budget g .answer .number) → (x : Request) × (e : ℕ) × (g ≡ got x e) × P x (judge-settled lim lent budget g .state)
-  unfolding judge-settled
+  unfolding judge-got
   settled-leaves (got x e) numbered has writes = (x, e, refl, within-leaves (P x) lent budget (walked x (first-state lim (x .table))) (walked-stuck x _) (has x e refl) writes)
   settled-leaves (fault n p) numbered has writes = absurd (refusal-writes-nothing n numbered writes)
 
@@ -109,16 +110,27 @@ module _ (P : Request → State → Type 0) (lim : Limits) (lent : List ℕ) (bu
       (λ _. settled-leaves (settled lim request) (settled-numbered lim request) has)
       (λ _ writes. absurd (length-writes-nothing writes))
 
--- WHAT BOTH WALKS KEEP, of the bytes of a settled request: marks, and none beyond its fluents.
+-- WHAT EVERY WALK KEEPS, of the bytes of a settled request: marks, and none beyond its fluents.
 abbrev Kept-marks : Request → State → Type 0
 Kept-marks x s = Marked s × Blank-from (x .table .fluents) s
 
 module _ (request : List ℕ) (x : Request) (e : ℕ) (past : settled format request ≡ got x e) where
+  in-range : Ranged format (x .table)
+  in-range = read-ranged format request x e (settled-is format request x e past .reads)
+
   ends-kept : (gs : List Entry) → End-has (Kept-marks x) (walked-guarded x gs (first-state format (x .table)) .end)
+  unfolding walked-guarded guarded-step
   ends-kept gs =
       let from : State = first-state format (x .table) in
       end-both Marked (Blank-from (x .table .fluents)) (walked-guarded x gs from .end)
-      (walked-marked x gs from (first-marked (x .table))) (walked-blank x gs (read-ranged format request x e (settled-is format request x e past .reads)))
+      (walked-kept Marked x (guarded-step (x .table) gs) (known-marked (x .table)) from (first-marked (x .table))) (walked-blank x in-range gs)
+
+  cases-ends-kept : End-has (Kept-marks x) (walked-by-cases x (first-state format (x .table)) .end)
+  unfolding walked-by-cases cases-step
+  cases-ends-kept =
+      let from : State = first-state format (x .table) in
+      end-both Marked (Blank-from (x .table .fluents)) (walked-by-cases x from .end)
+      (walked-kept Marked x (cases-step (x .table)) (cases-marked (x .table)) from (first-marked (x .table))) (walked-cases-blank x in-range)
 
   begins : Front request 0 (x .table)
   begins = request-starts request x e (settled-is format request x e past .reads) .front
@@ -129,14 +141,21 @@ judge-written request lent budget writes =
     (λ x e past. subst (λ (v : Walked State). End-has (Kept-marks x) (v .end)) (walked-unguarded x (first-state format (x .table))) (ends-kept request x e past [])) writes in
     (w .0, w .1, w .2, begins request (w .0) (w .1) (w .2) .fluents-are, w .3 .0, w .3 .1)
 
--- THE GUARDED CALL: the state that an end concerns has what the end has.
+-- THE OTHER CALLS: the state that an end concerns has what the end has.
 concerned-has : (P : State → Type 0) (e : End State) (s : State) → concerned e ≡ in-state s → End-has P e → P s
 unfolding concerned
 concerned-has P fine s is has = subst (Concerned-has P) is has
 concerned-has P (missed p u) s is has = subst (Concerned-has P) is has
 concerned-has P (stopped n p u) s is has = subst (Concerned-has P) is has
 
--- What `Written` says, of a settled guarded request.
+-- THE CALL BY CASES.
+pub cases-written : (request lent : List ℕ) (budget : ℕ) → among (judge-by-cases format request lent budget .answer .number) stated ≡ true → Written request (judge-by-cases format request lent budget .state)
+cases-written request lent budget writes =
+    let w = cases-state format request lent budget .written writes in
+    let kept = concerned-has (Kept-marks (w .0)) _ _ (w .3) (cases-ends-kept request (w .0) (w .1) (w .2)) in
+    (w .0, w .1, w .2, begins request (w .0) (w .1) (w .2) .fluents-are, kept .0, kept .1)
+
+-- THE GUARDED CALL. What `Written` says, of a settled guarded request.
 abbrev pub Guarded-written : (request left : List ℕ) → Type 0
 Guarded-written request left =
     (g : Guarded-request) × (e : ℕ) × (settled-guarded format request ≡ got g e) × (getD request 0 0 ≡ g .request .table .fluents) × Marked left × Blank-from (g .request .table .fluents) left

@@ -9,6 +9,9 @@ pub mod ExportedLinePromises
 pub mod GuardedJudgePromises
 pub mod GuardedPromises
 pub mod ExportedGuardedPromises
+pub mod CaseJudgePromises
+pub mod CaseCallPromises
+pub mod ExportedCasePromises
 pub mod ReusePromises
 pub mod CheckPromises
 pub mod DerivationPromises

@@ -1,6 +1,6 @@
 -- An answer in one number gives its parts back: each part is smaller than the room that it has, so division and remainder find it. Every answer
--- of the walk call, of the guarded call, of the derivation call and of the whether call and every own answer of the release call is such an answer.
--- Assumes nothing.
+-- of the walk call, of the guarded call, of the call by cases, of the derivation call and of the whether call and every own answer of the release call
+-- is such an answer. Assumes nothing.
 use Prim.Native.Nat.{ℕ, _/_, _%_, _<_}
 use native.Mathlib.Omega.{arith}
 use mathlib.Core.Path.{_≡_, refl, _∙_, ap}
@@ -17,8 +17,9 @@ use Rattle.meaning.specs.Literals.{among}
 use Rattle.meaning.specs.Judging.{judge}
 use Rattle.meaning.specs.Derivations.{check}
 use Rattle.meaning.specs.Guards.{judge-guarded}
+use Rattle.meaning.specs.ByCases.{judge-by-cases}
 use Rattle.meaning.specs.Releases.{release}
-use Rattle.meaning.specs.Answers.{refusals, answers, guarded-answers, end-fault, faults, check-answers, release-refusals, release-answers}
+use Rattle.meaning.specs.Answers.{refusals, answers, guarded-answers, cases-answers, end-fault, faults, check-answers, release-refusals, release-answers}
 use Rattle.meaning.specs.AnswerParts.{of-neither, Walk-input, inputs-of}
 use Rattle.meaning.proofs.TestLaws.{by-test}
 use Rattle.meaning.proofs.LiteralLaws.{among-each}
@@ -27,9 +28,10 @@ use Rattle.meaning.proofs.AnswerLaws.{every-answer-numbered}
 use Rattle.meaning.proofs.Passed.{every-check-numbered}
 use Rattle.meaning.proofs.PartLaws.{input-exactly, check-input-exactly}
 use Rattle.meaning.proofs.GuardedAnswers.{guarded-numbered, guarded-input}
+use Rattle.meaning.proofs.CaseAnswers.{cases-numbered, cases-input}
 use Rattle.meaning.proofs.ReleaseLaws.{own-numbered, own-input}
 use Rattle.glintstring.specs.Packing.{packed, unpacked}
-use Rattle.glintstring.proofs.PackingLaws.{place-small, guarded-place-small, check-place-small, own-place-small}
+use Rattle.glintstring.proofs.PackingLaws.{place-small, guarded-place-small, cases-place-small, check-place-small, own-place-small}
 
 -- An answer whose parts have room.
 pub record Small (a : Answer) : Type 0 where
@@ -92,6 +94,18 @@ guarded-answer-small s lent budget = record {
   number = guarded-number-small _ (guarded-numbered format s lent budget);
   input = input-small _ (guarded-input format s lent budget);
   place = guarded-place-small s lent budget;
+}
+
+-- THE ANSWERS OF THE CALL BY CASES.
+cases-number-small : (n : ℕ) → among n cases-answers ≡ true → n < 256
+unfolding cases-answers answers refusals each-of both
+cases-number-small n is = ltb-true _ _ (among-each (λ (m : ℕ). ltb m 256) cases-answers refl n is)
+
+pub cases-answer-small : (s lent : List ℕ) (budget : ℕ) → Small (judge-by-cases format s lent budget .answer)
+cases-answer-small s lent budget = record {
+  number = cases-number-small _ (cases-numbered format s lent budget);
+  input = input-small _ (cases-input format s lent budget);
+  place = cases-place-small s lent budget;
 }
 
 -- THE OWN ANSWERS OF THE RELEASE CALL.

@@ -91,7 +91,7 @@ module _ (s : List ℕ) (p : ℕ) (here : List-here all-literals s p) where
     ends-at : end ≡ p + 1 + getD s p 0
     ends-at = is ∙ ap (λ (y : ℕ). p + 1 + y) byte
 
-    list-starts : bytes-from s (p + 1) (end - (p + 1)) ≡ listed s p
+    pub list-starts : bytes-from s (p + 1) (end - (p + 1)) ≡ listed s p
     unfolding listed
     list-starts = let e = ends-at in let left : end - (p + 1) ≡ getD s p 0 = omega arith in rw left
 
@@ -139,11 +139,11 @@ bytes-done s end i h = let none : end - i ≡ zero = omega arith in rw none
 
 -- The same from the entry at i on.
 module _ (s : List ℕ) (end i : ℕ) where
-  entry-next : i < end → bytes-from s i (end - i) ≡ getD s i 0 ∷ bytes-from s (i + 1) (end - (i + 1))
+  pub entry-next : i < end → bytes-from s i (end - i) ≡ getD s i 0 ∷ bytes-from s (i + 1) (end - (i + 1))
   unfolding bytes-from
   entry-next more = let left : end - i ≡ suc (end - (i + 1)) = omega arith in rw left
 
-  entry-last : end ≤ i → bytes-from s i (end - i) ≡ []
+  pub entry-last : end ≤ i → bytes-from s i (end - i) ≡ []
   unfolding bytes-from
   entry-last h = let none : end - i ≡ zero = omega arith in rw none
 

@@ -90,6 +90,10 @@ goals-slot = plan-slot + 5
 abbrev pub guards-slot : ℕ
 guards-slot = plan-slot + 6
 
+-- What kind of walk it is: 0 goes by what is known, and every other number by cases.
+abbrev pub mode-slot : ℕ
+mode-slot = plan-slot + 7
+
 -- Action a and fluent f, with a row of fluents for each action: a bit, which is there where a knowledge line has both. A slot has as many bits
 -- as its number has, and so many fluents of one action.
 abbrev pub sensed : ℕ

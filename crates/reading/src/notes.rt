@@ -46,6 +46,8 @@ pub const GOALS: usize = PLAN + 5;
 
 pub const GUARDS: usize = PLAN + 6;
 
+pub const MODE: usize = PLAN + 7;
+
 pub const SENSED: usize = PLAN + 8;
 
 pub const WORD_BITS: usize = 16;

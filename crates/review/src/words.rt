@@ -29,6 +29,7 @@ pub fn put_words(number: u8) -> bool {
         35 => put(b"the last line differs from the question"),
         36 => put(b"the closing list is not what the request asks"),
         43 => put(b"guard broken"),
+        44 => put(b"too many cases"),
         _ => put(b"no answer that the format has"),
     }
 }

@@ -208,7 +208,7 @@ module _ (s : List ℕ) (marks : State) where
       ∙ in-turn (known next l) _ _ _ _ (λ g h. apart (either-right _ _ g) (either-left _ _ h))
 
 -- A mark is told by what is known of its fluent.
-mark-told : (m : ℕ) → m ≤ 2 → m ≡ pick (eqb m 1) (λ _. 1) (λ _. pick (eqb m 2) (λ _. 2) (λ _. 0))
+pub mark-told : (m : ℕ) → m ≤ 2 → m ≡ pick (eqb m 1) (λ _. 1) (λ _. pick (eqb m 2) (λ _. 2) (λ _. 0))
 mark-told m most =
     by-test (eqb m 1)
     (λ e. eqb-true _ _ e ∙ sym (pick-true _ _ _ e))

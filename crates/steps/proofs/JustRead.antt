@@ -247,6 +247,12 @@ module _ (s : List ℕ) (bytes : (i : ℕ) → getD s i 0 < 256) (t : List ℕ) 
       ap (request-in s) (read-noted s bytes t read)
       ∙ plan-request s before (read-comes s bytes t read) (read .guards) (read-parts s bytes t read .place) (read .request) (read .end) (read-tail s bytes t read)
 
+  -- The table that it holds.
+  read-table : Table-here s t
+  read-table =
+      subst (Table-here s) (sym (read-noted s bytes t read))
+      (table-stays s before (read-comes s bytes t read) (read .guards) (read-parts s bytes t read .place) (read .request) (read .end) (read-tail s bytes t read))
+
   guards-read : guards-in s t ≡ pick (eqb (read .guards) 0) (λ _. []) (λ _. placed (read .guards + 1) (listed s (read .guards)))
   guards-read =
       ap (guards-in s) (read-noted s bytes t read)
@@ -259,6 +265,9 @@ module _ (s : List ℕ) (bytes : (i : ℕ) → getD s i 0 < 256) (t : List ℕ) 
 
   pub plain-request : request-in s t ≡ x
   plain-request = request-read s bytes t (plain-here s t x e reads noted)
+
+  pub plain-table : Table-here s t
+  plain-table = read-table s bytes t (plain-here s t x e reads noted)
 
   pub plain-guards : guards-in s t ≡ []
   plain-guards = guards-read s bytes t (plain-here s t x e reads noted) ∙ pick-true (eqb 0 0) _ _ (eq-eqb 0 0 refl)
@@ -285,6 +294,9 @@ module _ (s : List ℕ) (bytes : (i : ℕ) → getD s i 0 < 256) (t : List ℕ) 
 
   pub guarded-request : request-in s t ≡ g .request
   guarded-request = request-read s bytes t (guarded-here s t g e reads noted)
+
+  pub guarded-table : Table-here s t
+  guarded-table = read-table s bytes t (guarded-here s t g e reads noted)
 
   pub guarded-guards : guards-in s t ≡ g .guards
   unfolding guards-place

@@ -14,3 +14,10 @@ pub mod Sweeps
 pub mod LookLaws
 pub mod ActionLaws
 pub mod AfterLaws
+pub mod FlagLaws
+pub mod OpenedLaws
+pub mod CaseLaws
+pub mod TriedLaws
+pub mod ModeLaws
+pub mod HeldEnds
+pub mod ModeHand

@@ -83,11 +83,11 @@ module _ (ks : List Knowledge) where
   unknown-alike marks other f (m ∷ ms) alike = rw (alike f (omega arith), unknown-alike marks other (f + 1) ms (λ g h. alike g (omega arith)))
 
 -- What a mark says of its fluent.
-unmarked-unknown : (marks : State) (f : ℕ) → getD marks f 0 ≡ 0 → known-whether marks f ≡ false
+pub unmarked-unknown : (marks : State) (f : ℕ) → getD marks f 0 ≡ 0 → known-whether marks f ≡ false
 unfolding known-whether either
 unmarked-unknown marks f e = rw (known-true marks f, known-false marks f, e)
 
-marked-known : (marks : State) (f : ℕ) → Marked marks → (getD marks f 0 ≡ 0 → ⊥) → known-whether marks f ≡ true
+pub marked-known : (marks : State) (f : ℕ) → Marked marks → (getD marks f 0 ≡ 0 → ⊥) → known-whether marks f ≡ true
 unfolding known-whether
 marked-known marks f marked some =
     by-test (eqb (getD marks f 0) 1)
@@ -97,7 +97,7 @@ marked-known marks f marked some =
     let most = marked .small f in
     either-right _ _ (known-false marks f ∙ eq-eqb (getD marks f 0) 2 (omega (arith, one, most, some))))
 
-known-set : (marks : State) (f m g : ℕ) → (g ≡ f → ⊥) → known-whether (set marks f m) g ≡ known-whether marks g
+pub known-set : (marks : State) (f m g : ℕ) → (g ≡ f → ⊥) → known-whether (set marks f m) g ≡ known-whether marks g
 unfolding known-whether
 known-set marks f m g other =
     rw (known-true (set marks f m) g, known-false (set marks f m) g, known-true marks g, known-false marks g, getD-set-other marks f g m 0 other)

@@ -4,17 +4,23 @@ use mathlib.Core.Path.{_≡_}
 use mathlib.Core.List.{List, [], _∷_}
 use mathlib.Core.Bool.{Bool, true, false}
 use lib.ListN.{getD, drop}
+use lib.Dec.{eqb}
+use Rattle.meaning.specs.Tests.{pick}
+use Rattle.meaning.specs.Limits
 use Rattle.meaning.specs.Limits.{format, all-literals}
 use Rattle.meaning.specs.Requests.{Table}
 use Rattle.meaning.specs.Lines.{knowledge-of}
-use Rattle.meaning.specs.States.{State, known, known-whether, unknown-from}
-use Rattle.meaning.specs.Walk.{Walked, stuck-at, Steps, meet, walk, judged, guarded-step}
-use Rattle.reading.specs.Noted.{item-place}
+use Rattle.meaning.specs.States.{State, known, known-whether, first-state, state-after, unknown-from, outcome-to}
+use Rattle.meaning.specs.Walk.{no-state, in-state, Walked, stuck-at, Step, leads-to, refuses, Steps, meet, walk, table-does, first-missed, judged}
+use Rattle.meaning.specs.ByCases.{after-cases, cases-does}
+use Rattle.reading.specs.Noted.{item-place, mode-slot}
 use Rattle.finding.specs.Branches.{sequence-place, no-item}
 use Rattle.finding.specs.declared.places.Found as Code
 use Rattle.finding.specs.declared.places.Found.the-variants.{Nowhere, At}
 use Rattle.steps.specs.declared.goals.Asked.{Asked}
 use Rattle.steps.specs.declared.goals.Asked.the-variants.{Goal, Whether}
+use Rattle.steps.specs.declared.cases.Tried.{Tried}
+use Rattle.steps.specs.declared.cases.Tried.the-variants.{Runs, Stuck, Many}
 use Rattle.steps.specs.Held.{table-in, plan-in, guards-in, request-in}
 use Rattle.steps.specs.Rests.{rest-at, after-first, Position}
 
@@ -35,9 +41,30 @@ bound-as asked = elim asked [ Goal ↦ all-literals | Whether ↦ format .fluent
 unfoldable pub met-as : Asked → State → ℕ → Bool
 met-as asked = elim asked [ Goal ↦ known | Whether ↦ known-whether ]
 
--- The step: with guards, where there are any.
+-- THE MODE of the walk: 0 goes by what is known, and every other number by cases (FORMAT 22.1).
+unfoldable pub mode-in : List ℕ → ℕ
+mode-in t = getD t mode-slot 0
+
+-- What an action does.
+unfoldable pub does-in : (mode : ℕ) → Table → ℕ → State → Step State
+does-in mode t a s = pick (eqb mode 0) (λ _. table-does t a s) (λ _. cases-does t a s)
+
+-- The state after one that does not sense.
+unfoldable pub after-in : (mode : ℕ) → Table → ℕ → State → State
+after-in mode t a s = pick (eqb mode 0) (λ _. state-after t a s) (λ _. after-cases t a s)
+
+-- What trying it stands for.
+unfoldable pub tried-as : (mode : ℕ) → Table → ℕ → State → Tried → Step State
+tried-as mode t a s r =
+    elim r [
+      | Runs ↦ leads-to (outcome-to t a s (after-in mode t a s))
+      | Stuck ↦ refuses Limits.not-executable (in-state s)
+      | Many ↦ refuses Limits.too-many-cases no-state
+    ]
+
+-- The step: in its mode, and with guards where there are any.
 unfoldable pub step-in : (s t : List ℕ) → Steps State ℕ
-step-in s t = guarded-step (table-in s) (guards-in s t)
+step-in s t = record { does = does-in (mode-in t) (table-in s); knows = known; lacks = λ marks. first-missed (known marks) (guards-in s t) }
 
 -- The walk from a position of the plan on.
 unfoldable pub walk-from : (s t : List ℕ) → (at : ℕ) → State → Walked State
@@ -50,6 +77,10 @@ walk-after s t i = walk (step-in s t) (after-first (rest-at (plan-in s t) i)) (j
 -- The same from a state that is met there.
 abbrev pub met-from : (s t : List ℕ) → (at : ℕ) → State → Walked State
 met-from s t at = meet (step-in s t) (walk-from s t at)
+
+-- The whole walk of the request that is held, from its first state.
+unfoldable pub walk-held : (s t : List ℕ) → Walked State
+walk-held s t = meet (step-in s t) (walk (step-in s t) (plan-in s t) (judged (request-in s t))) (first-state format (table-in s))
 
 -- The position after item i.
 pub record Followed (s t : List ℕ) (i r : ℕ) : Type 0 where

@@ -11,16 +11,15 @@ use Rattle.meaning.specs.Limits.{format}
 use Rattle.meaning.specs.Requests.{Sequence, done, item}
 use Rattle.meaning.specs.Derivations.{join}
 use Rattle.meaning.specs.States.{State, state-of, first-state}
-use Rattle.meaning.specs.Walk.{walked-guarded}
 use Rattle.meaning.proofs.TestLaws.{by-test, pick-true, pick-false}
 use Rattle.reading.specs.Listed.{listed}
 use Rattle.reading.specs.Planned.{items-of}
 use Rattle.reading.specs.Noted.{items-slot}
 use Rattle.finding.proofs.PlanHere.{some-item}
-use Rattle.steps.specs.Held.{table-in, plan-in, guards-in, request-in}
+use Rattle.steps.specs.Held.{table-in, plan-in}
 use Rattle.steps.specs.AtHand.{At-hand}
 use Rattle.steps.specs.Rests.{rest-in, rest-at, Position}
-use Rattle.steps.specs.Steps.{step-in, walk-from, met-from}
+use Rattle.steps.specs.Steps.{walk-from, met-from, walk-held}
 use Rattle.steps.proofs.HandLaws.{starts, few-items, items-are}
 use Rattle.verdicts.specs.Telling.{start}
 
@@ -71,9 +70,6 @@ module _ (s t : List ℕ) (here : At-hand s t) where
         let is = starts ∙ sym (start-first items some) in
         record { most = omega (arith, is); there = λ _. omega (arith, is, counted-are, some) })
 
-    walks-all : (marks : State) → met-from s t at marks ≡ walked-guarded (request-in s t) (guards-in s t) marks
-    unfolding step-in walk-from walked-guarded request-in
-    walks-all marks = rw (at-is, rest-first (plan-in s t))
-
-    pub walks-first : (marks : State) → marks ≡ state-of format (listed s 2) → met-from s t at marks ≡ walked-guarded (request-in s t) (guards-in s t) (first-state format (table-in s))
-    walks-first marks is = walks-all marks ∙ ap (walked-guarded (request-in s t) (guards-in s t)) (first-is marks is)
+    pub walks-first : (marks : State) → marks ≡ state-of format (listed s 2) → met-from s t at marks ≡ walk-held s t
+    unfolding walk-from walk-held
+    walks-first marks is = rw (at-is, rest-first (plan-in s t), first-is marks is)

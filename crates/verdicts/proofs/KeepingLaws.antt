@@ -1,16 +1,18 @@
 -- What every step of a walk keeps, the walk keeps: whatever is so of the state it starts from, and stays so of each reading and of each state
 -- after an action, is so of the state where it misses or stops. The walk goes by what its steps lead to (`KeptEnds`). Assumes nothing.
 use Prim.Native.Nat.{ℕ}
-use mathlib.Core.Path.{refl}
+use mathlib.Core.Path.{_≡_, refl}
 use mathlib.Core.List.{List, [], _∷_}
 use mathlib.Core.Logic.{inl, inr}
 use Rattle.meaning.specs.Tests.{Has}
 use Rattle.meaning.specs.Literals.{says-true, says-false}
-use Rattle.meaning.specs.Requests.{Table, Entry, Request}
-use Rattle.meaning.specs.States.{State, told, state-after, unknown-sensed, readings, outcome}
-use Rattle.meaning.specs.Walk.{Concerned, no-state, in-state, End, fine, missed, stopped, Walked, walked-guarded}
+use Rattle.meaning.specs.Requests.{Table, Request}
+use Rattle.meaning.specs.Refusals.{at}
+use Rattle.meaning.specs.States.{State, told, state-after, unknown-sensed, readings, outcome-to, outcome}
+use Rattle.meaning.specs.Walk.{Concerned, no-state, in-state, End, fine, missed, stopped, Walked, Step, Steps, meet, walk, table-does, missed-in, judged}
+use Rattle.meaning.specs.ByCases.{after-cases, cases-does}
 use Rattle.meaning.proofs.PickLaws.{pick-has}
-use Rattle.meaning.proofs.KeptEnds.{on-places, Outcome-has, End-so, walked-guarded-so}
+use Rattle.meaning.proofs.KeptEnds.{on-places, Outcome-has, End-so, Step-so, meet-so, walk-so, end-of-so}
 
 module _ (P : State → Type 0) where
   -- ENDS: each state in them.
@@ -21,10 +23,10 @@ module _ (P : State → Type 0) where
   abbrev pub End-has : End State → Type 0
   End-has = End-so (λ _ s. P s) (λ _ _ u. Concerned-has u)
 
-  -- The steps of a table keep it.
-  pub record Kept-by (t : Table) : Type 0 where
+  -- What a table's actions lead to keeps it: its readings, and the state after one that does not sense.
+  pub record Kept-by (t : Table) (after : ℕ → State → State) : Type 0 where
     pub reads : (a : ℕ) (s : State) (f : ℕ) → Has (unknown-sensed t a s) f → (u : State) → P u → P (told (says-true f) u) × P (told (says-false f) u)
-    pub acts : (a : ℕ) (s : State) → P s → P (state-after t a s)
+    pub acts : (a : ℕ) (s : State) → P s → P (after a s)
 
   readings-kept : (fs : List ℕ) → ((f : ℕ) → Has fs f → (u : State) → P u → P (told (says-true f) u) × P (told (says-false f) u))
       → (s : State) → P s → Outcome-has P (readings fs s)
@@ -35,17 +37,32 @@ module _ (P : State → Type 0) where
     readings-kept fs (λ g h. reads g (inr h)) (told (says-false f) s) (reads f (inl refl) s has .1),
   )
 
-  outcome-kept : (t : Table) → Kept-by t → (a : ℕ) (s : State) → P s → Outcome-has P (outcome t a s)
-  unfolding outcome
-  outcome-kept t kept a s has = pick-has (Outcome-has P) _ _ _ (λ _. readings-kept (unknown-sensed t a s) (kept .reads a s) s has) (λ _. kept .acts a s has)
+  outcome-kept : (t : Table) (after : ℕ → State → State) → Kept-by t after → (a : ℕ) (s : State) → P s → Outcome-has P (outcome-to t a s (after a s))
+  outcome-kept t after kept a s has = pick-has (Outcome-has P) _ _ _ (λ _. readings-kept (unknown-sensed t a s) (kept .reads a s) s has) (λ _. kept .acts a s has)
 
-  -- THE WALK.
+  -- THE WALK by a step that keeps it.
   abbrev pub Keeps : (State → Walked State) → Type 0
   Keeps k = (s : State) → P s → End-has (k s .end)
 
-  pub walked-kept : (r : Request) (gs : List Entry) → Kept-by (r .table) → Keeps (walked-guarded r gs)
-  walked-kept r gs kept =
-      walked-guarded-so _ _ P (λ _. Unit {0}) (λ s has p _. has) r gs (outcome-kept (r .table) kept) (λ s has p _. has) (λ s has p _. has) (on-places (λ _. Unit {0}) (λ _. tt) (r .plan))
+  abbrev pub Does-keep : Step State → Type 0
+  Does-keep = Step-so (λ _ s. P s) (λ _ _ u. Concerned-has u) P (λ _. Unit {0})
+
+  pub table-keeps : (t : Table) → Kept-by t (state-after t) → (a : ℕ) (s : State) → P s → Does-keep (table-does t a s)
+  unfolding table-does outcome
+  table-keeps t kept a s has = pick-has Does-keep _ _ _ (λ _. outcome-kept t (state-after t) kept a s has) (λ _ p _. has)
+
+  pub cases-keep : (t : Table) → Kept-by t (after-cases t) → (a : ℕ) (s : State) → P s → Does-keep (cases-does t a s)
+  unfolding cases-does
+  cases-keep t kept a s has =
+      pick-has Does-keep _ _ _ (λ _ p _. tt) (λ _. pick-has Does-keep _ _ _ (λ _. outcome-kept t (after-cases t) kept a s has) (λ _ p _. has))
+
+  pub walked-kept : (r : Request) (step : Steps State ℕ) → ((a : ℕ) (s : State) → P s → Does-keep (step .does a s)) → Keeps (meet step (walk step (r .plan) (judged r)))
+  unfolding judged
+  walked-kept r step keeps =
+      let stuck : (s : State) → P s → (p : ℕ) → Unit {0} → P s = λ s has _ _. has in
+      let broken : (s : State) → P s → (p : ℕ) → step .lacks s ≡ at p → P s = λ s has _ _. has in
+      meet-so _ _ P (λ _. Unit {0}) step keeps stuck broken (walk step (r .plan) (judged r))
+      (walk-so _ _ P (λ _. Unit {0}) step keeps stuck broken (r .plan) (on-places (λ _. Unit {0}) (λ _. tt) (r .plan)) (judged r) (λ s has. end-of-so _ _ (missed-in r s) s (λ p _. has)))
 
 -- An end that has the one and the other has both.
 pub end-both : (P Q : State → Type 0) (e : End State) → End-has P e → End-has Q e → End-has (λ (s : State). P s × Q s) e

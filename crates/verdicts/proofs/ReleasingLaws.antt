@@ -19,14 +19,13 @@ use Rattle.meaning.specs.Refusals
 use Rattle.meaning.specs.Refusals.{nowhere, at, contradiction-in, overlap-in, refuse}
 use Rattle.meaning.specs.States.{State, first-state}
 use Rattle.meaning.specs.Walk.{Walked, walked-guarded}
-use Rattle.meaning.specs.Judging.{Judgement, within, judge-settled}
+use Rattle.meaning.specs.Judging.{Judgement, within, judge-settled, judge-got}
 use Rattle.meaning.specs.Releases.{Opening, opening, plans-at, byte-after, plan-answer, unreached, after-plan, answers-at, in-row, rows, settled-plans, own-answer, released, release-opened, release, plans-of, plans-in}
 use Rattle.meaning.specs.Tests.{pick}
 use Rattle.meaning.proofs.TestLaws.{clash, pick-true, pick-false}
 use Rattle.meaning.proofs.SettledLaws.{got-same, next-got, refuse-got}
 use Rattle.meaning.proofs.RangeLaws.{got-place, count-within}
 use Rattle.meaning.proofs.VerifiedLaws.{within-unread}
-use Rattle.meaning.proofs.KeptEnds.{walked-unguarded}
 use Rattle.meaning.proofs.ReleaseLaws.{Opened, opened, answer-placed, plan-inside, table-below}
 use Rattle.bytes.specs.declared.bytes.Read.{Read}
 use Rattle.bytes.specs.declared.bytes.Read.the-variants.{Value, Fault}
@@ -54,6 +53,9 @@ use Rattle.refusing.proofs.SettleLaws.{behind-table}
 use Rattle.steps.specs.Held.{plan-in, guards-in, request-in}
 use Rattle.steps.specs.AtHand.{At-hand}
 use Rattle.steps.proofs.HandLaws.{items-are}
+use Rattle.steps.specs.Steps.{mode-in, walk-held}
+use Rattle.steps.proofs.ModeLaws.{held-plain}
+use Rattle.steps.proofs.ModeHand.{table-mode}
 use Rattle.steps.proofs.JustRead.{plan-at-hand, plan-request, plan-unguarded}
 use Rattle.verdicts.specs.Releasing.{opening-noted, Opened-here, Counted, with-answer, with-unreached, past-table}
 
@@ -306,17 +308,16 @@ module _ (s t : List ℕ) (here : At-hand s t) (items : ℕ) (is : items ≡ get
     overlap-is = answer .holds (plan-in s t) (here .held) counts-items
 
     pub plan-18 : (p : ℕ) → f ≡ At p → (a : Answer) → a ≡ record { number = 18; input = 1; place = p; count = 0 } → a ≡ plan-answer format budget (got (request-in s t) 0)
-    unfolding plan-answer judge-settled next refuse request-in
+    unfolding plan-answer judge-got next refuse request-in
     plan-18 p met a said = said ∙ sym (ap (λ (g : Refusals.Found). judge-settled format [] budget (refuse 18 g (λ _. got (request-in s t) 0)) .answer) (found-at (overlap-in (plan-in s t)) f overlap-is p met))
 
-    pub plan-walked : f ≡ Nowhere → (lent left : List ℕ) (a : Answer) → record { answer = a; state = left } ≡ within lent budget (walked-guarded (request-in s t) (guards-in s t) (first-state format (table-in s)))
-        → guards-in s t ≡ [] → a ≡ plan-answer format budget (got (request-in s t) 0)
-    unfolding plan-answer judge-settled next refuse request-in
-    plan-walked none lent left a walks unguarded =
+    pub plan-walked : f ≡ Nowhere → (lent left : List ℕ) (a : Answer) → record { answer = a; state = left } ≡ within lent budget (walk-held s t)
+        → guards-in s t ≡ [] → mode-in t ≡ 0 → a ≡ plan-answer format budget (got (request-in s t) 0)
+    unfolding plan-answer judge-got next refuse request-in
+    plan-walked none lent left a walks unguarded known =
         ap (λ (j : Judgement). j .answer) walks
-        ∙ within-unread lent [] budget (walked-guarded (request-in s t) (guards-in s t) (first-state format (table-in s)))
-        ∙ ap (λ (gs : List Entry). within [] budget (walked-guarded (request-in s t) gs (first-state format (table-in s))) .answer) unguarded
-        ∙ ap (λ (w : Walked State). within [] budget w .answer) (walked-unguarded (request-in s t) (first-state format (table-in s)))
+        ∙ within-unread lent [] budget (walk-held s t)
+        ∙ ap (λ (w : Walked State). within [] budget w .answer) (held-plain s t known unguarded)
         ∙ sym (ap (λ (g : Refusals.Found). judge-settled format [] budget (refuse 18 g (λ _. got (request-in s t) 0)) .answer) (found-none (overlap-in (plan-in s t)) f overlap-is none))
 
 -- THE ROW, from the left.
@@ -408,7 +409,7 @@ answering-starts s t row budget plans start here inside sized = record {
 
 -- Where a plan ends does not matter to its answer.
 past-answer : (y : Request) (budget e : ℕ) (f : Refusals.Found) → judge-settled format [] budget (refuse 18 f (λ _. got y e)) .answer ≡ judge-settled format [] budget (refuse 18 f (λ _. got y 0)) .answer
-unfolding refuse judge-settled
+unfolding refuse judge-got
 past-answer y budget e nowhere = refl
 past-answer y budget e (at p) = refl
 
@@ -442,6 +443,10 @@ module _ (s t row : List ℕ) (budget plans start k p : ℕ) (answers : Answerin
 
     pub answering-unguarded : guards-in s u ≡ []
     answering-unguarded = ap (guards-in s) (y .2) ∙ plan-unguarded s t (answers .here) p (y .0) e (y .1)
+
+    -- And no mode.
+    pub answering-known : mode-in u ≡ 0
+    answering-known = ap mode-in (y .2) ∙ table-mode s (tail-noted (y .0) t) (table-stays s t (answers .here) 0 p (y .0) e (y .1))
 
     held-is : request-in s u ≡ y .0
     held-is = ap (request-in s) (y .2) ∙ plan-request s t (answers .here) 0 p (y .0) e (y .1)
@@ -477,7 +482,7 @@ module _ (s t row : List ℕ) (budget plans start k p : ℕ) (answers : Answerin
     fails-there = plan-stop s n m counted p t u r read number q is
 
     pub answering-fault : (a : Answer) → a ≡ record { number = number; input = 1; place = q; count = 0 } → a .place < 65536
-    unfolding plan-answer next judge-settled
+    unfolding plan-answer next judge-got
     answering-fault a said =
         let at : a .place ≡ q = ap (λ (x : Answer). x .place) said in
         let inside = answer-inside in
@@ -496,7 +501,7 @@ module _ (s t row : List ℕ) (budget plans start k p : ℕ) (answers : Answerin
       answering-sized = rw put (put-long row k a ∙ answers .sized)
 
       pub answering-stops : (last : List ℕ) → last ≡ with-unreached left (k + 1) plans → last ≡ rows (answers-at format s (table-in s) budget plans start)
-      unfolding with-unreached plan-answer next judge-settled after-plan
+      unfolding with-unreached plan-answer next judge-got after-plan
       answering-stops last rest =
           rest
           ∙ ap (λ (xs : List ℕ). take (4 * (k + 1)) xs ++ rows (replicate (plans - (k + 1)) unreached)) written

@@ -8,12 +8,13 @@ use lib.ListN.{length, getD, set, drop, length-set, length-drop}
 use lib.Seq.{getD-set-same, getD-set-other, getD-drop, ext-getD}
 use lib.Dec.{eqb}
 use borrow.Author.Tests.{eqb-true, eqb-false}
+use Rattle.meaning.specs.declared.Answer.{Answer}
 use Rattle.meaning.specs.Limits.{format}
-use Rattle.meaning.specs.Judging.{written-over, reported, ended}
+use Rattle.meaning.specs.Judging.{written-over, reported, count-told, ended}
 use Rattle.meaning.proofs.TestLaws.{by-test}
 use Rattle.steps.specs.AtHand.{Marked}
 use Rattle.walking.specs.Standing.{standing, tally-slots}
-use Rattle.walking.proofs.StandingLaws.{stands-spent, stands-fine, stands-missed, stands-stopped}
+use Rattle.walking.proofs.StandingLaws.{stands-spent, stands-fine, stands-missed, stands-many, stands-stopped}
 use Rattle.verdicts.specs.Telling.{told, Tallied}
 
 -- HANDED OVER below fluent f.
@@ -60,18 +61,23 @@ module _ (tally lent : List ℕ) (budget : ℕ) (tallied : Tallied tally budget)
     pub number-small : getD tally 0 0 < 256
     number-small = tallied .small going
 
+    -- 44 is told without a state and with count 0.
+    pub tell-many : getD tally 0 0 ≡ 44 → (answer : Answer) (place : ℕ) → answer ≡ record { number = 44; input = 1; place = place; count = 0 } → place ≡ getD tally 1 0 → record { answer = answer; state = lent } ≡ told lent budget (standing tally)
+    unfolding told ended reported count-told written-over
+    tell-many h answer place is at = rw (is, at) (sym (ap (told lent budget) (stands-many tally (tallied .sized) h)))
+
     pub tell-fine : getD tally 0 0 ≡ 0 → record { answer = record { number = 0; input = 0; place = 0; count = budget - getD tally 2 0 }; state = lent } ≡ told lent budget (standing tally)
     unfolding told ended
     tell-fine h = sym (ap (told lent budget) (stands-fine tally (tallied .sized) h))
 
-    module _ (some : getD tally 0 0 ≡ 0 → ⊥) where
+    module _ (some : getD tally 0 0 ≡ 0 → ⊥) (stated : getD tally 0 0 ≡ 44 → ⊥) where
       pub state-marked : Marked (drop 3 tally)
-      state-marked = tallied .marked going some
+      state-marked = tallied .marked going some stated
 
       pub tell-reported : (number place : ℕ) (state : List ℕ) → number ≡ getD tally 0 0 → place ≡ getD tally 1 0 → state ≡ drop 3 tally
           → record { answer = record { number = number; input = 1; place = place; count = budget - getD tally 2 0 }; state = state } ≡ told lent budget (standing tally)
-      unfolding told ended reported written-over
+      unfolding told ended reported count-told written-over
       tell-reported number place state is at over =
           by-test (eqb (getD tally 0 0) 1)
           (λ t. let one = eqb-true _ _ t in sym (ap (told lent budget) (stands-missed tally (tallied .sized) one) ∙ rw (is, at, over, one)))
-          (λ f. sym (ap (told lent budget) (stands-stopped tally (tallied .sized) going some (eqb-false _ _ f)) ∙ rw (is, at, over)))
+          (λ f. sym (ap (told lent budget) (stands-stopped tally (tallied .sized) going some (eqb-false _ _ f) stated) ∙ rw (is, at, over)))

@@ -5,27 +5,24 @@ use native.Mathlib.Omega.{arith}
 use mathlib.Core.Path.{_≡_, sym, _∙_, ap, subst}
 use mathlib.Core.Bool.{true, false}
 use mathlib.Core.List.{List}
-use mathlib.Core.Logic.{⊎-elim}
 use lib.ListN.{length, getD, drop}
 use lib.Dec.{eqb, ltb}
 use borrow.Author.Tests.{eqb-true, eqb-false, ltb-false}
 use Rattle.meaning.specs.declared.Answer.{Answer}
 use Rattle.meaning.specs.Limits.{format}
-use Rattle.meaning.specs.Requests.{Entry}
-use Rattle.meaning.specs.States.{State, state-of, first-state}
-use Rattle.meaning.specs.Walk.{End, fine, Walked, walked-guarded}
+use Rattle.meaning.specs.Limits
+use Rattle.meaning.specs.States.{State, state-of}
+use Rattle.meaning.specs.Walk.{End, fine, Walked}
 use Rattle.meaning.specs.Judging.{ended, within}
 use Rattle.meaning.proofs.TestLaws.{by-test, pick-true, pick-false}
-use Rattle.meaning.proofs.KeptEnds.{Stuck-guarded, guarded-stuck}
 use Rattle.reading.specs.Noted.{items-slot}
 use Rattle.reading.specs.Listed.{listed}
-use Rattle.steps.specs.Held.{table-in, guards-in, request-in}
 use Rattle.steps.specs.AtHand.{At-hand, Marked}
-use Rattle.steps.specs.Steps.{met-from}
+use Rattle.steps.specs.Steps.{met-from, walk-held}
 use Rattle.walking.specs.Standing.{Standing, nothing, spent, so-far, spend, add, end-in, standing, Going, tally-slots}
 use Rattle.walking.proofs.StandingLaws.{stands-open, end-missed, end-stopped, sized-after}
 use Rattle.verdicts.specs.Telling.{start, told, Tallied}
-use Rattle.verdicts.proofs.MarkedLaws.{End-marked, first-marked, walked-marked}
+use Rattle.verdicts.proofs.MarkedLaws.{End-marked, held-marked, End-small, held-small}
 use Rattle.verdicts.proofs.FirstLaws.{walks-first}
 
 -- STANDINGS.
@@ -80,51 +77,44 @@ module _ (budget : ℕ) (w : Walked State) where
         let is = sym (stands-open tally sized going) ∙ stands in
         by-test (ltb budget (w .count)) (λ above. absurd (so-far≢spent (is ∙ spends-above above))) (λ below. is ∙ spends-within below)
 
-    end-state : (getD tally 0 0 ≡ 0 → ⊥) → End-marked (end-in tally) → Marked (drop 3 tally)
-    end-state some marked =
+    end-state : (getD tally 0 0 ≡ 0 → ⊥) → (getD tally 0 0 ≡ Limits.too-many-cases → ⊥) → End-marked (end-in tally) → Marked (drop 3 tally)
+    end-state some stated marked =
         by-test (eqb (getD tally 0 0) 1)
         (λ t. subst End-marked (end-missed tally sized (eqb-true _ _ t)) marked)
-        (λ f. subst End-marked (end-stopped tally sized some (eqb-false _ _ f)) marked)
+        (λ f. subst End-marked (end-stopped tally sized some (eqb-false _ _ f) stated) marked)
 
     -- It holds 0, 1, or the number with which the walk stopped.
-    end-small : (gs : List Entry) → Stuck-guarded gs (end-in tally) → getD tally 0 0 < 256
-    end-small gs stuck =
+    end-small : End-small (end-in tally) → getD tally 0 0 < 256
+    end-small small =
         by-test (eqb (getD tally 0 0) 0)
         (λ t. let none : getD tally 0 0 ≡ 0 = eqb-true _ _ t in omega (arith, none))
         (λ n.
         by-test (eqb (getD tally 0 0) 1)
         (λ t. let one : getD tally 0 0 ≡ 1 = eqb-true _ _ t in omega (arith, one))
         (λ f.
-        let stop = subst (Stuck-guarded gs) (end-stopped tally sized (eqb-false _ _ n) (eqb-false _ _ f)) stuck in
-        ⊎-elim (λ two. omega (arith, two)) (λ broken. let number = broken .0 in omega (arith, number)) (stop .2)))
+        by-test (eqb (getD tally 0 0) Limits.too-many-cases)
+        (λ t. let many : getD tally 0 0 ≡ 44 = eqb-true _ _ t in omega (arith, many))
+        (λ m. subst End-small (end-stopped tally sized (eqb-false _ _ n) (eqb-false _ _ f) (eqb-false _ _ m)) small)))
 
-    tallied : (gs : List Entry) → End-marked (w .end) → Stuck-guarded gs (w .end) → Tallied tally budget
-    tallied gs marked stuck = record {
+    tallied : End-marked (w .end) → End-small (w .end) → Tallied tally budget
+    tallied marked small = record {
       sized = sized;
       fewer = λ going. let left = left-same (within-is going) in omega (arith, left);
-      small = λ going. end-small gs (subst (Stuck-guarded gs) (sym (end-same (within-is going))) stuck);
-      marked = λ going some. end-state some (subst End-marked (sym (end-same (within-is going))) marked);
+      small = λ going. end-small (subst End-small (sym (end-same (within-is going))) small);
+      marked = λ going some stated. end-state some stated (subst End-marked (sym (end-same (within-is going))) marked);
     }
 
 -- THE WALK of a request at hand, from its first state.
 module _ (s t : List ℕ) (here : At-hand s t) (items at : ℕ) (counted : items ≡ getD t items-slot 0) (starts : at ≡ start items)
     (marks : State) (is : marks ≡ state-of format (listed s 2)) (budget : ℕ) (before after : List ℕ)
     (opens : standing before ≡ so-far budget fine) (going : Going before) (walks : standing after ≡ add (standing before) (met-from s t at marks)) where
-  whole : Walked State
-  whole = walked-guarded (request-in s t) (guards-in s t) (first-state format (table-in s))
-
-  stands-so : standing after ≡ spend budget (λ e. e) whole
-  unfolding add whole
+  stands-so : standing after ≡ spend budget (λ e. e) (walk-held s t)
+  unfolding add
   stands-so = walks ∙ ap (λ (a : Standing). add a (met-from s t at marks)) opens ∙ ap (spend budget (λ e. e)) (walks-first s t here items at counted starts marks is)
 
   pub plan-tallied : Tallied after budget
-  unfolding whole first-state
-  plan-tallied =
-      tallied budget whole after (sized-after before going (met-from s t at marks) after walks) stands-so (guards-in s t)
-      (walked-marked (request-in s t) (guards-in s t) (first-state format (table-in s)) (first-marked (table-in s)))
-      (guarded-stuck (guards-in s t) (request-in s t) (first-state format (table-in s)))
+  plan-tallied = tallied budget (walk-held s t) after (sized-after before going (met-from s t at marks) after walks) stands-so (held-marked s t) (held-small s t)
 
   pub plan-judged : (lent left : List ℕ) (answer : Answer) → record { answer = answer; state = left } ≡ told lent budget (standing after)
-      → record { answer = answer; state = left } ≡ within lent budget (walked-guarded (request-in s t) (guards-in s t) (first-state format (table-in s)))
-  unfolding whole
-  plan-judged lent left answer says = says ∙ ap (told lent budget) stands-so ∙ told-within budget whole lent
+      → record { answer = answer; state = left } ≡ within lent budget (walk-held s t)
+  plan-judged lent left answer says = says ∙ ap (told lent budget) stands-so ∙ told-within budget (walk-held s t) lent

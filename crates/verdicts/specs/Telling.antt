@@ -21,9 +21,9 @@ told lent budget nothing = record { answer = record { number = Limits.budget-spe
 told lent budget spent = record { answer = record { number = Limits.budget-spent; input = Limits.neither-input; place = 0; count = budget }; state = lent }
 told lent budget (so-far left end) = ended lent (budget - left) end
 
--- A tally that can be told: no more is left than the budget, its number is a byte, and the state concerned is one.
+-- A tally that can be told: no more is left than the budget, its number is a byte, and the state concerned is one, unless none is.
 pub record Tallied (tally : List ℕ) (budget : ℕ) : Type 0 where
   pub sized : length tally ≡ tally-slots
   pub fewer : (getD tally 0 0 ≡ 3 → ⊥) → getD tally 2 0 ≤ budget
   pub small : (getD tally 0 0 ≡ 3 → ⊥) → getD tally 0 0 < 256
-  pub marked : (getD tally 0 0 ≡ 3 → ⊥) → (getD tally 0 0 ≡ 0 → ⊥) → Marked (drop 3 tally)
+  pub marked : (getD tally 0 0 ≡ 3 → ⊥) → (getD tally 0 0 ≡ 0 → ⊥) → (getD tally 0 0 ≡ Limits.too-many-cases → ⊥) → Marked (drop 3 tally)

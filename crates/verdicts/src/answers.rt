@@ -16,6 +16,8 @@ pub const NOT_REACHED: u8 = 22;
 
 pub const GUARD_BROKEN: u8 = 43;
 
+pub const TOO_MANY_CASES: u8 = 44;
+
 pub const NEITHER_INPUT: u8 = 0;
 
 pub const THE_REQUEST: u8 = 1;

@@ -13,6 +13,7 @@ ghost use Rattle.finding.specs.Places.{found};
 ghost use Rattle.finding.specs.TablesHere.{table-in, Table-here};
 ghost use Rattle.steps.specs.Held.{guards-in, request-in};
 ghost use Rattle.steps.specs.AtHand.{At-hand};
+ghost use Rattle.steps.specs.Steps.{mode-in};
 ghost use Rattle.verdicts.specs.Releasing.{opening-noted, Counted, Opened-here, with-answer, with-unreached, past-table};
 use super::answers;
 use super::answers::uncounted;
@@ -77,6 +78,7 @@ fn byte_after(n: usize, m: usize, file: &[u8], plans: usize, start: usize) -> Fo
 fn answer_plan(file: &[u8], t: &Notes, budget: u32) -> Answer
     requires { ⌜ At-hand (now file) (now t) ⌝ }
     requires { ⌜ guards-in (now file) (now t) ≡ [] ⌝ }
+    requires { ⌜ mode-in (now t) ≡ 0 ⌝ }
     ensures { λ r. ⌜ r ≡ plan-answer format budget (got (request-in (now (file .entry)) (now (t .entry))) 0) ⌝ }
 {
     let items = get(t, notes::ITEMS);

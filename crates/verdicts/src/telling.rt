@@ -6,8 +6,10 @@ ghost use Rattle.steps.specs.AtHand.{Marked};
 ghost use Rattle.walking.specs.Standing.{standing, tally-slots};
 ghost use Rattle.verdicts.specs.Telling.{told, Tallied};
 use super::answers;
+use super::answers::uncounted;
 use bytes::limits;
 use meaning::Answer;
+use walking::tally::MANY;
 use walking::tally::SPENT;
 use walking::tally::Tally;
 
@@ -40,7 +42,7 @@ fn hand_over(tally: &Tally, state: &mut [u8])
     }
 }
 
-// What the tally says once the walk is over. A miss and whatever stopped the walk are told in one way.
+// What the tally says once the walk is over. A miss and whatever stopped the walk are told in one way, but for 44, which has neither a count nor a state.
 pub(crate) fn tell(tally: &Tally, state: &mut [u8], budget: u32) -> Answer
     requires { ⌜ length (now state) ≡ format .state ⌝ }
     requires { ⌜ Tallied (now tally) budget ⌝ }
@@ -54,6 +56,13 @@ pub(crate) fn tell(tally: &Tally, state: &mut [u8], budget: u32) -> Answer
             place: 0,
             count: budget,
         };
+    }
+    if number == MANY {
+        return uncounted(
+            answers::TOO_MANY_CASES,
+            answers::THE_REQUEST,
+            widened(tally[1]),
+        );
     }
     let count = budget - tally[2];
     if number == 0 {

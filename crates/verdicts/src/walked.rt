@@ -1,11 +1,9 @@
 ghost use mathlib.Core.Path.{_≡_};
 ghost use lib.ListN.{length};
 ghost use Rattle.meaning.specs.Limits.{format};
-ghost use Rattle.meaning.specs.States.{first-state};
-ghost use Rattle.meaning.specs.Walk.{walked-guarded};
 ghost use Rattle.meaning.specs.Judging.{within};
-ghost use Rattle.steps.specs.Held.{table-in, guards-in, request-in};
 ghost use Rattle.steps.specs.AtHand.{At-hand};
+ghost use Rattle.steps.specs.Steps.{walk-held};
 ghost use Rattle.verdicts.specs.Telling.{start};
 use super::telling::tell;
 use bytes::limits;
@@ -27,7 +25,7 @@ fn start_of(items: usize) -> usize
 pub fn walk_plan(request: &[u8], t: &Notes, state: &mut [u8], budget: u32) -> Answer
     requires { ⌜ At-hand (now request) (now t) ⌝ }
     requires { ⌜ length (now state) ≡ format .state ⌝ }
-    ensures { λ r. ⌜ record { answer = r; state = now (state .exit) } ≡ within (now (state .entry)) budget (walked-guarded (request-in (now (request .entry)) (now (t .entry))) (guards-in (now (request .entry)) (now (t .entry))) (first-state format (table-in (now (request .entry))))) ⌝ }
+    ensures { λ r. ⌜ record { answer = r; state = now (state .exit) } ≡ within (now (state .entry)) budget (walk-held (now (request .entry)) (now (t .entry))) ⌝ }
 {
     let marks = state_of(request, 2);
     let items = get(t, notes::ITEMS);

@@ -14,8 +14,8 @@ use Rattle.meaning.specs.Requests.{Request}
 use Rattle.meaning.specs.Refusals
 use Rattle.meaning.specs.Refusals.{nowhere, at}
 use Rattle.meaning.specs.Lines.{sensing}
-use Rattle.meaning.specs.States.{State, known, can-be-run, state-after, unknown-sensed, readings, Outcome, outcome}
-use Rattle.meaning.specs.Walk.{in-state, fine, missed, Walked, stuck-at, counted, and-then, after-end, each-reading, Step, after-step, unless-broken, meet, run-action, table-does, first-missed, missed-in, end-of, judged, guarded-step}
+use Rattle.meaning.specs.States.{State, known, unknown-sensed, readings, Outcome, outcome-to}
+use Rattle.meaning.specs.Walk.{no-state, in-state, fine, missed, Walked, stuck-at, counted, and-then, after-end, each-reading, Step, after-step, unless-broken, meet, run-action, first-missed, missed-in, end-of, judged, stopped}
 use Rattle.meaning.proofs.TestLaws.{clash, pick-true, pick-false}
 use Rattle.reading.specs.Planned.{items-of}
 use Rattle.reading.specs.Noted.{sensed}
@@ -23,10 +23,12 @@ use Rattle.finding.specs.Places.{found}
 use Rattle.finding.specs.declared.places.Found.{Found}
 use Rattle.finding.specs.declared.places.Found.the-variants.{Nowhere, At}
 use Rattle.finding.proofs.FoundLaws.{found-none, found-at}
+use Rattle.steps.specs.declared.cases.Tried.{Tried}
+use Rattle.steps.specs.declared.cases.Tried.the-variants.{Runs, Stuck, Many}
 use Rattle.steps.specs.Held.{table-in, plan-in, guards-in, request-in}
 use Rattle.steps.specs.AtHand.{At-hand, Marked}
 use Rattle.steps.specs.Rests.{Position}
-use Rattle.steps.specs.Steps.{step-in, walk-from, walk-after, met-from, first-of, unknown-above, Followed, Chosen, going-on}
+use Rattle.steps.specs.Steps.{mode-in, does-in, after-in, tried-as, step-in, walk-from, walk-after, met-from, first-of, unknown-above, Followed, Chosen, going-on}
 use Rattle.steps.proofs.OnwardLaws.{end-judged, action-small, action-walked, followed-met}
 use Rattle.steps.proofs.LookLaws.{sensed-first, sensed-no-first}
 use Rattle.walking.specs.Standing.{Standing, so-far, add, one, standing, Going, Breaks, end-by, tally-slots}
@@ -76,11 +78,11 @@ module _ (s t : List ℕ) (marks : State) (tally : List ℕ) (broken : Bool) (af
 -- What was found broken, as it is noted.
 module _ (s t : List ℕ) (marks : State) (tally : List ℕ) (f : Found) (answer : f ≡ found (first-missed (known marks) (guards-in s t))) where
   pub breaks-noted : (p : ℕ) → f ≡ At p → (after : List ℕ) → standing after ≡ so-far (getD tally 2 0) (end-by Limits.guard-broken p marks) → Breaks (step-in s t .lacks marks) marks tally true after
-  unfolding step-in guarded-step end-by pick
+  unfolding step-in end-by pick
   breaks-noted p is after noted = record { stops = λ _. (p, found-at _ f answer p is, noted); passes = λ e. clash refl e }
 
   pub breaks-none : f ≡ Nowhere → Breaks (step-in s t .lacks marks) marks tally false tally
-  unfolding step-in guarded-step
+  unfolding step-in
   breaks-none is = record { stops = λ e. clash e refl; passes = λ _. (found-none _ f answer is, refl) }
 
 -- AN END STATE.
@@ -113,37 +115,54 @@ module _ (tally counts : List ℕ) (going : Going tally) (one-more : standing co
     pub judged-before : (getD counts 0 0 ≡ 0 → ⊥) → standing counts ≡ add (standing tally) (judged x marks)
     judged-before h = add-kept counts counts-sized h (missed-in x marks) marks ∙ sym judged-as
 
+-- What trying an action gave.
+pub ran-there : (s t : List ℕ) (a : ℕ) (state : State) (tried : Tried) → does-in (mode-in t) (table-in s) a state ≡ tried-as (mode-in t) (table-in s) a state tried → tried ≡ Runs
+    → does-in (mode-in t) (table-in s) a state ≡ tried-as (mode-in t) (table-in s) a state Runs
+ran-there s t a state tried asked is = asked ∙ ap (tried-as (mode-in t) (table-in s) a state) is
+
 -- AN ACTION that is item i, at p.
 module _ (s t : List ℕ) (here : At-hand s t) (i : ℕ) (less : i < items-of (plan-in s t)) (p : ℕ) (placed-there : p ≡ getD t (0 + i) 0) (other : getD s p 0 ≡ 255 → ⊥) (a : ℕ) (is-action : a ≡ getD s p 0) (state : State) (tally : List ℕ) (going : Going tally)
-    (runs : Bool) (asked : runs ≡ can-be-run (table-in s) a state) where
-  -- It can't be run.
-  pub item-stuck : runs ≡ false → (after : List ℕ) → standing after ≡ so-far (getD tally 2 0) (end-by 2 p state) → standing after ≡ add (standing tally) (walk-from s t i state)
-  unfolding run-action after-step step-in guarded-step table-does end-by pick
-  item-stuck no-run after noted =
-      noted ∙ add-stopped tally going Limits.not-executable p (in-state state)
-      ∙ ap (add (standing tally))
-      (sym (action-walked s t here i less p placed-there other a is-action state ∙ ap (λ (x : Step State). after-step p x (meet (step-in s t) (walk-after s t i))) (pick-false _ _ _ (sym asked ∙ no-run))))
+    (tried : Tried) (asked : does-in (mode-in t) (table-in s) a state ≡ tried-as (mode-in t) (table-in s) a state tried) where
+  -- What it does is what trying it gave.
+  walked-as : (r : Tried) → tried ≡ r → walk-from s t i state ≡ after-step p (tried-as (mode-in t) (table-in s) a state r) (meet (step-in s t) (walk-after s t i))
+  unfolding run-action step-in
+  walked-as r is =
+      action-walked s t here i less p placed-there other a is-action state
+      ∙ ap (λ (x : Step State). after-step p x (meet (step-in s t) (walk-after s t i))) (asked ∙ ap (tried-as (mode-in t) (table-in s) a state) is)
 
-  module _ (can : runs ≡ true) (counts : List ℕ) (one-more : standing counts ≡ add (standing tally) one) where
+  -- It can't be run.
+  pub item-stuck : tried ≡ Stuck → (after : List ℕ) → standing after ≡ so-far (getD tally 2 0) (end-by 2 p state) → standing after ≡ add (standing tally) (walk-from s t i state)
+  unfolding after-step tried-as end-by pick
+  item-stuck is after noted = noted ∙ add-stopped tally going Limits.not-executable p (in-state state) ∙ ap (add (standing tally)) (sym (walked-as Stuck is))
+
+  -- It has too many cases.
+  pub item-many : tried ≡ Many → (after : List ℕ) → standing after ≡ so-far (getD tally 2 0) (stopped Limits.too-many-cases p no-state) → standing after ≡ add (standing tally) (walk-from s t i state)
+  unfolding after-step tried-as
+  item-many is after noted = noted ∙ add-stopped tally going Limits.too-many-cases p no-state ∙ ap (add (standing tally)) (sym (walked-as Many is))
+
+  -- What it leads to.
+  abbrev leads : Outcome State
+  leads = outcome-to (table-in s) a state (after-in (mode-in t) (table-in s) a state)
+
+  module _ (can : tried ≡ Runs) (counts : List ℕ) (one-more : standing counts ≡ add (standing tally) one) where
     -- It is run and counted; then each reading is followed by what follows the action.
-    run-on : add (standing tally) (walk-from s t i state) ≡ add (standing counts) (each-reading (outcome (table-in s) a state) (meet (step-in s t) (walk-after s t i)))
-    unfolding run-action after-step step-in guarded-step table-does
+    run-on : add (standing tally) (walk-from s t i state) ≡ add (standing counts) (each-reading leads (meet (step-in s t) (walk-after s t i)))
+    unfolding after-step tried-as
     run-on =
-        ap (add (standing tally))
-        (action-walked s t here i less p placed-there other a is-action state ∙ ap (λ (x : Step State). after-step p x (meet (step-in s t) (walk-after s t i))) (pick-true _ _ _ (sym asked ∙ can)))
-        ∙ add-counted (standing tally) (each-reading (outcome (table-in s) a state) (meet (step-in s t) (walk-after s t i)))
-        ∙ ap (λ (b : Standing). add b (each-reading (outcome (table-in s) a state) (meet (step-in s t) (walk-after s t i)))) (sym one-more)
+        ap (add (standing tally)) (walked-as Runs can)
+        ∙ add-counted (standing tally) (each-reading leads (meet (step-in s t) (walk-after s t i)))
+        ∙ ap (λ (b : Standing). add b (each-reading leads (meet (step-in s t) (walk-after s t i)))) (sym one-more)
 
     module _ (on : Bool) (says : on ≡ ltb (getD counts 0 0) 2) where
       -- The budget was spent with it.
       pub run-spent : on ≡ false → standing counts ≡ add (standing tally) (walk-from s t i state)
-      run-spent no-more = over counts on says no-more (each-reading (outcome (table-in s) a state) (meet (step-in s t) (walk-after s t i))) ∙ sym run-on
+      run-spent no-more = over counts on says no-more (each-reading leads (meet (step-in s t) (walk-after s t i))) ∙ sym run-on
 
     module _ (senses : Bool) (sensed : senses ≡ sensing (table-in s) a) where
       -- It moves the state.
-      pub run-moves : senses ≡ false → (next : State) → next ≡ state-after (table-in s) a state → (r : ℕ) → Followed s t i r
+      pub run-moves : senses ≡ false → (next : State) → next ≡ after-in (mode-in t) (table-in s) a state → (r : ℕ) → Followed s t i r
           → add (standing tally) (walk-from s t i state) ≡ add (standing counts) (met-from s t r next)
-      unfolding outcome each-reading
+      unfolding each-reading
       run-moves none next is r follows =
           run-on
           ∙ ap (λ (o : Outcome State). add (standing counts) (each-reading o (meet (step-in s t) (walk-after s t i)))) (pick-false _ _ _ (sym sensed ∙ none))
@@ -152,7 +171,7 @@ module _ (s t : List ℕ) (here : At-hand s t) (i : ℕ) (less : i < items-of (p
 
       module _ (marked : Marked state) (f : ℕ) (first : f ≡ first-of (unknown-sensed (table-in s) a state)) (some : senses ≡ true) where
         reads-on : add (standing tally) (walk-from s t i state) ≡ add (standing counts) (read-on s t i (unknown-sensed (table-in s) a state) state)
-        unfolding outcome read-on
+        unfolding read-on
         reads-on = run-on ∙ ap (λ (o : Outcome State). add (standing counts) (each-reading o (meet (step-in s t) (walk-after s t i)))) (pick-true _ _ _ (sym sensed ∙ some))
 
         -- It forks a fluent.

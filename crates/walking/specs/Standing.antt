@@ -10,7 +10,7 @@ use Rattle.meaning.specs.Limits.{format}
 use Rattle.meaning.specs.Limits
 use Rattle.meaning.specs.Refusals.{Found, nowhere, at}
 use Rattle.meaning.specs.States.{State}
-use Rattle.meaning.specs.Walk.{in-state, End, fine, missed, stopped, Walked, keep-miss}
+use Rattle.meaning.specs.Walk.{no-state, in-state, End, fine, missed, stopped, Walked, keep-miss}
 
 -- The budget is spent; or so much is left, and the walk so far ended so. A tally of another size says nothing.
 pub data Standing : Type 0 where
@@ -35,7 +35,7 @@ unfoldable pub one : Walked State
 one = record { count = 1; end = fine }
 
 -- THE TALLY holds it: the answer's number so far, the place that goes with it, the budget left, and the marks of the state concerned. A number
--- that is neither 0 nor 1 is that of what stopped the walk.
+-- that is neither 0 nor 1 is that of what stopped the walk; 44 concerns no state.
 abbrev pub tally-slots : ℕ
 tally-slots = 3 + format .state
 
@@ -43,6 +43,7 @@ unfoldable pub end-in : List ℕ → End State
 end-in tally =
     pick (eqb (getD tally 0 0) Limits.verified) (λ _. fine) λ _.
     pick (eqb (getD tally 0 0) Limits.goal-missed) (λ _. missed (getD tally 1 0) (drop 3 tally)) λ _.
+    pick (eqb (getD tally 0 0) Limits.too-many-cases) (λ _. stopped Limits.too-many-cases (getD tally 1 0) no-state) λ _.
     stopped (getD tally 0 0) (getD tally 1 0) (in-state (drop 3 tally))
 
 unfoldable pub standing : List ℕ → Standing
@@ -56,10 +57,11 @@ pub record Going (tally : List ℕ) : Type 0 where
   pub sized : length tally ≡ tally-slots
   pub on : getD tally 0 0 < 2
 
--- What may be noted: not 0, by which nothing is missed, and not 3, by which the budget is spent.
+-- What may be noted with a state: not 0, by which nothing is missed, not 3, by which the budget is spent, and not 44, which concerns none.
 pub record Notable (number : ℕ) : Type 0 where
   pub some : 1 ≤ number
   pub within : number ≡ Limits.budget-spent → ⊥
+  pub stated : number ≡ Limits.too-many-cases → ⊥
 
 -- What is noted: a miss, or what stops the walk.
 unfoldable pub end-by : (number place : ℕ) → State → End State

@@ -3,7 +3,8 @@ ghost use Prim.Native.Nat.{_<_};
 ghost use lib.ListN.{length, getD};
 ghost use lib.Dec.{ltb};
 ghost use Rattle.meaning.specs.Limits.{format};
-ghost use Rattle.meaning.specs.Walk.{fine};
+ghost use Rattle.meaning.specs.Limits;
+ghost use Rattle.meaning.specs.Walk.{fine, no-state, stopped};
 ghost use Rattle.walking.specs.Standing.{so-far, add, one, standing, Going, Notable, end-by, Held, tally-slots};
 use bytes::limits;
 use reading::marks::Marks;
@@ -21,6 +22,8 @@ pub const STUCK: u32 = 2;
 pub const SPENT: u32 = 3;
 
 pub const BROKEN: u32 = 43;
+
+pub const MANY: u32 = 44;
 
 // Nothing is walked yet.
 pub fn opened(budget: u32) -> Tally
@@ -83,4 +86,14 @@ pub fn note(tally: &mut Tally, number: u32, place: usize, marks: &Marks)
 {
     tally[0] = number;
     hold(tally, place, marks);
+}
+
+// Too many cases stop the walk; no state is concerned.
+pub fn give_up(tally: &mut Tally, place: usize)
+    requires { ⌜ Going (now tally) ⌝ }
+    requires { ⌜ place < 65536 ⌝ }
+    ensures { λ _. ⌜ standing (now (tally .exit)) ≡ so-far (getD (now (tally .entry)) 2 0) (stopped Limits.too-many-cases place no-state) ⌝ }
+{
+    tally[0] = MANY;
+    tally[1] = place as u32;
 }

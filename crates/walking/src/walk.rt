@@ -13,6 +13,7 @@ ghost use Rattle.walking.specs.Walks.{action-at, fork-from};
 use super::tally;
 use super::tally::Tally;
 use super::tally::count_one;
+use super::tally::give_up;
 use super::tally::goes_on;
 use super::tally::note;
 use bytes::bytes::wide;
@@ -22,8 +23,7 @@ use reading::marks::Marks;
 use reading::notes;
 use reading::notes::Notes;
 use reading::notes::get;
-use steps::actions::can_be_run;
-use steps::actions::state_after;
+use steps::cases::Tried;
 use steps::goals::lacking;
 use steps::goals::missed;
 use steps::onward::chosen;
@@ -31,6 +31,8 @@ use steps::onward::follow;
 use steps::sensing::first_unknown;
 use steps::sensing::is_sensing;
 use steps::sensing::next_unknown;
+use steps::trying::after;
+use steps::trying::tried;
 
 // A state that is met: whether it lacks a guard, which stops the walk.
 fn breaks(s: &[u8], t: &Notes, marks: &Marks, tally: &mut Tally) -> bool
@@ -91,29 +93,36 @@ pub fn walk(s: &[u8], t: &Notes, at: usize, marks: Marks, tally: &mut Tally)
             return;
         }
         let a = wide(s[p]);
-        let runs = can_be_run(s, t, a, &state);
-        if runs {
-            count_one(tally);
-            let on = goes_on(tally);
-            if on {
-                let sensing = is_sensing(s, t, a);
-                if sensing {
-                    let f = first_unknown(s, t, a, &state);
-                    if f < limits::FLUENTS {
-                        fork(s, t, i, f, state, tally);
-                        return;
+        match tried(s, t, a, &state) {
+            Tried::Runs => {
+                count_one(tally);
+                let on = goes_on(tally);
+                if on {
+                    let sensing = is_sensing(s, t, a);
+                    if sensing {
+                        let f = first_unknown(s, t, a, &state);
+                        if f < limits::FLUENTS {
+                            fork(s, t, i, f, state, tally);
+                            return;
+                        }
+                        i = follow(s, t, i);
+                        continue;
                     }
+                    state = after(s, t, a, &state);
                     i = follow(s, t, i);
                     continue;
                 }
-                state = state_after(s, t, a, &state);
-                i = follow(s, t, i);
-                continue;
+                return;
             }
-            return;
+            Tried::Stuck => {
+                note(tally, tally::STUCK, p, &state);
+                return;
+            }
+            Tried::Many => {
+                give_up(tally, p);
+                return;
+            }
         }
-        note(tally, tally::STUCK, p, &state);
-        return;
     }
     let broken = breaks(s, t, &state, tally);
     if broken {

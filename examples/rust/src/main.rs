@@ -2,15 +2,16 @@
 //!
 //!     review judge [--line] [--budget N] REQUEST...           (100,000 unless told otherwise)
 //!     review judge-guarded [--budget N] REQUEST...
+//!     review judge-by-cases [--budget N] REQUEST...
 //!     review check REQUEST DERIVATION [REQUEST DERIVATION]...
 //!     review check-whether REQUEST DERIVATION [REQUEST DERIVATION]...
 //!     review release [--budget N] FILE...
 //!
 //! `check` and `check-whether` do not walk the plan: a derivation may be accepted where every budget is spent. The second takes requests
 //! with whether entries too, and derivations in the closing layout. With `--line` a walk that an action stops also says which executability line
-//! of it was missing. `judge-guarded` takes guarded requests, whose guards are to be known true all the way. `release` takes release files, each with
-//! many plans over one table, and has a line for each plan. The exit status is 0 where each plan is verified or each derivation accepted, 1 where some
-//! answer is another, and 2 where something can't be read or written.
+//! of it was missing. `judge-guarded` takes guarded requests, whose guards are to be known true all the way. `judge-by-cases` tries each action in every
+//! filling of what is unknown. `release` takes release files, each with many plans over one table, and has a line for each plan. The exit status is 0
+//! where each plan is verified or each derivation accepted, 1 where some answer is another, and 2 where something can't be read or written.
 
 use std::env;
 use std::fs::File;
@@ -20,8 +21,8 @@ use std::process::ExitCode;
 use glintstring::{check, check_whether, show, Answer, Input, Judge, PlanAnswer, Released, DERIVATION_LIMIT, REQUEST_LIMIT};
 
 const USAGE: &str = "usage: review judge [--line] [--budget N] REQUEST... | review judge-guarded [--budget N] REQUEST... | \
-                     review check REQUEST DERIVATION [REQUEST DERIVATION]... | review check-whether REQUEST DERIVATION [REQUEST DERIVATION]... | \
-                     review release [--budget N] FILE...";
+                     review judge-by-cases [--budget N] REQUEST... | review check REQUEST DERIVATION [REQUEST DERIVATION]... | \
+                     review check-whether REQUEST DERIVATION [REQUEST DERIVATION]... | review release [--budget N] FILE...";
 const BUDGET: u32 = 100_000;
 
 /// How many bytes are printed of the part that an answer is about.
@@ -89,10 +90,13 @@ fn judge_file(judge: &mut Judge, name: &str, budget: u32, lined: bool) -> Result
     Ok(told)
 }
 
-/// The same of a guarded request.
-fn judge_guarded_file(judge: &mut Judge, name: &str, budget: u32) -> Result<u8, String> {
+/// The guarded call or the call by cases.
+type Walk = fn(&mut Judge, &[u8], u32) -> Answer;
+
+/// The same by another call.
+fn judge_file_by(walk: Walk, judge: &mut Judge, name: &str, budget: u32) -> Result<u8, String> {
     let request = read(name, REQUEST_LIMIT)?;
-    tell(name, judge.judge_guarded(&request, budget), &request, &[])
+    tell(name, walk(judge, &request, budget), &request, &[])
 }
 
 fn print_plans(name: &str, plans: &[PlanAnswer]) -> io::Result<()> {
@@ -150,7 +154,9 @@ fn main() -> ExitCode {
         _ => (words, false),
     };
     let judge_all = |names: &[&str], budget| walk_all(names, |judge, name| judge_file(judge, name, budget, lined));
-    let guarded_all = |names: &[&str], budget| walk_all(names, |judge, name| judge_guarded_file(judge, name, budget));
+    let all_by = |walk: Walk, names: &[&str], budget| walk_all(names, |judge, name| judge_file_by(walk, judge, name, budget));
+    let guarded_all = |names: &[&str], budget| all_by(Judge::judge_guarded, names, budget);
+    let by_cases_all = |names: &[&str], budget| all_by(Judge::judge_by_cases, names, budget);
     let release_all = |names: &[&str], budget| walk_all(names, |judge, name| release_file(judge, name, budget));
     let check_all = |call: Call, names: &[&str]| names.chunks_exact(2).map(|pair| status(check_files(call, pair[0], pair[1]))).max();
     let worst = match words[..] {
@@ -160,6 +166,9 @@ fn main() -> ExitCode {
         ["judge-guarded", "--budget", budget, ref names @ ..] => budget.parse().ok().and_then(|budget| guarded_all(names, budget)),
         ["judge-guarded", "--budget"] => None,
         ["judge-guarded", ref names @ ..] => guarded_all(names, BUDGET),
+        ["judge-by-cases", "--budget", budget, ref names @ ..] => budget.parse().ok().and_then(|budget| by_cases_all(names, budget)),
+        ["judge-by-cases", "--budget"] => None,
+        ["judge-by-cases", ref names @ ..] => by_cases_all(names, BUDGET),
         ["release", "--budget", budget, ref names @ ..] => budget.parse().ok().and_then(|budget| release_all(names, budget)),
         ["release", "--budget"] => None,
         ["release", ref names @ ..] => release_all(names, BUDGET),

@@ -76,7 +76,7 @@ static int received(void *to, size_t length) {
 
 static uint8_t at(const uint8_t *bytes) { return bytes == NULL ? NOWHERE : (uint8_t)((uintptr_t)bytes & 15); }
 
-/* The lent bytes are those of a walk call, a guarded call or a release call, and the line is that of one with the line. */
+/* The lent bytes are those of a walk call, a guarded call, a call by cases or a release call, and the line is that of one with the line. */
 static uint64_t made(struct frame frame, const uint8_t *request, const uint8_t *second, uint8_t *lent, uint32_t *line) {
     static const char *const what[] = {"", "the request", "what stands around the request", "the derivation",
                                        "what stands around the lent state, the derivation or the row", "what stands around the line"};
@@ -102,6 +102,11 @@ uint64_t glintstring_judge(const uint8_t *request, size_t request_length, uint8_
 
 uint64_t glintstring_judge_guarded(const uint8_t *request, size_t request_length, uint8_t *state, size_t state_length, uint32_t budget) {
     struct frame frame = {.call = JUDGE_GUARDED, .request_length = request_length, .second_length = state_length, .budget = budget};
+    return made(frame, request, state, state, NULL);
+}
+
+uint64_t glintstring_judge_by_cases(const uint8_t *request, size_t request_length, uint8_t *state, size_t state_length, uint32_t budget) {
+    struct frame frame = {.call = JUDGE_BY_CASES, .request_length = request_length, .second_length = state_length, .budget = budget};
     return made(frame, request, state, state, NULL);
 }
 

@@ -40,6 +40,10 @@ static const uint8_t eighteen_lines[328] = {
     3, 3, 5, 7, 0, 2, 0, 255, 2, 1, 1, 0, 2, 1, 2, 1, 0, 0, 0, 10, 2, 2, 0, 12, 0, 16,
     2, 0, 8, 0, 17};
 
+/* Case 10: one action makes fluent 0 true where fluent 1 is true, and where it is false; and this action with 13 fluents in one body. */
+static const uint8_t case_10[22] = {2, 1, 0, 2, 0, 0, 1, 2, 0, 0, 1, 3, 1, 0, 0, 0, 0, 1, 0, 1, 0, 0};
+static const uint8_t thirteen[29] = {13, 1, 0, 1, 0, 0, 13, 0, 2, 4, 6, 8, 10, 12, 14, 16, 18, 20, 22, 24, 1, 0, 0, 0, 0, 1, 0, 0, 0};
+
 static uint8_t state[GLINTSTRING_STATE_LENGTH];
 
 static int is(uint64_t answer, unsigned number, unsigned input, unsigned place, unsigned count) {
@@ -73,8 +77,8 @@ static int worded(void) {
     unsigned one, other;
     for (one = 0; one <= 300; one++)
         for (other = 0; other < one; other++) {
-            const int known = one <= 3 || (9 <= one && one <= 22) || (30 <= one && one <= 36) || one == 43;
-            const int known_too = other <= 3 || (9 <= other && other <= 22) || (30 <= other && other <= 36) || other == 43;
+            const int known = one <= 3 || (9 <= one && one <= 22) || (30 <= one && one <= 36) || one == 43 || one == 44;
+            const int known_too = other <= 3 || (9 <= other && other <= 22) || (30 <= other && other <= 36) || other == 43 || other == 44;
             if ((strcmp(glintstring_words(one), glintstring_words(other)) == 0) != (!known && !known_too)) return 0;
         }
     return strcmp(glintstring_words(GLINTSTRING_VERIFIED), "verified") == 0;
@@ -148,6 +152,30 @@ int main(void) {
     if (!is(glintstring_judge_guarded(other, 49, state, sizeof state, 5), GLINTSTRING_VERIFIED, GLINTSTRING_NEITHER, 0, 5) ||
         !is(glintstring_judge_guarded(other, 49, state, sizeof state, 4), GLINTSTRING_BUDGET_SPENT, GLINTSTRING_NEITHER, 0, 4) || !untouched())
         return puts("bindings: 32"), 1;
+
+    /* Case 10 is verified by cases, where the walk call misses the goal; 13 open fluents are too many, with any budget, and the state is as lent;
+       the conversion can't be run by cases either; and a request that is refused is refused alike. */
+    memset(state, 9, sizeof state);
+    if (!is(glintstring_judge_by_cases(case_10, sizeof case_10, state, sizeof state, 2), GLINTSTRING_VERIFIED, GLINTSTRING_NEITHER, 0, 2) ||
+        !is(glintstring_judge_by_cases(case_10, sizeof case_10, state, sizeof state, 1), GLINTSTRING_BUDGET_SPENT, GLINTSTRING_NEITHER, 0, 1) ||
+        !is(glintstring_judge_by_cases(file_a, sizeof file_a, state, sizeof state, 5), GLINTSTRING_VERIFIED, GLINTSTRING_NEITHER, 0, 5) || !untouched())
+        return puts("bindings: 33"), 1;
+    answer = glintstring_judge_by_cases(thirteen, sizeof thirteen, state, sizeof state, 0);
+    if (!is(answer, GLINTSTRING_TOO_MANY_CASES, GLINTSTRING_REQUEST, 26, 0) || glintstring_show(answer, thirteen, sizeof thirteen, NULL, 0) != 26 ||
+        !untouched())
+        return puts("bindings: 34"), 1;
+    if (!is(glintstring_judge_by_cases(file_a, 47, state, sizeof state, 5), GLINTSTRING_INPUT_ENDS, GLINTSTRING_REQUEST, 47, 0) ||
+        !is(glintstring_judge_by_cases(NULL, 0, state, sizeof state, 5), GLINTSTRING_INPUT_ENDS, GLINTSTRING_REQUEST, 0, 0) ||
+        !is(glintstring_judge_by_cases(thirteen, sizeof thirteen, state, 127, 5), GLINTSTRING_STATE_LENGTH_WRONG, GLINTSTRING_NEITHER, 0, 0) ||
+        !untouched())
+        return puts("bindings: 35"), 1;
+    memcpy(other + 29, "\0\1\2\0\0", 5);
+    if (!is(glintstring_judge_by_cases(other, 34, state, sizeof state, 5), GLINTSTRING_NOT_EXECUTABLE, GLINTSTRING_REQUEST, 31, 0) ||
+        !marked(GLINTSTRING_UNKNOWN, GLINTSTRING_FALSE, GLINTSTRING_FALSE, GLINTSTRING_FALSE))
+        return puts("bindings: 36"), 1;
+    if (!is(glintstring_judge(case_10, sizeof case_10, state, sizeof state, 2), GLINTSTRING_GOAL_MISSED, GLINTSTRING_REQUEST, 20, 2) ||
+        !marked(GLINTSTRING_UNKNOWN, GLINTSTRING_UNKNOWN, 0, 0))
+        return puts("bindings: 37"), 1;
 
     /* A release of four plans: File A's own, open unseen, an action that there is not, and one that is not reached. */
     memcpy(file, file_a, 29);
@@ -239,6 +267,6 @@ int main(void) {
     if (!worded())
         return puts("bindings: words"), 1;
 
-    puts("bindings: 41 calls as the format says, and what is shown of their answers");
+    puts("bindings: 50 calls as the format says, and what is shown of their answers");
     return 0;
 }

@@ -165,8 +165,8 @@ static int same_with_line(uint64_t answer, const uint8_t *bytes, size_t length, 
 
 typedef uint64_t (*walk_call)(const uint8_t *, size_t, uint8_t *, size_t, uint32_t);
 
-/* The walk call or the guarded call on these bytes, with count 0, and with lent states of every length: 9 for all but one, and 2 or 43 alone writes
-   the state, in which nothing is known. */
+/* The walk call, the guarded call or the call by cases on these bytes, with count 0, and with lent states of every length: 9 for all but one, and 2 or
+   43 alone writes the state, in which nothing is known. */
 static int walks(walk_call call, const uint8_t *bytes, size_t length, unsigned number, unsigned place) {
     size_t lent, i;
     int at_end;
@@ -199,7 +199,7 @@ static int walks(walk_call call, const uint8_t *bytes, size_t length, unsigned n
     return 1;
 }
 
-/* What both calls are asked, with a request that has as many bytes as there may be and stops the walk by this number. */
+/* What the three calls are asked, with a request that has as many bytes as there may be and stops the walk by this number. */
 static int walked(walk_call call, const uint8_t *largest, unsigned number, unsigned place) {
     int at_end;
     for (at_end = 0; at_end <= 1; at_end++) {
@@ -230,6 +230,18 @@ static int guarded(void) {
     bytes[GLINTSTRING_REQUEST_LIMIT - 2] = 1;
     bytes[GLINTSTRING_REQUEST_LIMIT - 1] = 255;
     return walked(glintstring_judge_guarded, bytes, GLINTSTRING_GUARD_BROKEN, GLINTSTRING_REQUEST_LIMIT - 1);
+}
+
+/* By cases: the largest request as it is, which stops as in the walk call, and with its last action put first, which has 16 open fluents where it is met. */
+static int by_cases(void) {
+    static uint8_t bytes[GLINTSTRING_REQUEST_LIMIT + 1];
+    unsigned place = 0;
+    largest_request(request, &place);
+    memcpy(bytes, request, GLINTSTRING_REQUEST_LIMIT);
+    memmove(bytes + place + 1, request + place, GLINTSTRING_REQUEST_LIMIT - 1 - place);
+    bytes[place] = 0;
+    return walked(glintstring_judge_by_cases, request, GLINTSTRING_NOT_EXECUTABLE, place) &&
+           walked(glintstring_judge_by_cases, bytes, GLINTSTRING_TOO_MANY_CASES, place);
 }
 
 typedef uint64_t (*derivation_call)(const uint8_t *, size_t, const uint8_t *, size_t);
@@ -347,8 +359,8 @@ int main(void) {
     derivation_room = stretch();
     state_room = stretch();
     line_room = stretch();
-    if (!request_room || !derivation_room || !state_room || !line_room || !judged() || !guarded() || !checked(glintstring_check, 0) ||
-        !checked(glintstring_check_whether, 1) || !released() || !shown())
+    if (!request_room || !derivation_room || !state_room || !line_room || !judged() || !guarded() || !by_cases() ||
+        !checked(glintstring_check, 0) || !checked(glintstring_check_whether, 1) || !released() || !shown())
         return 1;
     printf("lengths: %lu calls at the ends of their lengths, lent states of 0 to %d bytes and rows of 0 to %d numbers\n", calls, STATES, ROWS);
     return 0;

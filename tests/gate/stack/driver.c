@@ -1,6 +1,7 @@
 // Makes one call on a stack of its own, and tells how many bytes of it were used.
 //   driver walk BUDGET <REQUEST                     the walk call
 //   driver guarded BUDGET <GUARDED REQUEST          the guarded call
+//   driver by-cases BUDGET <REQUEST                 the call by cases
 //   driver check LENGTH <REQUEST AND DERIVATION     the derivation call, on a request of that length and what follows it
 //   driver whether LENGTH <REQUEST AND DERIVATION   the whether call in the same way
 //   driver release BUDGET <RELEASE FILE             the release call, with a row of four numbers for each plan by the plans call
@@ -22,6 +23,7 @@ struct slice {
 // number + 2^8 * input + 2^16 * place + 2^32 * count
 u64 proved_judge(const struct slice *request, const struct slice *lent, u32 budget);
 u64 proved_guarded(const struct slice *request, const struct slice *lent, u32 budget);
+u64 proved_by_cases(const struct slice *request, const struct slice *lent, u32 budget);
 u64 proved_check(const struct slice *request, const struct slice *derivation);
 u64 proved_whether(const struct slice *request, const struct slice *derivation);
 u64 proved_release(const struct slice *file, const struct slice *row, u32 budget);
@@ -109,7 +111,7 @@ static byte state[128];
 static u32 row[4 * 255];
 
 _Noreturn __attribute__((used)) static void begin(long *arguments) {
-    if (arguments[0] != 3) fail("driver: two arguments, walk, guarded or release and the budget, check or whether and the request's length, or plans and 0\n");
+    if (arguments[0] != 3) fail("driver: two arguments, walk, guarded, by-cases or release and the budget, check or whether and the request's length, or plans and 0\n");
     const char *command = (const char *)arguments[2];
     u64 number = 0;
     for (const char *digit = (const char *)arguments[3]; *digit; digit++) {
@@ -138,6 +140,8 @@ _Noreturn __attribute__((used)) static void begin(long *arguments) {
         answer = call_at(stack + WORDS, proved_judge, &request, &lent, number);
     } else if (is_word(command, "guarded")) {
         answer = call_at(stack + WORDS, proved_guarded, &request, &lent, number);
+    } else if (is_word(command, "by-cases")) {
+        answer = call_at(stack + WORDS, proved_by_cases, &request, &lent, number);
     } else if (is_word(command, "release")) {
         struct slice rows = {(byte *)row, 4 * proved_plans(&request, &lent)};
         answer = call_at(stack + WORDS, proved_release, &request, &rows, number);

@@ -1,9 +1,11 @@
 //! The requests on which the walk goes deepest, and some beside them: writes each into the folder given, and prints a line for each, with
 //! the file's name, the budget, the number of items and what the request is. Beside them derivations, and lists of these (`derivations`, and
 //! `whether` for the closing layout), with the request's file, the derivation's, its number of lines and what it is; release files, and a
-//! list of these (`releases`), with the file's name, the budget, the number of plans and what it is; and guarded requests, and a list of these
-//! (`guarded`), with the file's name, the budget, the number of guards and what it is.
+//! list of these (`releases`), with the file's name, the budget, the number of plans and what it is; guarded requests, and a list of these
+//! (`guarded`), with the file's name, the budget, the number of guards and what it is; and requests to be walked by cases, and a list of these
+//! (`by-cases`), with the file's name, the budget, the most open fluents that an action has and what it is.
 
+use std::ops::Range;
 use std::{env, fs};
 
 /// All have as many fluents as there can be, no initial facts, and those of these actions that their plan has. There is no room for the lines of
@@ -19,7 +21,12 @@ const WORK: u8 = 5; // makes each but the last false if the next is true
 const NEVER: u8 = 6; // can't be run
 const LOOK_AT_SOME: u8 = 7; // senses as many as there is room for in a short request
 const FORGET_SOME: u8 = 8; // makes these unknown again
-const ACTIONS: u8 = 9;
+const TRY: u8 = 9; // has as many open fluents as there can be, in an effect; of two lines one allows it where the first is true, the other where it is false
+const LOOK_AT_OTHERS: u8 = 10; // senses all but these
+const ACTIONS: u8 = 11;
+
+/// Open fluents that an action may have by cases, which are the first.
+const OPEN: u8 = 12;
 
 /// A short request has so many bytes at the most (FORMAT 12.21). A path goes through the most readings there where it looks at so many fluents.
 const SHORT: usize = 1_024;
@@ -109,12 +116,15 @@ fn request_keeping(kept: u8, forgets: Forgets, goals: Goals, plan: &[Item]) -> V
     let work = (0..changed).map(|f| vec![WORK, 2 * f + 1, 1, 2 * f + 2]);
     let made_true = made_true.filter(|_| matches!(forgets, Forgets::Known));
     let used = |action: u8| actions(plan) >> action & 1 == 1;
-    let effects = made_false(FORGET, changed).chain(made_true).chain(made_false(FORGET_SOME, SOME)).chain(work);
+    let tried = [[vec![TRY, 1, OPEN], (0..OPEN).map(|f| 2 * f).collect()].concat()];
+    let effects = made_false(FORGET, changed).chain(made_true).chain(made_false(FORGET_SOME, SOME)).chain(work).chain(tried);
     let effects = section(effects.filter(|line| used(line[0])));
-    let runs = section((0..ACTIONS).filter(|&action| used(action) && action != NEVER).map(|action| [action, 0]));
-    let looks = [(LOOK, LAST), (LOOK_AT_ALL, FLUENTS), (LOOK_AT_HALF, FLUENTS / 2), (LOOK_AT_ONE, 1), (LOOK_AT_SOME, SOME)];
-    let sensed = |(action, count): (u8, u8)| (0..count).map(move |f| [action, f]);
-    let knowledge = section(looks.into_iter().flat_map(sensed).filter(|line| used(line[0])));
+    let always = (0..ACTIONS).filter(|action| ![NEVER, TRY].contains(action)).map(|action| vec![action, 0]);
+    let runs = section(always.chain([vec![TRY, 1, 0], vec![TRY, 1, 1]]).filter(|line| used(line[0])));
+    let from_first = [(LOOK, LAST), (LOOK_AT_ALL, FLUENTS), (LOOK_AT_HALF, FLUENTS / 2), (LOOK_AT_ONE, 1), (LOOK_AT_SOME, SOME)];
+    let looks = from_first.map(|(action, count)| (action, 0..count)).into_iter().chain([(LOOK_AT_OTHERS, OPEN..FLUENTS)]);
+    let sensed = |(action, fluents): (u8, Range<u8>)| fluents.map(move |f| [action, f]);
+    let knowledge = section(looks.flat_map(sensed).filter(|line| used(line[0])));
     let wanted = match goals {
         Goals::None => vec![0, 0],
         Goals::All => [section((0..FLUENTS).map(|f| [2 * f])), section((0..FLUENTS).map(|f| [f]))].concat(),
@@ -231,6 +241,19 @@ fn guarded_requests(folder: &str, requests: &[Deep], short: &Deep) {
     fs::write(format!("{folder}/guarded"), lines).expect("a file written");
 }
 
+/// Requests to be walked by cases: the deepest, in which what forgets has one open fluent, and these, in which an action has as many as there can be at the end
+/// of each path. Their first paths are walked to the end, and not much more: that action takes long.
+fn requests_by_cases(folder: &str, requests: &[Deep], tries: &[(&str, Vec<Item>)]) {
+    let tries = tries.iter().map(|(name, plan)| (OPEN, (*name, size(plan) as u32 + 2, Forgets::True, Goals::None, plan.clone())));
+    let mut lines = String::new();
+    for (number, (open, (name, budget, forgets, goals, plan))) in requests.iter().map(|deep| (1, deep.clone())).chain(tries).enumerate() {
+        let file = format!("{number}.by-cases");
+        fs::write(format!("{folder}/{file}"), request(forgets, goals, &plan)).expect("a file written");
+        lines += &format!("{file} {budget} {open} {name}\n");
+    }
+    fs::write(format!("{folder}/by-cases"), lines).expect("a file written");
+}
+
 /// Release files in which the deepest plans are the only one, or the last of 64 where the file need not be short.
 fn releases(folder: &str, requests: &[Deep]) {
     let mut lines = String::new();
@@ -288,6 +311,15 @@ fn main() {
     ];
     let short_file = ("84 looked at, forgotten, in 1,023 bytes", SOON, Forgets::True, Goals::None, short(left));
     guarded_requests(&folder, &requests[..5], &short_file);
+    let short_tries = |items| [short(items), vec![act(TRY)]].concat();
+    let left = SHORT - request(Forgets::True, Goals::None, &short_tries(2)).len();
+    let tries = [
+        ("127, at last 12 open", with_end(&[act(TRY)])),
+        ("127, at last 116 and 12 open", with_end(&[act(LOOK_AT_OTHERS), act(TRY)])),
+        ("127, at last 12 open in a branching", with_end(&[within(&[act(TRY)])])),
+        ("84 looked at, forgotten, at last 12 open, in 1,024 bytes", short_tries(left + 2)),
+    ];
+    requests_by_cases(&folder, &requests[..5], &tries);
     releases(&folder, &[&requests[..5], &[short_file]].concat());
     for (number, (name, budget, forgets, goals, plan)) in requests.into_iter().enumerate() {
         let file = format!("{number}.request");

@@ -7,6 +7,7 @@
 //! - `query TITLE`: starts a query
 //! - `bytes BYTES`: the rest of the query's request; several lines add up
 //! - `derivation BYTES`: makes the query one of the derivation call; several lines add up
+//! - `by-cases`: makes the query one of the call by cases
 //! - `budget N`: another budget than 100,000
 //! - `answer NUMBER PLACE COUNT`: the answer expected
 //! - `state MARKS`: the state expected with answers 1 and 2, one of `?+-` for each fluent
@@ -16,7 +17,7 @@ use std::path::Path;
 
 use crate::answer::{Answer, DERIVATION, NEITHER, REQUEST};
 use crate::text::{parse_bytes, state_line, without_comment};
-use crate::{check, judge, STATE_LENGTH};
+use crate::{check, judge, judge_by_cases, STATE_LENGTH};
 
 /// The budget of a query that names none.
 pub const DEFAULT_BUDGET: u32 = 100_000;
@@ -27,6 +28,7 @@ pub struct Query {
     pub title: String,
     pub request: Vec<u8>,
     pub derivation: Option<Vec<u8>>,
+    pub by_cases: bool,
     pub budget: u32,
     pub expected: Option<(u8, u32, u32)>,
     pub state: Option<String>,
@@ -89,6 +91,7 @@ impl Query {
             title: title.to_string(),
             request: prefix.to_vec(),
             derivation: None,
+            by_cases: false,
             budget: DEFAULT_BUDGET,
             expected: None,
             state: None,
@@ -102,6 +105,7 @@ impl Query {
                 .derivation
                 .get_or_insert_with(Vec::new)
                 .extend(parse_bytes(value)?),
+            "by-cases" if value.is_empty() => self.by_cases = true,
             "budget" => self.budget = number(value)?,
             "answer" => self.expected = Some(three_numbers(value)?),
             "state" => self.state = Some(value.to_string()),
@@ -140,7 +144,10 @@ impl Query {
             return (check(&self.request, derivation), None);
         }
         let mut lent = [0; STATE_LENGTH];
-        let answer = judge(&self.request, &mut lent, self.budget);
+        let answer = match self.by_cases {
+            true => judge_by_cases(&self.request, &mut lent, self.budget),
+            false => judge(&self.request, &mut lent, self.budget),
+        };
         let written = matches!(answer.number, 1 | 2);
         (answer, written.then(|| state_line(&lent, self.request[0])))
     }

@@ -5,6 +5,7 @@
 
 pub mod answer;
 pub mod calls;
+pub mod cases;
 pub mod damage;
 pub mod derive;
 pub mod edges;
@@ -31,6 +32,7 @@ pub mod whether;
 pub mod worlds;
 
 pub use answer::Answer;
+pub use cases::call::{judge_by_cases, judge_by_cases_line};
 pub use guards::call::{judge_guarded, judge_guarded_line};
 pub use releases::call::{plans, release};
 

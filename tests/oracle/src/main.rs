@@ -5,24 +5,26 @@ use std::path::{Path, PathBuf};
 use std::process::ExitCode;
 use std::{env, fs};
 
+use oracle::cases;
 use oracle::examples::{self, DEFAULT_BUDGET};
 use oracle::guards;
 use oracle::releases::{self, call::ROW_NUMBERS};
 use oracle::text::{parse_bytes, state_line};
 use oracle::{
-    check, check_whether, judge_guarded_line, judge_line, plans, release, rows, run, whether,
-    Answer, STATE_LENGTH,
+    check, check_whether, judge_by_cases_line, judge_guarded_line, judge_line, plans, release,
+    rows, run, whether, Answer, STATE_LENGTH,
 };
 
 const HELP: &str = "\
 oracle: an independent reference program for Glintstring's verifier of conditional plans
 
 usage:
-  oracle judge FILE [--budget N] [--guarded] [--line] [--text]
+  oracle judge FILE [--budget N] [--guarded | --by-cases] [--line] [--text]
       Judges a request and prints number, input, place and count; for answers 1, 2 and 43 a
       second line has one of ?+- for each fluent. The budget is 100,000 unless told otherwise.
-      With --guarded the request has guards. With --line a last line has the place of the
-      executability line that answer 2 carries, or 0.
+      With --guarded the request has guards. With --by-cases actions are tried in every filling
+      of what is unknown. With --line a last line has the place of the executability line that
+      answer 2 carries, or 0.
   oracle check REQUEST DERIVATION [--text]
       Checks a derivation and prints number, input, place and count.
   oracle check-whether REQUEST DERIVATION [--text]
@@ -33,31 +35,34 @@ usage:
   oracle plans FILE [--text]
       Prints how many plans a release file has, or 0.
   oracle run [--seed S] [--requests N] [--derivations M] [--whether K] [--releases L]
-             [--guarded G]
+             [--guarded G] [--by-cases C]
       Makes random calls (seed 1, 100,000 requests, 20,000 derivations in each layout, 20,000
-      release files and 20,000 guarded requests unless told otherwise), checks every answer, and
-      prints how often each occurred. The last line is `oracle: ok`, or `oracle: FAILED` and why,
-      with exit status 1.
+      release files, 20,000 guarded requests and 20,000 requests by cases unless told otherwise),
+      checks every answer, and prints how often each occurred. The last line is `oracle: ok`, or
+      `oracle: FAILED` and why, with exit status 1.
   oracle run-whether [--seed S] [--derivations K]
       Makes the random calls with derivations in the second layout only.
   oracle run-releases [--seed S] [--releases L]
       Makes the random release calls only.
   oracle run-guarded [--seed S] [--guarded G]
       Makes the random guarded calls only.
+  oracle run-by-cases [--seed S] [--by-cases C]
+      Makes the random calls by cases only.
   oracle rows [--seed S] [--count N] [--derivations M] [--whether K] [--releases L]
-              [--guarded G]
-      Prints N judging calls, M derivation calls, K in the second layout, L release calls and G
-      guarded calls with their answers, one per line:
+              [--guarded G] [--by-cases C]
+      Prints N judging calls, M derivation calls, K in the second layout, L release calls, G
+      guarded calls and C calls by cases with their answers, one per line:
         J REQUEST LENT BUDGET NUMBER INPUT PLACE COUNT STATE LINE
         D REQUEST DERIVATION NUMBER INPUT PLACE COUNT
         W REQUEST DERIVATION NUMBER INPUT PLACE COUNT
         R FILE LENT BUDGET NUMBER INPUT PLACE COUNT PLANS ROW
         G REQUEST LENT BUDGET NUMBER INPUT PLACE COUNT STATE LINE
+        C REQUEST LENT BUDGET NUMBER INPUT PLACE COUNT STATE LINE
       Bytes are decimal with commas between; `-` is no byte; the three words REP BYTE N are N
       times one byte. LENT is the length of the lent state; STATE is all its bytes after answers
       1, 2 and 43, and `-` where it stays as lent; LINE is what --line prints. In rows R, LENT is
       the length of the lent row, PLANS what the plans call gives, and ROW the row's numbers after
-      own answer 0, and `-` otherwise. (Seed 1, 300, 0, 0, 0 and 0 unless told otherwise.)
+      own answer 0, and `-` otherwise. (Seed 1, 300, and none of the others unless told otherwise.)
   oracle examples [FOLDER]
       Runs the example files and prints a tally.
   oracle --help
@@ -97,12 +102,14 @@ fn command(words: &[String]) -> Result<ExitCode, String> {
                 "--whether",
                 "--releases",
                 "--guarded",
+                "--by-cases",
             ],
             0,
             0,
         )?),
         "run-releases" => run_releases(&Options::parse(rest, &["--seed", "--releases"], 0, 0)?),
         "run-guarded" => run_guarded(&Options::parse(rest, &["--seed", "--guarded"], 0, 0)?),
+        "run-by-cases" => run_by_cases(&Options::parse(rest, &["--seed", "--by-cases"], 0, 0)?),
         "run-whether" => run_whether(&Options::parse(rest, &["--seed", "--derivations"], 0, 0)?),
         "rows" => print_rows(&Options::parse(
             rest,
@@ -113,6 +120,7 @@ fn command(words: &[String]) -> Result<ExitCode, String> {
                 "--whether",
                 "--releases",
                 "--guarded",
+                "--by-cases",
             ],
             0,
             0,
@@ -133,6 +141,7 @@ struct Options {
     text: bool,
     line: bool,
     guarded: bool,
+    by_cases: bool,
 }
 
 impl Options {
@@ -148,6 +157,7 @@ impl Options {
             text: false,
             line: false,
             guarded: false,
+            by_cases: false,
         };
         let mut words = words.iter();
         while let Some(word) = words.next() {
@@ -157,6 +167,8 @@ impl Options {
                 options.line = true;
             } else if word == "--guarded" && known.contains(&"--budget") {
                 options.guarded = true;
+            } else if word == "--by-cases" && known.contains(&"--budget") {
+                options.by_cases = true;
             } else if known.contains(&word.as_str()) {
                 let value = words.next().ok_or(format!("{word} needs a number"))?;
                 let value = value
@@ -204,8 +216,8 @@ fn budget_of(options: &Options) -> Result<u32, String> {
 }
 
 fn release_file(options: &Options) -> Result<ExitCode, String> {
-    if options.line || options.guarded {
-        return Err("no such option here: --line or --guarded".to_string());
+    if options.line || options.guarded || options.by_cases {
+        return Err("no such option here: --line, --guarded or --by-cases".to_string());
     }
     let file = options.bytes(0)?;
     let mut row = vec![0; ROW_NUMBERS * plans(&file) as usize];
@@ -228,10 +240,13 @@ fn judge_file(options: &Options) -> Result<ExitCode, String> {
     let request = options.bytes(0)?;
     let budget = budget_of(options)?;
     let mut lent = [0; STATE_LENGTH];
-    let (answer, line) = match options.guarded {
-        true => judge_guarded_line(&request, &mut lent, budget),
-        false => judge_line(&request, &mut lent, budget),
+    let call = match (options.guarded, options.by_cases) {
+        (true, true) => return Err("--guarded does not go with --by-cases".to_string()),
+        (true, false) => judge_guarded_line,
+        (false, true) => judge_by_cases_line,
+        (false, false) => judge_line,
     };
+    let (answer, line) = call(&request, &mut lent, budget);
     println!("{answer}");
     if matches!(answer.number, 1 | 2 | 43) {
         println!("{}", state_line(&lent, request[0]));
@@ -260,9 +275,11 @@ fn run_calls(options: &Options) -> Result<ExitCode, String> {
     print!("{}", releases.report());
     let guarded = guards::run::run(seed, options.number("--guarded", 20_000));
     print!("{}", guarded.report());
+    let by_cases = cases::run::run(seed, options.number("--by-cases", 20_000));
+    print!("{}", by_cases.report());
     let verdict = tally.verdict().and(whether.verdict());
-    let verdict = verdict.and(releases.verdict());
-    Ok(conclude(verdict.and(guarded.verdict())))
+    let verdict = verdict.and(releases.verdict()).and(guarded.verdict());
+    Ok(conclude(verdict.and(by_cases.verdict())))
 }
 
 fn run_releases(options: &Options) -> Result<ExitCode, String> {
@@ -277,6 +294,14 @@ fn run_guarded(options: &Options) -> Result<ExitCode, String> {
     let seed = options.number("--seed", 1);
     println!("seed: {seed}");
     let tally = guards::run::run(seed, options.number("--guarded", 20_000));
+    print!("{}", tally.report());
+    Ok(conclude(tally.verdict()))
+}
+
+fn run_by_cases(options: &Options) -> Result<ExitCode, String> {
+    let seed = options.number("--seed", 1);
+    println!("seed: {seed}");
+    let tally = cases::run::run(seed, options.number("--by-cases", 20_000));
     print!("{}", tally.report());
     Ok(conclude(tally.verdict()))
 }
@@ -312,8 +337,9 @@ fn print_rows(options: &Options) -> Result<ExitCode, String> {
     let whether = whether::rows::whether_rows(seed, whether);
     let releases = releases::rows::release_rows(seed, options.number("--releases", 0));
     let guarded = guards::rows::guarded_rows(seed, options.number("--guarded", 0));
+    let by_cases = cases::rows::cases_rows(seed, options.number("--by-cases", 0));
     let derived = rows::rows(seed, judging, checking).chain(whether);
-    for row in derived.chain(releases).chain(guarded) {
+    for row in derived.chain(releases).chain(guarded).chain(by_cases) {
         writeln!(out, "{row}").map_err(|error| error.to_string())?;
     }
     out.flush().map_err(|error| error.to_string())?;

@@ -19,6 +19,11 @@ type Marks = Vec<u8>;
 /// Most events that are noted before the second walk gives up.
 const EVENTS: usize = 1_000_000;
 
+/// Most fillings that are tried before it gives up.
+const FILLINGS: usize = 100_000;
+/// Most open fluents of an action.
+const OPEN: usize = 12;
+
 /// The last event of a path: an action run or a reading, and the event before it. Paths share
 /// the events of their common start.
 #[derive(Clone, Copy, Debug)]
@@ -42,6 +47,8 @@ enum Stop {
     Stuck(usize, usize),
     /// The place of the first guard that the path's state lacks.
     Broken(usize),
+    /// The action that has too many open fluents.
+    TooMany(usize),
 }
 
 /// What the list of paths tells: the answer of the judging call, the marks of answers 1, 2 and 43,
@@ -69,19 +76,25 @@ impl Told {
 /// Every path but one that is stopped counts at least one, so no more paths than the budget and
 /// one are ever needed.
 pub fn answer(request: &Request, budget: u32, most: usize) -> Option<Told> {
-    answer_with(request, &[], budget, most)
+    answer_with(request, &[], false, budget, most)
+}
+
+/// The same of the call by cases. It fills the open fluents of each action and no others.
+pub fn answer_by_cases(request: &Request, budget: u32, most: usize) -> Option<Told> {
+    answer_with(request, &[], true, budget, most)
 }
 
 /// The same of the guarded call, for a settled guarded request.
 pub fn answer_guarded(guarded: &Guarded, budget: u32, most: usize) -> Option<Told> {
     let guards = (guarded.guards_place + 1..).zip(guarded.guards.iter().copied());
     let guards: Vec<(usize, u8)> = guards.collect();
-    answer_with(&guarded.request, &guards, budget, most)
+    answer_with(&guarded.request, &guards, false, budget, most)
 }
 
 fn answer_with(
     request: &Request,
     guards: &[(usize, u8)],
+    by_cases: bool,
     budget: u32,
     most: usize,
 ) -> Option<Told> {
@@ -94,13 +107,15 @@ fn answer_with(
     let mut list = List {
         request,
         guards,
+        by_cases,
+        more_fillings: 0,
         most,
         events: vec![root],
         cut: false,
     };
     let first = list.guarded(first_path(request));
     let paths = list.through(&request.plan, vec![first]);
-    if list.events.len() > EVENTS {
+    if list.is_long() {
         return None;
     }
     let end = paths.iter().position(|path| path.stop.is_some());
@@ -131,7 +146,7 @@ fn first_path(request: &Request) -> Path {
     }
 }
 
-/// Answers 0, 1, 2 and 43 from the paths walked.
+/// Answers 0, 1, 2, 43 and 44 from the paths walked.
 fn conclude(request: &Request, walked: &[Path], count: u64) -> Told {
     if let Some(Path {
         stop: Some(stop),
@@ -142,6 +157,7 @@ fn conclude(request: &Request, walked: &[Path], count: u64) -> Told {
         let (number, place, line) = match *stop {
             Stop::Stuck(place, line) => (2, place, line),
             Stop::Broken(place) => (43, place, 0),
+            Stop::TooMany(place) => return Told::plain(Answer::of_walk(44, place, 0)),
         };
         return Told {
             answer: Answer::of_walk(number, place, count),
@@ -183,6 +199,9 @@ struct List<'a> {
     request: &'a Request,
     /// The guards with their places.
     guards: &'a [(usize, u8)],
+    by_cases: bool,
+    /// How many fillings were tried beyond the first of each action met.
+    more_fillings: usize,
     most: usize,
     events: Vec<Event>,
     /// Whether paths were left out.
@@ -217,6 +236,11 @@ impl List<'_> {
         runs
     }
 
+    /// So much was noted or tried that it gives up.
+    fn is_long(&self) -> bool {
+        self.events.len() > EVENTS || self.more_fillings > FILLINGS
+    }
+
     /// Notes an event after another one.
     fn note(&mut self, ran: bool, before: usize) -> usize {
         let depth = self.events[before].depth + 1;
@@ -230,7 +254,7 @@ impl List<'_> {
         sequence.iter().fold(paths, |paths, item| {
             let mut after = Vec::with_capacity(paths.len());
             for path in paths {
-                if after.len() > self.most || self.events.len() > EVENTS {
+                if after.len() > self.most || self.is_long() {
                     break;
                 }
                 after.extend(self.successors(item, path));
@@ -269,21 +293,73 @@ impl List<'_> {
     }
 
     fn run(&mut self, place: usize, action: u8, mut path: Path) -> Vec<Path> {
-        let line = match self.ask(action, &path.marks) {
-            Some((0, _)) => None,
-            Some((_, line)) => Some(line),
-            None => Some(0),
+        // By what is known the marks themselves are the one filling.
+        let open = match self.by_cases {
+            true => self.open(action, &path.marks),
+            false => Vec::new(),
         };
-        if let Some(line) = line {
+        if open.len() > OPEN {
+            path.stop = Some(Stop::TooMany(place));
+            return vec![path];
+        }
+        let fillings = fillings(&path.marks, &open);
+        self.more_fillings += fillings.len() - 1;
+        let allowed = |marks: &Marks| matches!(self.ask(action, marks), Some((0, _)));
+        if !fillings.iter().all(allowed) {
+            let line = self.ask(action, &path.marks).map_or(0, |(_, line)| line);
             return stop(place, line, path);
         }
         path.event = self.note(true, path.event);
         let sensed = self.sensed(action);
         if sensed.is_empty() {
-            path.marks = self.after(action, &path.marks);
+            path.marks = match self.by_cases {
+                true => self.shared(action, &fillings),
+                false => self.after(action, &path.marks),
+            };
             return vec![path];
         }
         self.sense(&sensed, path)
+    }
+
+    /// The fluents of an action's bodies that are unknown, ascending, each once.
+    fn open(&self, action: u8, marks: &Marks) -> Vec<u8> {
+        let effects = self.request.effects.iter();
+        let effects = effects.filter(|line| line.action == action);
+        let allowances = self.request.allowances.iter();
+        let allowances = allowances.filter(|line| line.action == action);
+        let bodies = effects.map(|line| &line.body);
+        let literals = bodies.chain(allowances.map(|line| &line.body)).flatten();
+        let fluents = literals.map(|literal| literal / 2);
+        let unknown = fluents.filter(|&fluent| marks[usize::from(fluent)] == UNKNOWN);
+        let mut open: Vec<u8> = unknown.collect();
+        open.sort_unstable();
+        open.dedup();
+        open
+    }
+
+    /// The marks that the results of an action in all fillings share. In each filling every body is
+    /// known true or known false.
+    fn shared(&self, action: u8, fillings: &[Marks]) -> Marks {
+        let lines = self.request.effects.iter();
+        let lines: Vec<_> = lines.filter(|line| line.action == action).collect();
+        let result = |filling: &Marks| {
+            let mut marks = filling.clone();
+            for line in &lines {
+                if line.body.iter().all(|&entry| is_known(filling, entry)) {
+                    marks[usize::from(line.literal / 2)] = wanted(line.literal);
+                }
+            }
+            marks
+        };
+        let mut shared = result(&fillings[0]);
+        for filling in &fillings[1..] {
+            for (mark, other) in shared.iter_mut().zip(result(filling)) {
+                if *mark != other {
+                    *mark = UNKNOWN;
+                }
+            }
+        }
+        shared
     }
 
     /// The best of an action's executability lines, if it has any: how many literals of its body
@@ -387,6 +463,24 @@ impl List<'_> {
 fn stop(place: usize, line: usize, mut path: Path) -> Vec<Path> {
     path.stop = Some(Stop::Stuck(place, line));
     vec![path]
+}
+
+/// The marks with each choice of values for these fluents.
+fn fillings(marks: &Marks, fluents: &[u8]) -> Vec<Marks> {
+    let choices = 0..1u32 << fluents.len();
+    let filling = |choice: u32| {
+        let mut filling = marks.clone();
+        for (index, &fluent) in fluents.iter().enumerate() {
+            let mark = if choice >> index & 1 == 1 {
+                TRUE
+            } else {
+                FALSE
+            };
+            filling[usize::from(fluent)] = mark;
+        }
+        filling
+    };
+    choices.map(filling).collect()
 }
 
 /// The mark that makes a literal true.

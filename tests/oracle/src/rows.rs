@@ -122,6 +122,33 @@ pub(crate) enum Wanted<T> {
     Shows(Edge),
 }
 
+impl<T> Wanted<T> {
+    /// Of rows of which none has to show an edge.
+    pub(crate) fn answered(self) -> T {
+        match self {
+            Wanted::Answered(wanted) => wanted,
+            Wanted::Shows(_) => unreachable!("no edge is asked for"),
+        }
+    }
+}
+
+/// What a row of a call with events of its own is wanted for.
+#[derive(Clone, Copy, Debug)]
+pub(crate) enum Shown<Event> {
+    Number(u8),
+    Event(Event),
+}
+
+impl<Event: PartialEq> Shown<Event> {
+    /// Whether an answer with this number shows it, and these events.
+    pub(crate) fn is_shown(&self, number: u8, events: impl FnOnce() -> Vec<Event>) -> bool {
+        match self {
+            Shown::Number(wanted) => number == *wanted,
+            Shown::Event(event) => events().contains(event),
+        }
+    }
+}
+
 /// What is wanted of rows, each round in an order of its own. In the first round long inputs and
 /// edges take the place of some of the most frequent answer.
 pub(crate) fn rounds<T: Copy>(
@@ -162,9 +189,8 @@ fn judging_row(rng: &mut Rng, wanted: Wanted<u8>) -> String {
     let call = match wanted {
         Wanted::Shows(edge) => edge_judging(rng, edge),
         Wanted::Answered(10) => {
-            let mut call = judging_call(rng, 11, BYTES);
-            call.request = vec![rng.byte(0, LIST_LIMIT as u8); REQUEST_LIMIT + 1];
-            call
+            let call = judging_call(rng, 11, BYTES);
+            too_long(rng, call)
         }
         Wanted::Answered(21) => judging_call(rng, 21, LONG_BYTES),
         Wanted::Answered(2) => {
@@ -260,9 +286,23 @@ fn is_light(call: &JudgeCall) -> bool {
 }
 
 fn judged(call: &JudgeCall) -> (Answer, u32, Vec<u8>) {
+    judged_by(call, judge_line)
+}
+
+/// Answer, line and lent state by one of the calls that take a request.
+pub(crate) fn judged_by(
+    call: &JudgeCall,
+    judge: fn(&[u8], &mut [u8], u32) -> (Answer, u32),
+) -> (Answer, u32, Vec<u8>) {
     let mut lent = call.lent.clone();
-    let (answer, line) = judge_line(&call.request, &mut lent, call.budget);
+    let (answer, line) = judge(&call.request, &mut lent, call.budget);
     (answer, line, lent)
+}
+
+/// The call with a request that is too long.
+pub(crate) fn too_long(rng: &mut Rng, call: JudgeCall) -> JudgeCall {
+    let request = vec![rng.byte(0, LIST_LIMIT as u8); REQUEST_LIMIT + 1];
+    JudgeCall { request, ..call }
 }
 
 /// A row that begins with this letter, of a call with answer, line and lent state.

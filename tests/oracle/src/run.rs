@@ -8,10 +8,11 @@ use crate::calls::{check_call, judge_call, CheckCall, JudgeCall, Outlook};
 use crate::edges::{self, Met};
 use crate::encode::{encode_derivation, encode_request};
 use crate::model::{Effect, Line, Request};
+use crate::paths::Told;
 use crate::reader::{read_derivation, read_request};
 use crate::rng::Rng;
 use crate::settle::clashing;
-use crate::tally::{all_met, each, never, titled, Differences};
+use crate::tally::{all_met, each, never, titled, CarriedOut, Differences};
 use crate::text::comma_separated;
 use crate::walk::{walk, Verdict};
 use crate::{check, judge_line, open, paths, shown, worlds, STATE_LENGTH};
@@ -97,8 +98,7 @@ pub struct Tally {
     checked_edges: Met,
     second_walks: u64,
     second_walks_left: u64,
-    carried_out: u64,
-    true_worlds: u64,
+    carried_out: CarriedOut,
     not_enumerated: u64,
     clashing_apart: u64,
     missed_though_reached: u64,
@@ -156,12 +156,7 @@ impl Tally {
         expect_form(answer, &call.request, &[])?;
         expect_outlook(answer, call.outlook)?;
         let written = matches!(answer.number, 1 | 2);
-        if !written && lent != call.lent {
-            return Err(format!("answer {answer} changed the lent state"));
-        }
-        if answer.number != 2 && line != 0 {
-            return Err(format!("answer {answer} carries the line {line}"));
-        }
+        expect_left(call, written, (answer, line), &lent)?;
         self.compare_meeting(&call.request, answer)?;
         if answer.number > 3 {
             return Ok(());
@@ -197,12 +192,7 @@ impl Tally {
             let other = other.line;
             return Err(format!("line {line}, the second walk's is {other}"));
         }
-        match other.marks.map(state_of) {
-            Some(state) if lent != state => Err(format!(
-                "answer {answer}: the second walk's state is another"
-            )),
-            _ => Ok(()),
-        }
+        expect_state(other.marks, answer, lent)
     }
 
     /// 16 is given where an action may be run in some world in which its effects would set a
@@ -233,15 +223,10 @@ impl Tally {
             self.not_enumerated += u64::from(answer.number == 0);
             return Ok(());
         }
-        match (answer.number, worlds::carry_out(request)) {
-            (0, Ok(worlds)) => {
-                self.carried_out += 1;
-                self.true_worlds += worlds;
-            }
-            (0, Err(failure)) => return Err(format!("verified, but in worlds {failure:?}")),
-            (1, Ok(_)) => self.missed_though_reached += 1,
-            (_, Ok(_)) => self.stuck_though_reached += 1,
-            _ => {}
+        let reached = self.carried_out.note(answer, worlds::carry_out(request))?;
+        match answer.number {
+            1 => self.missed_though_reached += u64::from(reached),
+            _ => self.stuck_though_reached += u64::from(reached),
         }
         Ok(())
     }
@@ -387,9 +372,9 @@ impl Tally {
             ),
             (
                 "verified requests carried out in all worlds",
-                self.carried_out,
+                self.carried_out.plans(),
             ),
-            ("true worlds of these", self.true_worlds),
+            ("true worlds of these", self.carried_out.worlds()),
             (
                 "verified requests with more than ten fluents",
                 self.not_enumerated,
@@ -435,7 +420,7 @@ fn some_clash(effects: &[Effect]) -> bool {
 }
 
 /// The lent state that the second walk's marks stand for.
-pub(crate) fn state_of(marks: Vec<u8>) -> [u8; STATE_LENGTH] {
+fn state_of(marks: Vec<u8>) -> [u8; STATE_LENGTH] {
     let mut state = [0; STATE_LENGTH];
     for (byte, mark) in state.iter_mut().zip(marks) {
         *byte = match mark {
@@ -445,6 +430,51 @@ pub(crate) fn state_of(marks: Vec<u8>) -> [u8; STATE_LENGTH] {
         };
     }
     state
+}
+
+/// The lent state is the second walk's, where that leaves one.
+pub(crate) fn expect_state(
+    marks: Option<Vec<u8>>,
+    answer: Answer,
+    lent: &[u8],
+) -> Result<(), String> {
+    match marks.map(state_of) {
+        Some(state) if lent != state => Err(format!(
+            "answer {answer}: the second walk's state is another"
+        )),
+        _ => Ok(()),
+    }
+}
+
+/// Answer, line and state are the second walk's.
+pub(crate) fn expect_told(
+    other: Told,
+    (answer, line): (Answer, u32),
+    lent: &[u8],
+) -> Result<(), String> {
+    if (other.answer, other.line) != (answer, line as usize) {
+        let (by, its) = (other.answer, other.line);
+        return Err(format!(
+            "answer {answer}, line {line}, by the second walk {by}, line {its}"
+        ));
+    }
+    expect_state(other.marks, answer, lent)
+}
+
+/// The lent state is as it was, unless the answer writes it, and only answer 2 carries a line.
+pub(crate) fn expect_left(
+    call: &JudgeCall,
+    written: bool,
+    (answer, line): (Answer, u32),
+    lent: &[u8],
+) -> Result<(), String> {
+    if !written && lent != call.lent {
+        return Err(format!("answer {answer} changed the lent state"));
+    }
+    if answer.number != 2 && line != 0 {
+        return Err(format!("answer {answer} carries the line {line}"));
+    }
+    Ok(())
 }
 
 /// What every answer keeps to: its input, place and count, and what the showing call shows.

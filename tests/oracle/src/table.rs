@@ -140,6 +140,16 @@ impl Table {
             .map_or(0, |&(place, _)| place)
     }
 
+    /// The bodies of an action's executability lines.
+    pub fn allowing(&self, action: u8) -> impl Iterator<Item = Known> + '_ {
+        self.deed(action).allowances.iter().map(|&(_, body)| body)
+    }
+
+    /// The bodies of an action's effects.
+    pub fn bringing(&self, action: u8) -> impl Iterator<Item = Known> + '_ {
+        self.deed(action).effects.iter().map(|&(_, body)| body)
+    }
+
     /// The fluents that a sensing action senses; none for any other action.
     pub fn senses(&self, action: u8) -> Mask {
         self.deed(action).senses

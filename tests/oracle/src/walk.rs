@@ -65,6 +65,47 @@ pub struct Met {
     pub after_miss: bool,
 }
 
+/// Answer 44, how a walk by cases ends where an action has too many of them: the action, the state in
+/// which it is met, and what was so then. Of these only the place is answered.
+#[derive(Clone, Copy, Debug, PartialEq, Eq)]
+pub struct TooMany {
+    pub place: usize,
+    pub count: u64,
+    pub action: u8,
+    pub state: Known,
+    /// An end state judged before it misses an entry.
+    pub after_miss: bool,
+}
+
+/// How a walk goes through an action: by what is known, or by cases.
+pub trait Way {
+    /// An action that is met in this state ends the walk, whether it can be run or not.
+    fn ends(&mut self, action: u8, state: Known) -> bool;
+
+    /// The action can be run in this state.
+    fn runnable(&mut self, action: u8, state: Known) -> bool;
+
+    /// The state after an action without knowledge lines, which can be run.
+    fn step(&mut self, action: u8, state: Known) -> Known;
+}
+
+/// By what is known.
+struct ByKnowledge<'a>(&'a Table);
+
+impl Way for ByKnowledge<'_> {
+    fn ends(&mut self, _: u8, _: Known) -> bool {
+        false
+    }
+
+    fn runnable(&mut self, action: u8, state: Known) -> bool {
+        self.0.runnable(action, state)
+    }
+
+    fn step(&mut self, action: u8, state: Known) -> Known {
+        self.0.step(action, state)
+    }
+}
+
 /// Walks the plan of a settled request and stops once the count is above the budget.
 pub fn walk(request: &Request, budget: u32) -> Verdict {
     unguarded::<false>(request, budget, |_| {}, |_| {})
@@ -74,7 +115,35 @@ pub fn walk(request: &Request, budget: u32) -> Verdict {
 /// met that lacks a guard.
 pub fn walk_guarded(guarded: &Guarded, budget: u32) -> Result<Verdict, Broken> {
     let guards = (guarded.guards_place, &guarded.guards[..]);
-    walk_past::<true>(&guarded.request, guards, budget, |_| {}, |_| {})
+    let table = Table::new(&guarded.request);
+    let way = &mut ByKnowledge(&table);
+    let ended = walk_past::<true>(
+        (&guarded.request, &table),
+        way,
+        guards,
+        budget,
+        |_| {},
+        |_| {},
+    );
+    match ended {
+        Ok(verdict) | Err(Halt::Ended(verdict)) => Ok(verdict),
+        Err(Halt::Broken(broken)) => Err(broken),
+        Err(Halt::TooMany(_)) => unreachable!("what is known has no cases"),
+    }
+}
+
+/// Walks the plan of a settled request, whose table comes along, in this way through its actions.
+pub fn walk_along(
+    (request, table): (&Request, &Table),
+    way: &mut impl Way,
+    budget: u32,
+) -> Result<Verdict, TooMany> {
+    let none = (0, &[][..]);
+    match walk_past::<false>((request, table), way, none, budget, |_| {}, |_| {}) {
+        Ok(verdict) | Err(Halt::Ended(verdict)) => Ok(verdict),
+        Err(Halt::TooMany(too_many)) => Err(too_many),
+        Err(Halt::Broken(_)) => unreachable!("there is no guard to lack"),
+    }
 }
 
 /// The states that a walk without guards meets, in their order, as far as the budget lets it.
@@ -94,36 +163,40 @@ pub fn ends(request: &Request, budget: u32) -> Option<Vec<Known>> {
     }
 }
 
-/// The walk without guards, of which no state lacks one.
+/// The walk by what is known and without guards, of which no state lacks one.
 fn unguarded<const LOOKS: bool>(
     request: &Request,
     budget: u32,
     at_end: impl FnMut(Known),
     when_met: impl FnMut(Known),
 ) -> Verdict {
-    match walk_past::<LOOKS>(request, (0, &[]), budget, at_end, when_met) {
-        Ok(verdict) => verdict,
-        Err(_) => unreachable!("there is no guard to lack"),
+    let table = Table::new(request);
+    let way = &mut ByKnowledge(&table);
+    let none = (0, &[][..]);
+    match walk_past::<LOOKS>((request, &table), way, none, budget, at_end, when_met) {
+        Ok(verdict) | Err(Halt::Ended(verdict)) => verdict,
+        Err(_) => unreachable!("there is no guard to lack, and no case"),
     }
 }
 
-/// The walk, with the guards and where their count stands. It hands over each end state that it
-/// judges and, where it looks at these, each state that it meets.
+/// The walk, in a way through the actions of the table, with the guards and where their count stands. It
+/// hands over each end state that it judges and, where it looks at these, each state that it meets.
 fn walk_past<const LOOKS: bool>(
-    request: &Request,
+    (request, table): (&Request, &Table),
+    way: &mut impl Way,
     (guards_place, guards): (usize, &[u8]),
     budget: u32,
     at_end: impl FnMut(Known),
     when_met: impl FnMut(Known),
-) -> Result<Verdict, Broken> {
-    let table = Table::new(request);
+) -> Result<Verdict, Halt> {
     let code = Code::new(&request.plan);
-    let mut walker = Walker::<_, _, LOOKS> {
+    let mut walker = Walker::<_, _, _, LOOKS> {
         request,
         guards_place,
         guards,
         guarded: Known::of(guards),
-        table: &table,
+        table,
+        way,
         code: &code,
         budget: u64::from(budget),
         count: 0,
@@ -132,10 +205,7 @@ fn walk_past<const LOOKS: bool>(
         at_end,
         when_met,
     };
-    match walker.walk() {
-        Ok(verdict) | Err(Halt::Ended(verdict)) => Ok(verdict),
-        Err(Halt::Broken(broken)) => Err(broken),
-    }
+    walker.walk()
 }
 
 enum Node {
@@ -209,16 +279,18 @@ struct Turn {
 enum Halt {
     Ended(Verdict),
     Broken(Broken),
+    TooMany(TooMany),
 }
 
 /// One that looks at the states that it meets, for their guards, or one that doesn't.
-struct Walker<'a, AtEnd, WhenMet, const LOOKS: bool> {
+struct Walker<'a, W, AtEnd, WhenMet, const LOOKS: bool> {
     request: &'a Request,
     guards_place: usize,
     guards: &'a [u8],
     /// All guards as one body.
     guarded: Known,
     table: &'a Table,
+    way: &'a mut W,
     code: &'a Code,
     budget: u64,
     count: u64,
@@ -228,8 +300,8 @@ struct Walker<'a, AtEnd, WhenMet, const LOOKS: bool> {
     when_met: WhenMet,
 }
 
-impl<AtEnd: FnMut(Known), WhenMet: FnMut(Known), const LOOKS: bool>
-    Walker<'_, AtEnd, WhenMet, LOOKS>
+impl<W: Way, AtEnd: FnMut(Known), WhenMet: FnMut(Known), const LOOKS: bool>
+    Walker<'_, W, AtEnd, WhenMet, LOOKS>
 {
     fn walk(&mut self) -> Result<Verdict, Halt> {
         let state = Known::of(&self.request.facts);
@@ -336,7 +408,10 @@ impl<AtEnd: FnMut(Known), WhenMet: FnMut(Known), const LOOKS: bool>
                     action,
                     next,
                 } => {
-                    if !self.table.runnable(*action, turn.state) {
+                    if self.way.ends(*action, turn.state) {
+                        return Err(self.too_many(*place, *action, turn.state));
+                    }
+                    if !self.way.runnable(*action, turn.state) {
                         let line = self.table.nearest(*action, turn.state);
                         return Err(self.stuck(*place, turn.state, line));
                     }
@@ -344,7 +419,7 @@ impl<AtEnd: FnMut(Known), WhenMet: FnMut(Known), const LOOKS: bool>
                     turn.node = *next;
                     let senses = self.table.senses(*action);
                     if senses == 0 {
-                        turn.state = self.table.step(*action, turn.state);
+                        turn.state = self.way.step(*action, turn.state);
                         self.meet(&turn)?;
                         continue;
                     }
@@ -371,6 +446,17 @@ impl<AtEnd: FnMut(Known), WhenMet: FnMut(Known), const LOOKS: bool>
             count: self.count,
             state,
             line,
+        })
+    }
+
+    #[cold]
+    fn too_many(&self, place: usize, action: u8, state: Known) -> Halt {
+        Halt::TooMany(TooMany {
+            place,
+            count: self.count,
+            action,
+            state,
+            after_miss: self.missed.is_some(),
         })
     }
 

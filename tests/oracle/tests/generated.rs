@@ -2,6 +2,8 @@
 
 use std::collections::{BTreeMap, BTreeSet};
 
+use oracle::cases;
+use oracle::cases::rows::cases_rows;
 use oracle::edges::{self, Met};
 use oracle::encode::encode_request;
 use oracle::generate::{request, spread, MIDDLE, SMALL, TINY};
@@ -18,7 +20,8 @@ use oracle::text::parse_bytes;
 use oracle::whether;
 use oracle::whether::rows::whether_rows;
 use oracle::{
-    check, check_whether, judge, judge_guarded_line, judge_line, plans, release, STATE_LENGTH,
+    check, check_whether, judge, judge_by_cases_line, judge_guarded_line, judge_line, plans,
+    release, STATE_LENGTH,
 };
 
 #[test]
@@ -54,6 +57,21 @@ fn small_runs_of_guarded_requests_show_no_difference() {
         assert_eq!(tally.differences(), &[] as &[String]);
         assert_eq!(tally.verdict(), Ok(()));
     }
+}
+
+#[test]
+fn small_runs_by_cases_show_no_difference() {
+    for seed in 1..=3 {
+        let tally = cases::run::run(seed, 4_000);
+        assert_eq!(tally.differences(), &[] as &[String]);
+        assert_eq!(tally.verdict(), Ok(()));
+    }
+}
+
+#[test]
+fn a_run_by_cases_too_small_fails() {
+    let verdict = cases::run::run(1, 10).verdict();
+    assert!(verdict.is_err_and(|reason| reason.starts_with("never met")));
 }
 
 #[test]
@@ -252,6 +270,39 @@ fn rows_of_guarded_requests_can_be_computed_again() {
     let once: Vec<String> = guarded_rows(9, 40).collect();
     assert_eq!(once, guarded_rows(9, 40).collect::<Vec<_>>());
     assert_ne!(once, guarded_rows(10, 40).collect::<Vec<_>>());
+}
+
+#[test]
+fn rows_by_cases_can_be_computed_again() {
+    use oracle::cases::run::{events, Event, NUMBERS};
+    let (mut met, mut shown) = (BTreeSet::new(), BTreeSet::from([Event::TwelveOpen]));
+    for row in cases_rows(5, 150) {
+        let mut words = row.split(' ');
+        assert_eq!(words.next(), Some("C"));
+        let request = take(&mut words);
+        let mut lent = vec![77; number(&mut words) as usize];
+        let budget = number(&mut words);
+        let (answer, line) = judge_by_cases_line(&request, &mut lent, budget);
+        let told: Vec<u32> = (0..4).map(|_| number(&mut words)).collect();
+        let found = [
+            answer.number.into(),
+            answer.input.into(),
+            answer.place,
+            answer.count,
+        ];
+        assert_eq!(told, found, "{row}");
+        let written = matches!(answer.number, 1 | 2).then_some(lent);
+        assert_eq!(take(&mut words), written.unwrap_or_default(), "{row}");
+        assert_eq!(number(&mut words), line, "{row}");
+        assert_eq!(words.next(), None);
+        met.insert(answer.number);
+        shown.extend(events(&request, budget, answer));
+    }
+    assert_eq!(met, BTreeSet::from(NUMBERS));
+    assert_eq!(shown, BTreeSet::from(Event::ALL));
+    let once: Vec<String> = cases_rows(9, 40).collect();
+    assert_eq!(once, cases_rows(9, 40).collect::<Vec<_>>());
+    assert_ne!(once, cases_rows(10, 40).collect::<Vec<_>>());
 }
 
 #[test]

@@ -9,59 +9,59 @@ use Rattle.judge.proofs.answer_to.Reads as answer-to-reads
 use Rattle.programs.proofs.read_all.Reads as read-all-reads
 use Rattle.os.proofs.fail.Reads as fail-reads
 
--- src/main.rt:72:34
+-- src/main.rt:80:34
 slice-aggregate-read-all : tie.Need-slice-aggregate-read-all
 slice-aggregate-read-all c = search needs
 
--- src/main.rt:72:11
+-- src/main.rt:80:11
 read-all-requires : tie.Need-read-all-requires
 read-all-requires c κs = search needs
 
--- src/main.rt:73:22
+-- src/main.rt:81:22
 enum-known-n : tie.Need-enum-known-n
 enum-known-n c = search needs
 
--- src/main.rt:74:27
+-- src/main.rt:82:27
 array-share-prefix-bytes : tie.Need-array-share-prefix-bytes
 array-share-prefix-bytes c = search read-within
 
--- src/main.rt:74:27
+-- src/main.rt:82:27
 slice-aggregate-answer-to : tie.Need-slice-aggregate-answer-to
 slice-aggregate-answer-to c = search read-counted
 
--- src/main.rt:74:17
+-- src/main.rt:82:17
 answer-to-requires : tie.Need-answer-to-requires
 answer-to-requires c κs = search needs
 
--- src/main.rt:75:26
+-- src/main.rt:83:26
 slice-aggregate-fail : tie.Need-slice-aggregate-fail
 slice-aggregate-fail c = search needs
 
--- src/main.rt:75:17
+-- src/main.rt:83:17
 fail-requires : tie.Need-fail-requires
 fail-requires c κs = search needs
 
--- src/main.rt:78:39
+-- src/main.rt:86:39
 enum-told : tie.Need-enum-told
 enum-told c = search needs
 
--- src/main.rt:78:39
+-- src/main.rt:86:39
 slice-aggregate-fail-2 : tie.Need-slice-aggregate-fail-2
 slice-aggregate-fail-2 c = search needs
 
--- src/main.rt:78:30
+-- src/main.rt:86:30
 fail-requires-2 : tie.Need-fail-requires-2
 fail-requires-2 c κs = search needs
 
--- src/main.rt:69:1
+-- src/main.rt:77:1
 returns : tie.Need-returns
 returns c = search needs
 
--- src/main.rt:69:1
+-- src/main.rt:77:1
 returns-2 : tie.Need-returns-2
 returns-2 c = search needs
 
--- src/main.rt:69:1
+-- src/main.rt:77:1
 returns-3 : tie.Need-returns-3
 returns-3 c = search needs
 

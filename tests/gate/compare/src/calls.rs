@@ -97,7 +97,7 @@ pub fn timed_and_named(rng: &mut Rng, call: &Call, judge: &Judge, unpack: fn(Pac
 }
 
 /// Its answer, the lent bytes afterwards and how long it took.
-fn fenced_by(rng: &mut Rng, call: &Call, judge: &Judge) -> Result<(Packed, Vec<u8>, Duration), String> {
+pub fn fenced_by(rng: &mut Rng, call: &Call, judge: &Judge) -> Result<(Packed, Vec<u8>, Duration), String> {
     let mut request = Fenced::new(rng, &call.request);
     let mut state = Fenced::new(rng, &call.lent);
     let (request_before, state_before) = (request.clone(), state.clone());

@@ -1,12 +1,12 @@
 //! The cases of docs/FORMAT.md and its further rows, through the exported calls.
 
-use glintstring::STATE_LENGTH;
+use glintstring::{Packed, STATE_LENGTH};
 use oracle::rng::Rng;
 use oracle::text::{parse_bytes, state_line};
 
 use crate::calls::{agreed, expect, Call, Left};
 use crate::checks::{self, Check};
-use crate::{guarded_cases, release_cases, whether_cases};
+use crate::{by_cases_rows, guarded_cases, release_cases, whether_cases};
 
 pub const FILE_A: &str = "4 3 3 3 5 7 3 1 2 0 1 6 1 0 2 4 0 3 0 0 1 1 3 2 1 2 1 0 0 0 2 0 255 2 1 1 0 2 1 2 1 0 0 0 1 7 1 2";
 const BUDGET: u32 = 100_000;
@@ -17,12 +17,18 @@ const LAST_FALSE: &str = "??????????????????????????????????????????????????????
 extern "C" {
     fn glintstring_judge(request: *const u8, request_length: usize, state: *mut u8, state_length: usize, budget: u32) -> u64;
     fn glintstring_judge_guarded(request: *const u8, request_length: usize, state: *mut u8, state_length: usize, budget: u32) -> u64;
+    fn glintstring_judge_by_cases(request: *const u8, request_length: usize, state: *mut u8, state_length: usize, budget: u32) -> u64;
     fn glintstring_judge_line(request: *const u8, request_length: usize, state: *mut u8, state_length: usize, budget: u32, line: *mut u32) -> u64;
     fn glintstring_check(request: *const u8, request_length: usize, derivation: *const u8, derivation_length: usize) -> u64;
     fn glintstring_check_whether(request: *const u8, request_length: usize, derivation: *const u8, derivation_length: usize) -> u64;
     fn glintstring_show(answer: u64, request: *const u8, request_length: usize, derivation: *const u8, derivation_length: usize) -> u64;
     fn glintstring_release(file: *const u8, file_length: usize, row: *mut u32, row_length: usize, budget: u32) -> u64;
     fn glintstring_plans(file: *const u8, file_length: usize) -> u32;
+}
+
+/// The call by cases.
+pub fn judge_by_cases(request: &[u8], state: &mut [u8], budget: u32) -> Packed {
+    Packed(unsafe { glintstring_judge_by_cases(request.as_ptr(), request.len(), state.as_mut_ptr(), state.len(), budget) })
 }
 
 /// The release call.
@@ -306,6 +312,10 @@ fn without_bytes() -> Result<(), String> {
     if no_guarded != [no_request, no_state] {
         return Err(format!("null and length 0: {no_guarded:?} with guards"));
     }
+    let by_cases = unsafe { [glintstring_judge_by_cases(null(), 0, state.as_mut_ptr(), state.len(), 0), glintstring_judge_by_cases(null(), 0, null_mut(), 0, 0)] };
+    if by_cases != [no_request, no_state] {
+        return Err(format!("null and length 0: {by_cases:?} by cases"));
+    }
     if ([no_request_line, no_state_line], lines) != ([no_request, no_state], [0, 0]) {
         return Err(format!("null and length 0: {no_request_line} and {no_state_line} with the lines {lines:?}"));
     }
@@ -358,10 +368,11 @@ pub fn compare() -> Result<String, String> {
     let whether = whether_cases::compare(&mut rng)?;
     let releases = release_cases::compare(&mut rng)?;
     let guarded = guarded_cases::compare(&mut rng)?;
+    let by_cases = by_cases_rows::compare(&mut rng)?;
     without_bytes()?;
     let (walks, lines, checks) = (ROWS.len(), LINE_ROWS.len(), DERIVATION_ROWS.len());
     Ok(format!(
         "{walks} rows of the format, {lines} for the line, {checks} for derivations, {whether} for those in the closing layout, {releases} for release \
-         files and {guarded} for guarded requests answered as it says, and null pointers with length 0"
+         files, {guarded} for guarded requests and {by_cases} by cases answered as it says, and null pointers with length 0"
     ))
 }

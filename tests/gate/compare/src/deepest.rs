@@ -5,7 +5,7 @@ use std::{fs, thread};
 use oracle::rng::Rng;
 
 use crate::calls::{expect, exported, independent, Call};
-use crate::guarded;
+use crate::{by_cases, guarded};
 
 /// The requests of a folder, of which the file `list` has a line each: file, budget, items, name.
 pub fn requests(folder: &str) -> Result<Vec<(String, Call)>, String> {
@@ -15,6 +15,11 @@ pub fn requests(folder: &str) -> Result<Vec<(String, Call)>, String> {
 /// The guarded requests, of which the file `guarded` has a line each: file, budget, guards, name.
 pub fn guarded_requests(folder: &str) -> Result<Vec<(String, Call)>, String> {
     listed(folder, "guarded")
+}
+
+/// The requests by cases, of which the file `by-cases` has a line each: file, budget, open fluents, name.
+pub fn requests_by_cases(folder: &str) -> Result<Vec<(String, Call)>, String> {
+    listed(folder, "by-cases")
 }
 
 fn listed(folder: &str, list: &str) -> Result<Vec<(String, Call)>, String> {
@@ -39,7 +44,7 @@ fn on_thread<T: Send>(call: impl FnOnce() -> T + Send) -> T {
 
 /// Compares them.
 pub fn compare(folder: &str) -> Result<String, String> {
-    let (requests, guarded) = (requests(folder)?, guarded_requests(folder)?);
+    let (requests, guarded, in_cases) = (requests(folder)?, guarded_requests(folder)?, requests_by_cases(folder)?);
     for (index, (name, call)) in requests.iter().enumerate() {
         let one = on_thread(|| exported(&mut Rng::new(1, 6, index as u64), call));
         one.and_then(|one| expect(&one, &independent(call), "the independent program")).map_err(|why| format!("{name}: {why}; {call}"))?;
@@ -48,6 +53,11 @@ pub fn compare(folder: &str) -> Result<String, String> {
         let one = on_thread(|| guarded::timed(&mut Rng::new(2, 6, index as u64), call));
         one.and_then(|(one, _)| expect(&one, &guarded::independent(call), "the independent program")).map_err(|why| format!("{name}: {why}; {call}"))?;
     }
+    for (index, (name, call)) in in_cases.iter().enumerate() {
+        let one = on_thread(|| by_cases::timed(&mut Rng::new(3, 6, index as u64), call));
+        one.and_then(|(one, _)| expect(&one, &by_cases::independent(call), "the independent program")).map_err(|why| format!("{name}: {why}; {call}"))?;
+    }
     let stack = glintstring::STACK_NEEDED;
-    Ok(format!("{} deep requests and {} guarded ones agree, on a thread of {stack} bytes of stack", requests.len(), guarded.len()))
+    let [all, guards, cases] = [requests.len(), guarded.len(), in_cases.len()];
+    Ok(format!("{all} deep requests, {guards} guarded ones and {cases} by cases agree, on a thread of {stack} bytes of stack"))
 }

@@ -10,11 +10,13 @@ use oracle::rng::Rng;
 use crate::calls::{self, expect};
 use crate::checks::Layout;
 use crate::hostile::{self, Input, Named};
-use crate::{checks, derivations, generated, guarded, releases, whether};
+use crate::{by_cases, checks, derivations, generated, guarded, releases, whether};
 
 /// What a call may take, and what it may take for each count more: far more than was ever seen (docs/MEASURED.md).
 const A: Duration = Duration::from_secs(1);
 const B: Duration = Duration::from_micros(200);
+/// By cases an action may be tried in 4,096 fillings.
+const B_BY_CASES: Duration = Duration::from_millis(200);
 /// How often a call is made that is short, or that takes longer than it may: the shortest time is its own.
 const TRIES: usize = 3;
 const SHORT: Duration = Duration::from_secs(1);
@@ -31,13 +33,15 @@ const RANDOM: u64 = 300;
 struct Taken {
     answer: [u64; 4],
     took: Duration,
+    /// What it may take for each count.
+    b: Duration,
 }
 
 impl Taken {
     /// a + b * count, as many times as the calls are slower than those that a and b are of.
     fn bound(&self, slower: u32) -> Duration {
         let counts = self.answer[3] as f64;
-        (A + B.mul_f64(counts)) * slower
+        (A + self.b.mul_f64(counts)) * slower
     }
 
     /// Nanoseconds for each count, of large counts.
@@ -53,18 +57,23 @@ fn call(rng: &mut Rng, input: &Input) -> Result<Taken, String> {
         Input::Walk(call) => {
             let (left, took) = calls::timed(rng, call)?;
             expect(&left, &calls::independent(call), "the independent program")?;
-            Ok(Taken { answer: left.answer, took })
+            Ok(Taken { answer: left.answer, took, b: B })
+        }
+        Input::ByCases(call) => {
+            let (left, took) = by_cases::timed(rng, call)?;
+            expect(&left, &by_cases::independent(call), "the independent program")?;
+            Ok(Taken { answer: left.answer, took, b: B_BY_CASES })
         }
         Input::Guarded(call) => {
             let (left, took) = guarded::timed(rng, call)?;
             expect(&left, &guarded::independent(call), "the independent program")?;
-            Ok(Taken { answer: left.answer, took })
+            Ok(Taken { answer: left.answer, took, b: B })
         }
-        Input::Derivation(check) => checks::timed(rng, check).map(|(answer, took)| Taken { answer, took }),
+        Input::Derivation(check) => checks::timed(rng, check).map(|(answer, took)| Taken { answer, took, b: B }),
         Input::Release(call) => {
             let (left, took) = releases::timed(rng, call)?;
             releases::expect(&left, &releases::independent(call), "the independent program")?;
-            Ok(Taken { answer: left.counted(), took })
+            Ok(Taken { answer: left.counted(), took, b: B })
         }
     }
 }
@@ -135,9 +144,10 @@ pub fn compare(folder: Option<&str>, slower: u32) -> Result<String, String> {
     table(run(&named, slower, &mut largest)?);
     run(&random, slower, &mut largest)?;
     let [(whole, slowest), (each, slowest_each)] = [largest.without_count, largest.each];
-    let (a, b, total) = ((A * slower).as_micros(), (B * slower).as_nanos(), named.len() + random.len());
+    let (a, total) = ((A * slower).as_micros(), named.len() + random.len());
+    let [b, b_by_cases] = [B, B_BY_CASES].map(|b| (b * slower).as_nanos());
     println!("  a: {a} us allowed; without a count at most {} us: {slowest}", whole / 1_000);
-    println!("  b: {b} ns allowed; for each of {LARGE} counts or more at most {each} ns: {slowest_each}");
+    println!("  b: {b} ns allowed, and {b_by_cases} ns by cases; for each of {LARGE} counts or more at most {each} ns: {slowest_each}");
     Ok(format!("hostile inputs: {total} agree, none writes outside the lent bytes, and each takes at most a + b * count"))
 }
 
@@ -165,7 +175,7 @@ pub fn write(deepest: &str, folder: &str, budget: u32, count: u64) -> Result<Str
     inputs.extend((0..count).map(|index| Input::Derivation(derivations::call(1, index))));
     inputs.extend((0..count).map(|index| Input::Derivation(whether::call(1, index))));
     // The programs for which files are written take requests, guarded or not, and derivations.
-    inputs.retain(|input| !matches!(input, Input::Release(_)));
+    inputs.retain(|input| !matches!(input, Input::Release(_) | Input::ByCases(_)));
     let save = |name: String, bytes: &[u8]| fs::write(format!("{folder}/{name}"), bytes).map_err(|error| format!("{folder}/{name}: {error}"));
     let [mut walks, mut guards, mut plain, mut closing] = std::array::from_fn(|_| Written::default());
     for (index, input) in inputs.iter_mut().enumerate() {
@@ -189,7 +199,7 @@ pub fn write(deepest: &str, folder: &str, budget: u32, count: u64) -> Result<Str
                 };
                 written.add(&format!("{folder}/{index}.request {folder}/{index}.derivation"), checks::independent(check));
             }
-            Input::Release(_) => unreachable!("no release file is written"),
+            Input::Release(_) | Input::ByCases(_) => unreachable!("no such file is written"),
         }
     }
     for (name, written) in [("walks", walks), ("guarded", guards), ("checks", plain), ("whether", closing)] {

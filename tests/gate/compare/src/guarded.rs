@@ -7,10 +7,10 @@ use oracle::guards::run::Tally;
 use oracle::reader::REQUEST_LIMIT;
 use oracle::rng::Rng;
 
-use crate::calls::{self, answer, expect, timed_and_named, Call, Left};
+use crate::calls::{self, expect, timed_and_named, Call, Left};
 use crate::crowded::crowded;
 use crate::generated::{varied, MOST};
-use crate::many::{all_met, each_agreed, ENOUGH};
+use crate::many::{all_met, longest_agreed, print_indented, some_longest, ENOUGH};
 
 /// Streams of random numbers: of the calls, and of what stands around request and lent state.
 const CALLS: u64 = 22;
@@ -90,14 +90,8 @@ fn without_guards(rng: &mut Rng, call: &Call, plain: &Left) -> Result<(), String
 /// Makes so many calls from a seed; in words how often each number occurred, or the first difference.
 pub fn compare(seed: u64, count: u64) -> Result<String, String> {
     let mut tally = Tally::default();
-    let mut longest = 0;
-    each_agreed((seed, count), FENCES, call, agreed, |call, left| {
-        tally.note(&call.request, call.budget, answer(left.answer));
-        longest = longest.max(call.request.len());
-    })?;
-    for line in tally.report().lines() {
-        println!("  {line}");
-    }
+    let longest = longest_agreed((seed, count), FENCES, call, agreed, |request, budget, answer| tally.note(request, budget, answer))?;
+    print_indented(&tally.report());
     all_met((seed, count), ENOUGH, "guarded calls", &tally.never_met())?;
     Ok(format!("{count} guarded calls of seed {seed} agree, and so do the walk calls beside them; the longest request has {longest} bytes"))
 }
@@ -114,14 +108,10 @@ pub fn any_call(rng: &mut Rng) -> Call {
         let drawn = guarded_call(rng);
         Call { request: drawn.request, lent: drawn.lent, budget: drawn.budget }
     };
-    let mut call = varied(rng, drawn, |rng| {
+    let call = varied(rng, drawn, |rng| {
         let request = crowded(rng);
         let draft = guarded(rng, request);
         any_guarded_call(rng, &draft).request
     });
-    if rng.below(500) == 0 {
-        let length = *rng.pick(&[REQUEST_LIMIT - 1, REQUEST_LIMIT, REQUEST_LIMIT + 1, 20_000]);
-        call.request.resize(length, rng.byte(0, 3));
-    }
-    call
+    some_longest(rng, call)
 }

@@ -12,7 +12,7 @@ use crate::checks::Check;
 use crate::deepest;
 use crate::largest::{self, line};
 use crate::releases::Release;
-use crate::{guarded_hostile, release_hostile, whether_hostile};
+use crate::{by_cases_hostile, guarded_hostile, release_hostile, whether_hostile};
 
 /// The stream of random numbers of the bytes that have no meaning.
 const BYTES: u64 = 10;
@@ -30,6 +30,7 @@ pub const SECTION: usize = 255;
 pub enum Input {
     Walk(Call),
     Guarded(Call),
+    ByCases(Call),
     Derivation(Check),
     Release(Release),
 }
@@ -62,6 +63,7 @@ pub fn named(folder: &str) -> Result<Vec<Named>, String> {
     inputs.extend(whether_hostile::named());
     inputs.extend(release_hostile::named(&releases));
     inputs.extend(guarded_hostile::named(deepest::guarded_requests(folder)?));
+    inputs.extend(by_cases_hostile::named(deepest::requests_by_cases(folder)?));
     Ok(inputs)
 }
 
@@ -70,8 +72,8 @@ pub fn longest() -> Vec<Named> {
     sensed_at_once(&[LARGEST_BUDGET])
 }
 
-/// Any bytes, as a request, guarded or not, as a derivation in either layout and as a release file; those of every other five start as their input
-/// may.
+/// Any bytes, as a request, guarded, by cases or neither, as a derivation in either layout and as a release file; those of every other start as their
+/// input may.
 pub fn random(seed: u64, count: u64) -> Vec<Named> {
     let mut inputs = Vec::new();
     for index in 0..count {
@@ -88,6 +90,7 @@ pub fn random(seed: u64, count: u64) -> Vec<Named> {
         let request = bytes(rng, REQUEST_LIMIT, [FLUENTS, ACTIONS]);
         let derivation = bytes(rng, DERIVATION_LIMIT, [4, 0]);
         let closing = bytes(rng, DERIVATION_LIMIT, [0, 1]);
+        inputs.push(by_cases_hostile::by_cases(&format!("random request {index}"), request.clone(), FEW));
         inputs.push(walk(&format!("random request {index}"), request, FEW));
         inputs.push(check(&format!("random derivation {index}"), &wide(), derivation));
         inputs.push(whether_hostile::check(&format!("random derivation {index}"), &wide(), closing));

@@ -1,9 +1,12 @@
 //! The exported calls against the independent program: the walk call on the format's cases, on the deepest requests, and on generated and
 //! damaged ones, the derivation call, the whether call and the showing call on derivations at their limits, and on generated, forged and
-//! damaged ones; the release call and the plans call on release files; the guarded call; and all of them on hostile inputs. The exit status is 0 where all agree and 1 at the first difference; what is told of it is
+//! damaged ones; the release call and the plans call on release files; the guarded call; the call by cases; and all of them on hostile inputs. The exit status is 0 where all agree and 1 at the first difference; what is told of it is
 //! enough to make the call again.
 
 mod answered;
+mod by_cases;
+mod by_cases_hostile;
+mod by_cases_rows;
 mod calls;
 mod cases;
 mod checks;
@@ -37,7 +40,7 @@ use words::{number, obey, Failure};
 const STACK: usize = glintstring::STACK_NEEDED + (2 << 20);
 
 const HELP: &str = "usage: compare cases | compare deepest FOLDER | compare generated SEED COUNT | compare largest | compare derivations SEED COUNT \
-                    | compare whether SEED COUNT | compare releases SEED COUNT | compare guarded SEED COUNT | compare hostile FOLDER [SLOWER] | compare longest | compare write DEEPEST FOLDER BUDGET COUNT";
+                    | compare whether SEED COUNT | compare releases SEED COUNT | compare guarded SEED COUNT | compare by-cases SEED COUNT | compare hostile FOLDER [SLOWER] | compare longest | compare write DEEPEST FOLDER BUDGET COUNT";
 
 fn main() -> ExitCode {
     obey("compare", STACK, |words| {
@@ -50,6 +53,7 @@ fn main() -> ExitCode {
             ["whether", seed, count] => whether::SERIES.compare(number(seed)?, number(count)?),
             ["releases", seed, count] => releases::compare(number(seed)?, number(count)?),
             ["guarded", seed, count] => guarded::compare(number(seed)?, number(count)?),
+            ["by-cases", seed, count] => by_cases::compare(number(seed)?, number(count)?),
             ["hostile", folder] => endured::compare(Some(folder), 1),
             ["hostile", folder, slower] => endured::compare(Some(folder), number(slower)?),
             ["longest"] => endured::compare(None, 1),

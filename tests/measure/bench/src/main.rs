@@ -1,8 +1,9 @@
-//! The exported calls timed beside two walks in Rust, on the same requests within one run; the release call and the guarded call timed beside walk
-//! calls; and the two walks against the independent program.
+//! The exported calls timed beside two walks in Rust, on the same requests within one run; the release call, the guarded call and the call by cases
+//! timed beside walk calls; and the two walks against the independent program.
 
 mod answers;
 mod best;
+mod by_cases;
 #[allow(dead_code)]
 #[path = "../../../gate/compare/src/calls.rs"]
 mod calls;
@@ -38,7 +39,7 @@ use words::{number, obey, Failure};
 const STACK: usize = 256 << 20;
 
 const HELP: &str = "usage: bench check SEED COUNT | bench walks SEED ROUNDS COUNT | bench derivations SEED ROUNDS | bench releases SEED ROUNDS | \
-     bench guards SEED ROUNDS | bench only PROGRAM CLASS whole|reading COUNT PASSES";
+     bench guards SEED ROUNDS | bench by-cases SEED ROUNDS | bench only PROGRAM CLASS whole|reading COUNT PASSES";
 
 fn main() -> ExitCode {
     obey("bench", STACK, |words| {
@@ -48,6 +49,7 @@ fn main() -> ExitCode {
             ["derivations", seed, rounds] => derivations::time(number(seed)?, number(rounds)?),
             ["releases", seed, rounds] => releases::time(number(seed)?, number(rounds)?),
             ["guards", seed, rounds] => guards::time(number(seed)?, number(rounds)?),
+            ["by-cases", seed, rounds] => by_cases::time(number(seed)?, number(rounds)?),
             ["only", program, class, part, count, passes] => walks::only(program, class, part, number(count)?, number(passes)?),
             _ => return Err(Failure::Usage(HELP.to_string())),
         };

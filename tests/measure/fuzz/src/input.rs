@@ -8,7 +8,7 @@ use crate::checks::{Check, Layout};
 use crate::derivations::any_check;
 use crate::generated::any_call;
 use crate::releases::{self, Release};
-use crate::{cases, guarded, guarded_cases, release_cases, whether, whether_cases};
+use crate::{by_cases, by_cases_rows, cases, guarded, guarded_cases, release_cases, whether, whether_cases};
 
 /// A derivation call where this bit is set; the number is the length of the request, and the derivation follows it.
 const DERIVATION: u8 = 1;
@@ -19,7 +19,9 @@ const CLOSING: u8 = 8;
 const RELEASE: u8 = 64;
 /// A guarded call instead of a walk call.
 const GUARDED: u8 = 128;
-/// In a walk call, a guarded call or a release call: a budget of up to 16,383 instead of 255.
+/// A call by cases instead of a walk call, where the bit of a guarded call is not set.
+const BY_CASES: u8 = 32;
+/// In a walk call, a guarded call, a call by cases or a release call: a budget of up to 16,383 instead of 255.
 const FAR: u8 = 2;
 /// The lent state, or the row, has the number modulo `LENGTHS` as its length where these are all set, and its own otherwise.
 const ODD_LENGTH: u8 = 7 << 2;
@@ -32,11 +34,13 @@ const CHECKS: u64 = 7;
 const WHETHER: u64 = 13;
 const RELEASES: u64 = 17;
 const GUARDS: u64 = 22;
+const CASES: u64 = 27;
 
 /// A call to be made both ways.
 pub enum Given {
     Walk(Call),
     Guarded(Call),
+    ByCases(Call),
     Derivation(Check),
     Release(Release),
 }
@@ -63,20 +67,21 @@ pub fn given(input: &[u8]) -> Given {
     }
     let length = odd.unwrap_or(STATE_LENGTH);
     let call = Call { request: rest.to_vec(), lent: vec![9; length], budget: budget.into() };
-    match kind & GUARDED {
+    match kind & (GUARDED | BY_CASES) {
         0 => Given::Walk(call),
+        BY_CASES => Given::ByCases(call),
         _ => Given::Guarded(call),
     }
 }
 
-/// An input for a walk call, or with the bit of a guarded call for that; a larger budget becomes the largest that there is.
-fn of_call(call: &Call, guarded: u8) -> Vec<u8> {
+/// An input for a walk call, or with the bit of a guarded call or of a call by cases for that; a larger budget becomes the largest that there is.
+fn of_call(call: &Call, bit: u8) -> Vec<u8> {
     let (kind, number) = match (call.lent.len(), call.budget) {
         (STATE_LENGTH, 0..=255) => (0, call.budget as u16),
         (STATE_LENGTH, _) => (FAR, call.budget.min(16_383) as u16 * 4),
         (length, _) => (ODD_LENGTH, (length % LENGTHS) as u16),
     };
-    [&[guarded | kind][..], &number.to_be_bytes(), &call.request].concat()
+    [&[bit | kind][..], &number.to_be_bytes(), &call.request].concat()
 }
 
 /// An input for a release call, in the same way.
@@ -107,8 +112,10 @@ pub fn seeds(seed: u64, count: u64) -> Vec<Vec<u8>> {
     let walks = cases::calls().into_iter().chain(walks).map(|call| of_call(&call, 0));
     let guards = (0..count).map(|index| guarded::any_call(&mut Rng::new(seed, GUARDS, index)));
     let guards = guarded_cases::calls().into_iter().chain(guards).map(|call| of_call(&call, GUARDED));
+    let by_cases = (0..count).map(|index| by_cases::any_call(&mut Rng::new(seed, CASES, index)));
+    let by_cases = by_cases_rows::calls().into_iter().chain(by_cases).map(|call| of_call(&call, BY_CASES));
     let derivations = cases::checks().into_iter().chain(derivations).chain(whether_cases::checks()).chain(closing);
     let releases = (0..count).map(|index| releases::any_call(&mut Rng::new(seed, RELEASES, index)));
     let releases = release_cases::calls().into_iter().chain(releases).map(|call| of_release(&call));
-    walks.chain(derivations.map(|check| of_check(&check))).chain(releases).chain(guards).filter(|input| input.len() <= LONGEST).collect()
+    walks.chain(derivations.map(|check| of_check(&check))).chain(releases).chain(guards).chain(by_cases).filter(|input| input.len() <= LONGEST).collect()
 }

@@ -4,6 +4,12 @@
 #[path = "../../../gate/compare/src/answered.rs"]
 mod answered;
 #[allow(dead_code)]
+#[path = "../../../gate/compare/src/by_cases.rs"]
+mod by_cases;
+#[allow(dead_code)]
+#[path = "../../../gate/compare/src/by_cases_rows.rs"]
+mod by_cases_rows;
+#[allow(dead_code)]
 #[path = "../../../gate/compare/src/calls.rs"]
 mod calls;
 #[allow(dead_code)]
@@ -58,6 +64,7 @@ pub fn agreed(bytes: &[u8]) -> Result<[u64; 4], String> {
     match given(bytes) {
         Given::Walk(call) => calls::agreed(&mut rng, &call).map(|left| left.answer).map_err(|why| format!("{why}; {call}")),
         Given::Guarded(call) => guarded::agreed(&mut rng, &call).map(|left| left.answer).map_err(|why| format!("{why}; {call}")),
+        Given::ByCases(call) => by_cases::agreed(&mut rng, &call).map(|left| left.answer).map_err(|why| format!("{why}; {call}")),
         Given::Derivation(check) => checks::agreed(&mut rng, &check).map_err(|why| format!("{why}; {check}")),
         Given::Release(call) => releases::agreed(&mut rng, &call).map(|left| left.summed()).map_err(|why| format!("{why}; {call}")),
     }

@@ -11,10 +11,10 @@ use super::run::{events, Event, BROKEN};
 use crate::answer::Answer;
 use crate::calls::{lend_wrongly, JudgeCall};
 use crate::generate::{drawn, filled};
-use crate::reader::{LIST_LIMIT, REQUEST_LIMIT};
 use crate::rng::Rng;
+use crate::rows::Shown::{self, Number};
 use crate::rows::{
-    rounds, small_shape, spread_shape, tell_judging, Wanted, FULL_BYTES, LONG_BYTES,
+    judged_by, rounds, small_shape, spread_shape, tell_judging, too_long, FULL_BYTES, LONG_BYTES,
 };
 use crate::walk::{walk_guarded, Verdict};
 
@@ -23,17 +23,8 @@ const BYTES: usize = 130;
 /// Largest count of a walk.
 const COUNT: u32 = 1_000;
 
-/// What a row is wanted for.
-#[derive(Clone, Copy, Debug)]
-enum Shown {
-    Number(u8),
-    Event(Event),
-}
-
-use Shown::Number;
-
 /// How often each comes in a round of calls.
-const GUARDED: [(Shown, u64); 35] = [
+const GUARDED: [(Shown<Event>, u64); 35] = [
     (Shown::Event(Event::VerifiedWithGuards), 18),
     (Shown::Event(Event::MissedWithGuards), 12),
     (Shown::Event(Event::StuckWithGuards), 8),
@@ -72,7 +63,7 @@ const GUARDED: [(Shown, u64); 35] = [
 ];
 
 /// Those that take long requests, which stand in the first round only.
-const LONG: [Shown; 4] = [
+const LONG: [Shown<Event>; 4] = [
     Number(10),
     Number(21),
     Shown::Event(Event::MostGuards),
@@ -83,19 +74,15 @@ const LONG: [Shown; 4] = [
 pub fn guarded_rows(seed: u64, count: u64) -> impl Iterator<Item = String> {
     rounds(seed, 20, count, &GUARDED, &LONG, &[])
         .zip(0..)
-        .map(move |(wanted, index)| row(&mut Rng::new(seed, 21, index), wanted))
+        .map(move |(wanted, index)| row(&mut Rng::new(seed, 21, index), wanted.answered()))
 }
 
 /// A row as wanted.
-fn row(rng: &mut Rng, wanted: Wanted<Shown>) -> String {
-    let Wanted::Answered(wanted) = wanted else {
-        unreachable!("no edge is asked for");
-    };
+fn row(rng: &mut Rng, wanted: Shown<Event>) -> String {
     let call = match wanted {
         Number(10) => {
-            let mut call = call(rng, Number(11), BYTES);
-            call.request = vec![rng.byte(0, LIST_LIMIT as u8); REQUEST_LIMIT + 1];
-            call
+            let call = call(rng, Number(11), BYTES);
+            too_long(rng, call)
         }
         Number(21) => call(rng, wanted, LONG_BYTES),
         Shown::Event(Event::MostGuards) => call(rng, wanted, FULL_BYTES),
@@ -105,7 +92,7 @@ fn row(rng: &mut Rng, wanted: Wanted<Shown>) -> String {
 }
 
 /// A call that shows what is wanted.
-fn call(rng: &mut Rng, wanted: Shown, most: usize) -> JudgeCall {
+fn call(rng: &mut Rng, wanted: Shown<Event>, most: usize) -> JudgeCall {
     loop {
         let shape = match wanted {
             Shown::Event(Event::MostGuards | Event::LastLiteral) => spread_shape(rng),
@@ -133,12 +120,9 @@ fn call(rng: &mut Rng, wanted: Shown, most: usize) -> JudgeCall {
     }
 }
 
-fn shows(call: &JudgeCall, wanted: Shown) -> bool {
+fn shows(call: &JudgeCall, wanted: Shown<Event>) -> bool {
     let (answer, ..) = judged(call);
-    match wanted {
-        Number(number) => answer.number == number,
-        Shown::Event(event) => events(&call.request, call.budget, answer).contains(&event),
-    }
+    wanted.is_shown(answer.number, || events(&call.request, call.budget, answer))
 }
 
 /// The whole walk, if it is reached, counts little.
@@ -150,7 +134,5 @@ fn is_light(call: &JudgeCall) -> bool {
 }
 
 fn judged(call: &JudgeCall) -> (Answer, u32, Vec<u8>) {
-    let mut lent = call.lent.clone();
-    let (answer, line) = judge_guarded_line(&call.request, &mut lent, call.budget);
-    (answer, line, lent)
+    judged_by(call, judge_guarded_line)
 }

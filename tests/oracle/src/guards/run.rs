@@ -1,9 +1,6 @@
 //! A run of guarded calls: each answer against a second walk, the plain call, the worlds and what is
 //! certain of it, and the tallies.
 
-use std::collections::BTreeMap;
-use std::fmt::Write;
-
 use super::call::{judge_guarded_line, open_guarded};
 use super::calls::guarded_call;
 use crate::answer::Answer;
@@ -15,9 +12,10 @@ use crate::reader::{
 };
 use crate::rng::Rng;
 use crate::run::{
-    expect_bytes, expect_form, expect_outlook, state_of, told, LEAST_SHARE, MOST_PATHS,
+    expect_bytes, expect_form, expect_left, expect_outlook, expect_told, told, LEAST_SHARE,
+    MOST_PATHS,
 };
-use crate::tally::{all_met, each, never, titled, Differences};
+use crate::tally::{all_met, CarriedOut, Differences, Occurred};
 use crate::walk::walk_guarded;
 use crate::{judge_line, paths, worlds};
 
@@ -183,12 +181,9 @@ fn of_reading(request: &[u8], answer: Answer) -> Vec<(bool, Event)> {
 /// How often each thing happened.
 #[derive(Clone, Debug, Default)]
 pub struct Tally {
-    calls: u64,
-    numbers: BTreeMap<u8, u64>,
-    events: BTreeMap<Event, u64>,
+    occurred: Occurred<Event>,
     second_walks: u64,
-    carried_out: u64,
-    true_worlds: u64,
+    carried_out: CarriedOut,
     broken_though_held: u64,
     differences: Differences,
 }
@@ -213,11 +208,8 @@ pub fn run(seed: u64, calls: u64) -> Tally {
 impl Tally {
     /// Notes a call with its answer.
     pub fn note(&mut self, request: &[u8], budget: u32, answer: Answer) {
-        self.calls += 1;
-        *self.numbers.entry(answer.number).or_default() += 1;
-        for event in events(request, budget, answer) {
-            *self.events.entry(event).or_default() += 1;
-        }
+        let events = events(request, budget, answer);
+        self.occurred.note(answer.number, events);
     }
 
     /// Makes a guarded call and checks its answer.
@@ -231,12 +223,7 @@ impl Tally {
             outlook => expect_outlook(answer, outlook)?,
         }
         let written = matches!(answer.number, 1 | 2 | BROKEN);
-        if !written && lent != call.lent {
-            return Err(format!("answer {answer} changed the lent state"));
-        }
-        if answer.number != 2 && line != 0 {
-            return Err(format!("answer {answer} carries the line {line}"));
-        }
+        expect_left(call, written, (answer, line), &lent)?;
         compare_plain(call, (answer, line), &lent)?;
         if !matches!(answer.number, 0..=3 | BROKEN) {
             return Ok(());
@@ -260,18 +247,7 @@ impl Tally {
             return Ok(());
         };
         self.second_walks += 1;
-        if (other.answer, other.line) != (answer, line as usize) {
-            let (by, its) = (other.answer, other.line);
-            return Err(format!(
-                "answer {answer}, line {line}, by the second walk {by}, line {its}"
-            ));
-        }
-        match other.marks.map(state_of) {
-            Some(state) if lent != state => Err(format!(
-                "answer {answer}: the second walk's state is another"
-            )),
-            _ => Ok(()),
-        }
+        expect_told(other, (answer, line), lent)
     }
 
     /// A verified plan works in every true world, and the guards hold in each that is possible.
@@ -279,15 +255,9 @@ impl Tally {
         if guarded.request.fluents > worlds::WORLD_FLUENTS || answer.number == 3 {
             return Ok(());
         }
-        match (answer.number, worlds::carry_out_guarded(guarded)) {
-            (0, Ok(worlds)) => {
-                self.carried_out += 1;
-                self.true_worlds += worlds;
-            }
-            (0, Err(failure)) => return Err(format!("verified, but in worlds {failure:?}")),
-            (BROKEN, Ok(_)) => self.broken_though_held += 1,
-            _ => {}
-        }
+        let carried = worlds::carry_out_guarded(guarded);
+        let held = self.carried_out.note(answer, carried)?;
+        self.broken_though_held += u64::from(held && answer.number == BROKEN);
         Ok(())
     }
 
@@ -300,45 +270,36 @@ impl Tally {
     pub fn verdict(&self) -> Result<(), String> {
         self.differences.verdict()?;
         all_met(&self.never_met())?;
-        let rare = |number: &u8| self.numbers[number] * 100 < self.calls * LEAST_SHARE;
-        match [0, 1, 2, 3, BROKEN].iter().find(|number| rare(number)) {
-            Some(number) => Err(format!("below {LEAST_SHARE} per cent: answer {number}")),
-            None => Ok(()),
-        }
+        self.occurred.none_rare(&[0, 1, 2, 3, BROKEN], LEAST_SHARE)
     }
 
     /// What has to occur and didn't, in words.
     pub fn never_met(&self) -> Vec<String> {
-        let numbers = never(&NUMBERS, &self.numbers, |number| {
-            format!("answer {number} with guards")
-        });
-        let events = never(&Event::ALL, &self.events, |event| format!("{event:?}"));
-        numbers.chain(events).collect()
+        let never = self.occurred.never(&NUMBERS, "with guards", &Event::ALL);
+        never.collect()
     }
 
     /// The tallies as text, one to a line.
     pub fn report(&self) -> String {
-        let mut out = self.differences.report();
-        let _ = writeln!(out, "guarded requests judged: {}", self.calls);
-        out += &each(&self.numbers, |number| format!("  answer {number}"));
-        out += &each(&self.events, |event| format!("  {event:?}"));
-        let mut numbers = vec![
+        let numbers = [
             (
                 "guarded walks compared with the second walk",
                 self.second_walks,
             ),
             (
                 "verified with the guards held in all worlds",
-                self.carried_out,
+                self.carried_out.plans(),
             ),
-            ("true worlds of these guarded requests", self.true_worlds),
+            (
+                "true worlds of these guarded requests",
+                self.carried_out.worlds(),
+            ),
             (
                 "answer 43 though every world holds the guards",
                 self.broken_though_held,
             ),
         ];
-        numbers.retain(|(_, number)| *number > 0);
-        out + &titled(&numbers)
+        self.differences.report() + &self.occurred.report("guarded requests judged", &numbers)
     }
 }
 

@@ -1,7 +1,7 @@
 -- What was answered so far and what is left are all the answers; at a plan that fails, its fault and the plans behind it are all that is left.
 use borrow.Author.Needs.{needs}
 use Prim.Native.Nat.{_-_}
-use Rattle.verdicts.proofs.ReleasingLaws.{Answering, answering-starts, answering-hand, answering-unguarded, answering-room, answering-small, answering-next, answering-fault, answering-few, answering-sized, answering-stops, answering-done}
+use Rattle.verdicts.proofs.ReleasingLaws.{Answering, answering-starts, answering-hand, answering-unguarded, answering-known, answering-room, answering-small, answering-next, answering-fault, answering-few, answering-sized, answering-stops, answering-done}
 use Rattle.verdicts.proofs.releasing.answer_plans.Statement.{statement}
 use Rattle.verdicts.proofs.releasing.answer_plans.Tie as tie
 use Rattle.verdicts.proofs.releasing.answer_plans.Reads as reads
@@ -32,7 +32,7 @@ enum-known-e c = search needs
 
 -- src/releasing.rt:154:21
 answer-plan-requires : tie.Need-answer-plan-requires Inv-loop μ-loop
-answer-plan-requires c κs = (search answering-hand, search answering-unguarded)
+answer-plan-requires c κs = (search answering-hand, (search answering-unguarded, search answering-known))
 
 -- src/releasing.rt:155:17
 put-answer-requires : tie.Need-put-answer-requires Inv-loop μ-loop

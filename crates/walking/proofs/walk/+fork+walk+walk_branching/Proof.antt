@@ -1,9 +1,9 @@
 -- Each return is one law that adds what was walked to how the walk stood. At each call the position rises, or in a fork the fluent does, so
 -- the cycle ends.
-use Rattle.steps.proofs.LookLaws.{first-marked, second-marked, after-marked}
-use Rattle.steps.proofs.AfterLaws.{runs-there}
+use Rattle.steps.proofs.LookLaws.{first-marked, second-marked}
+use Rattle.steps.proofs.ModeLaws.{after-marked}
 use Rattle.walking.proofs.FallLaws.{walk-measure, branching-measure, fork-measure, fork-falls, fork-walk-falls, walk-branching-falls, walk-fork-falls, branching-walk-falls, follow-falls, followed-position, chosen-position, marked-sized, opens-branching, is-branching, action-here}
-use Rattle.walking.proofs.WalkArms.{going-after-fork, going-after-walk, going-after-one, walking-counted, action-low, item-stuck, run-spent, run-moves, run-forks, run-sees, branch-taken, none-taken, Walking, walking-starts, walking-here, walking-there, walking-marked, walking-sized, walking-going, walking-later, walking-broken, walking-passed, walking-ends, walking-judged, walking-on, passed-lacks}
+use Rattle.walking.proofs.WalkArms.{going-after-fork, going-after-walk, going-after-one, walking-counted, action-low, item-stuck, item-many, ran-there, run-spent, run-moves, run-forks, run-sees, branch-taken, none-taken, Walking, walking-starts, walking-here, walking-there, walking-marked, walking-sized, walking-going, walking-later, walking-broken, walking-passed, walking-ends, walking-judged, walking-on, passed-lacks}
 use Rattle.walking.proofs.ForkLaws.{fork-rises, fork-stops, fork-forks, last-stops, last-walks}
 use Rattle.walking.proofs.StandingLaws.{notable}
 use Rattle.walking.proofs.PlacesFit.{item-fits}
@@ -24,14 +24,15 @@ use Rattle.walking.proofs.walk.walk_branching.Kinds as walk-branching-k
 use Rattle.walking.proofs.walk.+fork+walk+walk_branching.Lts-walk_branching as walk-branching-lts
 use Rattle.bytes.proofs.bytes.wide.Reads as wide-reads
 use Rattle.reading.proofs.notes.get.Reads as get-reads
-use Rattle.steps.proofs.actions.can_be_run.Reads as can-be-run-reads
-use Rattle.steps.proofs.actions.state_after.Reads as state-after-reads
 use Rattle.steps.proofs.onward.chosen.Reads as chosen-reads
 use Rattle.steps.proofs.onward.follow.Reads as follow-reads
 use Rattle.steps.proofs.sensing.first_unknown.Reads as first-unknown-reads
 use Rattle.steps.proofs.sensing.is_sensing.Reads as is-sensing-reads
 use Rattle.steps.proofs.sensing.next_unknown.Reads as next-unknown-reads
+use Rattle.steps.proofs.trying.after.Reads as after-reads
+use Rattle.steps.proofs.trying.tried.Reads as tried-reads
 use Rattle.walking.proofs.tally.count_one.Reads as count-one-reads
+use Rattle.walking.proofs.tally.give_up.Reads as give-up-reads
 use Rattle.walking.proofs.tally.goes_on.Reads as goes-on-reads
 use Rattle.walking.proofs.tally.note.Reads as note-reads
 use Rattle.walking.proofs.walk.breaks.Reads as breaks-reads
@@ -162,8 +163,8 @@ pub +fork+walk+walk-branching-spec : {M : Type 1} → statement M
       walk-branching.Post,
       wide-reads.Asked,
       wide-reads.Learnt,
-      can-be-run-reads.Asked,
-      can-be-run-reads.Learnt,
+      tried-reads.Asked,
+      tried-reads.Learnt,
       count-one-reads.Asked,
       count-one-reads.Learnt,
       goes-on-reads.Asked,
@@ -176,10 +177,12 @@ pub +fork+walk+walk-branching-spec : {M : Type 1} → statement M
       fork.Post,
       follow-reads.Asked,
       follow-reads.Learnt,
-      state-after-reads.Asked,
-      state-after-reads.Learnt,
+      after-reads.Asked,
+      after-reads.Learnt,
       note-reads.Asked,
       note-reads.Learnt,
+      give-up-reads.Asked,
+      give-up-reads.Learnt,
       judge-end-reads.Asked,
       judge-end-reads.Learnt,
     )
@@ -197,23 +200,28 @@ pub +fork+walk+walk-branching-spec : {M : Type 1} → statement M
     (λ c. search (branch-taken, walking-ends))
     (λ c. search (item-inside, walking-there))
     (λ c κs. search needs)
-    (λ c κs. (search needs, search (action-small, walking-there)))
+    (λ c κs. (search needs, (search (action-small, walking-there), search walking-marked)))
+    (λ c. search needs)
     (λ c κs. search walking-passed)
     (λ c κs. search needs)
     (λ c κs. (search needs, search (action-small, walking-there)))
     (λ c κs. (search needs, (search (action-small, walking-there), search walking-marked)))
-    (λ c κs. (search (walk-fork-falls, walking-later), (search walking-here, (search walking-there, (action-low _ _ (search walking-here) _ (search walking-there) _ (c .before .before .before .before .before .before .before .before .before .before .before .before .before .before .before .before .before .before .get .ensures) (c .before .before .before .before .before .before .before .before .before .before .before .before .before .before .before .before .if2 .left), (search needs, (search walking-marked, going-after-one _ _ (search walking-passed) (c .before .before .before .before .before .before .before .before .before .count-one .ensures) _ (c .before .before .before .before .before .before .before .goes-on .ensures) (c .before .before .before .before .before .before .if4 .taken))))))))
-    (λ c. search (walking-ends, run-forks, walking-here, walking-there, walking-passed, walking-marked))
+    (λ c κs. (search (walk-fork-falls, walking-later), (search walking-here, (search walking-there, (action-low _ _ (search walking-here) _ (search walking-there) _ (c .before .before .before .before .before .before .before .before .before .before .before .before .before .before .before .before .before .before .before .get .ensures) (c .before .before .before .before .before .before .before .before .before .before .before .before .before .before .before .before .before .if2 .left), (search needs, (search walking-marked, going-after-one _ _ (search walking-passed) (c .before .before .before .before .before .before .before .before .before .count-one .ensures) _ (c .before .before .before .before .before .before .before .goes-on .ensures) (c .before .before .before .before .before .before .if3 .taken))))))))
+    (λ c. walking-ends _ _ _ _ _ _ _ _ (c .before .before .before .before .before .before .before .before .before .before .before .before .before .before .before .before .before .before .before .before .before .before .before .before .before .before .loop .inv) _ _ (c .before .before .before .before .before .before .before .before .before .before .before .before .before .before .before .before .before .before .before .before .before .before .breaks .ensures) (c .before .before .before .before .before .before .before .before .before .before .before .before .before .before .before .before .before .before .before .before .before .if1 .left) _ (run-forks _ _ (walking-here _ _ _ _ _ _ _ _ (c .before .before .before .before .before .before .before .before .before .before .before .before .before .before .before .before .before .before .before .before .before .before .before .before .before .before .loop .inv)) _ (walking-there _ _ _ _ _ _ _ _ (c .before .before .before .before .before .before .before .before .before .before .before .before .before .before .before .before .before .before .before .before .before .before .before .before .before .before .loop .inv) (c .before .before .before .before .before .before .before .before .before .before .before .before .before .before .before .before .before .before .before .before .before .before .before .before .before .loop-test .taken)) _ (c .before .before .before .before .before .before .before .before .before .before .before .before .before .before .before .before .before .before .before .before .get .ensures) (c .before .before .before .before .before .before .before .before .before .before .before .before .before .before .before .before .before .before .if2 .left) _ (c .before .before .before .before .before .before .before .before .before .before .before .before .before .before .before .before .wide .ensures) _ _ (walking-passed _ _ _ _ _ _ _ _ (c .before .before .before .before .before .before .before .before .before .before .before .before .before .before .before .before .before .before .before .before .before .before .before .before .before .before .loop .inv) _ _ (c .before .before .before .before .before .before .before .before .before .before .before .before .before .before .before .before .before .before .before .before .before .before .breaks .ensures) (c .before .before .before .before .before .before .before .before .before .before .before .before .before .before .before .before .before .before .before .before .before .if1 .left)) _ (c .before .before .before .before .before .before .before .before .before .before .before .before .before .before .tried .ensures) (c .before .before .before .before .before .before .before .before .before .before .before .before .enum-told .given .1) _ (c .before .before .before .before .before .before .before .before .before .before .count-one .ensures) _ (c .before .before .before .before .before .before .is-sensing .ensures) (walking-marked _ _ _ _ _ _ _ _ (c .before .before .before .before .before .before .before .before .before .before .before .before .before .before .before .before .before .before .before .before .before .before .before .before .before .before .loop .inv)) _ (c .before .before .before .first-unknown .ensures) (c .before .before .before .before .before .if4 .taken) (c .before .before .if5 .taken) _ (c .fork .ensures)))
     (λ c κs. (search needs, search walking-there))
     (λ c. search follow-falls)
-    (λ c. search (walking-on, walking-counted, walking-marked, run-sees, walking-there, walking-passed))
-    (λ c κs. (search needs, (search (action-small, walking-there), (search walking-marked, runs-there _ _ _ _ (c .before .before .before .before .before .before .before .before .before .can-be-run .ensures) (c .before .before .before .before .before .before .before .before .if3 .taken)))))
+    (λ c. walking-on _ _ _ _ _ _ _ _ (c .before .before .before .before .before .before .before .before .before .before .before .before .before .before .before .before .before .before .before .before .before .before .before .before .before .loop .inv) _ _ (c .before .before .before .before .before .before .before .before .before .before .before .before .before .before .before .before .before .before .before .before .before .breaks .ensures) (c .before .before .before .before .before .before .before .before .before .before .before .before .before .before .before .before .before .before .before .before .if1 .left) _ (walking-counted _ _ _ _ _ _ _ _ (c .before .before .before .before .before .before .before .before .before .before .before .before .before .before .before .before .before .before .before .before .before .before .before .before .before .loop .inv) _ _ (c .before .before .before .before .before .before .before .before .before .before .before .before .before .before .before .before .before .before .before .before .before .breaks .ensures) (c .before .before .before .before .before .before .before .before .before .before .before .before .before .before .before .before .before .before .before .before .if1 .left) _ (c .before .before .before .before .before .before .before .before .before .count-one .ensures) _ (c .before .before .before .before .before .before .before .goes-on .ensures) (c .before .before .before .before .before .before .if3 .taken)) _ (walking-marked _ _ _ _ _ _ _ _ (c .before .before .before .before .before .before .before .before .before .before .before .before .before .before .before .before .before .before .before .before .before .before .before .before .before .loop .inv)) _ (c .follow .ensures) (run-sees _ _ (walking-here _ _ _ _ _ _ _ _ (c .before .before .before .before .before .before .before .before .before .before .before .before .before .before .before .before .before .before .before .before .before .before .before .before .before .loop .inv)) _ (walking-there _ _ _ _ _ _ _ _ (c .before .before .before .before .before .before .before .before .before .before .before .before .before .before .before .before .before .before .before .before .before .before .before .before .before .loop .inv) (c .before .before .before .before .before .before .before .before .before .before .before .before .before .before .before .before .before .before .before .before .before .before .before .before .loop-test .taken)) _ (c .before .before .before .before .before .before .before .before .before .before .before .before .before .before .before .before .before .before .before .get .ensures) (c .before .before .before .before .before .before .before .before .before .before .before .before .before .before .before .before .before .if2 .left) _ (c .before .before .before .before .before .before .before .before .before .before .before .before .before .before .before .wide .ensures) _ _ (walking-passed _ _ _ _ _ _ _ _ (c .before .before .before .before .before .before .before .before .before .before .before .before .before .before .before .before .before .before .before .before .before .before .before .before .before .loop .inv) _ _ (c .before .before .before .before .before .before .before .before .before .before .before .before .before .before .before .before .before .before .before .before .before .breaks .ensures) (c .before .before .before .before .before .before .before .before .before .before .before .before .before .before .before .before .before .before .before .before .if1 .left)) _ (c .before .before .before .before .before .before .before .before .before .before .before .before .before .tried .ensures) (c .before .before .before .before .before .before .before .before .before .before .before .enum-told .given .1) _ (c .before .before .before .before .before .before .before .before .before .count-one .ensures) _ (c .before .before .before .before .before .is-sensing .ensures) (walking-marked _ _ _ _ _ _ _ _ (c .before .before .before .before .before .before .before .before .before .before .before .before .before .before .before .before .before .before .before .before .before .before .before .before .before .loop .inv)) _ (c .before .before .first-unknown .ensures) (c .before .before .before .before .if4 .taken) (c .before .if5 .left) _ (c .follow .ensures)))
+    (λ c κs. (search needs, (search (action-small, walking-there), (search walking-marked, ran-there _ _ _ _ _ (c .before .before .before .before .before .before .before .before .before .before .tried .ensures) (c .before .before .before .before .before .before .before .before .enum-told .given .1)))))
     (λ c κs. (search needs, search walking-there))
     (λ c. search follow-falls)
-    (λ c. search (walking-on, walking-counted, after-marked, walking-marked, run-moves, walking-there, walking-passed))
+    (λ c. walking-on _ _ _ _ _ _ _ _ (c .before .before .before .before .before .before .before .before .before .before .before .before .before .before .before .before .before .before .before .before .before .before .before .before .loop .inv) _ _ (c .before .before .before .before .before .before .before .before .before .before .before .before .before .before .before .before .before .before .before .before .breaks .ensures) (c .before .before .before .before .before .before .before .before .before .before .before .before .before .before .before .before .before .before .before .if1 .left) _ (walking-counted _ _ _ _ _ _ _ _ (c .before .before .before .before .before .before .before .before .before .before .before .before .before .before .before .before .before .before .before .before .before .before .before .before .loop .inv) _ _ (c .before .before .before .before .before .before .before .before .before .before .before .before .before .before .before .before .before .before .before .before .breaks .ensures) (c .before .before .before .before .before .before .before .before .before .before .before .before .before .before .before .before .before .before .before .if1 .left) _ (c .before .before .before .before .before .before .before .before .count-one .ensures) _ (c .before .before .before .before .before .before .goes-on .ensures) (c .before .before .before .before .before .if3 .taken)) _ (after-marked _ _ _ _ _ (walking-marked _ _ _ _ _ _ _ _ (c .before .before .before .before .before .before .before .before .before .before .before .before .before .before .before .before .before .before .before .before .before .before .before .before .loop .inv)) (c .before .after .ensures)) _ (c .follow2 .ensures) (run-moves _ _ (walking-here _ _ _ _ _ _ _ _ (c .before .before .before .before .before .before .before .before .before .before .before .before .before .before .before .before .before .before .before .before .before .before .before .before .loop .inv)) _ (walking-there _ _ _ _ _ _ _ _ (c .before .before .before .before .before .before .before .before .before .before .before .before .before .before .before .before .before .before .before .before .before .before .before .before .loop .inv) (c .before .before .before .before .before .before .before .before .before .before .before .before .before .before .before .before .before .before .before .before .before .before .before .loop-test .taken)) _ (c .before .before .before .before .before .before .before .before .before .before .before .before .before .before .before .before .before .before .get .ensures) (c .before .before .before .before .before .before .before .before .before .before .before .before .before .before .before .before .if2 .left) _ (c .before .before .before .before .before .before .before .before .before .before .before .before .before .before .wide .ensures) _ _ (walking-passed _ _ _ _ _ _ _ _ (c .before .before .before .before .before .before .before .before .before .before .before .before .before .before .before .before .before .before .before .before .before .before .before .before .loop .inv) _ _ (c .before .before .before .before .before .before .before .before .before .before .before .before .before .before .before .before .before .before .before .before .breaks .ensures) (c .before .before .before .before .before .before .before .before .before .before .before .before .before .before .before .before .before .before .before .if1 .left)) _ (c .before .before .before .before .before .before .before .before .before .before .before .before .tried .ensures) (c .before .before .before .before .before .before .before .before .before .before .enum-told .given .1) _ (c .before .before .before .before .before .before .before .before .count-one .ensures) _ (c .before .before .before .before .is-sensing .ensures) (c .before .before .before .if4 .left) _ (c .before .after .ensures) _ (c .follow2 .ensures)))
     (λ c. search (walking-ends, run-spent, walking-there, walking-passed))
+    (λ c. search needs)
     (λ c κs. (search walking-passed, (search walking-sized, (search (needs, notable), search (item-fits, walking-there)))))
     (λ c. search (walking-ends, item-stuck, walking-there, walking-passed))
+    (λ c. search needs)
+    (λ c κs. (search walking-passed, search (item-fits, walking-there)))
+    (λ c. search (walking-ends, item-many, walking-there, walking-passed))
     (λ c κs. (search needs, (search walking-marked, search walking-going)))
     (λ c. search walking-broken)
     (λ c κs. (search needs, (search walking-marked, search walking-passed)))

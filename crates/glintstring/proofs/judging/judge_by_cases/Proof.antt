@@ -1,0 +1,75 @@
+-- The three ways out, as of the walk call; the mode is put into the notes of a settled request.
+use Rattle.glintstring.proofs.JudgingLaws.{cases-9, cases-line-9, cases-walked, cases-line-walked, cases-refused, cases-line-refused}
+use Rattle.glintstring.proofs.SettledAtHand.{cases-hand}
+use Rattle.verdicts.proofs.ReleasingLaws.{blank-is}
+use borrow.Author.Needs.{needs}
+use Rattle.glintstring.proofs.judging.judge_by_cases.Statement.{statement}
+use Rattle.glintstring.proofs.judging.judge_by_cases.Tie as tie
+use Rattle.glintstring.proofs.judging.judge_by_cases.Reads as reads
+use Rattle.glintstring.proofs.judging.judge_by_cases.Lts as lts
+use Rattle.glintstring.proofs.judging.walk_with_line.Reads as walk-with-line-reads
+use Rattle.glintstring.proofs.judging.without_walk.Reads as without-walk-reads
+use Rattle.reading.proofs.notes.put.Reads as put-reads
+use Rattle.refusing.proofs.settled.settle.Reads as settle-reads
+
+-- src/judging.rt:104:9
+without-walk-requires : tie.Need-without-walk-requires
+without-walk-requires c κs = search needs
+
+-- src/judging.rt:104:9
+returns : tie.Need-returns
+returns c = (search cases-9, search cases-line-9)
+
+-- src/judging.rt:107:11
+settle-requires : tie.Need-settle-requires
+settle-requires c κs = search blank-is
+
+-- src/judging.rt:109:17
+enum-told : tie.Need-enum-told
+enum-told c = search needs
+
+-- src/judging.rt:109:13
+put-requires : tie.Need-put-requires
+put-requires c κs = search needs
+
+-- src/judging.rt:110:13
+walk-with-line-requires : tie.Need-walk-with-line-requires
+walk-with-line-requires c κs =
+    let settles = c .before .before .before .before .before .before in
+    (cases-hand _ _ _ _ (settles .settle .ensures) _ (c .before .before .before .before .enum-told .given .1) (settles .before .before .before .before .shared-slice-known .given) blank-is _ (c .before .before .put .ensures), search needs)
+
+-- src/judging.rt:112:23
+enum-known-k : tie.Need-enum-known-k
+enum-known-k c = search needs
+
+-- src/judging.rt:112:32
+without-walk-requires-2 : tie.Need-without-walk-requires-2
+without-walk-requires-2 c κs = search needs
+
+-- src/judging.rt:99:1
+same-length : tie.Need-same-length
+same-length c = search needs
+
+-- src/judging.rt:99:1
+returns-2 : tie.Need-returns-2
+returns-2 c = (search (cases-walked, blank-is), search (cases-line-walked, blank-is))
+
+-- src/judging.rt:99:1
+returns-3 : tie.Need-returns-3
+returns-3 c = (search cases-refused, search cases-line-refused)
+
+pub judge-by-cases-spec : {M : Type 1} → statement M
+judge-by-cases-spec =
+    tie.close
+    (tie.spec
+    without-walk-requires
+    returns
+    settle-requires
+    enum-told
+    put-requires
+    walk-with-line-requires
+    enum-known-k
+    without-walk-requires-2
+    same-length
+    returns-2
+    returns-3)

@@ -1,0 +1,65 @@
+-- What the mode of a walk says: the state after an action is marked whichever it is, and the walk of what is held is that of the mode. Assumes nothing.
+use Prim.Native.Nat.{ℕ, zero, suc, _+_, _≤_}
+use native.Mathlib.Omega.{arith}
+use mathlib.Core.Path.{_≡_, refl, sym, _∙_, ap, subst, fun-ext}
+use mathlib.Core.List.{List, [], _∷_, map}
+use lib.ListN.{length, getD}
+use borrow.Author.Tests.{eq-eqb, ne-eqb}
+use Rattle.meaning.specs.Limits.{format}
+use Rattle.meaning.specs.Requests.{Table, Entry}
+use Rattle.meaning.specs.States.{State, first-state, state-after}
+use Rattle.meaning.specs.Walk.{table-does, first-missed, walked, guarded-step, walked-guarded}
+use Rattle.meaning.specs.ByCases.{complete, shared-mark, shared-marks, after-each, after-cases, cases-does, cases-step, walked-by-cases}
+use Rattle.meaning.proofs.TestLaws.{pick-true, pick-false}
+use Rattle.meaning.proofs.PickLaws.{pick-has}
+use Rattle.meaning.proofs.KeptEnds.{walked-unguarded}
+use Rattle.steps.specs.Held.{table-in, guards-in, request-in}
+use Rattle.steps.specs.AtHand.{Marked}
+use Rattle.steps.specs.Steps.{mode-in, does-in, after-in, step-in, walk-held}
+use Rattle.steps.proofs.LookLaws
+
+-- What states share is marked.
+shared-small : (us : List State) (f : ℕ) → shared-mark us f ≤ 2
+unfolding shared-mark
+shared-small us f = pick-has (λ (n : ℕ). n ≤ 2) _ _ _ (λ _. omega arith) (λ _. pick-has (λ (n : ℕ). n ≤ 2) _ _ _ (λ _. omega arith) (λ _. omega arith))
+
+shared-each : (us : List State) (f : ℕ) (ms : List ℕ) → (length (shared-marks us f ms) ≡ length ms) × ((j : ℕ) → getD (shared-marks us f ms) j 0 ≤ 2)
+unfolding shared-marks
+shared-each us f [] = (refl, λ j. omega arith)
+shared-each us f (m ∷ ms) = (ap suc (shared-each us (f + 1) ms .0), by-index (shared-each us (f + 1) ms .1))
+  where
+    by-index : ((j : ℕ) → getD (shared-marks us (f + 1) ms) j 0 ≤ 2) → (j : ℕ) → getD (shared-mark us f ∷ shared-marks us (f + 1) ms) j 0 ≤ 2
+    by-index later zero = shared-small us f
+    by-index later (suc j) = later j
+
+pub marked-after-cases : (t : Table) (a : ℕ) (s : State) → Marked s → Marked (after-cases t a s)
+unfolding after-cases after-each
+marked-after-cases t a s marked = let w = shared-each (map (state-after t a) (complete t s)) 0 s in record { sized = w .0 ∙ marked .sized; small = w .1 }
+
+pub after-marked : (m : ℕ) (t : Table) (a : ℕ) (marks r : State) → Marked marks → r ≡ after-in m t a marks → Marked r
+unfolding after-in
+after-marked m t a marks r marked e =
+    subst Marked (sym e) (pick-has Marked _ _ _ (λ _. LookLaws.after-marked t a marks _ marked refl) (λ _. marked-after-cases t a marks marked))
+
+-- THE WALK of what is held. In mode 0 it goes by what is known.
+does-known : (m : ℕ) (t : Table) → m ≡ 0 → does-in m t ≡ table-does t
+unfolding does-in
+does-known m t zero-is = fun-ext (λ a. fun-ext (λ s. pick-true _ _ _ (eq-eqb m 0 zero-is)))
+
+pub held-known : (s t : List ℕ) → mode-in t ≡ 0 → walk-held s t ≡ walked-guarded (request-in s t) (guards-in s t) (first-state format (table-in s))
+unfolding walk-held step-in walked-guarded guarded-step request-in
+held-known s t zero-is = rw (does-known (mode-in t) (table-in s) zero-is) refl
+
+pub held-plain : (s t : List ℕ) → mode-in t ≡ 0 → guards-in s t ≡ [] → walk-held s t ≡ walked (request-in s t) (first-state format (table-in s))
+held-plain s t zero-is none =
+    held-known s t zero-is ∙ ap (λ (gs : List Entry). walked-guarded (request-in s t) gs (first-state format (table-in s))) none
+    ∙ walked-unguarded (request-in s t) (first-state format (table-in s))
+
+-- In every other mode, and without guards, it goes by cases.
+does-cases : (m : ℕ) (t : Table) → (m ≡ 0 → ⊥) → does-in m t ≡ cases-does t
+unfolding does-in
+does-cases m t other = fun-ext (λ a. fun-ext (λ s. pick-false _ _ _ (ne-eqb m 0 other)))
+
+pub held-cases : (s t : List ℕ) → (mode-in t ≡ 0 → ⊥) → guards-in s t ≡ [] → walk-held s t ≡ walked-by-cases (request-in s t) (first-state format (table-in s))
+unfolding walk-held step-in walked-by-cases cases-step request-in first-missed
+held-cases s t other none = rw (does-cases (mode-in t) (table-in s) other, none) refl

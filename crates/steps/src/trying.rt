@@ -1,0 +1,50 @@
+// What an action does, in the mode of the walk.
+ghost use mathlib.Core.Path.{_≡_};
+ghost use Prim.Native.Nat.{_<_};
+ghost use Rattle.meaning.specs.Limits.{format};
+ghost use Rattle.steps.specs.declared.cases.Tried.the-variants.{Runs};
+ghost use Rattle.steps.specs.Held.{table-in};
+ghost use Rattle.steps.specs.AtHand.{At-hand, Marked};
+ghost use Rattle.steps.specs.Steps.{mode-in, does-in, after-in, tried-as};
+use super::actions::can_be_run;
+use super::actions::state_after;
+use super::cases::Tried;
+use super::cases::after_cases;
+use super::cases::try_cases;
+use reading::marks::Marks;
+use reading::notes;
+use reading::notes::Notes;
+use reading::notes::get;
+
+// Whether the action can be run.
+pub fn tried(s: &[u8], t: &Notes, a: usize, marks: &Marks) -> Tried
+    requires { ⌜ At-hand (now s) (now t) ⌝ }
+    requires { ⌜ a < format .actions ⌝ }
+    requires { ⌜ Marked (now marks) ⌝ }
+    ensures { λ r. ⌜ does-in (mode-in (now (t .entry))) (table-in (now (s .entry))) a (now (marks .entry)) ≡ tried-as (mode-in (now (t .entry))) (table-in (now (s .entry))) a (now (marks .entry)) r ⌝ }
+{
+    let mode = get(t, notes::MODE);
+    if mode == 0 {
+        let runs = can_be_run(s, t, a, marks);
+        if runs {
+            return Tried::Runs;
+        }
+        return Tried::Stuck;
+    }
+    try_cases(s, t, a, marks)
+}
+
+// The state after one that is not a sensing one and can be run.
+pub fn after(s: &[u8], t: &Notes, a: usize, marks: &Marks) -> Marks
+    requires { ⌜ At-hand (now s) (now t) ⌝ }
+    requires { ⌜ a < format .actions ⌝ }
+    requires { ⌜ Marked (now marks) ⌝ }
+    requires { ⌜ does-in (mode-in (now t)) (table-in (now s)) a (now marks) ≡ tried-as (mode-in (now t)) (table-in (now s)) a (now marks) Runs ⌝ }
+    ensures { λ r. ⌜ r ≡ after-in (mode-in (now (t .entry))) (table-in (now (s .entry))) a (now (marks .entry)) ⌝ }
+{
+    let mode = get(t, notes::MODE);
+    if mode == 0 {
+        return state_after(s, t, a, marks);
+    }
+    after_cases(s, t, a, marks)
+}
