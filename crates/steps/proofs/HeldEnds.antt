@@ -8,7 +8,7 @@ use Rattle.meaning.specs.Limits.{format}
 use Rattle.meaning.specs.Requests.{Table}
 use Rattle.meaning.specs.Refusals.{at}
 use Rattle.meaning.specs.States.{State, first-state, state-after, outcome-to, outcome}
-use Rattle.meaning.specs.Walk.{Concerned, no-state, in-state, Step, walk, table-does, missed-in, judged}
+use Rattle.meaning.specs.Walk.{Concerned, no-state, in-state, walk, table-does, missed-in, judged}
 use Rattle.meaning.specs.ByCases.{after-cases, cases-does}
 use Rattle.meaning.proofs.PickLaws.{pick-has}
 use Rattle.meaning.proofs.KeptEnds.{On-places, Outcome-has, End-so, Step-so, meet-so, walk-so, end-of-so}

@@ -2,20 +2,19 @@
 -- a table and were given no mode have 0 there. Assumes nothing.
 use Prim.Native.Nat.{ℕ, _+_, _*_, _%_, _<_}
 use native.Mathlib.Omega.{arith}
-use mathlib.Core.Path.{_≡_, refl, _∙_, ap}
+use mathlib.Core.Path.{_≡_, _∙_, ap}
 use mathlib.Core.List.{List}
 use lib.ListN.{length, getD, set}
 use lib.Seq.{getD-set-same}
 use Rattle.meaning.specs.Limits.{format}
 use Rattle.reading.specs.Bits.{bit-of}
-use Rattle.reading.specs.Noted.{effect-lines, run-lines, line-slots, sensed-from, sensed-to, plan-slot, items-slot, goals-slot, guards-slot, mode-slot, pair-slot, pair-there, word-bits, slots}
-use Rattle.reading.specs.Planned.{items-of}
+use Rattle.reading.specs.Noted.{effect-lines, run-lines, sensed-from, sensed-to, plan-slot, items-slot, goals-slot, guards-slot, mode-slot, pair-slot, pair-there, word-bits, slots}
 use Rattle.finding.specs.TablesHere.{Table-here}
 use Rattle.finding.proofs.KeptLaws.{kept}
 use Rattle.finding.proofs.ChainLaws.{order-same}
 use Rattle.finding.proofs.PlanKept.{kept-agree}
 use Rattle.finding.proofs.ReadLaws.{whole-table, mode-empty}
-use Rattle.steps.specs.Held.{table-in, plan-of, plan-in, goals-in, whether-in, guards-at, guards-in, request-in}
+use Rattle.steps.specs.Held.{table-in, plan-in, goals-in, whether-in, guards-at, guards-in, request-in}
 use Rattle.steps.specs.LinesFound.{run-places, effect-places, Senses}
 use Rattle.steps.specs.AtHand.{At-hand}
 use Rattle.steps.specs.Steps.{mode-in}

@@ -8,24 +8,24 @@ use mathlib.Core.List.{List, []}
 use mathlib.Core.Logic.{_⊎_}
 use lib.ListN.{length, getD}
 use borrow.Author.Tests.{eq-eqb}
 use Rattle.meaning.specs.Limits
 use Rattle.meaning.specs.Limits.{Limits}
 use Rattle.meaning.specs.Requests.{Table, Item, act, branching, Request}
 use Rattle.meaning.specs.Reading.{got}
 use Rattle.meaning.specs.Refusals.{settled}
 use Rattle.meaning.specs.Lines.{executability-of}
 use Rattle.meaning.specs.States.{State, can-be-run}
 use Rattle.meaning.specs.Asking.{asked, line-of, line-at, line-told, line-settled}
 use Rattle.meaning.specs.ByCases.{runs-by-cases, judge-by-cases, line-by-cases, number}
 use Rattle.meaning.specs.Reported.{pair-of, Item-in, item-place, Not-run, Nearest, item-line}
 use Rattle.meaning.specs.CaseReported.{Not-by-cases}
 use Rattle.meaning.proofs.TestLaws.{clash, by-test, pick-true}
 use Rattle.meaning.proofs.SettledLaws.{settled-is}
 use Rattle.meaning.proofs.PairLaws.{runs-pair}
 use Rattle.meaning.proofs.FillLaws.{known-runs}
 use Rattle.meaning.proofs.ItemBytes.{items-there}
 use Rattle.meaning.proofs.ReportedLine.{line-of-item, settled-not, not-run-near, same-action}
-use Rattle.meaning.proofs.CaseReports.{cases-stopped-there}
+use Rattle.demands.proofs.CaseReports.{cases-stopped-there}
 
 -- NOT BY CASES, and so not as known.
 pub not-known : (t : Table) (a : ℕ) (s : State) → runs-by-cases t a s ≡ false → can-be-run t a s ≡ false

@@ -7,27 +7,27 @@ use mathlib.Core.List.{List}
 use mathlib.Core.Logic.{⊎-elim, _↔_}
 use lib.ListN.{length}
 use borrow.Author.Tests.{eq-eqb}
 use Rattle.meaning.specs.Limits
 use Rattle.meaning.specs.Limits.{Limits}
 use Rattle.meaning.specs.Requests.{Table, Request}
 use Rattle.meaning.specs.Reading.{got}
 use Rattle.meaning.specs.Refusals.{settled}
 use Rattle.meaning.specs.States.{State, first-state}
 use Rattle.meaning.specs.Walk.{End, fine, missed, stopped, Walked, walk, judged}
 use Rattle.meaning.specs.Judging.{within, judge-got}
 use Rattle.meaning.specs.ByCases.{walk-of, judge-by-cases, number, count}
 use Rattle.meaning.specs.Approximation.{failed, least}
 use Rattle.meaning.specs.CaseApproximation.{Φ₁, Φ̂₁, Entailed₁}
 use Rattle.meaning.proofs.TestLaws.{pick-true}
 use Rattle.meaning.proofs.KeptEnds.{Stuck}
 use Rattle.meaning.proofs.WithinLaws.{answered, enough-within, spent-within}
 use Rattle.meaning.proofs.RangeLaws.{Ranged}
 use Rattle.meaning.proofs.ExactEnds.{effects-within, knowledge-within, Exactly, exactly}
 use Rattle.meaning.proofs.Exact.{ranged, fits}
 use Rattle.meaning.proofs.CoverLaws.{Together}
 use Rattle.meaning.proofs.CaseSteps.{unlimited-does, unlimited-step}
 use Rattle.meaning.proofs.CaseWalks.{limited, Stuck-by-cases, cases-stuck, cases-never}
-use Rattle.meaning.proofs.CaseCovers.{cases-together}
+use Rattle.demands.proofs.CaseCovers.{cases-together}
 
 -- Where no stop is for too many cases, each is at an item that can't be run.
 few-stuck : (e : End State) → Stuck-by-cases e → (answered e ≡ Limits.too-many-cases → ⊥) → Stuck e

@@ -8,28 +8,28 @@ use mathlib.Core.Bool.{true, false}
 use mathlib.Core.List.{[], _∷_}
 use mathlib.Core.Logic.{inl, inr, ⊎-elim, _↔_}
 use lib.ListN.{length}
 use Rattle.meaning.specs.Tests.{either, Has}
 use Rattle.meaning.specs.Limits
 use Rattle.meaning.specs.Literals.{says-true, says-false, fluent-of}
 use Rattle.meaning.specs.Requests.{Effect, Knowledge, Table, act}
 use Rattle.meaning.specs.Refusals.{nowhere}
 use Rattle.meaning.specs.States.{State, known, can-be-run, state-after, outcome-to}
 use Rattle.meaning.specs.Walk.{in-state, Step}
 use Rattle.meaning.specs.ByCases.{upward, complete, runs-by-cases, after-cases}
 use Rattle.meaning.specs.Paths.{Ending, first-ran, arrivals, paths-step, paths, paths-item}
 use Rattle.meaning.specs.Approximation.{Pair, Disjoint, true-in, _≼_, executable, Res, Result, failed, state}
 use Rattle.meaning.specs.CaseApproximation.{Completes, Shared, Φ₁}
 use Rattle.meaning.specs.Reported.{pair-of}
 use Rattle.meaning.proofs.TestLaws.{by-test, clash, both-left, both-right, both-true, not-each, each-has, has-each, has-map, map-has}
 use Rattle.meaning.proofs.PickLaws.{pick-has, has-picked}
 use Rattle.meaning.proofs.LiteralLaws.{fluent-true, fluent-false, by-literal}
 use Rattle.meaning.proofs.StateLaws.{unknown-far, after-length}
 use Rattle.meaning.proofs.PairLaws.{≼-trans, true-in-true, true-in-false, true-in-pair, true-grows, executable-grows, Res-grows, Res-disjoint, runs-pair, pair-after}
 use Rattle.meaning.proofs.FillingLaws.{filling-length, some-filling, cases-length, cases-known}
-use Rattle.meaning.proofs.CompleteLaws.{filling-completes, filling-below, completed, some-completion}
+use Rattle.demands.proofs.CompleteLaws.{filling-completes, filling-below, completed, some-completion}
 use Rattle.meaning.proofs.EndLaws.{Ends, ends-one}
 use Rattle.meaning.proofs.CoverLaws.{result-of, step-by, Sized, Below, Covered, stops-cover, Together, outcome-reaches, outcome-covers}
 use Rattle.meaning.proofs.CaseSteps.{unlimited-does}
 
 -- Nothing is known of a literal past the state's end.
 far-unknown : (s : State) (l : ℕ) → length s ≤ fluent-of l → known s l ≡ false

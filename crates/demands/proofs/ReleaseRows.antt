@@ -9,30 +9,30 @@ use lib.ListN.{length, length-append, length-drop, getD, getD-replicate, length-
 use lib.Seq.{length-take-le, getD-take, getD-drop, getD-append-add}
 use lib.Dec.{ltb, eqb}
 use borrow.Author.Tests.{eq-eqb, ltb-true, ltb-false, le-ltb}
 use Rattle.meaning.specs.declared.Answer.{Answer}
 use Rattle.meaning.specs.Tests.{either, pick, some-of}
 use Rattle.meaning.specs.Limits
 use Rattle.meaning.specs.Limits.{Limits}
 use Rattle.meaning.specs.Literals.{among}
 use Rattle.meaning.specs.Requests.{Table, Request}
 use Rattle.meaning.specs.Reading.{Got, got, fault, next, repeated, plan-at, list-at, literals, fluents, table-at, request-at, read-request}
 use Rattle.meaning.specs.Refusals.{Found, nowhere, at, contradiction-in, mixed-in, overlap-in, refuse, settled}
 use Rattle.meaning.specs.States.{State, first-state}
 use Rattle.meaning.specs.Walk.{End, fine, missed, stopped, Walked, walked}
 use Rattle.meaning.specs.Judging.{Judgement, reported, ended, within, judge-settled, judge, judge-got}
 use Rattle.meaning.specs.Releases.{Opening, opening, plans-at, plan-answer, unreached, after-plan, answers-at, in-row, release, plan-bytes, own-request, moved, row-of}
 use Rattle.meaning.specs.Answers.{refusals, answers}
 use Rattle.meaning.proofs.TestLaws.{by-test, clash, pick-true, pick-false}
 use Rattle.meaning.proofs.PickLaws.{pick-has}
 use Rattle.meaning.proofs.SettledLaws.{fault≢got, next-got}
 use Rattle.meaning.proofs.RangeLaws.{got-place}
 use Rattle.meaning.proofs.GotLaws.{On, got-on, next-on}
 use Rattle.meaning.proofs.MovedReads.{next-is}
-use Rattle.meaning.proofs.ShiftedReads.{moved-request, moved-got, request-moved}
+use Rattle.demands.proofs.ShiftedReads.{moved-request, moved-got, request-moved}
 use Rattle.meaning.proofs.KeptReads.{kept-of, repeated-kept, table-kept, request-kept}
-use Rattle.meaning.proofs.MovedWalk.{moved-found, overlap-moved, moved-end, moved-walk, walked-moved}
+use Rattle.demands.proofs.MovedWalk.{moved-found, overlap-moved, moved-end, moved-walk, walked-moved}
 use Rattle.meaning.proofs.AnswerLaws.{every-answer-numbered}
 use Rattle.meaning.proofs.ReleaseLaws.{judged, opened, rows-at, answers-length}
 
 -- What was read, and is not refused by 18.
 abbrev pub past-overlap : Got Request → Got Request

@@ -4,13 +4,13 @@ use Prim.Native.Nat.{ℕ, _+_}
 use mathlib.Core.Path.{_≡_, refl, ap}
 use mathlib.Core.Bool.{Bool}
 use mathlib.Core.List.{List, [], _∷_, map}
 use Rattle.meaning.specs.Tests.{each-of}
 use Rattle.meaning.specs.Requests.{Sequence, done, item, Item, act, branching, Branches, none, branch, Entry, Request}
 use Rattle.meaning.specs.Refusals.{Found, nowhere, at, or-else, conditions-of, all-exclusive, overlap-in, overlap-at, overlap-below}
 use Rattle.meaning.specs.States.{State, Outcome, single, fork, known, known-whether}
 use Rattle.meaning.specs.Walk.{End, fine, missed, stopped, Walked, stopped-at, counted, keep-miss, after-miss, after-end, and-then, each-reading, Step, leads-to, refuses, Steps, after-step, run-action, walk, walk-item, walk-branch, table-step, first-missed, missed-in, end-of, judged, walked}
 use Rattle.meaning.proofs.TestLaws.{pick-map}
-use Rattle.meaning.proofs.ShiftedReads.{moved-plan, moved-item, moved-branches, moved-entry, moved-request}
+use Rattle.demands.proofs.ShiftedReads.{moved-plan, moved-item, moved-branches, moved-entry, moved-request}
 
 module _ (on : ℕ) where
   -- WHAT IS FOUND, at a place so much further on.
