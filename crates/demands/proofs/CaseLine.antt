@@ -15,7 +15,7 @@ use Rattle.meaning.specs.Reading.{got}
 use Rattle.meaning.specs.Refusals.{settled}
 use Rattle.meaning.specs.Lines.{executability-of}
 use Rattle.meaning.specs.States.{State, can-be-run}
-use Rattle.meaning.specs.Asking.{asked, line-of, line-at, line-told, line-settled}
+use Rattle.meaning.specs.Asking.{asked, line-of, line-at, line-told, line-got}
 use Rattle.meaning.specs.ByCases.{runs-by-cases, judge-by-cases, line-by-cases, number}
 use Rattle.meaning.specs.Reported.{pair-of, Item-in, item-place, Not-run, Nearest, item-line}
 use Rattle.meaning.specs.CaseReported.{Not-by-cases}
@@ -24,7 +24,7 @@ use Rattle.meaning.proofs.SettledLaws.{settled-is}
 use Rattle.meaning.proofs.PairLaws.{runs-pair}
 use Rattle.meaning.proofs.FillLaws.{known-runs}
 use Rattle.meaning.proofs.ItemBytes.{items-there}
-use Rattle.meaning.proofs.ReportedLine.{line-of-item, settled-not, not-run-near, same-action}
+use Rattle.meaning.proofs.ReportedLine.{line-of-item, line-not, not-run-near, same-action}
 use Rattle.demands.proofs.CaseReports.{cases-stopped-there}
 
 -- NOT BY CASES, and so not as known.
@@ -35,7 +35,7 @@ not-known t a s not = by-test (can-be-run t a s) (λ can. clash (known-runs t a 
 module _ (lim : Limits) (b lent : List ℕ) (budget : ℕ) where
   pub cases-no-line : (number lim b lent budget ≡ Limits.not-executable → ⊥) → line-by-cases lim b lent budget ≡ 0
   unfolding line-by-cases
-  cases-no-line other = settled-not b (judge-by-cases lim b lent budget) other (settled lim b)
+  cases-no-line other = line-not _ b (judge-by-cases lim b lent budget) other (settled lim b)
 
   -- So has 44.
   pub no-line-many : number lim b lent budget ≡ Limits.too-many-cases → line-by-cases lim b lent budget ≡ 0
@@ -46,7 +46,7 @@ module _ (lim : Limits) (b lent : List ℕ) (budget : ℕ) where
     -- The line is that of the item which stands at the place, in the state left.
     pub cases-line-there : number lim b lent budget ≡ Limits.not-executable → (i : Item ℕ) → Item-in (r .plan) i → item-place i ≡ judge-by-cases lim b lent budget .answer .place
         → line-by-cases lim b lent budget ≡ item-line (r .table) i (judge-by-cases lim b lent budget .state)
-    unfolding line-by-cases line-settled line-told
+    unfolding line-by-cases line-got line-told
     cases-line-there stuck i within at =
         let is : line-by-cases lim b lent budget ≡ line-told (r .table) b (judge-by-cases lim b lent budget) = rw past in
         is
