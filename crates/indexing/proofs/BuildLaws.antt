@@ -3,30 +3,30 @@
 use Prim.Native.Nat.{ℕ, zero, suc, _+_, _*_, _/_, _%_, _≤_, _<_}
 use native.Mathlib.Omega.{arith}
 use mathlib.Core.Path.{_≡_, refl, sym, _∙_, ap, ap₂, subst}
-use mathlib.Core.List.{List, [], _∷_, _++_}
-use lib.ListN.{length, set, length-set}
+use mathlib.Core.Bool.{Bool}
+use mathlib.Core.List.{List, [], _∷_, _++_, map}
+use lib.ListN.{length, length-append, getD, set, length-set}
 use lib.Seq.{sets, length-sets, set-comm}
 use lib.Dec.{eqb}
 use mir.Syntax.{w8, w64}
 use mir.Val.{Fits}
 use borrow.Author.Tests.{eq-eqb, ne-eqb}
-use Rattle.meaning.specs.Tests.{pick}
-use Rattle.meaning.specs.Limits.{format}
-use Rattle.meaning.specs.Indexes.{offsets, counted-offsets}
-use Rattle.meaning.proofs.TestLaws.{pick-true, pick-false}
-use Rattle.reading.specs.Noted.{line-numbers, line-place, next-line, first-line}
-use Rattle.reading.specs.Ordered.{Line-in, Chain, In-order}
+use Rattle.meaning.specs.Tests.{those-of, Has}
+use Rattle.meaning.specs.Limits.{format, most-index}
+use Rattle.meaning.specs.Requests.{Effect, Executability, Table}
+use Rattle.meaning.specs.Lines.{effects-of, executability-of}
+use Rattle.meaning.specs.Indexes.{effect-places, run-places, offsets, counted-offsets, action-index, index-from, index-of}
+use Rattle.meaning.proofs.TestLaws.{pick-true, pick-false, those-has, map-has}
+use Rattle.meaning.proofs.TableLines.{Lines-there, table-lines}
+use Rattle.meaning.proofs.IndexLaws.{counted-length, index-more, parts-more, parts-fit, index-length, index-most}
+use Rattle.reading.specs.Noted.{effect-lines, run-lines, line-numbers, line-place, next-line, first-line, effects-slot, executability-slot}
+use Rattle.reading.specs.Ordered.{Chain, In-order}
+use Rattle.reader.proofs.WholeLaws.{Front}
+use Rattle.finding.specs.TablesHere.{table-in, Table-here}
 use Rattle.finding.proofs.AheadLaws.{Ahead, ahead-starts, ahead-none, ahead-first, line-others, line-rest, line-fit}
+use Rattle.finding.proofs.ReadLaws.{whole-table, effects-counted, runs-counted, effects-ordered, runs-ordered}
+use Rattle.finding.proofs.StartLaws.{front-here}
 use Rattle.indexing.specs.Indexed.{noted-from, places-noted, Lines-noted}
-
-offsets-length : (ps : List ℕ) → length (offsets ps) ≡ 2 * length ps
-unfolding offsets
-offsets-length [] = refl
-offsets-length (p ∷ ps) = let more = offsets-length ps in omega (arith, more)
-
-counted-length : (ps : List ℕ) → length (counted-offsets ps) ≡ 1 + 2 * length ps
-unfolding counted-offsets
-counted-length ps = let more = offsets-length ps in omega (arith, more)
 
 -- AN OFFSET.
 pub low-room : (room : List ℕ) (q v : ℕ) → q + 2 ≤ length room → q + 1 < length (set room q v)
@@ -178,3 +178,176 @@ module _ (t before : List ℕ) (lines q : ℕ) (all room : List ℕ) (count p k 
               ∙ ap (λ (ps : List ℕ). sets room p (offsets ps)) (line-rest Near t lines k (puts .ahead) more place at)
               ∙ ap₂ (λ (xs : List ℕ) (i : ℕ). sets xs i (offsets others)) (sym put) on;
         }
+
+-- THE TABLE in the notes: how long its index is, and that the notes lead to each action's lines.
+module _ (s t : List ℕ) (here : Table-here s t) where
+  abbrev x : Table
+  x = table-in s
+
+  lines-here : Lines-there format s x
+  lines-here = table-lines format s 0 x (here .table-end) (here .table)
+
+  pub index-short : length (index-of x) ≤ most-index
+  index-short = index-most format s x lines-here (here .bytes)
+
+  module _ (actions effects runs : ℕ) (one : actions ≡ getD s 1 0) (two : effects ≡ getD t effects-slot 0) (three : runs ≡ getD t executability-slot 0) where
+    pub index-total : 2 * (actions + effects + runs) ≡ length (index-of x)
+    index-total =
+        let long = index-length format s x lines-here in
+        let first = one ∙ front-here s t here .actions-are in
+        let second = two ∙ effects-counted s (here .bytes) x (here .table-end) (whole-table s t here) t (here .noted) in
+        let third = three ∙ runs-counted s (here .bytes) x (here .table-end) (whole-table s t here) t (here .noted) in
+        omega arith
+
+    pub total-fits : Fits w64 (2 * (actions + effects + runs))
+    total-fits = let is = index-total in let most = index-short in record { fits = omega arith }
+
+    pub sum-fits : Fits w64 (actions + effects + runs)
+    sum-fits = let most = total-fits .fits in record { fits = omega arith }
+
+  -- A line's place is in the request, so two bytes hold it.
+  places-near : {A : Type 0} (place : A → ℕ) (keep : A → Bool) (xs : List A) → ((y : A) → Has xs y → place y < length s) → (p : ℕ) → Has (map place (those-of keep xs)) p → p < 65536
+  places-near place keep xs inside p has =
+      let w = map-has place (those-of keep xs) p has in
+      let less = inside (w .0) (those-has keep xs (w .0) (w .1) .0) in
+      let is = w .2 in
+      let short = here .short in
+      omega arith
+
+  lines-noted : (lines a : ℕ) (ps : List ℕ) → In-order t lines a ps → ((p : ℕ) → Has ps p → p < 65536) → Lines-noted t lines a
+  lines-noted lines a ps order near =
+      let same = sym (places-noted-are t lines a ps order) in
+      record {
+        order = subst (In-order t lines a) same order;
+        near = subst (λ (qs : List ℕ). (p : ℕ) → Has qs p → p < 65536) same near;
+      }
+
+  module _ (a : ℕ) (small : a < format .actions) where
+    effects-in-order : In-order t effect-lines a (effect-places x a)
+    unfolding effect-places
+    effects-in-order = effects-ordered s (here .bytes) x (here .table-end) (whole-table s t here) t (here .noted) a small
+
+    runs-in-order : In-order t run-lines a (run-places x a)
+    unfolding run-places
+    runs-in-order = runs-ordered s (here .bytes) x (here .table-end) (whole-table s t here) t (here .noted) a small
+
+    pub effects-noted : Lines-noted t effect-lines a
+    unfolding effect-places effects-of
+    effects-noted = lines-noted effect-lines a (effect-places x a) effects-in-order (places-near (λ (e : Effect). e .place) _ (x .effects) (λ y has. lines-here .effects y has .inside))
+
+    pub runs-noted : Lines-noted t run-lines a
+    unfolding run-places executability-of
+    runs-noted = lines-noted run-lines a (run-places x a) runs-in-order (places-near (λ (r : Executability). r .place) _ (x .executability) (λ y has. lines-here .runs y has .inside))
+
+    -- What they lead to is the action's part of the index.
+    noted-part : counted-offsets (places-noted t effect-lines a) ++ counted-offsets (places-noted t run-lines a) ≡ action-index x a
+    unfolding action-index
+    noted-part =
+        ap₂ (λ (ps qs : List ℕ). counted-offsets ps ++ counted-offsets qs)
+        (places-noted-are t effect-lines a (effect-places x a) effects-in-order) (places-noted-are t run-lines a (run-places x a) runs-in-order)
+
+-- STORES in a row, and then others behind them.
+stores-behind : (vs ws l : List ℕ) (i : ℕ) → sets l i (vs ++ ws) ≡ sets (sets l i vs) (i + length vs) ws
+stores-behind [] ws l i = let same : i ≡ i + 0 = omega arith in ap (λ (j : ℕ). sets l j ws) same
+stores-behind (v ∷ vs) ws l i =
+    let same : suc i + length vs ≡ i + suc (length vs) = omega arith in
+    stores-behind vs ws (set l i v) (suc i) ∙ ap (λ (j : ℕ). sets (sets (set l i v) (suc i) vs) j ws) same
+
+-- THE INDEX, of the first a actions.
+pub record Building (s t before room : List ℕ) (actions q a : ℕ) : Type 0 where
+  pub here : Table-here s t
+  pub inside : length (index-of (table-in s)) ≤ length before
+  pub all : actions ≡ table-in s .actions
+  pub few : a ≤ actions
+  pub placed : q ≡ length (index-from (table-in s) 0 a)
+  pub same : room ≡ sets before 0 (index-from (table-in s) 0 a)
+
+pub building-starts : (s t room : List ℕ) (actions : ℕ) → Table-here s t → length (index-of (table-in s)) ≤ length room → actions ≡ getD s 1 0 → Building s t room room actions 0 0
+unfolding index-from
+building-starts s t room actions here inside is = record {
+  here = here;
+  inside = inside;
+  all = is ∙ front-here s t here .actions-are;
+  few = omega arith;
+  placed = refl;
+  same = refl;
+}
+
+module _ (s t before room : List ℕ) (actions q a : ℕ) (builds : Building s t before room actions q a) where
+  sized : length room ≡ length before
+  sized = ap length (builds .same) ∙ length-sets before 0 (index-from (table-in s) 0 a)
+
+  pub building-sized : length room ≡ length before
+  building-sized = sized
+
+  pub index-put : actions ≤ a → room ≡ sets before 0 (index-of (table-in s))
+  unfolding index-of
+  index-put done =
+      let few = builds .few in
+      let all = builds .all in
+      let is : a ≡ table-in s .actions = omega arith in
+      builds .same ∙ ap (λ (n : ℕ). sets before 0 (index-from (table-in s) 0 n)) is
+
+  module _ (more : a < actions) where
+    pub action-small : a < format .actions
+    action-small = let all = builds .all in let few = front-here s t (builds .here) .few in omega arith
+
+    abbrev first : List ℕ
+    first = counted-offsets (places-noted t effect-lines a)
+
+    abbrev second : List ℕ
+    second = counted-offsets (places-noted t run-lines a)
+
+    part : first ++ second ≡ action-index (table-in s) a
+    part = noted-part s t (builds .here) a action-small
+
+    part-sized : length first + length second ≡ length (action-index (table-in s) a)
+    part-sized = sym (length-append first second) ∙ ap length part
+
+    part-ends : q + (length first + length second) ≡ length (index-from (table-in s) 0 (a + 1))
+    part-ends = let size = part-sized in let at = builds .placed in let on = parts-more (table-in s) a in omega arith
+
+    part-inside : q + (length first + length second) ≤ length room
+    part-inside =
+        let ends = part-ends in
+        let all = builds .all in
+        let fit = parts-fit (table-in s) (a + 1) (omega arith) in
+        let inside = builds .inside in
+        let same = sized in
+        omega arith
+
+    pub effects-there : Lines-noted t effect-lines a
+    effects-there = effects-noted s t (builds .here) a action-small
+
+    pub runs-there : Lines-noted t run-lines a
+    runs-there = runs-noted s t (builds .here) a action-small
+
+    pub effects-inside : q + length first ≤ length room
+    effects-inside = let inside = part-inside in omega arith
+
+    module _ (middle : ℕ) (half : List ℕ) (at : middle ≡ q + length first) (put : half ≡ sets room q first) where
+      half-sized : length half ≡ length room
+      half-sized = ap length put ∙ length-sets room q first
+
+      pub runs-inside : middle + length second ≤ length half
+      runs-inside = let inside = part-inside in let same = half-sized in omega arith
+
+      pub building-next : (r : ℕ) (after : List ℕ) → r ≡ middle + length second → after ≡ sets half middle second → Building s t before after actions r (a + 1)
+      building-next r after ends both = record {
+        here = builds .here;
+        inside = builds .inside;
+        all = builds .all;
+        few = omega arith;
+        placed = let part = part-ends in omega arith;
+        same =
+            both
+            ∙ ap₂ (λ (xs : List ℕ) (i : ℕ). sets xs i second) put at
+            ∙ sym (stores-behind first second room q)
+            ∙ ap₂ (λ (xs vs : List ℕ). sets xs q vs) (builds .same) part
+            ∙ ap (λ (i : ℕ). sets (sets before 0 (index-from (table-in s) 0 a)) i (action-index (table-in s) a)) start
+            ∙ sym (stores-behind (index-from (table-in s) 0 a) (action-index (table-in s) a) before 0)
+            ∙ ap (sets before 0) (sym (index-more (table-in s) a));
+      }
+        where
+          start : q ≡ 0 + length (index-from (table-in s) 0 a)
+          start = let at = builds .placed in omega arith
