@@ -205,6 +205,9 @@ module _ (s t : List ℕ) (here : Table-here s t) where
     pub sum-fits : Fits w64 (actions + effects + runs)
     sum-fits = let most = total-fits .fits in record { fits = omega arith }
 
+    pub part-fits : Fits w64 (actions + effects)
+    part-fits = let most = sum-fits .fits in record { fits = omega arith }
+
   -- A line's place is in the request, so two bytes hold it.
   places-near : {A : Type 0} (place : A → ℕ) (keep : A → Bool) (xs : List A) → ((y : A) → Has xs y → place y < length s) → (p : ℕ) → Has (map place (those-of keep xs)) p → p < 65536
   places-near place keep xs inside p has =

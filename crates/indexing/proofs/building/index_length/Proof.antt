@@ -1,4 +1,7 @@
+-- The counts of actions, effects and executability lines are those of the table, and the index has two bytes for each.
 use borrow.Author.Needs.{needs}
+use Rattle.finding.proofs.StartLaws.{second-byte}
+use Rattle.indexing.proofs.BuildLaws.{index-total, total-fits, sum-fits, part-fits}
 use Rattle.indexing.proofs.building.index_length.Statement.{statement}
 use Rattle.indexing.proofs.building.index_length.Tie as tie
 use Rattle.indexing.proofs.building.index_length.Reads as reads
@@ -8,7 +11,7 @@ use Rattle.reading.proofs.notes.get.Reads as get-reads
 
 -- src/building.rt:60:24
 shared-slice-read-wide : tie.Need-shared-slice-read-wide
-shared-slice-read-wide c = ?
+shared-slice-read-wide c = search second-byte
 
 -- src/building.rt:60:9
 wide-requires : tie.Need-wide-requires
@@ -24,19 +27,19 @@ get-requires-2 c κs = search needs
 
 -- src/building.rt:63:10
 add-result : tie.Need-add-result
-add-result c = ?
+add-result c = search part-fits
 
 -- src/building.rt:63:10
 add-result-2 : tie.Need-add-result-2
-add-result-2 c = ?
+add-result-2 c = search sum-fits
 
 -- src/building.rt:63:5
 mul-result : tie.Need-mul-result
-mul-result c = ?
+mul-result c = search total-fits
 
 -- src/building.rt:56:1
 returns : tie.Need-returns
-returns c = ?
+returns c = search index-total
 
 pub index-length-spec : {M : Type 1} → statement M
 index-length-spec =
