@@ -7,7 +7,6 @@ use mathlib.Core.Bool.{Bool}
 use mathlib.Core.List.{List, [], _∷_, _++_, map}
 use lib.ListN.{length, length-append, getD, set, length-set}
 use lib.Seq.{sets, length-sets, set-comm}
-use lib.Dec.{eqb}
 use mir.Syntax.{w8, w64}
 use mir.Val.{Fits}
 use borrow.Author.Tests.{eq-eqb, ne-eqb}
@@ -21,7 +20,6 @@ use Rattle.meaning.proofs.TableLines.{Lines-there, table-lines}
 use Rattle.meaning.proofs.IndexLaws.{counted-length, index-more, parts-more, parts-fit, index-length, index-most}
 use Rattle.reading.specs.Noted.{effect-lines, run-lines, line-numbers, line-place, next-line, first-line, effects-slot, executability-slot}
 use Rattle.reading.specs.Ordered.{Chain, In-order}
-use Rattle.reader.proofs.WholeLaws.{Front}
 use Rattle.finding.specs.TablesHere.{table-in, Table-here}
 use Rattle.finding.proofs.AheadLaws.{Ahead, ahead-starts, ahead-none, ahead-first, line-others, line-rest, line-fit}
 use Rattle.finding.proofs.ReadLaws.{whole-table, effects-counted, runs-counted, effects-ordered, runs-ordered}
@@ -36,12 +34,18 @@ pub offset-put : (room : List ℕ) (q p : ℕ) → set (set room q (p / 256)) (q
 unfolding offsets
 offset-put room q p = let on : q + 1 ≡ suc q = omega arith in rw on refl
 
--- STORES in a row, and one before them.
+-- STORES in a row: one before them, and others behind them.
 store-before : (vs l : List ℕ) (i j v : ℕ) → i < j → set (sets l j vs) i v ≡ sets (set l i v) j vs
 store-before [] l i j v less = refl
 store-before (w ∷ vs) l i j v less =
     store-before vs (set l j w) i (suc j) v (omega arith)
     ∙ ap (λ (xs : List ℕ). sets xs (suc j) vs) (set-comm l j i w v (λ e. omega arith))
+
+stores-behind : (vs ws l : List ℕ) (i : ℕ) → sets l i (vs ++ ws) ≡ sets (sets l i vs) (i + length vs) ws
+stores-behind [] ws l i = let same : i ≡ i + 0 = omega arith in ap (λ (j : ℕ). sets l j ws) same
+stores-behind (v ∷ vs) ws l i =
+    let same : suc i + length vs ≡ i + suc (length vs) = omega arith in
+    stores-behind vs ws (set l i v) (suc i) ∙ ap (λ (j : ℕ). sets (sets (set l i v) (suc i) vs) j ws) same
 
 -- THE LINES of an action are fewer than line numbers, and so many steps lead along all of them.
 module _ (t : List ℕ) (lines : ℕ) where
@@ -71,13 +75,16 @@ module _ (t : List ℕ) (lines : ℕ) where
       pick-false _ _ _ (ne-eqb j 0 (λ e. omega arith))
       ∙ ap₂ {C = List ℕ} (λ x xs. x ∷ xs) (line .stands) (noted-is left (next-line t lines j) ps (chain .1) (λ h. let more = line .rises h in omega arith))
 
-  pub places-noted-are : (a : ℕ) (ps : List ℕ) → In-order t lines a ps → places-noted t lines a ≡ ps
+  places-noted-are : (a : ℕ) (ps : List ℕ) → In-order t lines a ps → places-noted t lines a ≡ ps
   unfolding places-noted In-order
   places-noted-are a ps order = noted-is line-numbers (first-line t lines a) ps order (λ h. omega arith)
 
 -- THE LINES OF AN ACTION, put one after another behind the place of their count. What the rest of them make of the room now, all of them make of the room as it was.
+abbrev pub Near : ℕ → Type 0
+Near place = place < 65536
+
 pub record Putting (t before : List ℕ) (lines q : ℕ) (all room : List ℕ) (count p k : ℕ) : Type 0 where
-  pub ahead : Ahead (λ (place : ℕ). place < 65536) t lines k
+  pub ahead : Ahead Near t lines k
   pub short : length all < line-numbers
   pub fits : Fits w64 (length before)
   pub inside : q + length (counted-offsets all) ≤ length before
@@ -90,7 +97,7 @@ pub putting-starts : (t : List ℕ) (lines a : ℕ) → Lines-noted t lines a �
     → Putting t room lines q (places-noted t lines a) room 0 (q + 1) k
 unfolding ahead-starts In-order
 putting-starts t lines a noted room q fits inside k at = record {
-  ahead = ahead-starts (λ (place : ℕ). place < 65536) t lines a (places-noted t lines a) (noted .order) (noted .near) k at;
+  ahead = ahead-starts Near t lines a (places-noted t lines a) (noted .order) (noted .near) k at;
   short = chain-short t lines (first-line t lines a) (places-noted t lines a) (noted .order);
   fits = fits;
   inside = inside;
@@ -104,17 +111,15 @@ pub count-room : (q : ℕ) (all room : List ℕ) → q + length (counted-offsets
 count-room q all room inside fits = let long = counted-length all in let most = fits .fits in record { fits = omega arith }
 
 module _ (t before : List ℕ) (lines q : ℕ) (all room : List ℕ) (count p k : ℕ) (puts : Putting t before lines q all room count p k) where
-  abbrev Near : ℕ → Type 0
-  Near place = place < 65536
-
   long : length (counted-offsets all) ≡ 1 + 2 * length all
   long = counted-length all
 
+  -- No line is left.
   module _ (none : k ≤ 0) where
     none-left : puts .ahead .rest ≡ []
     none-left = ahead-none Near t lines k (puts .ahead) none
 
-    pub count-is : count ≡ length all
+    count-is : count ≡ length all
     count-is = let is = puts .counted in let empty = ap length none-left in omega arith
 
     pub count-small : Fits w8 count
@@ -138,6 +143,7 @@ module _ (t before : List ℕ) (lines q : ℕ) (all room : List ℕ) (count p k 
     pub lines-sized : length (set room q count) ≡ length before
     lines-sized = length-set room q count ∙ puts .sized
 
+  -- One is put.
   module _ (more : 0 < k) where
     abbrev others : List ℕ
     others = ahead-first Near t lines k (puts .ahead) more .others
@@ -234,11 +240,11 @@ module _ (s t : List ℕ) (here : Table-here s t) where
     unfolding run-places
     runs-in-order = runs-ordered s (here .bytes) x (here .table-end) (whole-table s t here) t (here .noted) a small
 
-    pub effects-noted : Lines-noted t effect-lines a
+    effects-noted : Lines-noted t effect-lines a
     unfolding effect-places effects-of
     effects-noted = lines-noted effect-lines a (effect-places x a) effects-in-order (places-near (λ (e : Effect). e .place) _ (x .effects) (λ y has. lines-here .effects y has .inside))
 
-    pub runs-noted : Lines-noted t run-lines a
+    runs-noted : Lines-noted t run-lines a
     unfolding run-places executability-of
     runs-noted = lines-noted run-lines a (run-places x a) runs-in-order (places-near (λ (r : Executability). r .place) _ (x .executability) (λ y has. lines-here .runs y has .inside))
 
@@ -249,14 +255,7 @@ module _ (s t : List ℕ) (here : Table-here s t) where
         ap₂ (λ (ps qs : List ℕ). counted-offsets ps ++ counted-offsets qs)
         (places-noted-are t effect-lines a (effect-places x a) effects-in-order) (places-noted-are t run-lines a (run-places x a) runs-in-order)
 
--- STORES in a row, and then others behind them.
-stores-behind : (vs ws l : List ℕ) (i : ℕ) → sets l i (vs ++ ws) ≡ sets (sets l i vs) (i + length vs) ws
-stores-behind [] ws l i = let same : i ≡ i + 0 = omega arith in ap (λ (j : ℕ). sets l j ws) same
-stores-behind (v ∷ vs) ws l i =
-    let same : suc i + length vs ≡ i + suc (length vs) = omega arith in
-    stores-behind vs ws (set l i v) (suc i) ∙ ap (λ (j : ℕ). sets (sets (set l i v) (suc i) vs) j ws) same
-
--- THE INDEX, of the first a actions.
+-- THE INDEX, action by action. The parts of the first a actions are put, and q is behind them.
 pub record Building (s t before room : List ℕ) (actions q a : ℕ) : Type 0 where
   pub here : Table-here s t
   pub inside : length (index-of (table-in s)) ≤ length before
@@ -277,11 +276,8 @@ building-starts s t room actions here inside is = record {
 }
 
 module _ (s t before room : List ℕ) (actions q a : ℕ) (builds : Building s t before room actions q a) where
-  sized : length room ≡ length before
-  sized = ap length (builds .same) ∙ length-sets before 0 (index-from (table-in s) 0 a)
-
   pub building-sized : length room ≡ length before
-  building-sized = sized
+  building-sized = ap length (builds .same) ∙ length-sets before 0 (index-from (table-in s) 0 a)
 
   pub index-put : actions ≤ a → room ≡ sets before 0 (index-of (table-in s))
   unfolding index-of
@@ -316,14 +312,14 @@ module _ (s t before room : List ℕ) (actions q a : ℕ) (builds : Building s t
         let all = builds .all in
         let fit = parts-fit (table-in s) (a + 1) (omega arith) in
         let inside = builds .inside in
-        let same = sized in
+        let same = building-sized in
         omega arith
 
-    pub effects-there : Lines-noted t effect-lines a
-    effects-there = effects-noted s t (builds .here) a action-small
+    pub effects-led : Lines-noted t effect-lines a
+    effects-led = effects-noted s t (builds .here) a action-small
 
-    pub runs-there : Lines-noted t run-lines a
-    runs-there = runs-noted s t (builds .here) a action-small
+    pub runs-led : Lines-noted t run-lines a
+    runs-led = runs-noted s t (builds .here) a action-small
 
     pub effects-inside : q + length first ≤ length room
     effects-inside = let inside = part-inside in omega arith

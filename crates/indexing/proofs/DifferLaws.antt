@@ -4,12 +4,11 @@ use native.Mathlib.Omega.{arith}
 use mathlib.Core.Path.{_≡_, refl, sym, _∙_, ap, ap₂}
 use mathlib.Core.List.{List, [], _∷_}
 use lib.ListN.{length, getD, take, drop}
-use lib.Seq.{drop-cons, drop-length, slice-cons, slice-empty}
+use lib.Seq.{drop-cons, drop-length, take-at, sets, length-sets, sets-eq, slice-cons, slice-empty}
 use mir.Syntax.{w64}
 use mir.Val.{Fits}
 use borrow.Author.Tests.{eq-eqb, ne-eqb}
 use Rattle.meaning.specs.Refusals
-use Rattle.meaning.specs.Refusals.{nowhere, at}
 use Rattle.meaning.specs.Indexes.{difference-from, first-difference}
 use Rattle.meaning.proofs.TestLaws.{pick-true, pick-false}
 use Rattle.finding.specs.declared.places.Found.{Found}
@@ -80,3 +79,16 @@ module _ (one : List ℕ) (n : ℕ) (other : List ℕ) (i : ℕ) (compares : Com
     pub no-difference : length other ≤ i → Nowhere ≡ found difference
     unfolding difference-from found
     no-difference over = sym (ap found (compares .same ∙ ap₂ (difference-from i) one-none (other-none over)))
+
+-- AN INDEX that was put into a room with enough bytes is what its first bytes are.
+module _ (index before room : List ℕ) (enough : length index ≤ length before) (put : room ≡ sets before 0 index) (n : ℕ) (long : n ≡ length index) where
+  pub put-inside : n ≤ length room
+  put-inside = let sized = ap length put ∙ length-sets before 0 index in omega arith
+
+  put-first : take n room ≡ index
+  put-first =
+      let fits : 0 + length index ≤ length before = omega arith in
+      ap (take n) (put ∙ sets-eq index before 0 fits) ∙ take-at index (drop (0 + length index) before) n (sym long)
+
+  pub put-differs : (other : List ℕ) (r : Found) → r ≡ found (first-difference (take n room) other) → r ≡ found (first-difference index other)
+  put-differs other r is = is ∙ ap (λ (one : List ℕ). found (first-difference one other)) put-first

@@ -9,35 +9,35 @@ use Rattle.indexing.proofs.building.index_length.Lts as lts
 use Rattle.bytes.proofs.bytes.wide.Reads as wide-reads
 use Rattle.reading.proofs.notes.get.Reads as get-reads
 
--- src/building.rt:60:24
+-- src/building.rt:59:24
 shared-slice-read-wide : tie.Need-shared-slice-read-wide
 shared-slice-read-wide c = search second-byte
 
--- src/building.rt:60:9
+-- src/building.rt:59:9
 wide-requires : tie.Need-wide-requires
 wide-requires c κs = search needs
 
--- src/building.rt:61:9
+-- src/building.rt:60:9
 get-requires : tie.Need-get-requires
 get-requires c κs = search needs
 
--- src/building.rt:62:9
+-- src/building.rt:61:9
 get-requires-2 : tie.Need-get-requires-2
 get-requires-2 c κs = search needs
 
--- src/building.rt:63:10
+-- src/building.rt:62:10
 add-result : tie.Need-add-result
 add-result c = search part-fits
 
--- src/building.rt:63:10
+-- src/building.rt:62:10
 add-result-2 : tie.Need-add-result-2
 add-result-2 c = search sum-fits
 
--- src/building.rt:63:5
+-- src/building.rt:62:5
 mul-result : tie.Need-mul-result
 mul-result c = search total-fits
 
--- src/building.rt:56:1
+-- src/building.rt:55:1
 returns : tie.Need-returns
 returns c = search index-total
 

@@ -2,7 +2,7 @@
 use Prim.Native.Nat.{_-_}
 use borrow.Author.Needs.{needs}
 use Rattle.finding.proofs.StartLaws.{second-byte}
-use Rattle.indexing.proofs.BuildLaws.{Building, building-starts, action-small, effects-there, effects-inside, runs-there, runs-inside, building-next, building-sized, index-put}
+use Rattle.indexing.proofs.BuildLaws.{Building, building-starts, action-small, effects-led, effects-inside, runs-led, runs-inside, building-next, building-sized, index-put}
 use Rattle.indexing.proofs.building.put_index.Statement.{statement}
 use Rattle.indexing.proofs.building.put_index.Tie as tie
 use Rattle.indexing.proofs.building.put_index.Reads as reads
@@ -30,11 +30,11 @@ loop-holds c = search building-starts
 
 -- src/building.rt:75:13
 put-lines-requires : tie.Need-put-lines-requires Inv-loop μ-loop
-put-lines-requires c κs = search (needs, action-small, effects-there, effects-inside)
+put-lines-requires c κs = search (needs, action-small, effects-led, effects-inside)
 
 -- src/building.rt:76:9
 put-lines-requires-2 : tie.Need-put-lines-requires-2 Inv-loop μ-loop
-put-lines-requires-2 c κs = search (needs, action-small, runs-there, runs-inside)
+put-lines-requires-2 c κs = search (needs, action-small, runs-led, runs-inside)
 
 -- src/building.rt:77:9
 add-a : tie.Need-add-a Inv-loop μ-loop

@@ -6,31 +6,31 @@ use Rattle.indexing.proofs.building.put_offset.Tie as tie
 use Rattle.indexing.proofs.building.put_offset.Reads as reads
 use Rattle.indexing.proofs.building.put_offset.Lts as lts
 
--- src/building.rt:27:15
+-- src/building.rt:26:15
 add-low : tie.Need-add-low
 add-low c = search needs
 
--- src/building.rt:28:15
+-- src/building.rt:27:15
 cast-room : tie.Need-cast-room
 cast-room c = search needs
 
--- src/building.rt:28:5
+-- src/building.rt:27:5
 slice-write-room : tie.Need-slice-write-room
 slice-write-room c = search needs
 
--- src/building.rt:29:17
+-- src/building.rt:28:17
 cast-room-2 : tie.Need-cast-room-2
 cast-room-2 c = search needs
 
--- src/building.rt:29:5
+-- src/building.rt:28:5
 slice-write-room-2 : tie.Need-slice-write-room-2
 slice-write-room-2 c = search low-room
 
--- src/building.rt:22:1
+-- src/building.rt:21:1
 same-length : tie.Need-same-length
 same-length c = search needs
 
--- src/building.rt:22:1
+-- src/building.rt:21:1
 returns : tie.Need-returns
 returns c = search offset-put
 
