@@ -3,15 +3,26 @@ ghost use mathlib.Core.Path.{_≡_};
 ghost use Prim.Native.Nat.{_+_, _≤_, _<_};
 ghost use lib.ListN.{length, getD};
 ghost use Rattle.meaning.specs.Limits.{format};
-ghost use Rattle.meaning.specs.Indexes.{counted-at, after-counted, index-of};
+ghost use Rattle.meaning.specs.Indexes.{offset-at, counted-at, after-counted, index-of};
 ghost use Rattle.reading.specs.Noted.{run-lines, line-numbers};
 ghost use Rattle.finding.specs.TablesHere.{table-in, Table-here};
 ghost use Rattle.indexing.specs.Indexed.{lines-taken, index-taken};
+use bytes::bytes::two;
 use bytes::bytes::wide;
 use bytes::limits;
 use reading::notes;
 use reading::notes::Notes;
 use reading::notes::put;
+
+// The offset that stands at p.
+fn offset_at(index: &[u8], p: usize) -> usize
+    requires { ⌜ p + 1 < length (now index) ⌝ }
+    ensures { λ r. ⌜ r ≡ offset-at (now (index .entry)) p ⌝ }
+    ensures { λ r. ⌜ r < 65536 ⌝ }
+{
+    let low = p + 1;
+    two(index[p], index[low])
+}
 
 // The offsets behind the count at q become the lines of action a, numbered from k + 1 on.
 fn take_lines(index: &[u8], q: usize, t: &mut Notes, lines: usize, a: usize, k: usize)
@@ -27,8 +38,7 @@ fn take_lines(index: &[u8], q: usize, t: &mut Notes, lines: usize, a: usize, k: 
     let mut i = limits::LINE_NUMBERS + a;
     let mut n = k;
     while 0 < left {
-        let low = p + 1;
-        let place = 256 * wide(index[p]) + wide(index[low]);
+        let place = offset_at(index, p);
         p += 2;
         n += 1;
         put(t, lines + n, place);
