@@ -15,7 +15,7 @@ use Rattle.meaning.specs.Limits
 use Rattle.meaning.specs.Limits.{Limits}
 use Rattle.meaning.specs.Literals.{among}
 use Rattle.meaning.specs.Requests.{Table, Request}
-use Rattle.meaning.specs.Reading.{Got, got, fault, next, repeated, plan-at, list-at, literals, fluents, table-at, request-at, read-request}
+use Rattle.meaning.specs.Reading.{Got, got, fault, next, repeated, table-at, request-at, read-request}
 use Rattle.meaning.specs.Refusals.{Found, nowhere, at, contradiction-in, mixed-in, overlap-in, refuse, settled}
 use Rattle.meaning.specs.States.{State, first-state}
 use Rattle.meaning.specs.Walk.{End, fine, missed, stopped, Walked, walked}
@@ -26,7 +26,7 @@ use Rattle.meaning.proofs.TestLaws.{by-test, clash, pick-true, pick-false}
 use Rattle.meaning.proofs.PickLaws.{pick-has}
 use Rattle.meaning.proofs.SettledLaws.{fault≢got, next-got}
 use Rattle.meaning.proofs.RangeLaws.{got-place}
-use Rattle.meaning.proofs.GotLaws.{On, got-on, next-on}
+use Rattle.meaning.proofs.TableLines.{request-table}
 use Rattle.meaning.proofs.MovedReads.{next-is}
 use Rattle.demands.proofs.ShiftedReads.{moved-request, moved-got, request-moved}
 use Rattle.meaning.proofs.KeptReads.{kept-of, repeated-kept, table-kept, request-kept}
@@ -98,14 +98,6 @@ module _ {A B : Type 0} where
 pub refuse-none : {A : Type 0} (n : ℕ) (f : Found) (k : Unit {0} → Got A) → f ≡ nowhere → refuse n f k ≡ k tt
 unfolding refuse
 refuse-none n f k e = ap (λ (g : Found). refuse n g k) e
-
-pub request-table : (lim : Limits) (s : List ℕ) (t : Table) (p : ℕ) → On (request-at lim s t p) (λ r e. r .table ≡ t)
-unfolding request-at
-request-table lim s t p =
-    next-on {P = λ _ _. Unit {0}} (plan-at lim (t .fluents) (t .actions) s p) _ (record { holds = λ _ _ _. tt }) λ plan q _.
-    next-on {P = λ _ _. Unit {0}} (list-at literals (t .fluents) (lim .listed) s q) _ (record { holds = λ _ _ _. tt }) λ goals r _.
-    next-on {P = λ _ _. Unit {0}} (list-at fluents (t .fluents) (lim .listed) s r) _ (record { holds = λ _ _ _. tt }) λ whether e _.
-    got-on _ _ refl
 
 module _ (lim : Limits) (t : Table) (end : ℕ) (clean : contradiction-in t ≡ nowhere) (unmixed : mixed-in (t .effects) (t .knowledge) ≡ nowhere) where
   pub settled-behind : (u : List ℕ) → length u ≤ lim .request → table-at lim u 0 ≡ got t end → (h : Got Request) → request-at lim u t end ≡ h

@@ -68,3 +68,9 @@ pub mod AcceptedExactly
 pub mod ReleaseLaws
 pub mod NotEmpty
 pub mod ListReads
+pub mod TableLines
+pub mod ActionLines
+pub mod IndexLaws
+pub mod LineSteps
+pub mod IndexedWalk
+pub mod DifferenceLaws

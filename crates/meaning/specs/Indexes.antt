@@ -1,7 +1,9 @@
 -- The index beside a table: what it holds, the call that builds it, and the walk call that goes by it (FORMAT section 23).
-use Prim.Native.Nat.{ℕ, zero, suc, _+_, _*_, _/_, _%_}
+use Prim.Native.Nat.{ℕ, zero, suc, _+_, _*_, _/_, _%_, _≤_, _<_}
+use mathlib.Core.Path.{_≡_}
 use mathlib.Core.List.{List, [], _∷_, _++_, map}
-use lib.ListN.{length, getD, drop}
+use mathlib.Core.Logic.{_⊎_}
+use lib.ListN.{length, getD, take, drop}
 use lib.Dec.{leb, eqb}
 use Rattle.meaning.specs.declared.Answer.{Answer}
 use Rattle.meaning.specs.Tests.{pick}
@@ -146,3 +148,12 @@ judge-indexed lim s i lent budget =
 -- The line that answer 2 carries (FORMAT 18.10 to 18.12, 23.13, 23.15).
 unfoldable pub line-indexed : Limits → (request index lent : List ℕ) → (budget : ℕ) → ℕ
 line-indexed lim s i lent budget = line-got (λ (r : Request). by-index lim s i (r .table)) s (judge-indexed lim s i lent budget) (settled lim s)
+
+-- WHAT STATEMENTS SAY OF IT. Two strings of bytes first differ at a place: before it they are the same, and there another byte stands, or one of the two has
+-- ended (FORMAT 23.14, 23.25).
+pub record Differs (one other : List ℕ) (place : ℕ) : Type 0 where
+  pub in-one : place ≤ length one
+  pub in-other : place ≤ length other
+  pub before : take place one ≡ take place other
+  pub there : ((place < length one) × (place < length other) × (getD one place 0 ≡ getD other place 0 → ⊥))
+      ⊎ (((place ≡ length one) × (place < length other)) ⊎ ((place ≡ length other) × (place < length one)))
