@@ -1,2 +1,3 @@
 pub mod BuildLaws
 pub mod DifferLaws
+pub mod TakeLaws

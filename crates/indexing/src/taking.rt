@@ -3,23 +3,35 @@ ghost use mathlib.Core.Path.{_≡_};
 ghost use Prim.Native.Nat.{_+_, _≤_, _<_};
 ghost use lib.ListN.{length, getD};
 ghost use Rattle.meaning.specs.Limits.{format};
-ghost use Rattle.meaning.specs.Indexes.{counted-at, after-counted, index-of};
+ghost use Rattle.meaning.specs.Indexes.{offset-at, counted-at, after-counted, index-of};
 ghost use Rattle.reading.specs.Noted.{run-lines, line-numbers};
 ghost use Rattle.finding.specs.TablesHere.{table-in, Table-here};
 ghost use Rattle.indexing.specs.Indexed.{lines-taken, index-taken};
+use bytes::bytes::two;
 use bytes::bytes::wide;
 use bytes::limits;
 use reading::notes;
 use reading::notes::Notes;
 use reading::notes::put;
 
-// The offsets behind the count at q become the lines of action a, numbered from k + 1 on.
-fn take_lines(index: &[u8], q: usize, t: &mut Notes, lines: usize, a: usize, k: usize)
+// The offset that stands at p.
+fn offset_at(index: &[u8], p: usize) -> usize
+    requires { ⌜ p + 1 < length (now index) ⌝ }
+    ensures { λ r. ⌜ r ≡ offset-at (now (index .entry)) p ⌝ }
+    ensures { λ r. ⌜ r < 65536 ⌝ }
+{
+    let low = p + 1;
+    two(index[p], index[low])
+}
+
+// The offsets behind the count at q become the lines of action a, numbered from k + 1 on. It gives the place after them.
+fn take_lines(index: &[u8], q: usize, t: &mut Notes, lines: usize, a: usize, k: usize) -> usize
     requires { ⌜ lines ≤ run-lines ⌝ }
     requires { ⌜ a < format .actions ⌝ }
     requires { ⌜ q < length (now index) ⌝ }
     requires { ⌜ after-counted (now index) q ≤ length (now index) ⌝ }
     requires { ⌜ k + getD (now index) q 0 < line-numbers ⌝ }
+    ensures { λ r. ⌜ r ≡ after-counted (now (index .entry)) q ⌝ }
     ensures { λ _. ⌜ now (t .exit) ≡ lines-taken lines (line-numbers + a) k (counted-at (now (index .entry)) q) (now (t .entry)) ⌝ }
 {
     let mut left = wide(index[q]);
@@ -27,8 +39,7 @@ fn take_lines(index: &[u8], q: usize, t: &mut Notes, lines: usize, a: usize, k: 
     let mut i = limits::LINE_NUMBERS + a;
     let mut n = k;
     while 0 < left {
-        let low = p + 1;
-        let place = 256 * wide(index[p]) + wide(index[low]);
+        let place = offset_at(index, p);
         p += 2;
         n += 1;
         put(t, lines + n, place);
@@ -37,6 +48,7 @@ fn take_lines(index: &[u8], q: usize, t: &mut Notes, lines: usize, a: usize, k: 
         left -= 1;
     }
     put(t, lines + limits::LINE_NUMBERS + i, 0);
+    p
 }
 
 // The index becomes what the notes have of the lines of sections 3 and 4.
@@ -52,13 +64,11 @@ pub fn take_index(s: &[u8], index: &[u8], t: &mut Notes)
     let mut a = 0;
     while a < actions {
         let c = wide(index[q]);
-        take_lines(index, q, t, notes::EFFECTS, a, effects);
+        let middle = take_lines(index, q, t, notes::EFFECTS, a, effects);
+        let d = wide(index[middle]);
+        q = take_lines(index, middle, t, notes::EXECUTABILITY, a, runs);
         effects += c;
-        q = q + 1 + 2 * c;
-        let d = wide(index[q]);
-        take_lines(index, q, t, notes::EXECUTABILITY, a, runs);
         runs += d;
-        q = q + 1 + 2 * d;
         a += 1;
     }
 }
