@@ -75,3 +75,5 @@ pub mod IndexLaws
 pub mod LineSteps
 pub mod IndexedWalk
 pub mod DifferenceLaws
+pub mod IndexAnswers
+pub mod IndexBuilt
