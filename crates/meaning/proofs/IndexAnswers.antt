@@ -96,23 +96,35 @@ module _ (lim : Limits) (s i lent : List ℕ) (budget : ℕ) where
               ∙ sym (line-not (λ (q : Request). q .table) s (judge lim s lent budget) (not _ walked-9) (settled lim s));
         }
 
-  -- Another index.
-  another : length lent ≡ lim .state → (r : Request) (e : ℕ) → settled lim s ≡ got r e → (p : ℕ) → first-difference (index-of (r .table)) i ≡ at p → Index-differs lim s i lent budget
-  unfolding judge-indexed line-indexed difference-in unless-differs judge-got
-  another sized r e past p found =
-      let told : Judgement = record { answer = record { number = Limits.index-differs; input = Limits.the-index; place = p; count = 0 }; state = lent } in
-      let is : judge-indexed lim s i lent budget ≡ told =
-      pick-true _ _ _ (eq-eqb (length lent) (lim .state) sized) ∙ ap given past ∙ ap (λ (f : Found). unless-differs lent f (within lent budget (Indexes.walk-of lim s i r))) found in
-      record {
-        sized = sized;
-        says = r;
-        end = e;
-        settles = past;
-        place = p;
-        differs = differs-there (index-of (r .table)) i p .0 found;
-        judges = is;
-        tells = line-not _ s (judge-indexed lim s i lent budget) (λ two. let number = ap (λ (j : Judgement). j .answer .number) is in omega (arith, number, two)) (settled lim s);
-      }
+  -- Another index, with the first difference.
+  module _ (sized : length lent ≡ lim .state) (r : Request) (e : ℕ) (past : settled lim s ≡ got r e) (p : ℕ) (found : first-difference (index-of (r .table)) i ≡ at p) where
+    pub other-judges : judge-indexed lim s i lent budget ≡ record { answer = record { number = Limits.index-differs; input = Limits.the-index; place = p; count = 0 }; state = lent }
+    unfolding judge-indexed difference-in unless-differs judge-got
+    other-judges =
+        pick-true _ _ _ (eq-eqb (length lent) (lim .state) sized) ∙ ap given past ∙ ap (λ (f : Found). unless-differs lent f (within lent budget (Indexes.walk-of lim s i r))) found
+
+    pub other-tells : line-indexed lim s i lent budget ≡ 0
+    unfolding line-indexed
+    other-tells = line-not _ s (judge-indexed lim s i lent budget) (λ two. let number = ap (λ (j : Judgement). j .answer .number) other-judges in omega (arith, number, two)) (settled lim s)
+
+    other-index : Index-differs lim s i lent budget
+    other-index = record {
+      sized = sized;
+      says = r;
+      end = e;
+      settles = past;
+      place = p;
+      differs = differs-there (index-of (r .table)) i p .0 found;
+      judges = other-judges;
+      tells = other-tells;
+    }
+
+  pub another-index : length lent ≡ lim .state → (r : Request) (e : ℕ) → settled lim s ≡ got r e → (index-of (r .table) ≡ i → ⊥) → Index-differs lim s i lent budget
+  another-index sized r e past apart = by-found (first-difference (index-of (r .table)) i) refl
+    where
+      by-found : (f : Found) → first-difference (index-of (r .table)) i ≡ f → Index-differs lim s i lent budget
+      by-found nowhere none = absurd (apart (same-difference (index-of (r .table)) i .0 none))
+      by-found (at p) found = other-index sized r e past p found
 
   -- It is the one or the other (FORMAT 23.13, 23.15).
   pub differs-or-walked : Index-differs lim s i lent budget ⊎ As-walked lim s i lent budget
@@ -121,7 +133,7 @@ module _ (lim : Limits) (s i lent : List ℕ) (budget : ℕ) where
     where
       by-found : length lent ≡ lim .state → (r : Request) (e : ℕ) → settled lim s ≡ got r e → (f : Found) → first-difference (index-of (r .table)) i ≡ f → Index-differs lim s i lent budget ⊎ As-walked lim s i lent budget
       by-found sized r e past nowhere none = inr (right-index r e past (same-difference (index-of (r .table)) i .0 none))
-      by-found sized r e past (at p) found = inl (another sized r e past p found)
+      by-found sized r e past (at p) found = inl (other-index sized r e past p found)
 
       by-read : length lent ≡ lim .state → (x : Got Request) → settled lim s ≡ x → Index-differs lim s i lent budget ⊎ As-walked lim s i lent budget
       by-read sized (got r e) past = by-found sized r e past (first-difference (index-of (r .table)) i) refl

@@ -78,11 +78,11 @@ not-of-rooms : (n : ℕ) → among n refusals ≡ true → among n of-rooms ≡ 
 unfolding among refusals of-rooms some-of either each-of both fails
 not-of-rooms n is = fails-true _ (among-each (λ (m : ℕ). fails (among m of-rooms)) refusals refl n is)
 
-not-verified : (n : ℕ) → among n refusals ≡ true → n ≡ Limits.verified → ⊥
+pub not-verified : (n : ℕ) → among n refusals ≡ true → n ≡ Limits.verified → ⊥
 unfolding among of-rooms some-of either
 not-verified n is same = clash (ap (λ (m : ℕ). among m of-rooms) same) (not-of-rooms n is)
 
-not-short : (n : ℕ) → among n refusals ≡ true → n ≡ Limits.room-short → ⊥
+pub not-short : (n : ℕ) → among n refusals ≡ true → n ≡ Limits.room-short → ⊥
 unfolding among of-rooms some-of either
 not-short n is same = clash (ap (λ (m : ℕ). among m of-rooms) same) (not-of-rooms n is)
 
