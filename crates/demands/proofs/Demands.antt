@@ -1,4 +1,4 @@
--- The demands (FORMAT section 11, 17.38 to 17.41, 21.22 to 21.25 and 22.17 to 22.22), each by citing where its argument stands. Read this file first. Assumes nothing.
+-- The demands (FORMAT section 11, 17.38 to 17.41, 21.22 to 21.25, 22.17 to 22.22 and 23.22 to 23.26), each by citing where its argument stands. Read this file first. Assumes nothing.
 use Prim.Native.Nat.{ℕ, _-_, _≤_, _<_}
 use native.Mathlib.Omega.{arith}
 use mathlib.Core.Path.{_≡_, refl, sym, _∙_, ap}
@@ -106,6 +106,24 @@ pub use Rattle.meaning.proofs.FillLaws.{fills-run, fills-after, known-runs}
 -- What answers 1 and 2 report (FORMAT 22.14). Answer 2 carries the line of the item at its place in the state left, and every other answer, 44 among them, none.
 pub use Rattle.demands.proofs.CaseReports.{cases-missed-there, cases-stopped-there}
 pub use Rattle.demands.proofs.CaseLine.{cases-line-there, cases-no-line, no-line-many, cases-line-missing}
+-- THE INDEX CALL. Demand 1 (FORMAT 23.22): its number is one of its own; input, place, count and room are what the number says (23.7 to 23.9).
+pub use Rattle.meaning.proofs.IndexBuilt.{index-numbered, index-input, index-place, index-place-limited, index-count, index-count-limited, index-room-length}
+-- 0 exactly where the request is settled and the room is not shorter than its index, and what is then written (FORMAT 23.23); 39 exactly where the room is shorter; a
+-- refusal exactly where the request is not settled, as the walk call gives it.
+pub use Rattle.demands.proofs.Indexed.{built-exactly, index-written, short-exactly, refused-exactly, refused-as-judged, room-as-lent}
+-- An index has as many bytes as the counts of its table say, at most 1,276, and each is a byte (FORMAT 23.5).
+pub use Rattle.meaning.proofs.IndexLaws.{index-length, settled-index-most, settled-index-bytes}
+-- THE INDEXED CALL. Demand 1 (FORMAT 23.22): its number is one of its own; input, place, count and state are what the number says (23.15, 23.16).
+pub use Rattle.meaning.proofs.IndexAnswers.{indexed-numbered, indexed-input, indexed-place, indexed-place-limited, differs-place-limited, indexed-count, indexed-state}
+-- It gives what the walk call gives, or 45 (FORMAT 23.13, 23.15); 45 exactly where the state has its length, the request is settled and the index is another, at the place of
+-- the first difference (23.25). A first difference is the one place at which two strings of bytes first differ, and there is none exactly where they are the same (23.14).
+pub use Rattle.meaning.proofs.IndexAnswers.{differs-or-walked, differs-so, walked-otherwise}
+pub use Rattle.demands.proofs.Indexed.{indexed-as-walked, refused-as-walked, differs-exactly}
+pub use Rattle.meaning.proofs.DifferenceLaws.{same-difference, differs-there}
+-- With the index that the index call wrote, every answer is the walk call's (FORMAT 23.24); and of an index no byte counts but as many as it may have, and one more (23.20).
+pub use Rattle.demands.proofs.Indexed.{built-then-judged, cut-alike, format-cut}
+-- Demand 2 past 45, and demand 3 (FORMAT 23.26), with what answers 1 and 2 report and the line.
+pub use Rattle.demands.proofs.Indexed.{walked-so, indexed-in-order, indexed-spent-exactly, indexed-stuck-exactly, indexed-verified-exactly, indexed-missed-exactly, indexed-missed-in-an-end-state, indexed-missed-there, indexed-stopped-there, indexed-no-line, indexed-line-there, indexed-line-missing, indexed-sound}
 
 -- Demand 1 (FORMAT 11.1): every input gets one of the numbered answers.
 pub numbered : (lim : Limits) (request lent : List ℕ) (budget : ℕ) → among (judge lim request lent budget .answer .number) answers ≡ true

@@ -47,4 +47,5 @@ pub mod ReuseCases
 pub mod EachRequest
 pub mod ReuseLaws
 pub mod ReuseMet
+pub mod Indexed
 pub mod Demands

@@ -1,15 +1,16 @@
 -- The first difference of two strings of bytes: there is none exactly where they are the same, and else it is the one place at which they differ first. By their bytes,
 -- one after another. Assumes nothing.
-use Prim.Native.Nat.{ℕ, suc, _+_, _<_}
+use Prim.Native.Nat.{ℕ, zero, suc, _+_, _<_}
 use native.Mathlib.Omega.{arith}
 use mathlib.Core.Path.{_≡_, refl, sym, _∙_, ap, ap₂, subst}
 use mathlib.Core.List.{List, [], _∷_, _++_}
 use mathlib.Core.Logic.{_⊎_, inl, inr, ⊎-elim, _↔_}
-use lib.ListN.{length, getD}
+use lib.ListN.{length, getD, take}
 use lib.Seq.{getD-take}
 use lib.Dec.{eqb}
 use borrow.Author.Tests.{eqb-true, eqb-false, eq-eqb}
-use Rattle.meaning.specs.Refusals.{nowhere, at}
+use Rattle.meaning.specs.Tests.{pick}
+use Rattle.meaning.specs.Refusals.{Found, nowhere, at}
 use Rattle.meaning.specs.Indexes.{difference-from, first-difference, Differs}
 use Rattle.meaning.proofs.TestLaws.{by-test, pick-true, pick-false}
 use Rattle.meaning.proofs.RefusalLaws.{at-same, at≢nowhere}
@@ -21,6 +22,15 @@ difference-past p [] xs ys = ap (λ (q : ℕ). difference-from q xs ys) {x = p} 
 difference-past p (b ∷ before) xs ys =
     let on : p + 1 + length before ≡ p + suc (length before) = omega arith in
     pick-true _ _ _ (eq-eqb b b refl) ∙ difference-past (p + 1) before xs ys ∙ ap (λ (q : ℕ). difference-from q xs ys) on
+
+-- Where one is shorter than so many bytes, no byte of the other behind these is asked.
+pub difference-cut : (n p : ℕ) (xs ys : List ℕ) → length xs < n → difference-from p xs (take n ys) ≡ difference-from p xs ys
+unfolding difference-from
+difference-cut zero p xs ys less = absurd (omega (arith, less))
+difference-cut (suc n) p [] [] less = refl
+difference-cut (suc n) p [] (y ∷ ys) less = refl
+difference-cut (suc n) p (x ∷ xs) [] less = refl
+difference-cut (suc n) p (x ∷ xs) (y ∷ ys) less = ap (λ (f : Found). pick (eqb x y) (λ _. f) (λ _. at p)) (difference-cut n (p + 1) xs ys (omega (arith, less)))
 
 -- One byte further on.
 further : (x y : ℕ) (xs ys : List ℕ) (p : ℕ) → x ≡ y → Differs xs ys p → Differs (x ∷ xs) (y ∷ ys) (suc p)
@@ -77,7 +87,7 @@ module _ (xs ys : List ℕ) where
       (⊎-elim (λ w. let a = w .0 in omega (arith, one, less, a)) (λ w. let a = w .0 in omega (arith, other, less, a)))
       (d .there)
 
-  differs-apart : (p : ℕ) → Differs xs ys p → xs ≡ ys → ⊥
+  pub differs-apart : (p : ℕ) → Differs xs ys p → xs ≡ ys → ⊥
   differs-apart p d same =
       let long = ap length same in
       ⊎-elim (λ w. w .2 (ap (λ (zs : List ℕ). getD zs p 0) same))

@@ -3,6 +3,7 @@ pub mod Cases
 pub mod LineCases
 pub mod GuardedCases
 pub mod CaseRows
+pub mod IndexCases
 pub mod DerivationCases
 pub mod WhetherCases
 pub mod ReleaseCases
@@ -74,3 +75,5 @@ pub mod IndexLaws
 pub mod LineSteps
 pub mod IndexedWalk
 pub mod DifferenceLaws
+pub mod IndexAnswers
+pub mod IndexBuilt

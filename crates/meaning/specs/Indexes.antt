@@ -15,8 +15,8 @@ use Rattle.meaning.specs.Reading.{Got, got, fault, effect-at, executabil
 use Rattle.meaning.specs.Refusals.{Found, nowhere, at, settled}
 use Rattle.meaning.specs.States.{State, first-state}
 use Rattle.meaning.specs.Walk.{Walked, walk, table-step, judged}
-use Rattle.meaning.specs.Judging.{Judgement, judge-got, wrong-length}
-use Rattle.meaning.specs.Asking.{line-got}
+use Rattle.meaning.specs.Judging.{Judgement, judge-got, wrong-length, judge}
+use Rattle.meaning.specs.Asking.{line-got, line}
 
 -- THE INDEX. Where an action's effects stand, in file order, and where its executability lines do (FORMAT 23.3, 23.4).
 unfoldable pub effect-places : Table → (action : ℕ) → List ℕ
@@ -157,3 +157,29 @@ pub record Differs (one other : List ℕ) (place : ℕ) : Type 0 where
   pub before : take place one ≡ take place other
   pub there : ((place < length one) × (place < length other) × (getD one place 0 ≡ getD other place 0 → ⊥))
       ⊎ (((place ≡ length one) × (place < length other)) ⊎ ((place ≡ length other) × (place < length one)))
+
+-- The indexed call gives what the walk call gives (FORMAT 23.13, 23.26).
+pub record As-walked (lim : Limits) (request index lent : List ℕ) (budget : ℕ) : Type 0 where
+  pub judges : judge-indexed lim request index lent budget ≡ judge lim request lent budget
+  pub tells : line-indexed lim request index lent budget ≡ line lim request lent budget
+
+-- It gives 45: the lent state has its length, the request is settled, and the index differs at the place from that of the request (FORMAT 23.15, 23.25).
+pub record Index-differs (lim : Limits) (request index lent : List ℕ) (budget : ℕ) : Type 0 where
+  pub sized : length lent ≡ lim .state
+  pub says : Request
+  pub end : ℕ
+  pub settles : settled lim request ≡ got says end
+  pub place : ℕ
+  pub differs : Differs (index-of (says .table)) index place
+  pub judges : judge-indexed lim request index lent budget ≡ record { answer = record { number = Limits.index-differs; input = Limits.the-index; place = place; count = 0 }; state = lent }
+  pub tells : line-indexed lim request index lent budget ≡ 0
+
+-- The index call gives 0: the request is settled, the room is not shorter than its index, the count is the index's length, and the room starts with the index and
+-- goes on as lent (FORMAT 23.9, 23.23).
+pub record Index-written (lim : Limits) (request room : List ℕ) : Type 0 where
+  pub says : Request
+  pub end : ℕ
+  pub settles : settled lim request ≡ got says end
+  pub fits : length (index-of (says .table)) ≤ length room
+  pub counts : build lim request room .answer .count ≡ length (index-of (says .table))
+  pub leaves : build lim request room .room ≡ index-of (says .table) ++ drop (length (index-of (says .table))) room
