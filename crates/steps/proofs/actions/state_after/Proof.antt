@@ -88,7 +88,7 @@ loop-less-2 c = search line-less
 
 -- src/actions.rt:95:5
 loop-again-2 : tie.Need-loop-again-2 Inv-loop μ-loop
-loop-again-2 c = search sweep-told
+loop-again-2 c = sweep-told _ _ _ _ _ _ (c .before .before .before .before .before .before .before .before .before .before .loop .inv) (c .before .before .before .before .before .before .before .before .before .loop-test .taken) _ _ (c .before .before .before .before .before .before .before .before .line-place .ensures) (c .before .before .before .before .before .before .before .next-line .ensures) _ _ (c .before .before .before .before .before .wide .ensures) (c .before .before .before .before .mark-of .ensures) (c .before .before .before .if1 .left) _ (c .before .each-holds .ensures) (c .if3 .taken)
 
 -- src/actions.rt:95:5
 loop-less-3 : tie.Need-loop-less-3 Inv-loop μ-loop
@@ -116,7 +116,7 @@ loop-less-4 c = search line-less
 
 -- src/actions.rt:95:5
 loop-again-4 : tie.Need-loop-again-4 Inv-loop μ-loop
-loop-again-4 c = search look-told
+loop-again-4 c = look-told _ _ _ _ _ _ (c .before .before .before .before .before .before .before .before .before .before .before .loop .inv) (c .before .before .before .before .before .before .before .before .before .before .loop-test .taken) _ _ (c .before .before .before .before .before .before .before .before .before .line-place .ensures) (c .before .before .before .before .before .before .before .before .next-line .ensures) _ _ (c .before .before .before .before .before .before .wide .ensures) (c .before .before .before .before .before .mark-of .ensures) (c .before .before .before .before .if1 .left) _ (c .before .before .look-at .ensures) (c .enum-told .given .1)
 
 -- src/actions.rt:119:17
 enum-told-2 : tie.Need-enum-told-2 Inv-loop μ-loop
@@ -132,7 +132,7 @@ loop-less-5 c = search line-less
 
 -- src/actions.rt:95:5
 loop-again-5 : tie.Need-loop-again-5 Inv-loop μ-loop
-loop-again-5 c = search look-undone
+loop-again-5 c = look-undone _ _ _ _ _ _ (c .before .before .before .before .before .before .before .before .before .before .before .loop .inv) (c .before .before .before .before .before .before .before .before .before .before .loop-test .taken) _ _ (c .before .before .before .before .before .before .before .before .before .line-place .ensures) (c .before .before .before .before .before .before .before .before .next-line .ensures) _ _ (c .before .before .before .before .before .before .wide .ensures) (c .before .before .before .before .before .mark-of .ensures) (c .before .before .before .before .if1 .left) _ (c .before .before .look-at .ensures) (c .enum-told2 .given .1) (c .before .before .before .if2 .left)
 
 -- src/actions.rt:123:17
 enum-told-3 : tie.Need-enum-told-3 Inv-loop μ-loop
@@ -144,7 +144,7 @@ loop-less-6 c = search line-less
 
 -- src/actions.rt:95:5
 loop-again-6 : tie.Need-loop-again-6 Inv-loop μ-loop
-loop-again-6 c = search look-kept
+loop-again-6 c = look-kept _ _ _ _ _ _ (c .before .before .before .before .before .before .before .before .before .before .before .loop .inv) (c .before .before .before .before .before .before .before .before .before .before .loop-test .taken) _ _ (c .before .before .before .before .before .before .before .before .before .line-place .ensures) (c .before .before .before .before .before .before .before .before .next-line .ensures) _ _ (c .before .before .before .before .before .before .wide .ensures) (c .before .before .before .before .before .mark-of .ensures) (c .before .before .before .before .if1 .left) _ (c .before .before .look-at .ensures) (c .enum-told3 .given .1)
 
 -- src/actions.rt:86:1
 returns : tie.Need-returns Inv-loop μ-loop
