@@ -127,8 +127,8 @@ module _ {C : Type 0} (row : C → Row) (judges gives : C → Judgement) (tells 
 
 -- Cases 1 to 13 and the rows beside them, those of the line, then case 14 and the rows beside it, then those of the closing layout, then those of
 -- releases, those of reused verdicts, those of guarded plans, those by cases, those of indexes, and last the long ones.
-all : Held
-all =
+all-rows : Held
+all-rows =
     and-then (judgings cases cases-hold)
     (and-then (lined line-row _ _ _ _ line-cases (λ _. (refl, refl)) line-cases-hold lines-hold)
     (and-then (checkings derivations derivations-hold)
@@ -144,8 +144,8 @@ all =
     (and-then (checkings long-derivations long-derivations-hold) (releasings long-releases long-releases-hold)))))))))))))
 
 pub proved-cases : List Row
-proved-cases = all .rows
+proved-cases = all-rows .rows
 
 pub proved-cases-hold : map (λ (r : Row). outcome-of (r .call)) proved-cases ≡ map (λ (r : Row). r .gives) proved-cases
 unfolding proved-cases
-proved-cases-hold = all .hold
+proved-cases-hold = all-rows .hold

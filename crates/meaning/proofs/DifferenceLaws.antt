@@ -50,7 +50,7 @@ further x y xs ys p same d =
           (d .there);
     }
 
--- Either they are the same, or they differ somewhere first; and the definition finds out.
+-- Either they are the same, or there is a place at which they differ first; and the definition tells which.
 abbrev Decided : ℕ → List ℕ → List ℕ → Type 0
 Decided k xs ys = ((xs ≡ ys) × (difference-from k xs ys ≡ nowhere)) ⊎ ((p : ℕ) × Differs xs ys p × (difference-from k xs ys ≡ at (k + p)))
 

@@ -35,11 +35,11 @@ use Rattle.meaning.proofs.DifferenceLaws.{same-difference, differs-ther
 
 -- THE INDEXED CALL AGAINST THE WALK CALL.
 module _ (lim : Limits) (s i lent : List ℕ) (budget : ℕ) where
-  -- Past 9, on what is settled.
+  -- What it gives past 9.
   abbrev given : Got Request → Judgement
   given x = unless-differs lent (difference-in i x) (judge-got (Indexes.walk-of lim s i) lent budget x)
 
-  -- The two calls give the same where they do so past 9; and so where they both give 9.
+  -- Where the two calls give the same past 9, they give the same.
   judges-alike : given (settled lim s) ≡ judge-got (Judging.walk-of lim) lent budget (settled lim s) → judge-indexed lim s i lent budget ≡ judge lim s lent budget
   unfolding judge-indexed judge
   judges-alike same = ap (λ (j : Judgement). pick (eqb (length lent) (lim .state)) (λ _. j) (λ _. wrong-length lent)) same

@@ -260,7 +260,7 @@ module _ (lim : Limits) (s : List ℕ) (t : Table) (lines : Lines-there lim s t)
       unfolding index-of
       index-bytes = parts-bytes 0 (t .actions)
 
--- THE INDEX OF A SETTLED REQUEST, whose bytes are bytes: it has at most so many, and each is one (FORMAT 23.5).
+-- THE INDEX OF A SETTLED REQUEST, each of whose numbers is a byte: it is no longer than an index may be, and each of its numbers is a byte too (FORMAT 23.5).
 module _ (s : List ℕ) (bytes : Bytes s) (r : Request) (e : ℕ) (past : settled format s ≡ got r e) where
   pub settled-index-most : length (index-of (r .table)) ≤ most-index
   settled-index-most = index-most format s (r .table) (settled-lines format s r e past) bytes
