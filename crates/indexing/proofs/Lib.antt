@@ -1,1 +1,2 @@
 pub mod TakeLaws
+pub mod TakenHand
