@@ -1,7 +1,7 @@
 -- An index taken into the notes, as the code does it: the loop over the offsets behind a count, and the loop over the actions. Assumes nothing.
 use Prim.Native.Nat.{ℕ, suc, _+_, _-_, _*_, _≤_, _<_}
 use native.Mathlib.Omega.{arith}
-use mathlib.Core.Path.{_≡_, refl, sym, _∙_, ap, subst}
+use mathlib.Core.Path.{_≡_, sym, _∙_, ap, subst}
 use mathlib.Core.List.{List}
 use lib.ListN.{length, getD, set, length-append, length-map}
 use mir.Syntax.{w8, w64}

@@ -78,15 +78,16 @@ module _ {A : Type 0} (action : A → ℕ) where
         let apart = eqb-false a b f in
         ap₂ (λ (ys zs : List A). ys ++ zs) (of-other xs a b apart) (of-inside (b + 1) left (omega (arith, apart, least)) (omega (arith, most))))
 
-  -- Where each line's action is below m, those of an action among the lines of the first m actions are those of the list.
-  pub of-parted : (m : ℕ) (xs : List A) → ((x : A) → Has xs x → action x < m) → (a : ℕ) → of-action (each-action (of-action xs) 0 m) a ≡ of-action xs a
-  of-parted m xs below a =
-      by-test (ltb a m)
-      (λ t. let less = ltb-true a m t in of-inside xs a 0 m (omega arith) (omega (arith, less)))
-      (λ f.
-      let more = ltb-false a m f in
-      of-outside xs a 0 m (λ _ less. omega (arith, more, less))
-      ∙ sym (those-none _ xs (λ x h. let less = below x h in ne-eqb (action x) a (λ e. omega (arith, more, less, e)))))
+  -- Where each line's action is below m, no other action has a line, and those of an action among the lines of the first m actions are those of the list.
+  module _ (m : ℕ) (xs : List A) (below : (x : A) → Has xs x → action x < m) (a : ℕ) where
+    pub of-none : m ≤ a → of-action xs a ≡ []
+    of-none more = those-none _ xs (λ x h. let less = below x h in ne-eqb (action x) a (λ e. omega (arith, more, less, e)))
+
+    pub of-parted : of-action (each-action (of-action xs) 0 m) a ≡ of-action xs a
+    of-parted =
+        by-test (ltb a m)
+        (λ t. let less = ltb-true a m t in of-inside xs a 0 m (omega arith) (omega (arith, less)))
+        (λ f. let more = ltb-false a m f in of-outside xs a 0 m (λ _ less. omega (arith, more, less)) ∙ sym (of-none more))
 
   -- HOW MANY. A line is counted with its action and with no other.
   module _ (x : A) (xs : List A) where

@@ -10,7 +10,7 @@ use Rattle.reading.specs.Bits.{bit-of}
 use Rattle.reading.specs.Noted.{effect-lines, run-lines, sensed-from, sensed-to, plan-slot, items-slot, goals-slot, guards-slot, mode-slot, pair-slot, pair-there, word-bits}
 use Rattle.reading.specs.Ordered.{In-order}
 use Rattle.finding.proofs.PlanKept.{kept-agree}
-use Rattle.steps.specs.Held.{table-in, plan-in, goals-in, whether-in, guards-at, guards-in, request-in}
+use Rattle.steps.specs.Held.{plan-in, goals-in, whether-in, guards-at, guards-in, request-in}
 use Rattle.steps.specs.LinesFound.{run-places, effect-places, Senses}
 use Rattle.steps.specs.AtHand.{At-hand}
 use Rattle.steps.proofs.NextSlots.{nexts-agree}
