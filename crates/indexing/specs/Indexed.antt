@@ -1,11 +1,12 @@
 -- An index in the terms of its code: the places of an action's lines as the notes lead to them, and notes into which an index is taken.
-use Prim.Native.Nat.{ℕ, zero, suc, _+_}
+use Prim.Native.Nat.{ℕ, zero, suc, _+_, _<_}
 use mathlib.Core.List.{List, [], _∷_}
 use lib.ListN.{getD, set}
 use lib.Dec.{eqb}
-use Rattle.meaning.specs.Tests.{pick}
+use Rattle.meaning.specs.Tests.{pick, Has}
 use Rattle.meaning.specs.Indexes.{counted-at, after-counted}
 use Rattle.reading.specs.Noted.{effect-lines, run-lines, line-numbers, line-place, next-line, first-line}
+use Rattle.reading.specs.Ordered.{In-order}
 
 -- THE PLACES of line j and of those after it, so many at the most; there is none where j is 0.
 unfoldable pub noted-from : (t : List ℕ) (lines left j : ℕ) → List ℕ
@@ -15,6 +16,11 @@ noted-from t lines (suc left) j = pick (eqb j 0) (λ _. []) (λ _. line-place t 
 -- Of all lines of an action.
 unfoldable pub places-noted : (t : List ℕ) (lines action : ℕ) → List ℕ
 places-noted t lines a = noted-from t lines line-numbers (first-line t lines a)
+
+-- The notes lead to all of them in file order, and two bytes hold the place of each.
+pub record Lines-noted (t : List ℕ) (lines action : ℕ) : Type 0 where
+  pub order : In-order t lines action (places-noted t lines action)
+  pub near : (p : ℕ) → Has (places-noted t lines action) p → p < 65536
 
 -- AN INDEX TAKEN. These places become lines, numbered from k + 1 on, and come after i: a line, or 256 and the number of an action.
 unfoldable pub lines-taken : (lines i k : ℕ) (places : List ℕ) → List ℕ → List ℕ

@@ -7,9 +7,8 @@ ghost use lib.Seq.{sets};
 ghost use Rattle.meaning.specs.Limits.{format};
 ghost use Rattle.meaning.specs.Indexes.{offsets, counted-offsets, index-of};
 ghost use Rattle.reading.specs.Noted.{run-lines};
-ghost use Rattle.reading.specs.Ordered.{In-order};
 ghost use Rattle.finding.specs.TablesHere.{table-in, Table-here};
-ghost use Rattle.indexing.specs.Indexed.{places-noted};
+ghost use Rattle.indexing.specs.Indexed.{places-noted, Lines-noted};
 use bytes::bytes::wide;
 use reading::notes;
 use reading::notes::Notes;
@@ -33,12 +32,12 @@ fn put_offset(room: &mut [u8], q: usize, p: usize)
 fn put_lines(t: &Notes, lines: usize, a: usize, room: &mut [u8], q: usize) -> usize
     requires { ⌜ lines ≤ run-lines ⌝ }
     requires { ⌜ a < format .actions ⌝ }
-    requires { ⌜ In-order (now t) lines a (places-noted (now t) lines a) ⌝ }
+    requires { ⌜ Lines-noted (now t) lines a ⌝ }
     requires { ⌜ q + length (counted-offsets (places-noted (now t) lines a)) ≤ length (now room) ⌝ }
     ensures { λ r. ⌜ r ≡ q + length (counted-offsets (places-noted (now (t .entry)) lines a)) ⌝ }
     ensures { λ _. ⌜ now (room .exit) ≡ sets (now (room .entry)) q (counted-offsets (places-noted (now (t .entry)) lines a)) ⌝ }
 {
-    let mut count = 0;
+    let mut count: usize = 0;
     let mut p = q + 1;
     let mut k = first_line(t, lines, a);
     while 0 < k {

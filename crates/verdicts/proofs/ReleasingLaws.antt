@@ -46,7 +46,7 @@ use Rattle.finding.specs.TablesHere.{blank, table-in, Table-here}
 use Rattle.finding.proofs.FoundLaws.{found-none, found-at}
 use Rattle.finding.proofs.ReadLaws.{table-is, table-comes, table-stays}
 use Rattle.reader.proofs.WholeLaws.{Front}
-use Rattle.finding.proofs.StartLaws.{table-starts}
+use Rattle.finding.proofs.StartLaws.{front-here}
 use Rattle.refusing.specs.Settled.{table-settled}
 use Rattle.refusing.specs.Refusal18.{Overlap-found}
 use Rattle.refusing.proofs.SettleLaws.{behind-table}
@@ -209,13 +209,7 @@ module _ (s t : List ℕ) (plans start : ℕ) (here : Opened-here s t plans star
 -- PAST 16 AND 17.
 module _ (s t : List ℕ) (here : Table-here s t) where
   front-there : Front s 0 (table-in s)
-  front-there = table-starts s (table-in s) (here .table-end) (here .table) .front
-
-  pub first-byte : 0 < length s
-  first-byte = let second = front-there .second in omega arith
-
-  pub second-byte : 1 < length s
-  second-byte = front-there .second
+  front-there = front-here s t here
 
   pub counts-there : (n m : ℕ) → n ≡ getD s 0 0 → m ≡ getD s 1 0 → Counted s n m
   counts-there n m first second = record {

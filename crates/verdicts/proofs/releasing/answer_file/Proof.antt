@@ -1,6 +1,7 @@
 -- A byte after the last plan is refused at its place; else the row is that of the answers.
 use borrow.Author.Needs.{needs}
-use Rattle.verdicts.proofs.ReleasingLaws.{first-byte, second-byte, counts-there, file-answered, file-20}
+use Rattle.finding.proofs.StartLaws.{first-byte, second-byte}
+use Rattle.verdicts.proofs.ReleasingLaws.{counts-there, file-answered, file-20}
 use Rattle.verdicts.proofs.releasing.answer_file.Statement.{statement}
 use Rattle.verdicts.proofs.releasing.answer_file.Tie as tie
 use Rattle.verdicts.proofs.releasing.answer_file.Reads as reads
