@@ -15,8 +15,8 @@ use Rattle.meaning.proofs.TableLines.{table-lines}
 use Rattle.meaning.proofs.ActionLines.{length-parted}
 use Rattle.meaning.proofs.IndexLaws.{counted-stand, counted-end}
 use Rattle.reading.specs.Noted.{effect-lines, run-lines, line-numbers}
-use Rattle.reader.proofs.WholeLaws.{Front, front}
 use Rattle.finding.specs.TablesHere.{table-in, Table-here}
+use Rattle.finding.proofs.StartLaws.{front-here}
 use Rattle.indexing.specs.Indexed.{lines-taken, index-taken}
 
 -- AN OFFSET, as two bytes.
@@ -151,20 +151,14 @@ pub record Indexing (i : List ℕ) (x : Table) (whole t : List ℕ) (actions q e
   pub same : whole ≡ index-taken i a (actions - a) q effects runs t
   pub left : Left i x a (actions - a) q effects runs
 
-module _ (s t : List ℕ) (here : Table-here s t) where
-  start : Front s 0 (table-in s)
-  start = front s 0 (table-in s) (here .table-end) (here .table)
-
-  pub count-there : 1 < length s
-  count-there = start .second
-
-  pub indexing-starts : (i : List ℕ) → i ≡ index-of (table-in s) → (actions : ℕ) → actions ≡ getD s 1 0 → Indexing i (table-in s) (index-taken i 0 (table-in s .actions) 0 0 0 t) t actions 0 0 0 0
-  indexing-starts i is actions count =
-      let all : table-in s .actions ≡ actions - 0 = omega (arith, start .actions-are, count) in
-      record {
-        same = ap (λ (left : ℕ). index-taken i 0 left 0 0 0 t) all;
-        left = rw is (subst (λ (left : ℕ). Left (index-of (table-in s)) (table-in s) 0 left 0 0 0) all (all-left s t here));
-      }
+pub indexing-starts : (s t : List ℕ) → Table-here s t → (i : List ℕ) → i ≡ index-of (table-in s) → (actions : ℕ) → actions ≡ getD s 1 0
+    → Indexing i (table-in s) (index-taken i 0 (table-in s .actions) 0 0 0 t) t actions 0 0 0 0
+indexing-starts s t here i is actions count =
+    let all : table-in s .actions ≡ actions - 0 = omega (arith, front-here s t here .actions-are, count) in
+    record {
+      same = ap (λ (left : ℕ). index-taken i 0 left 0 0 0 t) all;
+      left = rw is (subst (λ (left : ℕ). Left (index-of (table-in s)) (table-in s) 0 left 0 0 0) all (all-left s t here));
+    }
 
 module _ (i : List ℕ) (x : Table) (whole t : List ℕ) (actions q effects runs a : ℕ) (taking : Indexing i x whole t actions q effects runs a) where
   pub indexing-done : actions ≤ a → t ≡ whole

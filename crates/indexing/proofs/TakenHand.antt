@@ -20,7 +20,7 @@ use Rattle.meaning.proofs.ActionLines.{of-none}
 use Rattle.reading.specs.Noted.{effect-lines, run-lines, line-numbers, line-slots, line-place, next-line, first-line, sensed-from, mode-slot, slots}
 use Rattle.reading.specs.Ordered.{Chain, In-order}
 use Rattle.finding.specs.TablesHere.{table-in, Table-here}
-use Rattle.finding.proofs.KeptLaws.{kept}
+use Rattle.finding.proofs.KeptLaws.{kept, Outside}
 use Rattle.steps.specs.Held.{guards-in, request-in}
 use Rattle.steps.specs.LinesFound
 use Rattle.steps.specs.AtHand.{At-hand}
@@ -101,7 +101,7 @@ record Clear (lines a left k j : ℕ) : Type 0 where
   first : (b : ℕ) → a ≤ b → b < a + left → j ≡ lines + line-numbers + (line-numbers + b) → ⊥
 
 module _ (lines a left : ℕ) where
-  -- Those of the actions before these, and of another section.
+  -- It is one for the actions after the first, with the lines of that one passed.
   clear-later : (k c j : ℕ) → Clear lines a (suc left) k j → Clear lines (a + 1) left (k + c) j
   clear-later k c j clear = record {
     place = λ m more few. clear .place m (omega arith) few;
@@ -109,24 +109,25 @@ module _ (lines a left : ℕ) where
     first = λ b least most. clear .first b (omega arith) (omega arith);
   }
 
-  clear-line : (k m : ℕ) → m ≤ k → k < line-numbers → Clear lines (a + 1) left k (lines + m) × Clear lines (a + 1) left k (lines + line-numbers + m)
+  -- The two slots of a line that was passed are such, that of another action's first line, and all that are none of the section's.
+  clear-line : (k m : ℕ) → m ≤ k → k < line-numbers → Clear lines a left k (lines + m) × Clear lines a left k (lines + line-numbers + m)
   clear-line k m most few = (
     record { place = λ n more less e. omega arith; next = λ n more less e. omega arith; first = λ b least less e. omega arith },
     record { place = λ n more less e. omega arith; next = λ n more less e. omega arith; first = λ b least less e. omega arith },
   )
 
   clear-first : (k b : ℕ) → (a ≤ b → a + left ≤ b) → Clear lines a left k (lines + line-numbers + (line-numbers + b))
-  clear-first k b outside = record {
+  clear-first k b other = record {
     place = λ n more less e. omega arith;
     next = λ n more less e. omega arith;
-    first = λ c least less e. let far = outside (omega arith) in omega arith;
+    first = λ c least less e. let far = other (omega arith) in omega arith;
   }
 
-  clear-outside : (k j : ℕ) → a + left ≤ format .actions → (lines ≤ j → lines + line-slots ≤ j) → Clear lines a left k j
-  clear-outside k j few outside = record {
-    place = λ n more less e. let far = outside (omega arith) in omega arith;
-    next = λ n more less e. let far = outside (omega arith) in omega arith;
-    first = λ b least less e. let far = outside (omega arith) in omega arith;
+  clear-outside : (k j : ℕ) → a + left ≤ format .actions → Outside lines j → Clear lines a left k j
+  clear-outside k j few out = record {
+    place = λ n more less e. out n (omega arith) e;
+    next = λ n more less e. out (line-numbers + n) (omega arith) (omega arith);
+    first = λ b least less e. out (line-numbers + (line-numbers + b)) (omega arith) (omega arith);
   }
 
   -- An action's lines keep it.
@@ -142,7 +143,7 @@ order-here lines a left k ps t u small few row same =
     numbered-chain lines u (line-numbers + a) k ps few
     (numbered-kept lines t u (line-numbers + a) k ps (same (lines + line-numbers + (line-numbers + a)) (omega arith) (omega arith) (clear-first lines (a + 1) left (k + length ps) a (λ least. omega arith)))
     (λ m more most.
-    let clear = clear-line lines a left (k + length ps) m most few in
+    let clear = clear-line lines (a + 1) left (k + length ps) m most few in
     (same (lines + m) (omega arith) (omega arith) (clear .0), same (lines + line-numbers + m) (omega arith) (omega arith) (clear .1)))
     row)
 
@@ -157,7 +158,7 @@ module _ (i : List ℕ) where
   unfolding counted-at
   counted-long p = so-many (getD i p 0) (p + 1)
 
-  -- The lines of the first action that is left, the effects before the others.
+  -- The lines of one action: its effects, and then its executability lines.
   abbrev with-effects : (a q effects : ℕ) → List ℕ → List ℕ
   with-effects a q effects t = lines-taken effect-lines (line-numbers + a) effects (counted-at i q) t
 
@@ -230,13 +231,13 @@ module _ (i : List ℕ) where
                 (order-here effect-lines a left effects es (with-effects a q effects t) (index-taken i a (suc left) q effects runs t) small fit
                 (taken-numbered effect-lines (omega arith) (line-numbers + a) effects es t sized (omega arith) (λ _. omega arith) fit)
                 (λ j least most clear.
-                others-kept j clear (clear-outside run-lines (a + 1) left (runs + length rs) j (omega arith) (λ far. omega arith))
-                ∙ action-kept run-lines a left runs j rs (with-effects a q effects t) fit-too (clear-outside run-lines a (suc left) runs j few (λ far. omega arith))));
+                others-kept j clear (clear-outside run-lines (a + 1) left (runs + length rs) j (omega arith) (λ n less e. omega arith))
+                ∙ action-kept run-lines a left runs j rs (with-effects a q effects t) fit-too (clear-outside run-lines a (suc left) runs j few (λ n less e. omega arith))));
             runs =
                 subst (In-order (index-taken i a (suc left) q effects runs t) run-lines a) (first .runs-are)
                 (order-here run-lines a left runs rs (with-both a q effects runs t) (index-taken i a (suc left) q effects runs t) small fit-too
                 (taken-numbered run-lines (omega arith) (line-numbers + a) runs rs (with-effects a q effects t) (omega arith) (omega arith) (λ _. omega arith) fit-too)
-                (λ j least most clear. others-kept j (clear-outside effect-lines (a + 1) left (effects + length es) j (omega arith) (λ far. omega arith)) clear));
+                (λ j least most clear. others-kept j (clear-outside effect-lines (a + 1) left (effects + length es) j (omega arith) (λ n less e. omega arith)) clear));
           }
 
     index-ordered : (b a left q effects runs : ℕ) (t : List ℕ) → length t ≡ slots → Left i x a left q effects runs → a ≤ b → b < a + left → Ordered (index-taken i a left q effects runs t) b
@@ -265,8 +266,8 @@ module _ (s t : List ℕ) (table : Table-here s t) (i : List ℕ) (is : i ≡ in
   taken-other : (j : ℕ) → (effect-lines ≤ j → sensed-from ≤ j) → getD u j 0 ≡ getD t j 0
   taken-other j outside =
       let few = left .few in
-      index-kept i (table-in s) j 0 (table-in s .actions) 0 0 0 t left (clear-outside effect-lines 0 _ 0 j few (λ far. let more = outside far in omega arith))
-      (clear-outside run-lines 0 _ 0 j few (λ far. outside (omega arith)))
+      index-kept i (table-in s) j 0 (table-in s .actions) 0 0 0 t left (clear-outside effect-lines 0 _ 0 j few (λ n less e. let far = outside (omega arith) in omega arith))
+      (clear-outside run-lines 0 _ 0 j few (λ n less e. let far = outside (omega arith) in omega arith))
 
   pub taken-mode : mode-in (index-taken i 0 (table-in s .actions) 0 0 0 t) ≡ mode-in t
   unfolding mode-in
@@ -303,12 +304,12 @@ module _ (s t : List ℕ) (table : Table-here s t) (i : List ℕ) (is : i ≡ in
     kept-effects : In-order t effect-lines b (effect-places (table-in s) b) → In-order u effect-lines b (effect-places (table-in s) b)
     kept-effects =
         let few = left .few in
-        first-kept effect-lines (clear-first effect-lines 0 (table-in s .actions) 0 b (λ _. omega arith)) (clear-outside run-lines 0 (table-in s .actions) 0 _ few (λ far. omega arith)) _ no-effects
+        first-kept effect-lines (clear-first effect-lines 0 (table-in s .actions) 0 b (λ _. omega arith)) (clear-outside run-lines 0 (table-in s .actions) 0 _ few (λ n less e. omega arith)) _ no-effects
 
     kept-runs : In-order t run-lines b (run-places (table-in s) b) → In-order u run-lines b (run-places (table-in s) b)
     kept-runs =
         let few = left .few in
-        first-kept run-lines (clear-outside effect-lines 0 (table-in s .actions) 0 _ few (λ far. omega arith)) (clear-first run-lines 0 (table-in s .actions) 0 b (λ _. omega arith)) _ no-runs
+        first-kept run-lines (clear-outside effect-lines 0 (table-in s .actions) 0 _ few (λ n less e. omega arith)) (clear-first run-lines 0 (table-in s .actions) 0 b (λ _. omega arith)) _ no-runs
 
   pub taken-hand : At-hand s t → At-hand s (index-taken i 0 (table-in s .actions) 0 0 0 t)
   unfolding effect-places run-places LinesFound.effect-places LinesFound.run-places

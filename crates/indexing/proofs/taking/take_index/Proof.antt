@@ -2,8 +2,9 @@
 use borrow.Author.Needs.{needs}
 use Prim.Native.Nat.{_-_}
 use Rattle.finding.specs.TablesHere.{table-in}
+use Rattle.finding.proofs.StartLaws.{second-byte}
 use Rattle.indexing.specs.Indexed.{index-taken}
-use Rattle.indexing.proofs.TakeLaws.{Indexing, count-there, indexing-starts, indexing-done, action-small, effects-at, effects-end, effects-few, effects-sum, runs-at, runs-end, runs-few, runs-sum, action-taken}
+use Rattle.indexing.proofs.TakeLaws.{Indexing, indexing-starts, indexing-done, action-small, effects-at, effects-end, effects-few, effects-sum, runs-at, runs-end, runs-few, runs-sum, action-taken}
 use Rattle.indexing.proofs.taking.take_index.Statement.{statement}
 use Rattle.indexing.proofs.taking.take_index.Tie as tie
 use Rattle.indexing.proofs.taking.take_index.Reads as reads
@@ -19,7 +20,7 @@ abbrev μ-loop : tie.MeasureT-loop
 
 -- src/taking.rt:60:24
 shared-slice-read-wide : tie.Need-shared-slice-read-wide Inv-loop μ-loop
-shared-slice-read-wide c = search count-there
+shared-slice-read-wide c = search second-byte
 
 -- src/taking.rt:60:9
 wide-requires : tie.Need-wide-requires Inv-loop μ-loop
