@@ -45,12 +45,12 @@ known-walk s u x gs known is are =
     ∙ ap (λ (y : Request). walked-guarded y (guards-in s u) (first-state format (y .table))) is
     ∙ ap (λ (hs : List Entry). walked-guarded x hs (first-state format (x .table))) are
 
-held-table : (s u : List ℕ) (x : Request) → request-in s u ≡ x → table-in s ≡ x .table
+pub held-table : (s u : List ℕ) (x : Request) → request-in s u ≡ x → table-in s ≡ x .table
 unfolding request-in
 held-table s u x is = ap (λ (y : Request). y .table) is
 
 -- This answer, these bytes afterwards and this line are what a call gives.
-abbrev Gives : Judgement → (line : ℕ) → Answer → (left : List ℕ) → (v : ℕ) → Type 0
+abbrev pub Gives : Judgement → (line : ℕ) → Answer → (left : List ℕ) → (v : ℕ) → Type 0
 Gives given line a left v = (record { answer = a; state = left } ≡ given) × (v ≡ line)
 
 -- A CALL, whatever it reads and notes of that, however it judges it, and whichever table it takes the line from. A lent state of another length goes first.

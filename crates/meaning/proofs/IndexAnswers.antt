@@ -85,7 +85,7 @@ module _ (lim : Limits) (s i lent : List ℕ) (budget : ℕ) where
     unfolding judge
     walked-9 = pick-false _ _ _ other
 
-    nine-alike : As-walked lim s i lent budget
+    pub nine-alike : As-walked lim s i lent budget
     unfolding line-indexed line
     nine-alike =
         let not : (j : Judgement) → j ≡ wrong-length lent → j .answer .number ≡ Limits.not-executable → ⊥ = λ j is two. let same = ap (λ (k : Judgement). k .answer .number) is in omega (arith, same, two) in
