@@ -64,8 +64,7 @@ module _ {A : Type 0} (note : A → List ℕ → List ℕ) (table : A → Table)
   module _ (a : Answer) (v : ℕ) where
     call-9 : (length lent ≡ format .state → ⊥) → a ≡ record { number = 9; input = 0; place = 0; count = 0 } → v ≡ 0 → Gives given lined a lent v
     call-9 other is none =
-        let nine : given ≡ wrong-length lent = pick-false _ _ _ (ne-eqb _ _ other) in
-        (
+        let nine : given ≡ wrong-length lent = pick-false _ _ _ (ne-eqb _ _ other) in (
           ap (λ (b : Answer). record { answer = b; state = lent }) is ∙ sym nine,
           none ∙ sym (line-not table s given (λ two. let differ : _≡_ {A = ℕ} 9 2 = ap (λ (j : Judgement). j .answer .number) (sym nine) ∙ two in omega (arith, differ)) read),
         )
@@ -109,9 +108,9 @@ module _ (s lent : List ℕ) (budget : ℕ) (a : Answer) (v : ℕ) where
         let held = settled-held s t u r settles e passes bytes empty in
         call-judged request-noted (λ (x : Request). x .table) (settled format s) s lent (judge-got (walk-of format) lent budget) a v sized left (got-it .0) e (got-it .1)
         (walks
-          ∙ ap (within lent budget)
-          (known-walk s u (got-it .0) [] (settled-known s t u r settles e passes bytes empty) held (settled-unguarded s t u r settles e passes bytes empty)
-          ∙ walked-unguarded (got-it .0) (first-state format (got-it .0 .table))))
+        ∙ ap (within lent budget)
+        (known-walk s u (got-it .0) [] (settled-known s t u r settles e passes bytes empty) held (settled-unguarded s t u r settles e passes bytes empty)
+        ∙ walked-unguarded (got-it .0) (first-state format (got-it .0 .table))))
         (told ∙ ap (λ (w : Table). line-told w s (record { answer = a; state = left })) (held-table s u (got-it .0) held))
 
 -- THE CALL BY CASES.
