@@ -49,10 +49,10 @@ module _ (P : State → Type 0) where
 
   pub table-keeps : (t : Table) → Kept-by t (state-after t) → (a : ℕ) (s : State) → P s → Does-keep (table-does t a s)
   unfolding outcome
-  table-keeps t kept a s has = table-does-so _ _ P _ (λ _ has p _. has) t a s has (outcome-kept t (state-after t) kept a s has)
+  table-keeps t kept a s has = table-does-so (λ _ u. P u) (λ _ _ u. Concerned-has u) P (λ _. Unit {0}) (λ _ has p _. has) t a s has (outcome-kept t (state-after t) kept a s has)
 
   pub cases-keep : (t : Table) → Kept-by t (after-cases t) → (a : ℕ) (s : State) → P s → Does-keep (cases-does t a s)
-  cases-keep t kept a s has = cases-does-so _ _ P _ (λ _ has p _. has) (λ p _. tt) t a s has (outcome-kept t (after-cases t) kept a s has)
+  cases-keep t kept a s has = cases-does-so (λ _ u. P u) (λ _ _ u. Concerned-has u) P (λ _. Unit {0}) (λ _ has p _. has) (λ p _. tt) t a s has (outcome-kept t (after-cases t) kept a s has)
 
   pub walked-kept : (r : Request) (step : Steps State ℕ) → ((a : ℕ) (s : State) → P s → Does-keep (step .does a s)) → Keeps (meet step (walk step (r .plan) (judged r)))
   unfolding judged
