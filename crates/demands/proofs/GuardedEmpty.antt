@@ -16,7 +16,7 @@ use Rattle.meaning.specs.Refusals.{Found, nowhere, at, refuse, past-refusals, c
 use Rattle.meaning.specs.States.{first-state}
 use Rattle.meaning.specs.Judging.{Judgement, within, judge-settled, judge, judge-got}
 use Rattle.meaning.specs.Judging
-use Rattle.meaning.specs.Guards.{Guarded-request, read-guarded, settled-guarded, walk-of, guarded-settled, judge-guarded}
+use Rattle.meaning.specs.Guards.{Guarded-request, read-guarded, settled-guarded, walk-of, judge-guarded}
 use Rattle.meaning.specs.Layouts.{list-written}
 use Rattle.meaning.proofs.TestLaws.{by-test, pick-true, pick-false}
 use Rattle.meaning.proofs.PickLaws.{pick-has}
@@ -96,7 +96,7 @@ module _ (lim : Limits) (b : List ℕ) (short : length b < lim .request) where
   -- SETTLED and judged.
   module _ (lent : List ℕ) (budget : ℕ) where
     abbrev Alike : Got Request → Got Guarded-request → Type 0
-    Alike x h = guarded-settled lim lent budget h ≡ judge-settled lim lent budget x
+    Alike x h = judge-got (walk-of lim) lent budget h ≡ judge-settled lim lent budget x
 
     refused-alike : (n : ℕ) (f : Found) (x : Got Request) (h : Got Guarded-request) → Alike x h → Alike (refuse n f (λ _. x)) (refuse n f (λ _. h))
     unfolding refuse judge-got

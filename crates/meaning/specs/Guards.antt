@@ -11,7 +11,7 @@ use Rattle.meaning.specs.Reading.{Got, got, fault, next, literals, list-
 use Rattle.meaning.specs.Refusals.{past-refusals}
 use Rattle.meaning.specs.States.{State, first-state}
 use Rattle.meaning.specs.Walk.{Walked, walked-guarded}
-use Rattle.meaning.specs.Judging.{Judgement, judge-got, judge-by}
+use Rattle.meaning.specs.Judging.{Judgement, judge-by}
 use Rattle.meaning.specs.Asking.{line-got}
 
 -- A request and its guards (FORMAT 21.2).
@@ -36,9 +36,6 @@ settled-guarded lim s = next (read-guarded lim s) λ g e. past-refusals (g .requ
 -- The walk of its plan from the first state.
 unfoldable pub walk-of : Limits → Guarded-request → Walked State
 walk-of lim g = walked-guarded (g .request) (g .guards) (first-state lim (g .request .table))
-
-abbrev pub guarded-settled : Limits → (lent : List ℕ) → (budget : ℕ) → Got Guarded-request → Judgement
-guarded-settled lim = judge-got (walk-of lim)
 
 -- The lent state's length goes first (FORMAT 21.5).
 unfoldable pub judge-guarded : Limits → (request lent : List ℕ) → (budget : ℕ) → Judgement
