@@ -58,6 +58,11 @@ impl std::fmt::Display for Answer {
     }
 }
 
+/// Whether an answer with this number writes the lent state.
+pub fn writes_state(number: u8) -> bool {
+    matches!(number, 1 | 2 | 43)
+}
+
 /// A number of the table of answers together with a place in the input at hand.
 #[derive(Clone, Copy, Debug, PartialEq, Eq)]
 pub struct Fault {

@@ -25,7 +25,7 @@ pub mod rules;
 pub mod run;
 pub mod settle;
 pub mod table;
-mod tally;
+pub mod tally;
 pub mod text;
 pub mod walk;
 pub mod whether;
@@ -54,19 +54,33 @@ pub fn judge(request: &[u8], lent: &mut [u8], budget: u32) -> Answer {
 /// The judging call with the line that its answer carries: in answer 2 at an action the place of
 /// the executability line that came nearest, 0 where it has none, and in every other answer.
 pub fn judge_line(request: &[u8], lent: &mut [u8], budget: u32) -> (Answer, u32) {
+    let opened = || open(request);
+    judge_opened(lent, budget, opened, |request, _| {
+        Ok(walk::walk(&request, budget))
+    })
+}
+
+/// Any call that walks: 9, then what opening its input refuses, then how the walk ends, or an answer
+/// that only this call gives. The line that the answer carries comes along.
+fn judge_opened<Opened>(
+    lent: &mut [u8],
+    budget: u32,
+    opened: impl FnOnce() -> Result<Opened, Fault>,
+    walked: impl FnOnce(Opened, &mut [u8]) -> Result<Verdict, Answer>,
+) -> (Answer, u32) {
     if lent.len() != STATE_LENGTH {
         return (Answer::neither(9, 0), 0);
     }
-    match open(request) {
-        Err(fault) => (Answer::refusal(REQUEST, fault), 0),
-        Ok(request) => {
-            let verdict = walk::walk(&request, budget);
-            let line = match verdict {
-                Verdict::Stuck { line, .. } => answer::narrow(line),
-                _ => 0,
-            };
-            (tell(verdict, lent, budget), line)
+    let opened = match opened() {
+        Ok(opened) => opened,
+        Err(fault) => return (Answer::refusal(REQUEST, fault), 0),
+    };
+    match walked(opened, lent) {
+        Ok(verdict @ Verdict::Stuck { line, .. }) => {
+            (tell(verdict, lent, budget), answer::narrow(line))
         }
+        Ok(verdict) => (tell(verdict, lent, budget), 0),
+        Err(answer) => (answer, 0),
     }
 }
 

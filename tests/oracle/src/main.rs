@@ -9,6 +9,7 @@ use oracle::cases;
 use oracle::examples::{self, DEFAULT_BUDGET};
 use oracle::guards;
 use oracle::releases::{self, call::ROW_NUMBERS};
+use oracle::tally::Checked;
 use oracle::text::{parse_bytes, state_line};
 use oracle::{
     check, check_whether, judge_by_cases_line, judge_guarded_line, judge_line, plans, release,
@@ -40,7 +41,7 @@ usage:
       release files, 20,000 guarded requests and 20,000 requests by cases unless told otherwise),
       checks every answer, and prints how often each occurred. The last line is `oracle: ok`, or
       `oracle: FAILED` and why, with exit status 1.
-  oracle run-whether [--seed S] [--derivations K]
+  oracle run-whether [--seed S] [--whether K]
       Makes the random calls with derivations in the second layout only.
   oracle run-releases [--seed S] [--releases L]
       Makes the random release calls only.
@@ -82,94 +83,109 @@ fn main() -> ExitCode {
     }
 }
 
+/// Calls of a kind: the option that says how many a run or rows have of them, the command that runs
+/// these alone, that run, and the rows.
+struct Kind {
+    option: &'static str,
+    command: &'static str,
+    run: fn(u64, u64) -> Box<dyn Checked>,
+    rows: fn(u64, u64) -> Box<dyn Iterator<Item = String>>,
+}
+
+const KINDS: [Kind; 4] = [
+    Kind {
+        option: "--whether",
+        command: "run-whether",
+        run: |seed, count| Box::new(whether::run::run(seed, count)),
+        rows: |seed, count| Box::new(whether::rows::whether_rows(seed, count)),
+    },
+    Kind {
+        option: "--releases",
+        command: "run-releases",
+        run: |seed, count| Box::new(releases::run::run(seed, count)),
+        rows: |seed, count| Box::new(releases::rows::release_rows(seed, count)),
+    },
+    Kind {
+        option: "--guarded",
+        command: "run-guarded",
+        run: |seed, count| Box::new(guards::run::run(seed, count)),
+        rows: |seed, count| Box::new(guards::rows::guarded_rows(seed, count)),
+    },
+    Kind {
+        option: "--by-cases",
+        command: "run-by-cases",
+        run: |seed, count| Box::new(cases::run::run(seed, count)),
+        rows: |seed, count| Box::new(cases::rows::cases_rows(seed, count)),
+    },
+];
+
+/// So many calls of a kind in a run unless told otherwise.
+const CALLS: u64 = 20_000;
+
 fn command(words: &[String]) -> Result<ExitCode, String> {
     let Some((name, rest)) = words.split_first() else {
         print!("{HELP}");
         return Ok(ExitCode::from(2));
     };
+    let kind = KINDS.iter().find(|kind| kind.command == name);
+    let of_kinds = |others: &[&'static str]| {
+        let kinds = KINDS.iter().map(|kind| kind.option);
+        others.iter().copied().chain(kinds).collect::<Vec<_>>()
+    };
+    let calls = ["--guarded", "--by-cases", "--line", "--text"];
     match name.as_str() {
-        "judge" => judge_file(&Options::parse(rest, &["--budget"], 1, 1)?),
-        "check" => check_files(&Options::parse(rest, &[], 2, 2)?, check),
-        "check-whether" => check_files(&Options::parse(rest, &[], 2, 2)?, check_whether),
-        "release" => release_file(&Options::parse(rest, &["--budget"], 1, 1)?),
-        "plans" => count_plans(&Options::parse(rest, &[], 1, 1)?),
-        "run" => run_calls(&Options::parse(
-            rest,
-            &[
-                "--seed",
-                "--requests",
-                "--derivations",
-                "--whether",
-                "--releases",
-                "--guarded",
-                "--by-cases",
-            ],
-            0,
-            0,
-        )?),
-        "run-releases" => run_releases(&Options::parse(rest, &["--seed", "--releases"], 0, 0)?),
-        "run-guarded" => run_guarded(&Options::parse(rest, &["--seed", "--guarded"], 0, 0)?),
-        "run-by-cases" => run_by_cases(&Options::parse(rest, &["--seed", "--by-cases"], 0, 0)?),
-        "run-whether" => run_whether(&Options::parse(rest, &["--seed", "--derivations"], 0, 0)?),
-        "rows" => print_rows(&Options::parse(
-            rest,
-            &[
-                "--seed",
-                "--count",
-                "--derivations",
-                "--whether",
-                "--releases",
-                "--guarded",
-                "--by-cases",
-            ],
-            0,
-            0,
-        )?),
-        "examples" => run_examples(&Options::parse(rest, &[], 0, 1)?),
+        "judge" => judge_file(&Options::parse(rest, &["--budget"], &calls, 1)?),
+        "check" => check_files(&Options::parse(rest, &[], &["--text"], 2)?, check),
+        "check-whether" => check_files(&Options::parse(rest, &[], &["--text"], 2)?, check_whether),
+        "release" => release_file(&Options::parse(rest, &["--budget"], &["--text"], 1)?),
+        "plans" => count_plans(&Options::parse(rest, &[], &["--text"], 1)?),
+        "run" => {
+            let numbers = of_kinds(&["--seed", "--requests", "--derivations"]);
+            run_calls(&Options::parse(rest, &numbers, &[], 0)?)
+        }
+        "rows" => {
+            let numbers = of_kinds(&["--seed", "--count", "--derivations"]);
+            print_rows(&Options::parse(rest, &numbers, &[], 0)?)
+        }
+        "examples" => run_examples(rest.first()),
         "--help" | "-h" | "help" => {
             print!("{HELP}");
             Ok(ExitCode::SUCCESS)
         }
-        other => Err(format!("no such command: {other} (see --help)")),
+        other => match kind {
+            Some(kind) => run_kind(
+                kind,
+                &Options::parse(rest, &["--seed", kind.option], &[], 0)?,
+            ),
+            None => Err(format!("no such command: {other} (see --help)")),
+        },
     }
 }
 
-/// The words after a command: files, and options with numbers.
+/// The words after a command: files, options with numbers, and options without.
 struct Options {
     files: Vec<String>,
     numbers: Vec<(String, u64)>,
-    text: bool,
-    line: bool,
-    guarded: bool,
-    by_cases: bool,
+    flags: Vec<String>,
 }
 
 impl Options {
     fn parse(
         words: &[String],
-        known: &[&str],
-        least: usize,
-        most: usize,
+        numbers: &[&str],
+        flags: &[&str],
+        files: usize,
     ) -> Result<Options, String> {
         let mut options = Options {
             files: Vec::new(),
             numbers: Vec::new(),
-            text: false,
-            line: false,
-            guarded: false,
-            by_cases: false,
+            flags: Vec::new(),
         };
         let mut words = words.iter();
         while let Some(word) = words.next() {
-            if word == "--text" {
-                options.text = true;
-            } else if word == "--line" && known.contains(&"--budget") {
-                options.line = true;
-            } else if word == "--guarded" && known.contains(&"--budget") {
-                options.guarded = true;
-            } else if word == "--by-cases" && known.contains(&"--budget") {
-                options.by_cases = true;
-            } else if known.contains(&word.as_str()) {
+            if flags.contains(&word.as_str()) {
+                options.flags.push(word.clone());
+            } else if numbers.contains(&word.as_str()) {
                 let value = words.next().ok_or(format!("{word} needs a number"))?;
                 let value = value
                     .parse()
@@ -181,10 +197,14 @@ impl Options {
                 options.files.push(word.clone());
             }
         }
-        match (least..=most).contains(&options.files.len()) {
+        match options.files.len() == files {
             true => Ok(options),
             false => Err("a wrong number of files (see --help)".to_string()),
         }
+    }
+
+    fn has(&self, flag: &str) -> bool {
+        self.flags.iter().any(|word| word == flag)
     }
 
     fn number(&self, name: &str, otherwise: u64) -> u64 {
@@ -202,7 +222,7 @@ impl Options {
             _ => fs::read(name),
         };
         let bytes = bytes.map_err(|error| format!("{name}: {error}"))?;
-        match self.text {
+        match self.has("--text") {
             true => parse_bytes(&String::from_utf8_lossy(&bytes)),
             false => Ok(bytes),
         }
@@ -216,9 +236,6 @@ fn budget_of(options: &Options) -> Result<u32, String> {
 }
 
 fn release_file(options: &Options) -> Result<ExitCode, String> {
-    if options.line || options.guarded || options.by_cases {
-        return Err("no such option here: --line, --guarded or --by-cases".to_string());
-    }
     let file = options.bytes(0)?;
     let mut row = vec![0; ROW_NUMBERS * plans(&file) as usize];
     let own = release(&file, &mut row, budget_of(options)?);
@@ -240,7 +257,7 @@ fn judge_file(options: &Options) -> Result<ExitCode, String> {
     let request = options.bytes(0)?;
     let budget = budget_of(options)?;
     let mut lent = [0; STATE_LENGTH];
-    let call = match (options.guarded, options.by_cases) {
+    let call = match (options.has("--guarded"), options.has("--by-cases")) {
         (true, true) => return Err("--guarded does not go with --by-cases".to_string()),
         (true, false) => judge_guarded_line,
         (false, true) => judge_by_cases_line,
@@ -251,7 +268,7 @@ fn judge_file(options: &Options) -> Result<ExitCode, String> {
     if matches!(answer.number, 1 | 2 | 43) {
         println!("{}", state_line(&lent, request[0]));
     }
-    if options.line {
+    if options.has("--line") {
         println!("{line}");
     }
     Ok(ExitCode::SUCCESS)
@@ -265,51 +282,23 @@ fn check_files(options: &Options, call: fn(&[u8], &[u8]) -> Answer) -> Result<Ex
 fn run_calls(options: &Options) -> Result<ExitCode, String> {
     let seed = options.number("--seed", 1);
     let requests = options.number("--requests", 100_000);
-    let derivations = options.number("--derivations", 20_000);
+    let derivations = options.number("--derivations", CALLS);
     println!("seed: {seed}");
     let tally = run::run(seed, requests, derivations);
     print!("{}", tally.report());
-    let whether = whether::run::run(seed, options.number("--whether", 20_000));
-    print!("{}", whether.report());
-    let releases = releases::run::run(seed, options.number("--releases", 20_000));
-    print!("{}", releases.report());
-    let guarded = guards::run::run(seed, options.number("--guarded", 20_000));
-    print!("{}", guarded.report());
-    let by_cases = cases::run::run(seed, options.number("--by-cases", 20_000));
-    print!("{}", by_cases.report());
-    let verdict = tally.verdict().and(whether.verdict());
-    let verdict = verdict.and(releases.verdict()).and(guarded.verdict());
-    Ok(conclude(verdict.and(by_cases.verdict())))
+    let mut verdict = tally.verdict();
+    for kind in &KINDS {
+        let tally = (kind.run)(seed, options.number(kind.option, CALLS));
+        print!("{}", tally.report());
+        verdict = verdict.and(tally.verdict());
+    }
+    Ok(conclude(verdict))
 }
 
-fn run_releases(options: &Options) -> Result<ExitCode, String> {
+fn run_kind(kind: &Kind, options: &Options) -> Result<ExitCode, String> {
     let seed = options.number("--seed", 1);
     println!("seed: {seed}");
-    let tally = releases::run::run(seed, options.number("--releases", 20_000));
-    print!("{}", tally.report());
-    Ok(conclude(tally.verdict()))
-}
-
-fn run_guarded(options: &Options) -> Result<ExitCode, String> {
-    let seed = options.number("--seed", 1);
-    println!("seed: {seed}");
-    let tally = guards::run::run(seed, options.number("--guarded", 20_000));
-    print!("{}", tally.report());
-    Ok(conclude(tally.verdict()))
-}
-
-fn run_by_cases(options: &Options) -> Result<ExitCode, String> {
-    let seed = options.number("--seed", 1);
-    println!("seed: {seed}");
-    let tally = cases::run::run(seed, options.number("--by-cases", 20_000));
-    print!("{}", tally.report());
-    Ok(conclude(tally.verdict()))
-}
-
-fn run_whether(options: &Options) -> Result<ExitCode, String> {
-    let seed = options.number("--seed", 1);
-    println!("seed: {seed}");
-    let tally = whether::run::run(seed, options.number("--derivations", 20_000));
+    let tally = (kind.run)(seed, options.number(kind.option, CALLS));
     print!("{}", tally.report());
     Ok(conclude(tally.verdict()))
 }
@@ -332,22 +321,19 @@ fn print_rows(options: &Options) -> Result<ExitCode, String> {
     let seed = options.number("--seed", 1);
     let judging = options.number("--count", 300);
     let checking = options.number("--derivations", 0);
-    let whether = options.number("--whether", 0);
     let mut out = io::BufWriter::new(io::stdout().lock());
-    let whether = whether::rows::whether_rows(seed, whether);
-    let releases = releases::rows::release_rows(seed, options.number("--releases", 0));
-    let guarded = guards::rows::guarded_rows(seed, options.number("--guarded", 0));
-    let by_cases = cases::rows::cases_rows(seed, options.number("--by-cases", 0));
-    let derived = rows::rows(seed, judging, checking).chain(whether);
-    for row in derived.chain(releases).chain(guarded).chain(by_cases) {
+    let of_kinds = KINDS
+        .iter()
+        .flat_map(|kind| (kind.rows)(seed, options.number(kind.option, 0)));
+    for row in rows::rows(seed, judging, checking).chain(of_kinds) {
         writeln!(out, "{row}").map_err(|error| error.to_string())?;
     }
     out.flush().map_err(|error| error.to_string())?;
     Ok(ExitCode::SUCCESS)
 }
 
-fn run_examples(options: &Options) -> Result<ExitCode, String> {
-    let folder = match options.files.first() {
+fn run_examples(folder: Option<&String>) -> Result<ExitCode, String> {
+    let folder = match folder {
         Some(folder) => PathBuf::from(folder),
         None => Path::new(env!("CARGO_MANIFEST_DIR")).join("examples"),
     };

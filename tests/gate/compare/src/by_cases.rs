@@ -5,6 +5,7 @@ use std::time::Duration;
 use oracle::cases::calls::{any_cases_call, cases_call};
 use oracle::cases::run::Tally;
 use oracle::rng::Rng;
+use oracle::tally::Checked;
 
 use crate::calls::{self, expect, fenced_by, numbers, Call, Left};
 use crate::cases::judge_by_cases;

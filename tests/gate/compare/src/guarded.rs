@@ -6,6 +6,7 @@ use oracle::guards::calls::{any_guarded_call, guarded, guarded_call};
 use oracle::guards::run::Tally;
 use oracle::reader::REQUEST_LIMIT;
 use oracle::rng::Rng;
+use oracle::tally::Checked;
 
 use crate::calls::{self, expect, timed_and_named, Call, Left};
 use crate::crowded::crowded;

@@ -9,6 +9,7 @@ use oracle::reader::{PLAN_LIMIT, REQUEST_LIMIT};
 use oracle::releases::calls::{lent_row, release_call};
 use oracle::releases::run::Tally;
 use oracle::rng::Rng;
+use oracle::tally::Checked;
 use oracle::text::comma_separated;
 
 use crate::calls::{answer, numbers};
