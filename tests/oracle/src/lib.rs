@@ -14,6 +14,7 @@ pub mod examples;
 pub mod forge;
 pub mod generate;
 pub mod guards;
+pub mod indexes;
 pub mod model;
 pub mod paths;
 pub mod prove;
@@ -34,6 +35,7 @@ pub mod worlds;
 pub use answer::Answer;
 pub use cases::call::{judge_by_cases, judge_by_cases_line};
 pub use guards::call::{judge_guarded, judge_guarded_line};
+pub use indexes::call::{index, judge_indexed, judge_indexed_line};
 pub use releases::call::{plans, release};
 
 use answer::{Fault, DERIVATION, NEITHER, REQUEST};

@@ -5,27 +5,34 @@ use std::path::{Path, PathBuf};
 use std::process::ExitCode;
 use std::{env, fs};
 
+use oracle::answer::writes_state;
 use oracle::cases;
 use oracle::examples::{self, DEFAULT_BUDGET};
 use oracle::guards;
+use oracle::indexes;
 use oracle::releases::{self, call::ROW_NUMBERS};
 use oracle::tally::Checked;
-use oracle::text::{parse_bytes, state_line};
+use oracle::text::{comma_separated, parse_bytes, state_line};
 use oracle::{
-    check, check_whether, judge_by_cases_line, judge_guarded_line, judge_line, plans, release,
-    rows, run, whether, Answer, STATE_LENGTH,
+    check, check_whether, index, judge_by_cases_line, judge_guarded_line, judge_indexed_line,
+    judge_line, plans, release, rows, run, whether, Answer, STATE_LENGTH,
 };
 
 const HELP: &str = "\
 oracle: an independent reference program for Glintstring's verifier of conditional plans
 
 usage:
-  oracle judge FILE [--budget N] [--guarded | --by-cases] [--line] [--text]
+  oracle judge FILE [--budget N] [--guarded | --by-cases | --indexed INDEX] [--line] [--text]
       Judges a request and prints number, input, place and count; for answers 1, 2 and 43 a
       second line has one of ?+- for each fluent. The budget is 100,000 unless told otherwise.
       With --guarded the request has guards. With --by-cases actions are tried in every filling
-      of what is unknown. With --line a last line has the place of the executability line that
-      answer 2 carries, or 0.
+      of what is unknown. With --indexed the lines of an action are those at the offsets of the
+      file INDEX. With --line a last line has the place of the executability line that answer 2
+      carries, or 0.
+  oracle index FILE [--room N] [--to INDEX] [--text]
+      Makes the index call with a room of N bytes, or with room enough, and prints number, input,
+      place and count; for answer 0 the index is written to the file INDEX, or else a second line
+      has its bytes in decimal.
   oracle check REQUEST DERIVATION [--text]
       Checks a derivation and prints number, input, place and count.
   oracle check-whether REQUEST DERIVATION [--text]
@@ -36,11 +43,11 @@ usage:
   oracle plans FILE [--text]
       Prints how many plans a release file has, or 0.
   oracle run [--seed S] [--requests N] [--derivations M] [--whether K] [--releases L]
-             [--guarded G] [--by-cases C]
+             [--guarded G] [--by-cases C] [--indexed I]
       Makes random calls (seed 1, 100,000 requests, 20,000 derivations in each layout, 20,000
-      release files, 20,000 guarded requests and 20,000 requests by cases unless told otherwise),
-      checks every answer, and prints how often each occurred. The last line is `oracle: ok`, or
-      `oracle: FAILED` and why, with exit status 1.
+      release files, 20,000 guarded requests, 20,000 requests by cases and 20,000 with an index
+      unless told otherwise), checks every answer, and prints how often each occurred. The last
+      line is `oracle: ok`, or `oracle: FAILED` and why, with exit status 1.
   oracle run-whether [--seed S] [--whether K]
       Makes the random calls with derivations in the second layout only.
   oracle run-releases [--seed S] [--releases L]
@@ -49,21 +56,28 @@ usage:
       Makes the random guarded calls only.
   oracle run-by-cases [--seed S] [--by-cases C]
       Makes the random calls by cases only.
+  oracle run-indexed [--seed S] [--indexed I]
+      Makes the random index calls and indexed calls only.
   oracle rows [--seed S] [--count N] [--derivations M] [--whether K] [--releases L]
-              [--guarded G] [--by-cases C]
+              [--guarded G] [--by-cases C] [--indexed I]
       Prints N judging calls, M derivation calls, K in the second layout, L release calls, G
-      guarded calls and C calls by cases with their answers, one per line:
+      guarded calls, C calls by cases and I index calls or indexed calls with their answers, one
+      per line:
         J REQUEST LENT BUDGET NUMBER INPUT PLACE COUNT STATE LINE
         D REQUEST DERIVATION NUMBER INPUT PLACE COUNT
         W REQUEST DERIVATION NUMBER INPUT PLACE COUNT
         R FILE LENT BUDGET NUMBER INPUT PLACE COUNT PLANS ROW
         G REQUEST LENT BUDGET NUMBER INPUT PLACE COUNT STATE LINE
         C REQUEST LENT BUDGET NUMBER INPUT PLACE COUNT STATE LINE
+        B REQUEST ROOM NUMBER INPUT PLACE COUNT AFTERWARDS
+        I REQUEST INDEX LENT BUDGET NUMBER INPUT PLACE COUNT STATE LINE
       Bytes are decimal with commas between; `-` is no byte; the three words REP BYTE N are N
       times one byte. LENT is the length of the lent state; STATE is all its bytes after answers
       1, 2 and 43, and `-` where it stays as lent; LINE is what --line prints. In rows R, LENT is
       the length of the lent row, PLANS what the plans call gives, and ROW the row's numbers after
-      own answer 0, and `-` otherwise. (Seed 1, 300, and none of the others unless told otherwise.)
+      own answer 0, and `-` otherwise. In rows B, ROOM is the length of the lent room, whose bytes
+      are 9, and AFTERWARDS has its bytes after answer 0, and is `-` otherwise. (Seed 1, 300, and
+      none of the others unless told otherwise.)
   oracle examples [FOLDER]
       Runs the example files and prints a tally.
   oracle --help
@@ -92,7 +106,7 @@ struct Kind {
     rows: fn(u64, u64) -> Box<dyn Iterator<Item = String>>,
 }
 
-const KINDS: [Kind; 4] = [
+const KINDS: [Kind; 5] = [
     Kind {
         option: "--whether",
         command: "run-whether",
@@ -117,6 +131,12 @@ const KINDS: [Kind; 4] = [
         run: |seed, count| Box::new(cases::run::run(seed, count)),
         rows: |seed, count| Box::new(cases::rows::cases_rows(seed, count)),
     },
+    Kind {
+        option: "--indexed",
+        command: "run-indexed",
+        run: |seed, count| Box::new(indexes::run::run(seed, count)),
+        rows: |seed, count| Box::new(indexes::rows::indexed_rows(seed, count)),
+    },
 ];
 
 /// So many calls of a kind in a run unless told otherwise.
@@ -134,7 +154,14 @@ fn command(words: &[String]) -> Result<ExitCode, String> {
     };
     let calls = ["--guarded", "--by-cases", "--line", "--text"];
     match name.as_str() {
-        "judge" => judge_file(&Options::parse(rest, &["--budget"], &calls, 1)?),
+        "judge" => {
+            let (rest, index) = named_file("--indexed", rest)?;
+            judge_file(&Options::parse(&rest, &["--budget"], &calls, 1)?, index)
+        }
+        "index" => {
+            let (rest, to) = named_file("--to", rest)?;
+            index_file(&Options::parse(&rest, &["--room"], &["--text"], 1)?, to)
+        }
         "check" => check_files(&Options::parse(rest, &[], &["--text"], 2)?, check),
         "check-whether" => check_files(&Options::parse(rest, &[], &["--text"], 2)?, check_whether),
         "release" => release_file(&Options::parse(rest, &["--budget"], &["--text"], 1)?),
@@ -160,6 +187,20 @@ fn command(words: &[String]) -> Result<ExitCode, String> {
             None => Err(format!("no such command: {other} (see --help)")),
         },
     }
+}
+
+/// The words without an option that names a file, and that file.
+fn named_file(option: &str, words: &[String]) -> Result<(Vec<String>, Option<String>), String> {
+    let mut words = words.to_vec();
+    let Some(place) = words.iter().position(|word| word == option) else {
+        return Ok((words, None));
+    };
+    if place + 1 == words.len() {
+        return Err(format!("{option} needs a file"));
+    }
+    let file = words.remove(place + 1);
+    words.remove(place);
+    Ok((words, Some(file)))
 }
 
 /// The words after a command: files, options with numbers, and options without.
@@ -213,8 +254,11 @@ impl Options {
     }
 
     fn bytes(&self, index: usize) -> Result<Vec<u8>, String> {
-        let name = &self.files[index];
-        let bytes = match name.as_str() {
+        self.bytes_of(&self.files[index])
+    }
+
+    fn bytes_of(&self, name: &str) -> Result<Vec<u8>, String> {
+        let bytes = match name {
             "-" => {
                 let mut bytes = Vec::new();
                 io::stdin().read_to_end(&mut bytes).map(|_| bytes)
@@ -253,23 +297,41 @@ fn count_plans(options: &Options) -> Result<ExitCode, String> {
     Ok(ExitCode::SUCCESS)
 }
 
-fn judge_file(options: &Options) -> Result<ExitCode, String> {
+fn judge_file(options: &Options, index: Option<String>) -> Result<ExitCode, String> {
     let request = options.bytes(0)?;
     let budget = budget_of(options)?;
     let mut lent = [0; STATE_LENGTH];
-    let call = match (options.has("--guarded"), options.has("--by-cases")) {
-        (true, true) => return Err("--guarded does not go with --by-cases".to_string()),
-        (true, false) => judge_guarded_line,
-        (false, true) => judge_by_cases_line,
-        (false, false) => judge_line,
+    let (answer, line) = match (options.has("--guarded"), options.has("--by-cases"), index) {
+        (true, false, None) => judge_guarded_line(&request, &mut lent, budget),
+        (false, true, None) => judge_by_cases_line(&request, &mut lent, budget),
+        (false, false, None) => judge_line(&request, &mut lent, budget),
+        (false, false, Some(index)) => {
+            let index = options.bytes_of(&index)?;
+            judge_indexed_line(&request, &index, &mut lent, budget)
+        }
+        _ => return Err("--guarded, --by-cases and --indexed do not go together".to_string()),
     };
-    let (answer, line) = call(&request, &mut lent, budget);
     println!("{answer}");
-    if matches!(answer.number, 1 | 2 | 43) {
+    if writes_state(answer.number) {
         println!("{}", state_line(&lent, request[0]));
     }
     if options.has("--line") {
         println!("{line}");
+    }
+    Ok(ExitCode::SUCCESS)
+}
+
+fn index_file(options: &Options, to: Option<String>) -> Result<ExitCode, String> {
+    let length = options.number("--room", 1 << 16);
+    let mut room = vec![0; usize::try_from(length).map_err(|_| "too much room".to_string())?];
+    let answer = index(&options.bytes(0)?, &mut room);
+    println!("{answer}");
+    if answer.number == 0 {
+        let index = &room[..answer.count as usize];
+        match to {
+            Some(to) => fs::write(&to, index).map_err(|error| format!("{to}: {error}"))?,
+            None => println!("{}", comma_separated(index)),
+        }
     }
     Ok(ExitCode::SUCCESS)
 }

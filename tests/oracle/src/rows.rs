@@ -149,16 +149,21 @@ impl<Event: PartialEq> Shown<Event> {
         events: fn(&[u8], u32, Answer) -> Vec<Event>,
     ) -> bool {
         let answer = call.made(judge).answer;
-        let (most, shown) = match self {
-            Shown::Number(10) => (usize::MAX, answer.number == 10),
-            Shown::Number(21) => (LONG_BYTES, answer.number == 21),
-            Shown::Number(number) => (most, answer.number == *number),
-            Shown::Event(event) => {
-                let shown = events(&call.request, call.budget, answer).contains(event);
-                (most, shown)
-            }
+        let most = match self {
+            Shown::Number(10) => usize::MAX,
+            Shown::Number(21) => LONG_BYTES,
+            _ => most,
         };
-        shown && call.request.len() <= most
+        let events = || events(&call.request, call.budget, answer);
+        call.request.len() <= most && self.is_met(answer.number, events)
+    }
+
+    /// Whether an answer with this number shows it, and these events.
+    pub(crate) fn is_met(&self, number: u8, events: impl FnOnce() -> Vec<Event>) -> bool {
+        match self {
+            Shown::Number(wanted) => number == *wanted,
+            Shown::Event(event) => events().contains(event),
+        }
     }
 
     /// A call that may show it: a sound one where the walk is to be reached, and else a damaged one. For

@@ -10,6 +10,8 @@ use oracle::encode::encode_request;
 use oracle::generate::{request, spread, MIDDLE, SMALL, TINY};
 use oracle::guards;
 use oracle::guards::rows::guarded_rows;
+use oracle::indexes;
+use oracle::indexes::rows::indexed_rows;
 use oracle::releases;
 use oracle::releases::rows::release_rows;
 use oracle::releases::run::{OF_PLANS, OWN};
@@ -21,8 +23,8 @@ use oracle::text::parse_bytes;
 use oracle::whether;
 use oracle::whether::rows::whether_rows;
 use oracle::{
-    check, check_whether, judge, judge_by_cases_line, judge_guarded_line, judge_line, plans,
-    release, Answer, STATE_LENGTH,
+    check, check_whether, index, judge, judge_by_cases_line, judge_guarded_line,
+    judge_indexed_line, judge_line, plans, release, Answer, STATE_LENGTH,
 };
 
 /// Small runs of some seeds show no difference, and all that has to occur in them.
@@ -63,12 +65,18 @@ fn small_runs_by_cases_show_no_difference() {
 }
 
 #[test]
+fn small_runs_by_an_index_show_no_difference() {
+    shows_no_difference(6_000, indexes::run::run);
+}
+
+#[test]
 fn runs_too_small_fail() {
-    let runs: [Box<dyn Checked>; 4] = [
+    let runs: [Box<dyn Checked>; 5] = [
         Box::new(run(1, 10, 10)),
         Box::new(releases::run::run(1, 10)),
         Box::new(guards::run::run(1, 10)),
         Box::new(cases::run::run(1, 10)),
+        Box::new(indexes::run::run(1, 10)),
     ];
     for tally in runs {
         let verdict = tally.verdict();
@@ -278,6 +286,46 @@ fn rows_by_cases_can_be_computed_again() {
     shown.insert(Event::TwelveOpen);
     assert_eq!(met, BTreeSet::from(NUMBERS));
     assert_eq!(shown, BTreeSet::from(Event::ALL));
+}
+
+#[test]
+fn rows_by_an_index_can_be_computed_again() {
+    use oracle::indexes::run::{built_events, events, Built, Event, OF_BUILDING, OF_JUDGING};
+    let (mut of_building, mut of_judging) = (BTreeSet::new(), BTreeSet::new());
+    let mut built = BTreeSet::from([Built::RoomFarTooLong]);
+    let mut judged = BTreeSet::new();
+    for row in indexed_rows(5, 150) {
+        let mut words = row.split(' ');
+        let kind = words.next().expect("a kind");
+        let request = take(&mut words);
+        if kind == "B" {
+            let mut room = vec![9; number(&mut words) as usize];
+            let answer = index(&request, &mut room);
+            expect_answer(&row, &mut words, answer);
+            let written = (answer.number == 0).then_some(&room);
+            assert_eq!(take(&mut words), written.cloned().unwrap_or_default());
+            of_building.insert(answer.number);
+            built.extend(built_events(&request, room.len(), answer));
+        } else {
+            assert_eq!(kind, "I");
+            let given = take(&mut words);
+            let mut line = 0;
+            let judge = |lent: &mut [u8], budget| {
+                let told = judge_indexed_line(&request, &given, lent, budget);
+                line = told.1;
+                told
+            };
+            let (budget, answer, _) = left_again(&row, &mut words, judge);
+            of_judging.insert(answer.number);
+            judged.extend(events(&request, &given, budget, (answer, line)));
+        }
+        assert_eq!(words.next(), None);
+    }
+    assert_eq!(of_building, BTreeSet::from(OF_BUILDING));
+    assert_eq!(of_judging, BTreeSet::from(OF_JUDGING));
+    assert_eq!(built, BTreeSet::from(Built::ALL));
+    assert_eq!(judged, BTreeSet::from(Event::ALL));
+    come_from_the_seed(|seed| indexed_rows(seed, 40));
 }
 
 #[test]
