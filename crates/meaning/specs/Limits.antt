@@ -1,5 +1,5 @@
 -- Every limit, answer, input and mark, named once (FORMAT sections 3 and 4).
-use Prim.Native.Nat.{ℕ, _*_}
+use Prim.Native.Nat.{ℕ, _+_, _*_}
 
 -- What the inputs may hold. The definitions take the limits as a parameter.
 pub record Limits : Type 0 where
@@ -61,6 +61,10 @@ most-guards = 64
 -- The unknown fluents that the bodies of an action may have where it is reasoned by cases; only the call by cases speaks of it (FORMAT 22.9).
 abbrev pub most-open : ℕ
 most-open = 12
+
+-- The bytes that an index may have: two counts for each action, and two bytes for each line of sections 3 and 4, of which there are at most 255 each (FORMAT 23.5).
+abbrev pub most-index : ℕ
+most-index = 2 * format .actions + 4 * 255
 
 -- The format's literals are below twice its fluents (FORMAT 2.2, 2.3).
 abbrev pub all-literals : ℕ
