@@ -17,8 +17,10 @@ use crate::rng::Rng;
 pub const FAR_TOO_LONG: usize = 70_000;
 /// Most bytes of an index that nobody has built.
 const ANY_BYTES: usize = 40;
+/// So many indexes of a hundred are wrong.
+pub const WRONG: u64 = 35;
 /// The longest index that there can be.
-const LONGEST: usize = 1_276;
+pub const LONGEST: usize = 1_276;
 
 /// What both calls take: a request, a room for its index, an index, a lent state and a budget.
 #[derive(Clone, Debug)]
@@ -31,14 +33,19 @@ pub struct IndexedCall {
     pub read: Outlook,
 }
 
-/// A call of any kind; about three of ten requests are damaged, and about as many indexes of the others
-/// are wrong. Some requests have more lines than most.
+/// A call of any kind; about three of ten requests are damaged, and somewhat more indexes of the others
+/// are wrong.
 pub fn indexed_call(rng: &mut Rng) -> IndexedCall {
-    let call = match rng.chance(4) {
+    let call = unindexed_call(rng);
+    with_index(rng, call, WRONG)
+}
+
+/// A call that an index is built for: of any request, or now and then of one with many lines.
+pub fn unindexed_call(rng: &mut Rng) -> JudgeCall {
+    match rng.chance(4) {
         false => judge_call(rng),
         true => long_call(rng),
-    };
-    with_index(rng, call, 35)
+    }
 }
 
 /// A call of a request with many lines, and a small budget.
