@@ -79,7 +79,8 @@ pub fn call(seed: u64, index: u64) -> Call {
 /// A call of the independent program's own generators, which make about one of five requests wrong in some way, and varied; a few requests are as
 /// long as one may be, or longer.
 pub fn any_call(rng: &mut Rng) -> Call {
-    let call = varied(rng, |rng| cases_call(rng).into(), |rng| {
+    let drawn = |rng: &mut Rng| cases_call(rng).into();
+    let call = varied(rng, drawn, |rng| {
         let draft = crowded(rng);
         any_cases_call(rng, &draft).request
     });

@@ -37,9 +37,7 @@ pub fn judge_by_cases(request: &[u8], state: &mut [u8], budget: u32) -> Packed {
 
 /// The indexed call.
 pub fn judge_indexed(request: &[u8], index: &[u8], state: &mut [u8], budget: u32) -> Packed {
-    Packed(unsafe {
-        glintstring_judge_indexed(request.as_ptr(), request.len(), index.as_ptr(), index.len(), state.as_mut_ptr(), state.len(), budget)
-    })
+    Packed(unsafe { glintstring_judge_indexed(request.as_ptr(), request.len(), index.as_ptr(), index.len(), state.as_mut_ptr(), state.len(), budget) })
 }
 
 /// The index call.

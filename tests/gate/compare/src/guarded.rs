@@ -104,7 +104,8 @@ pub fn call(seed: u64, index: u64) -> Call {
 /// A call of the independent program's own generators, which make about three of ten requests wrong in some way, and varied; a few requests are as
 /// long as one may be, or longer.
 pub fn any_call(rng: &mut Rng) -> Call {
-    let call = varied(rng, |rng| guarded_call(rng).into(), |rng| {
+    let drawn = |rng: &mut Rng| guarded_call(rng).into();
+    let call = varied(rng, drawn, |rng| {
         let request = crowded(rng);
         let draft = guarded(rng, request);
         any_guarded_call(rng, &draft).request

@@ -11,9 +11,9 @@ use oracle::rng::Rng;
 use crate::calls::Call;
 use crate::checks::Check;
 use crate::deepest;
+use crate::indexes::Indexed;
 use crate::largest::{self, line};
 use crate::releases::Release;
-use crate::indexes::Indexed;
 use crate::{by_cases_hostile, guarded_hostile, index_hostile, release_hostile, whether_hostile};
 
 /// The stream of random numbers of the bytes that have no meaning.

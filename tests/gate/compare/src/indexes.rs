@@ -13,7 +13,7 @@ use oracle::text::comma_separated;
 use crate::calls::{self, answer, expect, fenced_by, numbers, told, Call, Left};
 use crate::cases;
 use crate::fence::Fenced;
-use crate::generated::{change, crowded_request, cross, varied, MOST};
+use crate::generated::{change, cross, crowded_request, varied, MOST};
 use crate::many::{all_met, each_agreed, print_indented, some_longest, ENOUGH};
 
 /// Streams of random numbers: of the calls, and of what stands around what they are given.
@@ -127,7 +127,10 @@ fn beside_walk(built: &Left, one: &Left, walked: &Left) -> Result<(), String> {
     };
     match right && same {
         true => Ok(()),
-        false => Err(format!("number, input, place, count are {:?} and of the index {:?}, by the walk call on these bytes {:?}", one.answer, built.answer, walked.answer)),
+        false => Err(format!(
+            "number, input, place, count are {:?} and of the index {:?}, by the walk call on these bytes {:?}",
+            one.answer, built.answer, walked.answer
+        )),
     }
 }
 
