@@ -5,9 +5,10 @@ use std::fmt::Write;
 use std::fs;
 use std::time::Duration;
 
+use oracle::indexes::calls::LONGEST;
 use oracle::rng::Rng;
 
-use crate::calls::{self, expect, Left};
+use crate::calls::{self, expect, Call, Left};
 use crate::checks::Layout;
 use crate::hostile::{self, Input, Named};
 use crate::indexes::Indexed;
@@ -159,15 +160,20 @@ struct Written {
 }
 
 impl Written {
-    fn add(&mut self, names: &str, [number, _, place, count]: [u64; 4]) {
+    fn add(&mut self, names: &str, answer: [u64; 4]) {
         _ = writeln!(self.names, "{names}");
+        self.expect(answer);
+    }
+
+    fn expect(&mut self, [number, _, place, count]: [u64; 4]) {
         _ = writeln!(self.expected, "  number {number}, place {place}, count {count}");
     }
 }
 
 /// Writes the inputs of a folder's deepest walks, the others by name, and so many generated and random ones as files into another folder.
 /// There `walks` has the names of requests, `guarded` those of guarded requests, `indexed` those of requests and indexes, `checks` those of requests and
-/// derivations, and `whether` the same in the closing layout; beside them are the answers, by the independent program, walks under this budget.
+/// derivations, and `whether` the same in the closing layout; beside them are the answers, by the independent program, walks under this budget. Those of
+/// `indexed` are two for each, of the index call with room enough and of the indexed call.
 pub fn write(deepest: &str, folder: &str, budget: u32, count: u64) -> Result<String, String> {
     let mut inputs: Vec<Input> = hostile::named(deepest)?.into_iter().chain(hostile::random(1, count)).map(|(_, input)| input).collect();
     inputs.extend((0..count).map(|index| Input::Walk(generated::call(1, index))));
@@ -199,7 +205,9 @@ pub fn write(deepest: &str, folder: &str, budget: u32, count: u64) -> Result<Str
             }
             Input::Indexed(call) => {
                 save(format!("{index}.index"), &call.index)?;
-                indexed.add(&format!("{folder}/{index}.request {folder}/{index}.index"), indexes::independent(call).answer);
+                let room = Call { lent: vec![0; LONGEST], ..call.call.clone() };
+                indexed.add(&format!("{folder}/{index}.request {folder}/{index}.index"), indexes::independently_built(&room).answer);
+                indexed.expect(indexes::independent(call).answer);
             }
             Input::Release(_) | Input::ByCases(_) | Input::Index(_) => unreachable!("no such file is written"),
         }
