@@ -270,8 +270,8 @@ walking_call! {
 
     /// The guarded call: judges a guarded request by walking its plan, with a count of at most `budget`.
     ///
-    /// A guarded request has a ninth section behind the eight of a request, a list of at most [`MOST_GUARDS`] literals (FORMAT 21.2). Each of them is to be known
-    /// true in every state that the walk meets: the first, and every one to which an action leads. The first state that lacks one ends the walk with
+    /// A guarded request has a ninth section behind the eight of a request, a list of at most [`MOST_GUARDS`] literals (FORMAT 21.2). Each of them is to be
+    /// known true in every state that the walk meets: the first, and every one to which an action leads. The first state that lacks one ends the walk with
     /// [`Answer::GuardBroken`]; all else is answered as [`judge`] answers. Any bytes may be given, of any length. The walk runs on a thread of its own that has
     /// enough stack, and the caller waits for it; for many calls a [`Judge`] keeps one.
     ///
@@ -321,13 +321,14 @@ walking_call! {
 walking_call! {
     glintstring_judge_by_cases(request), Answer::unpack_by_cases;
 
-    /// The call by cases: judges a request by walking its plan, with a count of at most `budget` and with each action tried in every complete filling of the state.
+    /// The call by cases: judges a request by walking its plan, with a count of at most `budget` and with each action tried in every complete filling of the
+    /// state.
     ///
-    /// A filling gives each unknown fluent one of true and false. An action can be run where it can be run in each filling, and what is known afterwards is what
-    /// all the results share; branchings, goals and whether entries go by what is known, as with [`judge`] (FORMAT 22.1 to 22.6). So more plans are verified. An
-    /// action that has more than [`MOST_OPEN`] unknown fluents in its bodies ends the walk with [`Answer::TooManyCases`], also where [`judge`] would go on; all
-    /// else is answered as [`judge`] answers. Any bytes may be given, of any length. The walk runs on a thread of its own that has enough stack, and the caller
-    /// waits for it; for many calls a [`Judge`] keeps one. An action may take as long as 4,096 fillings do, and is counted once.
+    /// A filling gives each unknown fluent one of true and false. An action can be run where it can be run in each filling, and what is known afterwards is
+    /// what all the results share; branchings, goals and whether entries go by what is known, as with [`judge`] (FORMAT 22.1 to 22.6). So more plans are
+    /// verified. An action that has more than [`MOST_OPEN`] unknown fluents in its bodies ends the walk with [`Answer::TooManyCases`], also where [`judge`]
+    /// would go on; all else is answered as [`judge`] answers. Any bytes may be given, of any length. The walk runs on a thread of its own that has enough
+    /// stack, and the caller waits for it; for many calls a [`Judge`] keeps one. An action may take as long as 4,096 fillings do, and is counted once.
     ///
     /// ```
     /// use glintstring::{judge, judge_by_cases, show, Answer};
@@ -372,10 +373,10 @@ walking_call! {
 
     /// The indexed call: judges a request by walking its plan, with a count of at most `budget`, and finds the lines of an action by an index of the request.
     ///
-    /// An index is what [`index`] gives for the request, or for another that differs from it only in its plan and its goals (FORMAT 23.1 to 23.5). It does not replace
-    /// the table: the request is read and tested as by every call, and the index is compared with the one that it should be before anything is walked. With that one
-    /// every answer is what [`judge`] answers. With another it is [`Answer::IndexDiffers`], unless the request is refused. Any bytes may be given, of any length. The
-    /// walk runs on a thread of its own that has enough stack, and the caller waits for it; for many calls a [`Judge`] keeps one.
+    /// An index is what [`index`] gives for the request, or for another that differs from it only in its plan and its goals (FORMAT 23.1 to 23.5). It does not
+    /// replace the table: the request is read and tested as by every call, and the index is compared with the one that it should be before anything is walked.
+    /// With that one every answer is what [`judge`] answers. With another it is [`Answer::IndexDiffers`], unless the request is refused. Any bytes may be
+    /// given, of any length. The walk runs on a thread of its own that has enough stack, and the caller waits for it; for many calls a [`Judge`] keeps one.
     ///
     /// ```
     /// use glintstring::{index, judge, judge_indexed, Answer};
@@ -418,9 +419,9 @@ walking_call! {
 
 /// The index call: the index of a request, which says where the lines of each action stand in it.
 ///
-/// For each action, from 0 up, an index has a count byte and as many two-byte places with the high byte first, those of the action's effects in the request, and
-/// then the same of its executability lines (FORMAT 23.2). It depends on sections 1 to 4 of the request alone, so requests that differ only in plans and goals
-/// have one index. [`judge_indexed`] walks by it. Any bytes may be given, of any length.
+/// For each action, from 0 up, an index has a count byte and as many two-byte places with the high byte first, those of the action's effects in the request,
+/// and then the same of its executability lines (FORMAT 23.2). It depends on sections 1 to 4 of the request alone, so requests that differ only in plans and
+/// goals have one index. [`judge_indexed`] walks by it. Any bytes may be given, of any length.
 ///
 /// ```
 /// use glintstring::{index, Answer};
@@ -453,9 +454,9 @@ pub fn index(request: &[u8]) -> Result<Vec<u8>, NotIndexed> {
 
 /// The index call as it is exported: the same as [`index`], with a lent room, and with the answer packed into one number.
 ///
-/// After answer 0 the room starts with the index, whose length is the answer's count, and the bytes behind it are what they were;
-/// [`Answer::unpack_index`] takes both apart. After every other answer all bytes are what they were. Where the request is not refused and the room has fewer bytes
-/// than the index, the answer is 39; [`INDEX_MOST`] bytes are enough for every request.
+/// After answer 0 the room starts with the index, whose length is the answer's count, and the bytes behind it are what they were; [`Answer::unpack_index`]
+/// takes both apart. After every other answer all bytes are what they were. Where the request is not refused and the room has fewer bytes than the index, the
+/// answer is 39; [`INDEX_MOST`] bytes are enough for every request.
 ///
 /// ```
 /// // One fluent, one action and an empty plan: the index has two counts.
