@@ -39,7 +39,7 @@ use Rattle.steps.specs.Held.{table-in, guards-in, request-in}
 use Rattle.steps.specs.AtHand.{At-hand}
 use Rattle.steps.specs.Steps.{mode-in, walk-held}
 use Rattle.steps.proofs.ModeLaws.{held-known}
-use Rattle.indexing.specs.Indexed.{index-taken}
+use Rattle.indexing.specs.IndexNotes.{index-taken}
 use Rattle.indexing.proofs.BuildLaws.{index-short}
 use Rattle.indexing.proofs.TakenHand.{taken-mode, taken-request, taken-guards, taken-hand}
 use Rattle.glintstring.proofs.SettledAtHand.{settled-got, settled-at-hand, settled-held, settled-known, settled-table}

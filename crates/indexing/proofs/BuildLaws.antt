@@ -24,7 +24,7 @@ use Rattle.finding.specs.TablesHere.{table-in, Table-here}
 use Rattle.finding.proofs.AheadLaws.{Ahead, ahead-starts, ahead-none, ahead-first, line-others, line-rest, line-fit}
 use Rattle.finding.proofs.ReadLaws.{whole-table, effects-counted, runs-counted, effects-ordered, runs-ordered}
 use Rattle.finding.proofs.StartLaws.{front-here}
-use Rattle.indexing.specs.Indexed.{noted-from, places-noted, Lines-noted}
+use Rattle.indexing.specs.IndexNotes.{noted-from, places-noted, Lines-noted}
 
 -- AN OFFSET.
 pub low-room : (room : List ℕ) (q v : ℕ) → q + 2 ≤ length room → q + 1 < length (set room q v)

@@ -17,7 +17,7 @@ use Rattle.meaning.proofs.IndexLaws.{counted-stand, counted-end}
 use Rattle.reading.specs.Noted.{effect-lines, run-lines, line-numbers}
 use Rattle.finding.specs.TablesHere.{table-in, Table-here}
 use Rattle.finding.proofs.StartLaws.{front-here}
-use Rattle.indexing.specs.Indexed.{lines-taken, index-taken}
+use Rattle.indexing.specs.IndexNotes.{lines-taken, index-taken}
 
 -- AN OFFSET, as two bytes.
 pub offset-read : (index : List ℕ) → ((i : ℕ) → Fits w8 (getD index i 0)) → (p r : ℕ) → r ≡ getD index p 0 * 256 + getD index (p + 1) 0 → (r ≡ offset-at index p) × (r < 65536)

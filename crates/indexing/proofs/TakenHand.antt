@@ -26,7 +26,7 @@ use Rattle.steps.specs.LinesFound
 use Rattle.steps.specs.AtHand.{At-hand}
 use Rattle.steps.specs.Steps.{mode-in}
 use Rattle.steps.proofs.SameHand.{Other, request-same, guards-same, hand-same}
-use Rattle.indexing.specs.Indexed.{lines-taken, index-taken}
+use Rattle.indexing.specs.IndexNotes.{lines-taken, index-taken}
 use Rattle.indexing.proofs.TakeLaws.{Left, First, all-left, first-left}
 
 -- LINES IN A ROW, numbered from k + 1 on: the first comes after i.

@@ -8,7 +8,7 @@ ghost use Rattle.meaning.specs.Limits.{format};
 ghost use Rattle.meaning.specs.Indexes.{offsets, counted-offsets, index-of};
 ghost use Rattle.reading.specs.Noted.{run-lines};
 ghost use Rattle.finding.specs.TablesHere.{table-in, Table-here};
-ghost use Rattle.indexing.specs.Indexed.{places-noted, Lines-noted};
+ghost use Rattle.indexing.specs.IndexNotes.{places-noted, Lines-noted};
 use bytes::bytes::wide;
 use reading::notes;
 use reading::notes::Notes;

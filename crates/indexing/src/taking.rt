@@ -6,7 +6,7 @@ ghost use Rattle.meaning.specs.Limits.{format};
 ghost use Rattle.meaning.specs.Indexes.{offset-at, counted-at, after-counted, index-of};
 ghost use Rattle.reading.specs.Noted.{run-lines, line-numbers};
 ghost use Rattle.finding.specs.TablesHere.{table-in, Table-here};
-ghost use Rattle.indexing.specs.Indexed.{lines-taken, index-taken};
+ghost use Rattle.indexing.specs.IndexNotes.{lines-taken, index-taken};
 use bytes::bytes::two;
 use bytes::bytes::wide;
 use bytes::limits;

@@ -2,7 +2,7 @@
 -- file order. At the end their count goes before them.
 use borrow.Author.Needs.{needs}
 use Rattle.finding.proofs.AheadLaws.{to-go, line-few, line-less}
-use Rattle.indexing.specs.Indexed.{places-noted}
+use Rattle.indexing.specs.IndexNotes.{places-noted}
 use Rattle.indexing.proofs.BuildLaws.{Putting, count-room, putting-starts, offset-inside, offset-near, offset-passed, count-passed, line-put, count-small, count-inside, lines-end, lines-put, lines-sized}
 use Rattle.indexing.proofs.building.put_lines.Statement.{statement}
 use Rattle.indexing.proofs.building.put_lines.Tie as tie

@@ -3,7 +3,7 @@ use borrow.Author.Needs.{needs}
 use Prim.Native.Nat.{_-_}
 use Rattle.finding.specs.TablesHere.{table-in}
 use Rattle.finding.proofs.StartLaws.{second-byte}
-use Rattle.indexing.specs.Indexed.{index-taken}
+use Rattle.indexing.specs.IndexNotes.{index-taken}
 use Rattle.indexing.proofs.TakeLaws.{Indexing, indexing-starts, indexing-done, action-small, effects-at, effects-end, effects-few, effects-sum, runs-at, runs-end, runs-few, runs-sum, action-taken}
 use Rattle.indexing.proofs.taking.take_index.Statement.{statement}
 use Rattle.indexing.proofs.taking.take_index.Tie as tie

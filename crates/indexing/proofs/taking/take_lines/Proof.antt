@@ -3,7 +3,7 @@ use borrow.Author.Needs.{needs}
 use Prim.Native.Nat.{_+_}
 use Rattle.meaning.specs.Indexes.{counted-at, after-counted}
 use Rattle.reading.specs.Noted.{line-numbers}
-use Rattle.indexing.specs.Indexed.{lines-taken}
+use Rattle.indexing.specs.IndexNotes.{lines-taken}
 use Rattle.indexing.proofs.TakeLaws.{Taking, taking-starts, taking-next, taking-end, taking-done}
 use Rattle.indexing.proofs.taking.take_lines.Statement.{statement}
 use Rattle.indexing.proofs.taking.take_lines.Tie as tie
