@@ -55,8 +55,8 @@ static void in_rooms(const uint8_t *request, size_t length, const uint8_t *right
     uint8_t *exact = room_of(right_length), *shorter = room_of(right_length - 1), *none = room_of(0), *state = room_of(GLINTSTRING_STATE_LENGTH);
     if (glintstring_index(request, length, exact, right_length) != (uint64_t)right_length << 32) fail("a room that is just long enough", name);
     if (memcmp(exact, right, right_length) != 0) fail("another index in another room", name);
-    if (glintstring_index(request, length, shorter, right_length - 1) != 39) fail("a room that is a byte short", name);
-    if (glintstring_index(request, length, none, 0) != 39) fail("no room", name);
+    if (glintstring_index(request, length, shorter, right_length - 1) != GLINTSTRING_ROOM_SHORT) fail("a room that is a byte short", name);
+    if (glintstring_index(request, length, none, 0) != GLINTSTRING_ROOM_SHORT) fail("no room", name);
     if (judged(request, length, exact, right_length, budget) != glintstring_judge(request, length, state, GLINTSTRING_STATE_LENGTH, budget))
         fail("another answer than the walk call's", name);
     free(exact), free(shorter), free(none), free(state);
@@ -68,8 +68,8 @@ int main(int words, char **word) {
     for (int next = 2; next + 1 < words; next += 2) {
         size_t length, index_length;
         uint8_t *request = bytes_of(word[next], &length), *index = bytes_of(word[next + 1], &index_length);
-        uint8_t *room = room_of(1276);
-        uint64_t built = glintstring_index(request, length, room, 1276);
+        uint8_t *room = room_of(GLINTSTRING_INDEX_MOST);
+        uint64_t built = glintstring_index(request, length, room, GLINTSTRING_INDEX_MOST);
         print(built);
         print(judged(request, length, index, index_length, budget));
         if (glintstring_number(built) == 0) in_rooms(request, length, room, glintstring_count(built), budget, word[next]);

@@ -239,6 +239,12 @@ impl<Event: Ord + Debug> Occurred<Event> {
     }
 }
 
+/// Those of which it is so.
+pub(crate) fn so<Event>(told: impl IntoIterator<Item = (bool, Event)>) -> Vec<Event> {
+    let so = told.into_iter().filter(|(so, _)| *so);
+    so.map(|(_, event)| event).collect()
+}
+
 /// Those of a list that never occurred, in words.
 pub(crate) fn never<'a, Key: Ord>(
     wanted: &'a [Key],

@@ -4,7 +4,9 @@
 mod common;
 
 use common::{answer, bytes, changed, file_a, state, table_a, LENT};
-use oracle::{index, judge_indexed, judge_indexed_line, judge_line, Answer, STATE_LENGTH};
+use oracle::indexes::way::walk_by_index;
+use oracle::walk::Verdict;
+use oracle::{index, judge_indexed, judge_indexed_line, judge_line, open, Answer, STATE_LENGTH};
 
 const BUDGET: u32 = 100_000;
 /// The index of File A.
@@ -178,6 +180,30 @@ fn the_longest_index() {
     // The last line of all, by its high byte, which is above 0.
     room[1_274] ^= 1;
     differs(&request, &room[..1_276], 1_274);
+}
+
+/// The lines that are asked stand at the offsets, wherever these lead. No call walks by an index that is wrong, so the walk
+/// is given one by itself.
+#[test]
+fn the_walk_goes_by_the_offsets() {
+    let count = |request: &[u8], index: &[u8]| {
+        let read = open(request).expect("a request that is not refused");
+        match walk_by_index(&read, request, index, BUDGET) {
+            Verdict::Stuck { line, .. } => Err(line),
+            other => Ok(other),
+        }
+    };
+    // Convert has the line of look, which can always be run, or that of open.
+    let convert = table_a("0 1 2 0 0");
+    assert_eq!(count(&convert, &bytes(I)), Err(23));
+    let verified = Ok(Verdict::Verified { count: 2 });
+    assert_eq!(count(&convert, &with(&[(17, 18)])), verified);
+    assert_eq!(count(&convert, &with(&[(17, 20)])), verified);
+    // Open has the effect of convert in place of one of its own, and does not open any more.
+    let open_only = table_a("0 1 1 1 2 0");
+    assert_eq!(count(&open_only, &bytes(I)), verified);
+    let missed = count(&open_only, &with(&[(6, 14)]));
+    assert!(matches!(missed, Ok(Verdict::Missed { place: 33, .. })));
 }
 
 /// Knowledge lines have no offsets, and an action that senses is walked by its executability lines.

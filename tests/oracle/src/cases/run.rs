@@ -11,7 +11,7 @@ use crate::model::Request;
 use crate::rng::Rng;
 use crate::run::{expect_bytes, expect_made, told, LEAST_SHARE, MOST_PATHS};
 use crate::table::{Known, Table};
-use crate::tally::{CarriedOut, Checked, Differences, Occurred, SecondWalks};
+use crate::tally::{so, CarriedOut, Checked, Differences, Occurred, SecondWalks};
 use crate::walk::{walk, TooMany, Verdict};
 use crate::{judge_line, open, paths, worlds};
 
@@ -100,12 +100,10 @@ impl Event {
 
 /// The events of a call.
 pub fn events(request: &[u8], budget: u32, answer: Answer) -> Vec<Event> {
-    let told = match (answer.number, open(request)) {
+    so(match (answer.number, open(request)) {
         (0..=3 | TOO_MANY, Ok(read)) => of_walk(&read, request, budget, answer),
         _ => Vec::new(),
-    };
-    let so = told.into_iter().filter(|(so, _)| *so);
-    so.map(|(_, event)| event).collect()
+    })
 }
 
 fn of_walk(request: &Request, bytes: &[u8], budget: u32, answer: Answer) -> Vec<(bool, Event)> {

@@ -12,7 +12,7 @@ use crate::reader::{
 };
 use crate::rng::Rng;
 use crate::run::{expect_bytes, expect_made, told, LEAST_SHARE, MOST_PATHS};
-use crate::tally::{CarriedOut, Checked, Differences, Occurred, SecondWalks};
+use crate::tally::{so, CarriedOut, Checked, Differences, Occurred, SecondWalks};
 use crate::walk::walk_guarded;
 use crate::{judge_line, paths, worlds};
 
@@ -101,16 +101,14 @@ impl Event {
 
 /// The events of a call.
 pub fn events(request: &[u8], budget: u32, answer: Answer) -> Vec<Event> {
-    let told = match answer.number {
+    so(match answer.number {
         0..=3 | BROKEN => match open_guarded(request) {
             Ok(guarded) => of_walk(&guarded, budget, answer),
             Err(_) => Vec::new(),
         },
         11..=15 | 20 => of_reading(request, answer),
         _ => Vec::new(),
-    };
-    let so = told.into_iter().filter(|(so, _)| *so);
-    so.map(|(_, event)| event).collect()
+    })
 }
 
 fn of_walk(guarded: &Guarded, budget: u32, answer: Answer) -> Vec<(bool, Event)> {

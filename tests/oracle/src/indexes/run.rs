@@ -9,7 +9,7 @@ use crate::calls::{Left, Outlook};
 use crate::model::Request;
 use crate::rng::Rng;
 use crate::run::{expect_form, expect_left, expect_outlook, told, LEAST_SHARE, MOST_PATHS};
-use crate::tally::{Checked, Differences, Occurred, SecondWalks};
+use crate::tally::{so, Checked, Differences, Occurred, SecondWalks};
 use crate::{judge_line, open, paths, shown, STATE_LENGTH};
 
 /// The answers that a run must meet at least once: of the index call, and of the indexed call.
@@ -118,11 +118,6 @@ impl Event {
     ];
 }
 
-fn so<Event>(told: Vec<(bool, Event)>) -> Vec<Event> {
-    let so = told.into_iter().filter(|(so, _)| *so);
-    so.map(|(_, event)| event).collect()
-}
-
 /// The events of an index call with a room of this length.
 pub fn built_events(request: &[u8], room: usize, answer: Answer) -> Vec<Built> {
     let Ok(read) = open(request) else {
@@ -155,13 +150,12 @@ pub fn built_events(request: &[u8], room: usize, answer: Answer) -> Vec<Built> {
 /// Two effects of an action have one of another action between them.
 fn in_turn(request: &Request) -> bool {
     let actions: Vec<u8> = request.effects.iter().map(|line| line.action).collect();
-    (actions.windows(2)).any(|pair| pair[0] != pair[1] && is_behind(&actions, pair))
-}
-
-/// The first of two neighbours comes again behind them.
-fn is_behind(actions: &[u8], pair: &[u8]) -> bool {
-    let at = actions.windows(2).position(|other| other == pair);
-    at.is_some_and(|at| actions[at + 2..].contains(&pair[0]))
+    let between = |last: usize| {
+        let of_action = |action: &u8| *action == actions[last];
+        let first = actions.iter().position(of_action).unwrap_or(last);
+        !actions[first..last].iter().all(of_action)
+    };
+    (0..actions.len()).any(between)
 }
 
 /// The events of an indexed call.

@@ -12,7 +12,7 @@ use crate::model::Release;
 use crate::reader::{read_release, PLAN_LIMIT};
 use crate::rng::Rng;
 use crate::run::{expect_bytes, told};
-use crate::tally::{each, never, Checked, Differences};
+use crate::tally::{each, never, so, Checked, Differences};
 use crate::{judge, STATE_LENGTH};
 
 /// The numbers of the call's own answer, and those of a plan, each of which has to occur.
@@ -88,7 +88,7 @@ pub fn events(file: &[u8], lent: usize, own: Answer, row: &[u32]) -> Vec<Event> 
         .last()
         .and_then(|plan| plan.read.as_ref().err());
     let right = ROW_NUMBERS * release.count;
-    let told = match own.number {
+    so(match own.number {
         9 => vec![
             (lent == 0, Event::EmptyRow),
             (0 < lent && lent < right, Event::ShortRow),
@@ -101,9 +101,7 @@ pub fn events(file: &[u8], lent: usize, own: Answer, row: &[u32]) -> Vec<Event> 
         }
         0 => of_plans(&release, file, row),
         _ => Vec::new(),
-    };
-    let so = told.into_iter().filter(|(so, _)| *so);
-    so.map(|(_, event)| event).collect()
+    })
 }
 
 /// Whether the table can be read, so that the fault is at the plan count. An input of sections 1
