@@ -32,11 +32,11 @@ loop-holds c = search sweeping-starts
 
 -- src/actions.rt:96:13
 line-place-requires : tie.Need-line-place-requires Inv-loop μ-loop
-line-place-requires c κs = search (needs, line-few)
+line-place-requires c κs = (search needs, search line-few)
 
 -- src/actions.rt:97:9
 next-line-requires : tie.Need-next-line-requires Inv-loop μ-loop
-next-line-requires c κs = search (needs, line-few)
+next-line-requires c κs = (search needs, search line-few)
 
 -- src/actions.rt:98:19
 add-one : tie.Need-add-one Inv-loop μ-loop
@@ -76,7 +76,7 @@ array-read-if2 c = search effect-fluent
 
 -- src/actions.rt:107:17
 each-holds-requires : tie.Need-each-holds-requires Inv-loop μ-loop
-each-holds-requires c κs = search (needs, effect-body)
+each-holds-requires c κs = search effect-body
 
 -- src/actions.rt:109:17
 array-write-next : tie.Need-array-write-next Inv-loop μ-loop
@@ -100,7 +100,7 @@ loop-again-3 c = sweep-unknown _ _ _ _ _ _ (c .before .before .before .before .b
 
 -- src/actions.rt:113:15
 look-at-requires : tie.Need-look-at-requires Inv-loop μ-loop
-look-at-requires c κs = search (needs, effect-body)
+look-at-requires c κs = search effect-body
 
 -- src/actions.rt:115:17
 enum-told : tie.Need-enum-told Inv-loop μ-loop
