@@ -3,9 +3,8 @@
 
 use std::hint::black_box;
 
-use glintstring::{judge_packed, Packed, STATE_LENGTH};
+use glintstring::{index_packed, judge_indexed_packed, judge_packed, Packed, INDEX_MOST, STATE_LENGTH};
 use oracle::encode::encode_request;
-use oracle::indexes::calls::LONGEST;
 use oracle::model::{Allowance, Effect, Item, Request};
 use oracle::reader::{ACTION_LIMIT, BODY_LIMIT, FLUENT_LIMIT, ITEM_LIMIT, REQUEST_LIMIT};
 use oracle::rng::Rng;
@@ -14,20 +13,6 @@ use oracle::Answer;
 use crate::classes::{class, NAMES};
 use crate::clock;
 use crate::walks::{find, side_by_side};
-
-extern "C" {
-    // As crates/glintstring/src/exports.rt has them.
-    fn glintstring_index(request: *const u8, request_length: usize, room: *mut u8, room_length: usize) -> u64;
-    fn glintstring_judge_indexed(
-        request: *const u8,
-        request_length: usize,
-        index: *const u8,
-        index_length: usize,
-        state: *mut u8,
-        state_length: usize,
-        budget: u32,
-    ) -> u64;
-}
 
 /// The stream of random numbers of the largest tables and their plans.
 const TABLES: u64 = 180;
@@ -45,7 +30,7 @@ struct Timed {
     request: Vec<u8>,
     budget: u32,
     index: Vec<u8>,
-    room: [u8; LONGEST],
+    room: [u8; INDEX_MOST],
     lent: [u8; STATE_LENGTH],
 }
 
@@ -101,26 +86,19 @@ fn row(seed: u64, row: usize, count: u64) -> Vec<Timed> {
 /// A request with the index that the index call writes.
 fn timed(request: Vec<u8>, budget: u32) -> Timed {
     assert!(request.len() <= REQUEST_LIMIT, "beyond the limits");
-    let mut timed = Timed { request, budget, index: Vec::new(), room: [9; LONGEST], lent: [9; STATE_LENGTH] };
+    let mut timed = Timed { request, budget, index: Vec::new(), room: [9; INDEX_MOST], lent: [9; STATE_LENGTH] };
     let built = timed.build();
     timed.index = timed.room[..built.count() as usize].to_vec();
     timed
 }
 
-/// The indexed call.
-fn judge_indexed(request: &[u8], index: &[u8], state: &mut [u8], budget: u32) -> Packed {
-    let (request, index) = (black_box(request), black_box(index));
-    Packed(unsafe { glintstring_judge_indexed(request.as_ptr(), request.len(), index.as_ptr(), index.len(), state.as_mut_ptr(), state.len(), budget) })
-}
-
 impl Timed {
     fn build(&mut self) -> Packed {
-        let (request, room) = (black_box(&self.request), &mut self.room);
-        Packed(unsafe { glintstring_index(request.as_ptr(), request.len(), room.as_mut_ptr(), room.len()) })
+        index_packed(black_box(&self.request), &mut self.room)
     }
 
     fn indexed(&mut self) {
-        _ = black_box(judge_indexed(&self.request, &self.index, &mut self.lent, self.budget));
+        _ = black_box(judge_indexed_packed(black_box(&self.request), black_box(&self.index), &mut self.lent, self.budget));
     }
 
     fn index(&mut self) {
@@ -129,7 +107,7 @@ impl Timed {
 
     fn anew(&mut self) {
         let length = self.build().count() as usize;
-        _ = black_box(judge_indexed(&self.request, &self.room[..length], &mut self.lent, self.budget));
+        _ = black_box(judge_indexed_packed(&self.request, &self.room[..length], &mut self.lent, self.budget));
     }
 
     fn walk(&mut self) {
@@ -139,9 +117,9 @@ impl Timed {
     /// Both calls that walk answer alike, and as the independent program does, which builds the same index; the count.
     fn agreed(&mut self) -> Result<u32, String> {
         let built = self.build();
-        let indexed = judge_indexed(&self.request, &self.index, &mut self.lent, self.budget);
+        let indexed = judge_indexed_packed(&self.request, &self.index, &mut self.lent, self.budget);
         let walked = judge_packed(&self.request, &mut self.lent, self.budget);
-        let (mut room, mut state) = ([9; LONGEST], [9; STATE_LENGTH]);
+        let (mut room, mut state) = ([9; INDEX_MOST], [9; STATE_LENGTH]);
         let others = [oracle::index(&self.request, &mut room), oracle::judge_indexed(&self.request, &self.index, &mut state, self.budget)];
         let same = |packed: Packed, other: Answer| (packed.number(), packed.place() as u32, packed.count()) == (other.number, other.place, other.count);
         match walked == indexed && same(built, others[0]) && same(indexed, others[1]) && room == self.room {
