@@ -104,14 +104,14 @@ module _ (s lent : List ℕ) (budget : ℕ) (a : Answer) (v : ℕ) where
         → v ≡ line-told (table-in s) s (record { answer = a; state = left }) → Gives (judge format s lent budget) (line format s lent budget) a left v
     unfolding judge line judge-got
     judge-walked e passes bytes empty left walks told =
-        let got-it = settled-got s t u r settles e passes in
+        let past = settled-got s t u r settles e passes in
         let held = settled-held s t u r settles e passes bytes empty in
-        call-judged request-noted (λ (x : Request). x .table) (settled format s) s lent (judge-got (walk-of format) lent budget) a v sized left (got-it .0) e (got-it .1)
+        call-judged request-noted (λ (x : Request). x .table) (settled format s) s lent (judge-got (walk-of format) lent budget) a v sized left (past .0) e (past .1)
         (walks
         ∙ ap (within lent budget)
-        (known-walk s u (got-it .0) [] (settled-known s t u r settles e passes bytes empty) held (settled-unguarded s t u r settles e passes bytes empty)
-        ∙ walked-unguarded (got-it .0) (first-state format (got-it .0 .table))))
-        (told ∙ ap (λ (w : Table). line-told w s (record { answer = a; state = left })) (held-table s u (got-it .0) held))
+        (known-walk s u (past .0) [] (settled-known s t u r settles e passes bytes empty) held (settled-unguarded s t u r settles e passes bytes empty)
+        ∙ walked-unguarded (past .0) (first-state format (past .0 .table))))
+        (told ∙ ap (λ (w : Table). line-told w s (record { answer = a; state = left })) (held-table s u (past .0) held))
 
 -- THE CALL BY CASES.
 module _ (s lent : List ℕ) (budget : ℕ) (a : Answer) (v : ℕ) where
@@ -131,10 +131,10 @@ module _ (s lent : List ℕ) (budget : ℕ) (a : Answer) (v : ℕ) where
         → Gives (judge-by-cases format s lent budget) (line-by-cases format s lent budget) a left v
     unfolding judge-by-cases line-by-cases judge-got
     cases-walked e passes bytes empty w put left walks told =
-        let got-it = settled-got s t u r settles e passes in
-        call-judged request-noted (λ (x : Request). x .table) (settled format s) s lent (judge-got (ByCases.walk-of format) lent budget) a v sized left (got-it .0) e (got-it .1)
+        let past = settled-got s t u r settles e passes in
+        call-judged request-noted (λ (x : Request). x .table) (settled format s) s lent (judge-got (ByCases.walk-of format) lent budget) a v sized left (past .0) e (past .1)
         (walks ∙ ap (within lent budget) (cases-walk s t u r settles e passes bytes empty w put))
-        (told ∙ ap (λ (w : Table). line-told w s (record { answer = a; state = left })) (held-table s u (got-it .0) (settled-held s t u r settles e passes bytes empty)))
+        (told ∙ ap (λ (w : Table). line-told w s (record { answer = a; state = left })) (held-table s u (past .0) (settled-held s t u r settles e passes bytes empty)))
 
 -- THE GUARDED CALL.
 module _ (s lent : List ℕ) (budget : ℕ) (a : Answer) (v : ℕ) where
@@ -153,8 +153,8 @@ module _ (s lent : List ℕ) (budget : ℕ) (a : Answer) (v : ℕ) where
         → v ≡ line-told (table-in s) s (record { answer = a; state = left }) → Gives (judge-guarded format s lent budget) (line-guarded format s lent budget) a left v
     unfolding judge-guarded line-guarded judge-got Guards.walk-of
     guarded-walked e passes bytes empty left walks told =
-        let got-it = guarded-got s t u r settles e passes in
+        let past = guarded-got s t u r settles e passes in
         let held = guarded-held s t u r settles e passes bytes empty in
-        call-judged guarded-noted (λ (g : Guarded-request). g .request .table) (settled-guarded format s) s lent (judge-got (Guards.walk-of format) lent budget) a v sized left (got-it .0) e (got-it .1)
-        (walks ∙ ap (within lent budget) (known-walk s u (got-it .0 .request) (got-it .0 .guards) (guarded-known s t u r settles e passes bytes empty) held (guards-held s t u r settles e passes bytes empty)))
-        (told ∙ ap (λ (w : Table). line-told w s (record { answer = a; state = left })) (held-table s u (got-it .0 .request) held))
+        call-judged guarded-noted (λ (g : Guarded-request). g .request .table) (settled-guarded format s) s lent (judge-got (Guards.walk-of format) lent budget) a v sized left (past .0) e (past .1)
+        (walks ∙ ap (within lent budget) (known-walk s u (past .0 .request) (past .0 .guards) (guarded-known s t u r settles e passes bytes empty) held (guards-held s t u r settles e passes bytes empty)))
+        (told ∙ ap (λ (w : Table). line-told w s (record { answer = a; state = left })) (held-table s u (past .0 .request) held))
