@@ -2,9 +2,10 @@
  * Glintstring: a proved verifier of conditional upgrade plans.
  *
  * A request has a domain table, a plan and goals in its bytes, a guarded request has guards behind these, a derivation has lines by
- * which the plan reaches its goals, and a release file has many plans over one table; docs/FORMAT.md is the format, and numbers such as
- * FORMAT 4.3 are those of its sentences. docs/STATEMENTS.md says what is proved of each call. Link libglintstring.a, which `rt
- * staticlib glintstring` writes for x86-64 Linux. C99 or later, or C++. examples/c/review.c is a small program that uses all of it.
+ * which the plan reaches its goals, a release file has many plans over one table, and an index says where the lines of each action stand
+ * in a request; docs/FORMAT.md is the format, and numbers such as FORMAT 4.3 are those of its sentences. docs/STATEMENTS.md says what is
+ * proved of each call. Link libglintstring.a, which `rt staticlib glintstring` writes for x86-64 Linux. C99 or later, or C++.
+ * examples/c/review.c is a small program that uses all of it.
  */
 #ifndef GLINTSTRING_H
 #define GLINTSTRING_H
@@ -22,7 +23,7 @@ extern "C" {
 #define GLINTSTRING_VERSION_MINOR 3
 #define GLINTSTRING_VERSION_PATCH 0
 
-/* The length of the state that the walk call, the guarded call and the call by cases are lent. */
+/* The length of the state that the walk call, the guarded call, the call by cases and the indexed call are lent. */
 #define GLINTSTRING_STATE_LENGTH 128
 
 /* Guards that a guarded request may have. */
@@ -30,6 +31,9 @@ extern "C" {
 
 /* Open fluents that an action may have where the call by cases meets it (FORMAT 22.8). */
 #define GLINTSTRING_MOST_OPEN 12
+
+/* Bytes that the index of a request may have (FORMAT 23.5): a room of so many is never too short. */
+#define GLINTSTRING_INDEX_MOST 1276
 
 /* Plans that a release file may have, and numbers for each of them in the row that the release call is lent. */
 #define GLINTSTRING_MOST_PLANS 64
@@ -54,17 +58,19 @@ extern "C" {
 #define GLINTSTRING_NEITHER 0
 #define GLINTSTRING_REQUEST 1
 #define GLINTSTRING_DERIVATION 2
+#define GLINTSTRING_INDEX 3
 
 /*
- * The numbers of answers (FORMAT 4.3 to 4.25, 17.35, 17.36, 19.10, 21.10 and 22.9), each with what its place is. The walk call gives 0
- * to 3 and 9 to 21, the guarded call also 43, and the call by cases also 44 and not 43; the derivation call gives 0, 10 to 21 and 30 to
- * 35, the whether call 0, 10 to 21, 31 to 34 and 36. The release call itself gives 0, 9 to 17 and 20, and to each plan 0 to 3, 11 to 15,
- * 18, 19, 21 and 22. Of a derivation's faults 10 to 15 and 18 to 21 are told by the same numbers as a request's: the answer names the
- * input.
+ * The numbers of answers (FORMAT 4.3 to 4.25, 17.35, 17.36, 19.10, 21.10, 22.9, 23.8 and 23.15), each with what its place is. The walk
+ * call gives 0 to 3 and 9 to 21; of the calls that are like it the guarded call also gives 43, the call by cases also 44, and the indexed
+ * call also 45. The index call gives 0, 10 to 21 and 39. The derivation call gives 0, 10 to 21 and 30 to 35, the whether call 0, 10 to
+ * 21, 31 to 34 and 36. The release call itself gives 0, 9 to 17 and 20, and to each plan 0 to 3, 11 to 15, 18, 19, 21 and 22. Of a
+ * derivation's faults 10 to 15 and 18 to 21 are told by the same numbers as a request's: the answer names the input.
  */
 #define GLINTSTRING_VERIFIED 0                  /* the walk verifies the plan; place 0 */
 #define GLINTSTRING_ACCEPTED 0                  /* the derivation call, the whether call: the derivation is accepted; place 0 */
 #define GLINTSTRING_ANSWERED 0                  /* the release call: the row has an answer for each plan; place 0 */
+#define GLINTSTRING_INDEXED 0                   /* the index call: the room starts with the index; place 0 */
 #define GLINTSTRING_GOAL_MISSED 1               /* all paths can be run to their ends, and an end state misses a goal or a whether
                                                    entry; the first entry missed in the first such state */
 #define GLINTSTRING_NOT_EXECUTABLE 2            /* a path comes to an item that cannot be run; that item */
@@ -97,18 +103,21 @@ extern "C" {
 #define GLINTSTRING_CLOSING_NOT_RIGHT 36        /* the closing list has another length than the request asks, and then its count
                                                    byte; or an entry of it names no line or another line than it is to name, and
                                                    then the first such entry */
+#define GLINTSTRING_ROOM_SHORT 39               /* the index call: the room has fewer bytes than the index; place 0 */
 #define GLINTSTRING_GUARD_BROKEN 43             /* the guarded call: a state is met in which a guard is not known true; the first
                                                    such guard */
 #define GLINTSTRING_TOO_MANY_CASES 44           /* the call by cases: an action is met in a state in which it has more than 12 open
                                                    fluents; that item */
+#define GLINTSTRING_INDEX_DIFFERS 45            /* the indexed call: the index is not that of the request; the first byte that
+                                                   differs, or the shorter of both lengths where they are the same so far */
 
 /*
  * An answer comes packed into one number: number + 2^8 * input + 2^16 * place + 2^32 * count. These take it apart.
  *
  * The place is the number of bytes that stand before it in its input. The count is that of the walk (actions run and end states judged)
- * for answers 0, 1, 2 and 43 of the walk call, the guarded call and the call by cases, the budget for 3, and 0 for all others, which 44,
- * an accepted derivation's 0 and the release call's own 0 are among. The answers in a row are not packed: there each number has its
- * place.
+ * for answers 0, 1, 2 and 43 of the walk call, the guarded call, the call by cases and the indexed call, the budget for 3, the length of
+ * the index for 0 of the index call, and 0 for all others, which 44, 45, an accepted derivation's 0 and the release call's own 0 are
+ * among. The answers in a row are not packed: there each number has its place.
  */
 static inline uint8_t glintstring_number(uint64_t answer) { return (uint8_t)(answer & 255u); }
 static inline uint8_t glintstring_input(uint64_t answer) { return (uint8_t)((answer >> 8) & 255u); }
@@ -117,7 +126,8 @@ static inline uint32_t glintstring_count(uint64_t answer) { return (uint32_t)(an
 
 /*
  * What an answer's number says, in a few words: a constant string, also for a number that no answer has. Number 0 is "verified";
- * of a derivation a program may rather say "accepted", and of the release call's own 0, which says nothing of any plan, "answered".
+ * of a derivation a program may rather say "accepted", of the release call's own 0, which says nothing of any plan, "answered", and of
+ * the index call's 0, which says nothing of the plan either, "indexed".
  */
 static inline const char *glintstring_words(unsigned number) {
     switch (number) {
@@ -146,8 +156,10 @@ static inline const char *glintstring_words(unsigned number) {
     case GLINTSTRING_DOES_NOT_FOLLOW: return "a line does not follow by its rule";
     case GLINTSTRING_NOT_THE_QUESTION: return "the last line differs from the question";
     case GLINTSTRING_CLOSING_NOT_RIGHT: return "the closing list is not what the request asks";
+    case GLINTSTRING_ROOM_SHORT: return "room too short";
     case GLINTSTRING_GUARD_BROKEN: return "guard broken";
     case GLINTSTRING_TOO_MANY_CASES: return "too many cases";
+    case GLINTSTRING_INDEX_DIFFERS: return "index differs";
     default: return "no answer that the format has";
     }
 }
@@ -235,6 +247,48 @@ uint64_t glintstring_judge_guarded(const uint8_t *request, size_t request_length
  * glintstring_judge, and the call keeps nothing either.
  */
 uint64_t glintstring_judge_by_cases(const uint8_t *request, size_t request_length, uint8_t *state, size_t state_length, uint32_t budget);
+
+/*
+ * The index call: writes the index of a request to a lent room. For each action, from 0 up, an index has a count byte and as many
+ * two-byte places with the high byte first, those of the action's effects in the request, and then the same of its executability lines
+ * (FORMAT 23.2). It depends on sections 1 to 4 of the request alone, so requests that differ only in plans and goals have one index.
+ *
+ * Promise (proved): for every request and lent room the call ends, and its answer and the room afterwards are those of the format, each
+ * to the last number and byte. Any bytes may be given, of any length; a caller need not have tested anything. The answer is 0 exactly
+ * where 10 to 21 do not refuse the request and the room is not shorter than the index. Its count is then the index's length, the room
+ * starts with the index, and the bytes behind that are what they were. A request that is refused gets the number and the place that
+ * glintstring_judge gives it. Where it is not refused and the room is shorter than the index, the answer is room too short (39), with
+ * place and count 0. After every answer but 0 the room has the bytes that it had before.
+ *
+ * The caller sees to this:
+ *   - `request` may be read for request_length bytes, `room` read and written for room_length bytes, and the two do not overlap. With
+ *     length 0 any pointer will do, null too: it is not followed.
+ *   - there is free stack: GLINTSTRING_STACK_NEEDED bytes are enough by far, since nothing is walked.
+ * GLINTSTRING_INDEX_MOST bytes are room for every index. The call keeps no pointer, takes nothing from the heap and has no memory of its
+ * own, so threads may call it at one time.
+ */
+uint64_t glintstring_index(const uint8_t *request, size_t request_length, uint8_t *room, size_t room_length);
+
+/*
+ * The indexed call: walks the plan of a request as glintstring_judge does, and finds the lines of an action by an index of the request,
+ * which glintstring_index has written. The index does not replace the table: the request is read and tested as by every call, and the
+ * index is compared with the one that it should be before anything is walked.
+ *
+ * Promise (proved): for every request, index, lent state and budget the call ends, and its answer and the lent bytes afterwards are those
+ * of the format, each to the last number and byte. Any bytes may be given, of any length; a caller need not have tested anything. With
+ * the index of the request every answer, and the lent bytes afterwards, are what glintstring_judge gives. Where the state has 128 bytes,
+ * 10 to 21 do not refuse the request and the index is another, the answer is index differs (45). It names GLINTSTRING_INDEX, and its
+ * place is that of the first byte that differs, or the shorter of both lengths where all bytes that both have are the same. Its count
+ * is 0, and the lent state has the bytes that it had before. As nothing was walked, no budget is too small for it.
+ *
+ * An index may have any length. Of a file that has one no more than GLINTSTRING_INDEX_MOST + 1 bytes need be read: what stands behind
+ * these changes no answer. glintstring_show takes 45 for an answer that names neither of its inputs.
+ *
+ * The lent state is written by answers 1 and 2 and by no other, as glintstring_judge writes it. The caller sees to the same as for
+ * glintstring_judge, and that `index` may be read for index_length bytes and does not overlap the state. The call keeps nothing either.
+ */
+uint64_t glintstring_judge_indexed(const uint8_t *request, size_t request_length, const uint8_t *index, size_t index_length,
+                                   uint8_t *state, size_t state_length, uint32_t budget);
 
 /*
  * The derivation call: checks a derivation, line by line, of what a request asks.

@@ -32,14 +32,25 @@ readable() { # FILE
 }
 has_input() { true 2>/dev/null 3<&0; }
 
+# Says why standard input can't be read, where that is known before.
+need_input() {
+    has_input || fail 'standard input: Bad file descriptor'
+    [ ! -d /dev/stdin ] || fail 'standard input: Is a directory'
+}
+
+one_at_most() { # [FILE]...
+    [ $# -le 1 ] || misused 'one file at most'
+}
+
 # Takes the one file that is named as standard input. Without one, or where it is -, standard input stays what it is.
 take_input() { # [FILE]
-    [ $# -le 1 ] || misused 'one file at most'
-    if [ "${1--}" != - ]; then
+    one_at_most "$@"
+    if [ "${1--}" = - ]; then
+        need_input
+    else
         readable "$1"
         exec <"$1" || exit 2
     fi
-    has_input || fail 'standard input: Bad file descriptor'
 }
 
 # Takes the word after --budget into $budget, without zeros in front.

@@ -4,6 +4,8 @@
  *   review judge [--line] [--budget N] REQUEST...           (100,000 unless told otherwise)
  *   review judge-guarded [--budget N] REQUEST...
  *   review judge-by-cases [--budget N] REQUEST...
+ *   review index REQUEST...
+ *   review judge-indexed [--budget N] REQUEST INDEX [REQUEST INDEX]...
  *   review check REQUEST DERIVATION [REQUEST DERIVATION]...
  *   review check-whether REQUEST DERIVATION [REQUEST DERIVATION]...
  *   review release [--budget N] FILE...
@@ -11,8 +13,9 @@
  * `check` and `check-whether` do not walk the plan: a derivation may be accepted where every budget is spent. The second takes requests
  * with whether entries too, and derivations in the closing layout. With `--line` a walk that an action stops also says which executability line
  * of it was missing. `judge-guarded` takes guarded requests, whose guards are to be known true all the way. `judge-by-cases` tries each action in every
- * filling of what is unknown. `release` takes release files, each with many plans over one table, and has a line for each plan. The exit status is 0
- * where each plan is verified or each derivation accepted, 1 where some answer is another, and 2 where something can't be read or written.
+ * filling of what is unknown. `index` says how the index of each request begins, and `judge-indexed` walks by an index, which the program `index` has
+ * written to a file. `release` takes release files, each with many plans over one table, and has a line for each plan. The exit status is 0 where each
+ * plan is verified, each derivation accepted or each request indexed, 1 where some answer is another, and 2 where something can't be read or written.
  */
 #define _POSIX_C_SOURCE 200809L
 #include <errno.h>
@@ -36,20 +39,31 @@ struct input {
     size_t length;
 };
 
-/* Prints the words, the numbers, the state that answers 1, 2 and 43 wrote, and the bytes at the place. `derivation` is null after a walk. */
-static int tell(uint64_t answer, const struct input *request, const struct input *derivation, const uint8_t *state) {
+/* Prints these bytes from a place on, and of what they are. */
+static void show(const char *what, const struct input *input, size_t start) {
+    size_t i;
+    printf("  %s from %lu:", what, (unsigned long)start);
+    for (i = start; i < input->length && i < start + SHOWN; i++)
+        printf(" %u", input->bytes[i]);
+    puts(start == input->length ? " it ends there" : i < input->length ? " ..." : "");
+}
+
+/*
+ * Prints the words, which are these for number 0, the numbers, the state that answers 1, 2 and 43 wrote, and the bytes at the place. `second` is the derivation or
+ * the index, or null where there is neither.
+ */
+static int tell(uint64_t answer, const char *zero, const struct input *request, const struct input *second, const uint8_t *state) {
     static const struct input none = {"", NULL, 0};
-    const struct input *second = derivation ? derivation : &none;
-    const uint8_t number = glintstring_number(answer);
-    const size_t start = (size_t)glintstring_show(answer, request->bytes, request->length, second->bytes, second->length);
-    const struct input *named = glintstring_input(answer) == GLINTSTRING_DERIVATION ? second : request;
+    static const char *const kinds[] = {"", "request", "derivation", "index"};
+    const struct input *other = second ? second : &none;
+    const uint8_t number = glintstring_number(answer), input = glintstring_input(answer);
     size_t i;
 
-    if (derivation)
-        printf("%s with %s: ", request->name, derivation->name);
+    if (second)
+        printf("%s with %s: ", request->name, second->name);
     else
         printf("%s: ", request->name);
-    puts(derivation && number == GLINTSTRING_ACCEPTED ? "accepted" : glintstring_words(number));
+    puts(number == GLINTSTRING_VERIFIED ? zero : glintstring_words(number));
     printf("  number %u, place %u, count %lu\n", number, glintstring_place(answer), (unsigned long)glintstring_count(answer));
     if (number == GLINTSTRING_GOAL_MISSED || number == GLINTSTRING_NOT_EXECUTABLE || number == GLINTSTRING_GUARD_BROKEN) {
         printf("  state ");
@@ -57,12 +71,11 @@ static int tell(uint64_t answer, const struct input *request, const struct input
             putchar(state[i] == GLINTSTRING_TRUE ? '+' : state[i] == GLINTSTRING_FALSE ? '-' : '?');
         putchar('\n');
     }
-    if (glintstring_input(answer) != GLINTSTRING_NEITHER) {
-        printf("  %s from %lu:", named == request ? "request" : "derivation", (unsigned long)start);
-        for (i = start; i < named->length && i < start + SHOWN; i++)
-            printf(" %u", named->bytes[i]);
-        puts(start == named->length ? " it ends there" : i < named->length ? " ..." : "");
-    }
+    if (input == GLINTSTRING_INDEX) /* which the showing call does not know */
+        show(kinds[input], other, glintstring_place(answer));
+    else if (input != GLINTSTRING_NEITHER)
+        show(kinds[input], input == GLINTSTRING_REQUEST ? request : other,
+             (size_t)glintstring_show(answer, request->bytes, request->length, other->bytes, other->length));
     return number == GLINTSTRING_VERIFIED ? GOOD : OTHER;
 }
 
@@ -97,13 +110,17 @@ static void tell_line(const struct input *request, uint32_t line) {
     putchar('\n');
 }
 
-static int judge(const char *name, uint32_t budget, int lined) {
+/* The word for number 0 of a call that walks. */
+static const char *verified(void) { return glintstring_words(GLINTSTRING_VERIFIED); }
+
+static int judge_line(const char *name, uint32_t budget, int lined) {
     uint8_t state[GLINTSTRING_STATE_LENGTH] = {0};
     uint32_t line;
     struct input request;
     int status = read_input(name, GLINTSTRING_REQUEST_LIMIT, &request);
     if (status == GOOD) {
-        status = tell(glintstring_judge_line(request.bytes, request.length, state, sizeof state, budget, &line), &request, NULL, state);
+        const uint64_t answer = glintstring_judge_line(request.bytes, request.length, state, sizeof state, budget, &line);
+        status = tell(answer, verified(), &request, NULL, state);
         if (lined)
             tell_line(&request, line);
     }
@@ -120,8 +137,51 @@ static int judge_by(walking_call *call, const char *name, uint32_t budget) {
     struct input request;
     int status = read_input(name, GLINTSTRING_REQUEST_LIMIT, &request);
     if (status == GOOD)
-        status = tell(call(request.bytes, request.length, state, sizeof state, budget), &request, NULL, state);
+        status = tell(call(request.bytes, request.length, state, sizeof state, budget), verified(), &request, NULL, state);
     free(request.bytes);
+    return status;
+}
+
+/* What a command does for the files of one answer, which are one or two. */
+static int judge(char **names, uint32_t budget) { return judge_line(names[0], budget, 0); }
+static int judge_and_line(char **names, uint32_t budget) { return judge_line(names[0], budget, 1); }
+static int judge_guarded(char **names, uint32_t budget) { return judge_by(glintstring_judge_guarded, names[0], budget); }
+static int judge_by_cases(char **names, uint32_t budget) { return judge_by(glintstring_judge_by_cases, names[0], budget); }
+
+/* Builds the index of a request, in a room that is long enough for any. */
+static int build_index(char **names, uint32_t budget) {
+    uint8_t room[GLINTSTRING_INDEX_MOST];
+    struct input request;
+    int status = read_input(names[0], GLINTSTRING_REQUEST_LIMIT, &request);
+    (void)budget;
+    if (status == GOOD) {
+        const uint64_t answer = glintstring_index(request.bytes, request.length, room, sizeof room);
+        const struct input index = {"", room, glintstring_count(answer)};
+        status = tell(answer, "indexed", &request, NULL, NULL);
+        if (status == GOOD)
+            show("index", &index, 0);
+    }
+    free(request.bytes);
+    return status;
+}
+
+/* Reads both files of an answer, and says of each whether it can't be read. */
+static int read_both(char **names, struct input *request, size_t limit, struct input *second) {
+    const int status = read_input(names[0], GLINTSTRING_REQUEST_LIMIT, request);
+    return read_input(names[1], limit, second) == GOOD ? status : FAILED;
+}
+
+static int judge_indexed(char **names, uint32_t budget) {
+    uint8_t state[GLINTSTRING_STATE_LENGTH] = {0};
+    struct input request, index;
+    int status = read_both(names, &request, GLINTSTRING_INDEX_MOST, &index);
+    if (status == GOOD) {
+        const uint64_t answer =
+            glintstring_judge_indexed(request.bytes, request.length, index.bytes, index.length, state, sizeof state, budget);
+        status = tell(answer, verified(), &request, &index, state);
+    }
+    free(request.bytes);
+    free(index.bytes);
     return status;
 }
 
@@ -139,15 +199,15 @@ static int tell_plans(const char *name, const uint32_t *row, uint32_t plans) {
 }
 
 /* Answers the plans of a release file, with a row that is as long as the file asks for. */
-static int release(const char *name, uint32_t budget) {
+static int release(char **names, uint32_t budget) {
     uint32_t row[GLINTSTRING_ROW_NUMBERS * GLINTSTRING_MOST_PLANS];
     struct input file;
-    int status = read_input(name, GLINTSTRING_REQUEST_LIMIT, &file);
+    int status = read_input(names[0], GLINTSTRING_REQUEST_LIMIT, &file);
     if (status == GOOD) {
         const uint32_t plans = glintstring_plans(file.bytes, file.length);
         const uint64_t answer = glintstring_release(file.bytes, file.length, row, GLINTSTRING_ROW_NUMBERS * plans, budget);
         const int answered = glintstring_number(answer) == GLINTSTRING_ANSWERED;
-        status = answered ? tell_plans(name, row, plans) : tell(answer, &file, NULL, NULL);
+        status = answered ? tell_plans(names[0], row, plans) : tell(answer, "answered", &file, NULL, NULL);
     }
     free(file.bytes);
     return status;
@@ -156,18 +216,35 @@ static int release(const char *name, uint32_t budget) {
 /* The derivation call or the whether call. */
 typedef uint64_t checking_call(const uint8_t *request, size_t request_length, const uint8_t *derivation, size_t derivation_length);
 
-static int check(checking_call *call, const char *request_name, const char *derivation_name) {
+static int check_by(checking_call *call, char **names) {
     struct input request, derivation;
-    int status = read_input(request_name, GLINTSTRING_REQUEST_LIMIT, &request);
-    int second = read_input(derivation_name, GLINTSTRING_DERIVATION_LIMIT, &derivation);
-    if (status == GOOD && second == GOOD)
-        status = tell(call(request.bytes, request.length, derivation.bytes, derivation.length), &request, &derivation, NULL);
-    else
-        status = FAILED;
+    int status = read_both(names, &request, GLINTSTRING_DERIVATION_LIMIT, &derivation);
+    if (status == GOOD)
+        status = tell(call(request.bytes, request.length, derivation.bytes, derivation.length), "accepted", &request, &derivation, NULL);
     free(request.bytes);
     free(derivation.bytes);
     return status;
 }
+
+static int check(char **names, uint32_t budget) { return (void)budget, check_by(glintstring_check, names); }
+static int check_whether(char **names, uint32_t budget) { return (void)budget, check_by(glintstring_check_whether, names); }
+
+/* The commands, each with the number of files that an answer takes, and whether there is a budget. */
+static const struct command {
+    const char *name;
+    int files;
+    int budgeted;
+    int (*answer)(char **names, uint32_t budget);
+} commands[] = {
+    {"judge", 1, 1, judge},
+    {"judge-guarded", 1, 1, judge_guarded},
+    {"judge-by-cases", 1, 1, judge_by_cases},
+    {"index", 1, 0, build_index},
+    {"judge-indexed", 2, 1, judge_indexed},
+    {"check", 2, 0, check},
+    {"check-whether", 2, 0, check_whether},
+    {"release", 1, 1, release},
+};
 
 /* Digits, of a number of 32 bits. */
 static int is_budget(const char *word, uint32_t *budget) {
@@ -181,33 +258,36 @@ static int is_budget(const char *word, uint32_t *budget) {
 
 static int usage(void) {
     fputs("usage: review judge [--line] [--budget N] REQUEST... | review judge-guarded [--budget N] REQUEST... | "
-          "review judge-by-cases [--budget N] REQUEST... | review check REQUEST DERIVATION [REQUEST DERIVATION]... | "
+          "review judge-by-cases [--budget N] REQUEST... | review index REQUEST... | "
+          "review judge-indexed [--budget N] REQUEST INDEX [REQUEST INDEX]... | review check REQUEST DERIVATION [REQUEST DERIVATION]... | "
           "review check-whether REQUEST DERIVATION [REQUEST DERIVATION]... | review release [--budget N] FILE...\n",
           stderr);
     return FAILED;
 }
 
 static int review(int count, char **word) {
+    const struct command *command = commands, *const end = commands + sizeof commands / sizeof *commands;
+    int (*answer)(char **names, uint32_t budget);
     uint32_t budget = 100000;
-    int worst = GOOD, i, status;
-    const int whether = count > 0 && strcmp(word[0], "check-whether") == 0;
-    const int checking = count > 2 && count % 2 == 1 && (whether || strcmp(word[0], "check") == 0);
-    const int judging = count > 1 && strcmp(word[0], "judge") == 0;
-    const int guarded = count > 1 && strcmp(word[0], "judge-guarded") == 0;
-    const int by_cases = count > 1 && strcmp(word[0], "judge-by-cases") == 0;
-    const int releasing = count > 1 && strcmp(word[0], "release") == 0;
-    const int lined = judging && strcmp(word[1], "--line") == 0;
-    const int after = lined ? 2 : 1;
-    const int walking = judging || guarded || by_cases || releasing;
-    const int budgeted = walking && count > after && strcmp(word[after], "--budget") == 0;
-    if (!(checking || walking) || count == after || (budgeted && (count < after + 3 || !is_budget(word[after + 1], &budget))))
+    int worst = GOOD, first = 1, i;
+    while (command < end && (count == 0 || strcmp(word[0], command->name) != 0))
+        command++;
+    if (command == end)
         return usage();
-    for (i = budgeted ? after + 2 : after; i < count; i += checking ? 2 : 1) {
-        status = checking    ? check(whether ? glintstring_check_whether : glintstring_check, word[i], word[i + 1])
-                 : releasing ? release(word[i], budget)
-                 : guarded   ? judge_by(glintstring_judge_guarded, word[i], budget)
-                 : by_cases  ? judge_by(glintstring_judge_by_cases, word[i], budget)
-                             : judge(word[i], budget, lined);
+    answer = command->answer;
+    if (answer == judge && count > first && strcmp(word[first], "--line") == 0) {
+        answer = judge_and_line;
+        first++;
+    }
+    if (command->budgeted && count > first && strcmp(word[first], "--budget") == 0) {
+        if (count == first + 1 || !is_budget(word[first + 1], &budget))
+            return usage();
+        first += 2;
+    }
+    if (count == first || (count - first) % command->files != 0)
+        return usage();
+    for (i = first; i < count; i += command->files) {
+        const int status = answer(word + i, budget);
         worst = status > worst ? status : worst;
     }
     if (fflush(stdout) != 0 || ferror(stdout)) {

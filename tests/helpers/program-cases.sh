@@ -9,13 +9,18 @@ say() { echo "$program-cases: $1"; bad=1; }
 # A first run builds the program and says so on standard error, which is no case here.
 crates/programs/run "$program" </dev/null >/dev/null 2>&1
 
-# The program, so called, ends with this status, prints this, and says nothing on standard error.
-gives() { # STATUS NAME TEXT [ARGUMENT...]
+# The program, so called, ends with this status; what it printed and what it said on standard error are in $out/printed and $out/said.
+ends() { # STATUS NAME [ARGUMENT...]
     local status
     count=$((count + 1))
-    "./$program" "${@:4}" >"$out/printed" 2>"$out/said"
+    "./$program" "${@:3}" >"$out/printed" 2>"$out/said"
     status=$?
     [ "$status" -eq "$1" ] || say "$2: status $status, expected $1"
+}
+
+# It ends with this status, prints this, and says nothing on standard error.
+gives() { # STATUS NAME TEXT [ARGUMENT...]
+    ends "$1" "$2" "${@:4}"
     printf '%s\n' "$3" | cmp -s - "$out/printed" || say "$2: printed '$(cat "$out/printed")', expected '$3'"
     [ ! -s "$out/said" ] || say "$2: said '$(cat "$out/said")'"
 }
@@ -82,6 +87,38 @@ not_allowed() { # [ARGUMENT...], the file's name among them: $out/locked
     fi
     "${as[@]}" "./$program" "$@" >"$out/printed" 2>"$out/said"
     says $? 'a file that may not be read' "$program: $out/locked: Permission denied"
+}
+
+# A program that takes one input does with it the same by each name that it may have, and says so where it can't read it, or can't write what it prints.
+one_input() { # FILE
+    local expected
+    "./$program" "$1" >"$out/expected" 2>"$out/expected.said"
+    expected=$?
+    as_with_the_file() { # NAME COMMAND...
+        local status
+        count=$((count + 1))
+        "${@:2}" >"$out/printed" 2>"$out/said"
+        status=$?
+        [ "$status" -eq "$expected" ] && cmp -s "$out/expected" "$out/printed" && cmp -s "$out/expected.said" "$out/said" ||
+            say "$1: status $status, printed '$(tr -d '\0' <"$out/printed")', said '$(cat "$out/said")'"
+    }
+    as_with_the_file 'standard input' "./$program" <"$1"
+    as_with_the_file 'standard input by its sign' "./$program" - <"$1"
+    as_with_the_file 'a file after the options' "./$program" -- "$1"
+    as_with_the_file 'a pipe' "./$program" <(cat "$1")
+    as_with_the_file 'three pieces' "./$program" < <(head -c 1 "$1"; sleep 0.2; tail -c +2 "$1" | head -c 30; sleep 0.2; tail -c +32 "$1")
+    cp "$1" "$out/--help"
+    as_with_the_file 'a file named as an option' env -C "$out" "../../$program" -- --help
+    cannot 'standard input closed' "$program: standard input: Bad file descriptor" <&-
+    cannot 'standard input a folder' "$program: standard input: Is a directory" </
+    cannot 'a file that is not there' "$program: $out/none: No such file or directory" "$out/none"
+    cannot 'a folder' "$program: samples: Is a directory" samples
+    cannot 'an empty name' "$program: : No such file or directory" ''
+    cannot 'two files' "$program: one file at most" "$1" "$1"
+    cannot 'no such option' "$program: there is no option --bugdet" --bugdet "$1"
+    not_allowed "$out/locked"
+    cannot_write "$1"
+    cannot_write --help
 }
 
 # Bytes given in decimal.

@@ -1,8 +1,8 @@
-//! Answers with the format's names (docs/FORMAT.md, sections 4, 17, 21 and 22).
+//! Answers with the format's names (docs/FORMAT.md, sections 4, 17 and 21 to 23).
 
 use std::{error, fmt};
 
-use crate::STATE_LENGTH;
+use crate::{INDEX_MOST, STATE_LENGTH};
 
 /// An answer packed into one number: number + 2^8 * input + 2^16 * place + 2^32 * count.
 #[must_use = "only number 0 lets a plan pass"]
@@ -15,7 +15,7 @@ impl Packed {
         self.0 as u8
     }
 
-    /// The input that the place is in: 1 the request, 2 the derivation, 0 neither. An answer made by hand may have another number here.
+    /// The input that the place is in: 1 the request, 2 the derivation, 3 the index, 0 none. An answer made by hand may have another number here.
     pub fn input(self) -> u8 {
         (self.0 >> 8) as u8
     }
@@ -38,6 +38,18 @@ pub enum Input {
     Request,
     /// The derivation, 2.
     Derivation,
+    /// The index, 3.
+    Index,
+}
+
+impl fmt::Display for Input {
+    fn fmt(&self, out: &mut fmt::Formatter<'_>) -> fmt::Result {
+        out.write_str(match self {
+            Input::Request => "request",
+            Input::Derivation => "derivation",
+            Input::Index => "index",
+        })
+    }
 }
 
 /// What is known of a fluent in a partial state.
@@ -98,16 +110,16 @@ impl State {
     }
 }
 
-/// An answer of the walk call, the guarded call, the call by cases, the derivation call or the whether call, or what the release call says of its file as a
-/// whole. A place is the number of bytes that stand before it in its input: the derivation for 31 to 36, the request or the derivation where the answer says
-/// which, and the request for all others. To the release call its file is the request.
+/// An answer of the walk call, the guarded call, the call by cases, the indexed call, the derivation call or the whether call, or what the release call says of
+/// its file as a whole, or another answer of the index call than 0. A place is the number of bytes that stand before it in its input: the derivation for 31 to
+/// 36, the index for 45, the request or the derivation where the answer says which, and the request for all others. To the release call its file is the request.
 ///
 /// A number keeps its meaning from one version to the next, and a version may have numbers that the one before did not.
 #[must_use = "an answer other than 0 says that the plan is not to pass: see `is_verified` and `verified`"]
 #[non_exhaustive]
 #[derive(Clone, Copy, Debug, PartialEq, Eq, Hash)]
 pub enum Answer {
-    /// 0 of the walk call, of the guarded call and of the call by cases: the walk verifies the plan.
+    /// 0 of the walk call, of the guarded call, of the call by cases and of the indexed call: the walk verifies the plan.
     Verified {
         /// Actions run and end states judged.
         count: u32,
@@ -253,6 +265,9 @@ pub enum Answer {
         /// Its count byte where its length is another; or else its first entry that names no line, or another line than it is to name.
         place: usize,
     },
+    /// 39 of the index call: the lent room has fewer bytes than the index. [`index`](crate::index) lends enough, so that
+    /// [`index_packed`](crate::index_packed) alone gives it.
+    RoomShort,
     /// 43 of the guarded call: a state is met that lacks a guard, one that is not known true in it.
     GuardBroken {
         /// The first guard that it lacks.
@@ -265,6 +280,11 @@ pub enum Answer {
     /// 44 of the call by cases: an action is met that has more open fluents than [`MOST_OPEN`](crate::MOST_OPEN), which are the unknown ones in its bodies.
     TooManyCases {
         /// That item.
+        place: usize,
+    },
+    /// 45 of the indexed call: the index is not that of the request.
+    IndexDiffers {
+        /// The first byte that differs, or the shorter of both lengths where they are the same so far.
         place: usize,
     },
 }
@@ -315,6 +335,40 @@ impl Answer {
             44 => Answer::TooManyCases { place: packed.place() }.if_packed(packed),
             _ => Answer::unpack(packed, state),
         }
+    }
+
+    /// Takes an answer of the indexed call apart; `state` is what the lent bytes are after the call.
+    ///
+    /// # Panics
+    ///
+    /// Where [`Answer::unpack`] does, but for number 45, and where input and count do not go with 45. The proved library gives no such answer.
+    pub fn unpack_indexed(packed: Packed, state: &[u8]) -> Answer {
+        match packed.number() {
+            45 => Answer::IndexDiffers { place: packed.place() }.if_packed(packed),
+            _ => Answer::unpack(packed, state),
+        }
+    }
+
+    /// Takes an answer of the index call apart; `room` is what the lent room is after the call. It gives the index, with which the room starts after answer 0.
+    ///
+    /// # Errors
+    ///
+    /// Every answer other than 0. The error has that answer, and says its words, number and place.
+    ///
+    /// # Panics
+    ///
+    /// Where the number is none of the index call's, where input, place and count do not go with it, where no index has so many bytes or the room has fewer, or
+    /// where 39 is said of a room of [`INDEX_MOST`] bytes. The proved library gives no such answer.
+    pub fn unpack_index(packed: Packed, room: &[u8]) -> Result<&[u8], NotIndexed> {
+        let length = packed.count() as usize;
+        // An index has two bytes for each action, of which there is one at least, and two for each line.
+        let is_length = length % 2 == 0 && (2..=INDEX_MOST.min(room.len())).contains(&length);
+        let answer = match packed.number() {
+            0 if is_length && packed == Packed(u64::from(packed.count()) << 32) => return Ok(&room[..length]),
+            39 if room.len() < INDEX_MOST => Answer::RoomShort,
+            number => Answer::refusal(number, Input::Request, packed.place()).unwrap_or_else(|| strange(packed)),
+        };
+        Err(NotIndexed(answer.if_packed(packed)))
     }
 
     /// Takes an answer of the derivation call apart.
@@ -435,8 +489,10 @@ impl Answer {
             Answer::DoesNotFollow { .. } => 34,
             Answer::NotTheQuestion { .. } => 35,
             Answer::ClosingNotRight { .. } => 36,
+            Answer::RoomShort => 39,
             Answer::GuardBroken { .. } => 43,
             Answer::TooManyCases { .. } => 44,
+            Answer::IndexDiffers { .. } => 45,
         }
     }
 
@@ -446,13 +502,14 @@ impl Answer {
             None => 0,
             Some(Input::Request) => 1,
             Some(Input::Derivation) => 2,
+            Some(Input::Index) => 3,
         }
     }
 
-    /// The same by its name; none where the answer names neither.
+    /// The same by its name; none where the answer names none.
     pub fn named(&self) -> Option<Input> {
         match *self {
-            Answer::Verified { .. } | Answer::Accepted | Answer::BudgetSpent { .. } | Answer::StateLength => None,
+            Answer::Verified { .. } | Answer::Accepted | Answer::BudgetSpent { .. } | Answer::StateLength | Answer::RoomShort => None,
             Answer::TooLong { input }
             | Answer::InputEnds { input, .. }
             | Answer::CountNotWithinLimits { input, .. }
@@ -476,17 +533,24 @@ impl Answer {
             | Answer::DoesNotFollow { .. }
             | Answer::NotTheQuestion { .. }
             | Answer::ClosingNotRight { .. } => Some(Input::Derivation),
+            Answer::IndexDiffers { .. } => Some(Input::Index),
         }
     }
 
     /// The place, which is 0 for the answers that have none.
     pub fn place(&self) -> usize {
         match *self {
-            Answer::Verified { .. } | Answer::Accepted | Answer::BudgetSpent { .. } | Answer::StateLength | Answer::TooLong { .. } => 0,
+            Answer::Verified { .. }
+            | Answer::Accepted
+            | Answer::BudgetSpent { .. }
+            | Answer::StateLength
+            | Answer::RoomShort
+            | Answer::TooLong { .. } => 0,
             Answer::GoalMissed { place, .. }
             | Answer::NotExecutable { place, .. }
             | Answer::GuardBroken { place, .. }
             | Answer::TooManyCases { place }
+            | Answer::IndexDiffers { place }
             | Answer::InputEnds { place, .. }
             | Answer::CountNotWithinLimits { place, .. }
             | Answer::TooLarge { place, .. }
@@ -508,7 +572,7 @@ impl Answer {
         }
     }
 
-    /// The count: the walk's, or the budget where it is spent, and 0 for refusals, for too many cases and for an accepted derivation.
+    /// The count: the walk's, or the budget where it is spent, and 0 for refusals, for too many cases, for an index that differs and for an accepted derivation.
     pub fn count(&self) -> u32 {
         match *self {
             Answer::Verified { count } => count,
@@ -563,8 +627,10 @@ pub(crate) fn words_of(number: u8) -> &'static str {
         34 => "a line does not follow by its rule",
         35 => "the last line differs from the question",
         36 => "the closing list is not what the request asks",
+        39 => "room too short",
         43 => "guard broken",
         44 => "too many cases",
+        45 => "index differs",
         _ => "no answer that the format has",
     }
 }
@@ -577,11 +643,11 @@ impl From<Answer> for Packed {
 
 impl fmt::Display for Answer {
     fn fmt(&self, out: &mut fmt::Formatter<'_>) -> fmt::Result {
-        let whose = match self.named() {
-            Some(Input::Derivation) => " of the derivation",
-            _ => "",
-        };
-        write!(out, "{} ({}, place {}{whose}, count {})", self.words(), self.number(), self.place(), self.count())
+        write!(out, "{} ({}, place {}", self.words(), self.number(), self.place())?;
+        if let Some(input @ (Input::Derivation | Input::Index)) = self.named() {
+            write!(out, " of the {input}")?;
+        }
+        write!(out, ", count {})", self.count())
     }
 }
 
@@ -614,30 +680,44 @@ impl Judged {
     }
 }
 
-/// An answer other than 0, as an error.
-#[derive(Clone, Copy, Debug, PartialEq, Eq, Hash)]
-pub struct NotVerified(Answer);
+/// An error that has an answer other than 0, and says what is not so and the answer's words, number and place.
+macro_rules! error_of_answer {
+    ($(#[$doc:meta])* $name:ident, $said:literal) => {
+        $(#[$doc])*
+        #[derive(Clone, Copy, Debug, PartialEq, Eq, Hash)]
+        pub struct $name(Answer);
 
-impl NotVerified {
-    /// The answer.
-    pub fn answer(&self) -> Answer {
-        self.0
-    }
-}
-
-impl fmt::Display for NotVerified {
-    fn fmt(&self, out: &mut fmt::Formatter<'_>) -> fmt::Result {
-        let NotVerified(answer) = self;
-        write!(out, "not verified: {} (answer {}, ", answer.words(), answer.number())?;
-        match answer.named() {
-            None => write!(out, "no place)"),
-            Some(Input::Request) => write!(out, "place {} of the request)", answer.place()),
-            Some(Input::Derivation) => write!(out, "place {} of the derivation)", answer.place()),
+        impl $name {
+            /// The answer.
+            pub fn answer(&self) -> Answer {
+                self.0
+            }
         }
-    }
+
+        impl fmt::Display for $name {
+            fn fmt(&self, out: &mut fmt::Formatter<'_>) -> fmt::Result {
+                let $name(answer) = self;
+                write!(out, concat!($said, ": {} (answer {}, "), answer.words(), answer.number())?;
+                match answer.named() {
+                    None => write!(out, "no place)"),
+                    Some(input) => write!(out, "place {} of the {input})", answer.place()),
+                }
+            }
+        }
+
+        impl error::Error for $name {}
+    };
 }
 
-impl error::Error for NotVerified {}
+error_of_answer! {
+    /// An answer other than 0, as an error.
+    NotVerified, "not verified"
+}
+
+error_of_answer! {
+    /// An answer of the index call other than 0, as an error.
+    NotIndexed, "not indexed"
+}
 
 pub(crate) fn strange(packed: Packed) -> ! {
     let (number, input, place, count) = (packed.number(), packed.input(), packed.place(), packed.count());

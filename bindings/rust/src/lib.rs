@@ -3,10 +3,11 @@
 //! A request has a domain table, a plan and goals in its bytes (docs/FORMAT.md). [`judge`] walks the plan over partial states and
 //! answers; that its answer, the state in it included, is that of the definition is proved, for every request and budget
 //! (docs/STATEMENTS.md). [`judge_guarded`] walks the plan of a guarded request, whose guards are to be known true all the way, [`judge_by_cases`] walks a
-//! plan with each action tried in every filling of what is unknown, [`check`] checks a derivation, lines by which the plan reaches its goals,
-//! [`check_whether`] one that also says of fluents that they are known in the end, [`release`] walks every plan of a release file, which has many plans
-//! over one table, and [`show`] gives the part of an input that an answer is about; of these the same is proved. This crate adds names to the numbers and proves nothing.
-//! `examples/rust` of the repository is a small program that uses it.
+//! plan with each action tried in every filling of what is unknown, [`judge_indexed`] walks one by an index, which [`index`] writes and which says where the
+//! lines of each action stand, [`check`] checks a derivation, lines by which the plan reaches its goals, [`check_whether`] one that also says of fluents that
+//! they are known in the end, [`release`] walks every plan of a release file, which has many plans over one table, and [`show`] gives the part of an input that
+//! an answer is about; of these the same is proved. This crate adds names to the numbers and proves nothing. `examples/rust` of the repository is a small
+//! program that uses it.
 //!
 //! ```
 //! use glintstring::{judge, Answer, Input};
@@ -32,10 +33,10 @@
 //! # Stack
 //!
 //! A walk may need as much as [`STACK_NEEDED`] bytes of stack, more than the 2 MiB that a thread in Rust gets, and more than the 8 MiB that the
-//! first thread of a process has as a rule; the request decides how much. [`judge`], [`judge_line`], [`judge_guarded`], [`judge_by_cases`] and
-//! [`release`] see to that: they walk on a thread of their own. A [`Judge`] keeps such a thread for many calls. Those with `_here` or `_packed` in their names walk on the
-//! caller's stack, and a walk that has too little of it is ended by the system, and the process with it. [`check`], [`check_whether`], [`plans`] and [`show`] need far
-//! less, whatever their inputs, and a thread's 2 MiB will do.
+//! first thread of a process has as a rule; the request decides how much. [`judge`], [`judge_line`], [`judge_guarded`], [`judge_by_cases`], [`judge_indexed`] and
+//! [`release`] see to that: they walk on a thread of their own. A [`Judge`] keeps such a thread for many calls. Those of these with `_here` or `_packed` in their
+//! names walk on the caller's stack, and a walk that has too little of it is ended by the system, and the process with it. [`index`], [`check`],
+//! [`check_whether`], [`plans`] and [`show`] need far less, whatever their inputs, and a thread's 2 MiB will do.
 //!
 //! # The library
 //!
@@ -49,14 +50,14 @@ mod answer;
 mod released;
 mod serving;
 
-pub use answer::{Answer, Input, Judged, Mark, NotVerified, Packed, State};
+pub use answer::{Answer, Input, Judged, Mark, NotIndexed, NotVerified, Packed, State};
 pub use released::{NotReleased, PlanAnswer, Released};
 pub use serving::Judge;
 
 use std::{io, thread};
 
-/// The length of the lent state that [`judge_packed`], [`judge_guarded_packed`] and [`judge_by_cases_packed`] take, which is the number of marks in a
-/// [`State`].
+/// The length of the lent state that [`judge_packed`], [`judge_guarded_packed`], [`judge_by_cases_packed`] and [`judge_indexed_packed`] take, which is the
+/// number of marks in a [`State`].
 pub const STATE_LENGTH: usize = 128;
 
 /// Guards that a guarded request may have.
@@ -64,6 +65,10 @@ pub const MOST_GUARDS: usize = 64;
 
 /// Open fluents that an action may have where the call by cases meets it (FORMAT 22.8).
 pub const MOST_OPEN: usize = 12;
+
+/// Bytes that the index of a request may have (FORMAT 23.5): a room of so many is never too short. Of a file that has an index one byte more need be read, and
+/// what stands behind that changes no answer.
+pub const INDEX_MOST: usize = 1_276;
 
 /// Plans that a release file may have.
 pub const MOST_PLANS: usize = 64;
@@ -88,6 +93,16 @@ extern "C" {
     fn glintstring_judge(request: *const u8, request_length: usize, state: *mut u8, state_length: usize, budget: u32) -> u64;
     fn glintstring_judge_guarded(request: *const u8, request_length: usize, state: *mut u8, state_length: usize, budget: u32) -> u64;
     fn glintstring_judge_by_cases(request: *const u8, request_length: usize, state: *mut u8, state_length: usize, budget: u32) -> u64;
+    fn glintstring_judge_indexed(
+        request: *const u8,
+        request_length: usize,
+        index: *const u8,
+        index_length: usize,
+        state: *mut u8,
+        state_length: usize,
+        budget: u32,
+    ) -> u64;
+    fn glintstring_index(request: *const u8, request_length: usize, room: *mut u8, room_length: usize) -> u64;
     fn glintstring_judge_line(request: *const u8, request_length: usize, state: *mut u8, state_length: usize, budget: u32, line: *mut u32) -> u64;
     fn glintstring_check(request: *const u8, request_length: usize, derivation: *const u8, derivation_length: usize) -> u64;
     fn glintstring_check_whether(request: *const u8, request_length: usize, derivation: *const u8, derivation_length: usize) -> u64;
@@ -96,35 +111,45 @@ extern "C" {
     fn glintstring_show(answer: u64, request: *const u8, request_length: usize, derivation: *const u8, derivation_length: usize) -> u64;
 }
 
-/// The walk call: judges a request by walking its plan, with a count of at most `budget`.
-///
-/// Any bytes may be given, of any length. The walk runs on a thread of its own that has enough stack, and the caller waits for it; for many
-/// calls a [`Judge`] keeps one. [`Answer::GoalMissed`] and [`Answer::NotExecutable`] have the state concerned in them.
-///
-/// ```
-/// use glintstring::{judge, Answer};
-///
-/// # fn main() -> std::io::Result<()> {
-/// // One fluent, nothing known of it, one action without lines; the plan is that action.
-/// let request = [1, 1, 0, 0, 0, 0, 0, 1, 0, 0, 0];
-/// let answer = judge(&request, 10)?;
-/// assert!(!answer.is_verified());
-/// let Answer::NotExecutable { place, count, state } = answer else { panic!("{answer}") };
-/// assert_eq!((place, count), (8, 0));
-/// assert_eq!(state.line(1), "?");
-/// # Ok(())
-/// # }
-/// ```
-///
-/// # Errors
-///
-/// Where the system gives no such thread. Then nothing is judged.
-///
-/// # Panics
-///
-/// Where the library linked gives an answer that the format does not have, which the proved one does not.
-pub fn judge(request: &[u8], budget: u32) -> io::Result<Answer> {
-    with_stack(|| judge_here(request, budget))
+/// The three names of a call that walks the plan of a request: on a thread that has the stack, on the caller's stack, and as the call is exported. What a
+/// call takes beside the request are bytes as well, and `$unpack` takes its answer apart.
+macro_rules! walking_call {
+    (
+        $exported:ident(request $(, $beside:ident)*), $unpack:path;
+        $(#[$doc:meta])* $name:ident;
+        $(#[$here_doc:meta])* $here:ident;
+        $(#[$packed_doc:meta])* $packed:ident;
+    ) => {
+        $(#[$doc])*
+        ///
+        /// # Errors
+        ///
+        /// Where the system gives no such thread. Then nothing is judged.
+        ///
+        /// # Panics
+        ///
+        /// Where the library linked gives an answer that the format does not have, which the proved one does not.
+        pub fn $name(request: &[u8], $($beside: &[u8],)* budget: u32) -> io::Result<Answer> {
+            with_stack(|| $here(request, $($beside,)* budget))
+        }
+
+        $(#[$here_doc])*
+        ///
+        /// # Panics
+        ///
+        /// Where the library linked gives an answer that the format does not have, which the proved one does not.
+        pub fn $here(request: &[u8], $($beside: &[u8],)* budget: u32) -> Answer {
+            let mut state = [0; STATE_LENGTH];
+            let packed = $packed(request, $($beside,)* &mut state, budget);
+            $unpack(packed, &state)
+        }
+
+        $(#[$packed_doc])*
+        pub fn $packed(request: &[u8], $($beside: &[u8],)* state: &mut [u8], budget: u32) -> Packed {
+            // Each pointer is valid for its length, the state's for writing too and for nobody else, and the call keeps none.
+            Packed(unsafe { $exported(request.as_ptr(), request.len(), $($beside.as_ptr(), $beside.len(),)* state.as_mut_ptr(), state.len(), budget) })
+        }
+    };
 }
 
 /// Walks on a thread that has the stack, and waits for it.
@@ -133,6 +158,57 @@ fn with_stack<T: Send>(walk: impl FnOnce() -> T + Send) -> io::Result<T> {
         let judging = thread::Builder::new().stack_size(STACK).spawn_scoped(scope, walk)?;
         Ok(judging.join().unwrap_or_else(|panic| std::panic::resume_unwind(panic)))
     })
+}
+
+walking_call! {
+    glintstring_judge(request), Answer::unpack;
+
+    /// The walk call: judges a request by walking its plan, with a count of at most `budget`.
+    ///
+    /// Any bytes may be given, of any length. The walk runs on a thread of its own that has enough stack, and the caller waits for it; for many
+    /// calls a [`Judge`] keeps one. [`Answer::GoalMissed`] and [`Answer::NotExecutable`] have the state concerned in them.
+    ///
+    /// ```
+    /// use glintstring::{judge, Answer};
+    ///
+    /// # fn main() -> std::io::Result<()> {
+    /// // One fluent, nothing known of it, one action without lines; the plan is that action.
+    /// let request = [1, 1, 0, 0, 0, 0, 0, 1, 0, 0, 0];
+    /// let answer = judge(&request, 10)?;
+    /// assert!(!answer.is_verified());
+    /// let Answer::NotExecutable { place, count, state } = answer else { panic!("{answer}") };
+    /// assert_eq!((place, count), (8, 0));
+    /// assert_eq!(state.line(1), "?");
+    /// # Ok(())
+    /// # }
+    /// ```
+    judge;
+
+    /// [`judge`] on the caller's own stack, which is to have [`STACK_NEEDED`] free bytes: for a caller that has them, and wants no thread.
+    ///
+    /// A call that has too little stack is ended by the system, and the process with it.
+    ///
+    /// ```
+    /// use glintstring::{judge_here, Answer};
+    ///
+    /// # std::thread::Builder::new().stack_size(glintstring::STACK_NEEDED + (1 << 20)).spawn(|| {
+    /// // One fluent, known true, which is the goal; one action, and an empty plan.
+    /// let request = [1, 1, 1, 0, 0, 0, 0, 0, 0, 1, 0, 0];
+    /// assert_eq!(judge_here(&request, 1), Answer::Verified { count: 1 });
+    /// # }).unwrap().join().unwrap();
+    /// ```
+    judge_here;
+
+    /// The walk call as it is exported: the same as [`judge_here`], with a lent state, and with the answer packed into one number.
+    ///
+    /// After answers 1 and 2 the lent bytes are the state concerned, which [`State::from_bytes`] reads; after every other answer they are what
+    /// they were. Where there are not [`STATE_LENGTH`] of them, the answer is 9.
+    ///
+    /// ```
+    /// let packed = glintstring::judge_packed(&[], &mut [0; 128], 0);
+    /// assert_eq!((packed.number(), packed.input(), packed.place(), packed.count()), (11, 1, 0, 0));
+    /// ```
+    judge_packed;
 }
 
 /// [`judge`] with the line: in [`Answer::NotExecutable`] at an action, which of its executability lines was missing (FORMAT 18.9 to 18.14).
@@ -189,177 +265,212 @@ pub fn judge_line_packed(request: &[u8], state: &mut [u8], budget: u32, line: &m
     Packed(unsafe { glintstring_judge_line(request.as_ptr(), request.len(), state.as_mut_ptr(), state.len(), budget, line) })
 }
 
-/// [`judge`] on the caller's own stack, which is to have [`STACK_NEEDED`] free bytes: for a caller that has them, and wants no thread.
-///
-/// A call that has too little stack is ended by the system, and the process with it.
-///
-/// ```
-/// use glintstring::{judge_here, Answer};
-///
-/// # std::thread::Builder::new().stack_size(glintstring::STACK_NEEDED + (1 << 20)).spawn(|| {
-/// // One fluent, known true, which is the goal; one action, and an empty plan.
-/// let request = [1, 1, 1, 0, 0, 0, 0, 0, 0, 1, 0, 0];
-/// assert_eq!(judge_here(&request, 1), Answer::Verified { count: 1 });
-/// # }).unwrap().join().unwrap();
-/// ```
-///
-/// # Panics
-///
-/// Where the library linked gives an answer that the format does not have, which the proved one does not.
-pub fn judge_here(request: &[u8], budget: u32) -> Answer {
-    let mut state = [0; STATE_LENGTH];
-    let packed = judge_packed(request, &mut state, budget);
-    Answer::unpack(packed, &state)
+walking_call! {
+    glintstring_judge_guarded(request), Answer::unpack_guarded;
+
+    /// The guarded call: judges a guarded request by walking its plan, with a count of at most `budget`.
+    ///
+    /// A guarded request has a ninth section behind the eight of a request, a list of at most [`MOST_GUARDS`] literals (FORMAT 21.2). Each of them is to be
+    /// known true in every state that the walk meets: the first, and every one to which an action leads. The first state that lacks one ends the walk with
+    /// [`Answer::GuardBroken`]; all else is answered as [`judge`] answers. Any bytes may be given, of any length. The walk runs on a thread of its own that has
+    /// enough stack, and the caller waits for it; for many calls a [`Judge`] keeps one.
+    ///
+    /// ```
+    /// use glintstring::{judge, judge_guarded, show, Answer, Input};
+    ///
+    /// # fn main() -> std::io::Result<()> {
+    /// // Two fluents: open for writing, which is false, and new map. Action 0 opens, action 1 makes the map, action 2 closes; the plan is all three.
+    /// let table = [2, 3, 2, 1, 3, 3, 0, 0, 0, 1, 2, 0, 2, 1, 0, 3, 0, 0, 1, 0, 2, 0, 0];
+    /// let request = [&table[..], &[0, 3, 0, 1, 2, 2, 1, 2, 0]].concat();
+    /// assert_eq!(judge(&request, 100)?, Answer::Verified { count: 4 });
+    ///
+    /// // The same, guarded by this: not open for writing. And with no guards.
+    /// let guarded = [&request[..], &[1, 1]].concat();
+    /// let answer = judge_guarded(&guarded, 100)?;
+    /// let Answer::GuardBroken { place, count, state } = answer else { panic!("{answer}") };
+    /// assert_eq!((place, count), (33, 1));
+    /// assert_eq!(state.line(2), "+-");
+    /// assert_eq!(show(answer, &guarded, &[]), [1]);
+    /// assert_eq!(judge_guarded(&[&request[..], &[0]].concat(), 100)?, Answer::Verified { count: 4 });
+    ///
+    /// // Nothing in the bytes says whether guards follow.
+    /// assert_eq!(judge_guarded(&request, 100)?, Answer::InputEnds { input: Input::Request, place: 32 });
+    /// assert_eq!(judge(&guarded, 100)?, Answer::BytesLeftOver { input: Input::Request, place: 32 });
+    /// # Ok(())
+    /// # }
+    /// ```
+    judge_guarded;
+
+    /// [`judge_guarded`] on the caller's own stack, as [`judge_here`] is [`judge`].
+    judge_guarded_here;
+
+    /// The guarded call as it is exported: the same as [`judge_guarded_here`], with a lent state, and with the answer packed into one number.
+    ///
+    /// After answers 1, 2 and 43 the lent bytes are the state concerned, which [`State::from_bytes`] reads; after every other answer they are what
+    /// they were. Where there are not [`STATE_LENGTH`] of them, the answer is 9.
+    ///
+    /// ```
+    /// // One fluent, nothing known of it, one action and an empty plan; the guard is that the fluent is true.
+    /// let request = [1, 1, 0, 0, 0, 0, 0, 0, 0, 0, 1, 0];
+    /// let packed = glintstring::judge_guarded_packed(&request, &mut [0; 128], 0);
+    /// assert_eq!((packed.number(), packed.input(), packed.place(), packed.count()), (43, 1, 11, 0));
+    /// ```
+    judge_guarded_packed;
 }
 
-/// The walk call as it is exported: the same as [`judge_here`], with a lent state, and with the answer packed into one number.
-///
-/// After answers 1 and 2 the lent bytes are the state concerned, which [`State::from_bytes`] reads; after every other answer they are what
-/// they were. Where there are not [`STATE_LENGTH`] of them, the answer is 9.
-///
-/// ```
-/// let packed = glintstring::judge_packed(&[], &mut [0; 128], 0);
-/// assert_eq!((packed.number(), packed.input(), packed.place(), packed.count()), (11, 1, 0, 0));
-/// ```
-pub fn judge_packed(request: &[u8], state: &mut [u8], budget: u32) -> Packed {
-    // Each pointer is valid for its length, the state's for writing too and for nobody else, and the call keeps neither.
-    Packed(unsafe { glintstring_judge(request.as_ptr(), request.len(), state.as_mut_ptr(), state.len(), budget) })
+walking_call! {
+    glintstring_judge_by_cases(request), Answer::unpack_by_cases;
+
+    /// The call by cases: judges a request by walking its plan, with a count of at most `budget` and with each action tried in every complete filling of the
+    /// state.
+    ///
+    /// A filling gives each unknown fluent one of true and false. An action can be run where it can be run in each filling, and what is known afterwards is
+    /// what all the results share; branchings, goals and whether entries go by what is known, as with [`judge`] (FORMAT 22.1 to 22.6). So more plans are
+    /// verified. An action that has more than [`MOST_OPEN`] unknown fluents in its bodies ends the walk with [`Answer::TooManyCases`], also where [`judge`]
+    /// would go on; all else is answered as [`judge`] answers. Any bytes may be given, of any length. The walk runs on a thread of its own that has enough
+    /// stack, and the caller waits for it; for many calls a [`Judge`] keeps one. An action may take as long as 4,096 fillings do, and is counted once.
+    ///
+    /// ```
+    /// use glintstring::{judge, judge_by_cases, show, Answer};
+    ///
+    /// # fn main() -> std::io::Result<()> {
+    /// // Case 10 of the format: two fluents, nothing known of them. Action 0 makes the first true where the second is true, and where it is false.
+    /// let request = [2, 1, 0, 2, 0, 0, 1, 2, 0, 0, 1, 3, 1, 0, 0, 0, 0, 1, 0, 1, 0, 0];
+    /// assert_eq!(judge(&request, 100)?.number(), 1);
+    /// assert_eq!(judge_by_cases(&request, 100)?, Answer::Verified { count: 2 });
+    ///
+    /// // The action makes fluent 0 true where 13 fluents are, of which nothing is known.
+    /// let table = [13, 1, 0, 1, 0, 0, 13, 0, 2, 4, 6, 8, 10, 12, 14, 16, 18, 20, 22, 24, 1, 0, 0, 0];
+    /// let wide = [&table[..], &[0, 1, 0, 0, 0]].concat();
+    /// let answer = judge_by_cases(&wide, 100)?;
+    /// assert_eq!(answer, Answer::TooManyCases { place: 26 });
+    /// assert_eq!(show(answer, &wide, &[]), [0, 0, 0]);
+    /// assert_eq!(judge(&wide, 100)?, Answer::Verified { count: 2 });
+    /// # Ok(())
+    /// # }
+    /// ```
+    judge_by_cases;
+
+    /// [`judge_by_cases`] on the caller's own stack, as [`judge_here`] is [`judge`].
+    judge_by_cases_here;
+
+    /// The call by cases as it is exported: the same as [`judge_by_cases_here`], with a lent state, and with the answer packed into one number.
+    ///
+    /// After answers 1 and 2 the lent bytes are the state concerned, which [`State::from_bytes`] reads; after every other answer, 44 too, they are what
+    /// they were. Where there are not [`STATE_LENGTH`] of them, the answer is 9.
+    ///
+    /// ```
+    /// // One fluent, nothing known of it; action 0 makes it true where it is false, and is the plan.
+    /// let request = [1, 1, 0, 1, 0, 0, 1, 1, 1, 0, 0, 0, 0, 1, 0, 1, 0, 0];
+    /// let packed = glintstring::judge_by_cases_packed(&request, &mut [0; 128], 2);
+    /// assert_eq!((packed.number(), packed.input(), packed.place(), packed.count()), (0, 0, 0, 2));
+    /// ```
+    judge_by_cases_packed;
 }
 
-/// The guarded call: judges a guarded request by walking its plan, with a count of at most `budget`.
+walking_call! {
+    glintstring_judge_indexed(request, index), Answer::unpack_indexed;
+
+    /// The indexed call: judges a request by walking its plan, with a count of at most `budget`, and finds the lines of an action by an index of the request.
+    ///
+    /// An index is what [`index`] gives for the request, or for another that differs from it only in its plan and its goals (FORMAT 23.1 to 23.5). It does not
+    /// replace the table: the request is read and tested as by every call, and the index is compared with the one that it should be before anything is walked.
+    /// With that one every answer is what [`judge`] answers. With another it is [`Answer::IndexDiffers`], unless the request is refused. Any bytes may be
+    /// given, of any length. The walk runs on a thread of its own that has enough stack, and the caller waits for it; for many calls a [`Judge`] keeps one.
+    ///
+    /// ```
+    /// use glintstring::{index, judge, judge_indexed, Answer};
+    ///
+    /// # fn main() -> Result<(), Box<dyn std::error::Error>> {
+    /// // One fluent, nothing known of it; action 0 makes it true, and action 1 has no lines.
+    /// let table = [1, 2, 0, 1, 0, 0, 0, 1, 0, 0, 0];
+    /// // Each plan is one action, and wants the fluent to be true.
+    /// let (good, bad) = ([&table[..], &[0, 1, 0, 1, 0, 0]].concat(), [&table[..], &[0, 1, 1, 1, 0, 0]].concat());
+    /// let by = index(&good)?;
+    /// assert_eq!(judge_indexed(&good, &by, 100)?, Answer::Verified { count: 2 });
+    /// assert_eq!(judge_indexed(&bad, &by, 100)?, judge(&bad, 100)?);
+    ///
+    /// // The index ends too soon.
+    /// let answer = judge_indexed(&good, &by[..5], 100)?;
+    /// assert_eq!(answer, Answer::IndexDiffers { place: 5 });
+    /// let error = answer.verified().unwrap_err();
+    /// assert_eq!(error.to_string(), "not verified: index differs (answer 45, place 5 of the index)");
+    /// # Ok(())
+    /// # }
+    /// ```
+    judge_indexed;
+
+    /// [`judge_indexed`] on the caller's own stack, as [`judge_here`] is [`judge`].
+    judge_indexed_here;
+
+    /// The indexed call as it is exported: the same as [`judge_indexed_here`], with a lent state, and with the answer packed into one number.
+    ///
+    /// After answers 1 and 2 the lent bytes are the state concerned, which [`State::from_bytes`] reads; after every other answer, 45 too, they are what
+    /// they were. Where there are not [`STATE_LENGTH`] of them, the answer is 9.
+    ///
+    /// ```
+    /// // One fluent, one action and an empty plan: the index has two counts.
+    /// let request = [1, 1, 0, 0, 0, 0, 0, 0, 0, 0];
+    /// let packed = glintstring::judge_indexed_packed(&request, &[0, 0, 0], &mut [0; 128], 0);
+    /// assert_eq!((packed.number(), packed.input(), packed.place(), packed.count()), (45, 3, 2, 0));
+    /// ```
+    judge_indexed_packed;
+}
+
+/// The index call: the index of a request, which says where the lines of each action stand in it.
 ///
-/// A guarded request has a ninth section behind the eight of a request, a list of at most [`MOST_GUARDS`] literals (FORMAT 21.2). Each of them is to be known
-/// true in every state that the walk meets: the first, and every one to which an action leads. The first state that lacks one ends the walk with
-/// [`Answer::GuardBroken`]; all else is answered as [`judge`] answers. Any bytes may be given, of any length. The walk runs on a thread of its own that has
-/// enough stack, and the caller waits for it; for many calls a [`Judge`] keeps one.
+/// For each action, from 0 up, an index has a count byte and as many two-byte places with the high byte first, those of the action's effects in the request,
+/// and then the same of its executability lines (FORMAT 23.2). It depends on sections 1 to 4 of the request alone, so requests that differ only in plans and
+/// goals have one index. [`judge_indexed`] walks by it. Any bytes may be given, of any length.
 ///
 /// ```
-/// use glintstring::{judge, judge_guarded, show, Answer, Input};
+/// use glintstring::{index, Answer};
 ///
-/// # fn main() -> std::io::Result<()> {
-/// // Two fluents: open for writing, which is false, and new map. Action 0 opens, action 1 makes the map, action 2 closes; the plan is all three.
-/// let table = [2, 3, 2, 1, 3, 3, 0, 0, 0, 1, 2, 0, 2, 1, 0, 3, 0, 0, 1, 0, 2, 0, 0];
-/// let request = [&table[..], &[0, 3, 0, 1, 2, 2, 1, 2, 0]].concat();
-/// assert_eq!(judge(&request, 100)?, Answer::Verified { count: 4 });
+/// # fn main() -> Result<(), Box<dyn std::error::Error>> {
+/// // One fluent; action 0 makes it true, and can always be run, and action 1 has no lines.
+/// let request = [1, 2, 0, 1, 0, 0, 0, 1, 0, 0, 0, 0, 0, 0, 0];
+/// assert_eq!(index(&request)?, [1, 0, 4, 1, 0, 8, 0, 0]);
 ///
-/// // The same, guarded by this: not open for writing. And with no guards.
-/// let guarded = [&request[..], &[1, 1]].concat();
-/// let answer = judge_guarded(&guarded, 100)?;
-/// let Answer::GuardBroken { place, count, state } = answer else { panic!("{answer}") };
-/// assert_eq!((place, count), (33, 1));
-/// assert_eq!(state.line(2), "+-");
-/// assert_eq!(show(answer, &guarded, &[]), [1]);
-/// assert_eq!(judge_guarded(&[&request[..], &[0]].concat(), 100)?, Answer::Verified { count: 4 });
-///
-/// // Nothing in the bytes says whether guards follow.
-/// assert_eq!(judge_guarded(&request, 100)?, Answer::InputEnds { input: Input::Request, place: 32 });
-/// assert_eq!(judge(&guarded, 100)?, Answer::BytesLeftOver { input: Input::Request, place: 32 });
+/// // A request that can't be read has none.
+/// let error = index(&request[..14]).unwrap_err();
+/// assert_eq!(error.answer().number(), 11);
+/// assert_eq!(error.to_string(), "not indexed: the input ends where a byte is due (answer 11, place 14 of the request)");
 /// # Ok(())
 /// # }
 /// ```
 ///
 /// # Errors
 ///
-/// Where the system gives no such thread. Then nothing is judged.
+/// Where the request is refused. The error has the answer, which is what [`judge`] answers then.
 ///
 /// # Panics
 ///
-/// Where the library linked gives an answer that the format does not have, which the proved one does not.
-pub fn judge_guarded(request: &[u8], budget: u32) -> io::Result<Answer> {
-    with_stack(|| judge_guarded_here(request, budget))
+/// Where the library linked gives what the format does not have, which the proved one does not.
+pub fn index(request: &[u8]) -> Result<Vec<u8>, NotIndexed> {
+    let mut room = [0; INDEX_MOST];
+    let packed = index_packed(request, &mut room);
+    Answer::unpack_index(packed, &room).map(<[u8]>::to_vec)
 }
 
-/// [`judge_guarded`] on the caller's own stack, as [`judge_here`] is [`judge`].
+/// The index call as it is exported: the same as [`index`], with a lent room, and with the answer packed into one number.
 ///
-/// # Panics
-///
-/// Where the library linked gives an answer that the format does not have, which the proved one does not.
-pub fn judge_guarded_here(request: &[u8], budget: u32) -> Answer {
-    let mut state = [0; STATE_LENGTH];
-    let packed = judge_guarded_packed(request, &mut state, budget);
-    Answer::unpack_guarded(packed, &state)
-}
-
-/// The guarded call as it is exported: the same as [`judge_guarded_here`], with a lent state, and with the answer packed into one number.
-///
-/// After answers 1, 2 and 43 the lent bytes are the state concerned, which [`State::from_bytes`] reads; after every other answer they are what
-/// they were. Where there are not [`STATE_LENGTH`] of them, the answer is 9.
+/// After answer 0 the room starts with the index, whose length is the answer's count, and the bytes behind it are what they were; [`Answer::unpack_index`]
+/// takes both apart. After every other answer all bytes are what they were. Where the request is not refused and the room has fewer bytes than the index, the
+/// answer is 39; [`INDEX_MOST`] bytes are enough for every request.
 ///
 /// ```
-/// // One fluent, nothing known of it, one action and an empty plan; the guard is that the fluent is true.
-/// let request = [1, 1, 0, 0, 0, 0, 0, 0, 0, 0, 1, 0];
-/// let packed = glintstring::judge_guarded_packed(&request, &mut [0; 128], 0);
-/// assert_eq!((packed.number(), packed.input(), packed.place(), packed.count()), (43, 1, 11, 0));
-/// ```
-pub fn judge_guarded_packed(request: &[u8], state: &mut [u8], budget: u32) -> Packed {
-    // Each pointer is valid for its length, the state's for writing too and for nobody else, and the call keeps neither.
-    Packed(unsafe { glintstring_judge_guarded(request.as_ptr(), request.len(), state.as_mut_ptr(), state.len(), budget) })
-}
-
-/// The call by cases: judges a request by walking its plan, with a count of at most `budget` and with each action tried in every complete filling of the state.
-///
-/// A filling gives each unknown fluent one of true and false. An action can be run where it can be run in each filling, and what is known afterwards is what
-/// all the results share; branchings, goals and whether entries go by what is known, as with [`judge`] (FORMAT 22.1 to 22.6). So more plans are verified. An
-/// action that has more than [`MOST_OPEN`] unknown fluents in its bodies ends the walk with [`Answer::TooManyCases`], also where [`judge`] would go on; all
-/// else is answered as [`judge`] answers. Any bytes may be given, of any length. The walk runs on a thread of its own that has enough stack, and the caller
-/// waits for it; for many calls a [`Judge`] keeps one. An action may take as long as 4,096 fillings do, and is counted once.
-///
-/// ```
-/// use glintstring::{judge, judge_by_cases, show, Answer};
-///
-/// # fn main() -> std::io::Result<()> {
-/// // Case 10 of the format: two fluents, nothing known of them. Action 0 makes the first true where the second is true, and where it is false.
-/// let request = [2, 1, 0, 2, 0, 0, 1, 2, 0, 0, 1, 3, 1, 0, 0, 0, 0, 1, 0, 1, 0, 0];
-/// assert_eq!(judge(&request, 100)?.number(), 1);
-/// assert_eq!(judge_by_cases(&request, 100)?, Answer::Verified { count: 2 });
-///
-/// // The action makes fluent 0 true where 13 fluents are, of which nothing is known.
-/// let table = [13, 1, 0, 1, 0, 0, 13, 0, 2, 4, 6, 8, 10, 12, 14, 16, 18, 20, 22, 24, 1, 0, 0, 0];
-/// let wide = [&table[..], &[0, 1, 0, 0, 0]].concat();
-/// let answer = judge_by_cases(&wide, 100)?;
-/// assert_eq!(answer, Answer::TooManyCases { place: 26 });
-/// assert_eq!(show(answer, &wide, &[]), [0, 0, 0]);
-/// assert_eq!(judge(&wide, 100)?, Answer::Verified { count: 2 });
-/// # Ok(())
-/// # }
-/// ```
-///
-/// # Errors
-///
-/// Where the system gives no such thread. Then nothing is judged.
-///
-/// # Panics
-///
-/// Where the library linked gives an answer that the format does not have, which the proved one does not.
-pub fn judge_by_cases(request: &[u8], budget: u32) -> io::Result<Answer> {
-    with_stack(|| judge_by_cases_here(request, budget))
-}
-
-/// [`judge_by_cases`] on the caller's own stack, as [`judge_here`] is [`judge`].
-///
-/// # Panics
-///
-/// Where the library linked gives an answer that the format does not have, which the proved one does not.
-pub fn judge_by_cases_here(request: &[u8], budget: u32) -> Answer {
-    let mut state = [0; STATE_LENGTH];
-    let packed = judge_by_cases_packed(request, &mut state, budget);
-    Answer::unpack_by_cases(packed, &state)
-}
-
-/// The call by cases as it is exported: the same as [`judge_by_cases_here`], with a lent state, and with the answer packed into one number.
-///
-/// After answers 1 and 2 the lent bytes are the state concerned, which [`State::from_bytes`] reads; after every other answer, 44 too, they are what
-/// they were. Where there are not [`STATE_LENGTH`] of them, the answer is 9.
-///
-/// ```
-/// // One fluent, nothing known of it; action 0 makes it true where it is false, and is the plan.
-/// let request = [1, 1, 0, 1, 0, 0, 1, 1, 1, 0, 0, 0, 0, 1, 0, 1, 0, 0];
-/// let packed = glintstring::judge_by_cases_packed(&request, &mut [0; 128], 2);
+/// // One fluent, one action and an empty plan: the index has two counts.
+/// let request = [1, 1, 0, 0, 0, 0, 0, 0, 0, 0];
+/// let mut room = [9; 3];
+/// assert_eq!(glintstring::index_packed(&request, &mut room[..1]).number(), 39);
+/// assert_eq!(room, [9, 9, 9]);
+/// let packed = glintstring::index_packed(&request, &mut room);
 /// assert_eq!((packed.number(), packed.input(), packed.place(), packed.count()), (0, 0, 0, 2));
+/// assert_eq!(room, [0, 0, 9]);
 /// ```
-pub fn judge_by_cases_packed(request: &[u8], state: &mut [u8], budget: u32) -> Packed {
-    // Each pointer is valid for its length, the state's for writing too and for nobody else, and the call keeps neither.
-    Packed(unsafe { glintstring_judge_by_cases(request.as_ptr(), request.len(), state.as_mut_ptr(), state.len(), budget) })
+pub fn index_packed(request: &[u8], room: &mut [u8]) -> Packed {
+    // Each pointer is valid for its length, the room's for writing too and for nobody else, and the call keeps neither.
+    Packed(unsafe { glintstring_index(request.as_ptr(), request.len(), room.as_mut_ptr(), room.len()) })
 }
 
 /// The derivation call: checks a derivation of what a request asks.

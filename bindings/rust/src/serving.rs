@@ -1,9 +1,10 @@
 //! A judge that keeps its thread.
 
-use std::sync::mpsc::{channel, Receiver, Sender};
+use std::sync::mpsc::{channel, Sender};
 use std::{fmt, io, thread};
 
-use crate::{judge_by_cases_packed, judge_guarded_packed, judge_line_packed, release_row, Answer, Judged, Packed, Released, REQUEST_LIMIT, STACK, STATE_LENGTH};
+use crate::{judge_by_cases_packed, judge_guarded_packed, judge_indexed_packed, judge_line_packed, judge_packed, release_row};
+use crate::{Answer, Judged, Packed, Released, INDEX_MOST, REQUEST_LIMIT, STACK, STATE_LENGTH};
 
 /// A thread with enough stack for a walk, which is started once and serves many calls, one after the other.
 ///
@@ -35,22 +36,10 @@ pub struct Judge {
     /// Both are there until the judge is dropped.
     calls: Option<Sender<Call>>,
     thread: Option<thread::JoinHandle<()>>,
-    answers: Receiver<Answered>,
 }
 
-/// What the walk call, the guarded call, the call by cases or the release call is given: a request, a guarded one or a release file, and a budget.
-enum Call {
-    Walk(Vec<u8>, u32),
-    Guarded(Vec<u8>, u32),
-    ByCases(Vec<u8>, u32),
-    Release(Vec<u8>, u32),
-}
-
-/// What they leave: an answer, with the lent state and the line, which the walk call alone has, or with the lent row.
-enum Answered {
-    Walk(Packed, [u8; STATE_LENGTH], u32),
-    Release(Packed, Vec<u32>),
-}
+/// A call that the thread is to make, which hands what it gives to the caller, who waits for it.
+type Call = Box<dyn FnOnce() + Send>;
 
 /// The thread answers one call after the other, each as it was asked.
 const SERVES: &str = "the thread serves as long as there is a judge";
@@ -62,11 +51,10 @@ impl Judge {
     ///
     /// Where the system gives no such thread.
     pub fn new() -> io::Result<Judge> {
-        let (calls, to_thread) = channel();
-        let (from_thread, answers) = channel();
+        let (calls, to_thread) = channel::<Call>();
         let serving = thread::Builder::new().name("glintstring".to_string()).stack_size(STACK);
-        let thread = serving.spawn(move || serve(&to_thread, &from_thread))?;
-        Ok(Judge { calls: Some(calls), thread: Some(thread), answers })
+        let thread = serving.spawn(move || to_thread.into_iter().for_each(|call| call()))?;
+        Ok(Judge { calls: Some(calls), thread: Some(thread) })
     }
 
     /// The walk call, as [`judge`](crate::judge) makes it: judges a request by walking its plan, with a count of at most `budget`. The caller
@@ -76,8 +64,7 @@ impl Judge {
     ///
     /// Where the library linked gives an answer that the format does not have, which the proved one does not. The judge can be used after it.
     pub fn judge(&mut self, request: &[u8], budget: u32) -> Answer {
-        let (packed, state, _) = self.walk(Call::Walk(copied(request), budget));
-        Answer::unpack(packed, &state)
+        self.walk(request, budget, judge_packed, Answer::unpack)
     }
 
     /// The walk call with the line that its answer carries, as [`judge_line`](crate::judge_line) makes it.
@@ -86,7 +73,13 @@ impl Judge {
     ///
     /// As [`Judge::judge`] does.
     pub fn judge_line(&mut self, request: &[u8], budget: u32) -> Judged {
-        let (packed, state, line) = self.walk(Call::Walk(copied(request), budget));
+        let request = copied(request, REQUEST_LIMIT);
+        let (packed, state, line) = self.served(move || {
+            let mut state = [0; STATE_LENGTH];
+            let mut line = 0;
+            let packed = judge_line_packed(&request, &mut state, budget, &mut line);
+            (packed, state, line)
+        });
         Judged::unpack(packed, &state, line)
     }
 
@@ -96,8 +89,7 @@ impl Judge {
     ///
     /// As [`Judge::judge`] does.
     pub fn judge_guarded(&mut self, request: &[u8], budget: u32) -> Answer {
-        let (packed, state, _) = self.walk(Call::Guarded(copied(request), budget));
-        Answer::unpack_guarded(packed, &state)
+        self.walk(request, budget, judge_guarded_packed, Answer::unpack_guarded)
     }
 
     /// The call by cases, as [`judge_by_cases`](crate::judge_by_cases) makes it.
@@ -106,8 +98,18 @@ impl Judge {
     ///
     /// As [`Judge::judge`] does.
     pub fn judge_by_cases(&mut self, request: &[u8], budget: u32) -> Answer {
-        let (packed, state, _) = self.walk(Call::ByCases(copied(request), budget));
-        Answer::unpack_by_cases(packed, &state)
+        self.walk(request, budget, judge_by_cases_packed, Answer::unpack_by_cases)
+    }
+
+    /// The indexed call, as [`judge_indexed`](crate::judge_indexed) makes it: judges a request by an index of it.
+    ///
+    /// # Panics
+    ///
+    /// As [`Judge::judge`] does.
+    pub fn judge_indexed(&mut self, request: &[u8], index: &[u8], budget: u32) -> Answer {
+        let index = copied(index, INDEX_MOST);
+        let call = move |request: &[u8], state: &mut [u8], budget| judge_indexed_packed(request, &index, state, budget);
+        self.walk(request, budget, call, Answer::unpack_indexed)
     }
 
     /// The release call, as [`release`](crate::release) makes it: answers every plan of a release file, each with a count of at most `budget`.
@@ -116,55 +118,37 @@ impl Judge {
     ///
     /// As [`Judge::judge`] does.
     pub fn release(&mut self, file: &[u8], budget: u32) -> Released {
-        let Answered::Release(packed, row) = self.served(Call::Release(copied(file), budget)) else { unreachable!("{SERVES}") };
+        let file = copied(file, REQUEST_LIMIT);
+        let (packed, row) = self.served(move || release_row(&file, budget));
         Released::unpack(packed, &row)
     }
 
-    fn walk(&mut self, call: Call) -> (Packed, [u8; STATE_LENGTH], u32) {
-        let Answered::Walk(packed, state, line) = self.served(call) else { unreachable!("{SERVES}") };
-        (packed, state, line)
+    /// A call that is lent a state, and its answer taken apart.
+    fn walk<Walk>(&mut self, request: &[u8], budget: u32, call: Walk, unpack: fn(Packed, &[u8]) -> Answer) -> Answer
+    where
+        Walk: FnOnce(&[u8], &mut [u8], u32) -> Packed + Send + 'static,
+    {
+        let request = copied(request, REQUEST_LIMIT);
+        let (packed, state) = self.served(move || {
+            let mut state = [0; STATE_LENGTH];
+            let packed = call(&request, &mut state, budget);
+            (packed, state)
+        });
+        unpack(packed, &state)
     }
 
-    fn served(&mut self, call: Call) -> Answered {
+    /// What a call gives that the thread makes.
+    fn served<T: Send + 'static>(&mut self, call: impl FnOnce() -> T + Send + 'static) -> T {
+        let (to_caller, given) = channel();
+        let call: Call = Box::new(move || to_caller.send(call()).expect("the caller waits"));
         let sent = self.calls.as_ref().and_then(|calls| calls.send(call).ok());
-        sent.and_then(|()| self.answers.recv().ok()).expect(SERVES)
+        sent.and_then(|()| given.recv().ok()).expect(SERVES)
     }
 }
 
-/// The thread has a copy, since it outlives the borrow. More bytes than these are answered alike.
-fn copied(input: &[u8]) -> Vec<u8> {
-    input[..input.len().min(REQUEST_LIMIT + 1)].to_vec()
-}
-
-/// Answers each call, until no more can come.
-fn serve(calls: &Receiver<Call>, answers: &Sender<Answered>) {
-    for call in calls {
-        let answered = match call {
-            Call::Walk(request, budget) => {
-                let mut state = [0; STATE_LENGTH];
-                let mut line = 0;
-                let packed = judge_line_packed(&request, &mut state, budget, &mut line);
-                Answered::Walk(packed, state, line)
-            }
-            Call::Guarded(request, budget) => {
-                let mut state = [0; STATE_LENGTH];
-                let packed = judge_guarded_packed(&request, &mut state, budget);
-                Answered::Walk(packed, state, 0)
-            }
-            Call::ByCases(request, budget) => {
-                let mut state = [0; STATE_LENGTH];
-                let packed = judge_by_cases_packed(&request, &mut state, budget);
-                Answered::Walk(packed, state, 0)
-            }
-            Call::Release(file, budget) => {
-                let (packed, row) = release_row(&file, budget);
-                Answered::Release(packed, row)
-            }
-        };
-        if answers.send(answered).is_err() {
-            return;
-        }
-    }
+/// The thread has a copy, since it outlives the borrow. Of an input of more than so many bytes one byte more is enough: longer ones are answered alike.
+fn copied(input: &[u8], limit: usize) -> Vec<u8> {
+    input[..input.len().min(limit + 1)].to_vec()
 }
 
 impl Drop for Judge {

@@ -222,6 +222,7 @@ fn zero_alone_is_verified() {
     assert!(!Answer::ClosingNotRight { place: 0 }.is_verified());
     assert!(!Answer::unpack_guarded(Packed(43 + (1 << 8)), &[0; STATE_LENGTH]).is_verified());
     assert!(!Answer::unpack_by_cases(Packed(44 + (1 << 8)), &[0; STATE_LENGTH]).is_verified());
+    assert!(!Answer::unpack_indexed(Packed(45 + (3 << 8)), &[0; STATE_LENGTH]).is_verified());
 }
 
 #[test]
@@ -235,47 +236,54 @@ fn each_number_is_packed_as_it_came() {
         assert_eq!(answer.packed(), packed);
         assert_eq!(u64::from(answer.number()), number);
         assert_eq!(answer.state().is_some(), matches!(number, 1 | 2));
-        assert_eq!(Answer::unpack_guarded(packed, &[0; STATE_LENGTH]), answer);
-        assert_eq!(Answer::unpack_by_cases(packed, &[0; STATE_LENGTH]), answer);
+        for unpack in [Answer::unpack_guarded, Answer::unpack_by_cases, Answer::unpack_indexed] {
+            assert_eq!(unpack(packed, &[0; STATE_LENGTH]), answer);
+        }
     }
     let packed = Packed(43 + (1 << 8) + (16_383 << 16) + (u64::from(u32::MAX) << 32));
     let answer = Answer::unpack_guarded(packed, &[2; STATE_LENGTH]);
     assert_eq!((answer.packed(), answer.number(), answer.count()), (packed, 43, u32::MAX));
     assert_eq!(answer.state().expect("a state").marks(), &[Mark::False; STATE_LENGTH]);
-    // What the lent bytes are does not matter to 44.
-    let packed = Packed(44 + (1 << 8) + (16_383 << 16));
-    let answer = Answer::unpack_by_cases(packed, &[9; STATE_LENGTH]);
-    assert_eq!((answer.packed(), answer.number(), answer.place(), answer.state()), (packed, 44, 16_383, None));
+    // What the lent bytes are does not matter to 44 and 45.
+    let without_state: [(Unpack, u8, u64); 2] = [(Answer::unpack_by_cases, 44, 1), (Answer::unpack_indexed, 45, 3)];
+    for (unpack, number, input) in without_state {
+        let packed = Packed(u64::from(number) + (input << 8) + (16_383 << 16));
+        let answer = unpack(packed, &[9; STATE_LENGTH]);
+        assert_eq!((answer.packed(), answer.number(), answer.place(), answer.state()), (packed, number, 16_383, None));
+    }
 }
 
-/// What no library may give: numbers that the walk call does not have, an input, a place or a count that does not go with its number, and a
-/// state that is none.
+/// How the answer of a call that walks is taken apart.
+type Unpack = fn(Packed, &[u8]) -> Answer;
+
+/// What no library may give: numbers that the call does not have, an input, a place or a count that does not go with its number, and a state that is none. Beside
+/// the walk call's numbers the call has this one, if any, in this input, with a state and a count or without.
+fn refuses_what_is_no_answer(unpack: Unpack, own: Option<(u64, u64, bool)>) {
+    let refused = |packed: u64, lent: &[u8]| std::panic::catch_unwind(|| unpack(Packed(packed), lent)).is_err();
+    let state = [0; STATE_LENGTH];
+    for number in (4..=8).chain(22..=255) {
+        for input in 0..=4 {
+            let is_own = own.is_some_and(|(own, named, _)| (own, named) == (number, input));
+            assert_eq!(refused(number + (input << 8), &state), !is_own, "number {number}, input {input}");
+        }
+    }
+    assert!(refused(1 << 8, &state), "verified, in the request");
+    assert!(refused(1 << 16, &state), "verified, at a place");
+    assert!(refused(11 + (1 << 8) + (1 << 32), &state), "a refusal with a count");
+    assert!(refused(11, &state), "a refusal of neither input");
+    let (own, named, has_state) = own.unwrap_or((1, 1, true));
+    let packed = own + (named << 8);
+    assert_eq!(refused(packed + (1 << 32), &state), !has_state, "number {own} with a count");
+    assert_eq!(refused(packed, &[3; STATE_LENGTH]), has_state, "number {own} and a mark 3");
+    assert_eq!(refused(packed, &[0; STATE_LENGTH - 1]), has_state, "number {own} and a state that is a byte short");
+}
+
 #[test]
 fn what_is_no_answer_is_refused() {
-    let refused = |packed: u64, lent: &[u8]| std::panic::catch_unwind(|| Answer::unpack(Packed(packed), lent)).is_err();
-    for number in (4..=8).chain(22..=255) {
-        assert!(refused(number, &[0; STATE_LENGTH]), "number {number}");
-    }
-    assert!(refused(1 << 8, &[0; STATE_LENGTH]), "verified, in the request");
-    assert!(refused(1 << 16, &[0; STATE_LENGTH]), "verified, at a place");
-    assert!(refused(11 + (1 << 8) + (1 << 32), &[0; STATE_LENGTH]), "a refusal with a count");
-    assert!(refused(11, &[0; STATE_LENGTH]), "a refusal of neither input");
-    assert!(refused(1 + (1 << 8), &[3; STATE_LENGTH]), "a mark 3");
-    assert!(refused(1 + (1 << 8), &[0; STATE_LENGTH - 1]), "a state that is a byte short");
-    // The guarded call has 43 besides.
-    let refused = |packed: u64, lent: &[u8]| std::panic::catch_unwind(|| Answer::unpack_guarded(Packed(packed), lent)).is_err();
-    for number in (4..=8).chain(22..=255) {
-        assert_eq!(refused(number + (1 << 8), &[0; STATE_LENGTH]), number != 43, "number {number}");
-    }
-    assert!(refused(43, &[0; STATE_LENGTH]) && refused(43 + (2 << 8), &[0; STATE_LENGTH]), "a broken guard of another input");
-    assert!(refused(43 + (1 << 8), &[3; STATE_LENGTH]) && refused(43 + (1 << 8), &[]), "a broken guard without its state");
-    // The call by cases has 44 besides, and not 43.
-    let refused = |packed: u64, lent: &[u8]| std::panic::catch_unwind(|| Answer::unpack_by_cases(Packed(packed), lent)).is_err();
-    for number in (4..=8).chain(22..=255) {
-        assert_eq!(refused(number + (1 << 8), &[0; STATE_LENGTH]), number != 44, "number {number}");
-    }
-    assert!(refused(44, &[0; STATE_LENGTH]) && refused(44 + (2 << 8), &[0; STATE_LENGTH]), "too many cases in another input");
-    assert!(refused(44 + (1 << 8) + (1 << 32), &[0; STATE_LENGTH]), "too many cases with a count");
+    refuses_what_is_no_answer(Answer::unpack, None);
+    refuses_what_is_no_answer(Answer::unpack_guarded, Some((43, 1, true)));
+    refuses_what_is_no_answer(Answer::unpack_by_cases, Some((44, 1, false)));
+    refuses_what_is_no_answer(Answer::unpack_indexed, Some((45, 3, false)));
 }
 
 #[test]

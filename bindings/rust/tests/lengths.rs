@@ -1,8 +1,8 @@
 //! Each call at the ends of its lengths: inputs of no byte, of one, of as many as they may have and of one more, and lent states of every
-//! length from 0 to 258.
+//! length from 0 to 258. Lent rooms of every length are in `indexes.rs`.
 
-use glintstring::{check_packed, check_whether_packed, judge_by_cases_packed, judge_guarded_packed, judge_packed, show, show_start};
-use glintstring::{Packed, DERIVATION_LIMIT, REQUEST_LIMIT, STATE_LENGTH};
+use glintstring::{check_packed, check_whether_packed, index, judge_by_cases_packed, judge_guarded_packed, judge_indexed_packed, judge_packed};
+use glintstring::{show, show_start, Packed, DERIVATION_LIMIT, INDEX_MOST, REQUEST_LIMIT, STATE_LENGTH};
 
 /// Number, input, place and count.
 fn numbers(packed: Packed) -> (u8, u8, usize, u32) {
@@ -48,7 +48,7 @@ const LONGEST: usize = 2 * STATE_LENGTH + 2;
 const FENCE: usize = 64;
 
 /// A call that walks, with a request that has as many bytes as there may be and stops the walk by this answer, before anything is known.
-fn requests_and_lent_states(call: fn(&[u8], &mut [u8], u32) -> Packed, largest: &[u8], stop: (u8, u8, usize, u32)) {
+fn requests_and_lent_states(call: impl Fn(&[u8], &mut [u8], u32) -> Packed, largest: &[u8], stop: (u8, u8, usize, u32)) {
     assert_eq!(largest.len(), REQUEST_LIMIT);
     let longer = [largest, &[0]].concat();
     let rows: [(&[u8], (u8, u8, usize, u32)); 5] =
@@ -91,6 +91,22 @@ fn requests_that_are_walked_by_cases() {
     largest.copy_within(place..REQUEST_LIMIT - 1, place + 1);
     largest[place] = 0;
     requests_and_lent_states(judge_by_cases_packed, &largest, (44, 1, place, 0));
+}
+
+/// The same request with as many actions as there may be, by its index, which is as long as any; and by an index of another length.
+#[test]
+fn requests_that_are_walked_by_an_index() {
+    let (mut largest, place) = largest_request();
+    largest[1] = 128;
+    let whole = [index(&largest).expect("an index"), vec![0; 65_536]].concat();
+    let by = |length: usize| {
+        let index = &whole[..length];
+        move |request: &[u8], state: &mut [u8], budget| judge_indexed_packed(request, index, state, budget)
+    };
+    requests_and_lent_states(by(INDEX_MOST), &largest, (2, 1, place, 0));
+    for length in [0, 1, INDEX_MOST - 1, INDEX_MOST + 1, INDEX_MOST + 65_536] {
+        requests_and_lent_states(by(length), &largest, (45, 3, length.min(INDEX_MOST), 0));
+    }
 }
 
 fn requests_and_derivations(call: fn(&[u8], &[u8]) -> Packed, (request, largest): (Vec<u8>, Vec<u8>)) {

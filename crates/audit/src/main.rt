@@ -1,6 +1,5 @@
 // Checks the derivation in one file against the request in another, and says so on standard output (FORMAT 12.8 to 12.12, 17.44).
 ghost use Rattle.programs.specs.Input.{Within};
-use comparing::parts::same_part;
 use glintstring::check_calls::check;
 use glintstring::check_calls::check_whether;
 use libc::STDOUT_FILENO;
@@ -8,6 +7,7 @@ use meaning::Answer;
 use programs::DERIVATION_ROOM;
 use programs::Input;
 use programs::REQUEST_ROOM;
+use programs::is_word;
 use programs::put_line;
 use programs::read_file;
 
@@ -22,13 +22,6 @@ fn read_argument(i: usize, buf: &mut [u8]) -> Input
         return Input::Unreadable;
     }
     read_file(b"", &name[..n], buf)
-}
-
-// The first argument is the option for derivations in the closing layout.
-fn is_whether() -> bool {
-    let mut word = io::buffer();
-    let n = os::arg(1, &mut word);
-    same_part(&word[..n], b"--whether")
 }
 
 fn answer_to(whether: bool, request: &[u8], derivation: &[u8]) -> Answer {
@@ -72,7 +65,8 @@ fn audit_files(whether: bool, i: usize, j: usize) {
 
 fn main() {
     let count = os::arg_count();
-    if is_whether() {
+    // The option for derivations in the closing layout.
+    if is_word(1, b"--whether") {
         if count != 4 {
             io::write_all(
                 libc::STDERR_FILENO,

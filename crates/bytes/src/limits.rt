@@ -27,6 +27,9 @@ pub const GUARDS: usize = 64;
 
 pub const OPEN: usize = 12;
 
+// An index has two counts for each action, and two bytes for each of up to 255 effects and 255 executability lines (FORMAT 23.5).
+pub const INDEX: usize = 2 * ACTIONS + 4 * 255;
+
 // A line's number in its section is a byte (FORMAT 2.14 to 2.16).
 pub const LINE_NUMBERS: usize = 256;
 

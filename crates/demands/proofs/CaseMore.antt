@@ -27,7 +27,7 @@ use Rattle.meaning.proofs.WithinLaws.{answered, enough-within}
 use Rattle.meaning.proofs.VerifiedLaws.{verified-so}
 use Rattle.meaning.proofs.CaseSteps.{unlimited-does, unlimited-step}
 use Rattle.meaning.proofs.CaseWalks.{unlimited-walk, counts-no-more}
-use Rattle.meaning.proofs.CaseReports.{cases-by-walk}
+use Rattle.demands.proofs.CaseReports.{cases-by-walk}
 use Rattle.demands.proofs.MoreKnown.{No-worse, Knows-more, Does-more, runs-more, after-more, step-more}
 use Rattle.demands.proofs.PartsAlike.{judged-follows}
 use Rattle.demands.proofs.MoreFacts.{effects-near}

@@ -16,7 +16,7 @@ use Rattle.meaning.specs.Worlds.{Carried-out}
 use Rattle.meaning.proofs.AnswerLaws.{settled-numbered}
 use Rattle.meaning.proofs.VerifiedLaws.{Verified-by, verified-by, by-verified}
 use Rattle.meaning.proofs.CaseWalks.{cases-never}
-use Rattle.meaning.proofs.CaseSound.{cases-walk-sound}
+use Rattle.demands.proofs.CaseSound.{cases-walk-sound}
 
 module _ (lim : Limits) (request lent : List ℕ) (budget : ℕ) where
   -- Answer 0 is given to a settled request whose walk is verified, and to every such request within its budget.

@@ -1,4 +1,4 @@
--- The demands (FORMAT section 11, 17.38 to 17.41, 21.22 to 21.25 and 22.17 to 22.22), each by citing where its argument stands. Read this file first. Assumes nothing.
+-- The demands (FORMAT section 11, 17.38 to 17.41, 21.22 to 21.25, 22.17 to 22.22 and 23.22 to 23.26), each by citing where its argument stands. Read this file first. Assumes nothing.
 use Prim.Native.Nat.{ℕ, _-_, _≤_, _<_}
 use native.Mathlib.Omega.{arith}
 use mathlib.Core.Path.{_≡_, refl, sym, _∙_, ap}
@@ -30,8 +30,8 @@ use Rattle.meaning.proofs.ValueSound
 use Rattle.meaning.proofs.VerifiedLaws.{verified-so}
 use Rattle.meaning.proofs.Passed.{passed-exactly}
 use Rattle.meaning.proofs.WalkSound.{walk-sound}
-use Rattle.meaning.proofs.ReleaseRows
-use Rattle.meaning.proofs.ReleaseRows.{moved-number}
+use Rattle.demands.proofs.ReleaseRows
+use Rattle.demands.proofs.ReleaseRows.{moved-number}
 use Rattle.demands.proofs.WiderCases.{format-wider}
 use Rattle.demands.proofs.WiderJudging
 use Rattle.demands.proofs.WiderDerivations
@@ -63,7 +63,7 @@ pub use Rattle.meaning.proofs.ReleaseLaws.{own-numbered, own-input, own-place, 
 pub use Rattle.meaning.proofs.ReleaseLaws.{plans-counted, none-counted, row-fits}
 -- Where its answer is 0, each plan's row is the walk call's answer on the table and that plan, with its place counted in the file, and 22 stands just
 -- behind a plan that failed in reading.
-pub use Rattle.meaning.proofs.ReleaseRows.{each-row, behind-a-failure, not-reached-exactly}
+pub use Rattle.demands.proofs.ReleaseRows.{each-row, behind-a-failure, not-reached-exactly}
 -- Reused verdicts, of requests in parts: more facts and fewer goals leave a request verified; two plans that are verified one behind the other are
 -- verified as one, within a budget that is named; joining is associative, with the plan without items as its unit, on bytes and on whole answers.
 pub use Rattle.demands.proofs.ReuseLaws.{each-request, lent-unread, more-facts, fewer-goals, joining, joining-by-product, plans-associate, no-items-before, no-items-after, answers-associate, answers-before, answers-after}
@@ -84,18 +84,18 @@ pub use Rattle.demands.proofs.GuardedMet.{broken-where-met, reading-kee
 pub use Rattle.demands.proofs.GuardedSound.{guarded-sound}
 -- Without guards it answers as the walk call (FORMAT 21.17).
 pub use Rattle.meaning.proofs.KeptEnds.{walked-unguarded}
-pub use Rattle.meaning.proofs.GuardedEmpty.{without-guards}
+pub use Rattle.demands.proofs.GuardedEmpty.{without-guards}
 -- Answer 2 carries the line of the item at its place in the state left, and every other answer, 43 among them, none (FORMAT 21.20).
 pub use Rattle.meaning.proofs.GuardedLine.{guarded-line-there, guarded-no-line, no-line-broken, guarded-line-missing}
 -- THE CALL BY CASES. Demand 1 (FORMAT 22.17): its number is one of its own; input, place, count and state are what the number says (22.11, 22.14).
 pub use Rattle.meaning.proofs.CaseAnswers.{cases-numbered, cases-input, cases-place, cases-count, cases-state}
 -- Demand 2 (FORMAT 22.18): the answer is what the list of paths says; 3 where the count is above the budget, and else, where it is not 44, that of the
 -- 1-approximation.
-pub use Rattle.meaning.proofs.CaseReports.{in-case-order}
-pub use Rattle.meaning.proofs.CaseExact.{cases-spent-exactly, cases-stuck-exactly, cases-verified-exactly, cases-missed-exactly}
+pub use Rattle.demands.proofs.CaseReports.{in-case-order}
+pub use Rattle.demands.proofs.CaseExact.{cases-spent-exactly, cases-stuck-exactly, cases-verified-exactly, cases-missed-exactly}
 -- 44 exactly where the first path that stops, stops so, and what it reports: an action that is met with more than 12 open fluents (FORMAT 22.19). The walk without
 -- this limit is the same walk, wherever it is not stopped so.
-pub use Rattle.meaning.proofs.CaseReports.{many-exactly, many-at, many-there}
+pub use Rattle.demands.proofs.CaseReports.{many-exactly, many-at, many-there}
 pub use Rattle.meaning.proofs.CaseWalks.{limited}
 -- Demand 3 (FORMAT 22.20): where it is verified, it is carried out in every world with the initial facts.
 pub use Rattle.demands.proofs.CaseVerified.{cases-sound}
@@ -104,8 +104,26 @@ pub use Rattle.demands.proofs.CaseMore.{cases-verify-more}
 -- It is enough to fill the open fluents of an action (FORMAT 22.22), and what can be run as known can be run by cases.
 pub use Rattle.meaning.proofs.FillLaws.{fills-run, fills-after, known-runs}
 -- What answers 1 and 2 report (FORMAT 22.14). Answer 2 carries the line of the item at its place in the state left, and every other answer, 44 among them, none.
-pub use Rattle.meaning.proofs.CaseReports.{cases-missed-there, cases-stopped-there}
-pub use Rattle.meaning.proofs.CaseLine.{cases-line-there, cases-no-line, no-line-many, cases-line-missing}
+pub use Rattle.demands.proofs.CaseReports.{cases-missed-there, cases-stopped-there}
+pub use Rattle.demands.proofs.CaseLine.{cases-line-there, cases-no-line, no-line-many, cases-line-missing}
+-- THE INDEX CALL. Demand 1 (FORMAT 23.22): its number is one of its own; input, place, count and room are what the number says (23.7 to 23.9).
+pub use Rattle.meaning.proofs.IndexBuilt.{index-numbered, index-input, index-place, index-place-limited, index-count, index-count-limited, index-room-length}
+-- 0 exactly where the request is settled and the room is not shorter than its index, and what is then written (FORMAT 23.23); 39 exactly where the room is shorter; a
+-- refusal exactly where the request is not settled, as the walk call gives it.
+pub use Rattle.demands.proofs.Indexed.{built-exactly, index-written, short-exactly, refused-exactly, refused-as-judged, room-as-lent}
+-- An index has as many bytes as the counts of its table say, at most 1,276, and each is a byte (FORMAT 23.5).
+pub use Rattle.meaning.proofs.IndexLaws.{index-length, settled-index-most, settled-index-bytes}
+-- THE INDEXED CALL. Demand 1 (FORMAT 23.22): its number is one of its own; input, place, count and state are what the number says (23.15, 23.16).
+pub use Rattle.meaning.proofs.IndexAnswers.{indexed-numbered, indexed-input, indexed-place, indexed-place-limited, differs-place-limited, indexed-count, indexed-state}
+-- It gives what the walk call gives, or 45 (FORMAT 23.13, 23.15); 45 exactly where the state has its length, the request is settled and the index is another, at the place of
+-- the first difference (23.25). A first difference is the one place at which two strings of bytes first differ, and there is none exactly where they are the same (23.14).
+pub use Rattle.meaning.proofs.IndexAnswers.{differs-or-walked, differs-so, walked-otherwise}
+pub use Rattle.demands.proofs.Indexed.{indexed-as-walked, refused-as-walked, differs-exactly}
+pub use Rattle.meaning.proofs.DifferenceLaws.{same-difference, differs-there}
+-- With the index that the index call wrote, every answer is the walk call's (FORMAT 23.24); and of an index no byte counts but as many as it may have, and one more (23.20).
+pub use Rattle.demands.proofs.Indexed.{built-then-judged, cut-alike, format-cut}
+-- Demand 2 past 45, and demand 3 (FORMAT 23.26), with what answers 1 and 2 report and the line.
+pub use Rattle.demands.proofs.Indexed.{walked-so, indexed-in-order, indexed-spent-exactly, indexed-stuck-exactly, indexed-verified-exactly, indexed-missed-exactly, indexed-missed-in-an-end-state, indexed-missed-there, indexed-stopped-there, indexed-no-line, indexed-line-there, indexed-line-missing, indexed-sound}
 
 -- Demand 1 (FORMAT 11.1): every input gets one of the numbered answers.
 pub numbered : (lim : Limits) (request lent : List ℕ) (budget : ℕ) → among (judge lim request lent budget .answer .number) answers ≡ true

@@ -22,7 +22,7 @@ use Rattle.meaning.proofs.TestLaws.{those-has}
 use Rattle.meaning.proofs.SettledLaws.{settled-is}
 use Rattle.meaning.proofs.RangeLaws.{got-place}
 use Rattle.meaning.proofs.MovedReads.{next-is}
-use Rattle.meaning.proofs.ReleaseRows.{settled-behind, refuse-none}
+use Rattle.demands.proofs.ReleaseRows.{settled-behind, refuse-none}
 use Rattle.meaning.proofs.PathLaws.{walked-in-order}
 use Rattle.meaning.proofs.ToldLaws.{first-length}
 use Rattle.meaning.proofs.Exact.{fits}

@@ -14,7 +14,7 @@ use Rattle.demands.specs.Reuse.{items-said, join-plans}
 use Rattle.meaning.proofs.SettledLaws.{got-same, next-got}
 use Rattle.meaning.proofs.RangeLaws.{after-got, got-place, byte-got}
 use Rattle.meaning.proofs.KeptReads.{kept-of, items-kept, item-kept, branching-kept}
-use Rattle.meaning.proofs.ShiftedReads.{moved-plan, moved-item, moved-part, shifted-got, items-shifted, item-shifted, branching-shifted}
+use Rattle.demands.proofs.ShiftedReads.{moved-plan, moved-item, moved-part, shifted-got, items-shifted, item-shifted, branching-shifted}
 use Rattle.demands.proofs.PartReads.{behind-length, behind-byte}
 use Rattle.demands.proofs.PartsAlike.{unplaced-moved}
 use Rattle.demands.proofs.LaterItems.{Sooner, plan-items-sooner, Two-stretches, two-stretches}

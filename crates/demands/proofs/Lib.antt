@@ -1,3 +1,13 @@
+pub mod ShiftedReads
+pub mod MovedWalk
+pub mod CompleteLaws
+pub mod CaseReports
+pub mod CaseSound
+pub mod CaseCovers
+pub mod CaseExact
+pub mod CaseLine
+pub mod ReleaseRows
+pub mod GuardedEmpty
 pub mod LineLaws
 pub mod DerivationLines
 pub mod Meeting
@@ -37,4 +47,5 @@ pub mod ReuseCases
 pub mod EachRequest
 pub mod ReuseLaws
 pub mod ReuseMet
+pub mod Indexed
 pub mod Demands

@@ -1,5 +1,5 @@
--- The lines of sections 3 to 5: the walk reads no line of an action that is not in the plan; and a line said twice, or elsewhere among its
--- like, changes no answer's number, input, count or state. Both hold because every test over lines asks whether some line passes. Assumes nothing.
+-- The lines of sections 3 to 5: a line said twice, or elsewhere among its like, changes no answer's number, input, count or state. Every test over lines asks
+-- whether some line passes. Assumes nothing.
 use Prim.Native.Nat.{ℕ, _+_}
 use mathlib.Core.Path.{_≡_, refl, sym, _∙_, ap, fun-ext}
 use mathlib.Core.Bool.{Bool, true, false}
@@ -15,20 +15,10 @@ use Rattle.meaning.specs.Lines.{effects-of, executability-of, knowledge-of, all
 use Rattle.meaning.specs.States.{State, known, known-whether, state-of, first-state, can-be-run, known-after, mark-after, marks-after, state-after, unknown-from, unknown-sensed, outcome}
 use Rattle.meaning.specs.Walk.{End, fine, missed, stopped, Walked, walk, table-does, table-step, first-missed, missed-in, end-of, judged, walked}
 use Rattle.meaning.specs.Judging.{Judgement, written-over, reported, ended, within, judge-settled, judge, judge-got}
-use Rattle.meaning.specs.SameLines.{On-actions, Same-lines-of, Same-set, Same-effect, Same-tables, Same-but-lines, Gist, gist}
+use Rattle.meaning.specs.SameLines.{Same-set, Same-effect, Same-tables, Same-but-lines, Gist, gist}
 use Rattle.meaning.proofs.TestLaws.{clash, same-test, pick-map, some-has, has-some, some-those}
-use Rattle.meaning.proofs.WalkLaws.{on-actions, map-actions, Agree, walk-agrees, unplaced-end, unplaced-walk, walk-unplaced}
+use Rattle.meaning.proofs.WalkLaws.{on-actions, Agree, walk-agrees, unplaced-end, unplaced-walk, walk-unplaced}
 use Rattle.meaning.proofs.RefusalLaws.{at≢nowhere, past-16, by-16, unplaced-found, found-if, unplaced-or-else, unplaced-17, unplaced-18}
-
--- THE LINES OF ANOTHER ACTION.
-lines-agree : (t u : Table) (a : ℕ) → Same-lines-of t u a → Agree (table-step t) (table-step u) a
-unfolding table-step table-does can-be-run outcome sensing unknown-sensed state-after
-lines-agree t u a same = record { does = λ s. rw (same .executability, same .knowledge, same .effects) }
-
--- The walk never reads a line of another action: tables that have the same lines of each of the plan's actions walk it alike.
-pub no-other-action's-line : (t u : Table) (p : Sequence ℕ) → On-actions (Same-lines-of t u) p → (k : State → Walked State) (s : State) → walk (table-step t) p k s ≡ walk (table-step u) p k s
-unfolding table-step
-no-other-action's-line t u p same = walk-agrees (table-step t) (table-step u) refl refl p (map-actions (lines-agree t u) p same)
 
 -- LINES SAID TWICE.
 module _ {A : Type 0} {R : A → A → Type 0} (p : A → Bool) (fair : (x y : A) → R x y → p x ≡ p y) where

@@ -16,8 +16,8 @@ use Rattle.meaning.proofs.SettledLaws.{fault≢got, got-same, next-got}
 use Rattle.meaning.proofs.RangeLaws.{not-refused, after-got, got-place}
 use Rattle.meaning.proofs.MovedReads.{next-is, Stands, count-copied, list-copied, part-stands}
 use Rattle.meaning.proofs.KeptReads.{Kept, kept-next, kept-got, section-kept, effect-kept, executability-kept, knowledge-kept}
-use Rattle.meaning.proofs.ShiftedReads.{moved-request, moved-got, moved-effect, moved-executability, moved-knowledge, Shifted, shifted-got, shifted-next, section-shifted, effect-shifted, executability-shifted, knowledge-shifted, request-moved}
-use Rattle.meaning.proofs.ReleaseRows.{request-table}
+use Rattle.demands.proofs.ShiftedReads.{moved-request, moved-got, moved-effect, moved-executability, moved-knowledge, Shifted, shifted-got, shifted-next, section-shifted, effect-shifted, executability-shifted, knowledge-shifted, request-moved}
+use Rattle.meaning.proofs.TableLines.{request-table}
 
 -- BYTES AMONG OTHERS.
 pub behind-length : (pre v : List ℕ) → length (pre ++ v) ≡ length v + length pre

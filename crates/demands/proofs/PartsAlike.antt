@@ -13,8 +13,9 @@ use Rattle.meaning.specs.Walk.{End, fine, missed, stopped, Walked, missed-in, e
 use Rattle.meaning.specs.SameLines.{Same-lines-of, Same-set, Same-effect, Same-executability, Same-knowledge, Same-tables, Same-but-lines}
 use Rattle.meaning.proofs.TestLaws.{has-map, map-has, each-has, has-each}
 use Rattle.meaning.proofs.WalkLaws.{on-actions, unplaced-end}
-use Rattle.demands.proofs.LineLaws.{no-other-action's-line, walked-same}
-use Rattle.meaning.proofs.ShiftedReads.{moved-effect, moved-executability, moved-knowledge, moved-plan, moved-item, moved-branches, moved-entry}
+use Rattle.meaning.proofs.LineSteps.{no-other-action's-line}
+use Rattle.demands.proofs.LineLaws.{walked-same}
+use Rattle.demands.proofs.ShiftedReads.{moved-effect, moved-executability, moved-knowledge, moved-plan, moved-item, moved-branches, moved-entry}
 use Rattle.demands.proofs.PartReads.{knowing, moved-table, re-tabled}
 use Rattle.meaning.proofs.ExactEnds.{met}
 use Rattle.demands.proofs.MoreKnown.{Fine, Follows, whether-more}

@@ -26,8 +26,8 @@ use Rattle.meaning.proofs.Cases.{lent-room, usual}
 use Rattle.meaning.proofs.LineCases.{LineCase}
 use Rattle.meaning.proofs.CaseRows.{verified, spent, many-within, many, wide, one-wide, one-action}
 use Rattle.meaning.proofs.FillLaws.{known-runs, fills-after}
-use Rattle.meaning.proofs.CaseReports.{cases-by-walk}
-use Rattle.meaning.proofs.CaseLine.{cases-no-line}
+use Rattle.demands.proofs.CaseReports.{cases-by-walk}
+use Rattle.demands.proofs.CaseLine.{cases-no-line}
 
 -- THE STEP, of an action that can be run as known.
 does-known : (t : Table) (a : ℕ) (s : State) → too-many t a s ≡ false → can-be-run t a s ≡ true → cases-does t a s ≡ leads-to (outcome-to t a s (after-cases t a s))

@@ -177,6 +177,15 @@ lines-apart j far near = record {
   other = (λ e. omega arith, λ e. omega arith, λ e. omega arith, λ e. omega arith, λ e. omega arith);
 }
 
+-- So are the counts of effects and of executability lines.
+counts-apart : (j : ℕ) → items-slot < j → j < knowledge-slot → Apart j
+counts-apart j far near = record {
+  far = omega arith;
+  action = λ a h. (λ e. omega arith, λ e. omega arith);
+  sensed = omega arith;
+  other = (λ e. omega arith, λ e. omega arith, λ e. omega arith, λ e. omega arith, λ e. omega arith);
+}
+
 module _ (s : List ℕ) (bytes : (i : ℕ) → getD s i 0 < 256) (x : Table) (p : ℕ) (whole : Table-parts s x p) where
   pub effects-few : length (x .effects) < line-numbers
   effects-few = rw (section-length (effect-at format (x .fluents) (x .actions) s) s (whole .effects-at) (x .effects) (whole .effects-end) (whole .effects-read)) (bytes (whole .effects-at))
@@ -272,16 +281,18 @@ module _ (s : List ℕ) (bytes : (i : ℕ) → getD s i 0 < 256) (x : Table) (p 
     pub effects-counted : getD u effects-slot 0 ≡ length (x .effects)
     unfolding with-effects note-line action-in count-slot
     effects-counted =
-        after-effects effects-slot (record {
-          far = omega arith;
-          action = λ a h. (λ e. omega arith, λ e. omega arith);
-          sensed = omega arith;
-          other = (λ e. omega arith, λ e. omega arith, λ e. omega arith, λ e. omega arith, λ e. omega arith);
-        })
-        (λ i h e. omega arith) (λ e. omega arith)
+        after-effects effects-slot (counts-apart effects-slot (omega arith) (omega arith)) (λ i h e. omega arith) (λ e. omega arith)
         ∙ section-counted effects effects-slot (λ (e : Effect). e .action < format .actions)
         (λ last k e v small less few. appended-kept effects-slot effect-lines last k (e .place) (e .action) v less few small (λ i h q. omega arith)) (λ e small. small)
         (x .effects) blank (effect-acts s x p whole) effects-few refl (omega (arith, blank-long))
+
+    pub runs-counted : getD u executability-slot 0 ≡ length (x .executability)
+    unfolding with-runs note-line action-in count-slot
+    runs-counted =
+        after-runs executability-slot (counts-apart executability-slot (omega arith) (omega arith))
+        ∙ section-counted executability executability-slot (λ (r : Executability). r .action < format .actions)
+        (λ last k r v small less few. appended-kept executability-slot run-lines last k (r .place) (r .action) v less few small (λ i h q. omega arith)) (λ r small. small)
+        (x .executability) with-effects (run-good s x p whole) runs-few refl (omega (arith, effects-long))
 
     -- 16 finds the effects.
     placed-effects : Placed-in u 0 (x .effects)

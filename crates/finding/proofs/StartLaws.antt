@@ -1,9 +1,10 @@
 -- Where the parts of a request stand that come first: its counts at places 0 and 1, and its facts at place 2. A count takes one byte, and each
 -- reader starts where the one before it ended. Assumes nothing.
-use Prim.Native.Nat.{ℕ}
+use Prim.Native.Nat.{ℕ, _<_}
 use native.Mathlib.Omega.{arith}
 use mathlib.Core.Path.{_≡_, sym, _∙_, ap, subst}
 use mathlib.Core.List.{List}
+use lib.ListN.{length}
 use Rattle.meaning.specs.Limits.{format, all-literals}
 use Rattle.meaning.specs.Requests.{Table, Request}
 use Rattle.meaning.specs.Reading.{got, literals, bound-of, count-at, list-at, effect-at, executability-at, knowledge-at, section-at, table-at, request-at, read-request}
@@ -12,6 +13,7 @@ use Rattle.meaning.proofs.RangeLaws.{not-refused, after-got, count-within}
 use Rattle.reading.specs.Listed.{listed, List-here}
 use Rattle.reading.proofs.SectionLaws.{count-got}
 use Rattle.reader.proofs.WholeLaws.{Front, front}
+use Rattle.finding.specs.TablesHere.{table-in, Table-here}
 use Rattle.finding.proofs.HereLaws.{list-here}
 use Rattle.finding.proofs.ReadLaws.{request-parts}
 
@@ -46,3 +48,14 @@ request-starts s x e read =
     after-got (request-at format s t p) _ e₁ λ y q ey e₂.
     subst (λ (z : Request). Starts s (z .table)) (got-same (not-refused _ _ _ _ e₂ .1))
     (subst (Starts s) (sym (request-parts s t p y q ey .table)) (table-starts s t p et))
+
+-- A table that the notes hold starts so too, with its two counts.
+module _ (s t : List ℕ) (here : Table-here s t) where
+  pub front-here : Front s 0 (table-in s)
+  front-here = table-starts s (table-in s) (here .table-end) (here .table) .front
+
+  pub first-byte : 0 < length s
+  first-byte = let second = front-here .second in omega arith
+
+  pub second-byte : 1 < length s
+  second-byte = front-here .second

@@ -1,5 +1,6 @@
 pub mod SettledAtHand
 pub mod JudgingLaws
+pub mod IndexedLaws
 pub mod MissingLaws
 pub mod ShowingLaws
 pub mod PackingLaws

@@ -4,18 +4,24 @@ use Prim.Native.Nat.{ℕ, _+_, _*_, _≤_, _<_}
 use native.Mathlib.Omega.{arith}
 use mathlib.Core.Path.{_≡_, refl, sym, _∙_, ap, subst}
 use mathlib.Core.List.{List}
+use lib.ListN.{getD}
+use mir.Syntax.{w8}
+use mir.Val.{Fits}
 use Rattle.meaning.specs.declared.Answer.{Answer}
 use Rattle.meaning.specs.declared.Layout.{Layout}
 use Rattle.meaning.specs.Limits.{format}
 use Rattle.meaning.specs.Judging.{Judgement, judge}
 use Rattle.meaning.specs.Guards.{judge-guarded}
 use Rattle.meaning.specs.ByCases.{judge-by-cases}
+use Rattle.meaning.specs.Indexes.{Built, build, judge-indexed}
 use Rattle.meaning.specs.Derivations.{check}
 use Rattle.meaning.specs.Releases.{Released, release}
 use Rattle.meaning.proofs.PickLaws.{pick-has}
 use Rattle.meaning.proofs.PartLaws.{place-limited, limit-of, check-place-limited}
 use Rattle.meaning.proofs.GuardedAnswers.{guarded-place-limited}
 use Rattle.meaning.proofs.CaseAnswers.{cases-place-limited}
+use Rattle.meaning.proofs.IndexBuilt.{index-place-limited}
+use Rattle.meaning.proofs.IndexAnswers.{indexed-place-limited}
 use Rattle.meaning.proofs.ReleaseLaws.{own-place-limited}
 use Rattle.glintstring.specs.Packing.{packed}
 
@@ -43,7 +49,7 @@ check-place-small layout s d =
 pub own-place-small : (s lent : List ℕ) (budget : ℕ) → release format s lent budget .answer .place < 65536
 own-place-small s lent budget = let most = own-place-limited format s lent budget in omega (arith, most)
 
--- WHAT THE EXPORTED WALK CALL, GUARDED CALL AND CALL BY CASES RETURN, where the call has given an answer and left these bytes.
+-- WHAT THE EXPORTED CALLS THAT WALK RETURN, where the call has given an answer and left these bytes.
 module _ (a : Answer) (left : List ℕ) where
   pub judged-small : (s lent : List ℕ) (budget : ℕ) → record { answer = a; state = left } ≡ judge format s lent budget → a .place < 65536
   judged-small s lent budget judges = subst (λ (j : Judgement). j .answer .place < 65536) (sym judges) (place-small s lent budget)
@@ -53,6 +59,10 @@ module _ (a : Answer) (left : List ℕ) where
 
   pub cases-small : (s lent : List ℕ) (budget : ℕ) → record { answer = a; state = left } ≡ judge-by-cases format s lent budget → a .place < 65536
   cases-small s lent budget judges = subst (λ (j : Judgement). j .answer .place < 65536) (sym judges) (cases-place-small s lent budget)
+
+  pub indexed-small : (s i lent : List ℕ) (budget : ℕ) → ((j : ℕ) → Fits w8 (getD s j 0)) → record { answer = a; state = left } ≡ judge-indexed format s i lent budget → a .place < 65536
+  indexed-small s i lent budget bytes judges =
+      let most = indexed-place-limited s (λ j. bytes j .fits) i lent budget in subst (λ (j : Judgement). j .answer .place < 65536) (sym judges) (omega (arith, most))
 
   module _ (judged : Judgement) (judges : record { answer = a; state = left } ≡ judged) where
     pub judged-packed : (r : ℕ) → r ≡ packed a → r ≡ packed (judged .answer)
@@ -79,3 +89,14 @@ module _ (s lent : List ℕ) (budget : ℕ) (a : Answer) (left : List ℕ) (rele
 
   pub released-left : left ≡ release format s lent budget .row
   released-left = ap (λ (j : Released). j .row) releases
+
+-- WHAT THE EXPORTED INDEX CALL RETURNS, where the index call has given an answer and left this room.
+module _ (s room : List ℕ) (a : Answer) (left : List ℕ) (builds : record { answer = a; room = left } ≡ build format s room) where
+  pub built-small : a .place < 65536
+  built-small = let most = index-place-limited format s room in subst (λ (b : Built). b .answer .place < 65536) (sym builds) (omega (arith, most))
+
+  pub built-packed : (r : ℕ) → r ≡ packed a → r ≡ packed (build format s room .answer)
+  built-packed r is = is ∙ ap (λ (b : Built). packed (b .answer)) builds
+
+  pub built-left : left ≡ build format s room .room
+  built-left = ap (λ (b : Built). b .room) builds

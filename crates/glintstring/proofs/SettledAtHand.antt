@@ -20,7 +20,7 @@ use Rattle.bytes.specs.declared.lists.Passed.the-variants.{To}
 use Rattle.reading.specs.Noted.{mode-slot, slots, noting, outcome}
 use Rattle.reading.specs.Requested.{request-noted, guarded-noted}
 use Rattle.reading.proofs.SectionLaws.{noting-got}
-use Rattle.finding.specs.TablesHere.{blank}
+use Rattle.finding.specs.TablesHere.{blank, Table-here}
 use Rattle.steps.specs.Held.{guards-in, request-in}
 use Rattle.steps.specs.AtHand.{At-hand}
 use Rattle.steps.specs.Steps.{mode-in, walk-held}
@@ -46,11 +46,14 @@ module _ (s t u : List ℕ) (r : Passed) (settles : outcome r u ≡ noting reque
     pub settled-held : request-in s u ≡ settled-got .0
     settled-held = plain-request s (λ i. bytes i .fits) u (settled-got .0) e (past .reads) noted
 
+    pub settled-table : Table-here s u
+    settled-table = plain-table s (λ i. bytes i .fits) u (settled-got .0) e (past .reads) noted
+
     pub settled-known : mode-in u ≡ 0
-    settled-known = table-mode s u (plain-table s (λ i. bytes i .fits) u (settled-got .0) e (past .reads) noted)
+    settled-known = table-mode s u settled-table
 
     pub settled-sized : length u ≡ slots
-    settled-sized = plain-table s (λ i. bytes i .fits) u (settled-got .0) e (past .reads) noted .sized
+    settled-sized = settled-table .sized
 
     pub settled-unguarded : guards-in s u ≡ []
     settled-unguarded = plain-guards s (λ i. bytes i .fits) u (settled-got .0) e (past .reads) noted

@@ -6,6 +6,7 @@ ghost use Rattle.meaning.specs.Limits.{format};
 ghost use Rattle.meaning.specs.Judging.{judge};
 ghost use Rattle.meaning.specs.Guards.{judge-guarded};
 ghost use Rattle.meaning.specs.ByCases.{judge-by-cases};
+ghost use Rattle.meaning.specs.Indexes.{build, judge-indexed};
 ghost use Rattle.meaning.specs.Asking;
 ghost use Rattle.meaning.specs.Derivations.{check};
 ghost use Rattle.meaning.specs.Releases.{plans-in, release};
@@ -13,9 +14,11 @@ ghost use Rattle.meaning.specs.Showing.{show};
 ghost use Rattle.glintstring.specs.Packing.{packed, unpacked};
 use super::check_calls::check;
 use super::check_calls::check_whether;
+use super::indexes::index;
 use super::judging::judge;
 use super::judging::judge_by_cases;
 use super::judging::judge_guarded;
+use super::judging::judge_indexed;
 use meaning::Answer;
 use verdicts::answers;
 use verdicts::releasing::plans;
@@ -60,6 +63,30 @@ pub extern "C" fn glintstring_judge_by_cases(request: &[u8], state: &mut [u8], b
 {
     let judged = judge_by_cases(request, state, budget);
     pack(judged.answer)
+}
+
+// The indexed call (FORMAT 23.10), with its answer in one number. It may be called with anything.
+#[no_mangle]
+pub extern "C" fn glintstring_judge_indexed(
+    request: &[u8],
+    index: &[u8],
+    state: &mut [u8],
+    budget: u32,
+) -> u64
+    ensures { λ r. ⌜ r ≡ packed (judge-indexed format (now (request .entry)) (now (index .entry)) (now (state .entry)) budget .answer) ⌝ }
+    ensures { λ _. ⌜ now (state .exit) ≡ judge-indexed format (now (request .entry)) (now (index .entry)) (now (state .entry)) budget .state ⌝ }
+{
+    let judged = judge_indexed(request, index, state, budget);
+    pack(judged.answer)
+}
+
+// The index call (FORMAT 23.6), with its answer in one number. It may be called with anything.
+#[no_mangle]
+pub extern "C" fn glintstring_index(request: &[u8], room: &mut [u8]) -> u64
+    ensures { λ r. ⌜ r ≡ packed (build format (now (request .entry)) (now (room .entry)) .answer) ⌝ }
+    ensures { λ _. ⌜ now (room .exit) ≡ build format (now (request .entry)) (now (room .entry)) .room ⌝ }
+{
+    pack(index(request, room))
 }
 
 // The walk call, with its answer in one number and the line in another, which is written whatever the answer is. It may be called with anything.

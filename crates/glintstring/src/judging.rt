@@ -5,12 +5,16 @@ ghost use Rattle.meaning.specs.Judging.{within, judge};
 ghost use Rattle.meaning.specs.Guards.{judge-guarded, line-guarded};
 ghost use Rattle.meaning.specs.Asking.{line-told, line};
 ghost use Rattle.meaning.specs.ByCases.{judge-by-cases, line-by-cases};
+ghost use Rattle.meaning.specs.Indexes.{judge-indexed, line-indexed};
 ghost use Rattle.steps.specs.Held.{table-in};
 ghost use Rattle.steps.specs.AtHand.{At-hand};
 ghost use Rattle.steps.specs.Steps.{walk-held};
 use super::missing::line_at;
 use bytes::limits;
 use bytes::lists::Passed;
+use finding::places::Found;
+use indexing::differing::differs;
+use indexing::taking::take_index;
 use meaning::Answer;
 use reading::notes;
 use reading::notes::Notes;
@@ -109,6 +113,27 @@ pub fn judge_by_cases(request: &[u8], state: &mut [u8], budget: u32) -> Judged
             put(&mut t, notes::MODE, BY_CASES);
             walk_with_line(request, &t, state, budget)
         }
+        Passed::Fault(k, p) => without_walk(k, answers::THE_REQUEST, p),
+    }
+}
+
+// The indexed call (FORMAT 23.10). Answers 1 and 2 leave the state concerned in the lent bytes; every other leaves these as they are.
+pub fn judge_indexed(request: &[u8], index: &[u8], state: &mut [u8], budget: u32) -> Judged
+    ensures given { λ r. ⌜ record { answer = r .answer; state = now (state .exit) } ≡ judge-indexed format (now (request .entry)) (now (index .entry)) (now (state .entry)) budget ⌝ }
+    ensures line { λ r. ⌜ r .line ≡ line-indexed format (now (request .entry)) (now (index .entry)) (now (state .entry)) budget ⌝ }
+{
+    if state.len() != STATE_BYTES {
+        return without_walk(answers::STATE_LENGTH, answers::NEITHER_INPUT, 0);
+    }
+    let mut t: Notes = [0u16; notes::SLOTS];
+    match settle(request, &mut t) {
+        Passed::To(_) => match differs(request, &t, index) {
+            Found::Nowhere => {
+                take_index(request, index, &mut t);
+                walk_with_line(request, &t, state, budget)
+            }
+            Found::At(p) => without_walk(answers::INDEX_DIFFERS, answers::THE_INDEX, p),
+        },
         Passed::Fault(k, p) => without_walk(k, answers::THE_REQUEST, p),
     }
 }

@@ -1,15 +1,17 @@
-// Judges the request on standard input, and says so on standard output (FORMAT 12.1 to 12.6, 12.13, 12.21, 18.17, 21.19, 21.20, 22.16).
+// Judges the request on standard input, and says so on standard output (FORMAT 12.1 to 12.6, 12.13, 12.21, 18.17, 21.19, 21.20, 22.16, 23.19, 23.20).
+ghost use Rattle.programs.specs.Input.{Within};
 use bytes::limits;
-use comparing::parts::same_part;
 use glintstring::judging::judge;
 use glintstring::judging::judge_by_cases;
 use glintstring::judging::judge_guarded;
+use glintstring::judging::judge_indexed;
 use libc::STDIN_FILENO;
 use libc::STDOUT_FILENO;
 use programs::Asked;
 use programs::Input;
 use programs::REQUEST_ROOM;
 use programs::budget_asked;
+use programs::is_word;
 use programs::put;
 use programs::put_line;
 use programs::put_number;
@@ -23,7 +25,14 @@ enum Call {
     Walk,
     Guarded,
     ByCases,
+    Indexed,
 }
+
+// The descriptor on which the script gives the index.
+const INDEX_FILENO: i32 = 3;
+
+// Room for an index, with a byte more: what stands behind that changes no answer.
+const INDEX_ROOM: usize = limits::INDEX + 1;
 
 // The argument that is so many from the end, counted from 1, is this option.
 fn option_asked(from_end: usize, option: &[u8]) -> bool {
@@ -31,14 +40,12 @@ fn option_asked(from_end: usize, option: &[u8]) -> bool {
     if count <= from_end {
         return false;
     }
-    let mut text = io::buffer();
-    let n = os::arg(count - from_end, &mut text);
-    same_part(&text[..n], option)
+    is_word(count - from_end, option)
 }
 
 // The answer, for 1, 2 and 43 the state, and where it is asked for the line. The first byte of a request that gets one of these is its fluent count. Without
 // enough stack there is none, which is said.
-fn answer_to(request: &[u8], budget: u32, call: Call, line: bool) -> bool {
+fn answer_to(request: &[u8], index: &[u8], budget: u32, call: Call, line: bool) -> bool {
     if !stack_is_enough(b"judge", b"", request.len()) {
         return true;
     }
@@ -47,6 +54,7 @@ fn answer_to(request: &[u8], budget: u32, call: Call, line: bool) -> bool {
         Call::Walk => judge(request, &mut state, budget),
         Call::Guarded => judge_guarded(request, &mut state, budget),
         Call::ByCases => judge_by_cases(request, &mut state, budget),
+        Call::Indexed => judge_indexed(request, index, &mut state, budget),
     };
     let answer = judged.answer;
     if !put_line(
@@ -74,36 +82,64 @@ fn answer_to(request: &[u8], budget: u32, call: Call, line: bool) -> bool {
     true
 }
 
+// Reads the index where the call takes one. Every other call is given none.
+fn read_index(call: Call, buf: &mut [u8]) -> Input
+    ensures { λ r. ⌜ Within 0 r (now (buf .exit)) ⌝ }
+{
+    match call {
+        Call::Indexed => read_all(INDEX_FILENO, buf),
+        _ => Input::Bytes(0),
+    }
+}
+
+// The index is read once the request is.
+fn judge_request(request: &[u8], budget: u32, call: Call, line: bool) {
+    let mut bytes = [0u8; INDEX_ROOM];
+    match read_index(call, &mut bytes) {
+        Input::Bytes(n) => {
+            if !answer_to(request, &bytes[..n], budget, call, line) {
+                os::fail(b"judge: standard output");
+            }
+        }
+        Input::Unreadable => os::fail(b"judge: index"),
+    }
+}
+
 fn judge_input(budget: u32, call: Call, line: bool) {
     // One byte more than a request may have: a longer one is refused whatever it holds.
     let mut bytes = [0u8; REQUEST_ROOM];
     match read_all(STDIN_FILENO, &mut bytes) {
-        Input::Bytes(n) => {
-            if !answer_to(&bytes[..n], budget, call, line) {
-                os::fail(b"judge: standard output");
-            }
-        }
+        Input::Bytes(n) => judge_request(&bytes[..n], budget, call, line),
         Input::Unreadable => os::fail(b"judge: standard input"),
+    }
+}
+
+// The call that the argument so many from the end asks for.
+fn call_asked(from_end: usize) -> Call {
+    if option_asked(from_end, b"--guarded") {
+        return Call::Guarded;
+    }
+    if option_asked(from_end, b"--by-cases") {
+        return Call::ByCases;
+    }
+    if option_asked(from_end, b"--indexed") {
+        return Call::Indexed;
+    }
+    Call::Walk
+}
+
+// How many words there are beside a budget: the program's name, and the options.
+fn words_of(call: Call, line: bool) -> usize {
+    match call {
+        Call::Walk => if line { 2 } else { 1 },
+        _ => if line { 3 } else { 2 },
     }
 }
 
 fn main() {
     let line = option_asked(1, b"--line");
-    let from_end = if line { 2 } else { 1 };
-    let guarded = option_asked(from_end, b"--guarded");
-    let by_cases = option_asked(from_end, b"--by-cases");
-    // The program's name, and the options.
-    let words = if guarded || by_cases {
-        if line { 3 } else { 2 }
-    } else {
-        from_end
-    };
-    let call = if guarded {
-        Call::Guarded
-    } else {
-        if by_cases { Call::ByCases } else { Call::Walk }
-    };
-    match budget_asked(words) {
+    let call = call_asked(if line { 2 } else { 1 });
+    match budget_asked(words_of(call, line)) {
         Asked::Number(budget) => judge_input(budget, call, line),
         Asked::Nothing => {
             io::write_all(

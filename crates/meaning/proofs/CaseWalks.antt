@@ -13,9 +13,8 @@ use Rattle.meaning.specs.States.{State, Outcome, single, fork, outcome-t
 use Rattle.meaning.specs.Walk.{Concerned, no-state, in-state, End, fine, missed, stopped, Walked, stopped-at, counted, keep-miss, after-miss, after-end, and-then, each-reading, Step, leads-to, refuses, Steps, after-step, unless-broken, meet, run-action, walk, walk-item, walk-branch, judged}
 use Rattle.meaning.specs.ByCases.{after-cases, too-many, cases-does, cases-step, walked-by-cases}
 use Rattle.meaning.proofs.TestLaws.{by-test, pick-true, pick-false}
-use Rattle.meaning.proofs.PickLaws.{pick-has}
 use Rattle.meaning.proofs.RefusalLaws.{at≢nowhere}
-use Rattle.meaning.proofs.KeptEnds.{on-places, any-outcome, End-so, Step-so, judged-so}
+use Rattle.meaning.proofs.KeptEnds.{on-places, any-outcome, End-so, cases-does-so, judged-so}
 use Rattle.meaning.proofs.WithinLaws.{Never, so-never}
 use Rattle.meaning.proofs.CaseSteps.{unlimited-does, unlimited-step}
 
@@ -122,18 +121,14 @@ abbrev pub Stuck-by-cases : End State → Type 0
 Stuck-by-cases = End-so (λ _ _. Unit {0}) Case-stop
 
 pub cases-stuck : (r : Request) (s : State) → Stuck-by-cases (walked-by-cases r s .end)
-unfolding walked-by-cases cases-step cases-does
+unfolding walked-by-cases cases-step
 cases-stuck r s =
-    judged-so (λ _ _. Unit {0}) Case-stop (λ _. Unit {0}) (λ _. Unit {0}) (λ v _ p _. inl (refl, (v, refl))) (cases-step (r .table)) does
+    judged-so (λ _ _. Unit {0}) Case-stop (λ _. Unit {0}) (λ _. Unit {0}) stuck (cases-step (r .table))
+    (λ a v _. cases-does-so (λ _ _. Unit {0}) Case-stop (λ _. Unit {0}) (λ _. Unit {0}) stuck (λ p _. inr (refl, refl)) (r .table) a v tt (any-outcome (outcome-to (r .table) a v (after-cases (r .table) a v))))
     (λ v _ p q. absurd (at≢nowhere (sym q))) r (λ v _ p _. tt) (on-places (λ _. Unit {0}) (λ _. tt) (r .plan)) s tt
   where
-    So : Step State → Type 0
-    So = Step-so (λ _ _. Unit {0}) Case-stop (λ _. Unit {0}) (λ _. Unit {0})
-
-    does : (a : ℕ) (v : State) → Unit {0} → So (cases-does (r .table) a v)
-    does a v _ =
-        pick-has So _ _ _ (λ _ p _. inr (refl, refl)) λ _.
-        pick-has So _ _ _ (λ _. any-outcome (outcome-to (r .table) a v (after-cases (r .table) a v))) (λ _ p _. inl (refl, (v, refl)))
+    stuck : (v : State) → Unit {0} → (p : ℕ) → Unit {0} → Case-stop Limits.not-executable p (in-state v)
+    stuck v _ p _ = inl (refl, (v, refl))
 
 -- No stop has another number than 2 and 44.
 pub cases-never : (i : ℕ) → (i ≡ Limits.not-executable → ⊥) → (i ≡ Limits.too-many-cases → ⊥) → (r : Request) (s : State) → Never i (walked-by-cases r s .end)

@@ -43,7 +43,7 @@ abbrev from-29 : (rest guards : List ℕ) → List ℕ
 from-29 rest guards = table-A ++ (rest ++ guards)
 
 -- The fluents from a first one on, each as true.
-each-true : (left literal : ℕ) → List ℕ
+unfoldable pub each-true : (left literal : ℕ) → List ℕ
 each-true zero literal = []
 each-true (suc left) literal = literal ∷ each-true left (literal + 2)
 

@@ -10,25 +10,18 @@ use borrow.Author.Tests.{eq-eqb}
 use Rattle.meaning.specs.Limits
 use Rattle.meaning.specs.Limits.{Limits}
 use Rattle.meaning.specs.Requests.{Item, act, branching}
-use Rattle.meaning.specs.Reading.{Got, got, fault}
+use Rattle.meaning.specs.Reading.{got}
 use Rattle.meaning.specs.Lines.{executability-of}
 use Rattle.meaning.specs.States.{State}
-use Rattle.meaning.specs.Judging.{Judgement}
-use Rattle.meaning.specs.Asking.{asked, line-of, line-at, line-told}
-use Rattle.meaning.specs.Guards.{Guarded-request, settled-guarded, judge-guarded, line-guarded-settled, line-guarded, number}
+use Rattle.meaning.specs.Asking.{asked, line-of, line-at, line-told, line-got}
+use Rattle.meaning.specs.Guards.{Guarded-request, settled-guarded, judge-guarded, line-guarded, number}
 use Rattle.meaning.specs.Reported.{Item-in, item-place, Nearest, item-line}
 use Rattle.meaning.proofs.TestLaws.{pick-true}
 use Rattle.meaning.proofs.SettledLaws.{settled-is}
 use Rattle.meaning.proofs.ItemBytes.{First-byte, items-there}
-use Rattle.meaning.proofs.ReportedLine.{line-of-item, told-not, not-run-near, same-action}
+use Rattle.meaning.proofs.ReportedLine.{line-of-item, line-not, not-run-near, same-action}
 use Rattle.meaning.proofs.GuardedReads.{own, parts, own-length, own-same, own-settled}
 use Rattle.meaning.proofs.GuardedReports.{guarded-stopped-there}
-
--- OTHER ANSWERS.
-settled-not : (request : List ℕ) (j : Judgement) → (j .answer .number ≡ Limits.not-executable → ⊥) → (x : Got Guarded-request) → line-guarded-settled request j x ≡ 0
-unfolding line-guarded-settled
-settled-not request j other (got g e) = told-not (g .request .table) request j other
-settled-not request j other (fault n p) = refl
 
 -- An item's first byte, in bytes that are the same there.
 first-byte-in : (s b : List ℕ) (m : ℕ) (i : Item ℕ) → getD s (item-place i) 0 ≡ getD b (item-place i) 0 → First-byte s m i → First-byte b m i
@@ -40,7 +33,7 @@ module _ (lim : Limits) (b lent : List ℕ) (budget : ℕ) where
   -- Every answer but 2 has the line 0.
   pub guarded-no-line : (number lim b lent budget ≡ Limits.not-executable → ⊥) → line-guarded lim b lent budget ≡ 0
   unfolding line-guarded
-  guarded-no-line other = settled-not b (judge-guarded lim b lent budget) other (settled-guarded lim b)
+  guarded-no-line other = line-not _ b (judge-guarded lim b lent budget) other (settled-guarded lim b)
 
   -- So has 43.
   pub no-line-broken : number lim b lent budget ≡ Limits.guard-broken → line-guarded lim b lent budget ≡ 0
@@ -57,7 +50,7 @@ module _ (lim : Limits) (b lent : List ℕ) (budget : ℕ) where
     -- In answer 2 it is that of the item which stands at the place, in the state left.
     pub guarded-line-there : number lim b lent budget ≡ Limits.not-executable → (i : Item ℕ) → Item-in (g .request .plan) i → item-place i ≡ judge-guarded lim b lent budget .answer .place
         → line-guarded lim b lent budget ≡ item-line (g .request .table) i (judge-guarded lim b lent budget .state)
-    unfolding line-guarded line-guarded-settled line-told
+    unfolding line-guarded line-got line-told
     guarded-line-there stuck i has at =
         let is : line-guarded lim b lent budget ≡ line-told (g .request .table) b (judge-guarded lim b lent budget) = rw past in
         is

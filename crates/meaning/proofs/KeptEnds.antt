@@ -5,10 +5,11 @@ use mathlib.Core.Path.{_≡_, refl, sym, subst}
 use mathlib.Core.List.{List, []}
 use mathlib.Core.Logic.{_⊎_, inl, inr}
 use Rattle.meaning.specs.Limits
-use Rattle.meaning.specs.Requests.{Sequence, done, item, Item, act, branching, Branches, none, branch, Entry, Request}
+use Rattle.meaning.specs.Requests.{Table, Sequence, done, item, Item, act, branching, Branches, none, branch, Entry, Request}
 use Rattle.meaning.specs.Refusals.{Found, nowhere, at}
-use Rattle.meaning.specs.States.{State, known, Outcome, single, fork, outcome}
-use Rattle.meaning.specs.Walk.{Concerned, in-state, End, fine, missed, stopped, Walked, stopped-at, counted, keep-miss, after-miss, after-end, and-then, each-reading, Step, leads-to, refuses, Steps, after-step, unless-broken, meet, run-action, walk, walk-item, walk-branch, table-does, table-step, first-missed, missed-in, end-of, judged, walked, guarded-step, walked-guarded}
+use Rattle.meaning.specs.States.{State, known, Outcome, single, fork, outcome-to, outcome}
+use Rattle.meaning.specs.Walk.{Concerned, no-state, in-state, End, fine, missed, stopped, Walked, stopped-at, counted, keep-miss, after-miss, after-end, and-then, each-reading, Step, leads-to, refuses, Steps, after-step, unless-broken, meet, run-action, walk, walk-item, walk-branch, table-does, table-step, first-missed, missed-in, end-of, judged, walked, guarded-step, walked-guarded}
+use Rattle.meaning.specs.ByCases.{after-cases, cases-does}
 use Rattle.meaning.proofs.RefusalLaws.{at≢nowhere}
 use Rattle.meaning.proofs.PickLaws.{pick-has}
 
@@ -126,7 +127,7 @@ pub walked-unguarded : (r : Request) (s : State) → walked-guarded r [] s ≡ w
 unfolding walked walked-guarded table-step guarded-step first-missed
 walked-unguarded r s = refl
 
--- OF A REQUEST, whose table's step refuses with 2 and the state.
+-- OF A REQUEST, whose table's step refuses with 2 and the state, and whose step by cases refuses so or with 44 and no state.
 module _ (Miss : ℕ → State → Type 0) (Stop : ℕ → ℕ → Concerned State → Type 0) where
   pub end-of-so : (f : Found) (s : State) → ((p : ℕ) → f ≡ at p → Miss p s) → End-so Miss Stop (end-of f s)
   unfolding end-of
@@ -134,6 +135,16 @@ module _ (Miss : ℕ → State → Type 0) (Stop : ℕ → ℕ → Concerned Sta
   end-of-so (at p) s here = here p refl
 
   module _ (P : State → Type 0) (Place : ℕ → Type 0) (stuck : (s : State) → P s → (p : ℕ) → Place p → Stop Limits.not-executable p (in-state s)) where
+    pub table-does-so : (t : Table) (a : ℕ) (s : State) → P s → Outcome-has P (outcome t a s) → Step-so Miss Stop P Place (table-does t a s)
+    unfolding table-does
+    table-does-so t a s has leads = pick-has (Step-so Miss Stop P Place) _ _ _ (λ _. leads) (λ _. stuck s has)
+
+    pub cases-does-so : ((p : ℕ) → Place p → Stop Limits.too-many-cases p no-state) → (t : Table) (a : ℕ) (s : State) → P s → Outcome-has P (outcome-to t a s (after-cases t a s))
+        → Step-so Miss Stop P Place (cases-does t a s)
+    unfolding cases-does
+    cases-does-so many t a s has leads =
+        pick-has (Step-so Miss Stop P Place) _ _ _ (λ _. many) (λ _. pick-has (Step-so Miss Stop P Place) _ _ _ (λ _. leads) (λ _. stuck s has))
+
     -- By any step.
     pub judged-so : (step : Steps State ℕ) → ((a : ℕ) (s : State) → P s → Step-so Miss Stop P Place (step .does a s))
         → ((s : State) → P s → (p : ℕ) → step .lacks s ≡ at p → Stop Limits.guard-broken p (in-state s)) → (r : Request)
@@ -146,10 +157,9 @@ module _ (Miss : ℕ → State → Type 0) (Stop : ℕ → ℕ → Concerned Sta
     pub walked-guarded-so : (r : Request) (gs : List Entry) → ((a : ℕ) (s : State) → P s → Outcome-has P (outcome (r .table) a s))
         → ((s : State) → P s → (p : ℕ) → missed-in r s ≡ at p → Miss p s) → ((s : State) → P s → (p : ℕ) → first-missed (known s) gs ≡ at p → Stop Limits.guard-broken p (in-state s))
         → On-places Place (r .plan) → Ends-so Miss Stop P (walked-guarded r gs)
-    unfolding walked-guarded guarded-step table-does
+    unfolding walked-guarded guarded-step
     walked-guarded-so r gs leads misses breaks on =
-        let does : (a : ℕ) (s : State) → P s → Step-so Miss Stop P Place (table-does (r .table) a s) =
-        λ a s has. pick-has (Step-so Miss Stop P Place) _ _ _ (λ _. leads a s has) (λ _. stuck s has) in
+        let does : (a : ℕ) (s : State) → P s → Step-so Miss Stop P Place (table-does (r .table) a s) = λ a s has. table-does-so (r .table) a s has (leads a s has) in
         meet-so Miss Stop P Place (guarded-step (r .table) gs) does stuck breaks (walk (guarded-step (r .table) gs) (r .plan) (judged r))
         (judged-so (guarded-step (r .table) gs) does breaks r misses on)
 

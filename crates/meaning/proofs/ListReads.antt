@@ -104,7 +104,7 @@ module _ (kind : Kind) (n : ℕ) where
       next-is _ _ _ _ (next-is _ _ _ _ byte ∙ pick-false _ _ _ fits)
       ∙ entries-read u xs 0 (p + 1) q order (st .2)
 
-pub those-length : (keep : ℕ → Bool) (xs : List ℕ) → length (those-of keep xs) ≤ length xs
+pub those-length : {A : Type 0} (keep : A → Bool) (xs : List A) → length (those-of keep xs) ≤ length xs
 unfolding those-of
 those-length keep [] = omega arith
-those-length keep (x ∷ xs) = let less = those-length keep xs in pick-has (λ (ys : List ℕ). length ys ≤ suc (length xs)) (keep x) _ _ (λ _. omega (arith, less)) (λ _. omega (arith, less))
+those-length {A} keep (x ∷ xs) = let less = those-length keep xs in pick-has (λ (ys : List A). length ys ≤ suc (length xs)) (keep x) _ _ (λ _. omega (arith, less)) (λ _. omega (arith, less))

@@ -18,7 +18,7 @@ use Rattle.meaning.specs.Refusals.{settled}
 use Rattle.meaning.specs.Lines.{executability-of}
 use Rattle.meaning.specs.States.{State, can-be-run}
 use Rattle.meaning.specs.Judging.{Judgement, judge, number}
-use Rattle.meaning.specs.Asking.{nearest, first-allowing, asked, allows, line-of, line-at, line-told, line-settled, line}
+use Rattle.meaning.specs.Asking.{nearest, first-allowing, asked, allows, line-of, line-at, line-told, line-got, line}
 use Rattle.meaning.specs.Reported.{pair-of, Item-in, item-place, Not-run, Nearest, Stands-for, item-line}
 use Rattle.meaning.proofs.TestLaws.{clash, pick-true, pick-false}
 use Rattle.meaning.proofs.SettledLaws.{settled-is}
@@ -38,21 +38,21 @@ pub told-not : (t : Table) (request : List ℕ) (j : Judgement) → (j .answer .
 unfolding line-told
 told-not t request j other = pick-false _ _ _ (ne-eqb _ _ other)
 
-pub settled-not : (request : List ℕ) (j : Judgement) → (j .answer .number ≡ Limits.not-executable → ⊥) → (x : Got Request) → line-settled request j x ≡ 0
-unfolding line-settled
-settled-not request j other (got r e) = told-not (r .table) request j other
-settled-not request j other (fault n p) = refl
+pub line-not : {A : Type 0} (table : A → Table) (request : List ℕ) (j : Judgement) → (j .answer .number ≡ Limits.not-executable → ⊥) → (x : Got A) → line-got table request j x ≡ 0
+unfolding line-got
+line-not table request j other (got x e) = told-not (table x) request j other
+line-not table request j other (fault n p) = refl
 
 -- THE WALK CALL.
 module _ (lim : Limits) (b lent : List ℕ) (budget : ℕ) where
   -- Every answer but 2 has the line 0.
   pub no-line : (number lim b lent budget ≡ Limits.not-executable → ⊥) → line lim b lent budget ≡ 0
   unfolding line
-  no-line other = settled-not b (judge lim b lent budget) other (settled lim b)
+  no-line other = line-not _ b (judge lim b lent budget) other (settled lim b)
 
   module _ (r : Request) (e : ℕ) (past : settled lim b ≡ got r e) where
     line-is : line lim b lent budget ≡ line-told (r .table) b (judge lim b lent budget)
-    unfolding line line-settled
+    unfolding line line-got
     line-is = rw past
 
     -- In answer 2 it is that of the item which stands at the place, in the state left.

@@ -1,16 +1,18 @@
 -- What an answer's input, place and count are, by its number (FORMAT 4.3 to 4.44, 17.35, 17.36, 21.10, 21.16, 22.11,
--- 22.14).
+-- 22.14, 23.7 to 23.9, 23.15).
 use Prim.Native.Nat.{ℕ, _≤_, _<_}
 use mathlib.Core.Path.{_≡_}
 use mathlib.Core.Bool.{true, false}
 use mathlib.Core.List.{List, [], _∷_}
 use mathlib.Core.Logic.{_↔_}
+use lib.ListN.{length}
 use lib.Dec.{eqb}
 use Rattle.meaning.specs.declared.Answer.{Answer}
 use Rattle.meaning.specs.Tests.{pick}
 use Rattle.meaning.specs.Limits
 use Rattle.meaning.specs.Limits.{Limits}
 use Rattle.meaning.specs.Literals.{among}
+use Rattle.meaning.specs.Requests.{Request}
 use Rattle.meaning.specs.Reading.{Got, got}
 use Rattle.meaning.specs.Refusals.{settled}
 use Rattle.meaning.specs.States.{State}
@@ -20,6 +22,7 @@ use Rattle.meaning.specs.Judging.{Judgement}
 use Rattle.meaning.specs.Guards
 use Rattle.meaning.specs.Guards.{settled-guarded}
 use Rattle.meaning.specs.ByCases
+use Rattle.meaning.specs.Indexes.{index-of}
 use Rattle.meaning.specs.Answers.{row-answers}
 
 -- INPUT. The numbers that name neither (FORMAT 4.27), those that only the request gets, and those that only a derivation gets.
@@ -122,3 +125,35 @@ pub record Row-parts (size budget : ℕ) (a : Answer) : Type 0 where
   pub place : a .place ≤ size
   pub count : a .count ≤ budget
   pub input : a .input ≤ Limits.the-request
+
+-- THE INDEX CALL names neither input exactly with 0 and 39, and the request with every other number (FORMAT 23.7 to 23.9).
+unfoldable pub of-rooms : List ℕ
+of-rooms = Limits.verified ∷ Limits.room-short ∷ []
+
+pub record Index-input (a : Answer) : Type 0 where
+  pub neither : (a .input ≡ Limits.neither-input) ↔ (among (a .number) of-rooms ≡ true)
+  pub request : among (a .number) of-rooms ≡ false → a .input ≡ Limits.the-request
+
+-- Its place is 0 with 39, and else as in the walk call.
+pub record Index-placed (size number place : ℕ) : Type 0 where
+  pub short : number ≡ Limits.room-short → place ≡ 0
+  pub other : (number ≡ Limits.room-short → ⊥) → Placed size number place
+
+-- Its count is the length of the index with 0, and 0 with every other number.
+pub record Index-count (lim : Limits) (request : List ℕ) (a : Answer) : Type 0 where
+  pub built : a .number ≡ Limits.verified → (r : Request) × (e : ℕ) × (settled lim request ≡ got r e) × (a .count ≡ length (index-of (r .table)))
+  pub other : (a .number ≡ Limits.verified → ⊥) → a .count ≡ 0
+
+-- THE INDEXED CALL names the index exactly with 45, and else what the walk call does (FORMAT 23.15, 23.16).
+pub record Indexed-input (a : Answer) : Type 0 where
+  pub index : (a .input ≡ Limits.the-index) ↔ (a .number ≡ Limits.index-differs)
+  pub other : (a .number ≡ Limits.index-differs → ⊥) → Walk-input a
+
+-- With 45 its place is that of a byte of the index, or the index's length, and else as in the walk call.
+pub record Indexed-placed (size index number place : ℕ) : Type 0 where
+  pub differs : number ≡ Limits.index-differs → place ≤ index
+  pub other : (number ≡ Limits.index-differs → ⊥) → Placed size number place
+
+-- Its lent bytes are written with 1 and 2, and stay with every other number, 45 among them.
+abbrev pub Indexed-state : Limits → (request lent : List ℕ) → Judgement → Type 0
+Indexed-state lim request = Written (Judging.walk-of lim) (settled lim request) stated

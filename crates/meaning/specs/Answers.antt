@@ -1,4 +1,4 @@
--- The numbers that each call answers (FORMAT section 4, 11.1, 17.38, 21.22, 22.17).
+-- The numbers that each call answers (FORMAT section 4, 11.1, 17.38, 21.22, 22.17, 23.22).
 use Prim.Native.Nat.{ℕ}
 use mathlib.Core.List.{List, [], _∷_}
 use Rattle.meaning.specs.declared.Layout.{Layout}
@@ -21,6 +21,13 @@ guarded-answers = Limits.guard-broken ∷ answers
 -- All that the call by cases answers.
 unfoldable pub cases-answers : List ℕ
 cases-answers = Limits.too-many-cases ∷ answers
+
+-- All that the index call answers, and all that the indexed call answers.
+unfoldable pub index-answers : List ℕ
+index-answers = Limits.verified ∷ Limits.room-short ∷ refusals
+
+unfoldable pub indexed-answers : List ℕ
+indexed-answers = Limits.index-differs ∷ answers
 
 -- The release call's own refusals but 9, all its own answers, and what a plan's row may say.
 unfoldable pub release-refusals : List ℕ

@@ -61,9 +61,13 @@ line-told t request j =
     (λ _. line-at t (getD request (j .answer .place) 0) (j .state))
     (λ _. 0)
 
-unfoldable pub line-settled : (request : List ℕ) → Judgement → Got Request → ℕ
-line-settled request j (got r e) = line-told (r .table) request j
-line-settled request j (fault n p) = 0
+-- Where something else than a request was read, whichever call it is, its table is a function of it.
+unfoldable pub line-got : {A : Type 0} → (A → Table) → (request : List ℕ) → Judgement → Got A → ℕ
+line-got table request j (got x e) = line-told (table x) request j
+line-got table request j (fault n p) = 0
+
+abbrev pub line-settled : (request : List ℕ) → Judgement → Got Request → ℕ
+line-settled = line-got (λ (r : Request). r .table)
 
 -- Of the walk call, for every input.
 unfoldable pub line : Limits → (request lent : List ℕ) → (budget : ℕ) → ℕ

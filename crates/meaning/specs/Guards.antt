@@ -11,8 +11,8 @@ use Rattle.meaning.specs.Reading.{Got, got, fault, next, literals, list-
 use Rattle.meaning.specs.Refusals.{past-refusals}
 use Rattle.meaning.specs.States.{State, first-state}
 use Rattle.meaning.specs.Walk.{Walked, walked-guarded}
-use Rattle.meaning.specs.Judging.{Judgement, judge-got, judge-by}
-use Rattle.meaning.specs.Asking.{line-told}
+use Rattle.meaning.specs.Judging.{Judgement, judge-by}
+use Rattle.meaning.specs.Asking.{line-got}
 
 -- A request and its guards (FORMAT 21.2).
 pub record Guarded-request : Type 0 where
@@ -37,20 +37,13 @@ settled-guarded lim s = next (read-guarded lim s) λ g e. past-refusals (g .requ
 unfoldable pub walk-of : Limits → Guarded-request → Walked State
 walk-of lim g = walked-guarded (g .request) (g .guards) (first-state lim (g .request .table))
 
-abbrev pub guarded-settled : Limits → (lent : List ℕ) → (budget : ℕ) → Got Guarded-request → Judgement
-guarded-settled lim = judge-got (walk-of lim)
-
 -- The lent state's length goes first (FORMAT 21.5).
 unfoldable pub judge-guarded : Limits → (request lent : List ℕ) → (budget : ℕ) → Judgement
 judge-guarded lim request = judge-by (walk-of lim) lim (settled-guarded lim request)
 
 -- The line that answer 2 carries (FORMAT 18.10 to 18.12, 21.20).
-unfoldable pub line-guarded-settled : (request : List ℕ) → Judgement → Got Guarded-request → ℕ
-line-guarded-settled request j (got g e) = line-told (g .request .table) request j
-line-guarded-settled request j (fault n p) = 0
-
 unfoldable pub line-guarded : Limits → (request lent : List ℕ) → (budget : ℕ) → ℕ
-line-guarded lim request lent budget = line-guarded-settled request (judge-guarded lim request lent budget) (settled-guarded lim request)
+line-guarded lim request lent budget = line-got (λ (g : Guarded-request). g .request .table) request (judge-guarded lim request lent budget) (settled-guarded lim request)
 
 -- WHAT STATEMENTS SAY OF IT. The answer's number, and the count of the whole walk.
 abbrev pub number : Limits → (request lent : List ℕ) → (budget : ℕ) → ℕ

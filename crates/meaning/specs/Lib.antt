@@ -12,6 +12,7 @@ pub mod Releases
 pub mod Guards
 pub mod Asking
 pub mod ByCases
+pub mod Indexes
 pub mod Worlds
 pub mod Values
 pub mod ValueStates

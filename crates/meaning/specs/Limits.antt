@@ -1,5 +1,5 @@
 -- Every limit, answer, input and mark, named once (FORMAT sections 3 and 4).
-use Prim.Native.Nat.{ℕ, _*_}
+use Prim.Native.Nat.{ℕ, _+_, _*_}
 
 -- What the inputs may hold. The definitions take the limits as a parameter.
 pub record Limits : Type 0 where
@@ -62,6 +62,10 @@ most-guards = 64
 abbrev pub most-open : ℕ
 most-open = 12
 
+-- The bytes that an index may have: two counts for each action, and two bytes for each line of sections 3 and 4, of which there are at most 255 each (FORMAT 23.5).
+abbrev pub most-index : ℕ
+most-index = 2 * format .actions + 4 * 255
+
 -- The format's literals are below twice its fluents (FORMAT 2.2, 2.3).
 abbrev pub all-literals : ℕ
 all-literals = 2 * format .fluents
@@ -70,7 +74,7 @@ all-literals = 2 * format .fluents
 abbrev pub branching-byte : ℕ
 branching-byte = 255
 
--- Answers (FORMAT 4.3 to 4.25, 17.35, 17.36, 21.10, 22.9).
+-- Answers (FORMAT 4.3 to 4.25, 17.35, 17.36, 21.10, 22.9, 23.8, 23.15).
 abbrev pub verified : ℕ
 verified = 0
 
@@ -146,11 +150,17 @@ not-the-question = 35
 abbrev pub closing-not-right : ℕ
 closing-not-right = 36
 
+abbrev pub room-short : ℕ
+room-short = 39
+
 abbrev pub guard-broken : ℕ
 guard-broken = 43
 
 abbrev pub too-many-cases : ℕ
 too-many-cases = 44
+
+abbrev pub index-differs : ℕ
+index-differs = 45
 
 -- The rules of a derivation (FORMAT 10.12 to 10.17, 17.21 to 17.25).
 abbrev pub empty-rule : ℕ
@@ -186,7 +196,7 @@ composition-whether-rule = 11
 abbrev pub branching-whether-rule : ℕ
 branching-whether-rule = 12
 
--- The input that a place is in (FORMAT 4.26).
+-- The input that a place is in (FORMAT 4.26, 23.16).
 abbrev pub neither-input : ℕ
 neither-input = 0
 
@@ -195,6 +205,9 @@ the-request = 1
 
 abbrev pub the-derivation : ℕ
 the-derivation = 2
+
+abbrev pub the-index : ℕ
+the-index = 3
 
 -- Marks of a partial state (FORMAT 4.47, 7.1).
 abbrev pub unknown-mark : ℕ

@@ -1,5 +1,5 @@
-// What the programs share: an input is read as far as a buffer goes, a budget is read from its digits, an answer is printed as three
-// numbers, its state as signs, and the stack is looked at before a walk.
+// What the programs share: an input is read as far as a buffer goes, words are known and a budget is read from its digits, an answer is printed
+// as three numbers, its state as signs, and the stack is looked at before a walk.
 ghost use Prim.Native.Nat.{_≤_};
 ghost use lib.Dec.{leb};
 ghost use lib.ListN.{length};
@@ -7,6 +7,7 @@ ghost use mathlib.Core.Path.{_≡_};
 ghost use Rattle.programs.specs.Input.{Within};
 ghost use Rattle.programs.specs.Stack.{needed};
 use bytes::limits;
+use comparing::parts::same_part;
 use libc::RLIMIT_STACK;
 use libc::STDERR_FILENO;
 use libc::STDOUT_FILENO;
@@ -95,6 +96,13 @@ pub fn read_file(said: &[u8], name: &[u8], buf: &mut [u8]) -> Input
 fn say_failed(said: &[u8], what: &[u8]) {
     io::write_all(STDERR_FILENO, said);
     os::fail(what);
+}
+
+// Argument i of the program is this word.
+pub fn is_word(i: usize, word: &[u8]) -> bool {
+    let mut text = io::buffer();
+    let n = os::arg(i, &mut text);
+    same_part(&text[..n], word)
 }
 
 // The number that an argument writes, or that it writes none.
@@ -187,8 +195,8 @@ pub fn stack_is_enough(said: &[u8], name: &[u8], length: usize) -> bool {
     false
 }
 
-pub fn put(text: &[u8]) -> bool {
-    io::write_all(STDOUT_FILENO, text)
+pub fn put(bytes: &[u8]) -> bool {
+    io::write_all(STDOUT_FILENO, bytes)
 }
 
 pub fn put_number(n: u64) -> bool {

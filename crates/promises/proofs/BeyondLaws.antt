@@ -26,7 +26,7 @@ use Rattle.meaning.proofs.StateLaws.{known-true, known-false, unknown-mark, aft
 use Rattle.meaning.proofs.PairLaws.{given-pair, after-mark, after-known, caused-within}
 use Rattle.meaning.proofs.SensingLaws.{unknown-neither, sensed-within, read-is}
 use Rattle.meaning.proofs.FillingLaws.{filling-length, some-filling, shared-at, cases-length}
-use Rattle.meaning.proofs.CompleteLaws.{filling-completes}
+use Rattle.demands.proofs.CompleteLaws.{filling-completes}
 use Rattle.glintstring.specs.LentState.{Blank-from}
 use Rattle.verdicts.proofs.KeepingLaws.{End-has, Kept-by, table-keeps, cases-keep, walked-kept}
 

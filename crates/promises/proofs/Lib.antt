@@ -12,6 +12,12 @@ pub mod ExportedGuardedPromises
 pub mod CaseJudgePromises
 pub mod CaseCallPromises
 pub mod ExportedCasePromises
+pub mod BuildPromises
+pub mod IndexPromises
+pub mod ExportedIndexPromises
+pub mod IndexedJudgePromises
+pub mod IndexedPromises
+pub mod ExportedIndexedPromises
 pub mod ReusePromises
 pub mod CheckPromises
 pub mod DerivationPromises

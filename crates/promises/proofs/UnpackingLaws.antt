@@ -1,26 +1,29 @@
 -- An answer in one number gives its parts back: each part is smaller than the room that it has, so division and remainder find it. Every answer
--- of the walk call, of the guarded call, of the call by cases, of the derivation call and of the whether call and every own answer of the release call
+-- of the walk call, of the guarded call, of the call by cases, of the indexed call, of the index call, of the derivation call and of the whether call and every own answer of the release call
 -- is such an answer. Assumes nothing.
 use Prim.Native.Nat.{ℕ, _/_, _%_, _<_}
 use native.Mathlib.Omega.{arith}
 use mathlib.Core.Path.{_≡_, refl, _∙_, ap}
 use mathlib.Core.Bool.{true}
 use mathlib.Core.List.{List}
-use lib.Dec.{ltb}
-use borrow.Author.Tests.{ltb-true}
+use lib.Dec.{eqb, ltb}
+use borrow.Author.Tests.{eqb-true, eqb-false, ltb-true}
 use Rattle.meaning.specs.declared.Answer.{Answer}
 use Rattle.meaning.specs.declared.Layout.{Layout}
 use Rattle.meaning.specs.declared.Layout.the-variants.{Plain, Closing}
 use Rattle.meaning.specs.Tests.{both, each-of}
+use Rattle.meaning.specs.Limits
 use Rattle.meaning.specs.Limits.{format}
 use Rattle.meaning.specs.Literals.{among}
 use Rattle.meaning.specs.Judging.{judge}
 use Rattle.meaning.specs.Derivations.{check}
 use Rattle.meaning.specs.Guards.{judge-guarded}
 use Rattle.meaning.specs.ByCases.{judge-by-cases}
+use Rattle.meaning.specs.Indexes.{build, judge-indexed}
+use Rattle.meaning.specs.Layouts.{Bytes}
 use Rattle.meaning.specs.Releases.{release}
-use Rattle.meaning.specs.Answers.{refusals, answers, guarded-answers, cases-answers, end-fault, faults, check-answers, release-refusals, release-answers}
-use Rattle.meaning.specs.AnswerParts.{of-neither, Walk-input, inputs-of}
+use Rattle.meaning.specs.Answers.{refusals, answers, guarded-answers, cases-answers, index-answers, indexed-answers, end-fault, faults, check-answers, release-refusals, release-answers}
+use Rattle.meaning.specs.AnswerParts.{of-neither, Walk-input, of-rooms, Index-input, Indexed-input, inputs-of}
 use Rattle.meaning.proofs.TestLaws.{by-test}
 use Rattle.meaning.proofs.LiteralLaws.{among-each}
 use Rattle.meaning.proofs.PickLaws.{pick-has}
@@ -29,6 +32,8 @@ use Rattle.meaning.proofs.Passed.{every-check-numbered}
 use Rattle.meaning.proofs.PartLaws.{input-exactly, check-input-exactly}
 use Rattle.meaning.proofs.GuardedAnswers.{guarded-numbered, guarded-input}
 use Rattle.meaning.proofs.CaseAnswers.{cases-numbered, cases-input}
+use Rattle.meaning.proofs.IndexBuilt.{index-numbered, index-input, index-place-limited}
+use Rattle.meaning.proofs.IndexAnswers.{indexed-numbered, indexed-input, indexed-place-limited}
 use Rattle.meaning.proofs.ReleaseLaws.{own-numbered, own-input}
 use Rattle.glintstring.specs.Packing.{packed, unpacked}
 use Rattle.glintstring.proofs.PackingLaws.{place-small, guarded-place-small, cases-place-small, check-place-small, own-place-small}
@@ -106,6 +111,42 @@ cases-answer-small s lent budget = record {
   number = cases-number-small _ (cases-numbered format s lent budget);
   input = input-small _ (cases-input format s lent budget);
   place = cases-place-small s lent budget;
+}
+
+-- THE ANSWERS OF THE INDEXED CALL, of a request of bytes: with 45 the place is in an index, which is short.
+indexed-number-small : (n : ℕ) → among n indexed-answers ≡ true → n < 256
+unfolding indexed-answers answers refusals each-of both
+indexed-number-small n is = ltb-true _ _ (among-each (λ (m : ℕ). ltb m 256) indexed-answers refl n is)
+
+indexed-input-small : (a : Answer) → Indexed-input a → a .input < 256
+indexed-input-small a input =
+    by-test (eqb (a .number) Limits.index-differs)
+    (λ t. let is = input .index .1 (eqb-true _ _ t) in omega (arith, is))
+    (λ f. input-small a (input .other (eqb-false _ _ f)))
+
+pub indexed-answer-small : (s : List ℕ) → Bytes s → (i lent : List ℕ) (budget : ℕ) → Small (judge-indexed format s i lent budget .answer)
+indexed-answer-small s bytes i lent budget = record {
+  number = indexed-number-small _ (indexed-numbered format s i lent budget);
+  input = indexed-input-small _ (indexed-input format s i lent budget);
+  place = let most = indexed-place-limited s bytes i lent budget in omega (arith, most);
+}
+
+-- THE ANSWERS OF THE INDEX CALL.
+index-number-small : (n : ℕ) → among n index-answers ≡ true → n < 256
+unfolding index-answers refusals each-of both
+index-number-small n is = ltb-true _ _ (among-each (λ (m : ℕ). ltb m 256) index-answers refl n is)
+
+index-input-small : (a : Answer) → Index-input a → a .input < 256
+index-input-small a input =
+    by-test (among (a .number) of-rooms)
+    (λ t. let is = input .neither .1 t in omega (arith, is))
+    (λ f. let is = input .request f in omega (arith, is))
+
+pub index-answer-small : (s room : List ℕ) → Small (build format s room .answer)
+index-answer-small s room = record {
+  number = index-number-small _ (index-numbered format s room);
+  input = index-input-small _ (index-input format s room);
+  place = let most = index-place-limited format s room in omega (arith, most);
 }
 
 -- THE OWN ANSWERS OF THE RELEASE CALL.

@@ -1,10 +1,11 @@
 -- All eight sections from a place on, and a whole request, with guards or without: a law for each way that a reader returns. Assumes nothing.
-use Prim.Native.Nat.{ℕ, zero, suc, _+_, _≤_, _<_, _^_}
+use Prim.Native.Nat.{ℕ, _+_, _≤_, _<_, _^_}
 use native.Mathlib.Omega.{arith}
 use mathlib.Core.Path.{_≡_, refl, sym, _∙_, ap, subst}
 use mathlib.Core.Bool.{Bool, true, false}
-use mathlib.Core.List.{List, [], _∷_}
+use mathlib.Core.List.{List}
 use lib.ListN.{length, getD, set}
+use lib.Seq.{set-set}
 use lib.Dec.{ltb}
 use borrow.Author.Tests.{lt-ltb, le-ltb, ltb-false}
 use Rattle.meaning.specs.Tests.{pick}
@@ -108,14 +109,9 @@ module _ {A : Type 0} (note : A → List ℕ → List ℕ) (y : A) (e : ℕ) (t 
   ended false = refl
 
 -- THE GUARDS.
-set-twice : (l : List ℕ) (i a b : ℕ) → set (set l i a) i b ≡ set l i b
-set-twice [] i a b = refl
-set-twice (x ∷ xs) zero a b = refl
-set-twice (x ∷ xs) (suc i) a b = ap (λ (ys : List ℕ). x ∷ ys) (set-twice xs i a b)
-
 places-again : (plan items goals a b : ℕ) (t : List ℕ) → set (places-noted plan items goals a t) guards-slot b ≡ places-noted plan items goals b t
 unfolding places-noted
-places-again plan items goals a b t = set-twice (set (set (set t plan-slot plan) items-slot items) goals-slot goals) guards-slot a b
+places-again plan items goals a b t = set-set (set (set (set t plan-slot plan) items-slot items) goals-slot goals) guards-slot a b
 
 module _ (s : List ℕ) (n q : ℕ) (is : n ≡ getD s 0 0) (t : List ℕ) (guards : Passed) (read : guards ≡ passed (list-at (kind-of Literals) n 64 s q)) where
   list-read : guards ≡ passed (list-at literals (getD s 0 0) 64 s q)

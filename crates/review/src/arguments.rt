@@ -1,8 +1,8 @@
 // What the program is asked by its arguments (FORMAT 12.30, 12.31), which the script has put in order: a command, for `judge` a budget, files.
 ghost use Prim.Native.Nat.{_≤_};
 ghost use Rattle.io.specs.Counts.{Counts};
-use comparing::parts::same_part;
 use programs::Asked;
+use programs::is_word;
 use programs::number_of;
 
 // What is to be done with the files.
@@ -15,13 +15,6 @@ pub enum Command {
 pub enum Found {
     Command(Command),
     Nothing,
-}
-
-// Argument i is this word.
-pub fn is_word(i: usize, word: &[u8]) -> bool {
-    let mut text = io::buffer();
-    let n = os::arg(i, &mut text);
-    same_part(&text[..n], word)
 }
 
 fn budget_at(i: usize) -> Asked {

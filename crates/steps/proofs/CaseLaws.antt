@@ -196,9 +196,9 @@ module _ (held : List ℕ) (i : ℕ) (marks : State) (filling : Filling held i m
           unfolding both
           runs-both yields r second = second ∙ sym (runs-split ∙ rw yields refl)
 
-          pub runs-not : first ≡ false → first ≡ each-of (can-be-run t a) (fillings (drop i (open-in held)) marks)
+          pub runs-not : first ≡ false → false ≡ each-of (can-be-run t a) (fillings (drop i (open-in held)) marks)
           unfolding both
-          runs-not stuck = stuck ∙ sym (runs-split ∙ rw stuck refl)
+          runs-not stuck = sym (runs-split ∙ rw stuck refl)
 
         -- The state after it in each.
         module _ (t : Table) (a : ℕ) where

@@ -28,29 +28,31 @@ use Rattle.steps.specs.Flags.{flagged, flagged-at, Open-flags}
 use Rattle.steps.proofs.Served.{runs-at-hand, effects-at-hand}
 use Rattle.steps.proofs.LookLaws.{unmarked-unknown, marked-known}
 
--- ONE BODY, from the entry at i on.
+-- ONE BODY, that stands at p: flagged the entries from the one at i on, the flags are the whole's.
+abbrev pub Flags-ahead : (marks s : List ℕ) (p end : ℕ) (whole flags : List ℕ) (i : ℕ) → Type 0
+Flags-ahead marks s p end whole flags i = (p < i) × (whole ≡ flagged marks (bytes-from s i (end - i)) flags)
+
 pub flags-start : (s : List ℕ) (p : ℕ) → List-here all-literals s p → (x end : ℕ) → x ≡ getD s p 0 → end ≡ p + 1 + x → (marks flags : State)
-    → flagged marks (listed s p) flags ≡ flagged marks (bytes-from s (p + 1) (end - (p + 1))) flags
-flags-start s p here x end byte is marks flags = ap (λ (ls : List ℕ). flagged marks ls flags) (sym (list-starts s p here x end byte is))
+    → Flags-ahead marks s p end (flagged marks (listed s p) flags) flags (p + 1)
+flags-start s p here x end byte is marks flags = (omega arith, ap (λ (ls : List ℕ). flagged marks ls flags) (sym (list-starts s p here x end byte is)))
 
-module _ (whole : List ℕ) (marks flags s : List ℕ) (end i : ℕ) (so-far : whole ≡ flagged marks (bytes-from s i (end - i)) flags) where
-  module _ (l : ℕ) (more : i < end) (entry : l ≡ getD s i 0) where
-    abbrev others : List ℕ
-    others = bytes-from s (i + 1) (end - (i + 1))
-
-    flag-step : whole ≡ flagged marks others (pick (eqb (getD marks (l / 2) 0) 0) (λ _. set flags (l / 2) 1) (λ _. flags))
+module _ (marks s : List ℕ) (p end : ℕ) (whole flags : List ℕ) (i : ℕ) (so-far : Flags-ahead marks s p end whole flags i) where
+  module _ (more : i < end) (l : ℕ) (entry : l ≡ getD s i 0) where
+    flag-step : (after : List ℕ) → pick (eqb (getD marks (l / 2) 0) 0) (λ _. set flags (l / 2) 1) (λ _. flags) ≡ after → Flags-ahead marks s p end whole after (i + 1)
     unfolding flagged fluent-of
-    flag-step = so-far ∙ rw (entry-next s end i more, entry)
+    flag-step after is =
+        let behind = so-far .0 in
+        (omega arith, so-far .1 ∙ rw (entry-next s end i more, ← entry) (ap (flagged marks (bytes-from s (i + 1) (end - (i + 1)))) is))
 
-    pub flag-set : getD marks (l / 2) 0 ≡ 0 → whole ≡ flagged marks others (set flags (l / 2) 1)
-    flag-set e = flag-step ∙ ap (flagged marks others) (pick-true _ _ _ (eq-eqb _ _ e))
+    pub flag-set : getD marks (l / 2) 0 ≡ 0 → Flags-ahead marks s p end whole (set flags (l / 2) 1) (i + 1)
+    flag-set e = flag-step (set flags (l / 2) 1) (pick-true _ _ _ (eq-eqb _ _ e))
 
-    pub flag-kept : (getD marks (l / 2) 0 ≡ 0 → ⊥) → whole ≡ flagged marks others flags
-    flag-kept some = flag-step ∙ ap (flagged marks others) (pick-false _ _ _ (ne-eqb _ _ some))
+    pub flag-kept : (getD marks (l / 2) 0 ≡ 0 → ⊥) → Flags-ahead marks s p end whole flags (i + 1)
+    flag-kept some = flag-step flags (pick-false _ _ _ (ne-eqb _ _ some))
 
   pub flags-done : end ≤ i → flags ≡ whole
   unfolding flagged
-  flags-done h = sym (so-far ∙ rw (entry-last s end i h))
+  flags-done h = sym (so-far .1 ∙ rw (entry-last s end i h))
 
 -- ALONG AN ACTION'S LINES, whose bodies stand so many bytes behind their places.
 abbrev pub Bodies-ahead : (s t : List ℕ) (lines behind k : ℕ) → Type 0

@@ -5,13 +5,12 @@ use mathlib.Core.Path.{_≡_}
 use mathlib.Core.List.{List}
 use Rattle.meaning.specs.Limits
 use Rattle.meaning.specs.Limits.{format}
-use Rattle.meaning.specs.Requests.{Table}
 use Rattle.meaning.specs.Refusals.{at}
 use Rattle.meaning.specs.States.{State, first-state, state-after, outcome-to, outcome}
-use Rattle.meaning.specs.Walk.{Concerned, no-state, in-state, Step, walk, table-does, missed-in, judged}
-use Rattle.meaning.specs.ByCases.{after-cases, cases-does}
+use Rattle.meaning.specs.Walk.{Concerned, no-state, in-state, walk, missed-in, judged}
+use Rattle.meaning.specs.ByCases.{after-cases}
 use Rattle.meaning.proofs.PickLaws.{pick-has}
-use Rattle.meaning.proofs.KeptEnds.{On-places, Outcome-has, End-so, Step-so, meet-so, walk-so, end-of-so}
+use Rattle.meaning.proofs.KeptEnds.{On-places, Outcome-has, End-so, Step-so, meet-so, walk-so, end-of-so, table-does-so, cases-does-so}
 use Rattle.steps.specs.Held.{table-in, plan-in, request-in}
 use Rattle.steps.specs.Steps.{does-in, step-in, walk-held}
 
@@ -24,24 +23,16 @@ module _ (Miss : ℕ → State → Type 0) (Stop : ℕ → ℕ → Concerned Sta
     pub breaks : (s : State) → P s → (p : ℕ) → Stop Limits.guard-broken p (in-state s)
 
   module _ (so : Holds-so) where
-    table-so : (t : Table) → ((a : ℕ) (s : State) → P s → Outcome-has P (outcome-to t a s (state-after t a s))) → (a : ℕ) (s : State) → P s → Step-so Miss Stop P Place (table-does t a s)
-    unfolding table-does outcome
-    table-so t leads a s has = pick-has (Step-so Miss Stop P Place) _ _ _ (λ _. leads a s has) (λ _. so .stuck s has)
-
-    cases-so : (t : Table) → ((a : ℕ) (s : State) → P s → Outcome-has P (outcome-to t a s (after-cases t a s))) → (a : ℕ) (s : State) → P s → Step-so Miss Stop P Place (cases-does t a s)
-    unfolding cases-does
-    cases-so t leads a s has =
-        pick-has (Step-so Miss Stop P Place) _ _ _ (λ _. so .many) (λ _. pick-has (Step-so Miss Stop P Place) _ _ _ (λ _. leads a s has) (λ _. so .stuck s has))
-
     pub held-so : (s t : List ℕ)
         → ((a : ℕ) (u : State) → P u → Outcome-has P (outcome-to (table-in s) a u (state-after (table-in s) a u)))
         → ((a : ℕ) (u : State) → P u → Outcome-has P (outcome-to (table-in s) a u (after-cases (table-in s) a u)))
         → On-places Place (plan-in s t) → P (first-state format (table-in s)) → End-so Miss Stop (walk-held s t .end)
-    unfolding walk-held step-in does-in judged
+    unfolding walk-held step-in does-in judged outcome
     held-so s t known by-cases on first =
         let step = step-in s t in
         let does : (a : ℕ) (u : State) → P u → Step-so Miss Stop P Place (step .does a u) =
-        λ a u has. pick-has (Step-so Miss Stop P Place) _ _ _ (λ _. table-so (table-in s) known a u has) (λ _. cases-so (table-in s) by-cases a u has) in
+        λ a u has. pick-has (Step-so Miss Stop P Place) _ _ _ (λ _. table-does-so Miss Stop P Place (so .stuck) (table-in s) a u has (known a u has))
+        (λ _. cases-does-so Miss Stop P Place (so .stuck) (so .many) (table-in s) a u has (by-cases a u has)) in
         let broken : (u : State) → P u → (p : ℕ) → step .lacks u ≡ at p → Stop Limits.guard-broken p (in-state u) = λ u has p _. so .breaks u has p in
         meet-so Miss Stop P Place step does (so .stuck) broken (walk step (plan-in s t) (judged (request-in s t)))
         (walk-so Miss Stop P Place step does (so .stuck) broken (plan-in s t) on (judged (request-in s t)) (λ u has. end-of-so Miss Stop (missed-in (request-in s t) u) u (λ p _. so .misses u has p)))

@@ -20,4 +20,5 @@ pub mod CaseLaws
 pub mod TriedLaws
 pub mod ModeLaws
 pub mod HeldEnds
+pub mod SameHand
 pub mod ModeHand

@@ -65,6 +65,10 @@ module _ (asked : Asked) (marks : State) (x : ℕ) where
   unfolding met-as known-whether
   whether-met e marked = rw e (above-zero (getD marks x 0) (marked .small x) ∙ rw (known-true marks x, known-false marks x))
 
+-- From the entry behind i on, the list at p misses what the whole does.
+abbrev pub Missed-ahead : (test : ℕ → Bool) (s : List ℕ) (p end : ℕ) (whole : Code.Found) (i : ℕ) → Type 0
+Missed-ahead test s p end whole i = (p ≤ i) × (whole ≡ found (first-missed test (placed (i + 1) (bytes-from s (i + 1) (end - i)))))
+
 -- A LIST at p, read to its end.
 module _ (asked : Asked) (s : List ℕ) (p : ℕ) (here : List-here (bound-as asked) s p) where
   pub list-there : p < length s
@@ -77,9 +81,9 @@ module _ (asked : Asked) (s : List ℕ) (p : ℕ) (here : List-here (bound-as as
     ends-at : end ≡ p + getD s p 0
     ends-at = is ∙ ap (λ (y : ℕ). p + y) byte
 
-    pub missed-starts : (test : ℕ → Bool) → found (first-missed test (placed (p + 1) (listed s p))) ≡ found (first-missed test (placed (p + 1) (bytes-from s (p + 1) (end - p))))
+    pub missed-starts : (test : ℕ → Bool) → Missed-ahead test s p end (found (first-missed test (placed (p + 1) (listed s p)))) p
     unfolding listed
-    missed-starts test = let e = ends-at in let left : end - p ≡ getD s p 0 = omega arith in rw left
+    missed-starts test = let e = ends-at in let left : end - p ≡ getD s p 0 = omega arith in (omega arith, rw left)
 
     module _ (i : ℕ) (from : p ≤ i) (more : i < end) where
       pub entry-there : i + 1 < length s
@@ -94,22 +98,22 @@ module _ (asked : Asked) (s : List ℕ) (p : ℕ) (here : List-here (bound-as as
           let same : p + 1 + (i - p) ≡ i + 1 = omega arith in
           subst (λ (y : ℕ). y < bound-as asked) (ap (λ (j : ℕ). getD s j 0) same ∙ sym e) (here .below (i - p) (omega arith))
 
-module _ (whole : Code.Found) (test : ℕ → Bool) (s : List ℕ) (end i : ℕ) (so-far : whole ≡ found (first-missed test (placed (i + 1) (bytes-from s (i + 1) (end - i))))) where
+module _ (test : ℕ → Bool) (s : List ℕ) (p end : ℕ) (whole : Code.Found) (i : ℕ) (so-far : Missed-ahead test s p end whole i) where
   module _ (b : Bool) (l : ℕ) (more : i < end) (entry : l ≡ getD s (i + 1) 0) (tested : b ≡ test l) where
     first-is : whole ≡ found (pick b (λ _. first-missed test (placed (i + 1 + 1) (bytes-from s (i + 1 + 1) (end - (i + 1))))) (λ _. Refusals.at (i + 1)))
     unfolding first-missed placed
-    first-is = so-far ∙ rw (bytes-next s end i more, tested, entry)
+    first-is = so-far .1 ∙ rw (bytes-next s end i more, tested, entry)
 
     pub missed-here : b ≡ false → At (i + 1) ≡ whole
     unfolding found
     missed-here f = sym (first-is ∙ ap found (pick-false _ _ _ f))
 
-    pub missed-next : b ≡ true → whole ≡ found (first-missed test (placed (i + 1 + 1) (bytes-from s (i + 1 + 1) (end - (i + 1)))))
-    missed-next t = first-is ∙ ap found (pick-true _ _ _ t)
+    pub missed-next : b ≡ true → Missed-ahead test s p end whole (i + 1)
+    missed-next t = let from = so-far .0 in (omega arith, first-is ∙ ap found (pick-true _ _ _ t))
 
   pub missed-done : end ≤ i → Nowhere ≡ whole
   unfolding first-missed placed found
-  missed-done h = sym (so-far ∙ rw (bytes-done s end i h))
+  missed-done h = sym (so-far .1 ∙ rw (bytes-done s end i h))
 
 -- THE GOALS, and then the whether entries.
 module _ (s t : List ℕ) (here : At-hand s t) (goals : ℕ) (is : goals ≡ getD t goals-slot 0) where

@@ -1,4 +1,5 @@
-// Reasoning by cases (FORMAT section 22). Of the unknown fluents only the open ones are filled, which stand in a body of the action: no other changes what it does.
+// Whether an action can be run by cases, and the state after it (FORMAT section 22). Of the unknown fluents only the open ones are filled, which stand in a body of the
+// action: no other changes what it does.
 ghost use mathlib.Core.Path.{_≡_};
 ghost use mathlib.Core.Bool.{true, false};
 ghost use mathlib.Core.List.{[], _∷_};
@@ -45,7 +46,7 @@ fn runs_in_each(s: &[u8], t: &Notes, a: usize, held: &Open, i: usize, marks: Mar
             state[f] = limits::FALSE_MARK;
             return runs_in_each(s, t, a, held, next, state);
         }
-        return first;
+        return false;
     }
     can_be_run(s, t, a, &marks)
 }

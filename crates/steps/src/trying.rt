@@ -1,4 +1,4 @@
-// What an action does, in the mode of the walk.
+// What an action does in the mode of the walk: by what is known, or by cases.
 ghost use mathlib.Core.Path.{_≡_};
 ghost use Prim.Native.Nat.{_<_};
 ghost use Rattle.meaning.specs.Limits.{format};
@@ -16,7 +16,7 @@ use reading::notes;
 use reading::notes::Notes;
 use reading::notes::get;
 
-// Whether the action can be run.
+// Whether an action can be run.
 pub fn tried(s: &[u8], t: &Notes, a: usize, marks: &Marks) -> Tried
     requires { ⌜ At-hand (now s) (now t) ⌝ }
     requires { ⌜ a < format .actions ⌝ }
@@ -34,7 +34,7 @@ pub fn tried(s: &[u8], t: &Notes, a: usize, marks: &Marks) -> Tried
     try_cases(s, t, a, marks)
 }
 
-// The state after one that is not a sensing one and can be run.
+// The state after an action that is not a sensing one and can be run.
 pub fn after(s: &[u8], t: &Notes, a: usize, marks: &Marks) -> Marks
     requires { ⌜ At-hand (now s) (now t) ⌝ }
     requires { ⌜ a < format .actions ⌝ }

@@ -12,7 +12,7 @@ use Rattle.meaning.specs.States.{State, told, state-after, unknown-sensed, read
 use Rattle.meaning.specs.Walk.{Concerned, no-state, in-state, End, fine, missed, stopped, Walked, Step, Steps, meet, walk, table-does, missed-in, judged}
 use Rattle.meaning.specs.ByCases.{after-cases, cases-does}
 use Rattle.meaning.proofs.PickLaws.{pick-has}
-use Rattle.meaning.proofs.KeptEnds.{on-places, Outcome-has, End-so, Step-so, meet-so, walk-so, end-of-so}
+use Rattle.meaning.proofs.KeptEnds.{on-places, Outcome-has, End-so, Step-so, meet-so, walk-so, end-of-so, table-does-so, cases-does-so}
 
 module _ (P : State → Type 0) where
   -- ENDS: each state in them.
@@ -48,13 +48,11 @@ module _ (P : State → Type 0) where
   Does-keep = Step-so (λ _ s. P s) (λ _ _ u. Concerned-has u) P (λ _. Unit {0})
 
   pub table-keeps : (t : Table) → Kept-by t (state-after t) → (a : ℕ) (s : State) → P s → Does-keep (table-does t a s)
-  unfolding table-does outcome
-  table-keeps t kept a s has = pick-has Does-keep _ _ _ (λ _. outcome-kept t (state-after t) kept a s has) (λ _ p _. has)
+  unfolding outcome
+  table-keeps t kept a s has = table-does-so (λ _ u. P u) (λ _ _ u. Concerned-has u) P (λ _. Unit {0}) (λ _ has p _. has) t a s has (outcome-kept t (state-after t) kept a s has)
 
   pub cases-keep : (t : Table) → Kept-by t (after-cases t) → (a : ℕ) (s : State) → P s → Does-keep (cases-does t a s)
-  unfolding cases-does
-  cases-keep t kept a s has =
-      pick-has Does-keep _ _ _ (λ _ p _. tt) (λ _. pick-has Does-keep _ _ _ (λ _. outcome-kept t (after-cases t) kept a s has) (λ _ p _. has))
+  cases-keep t kept a s has = cases-does-so (λ _ u. P u) (λ _ _ u. Concerned-has u) P (λ _. Unit {0}) (λ _ has p _. has) (λ p _. tt) t a s has (outcome-kept t (after-cases t) kept a s has)
 
   pub walked-kept : (r : Request) (step : Steps State ℕ) → ((a : ℕ) (s : State) → P s → Does-keep (step .does a s)) → Keeps (meet step (walk step (r .plan) (judged r)))
   unfolding judged

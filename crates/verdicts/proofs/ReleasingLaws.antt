@@ -13,12 +13,12 @@ use borrow.Author.Tests.{eq-eqb, ne-eqb, lt-ltb, le-ltb}
 use Rattle.meaning.specs.declared.Answer.{Answer}
 use Rattle.meaning.specs.Limits
 use Rattle.meaning.specs.Limits.{format}
-use Rattle.meaning.specs.Requests.{Table, Entry, Request}
+use Rattle.meaning.specs.Requests.{Table, Request}
 use Rattle.meaning.specs.Reading.{Got, got, fault, next, Met, repeated, count-at, table-at, request-at}
 use Rattle.meaning.specs.Refusals
 use Rattle.meaning.specs.Refusals.{nowhere, at, contradiction-in, overlap-in, refuse}
-use Rattle.meaning.specs.States.{State, first-state}
-use Rattle.meaning.specs.Walk.{Walked, walked-guarded}
+use Rattle.meaning.specs.States.{State}
+use Rattle.meaning.specs.Walk.{Walked}
 use Rattle.meaning.specs.Judging.{Judgement, within, judge-settled, judge-got}
 use Rattle.meaning.specs.Releases.{Opening, opening, plans-at, byte-after, plan-answer, unreached, after-plan, answers-at, in-row, rows, settled-plans, own-answer, released, release-opened, release, plans-of, plans-in}
 use Rattle.meaning.specs.Tests.{pick}
@@ -46,7 +46,7 @@ use Rattle.finding.specs.TablesHere.{blank, table-in, Table-here}
 use Rattle.finding.proofs.FoundLaws.{found-none, found-at}
 use Rattle.finding.proofs.ReadLaws.{table-is, table-comes, table-stays}
 use Rattle.reader.proofs.WholeLaws.{Front}
-use Rattle.finding.proofs.StartLaws.{table-starts}
+use Rattle.finding.proofs.StartLaws.{front-here}
 use Rattle.refusing.specs.Settled.{table-settled}
 use Rattle.refusing.specs.Refusal18.{Overlap-found}
 use Rattle.refusing.proofs.SettleLaws.{behind-table}
@@ -209,13 +209,7 @@ module _ (s t : List ℕ) (plans start : ℕ) (here : Opened-here s t plans star
 -- PAST 16 AND 17.
 module _ (s t : List ℕ) (here : Table-here s t) where
   front-there : Front s 0 (table-in s)
-  front-there = table-starts s (table-in s) (here .table-end) (here .table) .front
-
-  pub first-byte : 0 < length s
-  first-byte = let second = front-there .second in omega arith
-
-  pub second-byte : 1 < length s
-  second-byte = front-there .second
+  front-there = front-here s t here
 
   pub counts-there : (n m : ℕ) → n ≡ getD s 0 0 → m ≡ getD s 1 0 → Counted s n m
   counts-there n m first second = record {

@@ -14,15 +14,21 @@ pub const STATE_LENGTH: u8 = 9;
 
 pub const NOT_REACHED: u8 = 22;
 
+pub const ROOM_SHORT: u8 = 39;
+
 pub const GUARD_BROKEN: u8 = 43;
 
 pub const TOO_MANY_CASES: u8 = 44;
+
+pub const INDEX_DIFFERS: u8 = 45;
 
 pub const NEITHER_INPUT: u8 = 0;
 
 pub const THE_REQUEST: u8 = 1;
 
 pub const THE_DERIVATION: u8 = 2;
+
+pub const THE_INDEX: u8 = 3;
 
 pub const WHETHER_ASKED: u8 = 30;
 

@@ -3,6 +3,8 @@
 //!     review judge [--line] [--budget N] REQUEST...           (100,000 unless told otherwise)
 //!     review judge-guarded [--budget N] REQUEST...
 //!     review judge-by-cases [--budget N] REQUEST...
+//!     review index REQUEST...
+//!     review judge-indexed [--budget N] REQUEST INDEX [REQUEST INDEX]...
 //!     review check REQUEST DERIVATION [REQUEST DERIVATION]...
 //!     review check-whether REQUEST DERIVATION [REQUEST DERIVATION]...
 //!     review release [--budget N] FILE...
@@ -10,18 +12,20 @@
 //! `check` and `check-whether` do not walk the plan: a derivation may be accepted where every budget is spent. The second takes requests
 //! with whether entries too, and derivations in the closing layout. With `--line` a walk that an action stops also says which executability line
 //! of it was missing. `judge-guarded` takes guarded requests, whose guards are to be known true all the way. `judge-by-cases` tries each action in every
-//! filling of what is unknown. `release` takes release files, each with many plans over one table, and has a line for each plan. The exit status is 0
-//! where each plan is verified or each derivation accepted, 1 where some answer is another, and 2 where something can't be read or written.
+//! filling of what is unknown. `index` says how the index of each request begins, and `judge-indexed` walks by an index, which the program `index` has
+//! written to a file. `release` takes release files, each with many plans over one table, and has a line for each plan. The exit status is 0 where each
+//! plan is verified, each derivation accepted or each request indexed, 1 where some answer is another, and 2 where something can't be read or written.
 
 use std::env;
 use std::fs::File;
 use std::io::{self, Read, Write};
 use std::process::ExitCode;
 
-use glintstring::{check, check_whether, show, Answer, Input, Judge, PlanAnswer, Released, DERIVATION_LIMIT, REQUEST_LIMIT};
+use glintstring::{check, check_whether, index, show, Answer, Input, Judge, PlanAnswer, Released, DERIVATION_LIMIT, INDEX_MOST, REQUEST_LIMIT};
 
 const USAGE: &str = "usage: review judge [--line] [--budget N] REQUEST... | review judge-guarded [--budget N] REQUEST... | \
-                     review judge-by-cases [--budget N] REQUEST... | review check REQUEST DERIVATION [REQUEST DERIVATION]... | \
+                     review judge-by-cases [--budget N] REQUEST... | review index REQUEST... | \
+                     review judge-indexed [--budget N] REQUEST INDEX [REQUEST INDEX]... | review check REQUEST DERIVATION [REQUEST DERIVATION]... | \
                      review check-whether REQUEST DERIVATION [REQUEST DERIVATION]... | review release [--budget N] FILE...";
 const BUDGET: u32 = 100_000;
 
@@ -41,33 +45,46 @@ fn read(name: &str, limit: usize) -> Result<Vec<u8>, String> {
     Ok(bytes)
 }
 
-/// Prints the words, the numbers, the state of answers 1, 2 and 43, and the bytes at the place.
-fn print(name: &str, answer: Answer, request: &[u8], derivation: &[u8]) -> io::Result<()> {
-    let mut out = io::stdout().lock();
-    writeln!(out, "{name}: {}", answer.words())?;
-    writeln!(out, "  number {}, place {}, count {}", answer.number(), answer.place(), answer.count())?;
-    if let Some(state) = answer.state() {
-        // A request that was walked starts with its number of fluents.
-        writeln!(out, "  state {}", state.line(request[0].into()))?;
-    }
-    let (named, whole) = match answer.named() {
-        None => return Ok(()),
-        Some(Input::Request) => ("request", request),
-        Some(Input::Derivation) => ("derivation", derivation),
-    };
-    let part = show(answer, request, derivation);
+/// What an answer is about: a request, with a derivation or an index beside it where there is one.
+struct About<'a> {
+    name: &'a str,
+    request: &'a [u8],
+    second: &'a [u8],
+}
+
+/// Prints the bytes of this part, which begins at this place, and of what they are.
+fn print_part(out: &mut impl Write, what: &str, place: usize, part: &[u8]) -> io::Result<()> {
     let bytes: String = part.iter().take(SHOWN).map(|byte| format!(" {byte}")).collect();
     let end = match part.len() {
         0 => " it ends there",
         1..=SHOWN => "",
         _ => " ...",
     };
-    writeln!(out, "  {named} from {}:{bytes}{end}", whole.len() - part.len())
+    writeln!(out, "  {what} from {place}:{bytes}{end}")
+}
+
+/// Prints the words, the numbers, the state of answers 1, 2 and 43, and the bytes at the place.
+fn print(answer: Answer, about: &About) -> io::Result<()> {
+    let mut out = io::stdout().lock();
+    writeln!(out, "{}: {}", about.name, answer.words())?;
+    writeln!(out, "  number {}, place {}, count {}", answer.number(), answer.place(), answer.count())?;
+    if let Some(state) = answer.state() {
+        // A request that was walked starts with its number of fluents.
+        writeln!(out, "  state {}", state.line(about.request[0].into()))?;
+    }
+    let Some(input) = answer.named() else { return Ok(()) };
+    let (whole, part) = match input {
+        Input::Request => (about.request, show(answer, about.request, about.second)),
+        Input::Derivation => (about.second, show(answer, about.request, about.second)),
+        // Which the showing call does not know.
+        Input::Index => (about.second, &about.second[answer.place()..]),
+    };
+    print_part(&mut out, &input.to_string(), whole.len() - part.len(), part)
 }
 
 /// The same, and what it is for the exit status.
-fn tell(name: &str, answer: Answer, request: &[u8], derivation: &[u8]) -> Result<u8, String> {
-    print(name, answer, request, derivation).map_err(|error| format!("standard output: {error}"))?;
+fn tell(answer: Answer, about: &About) -> Result<u8, String> {
+    print(answer, about).map_err(|error| format!("standard output: {error}"))?;
     Ok(if answer.is_verified() { GOOD } else { OTHER })
 }
 
@@ -80,23 +97,52 @@ fn print_line(request: &[u8], line: Option<usize>) -> io::Result<()> {
     writeln!(out, "  line from {place}:{bytes}")
 }
 
-fn judge_file(judge: &mut Judge, name: &str, budget: u32, lined: bool) -> Result<u8, String> {
-    let request = read(name, REQUEST_LIMIT)?;
-    let judged = judge.judge_line(&request, budget);
-    let told = tell(name, judged.answer, &request, &[])?;
-    if lined {
+/// What the commands take beside the files: a judge for all of them, and what the options say.
+struct Asked {
+    judge: Judge,
+    budget: u32,
+    lined: bool,
+}
+
+fn judge_file(asked: &mut Asked, names: &[&str]) -> Result<u8, String> {
+    let request = read(names[0], REQUEST_LIMIT)?;
+    let judged = asked.judge.judge_line(&request, asked.budget);
+    let told = tell(judged.answer, &About { name: names[0], request: &request, second: &[] })?;
+    if asked.lined {
         print_line(&request, judged.line).map_err(|error| format!("standard output: {error}"))?;
     }
     Ok(told)
 }
 
-/// The guarded call or the call by cases.
-type Walk = fn(&mut Judge, &[u8], u32) -> Answer;
+/// The same by the guarded call or by the call by cases.
+fn judge_file_by(walk: fn(&mut Judge, &[u8], u32) -> Answer, asked: &mut Asked, names: &[&str]) -> Result<u8, String> {
+    let request = read(names[0], REQUEST_LIMIT)?;
+    tell(walk(&mut asked.judge, &request, asked.budget), &About { name: names[0], request: &request, second: &[] })
+}
 
-/// The same by another call.
-fn judge_file_by(walk: Walk, judge: &mut Judge, name: &str, budget: u32) -> Result<u8, String> {
-    let request = read(name, REQUEST_LIMIT)?;
-    tell(name, walk(judge, &request, budget), &request, &[])
+/// Prints how the index of a request begins.
+fn index_file(_: &mut Asked, names: &[&str]) -> Result<u8, String> {
+    let request = read(names[0], REQUEST_LIMIT)?;
+    let index = match index(&request) {
+        Ok(index) => index,
+        Err(refused) => return tell(refused.answer(), &About { name: names[0], request: &request, second: &[] }),
+    };
+    let mut out = io::stdout().lock();
+    writeln!(out, "{}: indexed\n  number 0, place 0, count {}", names[0], index.len())
+        .and_then(|()| print_part(&mut out, "index", 0, &index))
+        .map_err(|error| format!("standard output: {error}"))?;
+    Ok(GOOD)
+}
+
+/// An answer about two files.
+fn tell_both(names: &[&str], limit: usize, answer: impl FnOnce(&[u8], &[u8]) -> Answer) -> Result<u8, String> {
+    let (request, second) = (read(names[0], REQUEST_LIMIT)?, read(names[1], limit)?);
+    let name = format!("{} with {}", names[0], names[1]);
+    tell(answer(&request, &second), &About { name: &name, request: &request, second: &second })
+}
+
+fn judge_indexed_files(asked: &mut Asked, names: &[&str]) -> Result<u8, String> {
+    tell_both(names, INDEX_MOST, |request, index| asked.judge.judge_indexed(request, index, asked.budget))
 }
 
 fn print_plans(name: &str, plans: &[PlanAnswer]) -> io::Result<()> {
@@ -110,33 +156,30 @@ fn print_plans(name: &str, plans: &[PlanAnswer]) -> io::Result<()> {
 }
 
 /// Answers the plans of a release file.
-fn release_file(judge: &mut Judge, name: &str, budget: u32) -> Result<u8, String> {
-    let file = read(name, REQUEST_LIMIT)?;
-    let released = judge.release(&file, budget);
+fn release_file(asked: &mut Asked, names: &[&str]) -> Result<u8, String> {
+    let file = read(names[0], REQUEST_LIMIT)?;
+    let released = asked.judge.release(&file, asked.budget);
     match &released {
-        Released::Refused(answer) => return tell(name, *answer, &file, &[]),
-        Released::Plans(plans) => print_plans(name, plans).map_err(|error| format!("standard output: {error}"))?,
+        Released::Refused(answer) => return tell(*answer, &About { name: names[0], request: &file, second: &[] }),
+        Released::Plans(plans) => print_plans(names[0], plans).map_err(|error| format!("standard output: {error}"))?,
     }
     Ok(if released.is_verified() { GOOD } else { OTHER })
 }
 
-/// Walks the plans of all files on one thread that has enough stack; the largest status, if there is a file.
-fn walk_all(names: &[&str], walk: impl Fn(&mut Judge, &str) -> Result<u8, String>) -> Option<u8> {
-    let mut judge = match Judge::new() {
-        Ok(judge) => judge,
-        Err(error) => return Some(status(Err(format!("no thread: {error}")))),
-    };
-    names.iter().map(|name| status(walk(&mut judge, name))).max()
-}
+/// What a command does for the files of one answer.
+type Command = fn(&mut Asked, &[&str]) -> Result<u8, String>;
 
-/// The derivation call or the whether call.
-type Call = fn(&[u8], &[u8]) -> Answer;
-
-fn check_files(call: Call, request: &str, derivation: &str) -> Result<u8, String> {
-    let name = format!("{request} with {derivation}");
-    let (request, derivation) = (read(request, REQUEST_LIMIT)?, read(derivation, DERIVATION_LIMIT)?);
-    tell(&name, call(&request, &derivation), &request, &derivation)
-}
+/// The commands, each with the number of files that an answer takes, and whether there is a budget.
+const COMMANDS: [(&str, usize, bool, Command); 8] = [
+    ("judge", 1, true, judge_file),
+    ("judge-guarded", 1, true, |asked, names| judge_file_by(Judge::judge_guarded, asked, names)),
+    ("judge-by-cases", 1, true, |asked, names| judge_file_by(Judge::judge_by_cases, asked, names)),
+    ("index", 1, false, index_file),
+    ("judge-indexed", 2, true, judge_indexed_files),
+    ("check", 2, false, |_, names| tell_both(names, DERIVATION_LIMIT, check)),
+    ("check-whether", 2, false, |_, names| tell_both(names, DERIVATION_LIMIT, check_whether)),
+    ("release", 1, true, release_file),
+];
 
 /// The answer's part of the exit status, or what failed, said on standard error.
 fn status(outcome: Result<u8, String>) -> u8 {
@@ -146,37 +189,34 @@ fn status(outcome: Result<u8, String>) -> u8 {
     })
 }
 
+/// The largest status of all answers; none where the words are no command.
+fn review(words: &[&str]) -> Option<u8> {
+    let (name, mut names) = words.split_first()?;
+    let (_, files, budgeted, command) = COMMANDS.iter().find(|command| command.0 == *name)?;
+    let (mut budget, mut lined) = (BUDGET, false);
+    if let (&"judge", ["--line", rest @ ..]) = (name, names) {
+        (lined, names) = (true, rest);
+    }
+    if let (true, ["--budget", rest @ ..]) = (budgeted, names) {
+        let (number, rest) = rest.split_first()?;
+        (budget, names) = (number.parse().ok()?, rest);
+    }
+    if names.is_empty() || names.len() % files != 0 {
+        return None;
+    }
+    // One thread that has enough stack walks the plans of all files.
+    let judge = match Judge::new() {
+        Ok(judge) => judge,
+        Err(error) => return Some(status(Err(format!("no thread: {error}")))),
+    };
+    let mut asked = Asked { judge, budget, lined };
+    names.chunks_exact(*files).map(|names| status(command(&mut asked, names))).max()
+}
+
 fn main() -> ExitCode {
     let words: Vec<String> = env::args_os().skip(1).map(|word| word.to_string_lossy().into_owned()).collect();
     let words: Vec<&str> = words.iter().map(String::as_str).collect();
-    let (words, lined) = match words[..] {
-        ["judge", "--line", ref rest @ ..] => ([&["judge"], rest].concat(), true),
-        _ => (words, false),
-    };
-    let judge_all = |names: &[&str], budget| walk_all(names, |judge, name| judge_file(judge, name, budget, lined));
-    let all_by = |walk: Walk, names: &[&str], budget| walk_all(names, |judge, name| judge_file_by(walk, judge, name, budget));
-    let guarded_all = |names: &[&str], budget| all_by(Judge::judge_guarded, names, budget);
-    let by_cases_all = |names: &[&str], budget| all_by(Judge::judge_by_cases, names, budget);
-    let release_all = |names: &[&str], budget| walk_all(names, |judge, name| release_file(judge, name, budget));
-    let check_all = |call: Call, names: &[&str]| names.chunks_exact(2).map(|pair| status(check_files(call, pair[0], pair[1]))).max();
-    let worst = match words[..] {
-        ["judge", "--budget", budget, ref names @ ..] => budget.parse().ok().and_then(|budget| judge_all(names, budget)),
-        ["judge", "--budget"] => None,
-        ["judge", ref names @ ..] => judge_all(names, BUDGET),
-        ["judge-guarded", "--budget", budget, ref names @ ..] => budget.parse().ok().and_then(|budget| guarded_all(names, budget)),
-        ["judge-guarded", "--budget"] => None,
-        ["judge-guarded", ref names @ ..] => guarded_all(names, BUDGET),
-        ["judge-by-cases", "--budget", budget, ref names @ ..] => budget.parse().ok().and_then(|budget| by_cases_all(names, budget)),
-        ["judge-by-cases", "--budget"] => None,
-        ["judge-by-cases", ref names @ ..] => by_cases_all(names, BUDGET),
-        ["release", "--budget", budget, ref names @ ..] => budget.parse().ok().and_then(|budget| release_all(names, budget)),
-        ["release", "--budget"] => None,
-        ["release", ref names @ ..] => release_all(names, BUDGET),
-        ["check", ref names @ ..] if names.len() % 2 == 0 => check_all(check, names),
-        ["check-whether", ref names @ ..] if names.len() % 2 == 0 => check_all(check_whether, names),
-        _ => None,
-    };
-    ExitCode::from(worst.unwrap_or_else(|| {
+    ExitCode::from(review(&words).unwrap_or_else(|| {
         eprintln!("{USAGE}");
         FAILED
     }))

@@ -1,12 +1,12 @@
 /*
  * Makes the calls of the archive that it is linked with: takes frames from standard input and writes replies to standard output, until the
  * input ends. Inputs stand between random bytes, and after each call it looks whether a byte changed that may not. A walk call, a guarded call, a call by
- * cases and a release call have the stack that the header asks for, each other call 256 KiB, with a page below that may not be touched.
+ * cases, an indexed call and a release call have the stack that the header asks for, each other call 256 KiB, with a page below that may not be touched.
  *   driver COUNTS [FAULT CALL]
  * At the end a line for each call and number, with how often it was given, is added to the file COUNTS. With a FAULT the call of that number,
- * from 1 on, goes wrong on purpose: its answer is another (answer), a byte is changed in its request or file (request), in its lent state,
- * derivation or row (second), just below that (below) or just above it (above), the line is another (line) or what stands around it (beside), or the driver ends
- * instead of a reply (end).
+ * from 1 on, goes wrong on purpose: its answer is another (answer), a byte is changed in its request or file (request), in its lent state or room,
+ * derivation or row (second), just below that (below) or just above it (above), in its index (third), the line is another (line) or what stands around it
+ * (beside), or the driver ends instead of a reply (end).
  */
 #define _GNU_SOURCE
 #include <stdio.h>
@@ -76,7 +76,7 @@ static int changed_around(const struct fenced *input) {
 
 /* The call that is made, and what it gives. */
 static struct frame frame;
-static struct fenced request, second;
+static struct fenced request, second, third;
 static uint64_t answer;
 
 /* The lent number, which is the one in the middle, and what it and those around it were before. */
@@ -85,10 +85,13 @@ static uint32_t line[3], line_before[3];
 static void make(void) {
     const uint8_t *first = frame.request_at == NOWHERE ? NULL : request.bytes + request.from;
     uint8_t *other = frame.second_at == NOWHERE ? NULL : second.bytes + second.from;
+    const uint8_t *index = frame.third_at == NOWHERE ? NULL : third.bytes + third.from;
     switch (frame.call) {
     case JUDGE: answer = glintstring_judge(first, request.length, other, second.length, frame.budget); break;
     case JUDGE_GUARDED: answer = glintstring_judge_guarded(first, request.length, other, second.length, frame.budget); break;
     case JUDGE_BY_CASES: answer = glintstring_judge_by_cases(first, request.length, other, second.length, frame.budget); break;
+    case INDEX: answer = glintstring_index(first, request.length, other, second.length); break;
+    case JUDGE_INDEXED: answer = glintstring_judge_indexed(first, request.length, index, third.length, other, second.length, frame.budget); break;
     case JUDGE_LINE: answer = glintstring_judge_line(first, request.length, other, second.length, frame.budget, &line[1]); break;
     case CHECK: answer = glintstring_check(first, request.length, other, second.length); break;
     case CHECK_WHETHER: answer = glintstring_check_whether(first, request.length, other, second.length); break;
@@ -122,27 +125,33 @@ static void go_wrong(const char *fault) {
     else if (strcmp(fault, "second") == 0) start[0] ^= 1;
     else if (strcmp(fault, "below") == 0) start[-1] ^= 1;
     else if (strcmp(fault, "above") == 0) start[second.length] ^= 1;
+    else if (strcmp(fault, "third") == 0) third.bytes[third.from] ^= 1;
     else if (strcmp(fault, "line") == 0) line[1] ^= 1;
     else if (strcmp(fault, "beside") == 0) line[2] ^= 1;
     else fail("it ends, as it was told to");
 }
 
-/* Whether the call walks, and writes what is lent to it. */
 static int walks(void) {
-    return frame.call == JUDGE || frame.call == JUDGE_LINE || frame.call == JUDGE_GUARDED || frame.call == JUDGE_BY_CASES || frame.call == RELEASE;
+    return frame.call == JUDGE || frame.call == JUDGE_LINE || frame.call == JUDGE_GUARDED || frame.call == JUDGE_BY_CASES || frame.call == JUDGE_INDEXED ||
+           frame.call == RELEASE;
 }
+
+/* Whether the call may write its second input. */
+static int writes(void) { return walks() || frame.call == INDEX; }
 
 static uint32_t changed_by_call(void) {
     if (changed_around(&request)) return AROUND_REQUEST;
     if (changed(&request)) return REQUEST;
     if (changed_around(&second)) return AROUND_SECOND;
-    if (!walks() && changed(&second)) return DERIVATION;
+    if (!writes() && changed(&second)) return DERIVATION;
+    if (changed_around(&third)) return AROUND_THIRD;
+    if (changed(&third)) return THIRD;
     if (line[0] != line_before[0] || line[2] != line_before[2]) return AROUND_LINE;
     return NOTHING;
 }
 
 int main(int words, char **word) {
-    static const char *const name[CALLS] = {"judge", "judge_line", "check", "check_whether", "show", "release", "plans", "judge_guarded", "judge_by_cases"};
+    static const char *const name[CALLS] = {"judge", "judge_line", "check", "check_whether", "show", "release", "plans", "judge_guarded", "judge_by_cases", "index", "judge_indexed"};
     static uint64_t given[CALLS][256];
     uint64_t calls = 0, faulty = words == 4 ? strtoull(word[3], NULL, 10) : 0;
     char *stack = stack_of(GLINTSTRING_STACK_NEEDED), *little_stack = stack_of(LITTLE_STACK);
@@ -152,6 +161,7 @@ int main(int words, char **word) {
         if (frame.call >= CALLS) fail("there is no such call");
         take(&request, frame.request_length, frame.request_at);
         take(&second, frame.second_length, frame.second_at);
+        take(&third, frame.third_length, frame.third_at);
         fill((uint8_t *)line, sizeof line);
         memcpy(line_before, line, sizeof line);
         if (walks()) make_on(stack, GLINTSTRING_STACK_NEEDED);
@@ -163,7 +173,7 @@ int main(int words, char **word) {
         reply.changed = changed_by_call();
         reply.line = line[1];
         fwrite(&reply, sizeof reply, 1, stdout);
-        if (walks()) fwrite(second.bytes + second.from, 1, second.length, stdout);
+        if (writes()) fwrite(second.bytes + second.from, 1, second.length, stdout);
         if (fflush(stdout) != 0) fail("a reply cannot be written");
     }
     FILE *counts = fopen(word[1], "a");

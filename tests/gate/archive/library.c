@@ -76,17 +76,23 @@ static int received(void *to, size_t length) {
 
 static uint8_t at(const uint8_t *bytes) { return bytes == NULL ? NOWHERE : (uint8_t)((uintptr_t)bytes & 15); }
 
-/* The lent bytes are those of a walk call, a guarded call, a call by cases or a release call, and the line is that of one with the line. */
-static uint64_t made(struct frame frame, const uint8_t *request, const uint8_t *second, uint8_t *lent, uint32_t *line) {
+/* The lent bytes are those of a walk call, a guarded call, a call by cases, an indexed call, an index call or a release call, the third input is an
+   index, and the line is that of a walk call with the line. */
+static uint64_t made(struct frame frame, const uint8_t *request, const uint8_t *second, const uint8_t *third, uint8_t *lent, uint32_t *line) {
     static const char *const what[] = {"", "the request", "what stands around the request", "the derivation",
-                                       "what stands around the lent state, the derivation or the row", "what stands around the line"};
-    struct iovec parts[] = {{&frame, sizeof frame}, {(void *)request, frame.request_length}, {(void *)second, frame.second_length}};
+                                       "what stands around the lent state, the room, the derivation or the row", "what stands around the line",
+                                       "the index", "what stands around the index"};
+    struct iovec parts[] = {{&frame, sizeof frame},
+                            {(void *)request, frame.request_length},
+                            {(void *)second, frame.second_length},
+                            {(void *)third, frame.third_length}};
     struct reply reply;
     frame.request_at = at(request);
     frame.second_at = at(second);
+    frame.third_at = at(third);
     pthread_mutex_lock(&lock);
     if (driver == 0) start();
-    int replied = sent(parts, 3) && received(&reply, sizeof reply) && (lent == NULL || received(lent, frame.second_length));
+    int replied = sent(parts, 4) && received(&reply, sizeof reply) && (lent == NULL || received(lent, frame.second_length));
     pthread_mutex_unlock(&lock);
     if (replied && line != NULL) *line = reply.line;
     if (replied && reply.changed == NOTHING) return reply.answer;
@@ -95,49 +101,66 @@ static uint64_t made(struct frame frame, const uint8_t *request, const uint8_t *
     return NO_ANSWER;
 }
 
+/* A call to which bytes are lent beside its request. */
+static uint64_t lent_to(uint8_t call, const uint8_t *request, size_t request_length, uint8_t *lent, size_t length, uint32_t budget) {
+    struct frame frame = {.call = call, .request_length = request_length, .second_length = length, .budget = budget};
+    return made(frame, request, lent, NULL, lent, NULL);
+}
+
 uint64_t glintstring_judge(const uint8_t *request, size_t request_length, uint8_t *state, size_t state_length, uint32_t budget) {
-    struct frame frame = {.call = JUDGE, .request_length = request_length, .second_length = state_length, .budget = budget};
-    return made(frame, request, state, state, NULL);
+    return lent_to(JUDGE, request, request_length, state, state_length, budget);
 }
 
 uint64_t glintstring_judge_guarded(const uint8_t *request, size_t request_length, uint8_t *state, size_t state_length, uint32_t budget) {
-    struct frame frame = {.call = JUDGE_GUARDED, .request_length = request_length, .second_length = state_length, .budget = budget};
-    return made(frame, request, state, state, NULL);
+    return lent_to(JUDGE_GUARDED, request, request_length, state, state_length, budget);
 }
 
 uint64_t glintstring_judge_by_cases(const uint8_t *request, size_t request_length, uint8_t *state, size_t state_length, uint32_t budget) {
-    struct frame frame = {.call = JUDGE_BY_CASES, .request_length = request_length, .second_length = state_length, .budget = budget};
-    return made(frame, request, state, state, NULL);
+    return lent_to(JUDGE_BY_CASES, request, request_length, state, state_length, budget);
+}
+
+uint64_t glintstring_index(const uint8_t *request, size_t request_length, uint8_t *room, size_t room_length) {
+    return lent_to(INDEX, request, request_length, room, room_length, 0);
+}
+
+uint64_t glintstring_judge_indexed(const uint8_t *request, size_t request_length, const uint8_t *index, size_t index_length, uint8_t *state,
+                                   size_t state_length, uint32_t budget) {
+    struct frame frame = {.call = JUDGE_INDEXED,
+                          .request_length = request_length,
+                          .second_length = state_length,
+                          .third_length = index_length,
+                          .budget = budget};
+    return made(frame, request, state, index, state, NULL);
 }
 
 uint64_t glintstring_judge_line(const uint8_t *request, size_t request_length, uint8_t *state, size_t state_length, uint32_t budget,
                                 uint32_t *line) {
     struct frame frame = {.call = JUDGE_LINE, .request_length = request_length, .second_length = state_length, .budget = budget};
-    return made(frame, request, state, state, line);
+    return made(frame, request, state, NULL, state, line);
 }
 
 uint64_t glintstring_check(const uint8_t *request, size_t request_length, const uint8_t *derivation, size_t derivation_length) {
     struct frame frame = {.call = CHECK, .request_length = request_length, .second_length = derivation_length};
-    return made(frame, request, derivation, NULL, NULL);
+    return made(frame, request, derivation, NULL, NULL, NULL);
 }
 
 uint64_t glintstring_check_whether(const uint8_t *request, size_t request_length, const uint8_t *derivation, size_t derivation_length) {
     struct frame frame = {.call = CHECK_WHETHER, .request_length = request_length, .second_length = derivation_length};
-    return made(frame, request, derivation, NULL, NULL);
+    return made(frame, request, derivation, NULL, NULL, NULL);
 }
 
 uint64_t glintstring_show(uint64_t answer, const uint8_t *request, size_t request_length, const uint8_t *derivation,
                           size_t derivation_length) {
     struct frame frame = {.call = SHOW, .answer = answer, .request_length = request_length, .second_length = derivation_length};
-    return made(frame, request, derivation, NULL, NULL);
+    return made(frame, request, derivation, NULL, NULL, NULL);
 }
 
 uint64_t glintstring_release(const uint8_t *file, size_t file_length, uint32_t *row, size_t row_length, uint32_t budget) {
     struct frame frame = {.call = RELEASE, .request_length = file_length, .second_length = row_length * sizeof *row, .budget = budget};
-    return made(frame, file, (uint8_t *)row, (uint8_t *)row, NULL);
+    return made(frame, file, (uint8_t *)row, NULL, (uint8_t *)row, NULL);
 }
 
 uint32_t glintstring_plans(const uint8_t *file, size_t file_length) {
     struct frame frame = {.call = PLANS, .request_length = file_length};
-    return (uint32_t)made(frame, file, NULL, NULL, NULL);
+    return (uint32_t)made(frame, file, NULL, NULL, NULL, NULL);
 }

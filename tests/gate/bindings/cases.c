@@ -44,7 +44,11 @@ static const uint8_t eighteen_lines[328] = {
 static const uint8_t case_10[22] = {2, 1, 0, 2, 0, 0, 1, 2, 0, 0, 1, 3, 1, 0, 0, 0, 0, 1, 0, 1, 0, 0};
 static const uint8_t thirteen[29] = {13, 1, 0, 1, 0, 0, 13, 0, 2, 4, 6, 8, 10, 12, 14, 16, 18, 20, 22, 24, 1, 0, 0, 0, 0, 1, 0, 0, 0};
 
+/* The index of File A. */
+static const uint8_t index_of_a[18] = {0, 1, 0, 18, 2, 0, 7, 0, 10, 1, 0, 20, 1, 0, 14, 1, 0, 23};
+
 static uint8_t state[GLINTSTRING_STATE_LENGTH];
+static uint8_t room[GLINTSTRING_INDEX_MOST];
 
 static int is(uint64_t answer, unsigned number, unsigned input, unsigned place, unsigned count) {
     return glintstring_number(answer) == number && glintstring_input(answer) == input && glintstring_place(answer) == place &&
@@ -56,13 +60,16 @@ static int is_plan(const uint32_t *row, unsigned plan, unsigned number, unsigned
     return numbers[0] == number && numbers[1] == place && numbers[2] == count && numbers[3] == input;
 }
 
-/* As lent. */
-static int untouched(void) {
-    size_t f;
-    for (f = 0; f < sizeof state; f++)
-        if (state[f] != 9) return 0;
+/* As lent: the room from this place on, and the state. */
+static int untouched_from(size_t place) {
+    size_t i;
+    for (i = place; i < sizeof room; i++)
+        if (room[i] != 9) return 0;
+    for (i = 0; i < sizeof state; i++)
+        if (state[i] != 9) return 0;
     return 1;
 }
+static int untouched(void) { return untouched_from(0); }
 
 /* The four marks, and zeros behind them. */
 static int marked(uint8_t m0, uint8_t m1, uint8_t m2, uint8_t m3) {
@@ -72,14 +79,16 @@ static int marked(uint8_t m0, uint8_t m1, uint8_t m2, uint8_t m3) {
     return state[0] == m0 && state[1] == m1 && state[2] == m2 && state[3] == m3;
 }
 
+static int known(unsigned number) {
+    return number <= 3 || (9 <= number && number <= 22) || (30 <= number && number <= 36) || number == 39 || (43 <= number && number <= 45);
+}
+
 /* Each number of the format has words of its own, and every other number the same words. */
 static int worded(void) {
     unsigned one, other;
     for (one = 0; one <= 300; one++)
         for (other = 0; other < one; other++) {
-            const int known = one <= 3 || (9 <= one && one <= 22) || (30 <= one && one <= 36) || one == 43 || one == 44;
-            const int known_too = other <= 3 || (9 <= other && other <= 22) || (30 <= other && other <= 36) || other == 43 || other == 44;
-            if ((strcmp(glintstring_words(one), glintstring_words(other)) == 0) != (!known && !known_too)) return 0;
+            if ((strcmp(glintstring_words(one), glintstring_words(other)) == 0) != (!known(one) && !known(other))) return 0;
         }
     return strcmp(glintstring_words(GLINTSTRING_VERIFIED), "verified") == 0;
 }
@@ -94,6 +103,7 @@ int main(void) {
     uint32_t line;
     size_t i;
     memset(state, 9, sizeof state);
+    memset(room, 9, sizeof room);
 
     if (!is(glintstring_judge(file_a, sizeof file_a, state, sizeof state, 100000), GLINTSTRING_VERIFIED, GLINTSTRING_NEITHER, 0, 5) || !untouched())
         return puts("bindings: 1"), 1;
@@ -176,6 +186,41 @@ int main(void) {
     if (!is(glintstring_judge(case_10, sizeof case_10, state, sizeof state, 2), GLINTSTRING_GOAL_MISSED, GLINTSTRING_REQUEST, 20, 2) ||
         !marked(GLINTSTRING_UNKNOWN, GLINTSTRING_UNKNOWN, 0, 0))
         return puts("bindings: 37"), 1;
+
+    /* The index of File A, in a room that is longer and in one that is just long enough; a room that is a byte short, no room, and a request that is refused,
+       which goes before the room, leave all as lent. */
+    memset(state, 9, sizeof state);
+    if (!is(glintstring_index(file_a, sizeof file_a, room, 17), GLINTSTRING_ROOM_SHORT, GLINTSTRING_NEITHER, 0, 0) ||
+        !is(glintstring_index(file_a, sizeof file_a, NULL, 0), GLINTSTRING_ROOM_SHORT, GLINTSTRING_NEITHER, 0, 0) ||
+        !is(glintstring_index(file_a, 47, NULL, 0), GLINTSTRING_INPUT_ENDS, GLINTSTRING_REQUEST, 47, 0) ||
+        !is(glintstring_index(NULL, 0, room, sizeof room), GLINTSTRING_INPUT_ENDS, GLINTSTRING_REQUEST, 0, 0) || !untouched())
+        return puts("bindings: 38"), 1;
+    if (!is(glintstring_index(file_a, sizeof file_a, room, sizeof room), GLINTSTRING_INDEXED, GLINTSTRING_NEITHER, 0, sizeof index_of_a) ||
+        memcmp(room, index_of_a, sizeof index_of_a) != 0 || !untouched_from(sizeof index_of_a))
+        return puts("bindings: 39"), 1;
+    memset(room, 9, sizeof room);
+    if (!is(glintstring_index(file_a, sizeof file_a, room, sizeof index_of_a), GLINTSTRING_INDEXED, GLINTSTRING_NEITHER, 0, sizeof index_of_a) ||
+        memcmp(room, index_of_a, sizeof index_of_a) != 0 || !untouched_from(sizeof index_of_a))
+        return puts("bindings: 40"), 1;
+
+    /* By its index File A is answered as by the walk call. By another one, also with no budget, the first difference is told, of which nothing is shown; what the
+       request lacks, and the length of the state, go before it; and the conversion can't be run by it either. */
+    if (!is(glintstring_judge_indexed(file_a, sizeof file_a, room, 18, state, sizeof state, 5), GLINTSTRING_VERIFIED, GLINTSTRING_NEITHER, 0, 5) ||
+        !is(glintstring_judge_indexed(file_a, sizeof file_a, room, 18, state, sizeof state, 4), GLINTSTRING_BUDGET_SPENT, GLINTSTRING_NEITHER, 0, 4) ||
+        !untouched_from(18))
+        return puts("bindings: 41"), 1;
+    answer = glintstring_judge_indexed(file_a, sizeof file_a, room, 17, state, sizeof state, 0);
+    if (!is(answer, GLINTSTRING_INDEX_DIFFERS, GLINTSTRING_INDEX, 17, 0) || glintstring_show(answer, file_a, sizeof file_a, room, sizeof room) != 0 ||
+        !is(glintstring_judge_indexed(file_a, sizeof file_a, room, 19, state, sizeof state, 5), GLINTSTRING_INDEX_DIFFERS, GLINTSTRING_INDEX, 18, 0) ||
+        !is(glintstring_judge_indexed(file_a, sizeof file_a, NULL, 0, state, sizeof state, 5), GLINTSTRING_INDEX_DIFFERS, GLINTSTRING_INDEX, 0, 0) ||
+        !untouched_from(18))
+        return puts("bindings: 42"), 1;
+    if (!is(glintstring_judge_indexed(file_a, 47, NULL, 0, state, sizeof state, 5), GLINTSTRING_INPUT_ENDS, GLINTSTRING_REQUEST, 47, 0) ||
+        !is(glintstring_judge_indexed(file_a, 47, NULL, 0, state, 127, 5), GLINTSTRING_STATE_LENGTH_WRONG, GLINTSTRING_NEITHER, 0, 0) || !untouched_from(18))
+        return puts("bindings: 43"), 1;
+    if (!is(glintstring_judge_indexed(other, 34, room, 18, state, sizeof state, 5), GLINTSTRING_NOT_EXECUTABLE, GLINTSTRING_REQUEST, 31, 0) ||
+        !marked(GLINTSTRING_UNKNOWN, GLINTSTRING_FALSE, GLINTSTRING_FALSE, GLINTSTRING_FALSE))
+        return puts("bindings: 44"), 1;
 
     /* A release of four plans: File A's own, open unseen, an action that there is not, and one that is not reached. */
     memcpy(file, file_a, 29);
@@ -267,6 +312,6 @@ int main(void) {
     if (!worded())
         return puts("bindings: words"), 1;
 
-    puts("bindings: 50 calls as the format says, and what is shown of their answers");
+    puts("bindings: 64 calls as the format says, and what is shown of their answers");
     return 0;
 }

@@ -1,7 +1,8 @@
 /*
  * Each exported call at the ends of its lengths, by way of include/glintstring.h: 0, 1, the limit and one more for an input, null where the
- * length is 0, lent states of every length from 0 to 258 and lent rows of every length from 0 to 260. Each input ends where a page ends behind which nothing may be read or written,
- * or starts where such a page ends, and inputs may not be written at all: a call that goes astray ends the program by a signal.
+ * length is 0, lent states of every length from 0 to 258, lent rows of every length from 0 to 260 and lent rooms of every length from 0 to 1,278. Each input
+ * ends where a page ends behind which nothing may be read or written, or starts where such a page ends, and inputs may not be written at all: a call that goes
+ * astray ends the program by a signal.
  * It is compiled as C99 and as C++, and prints the first call that is not as it should be.
  */
 #define _DEFAULT_SOURCE
@@ -13,6 +14,7 @@
 #define ROOM 65536 /* a multiple of every page's size */
 #define STATES (2 * GLINTSTRING_STATE_LENGTH + 2)
 #define ROWS (GLINTSTRING_ROW_NUMBERS * GLINTSTRING_MOST_PLANS + 4)
+#define ROOMS (GLINTSTRING_INDEX_MOST + 2)
 #define LENT 9
 
 static unsigned long calls;
@@ -148,40 +150,67 @@ static void largest_derivation(uint8_t *to, int closing) {
 
 static uint8_t request[GLINTSTRING_REQUEST_LIMIT + 1], derivation[GLINTSTRING_DERIVATION_LIMIT + 1];
 static uint8_t *request_room, *derivation_room, *state_room, *line_room;
+static uint8_t as_lent[ROOM];
 
 /* The walk call with the line, which is written where the memory that may be written starts or ends, gives the same and the line 0: what stops
    the largest request is a branching. */
 static int same_with_line(uint64_t answer, const uint8_t *bytes, size_t length, uint8_t *state, size_t lent, int at_end) {
     uint32_t *line = (uint32_t *)(void *)(at_end ? line_room + ROOM - sizeof(uint32_t) : line_room);
-    size_t i;
     calls++;
     memset(line_room, LENT, ROOM);
     if (glintstring_judge_line(bytes, length, state, lent, 7, line) != answer || *line != 0) return 0;
     memset(line, LENT, sizeof *line);
-    for (i = 0; i < ROOM; i++)
-        if (line_room[i] != LENT) return 0;
-    return 1;
+    return memcmp(line_room, as_lent, ROOM) == 0;
 }
 
-typedef uint64_t (*walk_call)(const uint8_t *, size_t, uint8_t *, size_t, uint32_t);
+/* What is lent, and what is around it, is as it was. */
+static int kept(const char *what, size_t lent) {
+    if (memcmp(state_room, as_lent, ROOM) == 0)
+        return 1;
+    printf("lengths: a byte of %s of length %lu, or around it, was changed\n", what, (unsigned long)lent);
+    return 0;
+}
 
-/* The walk call, the guarded call or the call by cases on these bytes, with count 0, and with lent states of every length: 9 for all but one, and 2 or
-   43 alone writes the state, in which nothing is known. */
-static int walks(walk_call call, const uint8_t *bytes, size_t length, unsigned number, unsigned place) {
+/* Asks a call of these bytes, with all that it may be lent; the answer has this number and this place, but for what was lent. */
+typedef int (*asking)(const uint8_t *bytes, size_t length, unsigned number, unsigned place);
+
+/* Asks of one byte, of as many as there may be, which get this number at this place, and of one more, at the start and at the end of a stretch; and of no
+   byte, at null and at an address where nothing may be read. */
+static int asked(asking ask, const uint8_t *largest, unsigned number, unsigned place) {
+    int at_end;
+    for (at_end = 0; at_end <= 1; at_end++) {
+        const uint8_t zero = 0, one = 1;
+        if (!ask(put(request_room, &zero, 1, at_end), 1, GLINTSTRING_COUNT_NOT_WITHIN_LIMITS, 0) ||
+            !ask(put(request_room, &one, 1, at_end), 1, GLINTSTRING_INPUT_ENDS, 1) ||
+            !ask(put(request_room, largest, GLINTSTRING_REQUEST_LIMIT, at_end), GLINTSTRING_REQUEST_LIMIT, number, place) ||
+            !ask(put(request_room, largest, GLINTSTRING_REQUEST_LIMIT + 1, at_end), GLINTSTRING_REQUEST_LIMIT + 1, GLINTSTRING_TOO_LONG, 0))
+            return 0;
+    }
+    return ask(NULL, 0, GLINTSTRING_INPUT_ENDS, 0) && ask(request_room - 1, 0, GLINTSTRING_INPUT_ENDS, 0);
+}
+
+/* The walk call, the guarded call, the call by cases, or the indexed call by an index. */
+typedef uint64_t (*walk_call)(const uint8_t *, size_t, uint8_t *, size_t, uint32_t);
+static walk_call walk;
+
+/* That call on these bytes, with count 0, and with lent states of every length: 9 for all but one, and 2 or 43 alone writes the state, in which nothing is
+   known. */
+static int walks(const uint8_t *bytes, size_t length, unsigned number, unsigned place) {
+    const int stops = number == GLINTSTRING_NOT_EXECUTABLE || number == GLINTSTRING_GUARD_BROKEN;
+    const unsigned named = number == GLINTSTRING_INDEX_DIFFERS ? GLINTSTRING_INDEX : GLINTSTRING_REQUEST;
     size_t lent, i;
     int at_end;
     for (lent = 0; lent <= STATES; lent++)
         for (at_end = 0; at_end <= 1; at_end++) {
-            const int stops = number == GLINTSTRING_NOT_EXECUTABLE || number == GLINTSTRING_GUARD_BROKEN;
             const int written = stops && lent == GLINTSTRING_STATE_LENGTH;
             uint8_t *state = at_end ? state_room + ROOM - lent : state_room;
             uint64_t answer;
             memset(state_room, LENT, ROOM);
-            answer = call(bytes, length, lent == 0 && at_end ? NULL : state, lent, 7);
-            if (!(lent == GLINTSTRING_STATE_LENGTH ? is(answer, number, GLINTSTRING_REQUEST, place, 0)
+            answer = walk(bytes, length, lent == 0 && at_end ? NULL : state, lent, 7);
+            if (!(lent == GLINTSTRING_STATE_LENGTH ? is(answer, number, named, place, 0)
                                                    : is(answer, GLINTSTRING_STATE_LENGTH_WRONG, GLINTSTRING_NEITHER, 0, 0)))
                 return printf("lengths: a request of %lu bytes, %lu lent\n", (unsigned long)length, (unsigned long)lent), 0;
-            if (call == glintstring_judge) {
+            if (walk == glintstring_judge) {
                 if (written)
                     memset(state, LENT, lent);
                 if (!same_with_line(answer, bytes, length, lent == 0 && at_end ? NULL : state, lent, at_end))
@@ -192,26 +221,15 @@ static int walks(walk_call call, const uint8_t *bytes, size_t length, unsigned n
                     if (state[i] != GLINTSTRING_UNKNOWN) return printf("lengths: fluent %lu is known\n", (unsigned long)i), 0;
                 memset(state, LENT, lent);
             }
-            for (i = 0; i < ROOM; i++)
-                if (state_room[i] != LENT)
-                    return printf("lengths: a byte of a state of %lu bytes, or around it, was changed\n", (unsigned long)lent), 0;
+            if (!kept("a state", lent)) return 0;
         }
     return 1;
 }
 
-/* What the three calls are asked, with a request that has as many bytes as there may be and stops the walk by this number. */
+/* What such a call is asked, with a request that has as many bytes as there may be and stops the walk by this number. */
 static int walked(walk_call call, const uint8_t *largest, unsigned number, unsigned place) {
-    int at_end;
-    for (at_end = 0; at_end <= 1; at_end++) {
-        const uint8_t zero = 0, one = 1;
-        if (!walks(call, put(request_room, &zero, 1, at_end), 1, GLINTSTRING_COUNT_NOT_WITHIN_LIMITS, 0) ||
-            !walks(call, put(request_room, &one, 1, at_end), 1, GLINTSTRING_INPUT_ENDS, 1) ||
-            !walks(call, put(request_room, largest, GLINTSTRING_REQUEST_LIMIT, at_end), GLINTSTRING_REQUEST_LIMIT, number, place) ||
-            !walks(call, put(request_room, largest, GLINTSTRING_REQUEST_LIMIT + 1, at_end), GLINTSTRING_REQUEST_LIMIT + 1, GLINTSTRING_TOO_LONG, 0))
-            return 0;
-    }
-    /* No byte: null, and an address where nothing may be read. */
-    return walks(call, NULL, 0, GLINTSTRING_INPUT_ENDS, 0) && walks(call, request_room - 1, 0, GLINTSTRING_INPUT_ENDS, 0);
+    walk = call;
+    return asked(walks, largest, number, place);
 }
 
 static int judged(void) {
@@ -242,6 +260,78 @@ static int by_cases(void) {
     bytes[place] = 0;
     return walked(glintstring_judge_by_cases, request, GLINTSTRING_NOT_EXECUTABLE, place) &&
            walked(glintstring_judge_by_cases, bytes, GLINTSTRING_TOO_MANY_CASES, place);
+}
+
+/* The index of the largest request where that has 128 actions, which is as long as any: all lines are those of action 0. */
+static void longest_index(uint8_t *to) {
+    const unsigned first[2] = {4, 4 + 255 * 19 + 1}, length[2] = {19, 18};
+    unsigned part, line;
+    memset(to, 0, GLINTSTRING_INDEX_MOST);
+    for (part = 0; part < 2; part++) {
+        *to++ = 255;
+        for (line = 0; line < 255; line++) {
+            *to++ = (uint8_t)((first[part] + line * length[part]) >> 8);
+            *to++ = (uint8_t)(first[part] + line * length[part]);
+        }
+    }
+}
+
+/* An index and, behind it, bytes that are none of it. */
+static uint8_t whole_index[ROOM];
+
+/* The index call on these bytes, with rooms of every length. The answer is that of the request; where that is 0, a room that is shorter than the index is
+   answered by 39, and every other one starts with the index. */
+static int builds(const uint8_t *bytes, size_t length, unsigned number, unsigned place) {
+    size_t lent;
+    int at_end;
+    for (lent = 0; lent <= ROOMS; lent++)
+        for (at_end = 0; at_end <= 1; at_end++) {
+            uint8_t *room = at_end ? state_room + ROOM - lent : state_room;
+            uint64_t answer;
+            memset(state_room, LENT, ROOM);
+            answer = glintstring_index(bytes, length, lent == 0 && at_end ? NULL : room, lent);
+            if (!(number != GLINTSTRING_INDEXED   ? is(answer, number, GLINTSTRING_REQUEST, place, 0)
+                  : lent < GLINTSTRING_INDEX_MOST ? is(answer, GLINTSTRING_ROOM_SHORT, GLINTSTRING_NEITHER, 0, 0)
+                                                  : is(answer, number, GLINTSTRING_NEITHER, 0, GLINTSTRING_INDEX_MOST)))
+                return printf("lengths: a request of %lu bytes, a room of %lu\n", (unsigned long)length, (unsigned long)lent), 0;
+            if (glintstring_number(answer) == GLINTSTRING_INDEXED) {
+                if (memcmp(room, whole_index, GLINTSTRING_INDEX_MOST) != 0) return puts("lengths: the longest index is another"), 0;
+                memset(room, LENT, GLINTSTRING_INDEX_MOST);
+            }
+            if (!kept("a room", lent)) return 0;
+        }
+    return 1;
+}
+
+/* The indexed call by so many bytes of it, at the start or at the end of a stretch, or at null. */
+static const uint8_t *given_index;
+static size_t given_length;
+static uint64_t judge_by_index(const uint8_t *bytes, size_t length, uint8_t *state, size_t state_length, uint32_t budget) {
+    return glintstring_judge_indexed(bytes, length, given_index, given_length, state, state_length, budget);
+}
+
+/* The largest request with 128 actions has the longest index, and stops as in the walk call. By an index of another length it is answered by 45, at the end of
+   the shorter one. */
+static int indexed(void) {
+    static const size_t lengths[] = {0, 1, GLINTSTRING_INDEX_MOST - 1, GLINTSTRING_INDEX_MOST, GLINTSTRING_INDEX_MOST + 1, ROOM};
+    unsigned place = 0;
+    size_t i;
+    int at_end;
+    largest_request(request, &place);
+    request[1] = 128;
+    longest_index(whole_index);
+    if (!asked(builds, request, GLINTSTRING_INDEXED, 0))
+        return 0;
+    for (i = 0; i < sizeof lengths / sizeof *lengths; i++)
+        for (at_end = 0; at_end <= 1; at_end++) {
+            const size_t end = lengths[i] < GLINTSTRING_INDEX_MOST ? lengths[i] : GLINTSTRING_INDEX_MOST;
+            given_length = lengths[i];
+            given_index = given_length == 0 && at_end ? NULL : put(derivation_room, whole_index, given_length, at_end);
+            if (!(given_length == GLINTSTRING_INDEX_MOST ? walked(judge_by_index, request, GLINTSTRING_NOT_EXECUTABLE, place)
+                                                         : walked(judge_by_index, request, GLINTSTRING_INDEX_DIFFERS, (unsigned)end)))
+                return printf("lengths: by an index of %lu bytes\n", (unsigned long)given_length), 0;
+        }
+    return 1;
 }
 
 typedef uint64_t (*derivation_call)(const uint8_t *, size_t, const uint8_t *, size_t);
@@ -279,10 +369,11 @@ static int checked(derivation_call call, int closing) {
 
 /*
  * The plans call and the release call on these bytes, with rows of every length. The answer is that of the file, which has one plan where it has
- * any: then it is 9 for all lengths but four. It is 0 for the largest file alone, and the row then says that the plan can't be run.
+ * any: then it is 9 for all lengths but four. It is 0 for the largest file alone, and the row then says that the plan can't be run, at this place.
  */
-static int releases(const uint8_t *bytes, size_t length, unsigned number, unsigned place, unsigned plans) {
-    size_t lent, i;
+static int releases(const uint8_t *bytes, size_t length, unsigned number, unsigned place) {
+    const unsigned plans = number == GLINTSTRING_ANSWERED;
+    size_t lent;
     int at_end;
     if (glintstring_plans(bytes, length) != plans)
         return printf("lengths: a file of %lu bytes has %lu plans\n", (unsigned long)length, (unsigned long)glintstring_plans(bytes, length)), 0;
@@ -302,9 +393,7 @@ static int releases(const uint8_t *bytes, size_t length, unsigned number, unsign
                     return puts("lengths: the row of the largest file is another"), 0;
                 memset(row, LENT, lent * sizeof(uint32_t));
             }
-            for (i = 0; i < ROOM; i++)
-                if (state_room[i] != LENT)
-                    return printf("lengths: a byte of a row of %lu numbers, or around it, was changed\n", (unsigned long)lent), 0;
+            if (!kept("a row", lent)) return 0;
         }
     return 1;
 }
@@ -313,21 +402,12 @@ static int releases(const uint8_t *bytes, size_t length, unsigned number, unsign
 static int released(void) {
     static uint8_t file[GLINTSTRING_REQUEST_LIMIT + 1];
     unsigned place = 0;
-    int at_end;
     largest_request(request, &place);
     memcpy(file, request, place - 2);
     file[place - 2] = 1;
     memcpy(file + place - 1, request + place - 2, GLINTSTRING_REQUEST_LIMIT + 1 - place);
     file[place]--;
-    for (at_end = 0; at_end <= 1; at_end++) {
-        const uint8_t zero = 0, one = 1;
-        if (!releases(put(request_room, &zero, 1, at_end), 1, GLINTSTRING_COUNT_NOT_WITHIN_LIMITS, 0, 0) ||
-            !releases(put(request_room, &one, 1, at_end), 1, GLINTSTRING_INPUT_ENDS, 1, 0) ||
-            !releases(put(request_room, file, GLINTSTRING_REQUEST_LIMIT, at_end), GLINTSTRING_REQUEST_LIMIT, GLINTSTRING_ANSWERED, place + 1, 1) ||
-            !releases(put(request_room, file, sizeof file, at_end), sizeof file, GLINTSTRING_TOO_LONG, 0, 0))
-            return 0;
-    }
-    return releases(NULL, 0, GLINTSTRING_INPUT_ENDS, 0, 0) && releases(request_room - 1, 0, GLINTSTRING_INPUT_ENDS, 0, 0);
+    return asked(releases, file, GLINTSTRING_ANSWERED, place + 1);
 }
 
 /* No byte is read, so the inputs may lie where nothing may be read. */
@@ -359,9 +439,11 @@ int main(void) {
     derivation_room = stretch();
     state_room = stretch();
     line_room = stretch();
-    if (!request_room || !derivation_room || !state_room || !line_room || !judged() || !guarded() || !by_cases() ||
+    memset(as_lent, LENT, ROOM);
+    if (!request_room || !derivation_room || !state_room || !line_room || !judged() || !guarded() || !by_cases() || !indexed() ||
         !checked(glintstring_check, 0) || !checked(glintstring_check_whether, 1) || !released() || !shown())
         return 1;
-    printf("lengths: %lu calls at the ends of their lengths, lent states of 0 to %d bytes and rows of 0 to %d numbers\n", calls, STATES, ROWS);
+    printf("lengths: %lu calls at the ends of their lengths, lent states of 0 to %d bytes, rows of 0 to %d numbers and rooms of 0 to %d bytes\n", calls, STATES,
+           ROWS, ROOMS);
     return 0;
 }

@@ -2,6 +2,8 @@
 //   driver walk BUDGET <REQUEST                     the walk call
 //   driver guarded BUDGET <GUARDED REQUEST          the guarded call
 //   driver by-cases BUDGET <REQUEST                 the call by cases
+//   driver indexed BUDGET <REQUEST                  the indexed call, with the index that the index call writes
+//   driver index 0 <REQUEST                         the index call, with room enough
 //   driver check LENGTH <REQUEST AND DERIVATION     the derivation call, on a request of that length and what follows it
 //   driver whether LENGTH <REQUEST AND DERIVATION   the whether call in the same way
 //   driver release BUDGET <RELEASE FILE             the release call, with a row of four numbers for each plan by the plans call
@@ -24,6 +26,8 @@ struct slice {
 u64 proved_judge(const struct slice *request, const struct slice *lent, u32 budget);
 u64 proved_guarded(const struct slice *request, const struct slice *lent, u32 budget);
 u64 proved_by_cases(const struct slice *request, const struct slice *lent, u32 budget);
+u64 proved_indexed(const struct slice *request, const struct slice *index, const struct slice *lent, u32 budget);
+u64 proved_index(const struct slice *request, const struct slice *room);
 u64 proved_check(const struct slice *request, const struct slice *derivation);
 u64 proved_whether(const struct slice *request, const struct slice *derivation);
 u64 proved_release(const struct slice *file, const struct slice *row, u32 budget);
@@ -81,13 +85,13 @@ static u64 untouched(u64 place) {
     return ~place * 0x9e3779b97f4a7c15UL;
 }
 
-// The call, with the stack pointer at `top`; what it pushes itself, the place to return to, counts as used.
-static u64 call_at(u64 *top, void *function, const struct slice *request, const struct slice *other, u64 budget) {
+// The call, with the stack pointer at `top`; what it pushes itself, the place to return to, counts as used. What a call does not take is ignored.
+static u64 call_at(u64 *top, void *function, const struct slice *request, const struct slice *other, u64 third, u64 fourth) {
     u64 result;
     __asm__ volatile("movq %%rsp, %%rbx\n\tmovq %[top], %%rsp\n\tcallq *%[function]\n\tmovq %%rbx, %%rsp"
-                     : "=a"(result), "+D"(request), "+S"(other), "+d"(budget)
+                     : "=a"(result), "+D"(request), "+S"(other), "+d"(third), "+c"(fourth)
                      : [top] "r"(top), [function] "r"(function)
-                     : "rbx", "rcx", "r8", "r9", "r10", "r11", "xmm0", "xmm1", "xmm2", "xmm3", "xmm4", "xmm5", "xmm6", "xmm7", "xmm8", "xmm9",
+                     : "rbx", "r8", "r9", "r10", "r11", "xmm0", "xmm1", "xmm2", "xmm3", "xmm4", "xmm5", "xmm6", "xmm7", "xmm8", "xmm9",
                        "xmm10", "xmm11", "xmm12", "xmm13", "xmm14", "xmm15", "memory", "cc");
     return result;
 }
@@ -108,10 +112,11 @@ static int is_word(const char *one, const char *other) {
 
 static byte bytes[1 << 16];
 static byte state[128];
+static byte written[1276];
 static u32 row[4 * 255];
 
 _Noreturn __attribute__((used)) static void begin(long *arguments) {
-    if (arguments[0] != 3) fail("driver: two arguments, walk, guarded, by-cases or release and the budget, check or whether and the request's length, or plans and 0\n");
+    if (arguments[0] != 3) fail("driver: two arguments, walk, guarded, by-cases, indexed or release and the budget, check or whether and the request's length, or index or plans and 0\n");
     const char *command = (const char *)arguments[2];
     u64 number = 0;
     for (const char *digit = (const char *)arguments[3]; *digit; digit++) {
@@ -120,7 +125,7 @@ _Noreturn __attribute__((used)) static void begin(long *arguments) {
         if (number >> 32) fail("driver: the second argument is above 32 bits\n");
     }
 
-    struct slice request = {bytes, 0}, lent = {state, sizeof state};
+    struct slice request = {bytes, 0}, lent = {state, sizeof state}, room = {written, sizeof written};
     for (;;) {
         long got = call(READ, 0, (long)(bytes + request.length), sizeof bytes - request.length, 0, 0, 0);
         if (got < 0) fail("driver: the request cannot be read\n");
@@ -137,22 +142,27 @@ _Noreturn __attribute__((used)) static void begin(long *arguments) {
 
     u64 answer;
     if (is_word(command, "walk")) {
-        answer = call_at(stack + WORDS, proved_judge, &request, &lent, number);
+        answer = call_at(stack + WORDS, proved_judge, &request, &lent, number, 0);
     } else if (is_word(command, "guarded")) {
-        answer = call_at(stack + WORDS, proved_guarded, &request, &lent, number);
+        answer = call_at(stack + WORDS, proved_guarded, &request, &lent, number, 0);
     } else if (is_word(command, "by-cases")) {
-        answer = call_at(stack + WORDS, proved_by_cases, &request, &lent, number);
+        answer = call_at(stack + WORDS, proved_by_cases, &request, &lent, number, 0);
+    } else if (is_word(command, "indexed")) {
+        room.length = proved_index(&request, &room) >> 32;
+        answer = call_at(stack + WORDS, proved_indexed, &request, &room, (u64)&lent, number);
+    } else if (is_word(command, "index")) {
+        answer = call_at(stack + WORDS, proved_index, &request, &room, 0, 0);
     } else if (is_word(command, "release")) {
         struct slice rows = {(byte *)row, 4 * proved_plans(&request, &lent)};
-        answer = call_at(stack + WORDS, proved_release, &request, &rows, number);
+        answer = call_at(stack + WORDS, proved_release, &request, &rows, number, 0);
         for (u64 place = 2; place < rows.length; place += 4) answer += (u64)row[place] << 32;
     } else if (is_word(command, "plans")) {
-        answer = call_at(stack + WORDS, proved_plans, &request, &lent, 0);
+        answer = call_at(stack + WORDS, proved_plans, &request, &lent, 0, 0);
     } else {
         if (request.length < number) fail("driver: the request is shorter than its length\n");
         struct slice derivation = {bytes + number, request.length - number};
         request.length = number;
-        answer = call_at(stack + WORDS, is_word(command, "check") ? proved_check : proved_whether, &request, &derivation, 0);
+        answer = call_at(stack + WORDS, is_word(command, "check") ? proved_check : proved_whether, &request, &derivation, 0, 0);
     }
 
     u64 lowest = PAGE;

@@ -1,11 +1,13 @@
 //! The answers of all calls, and the faults that a reading or a settling finds.
 
-/// Names neither input: answers 0, 3 and 9.
+/// Names no input: answers 0, 3, 9 and 39.
 pub const NEITHER: u8 = 0;
 /// Names the request.
 pub const REQUEST: u8 = 1;
 /// Names the derivation.
 pub const DERIVATION: u8 = 2;
+/// Names the index: answer 45.
+pub const INDEX: u8 = 3;
 
 /// What a call returns: the number, the input its place is in, the place, the count.
 #[derive(Clone, Copy, Debug, PartialEq, Eq)]
@@ -56,6 +58,11 @@ impl std::fmt::Display for Answer {
             self.number, self.input, self.place, self.count
         )
     }
+}
+
+/// Whether an answer with this number writes the lent state.
+pub fn writes_state(number: u8) -> bool {
+    matches!(number, 1 | 2 | 43)
 }
 
 /// A number of the table of answers together with a place in the input at hand.

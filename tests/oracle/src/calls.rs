@@ -1,6 +1,6 @@
 //! Random calls: inputs, right or damaged, with all that a call takes.
 
-use crate::answer::Fault;
+use crate::answer::{Answer, Fault};
 use crate::damage::{add_whether, change_allowances, damage_derivation, damage_request, Damaged};
 use crate::encode::{encode_derivation, encode_request};
 use crate::generate::{any_request, drawn, forgetful, starve, Shape, FULL, MIDDLE, SMALL, TINY};
@@ -46,6 +46,23 @@ pub struct JudgeCall {
     pub outlook: Outlook,
 }
 
+/// What a call on a request leaves: its answer, the line that this carries, and the lent state.
+#[derive(Clone, Debug, PartialEq, Eq)]
+pub struct Left {
+    pub answer: Answer,
+    pub line: u32,
+    pub lent: Vec<u8>,
+}
+
+impl JudgeCall {
+    /// The call made in one of the ways that there are.
+    pub(crate) fn made(&self, judge: impl Fn(&[u8], &mut [u8], u32) -> (Answer, u32)) -> Left {
+        let mut lent = self.lent.clone();
+        let (answer, line) = judge(&self.request, &mut lent, self.budget);
+        Left { answer, line, lent }
+    }
+}
+
 /// A derivation call.
 #[derive(Clone, Debug)]
 pub struct CheckCall {
@@ -57,9 +74,24 @@ pub struct CheckCall {
 /// A judging call of any kind; about three of ten requests are damaged.
 pub fn judge_call(rng: &mut Rng) -> JudgeCall {
     let draft = within_limit(rng, any_request);
-    let mut call = match rng.chance(30) {
-        true => damaged_judge_call(rng, &draft),
-        false => sound_judge_call(rng, &draft),
+    some_damaged(
+        rng,
+        30,
+        |rng| damaged_judge_call(rng, &draft),
+        |rng| sound_judge_call(rng, &draft),
+    )
+}
+
+/// A call that is damaged in so many cases of a hundred. Now and then the lent state has another length.
+pub(crate) fn some_damaged(
+    rng: &mut Rng,
+    percent: u64,
+    damaged: impl FnOnce(&mut Rng) -> JudgeCall,
+    sound: impl FnOnce(&mut Rng) -> JudgeCall,
+) -> JudgeCall {
+    let mut call = match rng.chance(percent) {
+        true => damaged(rng),
+        false => sound(rng),
     };
     if rng.chance(1) {
         lend_wrongly(rng, &mut call);

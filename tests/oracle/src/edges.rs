@@ -9,6 +9,7 @@ use crate::reader::{
     last_of_derivation, last_of_proof, last_of_request, read_derivation, read_proof, Part,
     ACTION_LIMIT, FLUENT_LIMIT, LIST_LIMIT,
 };
+use crate::tally::so;
 use crate::{open, STATE_LENGTH};
 
 /// The limit of fluents, of actions and of entries in a list: 128.
@@ -256,10 +257,4 @@ fn is_full(list: &[u8]) -> bool {
 
 fn has_last(lists: [&[u8]; 2]) -> bool {
     lists.iter().any(|list| list.last() == Some(&LAST_LITERAL))
-}
-
-/// Those of which it is so.
-fn so<const N: usize>(told: [(bool, Edge); N]) -> Vec<Edge> {
-    let so = told.into_iter().filter(|(so, _)| *so);
-    so.map(|(_, edge)| edge).collect()
 }

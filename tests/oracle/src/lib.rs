@@ -14,6 +14,7 @@ pub mod examples;
 pub mod forge;
 pub mod generate;
 pub mod guards;
+pub mod indexes;
 pub mod model;
 pub mod paths;
 pub mod prove;
@@ -25,7 +26,7 @@ pub mod rules;
 pub mod run;
 pub mod settle;
 pub mod table;
-mod tally;
+pub mod tally;
 pub mod text;
 pub mod walk;
 pub mod whether;
@@ -34,6 +35,7 @@ pub mod worlds;
 pub use answer::Answer;
 pub use cases::call::{judge_by_cases, judge_by_cases_line};
 pub use guards::call::{judge_guarded, judge_guarded_line};
+pub use indexes::call::{index, judge_indexed, judge_indexed_line};
 pub use releases::call::{plans, release};
 
 use answer::{Fault, DERIVATION, NEITHER, REQUEST};
@@ -54,19 +56,33 @@ pub fn judge(request: &[u8], lent: &mut [u8], budget: u32) -> Answer {
 /// The judging call with the line that its answer carries: in answer 2 at an action the place of
 /// the executability line that came nearest, 0 where it has none, and in every other answer.
 pub fn judge_line(request: &[u8], lent: &mut [u8], budget: u32) -> (Answer, u32) {
+    let opened = || open(request);
+    judge_opened(lent, budget, opened, |request, _| {
+        Ok(walk::walk(&request, budget))
+    })
+}
+
+/// Any call that walks: 9, then what opening its input refuses, then how the walk ends, or an answer
+/// that only this call gives. The line that the answer carries comes along.
+fn judge_opened<Opened>(
+    lent: &mut [u8],
+    budget: u32,
+    opened: impl FnOnce() -> Result<Opened, Fault>,
+    walked: impl FnOnce(Opened, &mut [u8]) -> Result<Verdict, Answer>,
+) -> (Answer, u32) {
     if lent.len() != STATE_LENGTH {
         return (Answer::neither(9, 0), 0);
     }
-    match open(request) {
-        Err(fault) => (Answer::refusal(REQUEST, fault), 0),
-        Ok(request) => {
-            let verdict = walk::walk(&request, budget);
-            let line = match verdict {
-                Verdict::Stuck { line, .. } => answer::narrow(line),
-                _ => 0,
-            };
-            (tell(verdict, lent, budget), line)
+    let opened = match opened() {
+        Ok(opened) => opened,
+        Err(fault) => return (Answer::refusal(REQUEST, fault), 0),
+    };
+    match walked(opened, lent) {
+        Ok(verdict @ Verdict::Stuck { line, .. }) => {
+            (tell(verdict, lent, budget), answer::narrow(line))
         }
+        Ok(verdict) => (tell(verdict, lent, budget), 0),
+        Err(answer) => (answer, 0),
     }
 }
 

@@ -5,26 +5,34 @@ use std::path::{Path, PathBuf};
 use std::process::ExitCode;
 use std::{env, fs};
 
+use oracle::answer::writes_state;
 use oracle::cases;
 use oracle::examples::{self, DEFAULT_BUDGET};
 use oracle::guards;
+use oracle::indexes;
 use oracle::releases::{self, call::ROW_NUMBERS};
-use oracle::text::{parse_bytes, state_line};
+use oracle::tally::Checked;
+use oracle::text::{comma_separated, parse_bytes, state_line};
 use oracle::{
-    check, check_whether, judge_by_cases_line, judge_guarded_line, judge_line, plans, release,
-    rows, run, whether, Answer, STATE_LENGTH,
+    check, check_whether, index, judge_by_cases_line, judge_guarded_line, judge_indexed_line,
+    judge_line, plans, release, rows, run, whether, Answer, STATE_LENGTH,
 };
 
 const HELP: &str = "\
 oracle: an independent reference program for Glintstring's verifier of conditional plans
 
 usage:
-  oracle judge FILE [--budget N] [--guarded | --by-cases] [--line] [--text]
+  oracle judge FILE [--budget N] [--guarded | --by-cases | --indexed INDEX] [--line] [--text]
       Judges a request and prints number, input, place and count; for answers 1, 2 and 43 a
       second line has one of ?+- for each fluent. The budget is 100,000 unless told otherwise.
       With --guarded the request has guards. With --by-cases actions are tried in every filling
-      of what is unknown. With --line a last line has the place of the executability line that
-      answer 2 carries, or 0.
+      of what is unknown. With --indexed the lines of an action are those at the offsets of the
+      file INDEX. With --line a last line has the place of the executability line that answer 2
+      carries, or 0.
+  oracle index FILE [--room N] [--to INDEX] [--text]
+      Makes the index call with a room of N bytes, or with room enough, and prints number, input,
+      place and count; for answer 0 the index is written to the file INDEX, or else a second line
+      has its bytes in decimal.
   oracle check REQUEST DERIVATION [--text]
       Checks a derivation and prints number, input, place and count.
   oracle check-whether REQUEST DERIVATION [--text]
@@ -35,12 +43,12 @@ usage:
   oracle plans FILE [--text]
       Prints how many plans a release file has, or 0.
   oracle run [--seed S] [--requests N] [--derivations M] [--whether K] [--releases L]
-             [--guarded G] [--by-cases C]
+             [--guarded G] [--by-cases C] [--indexed I]
       Makes random calls (seed 1, 100,000 requests, 20,000 derivations in each layout, 20,000
-      release files, 20,000 guarded requests and 20,000 requests by cases unless told otherwise),
-      checks every answer, and prints how often each occurred. The last line is `oracle: ok`, or
-      `oracle: FAILED` and why, with exit status 1.
-  oracle run-whether [--seed S] [--derivations K]
+      release files, 20,000 guarded requests, 20,000 requests by cases and 20,000 with an index
+      unless told otherwise), checks every answer, and prints how often each occurred. The last
+      line is `oracle: ok`, or `oracle: FAILED` and why, with exit status 1.
+  oracle run-whether [--seed S] [--whether K]
       Makes the random calls with derivations in the second layout only.
   oracle run-releases [--seed S] [--releases L]
       Makes the random release calls only.
@@ -48,21 +56,28 @@ usage:
       Makes the random guarded calls only.
   oracle run-by-cases [--seed S] [--by-cases C]
       Makes the random calls by cases only.
+  oracle run-indexed [--seed S] [--indexed I]
+      Makes the random index calls and indexed calls only.
   oracle rows [--seed S] [--count N] [--derivations M] [--whether K] [--releases L]
-              [--guarded G] [--by-cases C]
+              [--guarded G] [--by-cases C] [--indexed I]
       Prints N judging calls, M derivation calls, K in the second layout, L release calls, G
-      guarded calls and C calls by cases with their answers, one per line:
+      guarded calls, C calls by cases and I index calls or indexed calls with their answers, one
+      per line:
         J REQUEST LENT BUDGET NUMBER INPUT PLACE COUNT STATE LINE
         D REQUEST DERIVATION NUMBER INPUT PLACE COUNT
         W REQUEST DERIVATION NUMBER INPUT PLACE COUNT
         R FILE LENT BUDGET NUMBER INPUT PLACE COUNT PLANS ROW
         G REQUEST LENT BUDGET NUMBER INPUT PLACE COUNT STATE LINE
         C REQUEST LENT BUDGET NUMBER INPUT PLACE COUNT STATE LINE
+        B REQUEST ROOM NUMBER INPUT PLACE COUNT AFTERWARDS
+        I REQUEST INDEX LENT BUDGET NUMBER INPUT PLACE COUNT STATE LINE
       Bytes are decimal with commas between; `-` is no byte; the three words REP BYTE N are N
       times one byte. LENT is the length of the lent state; STATE is all its bytes after answers
       1, 2 and 43, and `-` where it stays as lent; LINE is what --line prints. In rows R, LENT is
       the length of the lent row, PLANS what the plans call gives, and ROW the row's numbers after
-      own answer 0, and `-` otherwise. (Seed 1, 300, and none of the others unless told otherwise.)
+      own answer 0, and `-` otherwise. In rows B, ROOM is the length of the lent room, whose bytes
+      are 9, and AFTERWARDS has its bytes after answer 0, and is `-` otherwise. (Seed 1, 300, and
+      none of the others unless told otherwise.)
   oracle examples [FOLDER]
       Runs the example files and prints a tally.
   oracle --help
@@ -82,94 +97,136 @@ fn main() -> ExitCode {
     }
 }
 
+/// Calls of a kind: the option that says how many a run or rows have of them, the command that runs
+/// these alone, that run, and the rows.
+struct Kind {
+    option: &'static str,
+    command: &'static str,
+    run: fn(u64, u64) -> Box<dyn Checked>,
+    rows: fn(u64, u64) -> Box<dyn Iterator<Item = String>>,
+}
+
+const KINDS: [Kind; 5] = [
+    Kind {
+        option: "--whether",
+        command: "run-whether",
+        run: |seed, count| Box::new(whether::run::run(seed, count)),
+        rows: |seed, count| Box::new(whether::rows::whether_rows(seed, count)),
+    },
+    Kind {
+        option: "--releases",
+        command: "run-releases",
+        run: |seed, count| Box::new(releases::run::run(seed, count)),
+        rows: |seed, count| Box::new(releases::rows::release_rows(seed, count)),
+    },
+    Kind {
+        option: "--guarded",
+        command: "run-guarded",
+        run: |seed, count| Box::new(guards::run::run(seed, count)),
+        rows: |seed, count| Box::new(guards::rows::guarded_rows(seed, count)),
+    },
+    Kind {
+        option: "--by-cases",
+        command: "run-by-cases",
+        run: |seed, count| Box::new(cases::run::run(seed, count)),
+        rows: |seed, count| Box::new(cases::rows::cases_rows(seed, count)),
+    },
+    Kind {
+        option: "--indexed",
+        command: "run-indexed",
+        run: |seed, count| Box::new(indexes::run::run(seed, count)),
+        rows: |seed, count| Box::new(indexes::rows::indexed_rows(seed, count)),
+    },
+];
+
+/// So many calls of a kind in a run unless told otherwise.
+const CALLS: u64 = 20_000;
+
 fn command(words: &[String]) -> Result<ExitCode, String> {
     let Some((name, rest)) = words.split_first() else {
         print!("{HELP}");
         return Ok(ExitCode::from(2));
     };
+    let kind = KINDS.iter().find(|kind| kind.command == name);
+    let of_kinds = |others: &[&'static str]| {
+        let kinds = KINDS.iter().map(|kind| kind.option);
+        others.iter().copied().chain(kinds).collect::<Vec<_>>()
+    };
+    let calls = ["--guarded", "--by-cases", "--line", "--text"];
     match name.as_str() {
-        "judge" => judge_file(&Options::parse(rest, &["--budget"], 1, 1)?),
-        "check" => check_files(&Options::parse(rest, &[], 2, 2)?, check),
-        "check-whether" => check_files(&Options::parse(rest, &[], 2, 2)?, check_whether),
-        "release" => release_file(&Options::parse(rest, &["--budget"], 1, 1)?),
-        "plans" => count_plans(&Options::parse(rest, &[], 1, 1)?),
-        "run" => run_calls(&Options::parse(
-            rest,
-            &[
-                "--seed",
-                "--requests",
-                "--derivations",
-                "--whether",
-                "--releases",
-                "--guarded",
-                "--by-cases",
-            ],
-            0,
-            0,
-        )?),
-        "run-releases" => run_releases(&Options::parse(rest, &["--seed", "--releases"], 0, 0)?),
-        "run-guarded" => run_guarded(&Options::parse(rest, &["--seed", "--guarded"], 0, 0)?),
-        "run-by-cases" => run_by_cases(&Options::parse(rest, &["--seed", "--by-cases"], 0, 0)?),
-        "run-whether" => run_whether(&Options::parse(rest, &["--seed", "--derivations"], 0, 0)?),
-        "rows" => print_rows(&Options::parse(
-            rest,
-            &[
-                "--seed",
-                "--count",
-                "--derivations",
-                "--whether",
-                "--releases",
-                "--guarded",
-                "--by-cases",
-            ],
-            0,
-            0,
-        )?),
-        "examples" => run_examples(&Options::parse(rest, &[], 0, 1)?),
+        "judge" => {
+            let (rest, index) = named_file("--indexed", rest)?;
+            judge_file(&Options::parse(&rest, &["--budget"], &calls, 1)?, index)
+        }
+        "index" => {
+            let (rest, to) = named_file("--to", rest)?;
+            index_file(&Options::parse(&rest, &["--room"], &["--text"], 1)?, to)
+        }
+        "check" => check_files(&Options::parse(rest, &[], &["--text"], 2)?, check),
+        "check-whether" => check_files(&Options::parse(rest, &[], &["--text"], 2)?, check_whether),
+        "release" => release_file(&Options::parse(rest, &["--budget"], &["--text"], 1)?),
+        "plans" => count_plans(&Options::parse(rest, &[], &["--text"], 1)?),
+        "run" => {
+            let numbers = of_kinds(&["--seed", "--requests", "--derivations"]);
+            run_calls(&Options::parse(rest, &numbers, &[], 0)?)
+        }
+        "rows" => {
+            let numbers = of_kinds(&["--seed", "--count", "--derivations"]);
+            print_rows(&Options::parse(rest, &numbers, &[], 0)?)
+        }
+        "examples" => run_examples(rest.first()),
         "--help" | "-h" | "help" => {
             print!("{HELP}");
             Ok(ExitCode::SUCCESS)
         }
-        other => Err(format!("no such command: {other} (see --help)")),
+        other => match kind {
+            Some(kind) => run_kind(
+                kind,
+                &Options::parse(rest, &["--seed", kind.option], &[], 0)?,
+            ),
+            None => Err(format!("no such command: {other} (see --help)")),
+        },
     }
 }
 
-/// The words after a command: files, and options with numbers.
+/// The words without an option that names a file, and that file.
+fn named_file(option: &str, words: &[String]) -> Result<(Vec<String>, Option<String>), String> {
+    let mut words = words.to_vec();
+    let Some(place) = words.iter().position(|word| word == option) else {
+        return Ok((words, None));
+    };
+    if place + 1 == words.len() {
+        return Err(format!("{option} needs a file"));
+    }
+    let file = words.remove(place + 1);
+    words.remove(place);
+    Ok((words, Some(file)))
+}
+
+/// The words after a command: files, options with numbers, and options without.
 struct Options {
     files: Vec<String>,
     numbers: Vec<(String, u64)>,
-    text: bool,
-    line: bool,
-    guarded: bool,
-    by_cases: bool,
+    flags: Vec<String>,
 }
 
 impl Options {
     fn parse(
         words: &[String],
-        known: &[&str],
-        least: usize,
-        most: usize,
+        numbers: &[&str],
+        flags: &[&str],
+        files: usize,
     ) -> Result<Options, String> {
         let mut options = Options {
             files: Vec::new(),
             numbers: Vec::new(),
-            text: false,
-            line: false,
-            guarded: false,
-            by_cases: false,
+            flags: Vec::new(),
         };
         let mut words = words.iter();
         while let Some(word) = words.next() {
-            if word == "--text" {
-                options.text = true;
-            } else if word == "--line" && known.contains(&"--budget") {
-                options.line = true;
-            } else if word == "--guarded" && known.contains(&"--budget") {
-                options.guarded = true;
-            } else if word == "--by-cases" && known.contains(&"--budget") {
-                options.by_cases = true;
-            } else if known.contains(&word.as_str()) {
+            if flags.contains(&word.as_str()) {
+                options.flags.push(word.clone());
+            } else if numbers.contains(&word.as_str()) {
                 let value = words.next().ok_or(format!("{word} needs a number"))?;
                 let value = value
                     .parse()
@@ -181,10 +238,14 @@ impl Options {
                 options.files.push(word.clone());
             }
         }
-        match (least..=most).contains(&options.files.len()) {
+        match options.files.len() == files {
             true => Ok(options),
             false => Err("a wrong number of files (see --help)".to_string()),
         }
+    }
+
+    fn has(&self, flag: &str) -> bool {
+        self.flags.iter().any(|word| word == flag)
     }
 
     fn number(&self, name: &str, otherwise: u64) -> u64 {
@@ -193,8 +254,11 @@ impl Options {
     }
 
     fn bytes(&self, index: usize) -> Result<Vec<u8>, String> {
-        let name = &self.files[index];
-        let bytes = match name.as_str() {
+        self.bytes_of(&self.files[index])
+    }
+
+    fn bytes_of(&self, name: &str) -> Result<Vec<u8>, String> {
+        let bytes = match name {
             "-" => {
                 let mut bytes = Vec::new();
                 io::stdin().read_to_end(&mut bytes).map(|_| bytes)
@@ -202,7 +266,7 @@ impl Options {
             _ => fs::read(name),
         };
         let bytes = bytes.map_err(|error| format!("{name}: {error}"))?;
-        match self.text {
+        match self.has("--text") {
             true => parse_bytes(&String::from_utf8_lossy(&bytes)),
             false => Ok(bytes),
         }
@@ -216,9 +280,6 @@ fn budget_of(options: &Options) -> Result<u32, String> {
 }
 
 fn release_file(options: &Options) -> Result<ExitCode, String> {
-    if options.line || options.guarded || options.by_cases {
-        return Err("no such option here: --line, --guarded or --by-cases".to_string());
-    }
     let file = options.bytes(0)?;
     let mut row = vec![0; ROW_NUMBERS * plans(&file) as usize];
     let own = release(&file, &mut row, budget_of(options)?);
@@ -236,23 +297,41 @@ fn count_plans(options: &Options) -> Result<ExitCode, String> {
     Ok(ExitCode::SUCCESS)
 }
 
-fn judge_file(options: &Options) -> Result<ExitCode, String> {
+fn judge_file(options: &Options, index: Option<String>) -> Result<ExitCode, String> {
     let request = options.bytes(0)?;
     let budget = budget_of(options)?;
     let mut lent = [0; STATE_LENGTH];
-    let call = match (options.guarded, options.by_cases) {
-        (true, true) => return Err("--guarded does not go with --by-cases".to_string()),
-        (true, false) => judge_guarded_line,
-        (false, true) => judge_by_cases_line,
-        (false, false) => judge_line,
+    let (answer, line) = match (options.has("--guarded"), options.has("--by-cases"), index) {
+        (true, false, None) => judge_guarded_line(&request, &mut lent, budget),
+        (false, true, None) => judge_by_cases_line(&request, &mut lent, budget),
+        (false, false, None) => judge_line(&request, &mut lent, budget),
+        (false, false, Some(index)) => {
+            let index = options.bytes_of(&index)?;
+            judge_indexed_line(&request, &index, &mut lent, budget)
+        }
+        _ => return Err("--guarded, --by-cases and --indexed do not go together".to_string()),
     };
-    let (answer, line) = call(&request, &mut lent, budget);
     println!("{answer}");
-    if matches!(answer.number, 1 | 2 | 43) {
+    if writes_state(answer.number) {
         println!("{}", state_line(&lent, request[0]));
     }
-    if options.line {
+    if options.has("--line") {
         println!("{line}");
+    }
+    Ok(ExitCode::SUCCESS)
+}
+
+fn index_file(options: &Options, to: Option<String>) -> Result<ExitCode, String> {
+    let length = options.number("--room", 1 << 16);
+    let mut room = vec![0; usize::try_from(length).map_err(|_| "too much room".to_string())?];
+    let answer = index(&options.bytes(0)?, &mut room);
+    println!("{answer}");
+    if answer.number == 0 {
+        let index = &room[..answer.count as usize];
+        match to {
+            Some(to) => fs::write(&to, index).map_err(|error| format!("{to}: {error}"))?,
+            None => println!("{}", comma_separated(index)),
+        }
     }
     Ok(ExitCode::SUCCESS)
 }
@@ -265,51 +344,23 @@ fn check_files(options: &Options, call: fn(&[u8], &[u8]) -> Answer) -> Result<Ex
 fn run_calls(options: &Options) -> Result<ExitCode, String> {
     let seed = options.number("--seed", 1);
     let requests = options.number("--requests", 100_000);
-    let derivations = options.number("--derivations", 20_000);
+    let derivations = options.number("--derivations", CALLS);
     println!("seed: {seed}");
     let tally = run::run(seed, requests, derivations);
     print!("{}", tally.report());
-    let whether = whether::run::run(seed, options.number("--whether", 20_000));
-    print!("{}", whether.report());
-    let releases = releases::run::run(seed, options.number("--releases", 20_000));
-    print!("{}", releases.report());
-    let guarded = guards::run::run(seed, options.number("--guarded", 20_000));
-    print!("{}", guarded.report());
-    let by_cases = cases::run::run(seed, options.number("--by-cases", 20_000));
-    print!("{}", by_cases.report());
-    let verdict = tally.verdict().and(whether.verdict());
-    let verdict = verdict.and(releases.verdict()).and(guarded.verdict());
-    Ok(conclude(verdict.and(by_cases.verdict())))
+    let mut verdict = tally.verdict();
+    for kind in &KINDS {
+        let tally = (kind.run)(seed, options.number(kind.option, CALLS));
+        print!("{}", tally.report());
+        verdict = verdict.and(tally.verdict());
+    }
+    Ok(conclude(verdict))
 }
 
-fn run_releases(options: &Options) -> Result<ExitCode, String> {
+fn run_kind(kind: &Kind, options: &Options) -> Result<ExitCode, String> {
     let seed = options.number("--seed", 1);
     println!("seed: {seed}");
-    let tally = releases::run::run(seed, options.number("--releases", 20_000));
-    print!("{}", tally.report());
-    Ok(conclude(tally.verdict()))
-}
-
-fn run_guarded(options: &Options) -> Result<ExitCode, String> {
-    let seed = options.number("--seed", 1);
-    println!("seed: {seed}");
-    let tally = guards::run::run(seed, options.number("--guarded", 20_000));
-    print!("{}", tally.report());
-    Ok(conclude(tally.verdict()))
-}
-
-fn run_by_cases(options: &Options) -> Result<ExitCode, String> {
-    let seed = options.number("--seed", 1);
-    println!("seed: {seed}");
-    let tally = cases::run::run(seed, options.number("--by-cases", 20_000));
-    print!("{}", tally.report());
-    Ok(conclude(tally.verdict()))
-}
-
-fn run_whether(options: &Options) -> Result<ExitCode, String> {
-    let seed = options.number("--seed", 1);
-    println!("seed: {seed}");
-    let tally = whether::run::run(seed, options.number("--derivations", 20_000));
+    let tally = (kind.run)(seed, options.number(kind.option, CALLS));
     print!("{}", tally.report());
     Ok(conclude(tally.verdict()))
 }
@@ -332,22 +383,19 @@ fn print_rows(options: &Options) -> Result<ExitCode, String> {
     let seed = options.number("--seed", 1);
     let judging = options.number("--count", 300);
     let checking = options.number("--derivations", 0);
-    let whether = options.number("--whether", 0);
     let mut out = io::BufWriter::new(io::stdout().lock());
-    let whether = whether::rows::whether_rows(seed, whether);
-    let releases = releases::rows::release_rows(seed, options.number("--releases", 0));
-    let guarded = guards::rows::guarded_rows(seed, options.number("--guarded", 0));
-    let by_cases = cases::rows::cases_rows(seed, options.number("--by-cases", 0));
-    let derived = rows::rows(seed, judging, checking).chain(whether);
-    for row in derived.chain(releases).chain(guarded).chain(by_cases) {
+    let of_kinds = KINDS
+        .iter()
+        .flat_map(|kind| (kind.rows)(seed, options.number(kind.option, 0)));
+    for row in rows::rows(seed, judging, checking).chain(of_kinds) {
         writeln!(out, "{row}").map_err(|error| error.to_string())?;
     }
     out.flush().map_err(|error| error.to_string())?;
     Ok(ExitCode::SUCCESS)
 }
 
-fn run_examples(options: &Options) -> Result<ExitCode, String> {
-    let folder = match options.files.first() {
+fn run_examples(folder: Option<&String>) -> Result<ExitCode, String> {
+    let folder = match folder {
         Some(folder) => PathBuf::from(folder),
         None => Path::new(env!("CARGO_MANIFEST_DIR")).join("examples"),
     };

@@ -18,14 +18,13 @@
 //! entries (one row of each kind, there). The first round also has rows for each of the edges of
 //! `edges.rs`.
 
-use crate::answer::{Answer, DERIVATION, NEITHER, REQUEST};
+use crate::answer::{writes_state, Answer, DERIVATION, NEITHER, REQUEST};
 use crate::calls::{
     any_check_call, damaged_judge_call, derivable, lend_wrongly, sound_judge_call, CheckCall,
-    JudgeCall,
+    JudgeCall, Left,
 };
 use crate::edges::{of_derivation, of_judging, Edge, OF_DERIVATIONS, OF_JUDGING};
 use crate::generate::{drawn, filled, forgetful, Shape, MIDDLE, SMALL, TINY};
-use crate::guards::run::BROKEN;
 use crate::model::Request;
 use crate::prove::natural;
 use crate::reader::{Part, DERIVATION_LIMIT, LIST_LIMIT, REQUEST_LIMIT};
@@ -140,11 +139,84 @@ pub(crate) enum Shown<Event> {
 }
 
 impl<Event: PartialEq> Shown<Event> {
+    /// Whether a call with a request of at most so many bytes shows it, by the events that are told from
+    /// request, budget and answer. For 21 the request may be longer, and for 10 it has to be.
+    pub(crate) fn is_shown(
+        &self,
+        call: &JudgeCall,
+        most: usize,
+        judge: fn(&[u8], &mut [u8], u32) -> (Answer, u32),
+        events: fn(&[u8], u32, Answer) -> Vec<Event>,
+    ) -> bool {
+        let answer = call.made(judge).answer;
+        let most = match self {
+            Shown::Number(10) => usize::MAX,
+            Shown::Number(21) => LONG_BYTES,
+            _ => most,
+        };
+        let events = || events(&call.request, call.budget, answer);
+        call.request.len() <= most && self.is_met(answer.number, events)
+    }
+
     /// Whether an answer with this number shows it, and these events.
-    pub(crate) fn is_shown(&self, number: u8, events: impl FnOnce() -> Vec<Event>) -> bool {
+    pub(crate) fn is_met(&self, number: u8, events: impl FnOnce() -> Vec<Event>) -> bool {
         match self {
             Shown::Number(wanted) => number == *wanted,
             Shown::Event(event) => events().contains(event),
+        }
+    }
+
+    /// A call that may show it: a sound one where the walk is to be reached, and else a damaged one. For
+    /// 9 the lent state has another length, and for 10 the request is too long.
+    pub(crate) fn called(
+        &self,
+        rng: &mut Rng,
+        walked: bool,
+        sound: impl FnOnce(&mut Rng) -> JudgeCall,
+        damaged: impl FnOnce(&mut Rng) -> JudgeCall,
+    ) -> JudgeCall {
+        let mut call = match walked || matches!(self, Shown::Number(9 | 10)) {
+            true => sound(rng),
+            false => damaged(rng),
+        };
+        match self {
+            Shown::Number(9) => lend_wrongly(rng, &mut call),
+            Shown::Number(10) => too_long(rng, &mut call.request),
+            _ => {}
+        }
+        call
+    }
+}
+
+/// Rows of calls of one kind: streams of random numbers, of the order within a round and of the calls;
+/// what rows are wanted for, with how often each comes in a round, and what stands in the first round
+/// only; a call that may be as wanted, whether it is, and how it is told.
+pub(crate) struct Series<Wanted: 'static, Call> {
+    pub(crate) streams: [u64; 2],
+    pub(crate) often: &'static [(Wanted, u64)],
+    pub(crate) first: &'static [Wanted],
+    pub(crate) draw: fn(&mut Rng, Wanted) -> Call,
+    pub(crate) fits: fn(&Call, Wanted) -> bool,
+    pub(crate) tell: fn(&Call) -> String,
+}
+
+impl<Wanted: Copy, Call> Series<Wanted, Call> {
+    /// So many rows.
+    pub(crate) fn rows(&'static self, seed: u64, count: u64) -> impl Iterator<Item = String> {
+        rounds(seed, self.streams[0], count, self.often, self.first, &[])
+            .zip(0..)
+            .map(move |(wanted, index)| {
+                let rng = &mut Rng::new(seed, self.streams[1], index);
+                (self.tell)(&self.call(rng, wanted.answered()))
+            })
+    }
+
+    fn call(&self, rng: &mut Rng, wanted: Wanted) -> Call {
+        loop {
+            let call = (self.draw)(rng, wanted);
+            if (self.fits)(&call, wanted) {
+                return call;
+            }
         }
     }
 }
@@ -189,8 +261,9 @@ fn judging_row(rng: &mut Rng, wanted: Wanted<u8>) -> String {
     let call = match wanted {
         Wanted::Shows(edge) => edge_judging(rng, edge),
         Wanted::Answered(10) => {
-            let call = judging_call(rng, 11, BYTES);
-            too_long(rng, call)
+            let mut call = judging_call(rng, 11, BYTES);
+            too_long(rng, &mut call.request);
+            call
         }
         Wanted::Answered(21) => judging_call(rng, 21, LONG_BYTES),
         Wanted::Answered(2) => {
@@ -207,7 +280,7 @@ fn judging_row(rng: &mut Rng, wanted: Wanted<u8>) -> String {
             judging_call(rng, wanted, most)
         }
     };
-    tell_judging("J", &call, judged(&call))
+    tell_request("J", &call, &judged(&call))
 }
 
 /// A call that shows an edge, with a small request unless its lists are full.
@@ -226,7 +299,7 @@ fn edge_judging(rng: &mut Rng, edge: Edge) -> JudgeCall {
         if let Edge::Lent(_) = edge {
             lend_wrongly(rng, &mut call);
         }
-        let shown = of_judging(&call.request, call.lent.len(), judged(&call).0);
+        let shown = of_judging(&call.request, call.lent.len(), judged(&call).answer);
         if call.request.len() <= most && shown.contains(&edge) && is_light(&call) {
             return call;
         }
@@ -244,7 +317,7 @@ fn judging_call(rng: &mut Rng, wanted: u8, most: usize) -> JudgeCall {
         if wanted == 9 {
             lend_wrongly(rng, &mut call);
         }
-        if call.request.len() <= most && judged(&call).0.number == wanted && is_light(&call) {
+        if call.request.len() <= most && judged(&call).answer.number == wanted && is_light(&call) {
             return call;
         }
     }
@@ -252,7 +325,7 @@ fn judging_call(rng: &mut Rng, wanted: u8, most: usize) -> JudgeCall {
 
 /// Where answer 2 stops the walk.
 fn stop_of(call: &JudgeCall) -> Option<Stop> {
-    let (answer, line, _) = judged(call);
+    let Left { answer, line, .. } = judged(call);
     let byte = call.request.get(answer.place as usize)?;
     let request = open(&call.request).ok()?;
     Some(Stop::of(&request, *byte, line))
@@ -285,38 +358,30 @@ fn is_light(call: &JudgeCall) -> bool {
     }
 }
 
-fn judged(call: &JudgeCall) -> (Answer, u32, Vec<u8>) {
-    judged_by(call, judge_line)
+fn judged(call: &JudgeCall) -> Left {
+    call.made(judge_line)
 }
 
-/// Answer, line and lent state by one of the calls that take a request.
-pub(crate) fn judged_by(
-    call: &JudgeCall,
-    judge: fn(&[u8], &mut [u8], u32) -> (Answer, u32),
-) -> (Answer, u32, Vec<u8>) {
-    let mut lent = call.lent.clone();
-    let (answer, line) = judge(&call.request, &mut lent, call.budget);
-    (answer, line, lent)
+/// A request, or a release file, that is too long.
+pub(crate) fn too_long(rng: &mut Rng, request: &mut Vec<u8>) {
+    *request = vec![rng.byte(0, LIST_LIMIT as u8); REQUEST_LIMIT + 1];
 }
 
-/// The call with a request that is too long.
-pub(crate) fn too_long(rng: &mut Rng, call: JudgeCall) -> JudgeCall {
-    let request = vec![rng.byte(0, LIST_LIMIT as u8); REQUEST_LIMIT + 1];
-    JudgeCall { request, ..call }
-}
-
-/// A row that begins with this letter, of a call with answer, line and lent state.
-pub(crate) fn tell_judging(
-    letter: &str,
-    call: &JudgeCall,
-    (answer, line, lent): (Answer, u32, Vec<u8>),
-) -> String {
-    let state = match answer.number {
-        1 | 2 | BROKEN => comma_separated(&lent),
-        _ => "-".to_string(),
+/// A row that begins with these words, of a call and what it leaves.
+pub(crate) fn tell_judging(words: &str, call: &JudgeCall, left: &Left) -> String {
+    let Left { answer, line, lent } = left;
+    let state = match writes_state(answer.number) {
+        true => comma_separated(lent),
+        false => "-".to_string(),
     };
-    let (request, length, budget) = (tell_bytes(&call.request), call.lent.len(), call.budget);
-    format!("{letter} {request} {length} {budget} {answer} {state} {line}")
+    let (length, budget) = (call.lent.len(), call.budget);
+    format!("{words} {length} {budget} {answer} {state} {line}")
+}
+
+/// A row that begins with this letter and the request.
+pub(crate) fn tell_request(letter: &str, call: &JudgeCall, left: &Left) -> String {
+    let request = tell_bytes(&call.request);
+    tell_judging(&format!("{letter} {request}"), call, left)
 }
 
 /// A row as wanted.

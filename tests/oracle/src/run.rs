@@ -3,19 +3,18 @@
 use std::collections::BTreeMap;
 use std::fmt::Write;
 
-use crate::answer::{Answer, DERIVATION, NEITHER, REQUEST};
-use crate::calls::{check_call, judge_call, CheckCall, JudgeCall, Outlook};
+use crate::answer::{writes_state, Answer, DERIVATION, NEITHER, REQUEST};
+use crate::calls::{check_call, judge_call, CheckCall, JudgeCall, Left, Outlook};
 use crate::edges::{self, Met};
 use crate::encode::{encode_derivation, encode_request};
 use crate::model::{Effect, Line, Request};
-use crate::paths::Told;
 use crate::reader::{read_derivation, read_request};
 use crate::rng::Rng;
 use crate::settle::clashing;
-use crate::tally::{all_met, each, never, titled, CarriedOut, Differences};
+use crate::tally::{each, never, titled, CarriedOut, Checked, Differences, SecondWalks};
 use crate::text::comma_separated;
 use crate::walk::{walk, Verdict};
-use crate::{check, judge_line, open, paths, shown, worlds, STATE_LENGTH};
+use crate::{check, judge_line, open, paths, shown, worlds};
 
 /// Most paths that the second walk follows.
 pub(crate) const MOST_PATHS: usize = 3_000;
@@ -96,10 +95,8 @@ pub struct Tally {
     checked: BTreeMap<(u8, u8), u64>,
     judged_edges: Met,
     checked_edges: Met,
-    second_walks: u64,
-    second_walks_left: u64,
+    second_walks: SecondWalks,
     carried_out: CarriedOut,
-    not_enumerated: u64,
     clashing_apart: u64,
     missed_though_reached: u64,
     stuck_though_reached: u64,
@@ -148,15 +145,12 @@ impl Tally {
     /// Makes a judging call and checks its answer.
     fn judge(&mut self, call: &JudgeCall) -> Result<(), String> {
         self.requests += 1;
-        let mut lent = call.lent.clone();
-        let (answer, line) = judge_line(&call.request, &mut lent, call.budget);
+        let left = call.made(judge_line);
+        let answer = left.answer;
         *self.judged.entry(answer.number).or_default() += 1;
         let edges = edges::of_judging(&call.request, call.lent.len(), answer);
         self.judged_edges.note(edges);
-        expect_form(answer, &call.request, &[])?;
-        expect_outlook(answer, call.outlook)?;
-        let written = matches!(answer.number, 1 | 2);
-        expect_left(call, written, (answer, line), &lent)?;
+        expect_made(call, &left, None)?;
         self.compare_meeting(&call.request, answer)?;
         if answer.number > 3 {
             return Ok(());
@@ -164,35 +158,12 @@ impl Tally {
         let request = open(&call.request).map_err(|_| format!("answer {answer} unread"))?;
         expect_bytes(&encode_request(&request).bytes, &call.request)?;
         if answer.number == 2 {
-            let stop = Stop::of(&request, call.request[answer.place as usize], line);
+            let stop = Stop::of(&request, call.request[answer.place as usize], left.line);
             *self.stops.entry(stop).or_default() += 1;
         }
-        self.compare_walks(&request, call.budget, (answer, line), &lent)?;
+        let second = paths::answer(&request, call.budget, MOST_PATHS);
+        self.second_walks.compare(second, &left)?;
         self.compare_worlds(&request, answer)
-    }
-
-    /// Compares the answer and the state with the second walk's.
-    fn compare_walks(
-        &mut self,
-        request: &Request,
-        budget: u32,
-        (answer, line): (Answer, u32),
-        lent: &[u8],
-    ) -> Result<(), String> {
-        let Some(other) = paths::answer(request, budget, MOST_PATHS) else {
-            self.second_walks_left += 1;
-            return Ok(());
-        };
-        self.second_walks += 1;
-        if other.answer != answer {
-            let other = other.answer;
-            return Err(format!("answer {answer}, the second walk's is {other}"));
-        }
-        if other.line != line as usize {
-            let other = other.line;
-            return Err(format!("line {line}, the second walk's is {other}"));
-        }
-        expect_state(other.marks, answer, lent)
     }
 
     /// 16 is given where an action may be run in some world in which its effects would set a
@@ -216,14 +187,9 @@ impl Tally {
 
     /// A verified plan works in every true world; where 1 or 2 is given it may all the same.
     fn compare_worlds(&mut self, request: &Request, answer: Answer) -> Result<(), String> {
-        if answer.number == 3 {
-            return Ok(());
-        }
-        if request.fluents > worlds::WORLD_FLUENTS {
-            self.not_enumerated += u64::from(answer.number == 0);
-            return Ok(());
-        }
-        let reached = self.carried_out.note(answer, worlds::carry_out(request))?;
+        let reached = self
+            .carried_out
+            .note(request, answer, || worlds::carry_out(request))?;
         match answer.number {
             1 => self.missed_though_reached += u64::from(reached),
             _ => self.stuck_though_reached += u64::from(reached),
@@ -281,45 +247,6 @@ impl Tally {
         Ok(())
     }
 
-    /// The differences found, as far as they are told.
-    pub fn differences(&self) -> &[String] {
-        self.differences.told()
-    }
-
-    /// What keeps the run from being right, in short.
-    pub fn verdict(&self) -> Result<(), String> {
-        self.differences.verdict()?;
-        all_met(&self.never_met())?;
-        if self.clashing_apart * 100 < self.requests * LEAST_SHARE {
-            return Err("effects rarely clash where their action can't be run".to_string());
-        }
-        let rare = self.rare();
-        if !rare.is_empty() {
-            return Err(format!("below {LEAST_SHARE} per cent: {}", rare.join(", ")));
-        }
-        Ok(())
-    }
-
-    fn never_met(&self) -> Vec<String> {
-        let judging = never(&OF_JUDGING, &self.judged, |number| {
-            format!("{number} in judging")
-        });
-        let stops = never(&Stop::ALL, &self.stops, |stop| {
-            format!("answer 2 at {stop:?}")
-        });
-        let checking = never(&OF_CHECKING, &self.checked, |(number, input)| {
-            format!("{number} of input {input} in checking")
-        });
-        let of_judging = self.judged_edges.never(&edges::OF_JUDGING);
-        let of_checking = self.checked_edges.never(edges::OF_DERIVATIONS);
-        judging
-            .chain(stops)
-            .chain(checking)
-            .chain(of_judging.iter().map(|edge| format!("{edge} in judging")))
-            .chain(of_checking.iter().map(|edge| format!("{edge} in checking")))
-            .collect()
-    }
-
     fn rare(&self) -> Vec<String> {
         (0..=3)
             .filter(|number| {
@@ -341,34 +268,15 @@ impl Tally {
         rare.map(|stop| format!("answers 2 at {stop:?}"))
     }
 
-    /// The tallies as text, one to a line.
-    pub fn report(&self) -> String {
-        let mut out = self.differences.report();
-        let _ = writeln!(out, "requests judged: {}", self.requests);
-        for (number, times) in &self.judged {
-            let share = *times as f64 * 100.0 / self.requests as f64;
-            let _ = writeln!(out, "  answer {number}: {times} ({share:.2} per cent)");
-        }
-        out += &each(&self.stops, |stop| format!("  answer 2 at {stop:?}"));
-        out += &self.judged_edges.told(&edges::OF_JUDGING);
-        let _ = writeln!(out, "derivations checked: {}", self.derivations);
-        out += &each(&self.checked, |(number, input)| {
-            format!("  answer {number}, input {input}")
-        });
-        out += &self.checked_edges.told(edges::OF_DERIVATIONS);
-        out += &each(&self.rules, |rule| format!("accepted lines by rule {rule}"));
-        out += &each(&self.readings, |readings| {
-            format!("  rule 3 over {readings} readings")
-        });
-        out + &titled(&self.titled())
-    }
-
     fn titled(&self) -> [(&'static str, u64); 12] {
         [
-            ("walks compared with the second walk", self.second_walks),
+            (
+                "walks compared with the second walk",
+                self.second_walks.compared(),
+            ),
             (
                 "walks too large for the second walk",
-                self.second_walks_left,
+                self.second_walks.left(),
             ),
             (
                 "verified requests carried out in all worlds",
@@ -377,7 +285,7 @@ impl Tally {
             ("true worlds of these", self.carried_out.worlds()),
             (
                 "verified requests with more than ten fluents",
-                self.not_enumerated,
+                self.carried_out.not_enumerated(),
             ),
             (
                 "requests with effects that clash only where their action can't be run",
@@ -411,6 +319,64 @@ impl Tally {
     }
 }
 
+impl Checked for Tally {
+    fn found(&self) -> &Differences {
+        &self.differences
+    }
+
+    fn never_met(&self) -> Vec<String> {
+        let judging = never(&OF_JUDGING, &self.judged, |number| {
+            format!("{number} in judging")
+        });
+        let stops = never(&Stop::ALL, &self.stops, |stop| {
+            format!("answer 2 at {stop:?}")
+        });
+        let checking = never(&OF_CHECKING, &self.checked, |(number, input)| {
+            format!("{number} of input {input} in checking")
+        });
+        let of_judging = self.judged_edges.never(&edges::OF_JUDGING);
+        let of_checking = self.checked_edges.never(edges::OF_DERIVATIONS);
+        judging
+            .chain(stops)
+            .chain(checking)
+            .chain(of_judging.iter().map(|edge| format!("{edge} in judging")))
+            .chain(of_checking.iter().map(|edge| format!("{edge} in checking")))
+            .collect()
+    }
+
+    fn none_rare(&self) -> Result<(), String> {
+        if self.clashing_apart * 100 < self.requests * LEAST_SHARE {
+            return Err("effects rarely clash where their action can't be run".to_string());
+        }
+        let rare = self.rare();
+        if !rare.is_empty() {
+            return Err(format!("below {LEAST_SHARE} per cent: {}", rare.join(", ")));
+        }
+        Ok(())
+    }
+
+    fn report(&self) -> String {
+        let mut out = self.differences.report();
+        let _ = writeln!(out, "requests judged: {}", self.requests);
+        for (number, times) in &self.judged {
+            let share = *times as f64 * 100.0 / self.requests as f64;
+            let _ = writeln!(out, "  answer {number}: {times} ({share:.2} per cent)");
+        }
+        out += &each(&self.stops, |stop| format!("  answer 2 at {stop:?}"));
+        out += &self.judged_edges.told(&edges::OF_JUDGING);
+        let _ = writeln!(out, "derivations checked: {}", self.derivations);
+        out += &each(&self.checked, |(number, input)| {
+            format!("  answer {number}, input {input}")
+        });
+        out += &self.checked_edges.told(edges::OF_DERIVATIONS);
+        out += &each(&self.rules, |rule| format!("accepted lines by rule {rule}"));
+        out += &each(&self.readings, |readings| {
+            format!("  rule 3 over {readings} readings")
+        });
+        out + &titled(&self.titled())
+    }
+}
+
 /// Two of the effects clash, wherever their action can be run.
 fn some_clash(effects: &[Effect]) -> bool {
     effects
@@ -419,59 +385,25 @@ fn some_clash(effects: &[Effect]) -> bool {
         .any(|(index, one)| effects[..index].iter().any(|other| clashing(one, other)))
 }
 
-/// The lent state that the second walk's marks stand for.
-fn state_of(marks: Vec<u8>) -> [u8; STATE_LENGTH] {
-    let mut state = [0; STATE_LENGTH];
-    for (byte, mark) in state.iter_mut().zip(marks) {
-        *byte = match mark {
-            b'+' => 1,
-            b'-' => 2,
-            _ => 0,
-        };
+/// What is so of every answer of a call on a request: its form, what is certain of it, and that it
+/// leaves the lent state as it was where it does not write it. Where the walk is reached, a call may
+/// give a number of its own.
+pub(crate) fn expect_made(call: &JudgeCall, left: &Left, own: Option<u8>) -> Result<(), String> {
+    expect_form(left.answer, &call.request, &[])?;
+    match call.outlook {
+        Outlook::Walked if Some(left.answer.number) == own => {}
+        outlook => expect_outlook(left.answer, outlook)?,
     }
-    state
-}
-
-/// The lent state is the second walk's, where that leaves one.
-pub(crate) fn expect_state(
-    marks: Option<Vec<u8>>,
-    answer: Answer,
-    lent: &[u8],
-) -> Result<(), String> {
-    match marks.map(state_of) {
-        Some(state) if lent != state => Err(format!(
-            "answer {answer}: the second walk's state is another"
-        )),
-        _ => Ok(()),
-    }
-}
-
-/// Answer, line and state are the second walk's.
-pub(crate) fn expect_told(
-    other: Told,
-    (answer, line): (Answer, u32),
-    lent: &[u8],
-) -> Result<(), String> {
-    if (other.answer, other.line) != (answer, line as usize) {
-        let (by, its) = (other.answer, other.line);
-        return Err(format!(
-            "answer {answer}, line {line}, by the second walk {by}, line {its}"
-        ));
-    }
-    expect_state(other.marks, answer, lent)
+    expect_left(call, left)
 }
 
 /// The lent state is as it was, unless the answer writes it, and only answer 2 carries a line.
-pub(crate) fn expect_left(
-    call: &JudgeCall,
-    written: bool,
-    (answer, line): (Answer, u32),
-    lent: &[u8],
-) -> Result<(), String> {
-    if !written && lent != call.lent {
+pub(crate) fn expect_left(call: &JudgeCall, left: &Left) -> Result<(), String> {
+    let Left { answer, line, lent } = left;
+    if !writes_state(answer.number) && *lent != call.lent {
         return Err(format!("answer {answer} changed the lent state"));
     }
-    if answer.number != 2 && line != 0 {
+    if answer.number != 2 && *line != 0 {
         return Err(format!("answer {answer} carries the line {line}"));
     }
     Ok(())
@@ -486,7 +418,7 @@ pub(crate) fn expect_form(answer: Answer, request: &[u8], derivation: &[u8]) -> 
         _ => return Err(format!("answer {answer} names no input")),
     };
     let place = answer.place as usize;
-    let neither = matches!(answer.number, 0 | 3 | 9);
+    let neither = matches!(answer.number, 0 | 3 | 9 | 39);
     let placed = match answer.number {
         11 => place == length,
         10 => place == 0,

@@ -91,78 +91,37 @@ impl Known {
     }
 }
 
-/// The lines of one action.
+/// The effects and executability lines of one action, of the latter also the places.
 #[derive(Clone, Debug, Default)]
-struct Deed {
-    allowances: Vec<(usize, Known)>,
-    effects: Vec<(Known, Known)>,
-    senses: Mask,
+pub struct Lines {
+    pub allowances: Vec<(usize, Known)>,
+    pub effects: Vec<(Known, Known)>,
 }
 
-/// The lines of all actions.
-#[derive(Clone, Debug)]
-pub struct Table {
-    deeds: Vec<Deed>,
-}
-
-impl Table {
-    pub fn new(request: &Request) -> Table {
-        let mut deeds = vec![Deed::default(); usize::from(request.actions)];
-        for line in &request.effects {
-            let effect = (Known::of(&[line.literal]), Known::of(&line.body));
-            deeds[usize::from(line.action)].effects.push(effect);
-        }
-        for (place, line) in request.placed_allowances() {
-            deeds[usize::from(line.action)]
-                .allowances
-                .push((place, Known::of(&line.body)));
-        }
-        for line in &request.knowledge {
-            deeds[usize::from(line.action)].senses |= bit(line.fluent);
-        }
-        Table { deeds }
-    }
-
+impl Lines {
     /// An action can be run where some executability line of it has its whole body known true.
-    pub fn runnable(&self, action: u8, state: Known) -> bool {
-        self.deed(action)
-            .allowances
-            .iter()
-            .any(|&(_, body)| state.holds(body))
+    pub fn runnable(&self, state: Known) -> bool {
+        let mut lines = self.allowances.iter();
+        lines.any(|&(_, body)| state.holds(body))
     }
 
     /// The place of the executability line that lacks the fewest literals, the earliest of
     /// equals, and 0 for an action without such lines.
-    pub fn nearest(&self, action: u8, state: Known) -> usize {
-        let lines = self.deed(action).allowances.iter();
+    pub fn nearest(&self, state: Known) -> usize {
+        let lines = self.allowances.iter();
         lines
             .min_by_key(|&&(place, body)| (state.lacks(body), place))
             .map_or(0, |&(place, _)| place)
-    }
-
-    /// The bodies of an action's executability lines.
-    pub fn allowing(&self, action: u8) -> impl Iterator<Item = Known> + '_ {
-        self.deed(action).allowances.iter().map(|&(_, body)| body)
-    }
-
-    /// The bodies of an action's effects.
-    pub fn bringing(&self, action: u8) -> impl Iterator<Item = Known> + '_ {
-        self.deed(action).effects.iter().map(|&(_, body)| body)
-    }
-
-    /// The fluents that a sensing action senses; none for any other action.
-    pub fn senses(&self, action: u8) -> Mask {
-        self.deed(action).senses
     }
 
     /// The state after an action without knowledge lines.
     ///
     /// `sure` are the effects whose bodies are known true (e+ and e-), `may` those all of whose
     /// body literals are possible (F+ and F-).
-    pub fn step(&self, action: u8, state: Known) -> Known {
+    pub fn step(&self, state: Known) -> Known {
         let mut sure = Known::default();
         let mut may = Known::default();
-        for &(literal, body) in &self.deed(action).effects {
+        for &(literal, body) in &self.effects {
             if state.holds(body) {
                 sure.yes |= literal.yes;
                 sure.no |= literal.no;
@@ -177,9 +136,63 @@ impl Table {
             no: (state.no | sure.no) & !may.yes,
         }
     }
+}
 
-    fn deed(&self, action: u8) -> &Deed {
-        &self.deeds[usize::from(action)]
+/// The lines of all actions, and the fluents that each senses.
+#[derive(Clone, Debug)]
+pub struct Table {
+    lines: Vec<Lines>,
+    senses: Vec<Mask>,
+}
+
+impl Table {
+    pub fn new(request: &Request) -> Table {
+        let actions = usize::from(request.actions);
+        let mut lines = vec![Lines::default(); actions];
+        let mut senses = vec![0; actions];
+        for line in &request.effects {
+            let effect = (Known::of(&[line.literal]), Known::of(&line.body));
+            lines[usize::from(line.action)].effects.push(effect);
+        }
+        for (place, line) in request.placed_allowances() {
+            lines[usize::from(line.action)]
+                .allowances
+                .push((place, Known::of(&line.body)));
+        }
+        for line in &request.knowledge {
+            senses[usize::from(line.action)] |= bit(line.fluent);
+        }
+        Table { lines, senses }
+    }
+
+    /// Whether an action can be run, by its lines.
+    pub fn runnable(&self, action: u8, state: Known) -> bool {
+        self.lines(action).runnable(state)
+    }
+
+    /// The state after an action without knowledge lines, by its lines.
+    pub fn step(&self, action: u8, state: Known) -> Known {
+        self.lines(action).step(state)
+    }
+
+    /// The bodies of an action's executability lines.
+    pub fn allowing(&self, action: u8) -> impl Iterator<Item = Known> + '_ {
+        self.lines(action).allowances.iter().map(|&(_, body)| body)
+    }
+
+    /// The bodies of an action's effects.
+    pub fn bringing(&self, action: u8) -> impl Iterator<Item = Known> + '_ {
+        self.lines(action).effects.iter().map(|&(_, body)| body)
+    }
+
+    /// The fluents that a sensing action senses; none for any other action.
+    pub fn senses(&self, action: u8) -> Mask {
+        self.senses[usize::from(action)]
+    }
+
+    /// The effects and executability lines of an action.
+    pub fn lines(&self, action: u8) -> &Lines {
+        &self.lines[usize::from(action)]
     }
 }
 

@@ -5,14 +5,53 @@ use std::collections::BTreeMap;
 use std::fmt::Debug;
 
 use crate::answer::Answer;
-use crate::worlds::Failure;
+use crate::calls::Left;
+use crate::cases::call::TOO_MANY;
+use crate::model::Request;
+use crate::paths::Told;
+use crate::worlds::{Failure, WORLD_FLUENTS};
+use crate::STATE_LENGTH;
+
+/// What a run leaves.
+pub trait Checked {
+    /// The differences found.
+    fn found(&self) -> &Differences;
+
+    /// What has to occur and didn't, in words.
+    fn never_met(&self) -> Vec<String>;
+
+    /// What occurred too seldom, in words.
+    fn none_rare(&self) -> Result<(), String> {
+        Ok(())
+    }
+
+    /// The tallies as text, one to a line.
+    fn report(&self) -> String;
+
+    /// The differences found, as far as they are told.
+    fn differences(&self) -> &[String] {
+        &self.found().told
+    }
+
+    /// What keeps the run from being right, in short.
+    fn verdict(&self) -> Result<(), String> {
+        match self.found().found {
+            0 => {}
+            found => return Err(format!("{found} differences")),
+        }
+        match self.never_met() {
+            all if all.is_empty() => self.none_rare(),
+            never => Err(format!("never met: {}", never.join(", "))),
+        }
+    }
+}
 
 /// Differences told in full.
 const TOLD: usize = 10;
 
 /// The differences of a run: how many, and the first ones in full.
 #[derive(Clone, Debug, Default)]
-pub(crate) struct Differences {
+pub struct Differences {
     found: u64,
     told: Vec<String>,
 }
@@ -25,42 +64,92 @@ impl Differences {
         }
     }
 
-    /// As far as they are told.
-    pub(crate) fn told(&self) -> &[String] {
-        &self.told
-    }
-
-    /// The same, one to a line.
+    /// Those told in full, one to a line.
     pub(crate) fn report(&self) -> String {
         let lines = self.told.iter();
         lines.map(|told| format!("difference: {told}\n")).collect()
     }
+}
 
-    /// There are none.
-    pub(crate) fn verdict(&self) -> Result<(), String> {
-        match self.found {
-            0 => Ok(()),
-            found => Err(format!("{found} differences")),
+/// Walks compared with the second walk, and those that were too large for it.
+#[derive(Clone, Debug, Default)]
+pub(crate) struct SecondWalks {
+    compared: u64,
+    left: u64,
+}
+
+impl SecondWalks {
+    /// Compares what a call leaves with what the second walk tells, if it does.
+    pub(crate) fn compare(&mut self, other: Option<Told>, left: &Left) -> Result<(), String> {
+        let Some(other) = other else {
+            self.left += 1;
+            return Ok(());
+        };
+        self.compared += 1;
+        let (answer, line) = (left.answer, left.line);
+        if (other.answer, other.line) != (answer, line as usize) {
+            let (by, its) = (other.answer, other.line);
+            return Err(format!(
+                "answer {answer}, line {line}, by the second walk {by}, line {its}"
+            ));
         }
+        match other.marks.map(state_of) {
+            Some(state) if left.lent != state => Err(format!(
+                "answer {answer}: the second walk's state is another"
+            )),
+            _ => Ok(()),
+        }
+    }
+
+    pub(crate) fn compared(&self) -> u64 {
+        self.compared
+    }
+
+    pub(crate) fn left(&self) -> u64 {
+        self.left
     }
 }
 
-/// Verified plans that were carried out in all worlds, and the true worlds of these.
+/// The lent state that the second walk's marks stand for.
+fn state_of(marks: Vec<u8>) -> [u8; STATE_LENGTH] {
+    let mut state = [0; STATE_LENGTH];
+    for (byte, mark) in state.iter_mut().zip(marks) {
+        *byte = match mark {
+            b'+' => 1,
+            b'-' => 2,
+            _ => 0,
+        };
+    }
+    state
+}
+
+/// Verified plans that were carried out in all worlds, the true worlds of these, and those that have too
+/// many fluents for it.
 #[derive(Clone, Debug, Default)]
 pub(crate) struct CarriedOut {
     plans: u64,
     worlds: u64,
+    not_enumerated: u64,
 }
 
 impl CarriedOut {
-    /// Notes what the worlds say beside an answer: a verified plan works in every true world. Tells
-    /// whether every world reaches the goal though the answer is another.
+    /// Notes what the worlds say beside an answer of a walk: a verified plan works in every true world.
+    /// Tells whether every world reaches the goal though the answer is another. Of a walk that did not
+    /// end they say nothing.
     pub(crate) fn note(
         &mut self,
+        request: &Request,
         answer: Answer,
-        carried: Result<u64, Failure>,
+        carry_out: impl FnOnce() -> Result<u64, Failure>,
     ) -> Result<bool, String> {
-        match (answer.number, carried) {
+        if request.fluents > WORLD_FLUENTS {
+            self.not_enumerated += u64::from(answer.number == 0);
+            return Ok(false);
+        }
+        if matches!(answer.number, 3 | TOO_MANY) {
+            return Ok(false);
+        }
+        match (answer.number, carry_out()) {
             (0, Ok(worlds)) => {
                 self.plans += 1;
                 self.worlds += worlds;
@@ -77,6 +166,10 @@ impl CarriedOut {
 
     pub(crate) fn worlds(&self) -> u64 {
         self.worlds
+    }
+
+    pub(crate) fn not_enumerated(&self) -> u64 {
+        self.not_enumerated
     }
 }
 
@@ -146,12 +239,10 @@ impl<Event: Ord + Debug> Occurred<Event> {
     }
 }
 
-/// Nothing is missing of what has to occur.
-pub(crate) fn all_met(never: &[String]) -> Result<(), String> {
-    match never.is_empty() {
-        true => Ok(()),
-        false => Err(format!("never met: {}", never.join(", "))),
-    }
+/// Those of which it is so.
+pub(crate) fn so<Event>(told: impl IntoIterator<Item = (bool, Event)>) -> Vec<Event> {
+    let so = told.into_iter().filter(|(so, _)| *so);
+    so.map(|(_, event)| event).collect()
 }
 
 /// Those of a list that never occurred, in words.

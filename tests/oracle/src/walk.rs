@@ -77,13 +77,18 @@ pub struct TooMany {
     pub after_miss: bool,
 }
 
-/// How a walk goes through an action: by what is known, or by cases.
+/// How a walk goes through an action: by what is known, by cases, or by an index.
 pub trait Way {
     /// An action that is met in this state ends the walk, whether it can be run or not.
-    fn ends(&mut self, action: u8, state: Known) -> bool;
+    fn ends(&mut self, _: u8, _: Known) -> bool {
+        false
+    }
 
     /// The action can be run in this state.
     fn runnable(&mut self, action: u8, state: Known) -> bool;
+
+    /// Where it can't be run, the place of the executability line that comes nearest, or 0.
+    fn nearest(&mut self, action: u8, state: Known) -> usize;
 
     /// The state after an action without knowledge lines, which can be run.
     fn step(&mut self, action: u8, state: Known) -> Known;
@@ -93,12 +98,12 @@ pub trait Way {
 struct ByKnowledge<'a>(&'a Table);
 
 impl Way for ByKnowledge<'_> {
-    fn ends(&mut self, _: u8, _: Known) -> bool {
-        false
-    }
-
     fn runnable(&mut self, action: u8, state: Known) -> bool {
         self.0.runnable(action, state)
+    }
+
+    fn nearest(&mut self, action: u8, state: Known) -> usize {
+        self.0.lines(action).nearest(state)
     }
 
     fn step(&mut self, action: u8, state: Known) -> Known {
@@ -412,7 +417,7 @@ impl<W: Way, AtEnd: FnMut(Known), WhenMet: FnMut(Known), const LOOKS: bool>
                         return Err(self.too_many(*place, *action, turn.state));
                     }
                     if !self.way.runnable(*action, turn.state) {
-                        let line = self.table.nearest(*action, turn.state);
+                        let line = self.way.nearest(*action, turn.state);
                         return Err(self.stuck(*place, turn.state, line));
                     }
                     self.tick()?;

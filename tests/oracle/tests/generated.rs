@@ -2,6 +2,7 @@
 
 use std::collections::{BTreeMap, BTreeSet};
 
+use oracle::answer::writes_state;
 use oracle::cases;
 use oracle::cases::rows::cases_rows;
 use oracle::edges::{self, Met};
@@ -9,20 +10,31 @@ use oracle::encode::encode_request;
 use oracle::generate::{request, spread, MIDDLE, SMALL, TINY};
 use oracle::guards;
 use oracle::guards::rows::guarded_rows;
-use oracle::guards::run::{events, Event, NUMBERS};
+use oracle::indexes;
+use oracle::indexes::rows::indexed_rows;
 use oracle::releases;
 use oracle::releases::rows::release_rows;
 use oracle::releases::run::{OF_PLANS, OWN};
 use oracle::rng::Rng;
 use oracle::rows::rows;
 use oracle::run::run;
+use oracle::tally::Checked;
 use oracle::text::parse_bytes;
 use oracle::whether;
 use oracle::whether::rows::whether_rows;
 use oracle::{
-    check, check_whether, judge, judge_by_cases_line, judge_guarded_line, judge_line, plans,
-    release, STATE_LENGTH,
+    check, check_whether, index, judge, judge_by_cases_line, judge_guarded_line,
+    judge_indexed_line, judge_line, plans, release, Answer, STATE_LENGTH,
 };
+
+/// Small runs of some seeds show no difference, and all that has to occur in them.
+fn shows_no_difference<T: Checked>(calls: u64, run: fn(u64, u64) -> T) {
+    for seed in 1..=3 {
+        let tally = run(seed, calls);
+        assert_eq!(tally.differences(), &[] as &[String]);
+        assert_eq!(tally.verdict(), Ok(()));
+    }
+}
 
 #[test]
 fn small_runs_show_no_difference() {
@@ -34,62 +46,42 @@ fn small_runs_show_no_difference() {
 
 #[test]
 fn small_runs_of_the_second_layout_show_no_difference() {
-    for seed in 1..=3 {
-        let tally = whether::run::run(seed, 600);
-        assert_eq!(tally.differences(), &[] as &[String]);
-        assert_eq!(tally.verdict(), Ok(()));
-    }
+    shows_no_difference(600, whether::run::run);
 }
 
 #[test]
 fn small_runs_of_release_files_show_no_difference() {
-    for seed in 1..=3 {
-        let tally = releases::run::run(seed, 4_000);
-        assert_eq!(tally.differences(), &[] as &[String]);
-        assert_eq!(tally.verdict(), Ok(()));
-    }
+    shows_no_difference(4_000, releases::run::run);
 }
 
 #[test]
 fn small_runs_of_guarded_requests_show_no_difference() {
-    for seed in 1..=3 {
-        let tally = guards::run::run(seed, 4_000);
-        assert_eq!(tally.differences(), &[] as &[String]);
-        assert_eq!(tally.verdict(), Ok(()));
-    }
+    shows_no_difference(4_000, guards::run::run);
 }
 
 #[test]
 fn small_runs_by_cases_show_no_difference() {
-    for seed in 1..=3 {
-        let tally = cases::run::run(seed, 4_000);
-        assert_eq!(tally.differences(), &[] as &[String]);
-        assert_eq!(tally.verdict(), Ok(()));
+    shows_no_difference(4_000, cases::run::run);
+}
+
+#[test]
+fn small_runs_by_an_index_show_no_difference() {
+    shows_no_difference(6_000, indexes::run::run);
+}
+
+#[test]
+fn runs_too_small_fail() {
+    let runs: [Box<dyn Checked>; 5] = [
+        Box::new(run(1, 10, 10)),
+        Box::new(releases::run::run(1, 10)),
+        Box::new(guards::run::run(1, 10)),
+        Box::new(cases::run::run(1, 10)),
+        Box::new(indexes::run::run(1, 10)),
+    ];
+    for tally in runs {
+        let verdict = tally.verdict();
+        assert!(verdict.is_err_and(|reason| reason.starts_with("never met")));
     }
-}
-
-#[test]
-fn a_run_by_cases_too_small_fails() {
-    let verdict = cases::run::run(1, 10).verdict();
-    assert!(verdict.is_err_and(|reason| reason.starts_with("never met")));
-}
-
-#[test]
-fn a_run_of_guarded_requests_too_small_fails() {
-    let verdict = guards::run::run(1, 10).verdict();
-    assert!(verdict.is_err_and(|reason| reason.starts_with("never met")));
-}
-
-#[test]
-fn a_run_of_release_files_too_small_fails() {
-    let verdict = releases::run::run(1, 10).verdict();
-    assert!(verdict.is_err_and(|reason| reason.starts_with("never met")));
-}
-
-#[test]
-fn a_run_too_small_fails() {
-    let verdict = run(1, 10, 10).verdict();
-    assert!(verdict.is_err_and(|reason| reason.starts_with("never met")));
 }
 
 #[test]
@@ -128,6 +120,43 @@ fn number<'a>(words: &mut impl Iterator<Item = &'a str>) -> u32 {
     words.next().expect("a field").parse().expect("a number")
 }
 
+/// The next four numbers of a row are this answer's.
+fn expect_answer<'a>(row: &str, words: &mut impl Iterator<Item = &'a str>, answer: Answer) {
+    let told: Vec<u32> = (0..4).map(|_| number(words)).collect();
+    let found = [
+        answer.number.into(),
+        answer.input.into(),
+        answer.place,
+        answer.count,
+    ];
+    assert_eq!(told, found, "{row}");
+}
+
+/// What follows the inputs in a row of a call with a lent state: the call, made again, leaves just
+/// that. Budget and answer, and how long the state is.
+fn left_again<'a>(
+    row: &str,
+    words: &mut impl Iterator<Item = &'a str>,
+    judge: impl FnOnce(&mut [u8], u32) -> (Answer, u32),
+) -> (u32, Answer, usize) {
+    let length = number(words) as usize;
+    let mut lent = vec![77; length];
+    let budget = number(words);
+    let (answer, line) = judge(&mut lent, budget);
+    expect_answer(row, words, answer);
+    let written = writes_state(answer.number).then_some(lent);
+    assert_eq!(take(words), written.unwrap_or_default(), "{row}");
+    assert_eq!(number(words), line, "{row}");
+    (budget, answer, length)
+}
+
+/// Rows come from the seed alone.
+fn come_from_the_seed<Rows: Iterator<Item = String>>(rows: impl Fn(u64) -> Rows) {
+    let once: Vec<String> = rows(9).collect();
+    assert_eq!(once, rows(9).collect::<Vec<_>>());
+    assert_ne!(once, rows(10).collect::<Vec<_>>());
+}
+
 #[test]
 fn rows_can_be_computed_again() {
     let mut met = BTreeSet::new();
@@ -137,46 +166,29 @@ fn rows_can_be_computed_again() {
         let mut words = row.split(' ');
         let kind = words.next().expect("a kind");
         let request = take(&mut words);
-        let mut line = 0;
-        let (answer, state, shown) = match kind {
+        let (answer, shown) = match kind {
             "J" => {
-                let mut lent = vec![77; number(&mut words) as usize];
-                let (answer, carried) = judge_line(&request, &mut lent, number(&mut words));
-                line = carried;
-                let shown = edges::of_judging(&request, lent.len(), answer);
-                (
-                    answer,
-                    matches!(answer.number, 1 | 2).then_some(lent),
-                    shown,
-                )
+                let judge = |lent: &mut [u8], budget| judge_line(&request, lent, budget);
+                let (_, answer, length) = left_again(&row, &mut words, judge);
+                (answer, edges::of_judging(&request, length, answer))
             }
             "D" => {
                 let derivation = take(&mut words);
                 let answer = check(&request, &derivation);
+                expect_answer(&row, &mut words, answer);
                 let shown = edges::of_derivation(&request, &derivation, answer);
-                (answer, None, shown)
+                (answer, shown)
             }
             "W" => {
                 let derivation = take(&mut words);
                 let answer = check_whether(&request, &derivation);
+                expect_answer(&row, &mut words, answer);
                 let shown = edges::of_proof(&request, &derivation, answer);
-                (answer, None, shown)
+                (answer, shown)
             }
             _ => panic!("no such kind: {kind}"),
         };
         edges.entry(kind.to_string()).or_default().note(shown);
-        let told: Vec<u32> = (0..4).map(|_| number(&mut words)).collect();
-        let found = vec![
-            answer.number.into(),
-            answer.input.into(),
-            answer.place,
-            answer.count,
-        ];
-        assert_eq!(told, found, "{row}");
-        if kind == "J" {
-            assert_eq!(take(&mut words), state.unwrap_or_default(), "{row}");
-            assert_eq!(number(&mut words), line, "{row}");
-        }
         assert_eq!(words.next(), None);
         met.insert((kind.to_string(), answer.number));
         long += u32::from(request.len() > 300);
@@ -220,9 +232,7 @@ fn rows_of_release_files_can_be_computed_again() {
         let file = take(&mut words);
         let mut row = vec![77; number(&mut words) as usize];
         let own = release(&file, &mut row, number(&mut words));
-        let told: Vec<u32> = (0..4).map(|_| number(&mut words)).collect();
-        let found = [own.number.into(), own.input.into(), own.place, own.count];
-        assert_eq!(told, found, "{text}");
+        expect_answer(&text, &mut words, own);
         assert_eq!(number(&mut words), plans(&file), "{text}");
         let told = numbers(&mut words);
         match own.number {
@@ -235,82 +245,91 @@ fn rows_of_release_files_can_be_computed_again() {
     }
     assert_eq!(own_met, BTreeSet::from(OWN));
     assert_eq!(met, BTreeSet::from(OF_PLANS));
-    let once: Vec<String> = release_rows(9, 40).collect();
-    assert_eq!(once, release_rows(9, 40).collect::<Vec<_>>());
-    assert_ne!(once, release_rows(10, 40).collect::<Vec<_>>());
+    come_from_the_seed(|seed| release_rows(seed, 40));
 }
 
-#[test]
-fn rows_of_guarded_requests_can_be_computed_again() {
+/// A round of rows that begin with this letter, of a call on a request: each can be computed again. The
+/// numbers and events that they show.
+fn computed_again<Event: Ord, Rows: Iterator<Item = String>>(
+    letter: &str,
+    rows: impl Fn(u64, u64) -> Rows,
+    judge: fn(&[u8], &mut [u8], u32) -> (Answer, u32),
+    events: fn(&[u8], u32, Answer) -> Vec<Event>,
+) -> (BTreeSet<u8>, BTreeSet<Event>) {
     let (mut met, mut shown) = (BTreeSet::new(), BTreeSet::new());
-    for row in guarded_rows(5, 150) {
+    for row in rows(5, 150) {
         let mut words = row.split(' ');
-        assert_eq!(words.next(), Some("G"));
+        assert_eq!(words.next(), Some(letter));
         let request = take(&mut words);
-        let mut lent = vec![77; number(&mut words) as usize];
-        let budget = number(&mut words);
-        let (answer, line) = judge_guarded_line(&request, &mut lent, budget);
-        let told: Vec<u32> = (0..4).map(|_| number(&mut words)).collect();
-        let found = [
-            answer.number.into(),
-            answer.input.into(),
-            answer.place,
-            answer.count,
-        ];
-        assert_eq!(told, found, "{row}");
-        let written = matches!(answer.number, 1 | 2 | 43).then_some(lent);
-        assert_eq!(take(&mut words), written.unwrap_or_default(), "{row}");
-        assert_eq!(number(&mut words), line, "{row}");
+        let judge = |lent: &mut [u8], budget| judge(&request, lent, budget);
+        let (budget, answer, _) = left_again(&row, &mut words, judge);
         assert_eq!(words.next(), None);
         met.insert(answer.number);
         shown.extend(events(&request, budget, answer));
     }
+    come_from_the_seed(|seed| rows(seed, 40));
+    (met, shown)
+}
+
+#[test]
+fn rows_of_guarded_requests_can_be_computed_again() {
+    use oracle::guards::run::{events, Event, NUMBERS};
+    let (met, shown) = computed_again("G", guarded_rows, judge_guarded_line, events);
     assert_eq!(met, BTreeSet::from(NUMBERS));
     assert_eq!(shown, BTreeSet::from(Event::ALL));
-    let once: Vec<String> = guarded_rows(9, 40).collect();
-    assert_eq!(once, guarded_rows(9, 40).collect::<Vec<_>>());
-    assert_ne!(once, guarded_rows(10, 40).collect::<Vec<_>>());
 }
 
 #[test]
 fn rows_by_cases_can_be_computed_again() {
     use oracle::cases::run::{events, Event, NUMBERS};
-    let (mut met, mut shown) = (BTreeSet::new(), BTreeSet::from([Event::TwelveOpen]));
-    for row in cases_rows(5, 150) {
-        let mut words = row.split(' ');
-        assert_eq!(words.next(), Some("C"));
-        let request = take(&mut words);
-        let mut lent = vec![77; number(&mut words) as usize];
-        let budget = number(&mut words);
-        let (answer, line) = judge_by_cases_line(&request, &mut lent, budget);
-        let told: Vec<u32> = (0..4).map(|_| number(&mut words)).collect();
-        let found = [
-            answer.number.into(),
-            answer.input.into(),
-            answer.place,
-            answer.count,
-        ];
-        assert_eq!(told, found, "{row}");
-        let written = matches!(answer.number, 1 | 2).then_some(lent);
-        assert_eq!(take(&mut words), written.unwrap_or_default(), "{row}");
-        assert_eq!(number(&mut words), line, "{row}");
-        assert_eq!(words.next(), None);
-        met.insert(answer.number);
-        shown.extend(events(&request, budget, answer));
-    }
+    let (met, mut shown) = computed_again("C", cases_rows, judge_by_cases_line, events);
+    shown.insert(Event::TwelveOpen);
     assert_eq!(met, BTreeSet::from(NUMBERS));
     assert_eq!(shown, BTreeSet::from(Event::ALL));
-    let once: Vec<String> = cases_rows(9, 40).collect();
-    assert_eq!(once, cases_rows(9, 40).collect::<Vec<_>>());
-    assert_ne!(once, cases_rows(10, 40).collect::<Vec<_>>());
+}
+
+#[test]
+fn rows_by_an_index_can_be_computed_again() {
+    use oracle::indexes::run::{built_events, events, Built, Event, OF_BUILDING, OF_JUDGING};
+    let (mut of_building, mut of_judging) = (BTreeSet::new(), BTreeSet::new());
+    let mut built = BTreeSet::from([Built::RoomFarTooLong]);
+    let mut judged = BTreeSet::new();
+    for row in indexed_rows(5, 150) {
+        let mut words = row.split(' ');
+        let kind = words.next().expect("a kind");
+        let request = take(&mut words);
+        if kind == "B" {
+            let mut room = vec![9; number(&mut words) as usize];
+            let answer = index(&request, &mut room);
+            expect_answer(&row, &mut words, answer);
+            let written = (answer.number == 0).then_some(&room);
+            assert_eq!(take(&mut words), written.cloned().unwrap_or_default());
+            of_building.insert(answer.number);
+            built.extend(built_events(&request, room.len(), answer));
+        } else {
+            assert_eq!(kind, "I");
+            let given = take(&mut words);
+            let mut line = 0;
+            let judge = |lent: &mut [u8], budget| {
+                let told = judge_indexed_line(&request, &given, lent, budget);
+                line = told.1;
+                told
+            };
+            let (budget, answer, _) = left_again(&row, &mut words, judge);
+            of_judging.insert(answer.number);
+            judged.extend(events(&request, &given, budget, (answer, line)));
+        }
+        assert_eq!(words.next(), None);
+    }
+    assert_eq!(of_building, BTreeSet::from(OF_BUILDING));
+    assert_eq!(of_judging, BTreeSet::from(OF_JUDGING));
+    assert_eq!(built, BTreeSet::from(Built::ALL));
+    assert_eq!(judged, BTreeSet::from(Event::ALL));
+    come_from_the_seed(|seed| indexed_rows(seed, 40));
 }
 
 #[test]
 fn rows_come_from_the_seed_alone() {
-    let once: Vec<String> = rows(9, 40, 20).collect();
-    assert_eq!(once, rows(9, 40, 20).collect::<Vec<_>>());
-    assert_ne!(once, rows(10, 40, 20).collect::<Vec<_>>());
-    let once: Vec<String> = whether_rows(9, 20).collect();
-    assert_eq!(once, whether_rows(9, 20).collect::<Vec<_>>());
-    assert_ne!(once, whether_rows(10, 20).collect::<Vec<_>>());
+    come_from_the_seed(|seed| rows(seed, 40, 20));
+    come_from_the_seed(|seed| whether_rows(seed, 20));
 }

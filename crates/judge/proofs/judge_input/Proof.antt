@@ -5,65 +5,53 @@ use Rattle.judge.proofs.judge_input.Statement.{statement}
 use Rattle.judge.proofs.judge_input.Tie as tie
 use Rattle.judge.proofs.judge_input.Reads as reads
 use Rattle.judge.proofs.judge_input.Lts as lts
-use Rattle.judge.proofs.answer_to.Reads as answer-to-reads
-use Rattle.programs.proofs.read_all.Reads as read-all-reads
+use Rattle.judge.proofs.judge_request.Reads as judge-request-reads
 use Rattle.os.proofs.fail.Reads as fail-reads
+use Rattle.programs.proofs.read_all.Reads as read-all-reads
 
--- src/main.rt:80:34
+-- src/main.rt:111:34
 slice-aggregate-read-all : tie.Need-slice-aggregate-read-all
 slice-aggregate-read-all c = search needs
 
--- src/main.rt:80:11
+-- src/main.rt:111:11
 read-all-requires : tie.Need-read-all-requires
 read-all-requires c κs = search needs
 
--- src/main.rt:81:22
+-- src/main.rt:112:22
 enum-known-n : tie.Need-enum-known-n
 enum-known-n c = search needs
 
--- src/main.rt:82:27
+-- src/main.rt:112:42
 array-share-prefix-bytes : tie.Need-array-share-prefix-bytes
 array-share-prefix-bytes c = search read-within
 
--- src/main.rt:82:27
-slice-aggregate-answer-to : tie.Need-slice-aggregate-answer-to
-slice-aggregate-answer-to c = search read-counted
+-- src/main.rt:112:42
+slice-aggregate-judge-request : tie.Need-slice-aggregate-judge-request
+slice-aggregate-judge-request c = search read-counted
 
--- src/main.rt:82:17
-answer-to-requires : tie.Need-answer-to-requires
-answer-to-requires c κs = search needs
+-- src/main.rt:112:28
+judge-request-requires : tie.Need-judge-request-requires
+judge-request-requires c κs = search needs
 
--- src/main.rt:83:26
-slice-aggregate-fail : tie.Need-slice-aggregate-fail
-slice-aggregate-fail c = search needs
-
--- src/main.rt:83:17
-fail-requires : tie.Need-fail-requires
-fail-requires c κs = search needs
-
--- src/main.rt:86:39
+-- src/main.rt:113:39
 enum-told : tie.Need-enum-told
 enum-told c = search needs
 
--- src/main.rt:86:39
-slice-aggregate-fail-2 : tie.Need-slice-aggregate-fail-2
-slice-aggregate-fail-2 c = search needs
+-- src/main.rt:113:39
+slice-aggregate-fail : tie.Need-slice-aggregate-fail
+slice-aggregate-fail c = search needs
 
--- src/main.rt:86:30
-fail-requires-2 : tie.Need-fail-requires-2
-fail-requires-2 c κs = search needs
+-- src/main.rt:113:30
+fail-requires : tie.Need-fail-requires
+fail-requires c κs = search needs
 
--- src/main.rt:77:1
+-- src/main.rt:108:1
 returns : tie.Need-returns
 returns c = search needs
 
--- src/main.rt:77:1
+-- src/main.rt:108:1
 returns-2 : tie.Need-returns-2
 returns-2 c = search needs
-
--- src/main.rt:77:1
-returns-3 : tie.Need-returns-3
-returns-3 c = search needs
 
 pub judge-input-spec : {M : Type 1} → statement M
 judge-input-spec =
@@ -73,13 +61,10 @@ judge-input-spec =
     read-all-requires
     enum-known-n
     array-share-prefix-bytes
-    slice-aggregate-answer-to
-    answer-to-requires
+    slice-aggregate-judge-request
+    judge-request-requires
+    enum-told
     slice-aggregate-fail
     fail-requires
-    enum-told
-    slice-aggregate-fail-2
-    fail-requires-2
     returns
-    returns-2
-    returns-3)
+    returns-2)

@@ -5,8 +5,9 @@ use std::time::Duration;
 use oracle::cases::calls::{any_cases_call, cases_call};
 use oracle::cases::run::Tally;
 use oracle::rng::Rng;
+use oracle::tally::Checked;
 
-use crate::calls::{self, expect, fenced_by, numbers, Call, Left};
+use crate::calls::{self, expect, fenced_by, numbers, told, Call, Left};
 use crate::cases::judge_by_cases;
 use crate::crowded::crowded;
 use crate::generated::varied;
@@ -21,7 +22,7 @@ const TOO_MANY: u64 = 44;
 
 /// The exported call by cases, between fences, and how long it took.
 pub fn timed(rng: &mut Rng, call: &Call) -> Result<(Left, Duration), String> {
-    let (packed, lent, took) = fenced_by(rng, call, &judge_by_cases)?;
+    let (packed, lent, took) = fenced_by(rng, call, judge_by_cases)?;
     Ok((Left { answer: numbers(packed), lent, line: None }, took))
 }
 
@@ -29,8 +30,7 @@ pub fn timed(rng: &mut Rng, call: &Call) -> Result<(Left, Duration), String> {
 pub fn independent(call: &Call) -> Left {
     let mut lent = call.lent.clone();
     let answer = oracle::judge_by_cases(&call.request, &mut lent, call.budget);
-    let answer = [answer.number.into(), answer.input.into(), answer.place.into(), answer.count.into()];
-    Left { answer, lent, line: None }
+    Left { answer: told(answer), lent, line: None }
 }
 
 /// What both leave, or how they differ. Two calls are made, each both ways: the call by cases, and the walk call on the same bytes.
@@ -79,10 +79,7 @@ pub fn call(seed: u64, index: u64) -> Call {
 /// A call of the independent program's own generators, which make about one of five requests wrong in some way, and varied; a few requests are as
 /// long as one may be, or longer.
 pub fn any_call(rng: &mut Rng) -> Call {
-    let drawn = |rng: &mut Rng| {
-        let drawn = cases_call(rng);
-        Call { request: drawn.request, lent: drawn.lent, budget: drawn.budget }
-    };
+    let drawn = |rng: &mut Rng| cases_call(rng).into();
     let call = varied(rng, drawn, |rng| {
         let draft = crowded(rng);
         any_cases_call(rng, &draft).request

@@ -4,8 +4,8 @@ use glintstring::STATE_LENGTH;
 use oracle::rng::Rng;
 
 use crate::by_cases::agreed;
-use crate::calls::{self, expect, Call};
-use crate::cases::{expected, request, Request};
+use crate::calls::{self, Call, Left};
+use crate::cases::{as_rows_say, expected, request, Request};
 
 use Request::*;
 
@@ -76,21 +76,19 @@ pub fn calls() -> Vec<Call> {
 
 /// Every row through the exported call, with the independent program's opinion of it, line included, and the row of the walk call; how many there are.
 pub fn compare(rng: &mut Rng) -> Result<usize, String> {
-    for row in &ROWS {
+    let rows = ROWS.iter().map(|row| {
         let (sentence, _, _, answer, state, line) = *row;
         let call = call(row);
-        let same = agreed(rng, &call).and_then(|left| expect(&left, &expected(answer, state, &call.lent), "the format"));
-        same.map_err(|why| format!("FORMAT {sentence}: {why}; {call}"))?;
-        let (_, carried) = oracle::judge_by_cases_line(&call.request, &mut call.lent.clone(), call.budget);
-        if carried != line {
-            return Err(format!("FORMAT {sentence}: the line is {line}, by the independent program {carried}; {call}"));
-        }
-    }
-    let walk = Call { request: request(TWO_LINES), lent: vec![LENT; STATE_LENGTH], budget: BUDGET };
-    let walked = calls::agreed(rng, &walk).and_then(|left| {
-        let format = expected([2, 14, 0], Some("?"), &walk.lent);
-        expect(&left, &calls::Left { line: Some(5), ..format }, "the format")
+        let format = expected(answer, state, &call.lent);
+        (sentence, call, Left { line: Some(line), ..format })
     });
-    walked.map_err(|why| format!("FORMAT 22.28: {why}; {walk}"))?;
-    Ok(ROWS.len() + 1)
+    let by_cases = as_rows_say(rows, |call| {
+        let left = agreed(rng, call)?;
+        let (_, line) = oracle::judge_by_cases_line(&call.request, &mut call.lent.clone(), call.budget);
+        Ok(Left { line: Some(line), ..left })
+    })?;
+    let walk = Call { request: request(TWO_LINES), lent: vec![LENT; STATE_LENGTH], budget: BUDGET };
+    let format = expected([2, 14, 0], Some("?"), &walk.lent);
+    let walked = as_rows_say([("22.28", walk, Left { line: Some(5), ..format })], |call| calls::agreed(rng, call))?;
+    Ok(by_cases + walked)
 }

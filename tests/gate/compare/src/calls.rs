@@ -3,6 +3,7 @@
 use std::time::{Duration, Instant};
 
 use glintstring::Packed;
+use oracle::calls::JudgeCall;
 use oracle::rng::Rng;
 use oracle::text::comma_separated;
 
@@ -14,6 +15,12 @@ pub struct Call {
     pub request: Vec<u8>,
     pub lent: Vec<u8>,
     pub budget: u32,
+}
+
+impl From<JudgeCall> for Call {
+    fn from(drawn: JudgeCall) -> Call {
+        Call { request: drawn.request, lent: drawn.lent, budget: drawn.budget }
+    }
 }
 
 /// What it leaves: number, input, place and count, the lent bytes, and the line where it is asked for.
@@ -36,7 +43,12 @@ pub fn numbers(packed: Packed) -> [u64; 4] {
     [packed.number().into(), packed.input().into(), packed.place() as u64, packed.count().into()]
 }
 
-/// The same in the independent program's form.
+/// The independent program's answer in the same form.
+pub fn told(answer: oracle::Answer) -> [u64; 4] {
+    [answer.number.into(), answer.input.into(), answer.place.into(), answer.count.into()]
+}
+
+/// Four numbers in the independent program's form.
 pub fn answer([number, input, place, count]: [u64; 4]) -> oracle::Answer {
     oracle::Answer { number: number as u8, input: input as u8, place: place as u32, count: count as u32 }
 }
@@ -97,7 +109,7 @@ pub fn timed_and_named(rng: &mut Rng, call: &Call, judge: &Judge, unpack: fn(Pac
 }
 
 /// Its answer, the lent bytes afterwards and how long it took.
-pub fn fenced_by(rng: &mut Rng, call: &Call, judge: &Judge) -> Result<(Packed, Vec<u8>, Duration), String> {
+pub fn fenced_by(rng: &mut Rng, call: &Call, judge: impl Fn(&[u8], &mut [u8], u32) -> Packed) -> Result<(Packed, Vec<u8>, Duration), String> {
     let mut request = Fenced::new(rng, &call.request);
     let mut state = Fenced::new(rng, &call.lent);
     let (request_before, state_before) = (request.clone(), state.clone());
@@ -118,8 +130,7 @@ pub fn fenced_by(rng: &mut Rng, call: &Call, judge: &Judge) -> Result<(Packed, V
 pub fn independent(call: &Call) -> Left {
     let mut lent = call.lent.clone();
     let (answer, line) = oracle::judge_line(&call.request, &mut lent, call.budget);
-    let answer = [answer.number.into(), answer.input.into(), answer.place.into(), answer.count.into()];
-    Left { answer, lent, line: Some(line) }
+    Left { answer: told(answer), lent, line: Some(line) }
 }
 
 /// What both leave, or how they differ.

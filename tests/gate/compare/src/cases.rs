@@ -1,12 +1,14 @@
 //! The cases of docs/FORMAT.md and its further rows, through the exported calls.
 
+use std::fmt::Display;
+
 use glintstring::{Packed, STATE_LENGTH};
 use oracle::rng::Rng;
 use oracle::text::{parse_bytes, state_line};
 
 use crate::calls::{agreed, expect, Call, Left};
 use crate::checks::{self, Check};
-use crate::{by_cases_rows, guarded_cases, release_cases, whether_cases};
+use crate::{by_cases_rows, guarded_cases, index_rows, release_cases, whether_cases};
 
 pub const FILE_A: &str = "4 3 3 3 5 7 3 1 2 0 1 6 1 0 2 4 0 3 0 0 1 1 3 2 1 2 1 0 0 0 2 0 255 2 1 1 0 2 1 2 1 0 0 0 1 7 1 2";
 const BUDGET: u32 = 100_000;
@@ -18,6 +20,8 @@ extern "C" {
     fn glintstring_judge(request: *const u8, request_length: usize, state: *mut u8, state_length: usize, budget: u32) -> u64;
     fn glintstring_judge_guarded(request: *const u8, request_length: usize, state: *mut u8, state_length: usize, budget: u32) -> u64;
     fn glintstring_judge_by_cases(request: *const u8, request_length: usize, state: *mut u8, state_length: usize, budget: u32) -> u64;
+    fn glintstring_judge_indexed(request: *const u8, request_length: usize, index: *const u8, index_length: usize, state: *mut u8, state_length: usize, budget: u32) -> u64;
+    fn glintstring_index(request: *const u8, request_length: usize, room: *mut u8, room_length: usize) -> u64;
     fn glintstring_judge_line(request: *const u8, request_length: usize, state: *mut u8, state_length: usize, budget: u32, line: *mut u32) -> u64;
     fn glintstring_check(request: *const u8, request_length: usize, derivation: *const u8, derivation_length: usize) -> u64;
     fn glintstring_check_whether(request: *const u8, request_length: usize, derivation: *const u8, derivation_length: usize) -> u64;
@@ -29,6 +33,16 @@ extern "C" {
 /// The call by cases.
 pub fn judge_by_cases(request: &[u8], state: &mut [u8], budget: u32) -> Packed {
     Packed(unsafe { glintstring_judge_by_cases(request.as_ptr(), request.len(), state.as_mut_ptr(), state.len(), budget) })
+}
+
+/// The indexed call.
+pub fn judge_indexed(request: &[u8], index: &[u8], state: &mut [u8], budget: u32) -> Packed {
+    Packed(unsafe { glintstring_judge_indexed(request.as_ptr(), request.len(), index.as_ptr(), index.len(), state.as_mut_ptr(), state.len(), budget) })
+}
+
+/// The index call.
+pub fn index(request: &[u8], room: &mut [u8]) -> Packed {
+    Packed(unsafe { glintstring_index(request.as_ptr(), request.len(), room.as_mut_ptr(), room.len()) })
 }
 
 /// The release call.
@@ -289,7 +303,11 @@ pub fn request(row: Request) -> Vec<u8> {
 
 /// What a row says is left: the state's marks with zeros behind them, or the bytes as lent.
 pub fn expected([number, place, count]: [u64; 3], state: Option<&str>, lent: &[u8]) -> Left {
-    let input = u64::from(!matches!(number, 0 | 3 | 9));
+    let input = match number {
+        0 | 3 | 9 | 39 => 0,
+        45 => 3,
+        _ => 1,
+    };
     let marks = |line: &str| -> Vec<u8> { line.bytes().map(|mark| b"?+-".iter().position(|&m| m == mark).expect("a mark") as u8).collect() };
     let lent = match state {
         None => lent.to_vec(),
@@ -316,6 +334,7 @@ fn without_bytes() -> Result<(), String> {
     if by_cases != [no_request, no_state] {
         return Err(format!("null and length 0: {by_cases:?} by cases"));
     }
+    without_index()?;
     if ([no_request_line, no_state_line], lines) != ([no_request, no_state], [0, 0]) {
         return Err(format!("null and length 0: {no_request_line} and {no_state_line} with the lines {lines:?}"));
     }
@@ -343,6 +362,45 @@ fn without_bytes() -> Result<(), String> {
     }
 }
 
+/// The same of the index call and the indexed call.
+fn without_index() -> Result<(), String> {
+    use std::ptr::{null, null_mut};
+    let file_a = bytes(FILE_A);
+    let (mut state, mut room) = ([LENT; STATE_LENGTH], [LENT; 18]);
+    let built = unsafe {
+        [
+            glintstring_index(null(), 0, room.as_mut_ptr(), room.len()),
+            glintstring_index(null(), 0, null_mut(), 0),
+            glintstring_index(file_a.as_ptr(), file_a.len(), null_mut(), 0),
+        ]
+    };
+    let judged = unsafe {
+        [
+            glintstring_judge_indexed(null(), 0, null(), 0, state.as_mut_ptr(), state.len(), 0),
+            glintstring_judge_indexed(null(), 0, null(), 0, null_mut(), 0, 0),
+            glintstring_judge_indexed(file_a.as_ptr(), file_a.len(), null(), 0, state.as_mut_ptr(), state.len(), 0),
+        ]
+    };
+    match (built, judged, state, room) {
+        ([267, 267, 39], [267, 9, 813], [LENT, ..], [LENT, ..]) => Ok(()),
+        _ => Err(format!("null and length 0: {built:?} by index calls, {judged:?} by indexed calls, {state:?} and {room:?} left")),
+    }
+}
+
+/// The call of each row, with its sentence: both agree on what it leaves, and that is what the row says; how many there are.
+pub fn as_rows_say<S: Display, C: Display>(
+    rows: impl IntoIterator<Item = (S, C, Left)>,
+    mut agreed: impl FnMut(&C) -> Result<Left, String>,
+) -> Result<usize, String> {
+    let mut count = 0;
+    for (sentence, call, format) in rows {
+        let same = agreed(&call).and_then(|left| expect(&left, &format, "the format"));
+        same.map_err(|why| format!("FORMAT {sentence}: {why}; {call}"))?;
+        count += 1;
+    }
+    Ok(count)
+}
+
 /// The walk calls of the rows.
 pub fn calls() -> Vec<Call> {
     let call = |&(_, _, given, budget, length, _, _): &Row| Call { request: request(given), lent: vec![LENT; length], budget };
@@ -352,11 +410,11 @@ pub fn calls() -> Vec<Call> {
 /// Every row through its exported call, and the independent program's opinion of it.
 pub fn compare() -> Result<String, String> {
     let mut rng = Rng::new(1, 5, 0);
-    for (row, call) in ROWS.iter().zip(calls()) {
-        let (sentence, name, _, _, _, answer, state) = *row;
-        let same = agreed(&mut rng, &call).and_then(|left| expect(&left, &expected(answer, state, &call.lent), "the format"));
-        same.map_err(|why| format!("FORMAT {sentence}, {name}: {why}; {call}"))?;
-    }
+    let rows = ROWS.iter().zip(calls()).map(|(&(sentence, name, _, _, _, answer, state), call)| {
+        let format = expected(answer, state, &call.lent);
+        (format!("{sentence}, {name}"), call, format)
+    });
+    let walks = as_rows_say(rows, |call| agreed(&mut rng, call))?;
     for (sentence, given, budget, length, [number, place, line]) in LINE_ROWS {
         let call = Call { request: request(given), lent: vec![LENT; length], budget };
         let left = agreed(&mut rng, &call).map_err(|why| format!("FORMAT {sentence}: {why}; {call}"))?;
@@ -369,10 +427,11 @@ pub fn compare() -> Result<String, String> {
     let releases = release_cases::compare(&mut rng)?;
     let guarded = guarded_cases::compare(&mut rng)?;
     let by_cases = by_cases_rows::compare(&mut rng)?;
+    let indexed = index_rows::compare(&mut rng)?;
     without_bytes()?;
-    let (walks, lines, checks) = (ROWS.len(), LINE_ROWS.len(), DERIVATION_ROWS.len());
+    let (lines, checks) = (LINE_ROWS.len(), DERIVATION_ROWS.len());
     Ok(format!(
         "{walks} rows of the format, {lines} for the line, {checks} for derivations, {whether} for those in the closing layout, {releases} for release \
-         files, {guarded} for guarded requests and {by_cases} by cases answered as it says, and null pointers with length 0"
+         files, {guarded} for guarded requests, {by_cases} by cases and {indexed} for indexes answered as it says, and null pointers with length 0"
     ))
 }

@@ -6,7 +6,7 @@ use glintstring::Packed;
 use oracle::rng::Rng;
 use oracle::text::comma_separated;
 
-use crate::calls::numbers;
+use crate::calls::{numbers, told};
 use crate::fence::Fenced;
 
 /// How the derivation is written, and with it which call is made.
@@ -74,8 +74,8 @@ pub fn timed(rng: &mut Rng, check: &Check) -> Result<([u64; 4], Duration), Strin
         return Err(format!("number, input, place, count are {answer:?}, by the independent program {independent:?}"));
     }
     let named = std::panic::catch_unwind(|| unpack(packed)).map_err(|_| format!("{answer:?} is no answer"))?;
-    let told = [named.number().into(), named.input().into(), named.place() as u64, named.count().into()];
-    if told != answer || named.packed() != packed {
+    let named_so = [named.number().into(), named.input().into(), named.place() as u64, named.count().into()];
+    if named_so != answer || named.packed() != packed {
         return Err(format!("answer {answer:?} is named {named}"));
     }
     let by_hand: Vec<Packed> = (0..BY_HAND).map(|_| any_answer(rng, check)).collect();
@@ -88,11 +88,10 @@ pub fn timed(rng: &mut Rng, check: &Check) -> Result<([u64; 4], Duration), Strin
 
 /// The independent program's.
 pub fn independent(check: &Check) -> [u64; 4] {
-    let answer = match check.layout {
+    told(match check.layout {
         Layout::Plain => oracle::check(&check.request, &check.derivation),
         Layout::Closing => oracle::check_whether(&check.request, &check.derivation),
-    };
-    [answer.number.into(), answer.input.into(), answer.place.into(), answer.count.into()]
+    })
 }
 
 fn unchanged(before: &(Fenced, Fenced), request: &Fenced, derivation: &Fenced, who: &str) -> Result<(), String> {

@@ -1,11 +1,15 @@
 //! The requests on which the walk goes deepest (tests/gate/stack), on a thread with exactly the stack that docs/MEASURED.md asks for.
 
+use std::fmt::Display;
+use std::time::Duration;
 use std::{fs, thread};
 
+use oracle::indexes::index::index_of;
 use oracle::rng::Rng;
 
-use crate::calls::{expect, exported, independent, Call};
-use crate::{by_cases, guarded};
+use crate::calls::{expect, exported, independent, Call, Left};
+use crate::indexes::Indexed;
+use crate::{by_cases, guarded, indexes};
 
 /// The requests of a folder, of which the file `list` has a line each: file, budget, items, name.
 pub fn requests(folder: &str) -> Result<Vec<(String, Call)>, String> {
@@ -42,22 +46,34 @@ fn on_thread<T: Send>(call: impl FnOnce() -> T + Send) -> T {
     thread::scope(|scope| thread::Builder::new().stack_size(glintstring::STACK_NEEDED).spawn_scoped(scope, call).expect("a thread").join().expect("a call"))
 }
 
+/// Each call is made by both programs, the exported one on such a thread.
+fn agreed<C: Display + Sync>(
+    calls: &[(String, C)],
+    seed: u64,
+    timed: impl Fn(&mut Rng, &C) -> Result<(Left, Duration), String> + Sync,
+    independent: fn(&C) -> Left,
+) -> Result<usize, String> {
+    for (index, (name, call)) in calls.iter().enumerate() {
+        let one = on_thread(|| timed(&mut Rng::new(seed, 6, index as u64), call));
+        one.and_then(|(one, _)| expect(&one, &independent(call), "the independent program")).map_err(|why| format!("{name}: {why}; {call}"))?;
+    }
+    Ok(calls.len())
+}
+
+/// The same request with its own index.
+fn with_index((name, call): (String, Call)) -> (String, Indexed) {
+    let index = oracle::open(&call.request).map_or(Vec::new(), |request| index_of(&request));
+    (name, Indexed { call, index })
+}
+
 /// Compares them.
 pub fn compare(folder: &str) -> Result<String, String> {
-    let (requests, guarded, in_cases) = (requests(folder)?, guarded_requests(folder)?, requests_by_cases(folder)?);
-    for (index, (name, call)) in requests.iter().enumerate() {
-        let one = on_thread(|| exported(&mut Rng::new(1, 6, index as u64), call));
-        one.and_then(|one| expect(&one, &independent(call), "the independent program")).map_err(|why| format!("{name}: {why}; {call}"))?;
-    }
-    for (index, (name, call)) in guarded.iter().enumerate() {
-        let one = on_thread(|| guarded::timed(&mut Rng::new(2, 6, index as u64), call));
-        one.and_then(|(one, _)| expect(&one, &guarded::independent(call), "the independent program")).map_err(|why| format!("{name}: {why}; {call}"))?;
-    }
-    for (index, (name, call)) in in_cases.iter().enumerate() {
-        let one = on_thread(|| by_cases::timed(&mut Rng::new(3, 6, index as u64), call));
-        one.and_then(|(one, _)| expect(&one, &by_cases::independent(call), "the independent program")).map_err(|why| format!("{name}: {why}; {call}"))?;
-    }
+    let by_index: Vec<(String, Indexed)> = requests(folder)?.into_iter().map(with_index).collect();
+    let both = |rng: &mut Rng, call: &Call| exported(rng, call).map(|left| (left, Duration::ZERO));
+    let all = agreed(&requests(folder)?, 1, both, independent)?;
+    let guards = agreed(&guarded_requests(folder)?, 2, guarded::timed, guarded::independent)?;
+    let cases = agreed(&requests_by_cases(folder)?, 3, by_cases::timed, by_cases::independent)?;
+    let indexed = agreed(&by_index, 4, indexes::timed, indexes::independent)?;
     let stack = glintstring::STACK_NEEDED;
-    let [all, guards, cases] = [requests.len(), guarded.len(), in_cases.len()];
-    Ok(format!("{all} deep requests, {guards} guarded ones and {cases} by cases agree, on a thread of {stack} bytes of stack"))
+    Ok(format!("{all} deep requests, {guards} guarded ones, {cases} by cases and {indexed} with an index agree, on a thread of {stack} bytes of stack"))
 }

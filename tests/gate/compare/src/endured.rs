@@ -5,12 +5,14 @@ use std::fmt::Write;
 use std::fs;
 use std::time::Duration;
 
+use oracle::indexes::calls::LONGEST;
 use oracle::rng::Rng;
 
-use crate::calls::{self, expect};
+use crate::calls::{self, expect, Call, Left};
 use crate::checks::Layout;
 use crate::hostile::{self, Input, Named};
-use crate::{by_cases, checks, derivations, generated, guarded, releases, whether};
+use crate::indexes::Indexed;
+use crate::{by_cases, checks, derivations, generated, guarded, indexes, releases, whether};
 
 /// What a call may take, and what it may take for each count more: far more than was ever seen (docs/MEASURED.md).
 const A: Duration = Duration::from_secs(1);
@@ -53,22 +55,21 @@ impl Taken {
 
 /// The call by both programs; its time is that of the exported one.
 fn call(rng: &mut Rng, input: &Input) -> Result<Taken, String> {
+    let agreed = |(left, took): (Left, Duration), other: Left, b: Duration| {
+        expect(&left, &other, "the independent program")?;
+        Ok(Taken { answer: left.answer, took, b })
+    };
     match input {
-        Input::Walk(call) => {
-            let (left, took) = calls::timed(rng, call)?;
-            expect(&left, &calls::independent(call), "the independent program")?;
-            Ok(Taken { answer: left.answer, took, b: B })
+        Input::Walk(call) => agreed(calls::timed(rng, call)?, calls::independent(call), B),
+        Input::ByCases(call) => agreed(by_cases::timed(rng, call)?, by_cases::independent(call), B_BY_CASES),
+        Input::Guarded(call) => agreed(guarded::timed(rng, call)?, guarded::independent(call), B),
+        Input::Index(call) => {
+            // The length of the index is no count.
+            let taken = agreed(indexes::built(rng, call)?, indexes::independently_built(call), B)?;
+            let [number, input, place, _] = taken.answer;
+            Ok(Taken { answer: [number, input, place, 0], ..taken })
         }
-        Input::ByCases(call) => {
-            let (left, took) = by_cases::timed(rng, call)?;
-            expect(&left, &by_cases::independent(call), "the independent program")?;
-            Ok(Taken { answer: left.answer, took, b: B_BY_CASES })
-        }
-        Input::Guarded(call) => {
-            let (left, took) = guarded::timed(rng, call)?;
-            expect(&left, &guarded::independent(call), "the independent program")?;
-            Ok(Taken { answer: left.answer, took, b: B })
-        }
+        Input::Indexed(call) => agreed(indexes::timed(rng, call)?, indexes::independent(call), B),
         Input::Derivation(check) => checks::timed(rng, check).map(|(answer, took)| Taken { answer, took, b: B }),
         Input::Release(call) => {
             let (left, took) = releases::timed(rng, call)?;
@@ -159,33 +160,36 @@ struct Written {
 }
 
 impl Written {
-    fn add(&mut self, names: &str, [number, _, place, count]: [u64; 4]) {
+    fn add(&mut self, names: &str, answer: [u64; 4]) {
         _ = writeln!(self.names, "{names}");
+        self.expect(answer);
+    }
+
+    fn expect(&mut self, [number, _, place, count]: [u64; 4]) {
         _ = writeln!(self.expected, "  number {number}, place {place}, count {count}");
     }
 }
 
 /// Writes the inputs of a folder's deepest walks, the others by name, and so many generated and random ones as files into another folder.
-/// There `walks` has the names of requests, `guarded` those of guarded requests, `checks` those of requests and derivations, and `whether` the same
-/// in the closing layout; beside them are the answers, by the independent program, walks under this budget.
+/// There `walks` has the names of requests, `guarded` those of guarded requests, `indexed` those of requests and indexes, `checks` those of requests and
+/// derivations, and `whether` the same in the closing layout; beside them are the answers, by the independent program, walks under this budget. Those of
+/// `indexed` are two for each, of the index call with room enough and of the indexed call.
 pub fn write(deepest: &str, folder: &str, budget: u32, count: u64) -> Result<String, String> {
     let mut inputs: Vec<Input> = hostile::named(deepest)?.into_iter().chain(hostile::random(1, count)).map(|(_, input)| input).collect();
     inputs.extend((0..count).map(|index| Input::Walk(generated::call(1, index))));
     inputs.extend((0..count).map(|index| Input::Guarded(guarded::call(1, index))));
     inputs.extend((0..count).map(|index| Input::Derivation(derivations::call(1, index))));
     inputs.extend((0..count).map(|index| Input::Derivation(whether::call(1, index))));
-    // The programs for which files are written take requests, guarded or not, and derivations.
-    inputs.retain(|input| !matches!(input, Input::Release(_) | Input::ByCases(_)));
+    inputs.extend((0..count).map(|index| Input::Indexed(indexes::call(1, index).indexed)));
+    // The programs for which files are written take requests, guarded or not, with an index or without, and derivations.
+    inputs.retain(|input| !matches!(input, Input::Release(_) | Input::ByCases(_) | Input::Index(_)));
     let save = |name: String, bytes: &[u8]| fs::write(format!("{folder}/{name}"), bytes).map_err(|error| format!("{folder}/{name}: {error}"));
-    let [mut walks, mut guards, mut plain, mut closing] = std::array::from_fn(|_| Written::default());
+    let [mut walks, mut guards, mut indexed, mut plain, mut closing] = std::array::from_fn(|_| Written::default());
     for (index, input) in inputs.iter_mut().enumerate() {
-        match input {
-            Input::Walk(call) | Input::Guarded(call) => {
-                call.budget = budget;
-                call.lent = vec![0; glintstring::STATE_LENGTH];
-                save(format!("{index}.request"), &call.request)?;
-            }
-            _ => {}
+        if let Input::Walk(call) | Input::Guarded(call) | Input::Indexed(Indexed { call, .. }) = input {
+            call.budget = budget;
+            call.lent = vec![0; glintstring::STATE_LENGTH];
+            save(format!("{index}.request"), &call.request)?;
         }
         match input {
             Input::Walk(call) => walks.add(&format!("{folder}/{index}.request"), calls::independent(call).answer),
@@ -199,10 +203,16 @@ pub fn write(deepest: &str, folder: &str, budget: u32, count: u64) -> Result<Str
                 };
                 written.add(&format!("{folder}/{index}.request {folder}/{index}.derivation"), checks::independent(check));
             }
-            Input::Release(_) | Input::ByCases(_) => unreachable!("no such file is written"),
+            Input::Indexed(call) => {
+                save(format!("{index}.index"), &call.index)?;
+                let room = Call { lent: vec![0; LONGEST], ..call.call.clone() };
+                indexed.add(&format!("{folder}/{index}.request {folder}/{index}.index"), indexes::independently_built(&room).answer);
+                indexed.expect(indexes::independent(call).answer);
+            }
+            Input::Release(_) | Input::ByCases(_) | Input::Index(_) => unreachable!("no such file is written"),
         }
     }
-    for (name, written) in [("walks", walks), ("guarded", guards), ("checks", plain), ("whether", closing)] {
+    for (name, written) in [("walks", walks), ("guarded", guards), ("indexed", indexed), ("checks", plain), ("whether", closing)] {
         save(name.to_string(), written.names.as_bytes())?;
         save(format!("{name}.expected"), written.expected.as_bytes())?;
     }

@@ -61,17 +61,16 @@ pub fn call(seed: u64, index: u64) -> Call {
 
 /// A call of the independent program's own generators, which make about three of ten requests wrong in some way, and varied.
 pub fn any_call(rng: &mut Rng) -> Call {
-    let drawn = |rng: &mut Rng| {
-        let drawn = judge_call(rng);
-        Call { request: drawn.request, lent: drawn.lent, budget: drawn.budget }
-    };
-    varied(rng, drawn, |rng| {
-        let draft = crowded(rng);
-        match rng.chance(40) {
-            true => damage_request(rng, &draft).bytes,
-            false => encode_request(&draft).bytes,
-        }
-    })
+    varied(rng, |rng| judge_call(rng).into(), crowded_request)
+}
+
+/// The bytes of a crowded request, of which some are damaged.
+pub fn crowded_request(rng: &mut Rng) -> Vec<u8> {
+    let draft = crowded(rng);
+    match rng.chance(40) {
+        true => damage_request(rng, &draft).bytes,
+        false => encode_request(&draft).bytes,
+    }
 }
 
 /// A call that is drawn; of some the request is made wrong once more or is one of another kind, or the budget or the lent state is another. A crowded

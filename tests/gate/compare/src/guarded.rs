@@ -6,8 +6,9 @@ use oracle::guards::calls::{any_guarded_call, guarded, guarded_call};
 use oracle::guards::run::Tally;
 use oracle::reader::REQUEST_LIMIT;
 use oracle::rng::Rng;
+use oracle::tally::Checked;
 
-use crate::calls::{self, expect, timed_and_named, Call, Left};
+use crate::calls::{self, expect, timed_and_named, told, Call, Left};
 use crate::crowded::crowded;
 use crate::generated::{varied, MOST};
 use crate::many::{all_met, longest_agreed, print_indented, some_longest, ENOUGH};
@@ -25,8 +26,7 @@ pub fn timed(rng: &mut Rng, call: &Call) -> Result<(Left, Duration), String> {
 pub fn independent(call: &Call) -> Left {
     let mut lent = call.lent.clone();
     let answer = oracle::judge_guarded(&call.request, &mut lent, call.budget);
-    let answer = [answer.number.into(), answer.input.into(), answer.place.into(), answer.count.into()];
-    Left { answer, lent, line: None }
+    Left { answer: told(answer), lent, line: None }
 }
 
 /// What both leave, or how they differ. Four calls are made, each both ways: the guarded one, the walk call on the same bytes, and both without
@@ -104,10 +104,7 @@ pub fn call(seed: u64, index: u64) -> Call {
 /// A call of the independent program's own generators, which make about three of ten requests wrong in some way, and varied; a few requests are as
 /// long as one may be, or longer.
 pub fn any_call(rng: &mut Rng) -> Call {
-    let drawn = |rng: &mut Rng| {
-        let drawn = guarded_call(rng);
-        Call { request: drawn.request, lent: drawn.lent, budget: drawn.budget }
-    };
+    let drawn = |rng: &mut Rng| guarded_call(rng).into();
     let call = varied(rng, drawn, |rng| {
         let request = crowded(rng);
         let draft = guarded(rng, request);

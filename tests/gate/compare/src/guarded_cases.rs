@@ -3,8 +3,8 @@
 use glintstring::STATE_LENGTH;
 use oracle::rng::Rng;
 
-use crate::calls::{self, expect, Call};
-use crate::cases::{self, expected, request, Request};
+use crate::calls::{self, Call};
+use crate::cases::{self, as_rows_say, expected, request, Request};
 use crate::guarded::agreed;
 
 use Request::*;
@@ -66,14 +66,15 @@ pub fn calls() -> Vec<Call> {
 
 /// Every row through the exported call, with the independent program's opinion of it, and the row of the walk call; how many there are.
 pub fn compare(rng: &mut Rng) -> Result<usize, String> {
-    for row in &ROWS {
+    let rows = ROWS.iter().map(|row| {
         let (sentence, _, _, _, answer, state) = *row;
         let call = call(row);
-        let same = agreed(rng, &call).and_then(|left| expect(&left, &expected(answer, state, &call.lent), "the format"));
-        same.map_err(|why| format!("FORMAT {sentence}: {why}; {call}"))?;
-    }
+        let format = expected(answer, state, &call.lent);
+        (sentence, call, format)
+    });
+    let guarded = as_rows_say(rows, |call| agreed(rng, call))?;
     let plain = call(&ROWS[0]);
-    let walked = calls::agreed(rng, &plain).and_then(|left| expect(&left, &expected([20, 48, 0], None, &plain.lent), "the format"));
-    walked.map_err(|why| format!("FORMAT 21.59: {why}; {plain}"))?;
-    Ok(ROWS.len() + 1)
+    let format = expected([20, 48, 0], None, &plain.lent);
+    let walked = as_rows_say([("21.59", plain, format)], |call| calls::agreed(rng, call))?;
+    Ok(guarded + walked)
 }

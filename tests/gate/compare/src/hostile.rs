@@ -1,6 +1,7 @@
 //! Inputs made to do harm: as large, deep and slow as the format lets them be, and a little beyond.
 
 use oracle::encode::{encode_derivation, encode_request};
+use oracle::indexes::calls::LONGEST;
 use oracle::model::{Allowance, Branch, Effect, Item, Knowledge, Line, Request};
 use oracle::reader::{
     ACTION_LIMIT, BODY_LIMIT, CITATION_LIMIT, DERIVATION_LIMIT, FLUENT_LIMIT, ITEM_LIMIT, LINE_LIMIT, NESTING_LIMIT, REQUEST_LIMIT,
@@ -10,9 +11,10 @@ use oracle::rng::Rng;
 use crate::calls::Call;
 use crate::checks::Check;
 use crate::deepest;
+use crate::indexes::Indexed;
 use crate::largest::{self, line};
 use crate::releases::Release;
-use crate::{by_cases_hostile, guarded_hostile, release_hostile, whether_hostile};
+use crate::{by_cases_hostile, guarded_hostile, index_hostile, release_hostile, whether_hostile};
 
 /// The stream of random numbers of the bytes that have no meaning.
 const BYTES: u64 = 10;
@@ -31,6 +33,9 @@ pub enum Input {
     Walk(Call),
     Guarded(Call),
     ByCases(Call),
+    /// An index call, whose room is the lent bytes.
+    Index(Call),
+    Indexed(Indexed),
     Derivation(Check),
     Release(Release),
 }
@@ -64,6 +69,7 @@ pub fn named(folder: &str) -> Result<Vec<Named>, String> {
     inputs.extend(release_hostile::named(&releases));
     inputs.extend(guarded_hostile::named(deepest::guarded_requests(folder)?));
     inputs.extend(by_cases_hostile::named(deepest::requests_by_cases(folder)?));
+    inputs.extend(index_hostile::named(deepest::requests(folder)?));
     Ok(inputs)
 }
 
@@ -72,8 +78,8 @@ pub fn longest() -> Vec<Named> {
     sensed_at_once(&[LARGEST_BUDGET])
 }
 
-/// Any bytes, as a request, guarded, by cases or neither, as a derivation in either layout and as a release file; those of every other start as their
-/// input may.
+/// Any bytes, as a request, guarded, by cases, with an index or none of these, as an index, as a derivation in either layout and as a release file; those of
+/// every other start as their input may.
 pub fn random(seed: u64, count: u64) -> Vec<Named> {
     let mut inputs = Vec::new();
     for index in 0..count {
@@ -91,6 +97,10 @@ pub fn random(seed: u64, count: u64) -> Vec<Named> {
         let derivation = bytes(rng, DERIVATION_LIMIT, [4, 0]);
         let closing = bytes(rng, DERIVATION_LIMIT, [0, 1]);
         inputs.push(by_cases_hostile::by_cases(&format!("random request {index}"), request.clone(), FEW));
+        let room = rng.below(2 * LONGEST);
+        inputs.push(index_hostile::built(&format!("random request {index}"), request.clone(), room));
+        let by = bytes(rng, 2 * LONGEST, [0, 1]);
+        inputs.push(index_hostile::indexed(&format!("random index {index}"), encode_request(&wide()).bytes, by, FEW));
         inputs.push(walk(&format!("random request {index}"), request, FEW));
         inputs.push(check(&format!("random derivation {index}"), &wide(), derivation));
         inputs.push(whether_hostile::check(&format!("random derivation {index}"), &wide(), closing));

@@ -9,9 +9,10 @@ use oracle::reader::{PLAN_LIMIT, REQUEST_LIMIT};
 use oracle::releases::calls::{lent_row, release_call};
 use oracle::releases::run::Tally;
 use oracle::rng::Rng;
+use oracle::tally::Checked;
 use oracle::text::comma_separated;
 
-use crate::calls::{answer, numbers};
+use crate::calls::{self, answer, numbers};
 use crate::cases;
 use crate::crowded::{crowded, crowded_plan};
 use crate::fence::Fenced;
@@ -100,8 +101,7 @@ pub fn timed(rng: &mut Rng, call: &Release) -> Result<(Left, Duration), String> 
 pub fn independent(call: &Release) -> Left {
     let mut row = call.lent.clone();
     let own = oracle::release(&call.file, &mut row, call.budget);
-    let own = [own.number.into(), own.input.into(), own.place.into(), own.count.into()];
-    Left { own, row, plans: oracle::plans(&call.file) }
+    Left { own: calls::told(own), row, plans: oracle::plans(&call.file) }
 }
 
 /// What both leave, or how they differ.

@@ -4,13 +4,12 @@ use std::hint::black_box;
 
 use glintstring::{judge_by_cases_packed, judge_packed, Packed, MOST_OPEN, STATE_LENGTH};
 use oracle::encode::encode_request;
-use oracle::generate::{request, MIDDLE, SMALL, TINY};
 use oracle::model::{Allowance, Effect, Item, Knowledge, Request};
 use oracle::reader::{FLUENT_LIMIT, REQUEST_LIMIT};
 use oracle::rng::Rng;
 use oracle::Answer;
 
-use crate::crowded::crowded_of;
+use crate::classes::{large, medium, small};
 use crate::walks::side_by_side;
 
 /// The stream of random numbers of the requests.
@@ -43,20 +42,6 @@ const KINDS: [Kind; 7] = [
     Kind { name: "12 open fluents, 255 effects and lines, the last two true by cases", count: 1, request: longest },
     Kind { name: "12 open fluents, 255 lines of a sensing action, the last two true by cases", count: 1, request: sensing },
 ];
-
-fn small(rng: &mut Rng) -> Request {
-    let shape = *rng.pick(&[TINY, SMALL]);
-    request(rng, &shape)
-}
-
-fn medium(rng: &mut Rng) -> Request {
-    request(rng, &MIDDLE)
-}
-
-/// A table near its limits.
-fn large(rng: &mut Rng) -> Request {
-    crowded_of(rng, (110, 128), (2, 128))
-}
 
 /// Action 0 is the plan, and has these lines.
 fn one_action(effects: Vec<Effect>, allowances: Vec<Allowance>) -> Request {
@@ -164,7 +149,7 @@ pub fn time(seed: u64, rounds: u64) -> Result<String, String> {
     for (row, kind) in KINDS.iter().enumerate() {
         let mut requests: Vec<Timed> = (0..kind.count).map(|index| timed(&mut Rng::new(seed, REQUESTS + row as u64, index), kind)).collect();
         let answers = requests.iter_mut().map(Timed::agreed).collect::<Result<Vec<[u32; 3]>, String>>()?;
-        let ([by_cases, walk], [low, middle, high]) = side_by_side(&mut requests, rounds, [Timed::by_cases, Timed::walk]);
+        let ([by_cases, walk], [[low, middle, high], _]) = side_by_side(&mut requests, rounds, [Timed::by_cases, Timed::walk]);
         let bytes = requests.iter().map(|timed| timed.request.len()).sum::<usize>() / requests.len();
         let count = answers.iter().map(|answer| u64::from(answer[1])).sum::<u64>() / kind.count;
         let numbers = |of: usize| {

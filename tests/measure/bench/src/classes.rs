@@ -31,6 +31,22 @@ pub struct Timed {
 /// A plan of so many steps over a table of some size.
 const LONG_PLAN: Shape = Shape { fluents: (4, 40), actions: (3, 30), steps: (LONG, ITEM_LIMIT), effects: 4, careless: 0, ..LARGE };
 
+/// A small request.
+pub fn small(rng: &mut Rng) -> Request {
+    let shape = *rng.pick(&[TINY, SMALL]);
+    request(rng, &shape)
+}
+
+/// One of medium size.
+pub fn medium(rng: &mut Rng) -> Request {
+    request(rng, &MIDDLE)
+}
+
+/// One with a table near its limits.
+pub fn large(rng: &mut Rng) -> Request {
+    crowded_of(rng, (110, 128), (2, 128))
+}
+
 /// So many requests of a class.
 pub fn class(seed: u64, class: usize, count: u64) -> Vec<Timed> {
     let of_index = |index: u64| {
@@ -47,11 +63,8 @@ pub fn class(seed: u64, class: usize, count: u64) -> Vec<Timed> {
 /// A request of a class, if the one drawn is of it.
 fn drawn(rng: &mut Rng, class: usize, index: u64) -> Option<Timed> {
     let draft = match class {
-        0 => {
-            let shape = *rng.pick(&[TINY, SMALL]);
-            request(rng, &shape)
-        }
-        1 => request(rng, &MIDDLE),
+        0 => small(rng),
+        1 => medium(rng),
         2 => match rng.chance(50) {
             true => request(rng, &LARGE),
             false => crowded_of(rng, (17, 64), (2, 64)),

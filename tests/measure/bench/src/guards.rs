@@ -4,13 +4,13 @@ use std::hint::black_box;
 
 use glintstring::{judge_guarded_packed, judge_packed, STATE_LENGTH};
 use oracle::encode::{encode_guarded, encode_request};
-use oracle::generate::{common, request, MIDDLE, SMALL, TINY};
+use oracle::generate::common;
 use oracle::model::{Branch, Guarded, Item, Knowledge, Request};
 use oracle::reader::{FLUENT_LIMIT, GUARD_LIMIT, ITEM_LIMIT, REQUEST_LIMIT};
 use oracle::rng::Rng;
 use oracle::walk::{met, walk};
 
-use crate::crowded::crowded_of;
+use crate::classes::{large, medium, small};
 use crate::walks::side_by_side;
 
 /// The stream of random numbers of the requests.
@@ -40,20 +40,6 @@ const KINDS: [Kind; 10] = [
     Kind { name: "128 fluents looked at, half of them known", guards: Some(GUARD_LIMIT), request: looking },
     Kind { name: "1,023 branchings before each end state", guards: Some(GUARD_LIMIT), request: branchings },
 ];
-
-fn small(rng: &mut Rng) -> Request {
-    let shape = *rng.pick(&[TINY, SMALL]);
-    request(rng, &shape)
-}
-
-fn medium(rng: &mut Rng) -> Request {
-    request(rng, &MIDDLE)
-}
-
-/// A table near its limits.
-fn large(rng: &mut Rng) -> Request {
-    crowded_of(rng, (110, 128), (2, 128))
-}
 
 /// The first half of all fluents is true, action 0 looks at the others, and both actions can always be run.
 fn half_known() -> Request {
@@ -141,7 +127,7 @@ pub fn time(seed: u64, rounds: u64) -> Result<String, String> {
     for (row, kind) in KINDS.iter().enumerate() {
         let mut requests: Vec<Timed> = (0..COUNT).map(|index| timed(&mut Rng::new(seed, REQUESTS + row as u64, index), kind)).collect();
         let counts: u32 = requests.iter_mut().map(Timed::agreed).sum::<Result<u32, String>>()?;
-        let ([guarded, plain], [low, middle, high]) = side_by_side(&mut requests, rounds, [Timed::guarded, Timed::walk]);
+        let ([guarded, plain], [[low, middle, high], _]) = side_by_side(&mut requests, rounds, [Timed::guarded, Timed::walk]);
         let mean = |of: fn(&Timed) -> usize| requests.iter().map(of).sum::<usize>() / requests.len();
         let (bytes, guards, count) = (mean(|timed| timed.guarded.len()), mean(|timed| timed.guards), u64::from(counts) / COUNT);
         let name = kind.name;

@@ -4,12 +4,13 @@ use std::hint::black_box;
 
 use glintstring::{judge_packed, STATE_LENGTH};
 use oracle::encode::{encode_release, encode_request};
-use oracle::generate::{asked, request, Shape, LARGE, MIDDLE, SMALL, TINY, WIDE};
+use oracle::generate::{asked, request, Shape, LARGE, TINY, WIDE};
 use oracle::model::{Effect, Request};
 use oracle::reader::{PLAN_LIMIT, REQUEST_LIMIT};
 use oracle::rng::Rng;
 use oracle::walk::{walk, Verdict};
 
+use crate::classes::{medium, small};
 use crate::crowded::crowded_of;
 use crate::walks::side_by_side;
 
@@ -85,17 +86,8 @@ fn clashing(rng: &mut Rng) -> Request {
     }
 }
 
-fn medium(rng: &mut Rng) -> Request {
-    request(rng, &MIDDLE)
-}
-
-fn small(rng: &mut Rng) -> Request {
-    let shape = *rng.pick(&[TINY, SMALL]);
-    request(rng, &shape)
-}
-
 /// A short plan over a table, whose walk counts little.
-fn plan(rng: &mut Rng, table: &Request) -> Request {
+pub fn plan(rng: &mut Rng, table: &Request) -> Request {
     loop {
         let shape = Shape { steps: (1, 12), items: 40, careless: LARGE.careless, ..TINY };
         let mut plan = asked(rng, table.clone(), &shape);
@@ -166,7 +158,7 @@ pub fn time(seed: u64, rounds: u64) -> Result<String, String> {
         let tables: usize = files.iter().map(|file| file.table).sum();
         let plans: usize = files.iter().map(|file| file.file.len() - file.table - 1).sum();
         let ways = [|file: &mut Timed| _ = black_box(file.release()), Timed::walks];
-        let ([release, walks], [low, middle, high]) = side_by_side(&mut files, rounds, ways);
+        let ([release, walks], [[low, middle, high], _]) = side_by_side(&mut files, rounds, ways);
         let (table, plan) = (tables / files.len(), plans / files.len() / kind.plans);
         let (name, count) = (kind.name, kind.plans);
         if row == 0 && middle > BAR {

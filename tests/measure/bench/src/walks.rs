@@ -43,14 +43,18 @@ pub fn quartiles(mut numbers: Vec<f64>) -> [f64; 3] {
     [1, 2, 3].map(|quarter| numbers[quarter * (numbers.len() - 1) / 4])
 }
 
-/// All inputs in two ways, by turns: the median of each way for one input, in nanoseconds, and the quartiles of the ratio.
-pub fn side_by_side<Timed>(inputs: &mut [Timed], rounds: u64, ways: [fn(&mut Timed); 2]) -> ([f64; 2], [f64; 3]) {
-    let mut times: Vec<[f64; 2]> = Vec::new();
+/// All inputs in some ways, by turns: of each way the median for one input, in nanoseconds, and the quartiles of the ratio to the last.
+pub fn side_by_side<Timed, const WAYS: usize>(
+    inputs: &mut [Timed],
+    rounds: u64,
+    ways: [fn(&mut Timed); WAYS],
+) -> ([f64; WAYS], [[f64; 3]; WAYS]) {
+    let mut times: Vec<[f64; WAYS]> = Vec::new();
     for round in 0..rounds as usize {
-        let mut taken = [0.0; 2];
+        let mut taken = [0.0; WAYS];
         for (index, timed) in inputs.iter_mut().enumerate() {
-            for turn in 0..2 {
-                let way = (round + index + turn) % 2;
+            for turn in 0..WAYS {
+                let way = (round + index + turn) % WAYS;
                 let start = clock::now();
                 ways[way](timed);
                 taken[way] += clock::now() - start;
@@ -58,8 +62,9 @@ pub fn side_by_side<Timed>(inputs: &mut [Timed], rounds: u64, ways: [fn(&mut Tim
         }
         times.push(taken);
     }
-    let medians = [0, 1].map(|way| quartiles(times.iter().map(|taken| taken[way]).collect())[1] / inputs.len() as f64);
-    (medians, quartiles(times.iter().map(|[one, other]| one / other).collect()))
+    let medians = std::array::from_fn(|way| quartiles(times.iter().map(|taken| taken[way]).collect())[1] / inputs.len() as f64);
+    let ratios = std::array::from_fn(|way| quartiles(times.iter().map(|taken| taken[way] / taken[WAYS - 1]).collect()));
+    (medians, ratios)
 }
 
 /// All times of one class: by part, program and round.
@@ -135,9 +140,13 @@ fn tables(times: &[Times], lengths: Vec<usize>) -> String {
     out
 }
 
+/// Where a name stands among others.
+pub fn find(names: &[&str], name: &str) -> Result<usize, String> {
+    names.iter().position(|other| *other == name).ok_or(format!("'{name}' is none of {names:?}"))
+}
+
 /// So many passes of one program over the first requests of a class, for a profile.
 pub fn only(program: &str, name: &str, part: &str, count: u64, passes: u64) -> Result<String, String> {
-    let find = |names: &[&str], name: &str| names.iter().position(|other| *other == name).ok_or(format!("'{name}' is none of {names:?}"));
     let (program, index, part) = (find(&PROGRAMS, program)?, find(&NAMES, name)?, find(&PARTS, part)?);
     let mut calls = class(1, index, count);
     let mut programs = Programs::new();

@@ -7,8 +7,9 @@ use crate::calls::Call;
 use crate::checks::{Check, Layout};
 use crate::derivations::any_check;
 use crate::generated::any_call;
+use crate::indexes::{self, Both, Indexed};
 use crate::releases::{self, Release};
-use crate::{by_cases, by_cases_rows, cases, guarded, guarded_cases, release_cases, whether, whether_cases};
+use crate::{by_cases, by_cases_rows, cases, guarded, guarded_cases, index_rows, release_cases, whether, whether_cases};
 
 /// A derivation call where this bit is set; the number is the length of the request, and the derivation follows it.
 const DERIVATION: u8 = 1;
@@ -19,9 +20,12 @@ const CLOSING: u8 = 8;
 const RELEASE: u8 = 64;
 /// A guarded call instead of a walk call.
 const GUARDED: u8 = 128;
-/// A call by cases instead of a walk call, where the bit of a guarded call is not set.
+/// A call by cases instead of a walk call.
 const BY_CASES: u8 = 32;
-/// In a walk call, a guarded call, a call by cases or a release call: a budget of up to 16,383 instead of 255.
+/// An index call and an indexed call instead of a walk call, where both are set. Two bytes more have the length of the request, and the index follows it; the room
+/// has an eighth of the number as its length.
+const INDEXED: u8 = GUARDED | BY_CASES;
+/// In a call that walks: a budget of up to 16,383 instead of 255.
 const FAR: u8 = 2;
 /// The lent state, or the row, has the number modulo `LENGTHS` as its length where these are all set, and its own otherwise.
 const ODD_LENGTH: u8 = 7 << 2;
@@ -35,12 +39,14 @@ const WHETHER: u64 = 13;
 const RELEASES: u64 = 17;
 const GUARDS: u64 = 22;
 const CASES: u64 = 27;
+const INDEXES: u64 = 35;
 
 /// A call to be made both ways.
 pub enum Given {
     Walk(Call),
     Guarded(Call),
     ByCases(Call),
+    Indexed(Both),
     Derivation(Check),
     Release(Release),
 }
@@ -66,11 +72,19 @@ pub fn given(input: &[u8]) -> Given {
         return Given::Release(Release { file: rest.to_vec(), lent: vec![9; length], budget: budget.into() });
     }
     let length = odd.unwrap_or(STATE_LENGTH);
-    let call = Call { request: rest.to_vec(), lent: vec![9; length], budget: budget.into() };
-    match kind & (GUARDED | BY_CASES) {
-        0 => Given::Walk(call),
-        BY_CASES => Given::ByCases(call),
-        _ => Given::Guarded(call),
+    let call = |request: &[u8]| Call { request: request.to_vec(), lent: vec![9; length], budget: budget.into() };
+    match kind & INDEXED {
+        0 => Given::Walk(call(rest)),
+        BY_CASES => Given::ByCases(call(rest)),
+        GUARDED => Given::Guarded(call(rest)),
+        _ => {
+            let (length, rest) = match *rest {
+                [high, low, ref rest @ ..] => (u16::from_be_bytes([high, low]), rest),
+                _ => (0, &[][..]),
+            };
+            let (request, index) = rest.split_at(rest.len().min(length.into()));
+            Given::Indexed(Both { indexed: Indexed { call: call(request), index: index.to_vec() }, room: vec![9; usize::from(number / 8)] })
+        }
     }
 }
 
@@ -82,6 +96,14 @@ fn of_call(call: &Call, bit: u8) -> Vec<u8> {
         (length, _) => (ODD_LENGTH, (length % LENGTHS) as u16),
     };
     [&[bit | kind][..], &number.to_be_bytes(), &call.request].concat()
+}
+
+/// An input for an indexed call, in the same way; the room is another.
+fn of_indexed(both: &Both) -> Vec<u8> {
+    let Indexed { call, index } = &both.indexed;
+    let length = u16::try_from(call.request.len()).unwrap_or(u16::MAX);
+    let request = [&length.to_be_bytes()[..], &call.request, index].concat();
+    of_call(&Call { request, ..call.clone() }, INDEXED)
 }
 
 /// An input for a release call, in the same way.
@@ -114,8 +136,17 @@ pub fn seeds(seed: u64, count: u64) -> Vec<Vec<u8>> {
     let guards = guarded_cases::calls().into_iter().chain(guards).map(|call| of_call(&call, GUARDED));
     let by_cases = (0..count).map(|index| by_cases::any_call(&mut Rng::new(seed, CASES, index)));
     let by_cases = by_cases_rows::calls().into_iter().chain(by_cases).map(|call| of_call(&call, BY_CASES));
+    let indexed = (0..count).map(|index| indexes::any_call(&mut Rng::new(seed, INDEXES, index)));
+    let indexed = index_rows::calls().into_iter().chain(indexed).map(|both| of_indexed(&both));
     let derivations = cases::checks().into_iter().chain(derivations).chain(whether_cases::checks()).chain(closing);
     let releases = (0..count).map(|index| releases::any_call(&mut Rng::new(seed, RELEASES, index)));
     let releases = release_cases::calls().into_iter().chain(releases).map(|call| of_release(&call));
-    walks.chain(derivations.map(|check| of_check(&check))).chain(releases).chain(guards).chain(by_cases).filter(|input| input.len() <= LONGEST).collect()
+    walks
+        .chain(derivations.map(|check| of_check(&check)))
+        .chain(releases)
+        .chain(guards)
+        .chain(by_cases)
+        .chain(indexed)
+        .filter(|input| input.len() <= LONGEST)
+        .collect()
 }

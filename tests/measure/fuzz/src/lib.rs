@@ -33,6 +33,12 @@ mod guarded;
 #[allow(dead_code)]
 #[path = "../../../gate/compare/src/guarded_cases.rs"]
 mod guarded_cases;
+#[allow(dead_code)]
+#[path = "../../../gate/compare/src/index_rows.rs"]
+mod index_rows;
+#[allow(dead_code)]
+#[path = "../../../gate/compare/src/indexes.rs"]
+mod indexes;
 pub mod input;
 #[allow(dead_code)]
 #[path = "../../../gate/compare/src/many.rs"]
@@ -65,6 +71,7 @@ pub fn agreed(bytes: &[u8]) -> Result<[u64; 4], String> {
         Given::Walk(call) => calls::agreed(&mut rng, &call).map(|left| left.answer).map_err(|why| format!("{why}; {call}")),
         Given::Guarded(call) => guarded::agreed(&mut rng, &call).map(|left| left.answer).map_err(|why| format!("{why}; {call}")),
         Given::ByCases(call) => by_cases::agreed(&mut rng, &call).map(|left| left.answer).map_err(|why| format!("{why}; {call}")),
+        Given::Indexed(both) => indexes::agreed(&mut rng, &both).map(|[_, left]| left.answer).map_err(|why| format!("{why}; {both}")),
         Given::Derivation(check) => checks::agreed(&mut rng, &check).map_err(|why| format!("{why}; {check}")),
         Given::Release(call) => releases::agreed(&mut rng, &call).map(|left| left.summed()).map_err(|why| format!("{why}; {call}")),
     }

@@ -1,9 +1,8 @@
 //! The call by cases.
 
 use super::way::walk_by_cases;
-use crate::answer::{narrow, Answer, Fault, REQUEST};
-use crate::walk::{TooMany, Verdict};
-use crate::{open, tell, STATE_LENGTH};
+use crate::answer::{Answer, Fault, REQUEST};
+use crate::{judge_opened, open};
 
 /// The answer to an action with too many cases.
 pub const TOO_MANY: u8 = 44;
@@ -17,17 +16,10 @@ pub fn judge_by_cases(request: &[u8], lent: &mut [u8], budget: u32) -> Answer {
 
 /// The call by cases with the line that its answer carries, which is 0 for 44.
 pub fn judge_by_cases_line(request: &[u8], lent: &mut [u8], budget: u32) -> (Answer, u32) {
-    if lent.len() != STATE_LENGTH {
-        return (Answer::neither(9, 0), 0);
-    }
-    let request = match open(request) {
-        Ok(request) => request,
-        Err(fault) => return (Answer::refusal(REQUEST, fault), 0),
-    };
-    match walk_by_cases(&request, budget) {
-        Ok(verdict @ Verdict::Stuck { line, .. }) => (tell(verdict, lent, budget), narrow(line)),
-        Ok(verdict) => (tell(verdict, lent, budget), 0),
+    let opened = || open(request);
+    judge_opened(lent, budget, opened, |request, _| {
         // The count is 0, as that of a refusal is.
-        Err(TooMany { place, .. }) => (Answer::refusal(REQUEST, Fault::new(TOO_MANY, place)), 0),
-    }
+        walk_by_cases(&request, budget)
+            .map_err(|too_many| Answer::refusal(REQUEST, Fault::new(TOO_MANY, too_many.place)))
+    })
 }

@@ -4,7 +4,7 @@
 
 use super::way::walk_by_cases;
 use crate::calls::{
-    budget_near, damaged_judge_call, judge_call, lend_wrongly, lent_state, JudgeCall, Outlook,
+    budget_near, damaged_judge_call, judge_call, lent_state, some_damaged, JudgeCall, Outlook,
     COUNT_CAP,
 };
 use crate::encode::encode_request;
@@ -35,14 +35,12 @@ pub fn cases_call(rng: &mut Rng) -> JudgeCall {
 
 /// A call of a draft, damaged or not. Now and then the lent state has another length.
 pub fn any_cases_call(rng: &mut Rng, draft: &Request) -> JudgeCall {
-    let mut call = match rng.chance(18) {
-        true => damaged_judge_call(rng, draft),
-        false => sound_cases_call(rng, draft),
-    };
-    if rng.chance(1) {
-        lend_wrongly(rng, &mut call);
-    }
-    call
+    some_damaged(
+        rng,
+        18,
+        |rng| damaged_judge_call(rng, draft),
+        |rng| sound_cases_call(rng, draft),
+    )
 }
 
 /// A call with an undamaged request, and a budget about the count at which its walk by cases ends.

@@ -10,14 +10,13 @@ use super::call::{judge_by_cases_line, TOO_MANY};
 use super::calls::{look_for_nothing, sound_cases_call, split_drawn, widen};
 use super::run::{events, Event};
 use super::way::{walk_filling, Filled};
-use crate::answer::Answer;
-use crate::calls::{damaged_judge_call, lend_wrongly, JudgeCall};
+use crate::calls::{damaged_judge_call, JudgeCall};
 use crate::generate::{drawn, starve, Shape, TINY};
 use crate::model::Request;
 use crate::open;
 use crate::rng::Rng;
 use crate::rows::Shown::{self, Number};
-use crate::rows::{judged_by, rounds, tell_judging, too_long, LONG_BYTES};
+use crate::rows::{tell_request, Series};
 use crate::walk::Verdict;
 
 /// Most bytes of a request, and of one whose walk ends with 44, or may.
@@ -75,25 +74,27 @@ const BY_CASES: [(Shown<Event>, u64); 41] = [
 /// Those that take long requests, which stand in the first round only.
 const LONG: [Shown<Event>; 2] = [Number(10), Number(21)];
 
+const ROWS: Series<Shown<Event>, JudgeCall> = Series {
+    streams: [25, 26],
+    often: &BY_CASES,
+    first: &LONG,
+    draw: |rng, wanted| {
+        let draft = draft(rng, wanted);
+        let walked = !matches!(wanted, Number(11..=21));
+        wanted.called(
+            rng,
+            walked,
+            |rng| sound_cases_call(rng, &draft),
+            |rng| damaged_judge_call(rng, &draft),
+        )
+    },
+    fits,
+    tell: |call| tell_request("C", call, &call.made(judge_by_cases_line)),
+};
+
 /// So many rows.
 pub fn cases_rows(seed: u64, count: u64) -> impl Iterator<Item = String> {
-    rounds(seed, 25, count, &BY_CASES, &LONG, &[])
-        .zip(0..)
-        .map(move |(wanted, index)| row(&mut Rng::new(seed, 26, index), wanted.answered()))
-}
-
-/// A row as wanted.
-fn row(rng: &mut Rng, wanted: Shown<Event>) -> String {
-    let call = match wanted {
-        Number(10) => {
-            let call = call(rng, Number(11), BYTES);
-            too_long(rng, call)
-        }
-        Number(21) => call(rng, wanted, LONG_BYTES),
-        _ if is_wide(wanted) => call(rng, wanted, WIDE_BYTES),
-        _ => call(rng, wanted, BYTES),
-    };
-    tell_judging("C", &call, judged(&call))
+    ROWS.rows(seed, count)
 }
 
 /// It takes an action with too many open fluents.
@@ -101,27 +102,6 @@ fn is_wide(wanted: Shown<Event>) -> bool {
     match wanted {
         Number(number) => number == TOO_MANY,
         Shown::Event(event) => event >= Event::ThirteenOpen,
-    }
-}
-
-/// A call that shows what is wanted.
-fn call(rng: &mut Rng, wanted: Shown<Event>, most: usize) -> JudgeCall {
-    loop {
-        let draft = draft(rng, wanted);
-        let walked = match wanted {
-            Number(number) => matches!(number, 0..=3 | 9 | TOO_MANY),
-            Shown::Event(_) => true,
-        };
-        let mut call = match walked {
-            true => sound_cases_call(rng, &draft),
-            false => damaged_judge_call(rng, &draft),
-        };
-        if matches!(wanted, Number(9)) {
-            lend_wrongly(rng, &mut call);
-        }
-        if call.request.len() <= most && shows(&call, wanted) && is_light(&call) {
-            return call;
-        }
     }
 }
 
@@ -147,20 +127,14 @@ fn draft(rng: &mut Rng, wanted: Shown<Event>) -> Request {
     draft
 }
 
-fn shows(call: &JudgeCall, wanted: Shown<Event>) -> bool {
-    let (answer, ..) = judged(call);
-    wanted.is_shown(answer.number, || events(&call.request, call.budget, answer))
-}
-
-/// The whole walk, if it is reached, counts little, and has few complete fillings.
-fn is_light(call: &JudgeCall) -> bool {
-    let Ok(request) = open(&call.request) else {
-        return true;
+/// It shows what is wanted, and has as few bytes as that lets it have. The whole walk, if it is
+/// reached, counts little, and has few complete fillings.
+fn fits(call: &JudgeCall, wanted: Shown<Event>) -> bool {
+    let most = if is_wide(wanted) { WIDE_BYTES } else { BYTES };
+    let light = |request| {
+        let (ended, met) = walk_filling(&request, COUNT, Filled::Open);
+        ended != Ok(Verdict::Over) && met.fillings <= FILLINGS
     };
-    let (ended, met) = walk_filling(&request, COUNT, Filled::Open);
-    ended != Ok(Verdict::Over) && met.fillings <= FILLINGS
-}
-
-fn judged(call: &JudgeCall) -> (Answer, u32, Vec<u8>) {
-    judged_by(call, judge_by_cases_line)
+    wanted.is_shown(call, most, judge_by_cases_line, events)
+        && open(&call.request).map_or(true, light)
 }

@@ -5,16 +5,13 @@ use super::call::{judge_by_cases_line, TOO_MANY};
 use super::calls::cases_call;
 use super::way::{open_fluents, walk_by_cases, walk_filling, Filled, CASE_LIMIT};
 use crate::answer::Answer;
-use crate::calls::{JudgeCall, Outlook};
+use crate::calls::JudgeCall;
 use crate::encode::encode_request;
 use crate::model::Request;
 use crate::rng::Rng;
-use crate::run::{
-    expect_bytes, expect_form, expect_left, expect_outlook, expect_told, told, LEAST_SHARE,
-    MOST_PATHS,
-};
+use crate::run::{expect_bytes, expect_made, told, LEAST_SHARE, MOST_PATHS};
 use crate::table::{Known, Table};
-use crate::tally::{all_met, CarriedOut, Differences, Occurred};
+use crate::tally::{so, CarriedOut, Checked, Differences, Occurred, SecondWalks};
 use crate::walk::{walk, TooMany, Verdict};
 use crate::{judge_line, open, paths, worlds};
 
@@ -103,12 +100,10 @@ impl Event {
 
 /// The events of a call.
 pub fn events(request: &[u8], budget: u32, answer: Answer) -> Vec<Event> {
-    let told = match (answer.number, open(request)) {
+    so(match (answer.number, open(request)) {
         (0..=3 | TOO_MANY, Ok(read)) => of_walk(&read, request, budget, answer),
         _ => Vec::new(),
-    };
-    let so = told.into_iter().filter(|(so, _)| *so);
-    so.map(|(_, event)| event).collect()
+    })
 }
 
 fn of_walk(request: &Request, bytes: &[u8], budget: u32, answer: Answer) -> Vec<(bool, Event)> {
@@ -187,10 +182,8 @@ fn number_of(verdict: Verdict) -> u8 {
 pub struct Tally {
     occurred: Occurred<Event>,
     only_by_cases: u64,
-    second_walks: u64,
-    second_walks_left: u64,
+    second_walks: SecondWalks,
     carried_out: CarriedOut,
-    not_enumerated: u64,
     missed_though_reached: u64,
     differences: Differences,
 }
@@ -226,52 +219,21 @@ impl Tally {
 
     /// Makes a call by cases and checks its answer.
     fn judge(&mut self, call: &JudgeCall) -> Result<(), String> {
-        let mut lent = call.lent.clone();
-        let (answer, line) = judge_by_cases_line(&call.request, &mut lent, call.budget);
+        let left = call.made(judge_by_cases_line);
+        let answer = left.answer;
         self.note(&call.request, call.budget, answer);
-        expect_form(answer, &call.request, &[])?;
-        match call.outlook {
-            Outlook::Walked if answer.number == TOO_MANY => {}
-            outlook => expect_outlook(answer, outlook)?,
-        }
-        let written = matches!(answer.number, 1 | 2);
-        expect_left(call, written, (answer, line), &lent)?;
+        expect_made(call, &left, Some(TOO_MANY))?;
         compare_plain(call, answer)?;
         if !matches!(answer.number, 0..=3 | TOO_MANY) {
             return Ok(());
         }
         let request = open(&call.request).map_err(|_| format!("answer {answer} unread"))?;
         expect_bytes(&encode_request(&request).bytes, &call.request)?;
-        self.compare_walks(&request, call.budget, (answer, line), &lent)?;
-        self.compare_worlds(&request, answer)
-    }
-
-    /// Compares answer, line and state with the second walk's, which fills open fluents only.
-    fn compare_walks(
-        &mut self,
-        request: &Request,
-        budget: u32,
-        (answer, line): (Answer, u32),
-        lent: &[u8],
-    ) -> Result<(), String> {
-        let Some(other) = paths::answer_by_cases(request, budget, MOST_PATHS) else {
-            self.second_walks_left += 1;
-            return Ok(());
-        };
-        self.second_walks += 1;
-        expect_told(other, (answer, line), lent)
-    }
-
-    /// A verified plan works in every true world.
-    fn compare_worlds(&mut self, request: &Request, answer: Answer) -> Result<(), String> {
-        if request.fluents > worlds::WORLD_FLUENTS {
-            self.not_enumerated += u64::from(answer.number == 0);
-            return Ok(());
-        }
-        if matches!(answer.number, 3 | TOO_MANY) {
-            return Ok(());
-        }
-        let reached = self.carried_out.note(answer, worlds::carry_out(request))?;
+        // The second walk fills open fluents only.
+        let second = paths::answer_by_cases(&request, call.budget, MOST_PATHS);
+        self.second_walks.compare(second, &left)?;
+        let worlds = || worlds::carry_out(&request);
+        let reached = self.carried_out.note(&request, answer, worlds)?;
         self.missed_though_reached += u64::from(reached);
         Ok(())
     }
@@ -280,39 +242,35 @@ impl Tally {
     pub fn only_by_cases(&self) -> u64 {
         self.only_by_cases
     }
+}
 
-    /// The differences found, as far as they are told.
-    pub fn differences(&self) -> &[String] {
-        self.differences.told()
+impl Checked for Tally {
+    fn found(&self) -> &Differences {
+        &self.differences
     }
 
-    /// What keeps the run from being right, in short.
-    pub fn verdict(&self) -> Result<(), String> {
-        self.differences.verdict()?;
-        all_met(&self.never_met())?;
-        self.occurred
-            .none_rare(&[0, 1, 2, 3, TOO_MANY], LEAST_SHARE)
-    }
-
-    /// What has to occur and didn't, or not often enough, in words.
-    pub fn never_met(&self) -> Vec<String> {
+    fn never_met(&self) -> Vec<String> {
         let only = self.only_by_cases * 100 < self.occurred.calls() * LEAST_ONLY;
         let only = only.then(|| format!("verified by cases only in {LEAST_ONLY} per cent"));
         let never = self.occurred.never(&NUMBERS, "by cases", &Event::ALL);
         never.chain(only).collect()
     }
 
-    /// The tallies as text, one to a line.
-    pub fn report(&self) -> String {
+    fn none_rare(&self) -> Result<(), String> {
+        self.occurred
+            .none_rare(&[0, 1, 2, 3, TOO_MANY], LEAST_SHARE)
+    }
+
+    fn report(&self) -> String {
         let numbers = [
             ("verified by cases only", self.only_by_cases),
             (
                 "walks by cases compared with the second walk",
-                self.second_walks,
+                self.second_walks.compared(),
             ),
             (
                 "walks by cases too large for the second walk",
-                self.second_walks_left,
+                self.second_walks.left(),
             ),
             (
                 "verified by cases and carried out in all worlds",
@@ -321,7 +279,7 @@ impl Tally {
             ("true worlds of these", self.carried_out.worlds()),
             (
                 "verified by cases with more than ten fluents",
-                self.not_enumerated,
+                self.carried_out.not_enumerated(),
             ),
             (
                 "answer 1 or 2 by cases though every world reaches the goal",
@@ -335,8 +293,7 @@ impl Tally {
 /// The walk call refuses the same requests alike, and where it verifies, the call by cases does so too,
 /// with no larger count, unless there are too many cases.
 fn compare_plain(call: &JudgeCall, answer: Answer) -> Result<(), String> {
-    let mut lent = call.lent.clone();
-    let (plain, _) = judge_line(&call.request, &mut lent, call.budget);
+    let plain = call.made(judge_line).answer;
     let right = match (plain.number, answer.number) {
         (_, TOO_MANY) => plain.number <= 3,
         (0, 0) => answer.count <= plain.count,

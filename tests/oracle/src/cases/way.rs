@@ -115,6 +115,11 @@ impl Way for ByCases<'_> {
         allowed == fillings.len()
     }
 
+    /// It comes nearest in the state itself.
+    fn nearest(&mut self, action: u8, state: Known) -> usize {
+        self.table.lines(action).nearest(state)
+    }
+
     /// What the results in all fillings share.
     fn step(&mut self, action: u8, state: Known) -> Known {
         let fillings = self.fillings(action, state);

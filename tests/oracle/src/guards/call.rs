@@ -1,11 +1,11 @@
 //! The guarded call.
 
-use crate::answer::{narrow, Answer, Fault, REQUEST};
+use crate::answer::{Answer, Fault};
 use crate::model::Guarded;
 use crate::reader::read_guarded;
 use crate::settle::settle;
-use crate::walk::{walk_guarded, Broken, Verdict};
-use crate::{tell, write, STATE_LENGTH};
+use crate::walk::walk_guarded;
+use crate::{judge_opened, write};
 
 /// The guarded call: 9, then the reading of all nine sections and the settling, then the walk.
 ///
@@ -16,26 +16,13 @@ pub fn judge_guarded(request: &[u8], lent: &mut [u8], budget: u32) -> Answer {
 
 /// The guarded call with the line that its answer carries, which is 0 for 43.
 pub fn judge_guarded_line(request: &[u8], lent: &mut [u8], budget: u32) -> (Answer, u32) {
-    if lent.len() != STATE_LENGTH {
-        return (Answer::neither(9, 0), 0);
-    }
-    let guarded = match open_guarded(request) {
-        Ok(guarded) => guarded,
-        Err(fault) => return (Answer::refusal(REQUEST, fault), 0),
-    };
-    match walk_guarded(&guarded, budget) {
-        Ok(verdict @ Verdict::Stuck { line, .. }) => (tell(verdict, lent, budget), narrow(line)),
-        Ok(verdict) => (tell(verdict, lent, budget), 0),
-        Err(Broken {
-            place,
-            count,
-            state,
-            ..
-        }) => {
-            write(state, lent);
-            (Answer::of_walk(43, place, count), 0)
-        }
-    }
+    let opened = || open_guarded(request);
+    judge_opened(lent, budget, opened, |guarded, lent| {
+        walk_guarded(&guarded, budget).map_err(|broken| {
+            write(broken.state, lent);
+            Answer::of_walk(43, broken.place, broken.count)
+        })
+    })
 }
 
 /// Reads and settles a guarded request: 10 to 21. What is settled asks nothing of the guards.

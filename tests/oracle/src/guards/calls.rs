@@ -2,7 +2,7 @@
 //! right or damaged, in the ninth section or before it.
 
 use crate::answer::Fault;
-use crate::calls::{budget_near, lend_wrongly, lent_state, outlook, JudgeCall, Outlook, COUNT_CAP};
+use crate::calls::{budget_near, lent_state, outlook, some_damaged, JudgeCall, Outlook, COUNT_CAP};
 use crate::damage::{damage_bytes, damage_marked, damage_request, Bounds, Damaged};
 use crate::encode::{encode_guarded, encode_request, Encoded};
 use crate::generate::{any_request, body, common, starve};
@@ -31,14 +31,12 @@ pub fn guarded_call(rng: &mut Rng) -> JudgeCall {
 
 /// A call of a draft, damaged or not. Now and then the lent state has another length.
 pub fn any_guarded_call(rng: &mut Rng, draft: &Guarded) -> JudgeCall {
-    let mut call = match rng.chance(30) {
-        true => damaged_guarded_call(rng, draft),
-        false => sound_guarded_call(rng, draft),
-    };
-    if rng.chance(1) {
-        lend_wrongly(rng, &mut call);
-    }
-    call
+    some_damaged(
+        rng,
+        30,
+        |rng| damaged_guarded_call(rng, draft),
+        |rng| sound_guarded_call(rng, draft),
+    )
 }
 
 /// Guards for a request. Of one in ten an action of the plan gets other executability lines first,

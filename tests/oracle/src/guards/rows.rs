@@ -7,15 +7,12 @@
 
 use super::call::{judge_guarded_line, open_guarded};
 use super::calls::{damaged_guarded_call, guarded, sound_guarded_call};
-use super::run::{events, Event, BROKEN};
-use crate::answer::Answer;
-use crate::calls::{lend_wrongly, JudgeCall};
+use super::run::{events, Event};
+use crate::calls::JudgeCall;
 use crate::generate::{drawn, filled};
 use crate::rng::Rng;
 use crate::rows::Shown::{self, Number};
-use crate::rows::{
-    judged_by, rounds, small_shape, spread_shape, tell_judging, too_long, FULL_BYTES, LONG_BYTES,
-};
+use crate::rows::{small_shape, spread_shape, tell_request, Series, FULL_BYTES};
 use crate::walk::{walk_guarded, Verdict};
 
 /// Most bytes of a request.
@@ -70,69 +67,48 @@ const LONG: [Shown<Event>; 4] = [
     Shown::Event(Event::LastLiteral),
 ];
 
+const ROWS: Series<Shown<Event>, JudgeCall> = Series {
+    streams: [20, 21],
+    often: &GUARDED,
+    first: &LONG,
+    draw,
+    fits,
+    tell: |call| tell_request("G", call, &call.made(judge_guarded_line)),
+};
+
 /// So many rows.
 pub fn guarded_rows(seed: u64, count: u64) -> impl Iterator<Item = String> {
-    rounds(seed, 20, count, &GUARDED, &LONG, &[])
-        .zip(0..)
-        .map(move |(wanted, index)| row(&mut Rng::new(seed, 21, index), wanted.answered()))
+    ROWS.rows(seed, count)
 }
 
-/// A row as wanted.
-fn row(rng: &mut Rng, wanted: Shown<Event>) -> String {
-    let call = match wanted {
-        Number(10) => {
-            let call = call(rng, Number(11), BYTES);
-            too_long(rng, call)
-        }
-        Number(21) => call(rng, wanted, LONG_BYTES),
-        Shown::Event(Event::MostGuards) => call(rng, wanted, FULL_BYTES),
-        _ => call(rng, wanted, BYTES),
+/// A call that may show what is wanted.
+fn draw(rng: &mut Rng, wanted: Shown<Event>) -> JudgeCall {
+    let shape = match wanted {
+        Shown::Event(Event::MostGuards | Event::LastLiteral) => spread_shape(rng),
+        _ => *small_shape(rng),
     };
-    tell_judging("G", &call, judged(&call))
-}
-
-/// A call that shows what is wanted.
-fn call(rng: &mut Rng, wanted: Shown<Event>, most: usize) -> JudgeCall {
-    loop {
-        let shape = match wanted {
-            Shown::Event(Event::MostGuards | Event::LastLiteral) => spread_shape(rng),
-            _ => *small_shape(rng),
-        };
-        let mut draft = drawn(rng, &shape);
-        if let Shown::Event(Event::MostGuards) = wanted {
-            draft = filled(rng, &draft);
-        }
-        let draft = guarded(rng, draft);
-        let walked = match wanted {
-            Number(number) => matches!(number, 0..=3 | 9 | BROKEN),
-            Shown::Event(event) => event < Event::NoNinth,
-        };
-        let mut call = match walked {
-            true => sound_guarded_call(rng, &draft),
-            false => damaged_guarded_call(rng, &draft),
-        };
-        if matches!(wanted, Number(9)) {
-            lend_wrongly(rng, &mut call);
-        }
-        if call.request.len() <= most && shows(&call, wanted) && is_light(&call) {
-            return call;
-        }
+    let mut draft = drawn(rng, &shape);
+    if let Shown::Event(Event::MostGuards) = wanted {
+        draft = filled(rng, &draft);
     }
+    let draft = guarded(rng, draft);
+    let walked = matches!(wanted, Shown::Event(event) if event < Event::NoNinth);
+    wanted.called(
+        rng,
+        walked,
+        |rng| sound_guarded_call(rng, &draft),
+        |rng| damaged_guarded_call(rng, &draft),
+    )
 }
 
-fn shows(call: &JudgeCall, wanted: Shown<Event>) -> bool {
-    let (answer, ..) = judged(call);
-    wanted.is_shown(answer.number, || events(&call.request, call.budget, answer))
-}
-
-/// The whole walk, if it is reached, counts little.
-fn is_light(call: &JudgeCall) -> bool {
-    match open_guarded(&call.request) {
-        Ok(guarded) => walk_guarded(&guarded, COUNT) != Ok(Verdict::Over),
-        Err(_) => true,
-    }
-}
-
-fn judged(call: &JudgeCall) -> (Answer, u32, Vec<u8>) {
-    judged_by(call, judge_guarded_line)
+/// It shows what is wanted, and has as few bytes as that lets it have. The whole walk, if it is
+/// reached, counts little.
+fn fits(call: &JudgeCall, wanted: Shown<Event>) -> bool {
+    let most = match wanted {
+        Shown::Event(Event::MostGuards) => FULL_BYTES,
+        _ => BYTES,
+    };
+    let light = |guarded| walk_guarded(&guarded, COUNT) != Ok(Verdict::Over);
+    wanted.is_shown(call, most, judge_guarded_line, events)
+        && open_guarded(&call.request).map_or(true, light)
 }

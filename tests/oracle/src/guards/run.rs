@@ -4,18 +4,15 @@
 use super::call::{judge_guarded_line, open_guarded};
 use super::calls::guarded_call;
 use crate::answer::Answer;
-use crate::calls::{judge_call, JudgeCall, Outlook};
+use crate::calls::{judge_call, JudgeCall, Left};
 use crate::encode::encode_guarded;
 use crate::model::{is_positive, Guarded};
 use crate::reader::{
     last_of_guarded, read_guarded, read_request, Part, GUARD_LIMIT, REQUEST_LIMIT,
 };
 use crate::rng::Rng;
-use crate::run::{
-    expect_bytes, expect_form, expect_left, expect_outlook, expect_told, told, LEAST_SHARE,
-    MOST_PATHS,
-};
-use crate::tally::{all_met, CarriedOut, Differences, Occurred};
+use crate::run::{expect_bytes, expect_made, told, LEAST_SHARE, MOST_PATHS};
+use crate::tally::{so, CarriedOut, Checked, Differences, Occurred, SecondWalks};
 use crate::walk::walk_guarded;
 use crate::{judge_line, paths, worlds};
 
@@ -104,16 +101,14 @@ impl Event {
 
 /// The events of a call.
 pub fn events(request: &[u8], budget: u32, answer: Answer) -> Vec<Event> {
-    let told = match answer.number {
+    so(match answer.number {
         0..=3 | BROKEN => match open_guarded(request) {
             Ok(guarded) => of_walk(&guarded, budget, answer),
             Err(_) => Vec::new(),
         },
         11..=15 | 20 => of_reading(request, answer),
         _ => Vec::new(),
-    };
-    let so = told.into_iter().filter(|(so, _)| *so);
-    so.map(|(_, event)| event).collect()
+    })
 }
 
 fn of_walk(guarded: &Guarded, budget: u32, answer: Answer) -> Vec<(bool, Event)> {
@@ -182,7 +177,7 @@ fn of_reading(request: &[u8], answer: Answer) -> Vec<(bool, Event)> {
 #[derive(Clone, Debug, Default)]
 pub struct Tally {
     occurred: Occurred<Event>,
-    second_walks: u64,
+    second_walks: SecondWalks,
     carried_out: CarriedOut,
     broken_though_held: u64,
     differences: Differences,
@@ -214,77 +209,51 @@ impl Tally {
 
     /// Makes a guarded call and checks its answer.
     fn judge(&mut self, call: &JudgeCall) -> Result<(), String> {
-        let mut lent = call.lent.clone();
-        let (answer, line) = judge_guarded_line(&call.request, &mut lent, call.budget);
+        let left = call.made(judge_guarded_line);
+        let answer = left.answer;
         self.note(&call.request, call.budget, answer);
-        expect_form(answer, &call.request, &[])?;
-        match call.outlook {
-            Outlook::Walked if answer.number == BROKEN => {}
-            outlook => expect_outlook(answer, outlook)?,
-        }
-        let written = matches!(answer.number, 1 | 2 | BROKEN);
-        expect_left(call, written, (answer, line), &lent)?;
-        compare_plain(call, (answer, line), &lent)?;
+        expect_made(call, &left, Some(BROKEN))?;
+        compare_plain(call, &left)?;
         if !matches!(answer.number, 0..=3 | BROKEN) {
             return Ok(());
         }
         let guarded = open_guarded(&call.request).map_err(|_| format!("answer {answer} unread"))?;
         expect_bytes(&encode_guarded(&guarded).bytes, &call.request)?;
-        expect_lacking(&guarded, answer, &lent)?;
-        self.compare_walks(&guarded, call.budget, (answer, line), &lent)?;
+        expect_lacking(&guarded, answer, &left.lent)?;
+        let second = paths::answer_guarded(&guarded, call.budget, MOST_PATHS);
+        self.second_walks.compare(second, &left)?;
         self.compare_worlds(&guarded, answer)
-    }
-
-    /// Compares answer, line and state with the second walk's.
-    fn compare_walks(
-        &mut self,
-        guarded: &Guarded,
-        budget: u32,
-        (answer, line): (Answer, u32),
-        lent: &[u8],
-    ) -> Result<(), String> {
-        let Some(other) = paths::answer_guarded(guarded, budget, MOST_PATHS) else {
-            return Ok(());
-        };
-        self.second_walks += 1;
-        expect_told(other, (answer, line), lent)
     }
 
     /// A verified plan works in every true world, and the guards hold in each that is possible.
     fn compare_worlds(&mut self, guarded: &Guarded, answer: Answer) -> Result<(), String> {
-        if guarded.request.fluents > worlds::WORLD_FLUENTS || answer.number == 3 {
-            return Ok(());
-        }
-        let carried = worlds::carry_out_guarded(guarded);
-        let held = self.carried_out.note(answer, carried)?;
+        let held = self.carried_out.note(&guarded.request, answer, || {
+            worlds::carry_out_guarded(guarded)
+        })?;
         self.broken_though_held += u64::from(held && answer.number == BROKEN);
         Ok(())
     }
+}
 
-    /// The differences found, as far as they are told.
-    pub fn differences(&self) -> &[String] {
-        self.differences.told()
+impl Checked for Tally {
+    fn found(&self) -> &Differences {
+        &self.differences
     }
 
-    /// What keeps the run from being right, in short.
-    pub fn verdict(&self) -> Result<(), String> {
-        self.differences.verdict()?;
-        all_met(&self.never_met())?;
-        self.occurred.none_rare(&[0, 1, 2, 3, BROKEN], LEAST_SHARE)
-    }
-
-    /// What has to occur and didn't, in words.
-    pub fn never_met(&self) -> Vec<String> {
+    fn never_met(&self) -> Vec<String> {
         let never = self.occurred.never(&NUMBERS, "with guards", &Event::ALL);
         never.collect()
     }
 
-    /// The tallies as text, one to a line.
-    pub fn report(&self) -> String {
+    fn none_rare(&self) -> Result<(), String> {
+        self.occurred.none_rare(&[0, 1, 2, 3, BROKEN], LEAST_SHARE)
+    }
+
+    fn report(&self) -> String {
         let numbers = [
             (
                 "guarded walks compared with the second walk",
-                self.second_walks,
+                self.second_walks.compared(),
             ),
             (
                 "verified with the guards held in all worlds",
@@ -326,17 +295,10 @@ fn expect_lacking(guarded: &Guarded, answer: Answer, lent: &[u8]) -> Result<(), 
 /// read and more follows, and the same refusal where they can't; and the plain call on the eight
 /// sections of a request that is settled answers and leaves what the guarded call does, unless that
 /// is 43.
-fn compare_plain(
-    call: &JudgeCall,
-    (answer, line): (Answer, u32),
-    lent: &[u8],
-) -> Result<(), String> {
-    let plain = |request: &[u8]| {
-        let mut lent = call.lent.clone();
-        let (answer, line) = judge_line(request, &mut lent, call.budget);
-        (answer, line, lent)
-    };
-    let (same, ..) = plain(&call.request);
+fn compare_plain(call: &JudgeCall, left: &Left) -> Result<(), String> {
+    let answer = left.answer;
+    let plain = |request: &[u8]| call.made(|_, lent, budget| judge_line(request, lent, budget));
+    let same = plain(&call.request).answer;
     let ends = match same.number {
         9 | 10 => None,
         20 => Some(same.place as usize),
@@ -361,7 +323,7 @@ fn compare_plain(
     if !matches!(answer.number, 0..=3 | 16..=18) {
         return Ok(());
     }
-    match plain(&call.request[..ends]) == (answer, line, lent.to_vec()) {
+    match plain(&call.request[..ends]) == *left {
         true => Ok(()),
         false => Err(format!("answer {answer}, and without guards another")),
     }
@@ -371,14 +333,13 @@ fn compare_plain(
 /// call answers the same bytes with a 0 behind them alike, and leaves the same lent state.
 fn without_guards(rng: &mut Rng) -> Result<(), String> {
     let call = judge_call(rng);
-    let mut lent = call.lent.clone();
-    let (answer, line) = judge_line(&call.request, &mut lent, call.budget);
+    let left = call.made(judge_line);
+    let answer = left.answer;
     if matches!(answer.number, 10 | 11 | 20) || call.request.len() >= REQUEST_LIMIT {
         return Ok(());
     }
     let longer = [&call.request[..], &[0]].concat();
-    let mut other = call.lent.clone();
-    match judge_guarded_line(&longer, &mut other, call.budget) == (answer, line) && lent == other {
+    match call.made(|_, lent, budget| judge_guarded_line(&longer, lent, budget)) == left {
         true => Ok(()),
         false => Err(format!("no guards: by the plain call {answer}")),
     }

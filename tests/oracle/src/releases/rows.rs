@@ -12,9 +12,9 @@ use super::call::{plans, release};
 use super::calls::{full_release_call, lend_wrongly, lent_row, small_release_call, ReleaseCall};
 use super::run::{events, Event};
 use crate::answer::Answer;
-use crate::reader::{read_release, REQUEST_LIMIT};
+use crate::reader::read_release;
 use crate::rng::Rng;
-use crate::rows::{rounds, tell_bytes, Wanted, LONG_BYTES};
+use crate::rows::{tell_bytes, too_long, Series, LONG_BYTES};
 use crate::settle::settle_plan;
 use crate::walk::walk;
 
@@ -72,48 +72,46 @@ const RELEASES: [(Shown, u64); 27] = [
 /// Those that take long files, which stand in the first round only.
 const LONG: [Shown; 3] = [Own(10), OfPlan(21), Shown::Event(Event::MostPlans)];
 
+const ROWS: Series<Shown, ReleaseCall> = Series {
+    streams: [15, 16],
+    often: &RELEASES,
+    first: &LONG,
+    draw,
+    fits: |call, wanted| {
+        let most = match wanted {
+            Own(10) => usize::MAX,
+            OfPlan(21) => LONG_BYTES,
+            Shown::Event(Event::MostPlans) => FULL_BYTES,
+            _ if plans(&call.file) as usize > PLANS => MORE_BYTES,
+            _ => BYTES,
+        };
+        call.file.len() <= most && shows(call, wanted) && is_light(call)
+    },
+    tell,
+};
+
 /// So many rows.
 pub fn release_rows(seed: u64, count: u64) -> impl Iterator<Item = String> {
-    rounds(seed, 15, count, &RELEASES, &LONG, &[])
-        .zip(0..)
-        .map(move |(wanted, index)| row(&mut Rng::new(seed, 16, index), wanted))
+    ROWS.rows(seed, count)
 }
 
-/// A row as wanted.
-fn row(rng: &mut Rng, wanted: Wanted<Shown>) -> String {
-    let Wanted::Answered(wanted) = wanted else {
-        unreachable!("release files show no edges");
+/// A call that may show what is wanted, of a small file but for that with 64 plans. A few have more
+/// plans.
+fn draw(rng: &mut Rng, wanted: Shown) -> ReleaseCall {
+    let most = if rng.chance(4) { MORE_PLANS } else { PLANS };
+    let mut call = match wanted {
+        Shown::Event(Event::MostPlans) => full_release_call(rng),
+        _ => small_release_call(rng, most),
     };
-    tell(&match wanted {
+    match wanted {
+        Own(9) => lend_wrongly(rng, &mut call),
         Own(10) => {
-            let file = vec![rng.byte(0, 64); REQUEST_LIMIT + 1];
-            let lent = lent_row(rng, &file);
-            let call = small_call(rng, Own(11), BYTES, PLANS);
-            ReleaseCall { file, lent, ..call }
+            too_long(rng, &mut call.file);
+            call.lent = lent_row(rng, &call.file);
         }
-        OfPlan(21) => small_call(rng, wanted, LONG_BYTES, PLANS),
-        Shown::Event(Event::MostPlans) => loop {
-            let call = full_release_call(rng);
-            if call.file.len() <= FULL_BYTES && is_light(&call) {
-                break call;
-            }
-        },
-        _ if rng.chance(4) => small_call(rng, wanted, MORE_BYTES, MORE_PLANS),
-        _ => small_call(rng, wanted, BYTES, PLANS),
-    })
-}
-
-/// A call of a small file that shows what is wanted.
-fn small_call(rng: &mut Rng, wanted: Shown, most: usize, most_plans: usize) -> ReleaseCall {
-    loop {
-        let mut call = small_release_call(rng, most_plans);
-        if matches!(wanted, Own(9)) {
-            lend_wrongly(rng, &mut call);
-        }
-        if call.file.len() <= most && shows(&call, wanted) && is_light(&call) {
-            return call;
-        }
+        _ => {}
     }
+    call
 }
 
 fn shows(call: &ReleaseCall, wanted: Shown) -> bool {

@@ -12,7 +12,7 @@ use crate::model::Release;
 use crate::reader::{read_release, PLAN_LIMIT};
 use crate::rng::Rng;
 use crate::run::{expect_bytes, told};
-use crate::tally::{all_met, each, never, Differences};
+use crate::tally::{each, never, so, Checked, Differences};
 use crate::{judge, STATE_LENGTH};
 
 /// The numbers of the call's own answer, and those of a plan, each of which has to occur.
@@ -88,7 +88,7 @@ pub fn events(file: &[u8], lent: usize, own: Answer, row: &[u32]) -> Vec<Event> 
         .last()
         .and_then(|plan| plan.read.as_ref().err());
     let right = ROW_NUMBERS * release.count;
-    let told = match own.number {
+    so(match own.number {
         9 => vec![
             (lent == 0, Event::EmptyRow),
             (0 < lent && lent < right, Event::ShortRow),
@@ -101,9 +101,7 @@ pub fn events(file: &[u8], lent: usize, own: Answer, row: &[u32]) -> Vec<Event> 
         }
         0 => of_plans(&release, file, row),
         _ => Vec::new(),
-    };
-    let so = told.into_iter().filter(|(so, _)| *so);
-    so.map(|(_, event)| event).collect()
+    })
 }
 
 /// Whether the table can be read, so that the fault is at the plan count. An input of sections 1
@@ -209,20 +207,14 @@ impl Tally {
         }
         compare_requests(&call.file, &row, call.budget)
     }
+}
 
-    /// The differences found, as far as they are told.
-    pub fn differences(&self) -> &[String] {
-        self.differences.told()
+impl Checked for Tally {
+    fn found(&self) -> &Differences {
+        &self.differences
     }
 
-    /// What keeps the run from being right, in short.
-    pub fn verdict(&self) -> Result<(), String> {
-        self.differences.verdict()?;
-        all_met(&self.never_met())
-    }
-
-    /// What has to occur and didn't, in words.
-    pub fn never_met(&self) -> Vec<String> {
+    fn never_met(&self) -> Vec<String> {
         let own = never(&OWN, &self.own, |number| format!("own answer {number}"));
         let of_plans = never(&OF_PLANS, &self.of_plans, |number| {
             format!("{number} for a plan")
@@ -231,8 +223,7 @@ impl Tally {
         own.chain(of_plans).chain(events).collect()
     }
 
-    /// The tallies as text, one to a line.
-    pub fn report(&self) -> String {
+    fn report(&self) -> String {
         let mut out = self.differences.report();
         let _ = writeln!(out, "release files: {}", self.files);
         out += &each(&self.own, |number| format!("  own answer {number}"));

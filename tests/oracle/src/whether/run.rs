@@ -15,7 +15,7 @@ use crate::model::{Conclusion, Proof, ProofLine, Request};
 use crate::reader::{read_derivation, read_proof};
 use crate::rng::Rng;
 use crate::run::{expect_bytes, expect_form, expect_outlook, told, WALK_BUDGET};
-use crate::tally::{all_met, each, titled, Differences};
+use crate::tally::{each, titled, Checked, Differences};
 use crate::walk::{walk, Verdict};
 use crate::whether::calls::whether_call;
 use crate::whether::translate::{as_lines, as_proof};
@@ -257,28 +257,35 @@ impl WhetherTally {
         }
     }
 
-    /// The differences found, as far as they are told.
-    pub fn differences(&self) -> &[String] {
-        self.differences.told()
+    fn titled(&self) -> [(&'static str, u64); 8] {
+        [
+            ("accepted whose plan the walk verifies", self.walked),
+            ("accepted beyond the walk's budget", self.beyond_walk),
+            ("accepted carried out in all worlds", self.carried_out),
+            ("true worlds of these", self.true_worlds),
+            ("accepted lines that the walk verifies", self.lines_walked),
+            (
+                "accepted lines beyond the walk's budget",
+                self.lines_beyond_walk,
+            ),
+            ("translated from the first layout", self.translated),
+            ("translated back", self.translated_back),
+        ]
+    }
+}
+
+impl Checked for WhetherTally {
+    fn found(&self) -> &Differences {
+        &self.differences
     }
 
-    /// What keeps the run from being right, in short.
-    pub fn verdict(&self) -> Result<(), String> {
-        self.differences.verdict()?;
-        if self.derivations < ENOUGH {
-            return Ok(());
-        }
-        all_met(&self.never_met())?;
-        let accepted = self.answers.get(&(0, NEITHER)).copied().unwrap_or(0);
-        if accepted * 100 < self.derivations * LEAST_SHARE {
-            return Err(format!("accepted below {LEAST_SHARE} per cent"));
-        }
-        Ok(())
-    }
-
-    /// Answers by input, ways of 36, and rules: accepted, and refused by 31, 33 and 34.
+    /// Where there are enough of them: answers by input, ways of 36, and rules: accepted, and refused by
+    /// 31, 33 and 34.
     fn never_met(&self) -> Vec<String> {
         let mut never = Vec::new();
+        if self.derivations < ENOUGH {
+            return never;
+        }
         let of_request = OF_REQUEST.map(|number| (number, REQUEST));
         let of_derivation = OF_DERIVATION.map(|number| (number, DERIVATION));
         for pair in [(0, NEITHER)]
@@ -314,8 +321,18 @@ impl WhetherTally {
         never
     }
 
-    /// The tallies as text, one to a line.
-    pub fn report(&self) -> String {
+    fn none_rare(&self) -> Result<(), String> {
+        if self.derivations < ENOUGH {
+            return Ok(());
+        }
+        let accepted = self.answers.get(&(0, NEITHER)).copied().unwrap_or(0);
+        if accepted * 100 < self.derivations * LEAST_SHARE {
+            return Err(format!("accepted below {LEAST_SHARE} per cent"));
+        }
+        Ok(())
+    }
+
+    fn report(&self) -> String {
         let mut out = self.differences.report();
         let _ = writeln!(out, "whether derivations checked: {}", self.derivations);
         for ((number, input), times) in &self.answers {
@@ -340,21 +357,5 @@ impl WhetherTally {
             format!("accepted with {entries} whether entries")
         });
         out + &titled(&self.titled())
-    }
-
-    fn titled(&self) -> [(&'static str, u64); 8] {
-        [
-            ("accepted whose plan the walk verifies", self.walked),
-            ("accepted beyond the walk's budget", self.beyond_walk),
-            ("accepted carried out in all worlds", self.carried_out),
-            ("true worlds of these", self.true_worlds),
-            ("accepted lines that the walk verifies", self.lines_walked),
-            (
-                "accepted lines beyond the walk's budget",
-                self.lines_beyond_walk,
-            ),
-            ("translated from the first layout", self.translated),
-            ("translated back", self.translated_back),
-        ]
     }
 }

@@ -1,5 +1,5 @@
 -- The three ways out: another length than a state's, a refusal, and the walk of a settled request. Each is a case of the definition.
-use Rattle.glintstring.proofs.JudgingLaws.{judge-9, line-9, judge-walked, line-walked, judge-refused, line-refused}
+use Rattle.glintstring.proofs.JudgingLaws.{judge-9, judge-walked, judge-refused}
 use Rattle.glintstring.proofs.SettledAtHand.{settled-at-hand}
 use Rattle.verdicts.proofs.ReleasingLaws.{blank-is}
 use borrow.Author.Needs.{needs}
@@ -11,47 +11,53 @@ use Rattle.glintstring.proofs.judging.walk_with_line.Reads as walk-with
 use Rattle.glintstring.proofs.judging.without_walk.Reads as without-walk-reads
 use Rattle.refusing.proofs.settled.settle.Reads as settle-reads
 
--- src/judging.rt:71:9
+-- src/judging.rt:74:9
 without-walk-requires : tie.Need-without-walk-requires
 without-walk-requires c κs = search needs
 
--- src/judging.rt:71:9
+-- src/judging.rt:74:9
 returns : tie.Need-returns
-returns c = (search judge-9, search line-9)
+returns c = let met = c .without-walk .ensures in judge-9 _ _ _ _ _ (c .before .if1 .taken) (met .0) (met .1)
 
--- src/judging.rt:74:11
+-- src/judging.rt:77:11
 settle-requires : tie.Need-settle-requires
 settle-requires c κs = search blank-is
 
--- src/judging.rt:75:50
+-- src/judging.rt:78:50
 enum-told : tie.Need-enum-told
 enum-told c = search needs
 
--- src/judging.rt:75:26
+-- src/judging.rt:78:26
 walk-with-line-requires : tie.Need-walk-with-line-requires
 walk-with-line-requires c κs =
     let settles = c .before .before .before .before in
     (settled-at-hand _ _ _ _ (settles .settle .ensures) _ (c .before .before .enum-told .given .1) (settles .before .before .before .before .shared-slice-known .given) blank-is, search needs)
 
--- src/judging.rt:76:23
+-- src/judging.rt:79:23
 enum-known-k : tie.Need-enum-known-k
 enum-known-k c = search needs
 
--- src/judging.rt:76:32
+-- src/judging.rt:79:32
 without-walk-requires-2 : tie.Need-without-walk-requires-2
 without-walk-requires-2 c κs = search needs
 
--- src/judging.rt:66:1
+-- src/judging.rt:69:1
 same-length : tie.Need-same-length
 same-length c = search needs
 
--- src/judging.rt:66:1
+-- src/judging.rt:69:1
 returns-2 : tie.Need-returns-2
-returns-2 c = (search (judge-walked, blank-is), search (line-walked, blank-is))
+returns-2 c =
+    let settles = c .before .before .before .before .before .before .before in
+    let walks = c .before .before .walk-with-line .ensures in
+    judge-walked _ _ _ _ _ (settles .before .before .if1 .left) _ _ _ (settles .settle .ensures) _ (c .before .before .before .before .before .enum-told .given .1) (settles .before .before .before .before .shared-slice-known .given) blank-is _ (walks .0) (walks .1)
 
--- src/judging.rt:66:1
+-- src/judging.rt:69:1
 returns-3 : tie.Need-returns-3
-returns-3 c = (search judge-refused, search line-refused)
+returns-3 c =
+    let settles = c .before .before .before .before in
+    let met = c .without-walk2 .ensures in
+    judge-refused _ _ _ _ _ (settles .before .before .if1 .left) _ _ _ (settles .settle .ensures) _ _ (c .before .before .k .given .1) (met .0) (met .1)
 
 pub judge-spec : {M : Type 1} → statement M
 judge-spec =

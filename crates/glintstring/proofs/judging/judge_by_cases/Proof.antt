@@ -1,5 +1,5 @@
 -- The three ways out, as of the walk call; the mode is put into the notes of a settled request.
-use Rattle.glintstring.proofs.JudgingLaws.{cases-9, cases-line-9, cases-walked, cases-line-walked, cases-refused, cases-line-refused}
+use Rattle.glintstring.proofs.JudgingLaws.{cases-9, cases-walked, cases-refused}
 use Rattle.glintstring.proofs.SettledAtHand.{cases-hand}
 use Rattle.verdicts.proofs.ReleasingLaws.{blank-is}
 use borrow.Author.Needs.{needs}
@@ -18,7 +18,7 @@ without-walk-requires c κs = search needs
 
 -- src/judging.rt:104:9
 returns : tie.Need-returns
-returns c = (search cases-9, search cases-line-9)
+returns c = let met = c .without-walk .ensures in cases-9 _ _ _ _ _ (c .before .if1 .taken) (met .0) (met .1)
 
 -- src/judging.rt:107:11
 settle-requires : tie.Need-settle-requires
@@ -52,11 +52,17 @@ same-length c = search needs
 
 -- src/judging.rt:99:1
 returns-2 : tie.Need-returns-2
-returns-2 c = (search (cases-walked, blank-is), search (cases-line-walked, blank-is))
+returns-2 c =
+    let settles = c .before .before .before .before .before .before .before .before .before in
+    let walks = c .before .before .walk-with-line .ensures in
+    cases-walked _ _ _ _ _ (settles .before .before .if1 .left) _ _ _ (settles .settle .ensures) _ (c .before .before .before .before .before .before .before .enum-told .given .1) (settles .before .before .before .before .shared-slice-known .given) blank-is _ (c .before .before .before .before .before .put .ensures) _ (walks .0) (walks .1)
 
 -- src/judging.rt:99:1
 returns-3 : tie.Need-returns-3
-returns-3 c = (search cases-refused, search cases-line-refused)
+returns-3 c =
+    let settles = c .before .before .before .before in
+    let met = c .without-walk2 .ensures in
+    cases-refused _ _ _ _ _ (settles .before .before .if1 .left) _ _ _ (settles .settle .ensures) _ _ (c .before .before .k .given .1) (met .0) (met .1)
 
 pub judge-by-cases-spec : {M : Type 1} → statement M
 judge-by-cases-spec =

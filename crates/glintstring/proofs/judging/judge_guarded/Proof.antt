@@ -1,5 +1,5 @@
 -- The three ways out, as of the walk call.
-use Rattle.glintstring.proofs.JudgingLaws.{guarded-9, guarded-line-9, guarded-walked, guarded-line-walked, guarded-refused, guarded-line-refused}
+use Rattle.glintstring.proofs.JudgingLaws.{guarded-9, guarded-walked, guarded-refused}
 use Rattle.glintstring.proofs.SettledAtHand.{guarded-hand}
 use Rattle.verdicts.proofs.ReleasingLaws.{blank-is}
 use borrow.Author.Needs.{needs}
@@ -11,47 +11,53 @@ use Rattle.glintstring.proofs.judging.walk_with_line.Reads as walk-with
 use Rattle.glintstring.proofs.judging.without_walk.Reads as without-walk-reads
 use Rattle.refusing.proofs.settled.settle_guarded.Reads as settle-guarded-reads
 
--- src/judging.rt:86:9
+-- src/judging.rt:89:9
 without-walk-requires : tie.Need-without-walk-requires
 without-walk-requires c κs = search needs
 
--- src/judging.rt:86:9
+-- src/judging.rt:89:9
 returns : tie.Need-returns
-returns c = (search guarded-9, search guarded-line-9)
+returns c = let met = c .without-walk .ensures in guarded-9 _ _ _ _ _ (c .before .if1 .taken) (met .0) (met .1)
 
--- src/judging.rt:89:11
+-- src/judging.rt:92:11
 settle-guarded-requires : tie.Need-settle-guarded-requires
 settle-guarded-requires c κs = search blank-is
 
--- src/judging.rt:90:50
+-- src/judging.rt:93:50
 enum-told : tie.Need-enum-told
 enum-told c = search needs
 
--- src/judging.rt:90:26
+-- src/judging.rt:93:26
 walk-with-line-requires : tie.Need-walk-with-line-requires
 walk-with-line-requires c κs =
     let settles = c .before .before .before .before in
     (guarded-hand _ _ _ _ (settles .settle-guarded .ensures) _ (c .before .before .enum-told .given .1) (settles .before .before .before .before .shared-slice-known .given) blank-is, search needs)
 
--- src/judging.rt:91:23
+-- src/judging.rt:94:23
 enum-known-k : tie.Need-enum-known-k
 enum-known-k c = search needs
 
--- src/judging.rt:91:32
+-- src/judging.rt:94:32
 without-walk-requires-2 : tie.Need-without-walk-requires-2
 without-walk-requires-2 c κs = search needs
 
--- src/judging.rt:81:1
+-- src/judging.rt:84:1
 same-length : tie.Need-same-length
 same-length c = search needs
 
--- src/judging.rt:81:1
+-- src/judging.rt:84:1
 returns-2 : tie.Need-returns-2
-returns-2 c = (search (guarded-walked, blank-is), search (guarded-line-walked, blank-is))
+returns-2 c =
+    let settles = c .before .before .before .before .before .before .before in
+    let walks = c .before .before .walk-with-line .ensures in
+    guarded-walked _ _ _ _ _ (settles .before .before .if1 .left) _ _ _ (settles .settle-guarded .ensures) _ (c .before .before .before .before .before .enum-told .given .1) (settles .before .before .before .before .shared-slice-known .given) blank-is _ (walks .0) (walks .1)
 
--- src/judging.rt:81:1
+-- src/judging.rt:84:1
 returns-3 : tie.Need-returns-3
-returns-3 c = (search guarded-refused, search guarded-line-refused)
+returns-3 c =
+    let settles = c .before .before .before .before in
+    let met = c .without-walk2 .ensures in
+    guarded-refused _ _ _ _ _ (settles .before .before .if1 .left) _ _ _ (settles .settle-guarded .ensures) _ _ (c .before .before .k .given .1) (met .0) (met .1)
 
 pub judge-guarded-spec : {M : Type 1} → statement M
 judge-guarded-spec =

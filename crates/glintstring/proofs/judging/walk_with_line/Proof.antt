@@ -8,27 +8,27 @@ use Rattle.glintstring.proofs.judging.walk_with_line.Lts as lts
 use Rattle.verdicts.proofs.walked.walk_plan.Reads as walk-plan-reads
 use Rattle.glintstring.proofs.missing.line_at.Reads as line-at-reads
 
--- src/judging.rt:27:9
+-- src/judging.rt:37:9
 walk-plan-requires : tie.Need-walk-plan-requires
 walk-plan-requires c κs = search needs
 
--- src/judging.rt:29:13
+-- src/judging.rt:39:13
 line-at-requires : tie.Need-line-at-requires
 line-at-requires c κs = (search needs, (search stop-byte, search needs))
 
--- src/judging.rt:30:9
+-- src/judging.rt:40:9
 same-length : tie.Need-same-length
 same-length c = search needs
 
--- src/judging.rt:30:9
+-- src/judging.rt:40:9
 returns : tie.Need-returns
 returns c = (search needs, search told-stuck)
 
--- src/judging.rt:21:1
+-- src/judging.rt:31:1
 same-length-2 : tie.Need-same-length-2
 same-length-2 c = search needs
 
--- src/judging.rt:21:1
+-- src/judging.rt:31:1
 returns-2 : tie.Need-returns-2
 returns-2 c = (search needs, search told-none)
 

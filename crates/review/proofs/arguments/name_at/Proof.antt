@@ -10,27 +10,27 @@ use Rattle.review.proofs.arguments.name_at.Lts as lts
 use Rattle.os.proofs.arg.Reads as arg-reads
 use Rattle.os.proofs.errno.Reads as errno-reads
 
--- src/arguments.rt:82:9
+-- src/arguments.rt:75:9
 arg-requires : tie.Need-arg-requires
 arg-requires c κs = search needs
 
--- src/arguments.rt:83:8
+-- src/arguments.rt:76:8
 errno-requires : tie.Need-errno-requires
 errno-requires c κs = search needs
 
--- src/arguments.rt:84:9
+-- src/arguments.rt:77:9
 same-length : tie.Need-same-length
 same-length c = search needs
 
--- src/arguments.rt:84:9
+-- src/arguments.rt:77:9
 returns : tie.Need-returns
 returns c = (search needs, sym (length-take-le _ _ (omega arith)))
 
--- src/arguments.rt:79:1
+-- src/arguments.rt:72:1
 same-length-2 : tie.Need-same-length-2
 same-length-2 c = search needs
 
--- src/arguments.rt:79:1
+-- src/arguments.rt:72:1
 returns-2 : tie.Need-returns-2
 returns-2 c = search needs
 

@@ -29,7 +29,7 @@ loop-holds c = search running-starts
 
 -- src/actions.rt:60:13
 line-place-requires : tie.Need-line-place-requires Inv-loop μ-loop
-line-place-requires c κs = search (needs, line-few)
+line-place-requires c κs = (search needs, search line-few)
 
 -- src/actions.rt:61:20
 add-body : tie.Need-add-body Inv-loop μ-loop
@@ -37,7 +37,7 @@ add-body c = search run-body-fits
 
 -- src/actions.rt:62:13
 each-holds-requires : tie.Need-each-holds-requires Inv-loop μ-loop
-each-holds-requires c κs = search (needs, run-body)
+each-holds-requires c κs = search run-body
 
 -- src/actions.rt:64:13
 returns : tie.Need-returns Inv-loop μ-loop
@@ -45,7 +45,7 @@ returns c = search run-met
 
 -- src/actions.rt:66:9
 next-line-requires : tie.Need-next-line-requires Inv-loop μ-loop
-next-line-requires c κs = search (needs, line-few)
+next-line-requires c κs = (search needs, search line-few)
 
 -- src/actions.rt:59:5
 loop-less : tie.Need-loop-less Inv-loop μ-loop

@@ -28,7 +28,7 @@ returns c = search never-near
 
 -- src/actions.rt:35:9
 line-place-requires : tie.Need-line-place-requires Inv-loop μ-loop
-line-place-requires c κs = search (needs, first-few)
+line-place-requires c κs = (search needs, search first-few)
 
 -- src/actions.rt:36:41
 add-short-by : tie.Need-add-short-by Inv-loop μ-loop
@@ -36,11 +36,11 @@ add-short-by c = search first-body-fits
 
 -- src/actions.rt:36:9
 short-by-requires : tie.Need-short-by-requires Inv-loop μ-loop
-short-by-requires c κs = search (needs, first-body)
+short-by-requires c κs = search first-body
 
 -- src/actions.rt:37:9
 next-line-requires : tie.Need-next-line-requires Inv-loop μ-loop
-next-line-requires c κs = search (needs, first-few)
+next-line-requires c κs = (search needs, search first-few)
 
 -- src/actions.rt:38:5
 loop-holds : tie.Need-loop-holds Inv-loop μ-loop
@@ -48,7 +48,7 @@ loop-holds c = search nearing-starts
 
 -- src/actions.rt:39:13
 line-place-requires-2 : tie.Need-line-place-requires-2 Inv-loop μ-loop
-line-place-requires-2 c κs = search (needs, line-few)
+line-place-requires-2 c κs = (search needs, search line-few)
 
 -- src/actions.rt:40:20
 add-body : tie.Need-add-body Inv-loop μ-loop
@@ -56,11 +56,11 @@ add-body c = search near-body-fits
 
 -- src/actions.rt:41:13
 short-by-requires-2 : tie.Need-short-by-requires-2 Inv-loop μ-loop
-short-by-requires-2 c κs = search (needs, near-body)
+short-by-requires-2 c κs = search near-body
 
 -- src/actions.rt:42:9
 next-line-requires-2 : tie.Need-next-line-requires-2 Inv-loop μ-loop
-next-line-requires-2 c κs = search (needs, line-few)
+next-line-requires-2 c κs = (search needs, search line-few)
 
 -- src/actions.rt:38:5
 loop-less : tie.Need-loop-less Inv-loop μ-loop

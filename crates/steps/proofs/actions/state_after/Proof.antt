@@ -32,11 +32,11 @@ loop-holds c = search sweeping-starts
 
 -- src/actions.rt:96:13
 line-place-requires : tie.Need-line-place-requires Inv-loop μ-loop
-line-place-requires c κs = search (needs, line-few)
+line-place-requires c κs = (search needs, search line-few)
 
 -- src/actions.rt:97:9
 next-line-requires : tie.Need-next-line-requires Inv-loop μ-loop
-next-line-requires c κs = search (needs, line-few)
+next-line-requires c κs = (search needs, search line-few)
 
 -- src/actions.rt:98:19
 add-one : tie.Need-add-one Inv-loop μ-loop
@@ -76,7 +76,7 @@ array-read-if2 c = search effect-fluent
 
 -- src/actions.rt:107:17
 each-holds-requires : tie.Need-each-holds-requires Inv-loop μ-loop
-each-holds-requires c κs = search (needs, effect-body)
+each-holds-requires c κs = search effect-body
 
 -- src/actions.rt:109:17
 array-write-next : tie.Need-array-write-next Inv-loop μ-loop
@@ -88,7 +88,7 @@ loop-less-2 c = search line-less
 
 -- src/actions.rt:95:5
 loop-again-2 : tie.Need-loop-again-2 Inv-loop μ-loop
-loop-again-2 c = search sweep-told
+loop-again-2 c = sweep-told _ _ _ _ _ _ (c .before .before .before .before .before .before .before .before .before .before .loop .inv) (c .before .before .before .before .before .before .before .before .before .loop-test .taken) _ _ (c .before .before .before .before .before .before .before .before .line-place .ensures) (c .before .before .before .before .before .before .before .next-line .ensures) _ _ (c .before .before .before .before .before .wide .ensures) (c .before .before .before .before .mark-of .ensures) (c .before .before .before .if1 .left) _ (c .before .each-holds .ensures) (c .if3 .taken)
 
 -- src/actions.rt:95:5
 loop-less-3 : tie.Need-loop-less-3 Inv-loop μ-loop
@@ -100,7 +100,7 @@ loop-again-3 c = sweep-unknown _ _ _ _ _ _ (c .before .before .before .before .b
 
 -- src/actions.rt:113:15
 look-at-requires : tie.Need-look-at-requires Inv-loop μ-loop
-look-at-requires c κs = search (needs, effect-body)
+look-at-requires c κs = search effect-body
 
 -- src/actions.rt:115:17
 enum-told : tie.Need-enum-told Inv-loop μ-loop
@@ -116,7 +116,7 @@ loop-less-4 c = search line-less
 
 -- src/actions.rt:95:5
 loop-again-4 : tie.Need-loop-again-4 Inv-loop μ-loop
-loop-again-4 c = search look-told
+loop-again-4 c = look-told _ _ _ _ _ _ (c .before .before .before .before .before .before .before .before .before .before .before .loop .inv) (c .before .before .before .before .before .before .before .before .before .before .loop-test .taken) _ _ (c .before .before .before .before .before .before .before .before .before .line-place .ensures) (c .before .before .before .before .before .before .before .before .next-line .ensures) _ _ (c .before .before .before .before .before .before .wide .ensures) (c .before .before .before .before .before .mark-of .ensures) (c .before .before .before .before .if1 .left) _ (c .before .before .look-at .ensures) (c .enum-told .given .1)
 
 -- src/actions.rt:119:17
 enum-told-2 : tie.Need-enum-told-2 Inv-loop μ-loop
@@ -132,7 +132,7 @@ loop-less-5 c = search line-less
 
 -- src/actions.rt:95:5
 loop-again-5 : tie.Need-loop-again-5 Inv-loop μ-loop
-loop-again-5 c = search look-undone
+loop-again-5 c = look-undone _ _ _ _ _ _ (c .before .before .before .before .before .before .before .before .before .before .before .loop .inv) (c .before .before .before .before .before .before .before .before .before .before .loop-test .taken) _ _ (c .before .before .before .before .before .before .before .before .before .line-place .ensures) (c .before .before .before .before .before .before .before .before .next-line .ensures) _ _ (c .before .before .before .before .before .before .wide .ensures) (c .before .before .before .before .before .mark-of .ensures) (c .before .before .before .before .if1 .left) _ (c .before .before .look-at .ensures) (c .enum-told2 .given .1) (c .before .before .before .if2 .left)
 
 -- src/actions.rt:123:17
 enum-told-3 : tie.Need-enum-told-3 Inv-loop μ-loop
@@ -144,7 +144,7 @@ loop-less-6 c = search line-less
 
 -- src/actions.rt:95:5
 loop-again-6 : tie.Need-loop-again-6 Inv-loop μ-loop
-loop-again-6 c = search look-kept
+loop-again-6 c = look-kept _ _ _ _ _ _ (c .before .before .before .before .before .before .before .before .before .before .before .loop .inv) (c .before .before .before .before .before .before .before .before .before .before .loop-test .taken) _ _ (c .before .before .before .before .before .before .before .before .before .line-place .ensures) (c .before .before .before .before .before .before .before .before .next-line .ensures) _ _ (c .before .before .before .before .before .before .wide .ensures) (c .before .before .before .before .before .mark-of .ensures) (c .before .before .before .before .if1 .left) _ (c .before .before .look-at .ensures) (c .enum-told3 .given .1)
 
 -- src/actions.rt:86:1
 returns : tie.Need-returns Inv-loop μ-loop

@@ -28,7 +28,7 @@ runs-in-each-below t =
     (falls 3 runs-in-each-kinds.ps _<_ μ-runs-in-each t)
     runs-in-each.Pre
 
--- src/cases.rt:46:13
+-- src/cases.rt:47:13
 runs-in-each-returns : (t : ℕ) → runs-in-each-lts.Need-returns (
   wide-reads.Asked,
   wide-reads.Learnt,

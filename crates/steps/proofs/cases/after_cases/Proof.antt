@@ -8,15 +8,15 @@ use Rattle.steps.proofs.cases.after_cases.Lts as lts
 use Rattle.steps.proofs.cases.after_in_each.Reads as after-in-each-reads
 use Rattle.steps.proofs.opening.opened.Reads as opened-reads
 
--- src/cases.rt:124:16
+-- src/cases.rt:125:16
 opened-requires : tie.Need-opened-requires
 opened-requires c κs = search needs
 
--- src/cases.rt:125:5
+-- src/cases.rt:126:5
 after-in-each-requires : tie.Need-after-in-each-requires
 after-in-each-requires c κs = (search needs, (search needs, (search cases-filling, search cases-can)))
 
--- src/cases.rt:116:1
+-- src/cases.rt:117:1
 returns : tie.Need-returns
 returns c = search cases-after
 

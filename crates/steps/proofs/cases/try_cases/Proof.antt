@@ -10,39 +10,39 @@ use Rattle.steps.proofs.actions.can_be_run.Reads as can-be-run-reads
 use Rattle.steps.proofs.cases.runs_in_each.Reads as runs-in-each-reads
 use Rattle.steps.proofs.opening.opened.Reads as opened-reads
 
--- src/cases.rt:100:16
+-- src/cases.rt:101:16
 opened-requires : tie.Need-opened-requires
 opened-requires c κs = search needs
 
--- src/cases.rt:101:28
+-- src/cases.rt:102:28
 array-read-wide : tie.Need-array-read-wide
 array-read-wide c = search needs
 
--- src/cases.rt:101:23
+-- src/cases.rt:102:23
 wide-requires : tie.Need-wide-requires
 wide-requires c κs = search needs
 
--- src/cases.rt:102:9
+-- src/cases.rt:103:9
 returns : tie.Need-returns
 returns c = search tried-many
 
--- src/cases.rt:104:9
+-- src/cases.rt:105:9
 can-be-run-requires : tie.Need-can-be-run-requires
 can-be-run-requires c κs = search needs
 
--- src/cases.rt:106:9
+-- src/cases.rt:107:9
 returns-2 : tie.Need-returns-2
 returns-2 c = search tried-known
 
--- src/cases.rt:108:9
+-- src/cases.rt:109:9
 runs-in-each-requires : tie.Need-runs-in-each-requires
 runs-in-each-requires c κs = (search needs, (search needs, search tried-filling))
 
--- src/cases.rt:110:9
+-- src/cases.rt:111:9
 returns-3 : tie.Need-returns-3
 returns-3 c = search tried-filled
 
--- src/cases.rt:94:1
+-- src/cases.rt:95:1
 returns-4 : tie.Need-returns-4
 returns-4 c = search tried-stuck
 

@@ -1,12 +1,11 @@
 -- From each entry that is met on, the list misses what the whole list does.
-use Prim.Native.Nat.{_+_, _-_, _≤_}
-use mathlib.Core.Path.{_≡_}
+use Prim.Native.Nat.{_+_, _-_}
 use Rattle.meaning.specs.Reading.{placed}
 use Rattle.meaning.specs.Walk.{first-missed}
 use Rattle.finding.specs.Places.{found}
-use Rattle.reading.specs.Listed.{bytes-from, listed}
+use Rattle.reading.specs.Listed.{listed}
 use Rattle.steps.specs.Steps.{met-as}
-use Rattle.steps.proofs.MissLaws.{list-there, list-fits, missed-starts, entry-there, entry-fits, entry-below, missed-here, missed-next, missed-done}
+use Rattle.steps.proofs.MissLaws.{Missed-ahead, list-there, list-fits, missed-starts, entry-there, entry-fits, entry-below, missed-here, missed-next, missed-done}
 use borrow.Author.Needs.{needs}
 use Rattle.steps.proofs.goals.first_missed.Statement.{statement}
 use Rattle.steps.proofs.goals.first_missed.Tie as tie
@@ -16,7 +15,7 @@ use Rattle.bytes.proofs.bytes.wide.Reads as wide-reads
 use Rattle.steps.proofs.goals.met.Reads as met-reads
 
 abbrev Inv-loop : tie.InvT-loop
-Inv-loop asked marks s p end i₀ i = (p ≤ i) × (found (first-missed (met-as asked marks) (placed (p + 1) (listed s p))) ≡ found (first-missed (met-as asked marks) (placed (i + 1) (bytes-from s (i + 1) (end - i)))))
+Inv-loop asked marks s p end i₀ i = Missed-ahead (met-as asked marks) s p end (found (first-missed (met-as asked marks) (placed (p + 1) (listed s p)))) i
 
 abbrev μ-loop : tie.MeasureT-loop
 μ-loop asked marks s p end i₀ i = end - i
@@ -35,7 +34,7 @@ add-end c = search list-fits
 
 -- src/goals.rt:45:5
 loop-holds : tie.Need-loop-holds Inv-loop μ-loop
-loop-holds c = search (needs, missed-starts)
+loop-holds c = search missed-starts
 
 -- src/goals.rt:46:9
 add-i : tie.Need-add-i Inv-loop μ-loop
@@ -51,7 +50,7 @@ wide-requires-2 c κs = search needs
 
 -- src/goals.rt:48:13
 met-requires : tie.Need-met-requires Inv-loop μ-loop
-met-requires c κs = search (needs, entry-below)
+met-requires c κs = (search entry-below, search needs)
 
 -- src/goals.rt:45:5
 loop-less : tie.Need-loop-less Inv-loop μ-loop
@@ -59,7 +58,7 @@ loop-less c = search needs
 
 -- src/goals.rt:45:5
 loop-again : tie.Need-loop-again Inv-loop μ-loop
-loop-again c = search (needs, missed-next)
+loop-again c = search missed-next
 
 -- src/goals.rt:52:9
 returns : tie.Need-returns Inv-loop μ-loop

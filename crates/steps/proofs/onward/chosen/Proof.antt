@@ -53,11 +53,11 @@ loop-holds c = search choosing-starts
 
 -- src/onward.rt:68:13
 each-holds-requires : tie.Need-each-holds-requires Inv-loop μ-loop
-each-holds-requires c κs = search (needs, condition-first)
+each-holds-requires c κs = search condition-first
 
 -- src/onward.rt:70:30
 into-requires : tie.Need-into-requires Inv-loop μ-loop
-into-requires c κs = search (needs, branch-first)
+into-requires c κs = (search needs, (search needs, search branch-first))
 
 -- src/onward.rt:70:13
 returns : tie.Need-returns Inv-loop μ-loop
@@ -65,11 +65,11 @@ returns c = search chosen-at
 
 -- src/onward.rt:72:13
 next-place-requires : tie.Need-next-place-requires Inv-loop μ-loop
-next-place-requires c κs = search (needs, branch-first)
+next-place-requires c κs = search branch-first
 
 -- src/onward.rt:73:13
 next-item-requires : tie.Need-next-item-requires Inv-loop μ-loop
-next-item-requires c κs = search (needs, branch-first)
+next-item-requires c κs = search branch-first
 
 -- src/onward.rt:76:9
 sub-left : tie.Need-sub-left Inv-loop μ-loop

@@ -1,10 +1,9 @@
 -- Flagged the entries from the one at i on, the flags are those of the whole body, and i rises to its end.
-use Prim.Native.Nat.{_-_, _<_}
-use mathlib.Core.Path.{_≡_}
-use Rattle.reading.specs.Listed.{bytes-from, listed}
+use Prim.Native.Nat.{_-_}
+use Rattle.reading.specs.Listed.{listed}
 use Rattle.reading.proofs.MarkLaws.{count-there, first-fits, past-fits, entry-there, entry-fits, fluent-below}
 use Rattle.steps.specs.Flags.{flagged}
-use Rattle.steps.proofs.FlagLaws.{flags-start, flag-set, flag-kept, flags-done}
+use Rattle.steps.proofs.FlagLaws.{Flags-ahead, flags-start, flag-set, flag-kept, flags-done}
 use borrow.Author.Needs.{needs}
 use Rattle.steps.proofs.opening.flag_body.Statement.{statement}
 use Rattle.steps.proofs.opening.flag_body.Tie as tie
@@ -13,7 +12,7 @@ use Rattle.steps.proofs.opening.flag_body.Lts as lts
 use Rattle.bytes.proofs.bytes.wide.Reads as wide-reads
 
 abbrev Inv-loop : tie.InvT-loop
-Inv-loop s p marks flags₀ first end i₀ flags i = (p < i) × (flagged marks (listed s p) flags₀ ≡ flagged marks (bytes-from s i (end - i)) flags)
+Inv-loop s p marks flags₀ first end i₀ flags i = Flags-ahead marks s p end (flagged marks (listed s p) flags₀) flags i
 
 abbrev μ-loop : tie.MeasureT-loop
 μ-loop s p marks flags₀ first end i₀ flags i = end - i
@@ -36,7 +35,7 @@ add-end c = search past-fits
 
 -- src/opening.rt:34:5
 loop-holds : tie.Need-loop-holds Inv-loop μ-loop
-loop-holds c = search (needs, flags-start)
+loop-holds c = search flags-start
 
 -- src/opening.rt:35:22
 shared-slice-read-wide-2 : tie.Need-shared-slice-read-wide-2 Inv-loop μ-loop
@@ -64,7 +63,7 @@ loop-less c = search needs
 
 -- src/opening.rt:34:5
 loop-again : tie.Need-loop-again Inv-loop μ-loop
-loop-again c = search (needs, flag-set)
+loop-again c = search flag-set
 
 -- src/opening.rt:34:5
 loop-less-2 : tie.Need-loop-less-2 Inv-loop μ-loop
@@ -72,7 +71,7 @@ loop-less-2 c = search needs
 
 -- src/opening.rt:34:5
 loop-again-2 : tie.Need-loop-again-2 Inv-loop μ-loop
-loop-again-2 c = search (needs, flag-kept)
+loop-again-2 c = search flag-kept
 
 -- src/opening.rt:27:1
 returns : tie.Need-returns Inv-loop μ-loop

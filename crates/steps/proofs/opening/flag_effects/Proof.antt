@@ -31,11 +31,11 @@ loop-holds c = search effects-start
 
 -- src/opening.rt:52:13
 line-place-requires : tie.Need-line-place-requires Inv-loop μ-loop
-line-place-requires c κs = search (needs, line-few)
+line-place-requires c κs = (search needs, search line-few)
 
 -- src/opening.rt:53:9
 next-line-requires : tie.Need-next-line-requires Inv-loop μ-loop
-next-line-requires c κs = search (needs, line-few)
+next-line-requires c κs = (search needs, search line-few)
 
 -- src/opening.rt:54:20
 add-body : tie.Need-add-body Inv-loop μ-loop
@@ -43,7 +43,7 @@ add-body c = search body-fits
 
 -- src/opening.rt:55:9
 flag-body-requires : tie.Need-flag-body-requires Inv-loop μ-loop
-flag-body-requires c κs = search (needs, body-there)
+flag-body-requires c κs = search body-there
 
 -- src/opening.rt:51:5
 loop-less : tie.Need-loop-less Inv-loop μ-loop

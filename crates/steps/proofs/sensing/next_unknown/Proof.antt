@@ -40,7 +40,7 @@ element-copy-out-if1 c = search fluent-near
 
 -- src/sensing.rt:51:17
 is-noted-requires : tie.Need-is-noted-requires Inv-loop μ-loop
-is-noted-requires c κs = search (needs, fluent-near)
+is-noted-requires c κs = (search needs, search fluent-near)
 
 -- src/sensing.rt:53:17
 returns : tie.Need-returns Inv-loop μ-loop

@@ -10,39 +10,39 @@ use Rattle.verdicts.proofs.answers.uncounted.Reads as uncounted-reads
 use Rattle.reading.proofs.notes.get.Reads as get-reads
 use Rattle.refusing.proofs.refusal_18.overlap.Reads as overlap-reads
 
--- src/releasing.rt:91:9
+-- src/releasing.rt:84:9
 get-requires : tie.Need-get-requires
 get-requires c κs = search needs
 
--- src/releasing.rt:92:11
+-- src/releasing.rt:85:11
 overlap-requires : tie.Need-overlap-requires
 overlap-requires c κs = search plan-there
 
--- src/releasing.rt:94:17
+-- src/releasing.rt:87:17
 enum-told : tie.Need-enum-told
 enum-told c = search needs
 
--- src/releasing.rt:95:32
+-- src/releasing.rt:88:32
 slice-aggregate-walk-plan : tie.Need-slice-aggregate-walk-plan
 slice-aggregate-walk-plan c = search needs
 
--- src/releasing.rt:95:13
+-- src/releasing.rt:88:13
 walk-plan-requires : tie.Need-walk-plan-requires
 walk-plan-requires c κs = search needs
 
--- src/releasing.rt:97:19
+-- src/releasing.rt:90:19
 enum-known-p : tie.Need-enum-known-p
 enum-known-p c = search needs
 
--- src/releasing.rt:97:25
+-- src/releasing.rt:90:25
 uncounted-requires : tie.Need-uncounted-requires
 uncounted-requires c κs = search needs
 
--- src/releasing.rt:87:1
+-- src/releasing.rt:78:1
 returns : tie.Need-returns
 returns c = search plan-walked
 
--- src/releasing.rt:87:1
+-- src/releasing.rt:78:1
 returns-2 : tie.Need-returns-2
 returns-2 c = search plan-18
 

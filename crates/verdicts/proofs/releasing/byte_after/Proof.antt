@@ -13,43 +13,43 @@ Inv-loop n m file plans start t₀ left₀ p₀ t left p = Seeking file plans st
 abbrev μ-loop : tie.MeasureT-loop
 μ-loop n m file plans start t₀ left₀ p₀ t left p = left
 
--- src/releasing.rt:70:5
+-- src/releasing.rt:60:5
 loop-holds : tie.Need-loop-holds Inv-loop μ-loop
 loop-holds c = search seeking-starts
 
--- src/releasing.rt:71:15
+-- src/releasing.rt:61:15
 request-at-requires : tie.Need-request-at-requires Inv-loop μ-loop
 request-at-requires c κs = search needs
 
--- src/releasing.rt:72:24
+-- src/releasing.rt:62:24
 enum-known-e : tie.Need-enum-known-e Inv-loop μ-loop
 enum-known-e c = search needs
 
--- src/releasing.rt:74:17
+-- src/releasing.rt:64:17
 sub-left : tie.Need-sub-left Inv-loop μ-loop
 sub-left c = search needs
 
--- src/releasing.rt:70:5
+-- src/releasing.rt:60:5
 loop-less : tie.Need-loop-less Inv-loop μ-loop
 loop-less c = search needs
 
--- src/releasing.rt:70:5
+-- src/releasing.rt:60:5
 loop-again : tie.Need-loop-again Inv-loop μ-loop
 loop-again c = search seeking-next
 
--- src/releasing.rt:77:17
+-- src/releasing.rt:67:17
 enum-told : tie.Need-enum-told Inv-loop μ-loop
 enum-told c = search needs
 
--- src/releasing.rt:77:17
+-- src/releasing.rt:67:17
 returns : tie.Need-returns Inv-loop μ-loop
 returns c = search seeking-stops
 
--- src/releasing.rt:82:9
+-- src/releasing.rt:72:9
 returns-2 : tie.Need-returns-2 Inv-loop μ-loop
 returns-2 c = search seeking-more
 
--- src/releasing.rt:63:1
+-- src/releasing.rt:53:1
 returns-3 : tie.Need-returns-3 Inv-loop μ-loop
 returns-3 c = search seeking-none
 

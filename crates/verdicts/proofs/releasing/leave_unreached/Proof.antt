@@ -16,35 +16,35 @@ Inv-loop row₀ k plans i₀ row i = Leaving (with-unreached row₀ k plans) row
 abbrev μ-loop : tie.MeasureT-loop
 μ-loop row₀ k plans i₀ row i = plans - i
 
--- src/releasing.rt:123:5
+-- src/releasing.rt:114:5
 loop-holds : tie.Need-loop-holds Inv-loop μ-loop
 loop-holds c = search leaving-starts
 
--- src/releasing.rt:127:13
+-- src/releasing.rt:118:13
 uncounted-requires : tie.Need-uncounted-requires Inv-loop μ-loop
 uncounted-requires c κs = search needs
 
--- src/releasing.rt:124:9
+-- src/releasing.rt:115:9
 put-answer-requires : tie.Need-put-answer-requires Inv-loop μ-loop
 put-answer-requires c κs = (search leaving-room, search nothing-placed)
 
--- src/releasing.rt:129:9
+-- src/releasing.rt:120:9
 add-i : tie.Need-add-i Inv-loop μ-loop
 add-i c = search needs
 
--- src/releasing.rt:123:5
+-- src/releasing.rt:114:5
 loop-less : tie.Need-loop-less Inv-loop μ-loop
 loop-less c = search needs
 
--- src/releasing.rt:123:5
+-- src/releasing.rt:114:5
 loop-again : tie.Need-loop-again Inv-loop μ-loop
 loop-again c = search leaving-next
 
--- src/releasing.rt:117:1
+-- src/releasing.rt:108:1
 same-length : tie.Need-same-length Inv-loop μ-loop
 same-length c = search needs
 
--- src/releasing.rt:117:1
+-- src/releasing.rt:108:1
 returns : tie.Need-returns Inv-loop μ-loop
 returns c = search leaving-done
 

@@ -7,23 +7,23 @@ use Rattle.verdicts.proofs.releasing.plans.Reads as reads
 use Rattle.verdicts.proofs.releasing.plans.Lts as lts
 use Rattle.verdicts.proofs.releasing.open_file.Reads as open-file-reads
 
--- src/releasing.rt:233:11
+-- src/releasing.rt:224:11
 open-file-requires : tie.Need-open-file-requires
 open-file-requires c κs = search needs
 
--- src/releasing.rt:234:21
+-- src/releasing.rt:225:21
 enum-known-count : tie.Need-enum-known-count
 enum-known-count c = search needs
 
--- src/releasing.rt:235:30
+-- src/releasing.rt:226:30
 enum-told : tie.Need-enum-told
 enum-told c = search needs
 
--- src/releasing.rt:229:1
+-- src/releasing.rt:220:1
 returns : tie.Need-returns
 returns c = search plans-there
 
--- src/releasing.rt:229:1
+-- src/releasing.rt:220:1
 returns-2 : tie.Need-returns-2
 returns-2 c = search plans-none
 

@@ -5,11 +5,11 @@ use Rattle.verdicts.proofs.walked.start_of.Tie as tie
 use Rattle.verdicts.proofs.walked.start_of.Reads as reads
 use Rattle.verdicts.proofs.walked.start_of.Lts as lts
 
--- src/walked.rt:20:1
+-- src/walked.rt:18:1
 returns : tie.Need-returns
 returns c = search start-end
 
--- src/walked.rt:20:1
+-- src/walked.rt:18:1
 returns-2 : tie.Need-returns-2
 returns-2 c = search start-first
 

@@ -6,11 +6,11 @@ use Rattle.walking.proofs.tally.goes_on.Tie as tie
 use Rattle.walking.proofs.tally.goes_on.Reads as reads
 use Rattle.walking.proofs.tally.goes_on.Lts as lts
 
--- src/tally.rt:39:5
+-- src/tally.rt:42:5
 element-copy-out-result : tie.Need-element-copy-out-result
 element-copy-out-result c = search needs
 
--- src/tally.rt:36:1
+-- src/tally.rt:39:1
 returns : tie.Need-returns
 returns c = search (needs, up-to-one)
 

@@ -15,51 +15,51 @@ Inv-loop tally₀ place marks f₀ tally f = Holding tally₀ marks tally f
 abbrev μ-loop : tie.MeasureT-loop
 μ-loop tally₀ place marks f₀ tally f = format .fluents - f
 
--- src/tally.rt:68:5
+-- src/tally.rt:71:5
 loop-holds : tie.Need-loop-holds Inv-loop μ-loop
 loop-holds c = search (needs, holding-starts)
 
--- src/tally.rt:69:20
+-- src/tally.rt:72:20
 add-slot : tie.Need-add-slot Inv-loop μ-loop
 add-slot c = search needs
 
--- src/tally.rt:70:31
+-- src/tally.rt:73:31
 element-copy-out-widened : tie.Need-element-copy-out-widened Inv-loop μ-loop
 element-copy-out-widened c = search needs
 
--- src/tally.rt:70:23
+-- src/tally.rt:73:23
 widened-requires : tie.Need-widened-requires Inv-loop μ-loop
 widened-requires c κs = search needs
 
--- src/tally.rt:70:9
+-- src/tally.rt:73:9
 mul-tally : tie.Need-mul-tally Inv-loop μ-loop
 mul-tally c = search needs
 
--- src/tally.rt:70:9
+-- src/tally.rt:73:9
 element-write-tally : tie.Need-element-write-tally Inv-loop μ-loop
 element-write-tally c = search needs
 
--- src/tally.rt:71:9
+-- src/tally.rt:74:9
 add-f : tie.Need-add-f Inv-loop μ-loop
 add-f c = search needs
 
--- src/tally.rt:68:5
+-- src/tally.rt:71:5
 loop-less : tie.Need-loop-less Inv-loop μ-loop
 loop-less c = search needs
 
--- src/tally.rt:68:5
+-- src/tally.rt:71:5
 loop-again : tie.Need-loop-again Inv-loop μ-loop
 loop-again c = search (needs, holding-next)
 
--- src/tally.rt:73:16
+-- src/tally.rt:76:16
 cast-tally : tie.Need-cast-tally Inv-loop μ-loop
 cast-tally c = search needs
 
--- src/tally.rt:73:5
+-- src/tally.rt:76:5
 element-write-tally-2 : tie.Need-element-write-tally-2 Inv-loop μ-loop
 element-write-tally-2 c = search needs
 
--- src/tally.rt:61:1
+-- src/tally.rt:64:1
 returns : tie.Need-returns Inv-loop μ-loop
 returns c = search (needs, holding-done)
 

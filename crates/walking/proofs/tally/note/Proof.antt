@@ -7,15 +7,15 @@ use Rattle.walking.proofs.tally.note.Reads as reads
 use Rattle.walking.proofs.tally.note.Lts as lts
 use Rattle.walking.proofs.tally.hold.Reads as hold-reads
 
--- src/tally.rt:82:5
+-- src/tally.rt:87:5
 element-write-tally : tie.Need-element-write-tally
 element-write-tally c = search needs
 
--- src/tally.rt:83:5
+-- src/tally.rt:88:5
 hold-requires : tie.Need-hold-requires
 hold-requires c κs = search needs
 
--- src/tally.rt:75:1
+-- src/tally.rt:80:1
 returns : tie.Need-returns
 returns c = search (needs, noted)
 

@@ -6,11 +6,11 @@ use Rattle.walking.proofs.tally.opened.Tie as tie
 use Rattle.walking.proofs.tally.opened.Reads as reads
 use Rattle.walking.proofs.tally.opened.Lts as lts
 
--- src/tally.rt:31:5
+-- src/tally.rt:34:5
 array-write-tally : tie.Need-array-write-tally
 array-write-tally c = search needs
 
--- src/tally.rt:26:1
+-- src/tally.rt:29:1
 returns : tie.Need-returns
 returns c = search (needs, opens, opens-going)
 

@@ -77,7 +77,7 @@ walk-branching-below t =
     (falls 3 walk-branching-kinds.ps _<_ μ-walk-branching t)
     walk-branching.Pre
 
--- src/walk.rt:146:13
+-- src/walk.rt:182:13
 fork-returns : (t : ℕ) → fork-lts.Need-returns (
   get-reads.Asked,
   get-reads.Learnt,
@@ -102,7 +102,7 @@ walk-Inv-loop s t at tally₀ i₀ state₀ tally i state = Walking s t at state
 abbrev walk-μ-loop : walk-lts.MeasureT-loop
 walk-μ-loop s t at tally₀ i₀ state₀ tally i state = format .items - i
 
--- src/walk.rt:117:13
+-- src/walk.rt:153:13
 walk-branching-returns-2 : (t : ℕ) → walk-branching-lts.Need-returns-2 (
   chosen-reads.Asked,
   chosen-reads.Learnt,

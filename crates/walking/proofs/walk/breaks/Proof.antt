@@ -10,27 +10,27 @@ use Rattle.walking.proofs.walk.breaks.Lts as lts
 use Rattle.steps.proofs.goals.lacking.Reads as lacking-reads
 use Rattle.walking.proofs.tally.note.Reads as note-reads
 
--- src/walk.rt:42:11
+-- src/walk.rt:44:11
 lacking-requires : tie.Need-lacking-requires
 lacking-requires c κs = search needs
 
--- src/walk.rt:43:19
+-- src/walk.rt:45:19
 enum-known-p : tie.Need-enum-known-p
 enum-known-p c = search needs
 
--- src/walk.rt:44:13
+-- src/walk.rt:46:13
 note-requires : tie.Need-note-requires
 note-requires c κs = (search needs, (search needs, (search (needs, notable), search guard-fits)))
 
--- src/walk.rt:47:27
+-- src/walk.rt:49:27
 enum-told : tie.Need-enum-told
 enum-told c = search needs
 
--- src/walk.rt:36:1
+-- src/walk.rt:38:1
 returns : tie.Need-returns
 returns c = search breaks-noted
 
--- src/walk.rt:36:1
+-- src/walk.rt:38:1
 returns-2 : tie.Need-returns-2
 returns-2 c = search breaks-none
 

@@ -1,0 +1,4 @@
+pub mod BuildLaws
+pub mod DifferLaws
+pub mod TakeLaws
+pub mod TakenHand
