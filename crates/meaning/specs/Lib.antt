@@ -30,4 +30,5 @@ pub mod Accepted
 pub mod Answers
 pub mod Showing
 pub mod Layouts
+pub mod Schemes
 pub mod AnswerParts
