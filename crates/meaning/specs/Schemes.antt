@@ -106,8 +106,8 @@ lines-from r c = lines (r .table) (goals-of r) c done (empty-lines (values (r .g
 unfoldable pub derivation-of : Limits → Request → List Line
 derivation-of lim r = lines-from r (r .plan) (first-state lim (r .table)) 0
 
-unfoldable pub bytes-of : List Line → List ℕ
-bytes-of ls = written Plain (record { lines = ls; closing = []; closing-place = 0 })
+unfoldable pub derivation-bytes : List Line → List ℕ
+derivation-bytes ls = written Plain (record { lines = ls; closing = []; closing-place = 0 })
 
 -- A SENSING ACTION THAT IS TOO WIDE has more unknown fluents than rule 3 can cite readings for. The walk that is refused at the first such item (FORMAT 24.4, 24.16).
 unfoldable pub too-wide : Table → (action : ℕ) → State → Bool
@@ -136,7 +136,7 @@ write-bytes lim room bytes =
 
 unfoldable pub write-lines : Limits → (room : List ℕ) → List Line → Built
 write-lines lim room ls =
-    pick (ltb (lim .lines) (length ls)) (λ _. unwritten room (answer Limits.too-many-lines Limits.neither-input 0)) (λ _. write-bytes lim room (bytes-of ls))
+    pick (ltb (lim .lines) (length ls)) (λ _. unwritten room (answer Limits.too-many-lines Limits.neither-input 0)) (λ _. write-bytes lim room (derivation-bytes ls))
 
 -- What a walk within the budget answers, unless it is 0.
 unfoldable pub unless-refused : (room : List ℕ) → Answer → (Unit {0} → Built) → Built
