@@ -4,6 +4,7 @@ pub mod LineCases
 pub mod GuardedCases
 pub mod CaseRows
 pub mod IndexCases
+pub mod SchemeLaws
 pub mod SchemeCases
 pub mod DerivationCases
 pub mod WhetherCases
