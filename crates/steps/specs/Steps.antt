@@ -3,12 +3,14 @@ use Prim.Native.Nat.{ℕ, _+_, _<_}
 use mathlib.Core.Path.{_≡_}
 use mathlib.Core.List.{List, [], _∷_}
 use mathlib.Core.Bool.{Bool, true, false}
+use mathlib.Core.Logic.{_⊎_}
 use lib.ListN.{getD, drop}
 use lib.Dec.{eqb}
-use Rattle.meaning.specs.Tests.{pick}
+use Rattle.meaning.specs.Tests.{pick, each-of}
 use Rattle.meaning.specs.Limits
 use Rattle.meaning.specs.Limits.{format, all-literals}
-use Rattle.meaning.specs.Requests.{Table}
+use Rattle.meaning.specs.Requests.{Table, Sequence, item, branching, Branches, none, branch}
+use Rattle.meaning.specs.Derivations.{join}
 use Rattle.meaning.specs.Lines.{knowledge-of}
 use Rattle.meaning.specs.States.{State, known, known-whether, first-state, state-after, unknown-from, outcome-to}
 use Rattle.meaning.specs.Walk.{no-state, in-state, Walked, stuck-at, Step, leads-to, refuses, Steps, meet, walk, table-does, first-missed, judged}
@@ -97,7 +99,23 @@ pub record Into (s t : List ℕ) (i p item r : ℕ) : Type 0 where
 unfoldable pub going-on : (s t : List ℕ) → (place : ℕ) → State → Code.Found → Walked State
 going-on s t p marks r = elim r [ Nowhere ↦ stuck-at p marks | At at ↦ walk-from s t at marks ]
 
+-- The branch that is chosen in a state: the first whose condition is known true (FORMAT 7.25).
+unfoldable pub Takes : State → Branches ℕ → Sequence ℕ → Type 0
+Takes s none b = ⊥
+Takes s (branch c d bs) b = ((each-of (known s) c ≡ true) × (b ≡ d)) ⊎ ((each-of (known s) c ≡ false) × Takes s bs b)
+
+-- What is left is a branching and what follows it, and then it is the chosen branch joined with that.
+pub record Taken (s : State) (c d : Sequence ℕ) : Type 0 where
+  pub place : ℕ
+  pub branches : Branches ℕ
+  pub after : Sequence ℕ
+  pub chosen : Sequence ℕ
+  pub is : c ≡ item (branching place branches) after
+  pub takes : Takes s branches chosen
+  pub rest : d ≡ join chosen after
+
 pub record Chosen (s t : List ℕ) (i : ℕ) (marks : State) (r : Code.Found) : Type 0 where
   pub goes : walk-from s t i marks ≡ going-on s t (getD t (item-place + i) 0) marks r
+  pub takes : (at : ℕ) → r ≡ At at → Taken marks (rest-at (plan-in s t) i) (rest-at (plan-in s t) at)
   pub later : (at : ℕ) → r ≡ At at → i < at
   pub at : (at : ℕ) → r ≡ At at → Position (plan-in s t) at
