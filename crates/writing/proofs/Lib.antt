@@ -1,0 +1,5 @@
+pub mod StoreLaws
+pub mod RoomLaws
+pub mod CiteLaws
+pub mod ItemStands
+pub mod EndLaws

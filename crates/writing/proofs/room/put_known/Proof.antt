@@ -1,0 +1,114 @@
+use Rattle.writing.proofs.room.put_known.Statement.{statement}
+use Rattle.writing.proofs.room.put_known.Tie as tie
+use Rattle.writing.proofs.room.put_known.Reads as reads
+use Rattle.writing.proofs.room.put_known.Lts as lts
+use Rattle.bytes.proofs.bytes.wide.Reads as wide-reads
+use Rattle.writing.proofs.room.put.Reads as put-reads
+
+abbrev Inv-loop : tie.InvT-loop
+Inv-loop marks room₀ q p₀ count₀ f₀ room p count f = ?
+
+abbrev μ-loop : tie.MeasureT-loop
+μ-loop marks room₀ q p₀ count₀ f₀ room p count f = ?
+
+-- src/room.rt:60:17
+add-p : tie.Need-add-p Inv-loop μ-loop
+add-p c = ?
+
+-- src/room.rt:63:5
+loop-holds : tie.Need-loop-holds Inv-loop μ-loop
+loop-holds c = ?
+
+-- src/room.rt:64:25
+element-copy-out-wide : tie.Need-element-copy-out-wide Inv-loop μ-loop
+element-copy-out-wide c = ?
+
+-- src/room.rt:64:13
+wide-requires : tie.Need-wide-requires Inv-loop μ-loop
+wide-requires c κs = ?
+
+-- src/room.rt:65:21
+mul-twice : tie.Need-mul-twice Inv-loop μ-loop
+mul-twice c = ?
+
+-- src/room.rt:66:9
+add-f : tie.Need-add-f Inv-loop μ-loop
+add-f c = ?
+
+-- src/room.rt:63:5
+loop-less : tie.Need-loop-less Inv-loop μ-loop
+loop-less c = ?
+
+-- src/room.rt:63:5
+loop-again : tie.Need-loop-again Inv-loop μ-loop
+loop-again c = ?
+
+-- src/room.rt:70:17
+add-l : tie.Need-add-l Inv-loop μ-loop
+add-l c = ?
+
+-- src/room.rt:70:17
+sub-l : tie.Need-sub-l Inv-loop μ-loop
+sub-l c = ?
+
+-- src/room.rt:71:22
+cast-put : tie.Need-cast-put Inv-loop μ-loop
+cast-put c = ?
+
+-- src/room.rt:71:9
+put-requires : tie.Need-put-requires Inv-loop μ-loop
+put-requires c κs = ?
+
+-- src/room.rt:72:9
+add-p-2 : tie.Need-add-p-2 Inv-loop μ-loop
+add-p-2 c = ?
+
+-- src/room.rt:73:9
+add-count : tie.Need-add-count Inv-loop μ-loop
+add-count c = ?
+
+-- src/room.rt:63:5
+loop-less-2 : tie.Need-loop-less-2 Inv-loop μ-loop
+loop-less-2 c = ?
+
+-- src/room.rt:63:5
+loop-again-2 : tie.Need-loop-again-2 Inv-loop μ-loop
+loop-again-2 c = ?
+
+-- src/room.rt:75:5
+put-requires-2 : tie.Need-put-requires-2 Inv-loop μ-loop
+put-requires-2 c κs = ?
+
+-- src/room.rt:53:1
+same-length : tie.Need-same-length Inv-loop μ-loop
+same-length c = ?
+
+-- src/room.rt:53:1
+returns : tie.Need-returns Inv-loop μ-loop
+returns c = ?
+
+pub put-known-spec : {M : Type 1} → statement M
+put-known-spec =
+    tie.close
+    (tie.spec
+    Inv-loop
+    μ-loop
+    add-p
+    loop-holds
+    element-copy-out-wide
+    wide-requires
+    mul-twice
+    add-f
+    loop-less
+    loop-again
+    add-l
+    sub-l
+    cast-put
+    put-requires
+    add-p-2
+    add-count
+    loop-less-2
+    loop-again-2
+    put-requires-2
+    same-length
+    returns)
