@@ -1,3 +1,5 @@
+-- Two bytes, one after another.
+use Rattle.writing.proofs.RoomLaws.{number-put}
 use borrow.Author.Needs.{needs}
 use Rattle.writing.proofs.room.put_number.Statement.{statement}
 use Rattle.writing.proofs.room.put_number.Tie as tie
@@ -31,7 +33,7 @@ same-length c = search needs
 
 -- src/room.rt:23:1
 returns : tie.Need-returns
-returns c = ?
+returns c = search number-put
 
 pub put-number-spec : {M : Type 1} → statement M
 put-number-spec =
