@@ -3,3 +3,5 @@ pub mod RoomLaws
 pub mod CiteLaws
 pub mod ItemStands
 pub mod EndLaws
+pub mod PlanLaws
+pub mod ProgressLaws

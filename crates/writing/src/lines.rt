@@ -37,6 +37,13 @@ pub const CITE_SLOTS: usize = 1 + limits::CITATIONS;
 
 pub type Cites = [u16; CITE_SLOTS];
 
+fn number_of(x: u16) -> usize
+    ensures same { λ r. ⌜ r ≡ x ⌝ }
+    ensures below { λ r. ⌜ r < 65536 ⌝ }
+{
+    x as usize
+}
+
 // The number of citations, and each in two bytes. It gives the place after them.
 fn put_cites(cites: &Cites, room: &mut [u8], q: usize) -> usize
     requires { ⌜ Cited (now cites) ⌝ }
@@ -45,13 +52,14 @@ fn put_cites(cites: &Cites, room: &mut [u8], q: usize) -> usize
     ensures within { λ r. ⌜ r ≤ q + 129 ⌝ }
     ensures written { λ _. ⌜ now (room .exit) ≡ sets (now (room .entry)) q (length (cited (now (cites .entry))) ∷ numbers-written (cited (now (cites .entry)))) ⌝ }
 {
-    let count = cites[0] as usize;
+    let count = number_of(cites[0]);
     put(room, q, (count % 256) as u8);
     let mut p = q + 1;
     let mut i = 0;
     while i < count {
         i += 1;
-        put_number(room, p, cites[i] as usize);
+        let line = number_of(cites[i]);
+        put_number(room, p, line);
         p += 2;
     }
     p
