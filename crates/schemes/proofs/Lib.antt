@@ -1,2 +1,4 @@
 pub mod AddLaws
+pub mod CitedLaws
 pub mod NarrowLaws
+pub mod SchemeArms

@@ -1,6 +1,7 @@
 -- A walk that ends with nothing missed, and on which no sensing action is too wide, is such a walk from each of its states on, and what is asked of its actions is so. Assumes nothing.
 use Prim.Native.Nat.{ℕ, _+_, _^_, _≤_, _<_}
 use native.Mathlib.Omega.{arith}
+use native.Mathlib.Nat.{two-pow-succ}
 use mathlib.Core.Path.{_≡_, refl, sym, _∙_, ap, subst}
 use mathlib.Core.Bool.{Bool, true, false}
 use mathlib.Core.List.{List, [], _∷_}
@@ -149,7 +150,7 @@ module _ (s : List ℕ) (a f : ℕ) (marks : State) (small : f < format .fluents
   -- There are twice as many.
   pub readings-double : 2 ^ length (fluents-from s a f marks) ≡ 2 ^ length (fluents-from s a g (set marks f 1)) + 2 ^ length (fluents-from s a g (set (set marks f 1) f 2))
   readings-double =
-      ap (λ (fs : List ℕ). 2 ^ length fs) (fluents-some s a marks f small) ∙ rw (first-fluents, second-fluents) (omega arith)
+      ap (λ (fs : List ℕ). 2 ^ length fs) (fluents-some s a marks f small) ∙ two-pow-succ (length (unknown-above (table-in s) a marks (f + 1))) ∙ rw (first-fluents, second-fluents)
 
   pub readings-fork : readings (fluents-from s a f marks) marks
       ≡ fork (readings (fluents-from s a g (set marks f 1)) (set marks f 1)) (λ _. readings (fluents-from s a g (set (set marks f 1) f 2)) (set (set marks f 1) f 2))

@@ -1,12 +1,18 @@
 -- What is put behind the lines that are there.
 use Prim.Native.Nat.{ℕ, _+_, _^_, _≤_, _<_}
 use mathlib.Core.Path.{_≡_}
-use mathlib.Core.List.{List, _++_}
+use mathlib.Core.List.{List, [], _∷_, _++_}
 use lib.ListN.{length, getD}
 use Rattle.meaning.specs.Limits.{format}
 use Rattle.meaning.specs.Derivations.{Line}
 use Rattle.meaning.specs.Schemes.{Read-lines}
 use Rattle.writing.specs.Progress.{add, line-count, standing, Underway, cited, Cited}
+
+-- One more line is cited.
+pub record Cites-more (line : ℕ) (cites cites′ : List ℕ) : Type 0 where
+  pub held : Cited cites′
+  pub more : getD cites′ 0 0 ≡ getD cites 0 0 + 1
+  pub numbers : cited cites′ ≡ cited cites ++ (line ∷ [])
 
 -- These lines, and so there is a line.
 pub record Put (lines : List Line) (progress room progress′ room′ : List ℕ) : Type 0 where

@@ -37,7 +37,7 @@ pub const CITE_SLOTS: usize = 1 + limits::CITATIONS;
 
 pub type Cites = [u16; CITE_SLOTS];
 
-fn number_of(x: u16) -> usize
+pub fn number_of(x: u16) -> usize
     ensures same { λ r. ⌜ r ≡ x ⌝ }
     ensures below { λ r. ⌜ r < 65536 ⌝ }
 {
