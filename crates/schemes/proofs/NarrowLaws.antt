@@ -1,12 +1,12 @@
 -- A walk that ends with nothing missed, and on which no sensing action is too wide, is such a walk from each of its states on, and what is asked of its actions is so. Assumes nothing.
 use Prim.Native.Nat.{ℕ, _+_, _^_, _≤_, _<_}
 use native.Mathlib.Omega.{arith}
-use native.Mathlib.Nat.{two-pow-succ}
+use native.Mathlib.Nat.{two-pow-succ, pow-le-pow-right}
 use mathlib.Core.Path.{_≡_, refl, sym, _∙_, ap, subst}
 use mathlib.Core.Bool.{Bool, true, false}
 use mathlib.Core.List.{List, [], _∷_}
 use mathlib.Core.Logic.{_⊎_, inl, inr, ⊎-elim}
-use lib.ListN.{length, set}
+use lib.ListN.{length, getD, set, replicate}
 use lib.Dec.{ltb}
 use lib.Seq.{set-set}
 use borrow.Author.Tests.{ltb-true, ltb-false, lt-ltb, le-ltb}
@@ -21,12 +21,15 @@ use Rattle.meaning.specs.Walk.{Concerned, in-state, fine, stopped, Walked, Veri
 use Rattle.meaning.specs.Schemes.{too-wide, narrow-does, narrow-step}
 use Rattle.meaning.proofs.TestLaws.{by-test, clash, pick-true, pick-false}
 use Rattle.meaning.proofs.Sound.{counted-verified, then-verified}
+use Rattle.finding.specs.declared.places.Found.{Found}
+use Rattle.finding.specs.declared.places.Found.the-variants.{Nowhere, At}
 use Rattle.steps.specs.Held.{table-in, plan-in, request-in}
 use Rattle.steps.specs.AtHand.{Marked}
 use Rattle.steps.specs.Rests.{rest-at, after-first}
-use Rattle.steps.specs.Steps.{unknown-above, first-of, Followed, Takes, Taken, Takes-none, Untaken}
+use Rattle.steps.specs.Steps.{unknown-above, first-of, Followed, Takes, Taken, Takes-none, Untaken, Chosen}
 use Rattle.steps.proofs.OnwardLaws.{walk-join}
 use Rattle.steps.proofs.LookLaws.{first-marked, second-marked, told-true, told-false, unknown-after-set, unknown-first, unknown-no-first, sensed-first, sensed-no-first}
+use Rattle.writing.specs.Progress.{cite-slots}
 use Rattle.schemes.specs.Narrow.{narrow-from, Narrow-from, fluents-from, narrow-readings, Narrow-readings, Acts}
 
 -- AN ACTION can be run, is not too wide, and what follows it is such a walk.
@@ -81,10 +84,10 @@ module _ (s t : List ℕ) (i a : ℕ) (acts : Acts s t i a) (marks : State) (goo
   unfolding narrow-from walk
   run-good = subst (λ (c : Sequence ℕ). Verified (walk (narrow-step (table-in s)) c (judged (request-in s t)) marks)) (acts .is) good
 
-  pub action-runs : can-be-run (table-in s) a marks ≡ true
-  action-runs = narrow-runs (table-in s) (acts .place) a walks-on marks run-good
+  pub action-runs : (n : ℕ) → n ≡ a → can-be-run (table-in s) n marks ≡ true
+  action-runs n is = ap (λ (b : ℕ). can-be-run (table-in s) b marks) is ∙ narrow-runs (table-in s) (acts .place) a walks-on marks run-good
 
-  pub action-few : length (unknown-sensed (table-in s) a marks) ≤ Limits.most-forked
+  action-few : length (unknown-sensed (table-in s) a marks) ≤ Limits.most-forked
   action-few = narrow-few (table-in s) (acts .place) a walks-on marks run-good
 
 -- WHAT FOLLOWS IT.
@@ -115,23 +118,31 @@ module _ (s : List ℕ) (a : ℕ) (marks : State) (f : ℕ) where
         (λ u. let near = ltb-true f (format .fluents) u in fluents-some near ∙ sym (sensed-first (table-in s) a marks marked f first near))
         (λ u. let far = ltb-false f (format .fluents) u in fluents-none far ∙ sym (sensed-no-first (table-in s) a marks marked f first far))
 
-module _ (s t : List ℕ) (i a : ℕ) (acts : Acts s t i a) (marks : State) (good : Narrow-from s t i marks) (next : ℕ) (follows : Followed s t i next) (senses : Bool) (told : senses ≡ sensing (table-in s) a) where
+module _ (s t : List ℕ) (i a : ℕ) (acts : Acts s t i a) (marks : State) (good : Narrow-from s t i marks) (next : ℕ) (follows : Followed s t i next) where
   from-next : walks-on s t i a acts marks good ≡ narrow-from s t next
   unfolding narrow-from
   from-next = ap (λ (c : Sequence ℕ). walk (narrow-step (table-in s)) c (judged (request-in s t))) (sym (left-after s t i a acts next follows))
 
-  pub action-moves : senses ≡ false → (after : State) → after ≡ state-after (table-in s) a marks → Narrow-from s t next after
-  action-moves none-sensed after is =
-      subst (λ (m : State). Narrow-from s t next m) (sym is)
+  pub action-moves : sensing (table-in s) a ≡ false → (n : ℕ) → n ≡ a → (after : State) → after ≡ state-after (table-in s) n marks → Narrow-from s t next after
+  action-moves unsensed n same after is =
+      subst (λ (m : State). Narrow-from s t next m) (sym (is ∙ ap (λ (b : ℕ). state-after (table-in s) b marks) same))
       (subst (λ (k : State → Walked State). Verified (k (state-after (table-in s) a marks))) from-next
-      (narrow-moves (table-in s) (acts .place) a (walks-on s t i a acts marks good) marks (run-good s t i a acts marks good) (sym told ∙ none-sensed)))
+      (narrow-moves (table-in s) (acts .place) a (walks-on s t i a acts marks good) marks (run-good s t i a acts marks good) unsensed))
 
-  pub action-reads : senses ≡ true → Marked marks → (f : ℕ) → f ≡ first-of (unknown-sensed (table-in s) a marks) → Narrow-readings s t a next f marks
+  pub action-reads : sensing (table-in s) a ≡ true → Marked marks → (f : ℕ) → f ≡ first-of (unknown-sensed (table-in s) a marks) → Narrow-readings s t a next f marks
   unfolding narrow-readings
-  action-reads some-sensed marked f first =
+  action-reads sensed marked f first =
       subst (λ (fs : List ℕ). Verified (each-reading (readings fs marks) (narrow-from s t next))) (sym (fluents-sensed s a marks f marked first))
       (subst (λ (k : State → Walked State). Verified (each-reading (readings (unknown-sensed (table-in s) a marks) marks) k)) from-next
-      (narrow-reads (table-in s) (acts .place) a (walks-on s t i a acts marks good) marks (run-good s t i a acts marks good) (sym told ∙ some-sensed)))
+      (narrow-reads (table-in s) (acts .place) a (walks-on s t i a acts marks good) marks (run-good s t i a acts marks good) sensed))
+
+-- Rule 3 has citations enough for its readings.
+pub sensing-few : (s t : List ℕ) (i a : ℕ) → Acts s t i a → (marks : State) → Narrow-from s t i marks → Marked marks → (f : ℕ) → f ≡ first-of (unknown-sensed (table-in s) a marks)
+    → getD (replicate cite-slots 0) 0 0 + 2 ^ length (fluents-from s a f marks) ≤ format .citations
+sensing-few s t i a acts marks good marked f first =
+    let few : length (fluents-from s a f marks) ≤ 6 = rw (fluents-sensed s a marks f marked first) (action-few s t i a acts marks good) in
+    let most : 2 ^ length (fluents-from s a f marks) ≤ 2 ^ 6 = pow-le-pow-right {n = 2} (omega arith) few in
+    omega arith
 
 -- THE READINGS from fluent f up: of none, or of f as true and then as false, each with those of the next one.
 pub readings-none : (s t : List ℕ) (a at f : ℕ) (marks : State) → format .fluents ≤ f → Narrow-readings s t a at f marks → Narrow-from s t at marks
@@ -187,9 +198,9 @@ module _ (t : Table) (s : State) (p : ℕ) (k : State → Walked State) where
   none-stops (branch c d bs) takes = pick-false _ _ _ (takes .0) ∙ none-stops bs (takes .1)
 
 module _ (s t : List ℕ) (i : ℕ) (marks : State) (good : Narrow-from s t i marks) where
-  pub chosen-good : (at : ℕ) → Taken marks (rest-at (plan-in s t) i) (rest-at (plan-in s t) at) → Narrow-from s t at marks
+  taken-good : (at : ℕ) → Taken marks (rest-at (plan-in s t) i) (rest-at (plan-in s t) at) → Narrow-from s t at marks
   unfolding narrow-from walk
-  chosen-good at taken =
+  taken-good at taken =
       let step = narrow-step (table-in s) in
       let end = judged (request-in s t) in
       subst Verified
@@ -199,9 +210,9 @@ module _ (s t : List ℕ) (i : ℕ) (marks : State) (good : Narrow-from s t i ma
       ∙ ap (λ (c : Sequence ℕ). walk step c end marks) (sym (taken .rest)))
       good
 
-  pub some-chosen : Untaken marks (rest-at (plan-in s t) i) → ⊥
+  some-taken : Untaken marks (rest-at (plan-in s t) i) → ⊥
   unfolding narrow-from walk stopped-at
-  some-chosen untaken =
+  some-taken untaken =
       let step = narrow-step (table-in s) in
       let end = judged (request-in s t) in
       let stops : stopped Limits.not-executable (untaken .place) (in-state marks) ≡ fine =
@@ -209,3 +220,10 @@ module _ (s t : List ℕ) (i : ℕ) (marks : State) (good : Narrow-from s t i ma
           (ap (λ (c : Sequence ℕ). walk step c end marks) (untaken .is) ∙ none-stops (table-in s) marks (untaken .place) (walk step (untaken .after) end) (untaken .branches) (untaken .none))
           good in
       let z : _≡_ {A = ℕ} 0 1 = cc in omega arith
+
+  module _ (r : Found) (chosen : Chosen s t i marks r) where
+    pub chosen-good : (at : ℕ) → r ≡ At at → Narrow-from s t at marks
+    chosen-good at is = taken-good at (chosen .takes at is)
+
+    pub some-chosen : r ≡ Nowhere → ⊥
+    some-chosen is = some-taken (chosen .stays is)

@@ -20,19 +20,21 @@ use Rattle.meaning.specs.Layouts.{item-written, items-written, items-in, plan-w
 use Rattle.meaning.specs.Schemes.{line-of, Writes, empty-lines, and-cites, Read-lines, one-read, both-read, then-read, read-lines, rule-for, sensing-lines, acting-lines, action-lines, branching-lines, lines, item-lines, branch-lines, lines-from}
 use Rattle.meaning.proofs.TestLaws.{by-test, pick-true, pick-false}
 use Rattle.meaning.proofs.SchemeLaws.{lines-item, lines-branch}
+use Rattle.finding.specs.declared.places.Found.{Found}
+use Rattle.finding.specs.declared.places.Found.the-variants.{Nowhere, At}
 use Rattle.steps.specs.Held.{table-in, plan-in, request-in}
 use Rattle.steps.specs.AtHand.{At-hand, Marked}
 use Rattle.steps.specs.Rests.{rest-at, Position}
-use Rattle.steps.specs.Steps.{unknown-above, first-of, Followed, Takes, Taken}
+use Rattle.steps.specs.Steps.{unknown-above, first-of, Followed, Takes, Taken, Chosen}
 use Rattle.steps.proofs.HandLaws.{few-items}
 use Rattle.steps.proofs.RestLaws.{rest-past}
 use Rattle.writing.specs.Progress.{Standing, over, so-far, add, line-count, standing, Underway, cite-slots, cited, Cited}
 use Rattle.writing.proofs.ProgressLaws.{lines-over}
-use Rattle.schemes.specs.Narrow.{lines-at, fluents-from, readings-at, Acts}
+use Rattle.schemes.specs.Narrow.{Narrow-from, lines-at, fluents-from, readings-at, Acts}
 use Rattle.schemes.specs.Put.{Cites-more, Put, Readings-put}
 use Rattle.schemes.proofs.AddLaws.{over-adds, count-grows, some-added, behind, adds-behind}
 use Rattle.schemes.proofs.CitedLaws.{none-cited}
-use Rattle.schemes.proofs.NarrowLaws.{left-after, fluents-none, fluents-sensed, readings-double, readings-fork}
+use Rattle.schemes.proofs.NarrowLaws.{left-after, fluents-none, fluents-sensed, readings-double, readings-fork, some-chosen}
 
 -- PUT, where they are added.
 pub lines-put : (ls : List Line) (progress room progress′ room′ : List ℕ) → 0 < length ls → standing progress′ room′ ≡ add (standing progress room) ls → Underway progress′ → Put ls progress room progress′ room′
@@ -80,6 +82,11 @@ module _ (s t : List ℕ) (here : At-hand s t) where
       put-both progress room progress₁ room₁ progress₂ room₂ _ first
       (λ n. line-of marks (rest-at (plan-in s t) (format .items)) (goals-of (request-in s t)) 6 ((n - 1) ∷ []) ∷ []) then _ (rw last (sym (end-lines marks (line-count progress))))
 
+-- The position is there.
+pub end-there : (s t : List ℕ) (at : ℕ) (marks : State) (progress room progress₁ room₁ : List ℕ) → at ≡ format .items → Put (lines-at s t (format .items) marks (line-count progress)) progress room progress₁ room₁
+    → Put (lines-at s t at marks (line-count progress)) progress room progress₁ room₁
+end-there s t at marks progress room progress₁ room₁ is put = subst (λ (j : ℕ). Put (lines-at s t j marks (line-count progress)) progress room progress₁ room₁) (sym is) put
+
 -- A BRANCHING: the lines of the chosen branch joined with what is left behind it, and then rule 4.
 module _ (t : Table) (Y : Conclusion) (marks : State) (c rest : Sequence ℕ) (k : Writes) (n : ℕ) where
   takes-lines : (bs : Branches ℕ) (b : Sequence ℕ) → Takes marks bs b → branch-lines t Y bs c rest k marks n ≡ branching-lines t Y marks c n (lines t Y b rest k marks n)
@@ -101,13 +108,23 @@ module _ (s t : List ℕ) (i at : ℕ) (marks : State) (taken : Taken marks (res
       ∙ ap₂ (λ (c : Sequence ℕ) (ls : List Line). branching-lines (table-in s) Y marks c n ls) (sym (taken .is))
       (lines-branch r (taken .chosen) (taken .after) marks n ∙ ap (λ (c : Sequence ℕ). lines-from r c marks n) (sym (taken .rest)))
 
-  pub branch-put : (progress room progress₁ room₁ progress₂ room₂ : List ℕ) → Put (lines-at s t at marks (line-count progress)) progress room progress₁ room₁
+  taken-put : (progress room progress₁ room₁ progress₂ room₂ : List ℕ) → Put (lines-at s t at marks (line-count progress)) progress room progress₁ room₁
       → Put (line-of marks (rest-at (plan-in s t) i) (goals-of (request-in s t)) 4 ((line-count progress₁ - 1) ∷ []) ∷ []) progress₁ room₁ progress₂ room₂
       → Put (lines-at s t i marks (line-count progress)) progress room progress₂ room₂
   unfolding branching-lines and-cites rule-for goals-of
-  branch-put progress room progress₁ room₁ progress₂ room₂ first then =
+  taken-put progress room progress₁ room₁ progress₂ room₂ first then =
       put-both progress room progress₁ room₁ progress₂ room₂ _ (first .stands)
       (λ n. line-of marks (rest-at (plan-in s t) i) (goals-of (request-in s t)) 4 ((n - 1) ∷ []) ∷ []) then _ (sym (branch-left (line-count progress)))
+
+module _ (s t : List ℕ) (i : ℕ) (marks : State) (r : Found) (chosen : Chosen s t i marks r) (progress room : List ℕ) where
+  pub branch-put : (at : ℕ) → r ≡ At at → (progress₁ room₁ progress₂ room₂ : List ℕ) → Put (lines-at s t at marks (line-count progress)) progress room progress₁ room₁
+      → Put (line-of marks (rest-at (plan-in s t) i) (goals-of (request-in s t)) 4 ((line-count progress₁ - 1) ∷ []) ∷ []) progress₁ room₁ progress₂ room₂
+      → Put (lines-at s t i marks (line-count progress)) progress room progress₂ room₂
+  branch-put at is progress₁ room₁ progress₂ room₂ first then = taken-put s t i at marks (chosen .takes at is) progress room progress₁ room₁ progress₂ room₂ first then
+
+  -- Some branch is chosen.
+  pub branch-there : Narrow-from s t i marks → r ≡ Nowhere → Put (lines-at s t i marks (line-count progress)) progress room progress room
+  branch-there good is = absurd (some-chosen s t i marks good r chosen is)
 
 -- Where an action stands is not written.
 unplaced : (marks : State) (a p : ℕ) (Y : Conclusion) (x : Standing)
@@ -127,13 +144,14 @@ module _ (s t : List ℕ) (i a : ℕ) (acts : Acts s t i a) (at : ℕ) (follows 
       ∙ ap (λ (c : Sequence ℕ). action-lines (table-in s) (goals-of r) (acts .place) a (acts .after) (lines-from r c) marks n) (sym (left-after s t i a acts at follows))
 
   -- It does not sense: rule 2, what follows, and then rule 5.
-  module _ (unsensed : sensing (table-in s) a ≡ false) (after : State) (is : after ≡ state-after (table-in s) a marks) where
-    acting-left : (n : ℕ) → lines-at s t i marks n
-        ≡ acting-lines (table-in s) (goals-of (request-in s t)) marks (item (act (acts .place) a) done) (rest-at (plan-in s t) i) after (lines-at s t at) n
+  module _ (unsensed : sensing (table-in s) a ≡ false) (n : ℕ) (same : n ≡ a) (after : State) (is : after ≡ state-after (table-in s) n marks) where
+    acting-left : (k : ℕ) → lines-at s t i marks k
+        ≡ acting-lines (table-in s) (goals-of (request-in s t)) marks (item (act (acts .place) a) done) (rest-at (plan-in s t) i) after (lines-at s t at) k
     unfolding action-lines
-    acting-left n =
-        item-left n ∙ pick-false _ _ _ unsensed
-        ∙ ap₂ (λ (c : Sequence ℕ) (m : State). acting-lines (table-in s) (goals-of (request-in s t)) marks (item (act (acts .place) a) done) c m (lines-at s t at) n) (sym (acts .is)) (sym is)
+    acting-left k =
+        item-left k ∙ pick-false _ _ _ unsensed
+        ∙ ap₂ (λ (c : Sequence ℕ) (m : State). acting-lines (table-in s) (goals-of (request-in s t)) marks (item (act (acts .place) a) done) c m (lines-at s t at) k) (sym (acts .is))
+        (sym (is ∙ ap (λ (b : ℕ). state-after (table-in s) b marks) same))
 
     pub acting-put : (progress room progress₁ room₁ progress₂ room₂ progress₃ room₃ : List ℕ)
         → standing progress₁ room₁ ≡ add (standing progress room) (line-of marks (item (act 0 a) done) (knows (literals-of after)) Limits.action-rule [] ∷ [])
@@ -142,14 +160,14 @@ module _ (s t : List ℕ) (i a : ℕ) (acts : Acts s t i a) (at : ℕ) (follows 
         → Put (lines-at s t i marks (line-count progress)) progress room progress₃ room₃
     unfolding acting-lines and-cites rule-for goals-of line-count
     acting-put progress room progress₁ room₁ progress₂ room₂ progress₃ room₃ first then last =
-        let n = line-count progress in
+        let k = line-count progress in
         let one : Line = line-of marks (item (act (acts .place) a) done) (knows (literals-of after)) Limits.action-rule [] in
-        let ls : List Line = lines-at s t at after (n + 1) in
+        let ls : List Line = lines-at s t at after (k + 1) in
         let both : standing progress₂ room₂ ≡ add (standing progress room) (one ∷ ls) =
             then .stands ∙ adds-behind progress room (one ∷ []) progress₁ room₁ (first ∙ unplaced marks a (acts .place) (knows (literals-of after)) (standing progress room)) (lines-at s t at after) in
-        let ends : n + length (one ∷ ls) - 1 ≡ n + 1 + length ls - 1 = omega arith in
+        let ends : k + length (one ∷ ls) - 1 ≡ k + 1 + length ls - 1 = omega arith in
         put-both progress room progress₂ room₂ progress₃ room₃ (one ∷ ls) both
-        (λ m. line-of marks (rest-at (plan-in s t) i) (goals-of (request-in s t)) 5 (n ∷ (m - 1) ∷ []) ∷ []) last _ (rw ends (sym (acting-left n)))
+        (λ m. line-of marks (rest-at (plan-in s t) i) (goals-of (request-in s t)) 5 (k ∷ (m - 1) ∷ []) ∷ []) last _ (rw ends (sym (acting-left k)))
 
   -- It senses: each reading, and then rule 3.
   module _ (sensed : sensing (table-in s) a ≡ true) (marked : Marked marks) (f : ℕ) (first : f ≡ first-of (unknown-sensed (table-in s) a marks)) where

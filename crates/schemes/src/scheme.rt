@@ -131,13 +131,14 @@ pub fn put_from(s: &[u8], t: &Notes, at: usize, marks: &Marks, room: &mut [u8], 
         put_branching(s, t, at, marks, room, progress);
         return;
     }
-    let a = s[p];
-    let sensing = is_sensing(s, t, wide(a));
+    let byte = s[p];
+    let a = wide(byte);
+    let sensing = is_sensing(s, t, a);
     if sensing {
         put_sensing(s, t, at, a, marks, room, progress);
         return;
     }
-    put_acting(s, t, at, a, marks, room, progress);
+    put_acting(s, t, at, byte, marks, room, progress);
 }
 
 // A branching that is item i: the lines of the chosen branch and of what is left behind it, and then rule 4 (FORMAT 24.9).
@@ -181,7 +182,8 @@ fn put_acting(
     ensures { λ _. ⌜ Put (lines-at (now (s .entry)) (now (t .entry)) i (now (marks .entry)) (line-count (now (progress .entry)))) (now (progress .entry)) (now (room .entry)) (now (progress .exit)) (now (room .exit)) ⌝ }
 {
     let first = progress[0];
-    let after = state_after(s, t, wide(a), marks);
+    let action = wide(a);
+    let after = state_after(s, t, action, marks);
     put_action(a, marks, &after, room, progress);
     let at = follow(s, t, i);
     put_from(s, t, at, &after, room, progress);
@@ -193,7 +195,7 @@ fn put_sensing(
     s: &[u8],
     t: &Notes,
     i: usize,
-    a: u8,
+    a: usize,
     marks: &Marks,
     room: &mut [u8],
     progress: &mut Progress,
@@ -206,11 +208,10 @@ fn put_sensing(
     requires { ⌜ Underway (now progress) ⌝ }
     ensures { λ _. ⌜ Put (lines-at (now (s .entry)) (now (t .entry)) i (now (marks .entry)) (line-count (now (progress .entry)))) (now (progress .entry)) (now (room .entry)) (now (progress .exit)) (now (room .exit)) ⌝ }
 {
-    let action = wide(a);
     let at = follow(s, t, i);
-    let f = first_unknown(s, t, action, marks);
+    let f = first_unknown(s, t, a, marks);
     let mut cites = [0u16; CITE_SLOTS];
-    put_readings(s, t, action, at, f, marks, &mut cites, room, progress);
+    put_readings(s, t, a, at, f, marks, &mut cites, room, progress);
     put_goals(s, t, i, marks, rules::SENSING_RULE, &cites, room, progress);
 }
 
