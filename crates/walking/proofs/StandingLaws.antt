@@ -126,7 +126,7 @@ module _ (tally : List ℕ) (sized : length tally ≡ tally-slots) where
   unfolding end-in
   end-missed h = pick-false (eqb (getD tally 0 0) 0) _ _ (ne-eqb (getD tally 0 0) 0 (λ e. omega arith)) ∙ pick-true (eqb (getD tally 0 0) 1) _ _ (eq-eqb _ _ h)
 
-  end-stateless : stateless (getD tally 0 0) ≡ true → end-in tally ≡ stopped (getD tally 0 0) (getD tally 1 0) no-state
+  pub end-stateless : stateless (getD tally 0 0) ≡ true → end-in tally ≡ stopped (getD tally 0 0) (getD tally 1 0) no-state
   unfolding end-in
   end-stateless h =
       let large = stateless-large (getD tally 0 0) h in
