@@ -237,6 +237,6 @@ pub +put-acting+put-branching+put-from+put-readings+put-sensing-spec : {M : Type
     (λ c κs. (search needs, search acts-there))
     (λ c κs. (search needs, (search acts-small, search needs)))
     (λ c κs. (search sensing-falls, (search needs, (search acts-small, (search followed-position, (search needs, (search action-reads, (search none-held, (search sensing-few, search needs)))))))))
-    (λ c κs. (search needs, (search (item-position, acts-there), (search needs, (search needs, search needs)))))
+    (λ c κs. (search needs, (search item-position, (search needs, (search needs, search needs)))))
     (λ c. search needs)
     (λ c. sensing-put _ _ _ _ (c .before .before .before .before .before .before .before .before .before .before .before .before .before .before .before .before .pre .1 .1 .0) _ (c .before .before .before .before .before .before .before .before .before .before .before .before .before .follow .ensures) _ (c .before .before .before .before .before .before .before .before .before .before .before .before .before .before .before .before .pre .1 .1 .1 .0) (c .before .before .before .before .before .before .before .before .before .before .before .before .before .before .before .before .pre .1 .1 .1 .1 .0) _ (c .before .before .before .before .before .before .before .before .before .before .before .before .first-unknown .ensures) _ _ _ _ _ _ _ (c .before .before .before .before .before .before .before .before .put-readings .ensures) (c .before .before .put-goals .ensures .0) (c .before .before .put-goals .ensures .1))
