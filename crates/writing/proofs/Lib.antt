@@ -5,3 +5,4 @@ pub mod ItemStands
 pub mod EndLaws
 pub mod PlanLaws
 pub mod ProgressLaws
+pub mod LineLaws
