@@ -37,7 +37,8 @@ pub const CITE_SLOTS: usize = 1 + limits::CITATIONS;
 
 pub type Cites = [u16; CITE_SLOTS];
 
-fn number_of(x: u16) -> usize
+// What a slot of the citations holds, as the number that it is.
+pub fn number_of(x: u16) -> usize
     ensures same { λ r. ⌜ r ≡ x ⌝ }
     ensures below { λ r. ⌜ r < 65536 ⌝ }
 {
