@@ -2,15 +2,15 @@
 use Prim.Native.Nat.{ℕ, suc, _+_, _-_, _*_, _%_, _≤_, _<_}
 use native.Mathlib.Omega.{arith}
 use mathlib.Core.Path.{_≡_, refl, sym, _∙_, ap, ap₂}
-use mathlib.Core.List.{List, [], _∷_, _++_}
-use lib.ListN.{length, length-append, getD, take, drop, set, length-set, length-drop}
+use mathlib.Core.List.{List, [], _∷_}
+use lib.ListN.{length, getD, take, drop, set, length-set, length-drop}
 use lib.Seq.{sets, length-sets, length-take-le}
-use mir.Syntax.{w8, w64}
+use mir.Syntax.{w64}
 use mir.Val.{Fits}
 use Rattle.meaning.specs.Limits.{format}
 use Rattle.meaning.specs.Layouts.{number-written, numbers-written}
 use Rattle.writing.specs.Progress.{cited, Cited}
-use Rattle.writing.proofs.StoreLaws.{stores-behind, part-first, part-none}
+use Rattle.steps.proofs.StoreLaws.{part-first, part-none}
 
 pub numbers-length : (ks : List ℕ) → length (numbers-written ks) ≡ 2 * length ks
 unfolding numbers-written number-written

@@ -1,4 +1,3 @@
-pub mod StoreLaws
 pub mod RoomLaws
 pub mod CiteLaws
 pub mod ItemStands

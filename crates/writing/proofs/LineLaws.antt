@@ -1,5 +1,5 @@
 -- A line as it is put, part after part: what is known, a plan, a conclusion and a rule with its citations. Assumes nothing.
-use Prim.Native.Nat.{ℕ, suc, _+_, _-_, _*_, _≤_, _<_}
+use Prim.Native.Nat.{ℕ, suc, _+_, _-_, _≤_, _<_}
 use native.Mathlib.Omega.{arith}
 use mathlib.Core.Path.{_≡_, refl, sym, _∙_, ap, ap₂}
 use mathlib.Core.List.{List, [], _∷_, _++_, append-assoc}
@@ -10,13 +10,13 @@ use mir.Val.{Fits}
 use Rattle.meaning.specs.declared.Layout.the-variants.{Plain}
 use Rattle.meaning.specs.Limits
 use Rattle.meaning.specs.Limits.{format, all-literals}
-use Rattle.meaning.specs.Requests.{Sequence, done, item, act, values}
+use Rattle.meaning.specs.Requests.{Sequence, done, item, act}
 use Rattle.meaning.specs.Reading.{literals}
 use Rattle.meaning.specs.States.{State}
 use Rattle.meaning.specs.Derivations.{Conclusion, knows, literals-of, goals-of}
 use Rattle.meaning.specs.Layouts.{list-written, number-written, numbers-written, items-in, items-written, plan-written, conclusion-written, concluded-written, line-written}
 use Rattle.meaning.specs.Schemes.{line-of}
-use Rattle.meaning.proofs.MovedReads.{stands-length, stands-inside, list-copied}
+use Rattle.meaning.proofs.MovedReads.{stands-length, list-copied}
 use Rattle.meaning.proofs.ReadLines.{placed-values}
 use Rattle.reading.specs.Noted.{goals-slot}
 use Rattle.reading.specs.Listed.{listed, List-here}
@@ -24,7 +24,7 @@ use Rattle.finding.specs.Branches.{sequence-place}
 use Rattle.steps.specs.Held.{table-in, goals-in, whether-in, request-in}
 use Rattle.steps.specs.AtHand.{At-hand}
 use Rattle.steps.proofs.HandLaws.{goals-here, is-whether}
-use Rattle.writing.proofs.StoreLaws.{stores-behind}
+use Rattle.steps.proofs.StoreLaws.{stores-behind}
 use Rattle.writing.proofs.ItemStands.{stands-taken}
 
 -- ONE PART behind another.
