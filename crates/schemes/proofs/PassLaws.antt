@@ -24,7 +24,7 @@ use Rattle.steps.specs.Rests.{rest-at, start}
 use Rattle.steps.proofs.FirstLaws.{rest-first, first-is, at-is}
 use Rattle.writing.specs.Progress.{Standing, over, so-far, add, line-count, byte-count, standing, progress-slots, most-line, Underway}
 use Rattle.writing.proofs.ProgressLaws.{add-within, add-above, stands-over, stands-so-far, over-stands}
-use Rattle.writing.proofs.StoreLaws.{store-before, stores-behind}
+use Rattle.steps.proofs.StoreLaws.{store-before, stores-behind}
 use Rattle.schemes.specs.declared.scheme.Size.{Size}
 use Rattle.schemes.specs.Narrow.{narrow-from, Narrow-from, lines-at}
 use Rattle.schemes.specs.Put.{Put}

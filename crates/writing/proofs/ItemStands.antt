@@ -1,11 +1,10 @@
 -- Each item of a plan that was read stands in the input: its bytes are there from its place on. And each item of what is left of a plan is one of the plan. Assumes nothing.
 use Prim.Native.Nat.{ℕ, suc, _+_}
 use native.Mathlib.Omega.{arith}
-use native.Mathlib.Numerals.{add-one}
 use mathlib.Core.Path.{_≡_, refl, sym, _∙_, ap, ap₂, subst}
 use mathlib.Core.List.{List, [], _∷_, _++_}
 use mathlib.Core.Logic.{inl, inr, ⊎-elim}
-use lib.ListN.{length, length-append, getD, take, drop}
+use lib.ListN.{length, length-append, take, drop}
 use lib.Seq.{drop-cons}
 use borrow.Author.Tests.{eqb-true}
 use Rattle.meaning.specs.Limits

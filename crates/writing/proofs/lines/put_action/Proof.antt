@@ -1,3 +1,7 @@
+-- The parts of the line go behind those that are there, one after another; where there are too many lines, nothing is put.
+use native.Mathlib.Omega.{arith}
+use Rattle.writing.proofs.ProgressLaws.{lines-over, progress-near, line-goes-on, line-added}
+use Rattle.writing.proofs.LineLaws.{action-line}
 use borrow.Author.Needs.{needs}
 use Rattle.writing.proofs.lines.put_action.Statement.{statement}
 use Rattle.writing.proofs.lines.put_action.Tie as tie
@@ -14,7 +18,7 @@ element-copy-out-if1 c = search needs
 
 -- src/lines.rt:125:9
 returns : tie.Need-returns
-returns c = ?
+returns c = (search lines-over, search needs)
 
 -- src/lines.rt:127:13
 element-copy-out-q : tie.Need-element-copy-out-q
@@ -22,19 +26,19 @@ element-copy-out-q c = search needs
 
 -- src/lines.rt:128:9
 put-known-requires : tie.Need-put-known-requires
-put-known-requires c κs = ?
+put-known-requires c κs = (c .before .before .before .before .before .pre .0, (let near = progress-near _ (c .before .before .before .before .before .pre .1 .1) (c .before .before .if1 .left) in omega (arith, near)))
 
 -- src/lines.rt:129:18
 add-action : tie.Need-add-action
-add-action c = ?
+add-action c = let near = progress-near _ (c .before .before .before .before .before .before .before .before .pre .1 .1) (c .before .before .before .before .before .if1 .left) in let plan = c .before .before .put-known .ensures .1 .0 in record { fits = omega (arith, near, plan) }
 
 -- src/lines.rt:130:21
 add-concluded : tie.Need-add-concluded
-add-concluded c = ?
+add-concluded c = let near = progress-near _ (c .before .before .before .before .before .before .before .before .pre .1 .1) (c .before .before .before .before .before .if1 .left) in let plan = c .before .before .put-known .ensures .1 .0 in record { fits = omega (arith, near, plan) }
 
 -- src/lines.rt:131:5
 put-number-requires : tie.Need-put-number-requires
-put-number-requires c κs = ?
+put-number-requires c κs = (search needs, (let near = progress-near _ (c .before .before .before .before .before .before .before .before .before .pre .1 .1) (c .before .before .before .before .before .before .if1 .left) in let plan = c .before .before .before .put-known .ensures .1 .0 in omega (arith, near, plan)))
 
 -- src/lines.rt:132:5
 put-requires : tie.Need-put-requires
@@ -42,7 +46,7 @@ put-requires c κs = search needs
 
 -- src/lines.rt:133:9
 put-uncited-requires : tie.Need-put-uncited-requires
-put-uncited-requires c κs = ?
+put-uncited-requires c κs = (c .before .before .before .before .before .before .before .before .before .before .before .before .before .before .before .before .before .pre .1 .0, (let near = progress-near _ (c .before .before .before .before .before .before .before .before .before .before .before .before .before .before .before .before .before .pre .1 .1) (c .before .before .before .before .before .before .before .before .before .before .before .before .before .before .if1 .left) in let plan = c .before .before .before .before .before .before .before .before .before .before .before .put-known .ensures .1 .0 in omega (arith, near, plan)))
 
 -- src/lines.rt:134:5
 element-copy-out-progress : tie.Need-element-copy-out-progress
@@ -66,7 +70,15 @@ same-length c = search needs
 
 -- src/lines.rt:117:1
 returns-2 : tie.Need-returns-2
-returns-2 c = ?
+returns-2 c = 
+    let underway = c .before .before .before .before .before .before .before .before .before .before .before .before .before .before .before .before .before .before .before .before .before .pre .1 .1 in
+    let few = c .before .before .before .before .before .before .before .before .before .before .before .before .before .before .before .before .before .before .if1 .left in
+    let known = c .before .before .before .before .before .before .before .before .before .before .before .before .before .before .before .put-known .ensures in
+    let rest = c .before .before .before .put-uncited .ensures in
+    let line = action-line _ _ _ _ _ (known .1 .1) (known .0) _ _ _ _ _ _ (c .before .before .before .before .before .before .before .before .before .before .before .put-number .ensures) (c .before .before .before .before .before .before .before .put .ensures) (rest .1 .1) (rest .0) in
+    let plan = known .1 .0 in
+    let end = rest .1 .0 in
+    (line-added _ underway few _ _ _ _ (line .put) (line .ends), line-goes-on _ underway few _ (omega (arith, plan, end)))
 
 pub put-action-spec : {M : Type 1} → statement M
 put-action-spec =

@@ -1,3 +1,5 @@
+-- The goals stand in the request as a conclusion does in a line.
+use Rattle.writing.proofs.LineLaws.{goals-there, goals-order, goals-inside, goals-fit, goals-within, goals-end, goals-put}
 use borrow.Author.Needs.{needs}
 use Rattle.writing.proofs.lines.put_asked.Statement.{statement}
 use Rattle.writing.proofs.lines.put_asked.Tie as tie
@@ -13,19 +15,19 @@ get-requires c κs = search needs
 
 -- src/lines.rt:92:9
 sequence-of-requires : tie.Need-sequence-of-requires
-sequence-of-requires c κs = ?
+sequence-of-requires c κs = search goals-there
 
 -- src/lines.rt:93:5
 put-part-requires : tie.Need-put-part-requires
-put-part-requires c κs = ?
+put-part-requires c κs = (search goals-order, (search goals-inside, search needs))
 
 -- src/lines.rt:94:10
 sub-result : tie.Need-sub-result
-sub-result c = ?
+sub-result c = search goals-order
 
 -- src/lines.rt:94:5
 add-result : tie.Need-add-result
-add-result c = ?
+add-result c = search goals-fit
 
 -- src/lines.rt:84:1
 same-length : tie.Need-same-length
@@ -33,7 +35,7 @@ same-length c = search needs
 
 -- src/lines.rt:84:1
 returns : tie.Need-returns
-returns c = ?
+returns c = (search goals-end, (search goals-within, search goals-put))
 
 pub put-asked-spec : {M : Type 1} → statement M
 put-asked-spec =

@@ -1,6 +1,6 @@
 -- A turn puts one citation in two bytes; what is left then makes of the room what the whole makes of it.
 use Prim.Native.Nat.{_-_}
-use Rattle.writing.proofs.CiteLaws.{Citing, citing-starts, cite-there, cite-near, cite-passed, citing-next, cites-end, cites-within, cites-put}
+use Rattle.writing.proofs.CiteLaws.{Citing, citing-starts, cite-there, cite-near, cite-passed, citing-next, cites-end, cites-within, cites-put, cites-sized}
 use borrow.Author.Needs.{needs}
 use Rattle.writing.proofs.lines.put_cites.Statement.{statement}
 use Rattle.writing.proofs.lines.put_cites.Tie as tie
@@ -70,15 +70,15 @@ loop-less c = search needs
 
 -- src/lines.rt:59:5
 loop-again : tie.Need-loop-again Inv-loop μ-loop
-loop-again c = search citing-next
+loop-again c = citing-next _ _ _ _ _ _ _ (c .before .before .before .before .before .before .before .loop .inv) (c .before .before .before .before .before .before .loop-test .taken) _ (c .before .before .before .before .number-of2 .ensures .0) _ (c .before .before .put-number .ensures)
 
 -- src/lines.rt:48:1
 same-length : tie.Need-same-length Inv-loop μ-loop
-same-length c = search needs
+same-length c = search cites-sized
 
 -- src/lines.rt:48:1
 returns : tie.Need-returns Inv-loop μ-loop
-returns c = search (cites-end, cites-within, cites-put)
+returns c = (search cites-end, (search cites-within, search cites-put))
 
 pub put-cites-spec : {M : Type 1} → statement M
 put-cites-spec =

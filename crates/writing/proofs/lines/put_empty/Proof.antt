@@ -1,3 +1,7 @@
+-- The parts of the line go behind those that are there, one after another; where there are too many lines, nothing is put.
+use native.Mathlib.Omega.{arith}
+use Rattle.writing.proofs.ProgressLaws.{lines-over, progress-near, line-goes-on, line-added}
+use Rattle.writing.proofs.LineLaws.{empty-line}
 use borrow.Author.Needs.{needs}
 use Rattle.writing.proofs.lines.put_empty.Statement.{statement}
 use Rattle.writing.proofs.lines.put_empty.Tie as tie
@@ -13,7 +17,7 @@ element-copy-out-if1 c = search needs
 
 -- src/lines.rt:105:9
 returns : tie.Need-returns
-returns c = ?
+returns c = (search lines-over, search needs)
 
 -- src/lines.rt:107:13
 element-copy-out-q : tie.Need-element-copy-out-q
@@ -21,19 +25,19 @@ element-copy-out-q c = search needs
 
 -- src/lines.rt:108:9
 put-known-requires : tie.Need-put-known-requires
-put-known-requires c κs = ?
+put-known-requires c κs = (c .before .before .before .before .before .pre .0, (let near = progress-near _ (c .before .before .before .before .before .pre .1) (c .before .before .if1 .left) in omega (arith, near)))
 
 -- src/lines.rt:109:21
 add-concluded : tie.Need-add-concluded
-add-concluded c = ?
+add-concluded c = let near = progress-near _ (c .before .before .before .before .before .before .before .before .pre .1) (c .before .before .before .before .before .if1 .left) in let plan = c .before .before .put-known .ensures .1 .0 in record { fits = omega (arith, near, plan) }
 
 -- src/lines.rt:110:5
 put-number-requires : tie.Need-put-number-requires
-put-number-requires c κs = ?
+put-number-requires c κs = (search needs, (let near = progress-near _ (c .before .before .before .before .before .before .before .before .before .pre .1) (c .before .before .before .before .before .before .if1 .left) in let plan = c .before .before .before .put-known .ensures .1 .0 in omega (arith, near, plan)))
 
 -- src/lines.rt:111:9
 put-uncited-requires : tie.Need-put-uncited-requires
-put-uncited-requires c κs = ?
+put-uncited-requires c κs = (c .before .before .before .before .before .before .before .before .before .before .before .before .before .pre .0, (let near = progress-near _ (c .before .before .before .before .before .before .before .before .before .before .before .before .before .pre .1) (c .before .before .before .before .before .before .before .before .before .before .if1 .left) in let plan = c .before .before .before .before .before .before .before .put-known .ensures .1 .0 in omega (arith, near, plan)))
 
 -- src/lines.rt:112:5
 element-copy-out-progress : tie.Need-element-copy-out-progress
@@ -57,7 +61,15 @@ same-length c = search needs
 
 -- src/lines.rt:98:1
 returns-2 : tie.Need-returns-2
-returns-2 c = ?
+returns-2 c = 
+    let underway = c .before .before .before .before .before .before .before .before .before .before .before .before .before .before .before .before .before .pre .1 in
+    let few = c .before .before .before .before .before .before .before .before .before .before .before .before .before .before .if1 .left in
+    let known = c .before .before .before .before .before .before .before .before .before .before .before .put-known .ensures in
+    let rest = c .before .before .before .put-uncited .ensures in
+    let line = empty-line _ _ _ _ _ (known .1 .1) (known .0) _ _ _ (c .before .before .before .before .before .before .before .put-number .ensures) (rest .1 .1) (rest .0) in
+    let plan = known .1 .0 in
+    let end = rest .1 .0 in
+    (line-added _ underway few _ _ _ _ (line .put) (line .ends), line-goes-on _ underway few _ (omega (arith, plan, end)))
 
 pub put-empty-spec : {M : Type 1} → statement M
 put-empty-spec =

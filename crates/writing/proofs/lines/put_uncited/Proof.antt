@@ -1,3 +1,5 @@
+-- What is known, and behind it two bytes.
+use Rattle.writing.proofs.LineLaws.{uncited-ends, uncited-put}
 use borrow.Author.Needs.{needs}
 use Rattle.writing.proofs.lines.put_uncited.Statement.{statement}
 use Rattle.writing.proofs.lines.put_uncited.Tie as tie
@@ -32,7 +34,7 @@ same-length c = search needs
 
 -- src/lines.rt:69:1
 returns : tie.Need-returns
-returns c = ?
+returns c = (search uncited-ends, (search needs, search uncited-put))
 
 pub put-uncited-spec : {M : Type 1} → statement M
 put-uncited-spec =
