@@ -54,6 +54,10 @@ module _ (progress room progress₁ room₁ progress₂ room₂ : List ℕ) wher
   }
 
 -- WHERE NOTHING IS LEFT.
+-- The first of the two lines was put.
+pub end-some : (marks : State) (progress room progress₁ room₁ : List ℕ) → standing progress₁ room₁ ≡ add (standing progress room) (line-of marks done (knows (literals-of marks)) Limits.empty-rule [] ∷ []) → 0 < line-count progress₁
+end-some marks progress room progress₁ room₁ puts = some-added progress room (line-of marks done (knows (literals-of marks)) Limits.empty-rule [] ∷ []) progress₁ room₁ puts (omega arith)
+
 module _ (s t : List ℕ) (here : At-hand s t) where
   end-left : rest-at (plan-in s t) (format .items) ≡ done
   unfolding rest-at
@@ -66,10 +70,6 @@ module _ (s t : List ℕ) (here : At-hand s t) where
       ≡ line-of marks done (knows (literals-of marks)) Limits.empty-rule [] ∷ line-of marks (rest-at (plan-in s t) (format .items)) (goals-of (request-in s t)) Limits.consequence-rule (n ∷ []) ∷ []
   unfolding lines-at lines-from lines empty-lines goals-of
   end-lines marks n = rw end-left
-
-  -- A line was put.
-  pub end-some : (marks : State) (progress room progress₁ room₁ : List ℕ) → standing progress₁ room₁ ≡ add (standing progress room) (line-of marks done (knows (literals-of marks)) Limits.empty-rule [] ∷ []) → 0 < line-count progress₁
-  end-some marks progress room progress₁ room₁ puts = some-added progress room (line-of marks done (knows (literals-of marks)) Limits.empty-rule [] ∷ []) progress₁ room₁ puts (omega arith)
 
   pub end-put : (marks : State) (progress room progress₁ room₁ progress₂ room₂ : List ℕ)
       → standing progress₁ room₁ ≡ add (standing progress room) (line-of marks done (knows (literals-of marks)) Limits.empty-rule [] ∷ [])

@@ -5,6 +5,7 @@ ghost use mathlib.Core.Bool.{true, false};
 ghost use mathlib.Core.List.{[], _∷_, _++_};
 ghost use Prim.Native.Nat.{_+_, _-_, _^_, _≤_, _<_};
 ghost use lib.ListN.{length, getD, drop};
+ghost use Rattle.meaning.specs.Limits;
 ghost use Rattle.meaning.specs.Limits.{format};
 ghost use Rattle.meaning.specs.Lines.{sensing};
 ghost use Rattle.meaning.specs.Derivations.{goals-of};
@@ -114,7 +115,7 @@ fn put_composed(
     requires { ⌜ first < 65536 ⌝ }
     requires { ⌜ Underway (now progress) ⌝ }
     requires { ⌜ 0 < line-count (now progress) ⌝ }
-    ensures { λ _. ⌜ Put (line-of (now (marks .entry)) (rest-at (plan-in (now (s .entry)) (now (t .entry))) at) (goals-of (request-in (now (s .entry)) (now (t .entry)))) 5 (first ∷ (line-count (now (progress .entry)) - 1) ∷ []) ∷ []) (now (progress .entry)) (now (room .entry)) (now (progress .exit)) (now (room .exit)) ⌝ }
+    ensures { λ _. ⌜ Put (line-of (now (marks .entry)) (rest-at (plan-in (now (s .entry)) (now (t .entry))) at) (goals-of (request-in (now (s .entry)) (now (t .entry)))) Limits.composition-rule (first ∷ (line-count (now (progress .entry)) - 1) ∷ []) ∷ []) (now (progress .entry)) (now (room .entry)) (now (progress .exit)) (now (room .exit)) ⌝ }
 {
     let mut cites = [0u16; CITE_SLOTS];
     let last = progress[0] - 1;
@@ -133,7 +134,7 @@ fn put_composed(
 }
 
 // The plan from a position on.
-pub fn put_from(
+fn put_from(
     s: &[u8],
     t: &Notes,
     at: usize,

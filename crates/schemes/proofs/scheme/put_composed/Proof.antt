@@ -8,31 +8,31 @@ use Rattle.schemes.proofs.scheme.put_composed.Lts as lts
 use Rattle.schemes.proofs.scheme.cite.Reads as cite-reads
 use Rattle.writing.proofs.lines.put_goals.Reads as put-goals-reads
 
--- src/scheme.rt:106:16
+-- src/scheme.rt:121:16
 element-copy-out-last : tie.Need-element-copy-out-last
 element-copy-out-last c = search needs
 
--- src/scheme.rt:106:16
+-- src/scheme.rt:121:16
 sub-last : tie.Need-sub-last
 sub-last c = search line-there
 
--- src/scheme.rt:107:5
+-- src/scheme.rt:122:5
 cite-requires : tie.Need-cite-requires
 cite-requires c κs = (search none-held, (search needs, search needs))
 
--- src/scheme.rt:108:5
+-- src/scheme.rt:123:5
 cite-requires-2 : tie.Need-cite-requires-2
 cite-requires-2 c κs = (search still-held, (search one-more-fits, search last-near))
 
--- src/scheme.rt:109:5
+-- src/scheme.rt:124:5
 put-goals-requires : tie.Need-put-goals-requires
 put-goals-requires c κs = (search needs, (search needs, (search needs, (search still-held, search needs))))
 
--- src/scheme.rt:88:1
+-- src/scheme.rt:103:1
 same-length : tie.Need-same-length
 same-length c = search needs
 
--- src/scheme.rt:88:1
+-- src/scheme.rt:103:1
 returns : tie.Need-returns
 returns c = search composed-put
 

@@ -8,19 +8,19 @@ use Rattle.schemes.proofs.scheme.put_end.Lts as lts
 use Rattle.schemes.proofs.scheme.put_next.Reads as put-next-reads
 use Rattle.writing.proofs.lines.put_empty.Reads as put-empty-reads
 
--- src/scheme.rt:83:5
+-- src/scheme.rt:90:5
 put-empty-requires : tie.Need-put-empty-requires
 put-empty-requires c κs = search needs
 
--- src/scheme.rt:84:5
+-- src/scheme.rt:91:5
 put-next-requires : tie.Need-put-next-requires
 put-next-requires c κs = (search needs, (search end-position, (search needs, (search needs, search end-some))))
 
--- src/scheme.rt:77:1
+-- src/scheme.rt:84:1
 same-length : tie.Need-same-length
 same-length c = search needs
 
--- src/scheme.rt:77:1
+-- src/scheme.rt:84:1
 returns : tie.Need-returns
 returns c = search end-put
 

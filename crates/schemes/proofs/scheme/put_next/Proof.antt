@@ -8,27 +8,27 @@ use Rattle.schemes.proofs.scheme.put_next.Lts as lts
 use Rattle.schemes.proofs.scheme.cite.Reads as cite-reads
 use Rattle.writing.proofs.lines.put_goals.Reads as put-goals-reads
 
--- src/scheme.rt:71:16
+-- src/scheme.rt:78:20
 element-copy-out-previous : tie.Need-element-copy-out-previous
 element-copy-out-previous c = search needs
 
--- src/scheme.rt:71:16
+-- src/scheme.rt:78:20
 sub-previous : tie.Need-sub-previous
 sub-previous c = search line-there
 
--- src/scheme.rt:72:5
+-- src/scheme.rt:79:5
 cite-requires : tie.Need-cite-requires
 cite-requires c κs = (search none-held, (search needs, search last-near))
 
--- src/scheme.rt:73:5
+-- src/scheme.rt:80:5
 put-goals-requires : tie.Need-put-goals-requires
 put-goals-requires c κs = (search needs, (search needs, (search needs, (search still-held, search needs))))
 
--- src/scheme.rt:54:1
+-- src/scheme.rt:61:1
 same-length : tie.Need-same-length
 same-length c = search needs
 
--- src/scheme.rt:54:1
+-- src/scheme.rt:61:1
 returns : tie.Need-returns
 returns c = search next-put
 

@@ -5,11 +5,11 @@ use Rattle.steps.proofs.onward.start_of.Tie as tie
 use Rattle.steps.proofs.onward.start_of.Reads as reads
 use Rattle.steps.proofs.onward.start_of.Lts as lts
 
--- src/onward.rt:26:1
+-- src/onward.rt:25:1
 returns : tie.Need-returns
 returns c = search start-end
 
--- src/onward.rt:26:1
+-- src/onward.rt:25:1
 returns-2 : tie.Need-returns-2
 returns-2 c = search start-first
 
