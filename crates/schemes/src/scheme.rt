@@ -134,14 +134,7 @@ fn put_composed(
 }
 
 // The plan from a position on.
-fn put_from(
-    s: &[u8],
-    t: &Notes,
-    at: usize,
-    marks: &Marks,
-    room: &mut [u8],
-    progress: &mut Progress,
-)
+fn put_from(s: &[u8], t: &Notes, at: usize, marks: &Marks, room: &mut [u8], progress: &mut Progress)
     requires { ⌜ At-hand (now s) (now t) ⌝ }
     requires { ⌜ Position (plan-in (now s) (now t)) at ⌝ }
     requires { ⌜ Marked (now marks) ⌝ }
