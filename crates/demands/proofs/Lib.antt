@@ -21,6 +21,7 @@ pub mod DepthBound
 pub mod DepthMet
 pub mod GuardedMet
 pub mod LayoutLaws
+pub mod Readable
 pub mod DerivationSound
 pub mod LongCases
 pub mod WideCases
