@@ -22,6 +22,7 @@ pub mod DepthMet
 pub mod GuardedMet
 pub mod LayoutLaws
 pub mod Readable
+pub mod SchemeReadable
 pub mod DerivationSound
 pub mod LongCases
 pub mod WideCases
