@@ -23,6 +23,7 @@ pub mod GuardedMet
 pub mod LayoutLaws
 pub mod Readable
 pub mod SchemeReadable
+pub mod SchemeAccepted
 pub mod DerivationSound
 pub mod LongCases
 pub mod WideCases

@@ -325,8 +325,7 @@ module _ (lim : Limits) (n m : ℕ) (s : List ℕ) where
     a-branch = λ deep left p met c q b r rest e read body one more few.
         let v = one few in
         let w = more (v .1 .most) in
-        let f = v .1 .counted in let g = w .1 .counted in
-        (
+        let f = v .1 .counted in let g = w .1 .counted in (
           (record { order = list-in-order literals n (lim .body) s p c q read; few = list-few literals n (lim .body) s p c q read }, v .0, w .0),
           record { counted = omega arith; most = w .1 .most },
           ap suc (w .2),

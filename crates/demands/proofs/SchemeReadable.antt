@@ -128,7 +128,7 @@ module _ (lim : Limits) (t : Table) (ranged : Ranged lim t) (most : ℕ) where
   }
 
 -- WHAT IS LEFT of a plan can be read, and 18 finds nothing in it.
-nowhere-both : (f : Found) (k : Unit {0} → Found) → f ≡ nowhere → k tt ≡ nowhere → or-else f k ≡ nowhere
+pub nowhere-both : (f : Found) (k : Unit {0} → Found) → f ≡ nowhere → k tt ≡ nowhere → or-else f k ≡ nowhere
 unfolding or-else
 nowhere-both nowhere k e h = h
 nowhere-both (at p) k e h = e
