@@ -1,19 +1,19 @@
 -- What can be read: lists of literals, plans and lines that pass each test of reading, wherever they are written. What was read is so, it stays so of the rest of a plan and of
 -- plans that are joined, and what is so is read as it is written, its places aside, and is written in bytes. Assumes nothing.
-use Prim.Native.Nat.{ℕ, zero, suc, _+_, _*_, _/_, _%_, _≤_, _<_}
+use Prim.Native.Nat.{ℕ, zero, suc, _+_, _*_, _≤_, _<_}
 use native.Mathlib.Omega.{arith}
-use mathlib.Core.Path.{_≡_, refl, sym, _∙_, ap, ap₂, subst}
+use mathlib.Core.Path.{_≡_, refl, _∙_, ap, ap₂}
 use mathlib.Core.Bool.{false}
 use mathlib.Core.List.{List, [], _∷_, _++_}
 use lib.ListN.{length}
-use lib.Dec.{leb, ltb, eqb}
+use lib.Dec.{ltb}
 use borrow.Author.Tests.{leb-false, lt-leb, le-ltb, ne-eqb, eq-eqb}
 use Rattle.meaning.specs.declared.Layout.the-variants.{Plain}
 use Rattle.meaning.specs.Tests.{either, Each}
 use Rattle.meaning.specs.Limits
 use Rattle.meaning.specs.Limits.{Limits, format}
 use Rattle.meaning.specs.Requests.{Sequence, done, item, Item, act, branching, Branches, none, branch, unplaced, unplaced-item, unplaced-branches}
-use Rattle.meaning.specs.Reading.{Got, got, literals, bound-of, byte-at, two-bytes-at, count-at, list-at, body-at, repeated, Met, Part, item-at, items-at, sequence-at, branches-at, branching-at, plan-at}
+use Rattle.meaning.specs.Reading.{Got, got, literals, bound-of, count-at, list-at, body-at, repeated, Met, Part, item-at, items-at, sequence-at, branches-at, branching-at, plan-at}
 use Rattle.meaning.specs.Layouts.{Bytes, list-written, number-written, numbers-written, items-in, branches-in, items-written, item-written, branches-written, plan-written, conclusion-written, concluded-written, line-written, lines-written, closing-written, written}
 use Rattle.meaning.specs.Derivations.{Conclusion, knows, knows-whether, Line, Derivation, join, list-concluded, concluded-at, closing-at, line-at, read-derivation}
 use Rattle.meaning.proofs.TestLaws.{pick-true, pick-false}

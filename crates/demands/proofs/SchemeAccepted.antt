@@ -2,7 +2,7 @@
 -- their plans, and no rule asks where they stand. Assumes nothing.
 use Prim.Native.Nat.{ℕ, _+_, _≤_, _<_}
 use native.Mathlib.Omega.{arith}
-use mathlib.Core.Path.{_≡_, refl, sym, _∙_, ap, subst}
+use mathlib.Core.Path.{_≡_, refl, sym, _∙_, subst}
 use mathlib.Core.Bool.{true}
 use mathlib.Core.List.{List, [], _∷_}
 use lib.ListN.{length}
@@ -14,9 +14,9 @@ use Rattle.meaning.specs.Limits
 use Rattle.meaning.specs.Limits.{Limits, format}
 use Rattle.meaning.specs.Literals.{among}
 use Rattle.meaning.specs.Requests.{Table, Request, values}
-use Rattle.meaning.specs.Reading.{got, fluents, literals, list-at, plan-at, table-at, placed, request-at, read-request}
+use Rattle.meaning.specs.Reading.{got, fluents, literals, list-at, plan-at, table-at, request-at, read-request}
 use Rattle.meaning.specs.Refusals.{nowhere, settled, overlap-in}
-use Rattle.meaning.specs.Derivations.{Line, Derivation, overlap-in-lines, citations-taken, citations-of, a-rule, check}
+use Rattle.meaning.specs.Derivations.{Line, overlap-in-lines, citations-taken, citations-of, a-rule, check}
 use Rattle.meaning.specs.Layouts.{Bytes}
 use Rattle.meaning.specs.Schemes
 use Rattle.meaning.specs.Schemes.{derivation-of}
@@ -32,7 +32,7 @@ use Rattle.meaning.proofs.Passed.{All-pass, Last-passes, passed-exactly}
 use Rattle.demands.proofs.MovedLines.{Rewritten}
 use Rattle.demands.proofs.LayoutLaws.{follow-plain, follow-carried, last-named, last-alike}
 use Rattle.demands.proofs.Readable.{List-fits, Plan-fits, Line-fits, plan-fits, list-fits, derivation-again, derivation-bytes}
-use Rattle.demands.proofs.SchemeReadable.{Left, Sayable, nowhere-both, derivation-says}
+use Rattle.demands.proofs.SchemeReadable.{Sayable, nowhere-both, derivation-says}
 
 -- WHAT WAS READ of a request: its plan and its goals can be read.
 abbrev Asked-fits : Limits → Request → Type 0

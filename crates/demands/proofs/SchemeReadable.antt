@@ -1,16 +1,16 @@
 -- Every line of the scheme can be read, and 18 finds nothing in its plan: a state that the walk comes to knows nothing but literals of the request's fluents, what is left of
 -- the plan has no more items than the plan, each of them a part of it, and Y is the goals. By induction on the plan with what the rest writes. Assumes nothing.
-use Prim.Native.Nat.{ℕ, zero, suc, _+_, _-_, _*_, _/_, _%_, _≤_, _<_}
+use Prim.Native.Nat.{ℕ, suc, _+_, _-_, _*_, _/_, _%_, _≤_, _<_}
 use native.Mathlib.Omega.{arith}
 use native.Mathlib.Decide.{ℕ-discrete, decLt}
-use mathlib.Core.Path.{_≡_, refl, sym, _∙_, ap, subst}
-use mathlib.Core.Bool.{Bool, true, false}
+use mathlib.Core.Path.{_≡_, refl, sym, _∙_, subst}
+use mathlib.Core.Bool.{true, false}
 use mathlib.Core.List.{List, [], _∷_, _++_}
 use mathlib.Core.Logic.{inl, inr, ⊎-elim}
 use lib.ListN.{length, length-set}
 use lib.Dec.{ltb, eqb}
 use borrow.Author.Tests.{ltb-true, le-ltb, lt-leb, eqb-true, eqb-false}
-use Rattle.meaning.specs.Tests.{both, either, each-of, Each, Has}
+use Rattle.meaning.specs.Tests.{both, each-of, Each, Has}
 use Rattle.meaning.specs.Limits.{Limits}
 use Rattle.meaning.specs.Literals.{says-true, says-false, fluent-of, complement}
 use Rattle.meaning.specs.Requests.{Table, Sequence, done, item, Item, act, branching, Branches, none, branch, Request, values}
@@ -19,7 +19,7 @@ use Rattle.meaning.specs.Reading.{literals, bound-of, have-complements}
 use Rattle.meaning.specs.Refusals.{Found, nowhere, at, or-else, overlap-in, overlap-at, overlap-below}
 use Rattle.meaning.specs.States.{State, known, told, known-after, state-after, unknown-sensed, Outcome, single, fork, readings, first-state}
 use Rattle.meaning.specs.Derivations.{Conclusion, knows, Line, join, known-from, literals-of, goals-of}
-use Rattle.meaning.specs.Schemes.{Writes, line-of, empty-lines, and-cites, Read-lines, one-read, both-read, then-read, read-lines, sensing-lines, acting-lines, action-lines, branching-lines, lines, item-lines, branch-lines, lines-from, derivation-of}
+use Rattle.meaning.specs.Schemes.{Writes, line-of, empty-lines, and-cites, one-read, both-read, then-read, read-lines, sensing-lines, acting-lines, action-lines, branching-lines, lines, item-lines, branch-lines, lines-from, derivation-of}
 use Rattle.meaning.proofs.TestLaws.{by-test, clash, both-left, both-right, either-split, pick-cases}
 use Rattle.meaning.proofs.PickLaws.{pick-has}
 use Rattle.meaning.proofs.LiteralLaws.{complement-even, complement-odd, fluent-true, fluent-false, among-has}
@@ -33,7 +33,7 @@ use Rattle.meaning.proofs.SensingLaws.{sensed-within, read-is}
 use Rattle.meaning.proofs.KeptEnds.{Outcome-has}
 use Rattle.meaning.proofs.ListReads.{In-order}
 use Rattle.meaning.proofs.SchemeLaws.{join-done}
-use Rattle.demands.proofs.Readable.{all-items, all-below, all-joined, List-fits, Items-fit, Item-fits, Branches-fit, Plan-fits, branches-out, items-joined, Conclusion-fits, Saying-fits}
+use Rattle.demands.proofs.Readable.{all-items, all-below, all-joined, List-fits, Items-fit, Branches-fit, Plan-fits, branches-out, items-joined, Conclusion-fits, Saying-fits}
 
 -- STATES over n fluents: of no other fluent anything is known.
 pub record State-fits (n most : ℕ) (s : State) : Type 0 where
