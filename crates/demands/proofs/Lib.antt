@@ -1,3 +1,4 @@
+pub mod ListedStates
 pub mod ShiftedReads
 pub mod MovedWalk
 pub mod CompleteLaws
