@@ -1,4 +1,5 @@
 pub mod ListedStates
+pub mod SchemeRules
 pub mod ShiftedReads
 pub mod MovedWalk
 pub mod CompleteLaws
