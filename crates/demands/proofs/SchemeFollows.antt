@@ -13,19 +13,28 @@ use Rattle.meaning.specs.Tests.{both, each-of}
 use Rattle.meaning.specs.Limits
 use Rattle.meaning.specs.Limits.{format}
 use Rattle.meaning.specs.Literals.{says-true, says-false}
-use Rattle.meaning.specs.Requests.{Table, Sequence, done, item, Item, act, branching, Branches, none, branch}
+use Rattle.meaning.specs.Requests.{Table, Sequence, done, item, Item, act, branching, Branches, none, branch, Request, values}
+use Rattle.meaning.specs.Reading.{got}
+use Rattle.meaning.specs.Refusals.{settled}
 use Rattle.meaning.specs.Lines.{sensing}
-use Rattle.meaning.specs.States.{State, known, told, can-be-run, state-after, unknown-sensed, Outcome, readings, outcome}
-use Rattle.meaning.specs.Walk.{Concerned, End, fine, missed, stopped, Walked, stopped-at, counted, each-reading, Step, leads-to, after-step, run-action, walk, walk-item, walk-branch, table-does}
-use Rattle.meaning.specs.Derivations.{Conclusion, Line, join, included, literals-of, says, states-of, takes-branch, each-reads}
-use Rattle.meaning.specs.Schemes.{line-of, Writes, and-cites, Read-lines, one-read, both-read, then-read, read-lines, sensing-lines, acting-lines, action-lines, branching-lines, lines, item-lines, branch-lines, too-wide, narrow-does, narrow-step}
+use Rattle.meaning.specs.States.{State, known, known-whether, told, first-state, can-be-run, state-after, unknown-sensed, Outcome, readings, outcome}
+use Rattle.meaning.specs.Walk.{Concerned, End, fine, missed, stopped, Walked, stopped-at, counted, each-reading, Step, leads-to, after-step, run-action, walk, walk-item, walk-branch, table-does, judged}
+use Rattle.meaning.specs.Derivations.{Conclusion, knows, Line, join, included, literals-of, says, states-of, takes-branch, each-reads, goals-of}
+use Rattle.meaning.specs.Schemes.{line-of, Writes, empty-lines, and-cites, Read-lines, one-read, both-read, then-read, read-lines, sensing-lines, acting-lines, action-lines, branching-lines, lines, item-lines, branch-lines, lines-from, derivation-of, too-wide, narrow-does, narrow-step, walked-narrow, narrow-walk-of}
 use Rattle.meaning.proofs.TestLaws.{both-left, both-right, both-true, either-left, either-right, pick-true, pick-false, each-mono, each-append}
 use Rattle.meaning.proofs.PickLaws.{pick-has, has-picked}
-use Rattle.meaning.proofs.SetLaws.{same-list-self, literals-among}
+use Rattle.meaning.proofs.SettledLaws.{settled-is}
+use Rattle.meaning.proofs.RangeLaws.{read-ranged}
+use Rattle.meaning.proofs.SetLaws.{Ascending, same-list-self, literals-among}
+use Rattle.meaning.proofs.RulesExact.{Conclusion-ascends}
+use Rattle.meaning.proofs.ReadLines.{question-ascends}
+use Rattle.meaning.proofs.SchemeLaws.{join-done}
+use Rattle.meaning.proofs.ExactEnds.{met}
 use Rattle.meaning.proofs.Sound.{then-verified}
 use Rattle.demands.proofs.MoreKnown.{Fine}
-use Rattle.demands.proofs.ListedStates.{Marked, told-marked, after-marked}
-use Rattle.demands.proofs.SchemeRules.{plan-self, conclusion-same-self, Stands, stands-left, stands-right, Rules-for, Right, All-right, right-append, action-right, composed-right, branched-right, sensed-right}
+use Rattle.demands.proofs.PartsAlike.{ended-fine}
+use Rattle.demands.proofs.ListedStates.{Marked, told-marked, state-marked, after-marked, literals-of-state}
+use Rattle.demands.proofs.SchemeRules.{plan-self, conclusion-same-self, Stands, stands-left, stands-right, Rules-for, Right, All-right, right-append, empty-right, less-right, action-right, composed-right, branched-right, sensed-right}
 
 -- A line says what it was made of.
 pub line-says : (s : State) (c : Sequence ℕ) (Y : Conclusion) (rule : ℕ) (cites : List ℕ) → says (line-of s c Y rule cites) (literals-of s) c Y ≡ true
@@ -49,6 +58,11 @@ block-of layout t all n ls l X c Y stands rights right said =
       right = right-append layout t all n ls (l ∷ []) rights (right, tt);
       last = λ d. subst (λ (i : ℕ). says (getD all i d) X c Y ≡ true) place (subst (λ (k : Line). says k X c Y ≡ true) (sym (stands-right all n ls (l ∷ []) stands .0 d)) said);
     }
+
+-- What a state knows is within the list of it.
+listed-within : (s : State) (Z : List ℕ) → each-of (known s) Z ≡ true → included Z (literals-of s) ≡ true
+unfolding included
+listed-within s Z = each-mono _ _ (λ l e. literals-among s l ∙ e) Z
 
 -- A walk that stops is not verified.
 stop-not-fine : {n p : ℕ} {u : Concerned State} → stopped n p u ≡ fine → ⊥
@@ -148,11 +162,7 @@ module _ (layout : Layout) (t : Table) (all : List Line) (Y : Conclusion) (rules
         has-picked (λ (x : Step State). after-step p x w .end ≡ fine) (too-wide t a s) _ _ e (λ _ q. absurd (stop-not-fine q)) λ narrow e′.
         has-picked (λ (x : Step State). after-step p x w .end ≡ fine) (can-be-run t a s) _ _ e′ (λ runs q. led-good p a s marked runs n narrow q) (λ _ q. absurd (stop-not-fine q))
 
-  -- BRANCHINGS. A condition that is known is within what the state knows.
-  condition-within : (s : State) (φ : List ℕ) → each-of (known s) φ ≡ true → included φ (literals-of s) ≡ true
-  unfolding included
-  condition-within s φ = each-mono _ _ (λ l e. literals-among s l ∙ e) φ
-
+  -- BRANCHINGS.
   branching-good : (p : ℕ) (bs : Branches ℕ) (rest : Sequence ℕ) (s : State) → Marked format s → (n : ℕ) (b : Sequence ℕ) (ls : List Line)
       → ((l : Line) → says l (literals-of s) (join b rest) Y ≡ true → takes-branch (literals-of s) bs rest Y l ≡ true)
       → Holds n ls (literals-of s) (join b rest) → Holds n (branching-lines t Y s (item (branching p bs) rest) n ls) (literals-of s) (item (branching p bs) rest)
@@ -184,6 +194,55 @@ module _ (layout : Layout) (t : Table) (all : List Line) (Y : Conclusion) (rules
     branches-good p bs (branch φ b left) rest w k good s marked among e n =
         has-picked (λ (v : Walked State). v .end ≡ fine) (each-of (known s) φ) _ _ e
         (λ chosen q. subst (λ (ls : List Line). Holds n ls (literals-of s) (item (branching p bs) rest)) (sym (pick-true _ _ _ chosen))
-        (branching-good p bs rest s marked n b (lines t Y b rest k s n) (λ l h. among l (either-left _ _ (both-true _ _ (condition-within s φ chosen) h))) (plan-good b rest w k good s marked q n)))
+        (branching-good p bs rest s marked n b (lines t Y b rest k s n) (λ l h. among l (either-left _ _ (both-true _ _ (listed-within s φ chosen) h))) (plan-good b rest w k good s marked q n)))
         (λ other q. subst (λ (ls : List Line). Holds n ls (literals-of s) (item (branching p bs) rest)) (sym (pick-false _ _ _ other))
         (branches-good p bs left rest w k good s marked (λ l h. among l (either-right _ _ h)) q n))
+
+-- THE ENDS. Where a state is judged fine, every goal is known and every whether fluent is known whether.
+pub asked-known : (r : Request) (s : State) → judged r s .end ≡ fine → (each-of (known s) (values (r .goals)) ≡ true) × (each-of (known-whether s) (values (r .whether)) ≡ true)
+unfolding judged
+asked-known r s e = met r s .0 (ended-fine _ s e)
+
+module _ (layout : Layout) (t : Table) (all : List Line) where
+  -- The empty plan, for a list that is known: rule 1 and rule 6.
+  pub empty-block : (Z : List ℕ) → Ascending 0 Z → (s : State) → Marked format s → each-of (known s) Z ≡ true → (n : ℕ) → Stands all n (empty-lines Z s n)
+      → Block layout t all n (empty-lines Z s n) (literals-of s) done (knows Z)
+  unfolding empty-lines
+  empty-block Z up s marked holds n stands =
+      block-of layout t all n (_ ∷ []) _ (literals-of s) done (knows Z) stands (empty-right layout t all s marked n, tt)
+      (less-right layout t all s marked n Z up (listed-within s Z holds) (stands .0)) (line-says s done (knows Z) Limits.consequence-rule (n ∷ []))
+
+-- THE DERIVATION OF A REQUEST that is settled, and whose walk is verified and meets no sensing action that is too wide.
+module _ (request : List ℕ) (r : Request) (e : ℕ) (past : settled format request ≡ got r e) where
+  pub first-literals : literals-of (first-state format (r .table)) ≡ r .table .facts
+  unfolding first-state
+  first-literals =
+      let reads = settled-is format request r e past .reads in
+      let ranged = read-ranged format request r e reads in
+      literals-of-state format (r .table .facts)
+      (record { within = λ l h. let below = ranged .facts l h in let few = ranged .fluents in omega (arith, below, few); consistent = ranged .consistent })
+      (question-ascends format request r e reads .0)
+
+  pub goals-ascend : Conclusion-ascends (goals-of r)
+  unfolding goals-of
+  goals-ascend = question-ascends format request r e (settled-is format request r e past .reads) .1
+
+  module _ (verified : narrow-walk-of format r .end ≡ fine) where
+    -- Lines for a conclusion, where the ends are good for it.
+    pub plan-block : (layout : Layout) (all : List Line) (Y : Conclusion) (rules : Rules-for layout Y) (k : Writes) → Good layout (r .table) all Y rules (judged r) k done → (n : ℕ)
+        → Stands all n (lines (r .table) Y (r .plan) done k (first-state format (r .table)) n)
+        → Block layout (r .table) all n (lines (r .table) Y (r .plan) done k (first-state format (r .table)) n) (r .table .facts) (r .plan) Y
+    unfolding walked-narrow first-state
+    plan-block layout all Y rules k good n stands =
+        let s = first-state format (r .table) in
+        let ls = lines (r .table) Y (r .plan) done k s n in
+        subst (λ (X : List ℕ). Block layout (r .table) all n ls X (r .plan) Y) first-literals
+        (subst (λ (c : Sequence ℕ). Block layout (r .table) all n ls (literals-of s) c Y) (join-done (r .plan))
+        (plan-good layout (r .table) all Y rules (r .plan) done (judged r) k good s (state-marked format (r .table .facts)) verified n stands))
+
+    pub derivation-block : (layout : Layout) (all : List Line) → Rules-for layout (goals-of r) → Stands all 0 (derivation-of format r)
+        → Block layout (r .table) all 0 (derivation-of format r) (r .table .facts) (r .plan) (goals-of r)
+    unfolding derivation-of lines-from goals-of
+    derivation-block layout all rules stands =
+        plan-block layout all (goals-of r) rules (empty-lines (values (r .goals)))
+        (λ s marked e n. empty-block layout (r .table) all (values (r .goals)) goals-ascend s marked (asked-known r s e .0) n) 0 stands
