@@ -1,6 +1,6 @@
 -- Every line of a scheme follows by its rule, and the last of the lines that a plan gets is for what the state knows, the plan and the conclusion (FORMAT 24.3, 24.6 to
 -- 24.9): where the walk is verified and meets no sensing action that is too wide, by induction over the plan. Assumes nothing.
-use Prim.Native.Nat.{ℕ, suc, _+_, _-_, _<_}
+use Prim.Native.Nat.{ℕ, zero, suc, _+_, _-_, _<_}
 use native.Mathlib.Omega.{arith}
 use mathlib.Core.Path.{_≡_, refl, sym, _∙_, ap, subst}
 use mathlib.Core.Bool.{true, false, false≢true}
@@ -9,6 +9,7 @@ use lib.ListN.{length, length-append, getD}
 use lib.Dec.{ltb}
 use borrow.Author.Tests.{ltb-true, ltb-false, lt-ltb}
 use Rattle.meaning.specs.declared.Layout.{Layout}
+use Rattle.meaning.specs.declared.Layout.the-variants.{Plain}
 use Rattle.meaning.specs.Tests.{both, each-of}
 use Rattle.meaning.specs.Limits
 use Rattle.meaning.specs.Limits.{format}
@@ -19,7 +20,7 @@ use Rattle.meaning.specs.Refusals.{settled}
 use Rattle.meaning.specs.Lines.{sensing}
 use Rattle.meaning.specs.States.{State, known, known-whether, told, first-state, can-be-run, state-after, unknown-sensed, Outcome, readings, outcome}
 use Rattle.meaning.specs.Walk.{Concerned, End, fine, missed, stopped, Walked, stopped-at, counted, each-reading, Step, leads-to, after-step, run-action, walk, walk-item, walk-branch, table-does, judged}
-use Rattle.meaning.specs.Derivations.{Conclusion, knows, Line, join, included, literals-of, says, states-of, takes-branch, each-reads, goals-of}
+use Rattle.meaning.specs.Derivations.{Conclusion, knows, Line, join, included, literals-of, says, states-of, takes-branch, each-reads, asks-for, goals-of, names}
 use Rattle.meaning.specs.Schemes.{line-of, Writes, empty-lines, and-cites, Read-lines, one-read, both-read, then-read, read-lines, sensing-lines, acting-lines, action-lines, branching-lines, lines, item-lines, branch-lines, lines-from, derivation-of, too-wide, narrow-does, narrow-step, walked-narrow, narrow-walk-of}
 use Rattle.meaning.proofs.TestLaws.{both-left, both-right, both-true, either-left, either-right, pick-true, pick-false, each-mono, each-append}
 use Rattle.meaning.proofs.PickLaws.{pick-has, has-picked}
@@ -28,13 +29,15 @@ use Rattle.meaning.proofs.RangeLaws.{read-ranged}
 use Rattle.meaning.proofs.SetLaws.{Ascending, same-list-self, literals-among}
 use Rattle.meaning.proofs.RulesExact.{Conclusion-ascends}
 use Rattle.meaning.proofs.ReadLines.{question-ascends}
+use Rattle.meaning.proofs.Passed.{All-pass, Last-passes}
 use Rattle.meaning.proofs.SchemeLaws.{join-done}
 use Rattle.meaning.proofs.ExactEnds.{met}
 use Rattle.meaning.proofs.Sound.{then-verified}
 use Rattle.demands.proofs.MoreKnown.{Fine}
 use Rattle.demands.proofs.PartsAlike.{ended-fine}
+use Rattle.demands.proofs.LayoutLaws.{named-last}
 use Rattle.demands.proofs.ListedStates.{Marked, told-marked, state-marked, after-marked, literals-of-state}
-use Rattle.demands.proofs.SchemeRules.{plan-self, conclusion-same-self, Stands, stands-left, stands-right, Rules-for, Right, All-right, right-append, empty-right, less-right, action-right, composed-right, branched-right, sensed-right}
+use Rattle.demands.proofs.SchemeRules.{plan-self, conclusion-same-self, Stands, stands-left, stands-right, stands-all, Rules-for, plain-rules-for, Right, All-right, right-append, right-passes, empty-right, less-right, action-right, composed-right, branched-right, sensed-right}
 
 -- A line says what it was made of.
 pub line-says : (s : State) (c : Sequence ℕ) (Y : Conclusion) (rule : ℕ) (cites : List ℕ) → says (line-of s c Y rule cites) (literals-of s) c Y ≡ true
@@ -212,6 +215,13 @@ module _ (layout : Layout) (t : Table) (all : List Line) where
       block-of layout t all n (_ ∷ []) _ (literals-of s) done (knows Z) stands (empty-right layout t all s marked n, tt)
       (less-right layout t all s marked n Z up (listed-within s Z holds) (stands .0)) (line-says s done (knows Z) Limits.consequence-rule (n ∷ []))
 
+-- A line of this number that asks for a conclusion is named for it.
+pub said-named : (r : Request) (ls : List Line) (k : ℕ) (Y : Conclusion) → k < length ls → ((d : Line) → says (getD ls k d) (r .table .facts) (r .plan) Y ≡ true) → names r ls k Y ≡ true
+unfolding names asks-for
+said-named r [] k Y near said = absurd (omega (arith, near))
+said-named r (l ∷ ls) zero Y near said = said l
+said-named r (l ∷ ls) (suc k) Y near said = said-named r ls k Y (omega (arith, near)) said
+
 -- THE DERIVATION OF A REQUEST that is settled, and whose walk is verified and meets no sensing action that is too wide.
 module _ (request : List ℕ) (r : Request) (e : ℕ) (past : settled format request ≡ got r e) where
   pub first-literals : literals-of (first-state format (r .table)) ≡ r .table .facts
@@ -246,3 +256,18 @@ module _ (request : List ℕ) (r : Request) (e : ℕ) (past : settled format req
     derivation-block layout all rules stands =
         plan-block layout all (goals-of r) rules (empty-lines (values (r .goals)))
         (λ s marked e n. empty-block layout (r .table) all (values (r .goals)) goals-ascend s marked (asked-known r s e .0) n) 0 stands
+
+    -- In the plain layout each line passes every test of the check, and the last one asks for the goals.
+    plain-block : Block Plain (r .table) (derivation-of format r) 0 (derivation-of format r) (r .table .facts) (r .plan) (goals-of r)
+    unfolding goals-of
+    plain-block = derivation-block Plain (derivation-of format r) (plain-rules-for (values (r .goals)) goals-ascend) (stands-all (derivation-of format r))
+
+    pub derivation-passes : All-pass format Plain (r .table) (derivation-of format r) 0 (derivation-of format r)
+    derivation-passes = right-passes Plain (r .table) (derivation-of format r) 0 (derivation-of format r) (plain-block .right)
+
+    pub derivation-asks : Last-passes r (derivation-of format r)
+    derivation-asks =
+        let ls = derivation-of format r in
+        let some = plain-block .some in
+        let place : 0 + length ls - 1 ≡ length ls - 1 = omega arith in
+        named-last r ls (said-named r ls (length ls - 1) (goals-of r) (omega (arith, some)) (subst (λ (i : ℕ). (d : Line) → says (getD ls i d) (r .table .facts) (r .plan) (goals-of r) ≡ true) place (plain-block .last)))
