@@ -1,3 +1,6 @@
+pub mod ListedStates
+pub mod SchemeRules
+pub mod SchemeFollows
 pub mod ShiftedReads
 pub mod MovedWalk
 pub mod CompleteLaws
