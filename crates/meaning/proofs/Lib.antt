@@ -80,3 +80,4 @@ pub mod IndexedWalk
 pub mod DifferenceLaws
 pub mod IndexAnswers
 pub mod IndexBuilt
+pub mod DeriveAnswers

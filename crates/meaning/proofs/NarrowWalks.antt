@@ -12,6 +12,7 @@ use Rattle.meaning.specs.Schemes.{too-wide, narrow-does, narrow-step, wa
 use Rattle.meaning.proofs.TestLaws.{by-test, pick-true, pick-false}
 use Rattle.meaning.proofs.PickLaws.{pick-has}
 use Rattle.meaning.proofs.RefusalLaws.{at≢nowhere}
+use Rattle.meaning.proofs.Sound.{stopped≢fine}
 use Rattle.meaning.proofs.KeptEnds.{any-outcome, End-so, Step-so, judged-so, table-does-so, Stuck, walked-stuck}
 use Rattle.meaning.proofs.WithinLaws.{Never, so-never}
 use Rattle.meaning.proofs.PlaceLaws.{Found-below, Request-below, missed-below, End-below}
@@ -22,14 +23,6 @@ does-narrow : (t : Table) (a : ℕ) (s : State) → Limits-to Limits.sensing-too
 unfolding narrow-does
 does-narrow t a s = by-test (too-wide t a s) (λ wide. inr (pick-true _ _ _ wide)) (λ few. inl (pick-false _ _ _ few))
 
-fine≢stopped : {n p : ℕ} {u : Concerned State} → fine ≡ stopped n p u → ⊥
-fine≢stopped e = subst Is-fine e tt
-  where
-    Is-fine : End State → Type 0
-    Is-fine fine = Unit {0}
-    Is-fine (missed p s) = ⊥
-    Is-fine (stopped n p u) = ⊥
-
 module _ (r : Request) (s : State) where
   pub narrow-limited : Limited Limits.sensing-too-wide no-state (walked-narrow r s) (walked r s)
   unfolding walked-narrow narrow-step walked table-step
@@ -37,7 +30,7 @@ module _ (r : Request) (s : State) where
 
   -- Where it ends fine, it is the plain walk.
   pub narrow-same : Verified (walked-narrow r s) → walked-narrow r s ≡ walked r s
-  narrow-same is = ⊎-elim (λ same. same) (λ stop. absurd (fine≢stopped (sym is ∙ stop .1))) narrow-limited
+  narrow-same is = ⊎-elim (λ same. same) (λ stop. absurd (stopped≢fine (sym (stop .1) ∙ is))) narrow-limited
 
   -- Where the plain walk ends fine, it does too, or it is stopped with 37; and it counts no more.
   pub narrow-or-wide : Verified (walked r s) → (Verified (walked-narrow r s) ⊎ ((p : ℕ) × (walked-narrow r s .end ≡ stopped Limits.sensing-too-wide p no-state))) × (walked-narrow r s .count ≤ walked r s .count)
