@@ -289,7 +289,11 @@ module _ (lim : Limits) (n m : ℕ) where
         closing-is = refl;
       }
 
--- WHAT WAS READ can be read. The items met before a part and its own are those met behind it, and they are within their limit.
+-- WHAT WAS READ can be read.
+pub list-fits : (n most : ℕ) (s : List ℕ) (p : ℕ) (xs : List ℕ) (e : ℕ) → list-at literals n most s p ≡ got xs e → List-fits n most xs
+list-fits n most s p xs e read = record { order = list-in-order literals n most s p xs e read; few = list-few literals n most s p xs e read }
+
+-- The items met before a part and its own are those met behind it, and they are within their limit.
 module _ (lim : Limits) (n m : ℕ) (s : List ℕ) where
   record Met-in (met own items : ℕ) : Type 0 where
     counted : items ≡ met + own
@@ -326,7 +330,7 @@ module _ (lim : Limits) (n m : ℕ) (s : List ℕ) where
         let v = one few in
         let w = more (v .1 .most) in
         let f = v .1 .counted in let g = w .1 .counted in (
-          (record { order = list-in-order literals n (lim .body) s p c q read; few = list-few literals n (lim .body) s p c q read }, v .0, w .0),
+          (list-fits n (lim .body) s p c q read, v .0, w .0),
           record { counted = omega arith; most = w .1 .most },
           ap suc (w .2),
         );
@@ -337,9 +341,6 @@ module _ (lim : Limits) (n m : ℕ) (s : List ℕ) where
       let w = plan-on lim n m s plan-fitting fitting-passed p .holds x e reads (omega arith) in
       let f = w .1 .counted in let g = w .1 .most in
       record { items = w .0; few = omega arith }
-
-  pub list-fits : (most p : ℕ) (xs : List ℕ) (e : ℕ) → list-at literals n most s p ≡ got xs e → List-fits n most xs
-  list-fits most p xs e read = record { order = list-in-order literals n most s p xs e read; few = list-few literals n most s p xs e read }
 
 -- IN BYTES, with the format's limits.
 module _ (n m : ℕ) (few-fluents : n ≤ format .fluents) (few-actions : m ≤ format .actions) where
@@ -407,9 +408,9 @@ module _ (n m : ℕ) (few-fluents : n ≤ format .fluents) (few-actions : m ≤ 
   lines-small [] fits = tt
   lines-small (l ∷ ls) fits = small-both (line-written Plain l) (lines-written Plain ls) (line-small l (fits .0)) (lines-small ls (fits .1))
 
-  pub derivation-bytes : (d : Derivation) → Each (Line-fits format n m) (d .lines) → length (d .lines) < 65536 → Bytes (written Plain d)
+  pub derivation-in-bytes : (d : Derivation) → Each (Line-fits format n m) (d .lines) → length (d .lines) < 65536 → Bytes (written Plain d)
   unfolding written closing-written
-  derivation-bytes d fits few =
+  derivation-in-bytes d fits few =
       small-bytes (written Plain d)
       (small-both (number-written (length (d .lines))) (lines-written Plain (d .lines) ++ []) (number-small (length (d .lines)) few)
       (small-both (lines-written Plain (d .lines)) [] (lines-small (d .lines) fits) tt))
