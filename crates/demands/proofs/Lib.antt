@@ -1,3 +1,6 @@
+pub mod ListedStates
+pub mod SchemeRules
+pub mod SchemeFollows
 pub mod ShiftedReads
 pub mod MovedWalk
 pub mod CompleteLaws
@@ -21,6 +24,9 @@ pub mod DepthBound
 pub mod DepthMet
 pub mod GuardedMet
 pub mod LayoutLaws
+pub mod Readable
+pub mod SchemeReadable
+pub mod SchemeAccepted
 pub mod DerivationSound
 pub mod LongCases
 pub mod WideCases
