@@ -1,11 +1,11 @@
 -- Theorem 3.4 of Zhao and Shen, the completeness of the rules (FORMAT 24.28): where the walk of a settled request is verified and meets no sensing action that is too wide, the rules prove
--- its goals and each of its whether entries. And a walk that is verified is so without such an action, or stops at one with 37. Assumes nothing.
+-- its goals and each of its whether entries. The lines are those of the scheme for each, one block behind another. Assumes nothing.
 use Prim.Native.Nat.{ℕ, zero, suc, _+_, _-_, _*_, _≤_, _<_}
 use native.Mathlib.Omega.{arith}
 use native.Mathlib.Nat.{not-suc-le-zero, le-of-suc-le-suc}
-use mathlib.Core.Path.{_≡_, refl, sym, _∙_, ap, subst}
+use mathlib.Core.Path.{_≡_, refl, sym, subst}
 use mathlib.Core.Bool.{true}
-use mathlib.Core.List.{List, [], _∷_, _++_, map}
+use mathlib.Core.List.{List, [], _∷_, map}
 use mathlib.Core.Logic.{_⊎_, inl, inr, ⊎-elim}
 use lib.ListN.{length, length-append, length-map, getD}
 use lib.Dec.{ltb}
@@ -14,32 +14,31 @@ use Rattle.meaning.specs.declared.Layout.the-variants.{Closing}
 use Rattle.meaning.specs.Tests.{each-of, Has}
 use Rattle.meaning.specs.Limits
 use Rattle.meaning.specs.Limits.{format}
-use Rattle.meaning.specs.Literals.{says-true, says-false, fluent-of}
+use Rattle.meaning.specs.Literals.{says-true, fluent-of}
 use Rattle.meaning.specs.Requests.{Effect, Knowledge, Table, done, Entry, Request, values}
 use Rattle.meaning.specs.Reading.{got}
 use Rattle.meaning.specs.Refusals.{settled}
 use Rattle.meaning.specs.States.{State, known, known-whether, first-state}
-use Rattle.meaning.specs.Walk.{no-state, fine, stopped, Walked, judged, table-does, table-step, walked}
+use Rattle.meaning.specs.Walk.{no-state, fine, stopped, Verified}
 use Rattle.meaning.specs.Judging.{walk-of}
 use Rattle.meaning.specs.Derivations.{Conclusion, knows, knows-whether, Line, literals-of, says, cited-by, goals-of, all-asked}
 use Rattle.meaning.specs.Accepted.{Line-is, Earlier, Line-follows, All-follow, All-named}
-use Rattle.meaning.specs.Schemes.{line-of, empty-lines, and-cites, one-read, both-read, then-read, derivation-of, too-wide, narrow-does, narrow-step, walked-narrow, narrow-walk-of}
+use Rattle.meaning.specs.Schemes.{line-of, empty-lines, and-cites, one-read, both-read, then-read, derivation-of, narrow-walk-of}
 use Rattle.demands.specs.Completeness.{literal-known, whether-lines, lines-whether, entry-lines, asked-lines, Proved-by-rules}
-use Rattle.meaning.proofs.TestLaws.{by-test, clash, both-left, both-right, both-true, either-split, pick-true, pick-false, each-has, has-map, map-has}
+use Rattle.meaning.proofs.TestLaws.{clash, both-left, both-right, both-true, either-split, each-has, has-map, map-has}
 use Rattle.meaning.proofs.PickLaws.{pick-has}
 use Rattle.meaning.proofs.LiteralLaws.{fluent-true, fluent-false}
 use Rattle.meaning.proofs.SettledLaws.{settled-is}
-use Rattle.meaning.proofs.RangeLaws.{Ranged, read-ranged}
+use Rattle.meaning.proofs.RangeLaws.{read-ranged}
 use Rattle.meaning.proofs.SetLaws.{Ascending}
 use Rattle.meaning.proofs.RulesExact.{Conclusion-ascends, Proper, says-exactly}
 use Rattle.meaning.proofs.ReadLines.{Read-line, question-ascends}
 use Rattle.meaning.proofs.FollowsExact.{follows-exactly}
 use Rattle.meaning.proofs.AcceptedExactly.{format-citations}
-use Rattle.meaning.proofs.CaseWalks.{Limited, Limits-to, walk-limited}
-use Rattle.demands.proofs.MoreKnown.{Fine}
+use Rattle.meaning.proofs.NarrowWalks.{narrow-or-wide}
 use Rattle.demands.proofs.ListedStates.{Marked}
 use Rattle.demands.proofs.SchemeRules.{Stands, stands-left, stands-right, stands-all, rule-8-for, closing-rules-for, Right, All-right, right-append, right-read, literal-right}
-use Rattle.demands.proofs.SchemeFollows.{Block, block-of, line-says, Good, asked-known, empty-block, goals-ascend, plan-block, derivation-block}
+use Rattle.demands.proofs.SchemeFollows.{Block, block-of, line-says, asked-known, empty-block, goals-ascend, plan-block, derivation-block}
 
 -- THE RELATIONS. A line of this number, which is one of all.
 line-there : (all : List Line) (k : ℕ) (d : Line) → k < length all → Line-is all k (getD all k d) × Has all (getD all k d)
@@ -83,13 +82,13 @@ Each-said r all [] (k ∷ ks) = ⊥
 Each-said r all (Y ∷ Ys) [] = ⊥
 Each-said r all (Y ∷ Ys) (k ∷ ks) = (k < length all) × Conclusion-ascends Y × ((d : Line) → says (getD all k d) (r .table .facts) (r .plan) Y ≡ true) × Each-said r all Ys ks
 
-said-named : (r : Request) → Ascending 0 (r .table .facts) → (all : List Line) → ((l : Line) → Has all l → Read-line format Closing l) → (d : Line) (Ys : List Conclusion) (ks : List ℕ) → Each-said r all Ys ks → All-named r all Ys ks
-said-named r up all read d [] [] h = tt
-said-named r up all read d [] (k ∷ ks) h = absurd h
-said-named r up all read d (Y ∷ Ys) [] h = absurd h
-said-named r up all read d (Y ∷ Ys) (k ∷ ks) h =
+each-named : (r : Request) → Ascending 0 (r .table .facts) → (all : List Line) → ((l : Line) → Has all l → Read-line format Closing l) → (d : Line) (Ys : List Conclusion) (ks : List ℕ) → Each-said r all Ys ks → All-named r all Ys ks
+each-named r up all read d [] [] h = tt
+each-named r up all read d [] (k ∷ ks) h = absurd h
+each-named r up all read d (Y ∷ Ys) [] h = absurd h
+each-named r up all read d (Y ∷ Ys) (k ∷ ks) h =
     let there = line-there all k d (h .0) in
-    ((getD all k d, there .0, says-exactly (getD all k d) (read _ (there .1) .proper) (r .table .facts) (r .plan) Y up (h .1) .0 (h .2 d)), said-named r up all read d Ys ks (h .3))
+    ((getD all k d, there .0, says-exactly (getD all k d) (read _ (there .1) .proper) (r .table .facts) (r .plan) Y up (h .1) .0 (h .2 d)), each-named r up all read d Ys ks (h .3))
 
 -- A WHETHER ENTRY. The literal that is known of a fluent that is known whether.
 literal-is-known : (f : ℕ) (s : State) → known-whether s f ≡ true → (known s (literal-known f s) ≡ true) × (fluent-of (literal-known f s) ≡ f)
@@ -131,7 +130,7 @@ module _ (request : List ℕ) (r : Request) (e : ℕ) (past : settled format req
         let more = entry-lines r first ws m .lines in
         let size = length-append ls more in
         let block = plan-block request r e past verified Closing all (knows-whether f) (closing-rules-for (knows-whether f) tt) (whether-lines f)
-            (λ s marked q k. whether-block (r .table) all f s marked (each-has _ _ f (asked-known r s q .1) (has-map (λ (x : Entry). x .value) (r .whether) w (has w (inl refl)))) k) n (stands-left all n ls more stands) in
+        (λ s marked q k. whether-block (r .table) all f s marked (each-has _ _ f (asked-known r s q .1) (has-map (λ (x : Entry). x .value) (r .whether) w (has w (inl refl)))) k) n (stands-left all n ls more stands) in
         let some = block .some in
         let later = entries-block ws (λ v h. has v (inr h)) m (stands-right all n ls more stands) (omega (arith, within, size)) in
         (right-append Closing (r .table) all n ls more (block .right) (later .0), (omega (arith, within, size, some), tt, block .last, later .1))
@@ -160,24 +159,10 @@ module _ (request : List ℕ) (r : Request) (e : ℕ) (past : settled format req
         closing = x .lasts;
         all-follow = right-follow (r .table) (λ y h. let below = ranged .effects y h in let few = ranged .fluents in omega (arith, below, few))
             (λ k h. let below = ranged .knowledge k h in let few = ranged .fluents in omega (arith, below, few)) all read 0 all (omega arith) right;
-        all-named = said-named r (question-ascends format request r e reads .0) all read (line-of first done (goals-of r) 0 []) (all-asked r) (x .lasts) (omega (arith, size, some), up, block .last, entries .1);
+        all-named = each-named r (question-ascends format request r e reads .0) all read (line-of first done (goals-of r) 0 []) (all-asked r) (x .lasts) (omega (arith, size, some), up, block .last, entries .1);
       }
 
--- TOO WIDE. The walk without such an action is the walk, or it stops with 37 at a place, and counts no more.
-narrow-limits : (t : Table) (a : ℕ) (s : State) → Limits-to Limits.sensing-too-wide no-state (narrow-does t a s) (table-does t a s)
-unfolding narrow-does
-narrow-limits t a s = by-test (too-wide t a s) (λ wide. inr (pick-true _ _ _ wide)) (λ narrow. inl (pick-false _ _ _ narrow))
-
-pub narrow-limited : (r : Request) (s : State) → Limited Limits.sensing-too-wide no-state (walked-narrow r s) (walked r s)
-unfolding walked-narrow walked narrow-step table-step
-narrow-limited r s = walk-limited Limits.sensing-too-wide no-state (narrow-step (r .table)) (table-step (r .table)) refl refl (narrow-limits (r .table)) (r .plan) (judged r) (judged r) (λ v. inl refl) s
-
--- So a walk that is verified is so too where it must meet no such action, or that walk stops.
-pub narrow-or-wide : (lim : Limits.Limits) (r : Request) → walk-of lim r .end ≡ fine → (narrow-walk-of lim r .end ≡ fine) ⊎ ((p : ℕ) × (narrow-walk-of lim r .end ≡ stopped Limits.sensing-too-wide p no-state))
-narrow-or-wide lim r is-fine =
-    ⊎-elim (λ same. inl (ap (λ (w : Walked State). w .end) same ∙ is-fine)) (λ stop. inr (stop .0, stop .1)) (narrow-limited r (first-state lim (r .table)))
-
--- And where it is verified without such an action, it is verified.
-pub narrow-verified : (lim : Limits.Limits) (r : Request) → narrow-walk-of lim r .end ≡ fine → walk-of lim r .end ≡ fine
-narrow-verified lim r is-fine =
-    ⊎-elim (λ same. ap (λ (w : Walked State). w .end) (sym same) ∙ is-fine) (λ stop. absurd (subst Fine (sym is-fine ∙ stop .1) tt)) (narrow-limited r (first-state lim (r .table)))
+-- A verified walk that is not proved so meets a sensing action that is too wide (`NarrowWalks` has the two walks).
+pub complete-or-wide : (request : List ℕ) (r : Request) (e : ℕ) → settled format request ≡ got r e → Verified (walk-of format r)
+    → Proved-by-rules r ⊎ ((p : ℕ) × (narrow-walk-of format r .end ≡ stopped Limits.sensing-too-wide p no-state))
+complete-or-wide request r e past verified = ⊎-elim (λ narrow. inl (complete request r e past narrow)) inr (narrow-or-wide r (first-state format (r .table)) verified .0)
