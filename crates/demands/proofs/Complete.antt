@@ -162,7 +162,7 @@ module _ (request : List ℕ) (r : Request) (e : ℕ) (past : settled format req
         all-named = each-named r (question-ascends format request r e reads .0) all read (line-of first done (goals-of r) 0 []) (all-asked r) (x .lasts) (omega (arith, size, some), up, block .last, entries .1);
       }
 
--- A verified walk that is not proved so meets a sensing action that is too wide (`NarrowWalks` has the two walks).
+-- So where a walk is verified, the rules prove what is asked, or the walk is stopped with 37 at a sensing action that is too wide (FORMAT 24.16; `NarrowWalks` has the two walks).
 pub complete-or-wide : (request : List ℕ) (r : Request) (e : ℕ) → settled format request ≡ got r e → Verified (walk-of format r)
     → Proved-by-rules r ⊎ ((p : ℕ) × (narrow-walk-of format r .end ≡ stopped Limits.sensing-too-wide p no-state))
 complete-or-wide request r e past verified = ⊎-elim (λ narrow. inl (complete request r e past narrow)) inr (narrow-or-wide r (first-state format (r .table)) verified .0)
