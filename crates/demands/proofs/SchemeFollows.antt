@@ -10,7 +10,7 @@ use lib.Dec.{ltb}
 use borrow.Author.Tests.{ltb-true, ltb-false, lt-ltb}
 use Rattle.meaning.specs.declared.Layout.{Layout}
 use Rattle.meaning.specs.declared.Layout.the-variants.{Plain}
-use Rattle.meaning.specs.Tests.{both, each-of}
+use Rattle.meaning.specs.Tests.{each-of}
 use Rattle.meaning.specs.Limits
 use Rattle.meaning.specs.Limits.{format}
 use Rattle.meaning.specs.Literals.{says-true, says-false}
@@ -19,7 +19,7 @@ use Rattle.meaning.specs.Reading.{got}
 use Rattle.meaning.specs.Refusals.{settled}
 use Rattle.meaning.specs.Lines.{sensing}
 use Rattle.meaning.specs.States.{State, known, known-whether, told, first-state, can-be-run, state-after, unknown-sensed, Outcome, readings, outcome}
-use Rattle.meaning.specs.Walk.{Concerned, End, fine, missed, stopped, Walked, stopped-at, counted, each-reading, Step, leads-to, after-step, run-action, walk, walk-item, walk-branch, table-does, judged}
+use Rattle.meaning.specs.Walk.{fine, Walked, stopped-at, counted, each-reading, Step, after-step, run-action, walk, walk-item, walk-branch, table-does, judged}
 use Rattle.meaning.specs.Derivations.{Conclusion, knows, Line, join, included, literals-of, says, states-of, takes-branch, each-reads, asks-for, goals-of, names}
 use Rattle.meaning.specs.Schemes.{line-of, Writes, empty-lines, and-cites, Read-lines, one-read, both-read, then-read, read-lines, sensing-lines, acting-lines, action-lines, branching-lines, lines, item-lines, branch-lines, lines-from, derivation-of, too-wide, narrow-does, narrow-step, walked-narrow, narrow-walk-of}
 use Rattle.meaning.proofs.TestLaws.{both-left, both-right, both-true, either-left, either-right, pick-true, pick-false, each-mono, each-append}
@@ -32,8 +32,7 @@ use Rattle.meaning.proofs.ReadLines.{question-ascends}
 use Rattle.meaning.proofs.Passed.{All-pass, Last-passes}
 use Rattle.meaning.proofs.SchemeLaws.{join-done}
 use Rattle.meaning.proofs.ExactEnds.{met}
-use Rattle.meaning.proofs.Sound.{then-verified}
-use Rattle.demands.proofs.MoreKnown.{Fine}
+use Rattle.meaning.proofs.Sound.{stopped≢fine, then-verified}
 use Rattle.demands.proofs.PartsAlike.{ended-fine}
 use Rattle.demands.proofs.LayoutLaws.{named-last}
 use Rattle.demands.proofs.ListedStates.{Marked, told-marked, state-marked, after-marked, literals-of-state}
@@ -66,10 +65,6 @@ block-of layout t all n ls l X c Y stands rights right said =
 listed-within : (s : State) (Z : List ℕ) → each-of (known s) Z ≡ true → included Z (literals-of s) ≡ true
 unfolding included
 listed-within s Z = each-mono _ _ (λ l e. literals-among s l ∙ e) Z
-
--- A walk that stops is not verified.
-stop-not-fine : {n p : ℕ} {u : Concerned State} → stopped n p u ≡ fine → ⊥
-stop-not-fine e = subst Fine (sym e) tt
 
 -- THE SCHEME, over a table and a conclusion in a layout, among all the lines.
 module _ (layout : Layout) (t : Table) (all : List Line) (Y : Conclusion) (rules : Rules-for layout Y) where
@@ -162,8 +157,8 @@ module _ (layout : Layout) (t : Table) (all : List Line) (Y : Conclusion) (rules
     action-good : (p a : ℕ) → Good (run-action (narrow-step t) p a w) (action-lines t Y p a rest k) (item (act p a) rest)
     unfolding run-action narrow-step narrow-does table-does after-step stopped-at counted
     action-good p a s marked e n =
-        has-picked (λ (x : Step State). after-step p x w .end ≡ fine) (too-wide t a s) _ _ e (λ _ q. absurd (stop-not-fine q)) λ narrow e′.
-        has-picked (λ (x : Step State). after-step p x w .end ≡ fine) (can-be-run t a s) _ _ e′ (λ runs q. led-good p a s marked runs n narrow q) (λ _ q. absurd (stop-not-fine q))
+        has-picked (λ (x : Step State). after-step p x w .end ≡ fine) (too-wide t a s) _ _ e (λ _ q. absurd (stopped≢fine q)) λ narrow e′.
+        has-picked (λ (x : Step State). after-step p x w .end ≡ fine) (can-be-run t a s) _ _ e′ (λ runs q. led-good p a s marked runs n narrow q) (λ _ q. absurd (stopped≢fine q))
 
   -- BRANCHINGS.
   branching-good : (p : ℕ) (bs : Branches ℕ) (rest : Sequence ℕ) (s : State) → Marked format s → (n : ℕ) (b : Sequence ℕ) (ls : List Line)
@@ -193,7 +188,7 @@ module _ (layout : Layout) (t : Table) (all : List Line) (Y : Conclusion) (rules
     branches-good : (p : ℕ) (bs left : Branches ℕ) (rest : Sequence ℕ) (w : State → Walked State) (k : Writes) → Good w k rest → (s : State) → Marked format s
         → ((l : Line) → takes-branch (literals-of s) left rest Y l ≡ true → takes-branch (literals-of s) bs rest Y l ≡ true)
         → walk-branch (narrow-step t) left p w s .end ≡ fine → (n : ℕ) → Holds n (branch-lines t Y left (item (branching p bs) rest) rest k s n) (literals-of s) (item (branching p bs) rest)
-    branches-good p bs none rest w k good s marked among e n = absurd (stop-not-fine e)
+    branches-good p bs none rest w k good s marked among e n = absurd (stopped≢fine e)
     branches-good p bs (branch φ b left) rest w k good s marked among e n =
         has-picked (λ (v : Walked State). v .end ≡ fine) (each-of (known s) φ) _ _ e
         (λ chosen q. subst (λ (ls : List Line). Holds n ls (literals-of s) (item (branching p bs) rest)) (sym (pick-true _ _ _ chosen))

@@ -6,8 +6,8 @@ use mathlib.Core.Path.{_≡_, refl, sym, _∙_, ap, subst}
 use mathlib.Core.Bool.{true, false}
 use mathlib.Core.List.{List, [], _∷_, _++_, map}
 use mathlib.Core.Logic.{inl, inr}
-use lib.ListN.{length, length-append, length-map, getD}
-use lib.Dec.{ltb, eqb}
+use lib.ListN.{length, length-map, getD}
+use lib.Dec.{ltb}
 use borrow.Author.Tests.{eq-eqb, lt-ltb}
 use Rattle.meaning.specs.declared.Layout.{Layout}
 use Rattle.meaning.specs.declared.Layout.the-variants.{Plain, Closing}
@@ -17,13 +17,13 @@ use Rattle.meaning.specs.Limits.{format}
 use Rattle.meaning.specs.Literals.{fluent-of, among}
 use Rattle.meaning.specs.Requests.{Table, Sequence, done, item, act, branching, Branches}
 use Rattle.meaning.specs.Lines.{sensing}
-use Rattle.meaning.specs.States.{State, known, state-of, can-be-run, state-after, unknown-sensed, readings}
+use Rattle.meaning.specs.States.{State, can-be-run, state-after, unknown-sensed, readings}
 use Rattle.meaning.specs.Derivations.{Conclusion, knows, knows-whether, Line, concludes-fluent, same-list, same-plan, join, included, literals-of, same-conclusion, part-of, says, states-of, of-one, of-two, rule-1, takes-branch, branches-first, rule-4, rule-5, rule-6, one-literal, settles, rule-8, each-reads, acts, one-action, rule-2, reads, senses-first, rule-3, given-by, for-lists, follows, citations-taken, citations-of, a-rule, cited-by}
 use Rattle.meaning.specs.Schemes.{line-of, rule-for}
 use Rattle.meaning.proofs.TestLaws.{both-left, both-right, both-true, fails-false}
 use Rattle.meaning.proofs.SetLaws.{Ascending, same-list-is, same-list-self, included-exactly, literals-ascend}
 use Rattle.meaning.proofs.RulesExact.{Conclusion-ascends, plan-exactly}
-use Rattle.meaning.proofs.ReadLines.{Is-list, Of-kind, Read-line}
+use Rattle.meaning.proofs.ReadLines.{Of-kind, Read-line}
 use Rattle.meaning.proofs.ReadingsExact.{states-count, each-length, count-settled}
 use Rattle.meaning.proofs.Passed.{Line-passes, All-pass}
 use Rattle.demands.proofs.ListedStates.{Marked, literals-clear, state-of-literals}
