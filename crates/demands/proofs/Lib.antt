@@ -48,4 +48,6 @@ pub mod EachRequest
 pub mod ReuseLaws
 pub mod ReuseMet
 pub mod Indexed
+pub mod NarrowMet
+pub mod Derived
 pub mod Demands

@@ -210,7 +210,7 @@ module _ (lim : Limits) (s room : List ℕ) (budget : ℕ) where
     by-deriving = by-read (settled lim s) refl (settled-held lim s)
 
 -- DEMAND 1. A refusal is not one of these numbers, where none of them is a refusal.
-refusal-not : (ns : List ℕ) → each-of (λ (m : ℕ). fails (among m ns)) refusals ≡ true → (n : ℕ) → among n refusals ≡ true → among n ns ≡ false
+pub refusal-not : (ns : List ℕ) → each-of (λ (m : ℕ). fails (among m ns)) refusals ≡ true → (n : ℕ) → among n refusals ≡ true → among n ns ≡ false
 refusal-not ns none n is = fails-true _ (among-each (λ (m : ℕ). fails (among m ns)) refusals none n is)
 
 among-more : (n : ℕ) → among n refusals ≡ true → among n derive-answers ≡ true
