@@ -93,7 +93,7 @@ last-named r [] h = absurd h
 last-named r (l ∷ []) h = h
 last-named r (l ∷ (k ∷ ls)) h = subst (λ (j : ℕ). names r (l ∷ (k ∷ ls)) j (goals-of r) ≡ true) (one-less (length ls)) (last-named r (k ∷ ls) h)
 
-named-last : (r : Request) (ls : List Line) → names r ls (length ls - 1) (goals-of r) ≡ true → Last-passes r ls
+pub named-last : (r : Request) (ls : List Line) → names r ls (length ls - 1) (goals-of r) ≡ true → Last-passes r ls
 unfolding names
 named-last r [] h = absurd (false≢true h)
 named-last r (l ∷ []) h = h

@@ -1,3 +1,7 @@
+pub mod ListedStates
+pub mod SchemeRules
+pub mod SchemeFollows
+pub mod Complete
 pub mod ShiftedReads
 pub mod MovedWalk
 pub mod CompleteLaws
