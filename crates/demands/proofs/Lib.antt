@@ -25,6 +25,9 @@ pub mod DepthBound
 pub mod DepthMet
 pub mod GuardedMet
 pub mod LayoutLaws
+pub mod Readable
+pub mod SchemeReadable
+pub mod SchemeAccepted
 pub mod DerivationSound
 pub mod LongCases
 pub mod WideCases
