@@ -1,4 +1,4 @@
--- The demands (FORMAT section 11, 17.38 to 17.41, 21.22 to 21.25, 22.17 to 22.22, 23.22 to 23.26 and 24.24 to 24.25), each by citing where its argument stands. Read this file first. Assumes nothing.
+-- The demands (FORMAT section 11, 17.38 to 17.41, 21.22 to 21.25, 22.17 to 22.22, 23.22 to 23.26 and 24.24 to 24.28), each by citing where its argument stands. Read this file first. Assumes nothing.
 use Prim.Native.Nat.{ℕ, _-_, _≤_, _<_}
 use native.Mathlib.Omega.{arith}
 use mathlib.Core.Path.{_≡_, refl, sym, _∙_, ap}
@@ -137,6 +137,10 @@ pub use Rattle.demands.proofs.Derived.{derive-refused-exactly, derive-r
 pub use Rattle.demands.proofs.Derived.{derive-wide-exactly, derive-wide-there, derive-wide-at, derive-many-exactly, derive-short-exactly}
 pub use Rattle.meaning.proofs.NarrowWalks.{narrow-limited, narrow-same, narrow-or-wide}
 pub use Rattle.demands.proofs.NarrowMet.{narrow-exactly, wide-senses}
+-- What it has written the derivation call accepts (FORMAT 24.26). Theorems 3.2 and 3.4 of Zhao and Shen (24.27, 24.28): of what the walk verifies there is a derivation that the derivation
+-- call accepts, within the sizes of the format; and there are lines by the rules for all that is asked, whatever their number.
+pub use Rattle.demands.proofs.SchemeAccepted.{derive-accepted, derive-bytes, derive-closing}
+pub use Rattle.demands.proofs.Derived.{verified-derivable, verified-proved}
 
 -- Demand 1 (FORMAT 11.1): every input gets one of the numbered answers.
 pub numbered : (lim : Limits) (request lent : List ℕ) (budget : ℕ) → among (judge lim request lent budget .answer .number) answers ≡ true

@@ -1,19 +1,21 @@
 -- The derive call (FORMAT 24.12 to 24.19, 24.25): what each of its answers says, exactly. Before its walk a refusal is the walk call's, 30 is given where there is a whether entry,
--- and 1, 2 and 3 are the walk call's answers; behind it 37, 38, 39 and 0 go by what the walk meets and by the sizes of the derivation. Assumes nothing.
+-- and 1, 2 and 3 are the walk call's answers; behind it 37, 38, 39 and 0 go by what the walk meets and by the sizes of the derivation. So what is verified has a
+-- derivation, with these sizes (24.27), and is proved by the rules, whatever its size (24.28). Assumes nothing.
 use Prim.Native.Nat.{ℕ, _≤_, _<_}
 use native.Mathlib.Omega.{arith}
 use mathlib.Core.Path.{_≡_, refl, sym, _∙_, ap, ap₂, subst}
 use mathlib.Core.Bool.{true, false}
 use mathlib.Core.List.{List, [], _∷_, _++_}
 use mathlib.Core.Logic.{_⊎_, inl, inr, ⊎-elim, _↔_}
-use lib.ListN.{length, drop, take, length-replicate, replicate}
+use lib.ListN.{length, drop, take}
 use lib.Seq.{take-append-seam}
 use lib.Dec.{eqb}
 use borrow.Author.Tests.{eq-eqb, eqb-false, lt-ltb, le-ltb}
 use Rattle.meaning.specs.Tests.{both, either, fails, some-of, each-of}
 use Rattle.meaning.specs.declared.Answer.{Answer}
+use Rattle.meaning.specs.declared.Layout.the-variants.{Plain}
 use Rattle.meaning.specs.Limits
-use Rattle.meaning.specs.Limits.{Limits}
+use Rattle.meaning.specs.Limits.{Limits, format}
 use Rattle.meaning.specs.Literals.{among}
 use Rattle.meaning.specs.Requests.{act, Request}
 use Rattle.meaning.specs.Reading.{got, fault}
@@ -21,11 +23,13 @@ use Rattle.meaning.specs.Refusals.{settled}
 use Rattle.meaning.specs.States.{State}
 use Rattle.meaning.specs.Walk.{no-state, stopped, Verified}
 use Rattle.meaning.specs.Judging.{Judgement, within, judge-got, walk-of, judge, count}
+use Rattle.meaning.specs.Derivations.{check}
 use Rattle.meaning.specs.Indexes.{Built}
 use Rattle.meaning.specs.Schemes.{derivation-of, too-wide, narrow-walk-of, unwritten, derive}
 use Rattle.meaning.specs.Derived.{Asks-goals, Asks-whether, unverified, Walk-verifies, Walk-meets, None-wide, Too-wide-at, Derives, bytes-of, Sizes-fit, Bytes-exceed, Derivation-written}
 use Rattle.meaning.specs.Answers.{refusals}
 use Rattle.meaning.specs.AnswerParts.{stated}
+use Rattle.demands.specs.Completeness.{Proved-by-rules}
 use Rattle.meaning.proofs.TestLaws.{clash, either-false, pick-true, pick-false}
 use Rattle.meaning.proofs.SettledLaws.{fault≢got, got-same}
 use Rattle.meaning.proofs.WithinLaws.{answered, within-number}
@@ -34,6 +38,8 @@ use Rattle.meaning.proofs.VerifiedLaws.{within-unread, so-verified}
 use Rattle.meaning.proofs.IndexBuilt.{built, refused}
 use Rattle.meaning.proofs.DeriveAnswers.{refusal-not, derive-refused, derive-asked, derive-walked, derive-wide, derive-many, derive-short, derive-written, Each-derived, by-deriving}
 use Rattle.demands.proofs.NarrowMet.{wide-at, at-wide, narrow-exactly, stopped-wide}
+use Rattle.demands.proofs.SchemeAccepted.{scheme-accepted}
+use Rattle.demands.proofs.Complete.{complete}
 
 module _ (lim : Limits) (s room : List ℕ) (budget : ℕ) where
   abbrev given : Built
@@ -223,3 +229,13 @@ module _ (lim : Limits) (s room : List ℕ) (budget : ℕ) where
     -- What has a derivation the walk call verifies.
     pub derived-judged : (r : Request) → Walk-verifies lim s budget r → judge lim s lent budget .answer .number ≡ Limits.verified
     derived-judged r v = so-verified lim s lent budget sized r (v .asks .end) (v .asks .settles) (v .fine) (v .enough) .0
+
+-- THEOREM 3.2 of Zhao and Shen, the completeness of rules 1 to 6, with the sizes of the format (FORMAT 24.27): where the request has no whether entry, its walk verifies it and meets no
+-- action that is too wide, and its derivation has no more lines and bytes than a derivation may have, the derivation call accepts that derivation.
+pub verified-derivable : (request : List ℕ) (r : Request) → Asks-goals format request r → Verified (walk-of format r) → None-wide format r
+    → length (derivation-of format r) ≤ format .lines → length (bytes-of format r) ≤ format .derivation → check format Plain request (bytes-of format r) .number ≡ Limits.verified
+verified-derivable request r a verified none few short = scheme-accepted request r (a .end) (a .settles) (narrow-exactly format r verified .1 none) few short (a .no-whether)
+
+-- Theorem 3.4, of goals and whether entries, whatever the number of lines (FORMAT 24.28).
+pub verified-proved : (request : List ℕ) (r : Request) (e : ℕ) → settled format request ≡ got r e → Verified (walk-of format r) → None-wide format r → Proved-by-rules r
+verified-proved request r e past verified none = complete request r e past (narrow-exactly format r verified .1 none)
