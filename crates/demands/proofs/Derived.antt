@@ -2,10 +2,9 @@
 -- and 1, 2 and 3 are the walk call's answers; behind it 37, 38, 39 and 0 go by what the walk meets and by the sizes of the derivation. So what is verified has a
 -- derivation, with these sizes (24.27), and is proved by the rules, whatever its size (24.28). Assumes nothing.
 use Prim.Native.Nat.{ℕ, _≤_, _<_}
-use native.Mathlib.Omega.{arith}
 use mathlib.Core.Path.{_≡_, refl, sym, _∙_, ap, ap₂, subst}
 use mathlib.Core.Bool.{true, false}
-use mathlib.Core.List.{List, [], _∷_, _++_}
+use mathlib.Core.List.{List, []}
 use mathlib.Core.Logic.{_⊎_, inl, inr, ⊎-elim, _↔_}
 use lib.ListN.{length, drop, take}
 use lib.Seq.{take-append-seam}
@@ -28,15 +27,13 @@ use Rattle.meaning.specs.Indexes.{Built}
 use Rattle.meaning.specs.Schemes.{derivation-of, too-wide, narrow-walk-of, unwritten, derive}
 use Rattle.meaning.specs.Derived.{Asks-goals, Asks-whether, unverified, Walk-verifies, Walk-meets, None-wide, Too-wide-at, Derives, bytes-of, Sizes-fit, Bytes-exceed, Derivation-written}
 use Rattle.meaning.specs.Answers.{refusals}
-use Rattle.meaning.specs.AnswerParts.{stated}
 use Rattle.demands.specs.Completeness.{Proved-by-rules}
 use Rattle.meaning.proofs.TestLaws.{clash, either-false, pick-true, pick-false}
-use Rattle.meaning.proofs.SettledLaws.{fault≢got, got-same}
 use Rattle.meaning.proofs.WithinLaws.{answered, within-number}
 use Rattle.meaning.proofs.AnswerLaws.{Numbered-in, settled-numbered}
 use Rattle.meaning.proofs.VerifiedLaws.{within-unread, so-verified}
 use Rattle.meaning.proofs.IndexBuilt.{built, refused}
-use Rattle.meaning.proofs.DeriveAnswers.{refusal-not, derive-refused, derive-asked, derive-walked, derive-wide, derive-many, derive-short, derive-written, Each-derived, by-deriving}
+use Rattle.meaning.proofs.DeriveAnswers.{refusal-not, derive-refused, derive-asked, derive-walked, derive-wide, derive-many, derive-short, derive-written, by-deriving}
 use Rattle.demands.proofs.NarrowMet.{wide-at, at-wide, narrow-exactly, stopped-wide}
 use Rattle.demands.proofs.SchemeAccepted.{scheme-accepted}
 use Rattle.demands.proofs.Complete.{complete}
@@ -161,16 +158,16 @@ module _ (lim : Limits) (s room : List ℕ) (budget : ℕ) where
   unfolding among refusals some-of either
   derive-refused-exactly = (
     by-deriving lim s room budget (λ b. among (b .answer .number) refusals ≡ true → (n p : ℕ) × (settled lim s ≡ fault n p)) (record {
-          is-refused = λ n p past _ _. (n, p, past);
-          is-asked = λ _ _ _ t. clash t refl;
-          is-spent = λ _ _ _ t. clash t refl;
-          is-missed = λ _ _ _ _ _ _ _ t. clash t refl;
-          is-stuck = λ _ _ _ _ _ _ _ t. clash t refl;
-          is-wide = λ _ _ _ _ _ t. clash t refl;
-          is-many = λ _ _ _ _ t. clash t refl;
-          is-short = λ _ _ _ _ t. clash t refl;
-          is-written = λ _ _ _ _ t. clash t refl;
-        }),
+      is-refused = λ n p past _ _. (n, p, past);
+      is-asked = λ _ _ _ t. clash t refl;
+      is-spent = λ _ _ _ t. clash t refl;
+      is-missed = λ _ _ _ _ _ _ _ t. clash t refl;
+      is-stuck = λ _ _ _ _ _ _ _ t. clash t refl;
+      is-wide = λ _ _ _ _ _ t. clash t refl;
+      is-many = λ _ _ _ _ t. clash t refl;
+      is-short = λ _ _ _ _ t. clash t refl;
+      is-written = λ _ _ _ _ t. clash t refl;
+    }),
     λ w. subst (λ (b : Built). among (b .answer .number) refusals ≡ true) (sym (derive-refused lim s room budget (w .0) (w .1) (w .2))) (fault-among (w .0) (w .1) (w .2)),
   )
     where

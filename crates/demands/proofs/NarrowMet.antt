@@ -1,10 +1,10 @@
 -- The walk that is refused at a sensing action that is too wide ends fine exactly where the plain walk does and meets no such action; and where it stops with 37, the place is that
 -- of an action of the plan that the plain walk meets in a state in which it is too wide (FORMAT 24.4, 24.16). For two steps that do the same wherever the first is not refused so
 -- have the same paths up to such a refusal. By induction on the plan. Assumes nothing.
-use Prim.Native.Nat.{ℕ, _≤_, _<_}
+use Prim.Native.Nat.{ℕ, _<_}
 use native.Mathlib.Omega.{arith}
 use mathlib.Core.Path.{_≡_, refl, sym, _∙_, ap, subst}
-use mathlib.Core.Bool.{true, false}
+use mathlib.Core.Bool.{true}
 use mathlib.Core.List.{List, [], _∷_}
 use mathlib.Core.Logic.{_⊎_, inl, inr, ⊎-elim, _↔_}
 use lib.ListN.{length}
@@ -17,7 +17,7 @@ use Rattle.meaning.specs.Requests.{Knowledge, Table, Sequence, done, item, Item
 use Rattle.meaning.specs.Lines.{knowledge-of, sensing}
 use Rattle.meaning.specs.Refusals.{nowhere}
 use Rattle.meaning.specs.States.{State, first-state, unknown-sensed}
-use Rattle.meaning.specs.Walk.{Concerned, no-state, End, fine, stopped, Walked, Verified, Step, refuses, Steps, table-does, table-step, missed-in, judged, walked}
+use Rattle.meaning.specs.Walk.{Concerned, no-state, End, fine, stopped, Walked, Verified, Step, refuses, Steps, table-does, table-step, missed-in, judged}
 use Rattle.meaning.specs.Judging.{walk-of}
 use Rattle.meaning.specs.Approximation.{K}
 use Rattle.meaning.specs.Paths.{Ending, arrives, stops, Path, paths-step, paths, paths-item, paths-branch, first-miss, stop-or-miss, walked-along}
@@ -26,13 +26,13 @@ use Rattle.meaning.specs.CaseReported.{Meets-in, Meets-at, Meets-under}
 use Rattle.meaning.specs.Schemes.{too-wide, narrow-does, narrow-step, walked-narrow, narrow-walk-of}
 use Rattle.meaning.specs.Derived.{Walk-meets, None-wide, narrow-paths, Too-wide-at}
 use Rattle.meaning.proofs.TestLaws.{by-test, clash, both-left, pick-true, pick-false, pick-cases, some-has, has-some, has-those}
-use Rattle.meaning.proofs.PickLaws.{pick-has, has-picked}
+use Rattle.meaning.proofs.PickLaws.{has-picked}
 use Rattle.meaning.proofs.PathLaws.{walk-along}
-use Rattle.meaning.proofs.EndLaws.{Ends, arrives≢stops, has-ends, ends-has, ends-one, went-on, stops-on, arrives-on, Stops-first, stop-ends, first-stop-is, Says, end-says}
+use Rattle.meaning.proofs.EndLaws.{Ends, arrives≢stops, has-ends, ends-has, ends-one, went-on, stops-on, arrives-on, stop-ends, first-stop-is, Says, end-says}
 use Rattle.meaning.proofs.ReportLaws.{leads≢refuses, refuses-numbered}
 use Rattle.meaning.proofs.SensingLaws.{read-is}
 use Rattle.meaning.proofs.CaseWalks.{Limits-to}
-use Rattle.meaning.proofs.NarrowWalks.{does-narrow, narrow-same, narrow-or-wide}
+use Rattle.meaning.proofs.NarrowWalks.{does-narrow, narrow-or-wide}
 use Rattle.demands.proofs.CaseReports.{stop-met}
 
 -- What is met is in the plan.
