@@ -56,5 +56,5 @@ pub mod ReuseLaws
 pub mod ReuseMet
 pub mod Indexed
 pub mod NarrowMet
-pub mod Derived
+pub mod DeriveExact
 pub mod Demands
