@@ -25,7 +25,7 @@ use Rattle.meaning.specs.Judging.{Judgement, within, judge-got, walk-of, judge,
 use Rattle.meaning.specs.Derivations.{check}
 use Rattle.meaning.specs.Indexes.{Built}
 use Rattle.meaning.specs.Schemes.{derivation-of, too-wide, narrow-walk-of, unwritten, derive}
-use Rattle.meaning.specs.Derived.{Asks-goals, Asks-whether, unverified, Walk-verifies, Walk-meets, None-wide, Too-wide-at, Derives, bytes-of, Sizes-fit, Bytes-exceed, Derivation-written}
+use Rattle.meaning.specs.DeriveReported.{Asks-goals, Asks-whether, unverified, Walk-verifies, Walk-meets, None-wide, Too-wide-at, Derives, bytes-of, Sizes-fit, Bytes-exceed, Derivation-written}
 use Rattle.meaning.specs.Answers.{refusals}
 use Rattle.demands.specs.Completeness.{Proved-by-rules}
 use Rattle.meaning.proofs.TestLaws.{clash, either-false, pick-true, pick-false}

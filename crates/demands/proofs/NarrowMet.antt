@@ -24,7 +24,7 @@ use Rattle.meaning.specs.Paths.{Ending, arrives, stops, Path, paths-step, paths
 use Rattle.meaning.specs.Reported.{Item-in, Item-of, Item-under}
 use Rattle.meaning.specs.CaseReported.{Meets-in, Meets-at, Meets-under}
 use Rattle.meaning.specs.Schemes.{too-wide, narrow-does, narrow-step, walked-narrow, narrow-walk-of}
-use Rattle.meaning.specs.Derived.{Walk-meets, None-wide, narrow-paths, Too-wide-at}
+use Rattle.meaning.specs.DeriveReported.{Walk-meets, None-wide, narrow-paths, Too-wide-at}
 use Rattle.meaning.proofs.TestLaws.{by-test, clash, both-left, pick-true, pick-false, pick-cases, some-has, has-some, has-those}
 use Rattle.meaning.proofs.PickLaws.{has-picked}
 use Rattle.meaning.proofs.PathLaws.{walk-along}

@@ -24,7 +24,7 @@ use Rattle.meaning.specs.Judging.{Judgement, reported, count-told, ended
 use Rattle.meaning.specs.Derivations.{answer, beyond}
 use Rattle.meaning.specs.Indexes.{Built}
 use Rattle.meaning.specs.Schemes.{derivation-of, narrow-walk-of, unwritten, write-bytes, write-lines, unless-refused, derive-got, derive}
-use Rattle.meaning.specs.Derived.{Asks-goals, Asks-whether, Walk-verifies, bytes-of, Sizes-fit, Bytes-exceed}
+use Rattle.meaning.specs.DeriveReported.{Asks-goals, Asks-whether, Walk-verifies, bytes-of, Sizes-fit, Bytes-exceed}
 use Rattle.meaning.specs.Answers.{refusals, derive-answers}
 use Rattle.meaning.specs.AnswerParts.{of-neither, at-start, of-walks, stated, of-sizes, of-derived, Derive-input, Derive-placed, Derive-count}
 use Rattle.meaning.proofs.TestLaws.{by-test, clash, fails-true, pick-true, pick-false}

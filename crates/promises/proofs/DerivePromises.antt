@@ -18,7 +18,7 @@ use Rattle.meaning.specs.Judging.{judge}
 use Rattle.meaning.specs.Derivations.{check}
 use Rattle.meaning.specs.Indexes.{Built}
 use Rattle.meaning.specs.Schemes.{derivation-of, too-wide, derive}
-use Rattle.meaning.specs.Derived.{Asks-goals, Asks-whether, unverified, Walk-verifies, Walk-meets, Too-wide-at, Derives, bytes-of, Sizes-fit, Bytes-exceed}
+use Rattle.meaning.specs.DeriveReported.{Asks-goals, Asks-whether, unverified, Walk-verifies, Walk-meets, Too-wide-at, Derives, bytes-of, Sizes-fit, Bytes-exceed}
 use Rattle.meaning.specs.Layouts.{In-closing-layout}
 use Rattle.meaning.specs.Answers.{refusals, derive-answers}
 use Rattle.meaning.specs.AnswerParts.{Derive-input, Derive-placed, Derive-count}
