@@ -55,4 +55,6 @@ pub mod EachRequest
 pub mod ReuseLaws
 pub mod ReuseMet
 pub mod Indexed
+pub mod NarrowMet
+pub mod DeriveExact
 pub mod Demands

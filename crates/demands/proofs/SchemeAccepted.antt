@@ -21,7 +21,7 @@ use Rattle.meaning.specs.Derivations.{Line, overlap-in-lines, citations-taken, 
 use Rattle.meaning.specs.Layouts.{Bytes, number-written, lines-written, closing-written, written, In-closing-layout}
 use Rattle.meaning.specs.Schemes
 use Rattle.meaning.specs.Schemes.{derivation-of, narrow-walk-of, derive}
-use Rattle.meaning.specs.Derived.{bytes-of}
+use Rattle.meaning.specs.DeriveReported.{bytes-of}
 use Rattle.meaning.specs.Indexes.{Built}
 use Rattle.meaning.specs.Walk.{Verified}
 use Rattle.meaning.proofs.TestLaws.{both-left, both-right}

@@ -5,12 +5,11 @@ use Prim.Native.Nat.{ℕ, _≤_, _<_}
 use native.Mathlib.Omega.{arith}
 use mathlib.Core.Path.{_≡_, refl, sym, _∙_, ap, ap₂, subst}
 use mathlib.Core.Bool.{true, false}
-use mathlib.Core.List.{List, [], _∷_, _++_}
+use mathlib.Core.List.{List, [], _∷_}
 use mathlib.Core.Logic.{_⊎_, inl, inr, ⊎-elim}
 use lib.ListN.{length, drop, length-append, length-drop}
-use lib.Dec.{leb, ltb, eqb}
+use lib.Dec.{leb, ltb}
 use borrow.Author.Tests.{leb-true, leb-false, le-leb, lt-leb, ltb-true, ltb-false, lt-ltb, le-ltb, eq-eqb, ne-eqb}
-use Rattle.meaning.specs.declared.Answer.{Answer}
 use Rattle.meaning.specs.declared.Layout.the-variants.{Plain}
 use Rattle.meaning.specs.Tests.{both, either, fails, some-of, each-of}
 use Rattle.meaning.specs.Limits
@@ -20,14 +19,14 @@ use Rattle.meaning.specs.Requests.{Entry, Request}
 use Rattle.meaning.specs.Reading.{Got, got, fault}
 use Rattle.meaning.specs.Refusals.{settled}
 use Rattle.meaning.specs.States.{State, first-state}
-use Rattle.meaning.specs.Walk.{Concerned, no-state, in-state, End, fine, missed, stopped, Walked, Verified}
+use Rattle.meaning.specs.Walk.{no-state, in-state, End, fine, missed, stopped, Walked, Verified}
 use Rattle.meaning.specs.Judging.{Judgement, reported, count-told, ended, within, walk-of, count}
 use Rattle.meaning.specs.Derivations.{answer, beyond}
 use Rattle.meaning.specs.Indexes.{Built}
 use Rattle.meaning.specs.Schemes.{derivation-of, narrow-walk-of, unwritten, write-bytes, write-lines, unless-refused, derive-got, derive}
-use Rattle.meaning.specs.Derived.{Asks-goals, Asks-whether, Walk-verifies, bytes-of, Sizes-fit, Bytes-exceed}
+use Rattle.meaning.specs.DeriveReported.{Asks-goals, Asks-whether, Walk-verifies, bytes-of, Sizes-fit, Bytes-exceed}
 use Rattle.meaning.specs.Answers.{refusals, derive-answers}
-use Rattle.meaning.specs.AnswerParts.{of-neither, at-start, Placed, of-walks, stated, of-sizes, of-derived, Derive-input, Derive-placed, Derive-count}
+use Rattle.meaning.specs.AnswerParts.{of-neither, at-start, of-walks, stated, of-sizes, of-derived, Derive-input, Derive-placed, Derive-count}
 use Rattle.meaning.proofs.TestLaws.{by-test, clash, fails-true, pick-true, pick-false}
 use Rattle.meaning.proofs.LiteralLaws.{among-each}
 use Rattle.meaning.proofs.KeptEnds.{Stuck, walked-stuck}
@@ -210,7 +209,7 @@ module _ (lim : Limits) (s room : List ℕ) (budget : ℕ) where
     by-deriving = by-read (settled lim s) refl (settled-held lim s)
 
 -- DEMAND 1. A refusal is not one of these numbers, where none of them is a refusal.
-refusal-not : (ns : List ℕ) → each-of (λ (m : ℕ). fails (among m ns)) refusals ≡ true → (n : ℕ) → among n refusals ≡ true → among n ns ≡ false
+pub refusal-not : (ns : List ℕ) → each-of (λ (m : ℕ). fails (among m ns)) refusals ≡ true → (n : ℕ) → among n refusals ≡ true → among n ns ≡ false
 refusal-not ns none n is = fails-true _ (among-each (λ (m : ℕ). fails (among m ns)) refusals none n is)
 
 among-more : (n : ℕ) → among n refusals ≡ true → among n derive-answers ≡ true

@@ -19,7 +19,7 @@ use Rattle.meaning.proofs.PlaceLaws.{Found-below, Request-below, missed
 use Rattle.meaning.proofs.CaseWalks.{Limited, Limits-to, walk-limited}
 
 -- TWO WALKS.
-does-narrow : (t : Table) (a : ℕ) (s : State) → Limits-to Limits.sensing-too-wide no-state (narrow-does t a s) (table-does t a s)
+pub does-narrow : (t : Table) (a : ℕ) (s : State) → Limits-to Limits.sensing-too-wide no-state (narrow-does t a s) (table-does t a s)
 unfolding narrow-does
 does-narrow t a s = by-test (too-wide t a s) (λ wide. inr (pick-true _ _ _ wide)) (λ few. inl (pick-false _ _ _ few))
 

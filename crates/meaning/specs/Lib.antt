@@ -32,4 +32,4 @@ pub mod Showing
 pub mod Layouts
 pub mod Schemes
 pub mod AnswerParts
-pub mod Derived
+pub mod DeriveReported

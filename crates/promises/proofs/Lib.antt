@@ -18,6 +18,7 @@ pub mod ExportedIndexPromises
 pub mod IndexedJudgePromises
 pub mod IndexedPromises
 pub mod ExportedIndexedPromises
+pub mod DerivePromises
 pub mod ReusePromises
 pub mod CheckPromises
 pub mod DerivationPromises

@@ -2,7 +2,7 @@
 use Prim.Native.Nat.{ℕ, _≤_, _<_}
 use mathlib.Core.Path.{_≡_}
 use mathlib.Core.Bool.{true, false}
-use mathlib.Core.List.{List, [], _++_}
+use mathlib.Core.List.{List, [], _∷_, _++_}
 use mathlib.Core.Logic.{_⊎_}
 use lib.ListN.{length, drop}
 use Rattle.meaning.specs.Limits
@@ -30,6 +30,10 @@ pub record Asks-whether (lim : Limits) (request : List ℕ) (r : Request) : Type
   pub end : ℕ
   pub settles : settled lim request ≡ got r end
   pub some : r .whether ≡ [] → ⊥
+
+-- The numbers of a walk that does not verify it.
+unfoldable pub unverified : List ℕ
+unverified = Limits.goal-missed ∷ Limits.not-executable ∷ Limits.budget-spent ∷ []
 
 -- PAST 1, 2 AND 3: its walk verifies it within the budget (FORMAT 24.15).
 pub record Walk-verifies (lim : Limits) (request : List ℕ) (budget : ℕ) (r : Request) : Type 0 where
