@@ -12,6 +12,7 @@ pub mod MissLaws
 pub mod OnwardLaws
 pub mod Sweeps
 pub mod LookLaws
+pub mod WideLaws
 pub mod ActionLaws
 pub mod AfterLaws
 pub mod FlagLaws
