@@ -1,1 +1,2 @@
 pub mod Narrow
+pub mod Put

@@ -31,7 +31,7 @@ use Rattle.finding.proofs.PlanHere.{count-zero, count-some, some-item, place-is
 use Rattle.steps.specs.Held.{plan-in, request-in}
 use Rattle.steps.specs.AtHand.{At-hand}
 use Rattle.steps.specs.Rests.{rest-at, after-first, span, onward, Position, Branches-laid, Inside-laid, Item-laid}
-use Rattle.steps.specs.Steps.{step-in, walk-from, walk-after, met-from, Followed, Into, going-on, Takes, Taken, Chosen}
+use Rattle.steps.specs.Steps.{step-in, walk-from, walk-after, met-from, Followed, Into, going-on, Takes, Taken, Takes-none, Untaken, Chosen}
 use Rattle.steps.proofs.HandLaws.{few-items}
 use Rattle.steps.proofs.RestLaws.{rest-past}
 use Rattle.steps.proofs.Laid.{item-laid}
@@ -152,6 +152,10 @@ Walks-by s t i marks after branches =
 abbrev pub Leaves : (s t : List ℕ) (i : ℕ) → State → Sequence ℕ → Branches ℕ → Type 0
 Leaves s t i marks after branches = (b : Sequence ℕ) → Takes marks branches b → Taken marks (rest-at (plan-in s t) i) (join b after)
 
+-- Where these take none, the branching takes none.
+abbrev pub Stays : (s t : List ℕ) (i : ℕ) → State → Branches ℕ → Type 0
+Stays s t i marks branches = Takes-none marks branches → Untaken marks (rest-at (plan-in s t) i)
+
 -- None of the branches before p has a condition known true; those from there on are `branches`.
 pub record Choosing (s t : List ℕ) (i : ℕ) (marks : State) (left p met : ℕ) : Type 0 where
   pub branches : Branches ℕ
@@ -164,6 +168,7 @@ pub record Choosing (s t : List ℕ) (i : ℕ) (marks : State) (left p met : ℕ
   pub follows : after-first (rest-at (plan-in s t) i) ≡ after
   pub goes : Walks-by s t i marks after branches
   pub leaves : Leaves s t i marks after branches
+  pub stays : Stays s t i marks branches
 
 module _ (s t : List ℕ) (here : At-hand s t) (i : ℕ) (less : i < items-of (plan-in s t)) where
   pub place-fits : Fits w64 (0 + i)
@@ -209,6 +214,7 @@ module _ (s t : List ℕ) (here : At-hand s t) (i : ℕ) (less : i < items-of (p
             follows = rw rest;
             goes = rw (rest, place);
             leaves = λ b takes. record { place = p; branches = bs; after = after; chosen = b; is = rest; takes = takes; rest = refl };
+            stays = λ none-here. record { place = p; branches = bs; after = after; is = rest; none = none-here };
           }
 
       pub choosing-starts : (start x : ℕ) → start ≡ getD t (0 + i) 0 → x ≡ getD s (start + 1) 0 → Choosing s t i marks x (start + 2) (i + 1)
@@ -230,6 +236,7 @@ module _ (s t : List ℕ) (i : ℕ) (marks : State) where
       record {
         goes = goes;
         takes = λ at e. subst (λ (n : ℕ). Taken marks (rest-at (plan-in s t) i) (rest-at (plan-in s t) n)) (At-same r at e) taken;
+        stays = λ e. absurd (Nowhere≢At r (sym e));
         later = λ at e. subst (λ (n : ℕ). i < n) (At-same r at e) later;
         at = λ at e. subst (Position (plan-in s t)) (At-same r at e) position;
       }
@@ -241,14 +248,14 @@ module _ (s t : List ℕ) (i : ℕ) (marks : State) where
       condition-is c e = rw (tested, sym e)
 
       pub choosing-next : known-here ≡ false → (q j : ℕ) → q ≡ place-after s t p met → j ≡ item-after s t p met → Choosing s t i marks (left - 1) q j
-      unfolding branches-in Branches-written Branches-laid walk-branch step-in guarded-step Takes
-      choosing-next fails q j placed counted = step (choosing .branches) (choosing .count) (choosing .written) (choosing .laid) (choosing .goes) (choosing .leaves)
+      unfolding branches-in Branches-written Branches-laid walk-branch step-in guarded-step Takes Takes-none
+      choosing-next fails q j placed counted = step (choosing .branches) (choosing .count) (choosing .written) (choosing .laid) (choosing .goes) (choosing .leaves) (choosing .stays)
         where
           step : (bs : Branches ℕ) → left ≡ branches-in bs → Branches-written s p bs → Branches-laid t (plan-in s t) met p (choosing .after) bs
-              → Walks-by s t i marks (choosing .after) bs → Leaves s t i marks (choosing .after) bs
+              → Walks-by s t i marks (choosing .after) bs → Leaves s t i marks (choosing .after) bs → Stays s t i marks bs
               → Choosing s t i marks (left - 1) q j
-          step none count w l goes leaves = absurd (omega (arith, more, count))
-          step (branch c d bs) count w l goes leaves =
+          step none count w l goes leaves stays = absurd (omega (arith, more, count))
+          step (branch c d bs) count w l goes leaves stays =
               let no : each-of (known marks) c ≡ false = condition-is c (w .0 .condition) ∙ fails in
               let there : q ≡ p + (1 + length c) + (2 + bytes-of d) = placed ∙ place-is s t met p c d (w .0) (l .0 .kept) in
               let items : j ≡ met + items-of d = counted ∙ item-is s t met p c d (w .0) (l .0 .kept) in
@@ -264,6 +271,7 @@ module _ (s t : List ℕ) (i : ℕ) (marks : State) where
                 follows = choosing .follows;
                 goes = goes ∙ pick-false _ _ _ no;
                 leaves = λ b takes. leaves b (inr (no, takes));
+                stays = λ none-here. stays (no, none-here);
               }
 
       pub chosen-at : known-here ≡ true → (r : ℕ) → Into s t i p met r → Chosen s t i marks (At r)
@@ -299,14 +307,18 @@ module _ (s t : List ℕ) (i : ℕ) (marks : State) where
               (record { most = branch-first s t left p met more (choosing .here) .few; there = λ _. l .0 .there some }))
 
     pub chosen-none : left ≤ 0 → Chosen s t i marks Nowhere
-    unfolding branches-in walk-branch going-on
-    chosen-none over = record { goes = by-branch (choosing .branches) (choosing .count) (choosing .goes); takes = λ at e. absurd (Nowhere≢At at e); later = λ at e. absurd (Nowhere≢At at e); at = λ at e. absurd (Nowhere≢At at e) }
+    unfolding branches-in walk-branch going-on Takes-none
+    chosen-none over = record { goes = by-branch (choosing .branches) (choosing .count) (choosing .goes); takes = λ at e. absurd (Nowhere≢At at e); stays = λ _. untaken (choosing .branches) (choosing .count) (choosing .stays); later = λ at e. absurd (Nowhere≢At at e); at = λ at e. absurd (Nowhere≢At at e) }
       where
         by-branch : (bs : Branches ℕ) → left ≡ branches-in bs
             → Walks-by s t i marks (choosing .after) bs
             → walk-from s t i marks ≡ going-on s t (getD t (0 + i) 0) marks Nowhere
         by-branch none count goes = goes
         by-branch (branch c d bs) count goes = absurd (omega (arith, over, count))
+
+        untaken : (bs : Branches ℕ) → left ≡ branches-in bs → Stays s t i marks bs → Untaken marks (rest-at (plan-in s t) i)
+        untaken none count stays = stays tt
+        untaken (branch c d bs) count stays = absurd (omega (arith, over, count))
 
 -- FROM A POSITION. Nothing is left from the plan's end on.
 module _ (s t : List ℕ) (here : At-hand s t) where
@@ -338,6 +350,10 @@ module _ (s t : List ℕ) (here : At-hand s t) where
         pub action-small : a < format .actions
         unfolding An-act
         action-small = rw byte (the-act .2)
+
+        pub action-left : rest-at (plan-in s t) i ≡ item (act p a) (after-first (rest-at (plan-in s t) i))
+        unfolding An-act after-first
+        action-left = rw (the-act .1, byte)
 
         pub action-walked : (marks : State) → walk-from s t i marks ≡ run-action (step-in s t) p a (walk-after s t i) marks
         unfolding An-act walk-from walk-after walk after-first

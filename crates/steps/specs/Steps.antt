@@ -128,8 +128,21 @@ pub record Taken (s : State) (c d : Sequence ℕ) : Type 0 where
   pub takes : Takes s branches chosen
   pub rest : d ≡ join chosen after
 
+-- No condition is known true, so none is chosen.
+unfoldable pub Takes-none : State → Branches ℕ → Type 0
+Takes-none s none = Unit {0}
+Takes-none s (branch c d bs) = (each-of (known s) c ≡ false) × Takes-none s bs
+
+pub record Untaken (s : State) (c : Sequence ℕ) : Type 0 where
+  pub place : ℕ
+  pub branches : Branches ℕ
+  pub after : Sequence ℕ
+  pub is : c ≡ item (branching place branches) after
+  pub none : Takes-none s branches
+
 pub record Chosen (s t : List ℕ) (i : ℕ) (marks : State) (r : Code.Found) : Type 0 where
   pub goes : walk-from s t i marks ≡ going-on s t (getD t (item-place + i) 0) marks r
   pub takes : (at : ℕ) → r ≡ At at → Taken marks (rest-at (plan-in s t) i) (rest-at (plan-in s t) at)
+  pub stays : r ≡ Nowhere → Untaken marks (rest-at (plan-in s t) i)
   pub later : (at : ℕ) → r ≡ At at → i < at
   pub at : (at : ℕ) → r ≡ At at → Position (plan-in s t) at

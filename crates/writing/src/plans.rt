@@ -57,7 +57,7 @@ pub struct Put {
 fn put_items(s: &[u8], t: &Notes, at: usize, room: &mut [u8], q: usize) -> Put
     requires { ⌜ At-hand (now s) (now t) ⌝ }
     requires { ⌜ Position (plan-in (now s) (now t)) at ⌝ }
-    requires { ⌜ q < 281474976710656 ⌝ }
+    requires { ⌜ q < 140737488355330 ⌝ }
     ensures after { λ r. ⌜ r .end ≡ q + length (items-written (rest-at (plan-in (now (s .entry)) (now (t .entry))) at)) ⌝ }
     ensures within { λ r. ⌜ r .end ≤ q + format .request * format .items ⌝ }
     ensures items { λ r. ⌜ r .items ≡ items-in (rest-at (plan-in (now (s .entry)) (now (t .entry))) at) ⌝ }

@@ -1,0 +1,5 @@
+pub mod AddLaws
+pub mod CitedLaws
+pub mod FallLaws
+pub mod NarrowLaws
+pub mod SchemeArms
