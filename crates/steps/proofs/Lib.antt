@@ -1,6 +1,8 @@
 pub mod SectionsStand
 pub mod HandLaws
 pub mod ToldMarks
+pub mod KnownLists
+pub mod StoreLaws
 pub mod SensedLaws
 pub mod Served
 pub mod NextSlots

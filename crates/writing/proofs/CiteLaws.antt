@@ -2,15 +2,15 @@
 use Prim.Native.Nat.{ℕ, suc, _+_, _-_, _*_, _%_, _≤_, _<_}
 use native.Mathlib.Omega.{arith}
 use mathlib.Core.Path.{_≡_, refl, sym, _∙_, ap, ap₂}
-use mathlib.Core.List.{List, [], _∷_, _++_}
-use lib.ListN.{length, length-append, getD, take, drop, set, length-set, length-drop}
+use mathlib.Core.List.{List, [], _∷_}
+use lib.ListN.{length, getD, take, drop, set, length-set, length-drop}
 use lib.Seq.{sets, length-sets, length-take-le}
-use mir.Syntax.{w8, w64}
+use mir.Syntax.{w64}
 use mir.Val.{Fits}
 use Rattle.meaning.specs.Limits.{format}
 use Rattle.meaning.specs.Layouts.{number-written, numbers-written}
 use Rattle.writing.specs.Progress.{cited, Cited}
-use Rattle.writing.proofs.StoreLaws.{stores-behind, part-first, part-none}
+use Rattle.steps.proofs.StoreLaws.{part-first, part-none}
 
 pub numbers-length : (ks : List ℕ) → length (numbers-written ks) ≡ 2 * length ks
 unfolding numbers-written number-written
@@ -32,14 +32,11 @@ pub record Citing (held before : List ℕ) (q count : ℕ) (room : List ℕ) (p 
   pub few : i ≤ count
   pub placed : p ≡ q + 1 + 2 * i
   pub sized : length room ≡ length before
-  pub same : sets before q (length (cited held) ∷ numbers-written (cited held)) ≡ sets room p (numbers-written (take (count + 1 - (i + 1)) (drop (i + 1) held)))
+  pub same : sets before (q + 1) (numbers-written (cited held)) ≡ sets room p (numbers-written (take (count + 1 - (i + 1)) (drop (i + 1) held)))
 
-pub citing-starts : (held before : List ℕ) (q count : ℕ) → Cited held → count ≡ getD held 0 0 → q < 140737488355328 → (room : List ℕ) → room ≡ set before q (count % 256) → Citing held before q count room (q + 1) 0
+pub citing-starts : (held room : List ℕ) (q count : ℕ) → Cited held → count ≡ getD held 0 0 → q < 140737488355328 → Citing held room q count room (q + 1) 0
 unfolding cited
-citing-starts held before q count cites number near room put =
-    let few = cites .few in
-    let on : q + 1 ≡ suc q = omega arith in
-    let small : length (cited held) ≡ count % 256 = let long = cited-length held cites in omega (arith, long, number, few) in
+citing-starts held room q count cites number near =
     let all : getD held 0 0 ≡ count + 1 - 1 = omega (arith, number) in
     record {
       cites = cites;
@@ -47,11 +44,8 @@ citing-starts held before q count cites number near room put =
       near = near;
       few = omega arith;
       placed = omega arith;
-      sized = ap length put ∙ length-set before q (count % 256);
-      same =
-          ap (λ (n : ℕ). sets (set before q n) (suc q) (numbers-written (cited held))) small
-          ∙ ap₂ (λ (xs : List ℕ) (j : ℕ). sets xs j (numbers-written (cited held))) (sym put) (sym on)
-          ∙ ap (λ (n : ℕ). sets room (q + 1) (numbers-written (take n (drop 1 held)))) all;
+      sized = refl;
+      same = ap (λ (n : ℕ). sets room (q + 1) (numbers-written (take n (drop 1 held)))) all;
     }
 
 module _ (held before : List ℕ) (q count : ℕ) (room : List ℕ) (p i : ℕ) (puts : Citing held before q count room p i) where
@@ -95,6 +89,16 @@ module _ (held before : List ℕ) (q count : ℕ) (room : List ℕ) (p i : ℕ) 
     pub cites-within : p ≤ q + 129
     cites-within = let is = puts .placed in let few = puts .few in let most = count-few in omega (arith, is, few, most)
 
-    pub cites-put : room ≡ sets before q (length (cited held) ∷ numbers-written (cited held))
-    unfolding numbers-written
-    cites-put = sym (puts .same ∙ rw (part-none held (i + 1) (count + 1) (omega arith)) refl)
+    module _ (lent : List ℕ) (first : before ≡ set lent q (count % 256)) where
+      pub cites-put : room ≡ sets lent q (length (cited held) ∷ numbers-written (cited held))
+      unfolding numbers-written
+      cites-put =
+          let on : q + 1 ≡ suc q = omega arith in
+          let number = puts .number in let few = count-few in let long = cited-length held (puts .cites) in
+          let small : count % 256 ≡ length (cited held) = omega (arith, number, few, long) in
+          sym (puts .same ∙ rw (part-none held (i + 1) (count + 1) (omega arith)) refl)
+          ∙ ap₂ (λ (xs : List ℕ) (j : ℕ). sets xs j (numbers-written (cited held))) first on
+          ∙ ap (λ (n : ℕ). sets (set lent q n) (suc q) (numbers-written (cited held))) small
+
+      pub cites-sized : length room ≡ length lent
+      cites-sized = puts .sized ∙ ap length first ∙ length-set lent q (count % 256)

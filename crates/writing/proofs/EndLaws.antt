@@ -1,16 +1,15 @@
 -- Where an item ends: behind its byte, or behind the last of its branches, each of which ends where the notes say. Assumes nothing.
 use Prim.Native.Nat.{ℕ, _+_, _-_, _≤_, _<_}
 use native.Mathlib.Omega.{arith}
-use mathlib.Core.Path.{_≡_, refl, sym, _∙_, ap, subst}
+use mathlib.Core.Path.{_≡_, _∙_, ap, subst}
 use mathlib.Core.List.{List}
 use lib.ListN.{length, getD}
 use mir.Syntax.{w64}
 use mir.Val.{Fits}
-use Rattle.meaning.specs.Limits.{format}
-use Rattle.meaning.specs.Requests.{Sequence, item, Item, act, branching, Branches, none, branch}
+use Rattle.meaning.specs.Requests.{Sequence, Item, act, branching, Branches, none, branch}
 use Rattle.meaning.specs.Layouts.{item-written}
 use Rattle.meaning.proofs.MovedReads.{stands-length, stands-inside}
-use Rattle.reading.specs.Noted.{item-place, slots, items-slot, plan-slot}
+use Rattle.reading.specs.Noted.{item-place, items-slot, plan-slot}
 use Rattle.reading.specs.Planned.{items-of, bytes-of, bytes-in, bytes-under, place-of}
 use Rattle.finding.specs.PlansHeld.{branches-in, Item-written, Branches-written}
 use Rattle.finding.specs.Branches.{place-after, item-after, Branch-here, Branches-here}
@@ -18,7 +17,7 @@ use Rattle.finding.proofs.ByBranch.{branch-first, branches-next}
 use Rattle.finding.proofs.PlanHere.{place-is, item-is}
 use Rattle.steps.specs.Held.{table-in, plan-in, goals-in}
 use Rattle.steps.specs.AtHand.{At-hand}
-use Rattle.steps.specs.Rests.{rest-at, Branches-laid, Inside-laid, Item-laid}
+use Rattle.steps.specs.Rests.{Branches-laid, Inside-laid, Item-laid}
 use Rattle.steps.proofs.Laid.{item-laid}
 use Rattle.steps.proofs.OnwardLaws.{item-there}
 use Rattle.writing.specs.Ends.{Item-ends}

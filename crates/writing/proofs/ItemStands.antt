@@ -1,11 +1,10 @@
 -- Each item of a plan that was read stands in the input: its bytes are there from its place on. And each item of what is left of a plan is one of the plan. Assumes nothing.
 use Prim.Native.Nat.{ℕ, suc, _+_}
 use native.Mathlib.Omega.{arith}
-use native.Mathlib.Numerals.{add-one}
 use mathlib.Core.Path.{_≡_, refl, sym, _∙_, ap, ap₂, subst}
 use mathlib.Core.List.{List, [], _∷_, _++_}
 use mathlib.Core.Logic.{inl, inr, ⊎-elim}
-use lib.ListN.{length, length-append, getD, take, drop}
+use lib.ListN.{length, length-append, take, drop}
 use lib.Seq.{drop-cons}
 use borrow.Author.Tests.{eqb-true}
 use Rattle.meaning.specs.Limits
@@ -79,10 +78,10 @@ module _ (n m : ℕ) (s : List ℕ) (bytes : Bytes s) where
         let one = byte-copied s p .holds x q read .there in
         let count = count-copied s 1 (format .branches) (p + 1) .holds c r counted .there in
         let here : Stands s p (item-written (branching p (bs .value))) e = (
-              one .0,
-              one .1 ∙ eqb-true x Limits.branching-byte opens,
-              (count .0, count .1 ∙ sym (all .1), subst (λ (o : ℕ). Stands s o (branches-written (bs .value)) e) (sym (count .2)) (all .0)),
-            ) in
+          one .0,
+          one .1 ∙ eqb-true x Limits.branching-byte opens,
+          (count .0, count .1 ∙ sym (all .1), subst (λ (o : ℕ). Stands s o (branches-written (bs .value)) e) (sym (count .2)) (all .0)),
+        ) in
         (here, λ i. ⊎-elim (λ is. subst (Item-stands s) (sym is) (record { end = e; bytes = here })) (all .2 i));
     no-item = λ deep p met. (refl, refl, λ i h. absurd h);
     an-item = λ deep left p met i q rest e one more.

@@ -1,16 +1,16 @@
 -- What is left of a plan, put item by item: each item is copied from where it stands, and the position after it has what is left then. Assumes nothing.
 use Prim.Native.Nat.{ℕ, suc, _+_, _-_, _*_, _/_, _%_, _≤_, _<_}
 use native.Mathlib.Omega.{arith}
-use mathlib.Core.Path.{_≡_, refl, sym, _∙_, ap, ap₂, subst}
-use mathlib.Core.List.{List, [], _∷_, _++_}
+use mathlib.Core.Path.{_≡_, refl, sym, _∙_, ap, ap₂}
+use mathlib.Core.List.{List, _++_}
 use lib.ListN.{length, length-append, getD, take, drop, set}
 use lib.Seq.{sets, length-sets}
 use mir.Syntax.{w64}
 use mir.Val.{Fits}
 use Rattle.meaning.specs.Limits.{format}
-use Rattle.meaning.specs.Requests.{Sequence, done, item, Item}
+use Rattle.meaning.specs.Requests.{Sequence, done}
 use Rattle.meaning.specs.Layouts.{number-written, items-in, items-written, item-written, plan-written}
-use Rattle.reading.specs.Noted.{item-place, slots}
+use Rattle.reading.specs.Noted.{slots}
 use Rattle.reading.specs.Planned.{items-of}
 use Rattle.steps.specs.Held.{plan-in}
 use Rattle.steps.specs.AtHand.{At-hand}
@@ -19,7 +19,7 @@ use Rattle.steps.specs.Steps.{Followed}
 use Rattle.steps.proofs.HandLaws.{few-items}
 use Rattle.steps.proofs.RestLaws.{rest-past}
 use Rattle.writing.specs.Ends.{Item-ends}
-use Rattle.writing.proofs.StoreLaws.{store-before, stores-behind}
+use Rattle.steps.proofs.StoreLaws.{store-before, stores-behind}
 
 -- What is left from position i on is still to be put, from p on; the items before it are put.
 pub record Items-put (s t before : List ℕ) (at q : ℕ) (room : List ℕ) (i p items : ℕ) : Type 0 where
@@ -65,9 +65,6 @@ module _ (s t before : List ℕ) (at q : ℕ) (room : List ℕ) (i p items : ℕ
     items-fit = let few = puts .few in record { fits = omega (arith, few, more) }
 
     module _ (start end : ℕ) (starts : start ≡ getD t (0 + i) 0) (ends : Item-ends s t i end) where
-      own : List ℕ
-      own = item-written (ends .this)
-
       pub part-order : start ≤ end
       part-order = let is = ends .ends in omega (arith, starts, is)
 

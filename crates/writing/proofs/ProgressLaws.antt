@@ -1,9 +1,8 @@
 -- What lines add to a standing: some lines after others add first the ones and then the others. And what one line that is put leaves behind: it is added to the standing, and
 -- the progress still fits its numbers. Assumes nothing.
-use Prim.Native.Nat.{ℕ, _+_, _*_, _≤_, _<_}
+use Prim.Native.Nat.{ℕ, _+_, _≤_, _<_}
 use native.Mathlib.Omega.{arith}
 use mathlib.Core.Path.{_≡_, refl, sym, _∙_, ap, ap₂}
-use mathlib.Core.Bool.{Bool, true, false}
 use mathlib.Core.List.{List, [], _∷_, _++_, append-assoc, append-nil}
 use lib.ListN.{length, length-append, getD, set, length-set}
 use lib.Seq.{sets, getD-set-same, getD-set-other}
@@ -11,13 +10,12 @@ use lib.Dec.{ltb}
 use borrow.Author.Tests.{ltb-true, ltb-false, lt-ltb, le-ltb}
 use Rattle.meaning.specs.declared.Layout.{Layout}
 use Rattle.meaning.specs.declared.Layout.the-variants.{Plain}
-use Rattle.meaning.specs.Tests.{pick}
 use Rattle.meaning.specs.Limits.{format}
 use Rattle.meaning.specs.Derivations.{Line}
 use Rattle.meaning.specs.Layouts.{line-written, lines-written}
-use Rattle.meaning.proofs.TestLaws.{by-test, clash, pick-true, pick-false}
-use Rattle.writing.specs.Progress.{Standing, over, so-far, add, line-count, byte-count, standing, progress-slots, most-line, Underway}
-use Rattle.writing.proofs.StoreLaws.{stores-behind}
+use Rattle.meaning.proofs.TestLaws.{by-test, pick-true, pick-false}
+use Rattle.writing.specs.Progress.{Standing, over, so-far, add, line-count, byte-count, standing, most-line, Underway}
+use Rattle.steps.proofs.StoreLaws.{stores-behind}
 
 -- LINES one after another.
 pub lines-append : (layout : Layout) (a b : List Line) → lines-written layout (a ++ b) ≡ lines-written layout a ++ lines-written layout b
@@ -107,9 +105,6 @@ module _ (progress : List ℕ) (underway : Underway progress) (few : getD progre
   progress-near = let short = underway .short in omega (arith, short, few)
 
   module _ (end : ℕ) where
-    next : List ℕ
-    next = set (set progress 0 (getD progress 0 0 + 1)) 1 end
-
     lines-next : line-count (set (set progress 0 (getD progress 0 0 + 1)) 1 end) ≡ getD progress 0 0 + 1
     unfolding line-count
     lines-next =
@@ -141,8 +136,7 @@ module _ (progress : List ℕ) (underway : Underway progress) (few : getD progre
         let m = getD progress 1 0 in
         let lines = lines-next in let bytes = bytes-next in
         let same : line-written Plain l ≡ line-written Plain l ++ [] = sym (append-nil (line-written Plain l)) in
-        ap (λ (u : Standing). u)
-        (by-test (ltb (format .lines) (n + 1))
+        by-test (ltb (format .lines) (n + 1))
         (λ t.
         let many = ltb-true _ _ t in
         stands-over (set (set progress 0 (n + 1)) 1 end) after (omega (arith, many, lines)) ∙ sym (add-above n m room (l ∷ []) many) ∙ ap (λ (u : Standing). add u (l ∷ [])) (sym (stands-so-far progress room few)))
@@ -152,4 +146,4 @@ module _ (progress : List ℕ) (underway : Underway progress) (few : getD progre
         ∙ ap₂ (λ (k j : ℕ). so-far k j after) lines (bytes ∙ ends ∙ ap (λ (xs : List ℕ). m + length xs) same)
         ∙ ap (so-far (n + 1) (m + length (line-written Plain l ++ []))) (put ∙ ap (sets room m) same)
         ∙ sym (add-within n m room (l ∷ []) small)
-        ∙ ap (λ (u : Standing). add u (l ∷ [])) (sym (stands-so-far progress room few))))
+        ∙ ap (λ (u : Standing). add u (l ∷ [])) (sym (stands-so-far progress room few)))

@@ -37,6 +37,7 @@ pub const CITE_SLOTS: usize = 1 + limits::CITATIONS;
 
 pub type Cites = [u16; CITE_SLOTS];
 
+// What a slot of the citations holds, as the number that it is.
 pub fn number_of(x: u16) -> usize
     ensures same { λ r. ⌜ r ≡ x ⌝ }
     ensures below { λ r. ⌜ r < 65536 ⌝ }

@@ -68,7 +68,7 @@ same-length c = search needs
 
 -- src/plans.rt:57:1
 returns : tie.Need-returns Inv-loop μ-loop
-returns c = search (items-end, items-within, items-counted, items-few, items-are)
+returns c = (search items-end, (search items-within, (search items-counted, (search items-few, search items-are))))
 
 pub put-items-spec : {M : Type 1} → statement M
 put-items-spec =
