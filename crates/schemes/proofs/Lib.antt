@@ -3,3 +3,4 @@ pub mod CitedLaws
 pub mod FallLaws
 pub mod NarrowLaws
 pub mod SchemeArms
+pub mod PassLaws

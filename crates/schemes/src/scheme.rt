@@ -2,13 +2,14 @@
 // more is written.
 ghost use mathlib.Core.Path.{_≡_};
 ghost use mathlib.Core.Bool.{true, false};
-ghost use mathlib.Core.List.{[], _∷_};
+ghost use mathlib.Core.List.{[], _∷_, _++_};
 ghost use Prim.Native.Nat.{_+_, _-_, _^_, _≤_, _<_};
-ghost use lib.ListN.{length, getD};
+ghost use lib.ListN.{length, getD, drop};
 ghost use Rattle.meaning.specs.Limits.{format};
 ghost use Rattle.meaning.specs.Lines.{sensing};
 ghost use Rattle.meaning.specs.Derivations.{goals-of};
-ghost use Rattle.meaning.specs.Schemes.{line-of};
+ghost use Rattle.meaning.specs.Walk.{Verified};
+ghost use Rattle.meaning.specs.Schemes.{line-of, derivation-of, derivation-bytes, narrow-walk-of};
 ghost use Rattle.reading.specs.Planned.{items-of};
 ghost use Rattle.steps.specs.Held.{table-in, plan-in, request-in};
 ghost use Rattle.steps.specs.AtHand.{At-hand, Marked};
@@ -16,26 +17,31 @@ ghost use Rattle.steps.specs.Rests.{Position, rest-at};
 ghost use Rattle.writing.specs.Progress.{line-count, Underway, Cited};
 ghost use Rattle.schemes.specs.Narrow.{Narrow-from, lines-at, fluents-from, Narrow-readings, readings-at, Acts};
 ghost use Rattle.schemes.specs.Put.{Cites-more, Put, Readings-put};
+ghost use Rattle.schemes.specs.Sizes.{Lined, Measured};
 use bytes::bytes::wide;
 use bytes::limits;
 use finding::places::Found;
 use reading::marks::Marks;
+use reading::marks::state_of;
 use reading::notes;
 use reading::notes::Notes;
 use reading::notes::get;
 use steps::actions::state_after;
 use steps::onward::chosen;
 use steps::onward::follow;
+use steps::onward::start_of;
 use steps::sensing::first_unknown;
 use steps::sensing::is_sensing;
 use steps::sensing::next_unknown;
 use writing::lines::CITE_SLOTS;
 use writing::lines::Cites;
+use writing::lines::PROGRESS_SLOTS;
 use writing::lines::Progress;
 use writing::lines::number_of;
 use writing::lines::put_action;
 use writing::lines::put_empty;
 use writing::lines::put_goals;
+use writing::room::put_number;
 use writing::rules;
 
 // One more line is cited.
@@ -251,4 +257,50 @@ fn put_readings(
     put_from(s, t, at, marks, room, progress);
     let last = progress[0] - 1;
     cite(cites, last);
+}
+
+// How many lines there are, and how many bytes with the two of their number.
+pub struct Size {
+    pub lines: usize,
+    pub bytes: usize,
+}
+
+// The lines of the whole plan from the first state, behind two bytes that are left for their number.
+fn put_plan(s: &[u8], t: &Notes, room: &mut [u8]) -> Size
+    requires { ⌜ At-hand (now s) (now t) ⌝ }
+    requires { ⌜ Verified (narrow-walk-of format (request-in (now s) (now t))) ⌝ }
+    ensures { λ r. ⌜ Lined (derivation-of format (request-in (now (s .entry)) (now (t .entry)))) (now (room .entry)) r (now (room .exit)) ⌝ }
+{
+    let marks = state_of(s, 2);
+    let items = get(t, notes::ITEMS);
+    let at = start_of(items);
+    let mut progress = [0usize; PROGRESS_SLOTS];
+    progress[1] = 2;
+    put_from(s, t, at, &marks, room, &mut progress);
+    Size {
+        lines: progress[0],
+        bytes: progress[1],
+    }
+}
+
+// The first pass: how long the derivation is.
+pub fn measure(s: &[u8], t: &Notes) -> Size
+    requires { ⌜ At-hand (now s) (now t) ⌝ }
+    requires { ⌜ Verified (narrow-walk-of format (request-in (now s) (now t))) ⌝ }
+    ensures { λ r. ⌜ Measured (derivation-of format (request-in (now (s .entry)) (now (t .entry)))) r ⌝ }
+{
+    let mut none = [0u8; 1];
+    put_plan(s, t, &mut none)
+}
+
+// The second pass: the derivation is put at the start of a room that has the bytes (FORMAT 24.10).
+pub fn write(s: &[u8], t: &Notes, room: &mut [u8])
+    requires { ⌜ At-hand (now s) (now t) ⌝ }
+    requires { ⌜ Verified (narrow-walk-of format (request-in (now s) (now t))) ⌝ }
+    requires { ⌜ length (derivation-of format (request-in (now s) (now t))) ≤ format .lines ⌝ }
+    requires { ⌜ length (derivation-bytes (derivation-of format (request-in (now s) (now t)))) ≤ length (now room) ⌝ }
+    ensures { λ _. ⌜ now (room .exit) ≡ derivation-bytes (derivation-of format (request-in (now (s .entry)) (now (t .entry)))) ++ drop (length (derivation-bytes (derivation-of format (request-in (now (s .entry)) (now (t .entry)))))) (now (room .entry)) ⌝ }
+{
+    let size = put_plan(s, t, room);
+    put_number(room, 0, size.lines);
 }

@@ -12,6 +12,7 @@ pub mod RestLaws
 pub mod Laid
 pub mod MissLaws
 pub mod OnwardLaws
+pub mod FirstLaws
 pub mod Sweeps
 pub mod LookLaws
 pub mod WideLaws

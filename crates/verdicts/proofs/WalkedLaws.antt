@@ -17,12 +17,13 @@ use Rattle.meaning.proofs.TestLaws.{by-test, pick-true, pick-false}
 use Rattle.reading.specs.Noted.{items-slot}
 use Rattle.reading.specs.Listed.{listed}
 use Rattle.steps.specs.AtHand.{At-hand, Marked}
+use Rattle.steps.specs.Rests.{start}
 use Rattle.steps.specs.Steps.{met-from, walk-held}
+use Rattle.steps.proofs.FirstLaws.{walks-first}
 use Rattle.walking.specs.Standing.{Standing, nothing, spent, so-far, spend, add, stateless, end-in, standing, Going, tally-slots}
 use Rattle.walking.proofs.StandingLaws.{stands-open, end-missed, end-stateless, end-stopped, sized-after}
-use Rattle.verdicts.specs.Telling.{start, told, Tallied}
+use Rattle.verdicts.specs.Telling.{told, Tallied}
 use Rattle.verdicts.proofs.MarkedLaws.{End-marked, held-marked, End-small, held-small}
-use Rattle.verdicts.proofs.FirstLaws.{walks-first}
 
 -- STANDINGS.
 so-far≢spent : {l : ℕ} {e : End State} → so-far l e ≡ spent → ⊥

@@ -4,17 +4,10 @@ use mathlib.Core.Path.{_≡_}
 use mathlib.Core.Bool.{false}
 use mathlib.Core.List.{List}
 use lib.ListN.{length, getD, drop}
-use lib.Dec.{eqb}
-use Rattle.meaning.specs.Tests.{pick}
-use Rattle.meaning.specs.Limits.{format}
 use Rattle.meaning.specs.Limits
 use Rattle.meaning.specs.Judging.{Judgement, ended}
 use Rattle.steps.specs.AtHand.{Marked}
 use Rattle.walking.specs.Standing.{Standing, nothing, spent, so-far, stateless, tally-slots}
-
--- The walk starts at the first item; a plan without items is at its end.
-unfoldable pub start : (items : ℕ) → ℕ
-start items = pick (eqb items 0) (λ _. format .items) (λ _. 0)
 
 -- How the walk stands once it is over, of a budget: what is not left was counted.
 unfoldable pub told : (lent : List ℕ) → (budget : ℕ) → Standing → Judgement

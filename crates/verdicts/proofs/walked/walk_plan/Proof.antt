@@ -3,13 +3,13 @@
 use borrow.Author.Needs.{needs}
 use Rattle.steps.proofs.HandLaws.{facts-here}
 use Rattle.steps.proofs.ToldMarks.{marked-as}
-use Rattle.verdicts.proofs.FirstLaws.{starts-there}
+use Rattle.steps.proofs.FirstLaws.{starts-there}
 use Rattle.verdicts.proofs.WalkedLaws.{plan-tallied, plan-judged}
 use Rattle.verdicts.proofs.walked.walk_plan.Statement.{statement}
 use Rattle.verdicts.proofs.walked.walk_plan.Tie as tie
 use Rattle.verdicts.proofs.walked.walk_plan.Reads as reads
 use Rattle.verdicts.proofs.walked.walk_plan.Lts as lts
-use Rattle.verdicts.proofs.walked.start_of.Reads as start-of-reads
+use Rattle.steps.proofs.onward.start_of.Reads as start-of-reads
 use Rattle.verdicts.proofs.telling.tell.Reads as tell-reads
 use Rattle.reading.proofs.marks.state_of.Reads as state-of-reads
 use Rattle.reading.proofs.notes.get.Reads as get-reads

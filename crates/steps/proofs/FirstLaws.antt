@@ -1,4 +1,4 @@
--- Where the walk starts: the facts stand at place 2 of a request, so the state of the list there is the first state; and what is left from
+-- Where a plan starts: the facts stand at place 2 of a request, so the state of the list there is the first state; and what is left from
 -- the first item on is the plan. Assumes nothing.
 use Prim.Native.Nat.{ℕ}
 use native.Mathlib.Omega.{arith}
@@ -9,19 +9,18 @@ use lib.Dec.{eqb}
 use borrow.Author.Tests.{eqb-true, eqb-false, eq-eqb, ne-eqb, le-leb}
 use Rattle.meaning.specs.Limits.{format}
 use Rattle.meaning.specs.Requests.{Sequence, done, item}
-use Rattle.meaning.specs.Derivations.{join}
 use Rattle.meaning.specs.States.{State, state-of, first-state}
 use Rattle.meaning.proofs.TestLaws.{by-test, pick-true, pick-false}
+use Rattle.meaning.proofs.SchemeLaws.{join-done}
 use Rattle.reading.specs.Listed.{listed}
 use Rattle.reading.specs.Planned.{items-of}
 use Rattle.reading.specs.Noted.{items-slot}
 use Rattle.finding.proofs.PlanHere.{some-item}
 use Rattle.steps.specs.Held.{table-in, plan-in}
 use Rattle.steps.specs.AtHand.{At-hand}
-use Rattle.steps.specs.Rests.{rest-in, rest-at, Position}
+use Rattle.steps.specs.Rests.{rest-in, rest-at, start, Position}
 use Rattle.steps.specs.Steps.{walk-from, met-from, walk-held}
 use Rattle.steps.proofs.HandLaws.{starts, few-items, items-are}
-use Rattle.verdicts.specs.Telling.{start}
 
 -- THE START.
 pub start-end : (items : ℕ) → items ≡ 0 → format .items ≡ start items
@@ -33,12 +32,7 @@ unfolding start
 start-first items some = sym (pick-false _ _ _ (ne-eqb _ _ some))
 
 -- THE PLAN from its first item on.
-join-done : (b : Sequence ℕ) → join b done ≡ b
-unfolding join
-join-done done = refl
-join-done (item x b) = ap (item x) (join-done b)
-
-rest-first : (b : Sequence ℕ) → rest-at b (start (items-of b)) ≡ b
+pub rest-first : (b : Sequence ℕ) → rest-at b (start (items-of b)) ≡ b
 unfolding rest-at rest-in items-of
 rest-first done = refl
 rest-first (item x b) =
@@ -49,7 +43,7 @@ rest-first (item x b) =
 -- A REQUEST at hand.
 module _ (s t : List ℕ) (here : At-hand s t) where
   module _ (marks : State) (is : marks ≡ state-of format (listed s 2)) where
-    first-is : marks ≡ first-state format (table-in s)
+    pub first-is : marks ≡ first-state format (table-in s)
     unfolding first-state
     first-is = is ∙ ap (state-of format) (starts s t here .facts)
 
@@ -57,7 +51,7 @@ module _ (s t : List ℕ) (here : At-hand s t) where
     counted-are : items ≡ items-of (plan-in s t)
     counted-are = counted ∙ items-are s t here
 
-    at-is : at ≡ start (items-of (plan-in s t))
+    pub at-is : at ≡ start (items-of (plan-in s t))
     at-is = starts ∙ ap start counted-are
 
     pub starts-there : Position (plan-in s t) at
