@@ -8,7 +8,7 @@ use lib.ListN.{length, getD, set, drop}
 use lib.Dec.{ltb, leb, eqb}
 use mir.Syntax.{w8}
 use mir.Val.{Fits}
-use borrow.Author.Tests.{eq-eqb, ne-eqb, lt-ltb, le-ltb, le-leb, lt-leb}
+use borrow.Author.Tests.{eq-eqb, ne-eqb, lt-ltb, le-ltb, le-leb, lt-leb, leb-true, leb-false}
 use Rattle.meaning.specs.declared.Answer.{Answer}
 use Rattle.meaning.specs.declared.Layout.the-variants.{Plain}
 use Rattle.meaning.specs.Limits.{format}
@@ -22,7 +22,7 @@ use Rattle.meaning.specs.Judging.{Judgement, within}
 use Rattle.meaning.specs.Derivations.{Line, answer, beyond}
 use Rattle.meaning.specs.Indexes.{put-in}
 use Rattle.meaning.specs.Schemes.{derivation-of, derivation-bytes, narrow-walk-of, unwritten, write-bytes, write-lines, unless-refused, derive-got, derive}
-use Rattle.meaning.proofs.TestLaws.{pick-true, pick-false}
+use Rattle.meaning.proofs.TestLaws.{by-test, pick-true, pick-false}
 use Rattle.meaning.proofs.VerifiedLaws.{within-unread}
 use Rattle.meaning.proofs.WithinLaws.{fine-within}
 use Rattle.meaning.proofs.NarrowWalks.{narrow-never}
@@ -39,46 +39,67 @@ use Rattle.steps.specs.Steps.{narrow-mode, mode-in, walk-held}
 use Rattle.steps.proofs.HandLaws.{is-whether}
 use Rattle.steps.proofs.ModeLaws.{held-plain, held-narrow}
 use Rattle.steps.proofs.ModeHand.{new-mode, same-request, same-guarded}
-use Rattle.schemes.specs.Sizes.{Size-of}
+use Rattle.schemes.specs.declared.scheme.Size.{Size}
+use Rattle.schemes.specs.Sizes.{Measured}
 use Rattle.glintstring.specs.CheckCalls.{too-many}
 use Rattle.glintstring.proofs.SettledAtHand.{settled-got, settled-held}
 use Rattle.glintstring.proofs.CheckCallLaws.{beyond-is}
 
 -- WHAT IS WRITTEN, by the sizes that were measured.
-module _ (room : List ℕ) (ls : List Line) (lines bytes : ℕ) (size : Size-of ls lines bytes) (a : Answer) where
-  pub lines-many : format .lines < lines → a ≡ record { number = 38; input = 0; place = 0; count = 0 } → record { answer = a; room = room } ≡ write-lines format room ls
-  unfolding write-lines unwritten answer
-  lines-many many is = ap (λ (b : Answer). record { answer = b; room = room }) is ∙ sym (pick-true _ _ _ (lt-ltb (format .lines) (length ls) (size .over many)))
+module _ (room : List ℕ) (ls : List Line) (size : Size) (measured : Measured ls size) (bytes : ℕ) (same : bytes ≡ size .bytes) (a : Answer) where
+  too-many-lines : format .lines < size .lines → format .lines < length ls
+  too-many-lines many =
+      by-test (leb (length ls) (format .lines))
+      (λ t. let few = measured .few (leb-true (length ls) (format .lines) t) in let most = leb-true (length ls) (format .lines) t in absurd (omega (arith, few, most, many)))
+      (λ f. leb-false (length ls) (format .lines) f)
 
-  module _ (few : lines ≤ format .lines) where
+  few-lines : size .lines ≤ format .lines → length ls ≤ format .lines
+  few-lines few =
+      by-test (leb (length ls) (format .lines)) (λ t. leb-true (length ls) (format .lines) t)
+      (λ f. let more = measured .many (leb-false (length ls) (format .lines) f) in absurd (omega (arith, few, more)))
+
+  pub lines-many : format .lines < size .lines → a ≡ record { number = 38; input = 0; place = 0; count = 0 } → record { answer = a; room = room } ≡ write-lines format room ls
+  unfolding write-lines unwritten answer
+  lines-many many is = ap (λ (b : Answer). record { answer = b; room = room }) is ∙ sym (pick-true _ _ _ (lt-ltb (format .lines) (length ls) (too-many-lines many)))
+
+  module _ (few : size .lines ≤ format .lines) where
+    long : length (derivation-bytes ls) ≡ bytes
+    long = sym (same ∙ measured .long (few-lines few))
+
     by-bytes : write-lines format room ls ≡ write-bytes format room (derivation-bytes ls)
     unfolding write-lines
-    by-bytes = pick-false _ _ _ (le-ltb (format .lines) (length ls) (let n = size .exact few in omega (arith, few, n)))
+    by-bytes = pick-false _ _ _ (le-ltb (format .lines) (length ls) (few-lines few))
 
     pub bytes-many : format .derivation < bytes → a ≡ record { number = 39; input = 0; place = 0; count = 0 } → record { answer = a; room = room } ≡ write-lines format room ls
     unfolding write-bytes unwritten answer
     bytes-many many is =
         ap (λ (b : Answer). record { answer = b; room = room }) is
-        ∙ sym (by-bytes ∙ pick-true _ _ _ (lt-ltb (format .derivation) (length (derivation-bytes ls)) (let n = size .long few in omega (arith, many, n))))
+        ∙ sym (by-bytes ∙ pick-true _ _ _ (lt-ltb (format .derivation) (length (derivation-bytes ls)) (let n = long in omega (arith, many, n))))
 
     module _ (fits : bytes ≤ format .derivation) where
       by-room : write-lines format room ls ≡ put-in room (derivation-bytes ls)
       unfolding write-bytes
-      by-room = by-bytes ∙ pick-false _ _ _ (le-ltb (format .derivation) (length (derivation-bytes ls)) (let n = size .long few in omega (arith, fits, n)))
+      by-room = by-bytes ∙ pick-false _ _ _ (le-ltb (format .derivation) (length (derivation-bytes ls)) (let n = long in omega (arith, fits, n)))
 
       pub room-few : length room < bytes → a ≡ record { number = 39; input = 0; place = 0; count = 0 } → record { answer = a; room = room } ≡ write-lines format room ls
       room-few less is =
           ap (λ (b : Answer). record { answer = b; room = room }) is
-          ∙ sym (by-room ∙ pick-false _ _ _ (lt-leb (length (derivation-bytes ls)) (length room) (let n = size .long few in omega (arith, less, n))))
+          ∙ sym (by-room ∙ pick-false _ _ _ (lt-leb (length (derivation-bytes ls)) (length room) (let n = long in omega (arith, less, n))))
 
       pub all-written : bytes ≤ length room → (w : List ℕ) → w ≡ derivation-bytes ls ++ drop (length (derivation-bytes ls)) room → a ≡ record { number = 0; input = 0; place = 0; count = bytes }
           → record { answer = a; room = w } ≡ write-lines format room ls
       all-written enough w puts is =
-          let n = size .long few in
+          let n = long in
           let given = by-room ∙ pick-true _ _ _ (le-leb (length (derivation-bytes ls)) (length room) (omega (arith, enough, n))) in
           ap (λ (b : Answer). record { answer = b; room = w }) (is ∙ ap (λ (k : ℕ). record { number = 0; input = 0; place = 0; count = k }) (sym n))
           ∙ ap (λ (x : List ℕ). record { answer = record { number = 0; input = 0; place = 0; count = length (derivation-bytes ls) }; room = x }) puts
           ∙ sym given
+
+    pub lines-fit : length ls ≤ format .lines
+    lines-fit = few-lines few
+
+    pub bytes-fit : bytes ≤ length room → length (derivation-bytes ls) ≤ length room
+    bytes-fit enough = let n = long in omega (arith, enough, n)
 
 -- THE TWO WALKS of what is held, by their answers. The mode is a slot of its own, so what is held is the same request.
 module _ (s t lent left : List ℕ) (budget : ℕ) (a : Answer) where

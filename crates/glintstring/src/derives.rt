@@ -6,7 +6,7 @@ ghost use lib.ListN.{length};
 ghost use Rattle.meaning.specs.declared.Layout.the-variants.{Plain};
 ghost use Rattle.meaning.specs.Limits.{format};
 ghost use Rattle.meaning.specs.Reading.{got};
-ghost use Rattle.meaning.specs.Walk.{fine};
+ghost use Rattle.meaning.specs.Walk.{Verified};
 ghost use Rattle.meaning.specs.Derivations.{beyond};
 ghost use Rattle.meaning.specs.Schemes.{derivation-of, narrow-walk-of, write-lines, derive-got, derive};
 ghost use Rattle.reading.specs.Noted.{slots};
@@ -23,8 +23,8 @@ use reading::notes::Notes;
 use reading::notes::get;
 use reading::notes::put;
 use refusing::settled::settle;
-use schemes::passes::measure;
-use schemes::passes::write;
+use schemes::scheme::measure;
+use schemes::scheme::write;
 use verdicts::answers;
 use verdicts::answers::uncounted;
 use verdicts::walked::walk_plan;
@@ -35,12 +35,13 @@ const NARROW: usize = 2;
 // The lines of a request whose walk is fine go to the room, where they fit: 38 and 39 are known before the first is written.
 fn write_lines(request: &[u8], t: &Notes, room: &mut [u8]) -> Answer
     requires { ⌜ At-hand (now request) (now t) ⌝ }
-    requires { ⌜ narrow-walk-of format (request-in (now request) (now t)) .end ≡ fine ⌝ }
+    requires { ⌜ Verified (narrow-walk-of format (request-in (now request) (now t))) ⌝ }
     ensures { λ r. ⌜ record { answer = r; room = now (room .exit) } ≡ write-lines format (now (room .entry)) (derivation-of format (request-in (now (request .entry)) (now (t .entry)))) ⌝ }
 {
     let size = measure(request, t);
+    let lines = size.lines;
     let bytes = size.bytes;
-    if limits::LINES < size.lines {
+    if limits::LINES < lines {
         return uncounted(answers::TOO_MANY_LINES, answers::NEITHER_INPUT, 0);
     }
     if limits::DERIVATION < bytes {
