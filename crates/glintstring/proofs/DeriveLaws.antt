@@ -45,61 +45,58 @@ use Rattle.glintstring.specs.CheckCalls.{too-many}
 use Rattle.glintstring.proofs.SettledAtHand.{settled-got, settled-held}
 use Rattle.glintstring.proofs.CheckCallLaws.{beyond-is}
 
--- WHAT IS WRITTEN, by the sizes that were measured.
-module _ (room : List ℕ) (ls : List Line) (size : Size) (measured : Measured ls size) (bytes : ℕ) (same : bytes ≡ size .bytes) (a : Answer) where
+-- THE SIZES that were measured are those of the lines.
+module _ (ls : List Line) (size : Size) (measured : Measured ls size) where
   too-many-lines : format .lines < size .lines → format .lines < length ls
   too-many-lines many =
       by-test (leb (length ls) (format .lines))
-      (λ t. let few = measured .few (leb-true (length ls) (format .lines) t) in let most = leb-true (length ls) (format .lines) t in absurd (omega (arith, few, most, many)))
+      (λ t. let most = leb-true (length ls) (format .lines) t in let few = measured .few most in absurd (omega (arith, few, most, many)))
       (λ f. leb-false (length ls) (format .lines) f)
 
-  few-lines : size .lines ≤ format .lines → length ls ≤ format .lines
-  few-lines few =
+  pub lines-fit : size .lines ≤ format .lines → length ls ≤ format .lines
+  lines-fit few =
       by-test (leb (length ls) (format .lines)) (λ t. leb-true (length ls) (format .lines) t)
       (λ f. let more = measured .many (leb-false (length ls) (format .lines) f) in absurd (omega (arith, few, more)))
 
-  pub lines-many : format .lines < size .lines → a ≡ record { number = 38; input = 0; place = 0; count = 0 } → record { answer = a; room = room } ≡ write-lines format room ls
-  unfolding write-lines unwritten answer
-  lines-many many is = ap (λ (b : Answer). record { answer = b; room = room }) is ∙ sym (pick-true _ _ _ (lt-ltb (format .lines) (length ls) (too-many-lines many)))
+  bytes-are : size .lines ≤ format .lines → size .bytes ≡ length (derivation-bytes ls)
+  bytes-are few = measured .long (lines-fit few)
 
-  module _ (few : size .lines ≤ format .lines) where
-    long : length (derivation-bytes ls) ≡ bytes
-    long = sym (same ∙ measured .long (few-lines few))
+  pub bytes-fit : size .lines ≤ format .lines → (room : List ℕ) → size .bytes ≤ length room → length (derivation-bytes ls) ≤ length room
+  bytes-fit few room enough = let n = bytes-are few in omega (arith, enough, n)
 
-    by-bytes : write-lines format room ls ≡ write-bytes format room (derivation-bytes ls)
-    unfolding write-lines
-    by-bytes = pick-false _ _ _ (le-ltb (format .lines) (length ls) (few-lines few))
+  -- WHAT IS WRITTEN.
+  module _ (room : List ℕ) (a : Answer) where
+    pub lines-many : format .lines < size .lines → a ≡ record { number = 38; input = 0; place = 0; count = 0 } → record { answer = a; room = room } ≡ write-lines format room ls
+    unfolding write-lines unwritten answer
+    lines-many many is = ap (λ (b : Answer). record { answer = b; room = room }) is ∙ sym (pick-true _ _ _ (lt-ltb (format .lines) (length ls) (too-many-lines many)))
 
-    pub bytes-many : format .derivation < bytes → a ≡ record { number = 39; input = 0; place = 0; count = 0 } → record { answer = a; room = room } ≡ write-lines format room ls
-    unfolding write-bytes unwritten answer
-    bytes-many many is =
-        ap (λ (b : Answer). record { answer = b; room = room }) is
-        ∙ sym (by-bytes ∙ pick-true _ _ _ (lt-ltb (format .derivation) (length (derivation-bytes ls)) (let n = long in omega (arith, many, n))))
+    module _ (few : size .lines ≤ format .lines) where
+      by-bytes : write-lines format room ls ≡ write-bytes format room (derivation-bytes ls)
+      unfolding write-lines
+      by-bytes = pick-false _ _ _ (le-ltb (format .lines) (length ls) (lines-fit few))
 
-    module _ (fits : bytes ≤ format .derivation) where
-      by-room : write-lines format room ls ≡ put-in room (derivation-bytes ls)
-      unfolding write-bytes
-      by-room = by-bytes ∙ pick-false _ _ _ (le-ltb (format .derivation) (length (derivation-bytes ls)) (let n = long in omega (arith, fits, n)))
-
-      pub room-few : length room < bytes → a ≡ record { number = 39; input = 0; place = 0; count = 0 } → record { answer = a; room = room } ≡ write-lines format room ls
-      room-few less is =
+      pub bytes-many : format .derivation < size .bytes → a ≡ record { number = 39; input = 0; place = 0; count = 0 } → record { answer = a; room = room } ≡ write-lines format room ls
+      unfolding write-bytes unwritten answer
+      bytes-many many is =
           ap (λ (b : Answer). record { answer = b; room = room }) is
-          ∙ sym (by-room ∙ pick-false _ _ _ (lt-leb (length (derivation-bytes ls)) (length room) (let n = long in omega (arith, less, n))))
+          ∙ sym (by-bytes ∙ pick-true _ _ _ (lt-ltb (format .derivation) (length (derivation-bytes ls)) (let n = bytes-are few in omega (arith, many, n))))
 
-      pub all-written : bytes ≤ length room → (w : List ℕ) → w ≡ derivation-bytes ls ++ drop (length (derivation-bytes ls)) room → a ≡ record { number = 0; input = 0; place = 0; count = bytes }
-          → record { answer = a; room = w } ≡ write-lines format room ls
-      all-written enough w puts is =
-          let n = long in
-          let given = by-room ∙ pick-true _ _ _ (le-leb (length (derivation-bytes ls)) (length room) (omega (arith, enough, n))) in
-          ap (λ (b : Answer). record { answer = b; room = w }) (is ∙ ap (λ (k : ℕ). record { number = 0; input = 0; place = 0; count = k }) (sym n))
-          ∙ ap (λ (x : List ℕ). record { answer = record { number = 0; input = 0; place = 0; count = length (derivation-bytes ls) }; room = x }) puts
-          ∙ sym given
+      module _ (fits : size .bytes ≤ format .derivation) where
+        by-room : write-lines format room ls ≡ put-in room (derivation-bytes ls)
+        unfolding write-bytes
+        by-room = by-bytes ∙ pick-false _ _ _ (le-ltb (format .derivation) (length (derivation-bytes ls)) (let n = bytes-are few in omega (arith, fits, n)))
 
-    pub lines-fit : length ls ≤ format .lines
-    lines-fit = few-lines few
+        pub room-few : length room < size .bytes → a ≡ record { number = 39; input = 0; place = 0; count = 0 } → record { answer = a; room = room } ≡ write-lines format room ls
+        room-few less is =
+            ap (λ (b : Answer). record { answer = b; room = room }) is
+            ∙ sym (by-room ∙ pick-false _ _ _ (lt-leb (length (derivation-bytes ls)) (length room) (let n = bytes-are few in omega (arith, less, n))))
 
-    pub bytes-fit : bytes ≤ length room → length (derivation-bytes ls) ≤ length room
-    bytes-fit enough = let n = long in omega (arith, enough, n)
+        pub all-written : size .bytes ≤ length room → (w : List ℕ) → w ≡ derivation-bytes ls ++ drop (length (derivation-bytes ls)) room → a ≡ record { number = 0; input = 0; place = 0; count = size .bytes }
+            → record { answer = a; room = w } ≡ write-lines format room ls
+        all-written enough w puts is =
+            ap (λ (b : Answer). record { answer = b; room = w }) (is ∙ ap (λ (k : ℕ). record { number = 0; input = 0; place = 0; count = k }) (bytes-are few))
+            ∙ ap (λ (x : List ℕ). record { answer = record { number = 0; input = 0; place = 0; count = length (derivation-bytes ls) }; room = x }) puts
+            ∙ sym (by-room ∙ pick-true _ _ _ (le-leb (length (derivation-bytes ls)) (length room) (bytes-fit few room enough)))
 
 -- THE TWO WALKS of what is held, by their answers. The mode is a slot of its own, so what is held is the same request.
 module _ (s t lent left : List ℕ) (budget : ℕ) (a : Answer) where
