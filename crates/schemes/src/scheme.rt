@@ -74,8 +74,8 @@ fn put_next(
     ensures { λ _. ⌜ Put (line-of (now (marks .entry)) (rest-at (plan-in (now (s .entry)) (now (t .entry))) at) (goals-of (request-in (now (s .entry)) (now (t .entry)))) rule ((line-count (now (progress .entry)) - 1) ∷ []) ∷ []) (now (progress .entry)) (now (room .entry)) (now (progress .exit)) (now (room .exit)) ⌝ }
 {
     let mut cites = [0u16; CITE_SLOTS];
-    let last = progress[0] - 1;
-    cite(&mut cites, last);
+    let previous = progress[0] - 1;
+    cite(&mut cites, previous);
     put_goals(s, t, at, marks, rule, &cites, room, progress);
 }
 

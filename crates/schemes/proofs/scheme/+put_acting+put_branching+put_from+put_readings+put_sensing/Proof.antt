@@ -107,6 +107,19 @@ abbrev put-sensing-below : ℕ → In 5 put-sensing-kinds.ps
 put-sensing-below t =
     and 5 put-sensing-kinds.ps (falls 5 put-sensing-kinds.ps _<_ μ-put-sensing t) put-sensing.Pre
 
+-- src/scheme.rt:249:9
+put-readings-returns : (t : ℕ) → put-readings-lts.Need-returns (
+  next-unknown-reads.Asked,
+  next-unknown-reads.Learnt,
+  put-readings-below t,
+  put-readings.Post,
+  put-from-below t,
+  put-from.Post,
+  cite-reads.Asked,
+  cite-reads.Learnt,
+) (put-readings-at t) put-readings.Post
+put-readings-returns t c = readings-put _ _ _ _ _ _ (c .before .before .before .before .before .before .before .before .before .before .before .before .before .before .before .before .before .if1 .taken) (c .before .before .before .before .before .before .before .before .before .before .before .before .before .before .before .before .before .before .before .before .pre .1 .1 .1 .1 .0) _ (c .before .before .before .before .before .before .before .before .before .before .before .before .before .before .next-unknown .ensures) _ (c .before .before .before .before .before .before .before .before .before .before .before .before .before .before .before .before .before .before .before .before .pre .1 .1 .1 .1 .1 .1 .1 .0) _ _ _ _ _ (c .before .before .before .before .before .before .before .before .before .put-readings .ensures) _ _ _ (c .before .before .put-readings2 .ensures)
+
 pub +put-acting+put-branching+put-from+put-readings+put-sensing-spec : {M : Type 1} → statement M
 +put-acting+put-branching+put-from+put-readings+put-sensing-spec =
     close
@@ -215,7 +228,7 @@ pub +put-acting+put-branching+put-from+put-readings+put-sensing-spec : {M : Type
     (λ c. search needs)
     (λ c κs. (search readings-fall, (search needs, (search needs, (search needs, (search second-marked, (search readings-second, (search needs, (second-few _ _ _ _ _ _ (c .before .before .before .before .before .before .before .before .before .before .before .before .before .before .if1 .taken) (c .before .before .before .before .before .before .before .before .before .before .before .before .before .before .before .before .before .pre .1 .1 .1 .1 .0) _ (c .before .before .before .before .before .before .before .before .before .before .before .next-unknown .ensures) _ (c .before .before .before .before .before .before .before .before .before .before .before .before .before .before .before .before .before .pre .1 .1 .1 .1 .1 .1 .1 .0) _ _ _ _ _ (c .before .before .before .before .before .before .put-readings .ensures), search needs)))))))))
     (λ c. search needs)
-    (λ c. readings-put _ _ _ _ _ _ (c .before .before .before .before .before .before .before .before .before .before .before .before .before .before .before .before .before .if1 .taken) (c .before .before .before .before .before .before .before .before .before .before .before .before .before .before .before .before .before .before .before .before .pre .1 .1 .1 .1 .0) _ (c .before .before .before .before .before .before .before .before .before .before .before .before .before .before .next-unknown .ensures) _ (c .before .before .before .before .before .before .before .before .before .before .before .before .before .before .before .before .before .before .before .before .pre .1 .1 .1 .1 .1 .1 .1 .0) _ _ _ _ _ (c .before .before .before .before .before .before .before .before .before .put-readings .ensures) _ _ _ (c .before .before .put-readings2 .ensures))
+    (put-readings-returns t)
     (λ c κs. (search reading-falls, (search needs, (search needs, (search needs, (search readings-none, search needs))))))
     (λ c. search needs)
     (λ c. search line-there)

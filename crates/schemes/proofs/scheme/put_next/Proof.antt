@@ -9,12 +9,12 @@ use Rattle.schemes.proofs.scheme.cite.Reads as cite-reads
 use Rattle.writing.proofs.lines.put_goals.Reads as put-goals-reads
 
 -- src/scheme.rt:71:16
-element-copy-out-last : tie.Need-element-copy-out-last
-element-copy-out-last c = search needs
+element-copy-out-previous : tie.Need-element-copy-out-previous
+element-copy-out-previous c = search needs
 
 -- src/scheme.rt:71:16
-sub-last : tie.Need-sub-last
-sub-last c = search line-there
+sub-previous : tie.Need-sub-previous
+sub-previous c = search line-there
 
 -- src/scheme.rt:72:5
 cite-requires : tie.Need-cite-requires
@@ -35,4 +35,4 @@ returns c = search next-put
 pub put-next-spec : {M : Type 1} → statement M
 put-next-spec =
     tie.close
-    (tie.spec element-copy-out-last sub-last cite-requires put-goals-requires same-length returns)
+    (tie.spec element-copy-out-previous sub-previous cite-requires put-goals-requires same-length returns)
