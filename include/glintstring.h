@@ -32,6 +32,9 @@ extern "C" {
 /* Open fluents that an action may have where the call by cases meets it (FORMAT 22.8). */
 #define GLINTSTRING_MOST_OPEN 12
 
+/* Unknown fluents that a sensing action may have where the derive call meets it (FORMAT 24.4). */
+#define GLINTSTRING_MOST_FORKED 6
+
 /* Bytes that the index of a request may have (FORMAT 23.5): a room of so many is never too short. */
 #define GLINTSTRING_INDEX_MOST 1276
 

@@ -266,7 +266,8 @@ pub enum Answer {
         /// Its count byte where its length is another; or else its first entry that names no line, or another line than it is to name.
         place: usize,
     },
-    /// 37 of the derive call: a sensing action is met in a state in which more than six of its fluents are unknown, so that no line can cite all its readings.
+    /// 37 of the derive call: a sensing action is met in a state in which more of its fluents are unknown than [`MOST_FORKED`](crate::MOST_FORKED), so that no
+    /// line can cite all its readings.
     SensingTooWide {
         /// The first such item, in the order of the walk.
         place: usize,

@@ -68,6 +68,9 @@ pub const MOST_GUARDS: usize = 64;
 /// Open fluents that an action may have where the call by cases meets it (FORMAT 22.8).
 pub const MOST_OPEN: usize = 12;
 
+/// Unknown fluents that a sensing action may have where the derive call meets it (FORMAT 24.4).
+pub const MOST_FORKED: usize = 6;
+
 /// Bytes that the index of a request may have (FORMAT 23.5): a room of so many is never too short. Of a file that has an index one byte more need be read, and
 /// what stands behind that changes no answer.
 pub const INDEX_MOST: usize = 1_276;
@@ -587,9 +590,9 @@ pub fn check_whether_packed(request: &[u8], derivation: &[u8]) -> Packed {
 ///
 /// The derivation has the plain layout and its exact length. Its lines follow the walk, by rules 1 to 6 (FORMAT 24.1 to 24.10), and [`check`] accepts it for the
 /// request: whoever has both need not walk. There is one exactly where the request is not refused and has no whether entry, [`judge`] verifies it within the
-/// budget, no sensing action that the walk meets has more than six unknown fluents there, and the derivation has at most 1,024 lines and [`DERIVATION_LIMIT`]
-/// bytes. Any bytes may be given, of any length. The walk runs on a thread of its own that has enough stack, and the caller waits for it; for many calls a
-/// [`Judge`] keeps one.
+/// budget, no sensing action that the walk meets has more than [`MOST_FORKED`] unknown fluents there, and the derivation has at most 1,024 lines and
+/// [`DERIVATION_LIMIT`] bytes. Any bytes may be given, of any length. The walk runs on a thread of its own that has enough stack, and the caller waits for it;
+/// for many calls a [`Judge`] keeps one.
 ///
 /// ```
 /// use glintstring::{check, derive, show, Answer, NotDerived};

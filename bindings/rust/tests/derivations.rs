@@ -7,7 +7,7 @@ use std::error::Error;
 
 use common::{deep, FILE_A};
 use glintstring::{check, derive, derive_here, derive_packed, judge_packed, show, show_start};
-use glintstring::{Answer, Input, Judge, NotDerived, Packed, DERIVATION_LIMIT, STATE_LENGTH};
+use glintstring::{Answer, Input, Judge, NotDerived, Packed, DERIVATION_LIMIT, MOST_FORKED, STATE_LENGTH};
 
 /// File A with an empty whether list, and what is written for it (FORMAT 24.29).
 fn b() -> Vec<u8> {
@@ -152,6 +152,9 @@ fn the_rows_that_are_not_written() {
         assert_eq!(show_start(expected.into(), &request, &[]), expected.place() as u64, "{name}");
     }
     assert_eq!(show(refused(Answer::SensingTooWide { place: 24 }), &WIDE, &[]), [0, 0, 0]);
+    // One fluent fewer: 64 readings of two lines each, and a line that cites them.
+    let most = [&[MOST_FORKED as u8, 1, 0, 0, 1, 0, 0, 6], &WIDE[8..20], &WIDE[22..]].concat();
+    assert_eq!(derive_here(&most, 65).expect("a derivation")[..2], [0, 129]);
 }
 
 /// File A, with its whether entry and without, cut short, and with one byte after another changed to every other. Where the walk call has another answer than 0,
