@@ -5,9 +5,9 @@
 //! (docs/STATEMENTS.md). [`judge_guarded`] walks the plan of a guarded request, whose guards are to be known true all the way, [`judge_by_cases`] walks a
 //! plan with each action tried in every filling of what is unknown, [`judge_indexed`] walks one by an index, which [`index`] writes and which says where the
 //! lines of each action stand, [`check`] checks a derivation, lines by which the plan reaches its goals, [`check_whether`] one that also says of fluents that
-//! they are known in the end, [`derive`] walks a plan and gives a derivation that [`check`] accepts, [`release`] walks every plan of a release file, which has
-//! many plans over one table, and [`show`] gives the part of an input that an answer is about; of these the same is proved. This crate adds names to the numbers
-//! and proves nothing. `examples/rust` of the repository is a small program that uses it.
+//! they are known in the end, [`derive`](fn@derive) walks a plan and gives a derivation that [`check`] accepts, [`release`] walks every plan of a release file,
+//! which has many plans over one table, and [`show`] gives the part of an input that an answer is about; of these the same is proved. This crate adds names to the
+//! numbers and proves nothing. `examples/rust` of the repository is a small program that uses it.
 //!
 //! ```
 //! use glintstring::{judge, Answer, Input};
@@ -34,9 +34,9 @@
 //!
 //! A walk may need as much as [`STACK_NEEDED`] bytes of stack, more than the 2 MiB that a thread in Rust gets, and more than the 8 MiB that the
 //! first thread of a process has as a rule; the request decides how much. [`judge`], [`judge_line`], [`judge_guarded`], [`judge_by_cases`], [`judge_indexed`],
-//! [`derive`] and [`release`] see to that: they walk on a thread of their own. A [`Judge`] keeps such a thread for many calls. Those of these with `_here` or
-//! `_packed` in their names walk on the caller's stack, and a walk that has too little of it is ended by the system, and the process with it. [`index`],
-//! [`check`], [`check_whether`], [`plans`] and [`show`] need far less, whatever their inputs, and a thread's 2 MiB will do.
+//! [`derive`](fn@derive) and [`release`] see to that: they walk on a thread of their own. A [`Judge`] keeps such a thread for many calls. Those of these with
+//! `_here` or `_packed` in their names walk on the caller's stack, and a walk that has too little of it is ended by the system, and the process with it.
+//! [`index`], [`check`], [`check_whether`], [`plans`] and [`show`] need far less, whatever their inputs, and a thread's 2 MiB will do.
 //!
 //! # The library
 //!
@@ -637,7 +637,7 @@ pub fn derive(request: &[u8], budget: u32) -> io::Result<Result<Vec<u8>, NotDeri
     with_stack(|| derive_here(request, budget))
 }
 
-/// [`derive`] on the caller's own stack, as [`judge_here`] is [`judge`].
+/// [`derive`](fn@derive) on the caller's own stack, as [`judge_here`] is [`judge`].
 ///
 /// # Errors
 ///
