@@ -61,11 +61,11 @@ module _ (request room : List ℕ) (budget : ℕ) (answer : Answer) (left : List
   pub accepted : answer .number ≡ Limits.verified → check format Plain request (take (answer .count) left) .number ≡ Limits.verified
   accepted =
       as-derived (λ b. b .answer .number ≡ Limits.verified → check format Plain request (take (b .answer .count) (b .room)) .number ≡ Limits.verified)
-      (Demands.derive-accepted format request room budget)
+      (Demands.derive-accepted request room budget)
 
   pub in-closing-layout : answer .number ≡ Limits.verified → In-closing-layout format request (take (answer .count) left)
   in-closing-layout =
-      as-derived (λ b. b .answer .number ≡ Limits.verified → In-closing-layout format request (take (b .answer .count) (b .room))) (Demands.derive-closing format request room budget)
+      as-derived (λ b. b .answer .number ≡ Limits.verified → In-closing-layout format request (take (b .answer .count) (b .room))) (Demands.derive-closing request room budget)
 
   -- THE REFUSALS, 30, 1, 2 AND 3, exactly; all but 30 are the walk call's answers.
   pub refused-exactly : (among (answer .number) refusals ≡ true) ↔ ((n p : ℕ) × (settled format request ≡ fault n p))

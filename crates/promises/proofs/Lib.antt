@@ -19,6 +19,8 @@ pub mod IndexedJudgePromises
 pub mod IndexedPromises
 pub mod ExportedIndexedPromises
 pub mod DerivePromises
+pub mod DeriveCallPromises
+pub mod ExportedDerivePromises
 pub mod ReusePromises
 pub mod CheckPromises
 pub mod DerivationPromises
