@@ -42,7 +42,7 @@ use writing::lines::put_action;
 use writing::lines::put_empty;
 use writing::lines::put_goals;
 use writing::room::put_number;
-use writing::rules;
+use writing::rule_bytes;
 
 // One more line is cited.
 fn cite(cites: &mut Cites, line: usize)
@@ -87,7 +87,7 @@ fn put_end(s: &[u8], t: &Notes, marks: &Marks, room: &mut [u8], progress: &mut P
     ensures { λ _. ⌜ Put (lines-at (now (s .entry)) (now (t .entry)) (format .items) (now (marks .entry)) (line-count (now (progress .entry)))) (now (progress .entry)) (now (room .entry)) (now (progress .exit)) (now (room .exit)) ⌝ }
 {
     put_empty(marks, room, progress);
-    put_next(s, t, limits::ITEMS, marks, rules::CONSEQUENCE_RULE, room, progress);
+    put_next(s, t, limits::ITEMS, marks, rule_bytes::CONSEQUENCE_RULE, room, progress);
 }
 
 // The line by rule 5: it cites the action's own line and the line before this one (FORMAT 24.7).
@@ -112,7 +112,7 @@ fn put_composed(
     let last = progress[0] - 1;
     cite(&mut cites, first);
     cite(&mut cites, last);
-    put_goals(s, t, at, marks, rules::COMPOSITION_RULE, &cites, room, progress);
+    put_goals(s, t, at, marks, rule_bytes::COMPOSITION_RULE, &cites, room, progress);
 }
 
 // The plan from a position on.
@@ -160,7 +160,7 @@ fn put_branching(s: &[u8], t: &Notes, i: usize, marks: &Marks, room: &mut [u8], 
     match chosen(s, t, i, marks) {
         Found::At(at) => {
             put_from(s, t, at, marks, room, progress);
-            put_next(s, t, i, marks, rules::BRANCHING_RULE, room, progress);
+            put_next(s, t, i, marks, rule_bytes::BRANCHING_RULE, room, progress);
             return;
         }
         Found::Nowhere => {
@@ -218,7 +218,7 @@ fn put_sensing(
     let f = first_unknown(s, t, a, marks);
     let mut cites = [0u16; CITE_SLOTS];
     put_readings(s, t, a, at, f, marks, &mut cites, room, progress);
-    put_goals(s, t, i, marks, rules::SENSING_RULE, &cites, room, progress);
+    put_goals(s, t, i, marks, rule_bytes::SENSING_RULE, &cites, room, progress);
 }
 
 // The readings of fluent f and of the unknown ones above it that the action senses, or of none where f is the limit of fluents; each is followed by the plan from a position

@@ -1,5 +1,5 @@
 -- The goals stand in the request as a conclusion does in a line.
-use Rattle.writing.proofs.LineLaws.{goals-there, goals-order, goals-inside, goals-fit, goals-within, goals-end, goals-put}
+use Rattle.writing.proofs.PutLineLaws.{goals-there, goals-order, goals-inside, goals-fit, goals-within, goals-end, goals-put}
 use borrow.Author.Needs.{needs}
 use Rattle.writing.proofs.lines.put_asked.Statement.{statement}
 use Rattle.writing.proofs.lines.put_asked.Tie as tie

@@ -1,7 +1,7 @@
 -- The parts of the line go behind those that are there, one after another; where there are too many lines, nothing is put.
 use native.Mathlib.Omega.{arith}
 use Rattle.writing.proofs.ProgressLaws.{lines-over, progress-near, line-goes-on, line-added}
-use Rattle.writing.proofs.LineLaws.{empty-line}
+use Rattle.writing.proofs.PutLineLaws.{empty-line}
 use borrow.Author.Needs.{needs}
 use Rattle.writing.proofs.lines.put_empty.Statement.{statement}
 use Rattle.writing.proofs.lines.put_empty.Tie as tie

@@ -1,7 +1,7 @@
 -- The parts of the line go behind those that are there, one after another; where there are too many lines, nothing is put.
 use native.Mathlib.Omega.{arith}
 use Rattle.writing.proofs.ProgressLaws.{lines-over, progress-near, line-goes-on, line-added}
-use Rattle.writing.proofs.LineLaws.{cited-line}
+use Rattle.writing.proofs.PutLineLaws.{cited-line}
 use borrow.Author.Needs.{needs}
 use Rattle.writing.proofs.lines.put_goals.Statement.{statement}
 use Rattle.writing.proofs.lines.put_goals.Tie as tie
@@ -9,7 +9,7 @@ use Rattle.writing.proofs.lines.put_goals.Reads as reads
 use Rattle.writing.proofs.lines.put_goals.Lts as lts
 use Rattle.writing.proofs.lines.put_asked.Reads as put-asked-reads
 use Rattle.writing.proofs.lines.put_cites.Reads as put-cites-reads
-use Rattle.writing.proofs.plans.put_rest.Reads as put-rest-reads
+use Rattle.writing.proofs.rests.put_rest.Reads as put-rest-reads
 use Rattle.writing.proofs.room.put.Reads as put-reads
 use Rattle.writing.proofs.room.put_known.Reads as put-known-reads
 

@@ -1,5 +1,5 @@
 -- What is known, and behind it two bytes.
-use Rattle.writing.proofs.LineLaws.{uncited-ends, uncited-put}
+use Rattle.writing.proofs.PutLineLaws.{uncited-ends, uncited-put}
 use borrow.Author.Needs.{needs}
 use Rattle.writing.proofs.lines.put_uncited.Statement.{statement}
 use Rattle.writing.proofs.lines.put_uncited.Tie as tie
