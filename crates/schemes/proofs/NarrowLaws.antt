@@ -3,23 +3,21 @@ use Prim.Native.Nat.{ℕ, _+_, _^_, _≤_, _<_}
 use native.Mathlib.Omega.{arith}
 use native.Mathlib.Nat.{two-pow-succ, pow-le-pow-right}
 use mathlib.Core.Path.{_≡_, refl, sym, _∙_, ap, subst}
-use mathlib.Core.Bool.{Bool, true, false}
+use mathlib.Core.Bool.{true, false}
 use mathlib.Core.List.{List, [], _∷_}
-use mathlib.Core.Logic.{_⊎_, inl, inr, ⊎-elim}
+use mathlib.Core.Logic.{_⊎_, ⊎-elim}
 use lib.ListN.{length, getD, set, replicate}
 use lib.Dec.{ltb}
 use lib.Seq.{set-set}
 use borrow.Author.Tests.{ltb-true, ltb-false, lt-ltb, le-ltb}
-use Rattle.meaning.specs.Tests.{pick, each-of}
 use Rattle.meaning.specs.Limits
 use Rattle.meaning.specs.Limits.{format}
-use Rattle.meaning.specs.Requests.{Table, Sequence, item, act, branching, Branches, none, branch}
-use Rattle.meaning.specs.Derivations.{join}
+use Rattle.meaning.specs.Requests.{Table, Sequence, Branches, none, branch}
 use Rattle.meaning.specs.Lines.{sensing}
-use Rattle.meaning.specs.States.{State, known, can-be-run, state-after, unknown-sensed, Outcome, fork, readings, outcome}
-use Rattle.meaning.specs.Walk.{Concerned, in-state, fine, stopped, Walked, Verified, stopped-at, stuck-at, counted, each-reading, Step, leads-to, refuses, after-step, run-action, walk, walk-branch, table-does, judged}
+use Rattle.meaning.specs.States.{State, can-be-run, state-after, unknown-sensed, Outcome, fork, readings, outcome}
+use Rattle.meaning.specs.Walk.{Concerned, in-state, fine, stopped, Walked, Verified, stopped-at, stuck-at, each-reading, Step, refuses, after-step, run-action, walk, walk-branch, table-does, judged}
 use Rattle.meaning.specs.Schemes.{too-wide, narrow-does, narrow-step}
-use Rattle.meaning.proofs.TestLaws.{by-test, clash, pick-true, pick-false}
+use Rattle.meaning.proofs.TestLaws.{by-test, pick-true, pick-false}
 use Rattle.meaning.proofs.Sound.{counted-verified, then-verified}
 use Rattle.finding.specs.declared.places.Found.{Found}
 use Rattle.finding.specs.declared.places.Found.the-variants.{Nowhere, At}
@@ -216,9 +214,9 @@ module _ (s t : List ℕ) (i : ℕ) (marks : State) (good : Narrow-from s t i ma
       let step = narrow-step (table-in s) in
       let end = judged (request-in s t) in
       let stops : stopped Limits.not-executable (untaken .place) (in-state marks) ≡ fine =
-          subst Verified
-          (ap (λ (c : Sequence ℕ). walk step c end marks) (untaken .is) ∙ none-stops (table-in s) marks (untaken .place) (walk step (untaken .after) end) (untaken .branches) (untaken .none))
-          good in
+      subst Verified
+      (ap (λ (c : Sequence ℕ). walk step c end marks) (untaken .is) ∙ none-stops (table-in s) marks (untaken .place) (walk step (untaken .after) end) (untaken .branches) (untaken .none))
+      good in
       let z : _≡_ {A = ℕ} 0 1 = cc in omega arith
 
   module _ (r : Found) (chosen : Chosen s t i marks r) where

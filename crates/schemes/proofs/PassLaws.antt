@@ -1,28 +1,27 @@
 -- The two passes: the lines from the first position on are those of the derivation, and with their number before them they are its bytes. Assumes nothing.
-use Prim.Native.Nat.{ℕ, suc, _+_, _/_, _%_, _≤_, _<_}
+use Prim.Native.Nat.{ℕ, _+_, _/_, _%_, _≤_, _<_}
 use native.Mathlib.Omega.{arith}
 use mathlib.Core.Path.{_≡_, refl, sym, _∙_, ap, ap₂}
-use mathlib.Core.List.{List, [], _∷_, _++_, append-nil}
-use lib.ListN.{length, length-append, getD, set, take, drop, replicate}
+use mathlib.Core.List.{List, _++_, append-nil}
+use lib.ListN.{length, length-append, getD, set, drop, replicate}
 use lib.Seq.{sets, sets-eq}
 use lib.Dec.{ltb}
 use borrow.Author.Tests.{ltb-true, ltb-false}
 use Rattle.meaning.specs.declared.Layout.the-variants.{Plain}
 use Rattle.meaning.specs.Limits.{format}
-use Rattle.meaning.specs.Requests.{Sequence}
-use Rattle.meaning.specs.States.{State, state-of, first-state}
-use Rattle.meaning.specs.Walk.{Verified, walk, judged}
+use Rattle.meaning.specs.States.{State, state-of}
+use Rattle.meaning.specs.Walk.{Verified}
 use Rattle.meaning.specs.Derivations.{Line}
 use Rattle.meaning.specs.Layouts.{number-written, lines-written, closing-written, written}
-use Rattle.meaning.specs.Schemes.{lines-from, derivation-of, derivation-bytes, narrow-step, walked-narrow, narrow-walk-of}
+use Rattle.meaning.specs.Schemes.{derivation-of, derivation-bytes, walked-narrow, narrow-walk-of}
 use Rattle.meaning.proofs.TestLaws.{by-test}
 use Rattle.reading.specs.Noted.{items-slot}
 use Rattle.reading.specs.Listed.{listed}
-use Rattle.steps.specs.Held.{table-in, plan-in, request-in}
+use Rattle.steps.specs.Held.{plan-in, request-in}
 use Rattle.steps.specs.AtHand.{At-hand}
 use Rattle.steps.specs.Rests.{rest-at, start}
 use Rattle.steps.proofs.FirstLaws.{rest-first, first-is, at-is}
-use Rattle.writing.specs.Progress.{Standing, over, so-far, add, line-count, byte-count, standing, progress-slots, most-line, Underway}
+use Rattle.writing.specs.Progress.{so-far, add, line-count, byte-count, standing, progress-slots, Underway}
 use Rattle.writing.proofs.ProgressLaws.{add-within, add-above, stands-over, stands-so-far, over-stands}
 use Rattle.steps.proofs.StoreLaws.{store-before, stores-behind}
 use Rattle.schemes.specs.declared.scheme.Size.{Size}
@@ -76,7 +75,7 @@ module _ (s t : List ℕ) (here : At-hand s t) (items at : ℕ) (counted : items
       let ls : List Line = derivation-of format (request-in s t) in
       let puts : standing progress room′ ≡ add (so-far 0 2 room) ls = put .stands ∙ ap₂ add (opens room) whole-lines in
       let within : length ls ≤ format .lines → standing progress room′ ≡ so-far (0 + length ls) (2 + length (lines-written Plain ls)) (sets room 2 (lines-written Plain ls)) =
-          λ few. puts ∙ add-within 0 2 room ls (omega arith) in
+      λ few. puts ∙ add-within 0 2 room ls (omega arith) in
       record {
         many = λ many. over-stands progress room′ (puts ∙ add-above 0 2 room ls (omega arith));
         few = λ few. let is = lines-are progress room′ _ _ _ (within few) in omega arith;

@@ -2,20 +2,18 @@
 use Prim.Native.Nat.{ℕ, _+_, _-_, _^_, _≤_, _<_}
 use native.Mathlib.Omega.{arith}
 use mathlib.Core.Path.{_≡_, refl, sym, _∙_, ap, ap₂, subst}
-use mathlib.Core.Bool.{Bool, true, false}
-use mathlib.Core.List.{List, [], _∷_, _++_, append-assoc, append-nil}
+use mathlib.Core.Bool.{true, false}
+use mathlib.Core.List.{List, [], _∷_, _++_, append-assoc}
 use mathlib.Core.Logic.{⊎-elim}
 use lib.ListN.{length, length-append, getD, set, replicate}
 use lib.Dec.{ltb}
 use borrow.Author.Tests.{ltb-true, ltb-false}
-use Rattle.meaning.specs.declared.Layout.the-variants.{Plain}
-use Rattle.meaning.specs.Tests.{pick}
 use Rattle.meaning.specs.Limits
 use Rattle.meaning.specs.Limits.{format}
-use Rattle.meaning.specs.Requests.{Table, Sequence, done, item, act, branching, Branches, none, branch, values}
+use Rattle.meaning.specs.Requests.{Table, Sequence, done, item, act, branching, Branches, none, branch}
 use Rattle.meaning.specs.Lines.{sensing}
 use Rattle.meaning.specs.States.{State, state-after, unknown-sensed, Outcome, readings}
-use Rattle.meaning.specs.Derivations.{Conclusion, knows, Line, join, literals-of, goals-of}
+use Rattle.meaning.specs.Derivations.{Conclusion, knows, Line, literals-of, goals-of}
 use Rattle.meaning.specs.Layouts.{item-written, items-written, items-in, plan-written, line-written, lines-written}
 use Rattle.meaning.specs.Schemes.{line-of, Writes, empty-lines, and-cites, Read-lines, one-read, both-read, then-read, read-lines, rule-for, sensing-lines, acting-lines, action-lines, branching-lines, lines, item-lines, branch-lines, lines-from}
 use Rattle.meaning.proofs.TestLaws.{by-test, pick-true, pick-false}
@@ -28,7 +26,7 @@ use Rattle.steps.specs.Rests.{rest-at, Position}
 use Rattle.steps.specs.Steps.{unknown-above, first-of, Followed, Takes, Taken, Chosen}
 use Rattle.steps.proofs.HandLaws.{few-items}
 use Rattle.steps.proofs.RestLaws.{rest-past}
-use Rattle.writing.specs.Progress.{Standing, over, so-far, add, line-count, standing, Underway, cite-slots, cited, Cited}
+use Rattle.writing.specs.Progress.{Standing, over, so-far, add, line-count, standing, Underway, cite-slots, cited}
 use Rattle.writing.proofs.ProgressLaws.{lines-over}
 use Rattle.schemes.specs.Narrow.{Narrow-from, lines-at, fluents-from, readings-at, Acts}
 use Rattle.schemes.specs.Put.{Cites-more, Put, Readings-put}
@@ -164,7 +162,7 @@ module _ (s t : List ℕ) (i a : ℕ) (acts : Acts s t i a) (at : ℕ) (follows 
         let one : Line = line-of marks (item (act (acts .place) a) done) (knows (literals-of after)) Limits.action-rule [] in
         let ls : List Line = lines-at s t at after (k + 1) in
         let both : standing progress₂ room₂ ≡ add (standing progress room) (one ∷ ls) =
-            then .stands ∙ adds-behind progress room (one ∷ []) progress₁ room₁ (first ∙ unplaced marks a (acts .place) (knows (literals-of after)) (standing progress room)) (lines-at s t at after) in
+        then .stands ∙ adds-behind progress room (one ∷ []) progress₁ room₁ (first ∙ unplaced marks a (acts .place) (knows (literals-of after)) (standing progress room)) (lines-at s t at after) in
         let ends : k + length (one ∷ ls) - 1 ≡ k + 1 + length ls - 1 = omega arith in
         put-both progress room progress₂ room₂ progress₃ room₃ (one ∷ ls) both
         (λ m. line-of marks (rest-at (plan-in s t) i) (goals-of (request-in s t)) 5 (k ∷ (m - 1) ∷ []) ∷ []) last _ (rw ends (sym (acting-left k)))
@@ -187,9 +185,9 @@ module _ (s t : List ℕ) (i a : ℕ) (acts : Acts s t i a) (at : ℕ) (follows 
         let x : Read-lines = readings-at s t a at f marks (line-count progress) in
         let line : List ℕ → List Line = λ ks. line-of marks (rest-at (plan-in s t) i) (goals-of (request-in s t)) 3 ks ∷ [] in
         let cited-so : add (standing progress₁ room₁) (line (cited cites)) ≡ add (standing progress₁ room₁) (line (x .lasts)) =
-            by-test (ltb (format .lines) (line-count progress₁))
-            (λ u. let many = ltb-true (format .lines) (line-count progress₁) u in over-adds progress₁ room₁ many (line (cited cites)) ∙ sym (over-adds progress₁ room₁ many (line (x .lasts))))
-            (λ u. ap (λ (ks : List ℕ). add (standing progress₁ room₁) (line ks)) (reads .numbers (ltb-false _ _ u) ∙ ap (λ (ks : List ℕ). ks ++ x .lasts) none-cited)) in
+        by-test (ltb (format .lines) (line-count progress₁))
+        (λ u. let many = ltb-true (format .lines) (line-count progress₁) u in over-adds progress₁ room₁ many (line (cited cites)) ∙ sym (over-adds progress₁ room₁ many (line (x .lasts))))
+        (λ u. ap (λ (ks : List ℕ). add (standing progress₁ room₁) (line ks)) (reads .numbers (ltb-false _ _ u) ∙ ap (λ (ks : List ℕ). ks ++ x .lasts) none-cited)) in
         let all : standing progress₂ room₂ ≡ add (standing progress room) (x .lines ++ line (x .lasts)) = then ∙ cited-so ∙ behind progress room (x .lines) progress₁ room₁ (reads .put .stands) (line (x .lasts)) in
         let long = length-append (x .lines) (line (x .lasts)) in
         subst (λ (ls : List Line). Put ls progress room progress₂ room₂) (sym (sensing-left (line-count progress))) (lines-put (x .lines ++ line (x .lasts)) progress room progress₂ room₂ (omega (arith, long)) all underway)

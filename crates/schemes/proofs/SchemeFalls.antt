@@ -1,5 +1,5 @@
 -- The recursion ends: at each call the position rises, or the same position is met with a higher fluent. And what the calls ask of positions and items. Assumes nothing.
-use Prim.Native.Nat.{ℕ, _+_, _-_, _*_, _≤_, _<_}
+use Prim.Native.Nat.{ℕ, _+_, _-_, _*_, _<_}
 use native.Mathlib.Omega.{arith}
 use mathlib.Core.Path.{_≡_, refl, sym, _∙_, ap}
 use mathlib.Core.Bool.{Bool, true, false}
@@ -58,9 +58,9 @@ reading-falls at f μ is = omega arith
 pub readings-fall : (s : List ℕ) (a at f μ : ℕ) (marks : State) → readings-measure at f ≡ μ → f < format .fluents → Marked marks → (g : ℕ) → g ≡ first-of (unknown-above (table-in s) a (set marks f 1) (f + 1)) → readings-measure at g < μ
 readings-fall s a at f μ marks is small marked g next =
     let rises : f < g =
-        by-test (ltb g (format .fluents))
-        (λ u. let h = unknown-first-above (table-in s) a (set marks f 1) (first-marked f marks small marked) (f + 1) g next (ltb-true _ _ u) in omega arith)
-        (λ u. let far = ltb-false g (format .fluents) u in omega arith) in
+    by-test (ltb g (format .fluents))
+    (λ u. let h = unknown-first-above (table-in s) a (set marks f 1) (first-marked f marks small marked) (f + 1) g next (ltb-true _ _ u) in omega arith)
+    (λ u. let far = ltb-false g (format .fluents) u in omega arith) in
     omega arith
 
 -- WHAT THE CALLS ASK.

@@ -1,8 +1,8 @@
 -- What is put behind the lines that are there.
-use Prim.Native.Nat.{ℕ, _+_, _^_, _≤_, _<_}
+use Prim.Native.Nat.{ℕ, _+_, _≤_, _<_}
 use mathlib.Core.Path.{_≡_}
 use mathlib.Core.List.{List, [], _∷_, _++_}
-use lib.ListN.{length, getD}
+use lib.ListN.{getD}
 use Rattle.meaning.specs.Limits.{format}
 use Rattle.meaning.specs.Derivations.{Line}
 use Rattle.meaning.specs.Schemes.{Read-lines}

@@ -87,7 +87,15 @@ fn put_end(s: &[u8], t: &Notes, marks: &Marks, room: &mut [u8], progress: &mut P
     ensures { λ _. ⌜ Put (lines-at (now (s .entry)) (now (t .entry)) (format .items) (now (marks .entry)) (line-count (now (progress .entry)))) (now (progress .entry)) (now (room .entry)) (now (progress .exit)) (now (room .exit)) ⌝ }
 {
     put_empty(marks, room, progress);
-    put_next(s, t, limits::ITEMS, marks, rule_bytes::CONSEQUENCE_RULE, room, progress);
+    put_next(
+        s,
+        t,
+        limits::ITEMS,
+        marks,
+        rule_bytes::CONSEQUENCE_RULE,
+        room,
+        progress,
+    );
 }
 
 // The line by rule 5: it cites the action's own line and the line before this one (FORMAT 24.7).
@@ -112,11 +120,27 @@ fn put_composed(
     let last = progress[0] - 1;
     cite(&mut cites, first);
     cite(&mut cites, last);
-    put_goals(s, t, at, marks, rule_bytes::COMPOSITION_RULE, &cites, room, progress);
+    put_goals(
+        s,
+        t,
+        at,
+        marks,
+        rule_bytes::COMPOSITION_RULE,
+        &cites,
+        room,
+        progress,
+    );
 }
 
 // The plan from a position on.
-pub fn put_from(s: &[u8], t: &Notes, at: usize, marks: &Marks, room: &mut [u8], progress: &mut Progress)
+pub fn put_from(
+    s: &[u8],
+    t: &Notes,
+    at: usize,
+    marks: &Marks,
+    room: &mut [u8],
+    progress: &mut Progress,
+)
     requires { ⌜ At-hand (now s) (now t) ⌝ }
     requires { ⌜ Position (plan-in (now s) (now t)) at ⌝ }
     requires { ⌜ Marked (now marks) ⌝ }
@@ -148,7 +172,14 @@ pub fn put_from(s: &[u8], t: &Notes, at: usize, marks: &Marks, room: &mut [u8], 
 }
 
 // A branching that is item i: the lines of the chosen branch and of what is left behind it, and then rule 4 (FORMAT 24.9).
-fn put_branching(s: &[u8], t: &Notes, i: usize, marks: &Marks, room: &mut [u8], progress: &mut Progress)
+fn put_branching(
+    s: &[u8],
+    t: &Notes,
+    i: usize,
+    marks: &Marks,
+    room: &mut [u8],
+    progress: &mut Progress,
+)
     requires { ⌜ At-hand (now s) (now t) ⌝ }
     requires { ⌜ i < items-of (plan-in (now s) (now t)) ⌝ }
     requires { ⌜ getD (now s) (getD (now t) (0 + i) 0) 0 ≡ 255 ⌝ }
