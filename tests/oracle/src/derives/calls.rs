@@ -24,6 +24,9 @@ const ANY_BYTES: usize = 40;
 /// No room is made longer than this to hold a derivation that is too long for the format.
 const LONGEST_ROOM: usize = 200_000;
 
+/// Most lines of a path.
+const ON_A_PATH: usize = 1_200;
+
 /// A call of any kind; about a quarter of the requests is damaged.
 pub fn derive_call(rng: &mut Rng) -> JudgeCall {
     let call = roomless_call(rng);
@@ -51,7 +54,10 @@ pub fn roomless_call(rng: &mut Rng) -> JudgeCall {
         }
         92..=96 => {
             let lines = near_line_limit(rng);
-            let draft = of_lines(rng, lines);
+            let draft = match rng.chance(10) {
+                true => of_looks(rng, lines),
+                false => of_lines(rng, lines),
+            };
             call_of(rng, &draft)
         }
         _ => {
@@ -228,9 +234,6 @@ fn knowledge(action: u8, fluent: u8) -> Knowledge {
     }
 }
 
-/// Most lines of a path.
-const ON_A_PATH: usize = 1_200;
-
 /// A request of actions that look at so many fluents each, one after the other, and nothing else.
 pub fn of_readings(looked: &[u8]) -> Request {
     let actions = looked.len() as u8;
@@ -246,6 +249,28 @@ pub fn of_readings(looked: &[u8]) -> Request {
         plan: (0..actions).map(Item::act).collect(),
         ..Request::default()
     }
+}
+
+/// A request whose derivation has so many lines, at least 577, with a short plan: a look at six fluents, one at
+/// two more, and looks at one that is known before, between and behind these, of which each comes to one line,
+/// to 64 or to 256.
+pub fn of_looks(rng: &mut Rng, lines: usize) -> Request {
+    let mut request = of_readings(&[6, 2, 1]);
+    request.facts = vec![2 * 8];
+    let more = lines - (1 + 64 + 2 * 256);
+    let behind = rng.below(more / 256 + 1);
+    let between = (more - 256 * behind) / 64;
+    let before = more - 256 * behind - 64 * between;
+    let known = |times| vec![Item::act(2); times];
+    request.plan = [
+        known(before),
+        vec![Item::act(0)],
+        known(between),
+        vec![Item::act(1)],
+        known(behind),
+    ]
+    .concat();
+    request
 }
 
 /// As many lines as there may be, one less, one or two more, about as many, or far more.

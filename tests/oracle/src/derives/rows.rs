@@ -4,16 +4,19 @@
 //! All is written as in `rows.rs`, and ROOM and AFTERWARDS as in `indexes/rows.rs`. All numbers come round in
 //! 150 rows, and the events of small requests, but for those that take long inputs or derivations, which stand
 //! in the first round only: item 1,025, a request that is too long, six fluents that are unknown where an
-//! action looks, and more lines than there may be. Requests have at most 120 bytes, derivations 400, and walks
-//! count at most 300.
+//! action looks, as many lines or bytes as there may be, and more. Requests have at most 120 bytes, derivations
+//! 400, and walks count at most 300; of the long ones, 600 bytes, 32,769 and 900.
 
 use super::call::{derive, TOO_MANY_LINES, WHETHER_ASKED};
-use super::calls::{call_of, length_of, looking_at, of_readings, with_room, without_whether};
+use super::calls::{
+    call_of, length_of, looking_at, of_bytes, of_looks, of_readings, with_room, without_whether,
+};
 use super::run::{events, Event};
 use crate::calls::{damaged_judge_call, sound_judge_call, JudgeCall};
 use crate::generate::{drawn, Shape};
 use crate::indexes::call::ROOM_SHORT;
 use crate::open;
+use crate::reader::{DERIVATION_LIMIT, LINE_LIMIT};
 use crate::rng::Rng;
 use crate::rows::Shown::{self, Number};
 use crate::rows::{
@@ -23,9 +26,9 @@ use crate::text::comma_separated;
 use crate::walk::{walk, Verdict};
 use crate::Answer;
 
-/// Largest count of a walk, and of one with more lines than there may be.
+/// Largest count of a walk, and of one with as many lines as there may be, or more.
 const COUNT: u32 = 300;
-const MORE_COUNT: u32 = 700;
+const MORE_COUNT: u32 = 900;
 /// Most bytes of a derivation with 64 readings.
 const SIXTY_FOUR_BYTES: usize = 4_000;
 /// What every byte of a lent room is.
@@ -86,15 +89,19 @@ const DERIVED: [(Wanted, u64); 44] = [
 ];
 
 /// Those that take long inputs or derivations, which stand in the first round only.
-const LONG: [Wanted; 4] = [
+const LONG: [Wanted; 8] = [
     Number(10),
     Number(21),
     Number(TOO_MANY_LINES),
     shows(Event::SixUnknown),
+    shows(Event::MostLinesWithoutRoom),
+    shows(Event::OneLineMore),
+    shows(Event::MostBytes),
+    shows(Event::OneByteMore),
 ];
 
 /// The events that no row has to show, since they take long plans, rooms or derivations.
-pub const NOT_SHOWN: [Event; 15] = [
+pub const NOT_SHOWN: [Event; 11] = [
     Event::RoomFarTooLong,
     Event::LinesWithoutRoom,
     Event::FiveUnknown,
@@ -102,11 +109,7 @@ pub const NOT_SHOWN: [Event; 15] = [
     Event::MoreUnknown,
     Event::WideBehindManyLines,
     Event::MostLines,
-    Event::OneLineMore,
     Event::FarMoreLines,
-    Event::MostLinesWithoutRoom,
-    Event::MostBytes,
-    Event::OneByteMore,
     Event::FarMoreBytes,
     Event::FarCitation,
     Event::FullState,
@@ -148,6 +151,10 @@ fn draw(rng: &mut Rng, wanted: Wanted) -> JudgeCall {
         Shown::Event(event) => {
             let draft = match event {
                 Event::SixUnknown => looking_at(rng, 6),
+                Event::MostLinesWithoutRoom => of_looks(rng, LINE_LIMIT),
+                Event::OneLineMore => of_looks(rng, LINE_LIMIT + 1),
+                Event::MostBytes => of_bytes(rng, DERIVATION_LIMIT),
+                Event::OneByteMore => of_bytes(rng, DERIVATION_LIMIT + 1),
                 _ if of_looking(event) => looking_at(rng, 7),
                 _ if of_walking(event) => drawn(rng, &shape),
                 _ => drawn(rng, &without_whether(&shape)),
@@ -204,6 +211,12 @@ fn fits(call: &JudgeCall, wanted: Wanted) -> bool {
         Number(21) => (LONG_BYTES, 0, 0),
         Number(TOO_MANY_LINES) => (BYTES, 0, MORE_COUNT),
         Shown::Event(Event::SixUnknown) => (BYTES, SIXTY_FOUR_BYTES, COUNT),
+        Shown::Event(Event::MostLinesWithoutRoom | Event::OneLineMore) => {
+            (BYTES, DERIVATION_LIMIT, MORE_COUNT)
+        }
+        Shown::Event(Event::MostBytes | Event::OneByteMore) => {
+            (FULL_BYTES, DERIVATION_LIMIT + 1, COUNT)
+        }
         _ => (BYTES, MORE_DERIVATION_BYTES, COUNT),
     };
     let light = |request| walk(&request, count) != Verdict::Over;
