@@ -49,7 +49,7 @@ fn accepted(request: &[u8], derivation: &[u8]) {
     let sizes = sizes(&read, request);
     assert_eq!(sizes.lines(), lines.len() as u64);
     assert_eq!(sizes.bytes, derivation.len() as u64);
-    let closing = closing(&lines);
+    let closing = closing(&read, derivation).expect("lines");
     if closing.len() <= 32_768 {
         assert_eq!(check_whether(request, &closing), Answer::neither(0, 0));
     }

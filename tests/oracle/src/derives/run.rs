@@ -11,7 +11,7 @@ use crate::calls::{JudgeCall, Outlook};
 use crate::encode::encode_proof;
 use crate::indexes::call::ROOM_SHORT;
 use crate::indexes::calls::FAR_TOO_LONG;
-use crate::model::{Item, Line, Request};
+use crate::model::{Item, Request};
 use crate::prove::READ_AT_ONCE;
 use crate::reader::{read_derivation, DERIVATION_LIMIT, LINE_LIMIT};
 use crate::rng::Rng;
@@ -353,12 +353,16 @@ pub fn run(seed: u64, calls: u64) -> Tally {
 }
 
 impl Tally {
-    /// Notes a call with its answer.
-    pub fn note(&mut self, request: &[u8], room: usize, budget: u32, answer: Answer) {
-        let events = events(request, room, budget, answer);
+    /// Notes a call with its answer, the room as it is afterwards.
+    pub fn note(&mut self, request: &[u8], room: &[u8], budget: u32, answer: Answer) {
+        let events = events(request, room.len(), budget, answer);
         self.derived.note(answer.number, events);
         if answer.number == 0 {
-            self.longest = self.longest.max(answer.count as usize);
+            let length = answer.count as usize;
+            self.longest = self.longest.max(length);
+            for rule in rules(request, &room[..length]) {
+                *self.rules.entry(rule).or_default() += 1;
+            }
         }
     }
 
@@ -366,7 +370,7 @@ impl Tally {
     fn derive(&mut self, call: &JudgeCall) -> Result<(), String> {
         let left = call.made(|request, room, budget| (derive(request, room, budget), 0));
         let (request, answer) = (&call.request, left.answer);
-        self.note(request, call.lent.len(), call.budget, answer);
+        self.note(request, &left.lent, call.budget, answer);
         expect_form(answer, request, &[])?;
         match call.outlook {
             Outlook::Walked if answer.number >= WHETHER_ASKED => {}
@@ -394,12 +398,8 @@ impl Tally {
         let request = open(bytes).map_err(|_| "a derivation of a request that is refused")?;
         expect_scheme(&request, bytes, derivation)?;
         expect_accepted("derivation", check(bytes, derivation))?;
-        let lines = read_derivation(derivation, &request).map_err(|_| "it can't be read")?;
-        for Line { rule, .. } in &lines {
-            *self.rules.entry(*rule).or_default() += 1;
-        }
         self.accepted += 1;
-        let closing = closing(&lines);
+        let closing = closing(&request, derivation).ok_or("it can't be read")?;
         if closing.len() != derivation.len() + 3 {
             return Err("in the closing layout it is not three bytes longer".to_string());
         }
@@ -411,9 +411,19 @@ impl Tally {
     }
 }
 
-/// A derivation in the closing layout, with a closing list that names its last line.
-pub fn closing(lines: &[Line]) -> Vec<u8> {
-    encode_proof(&as_proof(lines).expect("lines by rules 1 to 6")).bytes
+/// A derivation in the closing layout, with a closing list that names its last line; none where it can't be
+/// read.
+pub fn closing(request: &Request, derivation: &[u8]) -> Option<Vec<u8>> {
+    let lines = read_derivation(derivation, request).ok()?;
+    Some(encode_proof(&as_proof(&lines)?).bytes)
+}
+
+/// The rules of the lines of a derivation.
+fn rules(request: &[u8], derivation: &[u8]) -> Vec<u8> {
+    let lines = open(request).and_then(|request| read_derivation(derivation, &request));
+    lines.map_or(Vec::new(), |lines| {
+        lines.iter().map(|line| line.rule).collect()
+    })
 }
 
 fn expect_accepted(call: &str, answer: Answer) -> Result<(), String> {
