@@ -249,7 +249,16 @@ fn put_sensing(
     let f = first_unknown(s, t, a, marks);
     let mut cites = [0u16; CITE_SLOTS];
     put_readings(s, t, a, at, f, marks, &mut cites, room, progress);
-    put_goals(s, t, i, marks, rule_bytes::SENSING_RULE, &cites, room, progress);
+    put_goals(
+        s,
+        t,
+        i,
+        marks,
+        rule_bytes::SENSING_RULE,
+        &cites,
+        room,
+        progress,
+    );
 }
 
 // The readings of fluent f and of the unknown ones above it that the action senses, or of none where f is the limit of fluents; each is followed by the plan from a position
