@@ -64,6 +64,7 @@ pub mod GuardedReports
 pub mod CaseSteps
 pub mod CaseWalks
 pub mod CaseAnswers
+pub mod NarrowWalks
 pub mod ReportedLine
 pub mod GuardedLine
 pub mod Passed
@@ -79,3 +80,4 @@ pub mod IndexedWalk
 pub mod DifferenceLaws
 pub mod IndexAnswers
 pub mod IndexBuilt
+pub mod DeriveAnswers

@@ -32,3 +32,4 @@ pub mod Showing
 pub mod Layouts
 pub mod Schemes
 pub mod AnswerParts
+pub mod DeriveReported

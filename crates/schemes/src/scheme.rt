@@ -43,7 +43,7 @@ use writing::lines::put_action;
 use writing::lines::put_empty;
 use writing::lines::put_goals;
 use writing::room::put_number;
-use writing::rules;
+use writing::rule_bytes;
 
 // One more line is cited.
 fn cite(cites: &mut Cites, line: usize)
@@ -93,7 +93,7 @@ fn put_end(s: &[u8], t: &Notes, marks: &Marks, room: &mut [u8], progress: &mut P
         t,
         limits::ITEMS,
         marks,
-        rules::CONSEQUENCE_RULE,
+        rule_bytes::CONSEQUENCE_RULE,
         room,
         progress,
     );
@@ -126,7 +126,7 @@ fn put_composed(
         t,
         at,
         marks,
-        rules::COMPOSITION_RULE,
+        rule_bytes::COMPOSITION_RULE,
         &cites,
         room,
         progress,
@@ -185,7 +185,7 @@ fn put_branching(
     match chosen(s, t, i, marks) {
         Found::At(at) => {
             put_from(s, t, at, marks, room, progress);
-            put_next(s, t, i, marks, rules::BRANCHING_RULE, room, progress);
+            put_next(s, t, i, marks, rule_bytes::BRANCHING_RULE, room, progress);
             return;
         }
         Found::Nowhere => {
@@ -243,7 +243,16 @@ fn put_sensing(
     let f = first_unknown(s, t, a, marks);
     let mut cites = [0u16; CITE_SLOTS];
     put_readings(s, t, a, at, f, marks, &mut cites, room, progress);
-    put_goals(s, t, i, marks, rules::SENSING_RULE, &cites, room, progress);
+    put_goals(
+        s,
+        t,
+        i,
+        marks,
+        rule_bytes::SENSING_RULE,
+        &cites,
+        room,
+        progress,
+    );
 }
 
 // The readings of fluent f and of the unknown ones above it that the action senses, or of none where f is the limit of fluents; each is followed by the plan from a position

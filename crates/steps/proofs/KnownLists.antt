@@ -1,7 +1,7 @@
 -- What a state knows as a list, fluent by fluent: nothing beyond the last fluent, and before that the literal that the mark says, if any. Assumes nothing.
 use Prim.Native.Nat.{ℕ, suc, _+_, _-_, _*_, _≤_, _<_}
 use native.Mathlib.Omega.{arith}
-use mathlib.Core.Path.{_≡_, refl, _∙_, ap}
+use mathlib.Core.Path.{_≡_, _∙_, ap}
 use mathlib.Core.List.{List, [], _∷_}
 use lib.ListN.{length, getD, drop, drop-of-length-le}
 use lib.Seq.{drop-cons}
@@ -32,7 +32,7 @@ module _ (marks : State) (marked : Marked marks) (f : ℕ) where
     known-step =
         let on : f + 1 ≡ suc f = omega arith in
         let there : f < length marks = rw (marked .sized) near in
-        rw (drop-cons marks f 0 there, on) refl
+        rw (drop-cons marks f 0 there, on)
 
     pub unmarked-step : getD marks f 0 ≡ 0 → known-above marks f ≡ known-above marks (f + 1)
     unmarked-step none = known-step ∙ pick-false _ _ _ (known-true marks f ∙ rw none) ∙ pick-false _ _ _ (known-false marks f ∙ rw none)

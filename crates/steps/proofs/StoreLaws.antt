@@ -27,7 +27,7 @@ stores-out (v ∷ vs) l i out = let same = length-set l i v in stores-out vs (se
 pub part-first : (xs : List ℕ) (i e : ℕ) → i < e → e ≤ length xs → take (e - i) (drop i xs) ≡ getD xs i 0 ∷ take (e - (i + 1)) (drop (i + 1) xs)
 part-first xs i e more inside =
     let less : e - i ≡ suc (e - (i + 1)) = omega arith in
-    rw (less, add-one i, drop-cons xs i 0 (omega arith)) refl
+    rw (less, add-one i, drop-cons xs i 0 (omega arith))
 
 pub part-none : (xs : List ℕ) (i e : ℕ) → e ≤ i → take (e - i) (drop i xs) ≡ []
-part-none xs i e over = let none : e - i ≡ 0 = omega arith in rw none refl
+part-none xs i e over = let none : e - i ≡ 0 = omega arith in rw none

@@ -75,7 +75,7 @@ module _ (held before : List ℕ) (q count : ℕ) (room : List ℕ) (p i : ℕ) 
           few = omega arith;
           placed = omega arith;
           sized = ap length put ∙ length-sets room p (number-written k) ∙ puts .sized;
-          same = puts .same ∙ rw (first, put, at, on) refl;
+          same = puts .same ∙ rw (first, put, at, on);
         }
 
   -- All are put.
@@ -96,7 +96,7 @@ module _ (held before : List ℕ) (q count : ℕ) (room : List ℕ) (p i : ℕ) 
           let on : q + 1 ≡ suc q = omega arith in
           let number = puts .number in let few = count-few in let long = cited-length held (puts .cites) in
           let small : count % 256 ≡ length (cited held) = omega (arith, number, few, long) in
-          sym (puts .same ∙ rw (part-none held (i + 1) (count + 1) (omega arith)) refl)
+          sym (puts .same ∙ rw (part-none held (i + 1) (count + 1) (omega arith)))
           ∙ ap₂ (λ (xs : List ℕ) (j : ℕ). sets xs j (numbers-written (cited held))) first on
           ∙ ap (λ (n : ℕ). sets (set lent q n) (suc q) (numbers-written (cited held))) small
 

@@ -78,10 +78,10 @@ module _ (n m : ℕ) (s : List ℕ) (bytes : Bytes s) where
         let one = byte-copied s p .holds x q read .there in
         let count = count-copied s 1 (format .branches) (p + 1) .holds c r counted .there in
         let here : Stands s p (item-written (branching p (bs .value))) e = (
-              one .0,
-              one .1 ∙ eqb-true x Limits.branching-byte opens,
-              (count .0, count .1 ∙ sym (all .1), subst (λ (o : ℕ). Stands s o (branches-written (bs .value)) e) (sym (count .2)) (all .0)),
-            ) in
+          one .0,
+          one .1 ∙ eqb-true x Limits.branching-byte opens,
+          (count .0, count .1 ∙ sym (all .1), subst (λ (o : ℕ). Stands s o (branches-written (bs .value)) e) (sym (count .2)) (all .0)),
+        ) in
         (here, λ i. ⊎-elim (λ is. subst (Item-stands s) (sym is) (record { end = e; bytes = here })) (all .2 i));
     no-item = λ deep p met. (refl, refl, λ i h. absurd h);
     an-item = λ deep left p met i q rest e one more.

@@ -1,7 +1,7 @@
 pub mod RoomLaws
 pub mod CiteLaws
 pub mod ItemStands
-pub mod EndLaws
-pub mod PlanLaws
+pub mod ItemEndLaws
+pub mod RestPutLaws
 pub mod ProgressLaws
-pub mod LineLaws
+pub mod PutLineLaws

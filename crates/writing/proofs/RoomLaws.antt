@@ -18,7 +18,7 @@ use Rattle.steps.proofs.KnownLists.{known-above, known-far, unmarked-step, mark
 -- A NUMBER.
 pub number-put : (room mid after : List ℕ) (q k : ℕ) → mid ≡ set room q (k / 256) → after ≡ set mid (q + 1) (k % 256) → after ≡ sets room q (number-written k)
 unfolding number-written
-number-put room mid after q k high low = let on : q + 1 ≡ suc q = omega arith in low ∙ rw (high, on) refl
+number-put room mid after q k high low = let on : q + 1 ≡ suc q = omega arith in low ∙ rw (high, on)
 
 -- A PART of an input, from p up to e. The bytes from i on are still to be stored, the first of them at `at`.
 pub record Copying (s before : List ℕ) (p e q : ℕ) (room : List ℕ) (i at : ℕ) : Type 0 where
@@ -32,7 +32,7 @@ copying-starts s room p e q order inside = record { inside = inside; most = orde
 
 module _ (s before : List ℕ) (p e q : ℕ) (room : List ℕ) (i at : ℕ) (copies : Copying s before p e q room i at) where
   pub part-over : e ≤ i → room ≡ sets before q (take (e - p) (drop p s))
-  part-over over = sym (copies .same ∙ rw (part-none s i e over) refl)
+  part-over over = sym (copies .same ∙ rw (part-none s i e over))
 
   pub part-out : length room ≤ at → room ≡ sets before q (take (e - p) (drop p s))
   part-out out = sym (copies .same ∙ stores-out (take (e - i) (drop i s)) room at out)
@@ -45,7 +45,7 @@ module _ (s before : List ℕ) (p e q : ℕ) (room : List ℕ) (i at : ℕ) (cop
         inside = inside;
         most = omega arith;
         sized = length-set room at (getD s i 0) ∙ copies .sized;
-        same = copies .same ∙ rw (part-first s i e more inside, on) refl;
+        same = copies .same ∙ rw (part-first s i e more inside, on);
       }
 
 -- WHAT A STATE KNOWS. The literals of the fluents below f are put behind the place of their count, and those from f up are still to be.
@@ -122,7 +122,7 @@ module _ (marks before : List ℕ) (q : ℕ) (room : List ℕ) (p count f : ℕ)
           placed = omega arith;
           sized = ap length put ∙ length-set room p (2 * f + mark - 1) ∙ lists .sized;
           counted = omega (arith, counted, long);
-          same = lists .same ∙ rw (step, put, on) refl;
+          same = lists .same ∙ rw (step, put, on);
         }
 
   -- All are put.

@@ -14,12 +14,12 @@ ghost use Rattle.steps.specs.Held.{plan-in, request-in};
 ghost use Rattle.steps.specs.AtHand.{At-hand, Marked};
 ghost use Rattle.steps.specs.Rests.{Position, rest-at};
 ghost use Rattle.writing.specs.Progress.{add, standing, Underway, cited, Cited};
-use super::plans::put_rest;
+use super::rests::put_rest;
 use super::room::put;
 use super::room::put_known;
 use super::room::put_number;
 use super::room::put_part;
-use super::rules;
+use super::rule_bytes;
 use bytes::limits;
 use finding::branches::sequence_of;
 use reading::marks::Marks;
@@ -109,7 +109,7 @@ pub fn put_empty(marks: &Marks, room: &mut [u8], progress: &mut Progress)
     let plan = put_known(marks, room, q);
     let concluded = plan + 2;
     put_number(room, plan, 0);
-    let end = put_uncited(marks, rules::EMPTY_RULE, room, concluded);
+    let end = put_uncited(marks, rule_bytes::EMPTY_RULE, room, concluded);
     progress[0] += 1;
     progress[1] = end;
 }
@@ -131,7 +131,7 @@ pub fn put_action(a: u8, marks: &Marks, after: &Marks, room: &mut [u8], progress
     let concluded = plan + 3;
     put_number(room, plan, 1);
     put(room, action, a);
-    let end = put_uncited(after, rules::ACTION_RULE, room, concluded);
+    let end = put_uncited(after, rule_bytes::ACTION_RULE, room, concluded);
     progress[0] += 1;
     progress[1] = end;
 }

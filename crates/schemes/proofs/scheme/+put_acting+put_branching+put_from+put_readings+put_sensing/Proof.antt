@@ -3,7 +3,7 @@ use borrow.Author.Needs.{needs}
 use Rattle.steps.proofs.LookLaws.{first-marked, second-marked, after-marked}
 use Rattle.steps.proofs.OnwardLaws.{item-inside, place-fits, place-there}
 use Rattle.schemes.proofs.CitedLaws.{none-held, line-there, line-near, last-near}
-use Rattle.schemes.proofs.FallLaws.{from-measure, item-measure, readings-measure, item-falls, item-here, follow-falls, sensing-falls, chosen-falls, reading-falls, readings-fall, followed-position, chosen-position, item-position, opens-branching, action-here, acts-here, byte-acts, acts-there, acts-small, told-sensing, told-unsensing}
+use Rattle.schemes.proofs.SchemeFalls.{from-measure, item-measure, readings-measure, item-falls, item-here, follow-falls, sensing-falls, chosen-falls, reading-falls, readings-fall, followed-position, chosen-position, item-position, opens-branching, action-here, acts-here, byte-acts, acts-there, acts-small, told-sensing, told-unsensing}
 use Rattle.schemes.proofs.NarrowLaws.{action-runs, action-moves, action-reads, sensing-few, readings-none, readings-first, readings-second, chosen-good}
 use Rattle.schemes.proofs.SchemeArms.{put-over, end-there, branch-put, branch-there, acting-put, sensing-put, cites-few, reading-put, first-few, second-few, readings-put}
 use Prim.Native.Nat.{ℕ, _<_}

@@ -1,7 +1,7 @@
 -- The parts of the line go behind those that are there, one after another; where there are too many lines, nothing is put.
 use native.Mathlib.Omega.{arith}
 use Rattle.writing.proofs.ProgressLaws.{lines-over, progress-near, line-goes-on, line-added}
-use Rattle.writing.proofs.LineLaws.{empty-line}
+use Rattle.writing.proofs.PutLineLaws.{empty-line}
 use borrow.Author.Needs.{needs}
 use Rattle.writing.proofs.lines.put_empty.Statement.{statement}
 use Rattle.writing.proofs.lines.put_empty.Tie as tie
@@ -11,65 +11,92 @@ use Rattle.writing.proofs.lines.put_uncited.Reads as put-uncited-reads
 use Rattle.writing.proofs.room.put_known.Reads as put-known-reads
 use Rattle.writing.proofs.room.put_number.Reads as put-number-reads
 
--- src/lines.rt:104:24
+-- src/lines.rt:105:24
 element-copy-out-if1 : tie.Need-element-copy-out-if1
 element-copy-out-if1 c = search needs
 
--- src/lines.rt:105:9
+-- src/lines.rt:106:9
 returns : tie.Need-returns
 returns c = (search lines-over, search needs)
 
--- src/lines.rt:107:13
+-- src/lines.rt:108:13
 element-copy-out-q : tie.Need-element-copy-out-q
 element-copy-out-q c = search needs
 
--- src/lines.rt:108:9
+-- src/lines.rt:109:9
 put-known-requires : tie.Need-put-known-requires
-put-known-requires c κs = (c .before .before .before .before .before .pre .0, (let near = progress-near _ (c .before .before .before .before .before .pre .1) (c .before .before .if1 .left) in omega (arith, near)))
+put-known-requires c κs =
+    let test = c .before .before in
+    let start = test .before .before .before in
+    let near = progress-near _ (start .pre .1) (test .if1 .left) in
+    (start .pre .0, omega (arith, near))
 
--- src/lines.rt:109:21
+-- src/lines.rt:110:21
 add-concluded : tie.Need-add-concluded
-add-concluded c = let near = progress-near _ (c .before .before .before .before .before .before .before .before .pre .1) (c .before .before .before .before .before .if1 .left) in let plan = c .before .before .put-known .ensures .1 .0 in record { fits = omega (arith, near, plan) }
+add-concluded c =
+    let known = c .before .before in
+    let test = known .before .before .before in
+    let start = test .before .before .before in
+    let near = progress-near _ (start .pre .1) (test .if1 .left) in
+    let plan = known .put-known .ensures .1 .0 in
+    record { fits = omega (arith, near, plan) }
 
--- src/lines.rt:110:5
+-- src/lines.rt:111:5
 put-number-requires : tie.Need-put-number-requires
-put-number-requires c κs = (search needs, (let near = progress-near _ (c .before .before .before .before .before .before .before .before .before .pre .1) (c .before .before .before .before .before .before .if1 .left) in let plan = c .before .before .before .put-known .ensures .1 .0 in omega (arith, near, plan)))
+put-number-requires c κs =
+    let known = c .before .before .before in
+    let test = known .before .before .before in
+    let start = test .before .before .before in
+    let near = progress-near _ (start .pre .1) (test .if1 .left) in
+    let plan = known .put-known .ensures .1 .0 in
+    (search needs, omega (arith, near, plan))
 
--- src/lines.rt:111:9
+-- src/lines.rt:112:9
 put-uncited-requires : tie.Need-put-uncited-requires
-put-uncited-requires c κs = (c .before .before .before .before .before .before .before .before .before .before .before .before .before .pre .0, (let near = progress-near _ (c .before .before .before .before .before .before .before .before .before .before .before .before .before .pre .1) (c .before .before .before .before .before .before .before .before .before .before .if1 .left) in let plan = c .before .before .before .before .before .before .before .put-known .ensures .1 .0 in omega (arith, near, plan)))
+put-uncited-requires c κs =
+    let known = c .before .before .before .before .before .before .before in
+    let test = known .before .before .before in
+    let start = test .before .before .before in
+    let near = progress-near _ (start .pre .1) (test .if1 .left) in
+    let plan = known .put-known .ensures .1 .0 in
+    (start .pre .0, omega (arith, near, plan))
 
--- src/lines.rt:112:5
+-- src/lines.rt:113:5
 element-copy-out-progress : tie.Need-element-copy-out-progress
 element-copy-out-progress c = search needs
 
--- src/lines.rt:112:5
+-- src/lines.rt:113:5
 add-progress : tie.Need-add-progress
 add-progress c = search needs
 
--- src/lines.rt:112:5
+-- src/lines.rt:113:5
 element-write-progress : tie.Need-element-write-progress
 element-write-progress c = search needs
 
--- src/lines.rt:113:5
+-- src/lines.rt:114:5
 element-write-progress-2 : tie.Need-element-write-progress-2
 element-write-progress-2 c = search needs
 
--- src/lines.rt:98:1
+-- src/lines.rt:99:1
 same-length : tie.Need-same-length
 same-length c = search needs
 
--- src/lines.rt:98:1
+-- src/lines.rt:99:1
 returns-2 : tie.Need-returns-2
-returns-2 c = 
-    let underway = c .before .before .before .before .before .before .before .before .before .before .before .before .before .before .before .before .before .pre .1 in
-    let few = c .before .before .before .before .before .before .before .before .before .before .before .before .before .before .if1 .left in
-    let known = c .before .before .before .before .before .before .before .before .before .before .before .put-known .ensures in
-    let rest = c .before .before .before .put-uncited .ensures in
-    let line = empty-line _ _ _ _ _ (known .1 .1) (known .0) _ _ _ (c .before .before .before .before .before .before .before .put-number .ensures) (rest .1 .1) (rest .0) in
-    let plan = known .1 .0 in
-    let end = rest .1 .0 in
-    (line-added _ underway few _ _ _ _ (line .put) (line .ends), line-goes-on _ underway few _ (omega (arith, plan, end)))
+returns-2 c =
+    let uncited = c .before .before .before in
+    let number = uncited .before .before .before .before in
+    let known = number .before .before .before .before in
+    let test = known .before .before .before in
+    let start = test .before .before .before in
+    let first = known .put-known .ensures in
+    let last = uncited .put-uncited .ensures in
+    let line = empty-line _ _ _ _ _ (first .1 .1) (first .0) _ _ _ (number .put-number .ensures) (last .1 .1) (last .0) in
+    let one = first .1 .0 in
+    let two = last .1 .0 in (
+      line-added _ (start .pre .1) (test .if1 .left) _ _ _ _ (line .put) (line .ends),
+      line-goes-on _ (start .pre .1) (test .if1 .left) _ (omega (arith, one, two)),
+    )
 
 pub put-empty-spec : {M : Type 1} → statement M
 put-empty-spec =
