@@ -107,7 +107,7 @@ abbrev put-sensing-below : ℕ → In 5 put-sensing-kinds.ps
 put-sensing-below t =
     and 5 put-sensing-kinds.ps (falls 5 put-sensing-kinds.ps _<_ μ-put-sensing t) put-sensing.Pre
 
--- src/scheme.rt:287:9
+-- src/scheme.rt:289:9
 put-readings-returns : (t : ℕ) → put-readings-lts.Need-returns (
   next-unknown-reads.Asked,
   next-unknown-reads.Learnt,

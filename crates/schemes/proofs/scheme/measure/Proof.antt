@@ -7,15 +7,15 @@ use Rattle.schemes.proofs.scheme.measure.Reads as reads
 use Rattle.schemes.proofs.scheme.measure.Lts as lts
 use Rattle.schemes.proofs.scheme.put_plan.Reads as put-plan-reads
 
--- src/scheme.rt:325:20
+-- src/scheme.rt:327:20
 slice-aggregate-put-plan : tie.Need-slice-aggregate-put-plan
 slice-aggregate-put-plan c = search needs
 
--- src/scheme.rt:325:5
+-- src/scheme.rt:327:5
 put-plan-requires : tie.Need-put-plan-requires
 put-plan-requires c κs = search needs
 
--- src/scheme.rt:319:1
+-- src/scheme.rt:321:1
 returns : tie.Need-returns
 returns c = search plan-measured
 

@@ -13,39 +13,39 @@ use Rattle.reading.proofs.notes.get.Reads as get-reads
 use Rattle.schemes.proofs.scheme.put_from.Reads as put-from-reads
 use Rattle.steps.proofs.onward.start_of.Reads as start-of-reads
 
--- src/scheme.rt:306:17
+-- src/scheme.rt:308:17
 state-of-requires : tie.Need-state-of-requires
 state-of-requires c κs = search facts-here
 
--- src/scheme.rt:307:9
+-- src/scheme.rt:309:9
 get-requires : tie.Need-get-requires
 get-requires c κs = search needs
 
--- src/scheme.rt:308:9
+-- src/scheme.rt:310:9
 start-of-requires : tie.Need-start-of-requires
 start-of-requires c κs = search needs
 
--- src/scheme.rt:310:5
+-- src/scheme.rt:312:5
 array-write-progress : tie.Need-array-write-progress
 array-write-progress c = search needs
 
--- src/scheme.rt:311:5
+-- src/scheme.rt:313:5
 put-from-requires : tie.Need-put-from-requires
 put-from-requires c κs = (search needs, (search starts-there, (search marked-as, (search whole-narrow, search opens-underway))))
 
--- src/scheme.rt:313:16
+-- src/scheme.rt:315:16
 array-read-t18 : tie.Need-array-read-t18
 array-read-t18 c = search needs
 
--- src/scheme.rt:314:16
+-- src/scheme.rt:316:16
 array-read-t21 : tie.Need-array-read-t21
 array-read-t21 c = search needs
 
--- src/scheme.rt:301:1
+-- src/scheme.rt:303:1
 same-length : tie.Need-same-length
 same-length c = search needs
 
--- src/scheme.rt:301:1
+-- src/scheme.rt:303:1
 returns : tie.Need-returns
 returns c = search plan-lined
 

@@ -8,19 +8,19 @@ use Rattle.schemes.proofs.scheme.write.Lts as lts
 use Rattle.schemes.proofs.scheme.put_plan.Reads as put-plan-reads
 use Rattle.writing.proofs.room.put_number.Reads as put-number-reads
 
--- src/scheme.rt:336:9
+-- src/scheme.rt:338:9
 put-plan-requires : tie.Need-put-plan-requires
 put-plan-requires c κs = search needs
 
--- src/scheme.rt:337:5
+-- src/scheme.rt:339:5
 put-number-requires : tie.Need-put-number-requires
 put-number-requires c κs = (search count-near, search needs)
 
--- src/scheme.rt:329:1
+-- src/scheme.rt:331:1
 same-length : tie.Need-same-length
 same-length c = search needs
 
--- src/scheme.rt:329:1
+-- src/scheme.rt:331:1
 returns : tie.Need-returns
 returns c = search plan-written
 
