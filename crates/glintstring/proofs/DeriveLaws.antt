@@ -1,5 +1,5 @@
 -- The derive call, a law for each way that it returns: 30, what a walk answers, 38, 39, and what is written. Assumes nothing.
-use Prim.Native.Nat.{ℕ, zero, suc, _≤_, _<_}
+use Prim.Native.Nat.{ℕ, _≤_, _<_}
 use native.Mathlib.Omega.{arith}
 use mathlib.Core.Path.{_≡_, refl, sym, _∙_, ap}
 use mathlib.Core.Bool.{true, false}
@@ -16,7 +16,7 @@ use Rattle.meaning.specs.Requests.{Request}
 use Rattle.meaning.specs.Reading.{got, fault}
 use Rattle.meaning.specs.Refusals.{settled}
 use Rattle.meaning.specs.States.{State, first-state}
-use Rattle.meaning.specs.Walk.{fine, Walked}
+use Rattle.meaning.specs.Walk.{Walked, Verified}
 use Rattle.meaning.specs.Judging
 use Rattle.meaning.specs.Judging.{Judgement, within}
 use Rattle.meaning.specs.Derivations.{Line, answer, beyond}
@@ -38,7 +38,7 @@ use Rattle.steps.specs.AtHand.{At-hand}
 use Rattle.steps.specs.Steps.{narrow-mode, mode-in, walk-held}
 use Rattle.steps.proofs.HandLaws.{is-whether}
 use Rattle.steps.proofs.ModeLaws.{held-plain, held-narrow}
-use Rattle.steps.proofs.ModeHand.{new-mode, same-request, same-guarded}
+use Rattle.steps.proofs.ModeHand.{new-mode, same-request, same-guarded, hand-stays}
 use Rattle.schemes.specs.declared.scheme.Size.{Size}
 use Rattle.schemes.specs.Sizes.{Measured}
 use Rattle.glintstring.specs.CheckCalls.{too-many}
@@ -115,9 +115,9 @@ module _ (s t lent left : List ℕ) (budget : ℕ) (a : Answer) where
       ∙ ap (λ (w : Walked State). within [] budget w .answer) (held-narrow s u mode none ∙ ap (narrow-walk-of format) (ap (request-in s) put ∙ same-request s t narrow-mode))
 
 -- Where the second walk answers 0, it ends with nothing missed.
-pub narrow-fine : (x : Request) (budget : ℕ) (a : Answer) → a ≡ within [] budget (narrow-walk-of format x) .answer → a .number ≡ 0 → narrow-walk-of format x .end ≡ fine
-narrow-fine x budget a walks zero =
-    fine-within [] budget (narrow-walk-of format x) (narrow-never 0 (λ q. omega (arith, q)) (λ q. omega (arith, q)) x (first-state format (x .table))) (ap (λ (b : Answer). b .number) (sym walks) ∙ zero) .0
+pub narrow-fine : (x : Request) (budget : ℕ) (a : Answer) → a ≡ within [] budget (narrow-walk-of format x) .answer → a .number ≡ 0 → Verified (narrow-walk-of format x)
+narrow-fine x budget a walks none =
+    fine-within [] budget (narrow-walk-of format x) (within [] budget (narrow-walk-of format x)) refl (narrow-never 0 (λ q. omega (arith, q)) (λ q. omega (arith, q)) x (first-state format (x .table))) (ap (λ (b : Answer). b .number) (sym walks) ∙ none) .0
 
 -- OF A SETTLED REQUEST: 30, a walk that does not verify, a step that is too wide, and what is written.
 module _ (x : Request) (room : List ℕ) (budget : ℕ) (a : Answer) where
@@ -133,7 +133,7 @@ module _ (x : Request) (room : List ℕ) (budget : ℕ) (a : Answer) where
     unfolding derive-got unless-refused unwritten
     derived-stopped walks other =
         ap (λ (b : Answer). record { answer = b; room = room }) walks
-        ∙ sym (pick-false _ _ _ none ∙ pick-false _ _ _ (ne-eqb _ _ (λ zero. other (ap (λ (b : Answer). b .number) walks ∙ zero))))
+        ∙ sym (pick-false _ _ _ none ∙ pick-false _ _ _ (ne-eqb _ _ (λ none-other. other (ap (λ (b : Answer). b .number) walks ∙ none-other))))
 
     module _ (w : Answer) (walks : w ≡ within [] budget (Judging.walk-of format x) .answer) (good : w .number ≡ 0) where
       verified : eqb (within [] budget (Judging.walk-of format x) .answer .number) 0 ≡ true
@@ -143,13 +143,45 @@ module _ (x : Request) (room : List ℕ) (budget : ℕ) (a : Answer) where
       unfolding derive-got unless-refused unwritten
       derived-wide narrow other =
           ap (λ (b : Answer). record { answer = b; room = room }) narrow
-          ∙ sym (pick-false _ _ _ none ∙ pick-true _ _ _ verified ∙ pick-false _ _ _ (ne-eqb _ _ (λ zero. other (ap (λ (b : Answer). b .number) narrow ∙ zero))))
+          ∙ sym (pick-false _ _ _ none ∙ pick-true _ _ _ verified ∙ pick-false _ _ _ (ne-eqb _ _ (λ none-other. other (ap (λ (b : Answer). b .number) narrow ∙ none-other))))
 
       pub derived-written : (v : Answer) → v ≡ within [] budget (narrow-walk-of format x) .answer → v .number ≡ 0 → (left : List ℕ) → record { answer = a; room = left } ≡ write-lines format room (derivation-of format x)
           → record { answer = a; room = left } ≡ derive-got format room budget (got x 0)
       unfolding derive-got unless-refused
-      derived-written v narrow fine left is =
-          is ∙ sym (pick-false _ _ _ none ∙ pick-true _ _ _ verified ∙ pick-true _ _ _ (eq-eqb _ _ (ap (λ (b : Answer). b .number) (sym narrow) ∙ fine)))
+      derived-written v narrow good-too left is =
+          is ∙ sym (pick-false _ _ _ none ∙ pick-true _ _ _ verified ∙ pick-true _ _ _ (eq-eqb _ _ (ap (λ (b : Answer). b .number) (sym narrow) ∙ good-too)))
+
+-- OF WHAT IS HELD, by the two walks of it: the second goes by notes with another mode.
+pub narrow-hand : (s t : List ℕ) → At-hand s t → (u : List ℕ) → u ≡ set t mode-slot 2 → At-hand s u
+narrow-hand s t here u put = rw put (hand-stays s t 2 here)
+
+pub narrow-verified : (s t : List ℕ) (budget : ℕ) → guards-in s t ≡ [] → length t ≡ slots → (u : List ℕ) → u ≡ set t mode-slot 2 → (lent left : List ℕ) (v : Answer)
+    → record { answer = v; state = left } ≡ within lent budget (walk-held s u) → v .number ≡ 0 → Verified (narrow-walk-of format (request-in s u))
+narrow-verified s t budget unguarded sized u put lent left v walks none =
+    rw (ap (request-in s) put ∙ same-request s t 2) (narrow-fine (request-in s t) budget v (narrow-answer s t lent left budget v u put sized walks unguarded) none)
+
+module _ (s t room : List ℕ) (budget : ℕ) (none : beyond Plain (request-in s t) ≡ false) (unguarded : guards-in s t ≡ []) (known : mode-in t ≡ 0) (lent left : List ℕ) (w : Answer)
+    (walks : record { answer = w; state = left } ≡ within lent budget (walk-held s t)) where
+  plain : w ≡ within [] budget (Judging.walk-of format (request-in s t)) .answer
+  plain = plain-answer s t lent left budget w walks unguarded known
+
+  pub walked-stops : (w .number ≡ 0 → ⊥) → record { answer = w; room = room } ≡ derive-got format room budget (got (request-in s t) 0)
+  walked-stops = derived-stopped (request-in s t) room budget w none plain
+
+  module _ (good : w .number ≡ 0) (sized : length t ≡ slots) (u : List ℕ) (put : u ≡ set t mode-slot 2) (lent′ left′ : List ℕ) (v : Answer) (again : record { answer = v; state = left′ } ≡ within lent′ budget (walk-held s u)) where
+    narrow : v ≡ within [] budget (narrow-walk-of format (request-in s t)) .answer
+    narrow = narrow-answer s t lent′ left′ budget v u put sized again unguarded
+
+    same : request-in s u ≡ request-in s t
+    same = ap (request-in s) put ∙ same-request s t 2
+
+    pub walked-wide : (v .number ≡ 0 → ⊥) → record { answer = v; room = room } ≡ derive-got format room budget (got (request-in s t) 0)
+    walked-wide = derived-wide (request-in s t) room budget v none w plain good narrow
+
+    pub walked-written : v .number ≡ 0 → (a : Answer) (after : List ℕ) → record { answer = a; room = after } ≡ write-lines format room (derivation-of format (request-in s u))
+        → record { answer = a; room = after } ≡ derive-got format room budget (got (request-in s t) 0)
+    walked-written zero-too a after is =
+        derived-written (request-in s t) room budget a none w plain good v narrow zero-too after (is ∙ ap (λ (x : Request). write-lines format room (derivation-of format x)) same)
 
 -- 30, by the count of the whether list, which stands behind the goals.
 module _ (s t : List ℕ) (here : At-hand s t) (goals : ℕ) (slot : goals ≡ getD t goals-slot 0) (whether : ℕ) (after : whether ≡ sequence-place s goals) (asked : ℕ) (count : asked ≡ getD s whether 0) where
@@ -162,12 +194,8 @@ module _ (s t : List ℕ) (here : At-hand s t) (goals : ℕ) (slot : goals ≡ g
   some-asked room budget a some is =
       derived-30 (request-in s t) room budget a (by-count ∙ lt-ltb 0 asked some) (is ∙ ap (λ (p : ℕ). record { number = 30; input = 1; place = p; count = 0 }) (is-whether s t here goals slot whether after))
 
-  pub none-asked : (0 < asked → ⊥) → beyond Plain (request-in s t) ≡ false
-  none-asked none = by-count ∙ le-ltb 0 asked (by-none asked none)
-    where
-      by-none : (n : ℕ) → (0 < n → ⊥) → n ≤ 0
-      by-none zero h = omega arith
-      by-none (suc n) h = absurd (h (omega arith))
+  pub none-asked : asked ≤ 0 → beyond Plain (request-in s t) ≡ false
+  none-asked none = by-count ∙ le-ltb 0 asked none
 
 -- THE CALL.
 module _ (s room : List ℕ) (budget : ℕ) (a : Answer) (t u : List ℕ) (r : Passed) (settles : outcome r u ≡ noting request-noted (settled format s) t) where

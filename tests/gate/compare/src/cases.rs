@@ -22,7 +22,7 @@ extern "C" {
     fn glintstring_judge_by_cases(request: *const u8, request_length: usize, state: *mut u8, state_length: usize, budget: u32) -> u64;
     fn glintstring_judge_indexed(request: *const u8, request_length: usize, index: *const u8, index_length: usize, state: *mut u8, state_length: usize, budget: u32) -> u64;
     fn glintstring_index(request: *const u8, request_length: usize, room: *mut u8, room_length: usize) -> u64;
-    fn glintstring_derive(request: *const u8, request_length: usize, room: *mut u8, room_length: usize, budget: u32) -> u64;
+    fn glintstring_derive(request: *const u8, request_length: usize, out: *mut u8, out_length: usize, budget: u32) -> u64;
     fn glintstring_judge_line(request: *const u8, request_length: usize, state: *mut u8, state_length: usize, budget: u32, line: *mut u32) -> u64;
     fn glintstring_check(request: *const u8, request_length: usize, derivation: *const u8, derivation_length: usize) -> u64;
     fn glintstring_check_whether(request: *const u8, request_length: usize, derivation: *const u8, derivation_length: usize) -> u64;
