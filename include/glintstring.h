@@ -32,6 +32,9 @@ extern "C" {
 /* Open fluents that an action may have where the call by cases meets it (FORMAT 22.8). */
 #define GLINTSTRING_MOST_OPEN 12
 
+/* Unknown fluents that a sensing action may have where the derive call meets it (FORMAT 24.4). */
+#define GLINTSTRING_MOST_FORKED 6
+
 /* Bytes that the index of a request may have (FORMAT 23.5): a room of so many is never too short. */
 #define GLINTSTRING_INDEX_MOST 1276
 
@@ -41,7 +44,8 @@ extern "C" {
 
 /*
  * Bytes that each input may have; a guarded request or a release file may have as many as a request. One byte more is answered as any
- * longer input, so that no more of a file need be read.
+ * longer input, so that no more of a file need be read. The derive call writes no derivation that is longer either: a room of
+ * GLINTSTRING_DERIVATION_LIMIT bytes is as good as any.
  */
 #define GLINTSTRING_REQUEST_LIMIT 16384
 #define GLINTSTRING_DERIVATION_LIMIT 32768
@@ -61,16 +65,19 @@ extern "C" {
 #define GLINTSTRING_INDEX 3
 
 /*
- * The numbers of answers (FORMAT 4.3 to 4.25, 17.35, 17.36, 19.10, 21.10, 22.9, 23.8 and 23.15), each with what its place is. The walk
- * call gives 0 to 3 and 9 to 21; of the calls that are like it the guarded call also gives 43, the call by cases also 44, and the indexed
- * call also 45. The index call gives 0, 10 to 21 and 39. The derivation call gives 0, 10 to 21 and 30 to 35, the whether call 0, 10 to
- * 21, 31 to 34 and 36. The release call itself gives 0, 9 to 17 and 20, and to each plan 0 to 3, 11 to 15, 18, 19, 21 and 22. Of a
- * derivation's faults 10 to 15 and 18 to 21 are told by the same numbers as a request's: the answer names the input.
+ * The numbers of answers (FORMAT 4.3 to 4.25, 17.35, 17.36, 19.10, 21.10, 22.9, 23.8, 23.15 and 24.16 to 24.18), each with what its
+ * place is. The walk call gives 0 to 3 and 9 to 21; of the calls that are like it the guarded call also gives 43, the call by cases also
+ * 44, and the indexed call also 45. The index call gives 0, 10 to 21 and 39. The derivation call gives 0, 10 to 21 and 30 to 35, the
+ * whether call 0, 10 to 21, 31 to 34 and 36. The derive call gives 0 to 3, 10 to 21, 30 and 37 to 39. The release call itself gives 0, 9
+ * to 17 and 20, and to each plan 0 to 3, 11 to 15, 18, 19, 21 and 22. Of a derivation's faults 10 to 15 and 18 to 21 are told by the same
+ * numbers as a request's: the answer names the input.
  */
 #define GLINTSTRING_VERIFIED 0                  /* the walk verifies the plan; place 0 */
 #define GLINTSTRING_ACCEPTED 0                  /* the derivation call, the whether call: the derivation is accepted; place 0 */
 #define GLINTSTRING_ANSWERED 0                  /* the release call: the row has an answer for each plan; place 0 */
 #define GLINTSTRING_INDEXED 0                   /* the index call: the room starts with the index; place 0 */
+#define GLINTSTRING_DERIVED 0                   /* the derive call: the walk verifies the plan, and the room starts with a derivation of
+                                                   what the request asks; place 0 */
 #define GLINTSTRING_GOAL_MISSED 1               /* all paths can be run to their ends, and an end state misses a goal or a whether
                                                    entry; the first entry missed in the first such state */
 #define GLINTSTRING_NOT_EXECUTABLE 2            /* a path comes to an item that cannot be run; that item */
@@ -93,7 +100,8 @@ extern "C" {
                                                    the last plan of a release file; the first */
 #define GLINTSTRING_TOO_MANY_ITEMS 21           /* a plan goes on to a 1,025th item; its first byte */
 #define GLINTSTRING_NOT_REACHED 22              /* a plan of a release file comes after one that fails in reading; place 0 */
-#define GLINTSTRING_WHETHER_ASKED 30            /* the request has whether entries; the count byte of their list */
+#define GLINTSTRING_WHETHER_ASKED 30            /* the derivation call, the derive call: the request has whether entries; the count
+                                                   byte of their list */
 #define GLINTSTRING_NO_RULE 31                  /* a line's rule byte is none of 1 to 6, or in the whether call none of 1
                                                    to 8 and 10 to 12; the line */
 #define GLINTSTRING_CITES_NO_EARLIER_LINE 32    /* a line cites something that is not a line before it; the citing line */
@@ -103,7 +111,11 @@ extern "C" {
 #define GLINTSTRING_CLOSING_NOT_RIGHT 36        /* the closing list has another length than the request asks, and then its count
                                                    byte; or an entry of it names no line or another line than it is to name, and
                                                    then the first such entry */
-#define GLINTSTRING_ROOM_SHORT 39               /* the index call: the room has fewer bytes than the index; place 0 */
+#define GLINTSTRING_SENSING_TOO_WIDE 37         /* the derive call: a sensing action is met in a state in which more than six of its
+                                                   fluents are unknown; the first such item in the order of the walk */
+#define GLINTSTRING_TOO_MANY_LINES 38           /* the derive call: the derivation has more than 1,024 lines; place 0 */
+#define GLINTSTRING_ROOM_SHORT 39               /* the index call: the room has fewer bytes than the index; the derive call: the
+                                                   derivation has more bytes than the room, or more than 32,768; place 0 */
 #define GLINTSTRING_GUARD_BROKEN 43             /* the guarded call: a state is met in which a guard is not known true; the first
                                                    such guard */
 #define GLINTSTRING_TOO_MANY_CASES 44           /* the call by cases: an action is met in a state in which it has more than 12 open
@@ -115,9 +127,10 @@ extern "C" {
  * An answer comes packed into one number: number + 2^8 * input + 2^16 * place + 2^32 * count. These take it apart.
  *
  * The place is the number of bytes that stand before it in its input. The count is that of the walk (actions run and end states judged)
- * for answers 0, 1, 2 and 43 of the walk call, the guarded call, the call by cases and the indexed call, the budget for 3, the length of
- * the index for 0 of the index call, and 0 for all others, which 44, 45, an accepted derivation's 0 and the release call's own 0 are
- * among. The answers in a row are not packed: there each number has its place.
+ * for answers 0, 1, 2 and 43 of the walk call, the guarded call, the call by cases and the indexed call and for 1 and 2 of the derive
+ * call, the budget for 3, the length of the index for 0 of the index call, that of the derivation for 0 of the derive call, and 0 for all
+ * others, which 44, 45, an accepted derivation's 0 and the release call's own 0 are among. The answers in a row are not packed: there each
+ * number has its place.
  */
 static inline uint8_t glintstring_number(uint64_t answer) { return (uint8_t)(answer & 255u); }
 static inline uint8_t glintstring_input(uint64_t answer) { return (uint8_t)((answer >> 8) & 255u); }
@@ -126,8 +139,9 @@ static inline uint32_t glintstring_count(uint64_t answer) { return (uint32_t)(an
 
 /*
  * What an answer's number says, in a few words: a constant string, also for a number that no answer has. Number 0 is "verified";
- * of a derivation a program may rather say "accepted", of the release call's own 0, which says nothing of any plan, "answered", and of
- * the index call's 0, which says nothing of the plan either, "indexed".
+ * of a derivation a program may rather say "accepted", of the derive call's 0, which says that the plan is verified and its derivation
+ * written, "derived", of the release call's own 0, which says nothing of any plan, "answered", and of the index call's 0, which says
+ * nothing of the plan either, "indexed".
  */
 static inline const char *glintstring_words(unsigned number) {
     switch (number) {
@@ -156,6 +170,8 @@ static inline const char *glintstring_words(unsigned number) {
     case GLINTSTRING_DOES_NOT_FOLLOW: return "a line does not follow by its rule";
     case GLINTSTRING_NOT_THE_QUESTION: return "the last line differs from the question";
     case GLINTSTRING_CLOSING_NOT_RIGHT: return "the closing list is not what the request asks";
+    case GLINTSTRING_SENSING_TOO_WIDE: return "too many readings";
+    case GLINTSTRING_TOO_MANY_LINES: return "too many lines";
     case GLINTSTRING_ROOM_SHORT: return "room too short";
     case GLINTSTRING_GUARD_BROKEN: return "guard broken";
     case GLINTSTRING_TOO_MANY_CASES: return "too many cases";
@@ -331,6 +347,32 @@ uint64_t glintstring_check(const uint8_t *request, size_t request_length, const 
  */
 uint64_t glintstring_check_whether(const uint8_t *request, size_t request_length, const uint8_t *derivation,
                                    size_t derivation_length);
+
+/*
+ * The derive call: walks the plan of a request as glintstring_judge does, counting to `budget` at the most, and where that verifies the
+ * plan writes a derivation of what the request asks to a lent room, `out`. It is a derivation in the plain layout, which glintstring_check
+ * takes: its lines follow the walk, by rules 1 to 6, in the order of FORMAT 24.5 to 24.10.
+ *
+ * Promise (proved): for every request, lent room and budget the call ends, and its answer and the room afterwards are those of the
+ * format, each to the last number and byte. Any bytes may be given, of any length; a caller need not have tested anything. The answer is
+ * derived (0) exactly where 10 to 21 do not refuse the request, it has no whether entry, the walk verifies the plan within the budget, no
+ * sensing action that the walk meets has more than six unknown fluents there, and the derivation has at most 1,024 lines and at most
+ * 32,768 bytes, and the room has as many. Its count is then the derivation's length, the room starts with the derivation, and the bytes
+ * behind that are what they were. glintstring_check accepts what was written, for the same request.
+ *
+ * The tests are made in this order. A request that 10 to 21 refuse gets the number and the place that glintstring_judge gives it. One
+ * with whether entries gets 30. Then the plan is walked: answers 1, 2 and 3 are those of glintstring_judge, with its place and count, and
+ * there is no state. Then come too many readings (37), too many lines (38) and room too short (39), each with count 0. These three say
+ * nothing against the plan: the walk verifies it. After every answer but 0 the room has the bytes that it had before.
+ *
+ * The caller sees to this:
+ *   - `request` may be read for request_length bytes, `out` read and written for out_length bytes, and the two do not overlap. With
+ *     length 0 any pointer will do, null too: it is not followed.
+ *   - there are GLINTSTRING_STACK_NEEDED bytes of free stack, as for glintstring_judge.
+ * GLINTSTRING_DERIVATION_LIMIT bytes are room for every derivation that is written. The call keeps no pointer, takes nothing from the heap
+ * and has no memory of its own, so threads may call it at one time.
+ */
+uint64_t glintstring_derive(const uint8_t *request, size_t request_length, uint8_t *out, size_t out_length, uint32_t budget);
 
 /*
  * The release call: answers every plan of a release file, which has the table and the initial facts of a request once (sections 1 to

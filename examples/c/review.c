@@ -6,6 +6,7 @@
  *   review judge-by-cases [--budget N] REQUEST...
  *   review index REQUEST...
  *   review judge-indexed [--budget N] REQUEST INDEX [REQUEST INDEX]...
+ *   review derive [--budget N] REQUEST...
  *   review check REQUEST DERIVATION [REQUEST DERIVATION]...
  *   review check-whether REQUEST DERIVATION [REQUEST DERIVATION]...
  *   review release [--budget N] FILE...
@@ -14,8 +15,9 @@
  * with whether entries too, and derivations in the closing layout. With `--line` a walk that an action stops also says which executability line
  * of it was missing. `judge-guarded` takes guarded requests, whose guards are to be known true all the way. `judge-by-cases` tries each action in every
  * filling of what is unknown. `index` says how the index of each request begins, and `judge-indexed` walks by an index, which the program `index` has
- * written to a file. `release` takes release files, each with many plans over one table, and has a line for each plan. The exit status is 0 where each
- * plan is verified, each derivation accepted or each request indexed, 1 where some answer is another, and 2 where something can't be read or written.
+ * written to a file. `derive` walks too, and says how the derivation of each request begins, which the program `derive` writes to a file. `release` takes release
+ * files, each with many plans over one table, and has a line for each plan. The exit status is 0 where each plan is verified, each derivation accepted or written
+ * or each request indexed, 1 where some answer is another, and 2 where something can't be read or written.
  */
 #define _POSIX_C_SOURCE 200809L
 #include <errno.h>
@@ -50,7 +52,7 @@ static void show(const char *what, const struct input *input, size_t start) {
 
 /*
  * Prints the words, which are these for number 0, the numbers, the state that answers 1, 2 and 43 wrote, and the bytes at the place. `second` is the derivation or
- * the index, or null where there is neither.
+ * the index, or null where there is neither, and `state` is null where none was lent.
  */
 static int tell(uint64_t answer, const char *zero, const struct input *request, const struct input *second, const uint8_t *state) {
     static const struct input none = {"", NULL, 0};
@@ -65,7 +67,7 @@ static int tell(uint64_t answer, const char *zero, const struct input *request, 
         printf("%s: ", request->name);
     puts(number == GLINTSTRING_VERIFIED ? zero : glintstring_words(number));
     printf("  number %u, place %u, count %lu\n", number, glintstring_place(answer), (unsigned long)glintstring_count(answer));
-    if (number == GLINTSTRING_GOAL_MISSED || number == GLINTSTRING_NOT_EXECUTABLE || number == GLINTSTRING_GUARD_BROKEN) {
+    if (state && (number == GLINTSTRING_GOAL_MISSED || number == GLINTSTRING_NOT_EXECUTABLE || number == GLINTSTRING_GUARD_BROKEN)) {
         printf("  state ");
         for (i = 0; i < request->bytes[0]; i++) /* a request that was walked starts with its number of fluents */
             putchar(state[i] == GLINTSTRING_TRUE ? '+' : state[i] == GLINTSTRING_FALSE ? '-' : '?');
@@ -148,19 +150,34 @@ static int judge_and_line(char **names, uint32_t budget) { return judge_line(nam
 static int judge_guarded(char **names, uint32_t budget) { return judge_by(glintstring_judge_guarded, names[0], budget); }
 static int judge_by_cases(char **names, uint32_t budget) { return judge_by(glintstring_judge_by_cases, names[0], budget); }
 
+/* Prints what a call that writes to a room answers, and how what it wrote begins. */
+static int tell_written(uint64_t answer, const char *zero, const char *what, const struct input *request, uint8_t *room) {
+    const struct input written = {"", room, glintstring_count(answer)};
+    const int status = tell(answer, zero, request, NULL, NULL);
+    if (status == GOOD)
+        show(what, &written, 0);
+    return status;
+}
+
 /* Builds the index of a request, in a room that is long enough for any. */
 static int build_index(char **names, uint32_t budget) {
     uint8_t room[GLINTSTRING_INDEX_MOST];
     struct input request;
     int status = read_input(names[0], GLINTSTRING_REQUEST_LIMIT, &request);
     (void)budget;
-    if (status == GOOD) {
-        const uint64_t answer = glintstring_index(request.bytes, request.length, room, sizeof room);
-        const struct input index = {"", room, glintstring_count(answer)};
-        status = tell(answer, "indexed", &request, NULL, NULL);
-        if (status == GOOD)
-            show("index", &index, 0);
-    }
+    if (status == GOOD)
+        status = tell_written(glintstring_index(request.bytes, request.length, room, sizeof room), "indexed", "index", &request, room);
+    free(request.bytes);
+    return status;
+}
+
+/* Walks the plan of a request and writes a derivation, in a room that is long enough for any. */
+static int derive(char **names, uint32_t budget) {
+    uint8_t room[GLINTSTRING_DERIVATION_LIMIT];
+    struct input request;
+    int status = read_input(names[0], GLINTSTRING_REQUEST_LIMIT, &request);
+    if (status == GOOD)
+        status = tell_written(glintstring_derive(request.bytes, request.length, room, sizeof room, budget), "derived", "derivation", &request, room);
     free(request.bytes);
     return status;
 }
@@ -241,6 +258,7 @@ static const struct command {
     {"judge-by-cases", 1, 1, judge_by_cases},
     {"index", 1, 0, build_index},
     {"judge-indexed", 2, 1, judge_indexed},
+    {"derive", 1, 1, derive},
     {"check", 2, 0, check},
     {"check-whether", 2, 0, check_whether},
     {"release", 1, 1, release},
@@ -259,7 +277,8 @@ static int is_budget(const char *word, uint32_t *budget) {
 static int usage(void) {
     fputs("usage: review judge [--line] [--budget N] REQUEST... | review judge-guarded [--budget N] REQUEST... | "
           "review judge-by-cases [--budget N] REQUEST... | review index REQUEST... | "
-          "review judge-indexed [--budget N] REQUEST INDEX [REQUEST INDEX]... | review check REQUEST DERIVATION [REQUEST DERIVATION]... | "
+          "review judge-indexed [--budget N] REQUEST INDEX [REQUEST INDEX]... | review derive [--budget N] REQUEST... | "
+          "review check REQUEST DERIVATION [REQUEST DERIVATION]... | "
           "review check-whether REQUEST DERIVATION [REQUEST DERIVATION]... | review release [--budget N] FILE...\n",
           stderr);
     return FAILED;

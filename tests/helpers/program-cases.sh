@@ -32,6 +32,40 @@ prints() { # NAME TEXT [ARGUMENT...]
     gives "$status" "$@"
 }
 
+# The bytes of a file in decimal.
+decimal() { od -An -v -tu1 "$1" | tr -s ' \n' ' '; }
+
+# A program that writes bytes, so called, writes just these, in decimal.
+writes() { # NAME BYTES [ARGUMENT...]
+    ends 0 "$1" "${@:3}"
+    # shellcheck disable=SC2086
+    bytes $2 | cmp -s - "$out/printed" || say "$1: wrote '$(decimal "$out/printed")', expected '$2'"
+    [ ! -s "$out/said" ] || say "$1: said '$(cat "$out/said")'"
+}
+# It gives another answer than 0, which is said, and writes nothing.
+refuses() { # NAME ANSWER [ARGUMENT...]
+    ends 1 "$1" "${@:3}"
+    [ ! -s "$out/printed" ] || say "$1: wrote '$(decimal "$out/printed")'"
+    printf '%s\n' "$2" | cmp -s - "$out/said" || say "$1: said '$(cat "$out/said")', expected '$2'"
+}
+# Such a program without its script writes these bytes, says this, and tells this on the descriptor for its answer.
+alone() { # NAME BYTES SAID TOLD [ARGUMENT...]
+    count=$((count + 1))
+    crates/programs/run "$program" "${@:5}" >"$out/printed" 2>"$out/said" 3>"$out/told"
+    # shellcheck disable=SC2086
+    { bytes $2 | cmp -s - "$out/printed" && [ "$(cat "$out/said")" = "$3" ]; } || say "the program, $1: said '$(cat "$out/said")'"
+    [ "$(cat "$out/told")" = "$4" ] || say "the program, $1: tells '$(cat "$out/told")'"
+}
+# It comes to no answer where the line that says one can't be written.
+cannot_say() { # [ARGUMENT...]
+    local status
+    [ -w /dev/full ] || return
+    "./$program" "$@" >"$out/printed" 2>/dev/full
+    status=$?
+    count=$((count + 1))
+    [ "$status" -eq 2 ] && [ ! -s "$out/printed" ] || say "standard error full: status $status"
+}
+
 # What ended with this status printed nothing, and said this first on standard error; it is the status where there is no answer.
 says() { # STATUS NAME TEXT
     count=$((count + 1))

@@ -1,4 +1,4 @@
-//! Answers with the format's names (docs/FORMAT.md, sections 4, 17 and 21 to 23).
+//! Answers with the format's names (docs/FORMAT.md, sections 4, 17 and 21 to 24).
 
 use std::{error, fmt};
 
@@ -111,8 +111,9 @@ impl State {
 }
 
 /// An answer of the walk call, the guarded call, the call by cases, the indexed call, the derivation call or the whether call, or what the release call says of
-/// its file as a whole, or another answer of the index call than 0. A place is the number of bytes that stand before it in its input: the derivation for 31 to
-/// 36, the index for 45, the request or the derivation where the answer says which, and the request for all others. To the release call its file is the request.
+/// its file as a whole, or another answer of the index call than 0, or one by which the derive call refuses. A place is the number of bytes that stand before it
+/// in its input: the derivation for 31 to 36, the index for 45, the request or the derivation where the answer says which, and the request for all others. To
+/// the release call its file is the request.
 ///
 /// A number keeps its meaning from one version to the next, and a version may have numbers that the one before did not.
 #[must_use = "an answer other than 0 says that the plan is not to pass: see `is_verified` and `verified`"]
@@ -230,7 +231,7 @@ pub enum Answer {
         /// That item's first byte.
         place: usize,
     },
-    /// 30: a derivation is offered for a request with whether entries.
+    /// 30: a derivation is offered, or asked for, for a request with whether entries.
     WhetherAsked {
         /// The count byte of the whether list, in the request.
         place: usize,
@@ -265,8 +266,17 @@ pub enum Answer {
         /// Its count byte where its length is another; or else its first entry that names no line, or another line than it is to name.
         place: usize,
     },
+    /// 37 of the derive call: a sensing action is met in a state in which more of its fluents are unknown than [`MOST_FORKED`](crate::MOST_FORKED), so that no
+    /// line can cite all its readings.
+    SensingTooWide {
+        /// The first such item, in the order of the walk.
+        place: usize,
+    },
+    /// 38 of the derive call: the derivation has more than 1,024 lines.
+    TooManyLines,
     /// 39 of the index call: the lent room has fewer bytes than the index. [`index`](crate::index) lends enough, so that
-    /// [`index_packed`](crate::index_packed) alone gives it.
+    /// [`index_packed`](crate::index_packed) alone gives it. 39 of the derive call: the derivation has more bytes than the lent room, or more than
+    /// [`DERIVATION_LIMIT`](crate::DERIVATION_LIMIT), which are as many as [`derive`](crate::derive) lends.
     RoomShort,
     /// 43 of the guarded call: a state is met that lacks a guard, one that is not known true in it.
     GuardBroken {
@@ -489,6 +499,8 @@ impl Answer {
             Answer::DoesNotFollow { .. } => 34,
             Answer::NotTheQuestion { .. } => 35,
             Answer::ClosingNotRight { .. } => 36,
+            Answer::SensingTooWide { .. } => 37,
+            Answer::TooManyLines => 38,
             Answer::RoomShort => 39,
             Answer::GuardBroken { .. } => 43,
             Answer::TooManyCases { .. } => 44,
@@ -509,7 +521,12 @@ impl Answer {
     /// The same by its name; none where the answer names none.
     pub fn named(&self) -> Option<Input> {
         match *self {
-            Answer::Verified { .. } | Answer::Accepted | Answer::BudgetSpent { .. } | Answer::StateLength | Answer::RoomShort => None,
+            Answer::Verified { .. }
+            | Answer::Accepted
+            | Answer::BudgetSpent { .. }
+            | Answer::StateLength
+            | Answer::TooManyLines
+            | Answer::RoomShort => None,
             Answer::TooLong { input }
             | Answer::InputEnds { input, .. }
             | Answer::CountNotWithinLimits { input, .. }
@@ -526,7 +543,8 @@ impl Answer {
             | Answer::TooManyCases { .. }
             | Answer::Contradictory { .. }
             | Answer::EffectsAndKnowledge { .. }
-            | Answer::WhetherAsked { .. } => Some(Input::Request),
+            | Answer::WhetherAsked { .. }
+            | Answer::SensingTooWide { .. } => Some(Input::Request),
             Answer::NoRule { .. }
             | Answer::CitesNoEarlierLine { .. }
             | Answer::CitationsWrong { .. }
@@ -544,6 +562,7 @@ impl Answer {
             | Answer::Accepted
             | Answer::BudgetSpent { .. }
             | Answer::StateLength
+            | Answer::TooManyLines
             | Answer::RoomShort
             | Answer::TooLong { .. } => 0,
             Answer::GoalMissed { place, .. }
@@ -568,7 +587,8 @@ impl Answer {
             | Answer::CitationsWrong { place }
             | Answer::DoesNotFollow { place }
             | Answer::NotTheQuestion { place }
-            | Answer::ClosingNotRight { place } => place,
+            | Answer::ClosingNotRight { place }
+            | Answer::SensingTooWide { place } => place,
         }
     }
 
@@ -627,6 +647,8 @@ pub(crate) fn words_of(number: u8) -> &'static str {
         34 => "a line does not follow by its rule",
         35 => "the last line differs from the question",
         36 => "the closing list is not what the request asks",
+        37 => "too many readings",
+        38 => "too many lines",
         39 => "room too short",
         43 => "guard broken",
         44 => "too many cases",

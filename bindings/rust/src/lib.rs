@@ -5,9 +5,9 @@
 //! (docs/STATEMENTS.md). [`judge_guarded`] walks the plan of a guarded request, whose guards are to be known true all the way, [`judge_by_cases`] walks a
 //! plan with each action tried in every filling of what is unknown, [`judge_indexed`] walks one by an index, which [`index`] writes and which says where the
 //! lines of each action stand, [`check`] checks a derivation, lines by which the plan reaches its goals, [`check_whether`] one that also says of fluents that
-//! they are known in the end, [`release`] walks every plan of a release file, which has many plans over one table, and [`show`] gives the part of an input that
-//! an answer is about; of these the same is proved. This crate adds names to the numbers and proves nothing. `examples/rust` of the repository is a small
-//! program that uses it.
+//! they are known in the end, [`derive`](fn@derive) walks a plan and gives a derivation that [`check`] accepts, [`release`] walks every plan of a release file,
+//! which has many plans over one table, and [`show`] gives the part of an input that an answer is about; of these the same is proved. This crate adds names to the
+//! numbers and proves nothing. `examples/rust` of the repository is a small program that uses it.
 //!
 //! ```
 //! use glintstring::{judge, Answer, Input};
@@ -33,10 +33,10 @@
 //! # Stack
 //!
 //! A walk may need as much as [`STACK_NEEDED`] bytes of stack, more than the 2 MiB that a thread in Rust gets, and more than the 8 MiB that the
-//! first thread of a process has as a rule; the request decides how much. [`judge`], [`judge_line`], [`judge_guarded`], [`judge_by_cases`], [`judge_indexed`] and
-//! [`release`] see to that: they walk on a thread of their own. A [`Judge`] keeps such a thread for many calls. Those of these with `_here` or `_packed` in their
-//! names walk on the caller's stack, and a walk that has too little of it is ended by the system, and the process with it. [`index`], [`check`],
-//! [`check_whether`], [`plans`] and [`show`] need far less, whatever their inputs, and a thread's 2 MiB will do.
+//! first thread of a process has as a rule; the request decides how much. [`judge`], [`judge_line`], [`judge_guarded`], [`judge_by_cases`], [`judge_indexed`],
+//! [`derive`](fn@derive) and [`release`] see to that: they walk on a thread of their own. A [`Judge`] keeps such a thread for many calls. Those of these with
+//! `_here` or `_packed` in their names walk on the caller's stack, and a walk that has too little of it is ended by the system, and the process with it.
+//! [`index`], [`check`], [`check_whether`], [`plans`] and [`show`] need far less, whatever their inputs, and a thread's 2 MiB will do.
 //!
 //! # The library
 //!
@@ -47,10 +47,12 @@
 #![deny(missing_docs)]
 
 mod answer;
+mod derived;
 mod released;
 mod serving;
 
 pub use answer::{Answer, Input, Judged, Mark, NotIndexed, NotVerified, Packed, State};
+pub use derived::NotDerived;
 pub use released::{NotReleased, PlanAnswer, Released};
 pub use serving::Judge;
 
@@ -66,6 +68,9 @@ pub const MOST_GUARDS: usize = 64;
 /// Open fluents that an action may have where the call by cases meets it (FORMAT 22.8).
 pub const MOST_OPEN: usize = 12;
 
+/// Unknown fluents that a sensing action may have where the derive call meets it (FORMAT 24.4).
+pub const MOST_FORKED: usize = 6;
+
 /// Bytes that the index of a request may have (FORMAT 23.5): a room of so many is never too short. Of a file that has an index one byte more need be read, and
 /// what stands behind that changes no answer.
 pub const INDEX_MOST: usize = 1_276;
@@ -79,7 +84,7 @@ pub const ROW_NUMBERS: usize = 4;
 /// Bytes that a request, a guarded request or a release file may have. One byte more is answered as any longer one, so that no more of a file need be read.
 pub const REQUEST_LIMIT: usize = 16_384;
 
-/// Bytes that a derivation may have, in the same way.
+/// Bytes that a derivation may have, in the same way. [`derive_packed`] writes none that is longer: a room of so many bytes is as good as any.
 pub const DERIVATION_LIMIT: usize = 32_768;
 
 /// Bytes of free stack that a walk may need (docs/MEASURED.md): 16 MiB.
@@ -106,6 +111,7 @@ extern "C" {
     fn glintstring_judge_line(request: *const u8, request_length: usize, state: *mut u8, state_length: usize, budget: u32, line: *mut u32) -> u64;
     fn glintstring_check(request: *const u8, request_length: usize, derivation: *const u8, derivation_length: usize) -> u64;
     fn glintstring_check_whether(request: *const u8, request_length: usize, derivation: *const u8, derivation_length: usize) -> u64;
+    fn glintstring_derive(request: *const u8, request_length: usize, out: *mut u8, out_length: usize, budget: u32) -> u64;
     fn glintstring_release(file: *const u8, file_length: usize, row: *mut u32, row_length: usize, budget: u32) -> u64;
     fn glintstring_plans(file: *const u8, file_length: usize) -> u32;
     fn glintstring_show(answer: u64, request: *const u8, request_length: usize, derivation: *const u8, derivation_length: usize) -> u64;
@@ -578,6 +584,99 @@ pub fn check_whether(request: &[u8], derivation: &[u8]) -> Answer {
 pub fn check_whether_packed(request: &[u8], derivation: &[u8]) -> Packed {
     // Each pointer is valid for its length, and the call writes nothing and keeps neither.
     Packed(unsafe { glintstring_check_whether(request.as_ptr(), request.len(), derivation.as_ptr(), derivation.len()) })
+}
+
+/// The derive call: walks the plan of a request, with a count of at most `budget`, and gives a derivation of what the request asks.
+///
+/// The derivation has the plain layout and its exact length. Its lines follow the walk, by rules 1 to 6 (FORMAT 24.1 to 24.10), and [`check`] accepts it for the
+/// request: whoever has both need not walk. There is one exactly where the request is not refused and has no whether entry, [`judge`] verifies it within the
+/// budget, no sensing action that the walk meets has more than [`MOST_FORKED`] unknown fluents there, and the derivation has at most 1,024 lines and
+/// [`DERIVATION_LIMIT`] bytes. Any bytes may be given, of any length. The walk runs on a thread of its own that has enough stack, and the caller waits for it;
+/// for many calls a [`Judge`] keeps one.
+///
+/// ```
+/// use glintstring::{check, derive, show, Answer, NotDerived};
+///
+/// # fn main() -> Result<(), Box<dyn std::error::Error>> {
+/// // One fluent, nothing known of it. Action 0 makes it true, and can always be run; it is the plan, and the goal is that the fluent is true.
+/// let request = [1, 1, 0, 1, 0, 0, 0, 1, 0, 0, 0, 0, 1, 0, 1, 0, 0];
+/// let derivation = derive(&request, 100_000)??;
+/// let expected = [
+///     0, 4, // four lines, each with X, its plan, Y, its rule and its citations
+///     0, 0, 1, 0, 1, 0, 2, 0, // the action makes the fluent true, by rule 2
+///     1, 0, 0, 0, 1, 0, 1, 0, // where it is true it stays so, by rule 1
+///     1, 0, 0, 0, 1, 0, 6, 1, 0, 1, // so the goal is reached there, by rule 6
+///     0, 0, 1, 0, 1, 0, 5, 2, 0, 0, 0, 2, // and by the whole plan, by rule 5
+/// ];
+/// assert_eq!(derivation, expected);
+/// assert_eq!(check(&request, &derivation), Answer::Accepted);
+///
+/// // With too small a budget, and for a goal that is missed.
+/// assert_eq!(derive(&request, 1)?, Err(NotDerived::BudgetSpent { budget: 1 }));
+/// let missed = [&request[..15], &[1, 0]].concat();
+/// let error = derive(&missed, 100_000)?.unwrap_err();
+/// assert_eq!(error, NotDerived::GoalMissed { place: 15, count: 2 });
+/// assert_eq!(error.to_string(), "not derived: goal missed (answer 1, place 15 of the request)");
+/// assert_eq!(show(error, &missed, &[]), [1, 0]);
+///
+/// // Seven fluents are looked at, of which nothing is known.
+/// let wide = [7, 1, 0, 0, 1, 0, 0, 7, 0, 0, 0, 1, 0, 2, 0, 3, 0, 4, 0, 5, 0, 6, 0, 1, 0, 0, 0];
+/// assert_eq!(derive(&wide, 100_000)?, Err(NotDerived::Refused(Answer::SensingTooWide { place: 24 })));
+/// # Ok(())
+/// # }
+/// ```
+///
+/// # Errors
+///
+/// Where the system gives no such thread. Then nothing is walked. The result within says by its error which answer other than 0 there is.
+///
+/// # Panics
+///
+/// Where the library linked gives what the format does not have, which the proved one does not.
+pub fn derive(request: &[u8], budget: u32) -> io::Result<Result<Vec<u8>, NotDerived>> {
+    with_stack(|| derive_here(request, budget))
+}
+
+/// [`derive`](fn@derive) on the caller's own stack, as [`judge_here`] is [`judge`].
+///
+/// # Errors
+///
+/// Every answer other than 0.
+///
+/// # Panics
+///
+/// Where the library linked gives what the format does not have, which the proved one does not.
+pub fn derive_here(request: &[u8], budget: u32) -> Result<Vec<u8>, NotDerived> {
+    let (packed, room) = derive_room(request, budget);
+    Answer::unpack_derive(packed, &room).map(<[u8]>::to_vec)
+}
+
+/// The derive call with room for every derivation, and that room afterwards.
+fn derive_room(request: &[u8], budget: u32) -> (Packed, Vec<u8>) {
+    let mut room = vec![0; DERIVATION_LIMIT];
+    let packed = derive_packed(request, &mut room, budget);
+    (packed, room)
+}
+
+/// The derive call as it is exported: the same as [`derive_here`], with a lent room, and with the answer packed into one number.
+///
+/// After answer 0 the room starts with the derivation, whose length is the answer's count, and the bytes behind it are what they were;
+/// [`Answer::unpack_derive`] takes both apart. After every other answer all bytes are what they were. Where there is a derivation and the room has fewer bytes, or
+/// the derivation more than [`DERIVATION_LIMIT`], the answer is 39.
+///
+/// ```
+/// // One fluent, one action, an empty plan and no goals: two lines.
+/// let request = [1, 1, 0, 0, 0, 0, 0, 0, 0, 0];
+/// let mut room = [9; 17];
+/// assert_eq!(glintstring::derive_packed(&request, &mut room[..15], 1).number(), 39);
+/// assert_eq!(room, [9; 17]);
+/// let packed = glintstring::derive_packed(&request, &mut room, 1);
+/// assert_eq!((packed.number(), packed.input(), packed.place(), packed.count()), (0, 0, 0, 16));
+/// assert_eq!(room, [0, 2, 0, 0, 0, 0, 1, 0, 0, 0, 0, 0, 6, 1, 0, 0, 9]);
+/// ```
+pub fn derive_packed(request: &[u8], room: &mut [u8], budget: u32) -> Packed {
+    // Each pointer is valid for its length, the room's for writing too and for nobody else, and the call keeps neither.
+    Packed(unsafe { glintstring_derive(request.as_ptr(), request.len(), room.as_mut_ptr(), room.len(), budget) })
 }
 
 /// The release call: answers every plan of a release file, each with a count of at most `budget`.

@@ -3,8 +3,8 @@
 use std::sync::mpsc::{channel, Sender};
 use std::{fmt, io, thread};
 
-use crate::{judge_by_cases_packed, judge_guarded_packed, judge_indexed_packed, judge_line_packed, judge_packed, release_row};
-use crate::{Answer, Judged, Packed, Released, INDEX_MOST, REQUEST_LIMIT, STACK, STATE_LENGTH};
+use crate::{derive_room, judge_by_cases_packed, judge_guarded_packed, judge_indexed_packed, judge_line_packed, judge_packed, release_row};
+use crate::{Answer, Judged, NotDerived, Packed, Released, INDEX_MOST, REQUEST_LIMIT, STACK, STATE_LENGTH};
 
 /// A thread with enough stack for a walk, which is started once and serves many calls, one after the other.
 ///
@@ -110,6 +110,21 @@ impl Judge {
         let index = copied(index, INDEX_MOST);
         let call = move |request: &[u8], state: &mut [u8], budget| judge_indexed_packed(request, &index, state, budget);
         self.walk(request, budget, call, Answer::unpack_indexed)
+    }
+
+    /// The derive call, as [`derive`](crate::derive) makes it: gives a derivation of what a request asks.
+    ///
+    /// # Errors
+    ///
+    /// Every answer other than 0.
+    ///
+    /// # Panics
+    ///
+    /// As [`Judge::judge`] does.
+    pub fn derive(&mut self, request: &[u8], budget: u32) -> Result<Vec<u8>, NotDerived> {
+        let request = copied(request, REQUEST_LIMIT);
+        let (packed, room) = self.served(move || derive_room(&request, budget));
+        Answer::unpack_derive(packed, &room).map(<[u8]>::to_vec)
     }
 
     /// The release call, as [`release`](crate::release) makes it: answers every plan of a release file, each with a count of at most `budget`.

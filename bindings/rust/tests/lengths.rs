@@ -1,7 +1,7 @@
 //! Each call at the ends of its lengths: inputs of no byte, of one, of as many as they may have and of one more, and lent states of every
-//! length from 0 to 258. Lent rooms of every length are in `indexes.rs`.
+//! length from 0 to 258. Lent rooms of every length are in `indexes.rs` and `derivations.rs`.
 
-use glintstring::{check_packed, check_whether_packed, index, judge_by_cases_packed, judge_guarded_packed, judge_indexed_packed, judge_packed};
+use glintstring::{check_packed, check_whether_packed, derive_packed, index, judge_by_cases_packed, judge_guarded_packed, judge_indexed_packed, judge_packed};
 use glintstring::{show, show_start, Packed, DERIVATION_LIMIT, INDEX_MOST, REQUEST_LIMIT, STATE_LENGTH};
 
 /// Number, input, place and count.
@@ -106,6 +106,38 @@ fn requests_that_are_walked_by_an_index() {
     requests_and_lent_states(by(INDEX_MOST), &largest, (2, 1, place, 0));
     for length in [0, 1, INDEX_MOST - 1, INDEX_MOST + 1, INDEX_MOST + 65_536] {
         requests_and_lent_states(by(length), &largest, (45, 3, length.min(INDEX_MOST), 0));
+    }
+}
+
+/// The same request, and one that has the longest list of facts, for which there is a derivation: `0 2` and two lines. In rooms of no byte, of as many as there
+/// are, and of as many as a derivation may have.
+#[test]
+fn requests_that_are_derived() {
+    let (largest, place) = largest_request();
+    let longer = [&largest[..], &[0]].concat();
+    let known = [&[128, 1], &list(128)[..], &[0; 7]].concat();
+    let derived = [vec![0, 2], list(128), vec![0, 0], list(128), vec![1, 0], list(128), vec![0, 0, 0, 6, 1, 0, 0]].concat();
+    let rows: [(&[u8], (u8, u8, usize, u32)); 6] = [
+        (&[], (11, 1, 0, 0)),
+        (&[0], (12, 1, 0, 0)),
+        (&[1], (11, 1, 1, 0)),
+        (&largest, (2, 1, place, 0)),
+        (&longer, (10, 1, 0, 0)),
+        (&known, (0, 0, 0, derived.len() as u32)),
+    ];
+    for (request, answer) in rows {
+        for length in [0, 1, derived.len() - 1, derived.len(), derived.len() + 1, DERIVATION_LIMIT, DERIVATION_LIMIT + 1] {
+            let mut around = vec![9; FENCE + length + FENCE];
+            let packed = derive_packed(request, &mut around[FENCE..FENCE + length], 7);
+            let short = answer.0 == 0 && length < derived.len();
+            assert_eq!(numbers(packed), if short { (39, 0, 0, 0) } else { answer }, "{} bytes, a room of {length}", request.len());
+            if packed.number() == 0 {
+                let room = &mut around[FENCE..FENCE + derived.len()];
+                assert_eq!(room, derived);
+                room.fill(9);
+            }
+            assert!(around == vec![9; FENCE + length + FENCE], "{} bytes, a room of {length}", request.len());
+        }
     }
 }
 

@@ -27,6 +27,9 @@ pub const GUARDS: usize = 64;
 
 pub const OPEN: usize = 12;
 
+// The unknown fluents that a sensing action may have in a derivation (FORMAT 24.4).
+pub const FORKED: usize = 6;
+
 // An index has two counts for each action, and two bytes for each of up to 255 effects and 255 executability lines (FORMAT 23.5).
 pub const INDEX: usize = 2 * ACTIONS + 4 * 255;
 

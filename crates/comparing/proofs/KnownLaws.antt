@@ -3,26 +3,25 @@ use Prim.Native.Nat.{ℕ, _+_, _-_, _*_, _≤_, _<_}
 use native.Mathlib.Omega.{arith}
 use mathlib.Core.Path.{_≡_, sym, _∙_, ap, fun-ext}
 use mathlib.Core.Bool.{Bool, false}
-use mathlib.Core.List.{List, [], _∷_}
-use lib.ListN.{length, getD, drop, drop-of-length-le}
+use mathlib.Core.List.{List, _∷_}
+use lib.ListN.{length, getD, drop}
 use lib.Dec.{eqb}
 use mir.Syntax.{w64}
 use mir.Val.{Fits}
 use borrow.Author.Tests.{eqb-true, eqb-false, eq-eqb, ne-eqb}
-use Rattle.meaning.specs.Tests.{both, pick, each-of}
+use Rattle.meaning.specs.Tests.{both, each-of}
 use Rattle.meaning.specs.Limits.{format, all-literals}
-use Rattle.meaning.specs.Literals.{says-true, says-false, among, exclusive}
+use Rattle.meaning.specs.Literals.{among, exclusive}
 use Rattle.meaning.specs.States.{State, known, state-of}
 use Rattle.meaning.specs.Derivations.{same-list, included, known-from, literals-of}
-use Rattle.meaning.proofs.TestLaws.{by-test, pick-true, pick-false}
-use Rattle.meaning.proofs.StateLaws.{known-true, known-false}
+use Rattle.meaning.proofs.TestLaws.{by-test}
 use Rattle.meaning.proofs.ToldLaws.{state-known}
 use Rattle.reading.specs.declared.marks.Test.the-variants.{Known}
 use Rattle.reading.specs.Listed.{bytes-from, listed, List-here, holds-as}
 use Rattle.reading.proofs.MarkLaws.{bytes-next, bytes-done}
 use Rattle.finding.proofs.PlanHere.{listed-clear}
 use Rattle.steps.specs.AtHand.{Marked}
-use Rattle.comparing.proofs.SamePartLaws.{drop-next}
+use Rattle.steps.proofs.KnownLists.{known-far, unmarked-step, marked-step}
 
 pub within-is : (s : List ℕ) (p : ℕ) (u : List ℕ) (q : ℕ) (marks : State) (r : Bool) → List-here all-literals u q → exclusive (listed u q) (listed u q) ≡ false
     → marks ≡ state-of format (listed u q) → r ≡ each-of (holds-as Known marks) (listed s p) → r ≡ included (listed s p) (listed u q)
@@ -30,39 +29,6 @@ unfolding included holds-as
 within-is s p u q marks r here apart told is =
     let asked : known (state-of format (listed u q)) ≡ (λ (x : ℕ). among x (listed u q)) = fun-ext (state-known format (listed u q) (listed-clear u q here apart)) in
     is ∙ ap (λ (m : State). each-of (known m) (listed s p)) told ∙ ap (λ (test : ℕ → Bool). each-of test (listed s p)) asked
-
--- WHAT A STATE KNOWS, from fluent f up.
-abbrev known-above : State → ℕ → List ℕ
-known-above marks f = known-from marks f (drop f marks)
-
-module _ (marks : State) (marked : Marked marks) (f : ℕ) where
-  known-far : format .fluents ≤ f → known-above marks f ≡ []
-  unfolding known-from
-  known-far far = ap (known-from marks f) (drop-of-length-le marks {i = f} (rw (marked .sized) far))
-
-  module _ (near : f < format .fluents) where
-    known-step : known-above marks f
-        ≡ pick (known marks (says-true f)) (λ _. says-true f ∷ known-above marks (f + 1)) (λ _. pick (known marks (says-false f)) (λ _. says-false f ∷ known-above marks (f + 1)) (λ _. known-above marks (f + 1)))
-    unfolding known-from
-    known-step = ap (known-from marks f) (drop-next marks f (rw (marked .sized) near))
-
-    unmarked-step : getD marks f 0 ≡ 0 → known-above marks f ≡ known-above marks (f + 1)
-    unmarked-step none = known-step ∙ pick-false _ _ _ (known-true marks f ∙ rw none) ∙ pick-false _ _ _ (known-false marks f ∙ rw none)
-
-    marked-step : (getD marks f 0 ≡ 0 → ⊥) → known-above marks f ≡ (2 * f + getD marks f 0 - 1) ∷ known-above marks (f + 1)
-    unfolding says-true says-false
-    marked-step some =
-        by-test (eqb (getD marks f 0) 1)
-        (λ t.
-        let one = eqb-true (getD marks f 0) 1 t in
-        let is : 2 * f ≡ 2 * f + getD marks f 0 - 1 = omega (arith, one) in
-        known-step ∙ pick-true _ _ _ (known-true marks f ∙ t) ∙ ap (λ (l : ℕ). l ∷ known-above marks (f + 1)) is)
-        (λ u.
-        let other = eqb-false (getD marks f 0) 1 u in
-        let most = marked .small f in
-        let two : getD marks f 0 ≡ 2 = omega (arith, some, other, most) in
-        let is : 2 * f + 1 ≡ 2 * f + getD marks f 0 - 1 = omega (arith, two) in
-        known-step ∙ pick-false _ _ _ (known-true marks f ∙ u) ∙ pick-true _ _ _ (known-false marks f ∙ eq-eqb _ _ two) ∙ ap (λ (l : ℕ). l ∷ known-above marks (f + 1)) is)
 
 -- THE LOOP over the fluents: the entries left against the literals left.
 pub list-ends : (s : List ℕ) (p x end : ℕ) → List-here all-literals s p → x ≡ getD s p 0 → end ≡ p + x → end < length s

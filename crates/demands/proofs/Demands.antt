@@ -1,4 +1,4 @@
--- The demands (FORMAT section 11, 17.38 to 17.41, 21.22 to 21.25, 22.17 to 22.22 and 23.22 to 23.26), each by citing where its argument stands. Read this file first. Assumes nothing.
+-- The demands (FORMAT section 11, 17.38 to 17.41, 21.22 to 21.25, 22.17 to 22.22, 23.22 to 23.26 and 24.24 to 24.28), each by citing where its argument stands. Read this file first. Assumes nothing.
 use Prim.Native.Nat.{ℕ, _-_, _≤_, _<_}
 use native.Mathlib.Omega.{arith}
 use mathlib.Core.Path.{_≡_, refl, sym, _∙_, ap}
@@ -124,6 +124,23 @@ pub use Rattle.meaning.proofs.DifferenceLaws.{same-difference, differs-there}
 pub use Rattle.demands.proofs.Indexed.{built-then-judged, cut-alike, format-cut}
 -- Demand 2 past 45, and demand 3 (FORMAT 23.26), with what answers 1 and 2 report and the line.
 pub use Rattle.demands.proofs.Indexed.{walked-so, indexed-in-order, indexed-spent-exactly, indexed-stuck-exactly, indexed-verified-exactly, indexed-missed-exactly, indexed-missed-in-an-end-state, indexed-missed-there, indexed-stopped-there, indexed-no-line, indexed-line-there, indexed-line-missing, indexed-sound}
+-- THE DERIVE CALL. Demand 1 (FORMAT 24.24): its number is one of its own; input, place, count and room are what the number says (24.12 to 24.19).
+pub use Rattle.meaning.proofs.DeriveAnswers.{derive-numbered, derive-input, derive-place, derive-place-limited, derive-count, derive-room-length, derive-room-as-lent}
+-- 0 exactly where the request is settled, has no whether entry, is verified within the budget by a walk that meets no action that is too wide, and has a derivation of so few lines and
+-- bytes, which the room has too; and what is then written (FORMAT 24.19, 24.25). What was written, cut from the room; and what is verified so, the walk call verifies.
+pub use Rattle.demands.proofs.DeriveExact.{derived-exactly, derivation-written, derivation-taken, derived-judged}
+-- A refusal exactly where the request is not settled, and 1, 2 and 3 exactly where the walk call gives them, past 30; each is then the walk call's answer, with its place, input and
+-- count (FORMAT 24.13, 24.15). 30 exactly where there is a whether entry (24.14).
+pub use Rattle.demands.proofs.DeriveExact.{derive-refused-exactly, derive-refused-as-judged, derive-asked-exactly, derive-asked-there, derive-walked-exactly, derive-walked-as-judged, derive-as-judged}
+-- 37 exactly where the walk meets an action that is too wide, at the first such item (FORMAT 24.16); 38 and 39 exactly where the derivation is too large (24.17, 24.18). The walk up to such
+-- an item is the plain walk, or it stops there; and it ends as the plain walk does exactly where there is none.
+pub use Rattle.demands.proofs.DeriveExact.{derive-wide-exactly, derive-wide-there, derive-wide-at, derive-many-exactly, derive-short-exactly}
+pub use Rattle.meaning.proofs.NarrowWalks.{narrow-limited, narrow-same, narrow-or-wide}
+pub use Rattle.demands.proofs.NarrowMet.{narrow-exactly, wide-senses}
+-- What it has written the derivation call accepts (FORMAT 24.26). Theorems 3.2 and 3.4 of Zhao and Shen (24.27, 24.28): of what the walk verifies there is a derivation that the derivation
+-- call accepts, within the sizes of the format; and there are lines by the rules for all that is asked, whatever their number.
+pub use Rattle.demands.proofs.SchemeAccepted.{derive-accepted, derive-bytes, derive-closing}
+pub use Rattle.demands.proofs.DeriveExact.{verified-derivable, verified-proved}
 
 -- Demand 1 (FORMAT 11.1): every input gets one of the numbered answers.
 pub numbered : (lim : Limits) (request lent : List ℕ) (budget : ℕ) → among (judge lim request lent budget .answer .number) answers ≡ true

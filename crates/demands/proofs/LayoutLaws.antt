@@ -58,7 +58,7 @@ plain-rule Closing rule h =
     let most = leb-true rule 6 (both-right _ _ h) in
     either-left _ _ (both-true _ _ (both-left _ _ h) (le-leb rule 8 (omega arith)))
 
-follow-plain : (lim : Limits) (t : Table) (lines : List Line) (i : ℕ) (ls : List Line) → All-pass lim Plain t lines i ls → plain-rules ls ≡ true
+pub follow-plain : (lim : Limits) (t : Table) (lines : List Line) (i : ℕ) (ls : List Line) → All-pass lim Plain t lines i ls → plain-rules ls ≡ true
 unfolding plain-rules each-of
 follow-plain lim t lines i [] all = refl
 follow-plain lim t lines i (l ∷ ls) all = both-true _ _ (all .0 .rule) (follow-plain lim t lines (i + 1) ls (all .1))
@@ -80,27 +80,27 @@ module _ (lim : Limits) (layout other : Layout) (t : Table) where
       let one = all .0 in
       (record { rule = one .rule; takes = one .takes; earlier = one .earlier; gives = sym (follows-placeless lim t lines l) ∙ one .gives }, follow-placed lines (i + 1) ls (all .1))
 
-  follow-carried : (ls js : List Line) → unplaced-lines js ≡ unplaced-lines ls → plain-rules ls ≡ true → All-pass lim layout t ls 0 ls → All-pass lim other t js 0 js
+  pub follow-carried : (ls js : List Line) → unplaced-lines js ≡ unplaced-lines ls → plain-rules ls ≡ true → All-pass lim layout t ls 0 ls → All-pass lim other t js 0 js
   follow-carried ls js alike plain all = follow-placed js 0 js (subst (λ (xs : List Line). All-pass lim other t xs 0 xs) (sym alike) (follow-placeless ls 0 ls plain all))
 
 -- THE QUESTION.
 one-less : (n : ℕ) → suc (suc n - 1) ≡ suc (suc n) - 1
 one-less n = omega arith
 
-last-named : (r : Request) (ls : List Line) → Last-passes r ls → names r ls (length ls - 1) (goals-of r) ≡ true
+pub last-named : (r : Request) (ls : List Line) → Last-passes r ls → names r ls (length ls - 1) (goals-of r) ≡ true
 unfolding names
 last-named r [] h = absurd h
 last-named r (l ∷ []) h = h
 last-named r (l ∷ (k ∷ ls)) h = subst (λ (j : ℕ). names r (l ∷ (k ∷ ls)) j (goals-of r) ≡ true) (one-less (length ls)) (last-named r (k ∷ ls) h)
 
-named-last : (r : Request) (ls : List Line) → names r ls (length ls - 1) (goals-of r) ≡ true → Last-passes r ls
+pub named-last : (r : Request) (ls : List Line) → names r ls (length ls - 1) (goals-of r) ≡ true → Last-passes r ls
 unfolding names
 named-last r [] h = absurd (false≢true h)
 named-last r (l ∷ []) h = h
 named-last r (l ∷ (k ∷ ls)) h = named-last r (k ∷ ls) (subst (λ (j : ℕ). names r (l ∷ (k ∷ ls)) j (goals-of r) ≡ true) (sym (one-less (length ls))) h)
 
 -- The last line is the question wherever it stands.
-last-alike : (r : Request) (ls js : List Line) → unplaced-lines js ≡ unplaced-lines ls → names r ls (length ls - 1) (goals-of r) ≡ true → Last-passes r js
+pub last-alike : (r : Request) (ls js : List Line) → unplaced-lines js ≡ unplaced-lines ls → names r ls (length ls - 1) (goals-of r) ≡ true → Last-passes r js
 last-alike r ls js alike h =
     let size : length js ≡ length ls = sym (length-map js unplaced-line) ∙ ap {B = ℕ} (λ xs. length xs) alike ∙ length-map ls unplaced-line in
     named-last r js (named-placeless r js ls alike (length js - 1) (goals-of r) ∙ ap (λ (i : ℕ). names r ls (i - 1) (goals-of r)) size ∙ h)
@@ -118,7 +118,7 @@ unfolding all-asked
 one-named r lines k whether h = (h, subst (λ (ws : List Entry). Entries-pass r lines (map (λ (w : Entry). knows-whether (w .value)) ws) []) (sym whether) tt)
 
 -- BYTES. What is written anew has the bytes that were there, and those of a line number.
-abbrev Small : List ℕ → Type 0
+abbrev pub Small : List ℕ → Type 0
 Small [] = Unit {0}
 Small (x ∷ xs) = (x < 256) × Small xs
 
@@ -126,12 +126,12 @@ bytes-small : (s : List ℕ) → Bytes s → Small s
 bytes-small [] h = tt
 bytes-small (x ∷ xs) h = (h 0, bytes-small xs (λ i. h (suc i)))
 
-small-bytes : (s : List ℕ) → Small s → Bytes s
+pub small-bytes : (s : List ℕ) → Small s → Bytes s
 small-bytes [] h i = omega arith
 small-bytes (x ∷ xs) h zero = h .0
 small-bytes (x ∷ xs) h (suc i) = small-bytes xs (h .1) i
 
-small-both : (xs ys : List ℕ) → Small xs → Small ys → Small (xs ++ ys)
+pub small-both : (xs ys : List ℕ) → Small xs → Small ys → Small (xs ++ ys)
 small-both [] ys h k = k
 small-both (x ∷ xs) ys h k = (h .0, small-both xs ys (h .1) k)
 

@@ -1,3 +1,7 @@
+pub mod ListedStates
+pub mod SchemeRules
+pub mod SchemeFollows
+pub mod Complete
 pub mod ShiftedReads
 pub mod MovedWalk
 pub mod CompleteLaws
@@ -21,6 +25,9 @@ pub mod DepthBound
 pub mod DepthMet
 pub mod GuardedMet
 pub mod LayoutLaws
+pub mod Readable
+pub mod SchemeReadable
+pub mod SchemeAccepted
 pub mod DerivationSound
 pub mod LongCases
 pub mod WideCases
@@ -48,4 +55,6 @@ pub mod EachRequest
 pub mod ReuseLaws
 pub mod ReuseMet
 pub mod Indexed
+pub mod NarrowMet
+pub mod DeriveExact
 pub mod Demands

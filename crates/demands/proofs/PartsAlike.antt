@@ -75,7 +75,7 @@ verified-alike r q same s is-fine =
     )
 
 -- WHAT IS ASKED. Where no more is asked in a state that knows more, nothing more is missed.
-ended-fine : (f : Found) (s : State) → end-of f s ≡ fine → f ≡ nowhere
+pub ended-fine : (f : Found) (s : State) → end-of f s ≡ fine → f ≡ nowhere
 unfolding end-of
 ended-fine nowhere s q = refl
 ended-fine (at p) s q = absurd (subst Fine (sym q) tt)

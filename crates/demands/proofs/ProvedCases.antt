@@ -1,5 +1,5 @@
 -- The proved cases of the walk call, without the line and with it, of the guarded call, of the call by cases, of the index call and the indexed call, of the
--- derivation call, of the whether call and of the release call, one statement over one list. Its parts were computed where they are. Assumes nothing.
+-- derivation call, of the whether call, of the derive call and of the release call, one statement over one list. Its parts were computed where they are. Assumes nothing.
 use Prim.Native.Nat.{ℕ}
 use mathlib.Core.Path.{_≡_, refl, sym, _∙_, ap, ap₂}
 use mathlib.Core.List.{List, _++_, map, map-map, map-append}
@@ -13,6 +13,7 @@ use Rattle.meaning.specs.Guards.{judge-guarded, line-guarded}
 use Rattle.meaning.specs.ByCases.{judge-by-cases, line-by-cases}
 use Rattle.meaning.specs.Indexes.{Built, build, judge-indexed, line-indexed}
 use Rattle.meaning.specs.Derivations.{check}
+use Rattle.meaning.specs.Schemes.{derive}
 use Rattle.meaning.specs.Releases.{Released, release}
 use Rattle.meaning.proofs.TestLaws.{map-same, same-map}
 use Rattle.meaning.proofs.Cases
@@ -21,6 +22,7 @@ use Rattle.meaning.proofs.LineCases.{LineCase, line-cases, line-cases-hold, lin
 use Rattle.meaning.proofs.GuardedCases.{guarded-cases, guarded-cases-hold, guarded-lines-hold}
 use Rattle.meaning.proofs.CaseRows.{by-cases, by-cases-hold, by-cases-lines-hold}
 use Rattle.meaning.proofs.IndexCases.{BuildCase, building, building-holds, IndexedCase, indexed-cases, indexed-cases-hold, indexed-lines-hold}
+use Rattle.meaning.proofs.SchemeCases.{DeriveCase, derive-cases, derive-cases-hold}
 use Rattle.meaning.proofs.DerivationCases
 use Rattle.meaning.proofs.DerivationCases.{derivations, derivations-hold}
 use Rattle.meaning.proofs.WhetherCases.{whethers, whethers-hold}
@@ -38,6 +40,7 @@ pub data Call : Type 0 where
   by-cases-line : (request lent : List ℕ) → (budget : ℕ) → Call
   indexing : (request room : List ℕ) → Call
   indexed-line : (request index lent : List ℕ) → (budget : ℕ) → Call
+  writing : (request room : List ℕ) → (budget : ℕ) → Call
   checking : Layout → (request derivation : List ℕ) → Call
   releasing : (file lent : List ℕ) → (budget : ℕ) → Call
 
@@ -55,6 +58,7 @@ outcome-of (guarding-line request lent budget) = judged-line (judge-guarded form
 outcome-of (by-cases-line request lent budget) = judged-line (judge-by-cases format request lent budget) (line-by-cases format request lent budget)
 outcome-of (indexing request room) = built (build format request room)
 outcome-of (indexed-line request index lent budget) = judged-line (judge-indexed format request index lent budget) (line-indexed format request index lent budget)
+outcome-of (writing request room budget) = built (derive format request room budget)
 outcome-of (checking layout request derivation) = answered (check format layout request derivation)
 outcome-of (releasing file lent budget) = released (release format file lent budget)
 
@@ -79,6 +83,9 @@ indexing-row c = record { call = indexing (c .request) (c .room); gives = built 
 
 abbrev indexed-row : IndexedCase → Row
 indexed-row c = record { call = indexed-line (c .of .request) (c .index) (c .of .lent) (c .of .budget); gives = judged-line (c .of .gives) (c .of .carries) }
+
+abbrev writing-row : DeriveCase → Row
+writing-row c = record { call = writing (c .request) (c .room) (c .budget); gives = built (c .gives) }
 
 abbrev checking-row : DerivationCases.Case → Row
 checking-row c = record { call = checking (c .layout) (c .request) (c .derivation); gives = answered (c .gives) }
@@ -126,7 +133,7 @@ module _ {C : Type 0} (row : C → Row) (judges gives : C → Judgement) (tells 
       each-row row cs λ c has. says c .0 ∙ ap₂ {C = Given} judged-line (map-same judges gives cs c judged-so has) (map-same tells carries cs c told-so has) ∙ sym (says c .1)
 
 -- Cases 1 to 13 and the rows beside them, those of the line, then case 14 and the rows beside it, then those of the closing layout, then those of
--- releases, those of reused verdicts, those of guarded plans, those by cases, those of indexes, and last the long ones.
+-- releases, those of reused verdicts, those of guarded plans, those by cases, those of indexes, those of derivations that are written, and last the long ones.
 all-rows : Held
 all-rows =
     and-then (judgings cases cases-hold)
@@ -140,8 +147,9 @@ all-rows =
     (and-then (lined by-cases-row _ _ _ _ wide-cases (λ _. (refl, refl)) wide-cases-hold wide-lines-hold)
     (and-then (each-row indexing-row building λ c has. ap built (map-same _ (λ (c : BuildCase). c .gives) building c building-holds has))
     (and-then (lined indexed-row _ _ _ _ indexed-cases (λ _. (refl, refl)) indexed-cases-hold indexed-lines-hold)
+    (and-then (each-row writing-row derive-cases λ c has. ap built (map-same _ (λ (c : DeriveCase). c .gives) derive-cases c derive-cases-hold has))
     (and-then (judgings long-cases long-cases-hold)
-    (and-then (checkings long-derivations long-derivations-hold) (releasings long-releases long-releases-hold)))))))))))))
+    (and-then (checkings long-derivations long-derivations-hold) (releasings long-releases long-releases-hold))))))))))))))
 
 pub proved-cases : List Row
 proved-cases = all-rows .rows

@@ -2,3 +2,4 @@ pub mod Formerly
 pub mod Depth
 pub mod Reuse
 pub mod Wider
+pub mod Completeness

@@ -72,7 +72,7 @@ module _ (s t : List ℕ) (here : At-hand s t) (layout : Layout) (d : List ℕ) 
       ∙ ap (λ (p : ℕ). getD s p 0) (sym (is-whether s t here goals slot whether after))
       ∙ sym count
 
-  beyond-is : beyond layout (request-in s t) ≡ refused
+  pub beyond-is : beyond layout (request-in s t) ≡ refused
   beyond-is = beyond-by-count layout (request-in s t) ∙ ap (too-many layout) asked-long ∙ sym many
 
   -- 30.

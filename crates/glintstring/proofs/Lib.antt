@@ -5,3 +5,4 @@ pub mod MissingLaws
 pub mod ShowingLaws
 pub mod PackingLaws
 pub mod CheckCallLaws
+pub mod DeriveLaws

@@ -81,7 +81,7 @@ module _ (s t : List ℕ) (here : At-hand s t) where
   walk-stops : Stops-there (walk-held s t .end)
   walk-stops =
       held-so (λ _ _. Unit {0}) (λ n p _. n ≡ Limits.not-executable → Item-byte s p) (λ _. Unit {0}) (Item-byte s)
-      (record { misses = λ _ _ _. tt; stuck = λ _ _ p stands _. stands; many = λ _ _ two. absurd (omega (arith, two)); breaks = λ _ _ _ two. absurd (omega (arith, two)) }) s t
+      (record { misses = λ _ _ _. tt; stuck = λ _ _ p stands _. stands; wide = λ _ _ two. absurd (omega (arith, two)); many = λ _ _ two. absurd (omega (arith, two)); breaks = λ _ _ _ two. absurd (omega (arith, two)) }) s t
       (λ a u _. any-outcome (outcome-to (table-in s) a u (state-after (table-in s) a u))) (λ a u _. any-outcome (outcome-to (table-in s) a u (after-cases (table-in s) a u)))
       (places-on (Item-byte s) (plan-in s t) items-here) tt
 

@@ -15,6 +15,7 @@ use Rattle.meaning.specs.Guards.{judge-guarded}
 use Rattle.meaning.specs.ByCases.{judge-by-cases}
 use Rattle.meaning.specs.Indexes.{Built, build, judge-indexed}
 use Rattle.meaning.specs.Derivations.{check}
+use Rattle.meaning.specs.Schemes.{derive}
 use Rattle.meaning.specs.Releases.{Released, release}
 use Rattle.meaning.proofs.PickLaws.{pick-has}
 use Rattle.meaning.proofs.PartLaws.{place-limited, limit-of, check-place-limited}
@@ -22,6 +23,7 @@ use Rattle.meaning.proofs.GuardedAnswers.{guarded-place-limited}
 use Rattle.meaning.proofs.CaseAnswers.{cases-place-limited}
 use Rattle.meaning.proofs.IndexBuilt.{index-place-limited}
 use Rattle.meaning.proofs.IndexAnswers.{indexed-place-limited}
+use Rattle.meaning.proofs.DeriveAnswers.{derive-place-limited}
 use Rattle.meaning.proofs.ReleaseLaws.{own-place-limited}
 use Rattle.glintstring.specs.Packing.{packed}
 
@@ -90,13 +92,17 @@ module _ (s lent : List ℕ) (budget : ℕ) (a : Answer) (left : List ℕ) (rele
   pub released-left : left ≡ release format s lent budget .row
   released-left = ap (λ (j : Released). j .row) releases
 
--- WHAT THE EXPORTED INDEX CALL RETURNS, where the index call has given an answer and left this room.
-module _ (s room : List ℕ) (a : Answer) (left : List ℕ) (builds : record { answer = a; room = left } ≡ build format s room) where
-  pub built-small : a .place < 65536
-  built-small = let most = index-place-limited format s room in subst (λ (b : Built). b .answer .place < 65536) (sym builds) (omega (arith, most))
+-- WHAT THE EXPORTED CALLS THAT WRITE TO A ROOM RETURN, where the call has given an answer and left this room.
+module _ (a : Answer) (left : List ℕ) where
+  pub built-small : (s room : List ℕ) → record { answer = a; room = left } ≡ build format s room → a .place < 65536
+  built-small s room builds = let most = index-place-limited format s room in subst (λ (b : Built). b .answer .place < 65536) (sym builds) (omega (arith, most))
 
-  pub built-packed : (r : ℕ) → r ≡ packed a → r ≡ packed (build format s room .answer)
-  built-packed r is = is ∙ ap (λ (b : Built). packed (b .answer)) builds
+  pub derived-small : (s room : List ℕ) (budget : ℕ) → record { answer = a; room = left } ≡ derive format s room budget → a .place < 65536
+  derived-small s room budget derives = let most = derive-place-limited format s room budget in subst (λ (b : Built). b .answer .place < 65536) (sym derives) (omega (arith, most))
 
-  pub built-left : left ≡ build format s room .room
-  built-left = ap (λ (b : Built). b .room) builds
+  module _ (built : Built) (builds : record { answer = a; room = left } ≡ built) where
+    pub built-packed : (r : ℕ) → r ≡ packed a → r ≡ packed (built .answer)
+    built-packed r is = is ∙ ap (λ (b : Built). packed (b .answer)) builds
+
+    pub built-left : left ≡ built .room
+    built-left = ap (λ (b : Built). b .room) builds

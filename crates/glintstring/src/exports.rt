@@ -9,11 +9,13 @@ ghost use Rattle.meaning.specs.ByCases.{judge-by-cases};
 ghost use Rattle.meaning.specs.Indexes.{build, judge-indexed};
 ghost use Rattle.meaning.specs.Asking;
 ghost use Rattle.meaning.specs.Derivations.{check};
+ghost use Rattle.meaning.specs.Schemes.{derive};
 ghost use Rattle.meaning.specs.Releases.{plans-in, release};
 ghost use Rattle.meaning.specs.Showing.{show};
 ghost use Rattle.glintstring.specs.Packing.{packed, unpacked};
 use super::check_calls::check;
 use super::check_calls::check_whether;
+use super::derives::derive;
 use super::indexes::index;
 use super::judging::judge;
 use super::judging::judge_by_cases;
@@ -87,6 +89,15 @@ pub extern "C" fn glintstring_index(request: &[u8], room: &mut [u8]) -> u64
     ensures { λ _. ⌜ now (room .exit) ≡ build format (now (request .entry)) (now (room .entry)) .room ⌝ }
 {
     pack(index(request, room))
+}
+
+// The derive call (FORMAT 24.11), with its answer in one number. It may be called with anything.
+#[no_mangle]
+pub extern "C" fn glintstring_derive(request: &[u8], out: &mut [u8], budget: u32) -> u64
+    ensures { λ r. ⌜ r ≡ packed (derive format (now (request .entry)) (now (out .entry)) budget .answer) ⌝ }
+    ensures { λ _. ⌜ now (out .exit) ≡ derive format (now (request .entry)) (now (out .entry)) budget .room ⌝ }
+{
+    pack(derive(request, out, budget))
 }
 
 // The walk call, with its answer in one number and the line in another, which is written whatever the answer is. It may be called with anything.

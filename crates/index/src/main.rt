@@ -3,49 +3,17 @@ use bytes::limits;
 use glintstring::indexes::index;
 use libc::STDERR_FILENO;
 use libc::STDIN_FILENO;
-use meaning::Answer;
 use programs::Input;
 use programs::REQUEST_ROOM;
-use programs::is_word;
-use programs::put;
-use programs::put_line;
+use programs::option_asked;
+use programs::put_written;
 use programs::read_all;
-use verdicts::answers;
 
-// The descriptor on which the script is told the answer.
-const ANSWER_FILENO: i32 = 3;
-
-fn put_answer(fd: i32, answer: Answer) -> bool {
-    put_line(
-        fd,
-        answer.number as u64,
-        answer.place as u64,
-        answer.count as u64,
-    )
-}
-
-// The index, with which the room starts, or for every answer but 0 the answer on standard error.
-fn put_index(answer: Answer, room: &[u8]) -> bool {
-    if answer.number != answers::VERIFIED {
-        return put_answer(STDERR_FILENO, answer);
-    }
-    let length = answer.count as usize;
-    if room.len() < length {
-        return false;
-    }
-    put(&room[..length])
-}
-
-// Where the script asks for it, it is told the answer as well, of which it makes the exit status.
 fn answer_to(request: &[u8], told: bool) -> bool {
     // Room for every index.
     let mut room = [0u8; limits::INDEX];
     let answer = index(request, &mut room);
-    let written = put_index(answer, &room);
-    if written && told {
-        return put_answer(ANSWER_FILENO, answer);
-    }
-    written
+    put_written(answer, &room, told)
 }
 
 fn index_input(told: bool) {
@@ -62,7 +30,7 @@ fn index_input(told: bool) {
 }
 
 fn main() {
-    let told = is_word(1, b"--answer");
+    let told = option_asked(1, b"--answer");
     // The program's name, and that word.
     let words = if told { 2 } else { 1 };
     if os::arg_count() > words {

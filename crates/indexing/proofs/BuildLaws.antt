@@ -6,7 +6,7 @@ use mathlib.Core.Path.{_≡_, refl, sym, _∙_, ap, ap₂, subst}
 use mathlib.Core.Bool.{Bool}
 use mathlib.Core.List.{List, [], _∷_, _++_, map}
 use lib.ListN.{length, length-append, getD, set, length-set}
-use lib.Seq.{sets, length-sets, set-comm}
+use lib.Seq.{sets, length-sets}
 use mir.Syntax.{w8, w64}
 use mir.Val.{Fits}
 use borrow.Author.Tests.{eq-eqb, ne-eqb}
@@ -24,6 +24,7 @@ use Rattle.finding.specs.TablesHere.{table-in, Table-here}
 use Rattle.finding.proofs.AheadLaws.{Ahead, ahead-starts, ahead-none, ahead-first, line-others, line-rest, line-fit}
 use Rattle.finding.proofs.ReadLaws.{whole-table, effects-counted, runs-counted, effects-ordered, runs-ordered}
 use Rattle.finding.proofs.StartLaws.{front-here}
+use Rattle.steps.proofs.StoreLaws.{store-before, stores-behind}
 use Rattle.indexing.specs.IndexNotes.{noted-from, places-noted, Lines-noted}
 
 -- AN OFFSET.
@@ -33,19 +34,6 @@ low-room room q v fits = let same = length-set room q v in omega arith
 pub offset-put : (room : List ℕ) (q p : ℕ) → set (set room q (p / 256)) (q + 1) (p % 256) ≡ sets room q (offsets (p ∷ []))
 unfolding offsets
 offset-put room q p = let on : q + 1 ≡ suc q = omega arith in rw on refl
-
--- STORES in a row: one before them, and others behind them.
-store-before : (vs l : List ℕ) (i j v : ℕ) → i < j → set (sets l j vs) i v ≡ sets (set l i v) j vs
-store-before [] l i j v less = refl
-store-before (w ∷ vs) l i j v less =
-    store-before vs (set l j w) i (suc j) v (omega arith)
-    ∙ ap (λ (xs : List ℕ). sets xs (suc j) vs) (set-comm l j i w v (λ e. omega arith))
-
-stores-behind : (vs ws l : List ℕ) (i : ℕ) → sets l i (vs ++ ws) ≡ sets (sets l i vs) (i + length vs) ws
-stores-behind [] ws l i = let same : i ≡ i + 0 = omega arith in ap (λ (j : ℕ). sets l j ws) same
-stores-behind (v ∷ vs) ws l i =
-    let same : suc i + length vs ≡ i + suc (length vs) = omega arith in
-    stores-behind vs ws (set l i v) (suc i) ∙ ap (λ (j : ℕ). sets (sets (set l i v) (suc i) vs) j ws) same
 
 -- THE LINES of an action are fewer than line numbers, and so many steps lead along all of them.
 module _ (t : List ℕ) (lines : ℕ) where

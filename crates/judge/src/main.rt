@@ -11,7 +11,7 @@ use programs::Asked;
 use programs::Input;
 use programs::REQUEST_ROOM;
 use programs::budget_asked;
-use programs::is_word;
+use programs::option_asked;
 use programs::put;
 use programs::put_line;
 use programs::put_number;
@@ -33,15 +33,6 @@ const INDEX_FILENO: i32 = 3;
 
 // Room for an index, with a byte more: what stands behind that changes no answer.
 const INDEX_ROOM: usize = limits::INDEX + 1;
-
-// The argument that is so many from the end, counted from 1, is this option.
-fn option_asked(from_end: usize, option: &[u8]) -> bool {
-    let count = os::arg_count();
-    if count <= from_end {
-        return false;
-    }
-    is_word(count - from_end, option)
-}
 
 // The answer, for 1, 2 and 43 the state, and where it is asked for the line. The first byte of a request that gets one of these is its fluent count. Without
 // enough stack there is none, which is said.

@@ -4,6 +4,8 @@ pub mod LineCases
 pub mod GuardedCases
 pub mod CaseRows
 pub mod IndexCases
+pub mod SchemeLaws
+pub mod SchemeCases
 pub mod DerivationCases
 pub mod WhetherCases
 pub mod ReleaseCases
@@ -62,6 +64,7 @@ pub mod GuardedReports
 pub mod CaseSteps
 pub mod CaseWalks
 pub mod CaseAnswers
+pub mod NarrowWalks
 pub mod ReportedLine
 pub mod GuardedLine
 pub mod Passed
@@ -77,3 +80,4 @@ pub mod IndexedWalk
 pub mod DifferenceLaws
 pub mod IndexAnswers
 pub mod IndexBuilt
+pub mod DeriveAnswers

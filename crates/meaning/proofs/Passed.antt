@@ -211,7 +211,7 @@ some-line lim n m s layout d e q =
         let ks = next-got (closing-at s layout p) _ r in
         pick-cases _ _ _ (ks .3) (λ _ f. absurd (fault≢got f)) (λ _ last. (w .0, w .1, sym (ap (λ (x : Derivation). x .lines) (got-same last)) ∙ w .2))
 
-no-entry : (ws : List Entry) → some-of (λ (w : Entry). true) ws ≡ false → ws ≡ []
+pub no-entry : (ws : List Entry) → some-of (λ (w : Entry). true) ws ≡ false → ws ≡ []
 unfolding some-of either
 no-entry [] e = refl
 no-entry (w ∷ ws) e = absurd (false≢true (sym e))

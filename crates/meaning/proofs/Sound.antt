@@ -30,7 +30,7 @@ module _ {S : Type 0} where
       is-missed (missed p s) = Unit {0}
       is-missed (stopped n p u) = ⊥
 
-  stopped≢fine : {n p : ℕ} {u : Concerned S} → stopped n p u ≡ fine → ⊥
+  pub stopped≢fine : {n p : ℕ} {u : Concerned S} → stopped n p u ≡ fine → ⊥
   stopped≢fine e = subst is-stopped e tt
     where
       is-stopped : End S → Type 0

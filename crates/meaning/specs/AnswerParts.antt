@@ -1,5 +1,5 @@
 -- What an answer's input, place and count are, by its number (FORMAT 4.3 to 4.44, 17.35, 17.36, 21.10, 21.16, 22.11,
--- 22.14, 23.7 to 23.9, 23.15).
+-- 22.14, 23.7 to 23.9, 23.15, 24.13 to 24.19).
 use Prim.Native.Nat.{ℕ, _≤_, _<_}
 use mathlib.Core.Path.{_≡_}
 use mathlib.Core.Bool.{true, false}
@@ -23,6 +23,7 @@ use Rattle.meaning.specs.Guards
 use Rattle.meaning.specs.Guards.{settled-guarded}
 use Rattle.meaning.specs.ByCases
 use Rattle.meaning.specs.Indexes.{index-of}
+use Rattle.meaning.specs.Schemes.{derivation-of, derivation-bytes}
 use Rattle.meaning.specs.Answers.{row-answers}
 
 -- INPUT. The numbers that name neither (FORMAT 4.27), those that only the request gets, and those that only a derivation gets.
@@ -157,3 +158,26 @@ pub record Indexed-placed (size index number place : ℕ) : Type 0 where
 -- Its lent bytes are written with 1 and 2, and stay with every other number, 45 among them.
 abbrev pub Indexed-state : Limits → (request lent : List ℕ) → Judgement → Type 0
 Indexed-state lim request = Written (Judging.walk-of lim) (settled lim request) stated
+
+-- THE DERIVE CALL names neither input exactly with 0, 3, 38 and 39, and the request with every other number (FORMAT 24.13 to 24.19).
+unfoldable pub of-sizes : List ℕ
+of-sizes = Limits.too-many-lines ∷ Limits.room-short ∷ []
+
+unfoldable pub of-derived : List ℕ
+of-derived = Limits.verified ∷ Limits.budget-spent ∷ of-sizes
+
+pub record Derive-input (a : Answer) : Type 0 where
+  pub neither : (a .input ≡ Limits.neither-input) ↔ (among (a .number) of-derived ≡ true)
+  pub request : among (a .number) of-derived ≡ false → a .input ≡ Limits.the-request
+
+-- Its place is 0 with 38 and 39, and else as in the walk call: that of a byte with 30 and 37 too.
+pub record Derive-placed (size number place : ℕ) : Type 0 where
+  pub sizes : among number of-sizes ≡ true → place ≡ 0
+  pub other : among number of-sizes ≡ false → Placed size number place
+
+-- Its count is that of the derivation's bytes with 0, that of the walk with 1 and 2, the budget with 3, and 0 with every other number.
+pub record Derive-count (lim : Limits) (request : List ℕ) (budget : ℕ) (a : Answer) : Type 0 where
+  pub written : a .number ≡ Limits.verified → (r : Request) × (e : ℕ) × (settled lim request ≡ got r e) × (a .count ≡ length (derivation-bytes (derivation-of lim r)))
+  pub walk : among (a .number) stated ≡ true → (r : Request) × (e : ℕ) × (settled lim request ≡ got r e) × (a .count ≡ Judging.count lim r)
+  pub spent : a .number ≡ Limits.budget-spent → a .count ≡ budget
+  pub other : among (a .number) (Limits.budget-spent ∷ of-walks) ≡ false → a .count ≡ 0

@@ -1,4 +1,4 @@
--- The numbers that each call answers (FORMAT section 4, 11.1, 17.38, 21.22, 22.17, 23.22).
+-- The numbers that each call answers (FORMAT section 4, 11.1, 17.38, 21.22, 22.17, 23.22, 24.24).
 use Prim.Native.Nat.{ℕ}
 use mathlib.Core.List.{List, [], _∷_}
 use Rattle.meaning.specs.declared.Layout.{Layout}
@@ -28,6 +28,12 @@ index-answers = Limits.verified ∷ Limits.room-short ∷ refusals
 
 unfoldable pub indexed-answers : List ℕ
 indexed-answers = Limits.index-differs ∷ answers
+
+-- All that the derive call answers.
+unfoldable pub derive-answers : List ℕ
+derive-answers =
+    Limits.verified ∷ Limits.goal-missed ∷ Limits.not-executable ∷ Limits.budget-spent ∷ Limits.whether-asked ∷ Limits.sensing-too-wide ∷
+    Limits.too-many-lines ∷ Limits.room-short ∷ refusals
 
 -- The release call's own refusals but 9, all its own answers, and what a plan's row may say.
 unfoldable pub release-refusals : List ℕ

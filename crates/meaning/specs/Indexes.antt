@@ -116,14 +116,18 @@ pub record Built : Type 0 where
   pub answer : Answer
   pub room : List ℕ
 
-unfoldable pub build-got : (room : List ℕ) → Got Request → Built
-build-got room (got r e) =
-    pick (leb (length (index-of (r .table))) (length room))
+-- These bytes go to the room where it is long enough, and those behind them stay; a shorter room stays as it is (FORMAT 23.8, 23.9).
+abbrev pub put-in : (room bytes : List ℕ) → Built
+put-in room bytes =
+    pick (leb (length bytes) (length room))
     (λ _. record {
-      answer = record { number = Limits.verified; input = Limits.neither-input; place = 0; count = length (index-of (r .table)) };
-      room = index-of (r .table) ++ drop (length (index-of (r .table))) room;
+      answer = record { number = Limits.verified; input = Limits.neither-input; place = 0; count = length bytes };
+      room = bytes ++ drop (length bytes) room;
     })
     (λ _. record { answer = record { number = Limits.room-short; input = Limits.neither-input; place = 0; count = 0 }; room = room })
+
+unfoldable pub build-got : (room : List ℕ) → Got Request → Built
+build-got room (got r e) = put-in room (index-of (r .table))
 build-got room (fault n p) = record { answer = record { number = n; input = Limits.the-request; place = p; count = 0 }; room = room }
 
 unfoldable pub build : Limits → (request room : List ℕ) → Built

@@ -30,4 +30,6 @@ pub mod Accepted
 pub mod Answers
 pub mod Showing
 pub mod Layouts
+pub mod Schemes
 pub mod AnswerParts
+pub mod DeriveReported

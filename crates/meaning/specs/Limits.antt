@@ -62,6 +62,11 @@ most-guards = 64
 abbrev pub most-open : ℕ
 most-open = 12
 
+-- The unknown fluents that a sensing action may have in a derivation: rule 3 cites a line for each reading, and a line has at most 64 citations; only the derive call speaks of it
+-- (FORMAT 24.4).
+abbrev pub most-forked : ℕ
+most-forked = 6
+
 -- The bytes that an index may have: two counts for each action, and two bytes for each line of sections 3 and 4, of which there are at most 255 each (FORMAT 23.5).
 abbrev pub most-index : ℕ
 most-index = 2 * format .actions + 4 * 255
@@ -74,7 +79,7 @@ all-literals = 2 * format .fluents
 abbrev pub branching-byte : ℕ
 branching-byte = 255
 
--- Answers (FORMAT 4.3 to 4.25, 17.35, 17.36, 21.10, 22.9, 23.8, 23.15).
+-- Answers (FORMAT 4.3 to 4.25, 17.35, 17.36, 21.10, 22.9, 23.8, 23.15, 24.16 to 24.18).
 abbrev pub verified : ℕ
 verified = 0
 
@@ -149,6 +154,12 @@ not-the-question = 35
 
 abbrev pub closing-not-right : ℕ
 closing-not-right = 36
+
+abbrev pub sensing-too-wide : ℕ
+sensing-too-wide = 37
+
+abbrev pub too-many-lines : ℕ
+too-many-lines = 38
 
 abbrev pub room-short : ℕ
 room-short = 39

@@ -1,5 +1,5 @@
 // What the programs share: an input is read as far as a buffer goes, words are known and a budget is read from its digits, an answer is printed
-// as three numbers, its state as signs, and the stack is looked at before a walk.
+// as three numbers, its state as signs, what a call has written to a room as it is, and the stack is looked at before a walk.
 ghost use Prim.Native.Nat.{_≤_};
 ghost use lib.Dec.{leb};
 ghost use lib.ListN.{length};
@@ -12,6 +12,8 @@ use libc::RLIMIT_STACK;
 use libc::STDERR_FILENO;
 use libc::STDOUT_FILENO;
 use libc::types::rlimit;
+use meaning::Answer;
+use verdicts::answers;
 
 // Room for a request and for a derivation, with a byte more, by which one that is too long is seen.
 pub const REQUEST_ROOM: usize = limits::REQUEST + 1;
@@ -27,6 +29,9 @@ const STACK_NEEDED: u64 = 16 * 1024 * 1024;
 const SHORT_STACK_NEEDED: u64 = 6 * 1024 * 1024;
 
 const SHORT: usize = 1024;
+
+// The descriptor on which a script is told the answer of a program that writes bytes.
+const ANSWER_FILENO: i32 = 3;
 
 // A sign for each fluent, and the end of the line.
 const SIGNS: usize = limits::FLUENTS + 1;
@@ -103,6 +108,15 @@ pub fn is_word(i: usize, word: &[u8]) -> bool {
     let mut text = io::buffer();
     let n = os::arg(i, &mut text);
     same_part(&text[..n], word)
+}
+
+// The argument that is so many from the end, counted from 1, is this option.
+pub fn option_asked(from_end: usize, option: &[u8]) -> bool {
+    let count = os::arg_count();
+    if count <= from_end {
+        return false;
+    }
+    is_word(count - from_end, option)
 }
 
 // The number that an argument writes, or that it writes none.
@@ -211,6 +225,36 @@ pub fn put_line(fd: i32, first: u64, second: u64, third: u64) -> bool {
         && io::write_all(fd, b" ")
         && io::print_decimal(fd, third)
         && io::write_all(fd, b"\n")
+}
+
+fn put_answer(fd: i32, answer: Answer) -> bool {
+    put_line(
+        fd,
+        answer.number as u64,
+        answer.place as u64,
+        answer.count as u64,
+    )
+}
+
+// The bytes that a call has written to the start of a room, or for every answer but 0 the answer on standard error.
+fn put_start(answer: Answer, room: &[u8]) -> bool {
+    if answer.number != answers::VERIFIED {
+        return put_answer(STDERR_FILENO, answer);
+    }
+    let length = answer.count as usize;
+    if room.len() < length {
+        return false;
+    }
+    put(&room[..length])
+}
+
+// The same, and where the script asks for it, it is told the answer as well, of which it makes the exit status.
+pub fn put_written(answer: Answer, room: &[u8], told: bool) -> bool {
+    let written = put_start(answer, room);
+    if written && told {
+        return put_answer(ANSWER_FILENO, answer);
+    }
+    written
 }
 
 fn sign(mark: u8) -> u8 {

@@ -18,6 +18,9 @@ pub mod ExportedIndexPromises
 pub mod IndexedJudgePromises
 pub mod IndexedPromises
 pub mod ExportedIndexedPromises
+pub mod DerivePromises
+pub mod DeriveCallPromises
+pub mod ExportedDerivePromises
 pub mod ReusePromises
 pub mod CheckPromises
 pub mod DerivationPromises

@@ -1,5 +1,5 @@
 -- An answer in one number gives its parts back: each part is smaller than the room that it has, so division and remainder find it. Every answer
--- of the walk call, of the guarded call, of the call by cases, of the indexed call, of the index call, of the derivation call and of the whether call and every own answer of the release call
+-- of the walk call, of the guarded call, of the call by cases, of the indexed call, of the index call, of the derive call, of the derivation call and of the whether call and every own answer of the release call
 -- is such an answer. Assumes nothing.
 use Prim.Native.Nat.{ℕ, _/_, _%_, _<_}
 use native.Mathlib.Omega.{arith}
@@ -20,10 +20,11 @@ use Rattle.meaning.specs.Derivations.{check}
 use Rattle.meaning.specs.Guards.{judge-guarded}
 use Rattle.meaning.specs.ByCases.{judge-by-cases}
 use Rattle.meaning.specs.Indexes.{build, judge-indexed}
+use Rattle.meaning.specs.Schemes.{derive}
 use Rattle.meaning.specs.Layouts.{Bytes}
 use Rattle.meaning.specs.Releases.{release}
-use Rattle.meaning.specs.Answers.{refusals, answers, guarded-answers, cases-answers, index-answers, indexed-answers, end-fault, faults, check-answers, release-refusals, release-answers}
-use Rattle.meaning.specs.AnswerParts.{of-neither, Walk-input, of-rooms, Index-input, Indexed-input, inputs-of}
+use Rattle.meaning.specs.Answers.{refusals, answers, guarded-answers, cases-answers, index-answers, indexed-answers, derive-answers, end-fault, faults, check-answers, release-refusals, release-answers}
+use Rattle.meaning.specs.AnswerParts.{of-neither, Walk-input, of-rooms, Index-input, Indexed-input, of-derived, Derive-input, inputs-of}
 use Rattle.meaning.proofs.TestLaws.{by-test}
 use Rattle.meaning.proofs.LiteralLaws.{among-each}
 use Rattle.meaning.proofs.PickLaws.{pick-has}
@@ -33,6 +34,7 @@ use Rattle.meaning.proofs.PartLaws.{input-exactly, check-input-exactly}
 use Rattle.meaning.proofs.GuardedAnswers.{guarded-numbered, guarded-input}
 use Rattle.meaning.proofs.CaseAnswers.{cases-numbered, cases-input}
 use Rattle.meaning.proofs.IndexBuilt.{index-numbered, index-input, index-place-limited}
+use Rattle.meaning.proofs.DeriveAnswers.{derive-numbered, derive-input, derive-place-limited}
 use Rattle.meaning.proofs.IndexAnswers.{indexed-numbered, indexed-input, indexed-place-limited}
 use Rattle.meaning.proofs.ReleaseLaws.{own-numbered, own-input}
 use Rattle.glintstring.specs.Packing.{packed, unpacked}
@@ -147,6 +149,24 @@ index-answer-small s room = record {
   number = index-number-small _ (index-numbered format s room);
   input = index-input-small _ (index-input format s room);
   place = let most = index-place-limited format s room in omega (arith, most);
+}
+
+-- THE ANSWERS OF THE DERIVE CALL.
+derive-number-small : (n : ℕ) → among n derive-answers ≡ true → n < 256
+unfolding derive-answers refusals each-of both
+derive-number-small n is = ltb-true _ _ (among-each (λ (m : ℕ). ltb m 256) derive-answers refl n is)
+
+derive-input-small : (a : Answer) → Derive-input a → a .input < 256
+derive-input-small a input =
+    by-test (among (a .number) of-derived)
+    (λ t. let is = input .neither .1 t in omega (arith, is))
+    (λ f. let is = input .request f in omega (arith, is))
+
+pub derive-answer-small : (s room : List ℕ) (budget : ℕ) → Small (derive format s room budget .answer)
+derive-answer-small s room budget = record {
+  number = derive-number-small _ (derive-numbered format s room budget);
+  input = derive-input-small _ (derive-input format s room budget);
+  place = let most = derive-place-limited format s room budget in omega (arith, most);
 }
 
 -- THE OWN ANSWERS OF THE RELEASE CALL.

@@ -28,6 +28,8 @@ pub fn put_words(number: u8) -> bool {
         34 => put(b"a line does not follow by its rule"),
         35 => put(b"the last line differs from the question"),
         36 => put(b"the closing list is not what the request asks"),
+        37 => put(b"too many readings"),
+        38 => put(b"too many lines"),
         39 => put(b"room too short"),
         43 => put(b"guard broken"),
         44 => put(b"too many cases"),

@@ -8,6 +8,8 @@ use Rattle.meaning.specs.Limits.{format}
 use Rattle.meaning.specs.Refusals.{at}
 use Rattle.meaning.specs.States.{State, first-state, state-after, outcome-to, outcome}
 use Rattle.meaning.specs.Walk.{Concerned, no-state, in-state, walk, missed-in, judged}
+use Rattle.meaning.specs.Requests.{Table}
+use Rattle.meaning.specs.Schemes.{narrow-does}
 use Rattle.meaning.specs.ByCases.{after-cases}
 use Rattle.meaning.proofs.PickLaws.{pick-has}
 use Rattle.meaning.proofs.KeptEnds.{On-places, Outcome-has, End-so, Step-so, meet-so, walk-so, end-of-so, table-does-so, cases-does-so}
@@ -15,10 +17,17 @@ use Rattle.steps.specs.Held.{table-in, plan-in, request-in}
 use Rattle.steps.specs.Steps.{does-in, step-in, walk-held}
 
 module _ (Miss : ℕ → State → Type 0) (Stop : ℕ → ℕ → Concerned State → Type 0) (P : State → Type 0) (Place : ℕ → Type 0) where
+  -- The step that refuses with 37 and no state what is too wide, and does else what the table's does.
+  pub narrow-does-so : ((s : State) → P s → (p : ℕ) → Place p → Stop Limits.not-executable p (in-state s)) → ((p : ℕ) → Place p → Stop Limits.sensing-too-wide p no-state)
+      → (t : Table) (a : ℕ) (s : State) → P s → Outcome-has P (outcome t a s) → Step-so Miss Stop P Place (narrow-does t a s)
+  unfolding narrow-does
+  narrow-does-so stuck wide t a s has leads = pick-has (Step-so Miss Stop P Place) _ _ _ (λ _. wide) (λ _. table-does-so Miss Stop P Place stuck t a s has leads)
+
   -- What is so of each end.
   pub record Holds-so : Type 0 where
     pub misses : (s : State) → P s → (p : ℕ) → Miss p s
     pub stuck : (s : State) → P s → (p : ℕ) → Place p → Stop Limits.not-executable p (in-state s)
+    pub wide : (p : ℕ) → Place p → Stop Limits.sensing-too-wide p no-state
     pub many : (p : ℕ) → Place p → Stop Limits.too-many-cases p no-state
     pub breaks : (s : State) → P s → (p : ℕ) → Stop Limits.guard-broken p (in-state s)
 
@@ -32,7 +41,8 @@ module _ (Miss : ℕ → State → Type 0) (Stop : ℕ → ℕ → Concerned Sta
         let step = step-in s t in
         let does : (a : ℕ) (u : State) → P u → Step-so Miss Stop P Place (step .does a u) =
         λ a u has. pick-has (Step-so Miss Stop P Place) _ _ _ (λ _. table-does-so Miss Stop P Place (so .stuck) (table-in s) a u has (known a u has))
-        (λ _. cases-does-so Miss Stop P Place (so .stuck) (so .many) (table-in s) a u has (by-cases a u has)) in
+        (λ _. pick-has (Step-so Miss Stop P Place) _ _ _ (λ _. narrow-does-so (so .stuck) (so .wide) (table-in s) a u has (known a u has))
+        (λ _. cases-does-so Miss Stop P Place (so .stuck) (so .many) (table-in s) a u has (by-cases a u has))) in
         let broken : (u : State) → P u → (p : ℕ) → step .lacks u ≡ at p → Stop Limits.guard-broken p (in-state u) = λ u has p _. so .breaks u has p in
         meet-so Miss Stop P Place step does (so .stuck) broken (walk step (plan-in s t) (judged (request-in s t)))
         (walk-so Miss Stop P Place step does (so .stuck) broken (plan-in s t) on (judged (request-in s t)) (λ u has. end-of-so Miss Stop (missed-in (request-in s t) u) u (λ p _. so .misses u has p)))

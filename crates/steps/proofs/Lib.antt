@@ -1,6 +1,8 @@
 pub mod SectionsStand
 pub mod HandLaws
 pub mod ToldMarks
+pub mod KnownLists
+pub mod StoreLaws
 pub mod SensedLaws
 pub mod Served
 pub mod NextSlots
@@ -10,8 +12,10 @@ pub mod RestLaws
 pub mod Laid
 pub mod MissLaws
 pub mod OnwardLaws
+pub mod FirstLaws
 pub mod Sweeps
 pub mod LookLaws
+pub mod WideLaws
 pub mod ActionLaws
 pub mod AfterLaws
 pub mod FlagLaws

@@ -5,17 +5,19 @@ use mathlib.Core.Path.{_≡_, refl, sym, _∙_, ap, subst, fun-ext}
 use mathlib.Core.List.{List, [], _∷_, map}
 use lib.ListN.{length, getD}
 use borrow.Author.Tests.{eq-eqb, ne-eqb}
+use Rattle.meaning.specs.Tests.{pick}
 use Rattle.meaning.specs.Limits.{format}
 use Rattle.meaning.specs.Requests.{Table, Entry}
 use Rattle.meaning.specs.States.{State, first-state, state-after}
 use Rattle.meaning.specs.Walk.{table-does, first-missed, walked, guarded-step, walked-guarded}
 use Rattle.meaning.specs.ByCases.{complete, shared-mark, shared-marks, after-each, after-cases, cases-does, cases-step, walked-by-cases}
+use Rattle.meaning.specs.Schemes.{narrow-does, narrow-step, walked-narrow, narrow-walk-of}
 use Rattle.meaning.proofs.TestLaws.{pick-true, pick-false}
 use Rattle.meaning.proofs.PickLaws.{pick-has}
 use Rattle.meaning.proofs.KeptEnds.{walked-unguarded}
 use Rattle.steps.specs.Held.{table-in, guards-in, request-in}
 use Rattle.steps.specs.AtHand.{Marked}
-use Rattle.steps.specs.Steps.{mode-in, does-in, after-in, step-in, walk-held}
+use Rattle.steps.specs.Steps.{narrow-mode, mode-in, does-in, after-in, step-in, walk-held}
 use Rattle.steps.proofs.LookLaws
 
 -- What states share is marked.
@@ -39,7 +41,8 @@ marked-after-cases t a s marked = let w = shared-each (map (state-after t a) (co
 pub after-marked : (m : ℕ) (t : Table) (a : ℕ) (marks r : State) → Marked marks → r ≡ after-in m t a marks → Marked r
 unfolding after-in
 after-marked m t a marks r marked e =
-    subst Marked (sym e) (pick-has Marked _ _ _ (λ _. LookLaws.after-marked t a marks _ marked refl) (λ _. marked-after-cases t a marks marked))
+    let known : Marked (state-after t a marks) = LookLaws.after-marked t a marks _ marked refl in
+    subst Marked (sym e) (pick-has Marked _ _ _ (λ _. known) (λ _. pick-has Marked _ _ _ (λ _. known) (λ _. marked-after-cases t a marks marked)))
 
 -- THE WALK of what is held. In mode 0 it goes by what is known.
 does-known : (m : ℕ) (t : Table) → m ≡ 0 → does-in m t ≡ table-does t
@@ -55,11 +58,20 @@ held-plain s t zero-is none =
     held-known s t zero-is ∙ ap (λ (gs : List Entry). walked-guarded (request-in s t) gs (first-state format (table-in s))) none
     ∙ walked-unguarded (request-in s t) (first-state format (table-in s))
 
--- In every other mode, and without guards, it goes by cases.
-does-cases : (m : ℕ) (t : Table) → (m ≡ 0 → ⊥) → does-in m t ≡ cases-does t
-unfolding does-in
-does-cases m t other = fun-ext (λ a. fun-ext (λ s. pick-false _ _ _ (ne-eqb m 0 other)))
+-- In mode 2, and without guards, it is refused at the first sensing action that is too wide.
+does-narrow : (m : ℕ) (t : Table) → m ≡ narrow-mode → does-in m t ≡ narrow-does t
+unfolding does-in pick
+does-narrow m t is = ap (λ (n : ℕ). does-in n t) is ∙ fun-ext (λ a. fun-ext (λ s. refl))
 
-pub held-cases : (s t : List ℕ) → (mode-in t ≡ 0 → ⊥) → guards-in s t ≡ [] → walk-held s t ≡ walked-by-cases (request-in s t) (first-state format (table-in s))
+pub held-narrow : (s t : List ℕ) → mode-in t ≡ narrow-mode → guards-in s t ≡ [] → walk-held s t ≡ narrow-walk-of format (request-in s t)
+unfolding walk-held step-in walked-narrow narrow-step request-in first-missed
+held-narrow s t is none = rw (does-narrow (mode-in t) (table-in s) is, none) refl
+
+-- In every other mode, and without guards, it goes by cases.
+does-cases : (m : ℕ) (t : Table) → (m ≡ 0 → ⊥) → (m ≡ narrow-mode → ⊥) → does-in m t ≡ cases-does t
+unfolding does-in
+does-cases m t other wide = fun-ext (λ a. fun-ext (λ s. pick-false _ _ _ (ne-eqb m 0 other) ∙ pick-false _ _ _ (ne-eqb m narrow-mode wide)))
+
+pub held-cases : (s t : List ℕ) → (mode-in t ≡ 0 → ⊥) → (mode-in t ≡ narrow-mode → ⊥) → guards-in s t ≡ [] → walk-held s t ≡ walked-by-cases (request-in s t) (first-state format (table-in s))
 unfolding walk-held step-in walked-by-cases cases-step request-in first-missed
-held-cases s t other none = rw (does-cases (mode-in t) (table-in s) other, none) refl
+held-cases s t other wide none = rw (does-cases (mode-in t) (table-in s) other wide, none) refl

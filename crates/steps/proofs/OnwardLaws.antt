@@ -5,6 +5,7 @@ use native.Mathlib.Omega.{arith}
 use mathlib.Core.Path.{_≡_, refl, sym, _∙_, ap, subst, fun-ext}
 use mathlib.Core.Bool.{Bool, true, false, false≢true}
 use mathlib.Core.List.{List}
+use mathlib.Core.Logic.{inl, inr}
 use lib.ListN.{length, getD}
 use mir.Syntax.{w64}
 use mir.Val.{Fits}
@@ -30,7 +31,7 @@ use Rattle.finding.proofs.PlanHere.{count-zero, count-some, some-item, place-is
 use Rattle.steps.specs.Held.{plan-in, request-in}
 use Rattle.steps.specs.AtHand.{At-hand}
 use Rattle.steps.specs.Rests.{rest-at, after-first, span, onward, Position, Branches-laid, Inside-laid, Item-laid}
-use Rattle.steps.specs.Steps.{step-in, walk-from, walk-after, met-from, Followed, Into, going-on, Chosen}
+use Rattle.steps.specs.Steps.{step-in, walk-from, walk-after, met-from, Followed, Into, going-on, Takes, Taken, Takes-none, Untaken, Chosen}
 use Rattle.steps.proofs.HandLaws.{few-items}
 use Rattle.steps.proofs.RestLaws.{rest-past}
 use Rattle.steps.proofs.Laid.{item-laid}
@@ -147,6 +148,14 @@ abbrev pub Walks-by : (s t : List ℕ) (i : ℕ) → State → Sequence ℕ → 
 Walks-by s t i marks after branches =
     walk-from s t i marks ≡ walk-branch (step-in s t) branches (getD t (0 + i) 0) (walk (step-in s t) after (judged (request-in s t))) marks
 
+-- A branch that these take is the chosen one of the branching, and what is left then is that branch joined with what is after.
+abbrev pub Leaves : (s t : List ℕ) (i : ℕ) → State → Sequence ℕ → Branches ℕ → Type 0
+Leaves s t i marks after branches = (b : Sequence ℕ) → Takes marks branches b → Taken marks (rest-at (plan-in s t) i) (join b after)
+
+-- Where these take none, the branching takes none.
+abbrev pub Stays : (s t : List ℕ) (i : ℕ) → State → Branches ℕ → Type 0
+Stays s t i marks branches = Takes-none marks branches → Untaken marks (rest-at (plan-in s t) i)
+
 -- None of the branches before p has a condition known true; those from there on are `branches`.
 pub record Choosing (s t : List ℕ) (i : ℕ) (marks : State) (left p met : ℕ) : Type 0 where
   pub branches : Branches ℕ
@@ -158,6 +167,8 @@ pub record Choosing (s t : List ℕ) (i : ℕ) (marks : State) (left p met : ℕ
   pub beyond : i < met
   pub follows : after-first (rest-at (plan-in s t) i) ≡ after
   pub goes : Walks-by s t i marks after branches
+  pub leaves : Leaves s t i marks after branches
+  pub stays : Stays s t i marks branches
 
 module _ (s t : List ℕ) (here : At-hand s t) (i : ℕ) (less : i < items-of (plan-in s t)) where
   pub place-fits : Fits w64 (0 + i)
@@ -202,6 +213,8 @@ module _ (s t : List ℕ) (here : At-hand s t) (i : ℕ) (less : i < items-of (p
             beyond = omega arith;
             follows = rw rest;
             goes = rw (rest, place);
+            leaves = λ b takes. record { place = p; branches = bs; after = after; chosen = b; is = rest; takes = takes; rest = refl };
+            stays = λ none-here. record { place = p; branches = bs; after = after; is = rest; none = none-here };
           }
 
       pub choosing-starts : (start x : ℕ) → start ≡ getD t (0 + i) 0 → x ≡ getD s (start + 1) 0 → Choosing s t i marks x (start + 2) (i + 1)
@@ -216,11 +229,14 @@ Nowhere≢At : (a : ℕ) → Nowhere ≡ At a → ⊥
 Nowhere≢At a e = false≢true (ap (λ (r : Code.Found). elim r [ Nowhere ↦ false | At p ↦ true ]) e)
 
 module _ (s t : List ℕ) (i : ℕ) (marks : State) where
-  chosen-there : (r : ℕ) → walk-from s t i marks ≡ walk-from s t r marks → i < r → Position (plan-in s t) r → Chosen s t i marks (At r)
+  chosen-there : (r : ℕ) → walk-from s t i marks ≡ walk-from s t r marks → Taken marks (rest-at (plan-in s t) i) (rest-at (plan-in s t) r) → i < r → Position (plan-in s t) r
+      → Chosen s t i marks (At r)
   unfolding going-on
-  chosen-there r goes later position =
+  chosen-there r goes taken later position =
       record {
         goes = goes;
+        takes = λ at e. subst (λ (n : ℕ). Taken marks (rest-at (plan-in s t) i) (rest-at (plan-in s t) n)) (At-same r at e) taken;
+        stays = λ e. absurd (Nowhere≢At r (sym e));
         later = λ at e. subst (λ (n : ℕ). i < n) (At-same r at e) later;
         at = λ at e. subst (Position (plan-in s t)) (At-same r at e) position;
       }
@@ -232,14 +248,15 @@ module _ (s t : List ℕ) (i : ℕ) (marks : State) where
       condition-is c e = rw (tested, sym e)
 
       pub choosing-next : known-here ≡ false → (q j : ℕ) → q ≡ place-after s t p met → j ≡ item-after s t p met → Choosing s t i marks (left - 1) q j
-      unfolding branches-in Branches-written Branches-laid walk-branch step-in guarded-step
-      choosing-next fails q j placed counted = step (choosing .branches) (choosing .count) (choosing .written) (choosing .laid) (choosing .goes)
+      unfolding branches-in Branches-written Branches-laid walk-branch step-in guarded-step Takes Takes-none
+      choosing-next fails q j placed counted = step (choosing .branches) (choosing .count) (choosing .written) (choosing .laid) (choosing .goes) (choosing .leaves) (choosing .stays)
         where
           step : (bs : Branches ℕ) → left ≡ branches-in bs → Branches-written s p bs → Branches-laid t (plan-in s t) met p (choosing .after) bs
-              → Walks-by s t i marks (choosing .after) bs
+              → Walks-by s t i marks (choosing .after) bs → Leaves s t i marks (choosing .after) bs → Stays s t i marks bs
               → Choosing s t i marks (left - 1) q j
-          step none count w l goes = absurd (omega (arith, more, count))
-          step (branch c d bs) count w l goes =
+          step none count w l goes leaves stays = absurd (omega (arith, more, count))
+          step (branch c d bs) count w l goes leaves stays =
+              let no : each-of (known marks) c ≡ false = condition-is c (w .0 .condition) ∙ fails in
               let there : q ≡ p + (1 + length c) + (2 + bytes-of d) = placed ∙ place-is s t met p c d (w .0) (l .0 .kept) in
               let items : j ≡ met + items-of d = counted ∙ item-is s t met p c d (w .0) (l .0 .kept) in
               let beyond = choosing .beyond in
@@ -252,45 +269,56 @@ module _ (s t : List ℕ) (i : ℕ) (marks : State) where
                 laid = rw (there, items) (l .1);
                 beyond = omega (arith, items, beyond);
                 follows = choosing .follows;
-                goes = goes ∙ pick-false _ _ _ (condition-is c (w .0 .condition) ∙ fails);
+                goes = goes ∙ pick-false _ _ _ no;
+                leaves = λ b takes. leaves b (inr (no, takes));
+                stays = λ none-here. stays (no, none-here);
               }
 
       pub chosen-at : known-here ≡ true → (r : ℕ) → Into s t i p met r → Chosen s t i marks (At r)
-      unfolding branches-in Branches-written Branches-laid walk-branch step-in guarded-step walk-from own-items items-of
-      chosen-at holds r into = by-branch (choosing .branches) (choosing .count) (choosing .written) (choosing .laid) (choosing .goes)
+      unfolding branches-in Branches-written Branches-laid walk-branch step-in guarded-step walk-from own-items items-of join Takes
+      chosen-at holds r into = by-branch (choosing .branches) (choosing .count) (choosing .written) (choosing .laid) (choosing .goes) (choosing .leaves)
         where
           by-branch : (bs : Branches ℕ) → left ≡ branches-in bs → Branches-written s p bs → Branches-laid t (plan-in s t) met p (choosing .after) bs
-              → Walks-by s t i marks (choosing .after) bs
+              → Walks-by s t i marks (choosing .after) bs → Leaves s t i marks (choosing .after) bs
               → Chosen s t i marks (At r)
-          by-branch none count w l goes = absurd (omega (arith, more, count))
-          by-branch (branch c done bs) count w l goes =
+          by-branch none count w l goes leaves = absurd (omega (arith, more, count))
+          by-branch (branch c done bs) count w l goes leaves =
               let follows = into .empty (count-zero s (sequence-place s p) (w .0 .count)) in
+              let yes-here : each-of (known marks) c ≡ true = condition-is c (w .0 .condition) ∙ holds in
+              let same : rest-at (plan-in s t) r ≡ choosing .after = follows .rest ∙ choosing .follows in
               chosen-there r
-              (goes ∙ pick-true _ _ _ (condition-is c (w .0 .condition) ∙ holds) ∙ rw (follows .rest, choosing .follows))
+              (goes ∙ pick-true _ _ _ yes-here ∙ rw same)
+              (subst (Taken marks (rest-at (plan-in s t) i)) (sym same) (leaves done (inl (yes-here, refl))))
               (follows .later)
               (follows .at)
-          by-branch (branch c (item x d) bs) count w l goes =
+          by-branch (branch c (item x d) bs) count w l goes leaves =
               let first : r ≡ met = into .other (count-some s (sequence-place s p) (own-items d) (w .0 .count)) in
               let some : 0 < items-of (item x d) = let one = some-item x in omega (arith, one) in
               let beyond = choosing .beyond in
+              let yes-here : each-of (known marks) c ≡ true = condition-is c (w .0 .condition) ∙ holds in
               rw first
               (chosen-there met
               (goes
-              ∙ pick-true _ _ _ (condition-is c (w .0 .condition) ∙ holds)
+              ∙ pick-true _ _ _ yes-here
               ∙ sym (walk-join (step-in s t) (item x d) (choosing .after) (judged (request-in s t)) marks)
               ∙ rw (l .0 .rest some))
+              (subst (Taken marks (rest-at (plan-in s t) i)) (sym (l .0 .rest some)) (leaves (item x d) (inl (yes-here, refl))))
               beyond
               (record { most = branch-first s t left p met more (choosing .here) .few; there = λ _. l .0 .there some }))
 
     pub chosen-none : left ≤ 0 → Chosen s t i marks Nowhere
-    unfolding branches-in walk-branch going-on
-    chosen-none over = record { goes = by-branch (choosing .branches) (choosing .count) (choosing .goes); later = λ at e. absurd (Nowhere≢At at e); at = λ at e. absurd (Nowhere≢At at e) }
+    unfolding branches-in walk-branch going-on Takes-none
+    chosen-none over = record { goes = by-branch (choosing .branches) (choosing .count) (choosing .goes); takes = λ at e. absurd (Nowhere≢At at e); stays = λ _. untaken (choosing .branches) (choosing .count) (choosing .stays); later = λ at e. absurd (Nowhere≢At at e); at = λ at e. absurd (Nowhere≢At at e) }
       where
         by-branch : (bs : Branches ℕ) → left ≡ branches-in bs
             → Walks-by s t i marks (choosing .after) bs
             → walk-from s t i marks ≡ going-on s t (getD t (0 + i) 0) marks Nowhere
         by-branch none count goes = goes
         by-branch (branch c d bs) count goes = absurd (omega (arith, over, count))
+
+        untaken : (bs : Branches ℕ) → left ≡ branches-in bs → Stays s t i marks bs → Untaken marks (rest-at (plan-in s t) i)
+        untaken none count stays = stays tt
+        untaken (branch c d bs) count stays = absurd (omega (arith, over, count))
 
 -- FROM A POSITION. Nothing is left from the plan's end on.
 module _ (s t : List ℕ) (here : At-hand s t) where
@@ -322,6 +350,10 @@ module _ (s t : List ℕ) (here : At-hand s t) where
         pub action-small : a < format .actions
         unfolding An-act
         action-small = rw byte (the-act .2)
+
+        pub action-left : rest-at (plan-in s t) i ≡ item (act p a) (after-first (rest-at (plan-in s t) i))
+        unfolding An-act after-first
+        action-left = rw (the-act .1, byte)
 
         pub action-walked : (marks : State) → walk-from s t i marks ≡ run-action (step-in s t) p a (walk-after s t i) marks
         unfolding An-act walk-from walk-after walk after-first

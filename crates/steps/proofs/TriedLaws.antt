@@ -1,5 +1,5 @@
--- An action tried by cases, and in the mode of the walk. More open fluents than the limit end the walk; else those that are held are the open ones, and it is
--- enough to fill these. Assumes nothing.
+-- An action tried by cases, by what is known unless it is too wide, and in the mode of the walk. More open fluents than the limit end the walk; else those that are held are the
+-- open ones, and it is enough to fill these. Assumes nothing.
 use Prim.Native.Nat.{ℕ, zero, suc, _≤_, _<_}
 use native.Mathlib.Omega.{arith}
 use native.Mathlib.Decide.{decLt}
@@ -17,6 +17,7 @@ use Rattle.meaning.specs.Limits.{format, most-open}
 use Rattle.meaning.specs.Requests.{Table}
 use Rattle.meaning.specs.States.{State, known-whether, can-be-run, state-after, Outcome, outcome, outcome-to}
 use Rattle.meaning.specs.Walk.{Concerned, no-state, in-state, Step, leads-to, refuses, table-does}
+use Rattle.meaning.specs.Schemes.{too-wide, narrow-does}
 use Rattle.meaning.specs.ByCases.{upward, fillings, runs-by-cases, after-each, after-cases, in-bodies, open-fluents, too-many, cases-does}
 use Rattle.meaning.proofs.TestLaws.{both-right, fails-true, pick-true, pick-false, pick-cases, those-has}
 use Rattle.meaning.proofs.SensingLaws.{Distinct}
@@ -27,7 +28,7 @@ use Rattle.steps.specs.declared.cases.Tried.the-variants.{Runs, Stuck, M
 use Rattle.steps.specs.Held.{table-in}
 use Rattle.steps.specs.AtHand.{At-hand, Marked}
 use Rattle.steps.specs.Opened.{open-in, Opened, Filling}
-use Rattle.steps.specs.Steps.{mode-in, does-in, after-in, tried-as}
+use Rattle.steps.specs.Steps.{narrow-mode, mode-in, does-in, after-in, refused-in, tried-as}
 use Rattle.steps.proofs.HandLaws.{sections}
 
 -- ENTRIES BY THEIR NUMBERS.
@@ -97,12 +98,14 @@ module _ (s notes : List ℕ) (here : At-hand s notes) (a : ℕ) (marks : State)
     few-open low = elim (decLt most-open (length (open-fluents t a marks))) [ yes more ↦ absurd (omega (arith, found .more more, low, is)) | no few ↦ omega (arith, few) ]
 
     pub tried-many : most-open < n → cases-does t a marks ≡ tried-as 1 t a marks Many
-    unfolding cases-does tried-as too-many
+    unfolding cases-does tried-as refused-in too-many pick
     tried-many high =
-        pick-true _ _ _ (elim (decLt most-open (length (open-fluents t a marks))) [
+        let many : too-many t a marks ≡ true =
+        elim (decLt most-open (length (open-fluents t a marks))) [
           | yes more ↦ lt-ltb most-open _ more
           | no few ↦ absurd (omega (arith, found .number (omega (arith, few)), high, is, few))
-        ])
+        ] in
+        pick-true _ _ _ many
 
     module _ (low : n ≤ most-open) where
       pub tried-filling : Filling held 0 marks
@@ -133,6 +136,23 @@ module _ (s notes : List ℕ) (here : At-hand s notes) (a : ℕ) (marks : State)
     pub cases-after : (r : State) → r ≡ after-each t a (fillings (drop 0 (open-in held)) marks) marks → r ≡ after-cases t a marks
     cases-after r is = is ∙ sym (held-after (known-few t a marks few))
 
+-- AN ACTION TRIED BY WHAT IS KNOWN, unless it is too wide.
+module _ (t : Table) (a : ℕ) (marks : State) (w : Bool) (looked : w ≡ too-wide t a marks) where
+  pub narrow-many : w ≡ true → narrow-does t a marks ≡ tried-as narrow-mode t a marks Many
+  unfolding narrow-does tried-as refused-in pick
+  narrow-many some = pick-true _ _ _ (sym looked ∙ some)
+
+  module _ (none : w ≡ false) (b : Bool) (asked : b ≡ can-be-run t a marks) where
+    not-wide : narrow-does t a marks ≡ pick (can-be-run t a marks) (λ _. tried-as narrow-mode t a marks Runs) (λ _. tried-as narrow-mode t a marks Stuck)
+    unfolding narrow-does table-does outcome tried-as after-in pick
+    not-wide = pick-false _ _ _ (sym looked ∙ none)
+
+    pub narrow-runs : b ≡ true → narrow-does t a marks ≡ tried-as narrow-mode t a marks Runs
+    narrow-runs runs = not-wide ∙ pick-true _ _ _ (sym asked ∙ runs)
+
+    pub narrow-stuck : b ≡ false → narrow-does t a marks ≡ tried-as narrow-mode t a marks Stuck
+    narrow-stuck stuck = not-wide ∙ pick-false _ _ _ (sym asked ∙ stuck)
+
 -- IN THE MODE OF THE WALK.
 Led : Step State → Type 0
 Led (leads-to o) = Unit {0}
@@ -142,6 +162,25 @@ not-led : (n : ℕ) (c : Concerned State) (o : Outcome State) → refuses n c �
 unfolding Led
 not-led n c o e = subst Led (sym e) tt
 
+-- The number with which too many readings or cases are refused.
+module _ (notes : List ℕ) (mode : ℕ) (is : mode ≡ getD notes mode-slot 0) where
+  in-narrow : mode ≡ narrow-mode → mode-in notes ≡ narrow-mode
+  unfolding mode-in
+  in-narrow narrow = sym is ∙ narrow
+
+  not-narrow : (mode ≡ narrow-mode → ⊥) → eqb (mode-in notes) narrow-mode ≡ false
+  unfolding mode-in
+  not-narrow wide = ne-eqb _ narrow-mode (λ e. wide (is ∙ e))
+
+  pub refused-narrow : mode ≡ narrow-mode → Limits.sensing-too-wide ≡ refused-in (mode-in notes)
+  unfolding refused-in pick
+  refused-narrow narrow = ap refused-in (sym (in-narrow narrow))
+
+  pub refused-many : (mode ≡ narrow-mode → ⊥) → Limits.too-many-cases ≡ refused-in (mode-in notes)
+  unfolding refused-in
+  refused-many wide = sym (pick-false _ _ _ (not-narrow wide))
+
+-- What an action does.
 module _ (notes : List ℕ) (t : Table) (a : ℕ) (marks : State) (mode : ℕ) (is : mode ≡ getD notes mode-slot 0) where
   -- By what is known.
   module _ (zero-mode : mode ≡ 0) where
@@ -167,22 +206,49 @@ module _ (notes : List ℕ) (t : Table) (a : ℕ) (marks : State) (mode : ℕ) (
     unfolding after-in
     known-after-in r at = at ∙ sym (pick-true _ _ _ by-known)
 
+  -- The same, unless it is too wide.
+  module _ (narrow : mode ≡ narrow-mode) where
+    by-narrow : mode-in notes ≡ narrow-mode
+    by-narrow = in-narrow notes mode is narrow
+
+    narrow-do : does-in (mode-in notes) t a marks ≡ narrow-does t a marks
+    unfolding does-in pick
+    narrow-do = ap (λ (m : ℕ). does-in m t a marks) by-narrow
+
+    pub narrow-tried : (r : Tried) → narrow-does t a marks ≡ tried-as narrow-mode t a marks r → does-in (mode-in notes) t a marks ≡ tried-as (mode-in notes) t a marks r
+    narrow-tried r does = narrow-do ∙ does ∙ ap (λ (m : ℕ). tried-as m t a marks r) (sym by-narrow)
+
+    pub narrow-can : does-in (mode-in notes) t a marks ≡ tried-as (mode-in notes) t a marks Runs → can-be-run t a marks ≡ true
+    unfolding tried-as narrow-does table-does
+    narrow-can does =
+        pick-cases (too-wide t a marks) _ _ (sym narrow-do ∙ does) (λ _ e. absurd (not-led _ _ _ e))
+        (λ _ e. pick-cases (can-be-run t a marks) _ _ e (λ runs _. runs) (λ _ q. absurd (not-led _ _ _ q)))
+
+    pub narrow-after-in : (r : State) → r ≡ state-after t a marks → r ≡ after-in (mode-in notes) t a marks
+    unfolding after-in pick
+    narrow-after-in r at = at ∙ ap (λ (m : ℕ). after-in m t a marks) (sym by-narrow)
+
   -- By cases.
-  module _ (other : mode ≡ 0 → ⊥) where
-    by-cases : eqb (mode-in notes) 0 ≡ false
+  module _ (other : mode ≡ 0 → ⊥) (wide : mode ≡ narrow-mode → ⊥) where
+    not-known : eqb (mode-in notes) 0 ≡ false
     unfolding mode-in
-    by-cases = ne-eqb _ 0 (λ e. other (is ∙ e))
+    not-known = ne-eqb _ 0 (λ e. other (is ∙ e))
 
     cases-do : does-in (mode-in notes) t a marks ≡ cases-does t a marks
     unfolding does-in
-    cases-do = pick-false _ _ _ by-cases
+    cases-do = pick-false _ _ _ not-known ∙ pick-false _ _ _ (not-narrow notes mode is wide)
+
+    after-by-cases : after-in (mode-in notes) t a marks ≡ after-cases t a marks
+    unfolding after-in
+    after-by-cases = pick-false _ _ _ not-known ∙ pick-false _ _ _ (not-narrow notes mode is wide)
 
     pub cases-tried : (r : Tried) → cases-does t a marks ≡ tried-as 1 t a marks r → does-in (mode-in notes) t a marks ≡ tried-as (mode-in notes) t a marks r
-    unfolding tried-as after-in pick
+    unfolding tried-as after-in refused-in pick
     cases-tried r does =
+        let tries : State → ℕ → Step State = λ after n. elim r [ Runs ↦ leads-to (outcome-to t a marks after) | Stuck ↦ refuses Limits.not-executable (in-state marks) | Many ↦ refuses n no-state ] in
         cases-do ∙ does
-        ∙ ap (λ (after : State). elim r [ Runs ↦ leads-to (outcome-to t a marks after) | Stuck ↦ refuses Limits.not-executable (in-state marks) | Many ↦ refuses Limits.too-many-cases no-state ])
-        (sym (pick-false _ (λ _. state-after t a marks) (λ _. after-cases t a marks) by-cases))
+        ∙ ap (λ (after : State). tries after Limits.too-many-cases) (sym after-by-cases)
+        ∙ ap (tries (after-in (mode-in notes) t a marks)) (refused-many notes mode is wide)
 
     cases-led : does-in (mode-in notes) t a marks ≡ tried-as (mode-in notes) t a marks Runs → (too-many t a marks ≡ false) × (runs-by-cases t a marks ≡ true)
     unfolding tried-as cases-does
@@ -197,5 +263,4 @@ module _ (notes : List ℕ) (t : Table) (a : ℕ) (marks : State) (mode : ℕ) (
     cases-run does = cases-led does .1
 
     pub cases-after-in : (r : State) → r ≡ after-cases t a marks → r ≡ after-in (mode-in notes) t a marks
-    unfolding after-in
-    cases-after-in r at = at ∙ sym (pick-false _ _ _ by-cases)
+    cases-after-in r at = at ∙ sym after-by-cases

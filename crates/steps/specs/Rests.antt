@@ -3,7 +3,7 @@ use Prim.Native.Nat.{ℕ, _+_, _-_, _≤_, _<_}
 use mathlib.Core.Path.{_≡_}
 use mathlib.Core.List.{List}
 use lib.ListN.{length, getD}
-use lib.Dec.{leb, ltb}
+use lib.Dec.{eqb, leb, ltb}
 use Rattle.meaning.specs.Tests.{pick}
 use Rattle.meaning.specs.Limits.{format}
 use Rattle.meaning.specs.Requests.{Sequence, done, item, Item, act, branching, Branches, none, branch}
@@ -46,6 +46,10 @@ span (item x b) = items-in x
 -- By what the notes have as an item's next: an item, the limit of items, or `around-from` and the number of a branching (see the notes' slots).
 unfoldable pub onward : Sequence ℕ → ℕ → Sequence ℕ
 onward b c = pick (leb c (format .items)) (λ _. rest-at b c) (λ _. after-first (rest-at b (c - around-from)))
+
+-- The first position is the first item; a plan without items is at its end.
+unfoldable pub start : (items : ℕ) → ℕ
+start items = pick (eqb items 0) (λ _. format .items) (λ _. 0)
 
 -- An item of the plan, or the plan's end.
 pub record Position (b : Sequence ℕ) (at : ℕ) : Type 0 where

@@ -3,16 +3,19 @@ use Prim.Native.Nat.{ℕ, _+_, _<_}
 use mathlib.Core.Path.{_≡_}
 use mathlib.Core.List.{List, [], _∷_}
 use mathlib.Core.Bool.{Bool, true, false}
+use mathlib.Core.Logic.{_⊎_}
 use lib.ListN.{getD, drop}
 use lib.Dec.{eqb}
-use Rattle.meaning.specs.Tests.{pick}
+use Rattle.meaning.specs.Tests.{pick, each-of}
 use Rattle.meaning.specs.Limits
 use Rattle.meaning.specs.Limits.{format, all-literals}
-use Rattle.meaning.specs.Requests.{Table}
+use Rattle.meaning.specs.Requests.{Table, Sequence, item, branching, Branches, none, branch}
+use Rattle.meaning.specs.Derivations.{join}
 use Rattle.meaning.specs.Lines.{knowledge-of}
 use Rattle.meaning.specs.States.{State, known, known-whether, first-state, state-after, unknown-from, outcome-to}
 use Rattle.meaning.specs.Walk.{no-state, in-state, Walked, stuck-at, Step, leads-to, refuses, Steps, meet, walk, table-does, first-missed, judged}
 use Rattle.meaning.specs.ByCases.{after-cases, cases-does}
+use Rattle.meaning.specs.Schemes.{narrow-does}
 use Rattle.reading.specs.Noted.{item-place, mode-slot}
 use Rattle.finding.specs.Branches.{sequence-place, no-item}
 use Rattle.finding.specs.declared.places.Found as Code
@@ -41,17 +44,30 @@ bound-as asked = elim asked [ Goal ↦ all-literals | Whether ↦ format .fluent
 unfoldable pub met-as : Asked → State → ℕ → Bool
 met-as asked = elim asked [ Goal ↦ known | Whether ↦ known-whether ]
 
--- THE MODE of the walk: 0 goes by what is known, and every other number by cases (FORMAT 22.1).
+-- THE MODE of the walk: 0 goes by what is known, 2 does so too but refuses a sensing action that is too wide (FORMAT 24.4), and every other number goes by cases (FORMAT 22.1).
+abbrev pub narrow-mode : ℕ
+narrow-mode = 2
+
 unfoldable pub mode-in : List ℕ → ℕ
 mode-in t = getD t mode-slot 0
 
 -- What an action does.
 unfoldable pub does-in : (mode : ℕ) → Table → ℕ → State → Step State
-does-in mode t a s = pick (eqb mode 0) (λ _. table-does t a s) (λ _. cases-does t a s)
+does-in mode t a s =
+    pick (eqb mode 0) (λ _. table-does t a s) λ _.
+    pick (eqb mode narrow-mode) (λ _. narrow-does t a s) λ _.
+    cases-does t a s
 
 -- The state after one that does not sense.
 unfoldable pub after-in : (mode : ℕ) → Table → ℕ → State → State
-after-in mode t a s = pick (eqb mode 0) (λ _. state-after t a s) (λ _. after-cases t a s)
+after-in mode t a s =
+    pick (eqb mode 0) (λ _. state-after t a s) λ _.
+    pick (eqb mode narrow-mode) (λ _. state-after t a s) λ _.
+    after-cases t a s
+
+-- The number with which too many readings are refused, or too many cases.
+unfoldable pub refused-in : (mode : ℕ) → ℕ
+refused-in mode = pick (eqb mode narrow-mode) (λ _. Limits.sensing-too-wide) (λ _. Limits.too-many-cases)
 
 -- What trying it stands for.
 unfoldable pub tried-as : (mode : ℕ) → Table → ℕ → State → Tried → Step State
@@ -59,7 +75,7 @@ tried-as mode t a s r =
     elim r [
       | Runs ↦ leads-to (outcome-to t a s (after-in mode t a s))
       | Stuck ↦ refuses Limits.not-executable (in-state s)
-      | Many ↦ refuses Limits.too-many-cases no-state
+      | Many ↦ refuses (refused-in mode) no-state
     ]
 
 -- The step: in its mode, and with guards where there are any.
@@ -97,7 +113,36 @@ pub record Into (s t : List ℕ) (i p item r : ℕ) : Type 0 where
 unfoldable pub going-on : (s t : List ℕ) → (place : ℕ) → State → Code.Found → Walked State
 going-on s t p marks r = elim r [ Nowhere ↦ stuck-at p marks | At at ↦ walk-from s t at marks ]
 
+-- The branch that is chosen in a state: the first whose condition is known true (FORMAT 7.25).
+unfoldable pub Takes : State → Branches ℕ → Sequence ℕ → Type 0
+Takes s none b = ⊥
+Takes s (branch c d bs) b = ((each-of (known s) c ≡ true) × (b ≡ d)) ⊎ ((each-of (known s) c ≡ false) × Takes s bs b)
+
+-- What is left is a branching and what follows it, and then it is the chosen branch joined with that.
+pub record Taken (s : State) (c d : Sequence ℕ) : Type 0 where
+  pub place : ℕ
+  pub branches : Branches ℕ
+  pub after : Sequence ℕ
+  pub chosen : Sequence ℕ
+  pub is : c ≡ item (branching place branches) after
+  pub takes : Takes s branches chosen
+  pub rest : d ≡ join chosen after
+
+-- No condition is known true, so none is chosen.
+unfoldable pub Takes-none : State → Branches ℕ → Type 0
+Takes-none s none = Unit {0}
+Takes-none s (branch c d bs) = (each-of (known s) c ≡ false) × Takes-none s bs
+
+pub record Untaken (s : State) (c : Sequence ℕ) : Type 0 where
+  pub place : ℕ
+  pub branches : Branches ℕ
+  pub after : Sequence ℕ
+  pub is : c ≡ item (branching place branches) after
+  pub none : Takes-none s branches
+
 pub record Chosen (s t : List ℕ) (i : ℕ) (marks : State) (r : Code.Found) : Type 0 where
   pub goes : walk-from s t i marks ≡ going-on s t (getD t (item-place + i) 0) marks r
+  pub takes : (at : ℕ) → r ≡ At at → Taken marks (rest-at (plan-in s t) i) (rest-at (plan-in s t) at)
+  pub stays : r ≡ Nowhere → Untaken marks (rest-at (plan-in s t) i)
   pub later : (at : ℕ) → r ≡ At at → i < at
   pub at : (at : ℕ) → r ≡ At at → Position (plan-in s t) at

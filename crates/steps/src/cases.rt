@@ -22,7 +22,7 @@ use bytes::limits;
 use reading::marks::Marks;
 use reading::notes::Notes;
 
-// What trying an action gives: it can't be run, it has too many cases, or it can be run.
+// What trying an action gives: it can't be run, it has too many cases or readings, or it can be run.
 pub enum Tried {
     Stuck,
     Many,

@@ -5,6 +5,7 @@ ghost use Rattle.finding.specs.Branches.{Branch-here};
 ghost use Rattle.reading.specs.Planned.{items-of};
 ghost use Rattle.steps.specs.Held.{plan-in};
 ghost use Rattle.steps.specs.AtHand.{At-hand};
+ghost use Rattle.steps.specs.Rests.{start};
 ghost use Rattle.steps.specs.Steps.{Followed, Into, Chosen};
 use bytes::bytes::wide;
 use bytes::limits;
@@ -19,6 +20,13 @@ use reading::marks::each_holds;
 use reading::notes;
 use reading::notes::Notes;
 use reading::notes::get;
+
+// The first position of a plan with so many items.
+pub fn start_of(items: usize) -> usize
+    ensures { λ r. ⌜ r ≡ start items ⌝ }
+{
+    if items == 0 { limits::ITEMS } else { 0 }
+}
 
 // The position after item i: the next item of its sequence, or else what follows the branchings that end with it.
 pub fn follow(s: &[u8], t: &Notes, i: usize) -> usize

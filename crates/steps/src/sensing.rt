@@ -3,6 +3,7 @@ ghost use Prim.Native.Nat.{_<_};
 ghost use Rattle.meaning.specs.Limits.{format};
 ghost use Rattle.meaning.specs.Lines.{knowledge-of, sensing, senses};
 ghost use Rattle.meaning.specs.States.{unknown-sensed};
+ghost use Rattle.meaning.specs.Schemes.{too-wide};
 ghost use Rattle.steps.specs.Held.{table-in};
 ghost use Rattle.steps.specs.AtHand.{At-hand, Marked};
 ghost use Rattle.steps.specs.Steps.{unknown-above, first-of};
@@ -68,4 +69,24 @@ pub fn first_unknown(s: &[u8], t: &Notes, a: usize, marks: &Marks) -> usize
     let back = get(t, slot);
     let from = limits::FLUENTS - back;
     next_unknown(s, t, a, from, marks)
+}
+
+// More of the fluents that it senses are unknown than a derivation has readings for (FORMAT 24.4). They are counted no further than that.
+pub fn is_too_wide(s: &[u8], t: &Notes, a: usize, marks: &Marks) -> bool
+    requires { ⌜ At-hand (now s) (now t) ⌝ }
+    requires { ⌜ a < format .actions ⌝ }
+    requires { ⌜ Marked (now marks) ⌝ }
+    ensures { λ r. ⌜ r ≡ too-wide (table-in (now (s .entry))) a (now (marks .entry)) ⌝ }
+{
+    let mut met = 0;
+    let mut f = first_unknown(s, t, a, marks);
+    while f < limits::FLUENTS {
+        if met == limits::FORKED {
+            return true;
+        }
+        met += 1;
+        let above = f + 1;
+        f = next_unknown(s, t, a, above, marks);
+    }
+    false
 }

@@ -1,20 +1,48 @@
-// What an action does in the mode of the walk: by what is known, or by cases.
+// What an action does in the mode of the walk: by what is known, the same unless it is too wide, or by cases.
 ghost use mathlib.Core.Path.{_≡_};
 ghost use Prim.Native.Nat.{_<_};
 ghost use Rattle.meaning.specs.Limits.{format};
+ghost use Rattle.meaning.specs.Schemes.{narrow-does};
 ghost use Rattle.steps.specs.declared.cases.Tried.the-variants.{Runs};
 ghost use Rattle.steps.specs.Held.{table-in};
 ghost use Rattle.steps.specs.AtHand.{At-hand, Marked};
-ghost use Rattle.steps.specs.Steps.{mode-in, does-in, after-in, tried-as};
+ghost use Rattle.steps.specs.Steps.{mode-in, does-in, after-in, refused-in, tried-as};
 use super::actions::can_be_run;
 use super::actions::state_after;
 use super::cases::Tried;
 use super::cases::after_cases;
 use super::cases::try_cases;
+use super::sensing::is_too_wide;
 use reading::marks::Marks;
 use reading::notes;
 use reading::notes::Notes;
 use reading::notes::get;
+
+// The mode of a walk by what is known that a sensing action stops which is too wide. That of the walk by what is known is 0, and every other goes by cases.
+pub const NARROW: usize = 2;
+
+// The answers' numbers where an action is too wide, and where it has too many cases.
+pub const TOO_WIDE: u32 = 37;
+
+pub const TOO_MANY: u32 = 44;
+
+// The action is tried by what is known, unless it is too wide (FORMAT 24.16).
+fn try_narrow(s: &[u8], t: &Notes, a: usize, marks: &Marks) -> Tried
+    requires { ⌜ At-hand (now s) (now t) ⌝ }
+    requires { ⌜ a < format .actions ⌝ }
+    requires { ⌜ Marked (now marks) ⌝ }
+    ensures { λ r. ⌜ narrow-does (table-in (now (s .entry))) a (now (marks .entry)) ≡ tried-as 2 (table-in (now (s .entry))) a (now (marks .entry)) r ⌝ }
+{
+    let wide = is_too_wide(s, t, a, marks);
+    if wide {
+        return Tried::Many;
+    }
+    let runs = can_be_run(s, t, a, marks);
+    if runs {
+        return Tried::Runs;
+    }
+    Tried::Stuck
+}
 
 // Whether an action can be run.
 pub fn tried(s: &[u8], t: &Notes, a: usize, marks: &Marks) -> Tried
@@ -31,7 +59,21 @@ pub fn tried(s: &[u8], t: &Notes, a: usize, marks: &Marks) -> Tried
         }
         return Tried::Stuck;
     }
+    if mode == NARROW {
+        return try_narrow(s, t, a, marks);
+    }
     try_cases(s, t, a, marks)
+}
+
+// The answer's number where there are too many readings or cases.
+pub fn refused(t: &Notes) -> u32
+    ensures { λ r. ⌜ r ≡ refused-in (mode-in (now (t .entry))) ⌝ }
+{
+    let mode = get(t, notes::MODE);
+    if mode == NARROW {
+        return TOO_WIDE;
+    }
+    TOO_MANY
 }
 
 // The state after an action that is not a sensing one and can be run.
@@ -44,6 +86,9 @@ pub fn after(s: &[u8], t: &Notes, a: usize, marks: &Marks) -> Marks
 {
     let mode = get(t, notes::MODE);
     if mode == 0 {
+        return state_after(s, t, a, marks);
+    }
+    if mode == NARROW {
         return state_after(s, t, a, marks);
     }
     after_cases(s, t, a, marks)

@@ -11,8 +11,10 @@ use Rattle.meaning.specs.Refusals.{at}
 use Rattle.meaning.specs.States.{State, told, state-after, unknown-sensed, readings, outcome-to, outcome}
 use Rattle.meaning.specs.Walk.{Concerned, no-state, in-state, End, fine, missed, stopped, Walked, Step, Steps, meet, walk, table-does, missed-in, judged}
 use Rattle.meaning.specs.ByCases.{after-cases, cases-does}
+use Rattle.meaning.specs.Schemes.{narrow-does}
 use Rattle.meaning.proofs.PickLaws.{pick-has}
 use Rattle.meaning.proofs.KeptEnds.{on-places, Outcome-has, End-so, Step-so, meet-so, walk-so, end-of-so, table-does-so, cases-does-so}
+use Rattle.steps.proofs.HeldEnds.{narrow-does-so}
 
 module _ (P : State → Type 0) where
   -- ENDS: each state in them.
@@ -50,6 +52,10 @@ module _ (P : State → Type 0) where
   pub table-keeps : (t : Table) → Kept-by t (state-after t) → (a : ℕ) (s : State) → P s → Does-keep (table-does t a s)
   unfolding outcome
   table-keeps t kept a s has = table-does-so (λ _ u. P u) (λ _ _ u. Concerned-has u) P (λ _. Unit {0}) (λ _ has p _. has) t a s has (outcome-kept t (state-after t) kept a s has)
+
+  pub narrow-keeps : (t : Table) → Kept-by t (state-after t) → (a : ℕ) (s : State) → P s → Does-keep (narrow-does t a s)
+  unfolding outcome
+  narrow-keeps t kept a s has = narrow-does-so (λ _ u. P u) (λ _ _ u. Concerned-has u) P (λ _. Unit {0}) (λ _ has p _. has) (λ p _. tt) t a s has (outcome-kept t (state-after t) kept a s has)
 
   pub cases-keep : (t : Table) → Kept-by t (after-cases t) → (a : ℕ) (s : State) → P s → Does-keep (cases-does t a s)
   cases-keep t kept a s has = cases-does-so (λ _ u. P u) (λ _ _ u. Concerned-has u) P (λ _. Unit {0}) (λ _ has p _. has) (λ p _. tt) t a s has (outcome-kept t (after-cases t) kept a s has)

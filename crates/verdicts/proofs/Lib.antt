@@ -1,6 +1,5 @@
 pub mod TellingLaws
 pub mod KeepingLaws
 pub mod MarkedLaws
-pub mod FirstLaws
 pub mod WalkedLaws
 pub mod ReleasingLaws

@@ -9,6 +9,7 @@ use Rattle.meaning.specs.Requests.{Table}
 use Rattle.meaning.specs.States.{State, first-state, state-after, outcome-to}
 use Rattle.meaning.specs.Walk.{End, table-does}
 use Rattle.meaning.specs.ByCases.{after-cases, cases-does}
+use Rattle.meaning.specs.Schemes.{narrow-does}
 use Rattle.meaning.proofs.PickLaws.{pick-has}
 use Rattle.meaning.proofs.KeptEnds.{on-places, any-outcome, End-so}
 use Rattle.steps.specs.Held.{table-in, plan-in, request-in}
@@ -18,7 +19,7 @@ use Rattle.steps.proofs.LookLaws.{marked-after}
 use Rattle.steps.proofs.ModeLaws.{marked-after-cases}
 use Rattle.steps.proofs.HeldEnds.{held-so}
 use Rattle.steps.proofs.ToldMarks.{told-marked, state-marked}
-use Rattle.verdicts.proofs.KeepingLaws.{End-has, Kept-by, Does-keep, table-keeps, cases-keep, walked-kept}
+use Rattle.verdicts.proofs.KeepingLaws.{End-has, Kept-by, Does-keep, table-keeps, narrow-keeps, cases-keep, walked-kept}
 
 -- THE FIRST STATE.
 pub first-marked : (t : Table) → Marked (first-state format t)
@@ -35,6 +36,9 @@ marked-by t after acts = record { reads = λ a s f h u marked. (told-marked (say
 pub known-marked : (t : Table) (a : ℕ) (s : State) → Marked s → Does-keep Marked (table-does t a s)
 known-marked t = table-keeps Marked t (marked-by t (state-after t) (marked-after t))
 
+narrow-marked : (t : Table) (a : ℕ) (s : State) → Marked s → Does-keep Marked (narrow-does t a s)
+narrow-marked t = narrow-keeps Marked t (marked-by t (state-after t) (marked-after t))
+
 pub cases-marked : (t : Table) (a : ℕ) (s : State) → Marked s → Does-keep Marked (cases-does t a s)
 cases-marked t = cases-keep Marked t (marked-by t (after-cases t) (marked-after-cases t))
 
@@ -43,7 +47,8 @@ pub held-marked : (s t : List ℕ) → End-marked (walk-held s t .end)
 unfolding walk-held step-in does-in request-in
 held-marked s t =
     walked-kept Marked (request-in s t) (step-in s t)
-    (λ a u marked. pick-has (Does-keep Marked) _ _ _ (λ _. known-marked (table-in s) a u marked) (λ _. cases-marked (table-in s) a u marked))
+    (λ a u marked. pick-has (Does-keep Marked) _ _ _ (λ _. known-marked (table-in s) a u marked)
+    (λ _. pick-has (Does-keep Marked) _ _ _ (λ _. narrow-marked (table-in s) a u marked) (λ _. cases-marked (table-in s) a u marked)))
     (first-state format (table-in s)) (first-marked (table-in s))
 
 -- Its numbers are bytes.
@@ -53,6 +58,6 @@ End-small = End-so (λ _ _. Unit {0}) (λ n _ _. n < 256)
 pub held-small : (s t : List ℕ) → End-small (walk-held s t .end)
 held-small s t =
     held-so (λ _ _. Unit {0}) (λ n _ _. n < 256) (λ _. Unit {0}) (λ _. Unit {0})
-    (record { misses = λ _ _ _. tt; stuck = λ _ _ _ _. omega arith; many = λ _ _. omega arith; breaks = λ _ _ _. omega arith }) s t
+    (record { misses = λ _ _ _. tt; stuck = λ _ _ _ _. omega arith; wide = λ _ _. omega arith; many = λ _ _. omega arith; breaks = λ _ _ _. omega arith }) s t
     (λ a u _. any-outcome (outcome-to (table-in s) a u (state-after (table-in s) a u))) (λ a u _. any-outcome (outcome-to (table-in s) a u (after-cases (table-in s) a u)))
     (on-places (λ _. Unit {0}) (λ _. tt) (plan-in s t)) tt

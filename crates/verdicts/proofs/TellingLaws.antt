@@ -2,19 +2,21 @@
 -- one law for. Assumes nothing.
 use Prim.Native.Nat.{ℕ, _+_, _-_, _≤_, _<_}
 use native.Mathlib.Omega.{arith}
-use mathlib.Core.Path.{_≡_, sym, _∙_, ap}
+use mathlib.Core.Path.{_≡_, refl, sym, _∙_, ap}
+use mathlib.Core.Bool.{true, false}
 use mathlib.Core.List.{List}
 use lib.ListN.{length, getD, set, drop, length-set, length-drop}
 use lib.Seq.{getD-set-same, getD-set-other, getD-drop, ext-getD}
 use lib.Dec.{eqb}
-use borrow.Author.Tests.{eqb-true, eqb-false}
+use borrow.Author.Tests.{eqb-true, eqb-false, ne-eqb}
 use Rattle.meaning.specs.declared.Answer.{Answer}
+use Rattle.meaning.specs.Tests.{either}
 use Rattle.meaning.specs.Limits.{format}
 use Rattle.meaning.specs.Judging.{written-over, reported, count-told, ended}
 use Rattle.meaning.proofs.TestLaws.{by-test}
 use Rattle.steps.specs.AtHand.{Marked}
-use Rattle.walking.specs.Standing.{standing, tally-slots}
-use Rattle.walking.proofs.StandingLaws.{stands-spent, stands-fine, stands-missed, stands-many, stands-stopped}
+use Rattle.walking.specs.Standing.{stateless, standing, tally-slots}
+use Rattle.walking.proofs.StandingLaws.{stateless-not, stands-spent, stands-fine, stands-missed, stands-stateless, stands-stopped}
 use Rattle.verdicts.specs.Telling.{told, Tallied}
 
 -- HANDED OVER below fluent f.
@@ -61,16 +63,29 @@ module _ (tally lent : List ℕ) (budget : ℕ) (tallied : Tallied tally budget)
     pub number-small : getD tally 0 0 < 256
     number-small = tallied .small going
 
-    -- 44 is told without a state and with count 0.
-    pub tell-many : getD tally 0 0 ≡ 44 → (answer : Answer) (place : ℕ) → answer ≡ record { number = 44; input = 1; place = place; count = 0 } → place ≡ getD tally 1 0 → record { answer = answer; state = lent } ≡ told lent budget (standing tally)
-    unfolding told ended reported count-told written-over
-    tell-many h answer place is at = rw (is, at) (sym (ap (told lent budget) (stands-many tally (tallied .sized) h)))
+    -- 37 and 44 are told without a state and with count 0.
+    module _ (answer : Answer) (place : ℕ) (at : place ≡ getD tally 1 0) where
+      tell-stateless : (number : ℕ) → getD tally 0 0 ≡ number → stateless number ≡ true → answer ≡ record { number = number; input = 1; place = place; count = 0 }
+          → record { answer = answer; state = lent } ≡ told lent budget (standing tally)
+      unfolding told ended reported count-told written-over
+      tell-stateless number h none is = rw (is, at, sym h) (sym (ap (told lent budget) (stands-stateless tally (tallied .sized) (ap stateless h ∙ none))))
+
+      pub tell-wide : getD tally 0 0 ≡ 37 → answer ≡ record { number = 37; input = 1; place = place; count = 0 } → record { answer = answer; state = lent } ≡ told lent budget (standing tally)
+      unfolding stateless either
+      tell-wide h = tell-stateless 37 h refl
+
+      pub tell-many : getD tally 0 0 ≡ 44 → answer ≡ record { number = 44; input = 1; place = place; count = 0 } → record { answer = answer; state = lent } ≡ told lent budget (standing tally)
+      unfolding stateless either
+      tell-many h = tell-stateless 44 h refl
 
     pub tell-fine : getD tally 0 0 ≡ 0 → record { answer = record { number = 0; input = 0; place = 0; count = budget - getD tally 2 0 }; state = lent } ≡ told lent budget (standing tally)
     unfolding told ended
     tell-fine h = sym (ap (told lent budget) (stands-fine tally (tallied .sized) h))
 
-    module _ (some : getD tally 0 0 ≡ 0 → ⊥) (stated : getD tally 0 0 ≡ 44 → ⊥) where
+    module _ (some : getD tally 0 0 ≡ 0 → ⊥) (wide : getD tally 0 0 ≡ 37 → ⊥) (many : getD tally 0 0 ≡ 44 → ⊥) where
+      stated : stateless (getD tally 0 0) ≡ false
+      stated = stateless-not (getD tally 0 0) (ne-eqb _ 37 wide) (ne-eqb _ 44 many)
+
       pub state-marked : Marked (drop 3 tally)
       state-marked = tallied .marked going some stated
 

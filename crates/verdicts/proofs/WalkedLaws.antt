@@ -10,7 +10,6 @@ use lib.Dec.{eqb, ltb}
 use borrow.Author.Tests.{eqb-true, eqb-false, ltb-false}
 use Rattle.meaning.specs.declared.Answer.{Answer}
 use Rattle.meaning.specs.Limits.{format}
-use Rattle.meaning.specs.Limits
 use Rattle.meaning.specs.States.{State, state-of}
 use Rattle.meaning.specs.Walk.{End, fine, Walked}
 use Rattle.meaning.specs.Judging.{ended, within}
@@ -18,12 +17,13 @@ use Rattle.meaning.proofs.TestLaws.{by-test, pick-true, pick-false}
 use Rattle.reading.specs.Noted.{items-slot}
 use Rattle.reading.specs.Listed.{listed}
 use Rattle.steps.specs.AtHand.{At-hand, Marked}
+use Rattle.steps.specs.Rests.{start}
 use Rattle.steps.specs.Steps.{met-from, walk-held}
-use Rattle.walking.specs.Standing.{Standing, nothing, spent, so-far, spend, add, end-in, standing, Going, tally-slots}
-use Rattle.walking.proofs.StandingLaws.{stands-open, end-missed, end-stopped, sized-after}
-use Rattle.verdicts.specs.Telling.{start, told, Tallied}
+use Rattle.steps.proofs.FirstLaws.{walks-first}
+use Rattle.walking.specs.Standing.{Standing, nothing, spent, so-far, spend, add, stateless, end-in, standing, Going, tally-slots}
+use Rattle.walking.proofs.StandingLaws.{stands-open, end-missed, end-stateless, end-stopped, sized-after}
+use Rattle.verdicts.specs.Telling.{told, Tallied}
 use Rattle.verdicts.proofs.MarkedLaws.{End-marked, held-marked, End-small, held-small}
-use Rattle.verdicts.proofs.FirstLaws.{walks-first}
 
 -- STANDINGS.
 so-far≢spent : {l : ℕ} {e : End State} → so-far l e ≡ spent → ⊥
@@ -77,7 +77,7 @@ module _ (budget : ℕ) (w : Walked State) where
         let is = sym (stands-open tally sized going) ∙ stands in
         by-test (ltb budget (w .count)) (λ above. absurd (so-far≢spent (is ∙ spends-above above))) (λ below. is ∙ spends-within below)
 
-    end-state : (getD tally 0 0 ≡ 0 → ⊥) → (getD tally 0 0 ≡ Limits.too-many-cases → ⊥) → End-marked (end-in tally) → Marked (drop 3 tally)
+    end-state : (getD tally 0 0 ≡ 0 → ⊥) → stateless (getD tally 0 0) ≡ false → End-marked (end-in tally) → Marked (drop 3 tally)
     end-state some stated marked =
         by-test (eqb (getD tally 0 0) 1)
         (λ t. subst End-marked (end-missed tally sized (eqb-true _ _ t)) marked)
@@ -92,9 +92,9 @@ module _ (budget : ℕ) (w : Walked State) where
         by-test (eqb (getD tally 0 0) 1)
         (λ t. let one : getD tally 0 0 ≡ 1 = eqb-true _ _ t in omega (arith, one))
         (λ f.
-        by-test (eqb (getD tally 0 0) Limits.too-many-cases)
-        (λ t. let many : getD tally 0 0 ≡ 44 = eqb-true _ _ t in omega (arith, many))
-        (λ m. subst End-small (end-stopped tally sized (eqb-false _ _ n) (eqb-false _ _ f) (eqb-false _ _ m)) small)))
+        by-test (stateless (getD tally 0 0))
+        (λ t. subst End-small (end-stateless tally sized t) small)
+        (λ m. subst End-small (end-stopped tally sized (eqb-false _ _ n) (eqb-false _ _ f) m) small)))
 
     tallied : End-marked (w .end) → End-small (w .end) → Tallied tally budget
     tallied marked small = record {

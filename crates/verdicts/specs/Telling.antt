@@ -1,19 +1,13 @@
 -- What the judging call says of a walk, by the tally that the walk leaves.
 use Prim.Native.Nat.{ℕ, _-_, _≤_, _<_}
 use mathlib.Core.Path.{_≡_}
+use mathlib.Core.Bool.{false}
 use mathlib.Core.List.{List}
 use lib.ListN.{length, getD, drop}
-use lib.Dec.{eqb}
-use Rattle.meaning.specs.Tests.{pick}
-use Rattle.meaning.specs.Limits.{format}
 use Rattle.meaning.specs.Limits
 use Rattle.meaning.specs.Judging.{Judgement, ended}
 use Rattle.steps.specs.AtHand.{Marked}
-use Rattle.walking.specs.Standing.{Standing, nothing, spent, so-far, tally-slots}
-
--- The walk starts at the first item; a plan without items is at its end.
-unfoldable pub start : (items : ℕ) → ℕ
-start items = pick (eqb items 0) (λ _. format .items) (λ _. 0)
+use Rattle.walking.specs.Standing.{Standing, nothing, spent, so-far, stateless, tally-slots}
 
 -- How the walk stands once it is over, of a budget: what is not left was counted.
 unfoldable pub told : (lent : List ℕ) → (budget : ℕ) → Standing → Judgement
@@ -26,4 +20,4 @@ pub record Tallied (tally : List ℕ) (budget : ℕ) : Type 0 where
   pub sized : length tally ≡ tally-slots
   pub fewer : (getD tally 0 0 ≡ 3 → ⊥) → getD tally 2 0 ≤ budget
   pub small : (getD tally 0 0 ≡ 3 → ⊥) → getD tally 0 0 < 256
-  pub marked : (getD tally 0 0 ≡ 3 → ⊥) → (getD tally 0 0 ≡ 0 → ⊥) → (getD tally 0 0 ≡ Limits.too-many-cases → ⊥) → Marked (drop 3 tally)
+  pub marked : (getD tally 0 0 ≡ 3 → ⊥) → (getD tally 0 0 ≡ 0 → ⊥) → stateless (getD tally 0 0) ≡ false → Marked (drop 3 tally)

@@ -14,6 +14,10 @@ pub const STATE_LENGTH: u8 = 9;
 
 pub const NOT_REACHED: u8 = 22;
 
+pub const SENSING_TOO_WIDE: u8 = 37;
+
+pub const TOO_MANY_LINES: u8 = 38;
+
 pub const ROOM_SHORT: u8 = 39;
 
 pub const GUARD_BROKEN: u8 = 43;

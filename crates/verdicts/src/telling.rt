@@ -9,7 +9,8 @@ use super::answers;
 use super::answers::uncounted;
 use bytes::limits;
 use meaning::Answer;
-use walking::tally::MANY;
+use steps::trying::TOO_MANY;
+use steps::trying::TOO_WIDE;
 use walking::tally::SPENT;
 use walking::tally::Tally;
 
@@ -42,7 +43,7 @@ fn hand_over(tally: &Tally, state: &mut [u8])
     }
 }
 
-// What the tally says once the walk is over. A miss and whatever stopped the walk are told in one way, but for 44, which has neither a count nor a state.
+// What the tally says once the walk is over. A miss and whatever stopped the walk are told in one way, but for 37 and 44, which have neither a count nor a state.
 pub(crate) fn tell(tally: &Tally, state: &mut [u8], budget: u32) -> Answer
     requires { ⌜ length (now state) ≡ format .state ⌝ }
     requires { ⌜ Tallied (now tally) budget ⌝ }
@@ -57,13 +58,6 @@ pub(crate) fn tell(tally: &Tally, state: &mut [u8], budget: u32) -> Answer
             count: budget,
         };
     }
-    if number == MANY {
-        return uncounted(
-            answers::TOO_MANY_CASES,
-            answers::THE_REQUEST,
-            widened(tally[1]),
-        );
-    }
     let count = budget - tally[2];
     if number == 0 {
         return Answer {
@@ -73,8 +67,14 @@ pub(crate) fn tell(tally: &Tally, state: &mut [u8], budget: u32) -> Answer
             count: count,
         };
     }
-    let told = byte_of(number);
     let place = widened(tally[1]);
+    if number == TOO_WIDE {
+        return uncounted(answers::SENSING_TOO_WIDE, answers::THE_REQUEST, place);
+    }
+    if number == TOO_MANY {
+        return uncounted(answers::TOO_MANY_CASES, answers::THE_REQUEST, place);
+    }
+    let told = byte_of(number);
     hand_over(tally, state);
     Answer {
         number: told,

@@ -4,22 +4,15 @@ ghost use Rattle.meaning.specs.Limits.{format};
 ghost use Rattle.meaning.specs.Judging.{within};
 ghost use Rattle.steps.specs.AtHand.{At-hand};
 ghost use Rattle.steps.specs.Steps.{walk-held};
-ghost use Rattle.verdicts.specs.Telling.{start};
 use super::telling::tell;
-use bytes::limits;
 use meaning::Answer;
 use reading::marks::state_of;
 use reading::notes;
 use reading::notes::Notes;
 use reading::notes::get;
+use steps::onward::start_of;
 use walking::tally::opened;
 use walking::walk::walk;
-
-fn start_of(items: usize) -> usize
-    ensures { λ r. ⌜ r ≡ start items ⌝ }
-{
-    if items == 0 { limits::ITEMS } else { 0 }
-}
 
 // The walk of a request at hand.
 pub fn walk_plan(request: &[u8], t: &Notes, state: &mut [u8], budget: u32) -> Answer

@@ -3,20 +3,21 @@
 use Prim.Native.Nat.{ℕ, _+_, _-_, _≤_, _<_}
 use native.Mathlib.Omega.{arith}
 use mathlib.Core.Path.{_≡_, refl, sym, _∙_, ap, subst}
-use mathlib.Core.Bool.{false}
+use mathlib.Core.Bool.{true, false}
 use mathlib.Core.List.{List}
+use mathlib.Core.Logic.{⊎-elim}
 use lib.ListN.{length, getD, set, drop, replicate, length-set}
 use lib.Seq.{getD-set-same, getD-set-other, drop-set-lt}
 use lib.Dec.{eqb, leb, ltb, leb·suc-suc}
 use borrow.Author.Tests.{ltb-true, ltb-false, eqb-true, eqb-false, lt-ltb, le-ltb, eq-eqb, ne-eqb}
-use Rattle.meaning.specs.Tests.{pick}
+use Rattle.meaning.specs.Tests.{either, pick}
 use Rattle.meaning.specs.Limits
 use Rattle.meaning.specs.Refusals
 use Rattle.meaning.specs.Refusals.{nowhere, at}
 use Rattle.meaning.specs.States.{State}
 use Rattle.meaning.specs.Walk.{Concerned, no-state, in-state, End, fine, missed, stopped, Walked, stopped-at, counted, keep-miss, after-miss, after-end, and-then, end-of}
-use Rattle.meaning.proofs.TestLaws.{by-test, pick-true, pick-false}
-use Rattle.walking.specs.Standing.{Standing, nothing, spent, so-far, spend, add, one, end-in, standing, Going, Notable, end-by, Held, tally-slots}
+use Rattle.meaning.proofs.TestLaws.{by-test, either-split, pick-true, pick-false}
+use Rattle.walking.specs.Standing.{Standing, nothing, spent, so-far, spend, add, one, stateless, end-in, standing, Going, Notable, end-by, Held, tally-slots}
 
 -- SPENDING. A walk within what is left, or above it.
 spend-within : (left : ℕ) (then : End State → End State) (w : Walked State) → w .count ≤ left → spend left then w ≡ so-far (left - w .count) (then (w .end))
@@ -92,6 +93,17 @@ pub add-counted : (a : Standing) (w : Walked State) → add a (counted 1 w) ≡ 
 unfolding and-then after-end one
 add-counted a w = add-then a one (λ _. w)
 
+-- WHAT CONCERNS NO STATE is neither a miss nor a spent budget.
+stateless-large : (number : ℕ) → stateless number ≡ true → 3 < number
+unfolding stateless
+stateless-large number none =
+    ⊎-elim (λ e. let is = eqb-true number 37 e in omega (arith, is)) (λ e. let is = eqb-true number 44 e in omega (arith, is))
+    (either-split (eqb number Limits.sensing-too-wide) (eqb number Limits.too-many-cases) none)
+
+pub stateless-not : (number : ℕ) → eqb number Limits.sensing-too-wide ≡ false → eqb number Limits.too-many-cases ≡ false → stateless number ≡ false
+unfolding stateless either
+stateless-not number wide many = rw (wide, many) refl
+
 -- THE TALLY.
 unsized : (tally : List ℕ) → (length tally ≡ tally-slots → ⊥) → standing tally ≡ nothing
 unfolding standing
@@ -114,18 +126,19 @@ module _ (tally : List ℕ) (sized : length tally ≡ tally-slots) where
   unfolding end-in
   end-missed h = pick-false (eqb (getD tally 0 0) 0) _ _ (ne-eqb (getD tally 0 0) 0 (λ e. omega arith)) ∙ pick-true (eqb (getD tally 0 0) 1) _ _ (eq-eqb _ _ h)
 
-  pub end-many : getD tally 0 0 ≡ Limits.too-many-cases → end-in tally ≡ stopped Limits.too-many-cases (getD tally 1 0) no-state
+  pub end-stateless : stateless (getD tally 0 0) ≡ true → end-in tally ≡ stopped (getD tally 0 0) (getD tally 1 0) no-state
   unfolding end-in
-  end-many h =
+  end-stateless h =
+      let large = stateless-large (getD tally 0 0) h in
       pick-false (eqb (getD tally 0 0) 0) _ _ (ne-eqb (getD tally 0 0) 0 (λ e. omega arith)) ∙ pick-false (eqb (getD tally 0 0) 1) _ _ (ne-eqb (getD tally 0 0) 1 (λ e. omega arith))
-      ∙ pick-true (eqb (getD tally 0 0) Limits.too-many-cases) _ _ (eq-eqb _ _ h)
+      ∙ pick-true (stateless (getD tally 0 0)) _ _ h
 
-  pub end-stopped : (getD tally 0 0 ≡ 0 → ⊥) → (getD tally 0 0 ≡ 1 → ⊥) → (getD tally 0 0 ≡ Limits.too-many-cases → ⊥)
+  pub end-stopped : (getD tally 0 0 ≡ 0 → ⊥) → (getD tally 0 0 ≡ 1 → ⊥) → stateless (getD tally 0 0) ≡ false
       → end-in tally ≡ stopped (getD tally 0 0) (getD tally 1 0) (in-state (drop 3 tally))
   unfolding end-in
   end-stopped h g m =
       pick-false (eqb (getD tally 0 0) 0) _ _ (ne-eqb _ _ h) ∙ pick-false (eqb (getD tally 0 0) 1) _ _ (ne-eqb _ _ g)
-      ∙ pick-false (eqb (getD tally 0 0) Limits.too-many-cases) _ _ (ne-eqb _ _ m)
+      ∙ pick-false (stateless (getD tally 0 0)) _ _ m
 
   pub stands-fine : getD tally 0 0 ≡ 0 → standing tally ≡ so-far (getD tally 2 0) fine
   stands-fine h = stands-open (λ e. omega arith) ∙ ap (so-far (getD tally 2 0)) (end-fine h)
@@ -133,10 +146,10 @@ module _ (tally : List ℕ) (sized : length tally ≡ tally-slots) where
   pub stands-missed : getD tally 0 0 ≡ 1 → standing tally ≡ so-far (getD tally 2 0) (missed (getD tally 1 0) (drop 3 tally))
   stands-missed h = stands-open (λ e. omega arith) ∙ ap (so-far (getD tally 2 0)) (end-missed h)
 
-  pub stands-many : getD tally 0 0 ≡ Limits.too-many-cases → standing tally ≡ so-far (getD tally 2 0) (stopped Limits.too-many-cases (getD tally 1 0) no-state)
-  stands-many h = stands-open (λ e. omega arith) ∙ ap (so-far (getD tally 2 0)) (end-many h)
+  pub stands-stateless : stateless (getD tally 0 0) ≡ true → standing tally ≡ so-far (getD tally 2 0) (stopped (getD tally 0 0) (getD tally 1 0) no-state)
+  stands-stateless h = let large = stateless-large (getD tally 0 0) h in stands-open (λ e. omega arith) ∙ ap (so-far (getD tally 2 0)) (end-stateless h)
 
-  pub stands-stopped : (getD tally 0 0 ≡ 3 → ⊥) → (getD tally 0 0 ≡ 0 → ⊥) → (getD tally 0 0 ≡ 1 → ⊥) → (getD tally 0 0 ≡ Limits.too-many-cases → ⊥)
+  pub stands-stopped : (getD tally 0 0 ≡ 3 → ⊥) → (getD tally 0 0 ≡ 0 → ⊥) → (getD tally 0 0 ≡ 1 → ⊥) → stateless (getD tally 0 0) ≡ false
       → standing tally ≡ so-far (getD tally 2 0) (stopped (getD tally 0 0) (getD tally 1 0) (in-state (drop 3 tally)))
   stands-stopped within some other stated = stands-open within ∙ ap (so-far (getD tally 2 0)) (end-stopped some other stated)
 
@@ -159,9 +172,9 @@ add-over tally h w =
     by-test (eqb (getD tally 0 0) 3)
     (λ t. let is = stands-spent tally sized (eqb-true _ _ t) in is ∙ ap (λ (a : Standing). add a w) (sym is))
     (λ f.
-    by-test (eqb (getD tally 0 0) Limits.too-many-cases)
-    (λ m. let is = stands-many tally sized (eqb-true _ _ m) in is ∙ ap (λ (a : Standing). add a w) (sym is))
-    (λ n. let is = stands-stopped tally sized (eqb-false _ _ f) (λ e. h (omega arith)) (λ e. h (omega arith)) (eqb-false _ _ n) in is ∙ ap (λ (a : Standing). add a w) (sym is))))
+    by-test (stateless (getD tally 0 0))
+    (λ m. let is = stands-stateless tally sized m in is ∙ ap (λ (a : Standing). add a w) (sym is))
+    (λ n. let is = stands-stopped tally sized (eqb-false _ _ f) (λ e. h (omega arith)) (λ e. h (omega arith)) n in is ∙ ap (λ (a : Standing). add a w) (sym is))))
     (λ f. let is = unsized tally (eqb-false _ _ f) in is ∙ ap (λ (a : Standing). add a w) (sym is))
 
 -- 0 or 1.
@@ -249,19 +262,20 @@ module _ (tally : List ℕ) (going : Going tally) where
       stands-open next (length-set tally 2 (left - 1) ∙ sized) (λ e. omega arith) ∙ rw (fewer, same) (sym (how .1) ∙ ap (λ (a : Standing). add a one) (sym (how .0)))
 
 -- NOTED.
-pub notable : (number : ℕ) → 1 ≤ number → eqb number 3 ≡ false → eqb number Limits.too-many-cases ≡ false → Notable number
-notable number least other stated = record { some = least; within = eqb-false number 3 other; stated = eqb-false number Limits.too-many-cases stated }
+pub notable : (number : ℕ) → 1 ≤ number → eqb number 3 ≡ false → eqb number Limits.sensing-too-wide ≡ false → eqb number Limits.too-many-cases ≡ false → Notable number
+notable number least other wide many = record { some = least; within = eqb-false number 3 other; stated = stateless-not number wide many }
 
--- Too many cases.
-pub gives-up : (tally : List ℕ) → Going tally → (place : ℕ) → standing (set (set tally 0 44) 1 place) ≡ so-far (getD tally 2 0) (stopped Limits.too-many-cases place no-state)
-gives-up tally going place =
+-- Too many readings or cases.
+pub gives-up : (tally : List ℕ) → Going tally → (number : ℕ) → stateless number ≡ true → (place : ℕ)
+    → standing (set (set tally 0 number) 1 place) ≡ so-far (getD tally 2 0) (stopped number place no-state)
+gives-up tally going number none place =
     let sized = going .sized in
-    let first : List ℕ = set tally 0 44 in
+    let first : List ℕ = set tally 0 number in
     let after : List ℕ = set first 1 place in
-    let long : length first ≡ tally-slots = length-set tally 0 44 ∙ sized in
-    let number : getD after 0 0 ≡ 44 = getD-set-other first 1 0 place 0 (λ e. omega arith) ∙ getD-set-same tally 0 44 0 (omega arith) in
-    let left : getD after 2 0 ≡ getD tally 2 0 = getD-set-other first 1 2 place 0 (λ e. omega arith) ∙ getD-set-other tally 0 2 44 0 (λ e. omega arith) in
-    stands-many after (length-set first 1 place ∙ long) number ∙ rw (left, getD-set-same first 1 place 0 (omega arith))
+    let long : length first ≡ tally-slots = length-set tally 0 number ∙ sized in
+    let is : getD after 0 0 ≡ number = getD-set-other first 1 0 place 0 (λ e. omega arith) ∙ getD-set-same tally 0 number 0 (omega arith) in
+    let left : getD after 2 0 ≡ getD tally 2 0 = getD-set-other first 1 2 place 0 (λ e. omega arith) ∙ getD-set-other tally 0 2 number 0 (λ e. omega arith) in
+    stands-stateless after (length-set first 1 place ∙ long) (ap stateless is ∙ none) ∙ rw (is, left, getD-set-same first 1 place 0 (omega arith))
 
 pub noted : (tally : List ℕ) → Going tally → (number place : ℕ) → Notable number → (marks after : List ℕ) → Held (set tally 0 number) place marks after → standing after ≡ so-far (getD tally 2 0) (end-by number place marks)
 unfolding end-by pick
@@ -274,7 +288,7 @@ noted tally going number place notable marks after held =
     (λ t. let one-is = eqb-true _ _ t in stands-missed after long (is ∙ one-is) ∙ rw (left, held .placed, held .marked, t))
     (λ f.
     let least = notable .some in
-    stands-stopped after long (λ e. notable .within (sym is ∙ e)) (λ e. omega (arith, least)) (λ e. eqb-false _ _ f (sym is ∙ e)) (λ e. notable .stated (sym is ∙ e)) ∙ rw (is, left, held .placed, held .marked, f))
+    stands-stopped after long (λ e. notable .within (sym is ∙ e)) (λ e. omega (arith, least)) (λ e. eqb-false _ _ f (sym is ∙ e)) (ap stateless is ∙ notable .stated) ∙ rw (is, left, held .placed, held .marked, f))
 
 -- OPENED.
 pub opens : (budget : ℕ) → standing (set (replicate tally-slots 0) 2 budget) ≡ so-far budget fine

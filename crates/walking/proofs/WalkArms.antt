@@ -7,7 +7,7 @@ use mathlib.Core.List.{List, _∷_}
 use lib.ListN.{length, getD}
 use lib.Dec.{ltb}
 use borrow.Author.Tests.{ltb-true, ltb-false}
-use Rattle.meaning.specs.Tests.{pick}
+use Rattle.meaning.specs.Tests.{either, pick}
 use Rattle.meaning.specs.Limits.{format}
 use Rattle.meaning.specs.Limits
 use Rattle.meaning.specs.Requests.{Request}
@@ -15,8 +15,9 @@ use Rattle.meaning.specs.Refusals
 use Rattle.meaning.specs.Refusals.{nowhere, at}
 use Rattle.meaning.specs.Lines.{sensing}
 use Rattle.meaning.specs.States.{State, known, unknown-sensed, readings, Outcome, outcome-to}
-use Rattle.meaning.specs.Walk.{no-state, in-state, fine, missed, Walked, stuck-at, counted, and-then, after-end, each-reading, Step, after-step, unless-broken, meet, run-action, first-missed, missed-in, end-of, judged, stopped}
+use Rattle.meaning.specs.Walk.{no-state, in-state, fine, missed, Walked, stopped-at, stuck-at, counted, and-then, after-end, each-reading, Step, after-step, unless-broken, meet, run-action, first-missed, missed-in, end-of, judged, stopped}
 use Rattle.meaning.proofs.TestLaws.{clash, pick-true, pick-false}
+use Rattle.meaning.proofs.PickLaws.{pick-has}
 use Rattle.reading.specs.Planned.{items-of}
 use Rattle.reading.specs.Noted.{sensed}
 use Rattle.finding.specs.Places.{found}
@@ -28,10 +29,10 @@ use Rattle.steps.specs.declared.cases.Tried.the-variants.{Runs, Stuck, Many}
 use Rattle.steps.specs.Held.{table-in, plan-in, guards-in, request-in}
 use Rattle.steps.specs.AtHand.{At-hand, Marked}
 use Rattle.steps.specs.Rests.{Position}
-use Rattle.steps.specs.Steps.{mode-in, does-in, after-in, tried-as, step-in, walk-from, walk-after, met-from, first-of, unknown-above, Followed, Chosen, going-on}
+use Rattle.steps.specs.Steps.{mode-in, does-in, after-in, refused-in, tried-as, step-in, walk-from, walk-after, met-from, first-of, unknown-above, Followed, Chosen, going-on}
 use Rattle.steps.proofs.OnwardLaws.{end-judged, action-small, action-walked, followed-met}
 use Rattle.steps.proofs.LookLaws.{sensed-first, sensed-no-first}
-use Rattle.walking.specs.Standing.{Standing, so-far, add, one, standing, Going, Breaks, end-by, tally-slots}
+use Rattle.walking.specs.Standing.{Standing, so-far, add, one, stateless, standing, Going, Breaks, end-by, tally-slots}
 use Rattle.walking.specs.Walks.{action-at, read-on, fork-from}
 use Rattle.walking.proofs.FallLaws.{action-there}
 use Rattle.walking.proofs.StandingLaws.{add-then, add-counted, add-over, add-stopped, sized-after, stands-fine, add-fine, add-kept}
@@ -115,6 +116,11 @@ module _ (tally counts : List ℕ) (going : Going tally) (one-more : standing co
     pub judged-before : (getD counts 0 0 ≡ 0 → ⊥) → standing counts ≡ add (standing tally) (judged x marks)
     judged-before h = add-kept counts counts-sized h (missed-in x marks) marks ∙ sym judged-as
 
+-- Neither number that too many readings or cases are refused with concerns a state.
+pub refused-stateless : (mode number : ℕ) → number ≡ refused-in mode → stateless number ≡ true
+unfolding refused-in stateless either
+refused-stateless mode number says = subst (λ (n : ℕ). stateless n ≡ true) (sym says) (pick-has (λ (n : ℕ). stateless n ≡ true) _ _ _ (λ _. refl) (λ _. refl))
+
 -- What trying an action gave.
 pub ran-there : (s t : List ℕ) (a : ℕ) (state : State) (tried : Tried) → does-in (mode-in t) (table-in s) a state ≡ tried-as (mode-in t) (table-in s) a state tried → tried ≡ Runs
     → does-in (mode-in t) (table-in s) a state ≡ tried-as (mode-in t) (table-in s) a state Runs
@@ -135,10 +141,12 @@ module _ (s t : List ℕ) (here : At-hand s t) (i : ℕ) (less : i < items-of (p
   unfolding after-step tried-as end-by pick
   item-stuck is after noted = noted ∙ add-stopped tally going Limits.not-executable p (in-state state) ∙ ap (add (standing tally)) (sym (walked-as Stuck is))
 
-  -- It has too many cases.
-  pub item-many : tried ≡ Many → (after : List ℕ) → standing after ≡ so-far (getD tally 2 0) (stopped Limits.too-many-cases p no-state) → standing after ≡ add (standing tally) (walk-from s t i state)
+  -- It has too many readings or cases.
+  pub item-many : tried ≡ Many → (number : ℕ) → number ≡ refused-in (mode-in t) → (after : List ℕ) → standing after ≡ so-far (getD tally 2 0) (stopped number p no-state)
+      → standing after ≡ add (standing tally) (walk-from s t i state)
   unfolding after-step tried-as
-  item-many is after noted = noted ∙ add-stopped tally going Limits.too-many-cases p no-state ∙ ap (add (standing tally)) (sym (walked-as Many is))
+  item-many is number says after noted =
+      noted ∙ add-stopped tally going number p no-state ∙ ap (λ (n : ℕ). add (standing tally) (stopped-at n p no-state)) says ∙ ap (add (standing tally)) (sym (walked-as Many is))
 
   -- What it leads to.
   abbrev leads : Outcome State

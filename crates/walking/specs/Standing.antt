@@ -5,7 +5,7 @@ use mathlib.Core.Bool.{Bool, true, false}
 use mathlib.Core.List.{List}
 use lib.ListN.{length, getD, drop}
 use lib.Dec.{eqb, ltb}
-use Rattle.meaning.specs.Tests.{pick}
+use Rattle.meaning.specs.Tests.{either, pick}
 use Rattle.meaning.specs.Limits.{format}
 use Rattle.meaning.specs.Limits
 use Rattle.meaning.specs.Refusals.{Found, nowhere, at}
@@ -35,15 +35,18 @@ unfoldable pub one : Walked State
 one = record { count = 1; end = fine }
 
 -- THE TALLY holds it: the answer's number so far, the place that goes with it, the budget left, and the marks of the state concerned. A number
--- that is neither 0 nor 1 is that of what stopped the walk; 44 concerns no state.
+-- that is neither 0 nor 1 is that of what stopped the walk; 37 and 44 concern no state (FORMAT 22.11, 24.16).
 abbrev pub tally-slots : ℕ
 tally-slots = 3 + format .state
+
+unfoldable pub stateless : (number : ℕ) → Bool
+stateless number = either (eqb number Limits.sensing-too-wide) (eqb number Limits.too-many-cases)
 
 unfoldable pub end-in : List ℕ → End State
 end-in tally =
     pick (eqb (getD tally 0 0) Limits.verified) (λ _. fine) λ _.
     pick (eqb (getD tally 0 0) Limits.goal-missed) (λ _. missed (getD tally 1 0) (drop 3 tally)) λ _.
-    pick (eqb (getD tally 0 0) Limits.too-many-cases) (λ _. stopped Limits.too-many-cases (getD tally 1 0) no-state) λ _.
+    pick (stateless (getD tally 0 0)) (λ _. stopped (getD tally 0 0) (getD tally 1 0) no-state) λ _.
     stopped (getD tally 0 0) (getD tally 1 0) (in-state (drop 3 tally))
 
 unfoldable pub standing : List ℕ → Standing
@@ -57,11 +60,11 @@ pub record Going (tally : List ℕ) : Type 0 where
   pub sized : length tally ≡ tally-slots
   pub on : getD tally 0 0 < 2
 
--- What may be noted with a state: not 0, by which nothing is missed, not 3, by which the budget is spent, and not 44, which concerns none.
+-- What may be noted with a state: not 0, by which nothing is missed, not 3, by which the budget is spent, and neither 37 nor 44, which concern none.
 pub record Notable (number : ℕ) : Type 0 where
   pub some : 1 ≤ number
   pub within : number ≡ Limits.budget-spent → ⊥
-  pub stated : number ≡ Limits.too-many-cases → ⊥
+  pub stated : stateless number ≡ false
 
 -- What is noted: a miss, or what stops the walk.
 unfoldable pub end-by : (number place : ℕ) → State → End State

@@ -1,11 +1,11 @@
 ghost use mathlib.Core.Path.{_≡_};
+ghost use mathlib.Core.Bool.{true};
 ghost use Prim.Native.Nat.{_<_};
 ghost use lib.ListN.{length, getD};
 ghost use lib.Dec.{ltb};
 ghost use Rattle.meaning.specs.Limits.{format};
-ghost use Rattle.meaning.specs.Limits;
 ghost use Rattle.meaning.specs.Walk.{fine, no-state, stopped};
-ghost use Rattle.walking.specs.Standing.{so-far, add, one, standing, Going, Notable, end-by, Held, tally-slots};
+ghost use Rattle.walking.specs.Standing.{so-far, add, one, standing, stateless, Going, Notable, end-by, Held, tally-slots};
 use bytes::limits;
 use reading::marks::Marks;
 
@@ -22,8 +22,6 @@ pub const STUCK: u32 = 2;
 pub const SPENT: u32 = 3;
 
 pub const BROKEN: u32 = 43;
-
-pub const MANY: u32 = 44;
 
 // Nothing is walked yet.
 pub fn opened(budget: u32) -> Tally
@@ -88,12 +86,13 @@ pub fn note(tally: &mut Tally, number: u32, place: usize, marks: &Marks)
     hold(tally, place, marks);
 }
 
-// Too many cases stop the walk; no state is concerned.
-pub fn give_up(tally: &mut Tally, place: usize)
+// Too many readings or cases stop the walk; no state is concerned.
+pub fn give_up(tally: &mut Tally, number: u32, place: usize)
     requires { ⌜ Going (now tally) ⌝ }
+    requires { ⌜ stateless number ≡ true ⌝ }
     requires { ⌜ place < 65536 ⌝ }
-    ensures { λ _. ⌜ standing (now (tally .exit)) ≡ so-far (getD (now (tally .entry)) 2 0) (stopped Limits.too-many-cases place no-state) ⌝ }
+    ensures { λ _. ⌜ standing (now (tally .exit)) ≡ so-far (getD (now (tally .entry)) 2 0) (stopped number place no-state) ⌝ }
 {
-    tally[0] = MANY;
+    tally[0] = number;
     tally[1] = place as u32;
 }

@@ -32,6 +32,7 @@ use steps::sensing::first_unknown;
 use steps::sensing::is_sensing;
 use steps::sensing::next_unknown;
 use steps::trying::after;
+use steps::trying::refused;
 use steps::trying::tried;
 
 // A state that is met: whether it lacks a guard, which stops the walk.
@@ -119,7 +120,8 @@ pub fn walk(s: &[u8], t: &Notes, at: usize, marks: Marks, tally: &mut Tally)
                 return;
             }
             Tried::Many => {
-                give_up(tally, p);
+                let number = refused(t);
+                give_up(tally, number, p);
                 return;
             }
         }

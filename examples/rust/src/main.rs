@@ -5,6 +5,7 @@
 //!     review judge-by-cases [--budget N] REQUEST...
 //!     review index REQUEST...
 //!     review judge-indexed [--budget N] REQUEST INDEX [REQUEST INDEX]...
+//!     review derive [--budget N] REQUEST...
 //!     review check REQUEST DERIVATION [REQUEST DERIVATION]...
 //!     review check-whether REQUEST DERIVATION [REQUEST DERIVATION]...
 //!     review release [--budget N] FILE...
@@ -13,19 +14,21 @@
 //! with whether entries too, and derivations in the closing layout. With `--line` a walk that an action stops also says which executability line
 //! of it was missing. `judge-guarded` takes guarded requests, whose guards are to be known true all the way. `judge-by-cases` tries each action in every
 //! filling of what is unknown. `index` says how the index of each request begins, and `judge-indexed` walks by an index, which the program `index` has
-//! written to a file. `release` takes release files, each with many plans over one table, and has a line for each plan. The exit status is 0 where each
-//! plan is verified, each derivation accepted or each request indexed, 1 where some answer is another, and 2 where something can't be read or written.
+//! written to a file. `derive` walks too, and says how the derivation of each request begins, which the program `derive` writes to a file. `release` takes release
+//! files, each with many plans over one table, and has a line for each plan. The exit status is 0 where each plan is verified, each derivation accepted or written
+//! or each request indexed, 1 where some answer is another, and 2 where something can't be read or written.
 
 use std::env;
 use std::fs::File;
 use std::io::{self, Read, Write};
 use std::process::ExitCode;
 
-use glintstring::{check, check_whether, index, show, Answer, Input, Judge, PlanAnswer, Released, DERIVATION_LIMIT, INDEX_MOST, REQUEST_LIMIT};
+use glintstring::{check, check_whether, index, show, Answer, Input, Judge, NotDerived, PlanAnswer, Released, DERIVATION_LIMIT, INDEX_MOST, REQUEST_LIMIT};
 
 const USAGE: &str = "usage: review judge [--line] [--budget N] REQUEST... | review judge-guarded [--budget N] REQUEST... | \
                      review judge-by-cases [--budget N] REQUEST... | review index REQUEST... | \
-                     review judge-indexed [--budget N] REQUEST INDEX [REQUEST INDEX]... | review check REQUEST DERIVATION [REQUEST DERIVATION]... | \
+                     review judge-indexed [--budget N] REQUEST INDEX [REQUEST INDEX]... | review derive [--budget N] REQUEST... | \
+                     review check REQUEST DERIVATION [REQUEST DERIVATION]... | \
                      review check-whether REQUEST DERIVATION [REQUEST DERIVATION]... | review release [--budget N] FILE...";
 const BUDGET: u32 = 100_000;
 
@@ -120,18 +123,41 @@ fn judge_file_by(walk: fn(&mut Judge, &[u8], u32) -> Answer, asked: &mut Asked, 
     tell(walk(&mut asked.judge, &request, asked.budget), &About { name: names[0], request: &request, second: &[] })
 }
 
-/// Prints how the index of a request begins.
+/// Prints how what a call has written begins.
+fn print_written(name: &str, zero: &str, what: &str, written: &[u8]) -> io::Result<()> {
+    let mut out = io::stdout().lock();
+    writeln!(out, "{name}: {zero}\n  number 0, place 0, count {}", written.len())?;
+    print_part(&mut out, what, 0, written)
+}
+
 fn index_file(_: &mut Asked, names: &[&str]) -> Result<u8, String> {
     let request = read(names[0], REQUEST_LIMIT)?;
     let index = match index(&request) {
         Ok(index) => index,
         Err(refused) => return tell(refused.answer(), &About { name: names[0], request: &request, second: &[] }),
     };
-    let mut out = io::stdout().lock();
-    writeln!(out, "{}: indexed\n  number 0, place 0, count {}", names[0], index.len())
-        .and_then(|()| print_part(&mut out, "index", 0, &index))
-        .map_err(|error| format!("standard output: {error}"))?;
+    print_written(names[0], "indexed", "index", &index).map_err(|error| format!("standard output: {error}"))?;
     Ok(GOOD)
+}
+
+/// Prints why there is no derivation: the words, the numbers, and the bytes at the place. There is no state.
+fn print_not_derived(name: &str, other: NotDerived, request: &[u8]) -> io::Result<()> {
+    let mut out = io::stdout().lock();
+    writeln!(out, "{name}: {}\n  number {}, place {}, count {}", other.words(), other.number(), other.place(), other.count())?;
+    match other.input() {
+        0 => Ok(()),
+        _ => print_part(&mut out, "request", other.place(), show(other, request, &[])),
+    }
+}
+
+fn derive_file(asked: &mut Asked, names: &[&str]) -> Result<u8, String> {
+    let request = read(names[0], REQUEST_LIMIT)?;
+    let (printed, status) = match asked.judge.derive(&request, asked.budget) {
+        Ok(derivation) => (print_written(names[0], "derived", "derivation", &derivation), GOOD),
+        Err(other) => (print_not_derived(names[0], other, &request), OTHER),
+    };
+    printed.map_err(|error| format!("standard output: {error}"))?;
+    Ok(status)
 }
 
 /// An answer about two files.
@@ -170,12 +196,13 @@ fn release_file(asked: &mut Asked, names: &[&str]) -> Result<u8, String> {
 type Command = fn(&mut Asked, &[&str]) -> Result<u8, String>;
 
 /// The commands, each with the number of files that an answer takes, and whether there is a budget.
-const COMMANDS: [(&str, usize, bool, Command); 8] = [
+const COMMANDS: [(&str, usize, bool, Command); 9] = [
     ("judge", 1, true, judge_file),
     ("judge-guarded", 1, true, |asked, names| judge_file_by(Judge::judge_guarded, asked, names)),
     ("judge-by-cases", 1, true, |asked, names| judge_file_by(Judge::judge_by_cases, asked, names)),
     ("index", 1, false, index_file),
     ("judge-indexed", 2, true, judge_indexed_files),
+    ("derive", 1, true, derive_file),
     ("check", 2, false, |_, names| tell_both(names, DERIVATION_LIMIT, check)),
     ("check-whether", 2, false, |_, names| tell_both(names, DERIVATION_LIMIT, check_whether)),
     ("release", 1, true, release_file),

@@ -1,8 +1,8 @@
 /*
  * Each exported call at the ends of its lengths, by way of include/glintstring.h: 0, 1, the limit and one more for an input, null where the
- * length is 0, lent states of every length from 0 to 258, lent rows of every length from 0 to 260 and lent rooms of every length from 0 to 1,278. Each input
- * ends where a page ends behind which nothing may be read or written, or starts where such a page ends, and inputs may not be written at all: a call that goes
- * astray ends the program by a signal.
+ * length is 0, lent states of every length from 0 to 258, lent rows of every length from 0 to 260 and lent rooms of every length from 0 to 1,278 for an index and
+ * of some lengths up to 65,536 for a derivation. Each input ends where a page ends behind which nothing may be read or written, or starts where such a page ends,
+ * and inputs may not be written at all: a call that goes astray ends the program by a signal.
  * It is compiled as C99 and as C++, and prints the first call that is not as it should be.
  */
 #define _DEFAULT_SOURCE
@@ -334,6 +334,78 @@ static int indexed(void) {
     return 1;
 }
 
+/* The derivation that is to be written, and its length. */
+static size_t derived_length;
+
+/*
+ * A request of 16,384 bytes that has a derivation, which is stored too. It has the table of the largest request and one fact. The plan is a branching: where the
+ * fact is so there is nothing to do, and else there are 44 of the largest request's branchings and 152 actions. So there are three lines.
+ */
+static void derived_largest(uint8_t *to) {
+    static const uint8_t plan[12] = {0, 1, 255, 2, 1, 0, 0, 0, 1, 1, 0, 44 + 152}, first[19] = {0, 3, 1, 0, 0, 0, 1, 0, 1, 0, 1, 0, 0, 0, 0, 6, 1, 0, 0},
+                         facts[2] = {1, 0}, last[5] = {0, 4, 1, 0, 1};
+    const uint8_t *const start = to;
+    uint8_t *line = derivation;
+    unsigned place = 0;
+    largest_request(request, &place);
+    memcpy(to, request, 2);
+    memcpy(to + 2, facts, 2);
+    memcpy(to + 4, request + 3, place - 5);
+    to += place - 1;
+    memcpy(line, first, sizeof first);
+    memcpy(line + sizeof first, facts, 2);
+    line += sizeof first + 2;
+    memcpy(line, plan, sizeof plan);
+    memcpy(to, plan, sizeof plan);
+    memcpy(line + sizeof plan, request + place, 44 * 154);
+    memcpy(to + sizeof plan, request + place, 44 * 154);
+    memset(line + sizeof plan + 44 * 154, 0, 152);
+    memset(to + sizeof plan + 44 * 154, 0, 152 + 2);
+    line += sizeof plan + 44 * 154 + 152;
+    to += sizeof plan + 44 * 154 + 152 + 2;
+    memcpy(line, last, sizeof last);
+    derived_length = (size_t)(line + sizeof last - derivation);
+    if (to - start != GLINTSTRING_REQUEST_LIMIT)
+        puts("lengths: the largest request that has a derivation has another length");
+}
+
+/* The derive call on these bytes, with rooms of these lengths. The answer is that of the request; where that is 0, a room that is shorter than the derivation is
+   answered by 39, and every other one starts with the derivation. */
+static int derives(const uint8_t *bytes, size_t length, unsigned number, unsigned place) {
+    const size_t lengths[] = {0, 1, 2, derived_length - 1, derived_length, derived_length + 1, GLINTSTRING_DERIVATION_LIMIT, GLINTSTRING_DERIVATION_LIMIT + 1,
+                              ROOM};
+    size_t i;
+    int at_end;
+    for (i = 0; i < sizeof lengths / sizeof *lengths; i++)
+        for (at_end = 0; at_end <= 1; at_end++) {
+            const size_t lent = lengths[i];
+            uint8_t *room = at_end ? state_room + ROOM - lent : state_room;
+            uint64_t answer;
+            memset(state_room, LENT, ROOM);
+            answer = glintstring_derive(bytes, length, lent == 0 && at_end ? NULL : room, lent, 7);
+            if (!(number != GLINTSTRING_DERIVED ? is(answer, number, GLINTSTRING_REQUEST, place, 0)
+                  : lent < derived_length       ? is(answer, GLINTSTRING_ROOM_SHORT, GLINTSTRING_NEITHER, 0, 0)
+                                                : is(answer, number, GLINTSTRING_NEITHER, 0, (unsigned)derived_length)))
+                return printf("lengths: a request of %lu bytes, a room of %lu for a derivation\n", (unsigned long)length, (unsigned long)lent), 0;
+            if (glintstring_number(answer) == GLINTSTRING_DERIVED) {
+                if (memcmp(room, derivation, derived_length) != 0) return puts("lengths: the derivation is another"), 0;
+                if (!is(glintstring_check(bytes, length, room, derived_length), GLINTSTRING_ACCEPTED, GLINTSTRING_NEITHER, 0, 0)) return 0;
+                memset(room, LENT, derived_length);
+            }
+            if (!kept("a room", lent)) return 0;
+        }
+    return 1;
+}
+
+/* The largest request stops the walk, as in the walk call; and the other one of its length has a derivation. */
+static int derived(void) {
+    static uint8_t bytes[GLINTSTRING_REQUEST_LIMIT + 1];
+    unsigned place = 0;
+    derived_largest(bytes);
+    largest_request(request, &place);
+    return asked(derives, request, GLINTSTRING_NOT_EXECUTABLE, place) && asked(derives, bytes, GLINTSTRING_DERIVED, 0);
+}
+
 typedef uint64_t (*derivation_call)(const uint8_t *, size_t, const uint8_t *, size_t);
 
 /* The derivation call, or the whether call. */
@@ -441,7 +513,7 @@ int main(void) {
     line_room = stretch();
     memset(as_lent, LENT, ROOM);
     if (!request_room || !derivation_room || !state_room || !line_room || !judged() || !guarded() || !by_cases() || !indexed() ||
-        !checked(glintstring_check, 0) || !checked(glintstring_check_whether, 1) || !released() || !shown())
+        !derived() || !checked(glintstring_check, 0) || !checked(glintstring_check_whether, 1) || !released() || !shown())
         return 1;
     printf("lengths: %lu calls at the ends of their lengths, lent states of 0 to %d bytes, rows of 0 to %d numbers and rooms of 0 to %d bytes\n", calls, STATES,
            ROWS, ROOMS);

@@ -4,6 +4,7 @@
 //   driver by-cases BUDGET <REQUEST                 the call by cases
 //   driver indexed BUDGET <REQUEST                  the indexed call, with the index that the index call writes
 //   driver index 0 <REQUEST                         the index call, with room enough
+//   driver derive BUDGET <REQUEST                   the derive call, with room for every derivation
 //   driver check LENGTH <REQUEST AND DERIVATION     the derivation call, on a request of that length and what follows it
 //   driver whether LENGTH <REQUEST AND DERIVATION   the whether call in the same way
 //   driver release BUDGET <RELEASE FILE             the release call, with a row of four numbers for each plan by the plans call
@@ -28,6 +29,7 @@ u64 proved_guarded(const struct slice *request, const struct slice *lent, u32 bu
 u64 proved_by_cases(const struct slice *request, const struct slice *lent, u32 budget);
 u64 proved_indexed(const struct slice *request, const struct slice *index, const struct slice *lent, u32 budget);
 u64 proved_index(const struct slice *request, const struct slice *room);
+u64 proved_derive(const struct slice *request, const struct slice *room, u32 budget);
 u64 proved_check(const struct slice *request, const struct slice *derivation);
 u64 proved_whether(const struct slice *request, const struct slice *derivation);
 u64 proved_release(const struct slice *file, const struct slice *row, u32 budget);
@@ -112,11 +114,11 @@ static int is_word(const char *one, const char *other) {
 
 static byte bytes[1 << 16];
 static byte state[128];
-static byte written[1276];
+static byte written[32768];
 static u32 row[4 * 255];
 
 _Noreturn __attribute__((used)) static void begin(long *arguments) {
-    if (arguments[0] != 3) fail("driver: two arguments, walk, guarded, by-cases, indexed or release and the budget, check or whether and the request's length, or index or plans and 0\n");
+    if (arguments[0] != 3) fail("driver: two arguments, walk, guarded, by-cases, indexed, derive or release and the budget, check or whether and the request's length, or index or plans and 0\n");
     const char *command = (const char *)arguments[2];
     u64 number = 0;
     for (const char *digit = (const char *)arguments[3]; *digit; digit++) {
@@ -152,6 +154,8 @@ _Noreturn __attribute__((used)) static void begin(long *arguments) {
         answer = call_at(stack + WORDS, proved_indexed, &request, &room, (u64)&lent, number);
     } else if (is_word(command, "index")) {
         answer = call_at(stack + WORDS, proved_index, &request, &room, 0, 0);
+    } else if (is_word(command, "derive")) {
+        answer = call_at(stack + WORDS, proved_derive, &request, &room, number, 0);
     } else if (is_word(command, "release")) {
         struct slice rows = {(byte *)row, 4 * proved_plans(&request, &lent)};
         answer = call_at(stack + WORDS, proved_release, &request, &rows, number, 0);

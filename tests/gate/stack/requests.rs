@@ -2,8 +2,9 @@
 //! the file's name, the budget, the number of items and what the request is. Beside them derivations, and lists of these (`derivations`, and
 //! `whether` for the closing layout), with the request's file, the derivation's, its number of lines and what it is; release files, and a
 //! list of these (`releases`), with the file's name, the budget, the number of plans and what it is; guarded requests, and a list of these
-//! (`guarded`), with the file's name, the budget, the number of guards and what it is; and requests to be walked by cases, and a list of these
-//! (`by-cases`), with the file's name, the budget, the most open fluents that an action has and what it is.
+//! (`guarded`), with the file's name, the budget, the number of guards and what it is; requests to be walked by cases, and a list of these
+//! (`by-cases`), with the file's name, the budget, the most open fluents that an action has and what it is; and requests whose derivations go deepest, and a
+//! list of these (`to-derive`), with the file's name, the budget, the number of items and what it is.
 
 use std::ops::Range;
 use std::{env, fs};
@@ -23,17 +24,23 @@ const LOOK_AT_SOME: u8 = 7; // senses as many as there is room for in a short re
 const FORGET_SOME: u8 = 8; // makes these unknown again
 const TRY: u8 = 9; // has as many open fluents as there can be, in an effect; of two lines one allows it where the first is true, the other where it is false
 const LOOK_AT_OTHERS: u8 = 10; // senses all but these
-const ACTIONS: u8 = 11;
+const LOOK_AT_SIX: u8 = 11; // senses as many as may be unknown in a derivation that is written
+const FORGET_SIX: u8 = 12; // makes these unknown again if all are true
+const ACTIONS: u8 = 13;
 
 /// Open fluents that an action may have by cases, which are the first.
 const OPEN: u8 = 12;
+
+/// Unknown fluents that a sensing action may have in a derivation that is written, which are the first.
+const SIX: u8 = 6;
 
 /// A short request has so many bytes at the most (FORMAT 12.21). A path goes through the most readings there where it looks at so many fluents.
 const SHORT: usize = 1_024;
 const SOME: u8 = 84;
 
-/// A budget with which the end of the first path is reached and not much more.
+/// A budget with which the end of the first path is reached and not much more, and one with which the whole plan is walked.
 const SOON: u32 = 5_000;
+const ENOUGH: u32 = u32::MAX;
 
 /// An item of the plan: its bytes, how many items it is, and a bit for each action in it.
 #[derive(Clone)]
@@ -117,11 +124,12 @@ fn request_keeping(kept: u8, forgets: Forgets, goals: Goals, plan: &[Item]) -> V
     let made_true = made_true.filter(|_| matches!(forgets, Forgets::Known));
     let used = |action: u8| actions(plan) >> action & 1 == 1;
     let tried = [[vec![TRY, 1, OPEN], (0..OPEN).map(|f| 2 * f).collect()].concat()];
-    let effects = made_false(FORGET, changed).chain(made_true).chain(made_false(FORGET_SOME, SOME)).chain(work).chain(tried);
+    let six = (0..SIX).map(|f| [vec![FORGET_SIX, 2 * f + 1, SIX + 1], (0..SIX).map(|f| 2 * f).collect(), vec![2 * LAST]].concat());
+    let effects = made_false(FORGET, changed).chain(made_true).chain(made_false(FORGET_SOME, SOME)).chain(work).chain(tried).chain(six);
     let effects = section(effects.filter(|line| used(line[0])));
     let always = (0..ACTIONS).filter(|action| ![NEVER, TRY].contains(action)).map(|action| vec![action, 0]);
     let runs = section(always.chain([vec![TRY, 1, 0], vec![TRY, 1, 1]]).filter(|line| used(line[0])));
-    let from_first = [(LOOK, LAST), (LOOK_AT_ALL, FLUENTS), (LOOK_AT_HALF, FLUENTS / 2), (LOOK_AT_ONE, 1), (LOOK_AT_SOME, SOME)];
+    let from_first = [(LOOK, LAST), (LOOK_AT_ALL, FLUENTS), (LOOK_AT_HALF, FLUENTS / 2), (LOOK_AT_ONE, 1), (LOOK_AT_SOME, SOME), (LOOK_AT_SIX, SIX)];
     let looks = from_first.map(|(action, count)| (action, 0..count)).into_iter().chain([(LOOK_AT_OTHERS, OPEN..FLUENTS)]);
     let sensed = |(action, fluents): (u8, Range<u8>)| fluents.map(move |f| [action, f]);
     let knowledge = section(looks.flat_map(sensed).filter(|line| used(line[0])));
@@ -254,6 +262,27 @@ fn requests_by_cases(folder: &str, requests: &[Deep], tries: &[(&str, Vec<Item>)
     fs::write(format!("{folder}/by-cases"), lines).expect("a file written");
 }
 
+/// Requests that are verified, and whose derivations go deepest. They are walked to the end, so what is looked at forks again on the first path only.
+fn requests_to_derive(folder: &str) {
+    let looks = |most| over_and_over(&[act(LOOK_AT_SIX), act(FORGET_SIX)], most);
+    let in_short = SHORT - request(Forgets::True, Goals::None, &looks(2)).len();
+    let plans = [
+        ("six looked at, forgotten", looks(1024)),
+        ("six looked at, forgotten, in eight branchings", nested(8, looks(1016))),
+        ("six looked at, forgotten, in 1,024 bytes", looks(in_short + 2)),
+        ("one looked at, forgotten, all paths", over_and_over(&[act(LOOK_AT_ONE), act(FORGET)], 1024)),
+        ("1,022 branchings in a row", over_and_over(&[within(&[])], 1022)),
+        ("1,024 actions, no goals", vec![act(WORK); 1024]),
+    ];
+    let mut lines = String::new();
+    for (number, (name, plan)) in plans.iter().enumerate() {
+        let file = format!("{number}.to-derive");
+        fs::write(format!("{folder}/{file}"), request(Forgets::True, Goals::None, plan)).expect("a file written");
+        lines += &format!("{file} {ENOUGH} {} {name}\n", size(plan));
+    }
+    fs::write(format!("{folder}/to-derive"), lines).expect("a file written");
+}
+
 /// Release files in which the deepest plans are the only one, or the last of 64 where the file need not be short.
 fn releases(folder: &str, requests: &[Deep]) {
     let mut lines = String::new();
@@ -320,6 +349,7 @@ fn main() {
         ("84 looked at, forgotten, at last 12 open, in 1,024 bytes", short_tries(left + 2)),
     ];
     requests_by_cases(&folder, &requests[..5], &tries);
+    requests_to_derive(&folder);
     releases(&folder, &[&requests[..5], &[short_file]].concat());
     for (number, (name, budget, forgets, goals, plan)) in requests.into_iter().enumerate() {
         let file = format!("{number}.request");

@@ -6,8 +6,9 @@
 pub mod answer;
 pub mod calls;
 pub mod cases;
+pub mod checking;
 pub mod damage;
-pub mod derive;
+pub mod derives;
 pub mod edges;
 pub mod encode;
 pub mod examples;
@@ -34,6 +35,7 @@ pub mod worlds;
 
 pub use answer::Answer;
 pub use cases::call::{judge_by_cases, judge_by_cases_line};
+pub use derives::call::derive;
 pub use guards::call::{judge_guarded, judge_guarded_line};
 pub use indexes::call::{index, judge_indexed, judge_indexed_line};
 pub use releases::call::{plans, release};
@@ -96,7 +98,7 @@ pub fn check(request: &[u8], derivation: &[u8]) -> Answer {
         return Answer::refusal(REQUEST, Fault::new(30, request.whether_place));
     }
     let checked = reader::read_derivation(derivation, &request)
-        .and_then(|lines| derive::check_lines(&request, &lines));
+        .and_then(|lines| checking::check_lines(&request, &lines));
     match checked {
         Err(fault) => Answer::refusal(DERIVATION, fault),
         Ok(()) => Answer::neither(0, 0),

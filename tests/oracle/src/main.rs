@@ -7,6 +7,7 @@ use std::{env, fs};
 
 use oracle::answer::writes_state;
 use oracle::cases;
+use oracle::derives;
 use oracle::examples::{self, DEFAULT_BUDGET};
 use oracle::guards;
 use oracle::indexes;
@@ -14,8 +15,8 @@ use oracle::releases::{self, call::ROW_NUMBERS};
 use oracle::tally::Checked;
 use oracle::text::{comma_separated, parse_bytes, state_line};
 use oracle::{
-    check, check_whether, index, judge_by_cases_line, judge_guarded_line, judge_indexed_line,
-    judge_line, plans, release, rows, run, whether, Answer, STATE_LENGTH,
+    check, check_whether, derive, index, judge_by_cases_line, judge_guarded_line,
+    judge_indexed_line, judge_line, plans, release, rows, run, whether, Answer, STATE_LENGTH,
 };
 
 const HELP: &str = "\
@@ -33,6 +34,8 @@ usage:
       Makes the index call with a room of N bytes, or with room enough, and prints number, input,
       place and count; for answer 0 the index is written to the file INDEX, or else a second line
       has its bytes in decimal.
+  oracle derive FILE [--budget N] [--room N] [--to DERIVATION] [--text]
+      Makes the derive call in the same way, and writes the derivation to the file DERIVATION.
   oracle check REQUEST DERIVATION [--text]
       Checks a derivation and prints number, input, place and count.
   oracle check-whether REQUEST DERIVATION [--text]
@@ -43,11 +46,11 @@ usage:
   oracle plans FILE [--text]
       Prints how many plans a release file has, or 0.
   oracle run [--seed S] [--requests N] [--derivations M] [--whether K] [--releases L]
-             [--guarded G] [--by-cases C] [--indexed I]
+             [--guarded G] [--by-cases C] [--indexed I] [--derived P]
       Makes random calls (seed 1, 100,000 requests, 20,000 derivations in each layout, 20,000
-      release files, 20,000 guarded requests, 20,000 requests by cases and 20,000 with an index
-      unless told otherwise), checks every answer, and prints how often each occurred. The last
-      line is `oracle: ok`, or `oracle: FAILED` and why, with exit status 1.
+      release files, 20,000 guarded requests, 20,000 requests by cases, 20,000 with an index and
+      20,000 to be derived unless told otherwise), checks every answer, and prints how often each
+      occurred. The last line is `oracle: ok`, or `oracle: FAILED` and why, with exit status 1.
   oracle run-whether [--seed S] [--whether K]
       Makes the random calls with derivations in the second layout only.
   oracle run-releases [--seed S] [--releases L]
@@ -58,11 +61,13 @@ usage:
       Makes the random calls by cases only.
   oracle run-indexed [--seed S] [--indexed I]
       Makes the random index calls and indexed calls only.
+  oracle run-derived [--seed S] [--derived P]
+      Makes the random derive calls only.
   oracle rows [--seed S] [--count N] [--derivations M] [--whether K] [--releases L]
-              [--guarded G] [--by-cases C] [--indexed I]
+              [--guarded G] [--by-cases C] [--indexed I] [--derived P]
       Prints N judging calls, M derivation calls, K in the second layout, L release calls, G
-      guarded calls, C calls by cases and I index calls or indexed calls with their answers, one
-      per line:
+      guarded calls, C calls by cases, I index calls or indexed calls and P derive calls with
+      their answers, one per line:
         J REQUEST LENT BUDGET NUMBER INPUT PLACE COUNT STATE LINE
         D REQUEST DERIVATION NUMBER INPUT PLACE COUNT
         W REQUEST DERIVATION NUMBER INPUT PLACE COUNT
@@ -71,13 +76,14 @@ usage:
         C REQUEST LENT BUDGET NUMBER INPUT PLACE COUNT STATE LINE
         B REQUEST ROOM NUMBER INPUT PLACE COUNT AFTERWARDS
         I REQUEST INDEX LENT BUDGET NUMBER INPUT PLACE COUNT STATE LINE
+        P REQUEST ROOM BUDGET NUMBER INPUT PLACE COUNT AFTERWARDS
       Bytes are decimal with commas between; `-` is no byte; the three words REP BYTE N are N
       times one byte. LENT is the length of the lent state; STATE is all its bytes after answers
       1, 2 and 43, and `-` where it stays as lent; LINE is what --line prints. In rows R, LENT is
       the length of the lent row, PLANS what the plans call gives, and ROW the row's numbers after
-      own answer 0, and `-` otherwise. In rows B, ROOM is the length of the lent room, whose bytes
-      are 9, and AFTERWARDS has its bytes after answer 0, and is `-` otherwise. (Seed 1, 300, and
-      none of the others unless told otherwise.)
+      own answer 0, and `-` otherwise. In rows B and P, ROOM is the length of the lent room, whose
+      bytes are 9, and AFTERWARDS has its bytes after answer 0, and is `-` otherwise. (Seed 1, 300,
+      and none of the others unless told otherwise.)
   oracle examples [FOLDER]
       Runs the example files and prints a tally.
   oracle --help
@@ -106,7 +112,7 @@ struct Kind {
     rows: fn(u64, u64) -> Box<dyn Iterator<Item = String>>,
 }
 
-const KINDS: [Kind; 5] = [
+const KINDS: [Kind; 6] = [
     Kind {
         option: "--whether",
         command: "run-whether",
@@ -137,6 +143,12 @@ const KINDS: [Kind; 5] = [
         run: |seed, count| Box::new(indexes::run::run(seed, count)),
         rows: |seed, count| Box::new(indexes::rows::indexed_rows(seed, count)),
     },
+    Kind {
+        option: "--derived",
+        command: "run-derived",
+        run: |seed, count| Box::new(derives::run::run(seed, count)),
+        rows: |seed, count| Box::new(derives::rows::derived_rows(seed, count)),
+    },
 ];
 
 /// So many calls of a kind in a run unless told otherwise.
@@ -160,7 +172,14 @@ fn command(words: &[String]) -> Result<ExitCode, String> {
         }
         "index" => {
             let (rest, to) = named_file("--to", rest)?;
-            index_file(&Options::parse(&rest, &["--room"], &["--text"], 1)?, to)
+            let options = Options::parse(&rest, &["--room"], &["--text"], 1)?;
+            write_file(&options, to, index)
+        }
+        "derive" => {
+            let (rest, to) = named_file("--to", rest)?;
+            let options = Options::parse(&rest, &["--budget", "--room"], &["--text"], 1)?;
+            let budget = budget_of(&options)?;
+            write_file(&options, to, |request, room| derive(request, room, budget))
         }
         "check" => check_files(&Options::parse(rest, &[], &["--text"], 2)?, check),
         "check-whether" => check_files(&Options::parse(rest, &[], &["--text"], 2)?, check_whether),
@@ -321,16 +340,21 @@ fn judge_file(options: &Options, index: Option<String>) -> Result<ExitCode, Stri
     Ok(ExitCode::SUCCESS)
 }
 
-fn index_file(options: &Options, to: Option<String>) -> Result<ExitCode, String> {
+/// Makes a call that writes into a room.
+fn write_file(
+    options: &Options,
+    to: Option<String>,
+    call: impl Fn(&[u8], &mut [u8]) -> Answer,
+) -> Result<ExitCode, String> {
     let length = options.number("--room", 1 << 16);
     let mut room = vec![0; usize::try_from(length).map_err(|_| "too much room".to_string())?];
-    let answer = index(&options.bytes(0)?, &mut room);
+    let answer = call(&options.bytes(0)?, &mut room);
     println!("{answer}");
     if answer.number == 0 {
-        let index = &room[..answer.count as usize];
+        let written = &room[..answer.count as usize];
         match to {
-            Some(to) => fs::write(&to, index).map_err(|error| format!("{to}: {error}"))?,
-            None => println!("{}", comma_separated(index)),
+            Some(to) => fs::write(&to, written).map_err(|error| format!("{to}: {error}"))?,
+            None => println!("{}", comma_separated(written)),
         }
     }
     Ok(ExitCode::SUCCESS)

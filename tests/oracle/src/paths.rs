@@ -9,12 +9,12 @@ use crate::answer::narrow_count;
 use crate::model::{is_positive, Branch, Guarded, Item, Request};
 use crate::Answer;
 
-const UNKNOWN: u8 = b'?';
-const TRUE: u8 = b'+';
-const FALSE: u8 = b'-';
+pub(crate) const UNKNOWN: u8 = b'?';
+pub(crate) const TRUE: u8 = b'+';
+pub(crate) const FALSE: u8 = b'-';
 
 /// One mark for each fluent.
-type Marks = Vec<u8>;
+pub(crate) type Marks = Vec<u8>;
 
 /// Most events that are noted before the second walk gives up.
 const EVENTS: usize = 1_000_000;
@@ -113,7 +113,11 @@ fn answer_with(
         events: vec![root],
         cut: false,
     };
-    let first = list.guarded(first_path(request));
+    let first = list.guarded(Path {
+        event: 0,
+        marks: first_marks(request),
+        stop: None,
+    });
     let paths = list.through(&request.plan, vec![first]);
     if list.is_long() {
         return None;
@@ -134,16 +138,12 @@ fn answer_with(
 }
 
 /// The first state holds the initial facts and nothing else.
-fn first_path(request: &Request) -> Path {
+pub(crate) fn first_marks(request: &Request) -> Marks {
     let mut marks = vec![UNKNOWN; usize::from(request.fluents)];
     for &fact in &request.facts {
         marks[usize::from(fact / 2)] = wanted(fact);
     }
-    Path {
-        event: 0,
-        marks,
-        stop: None,
-    }
+    marks
 }
 
 /// Answers 0, 1, 2, 43 and 44 from the paths walked.
@@ -310,11 +310,11 @@ impl List<'_> {
             return stop(place, line, path);
         }
         path.event = self.note(true, path.event);
-        let sensed = self.sensed(action);
+        let sensed = sensed(self.request, action);
         if sensed.is_empty() {
             path.marks = match self.by_cases {
                 true => self.shared(action, &fillings),
-                false => self.after(action, &path.marks),
+                false => after(self.request, action, &path.marks),
             };
             return vec![path];
         }
@@ -377,19 +377,6 @@ impl List<'_> {
         best
     }
 
-    /// The fluents of an action's knowledge lines, ascending, each once.
-    fn sensed(&self, action: u8) -> Vec<u8> {
-        let lines = self
-            .request
-            .knowledge
-            .iter()
-            .filter(|line| line.action == action);
-        let mut fluents: Vec<u8> = lines.map(|line| line.fluent).collect();
-        fluents.sort_unstable();
-        fluents.dedup();
-        fluents
-    }
-
     /// Forks each unknown fluent, true before false; known ones stay.
     fn sense(&mut self, fluents: &[u8], path: Path) -> Vec<Path> {
         let mut paths = vec![path];
@@ -415,36 +402,6 @@ impl List<'_> {
         seen
     }
 
-    /// The marks after an action without knowledge lines, fluent by fluent.
-    fn after(&self, action: u8, marks: &Marks) -> Marks {
-        let lines: Vec<_> = self
-            .request
-            .effects
-            .iter()
-            .filter(|line| line.action == action)
-            .collect();
-        let made = |literal: u8, test: fn(&Marks, u8) -> bool| {
-            lines.iter().any(|line| {
-                line.literal == literal && line.body.iter().all(|&entry| test(marks, entry))
-            })
-        };
-        (0..self.request.fluents)
-            .map(|fluent| {
-                let mark = marks[usize::from(fluent)];
-                let (positive, negative) = (2 * fluent, 2 * fluent + 1);
-                if (mark == TRUE || made(positive, is_known)) && !made(negative, is_possible) {
-                    TRUE
-                } else if (mark == FALSE || made(negative, is_known))
-                    && !made(positive, is_possible)
-                {
-                    FALSE
-                } else {
-                    UNKNOWN
-                }
-            })
-            .collect()
-    }
-
     /// Follows the branch whose condition is known true, and stops the path where none is.
     fn choose(&mut self, place: usize, branches: &[Branch], path: Path) -> Vec<Path> {
         let chosen = branches.iter().find(|branch| {
@@ -458,6 +415,45 @@ impl List<'_> {
             None => stop(place, 0, path),
         }
     }
+}
+
+/// The fluents of an action's knowledge lines, ascending, each once.
+pub(crate) fn sensed(request: &Request, action: u8) -> Vec<u8> {
+    let lines = request
+        .knowledge
+        .iter()
+        .filter(|line| line.action == action);
+    let mut fluents: Vec<u8> = lines.map(|line| line.fluent).collect();
+    fluents.sort_unstable();
+    fluents.dedup();
+    fluents
+}
+
+/// The marks after an action without knowledge lines, fluent by fluent.
+pub(crate) fn after(request: &Request, action: u8, marks: &Marks) -> Marks {
+    let lines: Vec<_> = request
+        .effects
+        .iter()
+        .filter(|line| line.action == action)
+        .collect();
+    let made = |literal: u8, test: fn(&Marks, u8) -> bool| {
+        lines.iter().any(|line| {
+            line.literal == literal && line.body.iter().all(|&entry| test(marks, entry))
+        })
+    };
+    (0..request.fluents)
+        .map(|fluent| {
+            let mark = marks[usize::from(fluent)];
+            let (positive, negative) = (2 * fluent, 2 * fluent + 1);
+            if (mark == TRUE || made(positive, is_known)) && !made(negative, is_possible) {
+                TRUE
+            } else if (mark == FALSE || made(negative, is_known)) && !made(positive, is_possible) {
+                FALSE
+            } else {
+                UNKNOWN
+            }
+        })
+        .collect()
 }
 
 fn stop(place: usize, line: usize, mut path: Path) -> Vec<Path> {
@@ -492,7 +488,7 @@ fn wanted(literal: u8) -> u8 {
     }
 }
 
-fn is_known(marks: &Marks, literal: u8) -> bool {
+pub(crate) fn is_known(marks: &Marks, literal: u8) -> bool {
     marks[usize::from(literal / 2)] == wanted(literal)
 }
 

@@ -17,7 +17,7 @@ use crate::whether::translate::former_lines;
 /// Most end states that are followed when a claim is tried.
 const ENDS: usize = 64;
 /// Most unknown fluents that rule 3 can take: a line for each reading is cited.
-const READ_AT_ONCE: u32 = CITATION_LIMIT.ilog2();
+pub(crate) const READ_AT_ONCE: u32 = CITATION_LIMIT.ilog2();
 
 /// A claim that the walk from X verifies: what is known after c.
 #[derive(Clone)]

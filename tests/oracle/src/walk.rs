@@ -95,7 +95,7 @@ pub trait Way {
 }
 
 /// By what is known.
-struct ByKnowledge<'a>(&'a Table);
+pub(crate) struct ByKnowledge<'a>(pub(crate) &'a Table);
 
 impl Way for ByKnowledge<'_> {
     fn runnable(&mut self, action: u8, state: Known) -> bool {

@@ -5,6 +5,8 @@ use std::collections::{BTreeMap, BTreeSet};
 use oracle::answer::writes_state;
 use oracle::cases;
 use oracle::cases::rows::cases_rows;
+use oracle::derives;
+use oracle::derives::rows::derived_rows;
 use oracle::edges::{self, Met};
 use oracle::encode::encode_request;
 use oracle::generate::{request, spread, MIDDLE, SMALL, TINY};
@@ -23,7 +25,7 @@ use oracle::text::parse_bytes;
 use oracle::whether;
 use oracle::whether::rows::whether_rows;
 use oracle::{
-    check, check_whether, index, judge, judge_by_cases_line, judge_guarded_line,
+    check, check_whether, derive, index, judge, judge_by_cases_line, judge_guarded_line,
     judge_indexed_line, judge_line, plans, release, Answer, STATE_LENGTH,
 };
 
@@ -70,13 +72,19 @@ fn small_runs_by_an_index_show_no_difference() {
 }
 
 #[test]
+fn small_runs_of_deriving_show_no_difference() {
+    shows_no_difference(6_000, derives::run::run);
+}
+
+#[test]
 fn runs_too_small_fail() {
-    let runs: [Box<dyn Checked>; 5] = [
+    let runs: [Box<dyn Checked>; 6] = [
         Box::new(run(1, 10, 10)),
         Box::new(releases::run::run(1, 10)),
         Box::new(guards::run::run(1, 10)),
         Box::new(cases::run::run(1, 10)),
         Box::new(indexes::run::run(1, 10)),
+        Box::new(derives::run::run(1, 10)),
     ];
     for tally in runs {
         let verdict = tally.verdict();
@@ -326,6 +334,30 @@ fn rows_by_an_index_can_be_computed_again() {
     assert_eq!(built, BTreeSet::from(Built::ALL));
     assert_eq!(judged, BTreeSet::from(Event::ALL));
     come_from_the_seed(|seed| indexed_rows(seed, 40));
+}
+
+#[test]
+fn rows_of_deriving_can_be_computed_again() {
+    use oracle::derives::rows::NOT_SHOWN;
+    use oracle::derives::run::{events, Event, NUMBERS};
+    let (mut met, mut shown) = (BTreeSet::new(), BTreeSet::from(NOT_SHOWN));
+    for row in derived_rows(5, 150) {
+        let mut words = row.split(' ');
+        assert_eq!(words.next(), Some("P"));
+        let request = take(&mut words);
+        let mut room = vec![9; number(&mut words) as usize];
+        let budget = number(&mut words);
+        let answer = derive(&request, &mut room, budget);
+        expect_answer(&row, &mut words, answer);
+        let written = (answer.number == 0).then_some(&room);
+        assert_eq!(take(&mut words), written.cloned().unwrap_or_default());
+        assert_eq!(words.next(), None);
+        met.insert(answer.number);
+        shown.extend(events(&request, room.len(), budget, answer));
+    }
+    assert_eq!(met, BTreeSet::from(NUMBERS));
+    assert_eq!(shown, BTreeSet::from(Event::ALL));
+    come_from_the_seed(|seed| derived_rows(seed, 40));
 }
 
 #[test]

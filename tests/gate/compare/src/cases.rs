@@ -8,7 +8,7 @@ use oracle::text::{parse_bytes, state_line};
 
 use crate::calls::{agreed, expect, Call, Left};
 use crate::checks::{self, Check};
-use crate::{by_cases_rows, guarded_cases, index_rows, release_cases, whether_cases};
+use crate::{by_cases_rows, derive_rows, guarded_cases, index_rows, release_cases, whether_cases};
 
 pub const FILE_A: &str = "4 3 3 3 5 7 3 1 2 0 1 6 1 0 2 4 0 3 0 0 1 1 3 2 1 2 1 0 0 0 2 0 255 2 1 1 0 2 1 2 1 0 0 0 1 7 1 2";
 const BUDGET: u32 = 100_000;
@@ -22,6 +22,7 @@ extern "C" {
     fn glintstring_judge_by_cases(request: *const u8, request_length: usize, state: *mut u8, state_length: usize, budget: u32) -> u64;
     fn glintstring_judge_indexed(request: *const u8, request_length: usize, index: *const u8, index_length: usize, state: *mut u8, state_length: usize, budget: u32) -> u64;
     fn glintstring_index(request: *const u8, request_length: usize, room: *mut u8, room_length: usize) -> u64;
+    fn glintstring_derive(request: *const u8, request_length: usize, out: *mut u8, out_length: usize, budget: u32) -> u64;
     fn glintstring_judge_line(request: *const u8, request_length: usize, state: *mut u8, state_length: usize, budget: u32, line: *mut u32) -> u64;
     fn glintstring_check(request: *const u8, request_length: usize, derivation: *const u8, derivation_length: usize) -> u64;
     fn glintstring_check_whether(request: *const u8, request_length: usize, derivation: *const u8, derivation_length: usize) -> u64;
@@ -43,6 +44,11 @@ pub fn judge_indexed(request: &[u8], index: &[u8], state: &mut [u8], budget: u32
 /// The index call.
 pub fn index(request: &[u8], room: &mut [u8]) -> Packed {
     Packed(unsafe { glintstring_index(request.as_ptr(), request.len(), room.as_mut_ptr(), room.len()) })
+}
+
+/// The derive call.
+pub fn derive(request: &[u8], room: &mut [u8], budget: u32) -> Packed {
+    Packed(unsafe { glintstring_derive(request.as_ptr(), request.len(), room.as_mut_ptr(), room.len(), budget) })
 }
 
 /// The release call.
@@ -304,7 +310,7 @@ pub fn request(row: Request) -> Vec<u8> {
 /// What a row says is left: the state's marks with zeros behind them, or the bytes as lent.
 pub fn expected([number, place, count]: [u64; 3], state: Option<&str>, lent: &[u8]) -> Left {
     let input = match number {
-        0 | 3 | 9 | 39 => 0,
+        0 | 3 | 9 | 38 | 39 => 0,
         45 => 3,
         _ => 1,
     };
@@ -335,6 +341,7 @@ fn without_bytes() -> Result<(), String> {
         return Err(format!("null and length 0: {by_cases:?} by cases"));
     }
     without_index()?;
+    without_derivation()?;
     if ([no_request_line, no_state_line], lines) != ([no_request, no_state], [0, 0]) {
         return Err(format!("null and length 0: {no_request_line} and {no_state_line} with the lines {lines:?}"));
     }
@@ -387,6 +394,25 @@ fn without_index() -> Result<(), String> {
     }
 }
 
+/// The same of the derive call.
+fn without_derivation() -> Result<(), String> {
+    use std::ptr::{null, null_mut};
+    let file_a = without_whether();
+    let mut room = [LENT; 196];
+    let derived = unsafe {
+        [
+            glintstring_derive(null(), 0, room.as_mut_ptr(), room.len(), BUDGET),
+            glintstring_derive(null(), 0, null_mut(), 0, BUDGET),
+            glintstring_derive(file_a.as_ptr(), file_a.len(), null_mut(), 0, BUDGET),
+            glintstring_derive(file_a.as_ptr(), file_a.len(), null_mut(), 0, 0),
+        ]
+    };
+    match (derived, room) {
+        ([267, 267, 39, 3], [LENT, ..]) => Ok(()),
+        _ => Err(format!("null and length 0: {derived:?} by derive calls, {room:?} left")),
+    }
+}
+
 /// The call of each row, with its sentence: both agree on what it leaves, and that is what the row says; how many there are.
 pub fn as_rows_say<S: Display, C: Display>(
     rows: impl IntoIterator<Item = (S, C, Left)>,
@@ -428,10 +454,12 @@ pub fn compare() -> Result<String, String> {
     let guarded = guarded_cases::compare(&mut rng)?;
     let by_cases = by_cases_rows::compare(&mut rng)?;
     let indexed = index_rows::compare(&mut rng)?;
+    let derived = derive_rows::compare(&mut rng)?;
     without_bytes()?;
     let (lines, checks) = (LINE_ROWS.len(), DERIVATION_ROWS.len());
     Ok(format!(
         "{walks} rows of the format, {lines} for the line, {checks} for derivations, {whether} for those in the closing layout, {releases} for release \
-         files, {guarded} for guarded requests, {by_cases} by cases and {indexed} for indexes answered as it says, and null pointers with length 0"
+         files, {guarded} for guarded requests, {by_cases} by cases, {indexed} for indexes and {derived} for writing derivations answered as it says, and null pointers \
+         with length 0"
     ))
 }

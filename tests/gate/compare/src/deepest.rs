@@ -5,11 +5,12 @@ use std::time::Duration;
 use std::{fs, thread};
 
 use oracle::indexes::index::index_of;
+use oracle::reader::DERIVATION_LIMIT;
 use oracle::rng::Rng;
 
 use crate::calls::{expect, exported, independent, Call, Left};
 use crate::indexes::Indexed;
-use crate::{by_cases, guarded, indexes};
+use crate::{by_cases, derives, guarded, indexes};
 
 /// The requests of a folder, of which the file `list` has a line each: file, budget, items, name.
 pub fn requests(folder: &str) -> Result<Vec<(String, Call)>, String> {
@@ -24,6 +25,11 @@ pub fn guarded_requests(folder: &str) -> Result<Vec<(String, Call)>, String> {
 /// The requests by cases, of which the file `by-cases` has a line each: file, budget, open fluents, name.
 pub fn requests_by_cases(folder: &str) -> Result<Vec<(String, Call)>, String> {
     listed(folder, "by-cases")
+}
+
+/// The requests whose derivations go deepest, of which the file `to-derive` has a line each: file, budget, items, name.
+pub fn requests_to_derive(folder: &str) -> Result<Vec<(String, Call)>, String> {
+    listed(folder, "to-derive")
 }
 
 fn listed(folder: &str, list: &str) -> Result<Vec<(String, Call)>, String> {
@@ -66,6 +72,11 @@ fn with_index((name, call): (String, Call)) -> (String, Indexed) {
     (name, Indexed { call, index })
 }
 
+/// The same call with room for every derivation.
+fn with_room((name, call): (String, Call)) -> (String, Call) {
+    (name, Call { lent: vec![9; DERIVATION_LIMIT], ..call })
+}
+
 /// Compares them.
 pub fn compare(folder: &str) -> Result<String, String> {
     let by_index: Vec<(String, Indexed)> = requests(folder)?.into_iter().map(with_index).collect();
@@ -74,6 +85,10 @@ pub fn compare(folder: &str) -> Result<String, String> {
     let guards = agreed(&guarded_requests(folder)?, 2, guarded::timed, guarded::independent)?;
     let cases = agreed(&requests_by_cases(folder)?, 3, by_cases::timed, by_cases::independent)?;
     let indexed = agreed(&by_index, 4, indexes::timed, indexes::independent)?;
+    let to_derive: Vec<(String, Call)> = requests_to_derive(folder)?.into_iter().map(with_room).collect();
+    let derived = agreed(&to_derive, 5, derives::timed, derives::independent)?;
     let stack = glintstring::STACK_NEEDED;
-    Ok(format!("{all} deep requests, {guards} guarded ones, {cases} by cases and {indexed} with an index agree, on a thread of {stack} bytes of stack"))
+    Ok(format!(
+        "{all} deep requests, {guards} guarded ones, {cases} by cases, {indexed} with an index and {derived} to derive agree, on a thread of {stack} bytes of stack"
+    ))
 }

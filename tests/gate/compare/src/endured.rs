@@ -12,7 +12,7 @@ use crate::calls::{self, expect, Call, Left};
 use crate::checks::Layout;
 use crate::hostile::{self, Input, Named};
 use crate::indexes::Indexed;
-use crate::{by_cases, checks, derivations, generated, guarded, indexes, releases, whether};
+use crate::{by_cases, checks, derivations, derives, generated, guarded, indexes, releases, whether};
 
 /// What a call may take, and what it may take for each count more: far more than was ever seen (docs/MEASURED.md).
 const A: Duration = Duration::from_secs(1);
@@ -70,6 +70,13 @@ fn call(rng: &mut Rng, input: &Input) -> Result<Taken, String> {
             Ok(Taken { answer: [number, input, place, 0], ..taken })
         }
         Input::Indexed(call) => agreed(indexes::timed(rng, call)?, indexes::independent(call), B),
+        Input::Derive(call) => {
+            // The length of the derivation is no count, and the walk's is.
+            let taken = agreed(derives::timed(rng, call)?, derives::independent(call), B)?;
+            let [number, input, place, _] = taken.answer;
+            let count = calls::independent(&derives::walk_of(call)).answer[3];
+            Ok(Taken { answer: [number, input, place, count], ..taken })
+        }
         Input::Derivation(check) => checks::timed(rng, check).map(|(answer, took)| Taken { answer, took, b: B }),
         Input::Release(call) => {
             let (left, took) = releases::timed(rng, call)?;
@@ -182,7 +189,7 @@ pub fn write(deepest: &str, folder: &str, budget: u32, count: u64) -> Result<Str
     inputs.extend((0..count).map(|index| Input::Derivation(whether::call(1, index))));
     inputs.extend((0..count).map(|index| Input::Indexed(indexes::call(1, index).indexed)));
     // The programs for which files are written take requests, guarded or not, with an index or without, and derivations.
-    inputs.retain(|input| !matches!(input, Input::Release(_) | Input::ByCases(_) | Input::Index(_)));
+    inputs.retain(|input| !matches!(input, Input::Release(_) | Input::ByCases(_) | Input::Index(_) | Input::Derive(_)));
     let save = |name: String, bytes: &[u8]| fs::write(format!("{folder}/{name}"), bytes).map_err(|error| format!("{folder}/{name}: {error}"));
     let [mut walks, mut guards, mut indexed, mut plain, mut closing] = std::array::from_fn(|_| Written::default());
     for (index, input) in inputs.iter_mut().enumerate() {
@@ -209,7 +216,7 @@ pub fn write(deepest: &str, folder: &str, budget: u32, count: u64) -> Result<Str
                 indexed.add(&format!("{folder}/{index}.request {folder}/{index}.index"), indexes::independently_built(&room).answer);
                 indexed.expect(indexes::independent(call).answer);
             }
-            Input::Release(_) | Input::ByCases(_) | Input::Index(_) => unreachable!("no such file is written"),
+            Input::Release(_) | Input::ByCases(_) | Input::Index(_) | Input::Derive(_) => unreachable!("no such file is written"),
         }
     }
     for (name, written) in [("walks", walks), ("guarded", guards), ("indexed", indexed), ("checks", plain), ("whether", closing)] {

@@ -14,7 +14,7 @@ use crate::deepest;
 use crate::indexes::Indexed;
 use crate::largest::{self, line};
 use crate::releases::Release;
-use crate::{by_cases_hostile, guarded_hostile, index_hostile, release_hostile, whether_hostile};
+use crate::{by_cases_hostile, derive_hostile, guarded_hostile, index_hostile, release_hostile, whether_hostile};
 
 /// The stream of random numbers of the bytes that have no meaning.
 const BYTES: u64 = 10;
@@ -36,6 +36,8 @@ pub enum Input {
     /// An index call, whose room is the lent bytes.
     Index(Call),
     Indexed(Indexed),
+    /// A derive call, whose room is the lent bytes.
+    Derive(Call),
     Derivation(Check),
     Release(Release),
 }
@@ -70,6 +72,7 @@ pub fn named(folder: &str) -> Result<Vec<Named>, String> {
     inputs.extend(guarded_hostile::named(deepest::guarded_requests(folder)?));
     inputs.extend(by_cases_hostile::named(deepest::requests_by_cases(folder)?));
     inputs.extend(index_hostile::named(deepest::requests(folder)?));
+    inputs.extend(derive_hostile::named(deepest::requests(folder)?, deepest::requests_to_derive(folder)?));
     Ok(inputs)
 }
 
@@ -78,7 +81,7 @@ pub fn longest() -> Vec<Named> {
     sensed_at_once(&[LARGEST_BUDGET])
 }
 
-/// Any bytes, as a request, guarded, by cases, with an index or none of these, as an index, as a derivation in either layout and as a release file; those of
+/// Any bytes, as a request, guarded, by cases, with an index, to derive or none of these, as an index, as a derivation in either layout and as a release file; those of
 /// every other start as their input may.
 pub fn random(seed: u64, count: u64) -> Vec<Named> {
     let mut inputs = Vec::new();
@@ -99,6 +102,7 @@ pub fn random(seed: u64, count: u64) -> Vec<Named> {
         inputs.push(by_cases_hostile::by_cases(&format!("random request {index}"), request.clone(), FEW));
         let room = rng.below(2 * LONGEST);
         inputs.push(index_hostile::built(&format!("random request {index}"), request.clone(), room));
+        inputs.push(derive_hostile::derive(&format!("random request {index}"), request.clone(), room, FEW));
         let by = bytes(rng, 2 * LONGEST, [0, 1]);
         inputs.push(index_hostile::indexed(&format!("random index {index}"), encode_request(&wide()).bytes, by, FEW));
         inputs.push(walk(&format!("random request {index}"), request, FEW));

@@ -1,7 +1,7 @@
 //! The exported calls against the independent program: the walk call on the format's cases, on the deepest requests, and on generated and
 //! damaged ones, the derivation call, the whether call and the showing call on derivations at their limits, and on generated, forged and
 //! damaged ones; the release call and the plans call on release files; the guarded call; the call by cases; the index call
-//! and the indexed call; and all of them on hostile inputs. The exit status is 0 where all agree and 1 at the first difference; what is told of it is
+//! and the indexed call; the derive call; and all of them on hostile inputs. The exit status is 0 where all agree and 1 at the first difference; what is told of it is
 //! enough to make the call again.
 
 mod answered;
@@ -14,6 +14,9 @@ mod checks;
 mod crowded;
 mod deepest;
 mod derivations;
+mod derive_hostile;
+mod derive_rows;
+mod derives;
 mod endured;
 mod fence;
 mod generated;
@@ -44,7 +47,7 @@ use words::{number, obey, Failure};
 const STACK: usize = glintstring::STACK_NEEDED + (2 << 20);
 
 const HELP: &str = "usage: compare cases | compare deepest FOLDER | compare generated SEED COUNT | compare largest | compare derivations SEED COUNT \
-                    | compare whether SEED COUNT | compare releases SEED COUNT | compare guarded SEED COUNT | compare by-cases SEED COUNT | compare indexes SEED COUNT | compare hostile FOLDER [SLOWER] | compare longest | compare write DEEPEST FOLDER BUDGET COUNT";
+                    | compare whether SEED COUNT | compare releases SEED COUNT | compare guarded SEED COUNT | compare by-cases SEED COUNT | compare indexes SEED COUNT | compare derives SEED COUNT | compare hostile FOLDER [SLOWER] | compare longest | compare write DEEPEST FOLDER BUDGET COUNT";
 
 fn main() -> ExitCode {
     obey("compare", STACK, |words| {
@@ -59,6 +62,7 @@ fn main() -> ExitCode {
             ["guarded", seed, count] => guarded::compare(number(seed)?, number(count)?),
             ["by-cases", seed, count] => by_cases::compare(number(seed)?, number(count)?),
             ["indexes", seed, count] => indexes::compare(number(seed)?, number(count)?),
+            ["derives", seed, count] => derives::compare(number(seed)?, number(count)?),
             ["hostile", folder] => endured::compare(Some(folder), 1),
             ["hostile", folder, slower] => endured::compare(Some(folder), number(slower)?),
             ["longest"] => endured::compare(None, 1),

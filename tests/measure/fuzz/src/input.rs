@@ -9,7 +9,7 @@ use crate::derivations::any_check;
 use crate::generated::any_call;
 use crate::indexes::{self, Both, Indexed};
 use crate::releases::{self, Release};
-use crate::{by_cases, by_cases_rows, cases, guarded, guarded_cases, index_rows, release_cases, whether, whether_cases};
+use crate::{by_cases, by_cases_rows, cases, derive_rows, derives, guarded, guarded_cases, index_rows, release_cases, whether, whether_cases};
 
 /// A derivation call where this bit is set; the number is the length of the request, and the derivation follows it.
 const DERIVATION: u8 = 1;
@@ -25,6 +25,8 @@ const BY_CASES: u8 = 32;
 /// An index call and an indexed call instead of a walk call, where both are set. Two bytes more have the length of the request, and the index follows it; the room
 /// has an eighth of the number as its length.
 const INDEXED: u8 = GUARDED | BY_CASES;
+/// A derive call, where both are set. Two bytes more have the length of the room, and the request follows them.
+const DERIVE: u8 = GUARDED | DERIVATION;
 /// In a call that walks: a budget of up to 16,383 instead of 255.
 const FAR: u8 = 2;
 /// The lent state, or the row, has the number modulo `LENGTHS` as its length where these are all set, and its own otherwise.
@@ -40,6 +42,7 @@ const RELEASES: u64 = 17;
 const GUARDS: u64 = 22;
 const CASES: u64 = 27;
 const INDEXES: u64 = 35;
+const DERIVES: u64 = 40;
 
 /// A call to be made both ways.
 pub enum Given {
@@ -47,6 +50,7 @@ pub enum Given {
     Guarded(Call),
     ByCases(Call),
     Indexed(Both),
+    Derive(Call),
     Derivation(Check),
     Release(Release),
 }
@@ -57,6 +61,11 @@ pub fn given(input: &[u8]) -> Given {
         [kind, high, low, ref rest @ ..] => (kind, u16::from_be_bytes([high, low]), rest),
         _ => (0, 0, input),
     };
+    let budget = if kind & FAR != 0 { number / 4 } else { number % 256 };
+    if kind & DERIVE == DERIVE {
+        let (length, request) = length_first(rest);
+        return Given::Derive(Call { request: request.to_vec(), lent: vec![9; length], budget: budget.into() });
+    }
     if kind & DERIVATION != 0 {
         let (request, derivation) = rest.split_at(rest.len().min(number.into()));
         let (request, derivation) = (request.to_vec(), derivation.to_vec());
@@ -66,7 +75,6 @@ pub fn given(input: &[u8]) -> Given {
         });
     }
     let odd = (kind & ODD_LENGTH == ODD_LENGTH).then_some(usize::from(number) % LENGTHS);
-    let budget = if kind & FAR != 0 { number / 4 } else { number % 256 };
     if kind & RELEASE != 0 {
         let length = odd.unwrap_or_else(|| 4 * oracle::plans(rest).max(1) as usize);
         return Given::Release(Release { file: rest.to_vec(), lent: vec![9; length], budget: budget.into() });
@@ -78,13 +86,18 @@ pub fn given(input: &[u8]) -> Given {
         BY_CASES => Given::ByCases(call(rest)),
         GUARDED => Given::Guarded(call(rest)),
         _ => {
-            let (length, rest) = match *rest {
-                [high, low, ref rest @ ..] => (u16::from_be_bytes([high, low]), rest),
-                _ => (0, &[][..]),
-            };
-            let (request, index) = rest.split_at(rest.len().min(length.into()));
+            let (length, rest) = length_first(rest);
+            let (request, index) = rest.split_at(rest.len().min(length));
             Given::Indexed(Both { indexed: Indexed { call: call(request), index: index.to_vec() }, room: vec![9; usize::from(number / 8)] })
         }
+    }
+}
+
+/// A length of two bytes and what follows it.
+fn length_first(bytes: &[u8]) -> (usize, &[u8]) {
+    match *bytes {
+        [high, low, ref rest @ ..] => (u16::from_be_bytes([high, low]).into(), rest),
+        _ => (0, &[]),
     }
 }
 
@@ -104,6 +117,13 @@ fn of_indexed(both: &Both) -> Vec<u8> {
     let length = u16::try_from(call.request.len()).unwrap_or(u16::MAX);
     let request = [&length.to_be_bytes()[..], &call.request, index].concat();
     of_call(&Call { request, ..call.clone() }, INDEXED)
+}
+
+/// An input for a derive call, in the same way; a longer room becomes the longest that there is.
+fn of_derive(call: &Call) -> Vec<u8> {
+    let length = u16::try_from(call.lent.len()).unwrap_or(u16::MAX);
+    let request = [&length.to_be_bytes()[..], &call.request].concat();
+    of_call(&Call { request, lent: vec![9; STATE_LENGTH], ..call.clone() }, DERIVE)
 }
 
 /// An input for a release call, in the same way.
@@ -138,6 +158,8 @@ pub fn seeds(seed: u64, count: u64) -> Vec<Vec<u8>> {
     let by_cases = by_cases_rows::calls().into_iter().chain(by_cases).map(|call| of_call(&call, BY_CASES));
     let indexed = (0..count).map(|index| indexes::any_call(&mut Rng::new(seed, INDEXES, index)));
     let indexed = index_rows::calls().into_iter().chain(indexed).map(|both| of_indexed(&both));
+    let derives = (0..count).map(|index| derives::any_call(&mut Rng::new(seed, DERIVES, index)));
+    let derives = derive_rows::calls().into_iter().chain(derives).map(|call| of_derive(&call));
     let derivations = cases::checks().into_iter().chain(derivations).chain(whether_cases::checks()).chain(closing);
     let releases = (0..count).map(|index| releases::any_call(&mut Rng::new(seed, RELEASES, index)));
     let releases = release_cases::calls().into_iter().chain(releases).map(|call| of_release(&call));
@@ -147,6 +169,7 @@ pub fn seeds(seed: u64, count: u64) -> Vec<Vec<u8>> {
         .chain(guards)
         .chain(by_cases)
         .chain(indexed)
+        .chain(derives)
         .filter(|input| input.len() <= LONGEST)
         .collect()
 }

@@ -22,6 +22,12 @@ mod crowded;
 #[allow(dead_code)]
 #[path = "../../../gate/compare/src/derivations.rs"]
 mod derivations;
+#[allow(dead_code)]
+#[path = "../../../gate/compare/src/derive_rows.rs"]
+mod derive_rows;
+#[allow(dead_code)]
+#[path = "../../../gate/compare/src/derives.rs"]
+mod derives;
 #[path = "../../../gate/compare/src/fence.rs"]
 mod fence;
 #[allow(dead_code)]
@@ -72,6 +78,7 @@ pub fn agreed(bytes: &[u8]) -> Result<[u64; 4], String> {
         Given::Guarded(call) => guarded::agreed(&mut rng, &call).map(|left| left.answer).map_err(|why| format!("{why}; {call}")),
         Given::ByCases(call) => by_cases::agreed(&mut rng, &call).map(|left| left.answer).map_err(|why| format!("{why}; {call}")),
         Given::Indexed(both) => indexes::agreed(&mut rng, &both).map(|[_, left]| left.answer).map_err(|why| format!("{why}; {both}")),
+        Given::Derive(call) => derives::agreed(&mut rng, &call).map(|left| left.answer).map_err(|why| format!("{why}; {call}")),
         Given::Derivation(check) => checks::agreed(&mut rng, &check).map_err(|why| format!("{why}; {check}")),
         Given::Release(call) => releases::agreed(&mut rng, &call).map(|left| left.summed()).map_err(|why| format!("{why}; {call}")),
     }

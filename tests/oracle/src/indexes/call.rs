@@ -5,7 +5,7 @@ use super::way::walk_by_index;
 use crate::answer::{narrow, Answer, Fault, INDEX, REQUEST};
 use crate::{judge_opened, open};
 
-/// The answer to a room that is shorter than the index.
+/// The answer to a room that is shorter than what is to be written.
 pub const ROOM_SHORT: u8 = 39;
 /// The answer to an index that is another than the request's.
 pub const DIFFERS: u8 = 45;

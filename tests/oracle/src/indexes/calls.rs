@@ -110,7 +110,7 @@ fn room(rng: &mut Rng, index: Option<usize>) -> Vec<u8> {
     bytes(rng, length)
 }
 
-fn bytes(rng: &mut Rng, length: usize) -> Vec<u8> {
+pub(crate) fn bytes(rng: &mut Rng, length: usize) -> Vec<u8> {
     (0..length).map(|_| rng.byte(0, 255)).collect()
 }
 

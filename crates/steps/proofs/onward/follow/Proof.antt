@@ -13,39 +13,39 @@ Inv-loop s t i slot at₀ at = Going s t i at
 abbrev μ-loop : tie.MeasureT-loop
 μ-loop s t i slot at₀ at = at
 
--- src/onward.rt:29:16
+-- src/onward.rt:37:16
 add-slot : tie.Need-add-slot Inv-loop μ-loop
 add-slot c = search slot-fits
 
--- src/onward.rt:30:9
+-- src/onward.rt:38:9
 get-requires : tie.Need-get-requires Inv-loop μ-loop
 get-requires c κs = search slot-there
 
--- src/onward.rt:31:5
+-- src/onward.rt:39:5
 loop-holds : tie.Need-loop-holds Inv-loop μ-loop
 loop-holds c = search going-starts
 
--- src/onward.rt:32:22
+-- src/onward.rt:40:22
 sub-around : tie.Need-sub-around Inv-loop μ-loop
 sub-around c = search needs
 
--- src/onward.rt:33:20
+-- src/onward.rt:41:20
 add-next : tie.Need-add-next Inv-loop μ-loop
 add-next c = search around-fits
 
--- src/onward.rt:34:9
+-- src/onward.rt:42:9
 get-requires-2 : tie.Need-get-requires-2 Inv-loop μ-loop
 get-requires-2 c κs = search around-there
 
--- src/onward.rt:31:5
+-- src/onward.rt:39:5
 loop-less : tie.Need-loop-less Inv-loop μ-loop
 loop-less c = search going-less
 
--- src/onward.rt:31:5
+-- src/onward.rt:39:5
 loop-again : tie.Need-loop-again Inv-loop μ-loop
 loop-again c = search going-on-around
 
--- src/onward.rt:24:1
+-- src/onward.rt:32:1
 returns : tie.Need-returns Inv-loop μ-loop
 returns c = search goes-there
 

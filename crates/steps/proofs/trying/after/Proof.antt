@@ -1,5 +1,5 @@
 -- That the action can be run in the mode of the walk says that it can by what is known, or by cases.
-use Rattle.steps.proofs.TriedLaws.{known-can, known-after-in, cases-few, cases-run, cases-after-in}
+use Rattle.steps.proofs.TriedLaws.{known-can, known-after-in, narrow-can, narrow-after-in, cases-few, cases-run, cases-after-in}
 use borrow.Author.Needs.{needs}
 use Rattle.steps.proofs.trying.after.Statement.{statement}
 use Rattle.steps.proofs.trying.after.Tie as tie
@@ -9,26 +9,42 @@ use Rattle.reading.proofs.notes.get.Reads as get-reads
 use Rattle.steps.proofs.actions.state_after.Reads as state-after-reads
 use Rattle.steps.proofs.cases.after_cases.Reads as after-cases-reads
 
--- src/trying.rt:45:9
+-- src/trying.rt:87:9
 get-requires : tie.Need-get-requires
 get-requires c κs = search needs
 
--- src/trying.rt:47:9
+-- src/trying.rt:89:9
 state-after-requires : tie.Need-state-after-requires
 state-after-requires c κs = (search needs, (search needs, (search needs, search known-can)))
 
--- src/trying.rt:47:9
+-- src/trying.rt:89:9
 returns : tie.Need-returns
 returns c = search known-after-in
 
--- src/trying.rt:49:5
+-- src/trying.rt:92:9
+state-after-requires-2 : tie.Need-state-after-requires-2
+state-after-requires-2 c κs = (search needs, (search needs, (search needs, search narrow-can)))
+
+-- src/trying.rt:92:9
+returns-2 : tie.Need-returns-2
+returns-2 c = search narrow-after-in
+
+-- src/trying.rt:94:5
 after-cases-requires : tie.Need-after-cases-requires
 after-cases-requires c κs = (search needs, (search needs, (search needs, (search cases-few, search cases-run))))
 
--- src/trying.rt:38:1
-returns-2 : tie.Need-returns-2
-returns-2 c = search cases-after-in
+-- src/trying.rt:80:1
+returns-3 : tie.Need-returns-3
+returns-3 c = search cases-after-in
 
 pub after-spec : {M : Type 1} → statement M
 after-spec =
-    tie.close (tie.spec get-requires state-after-requires returns after-cases-requires returns-2)
+    tie.close
+    (tie.spec
+    get-requires
+    state-after-requires
+    returns
+    state-after-requires-2
+    returns-2
+    after-cases-requires
+    returns-3)

@@ -3,7 +3,7 @@
 use Rattle.steps.proofs.LookLaws.{first-marked, second-marked}
 use Rattle.steps.proofs.ModeLaws.{after-marked}
 use Rattle.walking.proofs.FallLaws.{walk-measure, branching-measure, fork-measure, fork-falls, fork-walk-falls, walk-branching-falls, walk-fork-falls, branching-walk-falls, follow-falls, followed-position, chosen-position, marked-sized, opens-branching, is-branching, action-here}
-use Rattle.walking.proofs.WalkArms.{going-after-fork, going-after-walk, going-after-one, walking-counted, action-low, item-stuck, item-many, ran-there, run-spent, run-moves, run-forks, run-sees, branch-taken, none-taken, Walking, walking-starts, walking-here, walking-there, walking-marked, walking-sized, walking-going, walking-later, walking-broken, walking-passed, walking-ends, walking-judged, walking-on, passed-lacks}
+use Rattle.walking.proofs.WalkArms.{going-after-fork, going-after-walk, going-after-one, walking-counted, action-low, item-stuck, refused-stateless, item-many, ran-there, run-spent, run-moves, run-forks, run-sees, branch-taken, none-taken, Walking, walking-starts, walking-here, walking-there, walking-marked, walking-sized, walking-going, walking-later, walking-broken, walking-passed, walking-ends, walking-judged, walking-on, passed-lacks}
 use Rattle.walking.proofs.ForkLaws.{fork-rises, fork-stops, fork-forks, last-stops, last-walks}
 use Rattle.walking.proofs.StandingLaws.{notable}
 use Rattle.walking.proofs.PlacesFit.{item-fits}
@@ -30,6 +30,7 @@ use Rattle.steps.proofs.sensing.first_unknown.Reads as first-unknown-reads
 use Rattle.steps.proofs.sensing.is_sensing.Reads as is-sensing-reads
 use Rattle.steps.proofs.sensing.next_unknown.Reads as next-unknown-reads
 use Rattle.steps.proofs.trying.after.Reads as after-reads
+use Rattle.steps.proofs.trying.refused.Reads as refused-reads
 use Rattle.steps.proofs.trying.tried.Reads as tried-reads
 use Rattle.walking.proofs.tally.count_one.Reads as count-one-reads
 use Rattle.walking.proofs.tally.give_up.Reads as give-up-reads
@@ -102,7 +103,7 @@ walk-Inv-loop s t at tally₀ i₀ state₀ tally i state = Walking s t at state
 abbrev walk-μ-loop : walk-lts.MeasureT-loop
 walk-μ-loop s t at tally₀ i₀ state₀ tally i state = format .items - i
 
--- src/walk.rt:153:13
+-- src/walk.rt:155:13
 walk-branching-returns-2 : (t : ℕ) → walk-branching-lts.Need-returns-2 (
   chosen-reads.Asked,
   chosen-reads.Learnt,
@@ -181,6 +182,8 @@ pub +fork+walk+walk-branching-spec : {M : Type 1} → statement M
       after-reads.Learnt,
       note-reads.Asked,
       note-reads.Learnt,
+      refused-reads.Asked,
+      refused-reads.Learnt,
       give-up-reads.Asked,
       give-up-reads.Learnt,
       judge-end-reads.Asked,
@@ -220,7 +223,8 @@ pub +fork+walk+walk-branching-spec : {M : Type 1} → statement M
     (λ c κs. (search walking-passed, (search walking-sized, (search (needs, notable), search (item-fits, walking-there)))))
     (λ c. search (walking-ends, item-stuck, walking-there, walking-passed))
     (λ c. search needs)
-    (λ c κs. (search walking-passed, search (item-fits, walking-there)))
+    (λ c κs. search needs)
+    (λ c κs. (search walking-passed, (search refused-stateless, search (item-fits, walking-there))))
     (λ c. search (walking-ends, item-many, walking-there, walking-passed))
     (λ c κs. (search needs, (search walking-marked, search walking-going)))
     (λ c. search walking-broken)
