@@ -1,5 +1,5 @@
 -- Rows that take long to compute, and that no edit of the definitions is refuted by: plans of as many items as there may be and of one more, a
--- step that senses seven fluents, and a derivation that reaches further than a budget. Assumes nothing.
+-- step that senses seven fluents, a derivation that reaches further than a budget, and derivations of as many lines as there may be and of one more (FORMAT 24.51, 24.52). Assumes nothing.
 use Prim.Native.Nat.{ℕ, zero, suc, _+_, _*_, _/_, _%_, _^_}
 use mathlib.Core.Path.{_≡_, refl}
 use mathlib.Core.List.{List, [], _∷_, _++_, map}
@@ -9,12 +9,14 @@ use Rattle.meaning.specs.Limits.{format}
 use Rattle.meaning.specs.Judging.{judge}
 use Rattle.meaning.specs.Derivations.{check}
 use Rattle.meaning.specs.Releases.{release}
+use Rattle.meaning.specs.Schemes.{derive}
 use Rattle.meaning.proofs.Compute.{all-open}
 use Rattle.meaning.proofs.Cases.{Case, refused, no-lines, opening, copies}
 use Rattle.meaning.proofs.DerivationCases
 use Rattle.meaning.proofs.DerivationCases.{row-in, sensing-seven}
 use Rattle.meaning.proofs.ReleaseCases
 use Rattle.meaning.proofs.ReleaseCases.{judged, no-item}
+use Rattle.meaning.proofs.SchemeCases.{DeriveCase}
 
 pub long-cases : List Case
 long-cases =
@@ -79,3 +81,22 @@ three-derived = 0 ∷ 17 ∷ 2 ∷ 0 ∷ 6 ∷ 0 ∷ 0 ∷ 2 ∷ 0 ∷ 6 ∷ 1 �
 pub beyond-a-budget : (check format Plain three-sensed three-derived .number ≡ 0) × (judge format three-sensed (replicate (format .state) 0) 14 .answer .number ≡ 3) × (judge format three-sensed (replicate (format .state) 0) 15 .answer .number ≡ 0)
 unfolding all-open three-sensed three-derived
 beyond-a-budget = (refl, refl, refl)
+
+-- Nine actions look at a fluent each, and the last fluent is known. A look at it is one line more, and the eight looks at what is unknown and a look behind them are 1,023.
+looks : (plan : List ℕ) → List ℕ
+looks plan = 9 ∷ 9 ∷ 1 ∷ 16 ∷ 0 ∷ 9 ∷ 0 ∷ 0 ∷ 1 ∷ 0 ∷ 2 ∷ 0 ∷ 3 ∷ 0 ∷ 4 ∷ 0 ∷ 5 ∷ 0 ∷ 6 ∷ 0 ∷ 7 ∷ 0 ∷ 8 ∷ 0 ∷ 9 ∷ 0 ∷ 0 ∷ 1 ∷ 1 ∷ 2 ∷ 2 ∷ 3 ∷ 3 ∷ 4 ∷ 4 ∷ 5 ∷ 5 ∷ 6 ∷ 6 ∷ 7 ∷ 7 ∷ 8 ∷ 8 ∷ plan ++ (0 ∷ 0 ∷ [])
+
+abbrev without-room : (plan : List ℕ) → (number : ℕ) → DeriveCase
+without-room plan number =
+    record { request = looks plan; room = []; budget = 100000; gives = record { answer = record { number = number; input = 0; place = 0; count = 0 }; room = [] } }
+
+pub long-written : List DeriveCase
+long-written =
+    -- 1,024 lines and no room: 39. One line more: 38.
+    without-room (0 ∷ 10 ∷ 8 ∷ 0 ∷ 1 ∷ 2 ∷ 3 ∷ 4 ∷ 5 ∷ 6 ∷ 7 ∷ 0 ∷ []) 39 ∷
+    without-room (0 ∷ 11 ∷ 8 ∷ 8 ∷ 0 ∷ 1 ∷ 2 ∷ 3 ∷ 4 ∷ 5 ∷ 6 ∷ 7 ∷ 0 ∷ []) 38 ∷
+    []
+
+pub long-written-hold : map (λ (c : DeriveCase). derive format (c .request) (c .room) (c .budget)) long-written ≡ map (λ (c : DeriveCase). c .gives) long-written
+unfolding all-open looks long-written
+long-written-hold = refl

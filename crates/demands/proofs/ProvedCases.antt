@@ -28,7 +28,7 @@ use Rattle.meaning.proofs.DerivationCases.{derivations, derivations-hold}
 use Rattle.meaning.proofs.WhetherCases.{whethers, whethers-hold}
 use Rattle.meaning.proofs.ReleaseCases
 use Rattle.meaning.proofs.ReleaseCases.{releases, releases-hold}
-use Rattle.demands.proofs.LongCases.{long-cases, long-cases-hold, long-derivations, long-derivations-hold, long-releases, long-releases-hold}
+use Rattle.demands.proofs.LongCases.{long-cases, long-cases-hold, long-derivations, long-derivations-hold, long-releases, long-releases-hold, long-written, long-written-hold}
 use Rattle.demands.proofs.WideCases.{wide-cases, wide-cases-hold, wide-lines-hold}
 use Rattle.demands.proofs.ReuseCases.{reuse-cases, reuse-cases-hold}
 
@@ -148,8 +148,9 @@ all-rows =
     (and-then (each-row indexing-row building λ c has. ap built (map-same _ (λ (c : BuildCase). c .gives) building c building-holds has))
     (and-then (lined indexed-row _ _ _ _ indexed-cases (λ _. (refl, refl)) indexed-cases-hold indexed-lines-hold)
     (and-then (each-row writing-row derive-cases λ c has. ap built (map-same _ (λ (c : DeriveCase). c .gives) derive-cases c derive-cases-hold has))
+    (and-then (each-row writing-row long-written λ c has. ap built (map-same _ (λ (c : DeriveCase). c .gives) long-written c long-written-hold has))
     (and-then (judgings long-cases long-cases-hold)
-    (and-then (checkings long-derivations long-derivations-hold) (releasings long-releases long-releases-hold))))))))))))))
+    (and-then (checkings long-derivations long-derivations-hold) (releasings long-releases long-releases-hold)))))))))))))))
 
 pub proved-cases : List Row
 proved-cases = all-rows .rows
