@@ -282,7 +282,8 @@ fn scheme_events(
             (looks(0), Event::OneReading),
             (looks(2), Event::FourReadings),
             (sizes.joined_twice, Event::JoinedTwice),
-            (lines > 300, Event::FarCitation),
+            // The last line cites the one before it.
+            (lines > 257, Event::FarCitation),
             (request.plan.is_empty(), Event::EmptyPlan),
             (request.goals.is_empty(), Event::NoGoals),
             (sizes.most_known == 128, Event::FullState),
