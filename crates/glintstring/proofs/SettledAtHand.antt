@@ -12,7 +12,6 @@ use Rattle.meaning.specs.Reading.{got}
 use Rattle.meaning.specs.Refusals.{settled}
 use Rattle.meaning.specs.States.{first-state}
 use Rattle.meaning.specs.ByCases.{walked-by-cases}
-use Rattle.meaning.specs.Schemes.{narrow-walk-of}
 use Rattle.meaning.specs.Guards.{Guarded-request, settled-guarded}
 use Rattle.meaning.proofs.SettledLaws.{Settled, settled-is}
 use Rattle.meaning.proofs.GuardedReads.{guarded-past}
@@ -24,8 +23,8 @@ use Rattle.reading.proofs.SectionLaws.{noting-got}
 use Rattle.finding.specs.TablesHere.{blank, Table-here}
 use Rattle.steps.specs.Held.{guards-in, request-in}
 use Rattle.steps.specs.AtHand.{At-hand}
-use Rattle.steps.specs.Steps.{narrow-mode, mode-in, walk-held}
-use Rattle.steps.proofs.ModeLaws.{held-narrow, held-cases}
+use Rattle.steps.specs.Steps.{mode-in, walk-held}
+use Rattle.steps.proofs.ModeLaws.{held-cases}
 use Rattle.steps.proofs.ModeHand.{table-mode, new-mode, same-request, same-guarded, hand-stays}
 use Rattle.steps.proofs.JustRead.{plain-at-hand, plain-request, plain-table, plain-guards, guarded-at-hand, guarded-request, guarded-table, guarded-guards}
 
@@ -96,18 +95,3 @@ module _ (s t u : List ℕ) (r : Passed) (settles : outcome r u ≡ noting reque
       (λ two. let one = new-mode s u 1 (settled-sized s t u r settles e passes bytes empty) in omega (arith, two, one))
       (same-guarded s u 1 ∙ settled-unguarded s t u r settles e passes bytes empty)
       ∙ ap (λ (x : Request). walked-by-cases x (first-state format (x .table))) (same-request s u 1 ∙ settled-held s t u r settles e passes bytes empty)
-
--- And so it is where the walk stops at the first sensing action that is too wide.
-module _ (s t u : List ℕ) (r : Passed) (settles : outcome r u ≡ noting request-noted (settled format s) t) (e : ℕ) (passes : r ≡ To e) (bytes : (i : ℕ) → Fits w8 (getD s i 0)) (empty : t ≡ blank)
-    (v : List ℕ) (put : v ≡ set u mode-slot narrow-mode) where
-  pub narrow-hand : At-hand s v
-  narrow-hand = rw put (hand-stays s u narrow-mode (settled-at-hand s t u r settles e passes bytes empty))
-
-  pub narrow-held : request-in s v ≡ settled-got s t u r settles e passes .0
-  narrow-held = ap (request-in s) put ∙ same-request s u narrow-mode ∙ settled-held s t u r settles e passes bytes empty
-
-  pub narrow-walk : walk-held s v ≡ narrow-walk-of format (settled-got s t u r settles e passes .0)
-  narrow-walk =
-      held-narrow s v (ap mode-in put ∙ new-mode s u narrow-mode (settled-sized s t u r settles e passes bytes empty))
-      (ap (guards-in s) put ∙ same-guarded s u narrow-mode ∙ settled-unguarded s t u r settles e passes bytes empty)
-      ∙ ap (narrow-walk-of format) narrow-held

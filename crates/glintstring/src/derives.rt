@@ -25,12 +25,10 @@ use reading::notes::put;
 use refusing::settled::settle;
 use schemes::scheme::measure;
 use schemes::scheme::write;
+use steps::trying::NARROW;
 use verdicts::answers;
 use verdicts::answers::uncounted;
 use verdicts::walked::walk_plan;
-
-// The mode of a walk that is refused at a sensing action that is too wide.
-const NARROW: usize = 2;
 
 // The lines of a request whose walk is fine go to the room, where they fit: 38 and 39 are known before the first is written.
 fn write_lines(request: &[u8], t: &Notes, room: &mut [u8]) -> Answer

@@ -28,7 +28,7 @@ use verdicts::walked::walk_plan;
 // The length of a lent state.
 const STATE_BYTES: usize = limits::FLUENTS;
 
-// The mode of the call by cases; every other call's is 0.
+// The mode of the call by cases.
 const BY_CASES: usize = 1;
 
 // The walk of a settled request, and the line of the action that stopped it.

@@ -11,35 +11,35 @@ use Rattle.glintstring.proofs.derives.derive_at_hand.Reads as derive-at
 use Rattle.refusing.proofs.settled.settle.Reads as settle-reads
 use Rattle.verdicts.proofs.answers.uncounted.Reads as uncounted-reads
 
--- src/derives.rt:105:11
+-- src/derives.rt:103:11
 settle-requires : tie.Need-settle-requires
 settle-requires c κs = search blank-is
 
--- src/derives.rt:106:50
+-- src/derives.rt:104:50
 enum-told : tie.Need-enum-told
 enum-told c = search needs
 
--- src/derives.rt:106:26
+-- src/derives.rt:104:26
 derive-at-hand-requires : tie.Need-derive-at-hand-requires
 derive-at-hand-requires c κs = (search (settled-at-hand, blank-is), (search (settled-unguarded, blank-is), (search (settled-known, blank-is), search (settled-sized, blank-is))))
 
--- src/derives.rt:107:23
+-- src/derives.rt:105:23
 enum-known-k : tie.Need-enum-known-k
 enum-known-k c = search needs
 
--- src/derives.rt:107:32
+-- src/derives.rt:105:32
 uncounted-requires : tie.Need-uncounted-requires
 uncounted-requires c κs = search needs
 
--- src/derives.rt:101:1
+-- src/derives.rt:99:1
 same-length : tie.Need-same-length
 same-length c = search needs
 
--- src/derives.rt:101:1
+-- src/derives.rt:99:1
 returns : tie.Need-returns
 returns c = search (derive-so, blank-is)
 
--- src/derives.rt:101:1
+-- src/derives.rt:99:1
 returns-2 : tie.Need-returns-2
 returns-2 c = search derive-refused
 

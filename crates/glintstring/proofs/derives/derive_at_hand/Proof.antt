@@ -13,39 +13,39 @@ use Rattle.glintstring.proofs.derives.derive_walked.Reads as derive-wal
 use Rattle.reading.proofs.notes.get.Reads as get-reads
 use Rattle.verdicts.proofs.answers.uncounted.Reads as uncounted-reads
 
--- src/derives.rt:92:9
+-- src/derives.rt:90:9
 get-requires : tie.Need-get-requires
 get-requires c κs = search needs
 
--- src/derives.rt:93:9
+-- src/derives.rt:91:9
 sequence-of-requires : tie.Need-sequence-of-requires
 sequence-of-requires c κs = search goals-here
 
--- src/derives.rt:94:22
+-- src/derives.rt:92:22
 shared-slice-read-wide : tie.Need-shared-slice-read-wide
 shared-slice-read-wide c = search whether-inside
 
--- src/derives.rt:94:9
+-- src/derives.rt:92:9
 wide-requires : tie.Need-wide-requires
 wide-requires c κs = search needs
 
--- src/derives.rt:96:9
+-- src/derives.rt:94:9
 uncounted-requires : tie.Need-uncounted-requires
 uncounted-requires c κs = search needs
 
--- src/derives.rt:96:9
+-- src/derives.rt:94:9
 returns : tie.Need-returns
 returns c = search some-asked
 
--- src/derives.rt:98:5
+-- src/derives.rt:96:5
 derive-walked-requires : tie.Need-derive-walked-requires
 derive-walked-requires c κs = (search needs, (search needs, (search needs, (search needs, search none-asked))))
 
--- src/derives.rt:85:1
+-- src/derives.rt:83:1
 same-length : tie.Need-same-length
 same-length c = search needs
 
--- src/derives.rt:85:1
+-- src/derives.rt:83:1
 returns-2 : tie.Need-returns-2
 returns-2 c = search needs
 

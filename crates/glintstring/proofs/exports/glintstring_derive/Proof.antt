@@ -8,19 +8,19 @@ use Rattle.glintstring.proofs.exports.glintstring_derive.Lts as lts
 use Rattle.glintstring.proofs.exports.pack.Reads as pack-reads
 use Rattle.glintstring.proofs.derives.derive.Reads as derive-reads
 
--- src/exports.rt:89:10
+-- src/exports.rt:100:10
 derive-requires : tie.Need-derive-requires
 derive-requires c κs = search needs
 
--- src/exports.rt:89:5
+-- src/exports.rt:100:5
 pack-requires : tie.Need-pack-requires
 pack-requires c κs = search derived-small
 
--- src/exports.rt:84:1
+-- src/exports.rt:95:1
 same-length : tie.Need-same-length
 same-length c = search needs
 
--- src/exports.rt:84:1
+-- src/exports.rt:95:1
 returns : tie.Need-returns
 returns c = (search built-packed, search built-left)
 

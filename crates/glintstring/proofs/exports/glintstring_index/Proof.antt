@@ -8,19 +8,19 @@ use Rattle.glintstring.proofs.exports.glintstring_index.Lts as lts
 use Rattle.glintstring.proofs.exports.pack.Reads as pack-reads
 use Rattle.glintstring.proofs.indexes.index.Reads as index-reads
 
--- src/exports.rt:89:10
+-- src/exports.rt:91:10
 index-requires : tie.Need-index-requires
 index-requires c κs = search needs
 
--- src/exports.rt:89:5
+-- src/exports.rt:91:5
 pack-requires : tie.Need-pack-requires
 pack-requires c κs = search built-small
 
--- src/exports.rt:84:1
+-- src/exports.rt:86:1
 same-length : tie.Need-same-length
 same-length c = search needs
 
--- src/exports.rt:84:1
+-- src/exports.rt:86:1
 returns : tie.Need-returns
 returns c = (search built-packed, search built-left)
 

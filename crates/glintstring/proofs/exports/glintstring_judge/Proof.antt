@@ -8,19 +8,19 @@ use Rattle.glintstring.proofs.exports.glintstring_judge.Lts as lts
 use Rattle.glintstring.proofs.exports.pack.Reads as pack-reads
 use Rattle.glintstring.proofs.judging.judge.Reads as judge-reads
 
--- src/exports.rt:41:9
+-- src/exports.rt:43:9
 judge-requires : tie.Need-judge-requires
 judge-requires c κs = search needs
 
--- src/exports.rt:42:5
+-- src/exports.rt:44:5
 pack-requires : tie.Need-pack-requires
 pack-requires c κs = search judged-small
 
--- src/exports.rt:36:1
+-- src/exports.rt:38:1
 same-length : tie.Need-same-length
 same-length c = search needs
 
--- src/exports.rt:36:1
+-- src/exports.rt:38:1
 returns : tie.Need-returns
 returns c = (search judged-packed, search judged-left)
 

@@ -8,19 +8,19 @@ use Rattle.glintstring.proofs.exports.glintstring_judge_by_cases.Lts as
 use Rattle.glintstring.proofs.exports.pack.Reads as pack-reads
 use Rattle.glintstring.proofs.judging.judge_by_cases.Reads as judge-by-cases-reads
 
--- src/exports.rt:61:9
+-- src/exports.rt:63:9
 judge-by-cases-requires : tie.Need-judge-by-cases-requires
 judge-by-cases-requires c κs = search needs
 
--- src/exports.rt:62:5
+-- src/exports.rt:64:5
 pack-requires : tie.Need-pack-requires
 pack-requires c κs = search cases-small
 
--- src/exports.rt:56:1
+-- src/exports.rt:58:1
 same-length : tie.Need-same-length
 same-length c = search needs
 
--- src/exports.rt:56:1
+-- src/exports.rt:58:1
 returns : tie.Need-returns
 returns c = (search judged-packed, search judged-left)
 

@@ -8,19 +8,19 @@ use Rattle.glintstring.proofs.exports.glintstring_judge_guarded.Lts as 
 use Rattle.glintstring.proofs.exports.pack.Reads as pack-reads
 use Rattle.glintstring.proofs.judging.judge_guarded.Reads as judge-guarded-reads
 
--- src/exports.rt:51:9
+-- src/exports.rt:53:9
 judge-guarded-requires : tie.Need-judge-guarded-requires
 judge-guarded-requires c κs = search needs
 
--- src/exports.rt:52:5
+-- src/exports.rt:54:5
 pack-requires : tie.Need-pack-requires
 pack-requires c κs = search guarded-small
 
--- src/exports.rt:46:1
+-- src/exports.rt:48:1
 same-length : tie.Need-same-length
 same-length c = search needs
 
--- src/exports.rt:46:1
+-- src/exports.rt:48:1
 returns : tie.Need-returns
 returns c = (search judged-packed, search judged-left)
 

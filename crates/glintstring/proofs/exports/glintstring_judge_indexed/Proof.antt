@@ -8,19 +8,19 @@ use Rattle.glintstring.proofs.exports.glintstring_judge_indexed.Lts as 
 use Rattle.glintstring.proofs.exports.pack.Reads as pack-reads
 use Rattle.glintstring.proofs.judging.judge_indexed.Reads as judge-indexed-reads
 
--- src/exports.rt:79:9
+-- src/exports.rt:81:9
 judge-indexed-requires : tie.Need-judge-indexed-requires
 judge-indexed-requires c κs = search needs
 
--- src/exports.rt:80:5
+-- src/exports.rt:82:5
 pack-requires : tie.Need-pack-requires
 pack-requires c κs = search indexed-small
 
--- src/exports.rt:69:1
+-- src/exports.rt:71:1
 same-length : tie.Need-same-length
 same-length c = search needs
 
--- src/exports.rt:69:1
+-- src/exports.rt:71:1
 returns : tie.Need-returns
 returns c = (search judged-packed, search judged-left)
 

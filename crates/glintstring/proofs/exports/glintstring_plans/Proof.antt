@@ -7,15 +7,15 @@ use Rattle.glintstring.proofs.exports.glintstring_plans.Reads as reads
 use Rattle.glintstring.proofs.exports.glintstring_plans.Lts as lts
 use Rattle.verdicts.proofs.releasing.plans.Reads as plans-reads
 
--- src/exports.rt:112:5
+-- src/exports.rt:123:5
 plans-requires : tie.Need-plans-requires
 plans-requires c κs = search needs
 
--- src/exports.rt:112:5
+-- src/exports.rt:123:5
 cast-result : tie.Need-cast-result
 cast-result c = search plans-small
 
--- src/exports.rt:108:1
+-- src/exports.rt:119:1
 returns : tie.Need-returns
 returns c = search needs
 

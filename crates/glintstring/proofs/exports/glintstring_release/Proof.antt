@@ -8,19 +8,19 @@ use Rattle.glintstring.proofs.exports.glintstring_release.Lts as lts
 use Rattle.glintstring.proofs.exports.pack.Reads as pack-reads
 use Rattle.verdicts.proofs.releasing.release.Reads as release-reads
 
--- src/exports.rt:104:10
+-- src/exports.rt:115:10
 release-requires : tie.Need-release-requires
 release-requires c κs = search needs
 
--- src/exports.rt:104:5
+-- src/exports.rt:115:5
 pack-requires : tie.Need-pack-requires
 pack-requires c κs = search released-small
 
--- src/exports.rt:99:1
+-- src/exports.rt:110:1
 same-length : tie.Need-same-length
 same-length c = search needs
 
--- src/exports.rt:99:1
+-- src/exports.rt:110:1
 returns : tie.Need-returns
 returns c = (search released-packed, search released-left)
 
