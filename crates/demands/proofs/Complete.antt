@@ -1,79 +1,40 @@
 -- Theorem 3.4 of Zhao and Shen, the completeness of the rules (FORMAT 24.28): where the walk of a settled request is verified and meets no sensing action that is too wide, the rules prove
 -- its goals and each of its whether entries. The lines are those of the scheme for each, one block behind another. Assumes nothing.
-use Prim.Native.Nat.{ℕ, zero, suc, _+_, _-_, _*_, _≤_, _<_}
+use Prim.Native.Nat.{ℕ, _+_, _-_, _≤_, _<_}
 use native.Mathlib.Omega.{arith}
-use native.Mathlib.Nat.{not-suc-le-zero, le-of-suc-le-suc}
-use mathlib.Core.Path.{_≡_, refl, sym, subst}
+use mathlib.Core.Path.{_≡_, refl, subst}
 use mathlib.Core.Bool.{true}
 use mathlib.Core.List.{List, [], _∷_, map}
 use mathlib.Core.Logic.{_⊎_, inl, inr, ⊎-elim}
-use lib.ListN.{length, length-append, length-map, getD}
-use lib.Dec.{ltb}
-use borrow.Author.Tests.{ltb-true}
+use lib.ListN.{length, length-append, getD}
 use Rattle.meaning.specs.declared.Layout.the-variants.{Closing}
 use Rattle.meaning.specs.Tests.{each-of, Has}
 use Rattle.meaning.specs.Limits
 use Rattle.meaning.specs.Limits.{format}
 use Rattle.meaning.specs.Literals.{says-true, fluent-of}
-use Rattle.meaning.specs.Requests.{Effect, Knowledge, Table, done, Entry, Request, values}
+use Rattle.meaning.specs.Requests.{Table, done, Entry, Request, values}
 use Rattle.meaning.specs.Reading.{got}
 use Rattle.meaning.specs.Refusals.{settled}
 use Rattle.meaning.specs.States.{State, known, known-whether, first-state}
 use Rattle.meaning.specs.Walk.{no-state, fine, stopped, Verified}
 use Rattle.meaning.specs.Judging.{walk-of}
-use Rattle.meaning.specs.Derivations.{Conclusion, knows, knows-whether, Line, literals-of, says, cited-by, goals-of, all-asked}
-use Rattle.meaning.specs.Accepted.{Line-is, Earlier, Line-follows, All-follow, All-named}
+use Rattle.meaning.specs.Derivations.{Conclusion, knows, knows-whether, Line, literals-of, says, goals-of, all-asked}
+use Rattle.meaning.specs.Accepted.{All-named}
 use Rattle.meaning.specs.Schemes.{line-of, empty-lines, and-cites, one-read, both-read, then-read, derivation-of, narrow-walk-of}
 use Rattle.demands.specs.Completeness.{literal-known, whether-lines, lines-whether, entry-lines, asked-lines, Proved-by-rules}
-use Rattle.meaning.proofs.TestLaws.{clash, both-left, both-right, both-true, either-split, each-has, has-map, map-has}
+use Rattle.meaning.proofs.TestLaws.{clash, both-true, either-split, each-has, has-map}
 use Rattle.meaning.proofs.PickLaws.{pick-has}
 use Rattle.meaning.proofs.LiteralLaws.{fluent-true, fluent-false}
 use Rattle.meaning.proofs.SettledLaws.{settled-is}
 use Rattle.meaning.proofs.RangeLaws.{read-ranged}
 use Rattle.meaning.proofs.SetLaws.{Ascending}
-use Rattle.meaning.proofs.RulesExact.{Conclusion-ascends, Proper, says-exactly}
+use Rattle.meaning.proofs.RulesExact.{Conclusion-ascends, says-exactly}
 use Rattle.meaning.proofs.ReadLines.{Read-line, question-ascends}
-use Rattle.meaning.proofs.FollowsExact.{follows-exactly}
-use Rattle.meaning.proofs.AcceptedExactly.{format-citations}
+use Rattle.meaning.proofs.AcceptedExactly.{line-there, line-has, all-follow, format-citations}
 use Rattle.meaning.proofs.NarrowWalks.{narrow-or-wide}
 use Rattle.demands.proofs.ListedStates.{Marked}
-use Rattle.demands.proofs.SchemeRules.{Stands, stands-left, stands-right, stands-all, rule-8-for, closing-rules-for, Right, All-right, right-append, right-read, literal-right}
+use Rattle.demands.proofs.SchemeRules.{Stands, stands-left, stands-right, stands-all, rule-8-for, closing-rules-for, All-right, right-append, right-passes, right-read, literal-right}
 use Rattle.demands.proofs.SchemeFollows.{Block, block-of, line-says, asked-known, empty-block, goals-ascend, plan-block, derivation-block}
-
--- THE RELATIONS. A line of this number, which is one of all.
-line-there : (all : List Line) (k : ℕ) (d : Line) → k < length all → Line-is all k (getD all k d) × Has all (getD all k d)
-line-there [] k d h = absurd (not-suc-le-zero h)
-line-there (l ∷ ls) zero d h = (refl, inl refl)
-line-there (l ∷ ls) (suc k) d h = let w = line-there ls k d (le-of-suc-le-suc h) in (w .0, inr (w .1))
-
--- Lines that are right follow by the relations.
-module _ (t : Table) (effects-within : (e : Effect) → Has (t .effects) e → e .literal < 2 * format .state) (knowledge-within : (k : Knowledge) → Has (t .knowledge) k → k .fluent < format .state)
-    (all : List Line) (read : (l : Line) → Has all l → Read-line format Closing l) where
-  cited-earlier : (n : ℕ) → n ≤ length all → (d : Line) (ks : List ℕ) → each-of (λ (k : ℕ). ltb k n) ks ≡ true → Earlier all n ks (map (λ (k : ℕ). getD all k d) ks)
-  unfolding each-of
-  cited-earlier n within d [] e = tt
-  cited-earlier n within d (k ∷ ks) e =
-      let less = ltb-true k n (both-left _ _ e) in
-      (less, line-there all k d (omega (arith, less, within)) .0, cited-earlier n within d ks (both-right _ _ e))
-
-  line-follows : (n : ℕ) (l : Line) → n ≤ length all → Right Closing t all n l → Line-follows t all n l
-  unfolding cited-by
-  line-follows n l within right = record {
-    cited = cited-by all l;
-    earlier = cited-earlier n within l (l .cites) (right .passes .earlier);
-    follows = follows-exactly format t effects-within knowledge-within Closing (cited-by all l) l proper (right .read) (length-map (l .cites) (λ (k : ℕ). getD all k l)) format-citations .0
-        (record { rule = right .passes .rule; takes = right .passes .takes; gives = right .passes .gives });
-  }
-    where
-      proper : (x : Line) → Has (map (λ (k : ℕ). getD all k l) (l .cites)) x → Proper format x
-      proper x h =
-          let w = map-has (λ (k : ℕ). getD all k l) (l .cites) x h in
-          let less = ltb-true (w .0) n (each-has _ (l .cites) (w .0) (right .passes .earlier) (w .1)) in
-          subst (Proper format) (sym (w .2)) (read _ (line-there all (w .0) l (omega (arith, less, within)) .1) .proper)
-
-  right-follow : (n : ℕ) (ls : List Line) → n + length ls ≤ length all → All-right Closing t all n ls → All-follow t all n ls
-  right-follow n [] within rights = tt
-  right-follow n (l ∷ ls) within rights = (line-follows n l (omega (arith, within)) (rights .0), right-follow (n + 1) ls (omega (arith, within)) (rights .1))
 
 -- For each conclusion a line of its number, which says the facts, the plan and it.
 abbrev Each-said : Request → (all : List Line) → List Conclusion → List ℕ → Type 0
@@ -88,7 +49,7 @@ each-named r up all read d [] (k ∷ ks) h = absurd h
 each-named r up all read d (Y ∷ Ys) [] h = absurd h
 each-named r up all read d (Y ∷ Ys) (k ∷ ks) h =
     let there = line-there all k d (h .0) in
-    ((getD all k d, there .0, says-exactly (getD all k d) (read _ (there .1) .proper) (r .table .facts) (r .plan) Y up (h .1) .0 (h .2 d)), each-named r up all read d Ys ks (h .3))
+    ((getD all k d, there, says-exactly (getD all k d) (read _ (line-has all k (getD all k d) there) .proper) (r .table .facts) (r .plan) Y up (h .1) .0 (h .2 d)), each-named r up all read d Ys ks (h .3))
 
 -- A WHETHER ENTRY. The literal that is known of a fluent that is known whether.
 literal-is-known : (f : ℕ) (s : State) → known-whether s f ≡ true → (known s (literal-known f s) ≡ true) × (fluent-of (literal-known f s) ≡ f)
@@ -157,8 +118,8 @@ module _ (request : List ℕ) (r : Request) (e : ℕ) (past : settled format req
       record {
         lines = all;
         closing = x .lasts;
-        all-follow = right-follow (r .table) (λ y h. let below = ranged .effects y h in let few = ranged .fluents in omega (arith, below, few))
-            (λ k h. let below = ranged .knowledge k h in let few = ranged .fluents in omega (arith, below, few)) all read 0 all (omega arith) right;
+        all-follow = all-follow format format-citations (r .table) (λ y h. let below = ranged .effects y h in let few = ranged .fluents in omega (arith, below, few))
+            (λ k h. let below = ranged .knowledge k h in let few = ranged .fluents in omega (arith, below, few)) Closing all read 0 all (omega arith) (λ l h. h) (right-passes Closing (r .table) all 0 all right);
         all-named = each-named r (question-ascends format request r e reads .0) all read (line-of first done (goals-of r) 0 []) (all-asked r) (x .lasts) (omega (arith, size, some), up, block .last, entries .1);
       }
 

@@ -17,7 +17,7 @@ use Rattle.meaning.specs.Requests.{Knowledge, Table, Sequence, done, item, Item
 use Rattle.meaning.specs.Lines.{knowledge-of, sensing}
 use Rattle.meaning.specs.Refusals.{nowhere}
 use Rattle.meaning.specs.States.{State, first-state, unknown-sensed}
-use Rattle.meaning.specs.Walk.{Concerned, no-state, End, fine, stopped, Walked, Verified, Step, refuses, Steps, table-does, table-step, missed-in, judged}
+use Rattle.meaning.specs.Walk.{Concerned, no-state, End, stopped, Walked, Verified, Step, refuses, Steps, table-does, table-step, missed-in, judged}
 use Rattle.meaning.specs.Judging.{walk-of}
 use Rattle.meaning.specs.Approximation.{K}
 use Rattle.meaning.specs.Paths.{Ending, arrives, stops, Path, paths-step, paths, paths-item, paths-branch, first-miss, stop-or-miss, walked-along}

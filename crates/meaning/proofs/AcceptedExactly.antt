@@ -31,7 +31,7 @@ use Rattle.meaning.proofs.FollowsExact.{Tested, follows-exactly}
 use Rattle.meaning.proofs.Passed.{Line-passes, All-pass, Last-passes, Entries-pass, End-passes, Passed, passed-exactly}
 
 -- LINES BY THEIR NUMBERS.
-line-there : (lines : List Line) (k : ℕ) (d : Line) → k < length lines → Line-is lines k (getD lines k d)
+pub line-there : (lines : List Line) (k : ℕ) (d : Line) → k < length lines → Line-is lines k (getD lines k d)
 line-there [] k d h = absurd (not-suc-le-zero h)
 line-there (l ∷ ls) zero d h = refl
 line-there (l ∷ ls) (suc k) d h = line-there ls k d (le-of-suc-le-suc h)
@@ -41,7 +41,7 @@ line-get [] k d x h = absurd h
 line-get (l ∷ ls) zero d x h = sym h
 line-get (l ∷ ls) (suc k) d x h = line-get ls k d x h
 
-line-has : (lines : List Line) (k : ℕ) (x : Line) → Line-is lines k x → Has lines x
+pub line-has : (lines : List Line) (k : ℕ) (x : Line) → Line-is lines k x → Has lines x
 line-has [] k x h = h
 line-has (l ∷ ls) zero x h = inl h
 line-has (l ∷ ls) (suc k) x h = inr (line-has ls k x h)
@@ -96,7 +96,7 @@ module _ (lim : Limits) (few : lim .citations ≤ 64) (t : Table) (effects-withi
         let p = exactly (f .cited) (f .earlier) (ap length (sym (w .1)) ∙ length-map (l .cites) (λ (k : ℕ). getD lines k l)) .1 (f .follows) in
         record { rule = p .rule; takes = p .takes; earlier = w .0; gives = subst (λ (cited : List Line). follows lim t cited l ≡ true) (sym (w .1)) (p .gives) }
 
-  all-follow : (i : ℕ) (ls : List Line) → i + length ls ≤ length lines → ((l : Line) → Has ls l → Has lines l) → All-pass lim layout t lines i ls → All-follow t lines i ls
+  pub all-follow : (i : ℕ) (ls : List Line) → i + length ls ≤ length lines → ((l : Line) → Has ls l → Has lines l) → All-pass lim layout t lines i ls → All-follow t lines i ls
   all-follow i [] within has p = tt
   all-follow i (l ∷ ls) within has p =
       (line-follows i l (has l (inl refl)) (omega arith) (p .0), all-follow (i + 1) ls (omega arith) (λ k h. has k (inr h)) (p .1))

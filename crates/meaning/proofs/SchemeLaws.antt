@@ -1,13 +1,10 @@
 -- The lines of a plan that is joined with another, and those of what is left of a plan, item by item. Assumes nothing.
 use Prim.Native.Nat.{ℕ}
 use mathlib.Core.Path.{_≡_, refl, sym, _∙_, ap, fun-ext}
-use mathlib.Core.List.{List}
-use Rattle.meaning.specs.Tests.{pick, each-of}
-use Rattle.meaning.specs.Requests.{Table, Sequence, done, item, Item, act, branching, Branches, none, branch, Request}
-use Rattle.meaning.specs.States.{State, known}
-use Rattle.meaning.specs.Derivations
-use Rattle.meaning.specs.Derivations.{Conclusion, Line, join}
-use Rattle.meaning.specs.Schemes.{Writes, lines, item-lines, branch-lines, action-lines, lines-from}
+use Rattle.meaning.specs.Requests.{Table, Sequence, done, item, Item, Request}
+use Rattle.meaning.specs.States.{State}
+use Rattle.meaning.specs.Derivations.{Conclusion, join, goals-of}
+use Rattle.meaning.specs.Schemes.{Writes, lines, item-lines, lines-from}
 
 -- JOINING.
 module _ {L : Type 0} where
@@ -31,13 +28,13 @@ module _ (t : Table) (Y : Conclusion) where
       ∙ ap (λ (w : Writes). item-lines t Y i (join p (join q rest)) w s n) (fun-ext (λ (u : State). fun-ext (λ (m : ℕ). lines-join p q rest k u m)))
 
 -- THE LINES OF WHAT IS LEFT: those of an item, where what follows it writes its own.
-pub lines-item : (r : Request) (i : Item ℕ) (c : Sequence ℕ) (s : State) (n : ℕ) → lines-from r (item i c) s n ≡ item-lines (r .table) (Derivations.goals-of r) i c (lines-from r c) s n
+pub lines-item : (r : Request) (i : Item ℕ) (c : Sequence ℕ) (s : State) (n : ℕ) → lines-from r (item i c) s n ≡ item-lines (r .table) (goals-of r) i c (lines-from r c) s n
 unfolding lines-from lines
-lines-item r i c s n = ap (λ (rest : Sequence ℕ). item-lines (r .table) (Derivations.goals-of r) i rest (lines-from r c) s n) (join-done c)
+lines-item r i c s n = ap (λ (rest : Sequence ℕ). item-lines (r .table) (goals-of r) i rest (lines-from r c) s n) (join-done c)
 
 -- A branch that is chosen is joined with what follows.
-pub lines-branch : (r : Request) (b c : Sequence ℕ) (s : State) (n : ℕ) → lines (r .table) (Derivations.goals-of r) b c (lines-from r c) s n ≡ lines-from r (join b c) s n
+pub lines-branch : (r : Request) (b c : Sequence ℕ) (s : State) (n : ℕ) → lines (r .table) (goals-of r) b c (lines-from r c) s n ≡ lines-from r (join b c) s n
 unfolding lines-from
 lines-branch r b c s n =
-    sym (lines-join (r .table) (Derivations.goals-of r) b c done _ s n
-    ∙ ap (λ (rest : Sequence ℕ). lines (r .table) (Derivations.goals-of r) b rest (lines-from r c) s n) (join-done c))
+    sym (lines-join (r .table) (goals-of r) b c done _ s n
+    ∙ ap (λ (rest : Sequence ℕ). lines (r .table) (goals-of r) b rest (lines-from r c) s n) (join-done c))
