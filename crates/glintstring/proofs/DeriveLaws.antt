@@ -13,7 +13,7 @@ use Rattle.meaning.specs.declared.Answer.{Answer}
 use Rattle.meaning.specs.declared.Layout.the-variants.{Plain}
 use Rattle.meaning.specs.Limits.{format}
 use Rattle.meaning.specs.Requests.{Request}
-use Rattle.meaning.specs.Reading.{got, fault}
+use Rattle.meaning.specs.Reading.{got}
 use Rattle.meaning.specs.Refusals.{settled}
 use Rattle.meaning.specs.States.{State, first-state}
 use Rattle.meaning.specs.Walk.{Walked, Verified}
@@ -121,9 +121,6 @@ narrow-fine x budget a walks none =
 
 -- OF A SETTLED REQUEST: 30, a walk that does not verify, a step that is too wide, and what is written.
 module _ (x : Request) (room : List ℕ) (budget : ℕ) (a : Answer) where
-  abbrev Derived : (left : List ℕ) → Type 0
-  Derived left = record { answer = a; room = left } ≡ derive-got format room budget (got x 0)
-
   pub derived-30 : beyond Plain x ≡ true → a ≡ record { number = 30; input = 1; place = x .whether-place; count = 0 } → record { answer = a; room = room } ≡ derive-got format room budget (got x 0)
   unfolding derive-got unwritten answer
   derived-30 asked is = ap (λ (b : Answer). record { answer = b; room = room }) is ∙ sym (pick-true _ _ _ asked)
