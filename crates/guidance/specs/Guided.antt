@@ -1,4 +1,4 @@
--- A volume that is guided: each answered action is done once before the next call, and the readings are truthful (FORMAT 25.21, 25.22). What carrying
+-- A volume that is guided: each answered action is done once before the next call, and the readings are truthful (FORMAT 25.24, 25.25). What carrying
 -- out an action means is demand 3's own definition, `Worlds.Acted`.
 use Prim.Native.Nat.{ℕ}
 use mathlib.Core.Path.{_≡_}

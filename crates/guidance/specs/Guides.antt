@@ -130,7 +130,7 @@ state-done t a s = pick (sensing t a) (λ _. s) (λ _. state-after t a s)
 unfoldable pub stays : Guide → (number : ℕ) → Turn
 stays g n = record { guide = g; told = Refused (of-guide n) }
 
--- From the guide g on, by what comes next in a state. An action that cannot be run is not answered, and a guide that started does not come to one (FORMAT 25.11, 25.15).
+-- From the guide g on, by what comes next in a state. An action that cannot be run is not answered, and a guide that started does not come to one (FORMAT 25.11, 25.16).
 unfoldable pub met : Limits → Table → Guide → State → Ahead → Turn
 met lim t g s the-end = record { guide = ended s; told = Done }
 met lim t g s (an-action a rest) =
