@@ -10,6 +10,7 @@ use oracle::cases;
 use oracle::derives;
 use oracle::examples::{self, DEFAULT_BUDGET};
 use oracle::guards;
+use oracle::guides::{self, trials::Trial};
 use oracle::indexes;
 use oracle::releases::{self, call::ROW_NUMBERS};
 use oracle::tally::Checked;
@@ -112,7 +113,7 @@ struct Kind {
     rows: fn(u64, u64) -> Box<dyn Iterator<Item = String>>,
 }
 
-const KINDS: [Kind; 6] = [
+const KINDS: [Kind; 7] = [
     Kind {
         option: "--whether",
         command: "run-whether",
@@ -148,6 +149,12 @@ const KINDS: [Kind; 6] = [
         command: "run-derived",
         run: |seed, count| Box::new(derives::run::run(seed, count)),
         rows: |seed, count| Box::new(derives::rows::derived_rows(seed, count)),
+    },
+    Kind {
+        option: "--guided",
+        command: "run-guided",
+        run: |seed, count| Box::new(guides::run::run(seed, count)),
+        rows: |seed, count| Box::new(guides::rows::guided_rows(seed, count)),
     },
 ];
 
@@ -193,6 +200,12 @@ fn command(words: &[String]) -> Result<ExitCode, String> {
             let numbers = of_kinds(&["--seed", "--count", "--derivations"]);
             print_rows(&Options::parse(rest, &numbers, &[], 0)?)
         }
+        "trials" => {
+            let (rest, to) = named_file("--to", rest)?;
+            let options = Options::parse(&rest, &["--seed", "--count"], &[], 0)?;
+            write_trials(&options, to)
+        }
+        "guide" => guide_file(&Options::parse(rest, &["--budget"], &["--text"], 2)?),
         "examples" => run_examples(rest.first()),
         "--help" | "-h" | "help" => {
             print!("{HELP}");
@@ -415,6 +428,34 @@ fn print_rows(options: &Options) -> Result<ExitCode, String> {
         writeln!(out, "{row}").map_err(|error| error.to_string())?;
     }
     out.flush().map_err(|error| error.to_string())?;
+    Ok(ExitCode::SUCCESS)
+}
+
+/// Leads through the plan of a request, each call with the bytes of a line of readings.
+fn guide_file(options: &Options) -> Result<ExitCode, String> {
+    let lines = fs::read_to_string(&options.files[1]).map_err(|error| error.to_string())?;
+    let trial = Trial {
+        request: options.bytes(0)?,
+        budget: budget_of(options)?,
+        calls: lines.lines().map(parse_bytes).collect::<Result<_, _>>()?,
+    };
+    print!("{}", trial.answers().printed());
+    Ok(ExitCode::SUCCESS)
+}
+
+/// Writes trials of guides to a file, and what is to be printed of them to standard output.
+fn write_trials(options: &Options, to: Option<String>) -> Result<ExitCode, String> {
+    let to = to.ok_or("trials are written --to a file")?;
+    let seed = options.number("--seed", 1);
+    let mut out = io::BufWriter::new(io::stdout().lock());
+    let mut bytes = Vec::new();
+    for trial in guides::trials::trials(seed, options.number("--count", CALLS)) {
+        bytes.extend(trial.bytes());
+        let printed = trial.answers().printed();
+        write!(out, "{printed}").map_err(|error| error.to_string())?;
+    }
+    out.flush().map_err(|error| error.to_string())?;
+    fs::write(&to, bytes).map_err(|error| format!("{to}: {error}"))?;
     Ok(ExitCode::SUCCESS)
 }
 
