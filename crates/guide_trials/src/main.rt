@@ -1,5 +1,6 @@
 // Answers trials of guides, one after the other from standard input, on standard output (D193): for each a line with the answer of its start, and one for each of its calls.
 // A trial has the budget in four bytes, the length of the request in two, the request, the number of calls in two, and for each call a byte that counts its readings, and these.
+ghost use Rattle.programs.specs.Input.{Within};
 use bytes::limits;
 use guidance::Told;
 use guide::guides::Guide;
@@ -19,10 +20,6 @@ const READINGS_ROOM: usize = 255;
 
 const MOST_TRIALS: u64 = 18446744073709551615;
 
-fn wide(byte: u8) -> usize {
-    byte as usize
-}
-
 // As many bytes as buf has were read.
 fn is_read(buf: &mut [u8]) -> bool {
     let due = buf.len();
@@ -32,36 +29,62 @@ fn is_read(buf: &mut [u8]) -> bool {
     }
 }
 
-// A number of one byte, of two and of four, the high byte first; or that standard input has ended.
+// A number, or that standard input has ended.
 enum Number {
-    Of(usize),
+    Of(u32),
     Missing,
+}
+
+fn with_byte(number: u32, byte: u8) -> u32 {
+    (number << 8) | byte as u32
+}
+
+// The number that as many bytes as buf has write, the high byte first.
+fn number_read(buf: &mut [u8]) -> Number {
+    if !is_read(buf) {
+        return Number::Missing;
+    }
+    let mut number = 0u32;
+    let mut i = 0;
+    while i < buf.len() {
+        number = with_byte(number, buf[i]);
+        i += 1;
+    }
+    Number::Of(number)
 }
 
 fn one_byte() -> Number {
     let mut bytes = [0u8; 1];
-    if is_read(&mut bytes) {
-        return Number::Of(wide(bytes[0]));
-    }
-    Number::Missing
+    number_read(&mut bytes)
 }
 
 fn two_bytes() -> Number {
     let mut bytes = [0u8; 2];
-    if is_read(&mut bytes) {
-        return Number::Of(256 * wide(bytes[0]) + wide(bytes[1]));
-    }
-    Number::Missing
+    number_read(&mut bytes)
 }
 
 fn four_bytes() -> Number {
     let mut bytes = [0u8; 4];
-    if is_read(&mut bytes) {
-        let high = 256 * wide(bytes[0]) + wide(bytes[1]);
-        let low = 256 * wide(bytes[2]) + wide(bytes[3]);
-        return Number::Of(65536 * high + low);
+    number_read(&mut bytes)
+}
+
+// So many bytes are read to the start of buf.
+fn row_read(length: Number, buf: &mut [u8]) -> Input
+    ensures { λ r. ⌜ Within 0 r (now (buf .exit)) ⌝ }
+{
+    match length {
+        Number::Of(n) => {
+            let end = n as usize;
+            if buf.len() < end {
+                return Input::Unreadable;
+            }
+            if is_read(&mut buf[..end]) {
+                return Input::Bytes(end);
+            }
+            Input::Unreadable
+        }
+        Number::Missing => Input::Unreadable,
     }
-    Number::Missing
 }
 
 fn put_answer(answer: Answer) -> bool {
@@ -75,6 +98,10 @@ fn put_answer(answer: Answer) -> bool {
         && put(b"\n")
 }
 
+fn put_fluent(fluent: u8) -> bool {
+    put(b" ") && put_number(fluent as u64)
+}
+
 // The fluents, each behind a space.
 fn put_asked(asked: Fluents) -> bool {
     let mut i = 0;
@@ -82,8 +109,7 @@ fn put_asked(asked: Fluents) -> bool {
         if i >= asked.count {
             break;
         }
-        let fluent = wide(asked.row[i]);
-        if !(put(b" ") && put_number(fluent as u64)) {
+        if !put_fluent(asked.row[i]) {
             return false;
         }
         i += 1;
@@ -103,27 +129,22 @@ fn put_told(told: Told, guide: Guide) -> bool {
 }
 
 // So many calls, from standard input.
-fn put_calls(started: Guide, calls: usize) -> bool {
+fn put_calls(started: Guide, calls: u32) -> bool {
     let mut guide = started;
     let mut readings = [0u8; READINGS_ROOM];
     let mut i = 0;
     while i < calls {
         i += 1;
-        match one_byte() {
-            Number::Of(n) => {
-                if READINGS_ROOM < n {
-                    return false;
-                }
-                if !is_read(&mut readings[..n]) {
-                    return false;
-                }
+        match row_read(one_byte(), &mut readings) {
+            Input::Bytes(n) => {
                 let turn = guide.next(&readings[..n]);
+                let told = turn.told;
                 guide = turn.guide;
-                if !put_told(turn.told, guide) {
+                if !put_told(told, guide) {
                     return false;
                 }
             }
-            Number::Missing => return false,
+            Input::Unreadable => return false,
         }
     }
     true
@@ -132,7 +153,8 @@ fn put_calls(started: Guide, calls: usize) -> bool {
 // The start and the calls behind it.
 fn put_started(request: &[u8], budget: u32) -> bool {
     let started = Guide::start(request, budget);
-    if !(put(b"start ") && put_answer(started.answer)) {
+    let answer = started.answer;
+    if !(put(b"start ") && put_answer(answer)) {
         return false;
     }
     match two_bytes() {
@@ -141,20 +163,14 @@ fn put_started(request: &[u8], budget: u32) -> bool {
     }
 }
 
-// A trial with this budget, whose request is read from standard input.
+// A trial with this budget.
 fn put_trial(budget: u32) -> bool {
     let mut bytes = [0u8; REQUEST_ROOM];
-    match two_bytes() {
-        Number::Of(n) => {
-            if REQUEST_ROOM < n {
-                return false;
-            }
-            if !is_read(&mut bytes[..n]) {
-                return false;
-            }
+    match row_read(two_bytes(), &mut bytes) {
+        Input::Bytes(n) => {
             stack_is_enough(b"guide_trials", b"", n) && put_started(&bytes[..n], budget)
         }
-        Number::Missing => false,
+        Input::Unreadable => false,
     }
 }
 
@@ -165,10 +181,7 @@ fn put_trials() {
         i += 1;
         match four_bytes() {
             Number::Of(budget) => {
-                if 4294967295 < budget {
-                    return;
-                }
-                if !put_trial(budget as u32) {
+                if !put_trial(budget) {
                     os::fail(b"guide_trials");
                     return;
                 }
