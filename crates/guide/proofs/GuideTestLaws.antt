@@ -1,15 +1,14 @@
 -- The tests of values that may stand for no guide: an item of the plan or its end, and marks that are each one of the three. Assumes nothing.
-use Prim.Native.Nat.{ℕ, suc, _+_, _≤_, _<_}
+use Prim.Native.Nat.{ℕ, zero, suc, _+_, _≤_, _<_}
 use native.Mathlib.Omega.{arith}
-use native.Mathlib.Decide.{decLt}
 use mathlib.Core.Path.{_≡_, refl, sym, _∙_, ap}
 use mathlib.Core.Bool.{true, false}
 use mathlib.Core.List.{List, [], _∷_}
 use mathlib.Core.Logic.{⊎-elim}
-use lib.ListN.{length, getD, drop, List·getD-eq-default, drop-of-length-le}
+use lib.ListN.{length, getD, drop, drop-of-length-le}
 use lib.Seq.{drop-cons}
 use lib.Dec.{eqb, ltb, leb}
-use borrow.Author.Tests.{eqb-true, eq-eqb, ne-eqb, ltb-true, lt-ltb, leb-true, le-leb, lt-leb}
+use borrow.Author.Tests.{eqb-true, eqb-false, eq-eqb, ne-eqb, ltb-true, lt-ltb, leb-true, le-leb, lt-leb}
 use Rattle.meaning.specs.Tests.{both, either, each-of}
 use Rattle.meaning.specs.Limits.{format}
 use Rattle.meaning.specs.Requests.{Sequence}
@@ -32,10 +31,11 @@ pub item-tested : (s t : List ℕ) → At-hand s t → (at items : ℕ) → (at 
 unfolding is-position either
 item-tested s t here at items other is = sym (rw (ne-eqb _ _ other, is, items-are s t here))
 
-module _ (b : Sequence ℕ) (few : items-of b ≤ format .items) (at : ℕ) where
-  pub position-passes : is-position b at ≡ true → Position b at
+-- What passes is a position, and a position passes.
+module _ (b : Sequence ℕ) (at : ℕ) where
+  pub position-passes : items-of b ≤ format .items → is-position b at ≡ true → Position b at
   unfolding is-position
-  position-passes holds =
+  position-passes few holds =
       ⊎-elim
       (λ e. let end = eqb-true _ _ e in record { most = omega arith; there = λ other. absurd (other end) })
       (λ e. let less = ltb-true _ _ e in record { most = omega arith; there = λ _. less })
@@ -46,7 +46,7 @@ module _ (b : Sequence ℕ) (few : items-of b ≤ format .items) (at : ℕ) wher
   passes-position position =
       by-test (eqb at (format .items))
       (λ e. either-left _ _ e)
-      (λ e. either-right _ _ (lt-ltb _ _ (position .there (λ is. let no-other = sym e ∙ eq-eqb _ _ is in absurd (omega arith)))))
+      (λ e. either-right _ _ (lt-ltb _ _ (position .there (eqb-false _ _ e))))
 
 -- MARKS, those from fluent f up.
 pub record Marks-left (marks : State) (f : ℕ) : Type 0 where
@@ -77,11 +77,11 @@ module _ (marks : State) (f : ℕ) (left : Marks-left marks f) where
   unfolding is-marked each-of
   marks-done far = let sized = left .sized in sym (left .same ∙ ap is-marked (drop-of-length-le marks {i = f} (omega arith)))
 
--- Marks that pass are marked.
+-- A state whose marks pass is marked, and the marks of one that is marked pass.
 each-small : (ms : List ℕ) → each-of (λ (m : ℕ). leb m 2) ms ≡ true → (f : ℕ) → getD ms f 0 ≤ 2
 unfolding each-of
 each-small [] holds f = omega arith
-each-small (m ∷ ms) holds 0 = leb-true m 2 (both-left _ _ holds)
+each-small (m ∷ ms) holds zero = leb-true m 2 (both-left _ _ holds)
 each-small (m ∷ ms) holds (suc f) = each-small ms (both-right _ _ holds) f
 
 small-each : (ms : List ℕ) → ((f : ℕ) → getD ms f 0 ≤ 2) → each-of (λ (m : ℕ). leb m 2) ms ≡ true

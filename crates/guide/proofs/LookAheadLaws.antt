@@ -20,10 +20,10 @@ use Rattle.steps.proofs.HandLaws.{few-items}
 use Rattle.steps.proofs.RestLaws.{rest-past}
 use Rattle.steps.proofs.OnwardLaws.{action-small, action-left}
 use Rattle.walking.specs.Walks.{action-at}
-use Rattle.guidance.specs.Guides.{Ahead, no-branch, an-action, ahead-in, ahead-branch, ahead}
+use Rattle.guidance.specs.Guides.{Ahead, no-branch, ahead-in, ahead-branch, ahead}
 use Rattle.guidance.proofs.ComingLaws.{ahead-join, ahead-act, ahead-branching}
 use Rattle.guide.specs.declared.going.Ahead.the-variants.{End, Action, NoBranch}
-use Rattle.guide.specs.GuideHeld.{came, Item-there, Action-there}
+use Rattle.guide.specs.GuideHeld.{came, Action-there}
 
 -- A BRANCHING leads to the branch that is chosen, or to none.
 module _ (s : State) where

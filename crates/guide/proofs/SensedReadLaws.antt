@@ -10,7 +10,7 @@ use lib.Dec.{eqb}
 use borrow.Author.Tests.{eq-eqb, ne-eqb}
 use Rattle.meaning.specs.Tests.{either, pick, some-of}
 use Rattle.meaning.specs.Limits.{format}
-use Rattle.meaning.specs.Literals.{says-true, says-false, fluent-of, complement}
+use Rattle.meaning.specs.Literals.{fluent-of, complement}
 use Rattle.meaning.specs.Requests.{Table}
 use Rattle.meaning.specs.Lines.{knowledge-of, senses}
 use Rattle.meaning.specs.States.{State, mark-of, known, told, told-all}

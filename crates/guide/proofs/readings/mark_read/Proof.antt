@@ -1,6 +1,5 @@
 -- The byte 0 says the literal that is false, and any other the one that is true.
 use Rattle.guide.proofs.SensedReadLaws.{read-no, read-yes}
-use borrow.Author.Needs.{needs}
 use Rattle.guide.proofs.readings.mark_read.Statement.{statement}
 use Rattle.guide.proofs.readings.mark_read.Tie as tie
 use Rattle.guide.proofs.readings.mark_read.Reads as reads
