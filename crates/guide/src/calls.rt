@@ -26,15 +26,17 @@ use steps::onward::start_of;
 use verdicts::answers;
 use verdicts::answers::uncounted;
 
-// Each of the marks is one of the three.
+// Each of the marks is one of the three. There is one for each fluent: a reference to them does not tell so, but a slice does.
 fn is_marked(marks: &Marks) -> bool
     ensures { λ r. ⌜ r ≡ is-marked (now (marks .entry)) ⌝ }
+    ensures { λ _. ⌜ length (now (marks .entry)) ≡ format .state ⌝ }
 {
+    let row: &[u8] = marks;
     let mut f = 0;
     while f < limits::FLUENTS {
         let here = f;
         f += 1;
-        if 2 < marks[here] {
+        if 2 < row[here] {
             return false;
         }
     }

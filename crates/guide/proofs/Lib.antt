@@ -1,0 +1,3 @@
+pub mod SensedReadLaws
+pub mod LookAheadLaws
+pub mod GuideTestLaws
