@@ -1,0 +1,2 @@
+pub mod GuideCompute
+pub mod GuideCases
