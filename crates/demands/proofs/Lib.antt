@@ -58,3 +58,4 @@ pub mod Indexed
 pub mod NarrowMet
 pub mod DeriveExact
 pub mod Demands
+pub mod GuideReadings
