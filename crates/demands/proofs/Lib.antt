@@ -59,3 +59,4 @@ pub mod NarrowMet
 pub mod DeriveExact
 pub mod Demands
 pub mod GuideReadings
+pub mod GuideSteps
