@@ -50,6 +50,10 @@ pub record Possible (v : World) (P : Worlds World) (s : State) : Type 0 where
   pub agree : (w : World) → P w → Right w s
   pub actual : P v
 
+-- No action is left.
+abbrev pub None-left : List ℕ → World → Worlds World → Type 0
+None-left left u Q = left ≡ []
+
 -- In a state, where k judges the plan's end.
 module _ (t : Table) (k : State → Walked State) (s : State) (v : World) (P : Worlds World) (g : Possible v P s) where
   abbrev Apart : List (List ℕ) → Type 0
@@ -68,10 +72,6 @@ module _ (t : Table) (k : State → Walked State) (s : State) (v : World) (P : W
       by-test (each-of (known s) c)
       (λ q. no-one c (inl refl) (sure c q v (g .actual)))
       (λ q. some-followed j bs p (subst Verified (pick-false _ _ _ q) fine) (λ e m. no-one e (inr m)))
-
-  -- None is left.
-  abbrev pub None-left : List ℕ → World → Worlds World → Type 0
-  None-left left u Q = left ≡ []
 
   -- WHAT COMES NEXT: the walk comes to the plan's end, and nothing more is run; or it runs the action and walks what is left behind it, and running the action
   -- and then what is left runs all.

@@ -60,3 +60,5 @@ pub mod DeriveExact
 pub mod Demands
 pub mod GuideReadings
 pub mod GuideSteps
+pub mod GuideAnswers
+pub mod GuideSound
