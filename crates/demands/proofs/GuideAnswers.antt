@@ -232,15 +232,15 @@ not-refused-done : (x : Answer) → Refused x ≡ Done → ⊥
 unfolding ends
 not-refused-done x q = clash (ap ends q) refl
 
-do-not-refused : (a : ℕ) (x : Answer) → Do a ≡ Refused x → ⊥
+pub do-not-refused : (a : ℕ) (x : Answer) → Do a ≡ Refused x → ⊥
 unfolding refuses
 do-not-refused a x q = clash (ap refuses q) refl
 
-done-not-refused : (x : Answer) → Done ≡ Refused x → ⊥
+pub done-not-refused : (x : Answer) → Done ≡ Refused x → ⊥
 unfolding refuses
 done-not-refused x q = clash (ap refuses q) refl
 
-same-answer : (x y : Answer) → Refused x ≡ Refused y → x ≡ y
+pub same-answer : (x y : Answer) → Refused x ≡ Refused y → x ≡ y
 unfolding answer-of
 same-answer x y q = ap answer-of q
 

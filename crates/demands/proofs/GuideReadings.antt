@@ -2,6 +2,7 @@
 -- told them is one that the walk's readings lead to and agrees with every world that shows the same. By induction on the fluents. Assumes nothing.
 use Prim.Native.Nat.{ℕ, zero, suc, _+_, _≤_}
 use native.Mathlib.Omega.{arith}
+use native.Mathlib.Nat.{suc-inj}
 use mathlib.Core.Path.{_≡_, refl, sym, _∙_, ap, ap₂, subst, subst₂}
 use mathlib.Core.Bool.{Bool, true, false}
 use mathlib.Core.List.{List, [], _∷_, map}
@@ -25,9 +26,9 @@ use Rattle.meaning.specs.ValueStates.{is-known}
 use Rattle.meaning.specs.ValueWorlds
 use Rattle.guidance.specs.Guides.{going, ahead, sensed-from, sensed, literal-read, literals-read, against, met, take-over, next}
 use Rattle.guidance.specs.Guided.{Truthful}
-use Rattle.meaning.proofs.TestLaws.{by-test, clash, both-left, both-right, both-true, either-split, fails-true, fails-false, pick-true, pick-false, some-has, has-each, each-mapped, map-has, map-same}
+use Rattle.meaning.proofs.TestLaws.{by-test, clash, both-left, both-right, both-true, either-split, either-false, fails-true, fails-false, pick-true, pick-false, some-has, has-each, each-mapped, map-has, map-same}
 use Rattle.meaning.proofs.PickLaws.{pick-has, has-picked}
-use Rattle.meaning.proofs.LiteralLaws.{fluent-true, fluent-false, by-literal}
+use Rattle.meaning.proofs.LiteralLaws.{fluent-true, fluent-false, complement-true, complement-false, by-literal}
 use Rattle.meaning.proofs.StateLaws.{nothing-told, unknown-mark}
 use Rattle.meaning.proofs.Sound.{Some-state, Sound-step, seen-sound}
 use Rattle.meaning.proofs.ValueSound.{Agrees, Exclusive, told-agrees, guarded-sound}
@@ -88,10 +89,6 @@ true-holds v w f same =
     (λ t. holds-true w f ∙ same ∙ t)
     (λ u. holds-false w f ∙ fails-false _ (same ∙ u))
 
-true-fluent : (v : World) (f : ℕ) → fluent-of (true-literal v f) ≡ f
-unfolding true-literal
-true-fluent v f = pick-has (λ (l : ℕ). fluent-of l ≡ f) (v f) _ _ (λ _. fluent-true f) (λ _. fluent-false f)
-
 -- Those of several fluents, in a world that has the same of each.
 pub true-all : (v w : World) (fs : List ℕ) → ((f : ℕ) → Has fs f → w f ≡ v f) → each-of (holds w) (map (true-literal v) fs) ≡ true
 true-all v w fs same = each-mapped (true-literal v) (holds w) fs ∙ has-each _ fs (λ f m. true-holds v w f (same f m))
@@ -143,56 +140,95 @@ known-again : (l : ℕ) (s u : State) → getD s (fluent-of l) Limits.unknown-ma
 unfolding told known
 known-again l s u same k = ap (set s (fluent-of l)) (sym (same ∙ eqb-true _ _ k)) ∙ set-getD s (fluent-of l) Limits.unknown-mark
 
--- Where it is known whether, the world's own is known.
-whether-true : (t : Table) (v : World) (s : State) → Right v s → (f : ℕ) → known-whether s f ≡ true → known s (true-literal v f) ≡ true
-unfolding known-whether true-literal
-whether-true t v s g f k =
-    ⊎-elim
-    (λ up. ap (known s) (pick-true _ _ _ (sym (holds-true v f) ∙ known-right t v s g _ up)) ∙ up)
-    (λ down. ap (known s) (pick-false _ _ _ (fails-true _ (sym (holds-false v f) ∙ known-right t v s g _ down))) ∙ down)
-    (either-split _ _ k)
+-- Where it is known whether and the complement is not known, it is.
+whether-known : (s : State) (l : ℕ) → known-whether s (fluent-of l) ≡ true → known s (complement l) ≡ false → known s l ≡ true
+unfolding known-whether
+whether-known s =
+    by-literal (λ l. known-whether s (fluent-of l) ≡ true → known s (complement l) ≡ false → known s l ≡ true)
+    (λ f. rw (fluent-true f, complement-true f) (λ k free. ⊎-elim (λ up. up) (λ down. clash down free) (either-split _ _ k)))
+    (λ f. rw (fluent-false f, complement-false f) (λ k free. ⊎-elim (λ up. clash up free) (λ down. down) (either-split _ _ k)))
 
-module _ (t : Table) (ks : List Knowledge) (first : State) (v : World) (g : Right v first) where
-  -- It is the world's own among the readings of the fluents from f up, in a state with the first one's marks from there on.
-  abbrev Led : (unknown all : List ℕ) → State → Type 0
-  Led unknown all s = Some-state (readings unknown s) (λ u. u ≡ told-all (map (true-literal v) all) s)
+read-fluent : (f b : ℕ) → fluent-of (literal-read f b) ≡ f
+unfolding literal-read
+read-fluent f b = pick-has (λ (l : ℕ). fluent-of l ≡ f) (eqb b 0) _ _ (λ _. fluent-false f) (λ _. fluent-true f)
 
+module _ (ks : List Knowledge) (first : State) where
+  -- A state is among the readings of the unknown fluents where it is told readings of all, none of which is against the first state.
+  abbrev Led : (unknown literals : List ℕ) → State → Type 0
+  Led unknown ls s = Some-state (readings unknown s) (λ u. u ≡ told-all ls s)
+
+  abbrev Led-by : (unknown all : List ℕ) → State → Type 0
+  Led-by unknown all s = (bytes : List ℕ) → length bytes ≡ length all → against first (literals-read all bytes) ≡ false → Led unknown (literals-read all bytes) s
+
+  -- From fluent f up it has the first one's marks.
   abbrev Same-from : ℕ → State → Type 0
   Same-from f s = (i : ℕ) → f ≤ i → getD s i Limits.unknown-mark ≡ getD first i Limits.unknown-mark
 
-  read-led : (f : ℕ) (unknown all : List ℕ) (s : State) → Same-from f s → ((u : State) → Same-from (f + 1) u → Led unknown all u) → Led (f ∷ unknown) (f ∷ all) s
-  unfolding readings told-all told true-literal
-  read-led f unknown all s same rest =
-      by-test (v f)
-      (λ up. inl (subst (λ (l : ℕ). Some-state (readings unknown (told (says-true f) s)) (λ u. u ≡ told-all (map (true-literal v) all) (told l s))) (sym (pick-true _ _ _ up)) (rest (told (says-true f) s) (kept (says-true f) (fluent-true f)))))
-      (λ down. inr (subst (λ (l : ℕ). Some-state (readings unknown (told (says-false f) s)) (λ u. u ≡ told-all (map (true-literal v) all) (told l s))) (sym (pick-false _ _ _ down)) (rest (told (says-false f) s) (kept (says-false f) (fluent-false f)))))
-    where
-      kept : (l : ℕ) → fluent-of l ≡ f → Same-from (f + 1) (told l s)
-      kept l is i far = getD-set-other s (fluent-of l) i (mark-of l) Limits.unknown-mark (λ q. omega (arith, q, is, far)) ∙ same i (omega (arith, far))
+  told-same : (f : ℕ) (s : State) → Same-from f s → (l : ℕ) → fluent-of l ≡ f → Same-from (f + 1) (told l s)
+  unfolding told
+  told-same f s same l is i far = getD-set-other s (fluent-of l) i (mark-of l) Limits.unknown-mark (λ q. omega (arith, q, is, far)) ∙ same i (omega (arith, far))
 
-  known-led : (f : ℕ) (unknown all : List ℕ) (s : State) → Same-from f s → known-whether first f ≡ true → Led unknown all s → Led unknown (f ∷ all) s
-  unfolding told-all
-  known-led f unknown all s same k led =
-      subst (λ (u : State). Some-state (readings unknown s) (λ x. x ≡ told-all (map (true-literal v) all) u))
-      (sym (known-again (true-literal v f) s first (rw (true-fluent v f) (same f (omega arith))) (whether-true t v first g f k))) led
+  -- An unknown fluent is read,
+  unknown-led : (f : ℕ) (unknown all : List ℕ) (s : State) → Same-from f s → ((u : State) → Same-from (f + 1) u → Led-by unknown all u) → Led-by (f ∷ unknown) (f ∷ all) s
+  unfolding readings told-all literals-read literal-read against some-of
+  unknown-led f unknown all s same rest [] long free = absurd (omega (arith, long))
+  unknown-led f unknown all s same rest (b ∷ bs) long free =
+      let later : (l : ℕ) → fluent-of l ≡ f → Led unknown (literals-read all bs) (told l s) = λ l is. rest (told l s) (told-same f s same l is) bs (suc-inj long) (either-false _ _ free .1) in
+      by-test (eqb b 0)
+      (λ no-one. inr (subst (λ (l : ℕ). Some-state (readings unknown (told (says-false f) s)) (λ u. u ≡ told-all (literals-read all bs) (told l s))) (sym (pick-true _ _ _ no-one)) (later (says-false f) (fluent-false f))))
+      (λ some. inl (subst (λ (l : ℕ). Some-state (readings unknown (told (says-true f) s)) (λ u. u ≡ told-all (literals-read all bs) (told l s))) (sym (pick-false _ _ _ some)) (later (says-true f) (fluent-true f))))
 
-  led-from : (ms : List ℕ) (f : ℕ) (s : State) → Same-from f s → Led (unknown-from ks first f ms) (sensed-from ks f (length ms)) s
-  unfolding unknown-from sensed-from readings told-all both fails
-  led-from [] f s same = refl
+  -- and one that is known changes no mark.
+  known-led : (f : ℕ) (unknown all : List ℕ) (s : State) → Same-from f s → known-whether first f ≡ true → Led-by unknown all s → Led-by unknown (f ∷ all) s
+  unfolding told-all literals-read against some-of
+  known-led f unknown all s same k rest [] long free = absurd (omega (arith, long))
+  known-led f unknown all s same k rest (b ∷ bs) long free =
+      let here : fluent-of (literal-read f b) ≡ f = read-fluent f b in
+      subst (λ (u : State). Some-state (readings unknown s) (λ x. x ≡ told-all (literals-read all bs) u))
+      (sym (known-again (literal-read f b) s first (rw here (same f (omega arith))) (whether-known first (literal-read f b) (rw here k) (either-false _ _ free .0))))
+      (rest bs (suc-inj long) (either-false _ _ free .1))
+
+  led-from : (ms : List ℕ) (f : ℕ) (s : State) → Same-from f s → Led-by (unknown-from ks first f ms) (sensed-from ks f (length ms)) s
+  unfolding unknown-from sensed-from readings told-all literals-read both fails
+  led-from [] f s same = λ bytes long free. refl
   led-from (m ∷ ms) f s same =
       let later : Same-from (f + 1) s = λ i far. same i (omega (arith, far)) in
+      let U = unknown-from ks first (f + 1) ms in
+      let S = sensed-from ks (f + 1) (length ms) in
       by-test (senses ks f)
       (λ on. by-test (known-whether first f)
-      (λ k. subst₂ (λ U S. Led U S s) (sym (pick-false _ _ _ (rw (on, k)))) (sym (pick-true _ _ _ on)) (known-led f (unknown-from ks first (f + 1) ms) (sensed-from ks (f + 1) (length ms)) s same k (led-from ms (f + 1) s later)))
-      (λ n. subst₂ (λ U S. Led U S s) (sym (pick-true _ _ _ (rw (on, n)))) (sym (pick-true _ _ _ on)) (read-led f (unknown-from ks first (f + 1) ms) (sensed-from ks (f + 1) (length ms)) s same (led-from ms (f + 1)))))
-      (λ off. subst₂ (λ U S. Led U S s) (sym (pick-false _ _ _ (rw off))) (sym (pick-false _ _ _ off)) (led-from ms (f + 1) s later))
+      (λ k. subst₂ (λ U S. Led-by U S s) (sym (pick-false _ _ _ (rw (on, k)))) (sym (pick-true _ _ _ on)) (known-led f U S s same k (led-from ms (f + 1) s later)))
+      (λ n. subst₂ (λ U S. Led-by U S s) (sym (pick-true _ _ _ (rw (on, n)))) (sym (pick-true _ _ _ on)) (unknown-led f U S s same (led-from ms (f + 1)))))
+      (λ off. subst₂ (λ U S. Led-by U S s) (sym (pick-false _ _ _ (rw off))) (sym (pick-false _ _ _ off)) (led-from ms (f + 1) s later))
 
-pub sensed-led : (lim : Limits) (t : Table) (a : ℕ) (s : State) (v : World) → length s ≡ lim .state → Right v s
-    → Some-state (readings (unknown-sensed t a s) s) (λ u. u ≡ told-all (map (true-literal v) (sensed lim t a)) s)
+-- Whatever the readings are, where their number is right and none is against what is known.
+pub sensed-led : (lim : Limits) (t : Table) (a : ℕ) (s : State) → length s ≡ lim .state → (bytes : List ℕ) → length bytes ≡ length (sensed lim t a)
+    → against s (literals-read (sensed lim t a) bytes) ≡ false → Some-state (readings (unknown-sensed t a s) s) (λ u. u ≡ told-all (literals-read (sensed lim t a) bytes) s)
 unfolding unknown-sensed sensed
-sensed-led lim t a s v sized g =
-    subst (λ (n : ℕ). Some-state (readings (unknown-sensed t a s) s) (λ u. u ≡ told-all (map (true-literal v) (sensed-from (knowledge-of t a) 0 n)) s)) sized
-    (led-from t (knowledge-of t a) s v g s 0 s (λ i _. refl))
+sensed-led lim t a s sized =
+    subst (λ (n : ℕ). Led-by (knowledge-of t a) s (unknown-sensed t a s) (sensed-from (knowledge-of t a) 0 n) s) sized (led-from (knowledge-of t a) s s 0 s (λ i _. refl))
+
+-- There are truthful ones in every world,
+pub true-bytes : World → List ℕ → List ℕ
+true-bytes v = map (λ (f : ℕ). pick (v f) (λ _. 1) (λ _. 0))
+
+pub some-truthful : (v : World) (fs : List ℕ) → Truthful v fs (true-bytes v fs)
+unfolding true-bytes pick fails
+some-truthful v [] = tt
+some-truthful v (f ∷ fs) = (says (v f), some-truthful v fs)
+  where
+    says : (x : Bool) → x ≡ fails (eqb (pick x (λ _. 1) (λ _. 0)) 0)
+    says true = refl
+    says false = refl
+
+-- and so the state that is told the world's own is one that the walk's readings lead to.
+pub true-led : (lim : Limits) (t : Table) (a : ℕ) (s : State) (v : World) → length s ≡ lim .state → Right v s
+    → Some-state (readings (unknown-sensed t a s) s) (λ u. u ≡ told-all (map (true-literal v) (sensed lim t a)) s)
+true-led lim t a s v sized g =
+    let fs = sensed lim t a in
+    let is = truthful-literals v fs (true-bytes v fs) (some-truthful v fs) in
+    subst (λ (ls : List ℕ). Some-state (readings (unknown-sensed t a s) s) (λ u. u ≡ told-all ls s)) is
+    (sensed-led lim t a s sized (true-bytes v fs) (truthful-length v fs (true-bytes v fs) (some-truthful v fs)) (ap (against s) is ∙ none-against t v s g fs))
 
 -- EVERY WORLD THAT SHOWS THE SAME has the same of each fluent that is sensed.
 sensed-is : (ks : List Knowledge) (f n i : ℕ) → Has (sensed-from ks f n) i → senses ks i ≡ true

@@ -38,7 +38,7 @@ use Rattle.meaning.proofs.ValueSound.{Exclusive}
 use Rattle.meaning.proofs.TwoValues.{same-all-exclusive}
 use Rattle.demands.proofs.Meeting.{holds-true, holds-false}
 use Rattle.demands.proofs.DepthLaws.{read-few}
-use Rattle.demands.proofs.GuideReadings.{Right, table-sound, known-right, first-right, true-literal, next-taken, sensed-led, sensed-right, none-sensed}
+use Rattle.demands.proofs.GuideReadings.{Right, table-sound, known-right, first-right, true-literal, next-taken, true-led, sensed-right, none-sensed}
 use Rattle.demands.proofs.GuideSteps.{Possible, None-left, Led-to, ahead-led}
 use Rattle.demands.proofs.GuideAnswers.{Begun, begun}
 
@@ -71,7 +71,7 @@ end-reached r s v P g is-fine =
     })
 
 -- AN ACTION THAT THE WALK RUNS can be run, and each of its readings is verified.
-ran : (t : Table) (p a : ℕ) (k : State → Walked State) (s : State) → Verified (run-action (table-step t) p a k s) → (can-be-run t a s ≡ true) × Verified (each-reading (outcome t a s) k)
+pub ran : (t : Table) (p a : ℕ) (k : State → Walked State) (s : State) → Verified (run-action (table-step t) p a k s) → (can-be-run t a s ≡ true) × Verified (each-reading (outcome t a s) k)
 unfolding run-action table-step table-does after-step stopped-at
 ran t p a k s is-fine =
     has-picked (λ (x : Step State). Verified (after-step p x k)) _ _ _ is-fine
@@ -130,7 +130,7 @@ module _ (lim : Limits) (r : Request) where
         let u = told-all (map (true-literal v) (sensed lim (r .table) a)) s in
         let k = walk (table-step (r .table)) rest (judged r) in
         let each : Verified (each-reading (readings (unknown-sensed (r .table) a s) s) k) = subst (λ (o : Outcome State). Verified (each-reading o k)) (pick-true _ _ _ senses) each-fine in
-        let led = reading-verified (readings (unknown-sensed (r .table) a s) s) k (λ x. x ≡ u) each (sensed-led lim (r .table) a s v sized (g .agree v (g .actual))) in
+        let led = reading-verified (readings (unknown-sensed (r .table) a s) s) k (λ x. x ≡ u) each (true-led lim (r .table) a s v sized (g .agree v (g .actual))) in
         let h = going (r .table) (sensed lim (r .table) a) rest s in
         let later = onward-n rest few on u (told-all-length _ s ∙ sized) v (Kept (table-domain (r .table)) a v P)
         (record { agree = λ w m. sensed-right lim (r .table) a s v w (g .agree w (m .0)) (m .2); actual = (g .actual, may v (g .actual), refl) })

@@ -62,3 +62,4 @@ pub mod GuideReadings
 pub mod GuideSteps
 pub mod GuideAnswers
 pub mod GuideSound
+pub mod GuideCalls
