@@ -1,8 +1,7 @@
 -- What a guide's start and its calls answer: number, input, place and count of a start, which are the walk call's or 40; 41 and 42 exactly where FORMAT says, and that they change
 -- nothing; what is answered once a guide has ended or was refused. By the cases of the definitions. Assumes nothing.
-use Prim.Native.Nat.{ℕ, suc, _≤_}
+use Prim.Native.Nat.{ℕ, _≤_}
 use native.Mathlib.Omega.{arith}
-use native.Mathlib.Nat.{suc-inj}
 use mathlib.Core.Path.{_≡_, refl, sym, _∙_, ap, ap₂, subst}
 use mathlib.Core.Bool.{Bool, true, false}
 use mathlib.Core.List.{List, [], _∷_, map}
@@ -18,8 +17,8 @@ use Rattle.meaning.specs.Literals.{says-true, says-false, among}
 use Rattle.meaning.specs.Requests.{Table, Sequence, Request}
 use Rattle.meaning.specs.Reading.{Got, got, fault}
 use Rattle.meaning.specs.Refusals.{settled}
-use Rattle.meaning.specs.States.{State, told-all, first-state, can-be-run}
-use Rattle.meaning.specs.Walk.{fine, Verified, walked}
+use Rattle.meaning.specs.States.{State, told-all, first-state}
+use Rattle.meaning.specs.Walk.{fine, Verified}
 use Rattle.meaning.specs.Judging
 use Rattle.meaning.specs.Judging.{Judgement, within, judge-got, judge-settled, walk-of, judge}
 use Rattle.meaning.specs.Answers.{refusals}
@@ -36,13 +35,13 @@ use Rattle.meaning.proofs.WithinLaws.{within-number, Never, walked-never, answe
 use Rattle.meaning.proofs.VerifiedLaws.{within-unread}
 
 -- WHAT A START GIVES of a settled request that is verified within the budget: it stands at the plan's first item, in the first state.
-abbrev pub begins : Limits → Request → Started
+abbrev begins : Limits → Request → Started
 begins lim r = record {
   guide = going (r .table) [] (r .plan) (first-state lim (r .table));
   answer = record { number = Limits.verified; input = Limits.neither-input; place = 0; count = walk-of lim r .count };
 }
 
-abbrev pub Fine-within : Limits → (budget : ℕ) → Request → Type 0
+abbrev Fine-within : Limits → (budget : ℕ) → Request → Type 0
 Fine-within lim budget r = Verified (walk-of lim r) × (walk-of lim r .count ≤ budget)
 
 module _ (lim : Limits) (request : List ℕ) (budget : ℕ) where
@@ -73,7 +72,7 @@ module _ (lim : Limits) (request : List ℕ) (budget : ℕ) where
   start-refused n p past = ap (start-got lim budget) past
 
   -- What is so of each of these is so of the start.
-  pub by-starting : (P : Started → Type 0)
+  by-starting : (P : Started → Type 0)
       → ((r : Request) (e : ℕ) → settled lim request ≡ got r e → Fine-within lim budget r → P (begins lim r))
       → ((r : Request) (e : ℕ) → settled lim request ≡ got r e → (Fine-within lim budget r → ⊥) → P (refused-start (of-guide not-verified)))
       → ((n p : ℕ) → settled lim request ≡ fault n p → Fault-in refusals (lim .request) (length request) n p → P (refused-start (of-request n p)))
@@ -125,20 +124,19 @@ otherwise-40 x not-0 not-refused =
     pick-false _ _ _ (rw (ne-eqb (x .number) Limits.verified not-0, other))
 
 -- A START WITH 0.
-pub record Begun (lim : Limits) (request : List ℕ) (budget : ℕ) (x : Started) : Type 0 where
+pub record Begun (lim : Limits) (request : List ℕ) (x : Started) : Type 0 where
   pub says : Request
   pub end : ℕ
   pub settles : settled lim request ≡ got says end
   pub fine : Verified (walk-of lim says)
-  pub within : walk-of lim says .count ≤ budget
   pub guide-is : x .guide ≡ going (says .table) [] (says .plan) (first-state lim (says .table))
 
 module _ (lim : Limits) (request : List ℕ) (budget : ℕ) where
-  pub begun : start lim request budget .answer .number ≡ Limits.verified → Begun lim request budget (start lim request budget)
+  pub begun : start lim request budget .answer .number ≡ Limits.verified → Begun lim request (start lim request budget)
   unfolding refused-start
   begun =
-      by-starting lim request budget (λ x. x .answer .number ≡ Limits.verified → Begun lim request budget x)
-      (λ r e past w _. record { says = r; end = e; settles = past; fine = w .0; within = w .1; guide-is = refl })
+      by-starting lim request budget (λ x. x .answer .number ≡ Limits.verified → Begun lim request x)
+      (λ r e past w _. record { says = r; end = e; settles = past; fine = w .0; guide-is = refl })
       (λ r e past _ q. absurd (omega (arith, q)))
       (λ n p past held q. absurd (refusal-not-0 n (held .number) q))
 
@@ -287,9 +285,6 @@ module _ (lim : Limits) where
   refused-unchanged (ended s) bytes x q = absurd (done-not-refused x q)
 
   module _ (t : Table) (fs : List ℕ) (b : Sequence ℕ) (s : State) (bytes : List ℕ) where
-    abbrev turn : Turn
-    turn = next lim (going t fs b s) bytes
-
     -- 41 exactly where the number of readings is another than is asked for (FORMAT 25.13).
     pub wrong-number-exactly : (next lim (going t fs b s) bytes .told ≡ Refused (of-guide wrong-number)) ↔ (length bytes ≡ length fs → ⊥)
     unfolding stays

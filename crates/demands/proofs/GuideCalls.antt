@@ -9,19 +9,18 @@ use mathlib.Core.Logic.{_⊎_, inl, inr}
 use lib.ListN.{length, getD}
 use borrow.Author.Tests.{eqb-true, eqb-false}
 use Rattle.meaning.specs.declared.Answer.{Answer}
-use Rattle.meaning.specs.Tests.{pick}
 use Rattle.meaning.specs.Limits
 use Rattle.meaning.specs.Limits.{Limits}
 use Rattle.meaning.specs.Literals.{says-true}
-use Rattle.meaning.specs.Requests.{Table, Sequence, Request}
+use Rattle.meaning.specs.Requests.{Table, Sequence}
 use Rattle.meaning.specs.Lines.{sensing}
-use Rattle.meaning.specs.States.{State, Outcome, single, known, told, told-all, first-state, state-after, readings, unknown-sensed, outcome}
+use Rattle.meaning.specs.States.{State, Outcome, known, told, told-all, first-state, readings, unknown-sensed, outcome}
 use Rattle.meaning.specs.Walk.{Walked, Verified, each-reading, run-action, walk, table-step, judged, walked}
 use Rattle.meaning.specs.Worlds.{Worlds, World}
 use Rattle.meaning.specs.Values.{flags}
 use Rattle.meaning.specs.ValueStates.{is-known}
 use Rattle.demands.specs.GuideSaid.{after-calls}
-use Rattle.guidance.specs.declared.Told.the-variants.{Do, Done, Refused}
+use Rattle.guidance.specs.declared.Told.the-variants.{Refused}
 use Rattle.guidance.specs.Guides.{wrong-number, against-known, of-guide, Guide, refusing, going, ended, Turn, Ahead, the-end, an-action, no-branch, ahead, sensed, literals-read, against, state-done, stays, met, take-over, next, start}
 use Rattle.meaning.proofs.TestLaws.{by-test, pick-true, pick-false}
 use Rattle.meaning.proofs.PickLaws.{pick-has}
@@ -63,10 +62,10 @@ module _ (lim : Limits) (k : State → Walked State) where
   Apart = Exclusive flags
 
   -- WHAT IS KEPT. A guide on its way is where the walk is verified from, with whatever readings are taken over.
-  pub record Kept-going (t : Table) (fs : List ℕ) (b : Sequence ℕ) (s : State) : Type 0 where
-    pub marked : Marked lim s
-    pub apart : On-conditions Apart b
-    pub onward : (bytes : List ℕ) → length bytes ≡ length fs → against s (literals-read fs bytes) ≡ false → Verified (walk (table-step t) b k (told-all (literals-read fs bytes) s))
+  record Kept-going (t : Table) (fs : List ℕ) (b : Sequence ℕ) (s : State) : Type 0 where
+    marked : Marked lim s
+    apart : On-conditions Apart b
+    onward : (bytes : List ℕ) → length bytes ≡ length fs → against s (literals-read fs bytes) ≡ false → Verified (walk (table-step t) b k (told-all (literals-read fs bytes) s))
 
   abbrev Kept-up : Guide → Type 0
   Kept-up (refusing x) = ⊥
@@ -74,9 +73,9 @@ module _ (lim : Limits) (k : State → Walked State) where
   Kept-up (ended s) = Unit {0}
 
   -- A turn keeps it, and is refused with 41 or 42 alone.
-  pub record Keeps (turn : Turn) : Type 0 where
-    pub guide : Kept-up (turn .guide)
-    pub refused : (x : Answer) → turn .told ≡ Refused x → (x ≡ of-guide wrong-number) ⊎ (x ≡ of-guide against-known)
+  record Keeps (turn : Turn) : Type 0 where
+    guide : Kept-up (turn .guide)
+    refused : (x : Answer) → turn .told ≡ Refused x → (x ≡ of-guide wrong-number) ⊎ (x ≡ of-guide against-known)
 
   stays-41 : (g : Guide) → Kept-up g → Keeps (stays g wrong-number)
   unfolding stays

@@ -26,7 +26,7 @@ use Rattle.meaning.specs.ValueStates.{is-known}
 use Rattle.meaning.specs.ValueWorlds
 use Rattle.guidance.specs.Guides.{going, ahead, sensed-from, sensed, literal-read, literals-read, against, met, take-over, next}
 use Rattle.guidance.specs.Guided.{Truthful}
-use Rattle.meaning.proofs.TestLaws.{by-test, clash, both-left, both-right, both-true, either-split, either-false, fails-true, fails-false, pick-true, pick-false, some-has, has-each, each-mapped, map-has, map-same}
+use Rattle.meaning.proofs.TestLaws.{by-test, clash, both-left, both-right, either-split, either-false, fails-true, fails-false, pick-true, pick-false, some-has, has-each, each-mapped, map-has, map-same}
 use Rattle.meaning.proofs.PickLaws.{pick-has, has-picked}
 use Rattle.meaning.proofs.LiteralLaws.{fluent-true, fluent-false, complement-true, complement-false, by-literal}
 use Rattle.meaning.proofs.StateLaws.{nothing-told, unknown-mark}
@@ -61,7 +61,7 @@ held-value w =
 told-right : (w : World) (l : ℕ) (s : State) → holds w l ≡ true → Right w s → Right w (told l s)
 told-right w l s h g = subst (Agrees flags (valued w)) (sym (same-told l s)) (told-agrees flags (valued w) s (fluent-of l) (flags .sets l) (held-value w l h) g)
 
-pub told-all-right : (w : World) (ls : List ℕ) (s : State) → each-of (holds w) ls ≡ true → Right w s → Right w (told-all ls s)
+told-all-right : (w : World) (ls : List ℕ) (s : State) → each-of (holds w) ls ≡ true → Right w s → Right w (told-all ls s)
 unfolding told-all each-of
 told-all-right w [] s h g = g
 told-all-right w (l ∷ ls) s h g = told-all-right w ls (told l s) (both-right _ _ h) (told-right w l s (both-left _ _ h) g)
@@ -90,7 +90,7 @@ true-holds v w f same =
     (λ u. holds-false w f ∙ fails-false _ (same ∙ u))
 
 -- Those of several fluents, in a world that has the same of each.
-pub true-all : (v w : World) (fs : List ℕ) → ((f : ℕ) → Has fs f → w f ≡ v f) → each-of (holds w) (map (true-literal v) fs) ≡ true
+true-all : (v w : World) (fs : List ℕ) → ((f : ℕ) → Has fs f → w f ≡ v f) → each-of (holds w) (map (true-literal v) fs) ≡ true
 true-all v w fs same = each-mapped (true-literal v) (holds w) fs ∙ has-each _ fs (λ f m. true-holds v w f (same f m))
 
 -- TRUTHFUL READINGS are these literals, one for each fluent.

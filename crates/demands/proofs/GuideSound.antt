@@ -10,17 +10,15 @@ use mathlib.Core.Bool.{Bool, true, false}
 use mathlib.Core.List.{List, [], _∷_, map}
 use mathlib.Core.Logic.{⊎-elim}
 use lib.ListN.{length}
-use Rattle.meaning.specs.Tests.{pick, each-of, Has}
 use Rattle.meaning.specs.Limits
 use Rattle.meaning.specs.Limits.{Limits}
-use Rattle.meaning.specs.Literals.{says-true, says-false}
 use Rattle.meaning.specs.Requests.{Table, Sequence, Request, values}
 use Rattle.meaning.specs.Reading.{got}
 use Rattle.meaning.specs.Refusals.{Found, nowhere, at, settled}
 use Rattle.meaning.specs.Lines.{sensing}
 use Rattle.meaning.specs.States.{State, Outcome, single, known, known-whether, told-all, first-state, can-be-run, state-after, unknown-sensed, readings, outcome}
 use Rattle.meaning.specs.Walk.{fine, Walked, Verified, stopped-at, each-reading, Step, leads-to, after-step, run-action, walk, table-does, table-step, missed-in, end-of, judged, walked}
-use Rattle.meaning.specs.Worlds.{Worlds, Kept, Moved, Acted, World, holds, table-domain, Facts, Reached}
+use Rattle.meaning.specs.Worlds.{Worlds, Kept, Moved, Acted, World, holds, table-domain, Facts}
 use Rattle.meaning.specs.Values.{flags}
 use Rattle.demands.specs.Depth.{most-items}
 use Rattle.guidance.specs.declared.Told.the-variants.{Do, Done}
@@ -40,7 +38,7 @@ use Rattle.demands.proofs.Meeting.{holds-true, holds-false}
 use Rattle.demands.proofs.DepthLaws.{read-few}
 use Rattle.demands.proofs.GuideReadings.{Right, table-sound, known-right, first-right, true-literal, next-taken, true-led, sensed-right, none-sensed}
 use Rattle.demands.proofs.GuideSteps.{Possible, None-left, Led-to, ahead-led}
-use Rattle.demands.proofs.GuideAnswers.{Begun, begun}
+use Rattle.demands.proofs.GuideAnswers.{begun}
 
 -- THE END. A state that ends fine misses nothing,
 fine-nowhere : (f : Found) (s : State) → end-of f s ≡ fine → f ≡ nowhere
@@ -63,12 +61,14 @@ end-reached r s v P g is-fine =
     let none = fine-nowhere (missed-in r s) s is-fine in
     let q = or-else-nowhere _ _ none in
     let goals = none-missed (known s) (r .goals) .0 (q .0) in
-    let whether = none-missed (known-whether s) (r .whether) .0 (q .1) in
-    (none, record {
-      true-world = g .actual;
-      goals = λ w h. each-mono (known s) (holds w) (known-right (r .table) w s (g .agree w h)) _ goals;
-      whether = λ w u h i. same-map w u (values (r .whether)) (λ f m. known-same (r .table) s w u (g .agree w h) (g .agree u i) f (each-has _ (values (r .whether)) f whether m));
-    })
+    let whether = none-missed (known-whether s) (r .whether) .0 (q .1) in (
+      none,
+      record {
+        true-world = g .actual;
+        goals = λ w h. each-mono (known s) (holds w) (known-right (r .table) w s (g .agree w h)) _ goals;
+        whether = λ w u h i. same-map w u (values (r .whether)) (λ f m. known-same (r .table) s w u (g .agree w h) (g .agree u i) f (each-has _ (values (r .whether)) f whether m));
+      },
+    )
 
 -- AN ACTION THAT THE WALK RUNS can be run, and each of its readings is verified.
 pub ran : (t : Table) (p a : ℕ) (k : State → Walked State) (s : State) → Verified (run-action (table-step t) p a k s) → (can-be-run t a s ≡ true) × Verified (each-reading (outcome t a s) k)
@@ -83,9 +83,6 @@ unfolding table-step table-does
 does-lead t a s run = pick-true _ _ _ run
 
 module _ (lim : Limits) (r : Request) where
-  abbrev Known-at-end : State → World → Worlds World → Type 0
-  Known-at-end = Told-reached r
-
   -- A turn that answers the first of these actions, and what comes after it; or that the plan has ended.
   abbrev Answered : List ℕ → Turn → World → Worlds World → Type 0
   Answered [] turn v P = (s : State) × (turn ≡ record { guide = ended s; told = Done }) × Told-reached r s v P
@@ -134,8 +131,7 @@ module _ (lim : Limits) (r : Request) where
         let h = going (r .table) (sensed lim (r .table) a) rest s in
         let later = onward-n rest few on u (told-all-length _ s ∙ sized) v (Kept (table-domain (r .table)) a v P)
         (record { agree = λ w m. sensed-right lim (r .table) a s v w (g .agree w (m .0)) (m .2); actual = (g .actual, may v (g .actual), refl) })
-        (subst (λ (x : State). Verified (k x)) (led .1) (led .2)) in
-        (
+        (subst (λ (x : State). Verified (k x)) (led .1) (led .2)) in (
           later .0,
           later .1,
           λ before. (
@@ -168,15 +164,14 @@ module _ (lim : Limits) (r : Request) where
           actual = (v, g .actual, may v (g .actual), refl);
         } in
         let later = onward-n rest few on u (after-length (r .table) a s ∙ sized) (d .moved a v) (Moved d a P) possible
-        (subst (λ (o : Outcome State). Verified (each-reading o k)) is-single each-fine) in
-        (
+        (subst (λ (o : Outcome State). Verified (each-reading o k)) is-single each-fine) in (
           later .0,
           later .1,
           λ before. (
             h,
             pick-true _ _ _ can-run
-            ∙ ap (λ (x : State). record { guide = going (r .table) (sensed lim (r .table) a) rest x; told = Do a }) (pick-false _ _ _ off)
-            ∙ ap (λ (fs : List ℕ). record { guide = going (r .table) fs rest u; told = Do a }) (none-sensed lim (r .table) a off),
+                ∙ ap (λ (x : State). record { guide = going (r .table) (sensed lim (r .table) a) rest x; told = Do a }) (pick-false _ _ _ off)
+                ∙ ap (λ (fs : List ℕ). record { guide = going (r .table) fs rest u; told = Do a }) (none-sensed lim (r .table) a off),
             record {
               allowed = may;
               read = λ senses. clash senses off;
@@ -218,17 +213,20 @@ guided lim request budget starts =
     let b = begun lim request budget starts in
     let r = b .says in
     let passed = settled-is lim request r (b .end) (b .settles) in
-    let first = first-state lim (r .table) in
-    (r, b .end, b .settles, λ v facts.
-    let g : Possible v (Facts (r .table)) first = record { agree = λ w h. first-right lim (r .table) w h; actual = facts } in
-    let w = onward lim r (lim .items) (r .plan) (read-few lim request r (b .end) (passed .reads))
-    (subst (λ (p : List (List ℕ) → Bool). On-conditions (λ cs. p cs ≡ true) (r .plan)) (fun-ext same-all-exclusive) (fit (r .plan) (passed .no-overlap)))
-    first (first-length lim (r .table)) v (Facts (r .table)) g (b .fine) in
-    (
-      w .0,
-      w .1,
-      subst (λ (h : Guide). Guided lim (r .table) (w .0) (Told-reached r) h [] v (Facts (r .table))) (sym (b .guide-is))
-      (answered-guided lim r (w .0) (going (r .table) [] (r .plan) first) [] _ v (Facts (r .table))
-      (next-taken lim (r .table) [] (r .plan) first v [] (g .agree v facts) tt) (w .2 (going (r .table) [] (r .plan) first))),
-      w .3,
-    ))
+    let first = first-state lim (r .table) in (
+      r,
+      b .end,
+      b .settles,
+      λ v facts.
+          let g : Possible v (Facts (r .table)) first = record { agree = λ w h. first-right lim (r .table) w h; actual = facts } in
+          let w = onward lim r (lim .items) (r .plan) (read-few lim request r (b .end) (passed .reads))
+          (subst (λ (p : List (List ℕ) → Bool). On-conditions (λ cs. p cs ≡ true) (r .plan)) (fun-ext same-all-exclusive) (fit (r .plan) (passed .no-overlap)))
+          first (first-length lim (r .table)) v (Facts (r .table)) g (b .fine) in (
+            w .0,
+            w .1,
+            subst (λ (h : Guide). Guided lim (r .table) (w .0) (Told-reached r) h [] v (Facts (r .table))) (sym (b .guide-is))
+                (answered-guided lim r (w .0) (going (r .table) [] (r .plan) first) [] _ v (Facts (r .table))
+                (next-taken lim (r .table) [] (r .plan) first v [] (g .agree v facts) tt) (w .2 (going (r .table) [] (r .plan) first))),
+            w .3,
+          ),
+    )

@@ -4,10 +4,10 @@
 use Prim.Native.Nat.{ℕ, suc, _+_, _≤_}
 use native.Mathlib.Omega.{arith}
 use mathlib.Core.Path.{_≡_, refl, sym, ap, subst, fun-ext}
-use mathlib.Core.Bool.{true, false}
+use mathlib.Core.Bool.{true}
 use mathlib.Core.List.{List, [], _∷_}
 use mathlib.Core.Logic.{inl, inr}
-use Rattle.meaning.specs.Tests.{pick, each-of, Has}
+use Rattle.meaning.specs.Tests.{each-of, Has}
 use Rattle.meaning.specs.Requests.{Table, Sequence, done, item, Item, act, branching, Branches, none, branch}
 use Rattle.meaning.specs.Refusals.{conditions-of}
 use Rattle.meaning.specs.States.{State, known}
@@ -26,7 +26,7 @@ use Rattle.demands.proofs.JoinedWalk.{walk-joined}
 use Rattle.demands.proofs.GuideReadings.{Right, table-sound}
 
 -- PLANS JOINED.
-pub items-joined : {L : Type 0} (p q : Sequence L) → most-items (join p q) ≡ most-items p + most-items q
+items-joined : {L : Type 0} (p q : Sequence L) → most-items (join p q) ≡ most-items p + most-items q
 unfolding most-items join
 items-joined done q = omega arith
 items-joined (item i p) q = let h = items-joined p q in omega arith
@@ -38,7 +38,7 @@ module _ {L : Type 0} (Apart : List (List L) → Type 0) where
   conditions-joined (item i p) q on-p on-q = (on-p .0, conditions-joined p q (on-p .1) on-q)
 
 module _ {W L R : Type 0} (d : Domain W L R) where
-  pub runs-joined : (p q : Sequence L) (K : List ℕ → W → Worlds W → Type 0) → Runs d (join p q) K ≡ Runs d p (Runs d q K)
+  runs-joined : (p q : Sequence L) (K : List ℕ → W → Worlds W → Type 0) → Runs d (join p q) K ≡ Runs d p (Runs d q K)
   unfolding join
   runs-joined done q K = refl
   runs-joined (item i p) q K =

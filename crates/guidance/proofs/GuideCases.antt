@@ -8,7 +8,7 @@ use Rattle.meaning.specs.Limits.{format}
 use Rattle.meaning.proofs.Cases.{usual, table-A, file-A}
 use Rattle.guidance.specs.declared.Told.{Told}
 use Rattle.guidance.specs.declared.Told.the-variants.{Do, Done, Refused}
-use Rattle.guidance.specs.Guides.{Guide, Started, start, next}
+use Rattle.guidance.specs.Guides.{Guide, start, next}
 use Rattle.guidance.proofs.GuideCompute.{guide-open}
 
 -- What a start answers, and what the calls are told.
