@@ -64,6 +64,11 @@ pub record Goes-on (s t : List ℕ) (r : Step) : Type 0 where
 unfoldable pub Goes-after : (s t : List ℕ) → Step → Told → Type 0
 Goes-after s t r told = elim told [ Do a ↦ Goes-on s t r | Done ↦ Unit {0} | Refused x ↦ Unit {0} ]
 
+-- What the code answers is this turn.
+pub record Turns (s t : List ℕ) (g : Guide) (r : Step) (turn : Turn) : Type 0 where
+  pub is : turned s t g r ≡ turn
+  pub goes : Goes-after s t r (r .told)
+
 -- ANY VALUES stand for a guide: those that no start gave for one that was refused.
 unfoldable pub is-position : Sequence ℕ → ℕ → Bool
 is-position b i = either (eqb i (format .items)) (ltb i (items-of b))
@@ -90,7 +95,10 @@ called request g r = record { guide = guide-called request g r (r .told); told =
 pub record Begins (request : List ℕ) (g : Guide) : Type 0 where
   pub held : (r : Request) (e : ℕ) → settled format request ≡ got r e → g ≡ going (r .table) [] (r .plan) (first-state format (r .table))
 
--- THE STRUCT. The request is the start of the row.
+-- THE STRUCT. The request is the start of the row, which has no more bytes than a request may have.
+unfoldable pub row-end : ℕ → ℕ
+row-end n = pick (ltb n (format .request)) (λ _. n) (λ _. format .request)
+
 unfoldable pub request-of : Held.Guide → List ℕ
 request-of g = take (g .length) (g .request)
 

@@ -5,7 +5,7 @@ ghost use Rattle.meaning.specs.Limits.{format};
 ghost use Rattle.guidance.specs.Guides.{refused-start, start, next};
 ghost use Rattle.guidance.specs.Guided.{asked-for};
 ghost use Rattle.guide.specs.declared.guides.Stage.the-variants.{Going};
-ghost use Rattle.guide.specs.GuideHeld.{request-of, guide-of, started-of, turn-of, Begins, Kept-guide, Own-copy};
+ghost use Rattle.guide.specs.GuideHeld.{row-end, request-of, guide-of, started-of, turn-of, Begins, Kept-guide, Own-copy};
 use super::calls::asked;
 use super::calls::at_start;
 use super::calls::call;
@@ -49,6 +49,16 @@ pub struct Started {
 pub struct Turn {
     pub guide: Guide,
     pub told: Told,
+}
+
+// The first so many bytes of a row end here: the row has no more than a request may have.
+fn row_end(length: usize) -> usize
+    ensures { λ r. ⌜ r ≡ row-end length ⌝ }
+{
+    if length < limits::REQUEST {
+        return length;
+    }
+    limits::REQUEST
 }
 
 // A row with these bytes at its start.
@@ -119,11 +129,7 @@ fn moved(g: Guide, readings: &[u8]) -> Turn
     let length = g.length;
     let known = g.marks;
     let answer = g.answer;
-    let end = if length < limits::REQUEST {
-        length
-    } else {
-        limits::REQUEST
-    };
+    let end = row_end(length);
     let step = call(&row[..end], g.action, g.at, &known, readings);
     let told = step.told;
     let marks = step.marks;
@@ -211,11 +217,7 @@ impl Guide {
                 let row = self.request;
                 let length = self.length;
                 let known = self.marks;
-                let end = if length < limits::REQUEST {
-                    length
-                } else {
-                    limits::REQUEST
-                };
+                let end = row_end(length);
                 asked(&row[..end], self.action, self.at, &known)
             }
             Stage::Ended => none_asked(),

@@ -1,0 +1,4 @@
+use Rattle.guide.proofs.calls.asked.Statement.{statement}
+
+pub asked-spec : {M : Type 1} → statement M
+asked-spec = ?
