@@ -1,1 +1,3 @@
 pub mod TurnLaws
+pub mod GuideHeldLaws
+pub mod GuideStartLaws
