@@ -7,9 +7,9 @@ use mathlib.Core.Path.{_≡_, refl, sym, _∙_, ap, subst}
 use mathlib.Core.Bool.{Bool, true, false}
 use mathlib.Core.List.{List, [], _∷_, _++_}
 use lib.ListN.{length, getD, set, take, replicate, length-set, length-replicate}
-use lib.Seq.{take-suc, take-suc-set, take-all, take-length}
+use lib.Seq.{take-suc, take-suc-set, take-length}
 use lib.Dec.{eqb, ltb, leb}
-use borrow.Author.Tests.{eq-eqb, ne-eqb, leb-true, ltb-true, ltb-false, lt-ltb, le-ltb}
+use borrow.Author.Tests.{eq-eqb, ne-eqb, leb-true}
 use Rattle.meaning.specs.declared.Answer.{Answer}
 use Rattle.meaning.specs.Limits.{format}
 use Rattle.meaning.specs.Tests.{pick, both, each-of}
@@ -21,7 +21,7 @@ use Rattle.meaning.specs.States.{State, first-state}
 use Rattle.meaning.specs.Walk.{End, fine, missed, stopped, Walked}
 use Rattle.meaning.specs.Judging.{Judgement, reported, ended, within, judge-got, walk-of, judge}
 use Rattle.meaning.specs.Answers.{refusals}
-use Rattle.meaning.proofs.TestLaws.{by-test, pick-true, pick-false, pick-map}
+use Rattle.meaning.proofs.TestLaws.{pick-true, pick-false, pick-map}
 use Rattle.meaning.proofs.PickLaws.{pick-has}
 use Rattle.meaning.proofs.LiteralLaws.{among-each}
 use Rattle.meaning.proofs.KeptEnds.{Stuck, walked-stuck}
@@ -32,7 +32,7 @@ use Rattle.guidance.specs.Guides.{Guide, going, Started, of-guide, of-request, 
 use Rattle.guide.specs.declared.guides.Guide as Held
 use Rattle.guide.specs.declared.guides.Started as Held-started
 use Rattle.guide.specs.declared.guides.Stage.the-variants.{Going}
-use Rattle.guide.specs.GuideHeld.{guide-held, row-end, request-of, guide-at, guide-of, started-of, Begins, Own-copy}
+use Rattle.guide.specs.GuideHeld.{guide-held, request-of, guide-at, guide-of, started-of, Begins, Own-copy}
 
 -- THE COPY: so far the row has the first bytes of the request.
 pub record Copied (request row : List ℕ) (i : ℕ) : Type 0 where
@@ -63,31 +63,6 @@ module _ (request row : List ℕ) (i : ℕ) (copied : Copied request row i) wher
       let most = copied .most in
       let is : length request ≡ i = omega arith in
       ap (λ (n : ℕ). take n row) is ∙ copied .same ∙ ap (λ (n : ℕ). take n request) (sym is) ∙ take-length request
-
--- THE END of a part of the row.
-pub row-short : (n : ℕ) → n < format .request → n ≡ row-end n
-unfolding row-end
-row-short n less = sym (pick-true _ _ _ (lt-ltb n (format .request) less))
-
-pub row-long : (n : ℕ) → format .request ≤ n → format .request ≡ row-end n
-unfolding row-end
-row-long n most = sym (pick-false _ _ _ (le-ltb n (format .request) most))
-
-pub row-within : (n : ℕ) → row-end n ≤ format .request
-unfolding row-end
-row-within n = by-test (ltb n (format .request)) (λ e. omega (arith, pick-true {A = ℕ} _ (λ _. n) (λ _. format .request) e, less e)) (λ e. omega (arith, pick-false {A = ℕ} _ (λ _. n) (λ _. format .request) e))
-  where
-    less : ltb n (format .request) ≡ true → n < format .request
-    less e = ltb-true n (format .request) e
-
-pub row-part : (n : ℕ) (row : List ℕ) → length row ≡ format .request → take (row-end n) row ≡ take n row
-unfolding row-end
-row-part n row sized =
-    by-test (ltb n (format .request))
-    (λ e. ap (λ (m : ℕ). take m row) (pick-true _ _ _ e))
-    (λ e.
-    let large = ltb-false n (format .request) e in
-    ap (λ (m : ℕ). take m row) (pick-false _ _ _ e) ∙ take-all (format .request) row (omega (arith, sized)) ∙ sym (take-all n row (omega (arith, sized, large))))
 
 -- WHAT BEGINS with a copy of the request.
 pub begun-request : (request row : List ℕ) (n : ℕ) (answer : Answer) (a at : ℕ) (marks : State) → take n row ≡ request

@@ -1,3 +1,4 @@
 pub mod TurnLaws
 pub mod GuideHeldLaws
 pub mod GuideStartLaws
+pub mod GuideRowLaws

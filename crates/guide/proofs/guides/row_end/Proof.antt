@@ -1,5 +1,5 @@
 -- A row has no more bytes than a request may have.
-use Rattle.guide.proofs.GuideStartLaws.{row-short, row-long}
+use Rattle.guide.proofs.GuideRowLaws.{row-short, row-long}
 use Rattle.guide.proofs.guides.row_end.Statement.{statement}
 use Rattle.guide.proofs.guides.row_end.Tie as tie
 use Rattle.guide.proofs.guides.row_end.Reads as reads
