@@ -5,7 +5,7 @@ use native.Mathlib.Omega.{arith}
 use mathlib.Core.Path.{_≡_, refl, sym, _∙_, ap, subst}
 use mathlib.Core.List.{List, []}
 use lib.ListN.{length, take}
-use lib.Seq.{take-all}
+use lib.Seq.{length-take-le, take-all}
 use lib.Dec.{ltb}
 use borrow.Author.Tests.{ltb-true, ltb-false, lt-ltb, le-ltb}
 use Rattle.meaning.specs.declared.Answer.{Answer}
@@ -33,11 +33,14 @@ unfolding row-end
 row-long n most = sym (pick-false _ _ _ (le-ltb n (format .request) most))
 
 module _ (n e : ℕ) (row : List ℕ) (sized : length row ≡ format .request) (ends : e ≡ row-end n) where
-  pub end-within : e ≤ length row
+  end-within : e ≤ length row
   end-within =
       by-test (ltb n (format .request))
       (λ t. let less = ltb-true n (format .request) t in let same = row-short n less in omega (arith, sized, ends, less, same))
       (λ f. let most = ltb-false n (format .request) f in let same = row-long n most in omega (arith, sized, ends, same))
+
+  pub part-long : e ≡ length (take e row)
+  part-long = sym (length-take-le e row end-within)
 
   same-part : take e row ≡ take n row
   same-part =
