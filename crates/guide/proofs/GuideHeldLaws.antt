@@ -2,7 +2,7 @@
 -- of any other request it was refused. Assumes nothing.
 use Prim.Native.Nat.{ℕ, zero, suc, _≤_, _<_}
 use native.Mathlib.Omega.{arith}
-use mathlib.Core.Path.{_≡_, refl, sym, _∙_, ap, subst}
+use mathlib.Core.Path.{_≡_, refl, sym, _∙_, ap}
 use mathlib.Core.Bool.{Bool, true, false}
 use mathlib.Core.List.{List, [], _∷_}
 use mathlib.Core.Logic.{⊎-elim}
@@ -13,9 +13,9 @@ use mir.Val.{Fits}
 use borrow.Author.Tests.{eqb-true, eqb-false, lt-ltb, ltb-true, le-leb, leb-true}
 use Rattle.meaning.specs.declared.Answer.{Answer}
 use Rattle.meaning.specs.Limits.{format, all-literals}
-use Rattle.meaning.specs.Tests.{pick, both, either, each-of}
-use Rattle.meaning.specs.Requests.{Table, Sequence, Request}
-use Rattle.meaning.specs.Reading.{Got, got, fault}
+use Rattle.meaning.specs.Tests.{both, each-of}
+use Rattle.meaning.specs.Requests.{Sequence, Request}
+use Rattle.meaning.specs.Reading.{got, fault}
 use Rattle.meaning.specs.Refusals.{settled}
 use Rattle.meaning.specs.States.{State, state-of, first-state}
 use Rattle.meaning.proofs.TestLaws.{by-test, both-left, both-right, both-true, either-left, either-right, either-split, pick-true, pick-false}
@@ -37,7 +37,7 @@ use Rattle.steps.proofs.FirstLaws.{rest-first, first-is, at-is, starts-there}
 use Rattle.glintstring.proofs.SettledAtHand.{settled-got, settled-at-hand, settled-held}
 use Rattle.guidance.specs.declared.Told.{Told}
 use Rattle.guidance.specs.declared.Told.the-variants.{Do, Done, Refused}
-use Rattle.guidance.specs.Guides.{Guide, refusing, going, Turn, of-guide, not-verified, of-request, sensed, next}
+use Rattle.guidance.specs.Guides.{Guide, refusing, going, of-guide, not-verified, of-request, sensed, next}
 use Rattle.guidance.specs.Guided.{asked-for}
 use Rattle.guide.specs.declared.going.Step.{Step}
 use Rattle.guide.specs.GuideHeld.{asked-by, on-the-way, guide-after, turned, Goes-after, Turns, is-position, is-marked, guide-got, guide-held, guide-called, called, Begins}

@@ -10,7 +10,6 @@ use lib.Dec.{ltb}
 use borrow.Author.Tests.{ltb-true, ltb-false, lt-ltb, le-ltb}
 use Rattle.meaning.specs.declared.Answer.{Answer}
 use Rattle.meaning.specs.Limits.{format}
-use Rattle.meaning.specs.Tests.{pick}
 use Rattle.meaning.specs.States.{State}
 use Rattle.meaning.proofs.TestLaws.{by-test, pick-true, pick-false}
 use Rattle.guidance.specs.declared.Told.{Told}
@@ -18,7 +17,6 @@ use Rattle.guidance.specs.declared.Told.the-variants.{Do, Done, Refused}
 use Rattle.guidance.specs.Guides.{Guide, refusing, ended, next}
 use Rattle.guidance.specs.Guided.{asked-for}
 use Rattle.guide.specs.declared.going.Step.{Step}
-use Rattle.guide.specs.declared.guides.Stage.{Stage}
 use Rattle.guide.specs.declared.guides.Stage.the-variants.{Refusing, Going, Ended}
 use Rattle.guide.specs.declared.guides.Guide as Held
 use Rattle.guide.specs.GuideHeld.{guide-held, guide-called, called, row-end, request-of, guide-at, guide-of, turn-of, Kept-guide}

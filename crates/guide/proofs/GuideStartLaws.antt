@@ -4,16 +4,14 @@ use Prim.Native.Nat.{ℕ, _+_, _≤_, _<_}
 use native.Mathlib.Omega.{arith}
 use native.Mathlib.Numerals.{add-one}
 use mathlib.Core.Path.{_≡_, refl, sym, _∙_, ap, subst}
-use mathlib.Core.Bool.{Bool, true, false}
 use mathlib.Core.List.{List, [], _∷_, _++_}
-use lib.ListN.{length, getD, set, take, replicate, length-set, length-replicate}
+use lib.ListN.{length, getD, set, take, length-set}
 use lib.Seq.{take-suc, take-suc-set, take-length}
-use lib.Dec.{eqb, ltb, leb}
+use lib.Dec.{ltb, leb}
 use borrow.Author.Tests.{eq-eqb, ne-eqb, leb-true}
 use Rattle.meaning.specs.declared.Answer.{Answer}
 use Rattle.meaning.specs.Limits.{format}
 use Rattle.meaning.specs.Tests.{pick, both, each-of}
-use Rattle.meaning.specs.Literals.{among}
 use Rattle.meaning.specs.Requests.{Request}
 use Rattle.meaning.specs.Reading.{Got, got, fault}
 use Rattle.meaning.specs.Refusals.{settled}
@@ -28,8 +26,7 @@ use Rattle.meaning.proofs.KeptEnds.{Stuck, walked-stuck}
 use Rattle.meaning.proofs.WithinLaws.{answered, within-number}
 use Rattle.meaning.proofs.PlaceLaws.{Request-held, settled-held}
 use Rattle.meaning.proofs.AnswerLaws.{Numbered-in, settled-numbered}
-use Rattle.guidance.specs.Guides.{Guide, going, Started, of-guide, of-request, not-verified, refused-start, start-walked, start-got, start}
-use Rattle.guide.specs.declared.guides.Guide as Held
+use Rattle.guidance.specs.Guides.{Guide, going, of-request, refused-start, start-walked, start-got, start}
 use Rattle.guide.specs.declared.guides.Started as Held-started
 use Rattle.guide.specs.declared.guides.Stage.the-variants.{Going}
 use Rattle.guide.specs.GuideHeld.{guide-held, request-of, guide-at, guide-of, started-of, Begins, Own-copy}

@@ -20,11 +20,11 @@ use Rattle.steps.specs.Steps.{Followed}
 use Rattle.steps.proofs.LookLaws.{marked-after}
 use Rattle.guidance.specs.declared.Told.{Told}
 use Rattle.guidance.specs.declared.Told.the-variants.{Do, Done, Refused}
-use Rattle.guidance.specs.Guides.{Guide, going, ended, Turn, Ahead, the-end, an-action, no-branch, of-guide, not-verified, wrong-number, against-known, ahead, sensed, literals-read, against, state-done, stays, met, take-over, next}
+use Rattle.guidance.specs.Guides.{Guide, going, Turn, an-action, of-guide, not-verified, wrong-number, against-known, ahead, sensed, literals-read, against, state-done, stays, met, take-over, next}
 use Rattle.guide.specs.declared.going.Ahead as Code
 use Rattle.guide.specs.declared.going.Ahead.the-variants.{End, Action, NoBranch}
 use Rattle.guide.specs.declared.going.Step.{Step}
-use Rattle.guide.specs.GuideHeld.{came, Item-there, Action-there, asked-by, on-the-way, guide-after, turned, Goes-on, Goes-after, Turns}
+use Rattle.guide.specs.GuideHeld.{came, Item-there, Action-there, asked-by, on-the-way, guide-after, turned, Goes-after, Turns}
 
 -- THE FLUENTS whose readings come after an action, and none where there is no action.
 pub asked-some : (s : List ℕ) (a : ℕ) → a < format .actions → asked-by (table-in s) a ≡ sensed format (table-in s) a
@@ -73,9 +73,9 @@ module _ (s t : List ℕ) (i : ℕ) (there : Item-there s t i) (p : ℕ) (placed
       unfolding met turned guide-after on-the-way Goes-after
       does-it marks done marked = record {
         is = ap (λ (fs : List ℕ). record { guide = going (table-in s) fs (rest-at (plan-in s t) at) marks; told = Do a }) (asked-some s a action-low)
-        ∙ ap (λ (b : Sequence ℕ). record { guide = going (table-in s) (sensed format (table-in s) a) b marks; told = Do a }) (follows .rest)
-        ∙ ap (λ (m : State). record { guide = going (table-in s) (sensed format (table-in s) a) (after-first (rest-at (plan-in s t) i)) m; told = Do a }) (sym done)
-        ∙ sym (meets-it ∙ pick-true _ _ _ (sym ran ∙ can));
+            ∙ ap (λ (b : Sequence ℕ). record { guide = going (table-in s) (sensed format (table-in s) a) b marks; told = Do a }) (follows .rest)
+            ∙ ap (λ (m : State). record { guide = going (table-in s) (sensed format (table-in s) a) (after-first (rest-at (plan-in s t) i)) m; told = Do a }) (sym done)
+            ∙ sym (meets-it ∙ pick-true _ _ _ (sym ran ∙ can));
         goes = record { at = follows .at; marked = marked };
       }
 

@@ -1,7 +1,6 @@
 ghost use mathlib.Core.Path.{_≡_};
 ghost use Prim.Native.Nat.{_<_};
 ghost use Rattle.meaning.specs.Limits.{format};
-ghost use Rattle.reading.specs.Planned.{items-of};
 ghost use Rattle.walking.specs.Walks.{action-at};
 ghost use Rattle.steps.specs.Held.{table-in, plan-in};
 ghost use Rattle.steps.specs.AtHand.{At-hand, Marked};

@@ -63,7 +63,14 @@ fn row_end(length: usize) -> usize
 }
 
 // A call, of the request that is the start of a row. A reference does not tell how long the row is, but a slice does.
-fn call_of(row: &[u8; limits::REQUEST], length: usize, action: usize, at: usize, marks: &Marks, readings: &[u8]) -> Step
+fn call_of(
+    row: &[u8; limits::REQUEST],
+    length: usize,
+    action: usize,
+    at: usize,
+    marks: &Marks,
+    readings: &[u8],
+) -> Step
     ensures { λ r. ⌜ called (take length (now (row .entry))) (guide-held (take length (now (row .entry))) action at (now (marks .entry))) r ≡ next format (guide-held (take length (now (row .entry))) action at (now (marks .entry))) (now (readings .entry)) ⌝ }
 {
     let whole: &[u8] = row;
@@ -72,7 +79,13 @@ fn call_of(row: &[u8; limits::REQUEST], length: usize, action: usize, at: usize,
 }
 
 // The fluents whose readings the next call brings, of the request that is the start of a row.
-fn asked_of(row: &[u8; limits::REQUEST], length: usize, action: usize, at: usize, marks: &Marks) -> Fluents
+fn asked_of(
+    row: &[u8; limits::REQUEST],
+    length: usize,
+    action: usize,
+    at: usize,
+    marks: &Marks,
+) -> Fluents
     ensures { λ r. ⌜ take (r .count) (r .row) ≡ asked-for (guide-held (take length (now (row .entry))) action at (now (marks .entry))) ⌝ }
 {
     let whole: &[u8] = row;

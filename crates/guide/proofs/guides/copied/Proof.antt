@@ -1,7 +1,6 @@
 -- So far the row has the first bytes of the request.
 use borrow.Author.Needs.{needs}
 use Prim.Native.Nat.{_-_}
-use lib.ListN.{length}
 use Rattle.guide.proofs.GuideStartLaws.{Copied, copied-starts, copied-on, copied-all}
 use Rattle.guide.proofs.guides.copied.Statement.{statement}
 use Rattle.guide.proofs.guides.copied.Tie as tie
