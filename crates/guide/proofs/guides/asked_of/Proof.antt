@@ -8,19 +8,19 @@ use Rattle.guide.proofs.guides.asked_of.Lts as lts
 use Rattle.guide.proofs.calls.asked.Reads as asked-reads
 use Rattle.guide.proofs.guides.row_end.Reads as row-end-reads
 
--- src/guides.rt:79:9
+-- src/guides.rt:92:9
 row-end-requires : tie.Need-row-end-requires
 row-end-requires c κs = search needs
 
--- src/guides.rt:80:11
+-- src/guides.rt:93:11
 slice-aggregate-asked : tie.Need-slice-aggregate-asked
 slice-aggregate-asked c = search part-long
 
--- src/guides.rt:80:5
+-- src/guides.rt:93:5
 asked-requires : tie.Need-asked-requires
 asked-requires c κs = search needs
 
--- src/guides.rt:75:1
+-- src/guides.rt:82:1
 returns : tie.Need-returns
 returns c = search part-asked
 

@@ -8,15 +8,15 @@ use Rattle.guide.proofs.guides.begun.Lts as lts
 use Rattle.guide.proofs.calls.at_start.Reads as at-start-reads
 use Rattle.guide.proofs.guides.copied.Reads as copied-reads
 
--- src/guides.rt:95:9
+-- src/guides.rt:137:9
 copied-requires : tie.Need-copied-requires
 copied-requires c κs = search needs
 
--- src/guides.rt:96:9
+-- src/guides.rt:138:9
 at-start-requires : tie.Need-at-start-requires
 at-start-requires c κs = search needs
 
--- src/guides.rt:89:1
+-- src/guides.rt:131:1
 returns : tie.Need-returns
 returns c = (search needs, (search begun-request, search begun-held))
 

@@ -8,15 +8,15 @@ use Rattle.guide.proofs.guides.call_of.Lts as lts
 use Rattle.guide.proofs.calls.call.Reads as call-reads
 use Rattle.guide.proofs.guides.row_end.Reads as row-end-reads
 
--- src/guides.rt:70:9
+-- src/guides.rt:77:9
 row-end-requires : tie.Need-row-end-requires
 row-end-requires c κs = search needs
 
--- src/guides.rt:71:10
+-- src/guides.rt:78:10
 slice-aggregate-call : tie.Need-slice-aggregate-call
 slice-aggregate-call c = search part-long
 
--- src/guides.rt:71:5
+-- src/guides.rt:78:5
 call-requires : tie.Need-call-requires
 call-requires c κs = search needs
 

@@ -13,31 +13,31 @@ Inv-loop request row₀ end i₀ row i = Copied request row i
 abbrev μ-loop : tie.MeasureT-loop
 μ-loop request row₀ end i₀ row i = end - i
 
--- src/guides.rt:62:5
+-- src/guides.rt:104:5
 loop-holds : tie.Need-loop-holds Inv-loop μ-loop
 loop-holds c = search (needs, copied-starts)
 
--- src/guides.rt:63:18
+-- src/guides.rt:105:18
 shared-slice-read-row : tie.Need-shared-slice-read-row Inv-loop μ-loop
 shared-slice-read-row c = search needs
 
--- src/guides.rt:63:9
+-- src/guides.rt:105:9
 array-write-row : tie.Need-array-write-row Inv-loop μ-loop
 array-write-row c = search needs
 
--- src/guides.rt:64:9
+-- src/guides.rt:106:9
 add-i : tie.Need-add-i Inv-loop μ-loop
 add-i c = search needs
 
--- src/guides.rt:62:5
+-- src/guides.rt:104:5
 loop-less : tie.Need-loop-less Inv-loop μ-loop
 loop-less c = search needs
 
--- src/guides.rt:62:5
+-- src/guides.rt:104:5
 loop-again : tie.Need-loop-again Inv-loop μ-loop
 loop-again c = search copied-on
 
--- src/guides.rt:55:1
+-- src/guides.rt:97:1
 returns : tie.Need-returns Inv-loop μ-loop
 returns c = search copied-all
 

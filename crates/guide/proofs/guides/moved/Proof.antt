@@ -7,31 +7,31 @@ use Rattle.guide.proofs.guides.moved.Reads as reads
 use Rattle.guide.proofs.guides.moved.Lts as lts
 use Rattle.guide.proofs.guides.call_of.Reads as call-of-reads
 
--- src/guides.rt:151:9
+-- src/guides.rt:164:9
 call-of-requires : tie.Need-call-of-requires
 call-of-requires c κs = search needs
 
--- src/guides.rt:157:26
+-- src/guides.rt:170:26
 enum-told : tie.Need-enum-told
 enum-told c = search needs
 
--- src/guides.rt:169:26
+-- src/guides.rt:182:26
 enum-told-2 : tie.Need-enum-told-2
 enum-told-2 c = search needs
 
--- src/guides.rt:179:29
+-- src/guides.rt:192:29
 enum-told-3 : tie.Need-enum-told-3
 enum-told-3 c = search needs
 
--- src/guides.rt:142:1
+-- src/guides.rt:155:1
 returns : tie.Need-returns
 returns c = (search moves-on, search kept-on)
 
--- src/guides.rt:142:1
+-- src/guides.rt:155:1
 returns-2 : tie.Need-returns-2
 returns-2 c = (search moves-last, search kept-last)
 
--- src/guides.rt:142:1
+-- src/guides.rt:155:1
 returns-3 : tie.Need-returns-3
 returns-3 c = (search moves-not, search kept-same)
 

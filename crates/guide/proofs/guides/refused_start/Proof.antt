@@ -7,7 +7,7 @@ use Rattle.guide.proofs.guides.refused_start.Tie as tie
 use Rattle.guide.proofs.guides.refused_start.Reads as reads
 use Rattle.guide.proofs.guides.refused_start.Lts as lts
 
--- src/guides.rt:70:1
+-- src/guides.rt:112:1
 returns : tie.Need-returns
 unfolding started-of refused-start guide-of guide-at
 returns c = search needs

@@ -5,11 +5,11 @@ use Rattle.guide.proofs.guides.row_end.Tie as tie
 use Rattle.guide.proofs.guides.row_end.Reads as reads
 use Rattle.guide.proofs.guides.row_end.Lts as lts
 
--- src/guides.rt:59:9
+-- src/guides.rt:60:9
 returns : tie.Need-returns
 returns c = search row-short
 
--- src/guides.rt:55:1
+-- src/guides.rt:56:1
 returns-2 : tie.Need-returns-2
 returns-2 c = search row-long
 

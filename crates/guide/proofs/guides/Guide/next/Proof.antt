@@ -7,31 +7,31 @@ use Rattle.guide.proofs.guides.Guide.next.Reads as reads
 use Rattle.guide.proofs.guides.Guide.next.Lts as lts
 use Rattle.guide.proofs.guides.moved.Reads as moved-reads
 
--- src/guides.rt:189:21
+-- src/guides.rt:226:21
 enum-told : tie.Need-enum-told
 enum-told c = search needs
 
--- src/guides.rt:195:29
+-- src/guides.rt:232:29
 enum-told-2 : tie.Need-enum-told-2
 enum-told-2 c = search needs
 
--- src/guides.rt:195:29
+-- src/guides.rt:232:29
 moved-requires : tie.Need-moved-requires
 moved-requires c κs = search needs
 
--- src/guides.rt:198:23
+-- src/guides.rt:235:23
 enum-told-3 : tie.Need-enum-told-3
 enum-told-3 c = search needs
 
--- src/guides.rt:182:5
+-- src/guides.rt:219:5
 returns : tie.Need-returns
 returns c = (search next-refused, search kept-same)
 
--- src/guides.rt:182:5
+-- src/guides.rt:219:5
 returns-2 : tie.Need-returns-2
 returns-2 c = search needs
 
--- src/guides.rt:182:5
+-- src/guides.rt:219:5
 returns-3 : tie.Need-returns-3
 returns-3 c = (search next-ended, search kept-same)
 
