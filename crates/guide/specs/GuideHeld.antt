@@ -95,12 +95,13 @@ called request g r = record { guide = guide-called request g r (r .told); told =
 pub record Begins (request : List ℕ) (g : Guide) : Type 0 where
   pub held : (r : Request) (e : ℕ) → settled format request ≡ got r e → g ≡ going (r .table) [] (r .plan) (first-state format (r .table))
 
--- THE STRUCT. The request is the start of the row, which has no more bytes than a request may have.
-unfoldable pub row-end : ℕ → ℕ
-row-end n = pick (ltb n (format .request)) (λ _. n) (λ _. format .request)
-
+-- THE STRUCT. The request is the start of the row.
 unfoldable pub request-of : Held.Guide → List ℕ
 request-of g = take (g .length) (g .request)
+
+-- Where the first n bytes of the row end: it has no more than a request may have.
+unfoldable pub row-end : (n : ℕ) → ℕ
+row-end n = pick (ltb n (format .request)) (λ _. n) (λ _. format .request)
 
 unfoldable pub guide-at : Held.Guide → Stage → Guide
 guide-at g stage = elim stage [ Refusing ↦ refusing (g .answer) | Going ↦ guide-held (request-of g) (g .action) (g .at) (g .marks) | Ended ↦ ended (g .marks) ]

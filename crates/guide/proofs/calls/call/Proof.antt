@@ -23,11 +23,16 @@ enum-told c = search needs
 
 -- src/calls.rt:78:17
 is-going-requires : tie.Need-is-going-requires
-is-going-requires c κs = settled-at-hand _ _ _ _ (c .before .before .before .settle .ensures) _ (c .before .enum-told .given .1) (c .before .before .before .before .before .before .shared-slice-known .given) blank-is
+is-going-requires c κs =
+    let settles = c .before .before .before in
+    settled-at-hand _ _ _ _ (settles .settle .ensures) _ (c .before .enum-told .given .1) (settles .before .before .before .shared-slice-known .given) blank-is
 
 -- src/calls.rt:80:17
 answer-call-requires : tie.Need-answer-call-requires
-answer-call-requires c κs = let here = settled-at-hand _ _ _ _ (c .before .before .before .before .before .before .settle .ensures) _ (c .before .before .before .before .enum-told .given .1) (c .before .before .before .before .before .before .before .before .before .shared-slice-known .given) blank-is in (here, (going-position _ _ _ _ _ (c .before .before .is-going .ensures .0) (c .before .if1 .taken) here, search going-marked))
+answer-call-requires c κs =
+    let settles = c .before .before .before .before .before .before in
+    let here = settled-at-hand _ _ _ _ (settles .settle .ensures) _ (c .before .before .before .before .enum-told .given .1) (settles .before .before .before .shared-slice-known .given) blank-is in
+    (here, (going-position _ _ _ _ _ (c .before .before .is-going .ensures .0) (c .before .if1 .taken) here, search going-marked))
 
 -- src/calls.rt:80:17
 returns : tie.Need-returns
