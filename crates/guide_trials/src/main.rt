@@ -4,7 +4,7 @@ ghost use Rattle.programs.specs.Input.{Within};
 use bytes::limits;
 use guidance::Told;
 use guide::guides::Guide;
-use guide::readings::Fluents;
+use guide::sensed::Fluents;
 use libc::STDIN_FILENO;
 use meaning::Answer;
 use programs::Input;
