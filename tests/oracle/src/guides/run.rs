@@ -211,7 +211,7 @@ impl Tally {
     fn lead(&mut self, rng: &mut Rng, request: &Request, first: Stand) -> Result<(), String> {
         let mut stands = vec![first];
         while let Some(mut stand) = stands.pop() {
-            let right = stand.readings(rng)?;
+            let right = stand.readings(rng);
             self.expect_refused(rng, &mut stand, &right)?;
             match self.call(&mut stand.follower, &right)? {
                 Told::Refused(answer) => return Err(format!("{answer} to readings {right:?}")),
@@ -272,18 +272,17 @@ fn expect_number(told: Told, number: u8) -> Result<(), String> {
 
 impl<'a> Stand<'a> {
     /// The readings that are due: true ones, or any that are not refused.
-    fn readings(&self, rng: &mut Rng) -> Result<Vec<u8>, String> {
+    fn readings(&self, rng: &mut Rng) -> Vec<u8> {
         let course = &self.follower.course;
-        let mut readings = Vec::new();
-        for fluent in self.follower.asked() {
+        let of = |fluent| {
             let value = match &self.worlds {
                 Some(worlds) => worlds.value(fluent),
                 None if course.knows(fluent) => !course.is_against(fluent, true),
                 None => rng.chance(50),
             };
-            readings.push(reading(rng, value));
-        }
-        Ok(readings)
+            reading(rng, value)
+        };
+        self.follower.asked().into_iter().map(of).collect()
     }
 
     /// After the action that was answered: it is the one that the plan in worlds comes to, and may be run in all of
