@@ -51,8 +51,9 @@ usage:
       bytes. Prints `start` with number, input, place and count, and for each call `do` with the
       action and the fluents that are asked for, `done`, or `refused` with four numbers.
   oracle trials --to TRIALS [--seed S] [--count N]
-      Writes trials of guides to the file TRIALS (seed 1 and 20,000 unless told otherwise), and
-      prints what a program that has a guide is to print of them, in the same lines.
+      Writes the format's rows of guides and trials to the file TRIALS (seed 1 and 20,000 unless
+      told otherwise), and prints what a program that has a guide is to print of them, in the
+      same lines.
   oracle run [--seed S] [--requests N] [--derivations M] [--whether K] [--releases L]
              [--guarded G] [--by-cases C] [--indexed I] [--derived P] [--guided O]
       Makes random calls (seed 1, 100,000 requests, 20,000 derivations in each layout, 20,000

@@ -3,9 +3,10 @@
 
 mod common;
 
-use common::{bytes, changed, file_a, table_a};
+use common::{bytes, file_a, table_a};
 use oracle::encode::encode_request;
 use oracle::guides::call::{start, Guide, Told};
+use oracle::guides::cases;
 use oracle::guides::trials::{trials, Trial};
 use oracle::model::{Allowance, Item, Request};
 use oracle::{judge, Answer, STATE_LENGTH};
@@ -34,84 +35,28 @@ fn looking_twice() -> Vec<u8> {
     table_a("0 3 0 0 255 2 1 1 0 2 1 2 1 0 0 0 1 7 1 2")
 }
 
-/// The flight of 25.37, which goes by gate A or by gate B.
-const FLIGHT: &str = "6 5 5 0 3 5 7 11 13 0 2 0 0 1 0 0 5 0 0 7 0 1 4 0 1 1 0 1 3 0 1 7 0 2 6 0 2 1 0 2 3 0 2 5 0 \
-    4 10 0 6 0 0 1 1 2 2 1 2 3 1 2 4 2 4 8 4 2 6 9 1 3 4 0 3 0 3 255 2 1 8 0 2 1 4 1 9 0 2 2 4 1 10 0";
-
-/// Expects calls as the format writes them: readings in brackets, and an action, "done", or the start's answer again or
-/// one of 41 and 42.
-fn is_case(request: &[u8], budget: u32, first: &str, calls: &str) {
-    let (mut guide, answer) = start(request, budget);
-    assert_eq!(answer.to_string(), first);
-    for call in calls.split('[').skip(1) {
-        let (readings, expected) = call.split_once("] ").expect("readings in brackets");
-        let expected = match expected.trim_end_matches(", ").split_once(' ') {
-            Some(("do", action)) => Told::Do(action.parse().expect("an action")),
-            None if expected.starts_with("done") => Told::Done,
-            None if expected.starts_with("41") => Told::Refused(Answer::neither(41, 0)),
-            None if expected.starts_with("42") => Told::Refused(Answer::neither(42, 0)),
-            None if first.starts_with(expected.trim_end_matches(", ")) => Told::Refused(answer),
-            other => panic!("no such answer: {other:?}"),
-        };
-        let told;
-        (guide, told) = guide.next(&bytes(readings));
-        assert_eq!(told, expected, "{calls}");
-    }
-}
-
 #[test]
 fn cases_of_the_format() {
-    let verified =
-        |request: &[u8], first: &str, calls: &str| is_case(request, BUDGET, first, calls);
-    let set = "[] do 0, [1] done, [] done, [5] done";
-    verified(&file_a(), "0 0 0 5", set);
-    let clear = "[] do 0, [0] do 1, [] do 2, [] done, [3 3] done";
-    verified(&file_a(), "0 0 0 5", clear);
-    verified(&file_a(), "0 0 0 5", "[] do 0, [7] done");
-    verified(&table_a("0 0 0 0"), "0 0 0 1", "[] done");
-    verified(&table_a("0 0 0 0"), "0 0 0 1", "[5] 41, [] done");
-    let again = "[1] 41, [] do 0, [] 41, [0 0] 41, [0] do 1, [0] 41, [] do 2, [] done";
-    verified(&file_a(), "0 0 0 5", again);
-    let twice = "[] do 0, [1] do 0, [0] 42, [0 0] 41, [1] done";
-    verified(&table_a("0 2 0 0 0 0"), "0 0 0 5", twice);
-    let one_known = bytes("2 1 1 0 0 1 0 0 2 0 1 0 0 0 2 0 0 0 1 1");
-    let both = "[] do 0, [0] 41, [0 1] 42, [1 0] do 0, [1 1] 42, [1 0] done";
-    verified(&one_known, "0 0 0 5", both);
-    let said_twice = bytes("1 1 0 0 1 0 0 2 0 0 0 0 0 1 0 0 1 0");
-    verified(&said_twice, "0 0 0 3", "[] do 0, [0 0] 41, [0] done");
-    let flight = bytes(FLIGHT);
-    let by_a = "[] do 0, [] do 3, [1] do 1, [] do 4, [] done";
-    verified(&flight, "0 0 0 8", by_a);
-    let by_b = "[] do 0, [] do 3, [0] do 2, [] do 4, [] done";
-    verified(&flight, "0 0 0 8", by_b);
-    let behind = table_a("0 3 0 255 2 1 1 0 1 1 1 0 0 0 0 0 0");
-    let follows = "[] do 0, [0] do 1, [] do 0, [1] 42, [0] done";
-    verified(&behind, "0 0 0 6", follows);
-    verified(&behind, "0 0 0 6", "[] do 0, [1] do 0, [1] done");
-    let inside = table_a("0 2 255 1 1 3 0 2 255 2 1 2 0 0 1 3 0 1 1 2 0 0 0");
-    let first = "[] do 1, [] do 2, [] do 0, [0] done";
-    verified(&inside, "0 0 0 5", first);
-}
-
-#[test]
-fn cases_of_the_format_that_are_refused() {
-    for (request, budget) in [
-        (table_a("0 1 1 1 7 1 2"), BUDGET),
-        (table_a("0 1 2 0 0"), BUDGET),
-        (table_a("0 1 255 2 1 1 0 2 1 2 1 0 0 0 1 7 1 2"), BUDGET),
-        (file_a(), 4),
-    ] {
-        is_case(&request, budget, "40 0 0 0", "[] 40, [0 1] 40");
+    for (trial, (_, _, first, row)) in cases::trials().iter().zip(cases::cases()) {
+        let answers = trial.answers();
+        assert_eq!(answers.start.to_string(), first, "{row}");
+        let calls = cases::calls(row);
+        assert_eq!(calls.len(), answers.calls.len());
+        for ((_, expected), (told, _)) in calls.iter().zip(answers.calls) {
+            let own = expected == "41" || expected == "42";
+            let (number, same) = match told {
+                Told::Do(action) => (format!("do {action}"), true),
+                Told::Done => ("done".to_string(), true),
+                Told::Refused(answer) if own => (
+                    answer.number.to_string(),
+                    answer == Answer::neither(answer.number, 0),
+                ),
+                Told::Refused(answer) => (answer.number.to_string(), answer == answers.start),
+            };
+            assert!(&number == expected && same, "{told:?} in {row}");
+        }
     }
-    is_case(&file_a(), 5, "0 0 0 5", "");
-    for (request, first, calls) in [
-        (Vec::new(), "11 1 0 0", "[] 11, [0 1] 11"),
-        (file_a()[..47].to_vec(), "11 1 47 0", "[] 11, [0 1] 11"),
-        (changed(11, 3), "16 1 10 0", "[] 16, [0 1] 16"),
-        (changed(41, 1), "18 1 32 0", "[] 18, [0 1] 18"),
-    ] {
-        is_case(&request, BUDGET, first, calls);
-    }
+    assert_eq!(cases::cases().len(), 23);
 }
 
 #[test]

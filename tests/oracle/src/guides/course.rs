@@ -8,7 +8,8 @@ use crate::worlds::{Carrier, Failure, World};
 /// What is left of a plan, the next item last.
 type Left<'a> = Vec<&'a Item>;
 
-fn all<'a>(sequence: &'a [Item]) -> impl Iterator<Item = &'a Item> {
+/// The items of a sequence, the first one last.
+fn turned(sequence: &[Item]) -> impl Iterator<Item = &Item> {
     sequence.iter().rev()
 }
 
@@ -22,7 +23,7 @@ fn next_action<'a>(
             Item::Action { action, .. } => return Ok(Some(*action)),
             Item::Branching { branches, .. } => {
                 let branch = choose(branches).ok_or(Failure::NoBranch)?;
-                left.extend(all(&branch.sequence));
+                left.extend(turned(&branch.sequence));
             }
         }
     }
@@ -44,7 +45,7 @@ impl<'a> InWorlds<'a> {
         InWorlds {
             carrier,
             worlds: carrier.start(request),
-            left: all(&request.plan).collect(),
+            left: turned(&request.plan).collect(),
         }
     }
 
@@ -100,7 +101,7 @@ impl<'a> OverMarks<'a> {
     pub(crate) fn new(request: &'a Request) -> OverMarks<'a> {
         OverMarks {
             marks: first_marks(request),
-            left: all(&request.plan).collect(),
+            left: turned(&request.plan).collect(),
             branched: 0,
         }
     }

@@ -52,7 +52,7 @@ pub enum Event {
     /// A fluent is asked for once though two knowledge lines say so, and readings are in another order than the lines.
     SaidTwice,
     OtherOrder,
-    /// The call passes a branching; one inside another; and the ends of two branches, one around the other.
+    /// The call passes a branching, and more than one.
     Branched,
     BranchedTwice,
     /// An action is answered that is the 1,024th.

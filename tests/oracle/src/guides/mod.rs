@@ -3,6 +3,7 @@
 
 pub mod call;
 pub mod calls;
+pub mod cases;
 pub mod course;
 pub mod follower;
 pub mod rows;

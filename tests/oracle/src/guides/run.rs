@@ -11,7 +11,7 @@ use crate::calls::JudgeCall;
 use crate::model::Request;
 use crate::reader::{ITEM_LIMIT, REQUEST_LIMIT};
 use crate::rng::Rng;
-use crate::run::{expect_outlook, told, LEAST_SHARE};
+use crate::run::{expect_form, expect_outlook, told, LEAST_SHARE};
 use crate::tally::{so, titled, Checked, Differences, Occurred};
 use crate::worlds::{Carrier, Failure, WORLD_FLUENTS};
 use crate::{judge_line, open, STATE_LENGTH};
@@ -151,6 +151,7 @@ impl Tally {
         let (walked, _) = judge_line(&call.request, &mut [0; STATE_LENGTH], call.budget);
         let events = start_events(call, walked, answer);
         self.starts.note(answer.number, events);
+        expect_form(answer, &call.request, &[])?;
         expect_outlook(walked, call.outlook)?;
         let expected = match walked.number {
             1..=3 => Answer::neither(NOT_VERIFIED, 0),
@@ -210,7 +211,7 @@ impl Tally {
     fn lead(&mut self, rng: &mut Rng, request: &Request, first: Stand) -> Result<(), String> {
         let mut stands = vec![first];
         while let Some(mut stand) = stands.pop() {
-            let right = stand.readings(rng)?;
+            let right = stand.readings(rng);
             self.expect_refused(rng, &mut stand, &right)?;
             match self.call(&mut stand.follower, &right)? {
                 Told::Refused(answer) => return Err(format!("{answer} to readings {right:?}")),
@@ -271,18 +272,17 @@ fn expect_number(told: Told, number: u8) -> Result<(), String> {
 
 impl<'a> Stand<'a> {
     /// The readings that are due: true ones, or any that are not refused.
-    fn readings(&self, rng: &mut Rng) -> Result<Vec<u8>, String> {
+    fn readings(&self, rng: &mut Rng) -> Vec<u8> {
         let course = &self.follower.course;
-        let mut readings = Vec::new();
-        for fluent in self.follower.asked() {
+        let of = |fluent| {
             let value = match &self.worlds {
                 Some(worlds) => worlds.value(fluent),
                 None if course.knows(fluent) => !course.is_against(fluent, true),
                 None => rng.chance(50),
             };
-            readings.push(reading(rng, value));
-        }
-        Ok(readings)
+            reading(rng, value)
+        };
+        self.follower.asked().into_iter().map(of).collect()
     }
 
     /// After the action that was answered: it is the one that the plan in worlds comes to, and may be run in all of
@@ -308,8 +308,14 @@ impl<'a> Stand<'a> {
         Ok(after.into_iter().map(with).collect())
     }
 
-    /// At the plan's end.
+    /// At the plan's end all that is asked is known, and so in worlds.
     fn ended(&mut self, request: &Request) -> Result<(), String> {
+        let course = &self.follower.course;
+        let is_goal = |&goal: &u8| course.known().any(|it| it == (goal / 2, goal % 2 == 0));
+        let is_known = |&fluent: &u8| course.knows(fluent);
+        if !request.goals.iter().all(is_goal) || !request.whether.iter().all(is_known) {
+            return Err("done, and what is asked is not known".to_string());
+        }
         let Some(worlds) = &mut self.worlds else {
             return Ok(());
         };

@@ -9,6 +9,7 @@
 
 use super::call::{start, Guide, Told};
 use super::calls::guide_call;
+use super::cases;
 use super::follower::{Event, Follower};
 use crate::model::Request;
 use crate::open;
@@ -97,8 +98,13 @@ impl Answers {
     }
 }
 
-/// So many trials.
+/// The format's rows, and so many trials.
 pub fn trials(seed: u64, count: u64) -> impl Iterator<Item = Trial> {
+    let rows = cases::trials().into_iter();
+    rows.chain(drawn(seed, count))
+}
+
+fn drawn(seed: u64, count: u64) -> impl Iterator<Item = Trial> {
     (0..count).map(move |number| {
         let rng = &mut Rng::new(seed, 41, number);
         let call = guide_call(rng);
