@@ -17,7 +17,7 @@ use Rattle.meaning.specs.Judging.{walk-of}
 use Rattle.meaning.specs.Answers.{refusals}
 use Rattle.meaning.specs.AnswerParts.{Placed}
 use Rattle.guidance.specs.declared.Told.{Told}
-use Rattle.guidance.specs.Guides.{Guide, not-verified, of-guide, next}
+use Rattle.guidance.specs.Guides.{Guide, not-verified, wrong-number, against-known, of-guide, next}
 
 -- THE START. Its numbers, and those that name neither input.
 unfoldable pub start-answers : List ℕ
@@ -45,7 +45,11 @@ pub record Start-count (lim : Limits) (request : List ℕ) (budget : ℕ) (a : A
 unfoldable pub of-judged : Answer → Answer
 of-judged x = pick (either (eqb (x .number) Limits.verified) (among (x .number) refusals)) (λ _. x) (λ _. of-guide not-verified)
 
--- CALLS. The guide after some calls, and what they are told.
+-- CALLS. The numbers of a guide that started.
+unfoldable pub call-answers : List ℕ
+call-answers = Limits.verified ∷ wrong-number ∷ against-known ∷ []
+
+-- The guide after some calls, and what they are told.
 unfoldable pub after-calls : Limits → Guide → (calls : List (List ℕ)) → Guide
 after-calls lim g [] = g
 after-calls lim g (c ∷ cs) = after-calls lim (next lim g c .guide) cs

@@ -1,10 +1,10 @@
 -- What the operator's guide promises: each theorem is of a result that meets the contract of its start or of its call, and theorem 7 of all of them one after another.
 -- Assumes nothing.
 use Prim.Native.Nat.{ℕ, _≤_}
-use mathlib.Core.Path.{_≡_, sym, _∙_, ap, subst}
+use mathlib.Core.Path.{_≡_, refl, sym, _∙_, ap, subst}
 use mathlib.Core.Bool.{true}
 use mathlib.Core.List.{List, [], _∷_}
-use mathlib.Core.Logic.{_↔_, _⊎_}
+use mathlib.Core.Logic.{_↔_, _⊎_, ⊎-elim}
 use lib.ListN.{length}
 use contract.Lifetimes.{Lfts}
 use borrow.Fn.Kinds.{Dens, endedOf}
@@ -14,6 +14,7 @@ use Rattle.meaning.specs.declared.Answer.{Answer}
 use Rattle.meaning.specs.Limits
 use Rattle.meaning.specs.Limits.{format}
 use Rattle.meaning.specs.Literals.{among}
+use Rattle.meaning.specs.Tests.{some-of, either}
 use Rattle.meaning.specs.Requests.{Table, Sequence, Request}
 use Rattle.meaning.specs.Reading.{got}
 use Rattle.meaning.specs.Refusals.{settled}
@@ -21,16 +22,16 @@ use Rattle.meaning.specs.States.{State}
 use Rattle.meaning.specs.Judging.{judge}
 use Rattle.meaning.specs.Worlds.{Worlds, World, table-domain, Facts}
 use Rattle.guidance.specs.declared.Told.{Told}
-use Rattle.guidance.specs.declared.Told.the-variants.{Refused}
+use Rattle.guidance.specs.declared.Told.the-variants.{Do, Done, Refused}
 use Rattle.guidance.specs.Guides
-use Rattle.guidance.specs.Guides.{next}
+use Rattle.guidance.specs.Guides.{number-told, next}
 use Rattle.guidance.specs.Guided.{asked-for, Truthful, Guided, Told-reached, Runs-exactly}
 use Rattle.guide.specs.declared.guides.Guide.{Guide}
 use Rattle.guide.specs.declared.guides.Started.{Started}
 use Rattle.guide.specs.declared.guides.Turn.{Turn}
 use Rattle.guide.specs.GuideHeld.{request-of, guide-of, started-of, turn-of, Kept-guide}
 use Rattle.guide.specs.GuideCalled.{Answers, Guided-by, Called}
-use Rattle.demands.specs.GuideSaid.{start-answers, Start-input, Start-placed, Start-count, of-judged, after-calls}
+use Rattle.demands.specs.GuideSaid.{start-answers, call-answers, Start-input, Start-placed, Start-count, of-judged, after-calls}
 use Rattle.demands.proofs.GuideAnswers
 use Rattle.demands.proofs.GuideCalls
 use Rattle.demands.proofs.GuideSound
@@ -103,10 +104,10 @@ guided-by t (a ∷ acts) K g readings v P (h, is, acted) = λ r answers.
     let same = answers ∙ is in
     let handed : h ≡ guide-of (r .guide) = sym (ap (λ (x : Guides.Turn). x .guide) same) in
     let on : (u : World) (Q : Worlds World) → ((bytes : List ℕ) → Truthful u (asked-for h) bytes → Guided format t acts K h bytes u Q)
-            → (bytes : List ℕ) → Truthful u (asked-for (guide-of (r .guide))) bytes → Guided-by t acts K (r .guide) bytes u Q
-        = λ u Q go. subst (λ (x : Guides.Guide). ((bytes : List ℕ) → Truthful u (asked-for x) bytes → Guided format t acts K x bytes u Q)
-            → (bytes : List ℕ) → Truthful u (asked-for (guide-of (r .guide))) bytes → Guided-by t acts K (r .guide) bytes u Q)
-            (sym handed) (λ rest bytes truthful. guided-by t acts K (r .guide) bytes u Q (rest bytes truthful)) go in
+    → (bytes : List ℕ) → Truthful u (asked-for (guide-of (r .guide))) bytes → Guided-by t acts K (r .guide) bytes u Q
+    = λ u Q go. subst (λ (x : Guides.Guide). ((bytes : List ℕ) → Truthful u (asked-for x) bytes → Guided format t acts K x bytes u Q)
+    → (bytes : List ℕ) → Truthful u (asked-for (guide-of (r .guide))) bytes → Guided-by t acts K (r .guide) bytes u Q)
+    (sym handed) (λ rest bytes truthful. guided-by t acts K (r .guide) bytes u Q (rest bytes truthful)) go in
     (ap (λ (x : Guides.Turn). x .told) same, record { allowed = acted .allowed; read = λ on-it. on _ _ (acted .read on-it); done = λ off. on _ _ (acted .done off) })
 
 -- A START, by the values of its two parameters.
@@ -173,18 +174,39 @@ module _ (κs : Lfts 1) (given : Dens κs start-kinds.ps) where
         (ap (λ (g : Guides.Guide). next format g bytes .told) (ap (λ (g : Guides.Guide). after-calls format g calls) (sym guide-is) ∙ sym (after (started .guide) h calls called))
         ∙ sym (ap (λ (y : Guides.Turn). y .told) answers) ∙ is)
 
+    -- So its number is 0, 41 or 42, by the definition that gives each case of the answer its number (FORMAT 25.9, 25.22).
+    pub call-numbered : started .answer .number ≡ Limits.verified → (calls : List (List ℕ)) (h : Guide) → Called (started .guide) calls h
+        → (bytes : List ℕ) (turn : Turn) → Answers h bytes turn → among (number-told (turn .told)) call-answers ≡ true
+    unfolding number-told call-answers among some-of either
+    call-numbered zero-told calls h called bytes turn answers = by-told (turn .told) refl
+      where
+        by-told : (told : Told) → turn .told ≡ told → among (number-told told) call-answers ≡ true
+        by-told (Do a) is = refl
+        by-told Done is = refl
+        by-told (Refused x) is =
+            ⊎-elim
+            (λ (e : x ≡ Guides.of-guide Guides.wrong-number). ap (λ (a : Answer). among (a .number) call-answers) e)
+            (λ (e : x ≡ Guides.of-guide Guides.against-known). ap (λ (a : Answer). among (a .number) call-answers) e)
+            (refused-with zero-told calls h called bytes turn answers x is)
+
     -- THEOREM 7 (FORMAT 25.24, 25.25): after a start that answered 0, in any world that has the initial facts.
     pub guided : started .answer .number ≡ Limits.verified
         → (r : Request) × (e : ℕ) × (settled format request ≡ got r e)
         × ((v : World) → Facts (r .table) v
-            → (acts : List ℕ) × (length acts ≤ format .items)
-            × Guided-by (r .table) acts (Told-reached r) (started .guide) [] v (Facts (r .table))
-            × Runs-exactly (table-domain (r .table)) (r .plan) acts v (Facts (r .table)))
+        → (acts : List ℕ) × (length acts ≤ format .items)
+        × Guided-by (r .table) acts (Told-reached r) (started .guide) [] v (Facts (r .table))
+        × Runs-exactly (table-domain (r .table)) (r .plan) acts v (Facts (r .table)))
     guided zero-told =
-        let m = GuideSound.guided format request budget (ap (λ (a : Answer). a .number) (sym answer-is) ∙ zero-told) in
-        (m .0, m .1, m .2, λ v facts.
-            let one = m .3 v facts in
-            (one .0, one .1
-            , guided-by (m .0 .table) (one .0) (Told-reached (m .0)) (started .guide) [] v (Facts (m .0 .table))
-                (subst (λ (g : Guides.Guide). Guided format (m .0 .table) (one .0) (Told-reached (m .0)) g [] v (Facts (m .0 .table))) (sym guide-is) (one .2))
-            , one .3))
+        let m = GuideSound.guided format request budget (ap (λ (a : Answer). a .number) (sym answer-is) ∙ zero-told) in (
+          m .0,
+          m .1,
+          m .2,
+          λ v facts.
+              let one = m .3 v facts in (
+                one .0,
+                one .1,
+                guided-by (m .0 .table) (one .0) (Told-reached (m .0)) (started .guide) [] v (Facts (m .0 .table))
+                    (subst (λ (g : Guides.Guide). Guided format (m .0 .table) (one .0) (Told-reached (m .0)) g [] v (Facts (m .0 .table))) (sym guide-is) (one .2)),
+                one .3,
+              ),
+        )
