@@ -1,1 +1,2 @@
 pub mod GuideHeld
+pub mod GuideCalled
