@@ -49,7 +49,8 @@ fn reading(byte: u8) -> u8 {
     if byte == b'0' { 0 } else { 1 }
 }
 
-// Reads a line to its end, or to the end of the input where that has bytes before it, and puts its readings at the start of the row.
+// Reads a line to its end, or to the end of the input where that has bytes before it, and puts its readings at the start of the row, where `plain` says whether they are
+// readings.
 pub fn read_line(row: &mut [u8]) -> Line
     ensures { λ r. ⌜ Kept r (now (row .exit)) ⌝ }
 {
@@ -68,13 +69,12 @@ pub fn read_line(row: &mut [u8]) -> Line
                     apart = true;
                     continue;
                 }
-                if apart && is_reading(byte) && count < row.len() {
+                plain = plain && apart && is_reading(byte);
+                apart = false;
+                if count < row.len() {
                     row[count] = reading(byte);
                     count += 1;
-                } else {
-                    plain = false;
                 }
-                apart = false;
             }
             Next::End => {
                 if length == 0 {

@@ -56,9 +56,18 @@ fn guide_argument(i: usize, budget: u32, prompts: bool) -> Ending {
     guide_file(&name[..n], budget, prompts)
 }
 
-// The budget is argument i, the file argument j, and there are no more.
+// Argument i is there, and is the last one.
+fn is_last(i: usize) -> bool {
+    let count = os::arg_count();
+    if count <= i {
+        return false;
+    }
+    count - i == 1
+}
+
+// The budget is argument i and the file argument j.
 fn guide_arguments(i: usize, j: usize, prompts: bool) -> Ending {
-    if os::arg_count() <= j || os::arg_count() - j > 1 {
+    if !is_last(j) {
         say(b"a budget and a file are needed");
         return Ending::Failed;
     }
