@@ -58,3 +58,8 @@ pub mod Indexed
 pub mod NarrowMet
 pub mod DeriveExact
 pub mod Demands
+pub mod GuideReadings
+pub mod GuideSteps
+pub mod GuideAnswers
+pub mod GuideSound
+pub mod GuideCalls

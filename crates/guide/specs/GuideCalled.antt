@@ -24,3 +24,8 @@ Guided-by t (a ∷ acts) K g bytes v P =
     (r : Held-turn.Turn) → Answers g bytes r
     → (r .told ≡ Do a)
     × Acted (table-domain t) a (λ u Q. (readings : List ℕ) → Truthful u (asked-for (guide-of (r .guide))) readings → Guided-by t acts K (r .guide) readings u Q) v P
+
+-- The guide h is what some calls have made of g, each call given the guide that was handed back last.
+abbrev pub Called : Held.Guide → (calls : List (List ℕ)) → Held.Guide → Type 0
+Called g [] h = g ≡ h
+Called g (c ∷ cs) h = (r : Held-turn.Turn) × Answers g c r × Called (r .guide) cs h

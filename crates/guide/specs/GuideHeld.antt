@@ -64,6 +64,11 @@ pub record Goes-on (s t : List ℕ) (r : Step) : Type 0 where
 unfoldable pub Goes-after : (s t : List ℕ) → Step → Told → Type 0
 Goes-after s t r told = elim told [ Do a ↦ Goes-on s t r | Done ↦ Unit {0} | Refused x ↦ Unit {0} ]
 
+-- What the code answers is this turn.
+pub record Turns (s t : List ℕ) (g : Guide) (r : Step) (turn : Turn) : Type 0 where
+  pub is : turned s t g r ≡ turn
+  pub goes : Goes-after s t r (r .told)
+
 -- ANY VALUES stand for a guide: those that no start gave for one that was refused.
 unfoldable pub is-position : Sequence ℕ → ℕ → Bool
 is-position b i = either (eqb i (format .items)) (ltb i (items-of b))
@@ -93,6 +98,10 @@ pub record Begins (request : List ℕ) (g : Guide) : Type 0 where
 -- THE STRUCT. The request is the start of the row.
 unfoldable pub request-of : Held.Guide → List ℕ
 request-of g = take (g .length) (g .request)
+
+-- Where the first n bytes of the row end: it has no more than a request may have.
+unfoldable pub row-end : (n : ℕ) → ℕ
+row-end n = pick (ltb n (format .request)) (λ _. n) (λ _. format .request)
 
 unfoldable pub guide-at : Held.Guide → Stage → Guide
 guide-at g stage = elim stage [ Refusing ↦ refusing (g .answer) | Going ↦ guide-held (request-of g) (g .action) (g .at) (g .marks) | Ended ↦ ended (g .marks) ]

@@ -4,9 +4,10 @@ ghost use lib.ListN.{length, take};
 ghost use Rattle.meaning.specs.Limits.{format};
 ghost use Rattle.guidance.specs.Guides.{next};
 ghost use Rattle.guidance.specs.Guided.{asked-for};
-ghost use Rattle.steps.specs.Held.{plan-in};
+ghost use Rattle.meaning.specs.Tests.{both};
+ghost use Rattle.steps.specs.Held.{table-in, plan-in};
 ghost use Rattle.steps.specs.AtHand.{At-hand};
-ghost use Rattle.guide.specs.GuideHeld.{is-position, is-marked, guide-held, called, Begins};
+ghost use Rattle.guide.specs.GuideHeld.{asked-by, is-position, is-marked, guide-held, called, Begins};
 use super::going::NOT_VERIFIED;
 use super::going::Step;
 use super::going::answer_call;
@@ -26,15 +27,17 @@ use steps::onward::start_of;
 use verdicts::answers;
 use verdicts::answers::uncounted;
 
-// Each of the marks is one of the three.
+// Each of the marks is one of the three. There is one for each fluent: a reference to them does not tell so, but a slice does.
 fn is_marked(marks: &Marks) -> bool
     ensures { λ r. ⌜ r ≡ is-marked (now (marks .entry)) ⌝ }
+    ensures { λ _. ⌜ length (now (marks .entry)) ≡ format .state ⌝ }
 {
+    let row: &[u8] = marks;
     let mut f = 0;
     while f < limits::FLUENTS {
         let here = f;
         f += 1;
-        if 2 < marks[here] {
+        if 2 < row[here] {
             return false;
         }
     }
@@ -53,6 +56,20 @@ fn is_position(s: &[u8], t: &Notes, at: usize) -> bool
     at < items
 }
 
+// A position of the plan, with marks. A reference does not tell how many marks there are, but a slice does.
+fn is_going(s: &[u8], t: &Notes, at: usize, marks: &Marks) -> bool
+    requires { ⌜ At-hand (now s) (now t) ⌝ }
+    ensures { λ r. ⌜ r ≡ both (is-position (plan-in (now (s .entry)) (now (t .entry))) at) (is-marked (now (marks .entry))) ⌝ }
+    ensures { λ _. ⌜ length (now (marks .entry)) ≡ format .state ⌝ }
+{
+    let row: &[u8] = marks;
+    let there = is_position(s, t, at);
+    if there {
+        return is_marked(marks);
+    }
+    false
+}
+
 // A call of a guide with this request, whose plan is at `at` with `marks` and which waits for the readings of `action`. The request is read again.
 pub(crate) fn call(request: &[u8], action: usize, at: usize, marks: &Marks, readings: &[u8]) -> Step
     ensures { λ r. ⌜ called (now (request .entry)) (guide-held (now (request .entry)) action at (now (marks .entry))) r ≡ next format (guide-held (now (request .entry)) action at (now (marks .entry))) (now (readings .entry)) ⌝ }
@@ -60,9 +77,8 @@ pub(crate) fn call(request: &[u8], action: usize, at: usize, marks: &Marks, read
     let mut t: Notes = [0u16; notes::SLOTS];
     match settle(request, &mut t) {
         Passed::To(_) => {
-            let there = is_position(request, &t, at);
-            let marked = is_marked(marks);
-            if there && marked {
+            let going = is_going(request, &t, at, marks);
+            if going {
                 return answer_call(request, &t, action, at, marks, readings);
             }
             refused_step(NOT_VERIFIED, action, at, marks)
@@ -113,6 +129,17 @@ pub(crate) fn none_asked() -> Fluents
     }
 }
 
+// Those that an action senses, and none where there was no action.
+fn asked_after(s: &[u8], t: &Notes, action: usize) -> Fluents
+    requires { ⌜ At-hand (now s) (now t) ⌝ }
+    ensures { λ r. ⌜ take (r .count) (r .row) ≡ asked-by (table-in (now (s .entry))) action ⌝ }
+{
+    if action < limits::ACTIONS {
+        return sensed_by(s, t, action);
+    }
+    none_asked()
+}
+
 // The fluents whose readings the next call brings.
 pub(crate) fn asked(request: &[u8], action: usize, at: usize, marks: &Marks) -> Fluents
     ensures { λ r. ⌜ take (r .count) (r .row) ≡ asked-for (guide-held (now (request .entry)) action at (now (marks .entry))) ⌝ }
@@ -120,12 +147,9 @@ pub(crate) fn asked(request: &[u8], action: usize, at: usize, marks: &Marks) -> 
     let mut t: Notes = [0u16; notes::SLOTS];
     match settle(request, &mut t) {
         Passed::To(_) => {
-            let there = is_position(request, &t, at);
-            let marked = is_marked(marks);
-            if there && marked {
-                if action < limits::ACTIONS {
-                    return sensed_by(request, &t, action);
-                }
+            let going = is_going(request, &t, at, marks);
+            if going {
+                return asked_after(request, &t, action);
             }
             none_asked()
         }

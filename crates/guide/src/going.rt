@@ -1,14 +1,13 @@
 ghost use mathlib.Core.Path.{_≡_};
 ghost use Prim.Native.Nat.{_<_};
 ghost use Rattle.meaning.specs.Limits.{format};
-ghost use Rattle.reading.specs.Planned.{items-of};
 ghost use Rattle.walking.specs.Walks.{action-at};
 ghost use Rattle.steps.specs.Held.{table-in, plan-in};
 ghost use Rattle.steps.specs.AtHand.{At-hand, Marked};
 ghost use Rattle.steps.specs.Rests.{rest-at, after-first, Position};
 ghost use Rattle.guidance.specs.declared.Told.the-variants.{Refused};
-ghost use Rattle.guidance.specs.Guides.{of-guide, an-action, ahead, met, stays, next};
-ghost use Rattle.guide.specs.GuideHeld.{came, Item-there, Action-there, on-the-way, turned, Goes-after, asked-by};
+ghost use Rattle.guidance.specs.Guides.{of-guide, an-action, ahead, met, next};
+ghost use Rattle.guide.specs.GuideHeld.{came, Item-there, Action-there, on-the-way, Turns};
 use super::readings::is_against;
 use super::readings::sensed_by;
 use super::readings::taken_over;
@@ -105,8 +104,7 @@ fn do_item(
     requires { ⌜ At-hand (now s) (now t) ⌝ }
     requires { ⌜ Item-there (now s) (now t) i ⌝ }
     requires { ⌜ Marked (now state) ⌝ }
-    ensures { λ r. ⌜ turned (now (s .entry)) (now (t .entry)) (on-the-way (now (s .entry)) (now (t .entry)) action at (now (marks .entry))) r ≡ met format (table-in (now (s .entry))) (on-the-way (now (s .entry)) (now (t .entry)) action at (now (marks .entry))) (now (state .entry)) (an-action (action-at (now (s .entry)) (now (t .entry)) i) (after-first (rest-at (plan-in (now (s .entry)) (now (t .entry))) i))) ⌝ }
-    ensures { λ r. ⌜ Goes-after (now (s .entry)) (now (t .entry)) r (r .told) ⌝ }
+    ensures { λ r. ⌜ Turns (now (s .entry)) (now (t .entry)) (on-the-way (now (s .entry)) (now (t .entry)) action at (now (marks .entry))) r (met format (table-in (now (s .entry))) (on-the-way (now (s .entry)) (now (t .entry)) action at (now (marks .entry))) (now (state .entry)) (an-action (action-at (now (s .entry)) (now (t .entry)) i) (after-first (rest-at (plan-in (now (s .entry)) (now (t .entry))) i)))) ⌝ }
 {
     let slot = notes::ITEM_PLACE + i;
     let p = get(t, slot);
@@ -139,8 +137,7 @@ fn go_on(s: &[u8], t: &Notes, state: &Marks, action: usize, at: usize, marks: &M
     requires { ⌜ At-hand (now s) (now t) ⌝ }
     requires { ⌜ Position (plan-in (now s) (now t)) at ⌝ }
     requires { ⌜ Marked (now state) ⌝ }
-    ensures { λ r. ⌜ turned (now (s .entry)) (now (t .entry)) (on-the-way (now (s .entry)) (now (t .entry)) action at (now (marks .entry))) r ≡ met format (table-in (now (s .entry))) (on-the-way (now (s .entry)) (now (t .entry)) action at (now (marks .entry))) (now (state .entry)) (ahead (now (state .entry)) (rest-at (plan-in (now (s .entry)) (now (t .entry))) at)) ⌝ }
-    ensures { λ r. ⌜ Goes-after (now (s .entry)) (now (t .entry)) r (r .told) ⌝ }
+    ensures { λ r. ⌜ Turns (now (s .entry)) (now (t .entry)) (on-the-way (now (s .entry)) (now (t .entry)) action at (now (marks .entry))) r (met format (table-in (now (s .entry))) (on-the-way (now (s .entry)) (now (t .entry)) action at (now (marks .entry))) (now (state .entry)) (ahead (now (state .entry)) (rest-at (plan-in (now (s .entry)) (now (t .entry))) at))) ⌝ }
 {
     match look_ahead(s, t, at, state) {
         Ahead::End => Step {
@@ -160,8 +157,7 @@ fn step_after(s: &[u8], t: &Notes, action: usize, at: usize, marks: &Marks, read
     requires { ⌜ action < format .actions ⌝ }
     requires { ⌜ Position (plan-in (now s) (now t)) at ⌝ }
     requires { ⌜ Marked (now marks) ⌝ }
-    ensures { λ r. ⌜ turned (now (s .entry)) (now (t .entry)) (on-the-way (now (s .entry)) (now (t .entry)) action at (now (marks .entry))) r ≡ next format (on-the-way (now (s .entry)) (now (t .entry)) action at (now (marks .entry))) (now (readings .entry)) ⌝ }
-    ensures { λ r. ⌜ Goes-after (now (s .entry)) (now (t .entry)) r (r .told) ⌝ }
+    ensures { λ r. ⌜ Turns (now (s .entry)) (now (t .entry)) (on-the-way (now (s .entry)) (now (t .entry)) action at (now (marks .entry))) r (next format (on-the-way (now (s .entry)) (now (t .entry)) action at (now (marks .entry))) (now (readings .entry))) ⌝ }
 {
     let asked = sensed_by(s, t, action);
     let due = asked.count;
@@ -188,8 +184,7 @@ pub(crate) fn answer_call(
     requires { ⌜ At-hand (now s) (now t) ⌝ }
     requires { ⌜ Position (plan-in (now s) (now t)) at ⌝ }
     requires { ⌜ Marked (now marks) ⌝ }
-    ensures { λ r. ⌜ turned (now (s .entry)) (now (t .entry)) (on-the-way (now (s .entry)) (now (t .entry)) action at (now (marks .entry))) r ≡ next format (on-the-way (now (s .entry)) (now (t .entry)) action at (now (marks .entry))) (now (readings .entry)) ⌝ }
-    ensures { λ r. ⌜ Goes-after (now (s .entry)) (now (t .entry)) r (r .told) ⌝ }
+    ensures { λ r. ⌜ Turns (now (s .entry)) (now (t .entry)) (on-the-way (now (s .entry)) (now (t .entry)) action at (now (marks .entry))) r (next format (on-the-way (now (s .entry)) (now (t .entry)) action at (now (marks .entry))) (now (readings .entry))) ⌝ }
 {
     if action < limits::ACTIONS {
         return step_after(s, t, action, at, marks, readings);

@@ -5,13 +5,14 @@ ghost use Rattle.meaning.specs.Limits.{format};
 ghost use Rattle.guidance.specs.Guides.{refused-start, start, next};
 ghost use Rattle.guidance.specs.Guided.{asked-for};
 ghost use Rattle.guide.specs.declared.guides.Stage.the-variants.{Going};
-ghost use Rattle.guide.specs.GuideHeld.{request-of, guide-of, started-of, turn-of, Begins, Kept-guide, Own-copy};
+ghost use Rattle.guide.specs.GuideHeld.{guide-held, called, row-end, request-of, guide-of, started-of, turn-of, Begins, Kept-guide, Own-copy};
 use super::calls::asked;
 use super::calls::at_start;
 use super::calls::call;
 use super::calls::none_asked;
 use super::going::NO_ACTION;
 use super::going::NOT_VERIFIED;
+use super::going::Step;
 use super::readings::Fluents;
 use bytes::limits;
 use glintstring::judging::judge;
@@ -49,6 +50,47 @@ pub struct Started {
 pub struct Turn {
     pub guide: Guide,
     pub told: Told,
+}
+
+// The first so many bytes of a row end here: the row has no more than a request may have.
+fn row_end(length: usize) -> usize
+    ensures { λ r. ⌜ r ≡ row-end length ⌝ }
+{
+    if length < limits::REQUEST {
+        return length;
+    }
+    limits::REQUEST
+}
+
+// A call, of the request that is the start of a row. A reference does not tell how long the row is, but a slice does.
+fn call_of(
+    row: &[u8; limits::REQUEST],
+    length: usize,
+    action: usize,
+    at: usize,
+    marks: &Marks,
+    readings: &[u8],
+) -> Step
+    ensures { λ r. ⌜ called (take length (now (row .entry))) (guide-held (take length (now (row .entry))) action at (now (marks .entry))) r ≡ next format (guide-held (take length (now (row .entry))) action at (now (marks .entry))) (now (readings .entry)) ⌝ }
+{
+    let whole: &[u8] = row;
+    let end = row_end(length);
+    call(&whole[..end], action, at, marks, readings)
+}
+
+// The fluents whose readings the next call brings, of the request that is the start of a row.
+fn asked_of(
+    row: &[u8; limits::REQUEST],
+    length: usize,
+    action: usize,
+    at: usize,
+    marks: &Marks,
+) -> Fluents
+    ensures { λ r. ⌜ take (r .count) (r .row) ≡ asked-for (guide-held (take length (now (row .entry))) action at (now (marks .entry))) ⌝ }
+{
+    let whole: &[u8] = row;
+    let end = row_end(length);
+    asked(&whole[..end], action, at, marks)
 }
 
 // A row with these bytes at its start.
@@ -119,12 +161,7 @@ fn moved(g: Guide, readings: &[u8]) -> Turn
     let length = g.length;
     let known = g.marks;
     let answer = g.answer;
-    let end = if length < limits::REQUEST {
-        length
-    } else {
-        limits::REQUEST
-    };
-    let step = call(&row[..end], g.action, g.at, &known, readings);
+    let step = call_of(&row, length, g.action, g.at, &known, readings);
     let told = step.told;
     let marks = step.marks;
     match told {
@@ -211,12 +248,7 @@ impl Guide {
                 let row = self.request;
                 let length = self.length;
                 let known = self.marks;
-                let end = if length < limits::REQUEST {
-                    length
-                } else {
-                    limits::REQUEST
-                };
-                asked(&row[..end], self.action, self.at, &known)
+                asked_of(&row, length, self.action, self.at, &known)
             }
             Stage::Ended => none_asked(),
         }

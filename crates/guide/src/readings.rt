@@ -2,10 +2,10 @@ ghost use mathlib.Core.Path.{_≡_};
 ghost use Prim.Native.Nat.{_<_};
 ghost use lib.ListN.{length, take};
 ghost use Rattle.meaning.specs.Limits.{format};
-ghost use Rattle.meaning.specs.States.{told-all};
+ghost use Rattle.meaning.specs.States.{mark-of, told-all};
 ghost use Rattle.steps.specs.Held.{table-in};
 ghost use Rattle.steps.specs.AtHand.{At-hand, Marked};
-ghost use Rattle.guidance.specs.Guides.{sensed, literals-read, against};
+ghost use Rattle.guidance.specs.Guides.{sensed, literal-read, literals-read, against};
 use bytes::limits;
 use reading::marks::Marks;
 use reading::notes::Notes;
@@ -42,8 +42,10 @@ pub(crate) fn sensed_by(s: &[u8], t: &Notes, a: usize) -> Fluents
     }
 }
 
-// The mark that a reading gives its fluent: the byte 0 says no, and every other yes.
-fn mark_read(byte: u8) -> u8 {
+// The mark that a reading gives its fluent, whichever it is: the byte 0 says no, and every other yes.
+fn mark_read(byte: u8) -> u8
+    ensures { λ r. ⌜ r ≡ mark-of (literal-read 0 byte) ⌝ }
+{
     if byte == 0 {
         limits::FALSE_MARK
     } else {

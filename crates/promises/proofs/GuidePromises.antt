@@ -2,9 +2,10 @@
 -- Assumes nothing.
 use Prim.Native.Nat.{ℕ, _≤_}
 use mathlib.Core.Path.{_≡_, sym, _∙_, ap, subst}
+use mathlib.Core.Bool.{true}
 use mathlib.Core.List.{List, [], _∷_}
-use mathlib.Core.Logic.{_↔_}
-use lib.ListN.{length, take}
+use mathlib.Core.Logic.{_↔_, _⊎_}
+use lib.ListN.{length}
 use contract.Lifetimes.{Lfts}
 use borrow.Fn.Kinds.{Dens, endedOf}
 use denote.Ref.{now}
@@ -12,10 +13,12 @@ use denote.Triple.Clauses.{AtExit}
 use Rattle.meaning.specs.declared.Answer.{Answer}
 use Rattle.meaning.specs.Limits
 use Rattle.meaning.specs.Limits.{format}
-use Rattle.meaning.specs.Requests.{Table, Request}
+use Rattle.meaning.specs.Literals.{among}
+use Rattle.meaning.specs.Requests.{Table, Sequence, Request}
 use Rattle.meaning.specs.Reading.{got}
 use Rattle.meaning.specs.Refusals.{settled}
 use Rattle.meaning.specs.States.{State}
+use Rattle.meaning.specs.Judging.{judge}
 use Rattle.meaning.specs.Worlds.{Worlds, Acted, World, table-domain, Facts}
 use Rattle.guidance.specs.declared.Told.{Told}
 use Rattle.guidance.specs.declared.Told.the-variants.{Do, Done, Refused}
@@ -26,7 +29,10 @@ use Rattle.guide.specs.declared.guides.Guide.{Guide}
 use Rattle.guide.specs.declared.guides.Started.{Started}
 use Rattle.guide.specs.declared.guides.Turn.{Turn}
 use Rattle.guide.specs.GuideHeld.{request-of, guide-of, started-of, turn-of, Kept-guide}
-use Rattle.guide.specs.GuideCalled.{Answers, Guided-by}
+use Rattle.guide.specs.GuideCalled.{Answers, Guided-by, Called}
+use Rattle.demands.specs.GuideSaid.{start-answers, Start-input, Start-placed, Start-count, of-judged, after-calls}
+use Rattle.demands.proofs.GuideAnswers
+use Rattle.demands.proofs.GuideCalls
 use Rattle.demands.proofs.GuideSound
 use Rattle.guide.proofs.guides.Guide.start.Kinds as start-kinds
 use Rattle.guide.proofs.guides.Guide.start.Reads as start-reads
@@ -63,6 +69,28 @@ module _ (κs : Lfts 1) (given : Dens κs next-kinds.ps) where
 
   pub request-kept : (turn : Turn) (exit : AtExit (endedOf 1 next-kinds.ps next-kinds.r) κs) → next-reads.Post κs given turn exit → request-of (turn .guide) ≡ request-of guide
   request-kept turn exit meets = meets .1 .request
+
+-- WHAT A CALL REFUSES, of a guide that is on its way: 41 exactly where the number of readings is not the one asked for, and 42 exactly where it is and some reading is against what is known
+-- (FORMAT 25.13, 25.14).
+module _ (g : Guide) (bytes : List ℕ) (turn : Turn) (answers : Answers g bytes turn) (t : Table) (fs : List ℕ) (b : Sequence ℕ) (s : State) (is : guide-of g ≡ Guides.going t fs b s) where
+  told-is : turn .told ≡ next format (Guides.going t fs b s) bytes .told
+  unfolding turn-of
+  told-is = ap (λ (x : Guides.Turn). x .told) answers ∙ ap (λ (x : Guides.Guide). next format x bytes .told) is
+
+  pub wrong-number-exactly : (turn .told ≡ Refused (Guides.of-guide Guides.wrong-number)) ↔ (length bytes ≡ length fs → ⊥)
+  wrong-number-exactly = subst (λ (x : Told). (x ≡ Refused (Guides.of-guide Guides.wrong-number)) ↔ (length bytes ≡ length fs → ⊥)) (sym told-is) (GuideAnswers.wrong-number-exactly format t fs b s bytes)
+
+  pub against-exactly : (turn .told ≡ Refused (Guides.of-guide Guides.against-known)) ↔ ((length bytes ≡ length fs) × (Guides.against s (Guides.literals-read fs bytes) ≡ true))
+  against-exactly =
+      subst (λ (x : Told). (x ≡ Refused (Guides.of-guide Guides.against-known)) ↔ ((length bytes ≡ length fs) × (Guides.against s (Guides.literals-read fs bytes) ≡ true)))
+      (sym told-is) (GuideAnswers.against-exactly format t fs b s bytes)
+
+-- AFTER SOME CALLS a guide stands for what the definition has made of it.
+after : (g h : Guide) (calls : List (List ℕ)) → Called g calls h → guide-of h ≡ after-calls format (guide-of g) calls
+unfolding after-calls turn-of
+after g h [] same = ap guide-of (sym same)
+after g h (c ∷ cs) (r, answers, later) =
+    after (r .guide) h cs later ∙ ap (λ (x : Guides.Guide). after-calls format x cs) (ap (λ (x : Guides.Turn). x .guide) answers)
 
 -- GUIDED BY CALLS: what the definition leads to, any results do that meet the contract.
 pub guided-by : (t : Table) (answered : List ℕ) (K : State → World → Worlds World → Type 0) (g : Guide) (readings : List ℕ) (v : World) (P : Worlds World)
@@ -118,6 +146,32 @@ module _ (κs : Lfts 1) (given : Dens κs start-kinds.ps) where
     guide-is : guide-of (started .guide) ≡ Guides.start format request budget .guide
     unfolding started-of
     guide-is = ap (λ (x : Guides.Started). x .guide) (meets .0)
+
+    -- Demand 1 (FORMAT 25.22): it is one of the numbers of a start, and input, place and count are what the number says.
+    pub start-numbered : among (started .answer .number) start-answers ≡ true
+    start-numbered = subst (λ (a : Answer). among (a .number) start-answers ≡ true) (sym answer-is) (GuideAnswers.start-numbered format request budget)
+
+    pub start-input : Start-input (started .answer)
+    start-input = subst Start-input (sym answer-is) (GuideAnswers.start-input format request budget)
+
+    pub start-place : Start-placed (length request) (started .answer .number) (started .answer .place)
+    start-place = subst (λ (a : Answer). Start-placed (length request) (a .number) (a .place)) (sym answer-is) (GuideAnswers.start-place format request budget)
+
+    pub start-count : Start-count format request budget (started .answer)
+    start-count = subst (Start-count format request budget) (sym answer-is) (GuideAnswers.start-count format request budget)
+
+    -- The answer is the walk call's where that is 0 or a refusal of the request, and else 40 (FORMAT 25.3 to 25.5).
+    pub start-as-judged : (lent : List ℕ) → length lent ≡ format .state → started .answer ≡ of-judged (judge format request lent budget .answer)
+    start-as-judged lent sized = answer-is ∙ GuideAnswers.start-as-judged format request budget lent sized
+
+    -- Of a guide that started, a call refuses with 41 or 42 and nothing else, whatever the calls before it brought (FORMAT 25.22).
+    pub refused-with : started .answer .number ≡ Limits.verified → (calls : List (List ℕ)) (h : Guide) → Called (started .guide) calls h
+        → (bytes : List ℕ) (turn : Turn) → Answers h bytes turn → (x : Answer) → turn .told ≡ Refused x → (x ≡ Guides.of-guide Guides.wrong-number) ⊎ (x ≡ Guides.of-guide Guides.against-known)
+    unfolding turn-of
+    refused-with zero-told calls h called bytes turn answers x is =
+        GuideCalls.refused-with format request budget (ap (λ (a : Answer). a .number) (sym answer-is) ∙ zero-told) calls bytes x
+        (ap (λ (g : Guides.Guide). next format g bytes .told) (ap (λ (g : Guides.Guide). after-calls format g calls) (sym guide-is) ∙ sym (after (started .guide) h calls called))
+        ∙ sym (ap (λ (y : Guides.Turn). y .told) answers) ∙ is)
 
     -- THEOREM 7 (FORMAT 25.24, 25.25): after a start that answered 0, in any world that has the initial facts.
     pub guided : started .answer .number ≡ Limits.verified
