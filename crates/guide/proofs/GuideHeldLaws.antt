@@ -1,30 +1,26 @@
 -- The guide that values stand for. Of a request that is settled it is on its way where the position is one of the plan and the marks are marks, and else it was refused;
 -- of any other request it was refused. Assumes nothing.
-use Prim.Native.Nat.{ℕ, zero, suc, _≤_, _<_}
+use Prim.Native.Nat.{ℕ, _≤_, _<_}
 use native.Mathlib.Omega.{arith}
 use mathlib.Core.Path.{_≡_, refl, sym, _∙_, ap}
 use mathlib.Core.Bool.{Bool, true, false}
-use mathlib.Core.List.{List, [], _∷_}
-use mathlib.Core.Logic.{⊎-elim}
+use mathlib.Core.List.{List, []}
 use lib.ListN.{length, getD, take}
-use lib.Dec.{eqb, ltb, leb}
 use mir.Syntax.{w8}
 use mir.Val.{Fits}
-use borrow.Author.Tests.{eqb-true, eqb-false, lt-ltb, ltb-true, le-leb, leb-true}
 use Rattle.meaning.specs.declared.Answer.{Answer}
 use Rattle.meaning.specs.Limits.{format, all-literals}
-use Rattle.meaning.specs.Tests.{both, each-of}
+use Rattle.meaning.specs.Tests.{both}
 use Rattle.meaning.specs.Requests.{Sequence, Request}
 use Rattle.meaning.specs.Reading.{got, fault}
 use Rattle.meaning.specs.Refusals.{settled}
 use Rattle.meaning.specs.States.{State, state-of, first-state}
-use Rattle.meaning.proofs.TestLaws.{by-test, both-left, both-right, both-true, either-left, either-right, either-split, pick-true, pick-false}
+use Rattle.meaning.proofs.TestLaws.{both-left, both-right, both-true, pick-true, pick-false}
 use Rattle.meaning.proofs.SettledLaws.{fault≢got, got-same}
 use Rattle.bytes.specs.declared.lists.Passed.{Passed}
 use Rattle.bytes.specs.declared.lists.Passed.the-variants.{To, Fault as Stop}
 use Rattle.reading.specs.Listed.{listed, List-here}
 use Rattle.reading.specs.Noted.{items-slot, noting, outcome}
-use Rattle.reading.specs.Planned.{items-of}
 use Rattle.reading.specs.Requested.{request-noted}
 use Rattle.reading.proofs.SectionLaws.{noting-fault}
 use Rattle.finding.specs.TablesHere.{blank}
@@ -41,44 +37,10 @@ use Rattle.guidance.specs.Guides.{Guide, refusing, going, of-guide, not-verifie
 use Rattle.guidance.specs.Guided.{asked-for}
 use Rattle.guide.specs.declared.going.Step.{Step}
 use Rattle.guide.specs.GuideHeld.{asked-by, on-the-way, guide-after, turned, Goes-after, Turns, is-position, is-marked, guide-got, guide-held, guide-called, called, Begins}
+use Rattle.guide.proofs.GuideTestLaws.{position-passes, passes-position, marks-pass, pass-marks}
 use Rattle.guide.proofs.TurnLaws.{asked-some, asked-none}
 
--- POSITIONS AND MARKS by their tests.
-is-there : (b : Sequence ℕ) (at : ℕ) → Position b at → is-position b at ≡ true
-unfolding is-position
-is-there b at position =
-    by-test (eqb at (format .items))
-    (λ e. either-left _ _ e)
-    (λ e. either-right (eqb at (format .items)) (ltb at (items-of b)) (lt-ltb at (items-of b) (position .there (eqb-false at (format .items) e))))
-
-there-is : (b : Sequence ℕ) (at : ℕ) → items-of b ≤ format .items → is-position b at ≡ true → Position b at
-unfolding is-position
-there-is b at few is =
-    ⊎-elim
-    (λ e. let last = eqb-true at (format .items) e in record { most = omega (arith, last); there = λ n. absurd (n last) })
-    (λ e. let less = ltb-true at (items-of b) e in record { most = omega (arith, less, few); there = λ _. less })
-    (either-split _ _ is)
-
-small-each : (marks : State) → ((f : ℕ) → getD marks f 0 ≤ 2) → each-of (λ m. leb m 2) marks ≡ true
-unfolding each-of
-small-each [] small = refl
-small-each (m ∷ ms) small = both-true _ _ (le-leb m 2 (small 0)) (small-each ms (λ f. small (suc f)))
-
-each-small : (marks : State) → each-of (λ m. leb m 2) marks ≡ true → (f : ℕ) → getD marks f 0 ≤ 2
-unfolding each-of
-each-small [] is f = omega arith
-each-small (m ∷ ms) is zero = leb-true m 2 (both-left _ _ is)
-each-small (m ∷ ms) is (suc f) = each-small ms (both-right (leb m 2) _ is) f
-
-is-marks : (marks : State) → Marked marks → is-marked marks ≡ true
-unfolding is-marked
-is-marks marks marked = small-each marks (marked .small)
-
-marks-are : (marks : State) → length marks ≡ format .state → is-marked marks ≡ true → Marked marks
-unfolding is-marked
-marks-are marks sized is = record { sized = sized; small = each-small marks is }
-
--- Both of them, one after the other.
+-- BOTH TESTS, one after the other.
 module _ (x y : Bool) (there : Bool) (says : there ≡ x) where
   pub both-there : there ≡ true → (r : Bool) → r ≡ y → r ≡ both x y
   unfolding both
@@ -90,10 +52,10 @@ module _ (x y : Bool) (there : Bool) (says : there ≡ x) where
 
 module _ (s t : List ℕ) (at : ℕ) (marks : State) (going : Bool) (says : going ≡ both (is-position (plan-in s t) at) (is-marked marks)) (is : going ≡ true) where
   pub going-position : At-hand s t → Position (plan-in s t) at
-  going-position here = there-is (plan-in s t) at (few-items s t here) (both-left _ _ (sym says ∙ is))
+  going-position here = position-passes (plan-in s t) at (few-items s t here) (both-left _ _ (sym says ∙ is))
 
   pub going-marked : length marks ≡ format .state → Marked marks
-  going-marked sized = marks-are marks sized (both-right (is-position (plan-in s t) at) _ (sym says ∙ is))
+  going-marked sized = marks-pass marks sized (both-right (is-position (plan-in s t) at) _ (sym says ∙ is))
 
 -- THE FLUENTS that are asked for.
 pub asked-after : (s : List ℕ) (a : ℕ) (fs : List ℕ) → a < format .actions → fs ≡ sensed format (table-in s) a → fs ≡ asked-by (table-in s) a
@@ -128,7 +90,7 @@ module _ (s t u : List ℕ) (r : Passed) (settles : outcome r u ≡ noting reque
       held-refused not = held-as ∙ pick-false _ _ _ not
 
       held-there : Position (plan-in s u) at → Marked marks → guide-held s a at marks ≡ on-the-way s u a at marks
-      held-there position marked = held-going (both-true _ _ (is-there (plan-in s u) at position) (is-marks marks marked))
+      held-there position marked = held-going (both-true _ _ (passes-position (plan-in s u) at position) (pass-marks marks marked))
 
     -- What a call makes of it.
     called-after : (g : Guide) (x : Step) (told : Told) → Goes-after s u x told → guide-called s g x told ≡ guide-after s u g x told

@@ -12,8 +12,8 @@ use super::going::NOT_VERIFIED;
 use super::going::Step;
 use super::going::answer_call;
 use super::going::refused_step;
-use super::readings::Fluents;
-use super::readings::sensed_by;
+use super::sensed::Fluents;
+use super::sensed::sensed_by;
 use bytes::limits;
 use bytes::lists::Passed;
 use guidance::Told;
@@ -30,7 +30,6 @@ use verdicts::answers::uncounted;
 // Each of the marks is one of the three. There is one for each fluent: a reference to them does not tell so, but a slice does.
 fn is_marked(marks: &Marks) -> bool
     ensures { λ r. ⌜ r ≡ is-marked (now (marks .entry)) ⌝ }
-    ensures { λ _. ⌜ length (now (marks .entry)) ≡ format .state ⌝ }
 {
     let row: &[u8] = marks;
     let mut f = 0;

@@ -13,7 +13,7 @@ use super::calls::none_asked;
 use super::going::NO_ACTION;
 use super::going::NOT_VERIFIED;
 use super::going::Step;
-use super::readings::Fluents;
+use super::sensed::Fluents;
 use bytes::limits;
 use glintstring::judging::judge;
 use guidance::Told;

@@ -2,4 +2,4 @@
 pub mod guides; // the guide, its start and its calls
 pub mod calls; // a call, of a request that is read again
 pub mod going; // from a position of the plan to the next action
-pub mod readings; // what a call brings
+pub mod sensed; // the fluents that an action senses, and their readings

@@ -19,11 +19,11 @@ use Rattle.meaning.specs.Reading.{got}
 use Rattle.meaning.specs.Refusals.{settled}
 use Rattle.meaning.specs.States.{State}
 use Rattle.meaning.specs.Judging.{judge}
-use Rattle.meaning.specs.Worlds.{Worlds, Acted, World, table-domain, Facts}
+use Rattle.meaning.specs.Worlds.{Worlds, World, table-domain, Facts}
 use Rattle.guidance.specs.declared.Told.{Told}
-use Rattle.guidance.specs.declared.Told.the-variants.{Do, Done, Refused}
+use Rattle.guidance.specs.declared.Told.the-variants.{Refused}
 use Rattle.guidance.specs.Guides
-use Rattle.guidance.specs.Guides.{ended, next}
+use Rattle.guidance.specs.Guides.{next}
 use Rattle.guidance.specs.Guided.{asked-for, Truthful, Guided, Told-reached, Runs-exactly}
 use Rattle.guide.specs.declared.guides.Guide.{Guide}
 use Rattle.guide.specs.declared.guides.Started.{Started}

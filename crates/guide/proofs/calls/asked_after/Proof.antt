@@ -6,7 +6,7 @@ use Rattle.guide.proofs.calls.asked_after.Tie as tie
 use Rattle.guide.proofs.calls.asked_after.Reads as reads
 use Rattle.guide.proofs.calls.asked_after.Lts as lts
 use Rattle.guide.proofs.calls.none_asked.Reads as none-asked-reads
-use Rattle.guide.proofs.readings.sensed_by.Reads as sensed-by-reads
+use Rattle.guide.proofs.sensed.sensed_by.Reads as sensed-by-reads
 
 -- src/calls.rt:136:9
 sensed-by-requires : tie.Need-sensed-by-requires

@@ -1,4 +1,4 @@
--- All marks pass where those from fluent f up do, and the slice tells that there is one for each fluent.
+-- All marks pass where those from fluent f up do.
 use Prim.Native.Nat.{_-_}
 use Rattle.meaning.specs.Limits.{format}
 use Rattle.guide.proofs.GuideTestLaws.{Marks-left, marks-start, mark-large, mark-small, marks-done}
@@ -28,7 +28,7 @@ shared-slice-read-if1 c = search needs
 
 -- src/calls.rt:40:13
 returns : tie.Need-returns Inv-loop μ-loop
-returns c = (search mark-large, search needs)
+returns c = search mark-large
 
 -- src/calls.rt:36:5
 loop-less : tie.Need-loop-less Inv-loop μ-loop
@@ -40,7 +40,7 @@ loop-again c = search mark-small
 
 -- src/calls.rt:30:1
 returns-2 : tie.Need-returns-2 Inv-loop μ-loop
-returns-2 c = (search marks-done, search needs)
+returns-2 c = search marks-done
 
 pub is-marked-spec : {M : Type 1} → statement M
 is-marked-spec =

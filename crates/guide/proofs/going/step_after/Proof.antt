@@ -7,9 +7,9 @@ use Rattle.guide.proofs.going.step_after.Reads as reads
 use Rattle.guide.proofs.going.step_after.Lts as lts
 use Rattle.guide.proofs.going.go_on.Reads as go-on-reads
 use Rattle.guide.proofs.going.refused_step.Reads as refused-step-reads
-use Rattle.guide.proofs.readings.is_against.Reads as is-against-reads
-use Rattle.guide.proofs.readings.sensed_by.Reads as sensed-by-reads
-use Rattle.guide.proofs.readings.taken_over.Reads as taken-over-reads
+use Rattle.guide.proofs.sensed.is_against.Reads as is-against-reads
+use Rattle.guide.proofs.sensed.sensed_by.Reads as sensed-by-reads
+use Rattle.guide.proofs.sensed.taken_over.Reads as taken-over-reads
 
 -- src/going.rt:162:9
 sensed-by-requires : tie.Need-sensed-by-requires

@@ -1,15 +1,15 @@
 -- The byte 0 says the literal that is false, and any other the one that is true.
 use Rattle.guide.proofs.SensedReadLaws.{read-no, read-yes}
-use Rattle.guide.proofs.readings.mark_read.Statement.{statement}
-use Rattle.guide.proofs.readings.mark_read.Tie as tie
-use Rattle.guide.proofs.readings.mark_read.Reads as reads
-use Rattle.guide.proofs.readings.mark_read.Lts as lts
+use Rattle.guide.proofs.sensed.mark_read.Statement.{statement}
+use Rattle.guide.proofs.sensed.mark_read.Tie as tie
+use Rattle.guide.proofs.sensed.mark_read.Reads as reads
+use Rattle.guide.proofs.sensed.mark_read.Lts as lts
 
--- src/readings.rt:46:1
+-- src/sensed.rt:46:1
 returns : tie.Need-returns
 returns c = search read-no
 
--- src/readings.rt:46:1
+-- src/sensed.rt:46:1
 returns-2 : tie.Need-returns-2
 returns-2 c = search read-yes
 
