@@ -10,7 +10,7 @@ use super::saying::say;
 use super::saying::say_refused;
 use guidance::Told;
 use guide::guides::Guide;
-use guide::readings::Fluents;
+use guide::sensed::Fluents;
 use libc::STDOUT_FILENO;
 use programs::put;
 use programs::put_number;

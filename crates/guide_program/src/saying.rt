@@ -1,7 +1,7 @@
 // What is said on standard error (FORMAT 25.18, 25.19).
 use bytes::limits;
 use guide::going;
-use guide::readings::Fluents;
+use guide::sensed::Fluents;
 use libc::STDERR_FILENO;
 use meaning::Answer;
 use programs::words::put_words;
