@@ -29,6 +29,9 @@ pub mod Readable
 pub mod SchemeReadable
 pub mod SchemeAccepted
 pub mod DerivationSound
+pub mod MoreDerivations
+pub mod MoreWhethers
+pub mod MoreWritten
 pub mod LongCases
 pub mod WideCases
 pub mod ProvedCases
