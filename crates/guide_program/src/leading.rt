@@ -1,13 +1,13 @@
 // The actions of the plan, one after the other, and the readings of those that sense (FORMAT 25.17 to 25.19).
-ghost use Rattle.guide_program.specs.Lines.{Kept};
-use super::lines::Line;
-use super::lines::MOST;
-use super::lines::ROW;
-use super::lines::read_line;
+ghost use Rattle.guide_program.specs.Typed.{Kept};
 use super::saying::prompt;
 use super::saying::put_fluents;
 use super::saying::say;
 use super::saying::say_refused;
+use super::typed::Line;
+use super::typed::MOST;
+use super::typed::ROW;
+use super::typed::read_line;
 use guidance::Told;
 use guide::guides::Guide;
 use guide::sensed::Fluents;

@@ -1,6 +1,6 @@
 // Leads an operator through the plan of the request in a file, by readings from standard input (FORMAT 25.17 to 25.20).
 mod leading; // the actions, until the plan's end
-mod lines; // a line of readings
+mod typed; // a line of readings
 mod saying; // what is said on standard error
 
 use guide::guides::Guide;

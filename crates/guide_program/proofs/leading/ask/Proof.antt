@@ -9,7 +9,7 @@ use Rattle.guide_program.proofs.leading.ask.Reads as reads
 use Rattle.guide_program.proofs.leading.ask.Lts as lts
 use Rattle.guide_program.proofs.leading.is_again.Reads as is-again-reads
 use Rattle.guide_program.proofs.leading.say_line.Reads as say-line-reads
-use Rattle.guide_program.proofs.lines.read_line.Reads as read-line-reads
+use Rattle.guide_program.proofs.typed.read_line.Reads as read-line-reads
 use Rattle.guide_program.proofs.saying.prompt.Reads as prompt-reads
 
 abbrev Inv-loop : tie.InvT-loop

@@ -5,7 +5,7 @@ use native.Mathlib.Omega.{arith}
 use mathlib.Core.Path.{_≡_, sym}
 use lib.ListN.{length}
 use lib.Seq.{length-take-le}
-use Rattle.guide_program.proofs.LineLaws.{readings-within}
+use Rattle.guide_program.proofs.TypedLaws.{readings-within}
 use Rattle.guide_program.proofs.leading.lead.Statement.{statement}
 use Rattle.guide_program.proofs.leading.lead.Tie as tie
 use Rattle.guide_program.proofs.leading.lead.Reads as reads

@@ -4,9 +4,9 @@ use native.Mathlib.Omega.{arith}
 use mathlib.Core.Path.{_≡_, refl, _∙_, subst}
 use mathlib.Core.List.{List}
 use lib.ListN.{length, set, length-set}
-use Rattle.guide_program.specs.declared.lines.Line.{Line}
-use Rattle.guide_program.specs.declared.lines.Line.the-variants.{Readings}
-use Rattle.guide_program.specs.Lines.{Kept}
+use Rattle.guide_program.specs.declared.typed.Line.{Line}
+use Rattle.guide_program.specs.declared.typed.Line.the-variants.{Readings}
+use Rattle.guide_program.specs.Typed.{Kept}
 
 -- THE LOOP over the bytes of a line.
 pub record Taking (row₀ row : List ℕ) (count : ℕ) : Type 0 where

@@ -1,5 +1,5 @@
 // A line of readings, from standard input (FORMAT 25.17, 25.18).
-ghost use Rattle.guide_program.specs.Lines.{Kept};
+ghost use Rattle.guide_program.specs.Typed.{Kept};
 use libc::STDIN_FILENO;
 
 // How many bytes a line may have, and how many readings fit into one.
