@@ -27,14 +27,14 @@ use steps::sensing::is_sensing;
 use verdicts::answers;
 use verdicts::answers::uncounted;
 
-// 40, which a guide gives; the other two of its own are those of its readings.
+// The answers that a guide alone gives (FORMAT 25.5, 25.13, 25.14).
 pub const NOT_VERIFIED: u8 = 40;
 
 pub const WRONG_NUMBER: u8 = 41;
 
 pub const AGAINST_KNOWN: u8 = 42;
 
-// No action, where the next call brings no readings.
+// This stands for no action: the next call brings no readings.
 pub const NO_ACTION: usize = limits::ACTIONS;
 
 // What comes next: the plan's end; an action, by the number of its item; or a branching that has no condition known true.
@@ -79,7 +79,7 @@ pub(crate) struct Step {
     pub marks: Marks,
 }
 
-// A number of the guide's own.
+// A refusal with a number of the guide's own: where the guide was is handed back.
 pub(crate) fn refused_step(number: u8, action: usize, at: usize, marks: &Marks) -> Step
     ensures { λ r. ⌜ r .told ≡ Refused (of-guide number) ⌝ }
 {
@@ -91,7 +91,7 @@ pub(crate) fn refused_step(number: u8, action: usize, at: usize, marks: &Marks) 
     }
 }
 
-// The action that is item i is answered, in the state `state`; the guide was at `at` with `marks` and waited for the readings of `action`.
+// Answers the action that is item i, in the state `state`. Before the call the guide was at `at` with `marks`, and waited for the readings of `action`.
 fn do_item(
     s: &[u8],
     t: &Notes,
@@ -151,7 +151,7 @@ fn go_on(s: &[u8], t: &Notes, state: &Marks, action: usize, at: usize, marks: &M
     }
 }
 
-// A call, after a sensing action or any other.
+// A call after an action.
 fn step_after(s: &[u8], t: &Notes, action: usize, at: usize, marks: &Marks, readings: &[u8]) -> Step
     requires { ⌜ At-hand (now s) (now t) ⌝ }
     requires { ⌜ action < format .actions ⌝ }
