@@ -1,4 +1,4 @@
--- The demands (FORMAT section 11, 17.38 to 17.41, 21.22 to 21.25, 22.17 to 22.22, 23.22 to 23.26 and 24.24 to 24.28), each by citing where its argument stands. Read this file first. Assumes nothing.
+-- The demands (FORMAT section 11, 17.38 to 17.41, 21.22 to 21.25, 22.17 to 22.22, 23.22 to 23.26, 24.24 to 24.28 and 25.21 to 25.25), each by citing where its argument stands. Read this file first. Assumes nothing.
 use Prim.Native.Nat.{ℕ, _-_, _≤_, _<_}
 use native.Mathlib.Omega.{arith}
 use mathlib.Core.Path.{_≡_, refl, sym, _∙_, ap}
@@ -141,6 +141,22 @@ pub use Rattle.demands.proofs.NarrowMet.{narrow-exactly, wide-senses}
 -- call accepts, within the sizes of the format; and there are lines by the rules for all that is asked, whatever their number.
 pub use Rattle.demands.proofs.SchemeAccepted.{derive-accepted, derive-bytes, derive-closing}
 pub use Rattle.demands.proofs.DeriveExact.{verified-derivable, verified-proved}
+-- THE GUIDE. Demand 1 (FORMAT 25.22): the number of its start is one of its own; input, place and count are what the number says. The answer is the walk call's where that is 0 or a refusal
+-- of the request, and 40 otherwise; so it is 0 exactly where the walk call's is.
+pub use Rattle.demands.proofs.GuideAnswers.{start-numbered, start-input, start-place, start-count, start-as-judged, start-verified}
+-- A guide that started refuses a call with 41 or 42 alone, with place, input and count 0, whatever the readings were; one that was refused answers as its start did ever after.
+pub use Rattle.demands.proofs.GuideCalls.{refused-with}
+pub use Rattle.demands.proofs.GuideAnswers.{refused-ever}
+-- It is determined (FORMAT 25.21): calls with readings that say the same are told the same.
+pub use Rattle.demands.proofs.GuideAnswers.{read-alike, told-alike}
+-- 41 exactly where the number of readings is another than is asked for, 42 exactly where it is not and some reading is against what is known; and neither changes the guide (FORMAT 25.23).
+-- Once it has said that the plan has ended, every call says so.
+pub use Rattle.demands.proofs.GuideAnswers.{wrong-number-exactly, against-exactly, refused-unchanged, done-ever}
+-- Theorem 7 of the paper on IndiGolog (FORMAT 25.24, 25.25): from every world with the initial facts, with readings that are truthful, of which there are some in every world, a guide that
+-- started answers the actions that carrying the plan out runs, at most so many as a plan may have items, and then that it has ended; no call is refused; and what is asked is then known to
+-- it and so in every possible world.
+pub use Rattle.demands.proofs.GuideSound.{guided}
+pub use Rattle.demands.proofs.GuideReadings.{some-truthful}
 
 -- Demand 1 (FORMAT 11.1): every input gets one of the numbered answers.
 pub numbered : (lim : Limits) (request lent : List ℕ) (budget : ℕ) → among (judge lim request lent budget .answer .number) answers ≡ true

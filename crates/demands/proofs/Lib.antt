@@ -29,6 +29,9 @@ pub mod Readable
 pub mod SchemeReadable
 pub mod SchemeAccepted
 pub mod DerivationSound
+pub mod MoreDerivations
+pub mod MoreWhethers
+pub mod MoreWritten
 pub mod LongCases
 pub mod WideCases
 pub mod ProvedCases
@@ -58,3 +61,8 @@ pub mod Indexed
 pub mod NarrowMet
 pub mod DeriveExact
 pub mod Demands
+pub mod GuideReadings
+pub mod GuideSteps
+pub mod GuideAnswers
+pub mod GuideSound
+pub mod GuideCalls

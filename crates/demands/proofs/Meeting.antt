@@ -21,15 +21,15 @@ use Rattle.meaning.proofs.RefusalLaws.{meeting, past-16, by-16}
 use Rattle.meaning.proofs.RangeLaws.{Consistent, Ranged, read-ranged}
 
 -- LITERALS IN A WORLD.
-holds-true : (w : World) (f : ℕ) → holds w (says-true f) ≡ w f
+pub holds-true : (w : World) (f : ℕ) → holds w (says-true f) ≡ w f
 unfolding holds pick
 holds-true w f = rw (positive-true f, fluent-true f)
 
-holds-false : (w : World) (f : ℕ) → holds w (says-false f) ≡ fails (w f)
+pub holds-false : (w : World) (f : ℕ) → holds w (says-false f) ≡ fails (w f)
 unfolding holds pick
 holds-false w f = rw (positive-false f, fluent-false f)
 
-holds-apart : (w : World) (l : ℕ) → holds w l ≡ true → holds w (complement l) ≡ true → ⊥
+pub holds-apart : (w : World) (l : ℕ) → holds w l ≡ true → holds w (complement l) ≡ true → ⊥
 holds-apart w =
     by-literal (λ l. holds w l ≡ true → holds w (complement l) ≡ true → ⊥)
     (λ f. rw (complement-true f, holds-true w f, holds-false w f) (λ p q. clash p (fails-true _ q)))

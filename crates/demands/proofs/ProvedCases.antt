@@ -28,6 +28,9 @@ use Rattle.meaning.proofs.DerivationCases.{derivations, derivations-hold}
 use Rattle.meaning.proofs.WhetherCases.{whethers, whethers-hold}
 use Rattle.meaning.proofs.ReleaseCases
 use Rattle.meaning.proofs.ReleaseCases.{releases, releases-hold}
+use Rattle.demands.proofs.MoreDerivations.{more-derivations, more-derivations-hold}
+use Rattle.demands.proofs.MoreWhethers.{more-whethers, more-whethers-hold}
+use Rattle.demands.proofs.MoreWritten.{more-written, more-written-hold}
 use Rattle.demands.proofs.LongCases.{long-cases, long-cases-hold, long-derivations, long-derivations-hold, long-releases, long-releases-hold, long-written, long-written-hold}
 use Rattle.demands.proofs.WideCases.{wide-cases, wide-cases-hold, wide-lines-hold}
 use Rattle.demands.proofs.ReuseCases.{reuse-cases, reuse-cases-hold}
@@ -122,6 +125,9 @@ judgings cs hold = each-row judging-row cs λ c has. ap judged (map-same _ (λ (
 checkings : (cs : List DerivationCases.Case) → map (λ (c : DerivationCases.Case). check format (c .layout) (c .request) (c .derivation)) cs ≡ map (λ (c : DerivationCases.Case). c .gives) cs → Held
 checkings cs hold = each-row checking-row cs λ c has. ap answered (map-same _ (λ (c : DerivationCases.Case). c .gives) cs c hold has)
 
+writings : (cs : List DeriveCase) → map (λ (c : DeriveCase). derive format (c .request) (c .room) (c .budget)) cs ≡ map (λ (c : DeriveCase). c .gives) cs → Held
+writings cs hold = each-row writing-row cs λ c has. ap built (map-same _ (λ (c : DeriveCase). c .gives) cs c hold has)
+
 releasings : (cs : List ReleaseCases.Case) → map (λ (c : ReleaseCases.Case). release format (c .file) (c .lent) (c .budget)) cs ≡ map (λ (c : ReleaseCases.Case). c .gives) cs → Held
 releasings cs hold = each-row releasing-row cs λ c has. ap released (map-same _ (λ (c : ReleaseCases.Case). c .gives) cs c hold has)
 
@@ -139,7 +145,9 @@ all-rows =
     and-then (judgings cases cases-hold)
     (and-then (lined line-row _ _ _ _ line-cases (λ _. (refl, refl)) line-cases-hold lines-hold)
     (and-then (checkings derivations derivations-hold)
+    (and-then (checkings more-derivations more-derivations-hold)
     (and-then (checkings whethers whethers-hold)
+    (and-then (checkings more-whethers more-whethers-hold)
     (and-then (releasings releases releases-hold)
     (and-then (judgings reuse-cases reuse-cases-hold)
     (and-then (lined guarding-row _ _ _ _ guarded-cases (λ _. (refl, refl)) guarded-cases-hold guarded-lines-hold)
@@ -147,10 +155,11 @@ all-rows =
     (and-then (lined by-cases-row _ _ _ _ wide-cases (λ _. (refl, refl)) wide-cases-hold wide-lines-hold)
     (and-then (each-row indexing-row building λ c has. ap built (map-same _ (λ (c : BuildCase). c .gives) building c building-holds has))
     (and-then (lined indexed-row _ _ _ _ indexed-cases (λ _. (refl, refl)) indexed-cases-hold indexed-lines-hold)
-    (and-then (each-row writing-row derive-cases λ c has. ap built (map-same _ (λ (c : DeriveCase). c .gives) derive-cases c derive-cases-hold has))
-    (and-then (each-row writing-row long-written λ c has. ap built (map-same _ (λ (c : DeriveCase). c .gives) long-written c long-written-hold has))
+    (and-then (writings derive-cases derive-cases-hold)
+    (and-then (writings more-written more-written-hold)
+    (and-then (writings long-written long-written-hold)
     (and-then (judgings long-cases long-cases-hold)
-    (and-then (checkings long-derivations long-derivations-hold) (releasings long-releases long-releases-hold)))))))))))))))
+    (and-then (checkings long-derivations long-derivations-hold) (releasings long-releases long-releases-hold))))))))))))))))))
 
 pub proved-cases : List Row
 proved-cases = all-rows .rows

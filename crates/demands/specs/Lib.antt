@@ -3,3 +3,4 @@ pub mod Depth
 pub mod Reuse
 pub mod Wider
 pub mod Completeness
+pub mod GuideSaid

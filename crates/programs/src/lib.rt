@@ -1,5 +1,7 @@
 // What the programs share: an input is read as far as a buffer goes, words are known and a budget is read from its digits, an answer is printed
 // as three numbers, its state as signs, what a call has written to a room as it is, and the stack is looked at before a walk.
+pub mod words; // what the numbers say in words
+
 ghost use Prim.Native.Nat.{_≤_};
 ghost use lib.Dec.{leb};
 ghost use lib.ListN.{length};
@@ -31,7 +33,7 @@ const SHORT_STACK_NEEDED: u64 = 6 * 1024 * 1024;
 const SHORT: usize = 1024;
 
 // The descriptor on which a script is told the answer of a program that writes bytes.
-const ANSWER_FILENO: i32 = 3;
+pub const ANSWER_FILENO: i32 = 3;
 
 // A sign for each fluent, and the end of the line.
 const SIGNS: usize = limits::FLUENTS + 1;
@@ -150,6 +152,13 @@ pub fn number_of(text: &[u8]) -> Asked {
     Asked::Number(number as u32)
 }
 
+// The number that argument i writes. One that is missing, or longer than any number, writes none.
+pub fn number_at(i: usize) -> Asked {
+    let mut text = io::buffer();
+    let n = os::arg(i, &mut text);
+    number_of(&text[..n])
+}
+
 // The program has so many words of its name and options. Without an argument beside them BUDGET, and with one, which comes first, the number that it
 // writes.
 pub fn budget_asked(words: usize) -> Asked {
@@ -157,12 +166,10 @@ pub fn budget_asked(words: usize) -> Asked {
     if count <= words {
         return Asked::Number(BUDGET);
     }
-    let mut text = io::buffer();
-    let n = os::arg(1, &mut text);
-    if os::errno() != 0 || count - words > 1 {
+    if count - words > 1 {
         return Asked::Nothing;
     }
-    number_of(&text[..n])
+    number_at(1)
 }
 
 // The soft limit of the process's stack in bytes. Asking for it does not fail, and where it did, the 0 would stay there.

@@ -21,6 +21,7 @@ pub mod ExportedIndexedPromises
 pub mod DerivePromises
 pub mod DeriveCallPromises
 pub mod ExportedDerivePromises
+pub mod GuidePromises
 pub mod ReusePromises
 pub mod CheckPromises
 pub mod DerivationPromises

@@ -5,13 +5,13 @@ use super::arguments::name_at;
 use super::printing::put_known;
 use super::printing::put_numbers;
 use super::printing::put_part;
-use super::words::put_words;
 use bytes::limits;
 use comparing::parts::same_part;
 use glintstring::check_calls::check;
 use glintstring::check_calls::check_whether;
 use glintstring::judging::judge;
 use libc::STDIN_FILENO;
+use libc::STDOUT_FILENO;
 use meaning::Answer;
 use programs::DERIVATION_ROOM;
 use programs::Input;
@@ -20,6 +20,7 @@ use programs::put;
 use programs::read_all;
 use programs::read_file;
 use programs::stack_is_enough;
+use programs::words::put_words;
 use verdicts::answers;
 
 // What became of a request, or of a request with a derivation: answer 0, another answer, none, or one that can't be printed.
@@ -86,7 +87,7 @@ fn judge_request(name: &[u8], request: &[u8], budget: u32) -> Outcome {
     let number = answer.number;
     let written = put_name(name)
         && put(b": ")
-        && put_words(number)
+        && put_words(STDOUT_FILENO, number)
         && put(b"\n")
         && put_numbers(answer)
         && put_known(number, &state, request)
@@ -121,7 +122,7 @@ fn put_checked(number: u8) -> bool {
     if number == answers::VERIFIED {
         return put(b"accepted");
     }
-    put_words(number)
+    put_words(STDOUT_FILENO, number)
 }
 
 fn put_names(request: &[u8], derivation: &[u8]) -> bool {

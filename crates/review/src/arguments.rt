@@ -3,7 +3,7 @@ ghost use Prim.Native.Nat.{_≤_};
 ghost use Rattle.io.specs.Counts.{Counts};
 use programs::Asked;
 use programs::is_word;
-use programs::number_of;
+use programs::number_at;
 
 // What is to be done with the files.
 pub enum Command {
@@ -15,12 +15,6 @@ pub enum Command {
 pub enum Found {
     Command(Command),
     Nothing,
-}
-
-fn budget_at(i: usize) -> Asked {
-    let mut text = io::buffer();
-    let n = os::arg(i, &mut text);
-    number_of(&text[..n])
 }
 
 // The command that argument i is. The budget of `judge` is the argument after it.
@@ -40,7 +34,7 @@ pub fn command_at(i: usize) -> Found
 }
 
 fn judge_within(i: usize) -> Found {
-    match budget_at(i) {
+    match number_at(i) {
         Asked::Number(budget) => Found::Command(Command::Judge(budget)),
         Asked::Nothing => Found::Nothing,
     }

@@ -2,7 +2,6 @@
 mod answering;
 mod arguments;
 mod printing;
-mod words;
 
 ghost use Prim.Native.Nat.{_≤_};
 use answering::Outcome;

@@ -18,7 +18,7 @@ use reading::notes;
 use reading::notes::Notes;
 use reading::notes::get;
 
-// The mode of a walk by what is known that a sensing action stops which is too wide. That of the walk by what is known is 0, and every other goes by cases.
+// The mode of a walk by what is known that stops at a sensing action that is too wide. The mode of the walk by what is known is 0, and every other mode goes by cases.
 pub const NARROW: usize = 2;
 
 // The answers' numbers where an action is too wide, and where it has too many cases.

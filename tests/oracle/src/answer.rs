@@ -1,6 +1,6 @@
 //! The answers of all calls, and the faults that a reading or a settling finds.
 
-/// Names no input: answers 0, 3, 9, 38 and 39.
+/// Names no input: answers 0, 3, 9 and 38 to 42.
 pub const NEITHER: u8 = 0;
 /// Names the request.
 pub const REQUEST: u8 = 1;

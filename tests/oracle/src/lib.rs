@@ -15,6 +15,7 @@ pub mod examples;
 pub mod forge;
 pub mod generate;
 pub mod guards;
+pub mod guides;
 pub mod indexes;
 pub mod model;
 pub mod paths;

@@ -10,6 +10,7 @@ use oracle::cases;
 use oracle::derives;
 use oracle::examples::{self, DEFAULT_BUDGET};
 use oracle::guards;
+use oracle::guides::{self, trials::Trial};
 use oracle::indexes;
 use oracle::releases::{self, call::ROW_NUMBERS};
 use oracle::tally::Checked;
@@ -45,12 +46,20 @@ usage:
       where the number is 0 a line for each plan with its number, place, count and input.
   oracle plans FILE [--text]
       Prints how many plans a release file has, or 0.
+  oracle guide REQUEST READINGS [--budget N] [--text]
+      Starts a guide and makes a call with each line of the file READINGS, which has decimal
+      bytes. Prints `start` with number, input, place and count, and for each call `do` with the
+      action and the fluents that are asked for, `done`, or `refused` with four numbers.
+  oracle trials --to TRIALS [--seed S] [--count N]
+      Writes the format's rows of guides and trials to the file TRIALS (seed 1 and 20,000 unless
+      told otherwise), and prints what a program that has a guide is to print of them, in the
+      same lines.
   oracle run [--seed S] [--requests N] [--derivations M] [--whether K] [--releases L]
-             [--guarded G] [--by-cases C] [--indexed I] [--derived P]
+             [--guarded G] [--by-cases C] [--indexed I] [--derived P] [--guided O]
       Makes random calls (seed 1, 100,000 requests, 20,000 derivations in each layout, 20,000
-      release files, 20,000 guarded requests, 20,000 requests by cases, 20,000 with an index and
-      20,000 to be derived unless told otherwise), checks every answer, and prints how often each
-      occurred. The last line is `oracle: ok`, or `oracle: FAILED` and why, with exit status 1.
+      release files, 20,000 guarded requests, 20,000 requests by cases, 20,000 with an index,
+      20,000 to be derived and 20,000 to be guided unless told otherwise), checks every answer,
+      and prints how often each occurred. The last line is `oracle: ok`, or `oracle: FAILED` and why, with exit status 1.
   oracle run-whether [--seed S] [--whether K]
       Makes the random calls with derivations in the second layout only.
   oracle run-releases [--seed S] [--releases L]
@@ -63,11 +72,13 @@ usage:
       Makes the random index calls and indexed calls only.
   oracle run-derived [--seed S] [--derived P]
       Makes the random derive calls only.
+  oracle run-guided [--seed S] [--guided O]
+      Starts random guides only, and follows them.
   oracle rows [--seed S] [--count N] [--derivations M] [--whether K] [--releases L]
-              [--guarded G] [--by-cases C] [--indexed I] [--derived P]
+              [--guarded G] [--by-cases C] [--indexed I] [--derived P] [--guided O]
       Prints N judging calls, M derivation calls, K in the second layout, L release calls, G
-      guarded calls, C calls by cases, I index calls or indexed calls and P derive calls with
-      their answers, one per line:
+      guarded calls, C calls by cases, I index calls or indexed calls, P derive calls and O guides
+      with their answers, one per line:
         J REQUEST LENT BUDGET NUMBER INPUT PLACE COUNT STATE LINE
         D REQUEST DERIVATION NUMBER INPUT PLACE COUNT
         W REQUEST DERIVATION NUMBER INPUT PLACE COUNT
@@ -77,13 +88,16 @@ usage:
         B REQUEST ROOM NUMBER INPUT PLACE COUNT AFTERWARDS
         I REQUEST INDEX LENT BUDGET NUMBER INPUT PLACE COUNT STATE LINE
         P REQUEST ROOM BUDGET NUMBER INPUT PLACE COUNT AFTERWARDS
+        O REQUEST BUDGET NUMBER INPUT PLACE COUNT CALLS TOLD
       Bytes are decimal with commas between; `-` is no byte; the three words REP BYTE N are N
       times one byte. LENT is the length of the lent state; STATE is all its bytes after answers
       1, 2 and 43, and `-` where it stays as lent; LINE is what --line prints. In rows R, LENT is
       the length of the lent row, PLANS what the plans call gives, and ROW the row's numbers after
       own answer 0, and `-` otherwise. In rows B and P, ROOM is the length of the lent room, whose
-      bytes are 9, and AFTERWARDS has its bytes after answer 0, and is `-` otherwise. (Seed 1, 300,
-      and none of the others unless told otherwise.)
+      bytes are 9, and AFTERWARDS has its bytes after answer 0, and is `-` otherwise. In rows O,
+      CALLS are the readings of each call, and TOLD what each answers with the fluents that are
+      asked for then, with `;` between calls. (Seed 1, 300, and none of the others unless told
+      otherwise.)
   oracle examples [FOLDER]
       Runs the example files and prints a tally.
   oracle --help
@@ -112,7 +126,7 @@ struct Kind {
     rows: fn(u64, u64) -> Box<dyn Iterator<Item = String>>,
 }
 
-const KINDS: [Kind; 6] = [
+const KINDS: [Kind; 7] = [
     Kind {
         option: "--whether",
         command: "run-whether",
@@ -148,6 +162,12 @@ const KINDS: [Kind; 6] = [
         command: "run-derived",
         run: |seed, count| Box::new(derives::run::run(seed, count)),
         rows: |seed, count| Box::new(derives::rows::derived_rows(seed, count)),
+    },
+    Kind {
+        option: "--guided",
+        command: "run-guided",
+        run: |seed, count| Box::new(guides::run::run(seed, count)),
+        rows: |seed, count| Box::new(guides::rows::guided_rows(seed, count)),
     },
 ];
 
@@ -193,6 +213,12 @@ fn command(words: &[String]) -> Result<ExitCode, String> {
             let numbers = of_kinds(&["--seed", "--count", "--derivations"]);
             print_rows(&Options::parse(rest, &numbers, &[], 0)?)
         }
+        "trials" => {
+            let (rest, to) = named_file("--to", rest)?;
+            let options = Options::parse(&rest, &["--seed", "--count"], &[], 0)?;
+            write_trials(&options, to)
+        }
+        "guide" => guide_file(&Options::parse(rest, &["--budget"], &["--text"], 2)?),
         "examples" => run_examples(rest.first()),
         "--help" | "-h" | "help" => {
             print!("{HELP}");
@@ -415,6 +441,34 @@ fn print_rows(options: &Options) -> Result<ExitCode, String> {
         writeln!(out, "{row}").map_err(|error| error.to_string())?;
     }
     out.flush().map_err(|error| error.to_string())?;
+    Ok(ExitCode::SUCCESS)
+}
+
+/// Leads through the plan of a request, each call with the bytes of a line of readings.
+fn guide_file(options: &Options) -> Result<ExitCode, String> {
+    let lines = fs::read_to_string(&options.files[1]).map_err(|error| error.to_string())?;
+    let trial = Trial {
+        request: options.bytes(0)?,
+        budget: budget_of(options)?,
+        calls: lines.lines().map(parse_bytes).collect::<Result<_, _>>()?,
+    };
+    print!("{}", trial.answers().printed());
+    Ok(ExitCode::SUCCESS)
+}
+
+/// Writes trials of guides to a file, and what is to be printed of them to standard output.
+fn write_trials(options: &Options, to: Option<String>) -> Result<ExitCode, String> {
+    let to = to.ok_or("trials are written --to a file")?;
+    let seed = options.number("--seed", 1);
+    let mut out = io::BufWriter::new(io::stdout().lock());
+    let mut bytes = Vec::new();
+    for trial in guides::trials::trials(seed, options.number("--count", CALLS)) {
+        bytes.extend(trial.bytes());
+        let printed = trial.answers().printed();
+        write!(out, "{printed}").map_err(|error| error.to_string())?;
+    }
+    out.flush().map_err(|error| error.to_string())?;
+    fs::write(&to, bytes).map_err(|error| format!("{to}: {error}"))?;
     Ok(ExitCode::SUCCESS)
 }
 

@@ -418,7 +418,7 @@ pub(crate) fn expect_form(answer: Answer, request: &[u8], derivation: &[u8]) -> 
         _ => return Err(format!("answer {answer} names no input")),
     };
     let place = answer.place as usize;
-    let neither = matches!(answer.number, 0 | 3 | 9 | 38 | 39);
+    let neither = matches!(answer.number, 0 | 3 | 9 | 38..=42);
     let placed = match answer.number {
         11 => place == length,
         10 => place == 0,

@@ -5,7 +5,7 @@
 //! go together as a party: each member is a true world, and the worlds where the members now
 //! are make up the set of possible worlds of each of them.
 
-use crate::model::{is_positive, Guarded, Item, Request};
+use crate::model::{is_positive, Branch, Guarded, Item, Request};
 
 /// Most fluents for which worlds are enumerated.
 pub const WORLD_FLUENTS: u8 = 10;
@@ -28,10 +28,10 @@ pub enum Failure {
 }
 
 /// A set of fluents that are true; the others are false.
-type World = u16;
+pub(crate) type World = u16;
 
 /// Where the members, all with the same readings so far, are now; one entry for each member.
-type Party = Vec<World>;
+pub(crate) type Party = Vec<World>;
 
 /// Literals that have to hold: those fluents true, those false.
 #[derive(Clone, Copy)]
@@ -72,16 +72,12 @@ pub fn carry_out_guarded(guarded: &Guarded) -> Result<u64, Failure> {
 }
 
 fn carry_out_with(request: &Request, guards: &[u8]) -> Result<u64, Failure> {
-    assert!(request.fluents <= WORLD_FLUENTS);
-    let facts = Demand::new(&request.facts);
-    let start: Party = (0..1u16 << request.fluents)
-        .filter(|&world| facts.holds(world))
-        .collect();
-    let worlds = start.len();
     let carrier = Carrier {
         guards: Demand::new(guards),
         ..Carrier::new(request)
     };
+    let start = carrier.start(request);
+    let worlds = start.len();
     carrier.guarded(&start)?;
     let parties = carrier.through(&request.plan, vec![start])?;
     assert_eq!(
@@ -108,7 +104,7 @@ pub fn effects_meet(request: &Request) -> bool {
 }
 
 /// At the end each goal holds in all possible worlds and each whether fluent has one value.
-fn judge(request: &Request, party: &Party) -> Result<(), Failure> {
+pub(crate) fn judge(request: &Request, party: &Party) -> Result<(), Failure> {
     let goals = Demand::new(&request.goals);
     if !party.iter().all(|&world| goals.holds(world)) {
         return Err(Failure::Goal);
@@ -124,7 +120,7 @@ fn judge(request: &Request, party: &Party) -> Result<(), Failure> {
 }
 
 /// The guards, and the table's lines by action.
-struct Carrier {
+pub(crate) struct Carrier {
     guards: Demand,
     allowances: Vec<Vec<Demand>>,
     effects: Vec<Vec<(Demand, Demand)>>,
@@ -132,7 +128,7 @@ struct Carrier {
 }
 
 impl Carrier {
-    fn new(request: &Request) -> Carrier {
+    pub(crate) fn new(request: &Request) -> Carrier {
         let actions = usize::from(request.actions);
         let mut carrier = Carrier {
             guards: Demand::new(&[]),
@@ -153,6 +149,15 @@ impl Carrier {
         carrier
     }
 
+    /// Every world that has the initial facts. The request has at most ten fluents.
+    pub(crate) fn start(&self, request: &Request) -> Party {
+        assert!(request.fluents <= WORLD_FLUENTS);
+        let facts = Demand::new(&request.facts);
+        (0..1u16 << request.fluents)
+            .filter(|&world| facts.holds(world))
+            .collect()
+    }
+
     fn through(&self, sequence: &[Item], parties: Vec<Party>) -> Result<Vec<Party>, Failure> {
         sequence.iter().try_fold(parties, |parties, item| {
             let mut after = Vec::with_capacity(parties.len());
@@ -170,16 +175,22 @@ impl Carrier {
                 after.iter().try_for_each(|party| self.guarded(party))?;
                 Ok(after)
             }
-            Item::Branching { branches, .. } => {
-                let mut known = branches.iter().filter(|branch| {
-                    let condition = Demand::new(&branch.condition);
-                    party.iter().all(|&world| condition.holds(world))
-                });
-                match (known.next(), known.next()) {
-                    (Some(branch), None) => self.through(&branch.sequence, vec![party]),
-                    _ => Err(Failure::NoBranch),
-                }
-            }
+            Item::Branching { branches, .. } => match Carrier::branch(branches, &party) {
+                Some(branch) => self.through(&branch.sequence, vec![party]),
+                None => Err(Failure::NoBranch),
+            },
+        }
+    }
+
+    /// The one branch whose condition holds in each possible world; none where there is not just one.
+    pub(crate) fn branch<'a>(branches: &'a [Branch], party: &Party) -> Option<&'a Branch> {
+        let mut known = branches.iter().filter(|branch| {
+            let condition = Demand::new(&branch.condition);
+            party.iter().all(|&world| condition.holds(world))
+        });
+        match (known.next(), known.next()) {
+            (Some(branch), None) => Some(branch),
+            _ => None,
         }
     }
 
@@ -198,7 +209,7 @@ impl Carrier {
 
     /// An action, a sensing one too, drops the possible worlds in which it may not be run. Each
     /// action met may be run in every possible world, so none may be dropped.
-    fn act(&self, action: usize, party: Party) -> Result<Vec<Party>, Failure> {
+    pub(crate) fn act(&self, action: usize, party: Party) -> Result<Vec<Party>, Failure> {
         let before = party.len();
         let kept: Party = party
             .into_iter()

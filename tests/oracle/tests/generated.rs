@@ -12,6 +12,9 @@ use oracle::encode::encode_request;
 use oracle::generate::{request, spread, MIDDLE, SMALL, TINY};
 use oracle::guards;
 use oracle::guards::rows::guarded_rows;
+use oracle::guides;
+use oracle::guides::rows::guided_rows;
+use oracle::guides::trials::Trial;
 use oracle::indexes;
 use oracle::indexes::rows::indexed_rows;
 use oracle::releases;
@@ -77,14 +80,20 @@ fn small_runs_of_deriving_show_no_difference() {
 }
 
 #[test]
+fn small_runs_of_guides_show_no_difference() {
+    shows_no_difference(3_000, guides::run::run);
+}
+
+#[test]
 fn runs_too_small_fail() {
-    let runs: [Box<dyn Checked>; 6] = [
+    let runs: [Box<dyn Checked>; 7] = [
         Box::new(run(1, 10, 10)),
         Box::new(releases::run::run(1, 10)),
         Box::new(guards::run::run(1, 10)),
         Box::new(cases::run::run(1, 10)),
         Box::new(indexes::run::run(1, 10)),
         Box::new(derives::run::run(1, 10)),
+        Box::new(guides::run::run(1, 10)),
     ];
     for tally in runs {
         let verdict = tally.verdict();
@@ -358,6 +367,39 @@ fn rows_of_deriving_can_be_computed_again() {
     assert_eq!(met, BTreeSet::from(NUMBERS));
     assert_eq!(shown, BTreeSet::from(Event::ALL));
     come_from_the_seed(|seed| derived_rows(seed, 40));
+}
+
+#[test]
+fn rows_of_guides_can_be_computed_again() {
+    use oracle::guides::follower::Event;
+    use oracle::guides::rows::NOT_SHOWN;
+    use oracle::guides::run::{CALLS, STARTS};
+    let (mut starts, mut met) = (BTreeSet::new(), BTreeSet::new());
+    let mut shown = BTreeSet::from(NOT_SHOWN);
+    for row in guided_rows(5, 150) {
+        let mut words = row.split(' ');
+        assert_eq!(words.next(), Some("O"));
+        let request = take(&mut words);
+        let budget = number(&mut words);
+        let told: Vec<&str> = words.collect();
+        let calls = told[4].split(';');
+        let calls = calls.map(|readings| take(&mut [readings].into_iter()));
+        let trial = Trial {
+            request,
+            budget,
+            calls: calls.collect(),
+        };
+        let answers = trial.answers();
+        expect_answer(&row, &mut told.iter().copied(), answers.start);
+        assert_eq!(told[5].split(';').count(), answers.calls.len(), "{row}");
+        starts.insert(answers.start.number);
+        met.extend(answers.calls.iter().map(|(told, _)| told.number()));
+        shown.extend(trial.events());
+    }
+    assert_eq!(starts, BTreeSet::from(STARTS));
+    assert_eq!(met, BTreeSet::from(CALLS));
+    assert_eq!(shown, BTreeSet::from(Event::ALL));
+    come_from_the_seed(|seed| guided_rows(seed, 40));
 }
 
 #[test]

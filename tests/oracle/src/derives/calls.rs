@@ -83,11 +83,11 @@ pub(crate) fn call_of(rng: &mut Rng, draft: &Request) -> JudgeCall {
 }
 
 /// A request of any kind that is not too long.
-fn any_draft(rng: &mut Rng) -> Request {
+pub(crate) fn any_draft(rng: &mut Rng) -> Request {
     short(rng, any_request)
 }
 
-fn short(rng: &mut Rng, draw: impl Fn(&mut Rng) -> Request) -> Request {
+pub(crate) fn short(rng: &mut Rng, draw: impl Fn(&mut Rng) -> Request) -> Request {
     loop {
         let draft = draw(rng);
         if encode_request(&draft).bytes.len() <= REQUEST_LIMIT {
@@ -210,14 +210,14 @@ fn either(fluent: u8, yes: Vec<Item>, no: Vec<Item>) -> Item {
     Item::case(vec![branch(2 * fluent + 1, no), branch(2 * fluent, yes)])
 }
 
-fn always(action: u8) -> Allowance {
+pub(crate) fn always(action: u8) -> Allowance {
     Allowance {
         action,
         body: Vec::new(),
     }
 }
 
-fn effect(action: u8, literal: u8) -> Effect {
+pub(crate) fn effect(action: u8, literal: u8) -> Effect {
     Effect {
         place: 0,
         action,
@@ -226,7 +226,7 @@ fn effect(action: u8, literal: u8) -> Effect {
     }
 }
 
-fn knowledge(action: u8, fluent: u8) -> Knowledge {
+pub(crate) fn knowledge(action: u8, fluent: u8) -> Knowledge {
     Knowledge {
         place: 0,
         action,

@@ -1,0 +1,3 @@
+pub mod ComingLaws
+pub mod GuideCompute
+pub mod GuideCases

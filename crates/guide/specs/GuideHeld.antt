@@ -1,0 +1,125 @@
+-- The guide that the code's values stand for.
+use Prim.Native.Nat.{ℕ, _<_}
+use mathlib.Core.Path.{_≡_}
+use mathlib.Core.Bool.{Bool}
+use mathlib.Core.List.{List, []}
+use lib.ListN.{take}
+use lib.Dec.{eqb, ltb, leb}
+use Rattle.meaning.specs.declared.Answer.{Answer}
+use Rattle.meaning.specs.Tests.{pick, both, either, each-of}
+use Rattle.meaning.specs.Limits.{format}
+use Rattle.meaning.specs.Requests.{Table, Sequence, Request}
+use Rattle.meaning.specs.Reading.{Got, got, fault}
+use Rattle.meaning.specs.Refusals.{settled}
+use Rattle.meaning.specs.States.{State, first-state}
+use Rattle.reading.specs.Planned.{items-of}
+use Rattle.walking.specs.Walks.{action-at}
+use Rattle.steps.specs.Held.{table-in, plan-in}
+use Rattle.steps.specs.AtHand.{Marked}
+use Rattle.steps.specs.Rests.{rest-at, after-first, Position}
+use Rattle.guidance.specs.declared.Told.{Told}
+use Rattle.guidance.specs.declared.Told.the-variants.{Do, Done, Refused}
+use Rattle.guidance.specs.Guides.{Guide, refusing, going, ended, Started, Turn, Ahead, the-end, an-action, no-branch, not-verified, of-guide, of-request, sensed}
+use Rattle.guide.specs.declared.going.Ahead as Code
+use Rattle.guide.specs.declared.going.Ahead.the-variants.{End, Action, NoBranch}
+use Rattle.guide.specs.declared.going.Step.{Step}
+use Rattle.guide.specs.declared.guides.Stage.{Stage}
+use Rattle.guide.specs.declared.guides.Stage.the-variants.{Refusing, Going, Ended}
+use Rattle.guide.specs.declared.guides.Guide as Held
+use Rattle.guide.specs.declared.guides.Started as Held-started
+use Rattle.guide.specs.declared.guides.Turn as Held-turn
+
+-- WHAT COMES NEXT, an action by the number of its item.
+unfoldable pub came : (s t : List ℕ) → Code.Ahead → Ahead
+came s t r = elim r [ End ↦ the-end | Action i ↦ an-action (action-at s t i) (after-first (rest-at (plan-in s t) i)) | NoBranch ↦ no-branch ]
+
+-- It is an item of the plan, and an action.
+pub record Item-there (s t : List ℕ) (i : ℕ) : Type 0 where
+  pub there : i < items-of (plan-in s t)
+  pub acts : action-at s t i < format .actions
+
+unfoldable pub Action-there : (s t : List ℕ) → Code.Ahead → Type 0
+Action-there s t r = elim r [ End ↦ Unit {0} | Action i ↦ Item-there s t i | NoBranch ↦ Unit {0} ]
+
+-- The fluents whose readings come after an action; the limit of actions stands for none.
+unfoldable pub asked-by : Table → (action : ℕ) → List ℕ
+asked-by t a = pick (ltb a (format .actions)) (λ _. sensed format t a) (λ _. [])
+
+-- A GUIDE ON ITS WAY, of a request at hand.
+unfoldable pub on-the-way : (s t : List ℕ) → (action position : ℕ) → State → Guide
+on-the-way s t a i marks = going (table-in s) (asked-by (table-in s) a) (rest-at (plan-in s t) i) marks
+
+-- What a call makes of the guide g.
+unfoldable pub guide-after : (s t : List ℕ) → Guide → Step → Told → Guide
+guide-after s t g r told = elim told [ Do a ↦ on-the-way s t (r .action) (r .at) (r .marks) | Done ↦ ended (r .marks) | Refused x ↦ g ]
+
+unfoldable pub turned : (s t : List ℕ) → Guide → Step → Turn
+turned s t g r = record { guide = guide-after s t g r (r .told); told = r .told }
+
+-- Where an action is answered, the guide goes on from a position of the plan, with marks.
+pub record Goes-on (s t : List ℕ) (r : Step) : Type 0 where
+  pub at : Position (plan-in s t) (r .at)
+  pub marked : Marked (r .marks)
+
+unfoldable pub Goes-after : (s t : List ℕ) → Step → Told → Type 0
+Goes-after s t r told = elim told [ Do a ↦ Goes-on s t r | Done ↦ Unit {0} | Refused x ↦ Unit {0} ]
+
+-- What the code answers is this turn.
+pub record Turns (s t : List ℕ) (g : Guide) (r : Step) (turn : Turn) : Type 0 where
+  pub is : turned s t g r ≡ turn
+  pub goes : Goes-after s t r (r .told)
+
+-- ANY VALUES stand for a guide: those that no start gave for one that was refused.
+unfoldable pub is-position : Sequence ℕ → ℕ → Bool
+is-position b i = either (eqb i (format .items)) (ltb i (items-of b))
+
+unfoldable pub is-marked : State → Bool
+is-marked marks = each-of (λ m. leb m 2) marks
+
+unfoldable pub guide-got : (action position : ℕ) → State → Got Request → Guide
+guide-got a i marks (got r e) =
+    pick (both (is-position (r .plan) i) (is-marked marks)) (λ _. going (r .table) (asked-by (r .table) a) (rest-at (r .plan) i) marks) (λ _. refusing (of-guide not-verified))
+guide-got a i marks (fault n p) = refusing (of-request n p)
+
+unfoldable pub guide-held : (request : List ℕ) → (action position : ℕ) → State → Guide
+guide-held request a i marks = guide-got a i marks (settled format request)
+
+-- What a call makes of the guide g, with the request read again.
+unfoldable pub guide-called : (request : List ℕ) → Guide → Step → Told → Guide
+guide-called request g r told = elim told [ Do a ↦ guide-held request (r .action) (r .at) (r .marks) | Done ↦ ended (r .marks) | Refused x ↦ g ]
+
+unfoldable pub called : (request : List ℕ) → Guide → Step → Turn
+called request g r = record { guide = guide-called request g r (r .told); told = r .told }
+
+-- A guide of a settled request, at its start.
+pub record Begins (request : List ℕ) (g : Guide) : Type 0 where
+  pub held : (r : Request) (e : ℕ) → settled format request ≡ got r e → g ≡ going (r .table) [] (r .plan) (first-state format (r .table))
+
+-- THE STRUCT. The request is the start of the row.
+unfoldable pub request-of : Held.Guide → List ℕ
+request-of g = take (g .length) (g .request)
+
+-- Where the first n bytes of the row end: it has no more than a request may have.
+unfoldable pub row-end : (n : ℕ) → ℕ
+row-end n = pick (ltb n (format .request)) (λ _. n) (λ _. format .request)
+
+unfoldable pub guide-at : Held.Guide → Stage → Guide
+guide-at g stage = elim stage [ Refusing ↦ refusing (g .answer) | Going ↦ guide-held (request-of g) (g .action) (g .at) (g .marks) | Ended ↦ ended (g .marks) ]
+
+unfoldable pub guide-of : Held.Guide → Guide
+guide-of g = guide-at g (g .stage)
+
+unfoldable pub started-of : Held-started.Started → Started
+started-of r = record { guide = guide-of (r .guide); answer = r .answer }
+
+unfoldable pub turn-of : Held-turn.Turn → Turn
+turn-of r = record { guide = guide-of (r .guide); told = r .told }
+
+-- What a refusal hands back is what was given, and a call keeps the request.
+pub record Kept-guide (g : Held.Guide) (r : Held-turn.Turn) : Type 0 where
+  pub refused : (x : Answer) → r .told ≡ Refused x → r .guide ≡ g
+  pub request : request-of (r .guide) ≡ request-of g
+
+-- The guide of a start that answers 0 holds the request.
+pub record Own-copy (request : List ℕ) (r : Held-started.Started) : Type 0 where
+  pub copied : r .answer .number ≡ 0 → request-of (r .guide) ≡ request

@@ -1,0 +1,2 @@
+pub mod GuideHeld
+pub mod GuideCalled
