@@ -1,7 +1,7 @@
 ghost use mathlib.Core.Path.{_≡_};
 ghost use Prim.Native.Nat.{_≤_};
 ghost use Rattle.meaning.specs.Limits.{format};
-ghost use Rattle.meaning.specs.Reading.{body-at, effect-at, executability-at, knowledge-at};
+ghost use Rattle.meaning.specs.Reading.{Flags, body-at, effect-at, executability-at, knowledge-at};
 ghost use Rattle.bytes.specs.Read.{passed, action-before, effect-read, executability-read, knowledge-read};
 use super::bytes::Read;
 use super::bytes::below_at;
@@ -13,7 +13,7 @@ use super::lists::list_at;
 // A body, and a condition.
 pub fn body_at(n: usize, s: &[u8], p: usize) -> Passed
     requires { ⌜ n ≤ format .fluents ⌝ }
-    ensures { λ r. ⌜ r ≡ passed (body-at format n (now (s .entry)) p) ⌝ }
+    ensures { λ r. ⌜ r ≡ passed (body-at format Flags n (now (s .entry)) p) ⌝ }
 {
     list_at(Kind::Literals, n, limits::BODY, s, p)
 }
@@ -21,7 +21,7 @@ pub fn body_at(n: usize, s: &[u8], p: usize) -> Passed
 // The body after what a line says of action a.
 fn action_with_body(a: usize, n: usize, s: &[u8], p: usize) -> Read
     requires { ⌜ n ≤ format .fluents ⌝ }
-    ensures { λ r. ⌜ r ≡ action-before a (body-at format n (now (s .entry)) p) ⌝ }
+    ensures { λ r. ⌜ r ≡ action-before a (body-at format Flags n (now (s .entry)) p) ⌝ }
 {
     match body_at(n, s, p) {
         Passed::To(e) => Read::Value(a, e),
@@ -32,7 +32,7 @@ fn action_with_body(a: usize, n: usize, s: &[u8], p: usize) -> Read
 // An effect: its action.
 pub fn effect_at(n: usize, m: usize, s: &[u8], p: usize) -> Read
     requires { ⌜ n ≤ format .fluents ⌝ }
-    ensures { λ r. ⌜ r ≡ effect-read (effect-at format n m (now (s .entry)) p) ⌝ }
+    ensures { λ r. ⌜ r ≡ effect-read (effect-at format Flags n m (now (s .entry)) p) ⌝ }
 {
     match below_at(m, s, p) {
         Read::Value(a, q) => match below_at(2 * n, s, q) {
@@ -46,7 +46,7 @@ pub fn effect_at(n: usize, m: usize, s: &[u8], p: usize) -> Read
 // An executability line: its action.
 pub fn executability_at(n: usize, m: usize, s: &[u8], p: usize) -> Read
     requires { ⌜ n ≤ format .fluents ⌝ }
-    ensures { λ r. ⌜ r ≡ executability-read (executability-at format n m (now (s .entry)) p) ⌝ }
+    ensures { λ r. ⌜ r ≡ executability-read (executability-at format Flags n m (now (s .entry)) p) ⌝ }
 {
     match below_at(m, s, p) {
         Read::Value(a, q) => action_with_body(a, n, s, q),

@@ -8,7 +8,7 @@ use lib.ListN.{length, getD}
 use borrow.Author.Tests.{leb-false}
 use Rattle.meaning.specs.Limits.{format}
 use Rattle.meaning.specs.Requests.{Sequence, done, item, Item, act, branching, Branches, none, branch}
-use Rattle.meaning.specs.Reading.{got, Met, plan-at}
+use Rattle.meaning.specs.Reading.{Flags, got, Met, plan-at}
 use Rattle.meaning.specs.Layouts
 use Rattle.meaning.specs.Layouts.{Bytes, list-written, number-written, items-in, items-written, item-written, branches-written, plan-written}
 use Rattle.meaning.proofs.PlanReads.{Said, Passed-on, plan-on}
@@ -90,7 +90,7 @@ pub record Plan-coded (s : List ℕ) (p : ℕ) (b : Sequence ℕ) (e : ℕ) : Ty
   pub tellable : Tellable b
   pub few : own-items b ≤ format .items
 
-pub plan-coded : (n m : ℕ) (s : List ℕ) → ((i : ℕ) → getD s i 0 < 256) → m ≤ format .actions → (p : ℕ) (x : Met (Sequence ℕ)) (e : ℕ) → plan-at format n m s p ≡ got x e → Plan-coded s p (x .value) e
+pub plan-coded : (n m : ℕ) (s : List ℕ) → ((i : ℕ) → getD s i 0 < 256) → m ≤ format .actions → (p : ℕ) (x : Met (Sequence ℕ)) (e : ℕ) → plan-at format Flags n m s p ≡ got x e → Plan-coded s p (x .value) e
 unfolding plan-at plan-written number-written
 plan-coded n m s small few p x e read =
     let st = plan-copied format n m s small p .holds x e read .there in

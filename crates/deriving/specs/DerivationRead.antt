@@ -5,7 +5,7 @@ use lib.ListN.{length, set}
 use Rattle.meaning.specs.declared.Layout.{Layout}
 use Rattle.meaning.specs.Limits
 use Rattle.meaning.specs.Limits.{Limits, format}
-use Rattle.meaning.specs.Reading.{Got, got, fault, next, Met, two-bytes-at, count-at, repeated, plan-at}
+use Rattle.meaning.specs.Reading.{Flags, Got, got, fault, next, Met, two-bytes-at, count-at, repeated, plan-at}
 use Rattle.meaning.specs.Requests.{Sequence}
 use Rattle.meaning.specs.Refusals.{refuse}
 use Rattle.meaning.specs.Derivations.{Line, Derivation, concluded-at, read-derivation, overlap-in-lines}
@@ -54,7 +54,7 @@ ended-at q (got cites e) = To q e
 ended-at q (fault n p) = Fault n p
 
 unfoldable pub planned : Layout → (n m : ℕ) → List ℕ → ℕ → Lined
-planned layout n m s p = from-plan (plan-at format n m s p)
+planned layout n m s p = from-plan (plan-at format Flags n m s p)
   where
     from-plan : Got (Met (Sequence ℕ)) → Lined
     from-plan (got plan q) = ended-at q (ending layout n s q)

@@ -11,7 +11,7 @@ use Rattle.meaning.specs.Limits.{format, all-literals}
 use Rattle.meaning.specs.Requests.{Effect, Executability, Knowledge, Table, Request}
 use Rattle.meaning.specs.Lines.{effects-of, executability-of}
 use Rattle.meaning.specs.Reading
-use Rattle.meaning.specs.Reading.{Got, got, fault, literals, bound-of, byte-at, count-at, below-at, list-at, body-at, effect-at, executability-at, knowledge-at, repeated, section-at, plan-at, table-at, request-at, read-request}
+use Rattle.meaning.specs.Reading.{Flags, Got, got, fault, literals, bound-of, byte-at, count-at, below-at, list-at, body-at, effect-at, executability-at, knowledge-at, repeated, section-at, plan-at, table-at, request-at, read-request}
 use Rattle.meaning.specs.Guards.{Guarded-request, read-guarded}
 use Rattle.meaning.proofs.SettledLaws.{got-same}
 use Rattle.meaning.proofs.RangeLaws.{after-got, count-within, section-read, repeated-length}
@@ -42,19 +42,19 @@ pub record Table-parts (s : List ℕ) (t : Table) (p : ℕ) : Type 0 where
   pub less : t .actions ≤ format .actions
   pub effects-at : ℕ
   pub effects-end : ℕ
-  pub effects-read : section-at (effect-at format (t .fluents) (t .actions) s) s effects-at ≡ got (t .effects) effects-end
+  pub effects-read : section-at (effect-at format Flags (t .fluents) (t .actions) s) s effects-at ≡ got (t .effects) effects-end
   pub runs-end : ℕ
-  pub runs-read : section-at (executability-at format (t .fluents) (t .actions) s) s effects-end ≡ got (t .executability) runs-end
+  pub runs-read : section-at (executability-at format Flags (t .fluents) (t .actions) s) s effects-end ≡ got (t .executability) runs-end
   pub knowledge-read : section-at (knowledge-at format (t .fluents) (t .actions) s) s runs-end ≡ got (t .knowledge) p
 
-pub table-parts : (s : List ℕ) (t : Table) (p : ℕ) → table-at format s 0 ≡ got t p → Table-parts s t p
+pub table-parts : (s : List ℕ) (t : Table) (p : ℕ) → table-at format Flags s 0 ≡ got t p → Table-parts s t p
 unfolding table-at
 table-parts s t p e =
     after-got (count-at 1 (format .fluents) s 0) _ e λ n p₁ en u₁.
     after-got (count-at 1 (format .actions) s p₁) _ u₁ λ m p₂ em u₂.
     after-got (list-at literals n (format .listed) s p₂) _ u₂ λ facts p₃ _ u₃.
-    after-got (section-at (effect-at format n m s) s p₃) _ u₃ λ es p₄ ees u₄.
-    after-got (section-at (executability-at format n m s) s p₄) _ u₄ λ xs p₅ exs u₅.
+    after-got (section-at (effect-at format Flags n m s) s p₃) _ u₃ λ es p₄ ees u₄.
+    after-got (section-at (executability-at format Flags n m s) s p₄) _ u₄ λ xs p₅ exs u₅.
     after-got (section-at (knowledge-at format n m s) s p₅) _ u₅ λ ks p₆ eks u₆.
     subst on u₆ (record {
       few = count-within 1 (format .fluents) s 0 n p₁ en;
@@ -75,13 +75,13 @@ pub record Request-parts (s : List ℕ) (t : Table) (p : ℕ) (y : Request) : Ty
   pub table : y .table ≡ t
   pub items : ℕ
   pub plan-end : ℕ
-  pub plan-read : plan-at format (t .fluents) (t .actions) s p ≡ got (record { value = y .plan; items = items }) plan-end
+  pub plan-read : plan-at format Flags (t .fluents) (t .actions) s p ≡ got (record { value = y .plan; items = items }) plan-end
   pub placed : plan-place y ≡ p
 
-pub request-parts : (s : List ℕ) (t : Table) (p : ℕ) (y : Request) (q : ℕ) → request-at format s t p ≡ got y q → Request-parts s t p y
+pub request-parts : (s : List ℕ) (t : Table) (p : ℕ) (y : Request) (q : ℕ) → request-at format Flags s t p ≡ got y q → Request-parts s t p y
 unfolding request-at plan-place goals-place plan-at
 request-parts s t p y q e =
-    after-got (plan-at format (t .fluents) (t .actions) s p) _ e λ plan q₁ eplan v₁.
+    after-got (plan-at format Flags (t .fluents) (t .actions) s p) _ e λ plan q₁ eplan v₁.
     after-got (list-at literals (t .fluents) (format .listed) s q₁) _ v₁ λ goals q₂ egoals v₂.
     after-got (list-at Reading.fluents (t .fluents) (format .listed) s q₂) _ v₂ λ whether q₃ _ v₃.
     let sized = sequence-read (t .fluents) (t .actions) s 8 p 0 (omega arith) .holds plan q₁ eplan in
@@ -117,7 +117,7 @@ acts s e is = ap (λ (y : Effect). y .action) is
 module _ (s : List ℕ) (t : Table) (p : ℕ) (whole : Table-parts s t p) where
   pub effect-good : (e : Effect) → Has (t .effects) e → (effect-from s (e .place) ≡ e) × Effect-here s (e .place)
   effect-good e has =
-      let w = section-read (effect-at format (t .fluents) (t .actions) s) s (whole .effects-at) (t .effects) (whole .effects-end) (whole .effects-read) e has in
+      let w = section-read (effect-at format Flags (t .fluents) (t .actions) s) s (whole .effects-at) (t .effects) (whole .effects-end) (whole .effects-read) e has in
       effect-here (t .fluents) (t .actions) s (whole .few) (whole .less) (w .0) e (w .1) (w .2)
 
   pub effect-acts : (e : Effect) → Has (t .effects) e → e .action < format .actions
@@ -130,9 +130,9 @@ module _ (s : List ℕ) (t : Table) (p : ℕ) (whole : Table-parts s t p) where
   pub run-good : (r : Executability) → Has (t .executability) r → r .action < format .actions
   unfolding executability-at
   run-good r has =
-      let w = section-read (executability-at format (t .fluents) (t .actions) s) s (whole .effects-end) (t .executability) (whole .runs-end) (whole .runs-read) r has in
+      let w = section-read (executability-at format Flags (t .fluents) (t .actions) s) s (whole .effects-end) (t .executability) (whole .runs-end) (whole .runs-read) r has in
       after-got (below-at (t .actions) s (w .0)) _ (w .2) λ a i ea e₁.
-      after-got (body-at format (t .fluents) s i) _ e₁ λ b j _ e₂.
+      after-got (body-at format Flags (t .fluents) s i) _ e₁ λ b j _ e₂.
       let small = number-got (t .actions) s (w .0) a i ea .3 in
       let most = whole .less in
       let is : a ≡ r .action = ap (λ (y : Executability). y .action) (got-same e₂) in
@@ -141,9 +141,9 @@ module _ (s : List ℕ) (t : Table) (p : ℕ) (whole : Table-parts s t p) where
   pub run-stands : (r : Executability) → Has (t .executability) r → (listed s (r .place + 1) ≡ r .body) × List-here all-literals s (r .place + 1)
   unfolding executability-at body-at bound-of
   run-stands r has =
-      let w = section-read (executability-at format (t .fluents) (t .actions) s) s (whole .effects-end) (t .executability) (whole .runs-end) (whole .runs-read) r has in
+      let w = section-read (executability-at format Flags (t .fluents) (t .actions) s) s (whole .effects-end) (t .executability) (whole .runs-end) (whole .runs-read) r has in
       after-got (below-at (t .actions) s (w .0)) _ (w .2) λ a i ea e₁.
-      after-got (body-at format (t .fluents) s i) _ e₁ λ b j eb e₂.
+      after-got (body-at format Flags (t .fluents) s i) _ e₁ λ b j eb e₂.
       let after : w .0 + 1 ≡ i = number-got (t .actions) s (w .0) a i ea .2 in
       let body = list-here literals (t .fluents) s 16 i b j eb in
       let few = whole .few in
@@ -188,10 +188,10 @@ counts-apart j far near = record {
 
 module _ (s : List ℕ) (bytes : (i : ℕ) → getD s i 0 < 256) (x : Table) (p : ℕ) (whole : Table-parts s x p) where
   pub effects-few : length (x .effects) < line-numbers
-  effects-few = rw (section-length (effect-at format (x .fluents) (x .actions) s) s (whole .effects-at) (x .effects) (whole .effects-end) (whole .effects-read)) (bytes (whole .effects-at))
+  effects-few = rw (section-length (effect-at format Flags (x .fluents) (x .actions) s) s (whole .effects-at) (x .effects) (whole .effects-end) (whole .effects-read)) (bytes (whole .effects-at))
 
   pub runs-few : length (x .executability) < line-numbers
-  runs-few = rw (section-length (executability-at format (x .fluents) (x .actions) s) s (whole .effects-end) (x .executability) (whole .runs-end) (whole .runs-read)) (bytes (whole .effects-end))
+  runs-few = rw (section-length (executability-at format Flags (x .fluents) (x .actions) s) s (whole .effects-end) (x .executability) (whole .runs-end) (whole .runs-read)) (bytes (whole .effects-end))
 
   pub knowledge-few : length (x .knowledge) < line-numbers
   knowledge-few = rw (section-length (knowledge-at format (x .fluents) (x .actions) s) s (whole .runs-end) (x .knowledge) p (whole .knowledge-read)) (bytes (whole .runs-end))
@@ -344,7 +344,7 @@ module _ (s : List ℕ) (bytes : (i : ℕ) → getD s i 0 < 256) (x : Table) (p 
     }
 
 -- SECTIONS 6 TO 8, over any table and any notes, with guards at a place.
-module _ (s : List ℕ) (x : Table) (few : x .fluents ≤ format .fluents) (less : x .actions ≤ format .actions) (p : ℕ) (y : Request) (q : ℕ) (read : request-at format s x p ≡ got y q) (t : List ℕ) (g : ℕ) where
+module _ (s : List ℕ) (x : Table) (few : x .fluents ≤ format .fluents) (less : x .actions ≤ format .actions) (p : ℕ) (y : Request) (q : ℕ) (read : request-at format Flags s x p ≡ got y q) (t : List ℕ) (g : ℕ) where
   of-request : Request-parts s x p y
   of-request = request-parts s x p y q read
 
@@ -484,7 +484,7 @@ module _ (n m : ℕ) (s : List ℕ) (less : m ≤ format .actions) where
       rw (start, counted) (lines .0, record { ends = omega (arith, lines .2); acts = lines .3 }, omega arith)
 
 -- THE TABLE AT THE START of an input, and its executability lines.
-pub table-is : (s : List ℕ) (x : Table) (p : ℕ) → table-at format s 0 ≡ got x p → table-in s ≡ x
+pub table-is : (s : List ℕ) (x : Table) (p : ℕ) → table-at format Flags s 0 ≡ got x p → table-in s ≡ x
 unfolding table-in table-of
 table-is s x p read = ap table-of read
 
@@ -499,7 +499,7 @@ module _ (s t : List ℕ) (here : Table-here s t) where
   }
 
   -- A plan that is noted leaves the table there.
-  pub table-stays : (g p : ℕ) (y : Request) (q : ℕ) → request-at format s (table-in s) p ≡ got y q → Table-here s (tail-with g y t)
+  pub table-stays : (g p : ℕ) (y : Request) (q : ℕ) → request-at format Flags s (table-in s) p ≡ got y q → Table-here s (tail-with g y t)
   table-stays g p y q read = record {
     bytes = here .bytes;
     short = here .short;
@@ -510,7 +510,7 @@ module _ (s t : List ℕ) (here : Table-here s t) where
   }
 
 -- A table that was noted into notes that held nothing is there.
-module _ (s : List ℕ) (bytes : (i : ℕ) → getD s i 0 < 256) (short : length s ≤ format .request) (x : Table) (p : ℕ) (read : table-at format s 0 ≡ got x p) where
+module _ (s : List ℕ) (bytes : (i : ℕ) → getD s i 0 < 256) (short : length s ≤ format .request) (x : Table) (p : ℕ) (read : table-at format Flags s 0 ≡ got x p) where
   pub table-comes : Table-here s (table-noted x blank)
   unfolding table-noted
   table-comes = record {
@@ -537,8 +537,8 @@ module _ (s : List ℕ) (bytes : (i : ℕ) → getD s i 0 < 256) (t : List ℕ) 
   pub read-same : table-in s ≡ here .request .table
   read-same = table-is s (here .request .table) (read-parts .place) (read-parts .table-read)
 
-  pub read-tail : request-at format s (table-in s) (read-parts .place) ≡ got (here .request) (here .end)
-  read-tail = ap (λ (z : Table). request-at format s z (read-parts .place)) read-same ∙ read-parts .tail-read
+  pub read-tail : request-at format Flags s (table-in s) (read-parts .place) ≡ got (here .request) (here .end)
+  read-tail = ap (λ (z : Table). request-at format Flags s z (read-parts .place)) read-same ∙ read-parts .tail-read
 
   -- The notes are what its table leaves, and then the rest.
   pub read-noted : t ≡ tail-with (here .guards) (here .request) (table-noted (here .request .table) blank)
@@ -547,7 +547,7 @@ module _ (s : List ℕ) (bytes : (i : ℕ) → getD s i 0 < 256) (t : List ℕ) 
 
 -- It is there when it was read whole, without guards or with them.
 module _ (s t : List ℕ) where
-  abbrev pub plain-here : (x : Request) (e : ℕ) → read-request format s ≡ got x e → t ≡ request-with 0 x blank → Read-here s t
+  abbrev pub plain-here : (x : Request) (e : ℕ) → read-request format Flags s ≡ got x e → t ≡ request-with 0 x blank → Read-here s t
   plain-here x e is noted = record { request = x; end = e; guards = 0; short = plain-read s x e is .0; reads = plain-read s x e is .1; noted = noted }
 
   pub with-guards : (g : Guarded-request) → t ≡ guarded-noted g blank → t ≡ request-with (guards-place (g .request)) (g .request) blank

@@ -7,7 +7,7 @@ use lib.ListN.{length, getD}
 use borrow.Author.Tests.{leb-false, eqb-true}
 use Rattle.meaning.specs.Limits.{format, all-literals}
 use Rattle.meaning.specs.Requests.{Sequence}
-use Rattle.meaning.specs.Reading.{got, Met, byte-at, two-bytes-at, literals, bound-of, body-at, plan-at}
+use Rattle.meaning.specs.Reading.{Flags, got, Met, byte-at, two-bytes-at, literals, bound-of, body-at, plan-at}
 use Rattle.meaning.proofs.GotLaws.{On, got-on, next-on}
 use Rattle.meaning.proofs.PlanReads.{Said, Passed-on, plan-on}
 use Rattle.reading.specs.Planned.{items-of, bytes-of, plan-noted, noting-met, outcome-met}
@@ -55,7 +55,7 @@ module _ (n m : ℕ) (s : List ℕ) where
   }
 
   module _ (small : n ≤ format .fluents) (few : m ≤ format .actions) where
-    branch-written : (p : ℕ) (c : List ℕ) (q : ℕ) (b : Sequence ℕ) → body-at format n s p ≡ got c q → Sequence-got s q b → Branch-written s p c b
+    branch-written : (p : ℕ) (c : List ℕ) (q : ℕ) (b : Sequence ℕ) → body-at format Flags n s p ≡ got c q → Sequence-got s q b → Branch-written s p c b
     unfolding body-at bound-of sequence-place
     branch-written p c q b read one =
         let list = list-here literals n s 16 p c q read in
@@ -99,7 +99,7 @@ module _ (n m : ℕ) (s : List ℕ) where
     }
 
     -- THE PLAN.
-    module _ (p : ℕ) (t : List ℕ) (x : Met (Sequence ℕ)) (e : ℕ) (room : effect-lines ≤ length t) (read : plan-at format n m s p ≡ got x e) where
+    module _ (p : ℕ) (t : List ℕ) (x : Met (Sequence ℕ)) (e : ℕ) (room : effect-lines ≤ length t) (read : plan-at format Flags n m s p ≡ got x e) where
       pub plan-items : items-of (x .value) ≡ x .items
       unfolding plan-at
       plan-items = let counted = sequence-read n m s 8 p 0 (omega arith) .holds x e read .counted in omega arith
@@ -121,8 +121,8 @@ module _ (n m : ℕ) (s : List ℕ) where
       plan-read u is = record { plan = x .value; held = rw is plan-held; items = plan-items }
 
     -- What the code that reads a plan answers, and what is then found.
-    module _ (p : ℕ) (t u : List ℕ) (r : Read) (count e : ℕ) (room : effect-lines ≤ length t) (left : outcome-met r u ≡ noting-met (plan-noted p t) (plan-at format n m s p)) (is : r ≡ Value count e) where
+    module _ (p : ℕ) (t u : List ℕ) (r : Read) (count e : ℕ) (room : effect-lines ≤ length t) (left : outcome-met r u ≡ noting-met (plan-noted p t) (plan-at format Flags n m s p)) (is : r ≡ Value count e) where
       pub plan-left : Some-plan s u count
       plan-left =
-          let w = met-value (plan-noted p t) (plan-at format n m s p) r u count e left is in
+          let w = met-value (plan-noted p t) (plan-at format Flags n m s p) r u count e left is in
           plan-read p t (with-items (w .0) count) e room (w .1) u (w .2)

@@ -15,7 +15,7 @@ use Rattle.meaning.specs.Limits
 use Rattle.meaning.specs.Limits.{Limits}
 use Rattle.meaning.specs.Literals.{among}
 use Rattle.meaning.specs.Requests.{Effect, Executability, Knowledge, Table, Sequence, done, item, Item, act, branching, Branches, none, branch, Entry, Request}
-use Rattle.meaning.specs.Reading.{Got, got, next, byte-at, two-bytes-at, count-at, below-at, Kind, literals, fluents, bound-of, entry-at, entries-at, list-at, repeated, section-at, body-at, effect-at, executability-at, knowledge-at, Met, plan-at, table-at, placed, request-at, read-request}
+use Rattle.meaning.specs.Reading.{Flags, Got, got, next, byte-at, two-bytes-at, count-at, below-at, Kind, literals, fluents, bound-of, entry-at, entries-at, list-at, repeated, section-at, body-at, effect-at, executability-at, knowledge-at, Met, plan-at, table-at, placed, request-at, read-request}
 use Rattle.meaning.specs.Refusals.{Found, nowhere, at, or-else, contradictory, first-against, contradiction-in, mixed-in, overlap-in, overlap-at, overlap-below, refuse, past-refusals, settled}
 use Rattle.meaning.specs.States.{State, known, outcome}
 use Rattle.meaning.specs.Walk.{End, Walked, first-missed, missed-in, walked, walked-guarded}
@@ -261,22 +261,22 @@ module _ (s : List ℕ) (Bad : ℕ → ℕ → Type 0) where
         (fits₂, omega (arith, is, long))
 
     module _ (lim : Limits) (n m : ℕ) where
-      body-held : (p : ℕ) → Held (Long (p + 1)) (body-at lim n s p)
+      body-held : (p : ℕ) → Held (Long (p + 1)) (body-at lim Flags n s p)
       unfolding body-at
       body-held p = list-held literals n (lim .body) p
 
-      effect-held : (p : ℕ) → Held (λ (x : Effect) (q : ℕ). x .place < length s) (effect-at lim n m s p)
+      effect-held : (p : ℕ) → Held (λ (x : Effect) (q : ℕ). x .place < length s) (effect-at lim Flags n m s p)
       unfolding effect-at
       effect-held p =
           by-next (One p) _ (below-at m s p) _ (below-held m p) λ a q fits is.
           by-next (One q) _ (below-at (2 * n) s q) _ (below-held (2 * n) q) λ l r _ _.
-          by-next (Long (r + 1)) _ (body-at lim n s r) _ (body-held r) λ b e fits₂ _. (fits₂, omega (arith, fits, is))
+          by-next (Long (r + 1)) _ (body-at lim Flags n s r) _ (body-held r) λ b e fits₂ _. (fits₂, omega (arith, fits, is))
 
-      executability-held : (p : ℕ) → Held (λ (x : Executability) (q : ℕ). Unit {0}) (executability-at lim n m s p)
+      executability-held : (p : ℕ) → Held (λ (x : Executability) (q : ℕ). Unit {0}) (executability-at lim Flags n m s p)
       unfolding executability-at
       executability-held p =
           by-next (One p) _ (below-at m s p) _ (below-held m p) λ a q _ _.
-          by-next (Long (q + 1)) _ (body-at lim n s q) _ (body-held q) λ b e fits _. (fits, tt)
+          by-next (Long (q + 1)) _ (body-at lim Flags n s q) _ (body-held q) λ b e fits _. (fits, tt)
 
       knowledge-held : (p : ℕ) → Held (λ (x : Knowledge) (q : ℕ). x .place < length s) (knowledge-at lim n m s p)
       unfolding knowledge-at
@@ -310,7 +310,7 @@ module _ (s : List ℕ) (Bad : ℕ → ℕ → Type 0) where
         a-sequence = λ deep p met c q b e read all _. all (held-got Bad (Inside (Two p)) (two-bytes-at s p) (two-bytes-held p) c q read .0);
         no-branch = λ deep p met here. (here, tt);
         a-branch = λ deep left p met c q b r rest e read _ one more _.
-            let first = one (held-got Bad (Inside (Long (p + 1))) (body-at lim n s p) (body-held p) c q read .0) in
+            let first = one (held-got Bad (Inside (Long (p + 1))) (body-at lim Flags n s p) (body-held p) c q read .0) in
             let others = more (first .0) in
             (others .0, (first .1, others .1));
       }
@@ -325,15 +325,15 @@ module _ (s : List ℕ) (Bad : ℕ → ℕ → Type 0) where
         byte = λ p. held-faulty Bad (Inside (One p)) (byte-at s p) (byte-held p);
         number = λ p. held-faulty Bad (Inside (Two p)) (two-bytes-at s p) (two-bytes-held p);
         count = λ p. held-faulty Bad (Inside (One p)) (count-at 1 (lim .branches) s p) (count-held 1 (lim .branches) p);
-        condition = λ p. held-faulty Bad (Inside (Long (p + 1))) (body-at lim n s p) (body-held p);
+        condition = λ p. held-faulty Bad (Inside (Long (p + 1))) (body-at lim Flags n s p) (body-held p);
         too-many = λ p x q read. items _ p refl (byte-there p x q read .1);
         too-large = λ p x q read. byte _ p refl (byte-there p x q read .1);
         too-deep = λ p x q read. items _ p refl (byte-there p x q read .1);
       }
 
-      plan-held : Of-items → (p : ℕ) → p ≤ length s → Held (λ (x : Met (Sequence ℕ)) (q : ℕ). Plan-below (length s) (x .value)) (plan-at lim n m s p)
+      plan-held : Of-items → (p : ℕ) → p ≤ length s → Held (λ (x : Met (Sequence ℕ)) (q : ℕ). Plan-below (length s) (x .value)) (plan-at lim Flags n m s p)
       plan-held items p here =
-          held-then Bad (Part-below (Plan-below (length s)) p 0) (Inside (λ x q. Plan-below (length s) (x .value))) (plan-at lim n m s p)
+          held-then Bad (Part-below (Plan-below (length s)) p 0) (Inside (λ x q. Plan-below (length s) (x .value))) (plan-at lim Flags n m s p)
           (PlanReads.plan-held lim n m s plan-below below-passed Bad (plan-faults items) p) λ x e below. below here
 
       -- A line of a derivation.
@@ -358,7 +358,7 @@ module _ (s : List ℕ) (Bad : ℕ → ℕ → Type 0) where
       unfolding line-at
       line-held items layout p =
           by-next (Long (p + 1)) _ (list-at literals n (lim .listed) s p) _ (list-held literals n (lim .listed) p) λ X q fits long.
-          by-next _ _ (plan-at lim n m s q) _ (plan-held items q fits) λ plan r _ inside.
+          by-next _ _ (plan-at lim Flags n m s q) _ (plan-held items q fits) λ plan r _ inside.
           by-next _ _ (concluded-at lim n s layout r) _ (concluded-held layout r) λ x t _ _.
           by-next (One t) _ (count-at 0 (lim .citations) s t) _ (count-held 0 (lim .citations) t) λ k v fits₂ _.
           by-next _ _ (repeated (two-bytes-at s) k v) _ (numbers-held k v fits₂) λ cites e fits₃ _.
@@ -374,21 +374,21 @@ module _ (s : List ℕ) (Bad : ℕ → ℕ → Type 0) where
 
     -- The table, and the rest after it.
     module _ (lim : Limits) where
-      pub table-held : (p : ℕ) → Held (λ (t : Table) (q : ℕ). Table-below (length s) t) (table-at lim s p)
+      pub table-held : (p : ℕ) → Held (λ (t : Table) (q : ℕ). Table-below (length s) t) (table-at lim Flags s p)
       unfolding table-at
       table-held start =
           by-next _ _ (count-at 1 (lim .fluents) s start) _ (count-held 1 (lim .fluents) start) λ n p _ _.
           by-next _ _ (count-at 1 (lim .actions) s p) _ (count-held 1 (lim .actions) p) λ m q _ _.
           by-next _ _ (list-at literals n (lim .listed) s q) _ (list-held literals n (lim .listed) q) λ facts r _ _.
-          by-next _ _ (section-at (effect-at lim n m s) s r) _ (section-held (λ (e : Effect). e .place < length s) _ (effect-held lim n m) r) λ es t _ effects.
-          by-next _ _ (section-at (executability-at lim n m s) s t) _ (section-held (λ (e : Executability). Unit {0}) _ (executability-held lim n m) t) λ xs u _ _.
+          by-next _ _ (section-at (effect-at lim Flags n m s) s r) _ (section-held (λ (e : Effect). e .place < length s) _ (effect-held lim n m) r) λ es t _ effects.
+          by-next _ _ (section-at (executability-at lim Flags n m s) s t) _ (section-held (λ (e : Executability). Unit {0}) _ (executability-held lim n m) t) λ xs u _ _.
           by-next _ _ (section-at (knowledge-at lim n m s) s u) _ (section-held (λ (k : Knowledge). k .place < length s) _ (knowledge-held lim n m) u) λ ks e fits knowledge.
           (fits, record { effects = effects; knowledge = knowledge })
 
-      pub request-held : ((n p : ℕ) → among n item-faults ≡ true → p < length s → Bad n p) → (t : Table) (p : ℕ) → Table-below (length s) t → p ≤ length s → Held (λ (r : Request) (q : ℕ). Request-below (length s) r) (request-at lim s t p)
+      pub request-held : ((n p : ℕ) → among n item-faults ≡ true → p < length s → Bad n p) → (t : Table) (p : ℕ) → Table-below (length s) t → p ≤ length s → Held (λ (r : Request) (q : ℕ). Request-below (length s) r) (request-at lim Flags s t p)
       unfolding request-at
       request-held items t start table here =
-          by-next _ _ (plan-at lim (t .fluents) (t .actions) s start) _ (plan-held lim (t .fluents) (t .actions) items start here) λ b p _ plan.
+          by-next _ _ (plan-at lim Flags (t .fluents) (t .actions) s start) _ (plan-held lim (t .fluents) (t .actions) items start here) λ b p _ plan.
           by-next _ _ (list-at literals (t .fluents) (lim .listed) s p) _ (list-held literals (t .fluents) (lim .listed) p) λ gs q fits goals.
           by-next _ _ (list-at fluents (t .fluents) (lim .listed) s q) _ (list-held fluents (t .fluents) (lim .listed) q) λ ws e fits₂ whether. (
             fits₂,
@@ -466,7 +466,7 @@ module _ (lim : Limits) (s : List ℕ) where
   abbrev pub Request-held : Got Request → Type 0
   Request-held = Held s Request-fault Request-read
 
-  pub read-held : Request-held (read-request lim s)
+  pub read-held : Request-held (read-request lim Flags s)
   unfolding read-request among refusals byte-faults some-of either each-of both
   read-held =
       pick-has Request-held _ _ _ (λ _. too-long-fault refusals (lim .request) (length s) refl) λ f.
@@ -474,8 +474,8 @@ module _ (lim : Limits) (s : List ℕ) where
       let ends = ends-fault refusals (lim .request) (length s) short refl in
       let byte = reading-fault refusals (lim .request) (length s) short refl in
       let entry : (n p : ℕ) → among n entry-faults ≡ true → p < length s → Request-fault n p = λ n p is. byte n p (entry-byte n is) in
-      by-next s Request-fault (λ (t : Table) (q : ℕ). Table-below (length s) t) Request-read (table-at lim s 0) _ (table-held s Request-fault ends entry lim 0) λ t p fits table.
-      by-next s Request-fault (λ (r : Request) (q : ℕ). Request-below (length s) r) Request-read (request-at lim s t p) _ (request-held s Request-fault ends entry lim (λ n p is. byte n p (item-byte n is)) t p table fits) λ r e fits₂ so.
+      by-next s Request-fault (λ (t : Table) (q : ℕ). Table-below (length s) t) Request-read (table-at lim Flags s 0) _ (table-held s Request-fault ends entry lim 0) λ t p fits table.
+      by-next s Request-fault (λ (r : Request) (q : ℕ). Request-below (length s) r) Request-read (request-at lim Flags s t p) _ (request-held s Request-fault ends entry lim (λ n p is. byte n p (item-byte n is)) t p table fits) λ r e fits₂ so.
       pick-has Request-held _ _ _ (λ more. byte _ e refl (ltb-true _ _ more)) (λ _. (fits₂, (so, short)))
 
   -- What was read of it, past 16, 17 and 18.
@@ -490,7 +490,7 @@ module _ (lim : Limits) (s : List ℕ) where
 
   pub settled-held : Request-held (settled lim s)
   unfolding settled
-  settled-held = by-next s Request-fault Request-read Request-read (read-request lim s) _ read-held λ r e fits so. past-held Request-read r (so .0) (so .1) (got r e) (fits, so)
+  settled-held = by-next s Request-fault Request-read Request-read (read-request lim Flags s) _ read-held λ r e fits so. past-held Request-read r (so .0) (so .1) (got r e) (fits, so)
 
   -- A guarded request: so are its guards.
   pub record Guarded-below (g : Guarded-request) (e : ℕ) : Type 0 where
@@ -509,8 +509,8 @@ module _ (lim : Limits) (s : List ℕ) where
       let ends = ends-fault refusals (lim .request) (length s) short refl in
       let byte = reading-fault refusals (lim .request) (length s) short refl in
       let entry : (n p : ℕ) → among n entry-faults ≡ true → p < length s → Request-fault n p = λ n p is. byte n p (entry-byte n is) in
-      by-next s Request-fault (λ (t : Table) (q : ℕ). Table-below (length s) t) Guarded-below (table-at lim s 0) _ (table-held s Request-fault ends entry lim 0) λ t p fits table.
-      by-next s Request-fault (λ (r : Request) (q : ℕ). Request-below (length s) r) Guarded-below (request-at lim s t p) _ (request-held s Request-fault ends entry lim (λ n p is. byte n p (item-byte n is)) t p table fits) λ r q _ so.
+      by-next s Request-fault (λ (t : Table) (q : ℕ). Table-below (length s) t) Guarded-below (table-at lim Flags s 0) _ (table-held s Request-fault ends entry lim 0) λ t p fits table.
+      by-next s Request-fault (λ (r : Request) (q : ℕ). Request-below (length s) r) Guarded-below (request-at lim Flags s t p) _ (request-held s Request-fault ends entry lim (λ n p is. byte n p (item-byte n is)) t p table fits) λ r q _ so.
       by-next s Request-fault (λ (gs : List ℕ) (e : ℕ). e ≡ q + 1 + length gs) Guarded-below (list-at literals (t .fluents) Limits.most-guards s q) _
       (list-held s Request-fault ends entry literals (t .fluents) Limits.most-guards q) λ gs e fits₂ long.
       pick-has Guarded-held _ _ _ (λ more. byte _ e refl (ltb-true _ _ more))

@@ -6,7 +6,7 @@ use mathlib.Core.Bool.{true}
 use mathlib.Core.List.{List}
 use Rattle.meaning.specs.Limits.{Limits}
 use Rattle.meaning.specs.Requests.{Sequence, done, item, Item, act, branching, Branches, none, branch, Request}
-use Rattle.meaning.specs.Reading.{Got, got, fault, next, read-request}
+use Rattle.meaning.specs.Reading.{Flags, Got, got, fault, next, read-request}
 use Rattle.meaning.specs.Refusals.{Found, nowhere, at, or-else, contradiction-in, mixed-in, all-exclusive, overlap-in, overlap-at, overlap-below, refuse, settled}
 use Rattle.meaning.proofs.TestLaws.{pick-cases}
 use Rattle.meaning.proofs.RefusalLaws.{at≢nowhere}
@@ -42,7 +42,7 @@ module _ {A B : Type 0} where
 
 -- What a settled request has passed.
 pub record Settled (lim : Limits) (b : List ℕ) (r : Request) (e : ℕ) : Type 0 where
-  pub reads : read-request lim b ≡ got r e
+  pub reads : read-request lim Flags b ≡ got r e
   pub no-contradiction : contradiction-in (r .table) ≡ nowhere
   pub not-mixed : mixed-in (r .table .effects) (r .table .knowledge) ≡ nowhere
   pub no-overlap : overlap-in (r .plan) ≡ nowhere
@@ -50,7 +50,7 @@ pub record Settled (lim : Limits) (b : List ℕ) (r : Request) (e : ℕ) : Type 
 pub settled-is : (lim : Limits) (b : List ℕ) (r : Request) (e : ℕ) → settled lim b ≡ got r e → Settled lim b r e
 unfolding settled
 settled-is lim b r e past =
-    let n = next-got (read-request lim b) _ past in
+    let n = next-got (read-request lim Flags b) _ past in
     let u = refuse-got _ _ _ (n .3) in
     let v = refuse-got _ _ _ (u .1) in
     let w = refuse-got _ _ _ (v .1) in

@@ -9,7 +9,7 @@ use Rattle.meaning.specs.Limits.{Limits}
 use Rattle.meaning.specs.Literals.{complement, exclusive}
 use Rattle.meaning.specs.Requests.{Effect, Executability, Knowledge, Table, Sequence, done, item, Item, act, branching, Branches, none, branch, Request}
 use Rattle.meaning.specs.Lines.{executability-of}
-use Rattle.meaning.specs.Reading.{Got, got, fault, next, read-request}
+use Rattle.meaning.specs.Reading.{Flags, Got, got, fault, next, read-request}
 
 -- The place of the first thing sought, or none.
 pub data Found : Type 0 where
@@ -91,4 +91,4 @@ past-refusals r whole =
 
 -- A request settled: read without a fault, and past the three (FORMAT 5.1).
 unfoldable pub settled : Limits → List ℕ → Got Request
-settled lim s = next (read-request lim s) λ r e. past-refusals r (got r e)
+settled lim s = next (read-request lim Flags s) λ r e. past-refusals r (got r e)

@@ -13,7 +13,7 @@ use Rattle.meaning.proofs.TestLaws.{pick-true, pick-false}
 use Rattle.meaning.proofs.SettledLaws.{got-same}
 use Rattle.meaning.specs.Limits.{format}
 use Rattle.meaning.specs.Requests.{Table, Request}
-use Rattle.meaning.specs.Reading.{Got, got, fault, next, literals, fluents, count-at, list-at, section-at, effect-at, executability-at, knowledge-at, plan-at, placed, table-at, request-at, read-request}
+use Rattle.meaning.specs.Reading.{Flags, Got, got, fault, next, literals, fluents, count-at, list-at, section-at, effect-at, executability-at, knowledge-at, plan-at, placed, table-at, request-at, read-request}
 use Rattle.meaning.specs.Guards.{Guarded-request, read-guarded}
 use Rattle.meaning.proofs.RangeLaws.{not-refused, after-got, count-within}
 use Rattle.bytes.specs.declared.lists.Kind.the-variants.{Literals}
@@ -36,14 +36,14 @@ pub record Front (s : List ℕ) (p : ℕ) (x : Table) : Type 0 where
   pub most : x .fluents ≤ format .fluents
   pub few : x .actions ≤ format .actions
 
-pub front : (s : List ℕ) (p : ℕ) (x : Table) (e : ℕ) → table-at format s p ≡ got x e → Front s p x
+pub front : (s : List ℕ) (p : ℕ) (x : Table) (e : ℕ) → table-at format Flags s p ≡ got x e → Front s p x
 unfolding table-at
 front s p x e is =
     after-got (count-at 1 (format .fluents) s p) _ is λ n q en e₁.
     after-got (count-at 1 (format .actions) s q) _ e₁ λ m r em e₂.
     after-got (list-at literals n (format .listed) s r) _ e₂ λ facts i _ e₃.
-    after-got (section-at (effect-at format n m s) s i) _ e₃ λ es j _ e₄.
-    after-got (section-at (executability-at format n m s) s j) _ e₄ λ xs k _ e₅.
+    after-got (section-at (effect-at format Flags n m s) s i) _ e₃ λ es j _ e₄.
+    after-got (section-at (executability-at format Flags n m s) s j) _ e₄ λ xs k _ e₅.
     after-got (section-at (knowledge-at format n m s) s k) _ e₅ λ ks l _ e₆.
     let same = got-same e₆ in
     let first = count-got 1 (format .fluents) s p n q en in
@@ -57,14 +57,14 @@ front s p x e is =
       few = subst (λ (y : ℕ). y ≤ format .actions) (ap (λ (y : Table). y .actions) same) (count-within 1 (format .actions) s q m r em);
     }
 
-module _ (s : List ℕ) (p : ℕ) (t u : List ℕ) (first : Passed) (read : outcome first u ≡ noting table-noted (table-at format s p) t) where
+module _ (s : List ℕ) (p : ℕ) (t u : List ℕ) (first : Passed) (read : outcome first u ≡ noting table-noted (table-at format Flags s p) t) where
   pub sections-fault : (k q : ℕ) (v : List ℕ) → first ≡ Stop k q → outcome (Stop k q) v ≡ noting request-noted (sections-read s p) t
   unfolding sections-read noting next outcome
-  sections-fault k q v is = rw (noting-fault table-noted (table-at format s p) first t u read k q is)
+  sections-fault k q v is = rw (noting-fault table-noted (table-at format Flags s p) first t u read k q is)
 
   module _ (q : ℕ) (is : first ≡ To q) where
-    table-got : (x : Table) × (table-at format s p ≡ got x q) × (u ≡ table-noted x t)
-    table-got = noting-got table-noted (table-at format s p) first t u read q is
+    table-got : (x : Table) × (table-at format Flags s p ≡ got x q) × (u ≡ table-noted x t)
+    table-got = noting-got table-noted (table-at format Flags s p) first t u read q is
 
     stands-first : Front s p (table-got .0)
     stands-first = front s p (table-got .0) q (table-got .1)
@@ -134,10 +134,10 @@ record Behind (s : List ℕ) (x : Table) (y : Request) (q : ℕ) : Type 0 where
   pub ends : q ≡ guards-place y
   pub inside : q ≤ length s
 
-behind : (s : List ℕ) (x : Table) (p : ℕ) (y : Request) (q : ℕ) → request-at format s x p ≡ got y q → Behind s x y q
+behind : (s : List ℕ) (x : Table) (p : ℕ) (y : Request) (q : ℕ) → request-at format Flags s x p ≡ got y q → Behind s x y q
 unfolding request-at guards-place
 behind s x p y q is =
-    after-got (plan-at format (x .fluents) (x .actions) s p) _ is λ plan i _ e₁.
+    after-got (plan-at format Flags (x .fluents) (x .actions) s p) _ is λ plan i _ e₁.
     after-got (list-at literals (x .fluents) (format .listed) s i) _ e₁ λ goals j _ e₂.
     after-got (list-at fluents (x .fluents) (format .listed) s j) _ e₂ λ whether k e e₃.
     let through = list-through s fluents (x .fluents) (format .listed) j .holds whether k e in
@@ -149,20 +149,20 @@ behind s x p y q is =
 
 pub record Parts (s : List ℕ) (x : Request) (e : ℕ) : Type 0 where
   pub place : ℕ
-  pub table-read : table-at format s 0 ≡ got (x .table) place
-  pub tail-read : request-at format s (x .table) place ≡ got x e
+  pub table-read : table-at format Flags s 0 ≡ got (x .table) place
+  pub tail-read : request-at format Flags s (x .table) place ≡ got x e
   pub ends : e ≡ guards-place x
   pub inside : e ≤ length s
 
 pub parts : (s : List ℕ) (x : Request) (e : ℕ) → sections-read s 0 ≡ got x e → Parts s x e
 unfolding sections-read
 parts s x e is =
-    after-got (table-at format s 0) _ is λ t p et e₁.
+    after-got (table-at format Flags s 0) _ is λ t p et e₁.
     let so = behind s t p x e e₁ in
     record {
       place = p;
       table-read = et ∙ ap (λ (z : Table). got z p) (sym (so .table));
-      tail-read = ap (λ (z : Table). request-at format s z p) (so .table) ∙ e₁;
+      tail-read = ap (λ (z : Table). request-at format Flags s z p) (so .table) ∙ e₁;
       ends = so .ends;
       inside = so .inside;
     }
@@ -170,7 +170,7 @@ parts s x e is =
 -- A REQUEST, with guards or without. Within the limit the eight sections are read first.
 module _ (s : List ℕ) where
   abbrev limited : {A : Type 0} → (Table → Request → ℕ → Got A) → Got A
-  limited k = pick (ltb (format .request) (length s)) (λ _. fault 10 0) λ _. next (table-at format s 0) λ x p. next (request-at format s x p) λ r e. k x r e
+  limited k = pick (ltb (format .request) (length s)) (λ _. fault 10 0) λ _. next (table-at format Flags s 0) λ x p. next (request-at format Flags s x p) λ r e. k x r e
 
   module _ {A : Type 0} (k : Table → Request → ℕ → Got A) where
     beyond-limit : format .request < length s → limited k ≡ fault 10 0
@@ -180,8 +180,8 @@ module _ (s : List ℕ) where
     unfolding sections-read
     within-limit room =
         pick-false _ _ _ (le-ltb _ _ room)
-        ∙ next-same (table-at format s 0) (λ x p. next-where (request-at format s x p) (λ r e is. ap (λ (z : Table). k z r e) (sym (behind s x p r e is .table))))
-        ∙ sym (next-next (table-at format s 0) _ _)
+        ∙ next-same (table-at format Flags s 0) (λ x p. next-where (request-at format Flags s x p) (λ r e is. ap (λ (z : Table). k z r e) (sym (behind s x p r e is .table))))
+        ∙ sym (next-next (table-at format Flags s 0) _ _)
 
   -- What is left to read behind them.
   abbrev rest-plain : Request → ℕ → Got Request
@@ -191,7 +191,7 @@ module _ (s : List ℕ) where
   rest-guarded n r q = next (list-at literals n 64 s q) λ guards e. pick (ltb e (length s)) (λ _. fault 20 e) (λ _. got (record { request = r; guards = placed (q + 1) guards }) e)
 
   module _ (t u : List ℕ) where
-    pub request-long : format .request < length s → outcome (Stop 10 0) u ≡ noting request-noted (read-request format s) t
+    pub request-long : format .request < length s → outcome (Stop 10 0) u ≡ noting request-noted (read-request format Flags s) t
     unfolding read-request outcome noting next
     request-long h = rw (beyond-limit (λ _. rest-plain) h)
 
@@ -200,7 +200,7 @@ module _ (s : List ℕ) where
     guarded-long h = rw (beyond-limit (λ x. rest-guarded (x .fluents)) h)
 
   module _ (room : length s ≤ format .request) where
-    plain-within : read-request format s ≡ next (sections-read s 0) rest-plain
+    plain-within : read-request format Flags s ≡ next (sections-read s 0) rest-plain
     unfolding read-request
     plain-within = within-limit (λ _. rest-plain) room
 
@@ -209,7 +209,7 @@ module _ (s : List ℕ) where
     guarded-within = within-limit (λ x. rest-guarded (x .fluents)) room
 
     module _ (t u : List ℕ) (all : Passed) (read : outcome all u ≡ noting request-noted (sections-read s 0) t) where
-      pub request-fault : (k q : ℕ) (v : List ℕ) → all ≡ Stop k q → outcome (Stop k q) v ≡ noting request-noted (read-request format s) t
+      pub request-fault : (k q : ℕ) (v : List ℕ) → all ≡ Stop k q → outcome (Stop k q) v ≡ noting request-noted (read-request format Flags s) t
       unfolding noting next outcome
       request-fault k q v is = rw (plain-within, noting-fault request-noted (sections-read s 0) all t u read k q is)
 
@@ -240,7 +240,7 @@ module _ (s : List ℕ) where
         pub first-most : getD s 0 0 ≤ format .fluents
         first-most = rw (first-two .fluents-are) (first-two .most)
 
-        pub request-there : (r : Passed) → r ≡ passed (up-to s e) → outcome r u ≡ noting request-noted (read-request format s) t
+        pub request-there : (r : Passed) → r ≡ passed (up-to s e) → outcome r u ≡ noting request-noted (read-request format Flags s) t
         unfolding noting next up-to
         request-there r h =
             ap (λ (y : Passed). outcome y u) h
@@ -263,7 +263,7 @@ module _ (s : List ℕ) where
 
 -- WHAT WAS READ of a whole request, without guards and with them.
 module _ (s : List ℕ) where
-  pub plain-read : (x : Request) (e : ℕ) → read-request format s ≡ got x e → (length s ≤ format .request) × (sections-read s 0 ≡ got x e)
+  pub plain-read : (x : Request) (e : ℕ) → read-request format Flags s ≡ got x e → (length s ≤ format .request) × (sections-read s 0 ≡ got x e)
   unfolding read-request
   plain-read x e is =
       let short = ltb-false _ _ (not-refused _ _ _ _ is .0) in

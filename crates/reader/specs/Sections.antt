@@ -7,12 +7,12 @@ use Rattle.meaning.specs.Tests.{pick}
 use Rattle.meaning.specs.Limits
 use Rattle.meaning.specs.Limits.{format}
 use Rattle.meaning.specs.Requests.{Request}
-use Rattle.meaning.specs.Reading.{Got, got, fault, next, literals, list-at, table-at, request-at}
+use Rattle.meaning.specs.Reading.{Flags, Got, got, fault, next, literals, list-at, table-at, request-at}
 use Rattle.reading.specs.Noted.{guards-slot}
 
 -- Whatever their length and whatever follows (FORMAT 2.11).
 unfoldable pub sections-read : List ℕ → ℕ → Got Request
-sections-read s p = next (table-at format s p) λ x q. request-at format s x q
+sections-read s p = next (table-at format Flags s p) λ x q. request-at format Flags s x q
 
 -- Nothing stands behind e (FORMAT 5.15).
 unfoldable pub up-to : List ℕ → ℕ → Got (Unit {0})

@@ -2,7 +2,7 @@ ghost use mathlib.Core.Path.{_≡_};
 ghost use Prim.Native.Nat.{_≤_, _<_};
 ghost use lib.ListN.{length, getD};
 ghost use Rattle.meaning.specs.Limits.{format};
-ghost use Rattle.meaning.specs.Reading.{read-request};
+ghost use Rattle.meaning.specs.Reading.{Flags, read-request};
 ghost use Rattle.meaning.specs.Guards.{read-guarded};
 ghost use Rattle.bytes.specs.Read.{passed};
 ghost use Rattle.reading.specs.Noted.{noting, outcome};
@@ -96,7 +96,7 @@ pub fn read_guarded(s: &[u8], t: &mut Notes) -> Passed
 
 // A request: at most the limit, all eight sections, and nothing after them.
 pub fn read_request(s: &[u8], t: &mut Notes) -> Passed
-    ensures { λ r. ⌜ outcome r (now (t .exit)) ≡ noting request-noted (read-request format (now (s .entry))) (now (t .entry)) ⌝ }
+    ensures { λ r. ⌜ outcome r (now (t .exit)) ≡ noting request-noted (read-request format Flags (now (s .entry))) (now (t .entry)) ⌝ }
 {
     if limits::REQUEST < s.len() {
         return Passed::Fault(limits::TOO_LONG, 0);

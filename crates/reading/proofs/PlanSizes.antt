@@ -9,7 +9,7 @@ use borrow.Author.Tests.{leb-false}
 use Rattle.meaning.specs.Limits.{format}
 use Rattle.meaning.specs.Requests.{Item}
 use Rattle.meaning.specs.Reading
-use Rattle.meaning.specs.Reading.{Got, byte-at, two-bytes-at, count-at, list-at, body-at, item-at, sequence-at, branching-at}
+use Rattle.meaning.specs.Reading.{Flags, Got, byte-at, two-bytes-at, count-at, list-at, body-at, item-at, sequence-at, branching-at}
 use Rattle.meaning.proofs.GotLaws.{On, Held, held-got}
 use Rattle.meaning.proofs.PlaceLaws.{byte-held, two-bytes-held, count-held, list-held}
 use Rattle.meaning.proofs.PlanReads.{Said, Passed-on, item-on, sequence-on}
@@ -44,7 +44,7 @@ module _ (s : List ℕ) where
             record { after = omega arith; inside = h .inside };
       }
 
-  pub body-through : (n p : ℕ) → On (body-at format n s p) (λ c q. Through s p (1 + length c) q)
+  pub body-through : (n p : ℕ) → On (body-at format Flags n s p) (λ c q. Through s p (1 + length c) q)
   unfolding body-at
   body-through n p = list-through Reading.Kind.literals n 16 p
 
@@ -106,9 +106,9 @@ module _ (n m : ℕ) (s : List ℕ) where
   }
 
   -- With a given number of branchings one inside another.
-  pub item-read : (deep p met : ℕ) → On (item-at format n m s (branching-at format n m s deep) p met) (λ x q. ItemRead s p met (x .value) (x .items) q)
+  pub item-read : (deep p met : ℕ) → On (item-at format Flags n m s (branching-at format Flags n m s deep) p met) (λ x q. ItemRead s p met (x .value) (x .items) q)
   item-read = item-on format n m s plan-sized sizes-passed
 
   pub sequence-read : (deep p met : ℕ) → met ≤ format .items
-      → On (sequence-at format n m s (branching-at format n m s deep) p met) (λ x q. Counted s p met (items-of (x .value)) (2 + bytes-of (x .value)) (x .items) q)
+      → On (sequence-at format Flags n m s (branching-at format Flags n m s deep) p met) (λ x q. Counted s p met (items-of (x .value)) (2 + bytes-of (x .value)) (x .items) q)
   sequence-read deep p met few = record { holds = λ x q e. sequence-on format n m s plan-sized sizes-passed deep p met .holds x q e few }

@@ -6,7 +6,7 @@ use mathlib.Core.List.{List, [], _∷_}
 use lib.ListN.{length, set}
 use Rattle.meaning.specs.Limits.{format}
 use Rattle.meaning.specs.Requests.{Table, Sequence, Request}
-use Rattle.meaning.specs.Reading.{Got, got, fault, next, literals, fluents, plan-at, count-at, list-at, section-at, effect-at, executability-at, knowledge-at, table-at, request-at, placed, Met}
+use Rattle.meaning.specs.Reading.{Flags, Got, got, fault, next, literals, fluents, plan-at, count-at, list-at, section-at, effect-at, executability-at, knowledge-at, table-at, request-at, placed, Met}
 use Rattle.meaning.proofs.RangeLaws.{count-within}
 use Rattle.bytes.specs.declared.bytes.Read.{Read}
 use Rattle.bytes.specs.declared.bytes.Read.the-variants.{Value, Fault}
@@ -50,8 +50,8 @@ module _ (n m : ℕ) (s : List ℕ) (p : ℕ) (t : List ℕ) (facts : Passed) (r
 after-fluents : (n : ℕ) (s : List ℕ) (p : ℕ) (t : List ℕ) → actions-first n s p t ≡ next (
     next (count-at 1 (format .actions) s p) λ m q.
     next (list-at literals n (format .listed) s q) λ facts r.
-    next (section-at (effect-at format n m s) s r) λ es u.
-    next (section-at (executability-at format n m s) s u) λ xs v.
+    next (section-at (effect-at format Flags n m s) s r) λ es u.
+    next (section-at (executability-at format Flags n m s) s u) λ xs v.
     next (section-at (knowledge-at format n m s) s v) λ ks e.
     got (record { fluents = n; actions = m; facts = facts; effects = es; executability = xs; knowledge = ks }) e
     ) (λ x e. got (table-noted x t) e)
@@ -59,10 +59,10 @@ unfolding actions-first facts-first three-sections table-noted line-at next
 after-fluents n s p t =
     next-same (count-at 1 (format .actions) s p) (λ m q.
     next-same (list-at literals n (format .listed) s q) (λ facts r.
-    next-same (section-at (effect-at format n m s) s r) (λ es u.
-    next-same (section-at (executability-at format n m s) s u) (λ xs v. sym (next-next (section-at (knowledge-at format n m s) s v) _ _))
-    ∙ sym (next-next (section-at (executability-at format n m s) s u) _ _))
-    ∙ sym (next-next (section-at (effect-at format n m s) s r) _ _))
+    next-same (section-at (effect-at format Flags n m s) s r) (λ es u.
+    next-same (section-at (executability-at format Flags n m s) s u) (λ xs v. sym (next-next (section-at (knowledge-at format n m s) s v) _ _))
+    ∙ sym (next-next (section-at (executability-at format Flags n m s) s u) _ _))
+    ∙ sym (next-next (section-at (effect-at format Flags n m s) s r) _ _))
     ∙ sym (next-next (list-at literals n (format .listed) s q) _ _))
     ∙ sym (next-next (count-at 1 (format .actions) s p) _ _)
 
@@ -81,11 +81,11 @@ module _ (n : ℕ) (s : List ℕ) (p : ℕ) (t : List ℕ) (count : Read) (read 
 
 -- The fluents' count.
 module _ (s : List ℕ) (p : ℕ) (t : List ℕ) (count : Read) (read : count ≡ number-read (count-at 1 (format .fluents) s p)) where
-  pub fluents-fault : (k q : ℕ) (v : List ℕ) → count ≡ Fault k q → outcome (Stop k q) v ≡ noting table-noted (table-at format s p) t
+  pub fluents-fault : (k q : ℕ) (v : List ℕ) → count ≡ Fault k q → outcome (Stop k q) v ≡ noting table-noted (table-at format Flags s p) t
   unfolding table-at noting next outcome
   fluents-fault k q v is = rw (read-fault (count-at 1 (format .fluents) s p) count k q read is)
 
-  pub fluents-there : (n q : ℕ) (r : Passed) (w : List ℕ) → count ≡ Value n q → outcome r w ≡ actions-first n s q t → outcome r w ≡ noting table-noted (table-at format s p) t
+  pub fluents-there : (n q : ℕ) (r : Passed) (w : List ℕ) → count ≡ Value n q → outcome r w ≡ actions-first n s q t → outcome r w ≡ noting table-noted (table-at format Flags s p) t
   unfolding table-at noting next
   fluents-there n q r w is e = rw (read-value (count-at 1 (format .fluents) s p) count n q read is) (e ∙ after-fluents n s q t)
 
@@ -114,15 +114,15 @@ module _ (n : ℕ) (s : List ℕ) (plan items p : ℕ) (t : List ℕ) (goals : P
       (ap (λ (x : Passed). outcome x z) last ∙ passed-outcome (list-at fluents n (format .listed) s q) z ∙ ap (λ (x : List ℕ). next (list-at fluents n (format .listed) s q) (λ _ e. got x e)) noted)
 
 -- SECTIONS 6 TO 8.
-module _ (n m : ℕ) (s : List ℕ) (p : ℕ) (t u : List ℕ) (plan : Read) (read : outcome-met plan u ≡ noting-met (plan-noted p t) (plan-at format n m s p)) where
+module _ (n m : ℕ) (s : List ℕ) (p : ℕ) (t u : List ℕ) (plan : Read) (read : outcome-met plan u ≡ noting-met (plan-noted p t) (plan-at format Flags n m s p)) where
   pub plan-fault : (k q : ℕ) (v : List ℕ) → plan ≡ Fault k q → outcome (Stop k q) v ≡ plan-first n m s p t
   unfolding plan-first next outcome
   plan-fault k q v is =
-      rw (fault-met (plan-noted p t) (plan-at format n m s p) k q (met-fault (plan-noted p t) (plan-at format n m s p) plan u k q read is))
+      rw (fault-met (plan-noted p t) (plan-at format Flags n m s p) k q (met-fault (plan-noted p t) (plan-at format Flags n m s p) plan u k q read is))
 
   module _ (items q : ℕ) (is : plan ≡ Value items q) where
-    plan-got : (x : Sequence ℕ) × (plan-at format n m s p ≡ got (with-items x items) q) × (u ≡ plan-noted p t x)
-    plan-got = met-value (plan-noted p t) (plan-at format n m s p) plan u items q read is
+    plan-got : (x : Sequence ℕ) × (plan-at format Flags n m s p ≡ got (with-items x items) q) × (u ≡ plan-noted p t x)
+    plan-got = met-value (plan-noted p t) (plan-at format Flags n m s p) plan u items q read is
 
     plan-counted : Counted s p 0 (items-of (plan-got .0)) (2 + bytes-of (plan-got .0)) items q
     unfolding plan-at
@@ -158,18 +158,18 @@ module _ (s : List ℕ) (x : Table) (p : ℕ) where
   request-of plan q goals r whether = record { table = x; plan = plan .value; goals = placed (q + 1) goals; whether = placed (r + 1) whether; whether-place = r }
 
   -- What comes after sections 6 to 8.
-  request-then : {B : Type 0} (h : Request → ℕ → Got B) → next (request-at format s x p) h ≡ next (plan-at format (x .fluents) (x .actions) s p) λ plan q.
+  request-then : {B : Type 0} (h : Request → ℕ → Got B) → next (request-at format Flags s x p) h ≡ next (plan-at format Flags (x .fluents) (x .actions) s p) λ plan q.
       next (list-at literals (x .fluents) (format .listed) s q) λ goals r.
       next (list-at fluents (x .fluents) (format .listed) s r) λ whether e.
       h (request-of plan q goals r whether) e
   unfolding request-at next
   request-then h =
-      next-next (plan-at format (x .fluents) (x .actions) s p) _ _
-      ∙ next-same (plan-at format (x .fluents) (x .actions) s p) (λ plan q.
+      next-next (plan-at format Flags (x .fluents) (x .actions) s p) _ _
+      ∙ next-same (plan-at format Flags (x .fluents) (x .actions) s p) (λ plan q.
       next-next (list-at literals (x .fluents) (format .listed) s q) _ _
       ∙ next-same (list-at literals (x .fluents) (format .listed) s q) (λ goals r. next-next (list-at fluents (x .fluents) (format .listed) s r) _ _))
 
-  places-same : (t : List ℕ) (plan : Met (Sequence ℕ)) (q : ℕ) → plan-at format (x .fluents) (x .actions) s p ≡ got plan q
+  places-same : (t : List ℕ) (plan : Met (Sequence ℕ)) (q : ℕ) → plan-at format Flags (x .fluents) (x .actions) s p ≡ got plan q
       → (goals : List ℕ) (r : ℕ) → list-at literals (x .fluents) (format .listed) s q ≡ got goals r → (whether : List ℕ)
       → places-noted p (plan .items) q 0 (plan-noted p t (plan .value)) ≡ tail-noted (request-of plan q goals r whether) t
   unfolding plan-at tail-with goals-place plan-place
@@ -185,15 +185,15 @@ module _ (s : List ℕ) (x : Table) (p : ℕ) where
       rw (placed-length (q + 1) goals, goals-at, plan-stands, items-are)
 
   -- Over any notes, and over those of the table.
-  pub tail-whole : (t : List ℕ) → plan-first (x .fluents) (x .actions) s p t ≡ noting tail-noted (request-at format s x p) t
+  pub tail-whole : (t : List ℕ) → plan-first (x .fluents) (x .actions) s p t ≡ noting tail-noted (request-at format Flags s x p) t
   unfolding plan-first goals-first noting
   tail-whole t =
-      next-where (plan-at format (x .fluents) (x .actions) s p) (λ plan q e.
+      next-where (plan-at format Flags (x .fluents) (x .actions) s p) (λ plan q e.
       next-where (list-at literals (x .fluents) (format .listed) s q) (λ goals r eg.
       next-where (list-at fluents (x .fluents) (format .listed) s r) (λ whether i _. ap (λ (u : List ℕ). got u i) (places-same t plan q e goals r eg whether))))
       ∙ sym (request-then (λ y e. got (tail-noted y t) e))
 
-  pub plan-whole : (t : List ℕ) → plan-first (x .fluents) (x .actions) s p (table-noted x t) ≡ noting request-noted (request-at format s x p) t
+  pub plan-whole : (t : List ℕ) → plan-first (x .fluents) (x .actions) s p (table-noted x t) ≡ noting request-noted (request-at format Flags s x p) t
   unfolding noting request-with
   plan-whole t =
       tail-whole (table-noted x t)

@@ -10,7 +10,7 @@ use mir.Val.{Fits}
 use borrow.Author.Tests.{leb-false}
 use Rattle.meaning.specs.Limits.{format}
 use Rattle.meaning.specs.Requests.{Effect, Executability, Knowledge}
-use Rattle.meaning.specs.Reading.{Got, got, fault, next, byte-at, count-at, below-at, list-at, body-at, effect-at, executability-at, knowledge-at, repeated, section-at}
+use Rattle.meaning.specs.Reading.{Flags, Got, got, fault, next, byte-at, count-at, below-at, list-at, body-at, effect-at, executability-at, knowledge-at, repeated, section-at}
 use Rattle.meaning.proofs.SettledLaws.{got-same, next-got, fault≢got}
 use Rattle.meaning.proofs.RangeLaws.{not-refused, after-got, repeated-length}
 pub use Rattle.meaning.proofs.RangeLaws.{got-place, byte-got}
@@ -26,11 +26,11 @@ use Rattle.reading.specs.Noted.{Section, effects, executability, knowled
 
 -- ONE OF THE THREE SECTIONS.
 module _ (c : Code.Section) (n m : ℕ) (s : List ℕ) (p : ℕ) (r : Read) where
-  pub line-effect : c ≡ Effects → r ≡ effect-read (effect-at format n m s p) → r ≡ line-read (section-of c) (line-at (section-of c) n m s p)
+  pub line-effect : c ≡ Effects → r ≡ effect-read (effect-at format Flags n m s p) → r ≡ line-read (section-of c) (line-at (section-of c) n m s p)
   unfolding line-read line-at section-of
   line-effect e h = rw e h
 
-  pub line-executability : c ≡ Runs → r ≡ executability-read (executability-at format n m s p) → r ≡ line-read (section-of c) (line-at (section-of c) n m s p)
+  pub line-executability : c ≡ Runs → r ≡ executability-read (executability-at format Flags n m s p) → r ≡ line-read (section-of c) (line-at (section-of c) n m s p)
   unfolding line-read line-at section-of
   line-executability e h = rw e h
 
@@ -114,12 +114,12 @@ senses-not {X = X} h e = ⊎-elim (λ f. absurd (subst Other (sym e ∙ f) tt)) 
     Other knowledge = Unit {0}
 
 module _ (n m : ℕ) (s : List ℕ) where
-  effect-stands : (p a q : ℕ) (x : Effect) → effect-at format n m s p ≡ got x q → x .action ≡ a → Stands effects n m s p a x
+  effect-stands : (p a q : ℕ) (x : Effect) → effect-at format Flags n m s p ≡ got x q → x .action ≡ a → Stands effects n m s p a x
   unfolding effect-at action-in note-line line-noted
   effect-stands p a q x e same =
       after-got (below-at m s p) _ e λ b i eb e′.
       after-got (below-at (2 * n) s i) _ e′ λ l j el e″.
-      after-got (body-at format n s j) _ e″ λ bs r _ e‴.
+      after-got (body-at format Flags n s j) _ e″ λ bs r _ e‴.
       let is : record { place = p; action = b; literal = l; body = bs } ≡ x = got-same e‴ in
       let first = number-got m s p b i eb in
       let then = number-got (2 * n) s i l j el in
@@ -132,11 +132,11 @@ module _ (n m : ℕ) (s : List ℕ) where
         notes = λ last k t. rw (sym (ap (λ (y : Effect). y .place) is), same);
       }
 
-  executability-stands : (p a q : ℕ) (x : Executability) → executability-at format n m s p ≡ got x q → x .action ≡ a → Stands executability n m s p a x
+  executability-stands : (p a q : ℕ) (x : Executability) → executability-at format Flags n m s p ≡ got x q → x .action ≡ a → Stands executability n m s p a x
   unfolding executability-at action-in note-line line-noted body-at list-at count-at
   executability-stands p a q x e same =
       after-got (below-at m s p) _ e λ b i eb e′.
-      after-got (body-at format n s i) _ e′ λ bs r ebs e″.
+      after-got (body-at format Flags n s i) _ e′ λ bs r ebs e″.
       after-got (count-at 0 (format .body) s i) _ ebs λ d j ed _.
       after-got (byte-at s i) _ ed λ d′ j′ ed′ _.
       let is : record { place = p; action = b; body = bs } ≡ x = got-same e″ in
@@ -171,10 +171,10 @@ module _ (n m : ℕ) (s : List ℕ) where
   stands : (c : Section) (p a q : ℕ) → line-read c (line-at c n m s p) ≡ Value a q → (l : Line c) × (line-at c n m s p ≡ got l q) × Stands c n m s p a l
   unfolding line-read line-at effect-read executability-read knowledge-read
   stands effects p a q e =
-      let w = got-by (λ (x : Effect). x .action) effect-read (λ x i. refl) (λ k i. refl) (effect-at format n m s p) a q e in
+      let w = got-by (λ (x : Effect). x .action) effect-read (λ x i. refl) (λ k i. refl) (effect-at format Flags n m s p) a q e in
       (w .0, w .1, effect-stands p a q (w .0) (w .1) (w .2))
   stands executability p a q e =
-      let w = got-by (λ (x : Executability). x .action) executability-read (λ x i. refl) (λ k i. refl) (executability-at format n m s p) a q e in
+      let w = got-by (λ (x : Executability). x .action) executability-read (λ x i. refl) (λ k i. refl) (executability-at format Flags n m s p) a q e in
       (w .0, w .1, executability-stands p a q (w .0) (w .1) (w .2))
   stands knowledge p a q e =
       let w = got-by (λ (x : Knowledge). x .action) knowledge-read (λ x i. refl) (λ k i. refl) (knowledge-at format n m s p) a q e in
@@ -182,8 +182,8 @@ module _ (n m : ℕ) (s : List ℕ) where
 
   stops : (c : Section) (p k q : ℕ) → line-read c (line-at c n m s p) ≡ Fault k q → line-at c n m s p ≡ fault k q
   unfolding line-read line-at effect-read executability-read knowledge-read
-  stops effects p k q e = fault-by (λ (x : Effect). x .action) effect-read (λ x i. refl) (λ k i. refl) (effect-at format n m s p) k q e
-  stops executability p k q e = fault-by (λ (x : Executability). x .action) executability-read (λ x i. refl) (λ k i. refl) (executability-at format n m s p) k q e
+  stops effects p k q e = fault-by (λ (x : Effect). x .action) effect-read (λ x i. refl) (λ k i. refl) (effect-at format Flags n m s p) k q e
+  stops executability p k q e = fault-by (λ (x : Executability). x .action) executability-read (λ x i. refl) (λ k i. refl) (executability-at format Flags n m s p) k q e
   stops knowledge p k q e = fault-by (λ (x : Knowledge). x .action) knowledge-read (λ x i. refl) (λ k i. refl) (knowledge-at format n m s p) k q e
 
 -- THE LOOP. What is noted of a given number of lines from place p on, the first of which has number k + 1.

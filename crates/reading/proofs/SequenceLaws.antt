@@ -7,7 +7,7 @@ use mathlib.Core.List.{List}
 use lib.ListN.{set}
 use Rattle.meaning.specs.Limits.{format}
 use Rattle.meaning.specs.Requests.{Sequence, item, Item}
-use Rattle.meaning.specs.Reading.{Got, got, fault, next, Met, Part, two-bytes-at, item-at, items-at, sequence-at, branching-at, plan-at}
+use Rattle.meaning.specs.Reading.{Flags, Got, got, fault, next, Met, Part, two-bytes-at, item-at, items-at, sequence-at, branching-at, plan-at}
 use Rattle.meaning.proofs.SettledLaws.{got-same}
 use Rattle.meaning.proofs.RangeLaws.{after-got}
 use Rattle.bytes.specs.declared.bytes.Read.{Read}
@@ -21,14 +21,14 @@ use Rattle.reading.proofs.NotingLaws.{Going, after-last, after-other, f
 
 module _ (n m deep up : ℕ) (s : List ℕ) where
   abbrev one-item : Part (Item ℕ)
-  one-item = item-at format n m s (branching-at format n m s deep)
+  one-item = item-at format Flags n m s (branching-at format Flags n m s deep)
 
   abbrev pub sequence-whole : (start before : ℕ) → List ℕ → Got (Met (List ℕ))
-  sequence-whole start before t = noting-met (sequence-noted up before start t) (sequence-at format n m s (branching-at format n m s deep) start before)
+  sequence-whole start before t = noting-met (sequence-noted up before start t) (sequence-at format Flags n m s (branching-at format Flags n m s deep) start before)
 
   -- The rest of a sequence whose first item is `first`.
   abbrev pub sequence-rest : (first p met : ℕ) → List ℕ → ℕ → Got (Met (List ℕ))
-  sequence-rest first p met t left = noting-met (rest-noted up first met p t) (items-at format n m s one-item left p met)
+  sequence-rest first p met t left = noting-met (rest-noted up first met p t) (items-at format Flags n m s one-item left p met)
 
   module _ (start before : ℕ) (t : List ℕ) (count : Read) (read : count ≡ number-read (two-bytes-at s start)) where
     pub sequence-fault : (k q : ℕ) (u : List ℕ) → count ≡ Fault k q → outcome-met (Fault k q) u ≡ sequence-whole start before t
@@ -46,12 +46,12 @@ module _ (n m deep up : ℕ) (s : List ℕ) where
         record { same = sequence-opened c q given (sym (two .after)); inside = two .inside; most = h }
 
   -- What follows an item is known by how many are left.
-  followed : (left e more k : ℕ) (x : Met (Sequence ℕ)) (q : ℕ) → items-at format n m s one-item left e more ≡ got x q → following up k (x .value) ≡ number-after (suc left) k up
+  followed : (left e more k : ℕ) (x : Met (Sequence ℕ)) (q : ℕ) → items-at format Flags n m s one-item left e more ≡ got x q → following up k (x .value) ≡ number-after (suc left) k up
   unfolding items-at following
   followed zero e more k x q is = subst (λ (y : Met (Sequence ℕ)). following up k (y .value) ≡ number-after 1 k up) (got-same is) (after-last 1 k up refl)
   followed (suc left) e more k x q is =
       after-got (one-item e more) _ is λ i r _ is′.
-      after-got (items-at format n m s one-item left r (i .items)) _ is′ λ rest z _ is″.
+      after-got (items-at format Flags n m s one-item left r (i .items)) _ is′ λ rest z _ is″.
       subst (λ (y : Met (Sequence ℕ)). following up k (y .value) ≡ number-after (suc (suc left)) k up) (got-same is″) (after-other (suc (suc left)) k up (λ g. omega arith))
 
   -- One item, and the rest from where it ends.
@@ -62,8 +62,8 @@ module _ (n m deep up : ℕ) (s : List ℕ) where
       let read = item-read n m s deep p met .holds (with-items i more) e given in
       let counted : met + items-in i ≡ more = sym (read .sized .counted) in
       let end : p + bytes-in i ≡ e = sym (read .sized .through .after) in
-      rw given (noting-built (rest-noted up first met p t) (item i) (items-at format n m s one-item left e more)
-      ∙ noting-same (λ rest. rest-noted up first met p t (item i rest)) (rest-noted up first more e v) (items-at format n m s one-item left e more)
+      rw given (noting-built (rest-noted up first met p t) (item i) (items-at format Flags n m s one-item left e more)
+      ∙ noting-same (λ rest. rest-noted up first met p t (item i rest)) (rest-noted up first more e v) (items-at format Flags n m s one-item left e more)
       (λ x q is. rw (counted, end, noted, followed left e more more x q is) refl))
 
   module _ (whole : Got (Met (List ℕ))) (first p met : ℕ) (t : List ℕ) where
@@ -104,7 +104,7 @@ module _ (n m deep up : ℕ) (s : List ℕ) where
 
 -- THE PLAN.
 pub plan-whole : (n m : ℕ) (s : List ℕ) (start : ℕ) (t : List ℕ) (r : Read) (u : List ℕ)
-    → outcome-met r u ≡ noting-met (sequence-noted (format .items) 0 start t) (sequence-at format n m s (branching-at format n m s 8) start 0)
-    → outcome-met r u ≡ noting-met (plan-noted start t) (plan-at format n m s start)
+    → outcome-met r u ≡ noting-met (sequence-noted (format .items) 0 start t) (sequence-at format Flags n m s (branching-at format Flags n m s 8) start 0)
+    → outcome-met r u ≡ noting-met (plan-noted start t) (plan-at format Flags n m s start)
 unfolding plan-noted plan-at
 plan-whole n m s start t r u e = e

@@ -7,7 +7,7 @@ use lib.Dec.{eqb, ltb}
 use Rattle.meaning.specs.Tests.{pick}
 use Rattle.meaning.specs.Limits.{format}
 use Rattle.meaning.specs.Requests.{Effect, Executability, Knowledge, Table}
-use Rattle.meaning.specs.Reading.{Got, got, fault, next, literals, count-at, list-at, effect-at, executability-at, knowledge-at, section-at}
+use Rattle.meaning.specs.Reading.{Flags, Got, got, fault, next, literals, count-at, list-at, effect-at, executability-at, knowledge-at, section-at}
 use Rattle.bytes.specs.declared.bytes.Read.{Read}
 use Rattle.bytes.specs.Read.{effect-read, executability-read, knowledge-read}
 use Rattle.reading.specs.Bits.{bit-of, with-bit}
@@ -158,8 +158,8 @@ Line executability = Executability
 Line knowledge = Knowledge
 
 unfoldable pub line-at : (c : Section) (n m : ℕ) → List ℕ → ℕ → Got (Line c)
-line-at effects n m s = effect-at format n m s
-line-at executability n m s = executability-at format n m s
+line-at effects n m s = effect-at format Flags n m s
+line-at executability n m s = executability-at format Flags n m s
 line-at knowledge n m s = knowledge-at format n m s
 
 unfoldable pub action-in : (c : Section) → Line c → ℕ

@@ -6,7 +6,7 @@ use lib.Dec.{eqb, ltb}
 use Rattle.meaning.specs.Tests.{pick}
 use Rattle.meaning.specs.Limits.{format}
 use Rattle.meaning.specs.Requests.{Sequence, done, item, Item, act, branching, Branches, none, branch}
-use Rattle.meaning.specs.Reading.{Got, got, fault, next, Met, body-at, sequence-at, branching-at}
+use Rattle.meaning.specs.Reading.{Flags, Got, got, fault, next, Met, body-at, sequence-at, branching-at}
 use Rattle.reading.specs.Noted.{item-place, item-next, branch-place, branch-item, around-from}
 use Rattle.bytes.specs.declared.bytes.Read.{Read}
 use Rattle.bytes.specs.declared.bytes.Read.the-variants.{Value, Fault}
@@ -99,5 +99,5 @@ outcome-met r t = elim r [ Value met p ↦ got (record { value = t; items = met 
 -- One branch: its condition and its sequence.
 unfoldable pub branch-noting : (n m deep up : ℕ) → List ℕ → (p met : ℕ) → List ℕ → Got (Met (List ℕ))
 branch-noting n m deep up s p met t =
-    next (body-at format n s p) λ c q.
-    noting-met (sequence-noted up met q t) (sequence-at format n m s (branching-at format n m s deep) q met)
+    next (body-at format Flags n s p) λ c q.
+    noting-met (sequence-noted up met q t) (sequence-at format Flags n m s (branching-at format Flags n m s deep) q met)

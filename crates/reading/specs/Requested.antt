@@ -4,7 +4,7 @@ use mathlib.Core.List.{List}
 use lib.ListN.{length, set}
 use Rattle.meaning.specs.Limits.{format}
 use Rattle.meaning.specs.Requests.{Request}
-use Rattle.meaning.specs.Reading.{Got, got, next, literals, fluents, list-at, plan-at}
+use Rattle.meaning.specs.Reading.{Flags, Got, got, next, literals, fluents, list-at, plan-at}
 use Rattle.meaning.specs.Guards.{Guarded-request}
 use Rattle.reading.specs.Noted.{plan-slot, items-slot, goals-slot, guards-slot, table-noted}
 use Rattle.reading.specs.Planned.{items-of, bytes-of, plan-noted}
@@ -50,5 +50,5 @@ goals-first n s plan items p t =
 
 unfoldable pub plan-first : (n m : ℕ) → List ℕ → ℕ → List ℕ → Got (List ℕ)
 plan-first n m s p t =
-    next (plan-at format n m s p) λ plan q.
+    next (plan-at format Flags n m s p) λ plan q.
     goals-first n s p (plan .items) q (plan-noted p t (plan .value))

@@ -2,7 +2,7 @@ ghost use mathlib.Core.Path.{_≡_};
 ghost use Prim.Native.Nat.{_+_, _*_, _≤_, _<_};
 ghost use lib.ListN.{length, set};
 ghost use Rattle.meaning.specs.Limits.{format};
-ghost use Rattle.meaning.specs.Reading.{item-at, sequence-at, branching-at, plan-at};
+ghost use Rattle.meaning.specs.Reading.{Flags, item-at, sequence-at, branching-at, plan-at};
 ghost use Rattle.reading.specs.Noted.{item-next};
 ghost use Rattle.reading.specs.Planned.{number-after, branch-noted, item-noted, inside-noted, sequence-noted, plan-noted, noting-met, outcome-met, branch-noting};
 use super::notes;
@@ -64,7 +64,7 @@ fn sequence_at(
     requires { ⌜ before ≤ format .items ⌝ }
     requires { ⌜ up ≤ 2 * format .items ⌝ }
     requires { ⌜ length (now s) ≤ format .derivation ⌝ }
-    ensures { λ r. ⌜ outcome-met r (now (t .exit)) ≡ noting-met (sequence-noted up before start (now (t .entry))) (sequence-at format n m (now (s .entry)) (branching-at format n m (now (s .entry)) deep) start before) ⌝ }
+    ensures { λ r. ⌜ outcome-met r (now (t .exit)) ≡ noting-met (sequence-noted up before start (now (t .entry))) (sequence-at format Flags n m (now (s .entry)) (branching-at format Flags n m (now (s .entry)) deep) start before) ⌝ }
 {
     match two_bytes_at(s, start) {
         Read::Value(c, q) => {
@@ -95,7 +95,7 @@ fn sequence_at(
 fn item_at(n: usize, m: usize, deep: usize, s: &[u8], p: usize, met: usize, t: &mut Notes) -> Read
     requires { ⌜ n ≤ format .fluents ⌝ }
     requires { ⌜ length (now s) ≤ format .derivation ⌝ }
-    ensures { λ r. ⌜ outcome-met r (now (t .exit)) ≡ noting-met (item-noted met (now (t .entry))) (item-at format n m (now (s .entry)) (branching-at format n m (now (s .entry)) deep) p met) ⌝ }
+    ensures { λ r. ⌜ outcome-met r (now (t .exit)) ≡ noting-met (item-noted met (now (t .entry))) (item-at format Flags n m (now (s .entry)) (branching-at format Flags n m (now (s .entry)) deep) p met) ⌝ }
 {
     match byte_at(s, p) {
         Read::Value(x, q) => {
@@ -131,7 +131,7 @@ fn branching_at(
     requires { ⌜ length (now s) ≤ format .derivation ⌝ }
     requires { ⌜ start < length (now s) ⌝ }
     requires { ⌜ i < format .items ⌝ }
-    ensures { λ r. ⌜ outcome-met r (now (t .exit)) ≡ noting-met (inside-noted i (now (t .entry))) (branching-at format n m (now (s .entry)) deep start (i + 1)) ⌝ }
+    ensures { λ r. ⌜ outcome-met r (now (t .exit)) ≡ noting-met (inside-noted i (now (t .entry))) (branching-at format Flags n m (now (s .entry)) deep start (i + 1)) ⌝ }
 {
     if deep == 0 {
         return Read::Fault(limits::NESTED_TOO_DEEP, start);
@@ -189,7 +189,7 @@ fn branch_at(
 pub fn plan_at(n: usize, m: usize, s: &[u8], start: usize, t: &mut Notes) -> Read
     requires { ⌜ n ≤ format .fluents ⌝ }
     requires { ⌜ length (now s) ≤ format .derivation ⌝ }
-    ensures { λ r. ⌜ outcome-met r (now (t .exit)) ≡ noting-met (plan-noted start (now (t .entry))) (plan-at format n m (now (s .entry)) start) ⌝ }
+    ensures { λ r. ⌜ outcome-met r (now (t .exit)) ≡ noting-met (plan-noted start (now (t .entry))) (plan-at format Flags n m (now (s .entry)) start) ⌝ }
 {
     sequence_at(n, m, limits::NESTED, s, start, 0, limits::ITEMS, t)
 }

@@ -2,7 +2,7 @@ ghost use mathlib.Core.Path.{_≡_};
 ghost use Prim.Native.Nat.{_≤_, _<_};
 ghost use lib.ListN.{length};
 ghost use Rattle.meaning.specs.Limits.{format};
-ghost use Rattle.meaning.specs.Reading.{table-at};
+ghost use Rattle.meaning.specs.Reading.{Flags, table-at};
 ghost use Rattle.reading.specs.Noted.{facts-first, actions-first, table-noted, noting, outcome};
 ghost use Rattle.reading.specs.Requested.{places-noted, goals-first, plan-first};
 use super::notes;
@@ -45,7 +45,7 @@ fn actions_at(n: usize, s: &[u8], p: usize, t: &mut Notes) -> Passed
 // Sections 1 to 5.
 pub fn table_at(s: &[u8], p: usize, t: &mut Notes) -> Passed
     requires { ⌜ length (now s) ≤ format .request ⌝ }
-    ensures { λ r. ⌜ outcome r (now (t .exit)) ≡ noting table-noted (table-at format (now (s .entry)) p) (now (t .entry)) ⌝ }
+    ensures { λ r. ⌜ outcome r (now (t .exit)) ≡ noting table-noted (table-at format Flags (now (s .entry)) p) (now (t .entry)) ⌝ }
 {
     match count_at(1, limits::FLUENTS, s, p) {
         Read::Value(n, q) => actions_at(n, s, q, t),

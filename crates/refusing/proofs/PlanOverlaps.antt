@@ -25,7 +25,7 @@ use Rattle.finding.specs.declared.places.Found as Code
 use Rattle.refusing.proofs.Laws18.{overlap-first, item-other}
 use Rattle.refusing.proofs.Laws16.{possible-each}
 use Rattle.finding.proofs.PlanHere.{listed-below, conditions-are, clear-of}
-use Rattle.meaning.specs.Reading.{got, Met, plan-at}
+use Rattle.meaning.specs.Reading.{Flags, got, Met, plan-at}
 use Rattle.meaning.proofs.SettledLaws.{got-same}
 use Rattle.bytes.specs.declared.bytes.Read.{Read}
 use Rattle.bytes.specs.declared.bytes.Read.the-variants.{Value}
@@ -132,9 +132,9 @@ module _ (s t : List ℕ) where
     overlap-found r is = record { holds = λ b held items. is ∙ ap found (plan-overlap b count held items) }
 
 -- What is found in a plan that was read is its own first overlap.
-module _ (n m : ℕ) (s : List ℕ) (small : n ≤ format .fluents) (few : m ≤ format .actions) (p : ℕ) (t u : List ℕ) (r : Read) (count e : ℕ) (room : effect-lines ≤ length t) (left : outcome-met r u ≡ noting-met (plan-noted p t) (plan-at format n m s p)) (is : r ≡ Value count e) where
-  pub overlap-left : (f : Code.Found) → Overlap-found s u count f → (x : Met (Sequence ℕ)) (q : ℕ) → plan-at format n m s p ≡ got x q → f ≡ found (overlap-in (x .value))
+module _ (n m : ℕ) (s : List ℕ) (small : n ≤ format .fluents) (few : m ≤ format .actions) (p : ℕ) (t u : List ℕ) (r : Read) (count e : ℕ) (room : effect-lines ≤ length t) (left : outcome-met r u ≡ noting-met (plan-noted p t) (plan-at format Flags n m s p)) (is : r ≡ Value count e) where
+  pub overlap-left : (f : Code.Found) → Overlap-found s u count f → (x : Met (Sequence ℕ)) (q : ℕ) → plan-at format Flags n m s p ≡ got x q → f ≡ found (overlap-in (x .value))
   overlap-left f all x q read =
-      let w = met-value (plan-noted p t) (plan-at format n m s p) r u count e left is in
+      let w = met-value (plan-noted p t) (plan-at format Flags n m s p) r u count e left is in
       let same : with-items (w .0) count ≡ x = got-same (sym (w .1) ∙ read) in
       subst (λ (y : Met (Sequence ℕ)). f ≡ found (overlap-in (y .value))) same (all .holds (w .0) (subst (λ (v : List ℕ). Plan-held s v (w .0)) (sym (w .2)) (plan-held n m s small few p t (with-items (w .0) count) e room (w .1))) (plan-items n m s small few p t (with-items (w .0) count) e room (w .1)))

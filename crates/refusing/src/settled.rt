@@ -1,6 +1,6 @@
 ghost use mathlib.Core.Path.{_≡_};
 ghost use Rattle.meaning.specs.Limits.{format};
-ghost use Rattle.meaning.specs.Reading.{got, table-at};
+ghost use Rattle.meaning.specs.Reading.{Flags, got, table-at};
 ghost use Rattle.meaning.specs.Refusals.{settled};
 ghost use Rattle.meaning.specs.Guards.{settled-guarded};
 ghost use Rattle.bytes.specs.Read.{passed};
@@ -24,7 +24,7 @@ use reading::notes::get;
 // 17, of a table that ends at e.
 fn mixed_refused(s: &[u8], t: &Notes, e: usize) -> Passed
     requires { ⌜ Table-here (now s) (now t) ⌝ }
-    requires { ⌜ table-at format (now s) 0 ≡ got (table-in (now s)) e ⌝ }
+    requires { ⌜ table-at format Flags (now s) 0 ≡ got (table-in (now s)) e ⌝ }
     ensures { λ r. ⌜ r ≡ passed (table-unmixed (table-in (now (s .entry))) e) ⌝ }
 {
     let count = get(t, notes::COUNT_OF_KNOWLEDGE);
@@ -39,7 +39,7 @@ fn mixed_refused(s: &[u8], t: &Notes, e: usize) -> Passed
 // 16 and 17, of a table that ends at e. Nothing is asked of a plan.
 pub fn table_refused(s: &[u8], t: &Notes, e: usize) -> Passed
     requires { ⌜ Table-here (now s) (now t) ⌝ }
-    requires { ⌜ table-at format (now s) 0 ≡ got (table-in (now s)) e ⌝ }
+    requires { ⌜ table-at format Flags (now s) 0 ≡ got (table-in (now s)) e ⌝ }
     ensures { λ r. ⌜ r ≡ passed (table-settled (table-in (now (s .entry))) e) ⌝ }
 {
     let count = get(t, notes::COUNT_OF_EFFECTS);

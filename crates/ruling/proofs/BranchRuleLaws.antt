@@ -12,7 +12,7 @@ use Rattle.meaning.specs.Tests.{both, either, each-of}
 use Rattle.meaning.specs.Limits.{format}
 use Rattle.meaning.specs.Literals.{among, exclusive}
 use Rattle.meaning.specs.Requests.{Sequence, done, item, act, branching, Branches, none, branch}
-use Rattle.meaning.specs.Reading.{got, fault, Met, plan-at}
+use Rattle.meaning.specs.Reading.{Flags, got, fault, Met, plan-at}
 use Rattle.meaning.specs.States.{State, known, state-of}
 use Rattle.meaning.specs.declared.Layout.{Layout}
 use Rattle.meaning.specs.Derivations.{Line, same-list, same-plan, join, included, same-conclusion, says, takes-branch, branches-first, rule-4}
@@ -329,7 +329,7 @@ module _ (n m : ℕ) (s : List ℕ) where
     a-branch = λ deep left p met c q b r rest e _ _ _ _. tt;
   }
 
-  plan-first : (p : ℕ) (x : Met (Sequence ℕ)) (e : ℕ) → plan-at format n m s p ≡ got x e → First-at (p + 2) (x .value)
+  plan-first : (p : ℕ) (x : Met (Sequence ℕ)) (e : ℕ) → plan-at format Flags n m s p ≡ got x e → First-at (p + 2) (x .value)
   plan-first p = plan-on format n m s plan-begun begun-passed p .holds
 
 -- A LINE whose plan begins with a branching at `first`, and a given number of items after it up to y.
@@ -414,17 +414,17 @@ module _ (n m : ℕ) (d : List ℕ) (w : Spot) where
             }
 
         -- THE PLAN READ AGAIN, which leaves it in the notes.
-        module _ (byte : getD d (plan + 2) 0 ≡ 255) (few : n ≤ format .fluents) (less : m ≤ format .actions) (t u : List ℕ) (r : Read) (read : outcome-met r u ≡ noting-met (plan-noted plan t) (plan-at format n m d plan)) where
-          again : (l : Line) (parts : Line-parts n m d (w .line) l) → plan-at format n m d plan ≡ got (parts .plan) (parts .end)
+        module _ (byte : getD d (plan + 2) 0 ≡ 255) (few : n ≤ format .fluents) (less : m ≤ format .actions) (t u : List ℕ) (r : Read) (read : outcome-met r u ≡ noting-met (plan-noted plan t) (plan-at format Flags n m d plan)) where
+          again : (l : Line) (parts : Line-parts n m d (w .line) l) → plan-at format Flags n m d plan ≡ got (parts .plan) (parts .end)
           unfolding sequence-place after-list
-          again l parts = ap (plan-at format n m d) at ∙ parts .reads
+          again l parts = ap (plan-at format Flags n m d) at ∙ parts .reads
 
           module _ (long : length t ≡ slots) (items e : ℕ) (is : r ≡ Value items e) where
             begins : (layout : Layout) (l : Line) → Line-here n m d layout (w .line) l → Stands d w l → Begins d u (plan + 2) (w .end) (count - 1) l
             unfolding place-of
             begins layout l here sl =
                 let parts = line-parts n m d few layout (w .line) l here in
-                let v = met-value (plan-noted plan t) (plan-at format n m d plan) r u items e read is in
+                let v = met-value (plan-noted plan t) (plan-at format Flags n m d plan) r u items e read is in
                 let same : with-items (v .0) items ≡ parts .plan = got-same (sym (v .1) ∙ again l parts) in
                 let tree : v .0 ≡ l .c = ap (λ (x : Met (Sequence ℕ)). x .value) same ∙ parts .is in
                 let there = plan-of d w plan at l sl in
@@ -475,6 +475,6 @@ module _ (n m : ℕ) (d : List ℕ) (w : Spot) where
           read-again v k e is =
               record {
                 holds = λ layout c l sc here sl.
-                    let no : plan-at format n m d plan ≡ fault k e = fault-met (plan-noted plan t) (plan-at format n m d plan) k e (met-fault (plan-noted plan t) (plan-at format n m d plan) r u k e read is) in
+                    let no : plan-at format Flags n m d plan ≡ fault k e = fault-met (plan-noted plan t) (plan-at format Flags n m d plan) k e (met-fault (plan-noted plan t) (plan-at format Flags n m d plan) r u k e read is) in
                     absurd (fault≢got (sym no ∙ again l (line-parts n m d few layout (w .line) l here)));
               }

@@ -13,7 +13,7 @@ use Rattle.meaning.specs.Tests.{either, pick}
 use Rattle.meaning.specs.Limits.{format, all-literals}
 use Rattle.meaning.specs.Requests.{Knowledge, Table, Request}
 use Rattle.meaning.specs.Reading
-use Rattle.meaning.specs.Reading.{got, literals, bound-of, plan-at, placed, request-at, read-request}
+use Rattle.meaning.specs.Reading.{Flags, got, literals, bound-of, plan-at, placed, request-at, read-request}
 use Rattle.meaning.specs.Guards.{Guarded-request, read-guarded}
 use Rattle.meaning.specs.Refusals.{nowhere, contradiction-in}
 use Rattle.meaning.specs.Lines.{knowledge-of, sensing, senses}
@@ -131,7 +131,7 @@ module _ (s t : List ℕ) (here : Table-here s t) where
       sensed = knowledge-sensed a small
 
 -- A PLAN that was read behind such a table, and noted, with guards at a place.
-module _ (s t : List ℕ) (here : Table-here s t) (g p : ℕ) (y : Request) (q : ℕ) (read : request-at format s (table-in s) p ≡ got y q) where
+module _ (s t : List ℕ) (here : Table-here s t) (g p : ℕ) (y : Request) (q : ℕ) (read : request-at format Flags s (table-in s) p ≡ got y q) where
   abbrev u : List ℕ
   u = tail-with g y t
 
@@ -229,7 +229,7 @@ module _ (s t : List ℕ) (here : Table-here s t) (g p : ℕ) (y : Request) (q :
       }
 
 -- Without guards there are none.
-pub plan-unguarded : (s t : List ℕ) (here : Table-here s t) (p : ℕ) (y : Request) (q : ℕ) → request-at format s (table-in s) p ≡ got y q → guards-in s (tail-noted y t) ≡ []
+pub plan-unguarded : (s t : List ℕ) (here : Table-here s t) (p : ℕ) (y : Request) (q : ℕ) → request-at format Flags s (table-in s) p ≡ got y q → guards-in s (tail-noted y t) ≡ []
 plan-unguarded s t here p y q read = plan-guards s t here 0 p y q read ∙ pick-true (eqb 0 0) _ _ (eq-eqb 0 0 refl)
 
 -- A REQUEST that was read from the start, into notes that held nothing.
@@ -259,7 +259,7 @@ module _ (s : List ℕ) (bytes : (i : ℕ) → getD s i 0 < 256) (t : List ℕ) 
       ∙ plan-guards s before (read-comes s bytes t read) (read .guards) (read-parts s bytes t read .place) (read .request) (read .end) (read-tail s bytes t read)
 
 -- Read WHOLE it has no guards,
-module _ (s : List ℕ) (bytes : (i : ℕ) → getD s i 0 < 256) (t : List ℕ) (x : Request) (e : ℕ) (reads : read-request format s ≡ got x e) (noted : t ≡ request-noted x blank) where
+module _ (s : List ℕ) (bytes : (i : ℕ) → getD s i 0 < 256) (t : List ℕ) (x : Request) (e : ℕ) (reads : read-request format Flags s ≡ got x e) (noted : t ≡ request-noted x blank) where
   pub plain-at-hand : contradiction-in (x .table) ≡ nowhere → At-hand s t
   plain-at-hand passed = read-at-hand s bytes t (plain-here s t x e reads noted) passed (λ some. clash (eq-eqb 0 0 refl) some)
 

@@ -10,7 +10,7 @@ use borrow.Author.Tests.{eqb-true}
 use Rattle.meaning.specs.Limits
 use Rattle.meaning.specs.Limits.{format}
 use Rattle.meaning.specs.Requests.{Sequence, done, item, Item, act, branching, Branches, none, branch}
-use Rattle.meaning.specs.Reading.{got, Met, literals, body-at, plan-at}
+use Rattle.meaning.specs.Reading.{Flags, got, Met, literals, body-at, plan-at}
 use Rattle.meaning.specs.Derivations.{join}
 use Rattle.meaning.specs.Reported.{Item-in, Item-of, Item-under}
 use Rattle.meaning.specs.Layouts
@@ -100,7 +100,7 @@ module _ (n m : ℕ) (s : List ℕ) (bytes : Bytes s) where
         );
   }
 
-  pub each-stands : (p : ℕ) (x : Met (Sequence ℕ)) (e : ℕ) → plan-at format n m s p ≡ got x e → (i : Item ℕ) → Item-in (x .value) i → Item-stands s i
+  pub each-stands : (p : ℕ) (x : Met (Sequence ℕ)) (e : ℕ) → plan-at format Flags n m s p ≡ got x e → (i : Item ℕ) → Item-in (x .value) i → Item-stands s i
   each-stands p x e read = plan-on format n m s plan-stands stands-passed p .holds x e read .1
 
 -- WHAT IS LEFT. What is so of each item of a plan and of what is behind it is so of each item that is left.
