@@ -3,7 +3,8 @@ use Prim.Native.Nat.{ℕ, _*_}
 use mathlib.Core.Path.{_≡_, refl, sym, _∙_, ap}
 use mathlib.Core.List.{List}
 use Rattle.meaning.specs.Limits.{format}
-use Rattle.meaning.specs.Reading.{Flags, Got, got, fault, next, below-at, list-at, body-at, effect-at, executability-at, knowledge-at}
+use Rattle.meaning.specs.declared.Form.the-variants.{Flags}
+use Rattle.meaning.specs.Reading.{Got, got, fault, next, below-at, list-at, body-at, effect-at, executability-at, knowledge-at}
 use Rattle.bytes.specs.declared.bytes.Read.{Read}
 use Rattle.bytes.specs.declared.bytes.Read.the-variants.{Value, Fault}
 use Rattle.bytes.specs.declared.lists.Kind.the-variants.{Literals}

@@ -1,7 +1,8 @@
 ghost use mathlib.Core.Path.{_≡_};
 ghost use Prim.Native.Nat.{_≤_};
 ghost use Rattle.meaning.specs.Limits.{format};
-ghost use Rattle.meaning.specs.Reading.{Flags, body-at, effect-at, executability-at, knowledge-at};
+ghost use Rattle.meaning.specs.declared.Form.the-variants.{Flags};
+ghost use Rattle.meaning.specs.Reading.{body-at, effect-at, executability-at, knowledge-at};
 ghost use Rattle.bytes.specs.Read.{passed, action-before, effect-read, executability-read, knowledge-read};
 use super::bytes::Read;
 use super::bytes::below_at;

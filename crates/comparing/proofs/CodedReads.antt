@@ -8,7 +8,8 @@ use lib.ListN.{length, getD}
 use borrow.Author.Tests.{leb-false}
 use Rattle.meaning.specs.Limits.{format}
 use Rattle.meaning.specs.Requests.{Sequence, done, item, Item, act, branching, Branches, none, branch}
-use Rattle.meaning.specs.Reading.{Flags, got, Met, plan-at}
+use Rattle.meaning.specs.declared.Form.the-variants.{Flags}
+use Rattle.meaning.specs.Reading.{got, Met, plan-at}
 use Rattle.meaning.specs.Layouts
 use Rattle.meaning.specs.Layouts.{Bytes, list-written, number-written, items-in, items-written, item-written, branches-written, plan-written}
 use Rattle.meaning.proofs.PlanReads.{Said, Passed-on, plan-on}

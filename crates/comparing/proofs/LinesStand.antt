@@ -13,7 +13,8 @@ use Rattle.meaning.specs.declared.Layout.{Layout}
 use Rattle.meaning.specs.declared.Layout.the-variants.{Plain, Closing}
 use Rattle.meaning.specs.Limits.{format, all-literals}
 use Rattle.meaning.specs.Requests.{Sequence}
-use Rattle.meaning.specs.Reading.{Flags, got, next, Met, literals, byte-at, two-bytes-at, count-at, below-at, bound-of, list-at, repeated, section-at, plan-at}
+use Rattle.meaning.specs.declared.Form.the-variants.{Flags}
+use Rattle.meaning.specs.Reading.{got, next, Met, literals, byte-at, two-bytes-at, count-at, below-at, bound-of, list-at, repeated, section-at, plan-at}
 use Rattle.meaning.specs.Refusals.{nowhere}
 use Rattle.meaning.specs.Derivations.{Conclusion, Line, Derivation, Concluded, concludes-fluent, list-concluded, fluent-concluded, conclusion-at, concluded-at, closing-at, line-at, read-derivation, overlap-in-lines}
 use Rattle.meaning.proofs.TestLaws.{by-test, clash, either-left, either-right, pick-cases}

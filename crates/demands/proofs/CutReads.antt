@@ -8,7 +8,8 @@ use lib.ListN.{length, length-append, getD, List·getD-append}
 use borrow.Author.Tests.{ltb-false}
 use Rattle.meaning.specs.Limits.{Limits}
 use Rattle.meaning.specs.Requests.{Table, Request}
-use Rattle.meaning.specs.Reading.{Flags, Got, got, fluents, literals, list-at, plan-at, table-at, placed, request-at, read-request}
+use Rattle.meaning.specs.declared.Form.the-variants.{Flags}
+use Rattle.meaning.specs.Reading.{Got, got, fluents, literals, list-at, plan-at, table-at, placed, request-at, read-request}
 use Rattle.meaning.specs.Layouts.{list-written}
 use Rattle.demands.specs.Reuse.{Parts, before-plan, bytes-of, Cut-so, asking}
 use Rattle.meaning.proofs.SettledLaws.{got-same}

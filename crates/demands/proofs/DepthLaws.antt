@@ -8,7 +8,8 @@ use mathlib.Core.List.{List}
 use borrow.Author.Tests.{leb-false}
 use Rattle.meaning.specs.Limits.{Limits}
 use Rattle.meaning.specs.Requests.{Sequence, done, item, Item, act, branching, Branches, none, branch, Request}
-use Rattle.meaning.specs.Reading.{Flags, got, Met, plan-at, read-request, request-at, table-at, list-at, literals, fluents}
+use Rattle.meaning.specs.declared.Form.the-variants.{Flags}
+use Rattle.meaning.specs.Reading.{got, Met, plan-at, read-request, request-at, table-at, list-at, literals, fluents}
 use Rattle.meaning.specs.States.{Outcome, single, fork}
 use Rattle.meaning.specs.Walk.{Step, leads-to, refuses, Steps}
 use Rattle.demands.specs.Depth.{forked, outcome-deep, step-deep, deep, deep-item, deep-branch, depth, walks-deep, most-items, most-in, most-below}

@@ -8,7 +8,8 @@ use lib.ListN.{length, getD}
 use borrow.Author.Tests.{ltb-false}
 use Rattle.meaning.specs.Limits.{Limits}
 use Rattle.meaning.specs.Requests.{Table, Sequence, Request}
-use Rattle.meaning.specs.Reading.{Flags, got, literals, fluents, count-at, list-at, Met, plan-at, table-at, request-at, read-request}
+use Rattle.meaning.specs.declared.Form.the-variants.{Flags}
+use Rattle.meaning.specs.Reading.{got, literals, fluents, count-at, list-at, Met, plan-at, table-at, request-at, read-request}
 use Rattle.meaning.specs.Layouts.{list-written}
 use Rattle.demands.specs.Reuse.{Parts, before-plan, bytes-of, Cut-so}
 use Rattle.meaning.proofs.RangeLaws.{not-refused, after-got, got-place}

@@ -10,7 +10,8 @@ use Rattle.meaning.specs.Tests.{those-of, Has}
 use Rattle.meaning.specs.Limits
 use Rattle.meaning.specs.Limits.{Limits}
 use Rattle.meaning.specs.Requests.{Table, Request, values}
-use Rattle.meaning.specs.Reading.{Flags, got, fluents, literals, plan-at, request-at}
+use Rattle.meaning.specs.declared.Form.the-variants.{Flags}
+use Rattle.meaning.specs.Reading.{got, fluents, literals, plan-at, request-at}
 use Rattle.meaning.specs.Refusals.{nowhere, contradiction-in, mixed-in, overlap-in, settled}
 use Rattle.meaning.specs.States.{State, first-state}
 use Rattle.meaning.specs.Walk.{fine, Walked, judged, walked}

@@ -11,7 +11,8 @@ use Rattle.meaning.specs.Tests.{pick}
 use Rattle.meaning.specs.Limits
 use Rattle.meaning.specs.Limits.{Limits}
 use Rattle.meaning.specs.Requests.{Table, Request}
-use Rattle.meaning.specs.Reading.{Flags, Got, got, fault, next, literals, list-at, placed, table-at, request-at, read-request}
+use Rattle.meaning.specs.declared.Form.the-variants.{Flags}
+use Rattle.meaning.specs.Reading.{Got, got, fault, next, literals, list-at, placed, table-at, request-at, read-request}
 use Rattle.meaning.specs.Refusals.{Found, nowhere, at, refuse, past-refusals, contradiction-in, mixed-in, overlap-in, settled}
 use Rattle.meaning.specs.States.{first-state}
 use Rattle.meaning.specs.Judging.{Judgement, within, judge-settled, judge, judge-got}

@@ -12,7 +12,8 @@ use Rattle.meaning.specs.Limits
 use Rattle.meaning.specs.Limits.{Limits}
 use Rattle.meaning.specs.Literals.{among}
 use Rattle.meaning.specs.Requests.{Knowledge, Table, Sequence, done, item, Request, values, unplaced}
-use Rattle.meaning.specs.Reading.{Flags, got, Met, plan-at, table-at, request-at, read-request}
+use Rattle.meaning.specs.declared.Form.the-variants.{Flags}
+use Rattle.meaning.specs.Reading.{got, Met, plan-at, table-at, request-at, read-request}
 use Rattle.meaning.specs.Refusals.{settled}
 use Rattle.meaning.specs.States.{State, known, first-state}
 use Rattle.meaning.specs.Walk.{fine, Walked, table-step, walk, missed-in, judged, walked}

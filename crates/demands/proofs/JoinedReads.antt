@@ -7,7 +7,8 @@ use mathlib.Core.List.{List, [], _∷_, _++_, append-assoc}
 use lib.ListN.{length, length-append, length-drop, getD, drop, List·getD-append}
 use Rattle.meaning.specs.Limits.{Limits}
 use Rattle.meaning.specs.Requests.{Sequence, done, item, unplaced}
-use Rattle.meaning.specs.Reading.{Flags, Got, got, byte-at, two-bytes-at, Met, item-at, items-at, sequence-at, branching-at, plan-at}
+use Rattle.meaning.specs.declared.Form.the-variants.{Flags}
+use Rattle.meaning.specs.Reading.{Got, got, byte-at, two-bytes-at, Met, item-at, items-at, sequence-at, branching-at, plan-at}
 use Rattle.meaning.specs.Layouts.{number-written}
 use Rattle.meaning.specs.Derivations.{join}
 use Rattle.demands.specs.Reuse.{items-said, join-plans}

@@ -10,7 +10,8 @@ use borrow.Author.Tests.{leb-false, lt-leb}
 use Rattle.meaning.specs.Tests.{pick}
 use Rattle.meaning.specs.Limits.{Limits}
 use Rattle.meaning.specs.Requests.{Sequence, done, item, Item}
-use Rattle.meaning.specs.Reading.{Flags, Got, got, fault, next, byte-at, two-bytes-at, count-at, body-at, Met, Part, item-at, items-at, sequence-at, branches-at, branching-at}
+use Rattle.meaning.specs.declared.Form.the-variants.{Flags}
+use Rattle.meaning.specs.Reading.{Got, got, fault, next, byte-at, two-bytes-at, count-at, body-at, Met, Part, item-at, items-at, sequence-at, branches-at, branching-at}
 use Rattle.meaning.specs.Derivations.{join}
 use Rattle.meaning.proofs.TestLaws.{clash}
 use Rattle.meaning.proofs.SettledLaws.{got-same, next-got}

@@ -9,7 +9,8 @@ use Rattle.meaning.specs.Tests.{both, fails, pick, some-of, each-of}
 use Rattle.meaning.specs.Limits
 use Rattle.meaning.specs.Limits.{Limits}
 use Rattle.meaning.specs.Requests.{Effect, Knowledge, Table, Sequence, Entry, Request, values, unplaced}
-use Rattle.meaning.specs.Reading.{Flags, Got, got, next, read-request}
+use Rattle.meaning.specs.declared.Form.the-variants.{Flags}
+use Rattle.meaning.specs.Reading.{Got, got, next, read-request}
 use Rattle.meaning.specs.Refusals.{Found, nowhere, at, clashing, runs-with, contradictory, contradiction-in, mixed-in, overlap-in, refuse, settled}
 use Rattle.meaning.specs.Lines.{effects-of, executability-of, knowledge-of, allowed, given, sensing, senses}
 use Rattle.meaning.specs.States.{State, known, known-whether, state-of, first-state, can-be-run, known-after, mark-after, marks-after, state-after, unknown-from, unknown-sensed, outcome}

@@ -12,7 +12,8 @@ use Rattle.meaning.specs.Limits.{Limits}
 use Rattle.meaning.specs.Literals.{says-true, says-false, complement, among, exclusive}
 use Rattle.meaning.specs.Requests.{Effect, Executability, Table, Request}
 use Rattle.meaning.specs.Lines.{executability-of, allowed}
-use Rattle.meaning.specs.Reading.{Flags, got, read-request}
+use Rattle.meaning.specs.declared.Form.the-variants.{Flags}
+use Rattle.meaning.specs.Reading.{got, read-request}
 use Rattle.meaning.specs.Refusals.{nowhere, at, clashing, runs-with, contradictory, contradiction-in}
 use Rattle.meaning.specs.Worlds.{World, holds, may-be-run, Meet}
 use Rattle.meaning.proofs.TestLaws.{by-test, clash, both-left, both-right, fails-true, fails-false, some-has, has-some, has-each, has-left, has-right, has-split, those-has}

@@ -10,7 +10,8 @@ use Rattle.meaning.specs.Tests.{some-of}
 use Rattle.meaning.specs.Limits
 use Rattle.meaning.specs.Limits.{Limits}
 use Rattle.meaning.specs.Requests.{Effect, Table, Request}
-use Rattle.meaning.specs.Reading.{Flags, Got, got, fault, next, literals, fluents, byte-at, count-at, below-at, list-at, repeated, section-at, body-at, effect-at, executability-at, knowledge-at, plan-at, table-at, request-at, read-request}
+use Rattle.meaning.specs.declared.Form.the-variants.{Flags}
+use Rattle.meaning.specs.Reading.{Got, got, fault, next, literals, fluents, byte-at, count-at, below-at, list-at, repeated, section-at, body-at, effect-at, executability-at, knowledge-at, plan-at, table-at, request-at, read-request}
 use Rattle.meaning.specs.Refusals.{Found, nowhere, at, clashing, contradictory, first-against, contradiction-in, mixed-in, overlap-in, refuse, settled}
 use Rattle.demands.specs.Formerly.{clash-in, settled-formerly, Refused-formerly}
 use Rattle.meaning.proofs.TestLaws.{by-test, clash, both-left, pick-true, pick-false, pick-cases, some-mono}

@@ -9,7 +9,8 @@ use lib.Seq.{getD-append-add}
 use borrow.Author.Tests.{ltb-false}
 use Rattle.meaning.specs.Limits.{Limits}
 use Rattle.meaning.specs.Requests.{Table, Request}
-use Rattle.meaning.specs.Reading.{Flags, Got, got, fault, next, count-at, Kind, literals, fluents, list-at, section-at, effect-at, executability-at, knowledge-at, plan-at, table-at, request-at, read-request}
+use Rattle.meaning.specs.declared.Form.the-variants.{Flags}
+use Rattle.meaning.specs.Reading.{Got, got, fault, next, count-at, Kind, literals, fluents, list-at, section-at, effect-at, executability-at, knowledge-at, plan-at, table-at, request-at, read-request}
 use Rattle.meaning.specs.Layouts.{list-written}
 use Rattle.demands.specs.Reuse.{Parts, before-plan, bytes-of}
 use Rattle.meaning.proofs.SettledLaws.{fault≢got, got-same, next-got}

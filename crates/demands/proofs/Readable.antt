@@ -13,7 +13,8 @@ use Rattle.meaning.specs.Tests.{either, Each}
 use Rattle.meaning.specs.Limits
 use Rattle.meaning.specs.Limits.{Limits, format}
 use Rattle.meaning.specs.Requests.{Sequence, done, item, Item, act, branching, Branches, none, branch, unplaced, unplaced-item, unplaced-branches}
-use Rattle.meaning.specs.Reading.{Flags, Got, got, literals, bound-of, count-at, list-at, body-at, repeated, Met, Part, item-at, items-at, sequence-at, branches-at, branching-at, plan-at}
+use Rattle.meaning.specs.declared.Form.the-variants.{Flags}
+use Rattle.meaning.specs.Reading.{Got, got, literals, bound-of, count-at, list-at, body-at, repeated, Met, Part, item-at, items-at, sequence-at, branches-at, branching-at, plan-at}
 use Rattle.meaning.specs.Layouts.{Bytes, list-written, number-written, numbers-written, items-in, branches-in, items-written, item-written, branches-written, plan-written, conclusion-written, concluded-written, line-written, lines-written, closing-written, written}
 use Rattle.meaning.specs.Derivations.{Conclusion, knows, knows-whether, Line, Derivation, join, list-concluded, concluded-at, closing-at, line-at, read-derivation}
 use Rattle.meaning.proofs.TestLaws.{pick-true, pick-false}

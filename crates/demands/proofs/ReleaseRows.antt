@@ -15,7 +15,8 @@ use Rattle.meaning.specs.Limits
 use Rattle.meaning.specs.Limits.{Limits}
 use Rattle.meaning.specs.Literals.{among}
 use Rattle.meaning.specs.Requests.{Table, Request}
-use Rattle.meaning.specs.Reading.{Flags, Got, got, fault, next, repeated, table-at, request-at, read-request}
+use Rattle.meaning.specs.declared.Form.the-variants.{Flags}
+use Rattle.meaning.specs.Reading.{Got, got, fault, next, repeated, table-at, request-at, read-request}
 use Rattle.meaning.specs.Refusals.{Found, nowhere, at, contradiction-in, mixed-in, overlap-in, refuse, settled}
 use Rattle.meaning.specs.States.{State, first-state}
 use Rattle.meaning.specs.Walk.{End, fine, missed, stopped, Walked, walked}

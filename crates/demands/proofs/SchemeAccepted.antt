@@ -15,7 +15,8 @@ use Rattle.meaning.specs.Limits
 use Rattle.meaning.specs.Limits.{Limits, format}
 use Rattle.meaning.specs.Literals.{among}
 use Rattle.meaning.specs.Requests.{Table, Request, values}
-use Rattle.meaning.specs.Reading.{Flags, got, fluents, literals, list-at, plan-at, table-at, request-at, read-request}
+use Rattle.meaning.specs.declared.Form.the-variants.{Flags}
+use Rattle.meaning.specs.Reading.{got, fluents, literals, list-at, plan-at, table-at, request-at, read-request}
 use Rattle.meaning.specs.Refusals.{nowhere, settled, overlap-in}
 use Rattle.meaning.specs.Derivations.{Line, overlap-in-lines, citations-taken, citations-of, a-rule, check}
 use Rattle.meaning.specs.Layouts.{Bytes, number-written, lines-written, closing-written, written, In-closing-layout}

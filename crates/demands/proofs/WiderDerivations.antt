@@ -15,7 +15,8 @@ use Rattle.meaning.specs.Tests.{either, pick, Has}
 use Rattle.meaning.specs.Limits
 use Rattle.meaning.specs.Limits.{Limits}
 use Rattle.meaning.specs.Requests.{Table, Sequence, done, item, act, branching, Request}
-use Rattle.meaning.specs.Reading.{Flags, Got, got, fault, next, byte-at, two-bytes-at, count-at, literals, list-at, repeated, plan-at}
+use Rattle.meaning.specs.declared.Form.the-variants.{Flags}
+use Rattle.meaning.specs.Reading.{Got, got, fault, next, byte-at, two-bytes-at, count-at, literals, list-at, repeated, plan-at}
 use Rattle.meaning.specs.Refusals.{refuse, settled}
 use Rattle.meaning.specs.States.{State, state-of, state-after, unknown-sensed, Outcome, single, fork, readings}
 use Rattle.meaning.specs.Derivations.{Conclusion, knows, knows-whether, Line, list-concluded, fluent-concluded, conclusion-at, concludes-fluent, concluded-at, line-at, read-derivation, overlap-in-lines, literals-of, states-of, each-reads, acts, one-action, rule-2, reads, senses-first, rule-3, looks-for, one-look, rule-7, given-by, follows, check-lines, check-end, check-derivation, answer, accepted-if, beyond, check-settled, check}

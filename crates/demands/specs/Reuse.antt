@@ -10,7 +10,8 @@ use Rattle.meaning.specs.Limits
 use Rattle.meaning.specs.Limits.{Limits}
 use Rattle.meaning.specs.Literals.{among}
 use Rattle.meaning.specs.Requests.{Table, Sequence, Request}
-use Rattle.meaning.specs.Reading.{Flags, Got, got, fault, Met, plan-at, table-at}
+use Rattle.meaning.specs.declared.Form.the-variants.{Flags}
+use Rattle.meaning.specs.Reading.{Got, got, fault, Met, plan-at, table-at}
 use Rattle.meaning.specs.Refusals.{settled}
 use Rattle.meaning.specs.Judging.{judge}
 use Rattle.meaning.specs.Answers.{refusals}

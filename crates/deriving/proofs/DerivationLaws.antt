@@ -14,7 +14,8 @@ use Rattle.meaning.specs.Tests.{either, pick, some-of}
 use Rattle.meaning.specs.Limits.{format}
 use Rattle.meaning.specs.Literals.{among}
 use Rattle.meaning.specs.Requests.{Sequence}
-use Rattle.meaning.specs.Reading.{Flags, Got, got, fault, next, Met, literals, byte-at, two-bytes-at, count-at, below-at, list-at, repeated, section-at, plan-at}
+use Rattle.meaning.specs.declared.Form.the-variants.{Flags}
+use Rattle.meaning.specs.Reading.{Got, got, fault, next, Met, literals, byte-at, two-bytes-at, count-at, below-at, list-at, repeated, section-at, plan-at}
 use Rattle.meaning.specs.Derivations.{Conclusion, knows, Line, Derivation, concludes-fluent, list-concluded, fluent-concluded, conclusion-at, concluded-at, closing-at, line-at, read-derivation}
 use Rattle.meaning.proofs.TestLaws.{pick-true, pick-false, either-left, either-right}
 use Rattle.meaning.proofs.SettledLaws.{got-same}

@@ -10,7 +10,8 @@ use borrow.Author.Tests.{ltb-false}
 use Rattle.meaning.specs.declared.Layout.{Layout}
 use Rattle.meaning.specs.Limits.{format, all-literals}
 use Rattle.meaning.specs.Requests.{Sequence, Request}
-use Rattle.meaning.specs.Reading.{Flags, Got, got, fault, next, Met, literals, two-bytes-at, count-at, bound-of, list-at, repeated, plan-at}
+use Rattle.meaning.specs.declared.Form.the-variants.{Flags}
+use Rattle.meaning.specs.Reading.{Got, got, fault, next, Met, literals, two-bytes-at, count-at, bound-of, list-at, repeated, plan-at}
 use Rattle.meaning.specs.Refusals
 use Rattle.meaning.specs.Refusals.{nowhere, at, or-else, overlap-in, refuse}
 use Rattle.meaning.specs.Derivations.{Line, Derivation, concluded-at, closing-at, line-at, read-derivation, overlap-in-lines, check-lines, check-end, check-derivation}

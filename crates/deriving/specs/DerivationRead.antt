@@ -5,7 +5,8 @@ use lib.ListN.{length, set}
 use Rattle.meaning.specs.declared.Layout.{Layout}
 use Rattle.meaning.specs.Limits
 use Rattle.meaning.specs.Limits.{Limits, format}
-use Rattle.meaning.specs.Reading.{Flags, Got, got, fault, next, Met, two-bytes-at, count-at, repeated, plan-at}
+use Rattle.meaning.specs.declared.Form.the-variants.{Flags}
+use Rattle.meaning.specs.Reading.{Got, got, fault, next, Met, two-bytes-at, count-at, repeated, plan-at}
 use Rattle.meaning.specs.Requests.{Sequence}
 use Rattle.meaning.specs.Refusals.{refuse}
 use Rattle.meaning.specs.Derivations.{Line, Derivation, concluded-at, read-derivation, overlap-in-lines}

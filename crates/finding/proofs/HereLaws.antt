@@ -12,7 +12,8 @@ use Rattle.meaning.specs.Limits.{format, all-literals}
 use Rattle.meaning.specs.Literals.{complement, among, exclusive}
 use Rattle.meaning.specs.Requests.{Effect}
 use Rattle.meaning.specs.Reading
-use Rattle.meaning.specs.Reading.{Flags, got, count-at, below-at, bound-of, literals, entry-at, entries-at, list-at, body-at, effect-at}
+use Rattle.meaning.specs.declared.Form.the-variants.{Flags}
+use Rattle.meaning.specs.Reading.{got, count-at, below-at, bound-of, literals, entry-at, entries-at, list-at, body-at, effect-at}
 use Rattle.meaning.proofs.TestLaws.{by-test, some-has}
 use Rattle.meaning.proofs.SettledLaws.{got-same}
 use Rattle.meaning.proofs.RangeLaws.{not-refused, after-got, list-consistent}

@@ -16,7 +16,7 @@ use Rattle.meaning.specs.Limits.{Limits}
 use Rattle.meaning.specs.Literals.{among}
 use Rattle.meaning.specs.Requests.{Effect, Executability, Knowledge, Table, Sequence, done, item, Item, act, branching, Branches, none, branch, Entry, Request}
 use Rattle.meaning.specs.Reading.{Flags, Got, got, next, byte-at, two-bytes-at, count-at, below-at, Kind, literals, fluents, bound-of, entry-at, entries-at, list-at, repeated, section-at, body-at, effect-at, executability-at, knowledge-at, Met, plan-at, table-at, placed, request-at, read-request}
-use Rattle.meaning.specs.Refusals.{Found, nowhere, at, or-else, contradictory, first-against, contradiction-in, mixed-in, overlap-in, overlap-at, overlap-below, refuse, past-refusals, settled}
+use Rattle.meaning.specs.Refusals.{failing-at, failing-below, failing-in, Found, nowhere, at, or-else, contradictory, first-against, contradiction-in, mixed-in, overlap-in, overlap-at, overlap-below, refuse, past-refusals, settled}
 use Rattle.meaning.specs.States.{State, known, outcome}
 use Rattle.meaning.specs.Walk.{End, Walked, first-missed, missed-in, walked, walked-guarded}
 use Rattle.meaning.specs.Guards.{Guarded-request, read-guarded, settled-guarded}
@@ -116,7 +116,7 @@ module _ (size : ℕ) where
   mixed-below es (k ∷ ks) h = pick-has Found-below _ _ _ (λ _. h .0) (λ _. mixed-below es ks (h .1))
 
   mutual
-    unfolding overlap-in overlap-at overlap-below
+    unfolding failing-in failing-at failing-below
 
     pub overlap-in-below : (b : Sequence ℕ) → Plan-below b → Found-below (overlap-in b)
     overlap-in-below done h = tt

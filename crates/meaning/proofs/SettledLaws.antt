@@ -7,7 +7,7 @@ use mathlib.Core.List.{List}
 use Rattle.meaning.specs.Limits.{Limits}
 use Rattle.meaning.specs.Requests.{Sequence, done, item, Item, act, branching, Branches, none, branch, Request}
 use Rattle.meaning.specs.Reading.{Flags, Got, got, fault, next, read-request}
-use Rattle.meaning.specs.Refusals.{Found, nowhere, at, or-else, contradiction-in, mixed-in, all-exclusive, overlap-in, overlap-at, overlap-below, refuse, settled}
+use Rattle.meaning.specs.Refusals.{failing-in, Found, nowhere, at, or-else, contradiction-in, mixed-in, all-exclusive, overlap-in, overlap-at, overlap-below, refuse, settled}
 use Rattle.meaning.proofs.TestLaws.{pick-cases}
 use Rattle.meaning.proofs.RefusalLaws.{at≢nowhere}
 use Rattle.meaning.proofs.WalkLaws.{On-conditions, On-conditions-item, On-conditions-below}
@@ -78,7 +78,7 @@ or-else-nowhere nowhere k e = (refl, e)
 or-else-nowhere (at p) k e = absurd (at≢nowhere e)
 
 mutual
-  unfolding overlap-in
+  unfolding failing-in
 
   -- Where 18 has found nothing, it is so.
   pub fit : (p : Sequence ℕ) → overlap-in p ≡ nowhere → Fit p

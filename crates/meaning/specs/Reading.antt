@@ -79,7 +79,7 @@ list-at kind n most s p =
     next (count-at 0 most s p) λ c q.
     entries-at kind n s c q 0
 
--- VALUES. How many values a fluent has: its byte behind the fluent count, and 2 for a number that is no fluent of the request (FORMAT 26.2, 26.4).
+-- VALUES. How many values a fluent has: its byte behind the fluent count, and 2 for a number that is no fluent of the request (FORMAT 26.2).
 unfoldable pub values-in : List ℕ → (fluent : ℕ) → ℕ
 values-in s f = pick (ltb f (getD s 0 0)) (λ _. getD s (1 + f) 0) (λ _. 2)
 
@@ -93,11 +93,11 @@ value-at n s p =
     next (below-at (2 * values-in s f) s q) λ b r.
     got (f * 256 + b) r
 
--- Some value of the literal's fluent satisfies all that the list says of it (FORMAT 26.12).
+-- Some value of the literal's fluent satisfies all that the list says of it (FORMAT 26.11).
 unfoldable pub leaves-one : List ℕ → (literal : ℕ) → List ℕ → Bool
 leaves-one s l xs = some-of (fits (literals-in s) xs (literals-in s .fluent l)) (values-of (literals-in s) (literals-in s .fluent l))
 
--- One entry after those before it, of which the last stands first (FORMAT 26.9 to 26.12).
+-- One entry after those before it, of which the last stands first (FORMAT 26.10 to 26.12).
 unfoldable pub floor-after : (before : List ℕ) → ℕ
 floor-after [] = 0
 floor-after (x ∷ xs) = x + 1

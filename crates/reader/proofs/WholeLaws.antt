@@ -13,7 +13,8 @@ use Rattle.meaning.proofs.TestLaws.{pick-true, pick-false}
 use Rattle.meaning.proofs.SettledLaws.{got-same}
 use Rattle.meaning.specs.Limits.{format}
 use Rattle.meaning.specs.Requests.{Table, Request}
-use Rattle.meaning.specs.Reading.{Flags, Got, got, fault, next, literals, fluents, count-at, list-at, section-at, effect-at, executability-at, knowledge-at, plan-at, placed, table-at, request-at, read-request}
+use Rattle.meaning.specs.declared.Form.the-variants.{Flags}
+use Rattle.meaning.specs.Reading.{Got, got, fault, next, literals, fluents, count-at, list-at, section-at, effect-at, executability-at, knowledge-at, plan-at, placed, table-at, request-at, read-request}
 use Rattle.meaning.specs.Guards.{Guarded-request, read-guarded}
 use Rattle.meaning.proofs.RangeLaws.{not-refused, after-got, count-within}
 use Rattle.bytes.specs.declared.lists.Kind.the-variants.{Literals}

@@ -7,7 +7,8 @@ use Rattle.meaning.specs.Tests.{pick}
 use Rattle.meaning.specs.Limits
 use Rattle.meaning.specs.Limits.{format}
 use Rattle.meaning.specs.Requests.{Request}
-use Rattle.meaning.specs.Reading.{Flags, Got, got, fault, next, literals, list-at, table-at, request-at}
+use Rattle.meaning.specs.declared.Form.the-variants.{Flags}
+use Rattle.meaning.specs.Reading.{Got, got, fault, next, literals, list-at, table-at, request-at}
 use Rattle.reading.specs.Noted.{guards-slot}
 
 -- Whatever their length and whatever follows (FORMAT 2.11).

@@ -7,7 +7,8 @@ use mathlib.Core.List.{List}
 use lib.ListN.{length}
 use Rattle.meaning.specs.Limits.{format}
 use Rattle.meaning.specs.Requests.{Sequence, branching, Branches, branch}
-use Rattle.meaning.specs.Reading.{Flags, Got, got, fault, next, Met, Part, count-at, body-at, sequence-at, branches-at, branching-at}
+use Rattle.meaning.specs.declared.Form.the-variants.{Flags}
+use Rattle.meaning.specs.Reading.{Got, got, fault, next, Met, Part, count-at, body-at, sequence-at, branches-at, branching-at}
 use Rattle.meaning.proofs.SettledLaws.{next-got}
 use Rattle.bytes.specs.declared.bytes.Read.{Read}
 use Rattle.bytes.specs.declared.bytes.Read.the-variants.{Value, Fault}

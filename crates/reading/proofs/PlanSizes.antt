@@ -9,7 +9,8 @@ use borrow.Author.Tests.{leb-false}
 use Rattle.meaning.specs.Limits.{format}
 use Rattle.meaning.specs.Requests.{Item}
 use Rattle.meaning.specs.Reading
-use Rattle.meaning.specs.Reading.{Flags, Got, byte-at, two-bytes-at, count-at, list-at, body-at, item-at, sequence-at, branching-at}
+use Rattle.meaning.specs.declared.Form.the-variants.{Flags}
+use Rattle.meaning.specs.Reading.{Got, byte-at, two-bytes-at, count-at, list-at, body-at, item-at, sequence-at, branching-at}
 use Rattle.meaning.proofs.GotLaws.{On, Held, held-got}
 use Rattle.meaning.proofs.PlaceLaws.{byte-held, two-bytes-held, count-held, list-held}
 use Rattle.meaning.proofs.PlanReads.{Said, Passed-on, item-on, sequence-on}

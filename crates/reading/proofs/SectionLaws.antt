@@ -10,7 +10,8 @@ use mir.Val.{Fits}
 use borrow.Author.Tests.{leb-false}
 use Rattle.meaning.specs.Limits.{format}
 use Rattle.meaning.specs.Requests.{Effect, Executability, Knowledge}
-use Rattle.meaning.specs.Reading.{Flags, Got, got, fault, next, byte-at, count-at, below-at, list-at, body-at, effect-at, executability-at, knowledge-at, repeated, section-at}
+use Rattle.meaning.specs.declared.Form.the-variants.{Flags}
+use Rattle.meaning.specs.Reading.{Got, got, fault, next, byte-at, count-at, below-at, list-at, body-at, effect-at, executability-at, knowledge-at, repeated, section-at}
 use Rattle.meaning.proofs.SettledLaws.{got-same, next-got, fault≢got}
 use Rattle.meaning.proofs.RangeLaws.{not-refused, after-got, repeated-length}
 pub use Rattle.meaning.proofs.RangeLaws.{got-place, byte-got}

@@ -7,7 +7,8 @@ use mathlib.Core.List.{List}
 use lib.ListN.{set}
 use Rattle.meaning.specs.Limits.{format}
 use Rattle.meaning.specs.Requests.{Sequence, item, Item}
-use Rattle.meaning.specs.Reading.{Flags, Got, got, fault, next, Met, Part, two-bytes-at, item-at, items-at, sequence-at, branching-at, plan-at}
+use Rattle.meaning.specs.declared.Form.the-variants.{Flags}
+use Rattle.meaning.specs.Reading.{Got, got, fault, next, Met, Part, two-bytes-at, item-at, items-at, sequence-at, branching-at, plan-at}
 use Rattle.meaning.proofs.SettledLaws.{got-same}
 use Rattle.meaning.proofs.RangeLaws.{after-got}
 use Rattle.bytes.specs.declared.bytes.Read.{Read}

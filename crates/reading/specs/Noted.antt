@@ -7,7 +7,8 @@ use lib.Dec.{eqb, ltb}
 use Rattle.meaning.specs.Tests.{pick}
 use Rattle.meaning.specs.Limits.{format}
 use Rattle.meaning.specs.Requests.{Effect, Executability, Knowledge, Table}
-use Rattle.meaning.specs.Reading.{Flags, Got, got, fault, next, literals, count-at, list-at, effect-at, executability-at, knowledge-at, section-at}
+use Rattle.meaning.specs.declared.Form.the-variants.{Flags}
+use Rattle.meaning.specs.Reading.{Got, got, fault, next, literals, count-at, list-at, effect-at, executability-at, knowledge-at, section-at}
 use Rattle.bytes.specs.declared.bytes.Read.{Read}
 use Rattle.bytes.specs.Read.{effect-read, executability-read, knowledge-read}
 use Rattle.reading.specs.Bits.{bit-of, with-bit}

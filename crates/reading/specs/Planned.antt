@@ -6,7 +6,8 @@ use lib.Dec.{eqb, ltb}
 use Rattle.meaning.specs.Tests.{pick}
 use Rattle.meaning.specs.Limits.{format}
 use Rattle.meaning.specs.Requests.{Sequence, done, item, Item, act, branching, Branches, none, branch}
-use Rattle.meaning.specs.Reading.{Flags, Got, got, fault, next, Met, body-at, sequence-at, branching-at}
+use Rattle.meaning.specs.declared.Form.the-variants.{Flags}
+use Rattle.meaning.specs.Reading.{Got, got, fault, next, Met, body-at, sequence-at, branching-at}
 use Rattle.reading.specs.Noted.{item-place, item-next, branch-place, branch-item, around-from}
 use Rattle.bytes.specs.declared.bytes.Read.{Read}
 use Rattle.bytes.specs.declared.bytes.Read.the-variants.{Value, Fault}

@@ -4,7 +4,8 @@ use mathlib.Core.List.{List}
 use lib.ListN.{length, set}
 use Rattle.meaning.specs.Limits.{format}
 use Rattle.meaning.specs.Requests.{Request}
-use Rattle.meaning.specs.Reading.{Flags, Got, got, next, literals, fluents, list-at, plan-at}
+use Rattle.meaning.specs.declared.Form.the-variants.{Flags}
+use Rattle.meaning.specs.Reading.{Got, got, next, literals, fluents, list-at, plan-at}
 use Rattle.meaning.specs.Guards.{Guarded-request}
 use Rattle.reading.specs.Noted.{plan-slot, items-slot, goals-slot, guards-slot, table-noted}
 use Rattle.reading.specs.Planned.{items-of, bytes-of, plan-noted}

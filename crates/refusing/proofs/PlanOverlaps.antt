@@ -11,7 +11,7 @@ use Rattle.meaning.specs.Tests.{fails, pick, Has}
 use Rattle.meaning.specs.Limits.{format, all-literals}
 use Rattle.meaning.specs.Literals.{exclusive}
 use Rattle.meaning.specs.Requests.{Sequence, done, item, Item, act, branching, Branches, none, branch}
-use Rattle.meaning.specs.Refusals.{Found, nowhere, at, or-else, conditions-of, all-exclusive, overlap-in, overlap-at, overlap-below}
+use Rattle.meaning.specs.Refusals.{failing-at, failing-below, failing-in, Found, nowhere, at, or-else, conditions-of, all-exclusive, overlap-in, overlap-at, overlap-below}
 use Rattle.meaning.specs.States.{state-of}
 use Rattle.meaning.proofs.TestLaws.{pick-true}
 use Rattle.meaning.proofs.RefusalLaws.{exclusive-sym}
@@ -25,7 +25,8 @@ use Rattle.finding.specs.declared.places.Found as Code
 use Rattle.refusing.proofs.Laws18.{overlap-first, item-other}
 use Rattle.refusing.proofs.Laws16.{possible-each}
 use Rattle.finding.proofs.PlanHere.{listed-below, conditions-are, clear-of}
-use Rattle.meaning.specs.Reading.{Flags, got, Met, plan-at}
+use Rattle.meaning.specs.declared.Form.the-variants.{Flags}
+use Rattle.meaning.specs.Reading.{got, Met, plan-at}
 use Rattle.meaning.proofs.SettledLaws.{got-same}
 use Rattle.bytes.specs.declared.bytes.Read.{Read}
 use Rattle.bytes.specs.declared.bytes.Read.the-variants.{Value}
@@ -78,7 +79,7 @@ module _ (s t : List ℕ) where
       ∙ rw (o .count, conditions-are s t (met + 1) (p + 2) bs w k) (apart-is (conditions-of bs) (conditions-clear s (p + 2) bs w))
 
   mutual
-    unfolding items-of Written Kept overlap-in or-else items-in Item-written Item-kept overlap-at items-under Branches-written Branches-kept overlap-below
+    unfolding items-of Written Kept failing-in or-else items-in Item-written Item-kept failing-at items-under Branches-written Branches-kept failing-below
 
     sequence-first : (b : Sequence ℕ) (met k : ℕ) → Written s b → Kept t met b → first-overlap s t (items-of b + k) met ≡ or-else (overlap-in b) (λ _. first-overlap s t k (met + items-of b))
     sequence-first done met k w h = let none : 0 + k ≡ k = omega arith in let here : met + 0 ≡ met = omega arith in rw (none, here)

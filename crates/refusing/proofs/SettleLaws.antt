@@ -8,7 +8,8 @@ use mir.Syntax.{w8, w64}
 use mir.Val.{Fits}
 use Rattle.meaning.specs.Limits.{format}
 use Rattle.meaning.specs.Requests.{Effect, Knowledge, Table, Request}
-use Rattle.meaning.specs.Reading.{Flags, Got, got, fault, next, table-at, request-at, read-request}
+use Rattle.meaning.specs.declared.Form.the-variants.{Flags}
+use Rattle.meaning.specs.Reading.{Got, got, fault, next, table-at, request-at, read-request}
 use Rattle.meaning.specs.Guards.{Guarded-request, read-guarded, settled-guarded}
 use Rattle.meaning.specs.Refusals
 use Rattle.meaning.specs.Refusals.{nowhere, at, contradictory, first-against, contradiction-in, mixed-in, overlap-in, refuse, past-refusals, settled}

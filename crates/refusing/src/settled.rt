@@ -1,6 +1,7 @@
 ghost use mathlib.Core.Path.{_≡_};
 ghost use Rattle.meaning.specs.Limits.{format};
-ghost use Rattle.meaning.specs.Reading.{Flags, got, table-at};
+ghost use Rattle.meaning.specs.declared.Form.the-variants.{Flags};
+ghost use Rattle.meaning.specs.Reading.{got, table-at};
 ghost use Rattle.meaning.specs.Refusals.{settled};
 ghost use Rattle.meaning.specs.Guards.{settled-guarded};
 ghost use Rattle.bytes.specs.Read.{passed};

@@ -12,7 +12,8 @@ use Rattle.meaning.specs.Tests.{both, either, each-of}
 use Rattle.meaning.specs.Limits.{format}
 use Rattle.meaning.specs.Literals.{among, exclusive}
 use Rattle.meaning.specs.Requests.{Sequence, done, item, act, branching, Branches, none, branch}
-use Rattle.meaning.specs.Reading.{Flags, got, fault, Met, plan-at}
+use Rattle.meaning.specs.declared.Form.the-variants.{Flags}
+use Rattle.meaning.specs.Reading.{got, fault, Met, plan-at}
 use Rattle.meaning.specs.States.{State, known, state-of}
 use Rattle.meaning.specs.declared.Layout.{Layout}
 use Rattle.meaning.specs.Derivations.{Line, same-list, same-plan, join, included, same-conclusion, says, takes-branch, branches-first, rule-4}

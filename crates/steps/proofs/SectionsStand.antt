@@ -9,7 +9,8 @@ use Rattle.meaning.specs.Tests.{Has}
 use Rattle.meaning.specs.Limits.{format}
 use Rattle.meaning.specs.Requests.{Knowledge, Table, Request}
 use Rattle.meaning.specs.Reading
-use Rattle.meaning.specs.Reading.{Flags, Got, got, fault, literals, below-at, list-at, knowledge-at, placed, plan-at, request-at}
+use Rattle.meaning.specs.declared.Form.the-variants.{Flags}
+use Rattle.meaning.specs.Reading.{Got, got, fault, literals, below-at, list-at, knowledge-at, placed, plan-at, request-at}
 use Rattle.meaning.proofs.SettledLaws.{got-same}
 use Rattle.meaning.proofs.RangeLaws.{after-got, section-read}
 use Rattle.reading.specs.Planned.{bytes-of}

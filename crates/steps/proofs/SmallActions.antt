@@ -7,7 +7,8 @@ use mathlib.Core.List.{List}
 use borrow.Author.Tests.{leb-false}
 use Rattle.meaning.specs.Limits.{format}
 use Rattle.meaning.specs.Requests.{Sequence}
-use Rattle.meaning.specs.Reading.{Flags, got, Met, plan-at}
+use Rattle.meaning.specs.declared.Form.the-variants.{Flags}
+use Rattle.meaning.specs.Reading.{got, Met, plan-at}
 use Rattle.meaning.proofs.PlanReads.{Said, Passed-on, plan-on}
 use Rattle.steps.specs.Small.{Small, Small-item, Small-under}
 

@@ -8,7 +8,8 @@ use lib.ListN.{length, getD}
 use lib.Dec.{eqb}
 use Rattle.meaning.specs.Limits.{format, all-literals}
 use Rattle.meaning.specs.Refusals.{nowhere, contradiction-in}
-use Rattle.meaning.specs.Reading.{Flags, got, literals, fluents, list-at, plan-at, table-at}
+use Rattle.meaning.specs.declared.Form.the-variants.{Flags}
+use Rattle.meaning.specs.Reading.{got, literals, fluents, list-at, plan-at, table-at}
 use Rattle.reading.specs.Noted.{effect-lines, run-lines, plan-slot, items-slot}
 use Rattle.reading.specs.Ordered.{In-order}
 use Rattle.reading.specs.Listed.{listed, List-here}

@@ -7,7 +7,8 @@ use lib.Dec.{eqb}
 use Rattle.meaning.specs.Limits.{format}
 use Rattle.meaning.specs.Tests.{pick}
 use Rattle.meaning.specs.Requests.{Sequence, Entry, Request}
-use Rattle.meaning.specs.Reading.{Flags, Got, got, fault, Met, plan-at, placed}
+use Rattle.meaning.specs.declared.Form.the-variants.{Flags}
+use Rattle.meaning.specs.Reading.{Got, got, fault, Met, plan-at, placed}
 use Rattle.reading.specs.Noted.{plan-slot, goals-slot, guards-slot}
 use Rattle.reading.specs.Listed.{listed}
 -- THE TABLE (FORMAT 2.12 to 2.16).

@@ -14,7 +14,8 @@ use Rattle.meaning.specs.declared.Answer.{Answer}
 use Rattle.meaning.specs.Limits
 use Rattle.meaning.specs.Limits.{format}
 use Rattle.meaning.specs.Requests.{Table, Request}
-use Rattle.meaning.specs.Reading.{Flags, Got, got, fault, next, Met, repeated, count-at, table-at, request-at}
+use Rattle.meaning.specs.declared.Form.the-variants.{Flags}
+use Rattle.meaning.specs.Reading.{Got, got, fault, next, Met, repeated, count-at, table-at, request-at}
 use Rattle.meaning.specs.Refusals
 use Rattle.meaning.specs.Refusals.{nowhere, at, contradiction-in, overlap-in, refuse}
 use Rattle.meaning.specs.States.{State}

@@ -10,7 +10,8 @@ use borrow.Author.Tests.{eqb-true}
 use Rattle.meaning.specs.Limits
 use Rattle.meaning.specs.Limits.{format}
 use Rattle.meaning.specs.Requests.{Sequence, done, item, Item, act, branching, Branches, none, branch}
-use Rattle.meaning.specs.Reading.{Flags, got, Met, literals, body-at, plan-at}
+use Rattle.meaning.specs.declared.Form.the-variants.{Flags}
+use Rattle.meaning.specs.Reading.{got, Met, literals, body-at, plan-at}
 use Rattle.meaning.specs.Derivations.{join}
 use Rattle.meaning.specs.Reported.{Item-in, Item-of, Item-under}
 use Rattle.meaning.specs.Layouts
