@@ -12,7 +12,7 @@ use Rattle.meaning.specs.Tests.{Has}
 use Rattle.meaning.specs.Limits.{format}
 use Rattle.meaning.specs.Requests.{Sequence}
 use Rattle.meaning.proofs.TestLaws.{by-test, pick-true, pick-false}
-use Rattle.reading.specs.Bits.{with-bit}
+use Rattle.bytes.specs.Bits.{with-bit}
 use Rattle.reading.specs.Noted.{Section, effects, executability, knowledge, Line, effect-lines, run-lines, before, appended, raised, word-bits, pair-slot, bit-noted, pair-noted, action-in, note-line, none-yet, lines-noted, count-slot, section-noted, sensed-from, sensed-to, sensed, line-numbers, line-slots}
 use Rattle.reading.proofs.NotesLaws.{before-most}
 use Rattle.reading.specs.Planned.{items-of, plan-noted, sequence-noted}

@@ -1,4 +1,3 @@
-pub mod BitLaws
 pub mod NotesLaws
 pub mod SectionLaws
 pub mod MarkLaws

@@ -11,7 +11,7 @@ use Rattle.meaning.specs.declared.Form.the-variants.{Flags}
 use Rattle.meaning.specs.Reading.{Got, got, fault, next, literals, count-at, list-at, effect-at, executability-at, knowledge-at, section-at}
 use Rattle.bytes.specs.declared.bytes.Read.{Read}
 use Rattle.bytes.specs.Read.{effect-read, executability-read, knowledge-read}
-use Rattle.reading.specs.Bits.{bit-of, with-bit}
+use Rattle.bytes.specs.Bits.{bit-of, with-bit}
 use Rattle.reading.specs.declared.sections.Section as Code
 use Rattle.reading.specs.declared.sections.Section.the-variants.{Effects, Executability as Runs, Knowledge as Senses}
 use Rattle.bytes.specs.declared.lists.Passed.{Passed}

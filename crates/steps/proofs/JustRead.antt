@@ -19,12 +19,12 @@ use Rattle.meaning.specs.Guards.{Guarded-request, read-guarded}
 use Rattle.meaning.specs.Refusals.{nowhere, contradiction-in}
 use Rattle.meaning.specs.Lines.{knowledge-of, sensing, senses}
 use Rattle.meaning.proofs.TestLaws.{clash, pick-true, pick-false, same-test, some-has, has-some, some-those}
-use Rattle.reading.specs.Bits.{bit-of}
+use Rattle.bytes.specs.Bits.{bit-of}
 use Rattle.reading.specs.Noted.{none-yet, count-slot, section-noted, table-noted, sensed-from, sensed-to, plan-slot, items-slot, goals-slot, guards-slot, word-bits, pair-slot, pair-there, slots, effects-slot, executability-slot, knowledge-slot}
 use Rattle.reading.specs.Planned.{items-of, plan-noted}
 use Rattle.reading.specs.Requested.{goals-place, plan-place, places-noted, tail-with, tail-noted, request-noted, guards-place, guarded-noted}
 use Rattle.reading.specs.Listed.{listed, List-here}
-use Rattle.reading.proofs.BitLaws.{no-bit}
+use Rattle.bytes.proofs.BitLaws.{no-bit}
 use Rattle.reading.proofs.PlanSizes.{sequence-read}
 use Rattle.reader.proofs.WholeLaws.{Guards-read, guarded-read}
 use Rattle.finding.specs.PlansHeld.{Plan-held}
