@@ -111,7 +111,7 @@ none-more m v b so e is =
       each = λ u h. elim (ℕ-discrete u v) [
         | yes same ↦ ap (bit-of m) same ∙ sym e ∙ is
         | no other ↦ so .each u (omega arith)
-      ]
+      ];
     }
 
 pub none-left : (m values v : ℕ) → None-below m v → values ≤ v → false ≡ some-left m values

@@ -16,6 +16,7 @@ use bytes::bytes::two_bytes_at;
 use bytes::limits;
 use bytes::lists::Passed;
 use bytes::table_lines::body_at;
+use meaning::Form;
 
 // What follows an item: the item met next, or where it is the last of its sequence what stands around the sequence.
 fn after(left: usize, met: usize, up: usize) -> usize
@@ -180,7 +181,7 @@ fn branch_at(
     requires { ⌜ length (now s) ≤ format .derivation ⌝ }
     ensures { λ r. ⌜ outcome-met r (now (t .exit)) ≡ branch-noting n m deep up (now (s .entry)) p met (now (t .entry)) ⌝ }
 {
-    match body_at(n, s, p) {
+    match body_at(Form::Flags, n, s, p) {
         Passed::To(q) => sequence_at(n, m, deep, s, q, met, up, t),
         Passed::Fault(k, q) => Read::Fault(k, q),
     }

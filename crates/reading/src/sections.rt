@@ -17,6 +17,7 @@ use bytes::lists::Passed;
 use bytes::table_lines::effect_at;
 use bytes::table_lines::executability_at;
 use bytes::table_lines::knowledge_at;
+use meaning::Form;
 
 // Sections 3, 4 and 5.
 pub enum Section {
@@ -31,8 +32,8 @@ fn line_at(c: Section, n: usize, m: usize, s: &[u8], p: usize) -> Read
     ensures { λ r. ⌜ r ≡ line-read (section-of c) (line-at (section-of c) n m (now (s .entry)) p) ⌝ }
 {
     match c {
-        Section::Effects => effect_at(n, m, s, p),
-        Section::Executability => executability_at(n, m, s, p),
+        Section::Effects => effect_at(Form::Flags, n, m, s, p),
+        Section::Executability => executability_at(Form::Flags, n, m, s, p),
         Section::Knowledge => knowledge_at(n, m, s, p),
     }
 }
