@@ -40,7 +40,7 @@ pub record Values-here (s : List ℕ) (p : ℕ) : Type 0 where
 
 -- AS THE FORM WRITES THEM: the literals of the list whose count byte stands at p, that such a list stands there, and the bytes that so many literals take.
 abbrev pub listed-as : Form → List ℕ → ℕ → List ℕ
-listed-as Flags = listed
+listed-as Flags s p = listed s p
 listed-as Valued s p = twos-from s (p + 1) (getD s p 0)
 
 abbrev pub Literals-here : Form → List ℕ → ℕ → Type 0
