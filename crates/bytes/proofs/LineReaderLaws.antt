@@ -17,7 +17,16 @@ use Rattle.bytes.proofs.ByteLaws.{read-value, read-fault}
 
 -- BY THE FORM.
 pub counted-values : (form : Form) (s : List ℕ) → form ≡ Valued → Counted form s → Few-values s
-counted-values form s is c = subst (λ (x : Form). Counted x s) is c
+unfolding Counted
+counted-values form s is c = c is
+
+abbrev is-valued : Form → Type 0
+is-valued Flags = ⊥
+is-valued Valued = Unit {0}
+
+pub counted-flags : (s : List ℕ) → Counted Flags s
+unfolding Counted
+counted-flags s e = absurd (subst is-valued (sym e) tt)
 
 pub flags-listed : (form : Form) (n most : ℕ) (s : List ℕ) (p : ℕ) (r : Passed) → form ≡ Flags → r ≡ passed (list-at (kind-of Literals) n most s p) → r ≡ passed (literals-at form n most s p)
 unfolding kind-of

@@ -10,7 +10,7 @@ use Rattle.meaning.specs.Limits
 use Rattle.meaning.specs.Limits.{format}
 use Rattle.meaning.specs.Literals.{positive}
 use Rattle.meaning.specs.declared.Form.{Form}
-use Rattle.meaning.specs.declared.Form.the-variants.{Flags, Valued}
+use Rattle.meaning.specs.declared.Form.the-variants.{Valued}
 use Rattle.meaning.specs.Values.{fits, numbers}
 use Rattle.meaning.specs.Reading.{values-in, literals-in}
 use Rattle.bytes.specs.Bits.{bit-of}
@@ -36,10 +36,10 @@ pub record Allows (s b sets : List ℕ) : Type 0 where
   pub sized : length sets ≡ format .fluents
   pub bits : (f v : ℕ) → f < format .fluents → v < Limits.most-values → bit-of (getD sets f 0) v ≡ fits (literals-in s) b f v
 
--- No fluent has more values than there are bits. Of flags nothing is asked.
+-- No fluent has more values than there are bits.
 pub record Few-values (s : List ℕ) : Type 0 where
   pub each : (f : ℕ) → values-in s f ≤ Limits.most-values
 
-abbrev pub Counted : Form → List ℕ → Type 0
-Counted Flags s = Unit {0}
-Counted Valued s = Few-values s
+-- Of flags nothing is asked.
+unfoldable pub Counted : Form → List ℕ → Type 0
+Counted form s = form ≡ Valued → Few-values s

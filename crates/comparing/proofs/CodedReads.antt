@@ -66,7 +66,7 @@ module _ (n m : ℕ) (s : List ℕ) (bytes : Bytes s) (few : m ≤ format .actio
     branches = λ deep left p met x e. Tellable-branches (x .value);
   }
 
-  told-passed : Passed-on format n m s plan-told
+  told-passed : Passed-on format Flags n m s plan-told
   unfolding Tellable own-items
   told-passed = record {
     an-action = λ deep p met x q _ _ _ within. let below = leb-false m x within in omega (arith, below, few);
@@ -82,9 +82,9 @@ module _ (n m : ℕ) (s : List ℕ) (bytes : Bytes s) (few : m ≤ format .actio
 
 -- THE PLAN, its count at p and the place after it.
 pub record Plan-coded (s : List ℕ) (p : ℕ) (b : Sequence ℕ) (e : ℕ) : Type 0 where
-  pub after : e ≡ p + 2 + bytes-of b
-  pub bytes : bytes-from s (p + 2) (bytes-of b) ≡ coded b
-  pub size : length (coded b) ≡ bytes-of b
+  pub after : e ≡ p + 2 + bytes-of Flags b
+  pub bytes : bytes-from s (p + 2) (bytes-of Flags b) ≡ coded b
+  pub size : length (coded b) ≡ bytes-of Flags b
   pub count : getD s p 0 * 256 + getD s (p + 1) 0 ≡ own-items b
   pub there : p + 1 < length s
   pub inside : e ≤ length s
@@ -108,6 +108,6 @@ plan-coded n m s small few p x e read =
       count = omega arith;
       there = st .2 .0;
       inside = sizes .through .inside;
-      tellable = plan-on format n m s (plan-told n m s small few) (told-passed n m s small few) p .holds x e read .1;
+      tellable = plan-on format Flags n m s (plan-told n m s small few) (told-passed n m s small few) p .holds x e read .1;
       few = omega arith;
     }

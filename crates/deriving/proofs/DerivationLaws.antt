@@ -145,25 +145,25 @@ module _ (layout : Layout) (n : ℕ) (s : List ℕ) (p : ℕ) (concluded : Passe
   unfolding ending next
   end-whole q r is e = rw (passed-to (concluded-at format n s layout p) q (sym read ∙ is) .1) e
 
-module _ (layout : Layout) (n m : ℕ) (s : List ℕ) (p : ℕ) (t u : List ℕ) (plan : Read) (read : outcome-met plan u ≡ noting-met (plan-noted p t) (plan-at format Flags n m s p)) where
+module _ (layout : Layout) (n m : ℕ) (s : List ℕ) (p : ℕ) (t u : List ℕ) (plan : Read) (read : outcome-met plan u ≡ noting-met (plan-noted Flags p t) (plan-at format Flags n m s p)) where
   pub plan-fault : (k q : ℕ) → plan ≡ Fault k q → Break k q ≡ planned layout n m s p
   unfolding planned
   plan-fault k q is =
-      rw (fault-met (plan-noted p t) (plan-at format Flags n m s p) k q (met-fault (plan-noted p t) (plan-at format Flags n m s p) plan u k q read is))
+      rw (fault-met (plan-noted Flags p t) (plan-at format Flags n m s p) k q (met-fault (plan-noted Flags p t) (plan-at format Flags n m s p) plan u k q read is))
 
   module _ (items q : ℕ) (end : Passed) (is : plan ≡ Value items q) (read-too : end ≡ passed (ending layout n s q)) where
     pub plan-then-fault : (k e : ℕ) → end ≡ Stop k e → Break k e ≡ planned layout n m s p
     unfolding planned ended-at
     plan-then-fault k e f =
-        rw (met-value (plan-noted p t) (plan-at format Flags n m s p) plan u items q read is .1, passed-stop (ending layout n s q) k e (sym read-too ∙ f))
+        rw (met-value (plan-noted Flags p t) (plan-at format Flags n m s p) plan u items q read is .1, passed-stop (ending layout n s q) k e (sym read-too ∙ f))
 
     pub plan-whole : (e : ℕ) → end ≡ To e → Through q e ≡ planned layout n m s p
     unfolding planned ended-at
     plan-whole e v =
-        rw (met-value (plan-noted p t) (plan-at format Flags n m s p) plan u items q read is .1, passed-to (ending layout n s q) e (sym read-too ∙ v) .1)
+        rw (met-value (plan-noted Flags p t) (plan-at format Flags n m s p) plan u items q read is .1, passed-to (ending layout n s q) e (sym read-too ∙ v) .1)
 
 -- A plan ends as far on as it has bytes, within the input.
-pub plan-ends : (n m : ℕ) (s : List ℕ) (q : ℕ) (x : Met (Sequence ℕ)) (e : ℕ) → plan-at format Flags n m s q ≡ got x e → (e ≡ q + (2 + bytes-of (x .value))) × (e ≤ length s)
+pub plan-ends : (n m : ℕ) (s : List ℕ) (q : ℕ) (x : Met (Sequence ℕ)) (e : ℕ) → plan-at format Flags n m s q ≡ got x e → (e ≡ q + (2 + bytes-of Flags (x .value))) × (e ≤ length s)
 unfolding plan-at
 plan-ends n m s q x e reads = let w = sequence-read n m s 8 q 0 (omega arith) .holds x e reads .through in (w .after, w .inside)
 

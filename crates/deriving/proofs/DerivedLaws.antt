@@ -74,7 +74,7 @@ module _ (n m : ℕ) (s : List ℕ) where
         is = ap (λ (x : Line). x .c) (got-same is5);
       }
 
-  module _ (few : n ≤ format .fluents) (less : m ≤ format .actions) (plan : ℕ) (t u : List ℕ) (r : Read) (read : outcome-met r u ≡ noting-met (plan-noted plan t) (plan-at format Flags n m s plan)) where
+  module _ (few : n ≤ format .fluents) (less : m ≤ format .actions) (plan : ℕ) (t u : List ℕ) (r : Read) (read : outcome-met r u ≡ noting-met (plan-noted Flags plan t) (plan-at format Flags n m s plan)) where
     pub line-held : (count e : ℕ) → length t ≡ slots → r ≡ Value count e → Some-plan s u count
     line-held count e room is = plan-left n m s few less plan t u r count e (omega arith) read is
 
@@ -96,7 +96,7 @@ module _ (n m : ℕ) (s : List ℕ) where
       line-read k e is =
           record {
             holds = λ layout l here.
-                let no : plan-at format Flags n m s plan ≡ fault k e = fault-met (plan-noted plan t) (plan-at format Flags n m s plan) k e (met-fault (plan-noted plan t) (plan-at format Flags n m s plan) r u k e read is) in
+                let no : plan-at format Flags n m s plan ≡ fault k e = fault-met (plan-noted Flags plan t) (plan-at format Flags n m s plan) k e (met-fault (plan-noted Flags plan t) (plan-at format Flags n m s plan) r u k e read is) in
                 absurd (fault≢got (sym no ∙ there l (line-plan few layout p l here)));
           }
 

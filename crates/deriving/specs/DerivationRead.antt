@@ -16,7 +16,7 @@ use Rattle.deriving.specs.declared.derivations.Lined.the-variants.{To, F
 
 -- Where the plan of a line ends: after its list X and its two-byte item count.
 unfoldable pub plan-end : Line → ℕ
-plan-end l = l .place + 1 + length (l .X) + 2 + bytes-of (l .c)
+plan-end l = l .place + 1 + length (l .X) + 2 + bytes-of Flags (l .c)
 
 -- THE SLOTS. Slot k has the place of line k, slot `plan-ends-slot` + k the end of its plan, and slot `lines-end` the place where the lines end.
 abbrev pub plan-ends-slot : ℕ

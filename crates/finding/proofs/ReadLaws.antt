@@ -77,7 +77,7 @@ pub record Request-parts (s : List ℕ) (t : Table) (p : ℕ) (y : Request) : Ty
   pub items : ℕ
   pub plan-end : ℕ
   pub plan-read : plan-at format Flags (t .fluents) (t .actions) s p ≡ got (record { value = y .plan; items = items }) plan-end
-  pub placed : plan-place y ≡ p
+  pub placed : plan-place Flags y ≡ p
 
 pub request-parts : (s : List ℕ) (t : Table) (p : ℕ) (y : Request) (q : ℕ) → request-at format Flags s t p ≡ got y q → Request-parts s t p y
 unfolding request-at plan-place goals-place plan-at
@@ -90,7 +90,7 @@ request-parts s t p y q e =
     let after = sized .through .after in
     let ends = through .after in
     let goals-at : q₂ - (1 + length goals) ≡ q₁ = omega arith in
-    let plan-stands : q₁ - (2 + bytes-of (plan .value)) ≡ p = omega arith in
+    let plan-stands : q₁ - (2 + bytes-of Flags (plan .value)) ≡ p = omega arith in
     subst on v₃ (record {
       table = refl;
       items = plan .items;
@@ -357,88 +357,88 @@ module _ (s : List ℕ) (x : Table) (few : x .fluents ≤ format .fluents) (less
       (omega arith, omega arith)
 
   planned : List ℕ
-  planned = plan-noted (plan-place y) t (y .plan)
+  planned = plan-noted Flags (plan-place Flags y) t (y .plan)
 
   abbrev placed-plan : List ℕ
-  placed-plan = set planned plan-slot (plan-place y)
+  placed-plan = set planned plan-slot (plan-place Flags y)
 
   abbrev placed-items : List ℕ
   placed-items = set placed-plan items-slot (items-of (y .plan))
 
   abbrev placed-goals : List ℕ
-  placed-goals = set placed-items goals-slot (goals-place y)
+  placed-goals = set placed-items goals-slot (goals-place Flags y)
 
-  tail-is : tail-with g y t ≡ set placed-goals guards-slot g
+  tail-is : tail-with Flags g y t ≡ set placed-goals guards-slot g
   unfolding tail-with places-noted planned
   tail-is = refl
 
-  slot-in : (j v : ℕ) → (j ≡ guards-slot → ⊥) → getD placed-goals j 0 ≡ v → getD (tail-with g y t) j 0 ≡ v
+  slot-in : (j v : ℕ) → (j ≡ guards-slot → ⊥) → getD placed-goals j 0 ≡ v → getD (tail-with Flags g y t) j 0 ≡ v
   slot-in j v other is = ap (λ (u : List ℕ). getD u j 0) tail-is ∙ kept placed-goals guards-slot j g other ∙ is
 
-  before-places : (j : ℕ) → (j ≡ plan-slot → ⊥) × (j ≡ items-slot → ⊥) × (j ≡ goals-slot → ⊥) × (j ≡ guards-slot → ⊥) → getD (tail-with g y t) j 0 ≡ getD planned j 0
+  before-places : (j : ℕ) → (j ≡ plan-slot → ⊥) × (j ≡ items-slot → ⊥) × (j ≡ goals-slot → ⊥) × (j ≡ guards-slot → ⊥) → getD (tail-with Flags g y t) j 0 ≡ getD planned j 0
   before-places j other =
       slot-in j _ (other .3)
-      (kept placed-items goals-slot j (goals-place y) (other .2) ∙ kept placed-plan items-slot j (items-of (y .plan)) (other .1) ∙ kept planned plan-slot j (plan-place y) (other .0))
+      (kept placed-items goals-slot j (goals-place Flags y) (other .2) ∙ kept placed-plan items-slot j (items-of (y .plan)) (other .1) ∙ kept planned plan-slot j (plan-place Flags y) (other .0))
 
   -- They leave the table as it was.
-  pub tail-kept : (j : ℕ) → Of-table j → getD (tail-with g y t) j 0 ≡ getD t j 0
+  pub tail-kept : (j : ℕ) → Of-table j → getD (tail-with Flags g y t) j 0 ≡ getD t j 0
   unfolding planned
   tail-kept j of =
       before-places j (of .other)
-      ∙ plan-kept j (of .far) (plan-place y) t (y .plan) (items-most .1)
+      ∙ plan-kept j (of .far) (plan-place Flags y) t (y .plan) (items-most .1)
 
   module _ (sized : length t ≡ slots) where
     planned-long : length planned ≡ slots
     unfolding planned
-    planned-long = plan-long (plan-place y) t (y .plan) ∙ sized
+    planned-long = plan-long (plan-place Flags y) t (y .plan) ∙ sized
 
     plan-long-too : length placed-plan ≡ slots
-    plan-long-too = length-set planned plan-slot (plan-place y) ∙ planned-long
+    plan-long-too = length-set planned plan-slot (plan-place Flags y) ∙ planned-long
 
     items-long : length placed-items ≡ slots
     items-long = length-set placed-plan items-slot (items-of (y .plan)) ∙ plan-long-too
 
     goals-long : length placed-goals ≡ slots
-    goals-long = length-set placed-items goals-slot (goals-place y) ∙ items-long
+    goals-long = length-set placed-items goals-slot (goals-place Flags y) ∙ items-long
 
-    pub tail-long : length (tail-with g y t) ≡ slots
+    pub tail-long : length (tail-with Flags g y t) ≡ slots
     tail-long = ap length tail-is ∙ length-set placed-goals guards-slot g ∙ goals-long
 
-    pub items-noted : getD (tail-with g y t) items-slot 0 ≡ items-of (y .plan)
+    pub items-noted : getD (tail-with Flags g y t) items-slot 0 ≡ items-of (y .plan)
     items-noted =
-        slot-in items-slot _ (λ e. omega arith) (kept placed-items goals-slot items-slot (goals-place y) (λ e. omega arith)
+        slot-in items-slot _ (λ e. omega arith) (kept placed-items goals-slot items-slot (goals-place Flags y) (λ e. omega arith)
         ∙ getD-set-same placed-plan items-slot (items-of (y .plan)) 0 (omega (arith, plan-long-too)))
 
-    pub plan-noted-at : getD (tail-with g y t) plan-slot 0 ≡ plan-place y
+    pub plan-noted-at : getD (tail-with Flags g y t) plan-slot 0 ≡ plan-place Flags y
     plan-noted-at =
-        slot-in plan-slot _ (λ e. omega arith) (kept placed-items goals-slot plan-slot (goals-place y) (λ e. omega arith)
+        slot-in plan-slot _ (λ e. omega arith) (kept placed-items goals-slot plan-slot (goals-place Flags y) (λ e. omega arith)
         ∙ kept placed-plan items-slot plan-slot (items-of (y .plan)) (λ e. omega arith)
-        ∙ getD-set-same planned plan-slot (plan-place y) 0 (omega (arith, planned-long)))
+        ∙ getD-set-same planned plan-slot (plan-place Flags y) 0 (omega (arith, planned-long)))
 
-    pub goals-noted : getD (tail-with g y t) goals-slot 0 ≡ goals-place y
-    goals-noted = slot-in goals-slot _ (λ e. omega arith) (getD-set-same placed-items goals-slot (goals-place y) 0 (omega (arith, items-long)))
+    pub goals-noted : getD (tail-with Flags g y t) goals-slot 0 ≡ goals-place Flags y
+    goals-noted = slot-in goals-slot _ (λ e. omega arith) (getD-set-same placed-items goals-slot (goals-place Flags y) 0 (omega (arith, items-long)))
 
-    pub guards-noted : getD (tail-with g y t) guards-slot 0 ≡ g
+    pub guards-noted : getD (tail-with Flags g y t) guards-slot 0 ≡ g
     guards-noted = ap (λ (u : List ℕ). getD u guards-slot 0) tail-is ∙ getD-set-same placed-goals guards-slot g 0 (omega (arith, goals-long))
 
     -- 18 finds the plan.
-    pub tail-held : Plan-held s (tail-with g y t) (y .plan)
+    pub tail-held : Plan-held s (tail-with Flags g y t) (y .plan)
     unfolding planned
     tail-held =
         let held = plan-held (x .fluents) (x .actions) s few less p t (record { value = y .plan; items = of-request .items }) (of-request .plan-end) (omega (arith, sized)) (of-request .plan-read) in
-        let same : (j : ℕ) → j < effect-lines → getD (tail-with g y t) j 0 ≡ getD (plan-noted (plan-place y) t (y .plan)) j 0 = λ j near.
+        let same : (j : ℕ) → j < effect-lines → getD (tail-with Flags g y t) j 0 ≡ getD (plan-noted Flags (plan-place Flags y) t (y .plan)) j 0 = λ j near.
         before-places j (λ e. omega arith, λ e. omega arith, λ e. omega arith, λ e. omega arith) in
         let small = held .few in
         record {
           few = small;
           written = held .written;
-          kept = kept-agree (y .plan) 0 (plan-noted (plan-place y) t (y .plan)) (tail-with g y t)
+          kept = kept-agree (y .plan) 0 (plan-noted Flags (plan-place Flags y) t (y .plan)) (tail-with Flags g y t)
               (record {
                 places = λ j _ less. same (0 + j) (omega arith);
                 ends = λ j _ less. same (branch-place + j) (omega arith);
                 counts = λ j _ less. same (branch-item + j) (omega arith);
               })
-              (subst (λ (i : ℕ). Kept (plan-noted i t (y .plan)) 0 (y .plan)) (sym (of-request .placed)) (held .kept));
+              (subst (λ (i : ℕ). Kept (plan-noted Flags i t (y .plan)) 0 (y .plan)) (sym (of-request .placed)) (held .kept));
         }
 
 -- KNOWLEDGE LINES stand one after another, two bytes each.
@@ -500,7 +500,7 @@ module _ (s t : List ℕ) (here : Table-here s t) where
   }
 
   -- A plan that is noted leaves the table there.
-  pub table-stays : (g p : ℕ) (y : Request) (q : ℕ) → request-at format Flags s (table-in s) p ≡ got y q → Table-here s (tail-with g y t)
+  pub table-stays : (g p : ℕ) (y : Request) (q : ℕ) → request-at format Flags s (table-in s) p ≡ got y q → Table-here s (tail-with Flags g y t)
   table-stays g p y q read = record {
     bytes = here .bytes;
     short = here .short;
@@ -542,16 +542,16 @@ module _ (s : List ℕ) (bytes : (i : ℕ) → getD s i 0 < 256) (t : List ℕ) 
   read-tail = ap (λ (z : Table). request-at format Flags s z (read-parts .place)) read-same ∙ read-parts .tail-read
 
   -- The notes are what its table leaves, and then the rest.
-  pub read-noted : t ≡ tail-with (here .guards) (here .request) (table-noted (here .request .table) blank)
+  pub read-noted : t ≡ tail-with Flags (here .guards) (here .request) (table-noted (here .request .table) blank)
   unfolding request-with
   read-noted = here .noted
 
 -- It is there when it was read whole, without guards or with them.
 module _ (s t : List ℕ) where
-  abbrev pub plain-here : (x : Request) (e : ℕ) → read-request format Flags s ≡ got x e → t ≡ request-with 0 x blank → Read-here s t
+  abbrev pub plain-here : (x : Request) (e : ℕ) → read-request format Flags s ≡ got x e → t ≡ request-with Flags 0 x blank → Read-here s t
   plain-here x e is noted = record { request = x; end = e; guards = 0; short = plain-read s x e is .0; reads = plain-read s x e is .1; noted = noted }
 
-  pub with-guards : (g : Guarded-request) → t ≡ guarded-noted g blank → t ≡ request-with (guards-place (g .request)) (g .request) blank
+  pub with-guards : (g : Guarded-request) → t ≡ guarded-noted g blank → t ≡ request-with Flags (guards-place (g .request)) (g .request) blank
   unfolding guarded-noted
   with-guards g noted = noted
 

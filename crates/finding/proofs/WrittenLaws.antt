@@ -71,7 +71,7 @@ module _ (n m : ℕ) (s : List ℕ) where
           count = subst (λ (x : ℕ). getD s x 0 * 256 + getD s (x + 1) 0 ≡ own-items b) place (one .count);
         }
 
-    written-passed : Passed-on format n m s plan-there
+    written-passed : Passed-on format Flags n m s plan-there
     unfolding Written Item-written Branches-written own-items branches-in
     written-passed = record {
       an-action = λ deep p met x q read _ _ within.
@@ -94,7 +94,7 @@ module _ (n m : ℕ) (s : List ℕ) where
       a-branch = λ deep left p met c q b r rest e read body one more met-few.
           let sizes = sequence-read n m s deep q met met-few .holds b r body in
           let a = body-through s n p .holds c q read .after in let d = sizes .through .after in
-          let end : r ≡ p + (1 + length c) + (2 + bytes-of (b .value)) = omega arith in
+          let end : r ≡ p + (1 + length c) + (2 + bytes-of Flags (b .value)) = omega arith in
           let others = more (sizes .most) in
           ((branch-written p c q (b .value) read one, one .written, subst (λ (o : ℕ). Branches-written s o (rest .value)) end (others .0)), ap suc (others .1));
     }
@@ -105,7 +105,7 @@ module _ (n m : ℕ) (s : List ℕ) where
       unfolding plan-at
       plan-items = let counted = sequence-read n m s 8 p 0 (omega arith) .holds x e read .counted in omega arith
 
-      pub plan-held : Plan-held s (plan-noted p t (x .value)) (x .value)
+      pub plan-held : Plan-held s (plan-noted Flags p t (x .value)) (x .value)
       unfolding plan-at
       plan-held =
           let all = sequence-read n m s 8 p 0 (omega arith) .holds x e read in
@@ -113,17 +113,17 @@ module _ (n m : ℕ) (s : List ℕ) where
           let small : items-of (x .value) ≤ (format .items) = omega arith in
           record {
             few = small;
-            written = plan-on format n m s plan-there written-passed p .holds x e read .written;
+            written = plan-on format Flags n m s plan-there written-passed p .holds x e read .written;
             kept = plan-kept p t (x .value) small room;
           }
 
       -- The notes that reading left.
-      pub plan-read : (u : List ℕ) → u ≡ plan-noted p t (x .value) → Some-plan s u (x .items)
+      pub plan-read : (u : List ℕ) → u ≡ plan-noted Flags p t (x .value) → Some-plan s u (x .items)
       plan-read u is = record { plan = x .value; held = rw is plan-held; items = plan-items }
 
     -- What the code that reads a plan answers, and what is then found.
-    module _ (p : ℕ) (t u : List ℕ) (r : Read) (count e : ℕ) (room : effect-lines ≤ length t) (left : outcome-met r u ≡ noting-met (plan-noted p t) (plan-at format Flags n m s p)) (is : r ≡ Value count e) where
+    module _ (p : ℕ) (t u : List ℕ) (r : Read) (count e : ℕ) (room : effect-lines ≤ length t) (left : outcome-met r u ≡ noting-met (plan-noted Flags p t) (plan-at format Flags n m s p)) (is : r ≡ Value count e) where
       pub plan-left : Some-plan s u count
       plan-left =
-          let w = met-value (plan-noted p t) (plan-at format Flags n m s p) r u count e left is in
+          let w = met-value (plan-noted Flags p t) (plan-at format Flags n m s p) r u count e left is in
           plan-read p t (with-items (w .0) count) e room (w .1) u (w .2)

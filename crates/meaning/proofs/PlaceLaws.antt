@@ -299,7 +299,7 @@ module _ (s : List ℕ) (Bad : ℕ → ℕ → Type 0) where
       byte-there : (p x q : ℕ) → byte-at s p ≡ got x q → (q ≤ length s) × (p < length s)
       byte-there p x q read = let h = held-got Bad (Inside (One p)) (byte-at s p) (byte-held p) x q read in let fits = h .0 in let is = h .1 in (fits, omega (arith, fits, is))
 
-      below-passed : Passed-on lim n m s plan-below
+      below-passed : Passed-on lim Flags n m s plan-below
       below-passed = record {
         an-action = λ deep p met x q read _ _ _ _. byte-there p x q read;
         a-branching = λ deep p met x q c r bs e read _ _ count all _.
@@ -319,7 +319,7 @@ module _ (s : List ℕ) (Bad : ℕ → ℕ → Type 0) where
       abbrev Of-items : Type 0
       Of-items = (n p : ℕ) → among n item-faults ≡ true → p < length s → Bad n p
 
-      plan-faults : Of-items → Faults lim n m s Bad
+      plan-faults : Of-items → Faults lim Flags n m s Bad
       unfolding among entry-faults item-faults some-of either
       plan-faults items = record {
         byte = λ p. held-faulty Bad (Inside (One p)) (byte-at s p) (byte-held p);
@@ -334,7 +334,7 @@ module _ (s : List ℕ) (Bad : ℕ → ℕ → Type 0) where
       plan-held : Of-items → (p : ℕ) → p ≤ length s → Held (λ (x : Met (Sequence ℕ)) (q : ℕ). Plan-below (length s) (x .value)) (plan-at lim Flags n m s p)
       plan-held items p here =
           held-then Bad (Part-below (Plan-below (length s)) p 0) (Inside (λ x q. Plan-below (length s) (x .value))) (plan-at lim Flags n m s p)
-          (PlanReads.plan-held lim n m s plan-below below-passed Bad (plan-faults items) p) λ x e below. below here
+          (PlanReads.plan-held lim Flags n m s plan-below below-passed Bad (plan-faults items) p) λ x e below. below here
 
       -- A line of a derivation.
       listed-held : (p : ℕ) → Held (λ (Y : Conclusion) (q : ℕ). Unit {0}) (list-concluded lim n s p)

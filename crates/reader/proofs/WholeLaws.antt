@@ -59,7 +59,7 @@ front s p x e is =
     }
 
 module _ (s : List ℕ) (p : ℕ) (t u : List ℕ) (first : Passed) (read : outcome first u ≡ noting table-noted (table-at format Flags s p) t) where
-  pub sections-fault : (k q : ℕ) (v : List ℕ) → first ≡ Stop k q → outcome (Stop k q) v ≡ noting request-noted (sections-read s p) t
+  pub sections-fault : (k q : ℕ) (v : List ℕ) → first ≡ Stop k q → outcome (Stop k q) v ≡ noting (request-noted Flags) (sections-read s p) t
   unfolding sections-read noting next outcome
   sections-fault k q v is = rw (noting-fault table-noted (table-at format Flags s p) first t u read k q is)
 
@@ -82,14 +82,14 @@ module _ (s : List ℕ) (p : ℕ) (t u : List ℕ) (first : Passed) (read : outc
     pub fluents-most : (n : ℕ) → n ≡ getD s p 0 → n ≤ format .fluents
     fluents-most n e = let a = stands-first .fluents-are in let b = stands-first .most in omega arith
 
-    pub sections-there : (n m : ℕ) (r : Passed) (w : List ℕ) → n ≡ getD s p 0 → m ≡ getD s (p + 1) 0 → outcome r w ≡ plan-first n m s q u → outcome r w ≡ noting request-noted (sections-read s p) t
+    pub sections-there : (n m : ℕ) (r : Passed) (w : List ℕ) → n ≡ getD s p 0 → m ≡ getD s (p + 1) 0 → outcome r w ≡ plan-first Flags n m s q u → outcome r w ≡ noting (request-noted Flags) (sections-read s p) t
     unfolding sections-read next
     sections-there n m r w en em e =
         let x = table-got .0 in
-        let same : plan-first n m s q u ≡ plan-first (x .fluents) (x .actions) s q (table-noted x t) =
-        ap (λ (y : ℕ). plan-first y m s q u) (en ∙ stands-first .fluents-are)
-        ∙ ap (λ (y : ℕ). plan-first (x .fluents) y s q u) (em ∙ stands-first .actions-are)
-        ∙ ap (plan-first (x .fluents) (x .actions) s q) (table-got .2) in
+        let same : plan-first Flags n m s q u ≡ plan-first Flags (x .fluents) (x .actions) s q (table-noted x t) =
+        ap (λ (y : ℕ). plan-first Flags y m s q u) (en ∙ stands-first .fluents-are)
+        ∙ ap (λ (y : ℕ). plan-first Flags (x .fluents) y s q u) (em ∙ stands-first .actions-are)
+        ∙ ap (plan-first Flags (x .fluents) (x .actions) s q) (table-got .2) in
         rw (table-got .1) (e ∙ same ∙ plan-whole s x q t)
 
 -- NOTHING AFTER.
@@ -192,7 +192,7 @@ module _ (s : List ℕ) where
   rest-guarded n r q = next (list-at literals n 64 s q) λ guards e. pick (ltb e (length s)) (λ _. fault 20 e) (λ _. got (record { request = r; guards = placed (q + 1) guards }) e)
 
   module _ (t u : List ℕ) where
-    pub request-long : format .request < length s → outcome (Stop 10 0) u ≡ noting request-noted (read-request format Flags s) t
+    pub request-long : format .request < length s → outcome (Stop 10 0) u ≡ noting (request-noted Flags) (read-request format Flags s) t
     unfolding read-request outcome noting next
     request-long h = rw (beyond-limit (λ _. rest-plain) h)
 
@@ -209,18 +209,18 @@ module _ (s : List ℕ) where
     unfolding read-guarded
     guarded-within = within-limit (λ x. rest-guarded (x .fluents)) room
 
-    module _ (t u : List ℕ) (all : Passed) (read : outcome all u ≡ noting request-noted (sections-read s 0) t) where
-      pub request-fault : (k q : ℕ) (v : List ℕ) → all ≡ Stop k q → outcome (Stop k q) v ≡ noting request-noted (read-request format Flags s) t
+    module _ (t u : List ℕ) (all : Passed) (read : outcome all u ≡ noting (request-noted Flags) (sections-read s 0) t) where
+      pub request-fault : (k q : ℕ) (v : List ℕ) → all ≡ Stop k q → outcome (Stop k q) v ≡ noting (request-noted Flags) (read-request format Flags s) t
       unfolding noting next outcome
-      request-fault k q v is = rw (plain-within, noting-fault request-noted (sections-read s 0) all t u read k q is)
+      request-fault k q v is = rw (plain-within, noting-fault request-noted Flags (sections-read s 0) all t u read k q is)
 
       pub guarded-fault : (k q : ℕ) (v : List ℕ) → all ≡ Stop k q → outcome (Stop k q) v ≡ noting guarded-noted (read-guarded format s) t
       unfolding noting next outcome
-      guarded-fault k q v is = rw (guarded-within, noting-fault request-noted (sections-read s 0) all t u read k q is)
+      guarded-fault k q v is = rw (guarded-within, noting-fault request-noted Flags (sections-read s 0) all t u read k q is)
 
       module _ (e : ℕ) (is : all ≡ To e) where
-        all-got : (x : Request) × (sections-read s 0 ≡ got x e) × (u ≡ request-noted x t)
-        all-got = noting-got request-noted (sections-read s 0) all t u read e is
+        all-got : (x : Request) × (sections-read s 0 ≡ got x e) × (u ≡ request-noted Flags x t)
+        all-got = noting-got request-noted Flags (sections-read s 0) all t u read e is
 
         abbrev x : Request
         x = all-got .0
@@ -241,16 +241,16 @@ module _ (s : List ℕ) where
         pub first-most : getD s 0 0 ≤ format .fluents
         first-most = rw (first-two .fluents-are) (first-two .most)
 
-        pub request-there : (r : Passed) → r ≡ passed (up-to s e) → outcome r u ≡ noting request-noted (read-request format Flags s) t
+        pub request-there : (r : Passed) → r ≡ passed (up-to s e) → outcome r u ≡ noting (request-noted Flags) (read-request format Flags s) t
         unfolding noting next up-to
         request-there r h =
             ap (λ (y : Passed). outcome y u) h
             ∙ passed-outcome (up-to s e) u
-            ∙ rw (plain-within, all-got .1) (ap (λ (v : List ℕ). next (up-to s e) (λ _ i. got v i)) (all-got .2) ∙ sym (ended request-noted x e t (ltb e (length s))))
+            ∙ rw (plain-within, all-got .1) (ap (λ (v : List ℕ). next (up-to s e) (λ _ i. got v i)) (all-got .2) ∙ sym (ended request-noted Flags x e t (ltb e (length s))))
 
-        guards-set : set u guards-slot e ≡ request-with (guards-place x) x t
+        guards-set : set u guards-slot e ≡ request-with Flags (guards-place x) x t
         unfolding request-with tail-with
-        guards-set = ap (λ (v : List ℕ). set v guards-slot e) (all-got .2) ∙ places-again _ _ _ 0 e _ ∙ ap (λ (g : ℕ). request-with g x t) (there .ends)
+        guards-set = ap (λ (v : List ℕ). set v guards-slot e) (all-got .2) ∙ places-again _ _ _ 0 e _ ∙ ap (λ (g : ℕ). request-with Flags g x t) (there .ends)
 
         pub guarded-there : (r : Passed) (w : List ℕ) → outcome r w ≡ guards-first s e u → outcome r w ≡ noting guarded-noted (read-guarded format s) t
         unfolding guards-first noting next up-to guarded-noted

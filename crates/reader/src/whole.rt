@@ -25,7 +25,7 @@ use reading::requests::table_at;
 // All eight sections, from a place on.
 fn sections_at(s: &[u8], p: usize, t: &mut Notes) -> Passed
     requires { ⌜ length (now s) ≤ format .request ⌝ }
-    ensures { λ r. ⌜ outcome r (now (t .exit)) ≡ noting request-noted (sections-read (now (s .entry)) p) (now (t .entry)) ⌝ }
+    ensures { λ r. ⌜ outcome r (now (t .exit)) ≡ noting (request-noted Flags) (sections-read (now (s .entry)) p) (now (t .entry)) ⌝ }
 {
     match table_at(s, p, t) {
         Passed::To(q) => {
@@ -41,7 +41,7 @@ fn sections_at(s: &[u8], p: usize, t: &mut Notes) -> Passed
 // The same, from where a reader stands.
 fn sections<'a>(r: Reader<'a>, t: &mut Notes) -> Passed
     requires { ⌜ length (now (r .src)) ≤ format .request ⌝ }
-    ensures { λ x. ⌜ outcome x (now (t .exit)) ≡ noting request-noted (sections-read (now (r .entry .src)) (r .entry .at)) (now (t .entry)) ⌝ }
+    ensures { λ x. ⌜ outcome x (now (t .exit)) ≡ noting (request-noted Flags) (sections-read (now (r .entry .src)) (r .entry .at)) (now (t .entry)) ⌝ }
 {
     sections_at(r.src, r.at, t)
 }
@@ -49,7 +49,7 @@ fn sections<'a>(r: Reader<'a>, t: &mut Notes) -> Passed
 // All eight sections of an input, through a reader; whoever calls this needs none.
 fn read_sections(s: &[u8], t: &mut Notes) -> Passed
     requires { ⌜ length (now s) ≤ format .request ⌝ }
-    ensures { λ x. ⌜ outcome x (now (t .exit)) ≡ noting request-noted (sections-read (now (s .entry)) 0) (now (t .entry)) ⌝ }
+    ensures { λ x. ⌜ outcome x (now (t .exit)) ≡ noting (request-noted Flags) (sections-read (now (s .entry)) 0) (now (t .entry)) ⌝ }
 {
     sections(new(s), t)
 }
@@ -97,7 +97,7 @@ pub fn read_guarded(s: &[u8], t: &mut Notes) -> Passed
 
 // A request: at most the limit, all eight sections, and nothing after them.
 pub fn read_request(s: &[u8], t: &mut Notes) -> Passed
-    ensures { λ r. ⌜ outcome r (now (t .exit)) ≡ noting request-noted (read-request format Flags (now (s .entry))) (now (t .entry)) ⌝ }
+    ensures { λ r. ⌜ outcome r (now (t .exit)) ≡ noting (request-noted Flags) (read-request format Flags (now (s .entry))) (now (t .entry)) ⌝ }
 {
     if limits::REQUEST < s.len() {
         return Passed::Fault(limits::TOO_LONG, 0);

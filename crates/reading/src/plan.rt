@@ -2,8 +2,8 @@ ghost use mathlib.Core.Path.{_≡_};
 ghost use Prim.Native.Nat.{_+_, _*_, _≤_, _<_};
 ghost use lib.ListN.{length, set};
 ghost use Rattle.meaning.specs.Limits.{format};
-ghost use Rattle.meaning.specs.declared.Form.the-variants.{Flags};
 ghost use Rattle.meaning.specs.Reading.{item-at, sequence-at, branching-at, plan-at};
+ghost use Rattle.bytes.specs.Masks.{Counted};
 ghost use Rattle.reading.specs.Noted.{item-next};
 ghost use Rattle.reading.specs.Planned.{number-after, branch-noted, item-noted, inside-noted, sequence-noted, plan-noted, noting-met, outcome-met, branch-noting};
 use super::notes;
@@ -53,6 +53,7 @@ fn note_branch(first: usize, met: usize, p: usize, t: &mut Notes)
 
 // A sequence with `before` items before it, in which `deep` branchings may stand one inside another: the items met up to its end.
 fn sequence_at(
+    form: Form,
     n: usize,
     m: usize,
     deep: usize,
@@ -62,11 +63,12 @@ fn sequence_at(
     up: usize,
     t: &mut Notes,
 ) -> Read
+    requires { ⌜ Counted form (now s) ⌝ }
     requires { ⌜ n ≤ format .fluents ⌝ }
     requires { ⌜ before ≤ format .items ⌝ }
     requires { ⌜ up ≤ 2 * format .items ⌝ }
     requires { ⌜ length (now s) ≤ format .derivation ⌝ }
-    ensures { λ r. ⌜ outcome-met r (now (t .exit)) ≡ noting-met (sequence-noted up before start (now (t .entry))) (sequence-at format Flags n m (now (s .entry)) (branching-at format Flags n m (now (s .entry)) deep) start before) ⌝ }
+    ensures { λ r. ⌜ outcome-met r (now (t .exit)) ≡ noting-met (sequence-noted form up before start (now (t .entry))) (sequence-at format form n m (now (s .entry)) (branching-at format form n m (now (s .entry)) deep) start before) ⌝ }
 {
     match two_bytes_at(s, start) {
         Read::Value(c, q) => {
@@ -74,7 +76,7 @@ fn sequence_at(
             let mut p = q;
             let mut met = before;
             while 0 < left {
-                match item_at(n, m, deep, s, p, met, t) {
+                match item_at(form, n, m, deep, s, p, met, t) {
                     Read::Value(more, e) => {
                         note_next(left, met, more, up, t);
                         p = e;
@@ -94,10 +96,11 @@ fn sequence_at(
 }
 
 // One item: the items met up to its end.
-fn item_at(n: usize, m: usize, deep: usize, s: &[u8], p: usize, met: usize, t: &mut Notes) -> Read
+fn item_at(form: Form, n: usize, m: usize, deep: usize, s: &[u8], p: usize, met: usize, t: &mut Notes) -> Read
+    requires { ⌜ Counted form (now s) ⌝ }
     requires { ⌜ n ≤ format .fluents ⌝ }
     requires { ⌜ length (now s) ≤ format .derivation ⌝ }
-    ensures { λ r. ⌜ outcome-met r (now (t .exit)) ≡ noting-met (item-noted met (now (t .entry))) (item-at format Flags n m (now (s .entry)) (branching-at format Flags n m (now (s .entry)) deep) p met) ⌝ }
+    ensures { λ r. ⌜ outcome-met r (now (t .exit)) ≡ noting-met (item-noted form met (now (t .entry))) (item-at format form n m (now (s .entry)) (branching-at format form n m (now (s .entry)) deep) p met) ⌝ }
 {
     match byte_at(s, p) {
         Read::Value(x, q) => {
@@ -106,7 +109,7 @@ fn item_at(n: usize, m: usize, deep: usize, s: &[u8], p: usize, met: usize, t: &
             }
             if x == limits::BRANCHING_BYTE as usize {
                 put(t, notes::ITEM_PLACE + met, p);
-                return branching_at(n, m, deep, s, p, met, t);
+                return branching_at(form, n, m, deep, s, p, met, t);
             }
             if m <= x {
                 return Read::Fault(limits::TOO_LARGE, p);
@@ -121,6 +124,7 @@ fn item_at(n: usize, m: usize, deep: usize, s: &[u8], p: usize, met: usize, t: &
 
 // The branching that is item i and whose byte 255 stands at `start`.
 fn branching_at(
+    form: Form,
     n: usize,
     m: usize,
     deep: usize,
@@ -129,11 +133,12 @@ fn branching_at(
     i: usize,
     t: &mut Notes,
 ) -> Read
+    requires { ⌜ Counted form (now s) ⌝ }
     requires { ⌜ n ≤ format .fluents ⌝ }
     requires { ⌜ length (now s) ≤ format .derivation ⌝ }
     requires { ⌜ start < length (now s) ⌝ }
     requires { ⌜ i < format .items ⌝ }
-    ensures { λ r. ⌜ outcome-met r (now (t .exit)) ≡ noting-met (inside-noted i (now (t .entry))) (branching-at format Flags n m (now (s .entry)) deep start (i + 1)) ⌝ }
+    ensures { λ r. ⌜ outcome-met r (now (t .exit)) ≡ noting-met (inside-noted form i (now (t .entry))) (branching-at format form n m (now (s .entry)) deep start (i + 1)) ⌝ }
 {
     if deep == 0 {
         return Read::Fault(limits::NESTED_TOO_DEEP, start);
@@ -147,7 +152,7 @@ fn branching_at(
             let mut p = q;
             let mut met = i + 1;
             while 0 < left {
-                match branch_at(n, m, inner, s, p, met, up, t) {
+                match branch_at(form, n, m, inner, s, p, met, up, t) {
                     Read::Value(more, e) => {
                         p = e;
                         met = more;
@@ -166,6 +171,7 @@ fn branching_at(
 
 // A branch: its condition and its sequence.
 fn branch_at(
+    form: Form,
     n: usize,
     m: usize,
     deep: usize,
@@ -175,23 +181,25 @@ fn branch_at(
     up: usize,
     t: &mut Notes,
 ) -> Read
+    requires { ⌜ Counted form (now s) ⌝ }
     requires { ⌜ n ≤ format .fluents ⌝ }
     requires { ⌜ met ≤ format .items ⌝ }
     requires { ⌜ up ≤ 2 * format .items ⌝ }
     requires { ⌜ length (now s) ≤ format .derivation ⌝ }
-    ensures { λ r. ⌜ outcome-met r (now (t .exit)) ≡ branch-noting n m deep up (now (s .entry)) p met (now (t .entry)) ⌝ }
+    ensures { λ r. ⌜ outcome-met r (now (t .exit)) ≡ branch-noting form n m deep up (now (s .entry)) p met (now (t .entry)) ⌝ }
 {
-    match body_at(Form::Flags, n, s, p) {
-        Passed::To(q) => sequence_at(n, m, deep, s, q, met, up, t),
+    match body_at(form, n, s, p) {
+        Passed::To(q) => sequence_at(form, n, m, deep, s, q, met, up, t),
         Passed::Fault(k, q) => Read::Fault(k, q),
     }
 }
 
 // The plan: how many items it has.
-pub fn plan_at(n: usize, m: usize, s: &[u8], start: usize, t: &mut Notes) -> Read
+pub fn plan_at(form: Form, n: usize, m: usize, s: &[u8], start: usize, t: &mut Notes) -> Read
+    requires { ⌜ Counted form (now s) ⌝ }
     requires { ⌜ n ≤ format .fluents ⌝ }
     requires { ⌜ length (now s) ≤ format .derivation ⌝ }
-    ensures { λ r. ⌜ outcome-met r (now (t .exit)) ≡ noting-met (plan-noted start (now (t .entry))) (plan-at format Flags n m (now (s .entry)) start) ⌝ }
+    ensures { λ r. ⌜ outcome-met r (now (t .exit)) ≡ noting-met (plan-noted form start (now (t .entry))) (plan-at format form n m (now (s .entry)) start) ⌝ }
 {
-    sequence_at(n, m, limits::NESTED, s, start, 0, limits::ITEMS, t)
+    sequence_at(form, n, m, limits::NESTED, s, start, 0, limits::ITEMS, t)
 }

@@ -58,7 +58,7 @@ conditions-clear : (s : List ℕ) (p : ℕ) (bs : Branches ℕ) → Branches-wri
 unfolding Branches-written conditions-of
 conditions-clear s p none w c h = absurd h
 conditions-clear s p (branch d b rest) w c (inl e) = rw e (written-clear s p d b (w .0))
-conditions-clear s p (branch d b rest) w c (inr h) = conditions-clear s (p + (1 + length d) + (2 + bytes-of b)) rest (w .2) c h
+conditions-clear s p (branch d b rest) w c (inr h) = conditions-clear s (p + (1 + length d) + (2 + bytes-of Flags b)) rest (w .2) c h
 
 module _ (s t : List ℕ) where
   -- THE FIRST OVERLAP of a part, and then of what follows it.
@@ -113,7 +113,7 @@ module _ (s t : List ℕ) where
         let on : met + (items-of b + items-under rest) ≡ met + items-of b + items-under rest = omega arith in
         ap (λ (n : ℕ). first-overlap s t n met) parts
         ∙ sequence-first b met (items-under rest + k) (w .1) (h .1)
-        ∙ ap (λ (f : Found). or-else (overlap-in b) (λ _. f)) (branches-first rest (met + items-of b) (p + (1 + length c) + (2 + bytes-of b)) k (w .2) (h .2))
+        ∙ ap (λ (f : Found). or-else (overlap-in b) (λ _. f)) (branches-first rest (met + items-of b) (p + (1 + length c) + (2 + bytes-of Flags b)) k (w .2) (h .2))
         ∙ or-else-twice (overlap-in b) (overlap-below rest) (λ _. first-overlap s t k (met + items-of b + items-under rest))
         ∙ ap (λ (n : ℕ). or-else (or-else (overlap-in b) (λ _. overlap-below rest)) (λ _. first-overlap s t k n)) (sym on)
 
@@ -133,9 +133,9 @@ module _ (s t : List ℕ) where
     overlap-found r is = record { holds = λ b held items. is ∙ ap found (plan-overlap b count held items) }
 
 -- What is found in a plan that was read is its own first overlap.
-module _ (n m : ℕ) (s : List ℕ) (small : n ≤ format .fluents) (few : m ≤ format .actions) (p : ℕ) (t u : List ℕ) (r : Read) (count e : ℕ) (room : effect-lines ≤ length t) (left : outcome-met r u ≡ noting-met (plan-noted p t) (plan-at format Flags n m s p)) (is : r ≡ Value count e) where
+module _ (n m : ℕ) (s : List ℕ) (small : n ≤ format .fluents) (few : m ≤ format .actions) (p : ℕ) (t u : List ℕ) (r : Read) (count e : ℕ) (room : effect-lines ≤ length t) (left : outcome-met r u ≡ noting-met (plan-noted Flags p t) (plan-at format Flags n m s p)) (is : r ≡ Value count e) where
   pub overlap-left : (f : Code.Found) → Overlap-found s u count f → (x : Met (Sequence ℕ)) (q : ℕ) → plan-at format Flags n m s p ≡ got x q → f ≡ found (overlap-in (x .value))
   overlap-left f all x q read =
-      let w = met-value (plan-noted p t) (plan-at format Flags n m s p) r u count e left is in
+      let w = met-value (plan-noted Flags p t) (plan-at format Flags n m s p) r u count e left is in
       let same : with-items (w .0) count ≡ x = got-same (sym (w .1) ∙ read) in
       subst (λ (y : Met (Sequence ℕ)). f ≡ found (overlap-in (y .value))) same (all .holds (w .0) (subst (λ (v : List ℕ). Plan-held s v (w .0)) (sym (w .2)) (plan-held n m s small few p t (with-items (w .0) count) e room (w .1))) (plan-items n m s small few p t (with-items (w .0) count) e room (w .1)))

@@ -88,7 +88,7 @@ pub fn settle_guarded(s: &[u8], t: &mut Notes) -> Passed
 // A request settled: read without a fault, and past 16, 17 and 18. The notes hold nothing before.
 pub fn settle(s: &[u8], t: &mut Notes) -> Passed
     requires { ⌜ now t ≡ blank ⌝ }
-    ensures { λ r. ⌜ outcome r (now (t .exit)) ≡ noting request-noted (settled format (now (s .entry))) (now (t .entry)) ⌝ }
+    ensures { λ r. ⌜ outcome r (now (t .exit)) ≡ noting (request-noted Flags) (settled format (now (s .entry))) (now (t .entry)) ⌝ }
 {
     match read_request(s, t) {
         Passed::To(e) => refused(s, t, e),

@@ -37,10 +37,10 @@ module _ (s : List ℕ) (t : Table) (p : ℕ) (whole : Table-parts s t p) where
 -- SECTIONS 6 TO 8 of a request, each from where it stands.
 pub record Sections-read (s : List ℕ) (x : Request) : Type 0 where
   pub items : ℕ
-  pub plan : plan-at format Flags (x .table .fluents) (x .table .actions) s (plan-place x) ≡ got (record { value = x .plan; items = items }) (goals-place x)
+  pub plan : plan-at format Flags (x .table .fluents) (x .table .actions) s (plan-place Flags x) ≡ got (record { value = x .plan; items = items }) (goals-place Flags x)
   pub goals-list : List ℕ
-  pub goals : list-at literals (x .table .fluents) (format .listed) s (goals-place x) ≡ got goals-list (x .whether-place)
-  pub goals-are : x .goals ≡ placed (goals-place x + 1) goals-list
+  pub goals : list-at literals (x .table .fluents) (format .listed) s (goals-place Flags x) ≡ got goals-list (x .whether-place)
+  pub goals-are : x .goals ≡ placed (goals-place Flags x + 1) goals-list
   pub whether-list : List ℕ
   pub whether-end : ℕ
   pub whether : list-at Reading.fluents (x .table .fluents) (format .listed) s (x .whether-place) ≡ got whether-list whether-end
@@ -56,7 +56,7 @@ request-sections s t p y q e =
     let ends = list-through s literals (t .fluents) (format .listed) q₁ .holds goals q₂ egoals .after in
     let sized = placed-length (q₁ + 1) goals in
     let at : q₂ - (1 + length (placed (q₁ + 1) goals)) ≡ q₁ = omega arith in
-    let plan-stands : q₁ - (2 + bytes-of (plan .value)) ≡ p = omega arith in
+    let plan-stands : q₁ - (2 + bytes-of Flags (plan .value)) ≡ p = omega arith in
     subst on v₃ (record {
       items = plan .items;
       plan = rw (at, plan-stands) eplan;

@@ -231,15 +231,15 @@ module _ (s : List ℕ) (lent : List ℕ) (budget plans start : ℕ) (f : Found)
   file-answered row is written a said = rw (said, found-none (byte-after s (plans-at format s (table-in s) plans start)) f answer is, written)
 
 -- A PLAN THAT IS READ, with whatever is noted before it.
-module _ (s : List ℕ) (n m : ℕ) (counted : Counted s n m) (p : ℕ) (t u : List ℕ) (r : Passed) (read : outcome r u ≡ plan-first n m s p t) where
-  read-so : outcome r u ≡ noting tail-noted (request-at format Flags s (table-in s) p) t
+module _ (s : List ℕ) (n m : ℕ) (counted : Counted s n m) (p : ℕ) (t u : List ℕ) (r : Passed) (read : outcome r u ≡ plan-first Flags n m s p t) where
+  read-so : outcome r u ≡ noting (tail-noted Flags) (request-at format Flags s (table-in s) p) t
   read-so = read ∙ rw (counted .fluents, counted .actions) (tail-whole s (table-in s) p t)
 
-  plan-got : (e : ℕ) → r ≡ To e → (y : Request) × (request-at format Flags s (table-in s) p ≡ got y e) × (u ≡ tail-noted y t)
-  plan-got e is = noting-got tail-noted (request-at format Flags s (table-in s) p) r t u read-so e is
+  plan-got : (e : ℕ) → r ≡ To e → (y : Request) × (request-at format Flags s (table-in s) p ≡ got y e) × (u ≡ tail-noted Flags y t)
+  plan-got e is = noting-got tail-noted Flags (request-at format Flags s (table-in s) p) r t u read-so e is
 
   plan-stop : (k q : ℕ) → r ≡ Stop k q → request-at format Flags s (table-in s) p ≡ fault k q
-  plan-stop k q is = noting-fault tail-noted (request-at format Flags s (table-in s) p) r t u read-so k q is
+  plan-stop k q is = noting-fault tail-noted Flags (request-at format Flags s (table-in s) p) r t u read-so k q is
 
 -- THE FIRST PASS: what is left of the plans ends where all do.
 pub record Seeking (s : List ℕ) (plans start left p : ℕ) : Type 0 where
@@ -254,7 +254,7 @@ behind-plan s y (got rest r) = refl
 behind-plan s y (fault k q) = refl
 
 module _ (s : List ℕ) (n m : ℕ) (counted : Counted s n m) (plans start left p : ℕ) (seeks : Seeking s plans start left p) where
-  module _ (t u : List ℕ) (r : Passed) (read : outcome r u ≡ plan-first n m s p t) (some : 0 < left) where
+  module _ (t u : List ℕ) (r : Passed) (read : outcome r u ≡ plan-first Flags n m s p t) (some : 0 < left) where
     one-less : left ≡ suc (left - 1)
     one-less = omega arith
 
@@ -413,7 +413,7 @@ unfolding plan-answer next
 answer-anywhere y budget e = past-answer y budget e (overlap-in (y .plan))
 
 module _ (s t row : List ℕ) (budget plans start k p : ℕ) (answers : Answering s t row budget plans start k p) (n m : ℕ) (counted : Counted s n m) (more : k < plans)
-    (u : List ℕ) (r : Passed) (read : outcome r u ≡ plan-first n m s p t) where
+    (u : List ℕ) (r : Passed) (read : outcome r u ≡ plan-first Flags n m s p t) where
   pub answering-room : 4 * k + 4 ≤ length row
   answering-room = let sized = answers .sized in omega arith
 
@@ -430,7 +430,7 @@ module _ (s t row : List ℕ) (budget plans start k p : ℕ) (answers : Answerin
   answer-inside = answer-placed format s (table-in s) budget (table-below format s (table-in s) (answers .here .table-end) (answers .here .table)) p (answers .inside)
 
   module _ (e : ℕ) (is : r ≡ To e) where
-    y : (y : Request) × (request-at format Flags s (table-in s) p ≡ got y e) × (u ≡ tail-noted y t)
+    y : (y : Request) × (request-at format Flags s (table-in s) p ≡ got y e) × (u ≡ tail-noted Flags y t)
     y = plan-got s n m counted p t u r read e is
 
     pub answering-hand : contradiction-in (table-in s) ≡ nowhere → At-hand s u
@@ -441,7 +441,7 @@ module _ (s t row : List ℕ) (budget plans start k p : ℕ) (answers : Answerin
 
     -- And no mode.
     pub answering-known : mode-in u ≡ 0
-    answering-known = ap mode-in (y .2) ∙ table-mode s (tail-noted (y .0) t) (table-stays s t (answers .here) 0 p (y .0) e (y .1))
+    answering-known = ap mode-in (y .2) ∙ table-mode s (tail-noted Flags (y .0) t) (table-stays s t (answers .here) 0 p (y .0) e (y .1))
 
     held-is : request-in s u ≡ y .0
     held-is = ap (request-in s) (y .2) ∙ plan-request s t (answers .here) 0 p (y .0) e (y .1)

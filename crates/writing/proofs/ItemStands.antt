@@ -26,15 +26,15 @@ use Rattle.steps.specs.Rests.{rest-in, rest-within, rest-under, rest-at}
 mutual
   unfolding items-written bytes-of list-written number-written
 
-  pub items-length : (b : Sequence ℕ) → length (items-written b) ≡ bytes-of b
+  pub items-length : (b : Sequence ℕ) → length (items-written b) ≡ bytes-of Flags b
   items-length done = refl
   items-length (item i rest) = let one = item-length i in let more = items-length rest in length-append (item-written i) (items-written rest) ∙ omega (arith, one, more)
 
-  pub item-length : (i : Item ℕ) → length (item-written i) ≡ bytes-in i
+  pub item-length : (i : Item ℕ) → length (item-written i) ≡ bytes-in Flags i
   item-length (act p a) = refl
   item-length (branching p bs) = let all = branches-length bs in omega (arith, all)
 
-  branches-length : (bs : Branches ℕ) → length (branches-written bs) ≡ bytes-under bs
+  branches-length : (bs : Branches ℕ) → length (branches-written bs) ≡ bytes-under Flags bs
   branches-length none = refl
   branches-length (branch c b bs) =
       let own : List ℕ = number-written (Layouts.items-in b) ++ items-written b in
@@ -69,7 +69,7 @@ module _ (n m : ℕ) (s : List ℕ) (bytes : Bytes s) where
     branches = λ deep left p met x e. Stands s p (branches-written (x .value)) e × (Layouts.branches-in (x .value) ≡ left) × Each-stands (Item-under (x .value));
   }
 
-  stands-passed : Passed-on format n m s plan-stands
+  stands-passed : Passed-on format Flags n m s plan-stands
   unfolding body-at items-written plan-written Layouts.items-in Layouts.branches-in place-of
   stands-passed = record {
     an-action = λ deep p met x q read _ _ _.
@@ -102,7 +102,7 @@ module _ (n m : ℕ) (s : List ℕ) (bytes : Bytes s) where
   }
 
   pub each-stands : (p : ℕ) (x : Met (Sequence ℕ)) (e : ℕ) → plan-at format Flags n m s p ≡ got x e → (i : Item ℕ) → Item-in (x .value) i → Item-stands s i
-  each-stands p x e read = plan-on format n m s plan-stands stands-passed p .holds x e read .1
+  each-stands p x e read = plan-on format Flags n m s plan-stands stands-passed p .holds x e read .1
 
 -- WHAT IS LEFT. What is so of each item of a plan and of what is behind it is so of each item that is left.
 module _ (P : Item ℕ → Type 0) where
