@@ -9,6 +9,7 @@ use Rattle.meaning.specs.Requests.{Table, Sequence, Request}
 use Rattle.meaning.specs.declared.Form.{Form}
 use Rattle.meaning.specs.declared.Form.the-variants.{Flags, Valued}
 use Rattle.meaning.specs.Reading.{Got, got, fault, next, fluents, plan-at, count-at, list-at, literals-at, section-at, effect-at, executability-at, knowledge-at, table-at, value-counts-at, past-values, request-at, placed, placed-twos, placed-as, Met}
+use Rattle.meaning.proofs.SettledLaws.{next-got}
 use Rattle.meaning.proofs.RangeLaws.{count-within}
 use Rattle.bytes.specs.declared.bytes.Read.{Read}
 use Rattle.bytes.specs.declared.bytes.Read.the-variants.{Value, Fault}
@@ -26,7 +27,7 @@ use Rattle.bytes.proofs.ByteLaws.{read-value, read-fault}
 use Rattle.bytes.proofs.ListLaws.{passed-same, passed-to, passed-stop}
 use Rattle.reading.proofs.NotingLaws.{with-items, met-value, met-fault, fault-met}
 use Rattle.reading.proofs.SectionLaws.{count-got}
-use Rattle.reading.proofs.ValueSizes.{few-read}
+use Rattle.reading.proofs.ValueSizes.{few-counted, few-read}
 use Rattle.reading.proofs.PlanSizes.{Counted, sequence-read, list-through, literals-through}
 
 -- One part after another.
@@ -127,6 +128,16 @@ module _ (form : Form) (s : List ℕ) (p : ℕ) (t : List ℕ) (count : Read) (r
         let got-all = passed-to (values-first form n s q) v (sym passes ∙ goes) .1 in
         few-read n s (ap (λ (i : ℕ). getD s i 0) (sym at-start) ∙ there .1) q (sym (there .2) ∙ ap (λ (i : ℕ). i + 1) at-start) v
         (subst (λ (f : Form). values-first f n s q ≡ got tt v) valued got-all)
+
+-- A table that was read has no fluent with too many values.
+pub table-counted : (form : Form) (s : List ℕ) (p : ℕ) (x : Table) (e : ℕ) → Starts form p → table-at format form s p ≡ got x e → Within-counts form s
+unfolding table-at Within-counts Starts
+table-counted form s p x e starts is valued =
+    let w = next-got (count-at 1 (format .fluents) s p) _ (subst (λ (f : Form). table-at format f s p ≡ got x e) valued is) in
+    let there = count-got 1 (format .fluents) s p (w .0) (w .1) (w .2) in
+    let at-start = starts valued in
+    let v = next-got (value-counts-at (w .0) s (w .1)) _ (w .3) in
+    few-counted (w .0) s (ap (λ (i : ℕ). getD s i 0) (sym at-start) ∙ there .1) (w .1) (sym (there .2) ∙ ap (λ (i : ℕ). i + 1) at-start) (v .0) (v .1) (v .2)
 
 -- SECTIONS 7 AND 8.
 pub passed-outcome : {A : Type 0} (g : Got A) (u : List ℕ) → outcome (passed g) u ≡ next g (λ _ e. got u e)

@@ -75,16 +75,30 @@ counts-within (suc left) s p cs q e (suc i) h =
     let same : getD s (w .1 + i) 0 ≡ getD s (p + suc i) 0 = ap (λ (j : ℕ). getD s j 0) (omega arith) in
     (omega (arith, rest .0, same), omega (arith, rest .1, same))
 
-pub few-read : (n : ℕ) (s : List ℕ) → getD s 0 0 ≡ n → (q : ℕ) → q ≡ 1 → (v : ℕ) → values-first Valued n s q ≡ got tt v → Few-values s
-unfolding values-first values-in
-few-read n s first q place v e =
+pub counts-far : (left : ℕ) (s : List ℕ) (p : ℕ) (cs : List ℕ) (q : ℕ) → value-counts-at left s p ≡ got cs q → q ≡ p + left
+unfolding value-counts-at
+counts-far zero s p cs q e = let place = got-place e in omega arith
+counts-far (suc left) s p cs q e =
+    let w = next-got (count-at 2 16 s p) _ e in
+    let v = next-got (value-counts-at left s (w .1)) _ (w .3) in
+    let after = count-got 2 16 s p (w .0) (w .1) (w .2) .2 in
+    let rest = counts-far left s (w .1) (v .0) (v .1) (v .2) in
+    let place = got-place (v .3) in
+    omega arith
+
+pub few-counted : (n : ℕ) (s : List ℕ) → getD s 0 0 ≡ n → (q : ℕ) → q ≡ 1 → (cs : List ℕ) (v : ℕ) → value-counts-at n s q ≡ got cs v → Few-values s
+unfolding values-in
+few-counted n s first q place cs v e =
     record {
       each = λ f.
           by-test (ltb f (getD s 0 0))
           (λ near.
           let below : f < n = subst (λ (m : ℕ). f < m) first (ltb-true f (getD s 0 0) near) in
-          let w = next-got (value-counts-at n s q) _ e in
-          let most = counts-within n s q (w .0) (w .1) (w .2) f below .1 in
+          let most = counts-within n s q cs v e f below .1 in
           subst (λ (x : ℕ). x ≤ 16) (sym (pick-true _ _ _ near ∙ ap (λ (i : ℕ). getD s (i + f) 0) (sym place))) most)
           (λ far. subst (λ (x : ℕ). x ≤ 16) (sym (pick-false _ _ _ far)) (omega arith));
     }
+
+pub few-read : (n : ℕ) (s : List ℕ) → getD s 0 0 ≡ n → (q : ℕ) → q ≡ 1 → (v : ℕ) → values-first Valued n s q ≡ got tt v → Few-values s
+unfolding values-first
+few-read n s first q place v e = let w = next-got (value-counts-at n s q) _ e in few-counted n s first q place (w .0) (w .1) (w .2)

@@ -96,7 +96,16 @@ fn sequence_at(
 }
 
 // One item: the items met up to its end.
-fn item_at(form: Form, n: usize, m: usize, deep: usize, s: &[u8], p: usize, met: usize, t: &mut Notes) -> Read
+fn item_at(
+    form: Form,
+    n: usize,
+    m: usize,
+    deep: usize,
+    s: &[u8],
+    p: usize,
+    met: usize,
+    t: &mut Notes,
+) -> Read
     requires { ⌜ Counted form (now s) ⌝ }
     requires { ⌜ n ≤ format .fluents ⌝ }
     requires { ⌜ length (now s) ≤ format .derivation ⌝ }

@@ -88,7 +88,15 @@ fn put_places(plan: usize, items: usize, goals: usize, t: &mut Notes)
 }
 
 // Sections 7 and 8, after a plan of a given number of items whose count stands at `plan`.
-fn goals_at(form: Form, n: usize, s: &[u8], plan: usize, items: usize, p: usize, t: &mut Notes) -> Passed
+fn goals_at(
+    form: Form,
+    n: usize,
+    s: &[u8],
+    plan: usize,
+    items: usize,
+    p: usize,
+    t: &mut Notes,
+) -> Passed
     requires { ⌜ Counted form (now s) ⌝ }
     requires { ⌜ n ≤ format .fluents ⌝ }
     requires { ⌜ plan < 65536 ⌝ }

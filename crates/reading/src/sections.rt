@@ -112,7 +112,15 @@ fn note_count(c: Section, count: u8, t: &mut Notes)
 }
 
 // A section: a count byte, then as many lines.
-pub fn section_at(form: Form, c: Section, n: usize, m: usize, s: &[u8], p: usize, t: &mut Notes) -> Passed
+pub fn section_at(
+    form: Form,
+    c: Section,
+    n: usize,
+    m: usize,
+    s: &[u8],
+    p: usize,
+    t: &mut Notes,
+) -> Passed
     requires { ⌜ Counted form (now s) ⌝ }
     requires { ⌜ n ≤ format .fluents ⌝ }
     requires { ⌜ m ≤ format .actions ⌝ }
