@@ -1,5 +1,5 @@
--- The cases of the values call (FORMAT 26.36 to 26.90), computed by the definitions. No edit of the definitions is refuted by one of these alone: the rows
--- that edits need are in `ValueCases` of `meaning`. Assumes nothing.
+-- The cases of the values call (FORMAT 26.36 to 26.90) but for those of `ValueCases` of `meaning`, which has the rows that edits of the definitions need. They are computed
+-- by the definitions. Assumes nothing.
 use Prim.Native.Nat.{ℕ}
 use mathlib.Core.Path.{_≡_, refl}
 use mathlib.Core.List.{List, [], _∷_, _++_, map}
@@ -54,7 +54,7 @@ more-values =
     refused (1 ∷ 3 ∷ 1 ∷ 1 ∷ 0 ∷ []) 11 5 ∷
     refused (2 ∷ 3 ∷ 3 ∷ 1 ∷ 2 ∷ 1 ∷ 0 ∷ 0 ∷ 6 ∷ []) 13 8 ∷
     refused (2 ∷ 3 ∷ 3 ∷ 1 ∷ 2 ∷ 1 ∷ 0 ∷ 0 ∷ 5 ∷ []) 14 7 ∷
-    refused (1 ∷ 3 ∷ 1 ∷ 2 ∷ 0 ∷ 3 ∷ 0 ∷ 1 ∷ 0 ∷ 0 ∷ 0 ∷ 0 ∷ 0 ∷ 0 ∷ 0 ∷ []) 14 6 ∷
+    refused (1 ∷ 3 ∷ 1 ∷ 2 ∷ 0 ∷ 2 ∷ 0 ∷ 0 ∷ 0 ∷ 0 ∷ 0 ∷ 0 ∷ 0 ∷ 0 ∷ 0 ∷ []) 14 6 ∷
     refused (1 ∷ 3 ∷ 1 ∷ 2 ∷ 0 ∷ 2 ∷ 0 ∷ 2 ∷ 0 ∷ 0 ∷ 0 ∷ 0 ∷ 0 ∷ 0 ∷ 0 ∷ []) 14 6 ∷
     -- Literals that leave no value (FORMAT 26.68 to 26.70, 26.72).
     refused (1 ∷ 3 ∷ 1 ∷ 2 ∷ 0 ∷ 0 ∷ 0 ∷ 1 ∷ 0 ∷ 0 ∷ 0 ∷ 0 ∷ 0 ∷ 0 ∷ 0 ∷ []) 15 6 ∷
