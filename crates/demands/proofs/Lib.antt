@@ -32,6 +32,7 @@ pub mod DerivationSound
 pub mod MoreDerivations
 pub mod MoreWhethers
 pub mod MoreWritten
+pub mod MoreValues
 pub mod LongCases
 pub mod WideCases
 pub mod ProvedCases
