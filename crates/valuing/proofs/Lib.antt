@@ -1,0 +1,3 @@
+pub mod TwosLaws
+pub mod ValuedMarks
+pub mod LeftLaws
