@@ -1,3 +1,4 @@
 pub mod TwosLaws
 pub mod ValuedMarks
 pub mod LeftLaws
+pub mod FirstMarks

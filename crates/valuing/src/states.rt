@@ -1,17 +1,23 @@
 ghost use mathlib.Core.Path.{_≡_};
 ghost use mathlib.Core.List.{map};
-ghost use Prim.Native.Nat.{ℕ, _%_, _<_};
+ghost use Prim.Native.Nat.{ℕ, _%_, _≤_, _<_};
 ghost use Rattle.meaning.specs.Tests.{each-of, those-of};
+ghost use Rattle.meaning.specs.Limits;
 ghost use Rattle.meaning.specs.Limits.{format};
 ghost use Rattle.meaning.specs.declared.Form.the-variants.{Valued};
 ghost use Rattle.meaning.specs.Reading.{literals-in};
 ghost use Rattle.meaning.specs.Values.{numbers, values-of, fits};
 ghost use Rattle.meaning.specs.ValueStates.{known, mark-left};
+ghost use Rattle.bytes.specs.Bits.{bit-of};
 ghost use Rattle.bytes.specs.Masks.{Few-values};
 ghost use Rattle.reading.specs.Listed.{Values-here, listed-as};
 ghost use Rattle.valuing.specs.Valuing.{Valued-marks, look-values};
+use super::sets::allowed_by;
+use bytes::bits::has_bit;
 use bytes::bytes::two;
 use bytes::bytes::wide;
+use bytes::limits;
+use bytes::values::values_in;
 use reading::marks::Look;
 use reading::marks::Marks;
 
@@ -89,4 +95,42 @@ pub fn look_at(s: &[u8], marks: &Marks, p: usize) -> Look
         return Look::Known;
     }
     Look::Possible
+}
+
+// The mark of a fluent that is left those of so many values that are in the set.
+fn mark_left(m: u16, values: usize) -> u8
+    requires { ⌜ values ≤ Limits.most-values ⌝ }
+    ensures { λ r. ⌜ r ≡ mark-left (those-of (bit-of m) (numbers 0 values)) ⌝ }
+{
+    let mut mark = limits::UNKNOWN_MARK;
+    let mut v = 0;
+    while v < values {
+        let there = has_bit(m, v);
+        v += 1;
+        if there {
+            if mark == limits::UNKNOWN_MARK {
+                mark = v as u8;
+                continue;
+            }
+            return limits::UNKNOWN_MARK;
+        }
+    }
+    mark
+}
+
+// The first state, by the list of facts at p.
+pub fn first_state(s: &[u8], p: usize) -> Marks
+    requires { ⌜ Values-here (now s) p ⌝ }
+    requires { ⌜ Few-values (now s) ⌝ }
+    ensures { λ r. ⌜ r ≡ map (λ (f : ℕ). mark-left (those-of (fits (literals-in (now (s .entry))) (listed-as Valued (now (s .entry)) p) f) (values-of (literals-in (now (s .entry))) f))) (numbers 0 (format .state)) ⌝ }
+{
+    let allowed = allowed_by(s, p);
+    let mut marks = [limits::UNKNOWN_MARK; limits::FLUENTS];
+    let mut f = 0;
+    while f < limits::FLUENTS {
+        let values = values_in(s, f);
+        marks[f] = mark_left(allowed[f], values);
+        f += 1;
+    }
+    marks
 }
