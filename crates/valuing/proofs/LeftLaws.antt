@@ -46,7 +46,7 @@ module _ (s sets : List ℕ) (sized : length sets ≡ format .fluents) (l v : �
           ∙ ap (both (bit-of (getD sets (l / 256) 0) v)) (satisfied-bit s l v second low)
           ∙ ap (λ (x : Bool). both (bit-of (getD sets (l / 256) 0) v) (either (fails x) (literals-in s .satisfied l v))) (sym (eq-eqb (l / 256) (l / 256) refl))
 
-fits-more : (s : List ℕ) (l : ℕ) (b : List ℕ) (f v : ℕ) → fits (literals-in s) (l ∷ b) f v ≡ both (lets s l f v) (fits (literals-in s) b f v)
+pub fits-more : (s : List ℕ) (l : ℕ) (b : List ℕ) (f v : ℕ) → fits (literals-in s) (l ∷ b) f v ≡ both (lets s l f v) (fits (literals-in s) b f v)
 unfolding fits each-of lets
 fits-more s l b f v = refl
 

@@ -3,9 +3,11 @@ use Prim.Native.Nat.{ℕ, zero, suc, _+_, _-_, _*_, _/_, _%_, _≤_, _<_}
 use native.Mathlib.Omega.{arith}
 use mathlib.Core.Path.{_≡_, refl, sym, _∙_, ap, subst}
 use mathlib.Core.List.{List, [], _∷_}
+use mathlib.Core.Logic.{inl, inr}
 use lib.ListN.{length, getD}
 use mir.Syntax.{w64}
 use mir.Val.{Fits}
+use Rattle.meaning.specs.Tests.{Has}
 use Rattle.meaning.specs.Limits.{format}
 use Rattle.reading.specs.Listed.{twos-from, Values-here}
 
@@ -81,3 +83,21 @@ twos-over s at (suc left) h = absurd (omega arith)
 
 pub twos-whole : (s : List ℕ) (p count : ℕ) → count ≡ getD s p 0 → twos-from s (p + 1) count ≡ twos-from s (p + 1) (getD s p 0)
 twos-whole s p count e = ap (twos-from s (p + 1)) e
+
+-- Each literal of a list that stands at p.
+twos-ranged : (s : List ℕ) (p : ℕ) → Values-here s p → (left at : ℕ) → Twos-left s p at left → (l : ℕ) → Has (twos-from s at left) l → (l < 32768) × (l % 256 < 32)
+unfolding twos-from
+twos-ranged s p here zero at so l h = absurd h
+twos-ranged s p here (suc left) at so l (inl e) = (literal-near s p here at (suc left) so (omega arith) l e, literal-second s p here at (suc left) so (omega arith) l e)
+twos-ranged s p here (suc left) at so l (inr h) =
+    let from = so .from in let to = so .to in twos-ranged s p here left (at + 2) (record { from = omega arith; to = omega arith }) l h
+
+module _ (s : List ℕ) (p : ℕ) (here : Values-here s p) (l : ℕ) (has : Has (twos-from s (p + 1) (getD s p 0)) l) where
+  pub listed-near : l < 32768
+  listed-near = twos-ranged s p here (getD s p 0) (p + 1) (twos-start s p (getD s p 0) refl) l has .0
+
+  pub listed-second : l % 256 < 32
+  listed-second = twos-ranged s p here (getD s p 0) (p + 1) (twos-start s p (getD s p 0) refl) l has .1
+
+  pub listed-fluent : l / 256 < format .fluents
+  listed-fluent = let near = listed-near in omega arith
