@@ -1,12 +1,12 @@
 -- The first state of values: a fluent's mark by a look at each of its values, and the marks of all fluents one by one. Assumes nothing.
 use Prim.Native.Nat.{ℕ, suc, zero, _+_, _-_, _≤_, _<_}
 use native.Mathlib.Omega.{arith}
-use native.Mathlib.Decide.{ℕ-discrete}
+use native.Mathlib.Decide.{decLt, ℕ-discrete}
 use mathlib.Core.Path.{_≡_, refl, sym, _∙_, ap, ap₂, subst}
 use mathlib.Core.Bool.{Bool, true, false}
 use mathlib.Core.List.{List, [], _∷_, map}
 use mathlib.Core.Logic.{inl, inr}
-use lib.ListN.{length, getD, set, replicate, length-set, length-replicate}
+use lib.ListN.{length, getD, set, replicate, length-set, length-replicate, List·getD-eq-default}
 use lib.Seq.{getD-set-same, getD-set-other, ext-getD}
 use lib.Dec.{eqb}
 use borrow.Author.Tests.{eqb-true, eq-eqb, ne-eqb}
@@ -15,10 +15,11 @@ use Rattle.meaning.specs.Limits.{format}
 use Rattle.meaning.specs.Reading.{values-in, literals-in}
 use Rattle.meaning.specs.Values.{numbers, values-of, fits}
 use Rattle.meaning.specs.ValueStates.{mark-left}
-use Rattle.meaning.proofs.TestLaws.{by-test, pick-true, pick-false}
+use Rattle.meaning.proofs.TestLaws.{by-test, pick-true, pick-false, those-has}
 use Rattle.meaning.proofs.ValueLaws.{numbers-has, numbered-length, numbered-at}
 use Rattle.bytes.specs.Bits.{bit-of}
 use Rattle.bytes.specs.Masks.{Allows, Few-values}
+use Rattle.valuing.specs.Valuing.{Valued-marks}
 
 -- THE MARK of what is left where so much was found already: none, or one value with its mark.
 only : (mark : ℕ) → List ℕ → ℕ
@@ -124,3 +125,26 @@ module _ (s facts : List ℕ) where
   marks-over marks f so h =
       ext-getD 0 marks (map (first-mark s facts) (numbers 0 (format .state))) (so .sized ∙ sym (numbered-length (first-mark s facts) 0 (format .state)))
       (λ g near. so .below g (omega (arith, near, so .sized, h)) ∙ sym (numbered-at (first-mark s facts) (format .state) g 0 (omega (arith, near, so .sized))))
+
+-- WITHIN THE NUMBERS OF VALUES. What is left is among them.
+left-small : (vs : List ℕ) (values : ℕ) → ((v : ℕ) → Has vs v → v < values) → mark-left vs ≤ values
+unfolding mark-left
+left-small [] values h = omega arith
+left-small (v ∷ []) values h = let low = h v (inl refl) in omega arith
+left-small (v ∷ u ∷ vs) values h = omega arith
+
+pub first-valued : (s facts : List ℕ) → Valued-marks s (map (first-mark s facts) (numbers 0 (format .state)))
+unfolding values-of
+first-valued s facts =
+    record {
+      sized = numbered-length (first-mark s facts) 0 (format .state);
+      small = λ f. elim (decLt f (format .state)) [
+        | yes near ↦
+            subst (λ (mark : ℕ). mark ≤ values-in s f) (sym (numbered-at (first-mark s facts) (format .state) f 0 near))
+            (left-small _ (values-in s f) (λ v has. let low = numbers-has 0 (values-in s f) v (those-has (fits (literals-in s) facts f) (numbers 0 (values-in s f)) v has .0) in omega arith))
+        | no far ↦
+            subst (λ (mark : ℕ). mark ≤ values-in s f)
+            (sym (List·getD-eq-default (map (first-mark s facts) (numbers 0 (format .state))) 0 {n = f} (rw (numbered-length (first-mark s facts) 0 (format .state)) (omega arith))))
+            (omega arith)
+      ];
+    }

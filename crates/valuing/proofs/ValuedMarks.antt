@@ -77,10 +77,6 @@ module _ (s marks : List ℕ) (so : Valued-marks s marks) (l mark : ℕ) (is : m
         (λ e. let same = eqb-true (mark - 1) v e in eq-eqb mark (v + 1) (omega (arith, some, same)))
         (λ e. let same = eqb-true mark (v + 1) e in eq-eqb (mark - 1) v (omega (arith, same)))
 
-    pub known-is : l % 2 ≡ 0 → eqb mark (l % 256 / 2 + 1) ≡ known (literals-in s) marks l
-    unfolding positive
-    known-is even = sym (known-satisfied ∙ pick-true _ _ _ (eq-eqb (l % 2) 0 even) ∙ one-less (l % 256 / 2))
-
     module _ (odd : l % 2 ≡ 0 → ⊥) where
       known-other : known (literals-in s) marks l ≡ fails (eqb mark (l % 256 / 2 + 1))
       unfolding positive
@@ -93,6 +89,17 @@ module _ (s marks : List ℕ) (so : Valued-marks s marks) (l mark : ℕ) (is : m
       pub known-is-not : (mark ≡ l % 256 / 2 + 1 → ⊥) → true ≡ known (literals-in s) marks l
       unfolding fails
       known-is-not other = sym (known-other ∙ ap fails (ne-eqb _ _ other))
+
+  pub known-is : l % 2 ≡ 0 → eqb mark (l % 256 / 2 + 1) ≡ known (literals-in s) marks l
+  unfolding positive
+  known-is even =
+      by-test (eqb mark 0)
+      (λ t.
+      let none = eqb-true mark 0 t in
+      ne-eqb mark (l % 256 / 2 + 1) (λ e. omega (arith, none, e)) ∙ sym (unknown-not none))
+      (λ f.
+      let some = eqb-false mark 0 f in
+      sym (known-satisfied some ∙ pick-true _ _ _ (eq-eqb (l % 2) 0 even) ∙ one-less some (l % 256 / 2)))
 
   pub known-unknown : mark ≡ 0 → false ≡ known (literals-in s) marks l
   known-unknown none = sym (unknown-not none)
@@ -171,16 +178,16 @@ module _ (s marks : List ℕ) (p : ℕ) where
       unfolding look-on both
       look-known t = record { place = twos-on s p at left (so .place) more; is = look-first true true (sym told ∙ t) (known-possible s marks valued l (sym told ∙ t)) }
 
-      module _ (not : good ≡ false) (mark : ℕ) (marked : mark ≡ getD marks (l / 256) 0) where
-        pub look-open : mark ≡ 0 → Look-ahead s marks p false (at + 2) (left - 1)
+      module _ (not : good ≡ false) where
+        pub look-open : getD marks (l / 256) 0 ≡ 0 → Look-ahead s marks p false (at + 2) (left - 1)
         unfolding look-on both pick
         look-open none =
             record {
               place = twos-on s p at left (so .place) more;
-              is = look-first false true (sym told ∙ not) (unknown-possible s marks valued l mark marked none) ∙ pick-false _ _ _ (both-none sure);
+              is = look-first false true (sym told ∙ not) (unknown-possible s marks valued l _ refl none) ∙ pick-false _ _ _ (both-none sure);
             }
 
-        pub look-never : (mark ≡ 0 → ⊥) → look.Never ≡ look-values s marks (twos-from s (p + 1) (getD s p 0))
+        pub look-never : (getD marks (l / 256) 0 ≡ 0 → ⊥) → look.Never ≡ look-values s marks (twos-from s (p + 1) (getD s p 0))
         unfolding both pick
         look-never some =
-            sym (look-first false false (sym told ∙ not) (possible-known s marks valued l mark marked some ∙ sym told ∙ not) ∙ pick-false _ _ _ (both-none sure))
+            sym (look-first false false (sym told ∙ not) (possible-known s marks valued l _ refl some ∙ sym told ∙ not) ∙ pick-false _ _ _ (both-none sure))

@@ -30,12 +30,12 @@ pub fn known(s: &[u8], marks: &Marks, l: usize) -> bool
 {
     let f = l / 256;
     let mark = wide(marks[f]);
-    if mark == 0 {
-        return false;
-    }
     let said = l % 256 / 2 + 1;
     if l % 2 == 0 {
         return mark == said;
+    }
+    if mark == 0 {
+        return false;
     }
     if mark == said {
         return false;
@@ -84,8 +84,7 @@ pub fn look_at(s: &[u8], marks: &Marks, p: usize) -> Look
             continue;
         }
         let f = l / 256;
-        let mark = wide(marks[f]);
-        if mark == 0 {
+        if marks[f] == limits::UNKNOWN_MARK {
             sure = false;
             continue;
         }

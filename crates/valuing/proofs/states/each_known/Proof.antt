@@ -18,63 +18,63 @@ Inv-loop s marks p left₀ at₀ left at = Each-ahead (known (literals-in s) mar
 abbrev μ-loop : tie.MeasureT-loop
 μ-loop s marks p left₀ at₀ left at = left
 
--- src/states.rt:43:25
+-- src/states.rt:52:25
 shared-slice-read-wide : tie.Need-shared-slice-read-wide Inv-loop μ-loop
 shared-slice-read-wide c = search count-there
 
--- src/states.rt:43:9
+-- src/states.rt:52:9
 wide-requires : tie.Need-wide-requires Inv-loop μ-loop
 wide-requires c κs = search needs
 
--- src/states.rt:44:18
+-- src/states.rt:53:18
 add-at : tie.Need-add-at Inv-loop μ-loop
 add-at c = search first-fits
 
--- src/states.rt:45:5
+-- src/states.rt:54:5
 loop-holds : tie.Need-loop-holds Inv-loop μ-loop
 loop-holds c = search each-starts
 
--- src/states.rt:46:22
+-- src/states.rt:55:22
 add-second : tie.Need-add-second Inv-loop μ-loop
 add-second c = search second-fits
 
--- src/states.rt:47:21
+-- src/states.rt:56:21
 shared-slice-read-two : tie.Need-shared-slice-read-two Inv-loop μ-loop
 shared-slice-read-two c = search literal-there
 
--- src/states.rt:47:28
+-- src/states.rt:56:28
 shared-slice-read-two-2 : tie.Need-shared-slice-read-two-2 Inv-loop μ-loop
 shared-slice-read-two-2 c = search second-there
 
--- src/states.rt:47:13
+-- src/states.rt:56:13
 two-requires : tie.Need-two-requires Inv-loop μ-loop
 two-requires c κs = search needs
 
--- src/states.rt:48:9
+-- src/states.rt:57:9
 add-at-2 : tie.Need-add-at-2 Inv-loop μ-loop
 add-at-2 c = search next-fits
 
--- src/states.rt:49:9
+-- src/states.rt:58:9
 sub-left : tie.Need-sub-left Inv-loop μ-loop
 sub-left c = search needs
 
--- src/states.rt:50:13
+-- src/states.rt:59:13
 known-requires : tie.Need-known-requires Inv-loop μ-loop
 known-requires c κs = search (needs, literal-near, literal-second)
 
--- src/states.rt:45:5
+-- src/states.rt:54:5
 loop-less : tie.Need-loop-less Inv-loop μ-loop
 loop-less c = search needs
 
--- src/states.rt:45:5
+-- src/states.rt:54:5
 loop-again : tie.Need-loop-again Inv-loop μ-loop
 loop-again c = search each-on
 
--- src/states.rt:54:9
+-- src/states.rt:63:9
 returns : tie.Need-returns Inv-loop μ-loop
 returns c = search each-fails
 
--- src/states.rt:38:1
+-- src/states.rt:47:1
 returns-2 : tie.Need-returns-2 Inv-loop μ-loop
 returns-2 c = search each-over
 

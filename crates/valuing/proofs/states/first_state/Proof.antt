@@ -20,47 +20,47 @@ Inv-loop s p allowed marks₀ f₀ marks f = Marks-ahead s (twos-from s (p + 1) 
 abbrev μ-loop : tie.MeasureT-loop
 μ-loop s p allowed marks₀ f₀ marks f = format .fluents - f
 
--- src/states.rt:127:19
+-- src/states.rt:126:19
 allowed-by-requires : tie.Need-allowed-by-requires Inv-loop μ-loop
 allowed-by-requires c κs = search needs
 
--- src/states.rt:130:5
+-- src/states.rt:129:5
 loop-holds : tie.Need-loop-holds Inv-loop μ-loop
 loop-holds c = search marks-start
 
--- src/states.rt:131:13
+-- src/states.rt:130:13
 values-in-requires : tie.Need-values-in-requires Inv-loop μ-loop
 values-in-requires c κs = search needs
 
--- src/states.rt:132:30
+-- src/states.rt:131:30
 mul-mark-left : tie.Need-mul-mark-left Inv-loop μ-loop
 mul-mark-left c = search needs
 
--- src/states.rt:132:30
+-- src/states.rt:131:30
 array-read-mark-left : tie.Need-array-read-mark-left Inv-loop μ-loop
 array-read-mark-left c = search needs
 
--- src/states.rt:132:20
+-- src/states.rt:131:20
 mark-left-requires : tie.Need-mark-left-requires Inv-loop μ-loop
 mark-left-requires c κs = search (needs, few-enough)
 
--- src/states.rt:132:9
+-- src/states.rt:131:9
 array-write-marks : tie.Need-array-write-marks Inv-loop μ-loop
 array-write-marks c = search needs
 
--- src/states.rt:133:9
+-- src/states.rt:132:9
 add-f : tie.Need-add-f Inv-loop μ-loop
 add-f c = search needs
 
--- src/states.rt:130:5
+-- src/states.rt:129:5
 loop-less : tie.Need-loop-less Inv-loop μ-loop
 loop-less c = search needs
 
--- src/states.rt:130:5
+-- src/states.rt:129:5
 loop-again : tie.Need-loop-again Inv-loop μ-loop
 loop-again c = search marks-on
 
--- src/states.rt:122:1
+-- src/states.rt:121:1
 returns : tie.Need-returns Inv-loop μ-loop
 returns c = marks-over _ _ _ _ (c .before .loop .inv) (c .loop-test .left)
 

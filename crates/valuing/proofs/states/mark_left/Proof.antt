@@ -14,43 +14,43 @@ Inv-loop m values mark₀ v₀ mark v = Left-ahead m values mark v
 abbrev μ-loop : tie.MeasureT-loop
 μ-loop m values mark₀ v₀ mark v = values - v
 
--- src/states.rt:107:5
+-- src/states.rt:106:5
 loop-holds : tie.Need-loop-holds Inv-loop μ-loop
 loop-holds c = search left-starts
 
--- src/states.rt:108:13
+-- src/states.rt:107:13
 has-bit-requires : tie.Need-has-bit-requires Inv-loop μ-loop
 has-bit-requires c κs = search needs
 
--- src/states.rt:109:9
+-- src/states.rt:108:9
 add-v : tie.Need-add-v Inv-loop μ-loop
 add-v c = search needs
 
--- src/states.rt:112:24
+-- src/states.rt:111:24
 cast-mark : tie.Need-cast-mark Inv-loop μ-loop
 cast-mark c = search needs
 
--- src/states.rt:107:5
+-- src/states.rt:106:5
 loop-less : tie.Need-loop-less Inv-loop μ-loop
 loop-less c = search needs
 
--- src/states.rt:107:5
+-- src/states.rt:106:5
 loop-again : tie.Need-loop-again Inv-loop μ-loop
 loop-again c = search left-one
 
--- src/states.rt:115:13
+-- src/states.rt:114:13
 returns : tie.Need-returns Inv-loop μ-loop
 returns c = search left-two
 
--- src/states.rt:107:5
+-- src/states.rt:106:5
 loop-less-2 : tie.Need-loop-less-2 Inv-loop μ-loop
 loop-less-2 c = search needs
 
--- src/states.rt:107:5
+-- src/states.rt:106:5
 loop-again-2 : tie.Need-loop-again-2 Inv-loop μ-loop
 loop-again-2 c = search left-not
 
--- src/states.rt:101:1
+-- src/states.rt:100:1
 returns-2 : tie.Need-returns-2 Inv-loop μ-loop
 returns-2 c = search left-over
 
