@@ -2,13 +2,13 @@
 -- that one leaves a value. Assumes nothing.
 use Prim.Native.Nat.{ℕ, _/_, _<_}
 use native.Mathlib.Omega.{arith}
-use mathlib.Core.Path.{_≡_, refl, sym, _∙_, ap, subst}
+use mathlib.Core.Path.{_≡_, refl, sym, _∙_, subst}
 use mathlib.Core.Bool.{Bool, true, false}
 use mathlib.Core.List.{List}
 use lib.ListN.{getD}
 use lib.Dec.{eqb}
 use borrow.Author.Tests.{eqb-true, eq-eqb}
-use Rattle.meaning.specs.Tests.{both, either, fails, some-of, each-of, Has}
+use Rattle.meaning.specs.Tests.{both, fails, some-of, each-of, Has}
 use Rattle.meaning.specs.Limits.{format}
 use Rattle.meaning.specs.Reading.{values-in, literals-in, leaves-one}
 use Rattle.meaning.specs.Values.{numbers, values-of, fits, disagree, exclusive}

@@ -1,17 +1,17 @@
 -- The values that lists leave to each fluent: a list's literals narrow the sets one by one, in whatever order, and what a set has lost at one literal it
 -- lacks at the end. Assumes nothing.
-use Prim.Native.Nat.{ℕ, zero, suc, _+_, _-_, _*_, _/_, _%_, _≤_, _<_}
+use Prim.Native.Nat.{ℕ, _+_, _-_, _*_, _/_, _%_, _≤_, _<_}
 use native.Mathlib.Omega.{arith}
 use native.Mathlib.Decide.{ℕ-discrete}
 use mathlib.Core.Path.{_≡_, refl, sym, _∙_, ap, subst}
 use mathlib.Core.Bool.{Bool, true, false}
 use mathlib.Core.List.{List, [], _∷_}
 use mathlib.Core.Logic.{_⊎_, inl, inr, ⊎-elim}
-use lib.ListN.{length, getD, set, replicate, length-set, length-replicate, getD-replicate}
+use lib.ListN.{length, getD, replicate, length-set, length-replicate, getD-replicate}
 use lib.Seq.{getD-set-same, getD-set-other}
 use lib.Dec.{eqb}
 use borrow.Author.Tests.{eq-eqb, ne-eqb}
-use Rattle.meaning.specs.Tests.{both, either, fails, some-of, each-of, Has}
+use Rattle.meaning.specs.Tests.{both, either, fails, each-of, Has}
 use Rattle.meaning.specs.Limits.{format}
 use Rattle.meaning.specs.Reading.{values-in, literals-in}
 use Rattle.meaning.specs.Values.{numbers, values-of, fits}
@@ -22,7 +22,7 @@ use Rattle.bytes.specs.Masks.{every-value, satisfying, some-left, narrowed, All
 use Rattle.bytes.proofs.MaskLaws.{bit-both, satisfied-bit, every-bit}
 use Rattle.reading.specs.Listed.{twos-from, Values-here}
 use Rattle.valuing.specs.Valuing.{agreeing}
-use Rattle.valuing.proofs.TwosLaws.{Twos-left, twos-start, twos-on, twos-next, twos-over, twos-whole, literal-near, literal-second, literal-fluent}
+use Rattle.valuing.proofs.TwosLaws.{Twos-left, twos-start, twos-on, twos-next, twos-over, twos-whole, literal-near, literal-second}
 
 -- ONE LITERAL takes away what does not satisfy it, of the set of its fluent.
 unfoldable pub lets : (s : List ℕ) (literal fluent value : ℕ) → Bool

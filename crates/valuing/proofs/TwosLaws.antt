@@ -1,7 +1,7 @@
 -- A list of literals with two bytes each, from its first to its last. Assumes nothing.
 use Prim.Native.Nat.{ℕ, zero, suc, _+_, _-_, _*_, _/_, _%_, _≤_, _<_}
 use native.Mathlib.Omega.{arith}
-use mathlib.Core.Path.{_≡_, refl, sym, _∙_, ap, subst}
+use mathlib.Core.Path.{_≡_, refl, ap, subst}
 use mathlib.Core.List.{List, [], _∷_}
 use mathlib.Core.Logic.{inl, inr}
 use lib.ListN.{length, getD}
@@ -28,20 +28,17 @@ module _ (s : List ℕ) (p : ℕ) where
     first-fits room = let there = count-there in let most = room .fits in record { fits = omega arith }
 
     module _ (at left : ℕ) (so : Twos-left s p at left) (more : 0 < left) where
-      second-inside : at + 1 < length s
-      second-inside = let ends = here .ends in let to = so .to in omega arith
+      pub second-there : at + 1 < length s
+      second-there = let ends = here .ends in let to = so .to in omega arith
 
       pub literal-there : at < length s
-      literal-there = let inside = second-inside in omega arith
-
-      pub second-there : at + 1 < length s
-      second-there = second-inside
+      literal-there = let inside = second-there in omega arith
 
       pub second-fits : Fits w64 (length s) → Fits w64 (at + 1)
-      second-fits room = let inside = second-inside in let most = room .fits in record { fits = omega arith }
+      second-fits room = let inside = second-there in let most = room .fits in record { fits = omega arith }
 
       pub next-fits : Fits w64 (length s) → Fits w64 (at + 2)
-      next-fits room = let inside = second-inside in let most = room .fits in record { fits = omega arith }
+      next-fits room = let inside = second-there in let most = room .fits in record { fits = omega arith }
 
       is-entry : p + 1 + 2 * (getD s p 0 - left) ≡ at
       is-entry = let from = so .from in let to = so .to in omega arith

@@ -1,11 +1,11 @@
 -- A list of literals of values that was read stands in the input where it was read, and each of its literals leaves its fluent a value: the last literal of a fluent was
 -- tested with all before it, and those behind it speak of others. Assumes nothing.
-use Prim.Native.Nat.{ℕ, zero, suc, _+_, _-_, _*_, _/_, _%_, _≤_, _<_}
+use Prim.Native.Nat.{ℕ, zero, suc, _+_, _-_, _*_, _/_, _≤_, _<_}
 use native.Mathlib.Omega.{arith}
 use mathlib.Core.Path.{_≡_, refl, sym, _∙_, ap, subst}
-use mathlib.Core.Bool.{Bool, true, false}
+use mathlib.Core.Bool.{true, false}
 use mathlib.Core.List.{List, [], _∷_}
-use mathlib.Core.Logic.{_⊎_, inl, inr, ⊎-elim}
+use mathlib.Core.Logic.{_⊎_, ⊎-elim}
 use lib.ListN.{length, getD}
 use lib.Dec.{eqb}
 use borrow.Author.Tests.{eqb-true, eq-eqb}
@@ -23,7 +23,7 @@ use Rattle.valuing.proofs.TwosLaws.{listed-fluent}
 use Rattle.valuing.proofs.LeftLaws.{fits-more}
 use Rattle.valuing.proofs.AgreeingLaws.{names, unnamed-fits}
 
--- ONE LITERAL that was read: its two bytes, the place behind them, and that it leaves its fluent a value with those before it.
+-- ONE LITERAL that was read: its two bytes, a fluent and one of its values, and the place behind them.
 pub record Value-read (n : ℕ) (s : List ℕ) (p x q : ℕ) : Type 0 where
   pub is : getD s p 0 * 256 + getD s (p + 1) 0 ≡ x
   pub after : q ≡ p + 2

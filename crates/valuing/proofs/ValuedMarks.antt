@@ -1,18 +1,18 @@
 -- Literals of values in a partial state: what a mark knows and leaves possible, and the loops over a list's literals. Assumes nothing.
-use Prim.Native.Nat.{ℕ, zero, suc, _+_, _-_, _*_, _/_, _%_, _≤_, _<_}
+use Prim.Native.Nat.{ℕ, _+_, _-_, _*_, _/_, _%_, _≤_, _<_}
 use native.Mathlib.Omega.{arith}
-use mathlib.Core.Path.{_≡_, refl, sym, _∙_, ap, subst}
+use mathlib.Core.Path.{_≡_, refl, sym, _∙_, ap}
 use mathlib.Core.Bool.{Bool, true, false}
-use mathlib.Core.List.{List, [], _∷_}
-use lib.ListN.{length, getD}
+use mathlib.Core.List.{List}
+use lib.ListN.{getD}
 use lib.Dec.{eqb}
 use borrow.Author.Tests.{eqb-true, eqb-false, eq-eqb, ne-eqb}
-use Rattle.meaning.specs.Tests.{both, fails, pick, some-of, each-of}
+use Rattle.meaning.specs.Tests.{both, fails, pick, each-of}
 use Rattle.meaning.specs.Literals.{positive}
 use Rattle.meaning.specs.Reading.{values-in, literals-in}
 use Rattle.meaning.specs.Values.{numbers, values-of}
 use Rattle.meaning.specs.ValueStates.{is-known, known-as, known, possible}
-use Rattle.meaning.proofs.TestLaws.{by-test, clash, same-test, both-true, both-left, both-right, both-none, pick-true, pick-false, some-has, has-some}
+use Rattle.meaning.proofs.TestLaws.{by-test, same-test, both-true, both-left, both-right, both-none, pick-true, pick-false, some-has, has-some}
 use Rattle.meaning.proofs.ValueLaws.{has-numbers}
 use Rattle.reading.specs.declared.marks.Look.{Look}
 use Rattle.reading.specs.declared.marks.Look.the-variants as look
@@ -50,11 +50,11 @@ fails-twice true = refl
 fails-twice false = refl
 
 module _ (s marks : List ℕ) (so : Valued-marks s marks) (l mark : ℕ) (is : mark ≡ getD marks (l / 256) 0) where
-  pub unknown-not : mark ≡ 0 → known (literals-in s) marks l ≡ false
+  unknown-not : mark ≡ 0 → known (literals-in s) marks l ≡ false
   unfolding known
   unknown-not none = known-none s marks so (l / 256) _ (sym is ∙ none)
 
-  pub unknown-possible : mark ≡ 0 → possible (literals-in s) marks l ≡ true
+  unknown-possible : mark ≡ 0 → possible (literals-in s) marks l ≡ true
   unfolding possible fails
   unknown-possible none = ap fails (known-none s marks so (l / 256) _ (sym is ∙ none))
 
@@ -62,12 +62,12 @@ module _ (s marks : List ℕ) (so : Valued-marks s marks) (l mark : ℕ) (is : m
     marked : getD marks (l / 256) 0 ≡ mark - 1 + 1
     marked = omega (arith, is, some)
 
-    pub known-satisfied : known (literals-in s) marks l ≡ literals-in s .satisfied l (mark - 1)
+    known-satisfied : known (literals-in s) marks l ≡ literals-in s .satisfied l (mark - 1)
     unfolding known
     known-satisfied = known-of s marks so (l / 256) _ (mark - 1) marked
 
     -- Where a value is known, what is possible is known.
-    pub possible-known : possible (literals-in s) marks l ≡ known (literals-in s) marks l
+    possible-known : possible (literals-in s) marks l ≡ known (literals-in s) marks l
     unfolding possible
     possible-known = ap fails (known-of s marks so (l / 256) _ (mark - 1) marked) ∙ fails-twice _ ∙ sym known-satisfied
 

@@ -21,7 +21,7 @@ use bytes::values::values_in;
 use reading::marks::Look;
 use reading::marks::Marks;
 
-// A mark is one more than the value that it says, and 0 says none.
+// The literal is known true. A mark is one more than the value that it says, and 0 says none.
 pub fn known(s: &[u8], marks: &Marks, l: usize) -> bool
     requires { ⌜ l < 32768 ⌝ }
     requires { ⌜ l % 256 < 32 ⌝ }
