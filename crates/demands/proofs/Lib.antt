@@ -60,6 +60,10 @@ pub mod ReuseMet
 pub mod Indexed
 pub mod NarrowMet
 pub mod DeriveExact
+pub mod ValuePlaces
+pub mod ValueAnswers
+pub mod ValuesExact
+pub mod ValuesSound
 pub mod Demands
 pub mod GuideReadings
 pub mod GuideSteps
