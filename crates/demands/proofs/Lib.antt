@@ -64,6 +64,7 @@ pub mod ValuePlaces
 pub mod ValueAnswers
 pub mod ValuesExact
 pub mod ValuesSound
+pub mod ValueReads
 pub mod Demands
 pub mod GuideReadings
 pub mod GuideSteps
