@@ -65,6 +65,9 @@ pub mod ValueAnswers
 pub mod ValuesExact
 pub mod ValuesSound
 pub mod ValueReads
+pub mod MatchedStates
+pub mod MatchedWalk
+pub mod Matched
 pub mod Demands
 pub mod GuideReadings
 pub mod GuideSteps

@@ -5,3 +5,4 @@ pub mod Wider
 pub mod Completeness
 pub mod GuideSaid
 pub mod ValuesReported
+pub mod Matching
