@@ -60,9 +60,9 @@ module _ (s : List ℕ) where
       let same : y ≡ x = got-same is in
       elim (ℕ-discrete f (literals-in s .fluent x)) [
         | yes here ↦
-          let v = some-has _ (values-of (literals-in s) (literals-in s .fluent y)) t in
-          let at-y : Left-by (y ∷ before) (literals-in s .fluent y) = (v .0, v .1, v .2) in
-          subst (Left-by (x ∷ before)) (sym here) (subst (λ (z : ℕ). Left-by (z ∷ before) (literals-in s .fluent z)) same at-y)
+            let v = some-has _ (values-of (literals-in s) (literals-in s .fluent y)) t in
+            let at-y : Left-by (y ∷ before) (literals-in s .fluent y) = (v .0, v .1, v .2) in
+            subst (Left-by (x ∷ before)) (sym here) (subst (λ (z : ℕ). Left-by (z ∷ before) (literals-in s .fluent z)) same at-y)
         | no other ↦ let v = left f in (v .0, v .1, both-true _ _ (either-left _ _ (fails-false _ (ne-eqb (literals-in s .fluent x) f (λ z. other (sym z))))) (v .2))
       ])
       (λ _ is. absurd (fault≢got is))
