@@ -68,6 +68,7 @@ pub mod ValueReads
 pub mod MatchedStates
 pub mod MatchedWalk
 pub mod Matched
+pub mod MatchedReads
 pub mod Demands
 pub mod GuideReadings
 pub mod GuideSteps

@@ -1,11 +1,13 @@
 -- When a request matches a values request in which every fluent has two values (FORMAT 26.27): it is the same once every place is left out, the value 0 counts as true and
 -- the value 1 as false.
-use Prim.Native.Nat.{ℕ, _+_, _*_}
+use Prim.Native.Nat.{ℕ, _+_, _*_, _/_, _%_}
 use mathlib.Core.Path.{_≡_}
-use mathlib.Core.List.{List, [], _∷_}
+use mathlib.Core.List.{List, [], _∷_, map}
 use mathlib.Core.Logic.{_⊎_}
+use lib.Dec.{eqb}
+use Rattle.meaning.specs.Tests.{either, pick}
 use Rattle.meaning.specs.Literals.{says-true, says-false}
-use Rattle.meaning.specs.Requests.{Effect-over, Executability-over, Knowledge, Table-over, Sequence, done, item, Item, act, branching, Branches, none, branch, Entry-over, Request-over, values, Request}
+use Rattle.meaning.specs.Requests.{Effect-over, Executability-over, Knowledge, Table-over, Sequence, done, item, Item, act, branching, Branches, none, branch, Request-over, values, Effect, Executability, Entry, Request}
 use Rattle.meaning.specs.Judging.{Judgement}
 
 -- LITERALS. "f is v" and "f is not v", as the number of their two bytes (FORMAT 26.5).
@@ -85,6 +87,48 @@ module _ {L M : Type 0} (Same Sets : L → M → Type 0) where
 -- The second request matches the first, a values request.
 abbrev pub Matches : (valued plain : Request) → Type 0
 Matches = Same-request Same-literal Same-setting
+
+-- THE MATCH of a values request: each of its literals as the literal that it is, and all else as it was.
+unfoldable pub plain-literal : ℕ → ℕ
+plain-literal l = pick (either (eqb (l % 256) 0) (eqb (l % 256) 3)) (λ _. says-true (l / 256)) (λ _. says-false (l / 256))
+
+abbrev pub plain-effect : Effect → Effect
+plain-effect e = record { place = e .place; action = e .action; literal = plain-literal (e .literal); body = map plain-literal (e .body) }
+
+abbrev pub plain-line : Executability → Executability
+plain-line x = record { place = x .place; action = x .action; body = map plain-literal (x .body) }
+
+abbrev mutual
+  pub plain-items : Sequence ℕ → Sequence ℕ
+  plain-items done = done
+  plain-items (item i rest) = item (plain-item i) (plain-items rest)
+
+  pub plain-item : Item ℕ → Item ℕ
+  plain-item (act p a) = act p a
+  plain-item (branching p bs) = branching p (plain-branches bs)
+
+  pub plain-branches : Branches ℕ → Branches ℕ
+  plain-branches none = none
+  plain-branches (branch c b bs) = branch (map plain-literal c) (plain-items b) (plain-branches bs)
+
+abbrev pub plain-goal : Entry → Entry
+plain-goal e = record { place = e .place; value = plain-literal (e .value) }
+
+abbrev pub plain-request : Request → Request
+plain-request r = record {
+  table = record {
+    fluents = r .table .fluents;
+    actions = r .table .actions;
+    facts = map plain-literal (r .table .facts);
+    effects = map plain-effect (r .table .effects);
+    executability = map plain-line (r .table .executability);
+    knowledge = r .table .knowledge;
+  };
+  plan = plain-items (r .plan);
+  goals = map plain-goal (r .goals);
+  whether = r .whether;
+  whether-place = r .whether-place;
+}
 
 -- A judgement with its place left out.
 unfoldable pub placeless : Judgement → Judgement
