@@ -69,6 +69,7 @@ pub mod MatchedStates
 pub mod MatchedWalk
 pub mod Matched
 pub mod MatchedReads
+pub mod MatchedMet
 pub mod Demands
 pub mod GuideReadings
 pub mod GuideSteps
