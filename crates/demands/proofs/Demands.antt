@@ -165,9 +165,10 @@ pub use Rattle.demands.proofs.ValuesExact.{in-values-order, values-spen
 -- Demand 3 (FORMAT 26.34): where it is verified, it is carried out in every world that gives each fluent one of its values and has the initial facts, of which there are some; and 16 keeps
 -- moves single-valued.
 pub use Rattle.demands.proofs.ValuesSound.{values-sound, values-move-single}
-pub use Rattle.demands.proofs.ValueReads.{values-least, some-world}
--- Where every fluent has two values, it answers a request as the walk call answers one that matches it (FORMAT 26.27, 26.28).
+pub use Rattle.demands.proofs.ValueReads.{values-least, settled-some-world}
+-- Where every fluent has two values, it answers a request as the walk call answers one that matches it (FORMAT 26.28); and each such request that was read has a match (26.27).
 pub use Rattle.demands.proofs.Matched.{matched-alike}
+pub use Rattle.demands.proofs.MatchedReads.{match-there}
 
 -- Demand 1 (FORMAT 11.1): every input gets one of the numbered answers.
 pub numbered : (lim : Limits) (request lent : List ℕ) (budget : ℕ) → among (judge lim request lent budget .answer .number) answers ≡ true

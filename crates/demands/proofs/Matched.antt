@@ -1,10 +1,10 @@
 -- The values call and the walk call agree where every fluent has two values (FORMAT 26.27, 26.28): literals that match are satisfied by the same values and set the same, so matching
 -- requests are refused and walked alike (`MatchedWalk`), and the plain definitions are those of the instance with two values (`TwoValues`). That no list names a fluent twice is
--- not asked: what was read of the plain request has it. Assumes nothing.
-use Prim.Native.Nat.{ℕ, suc, _+_, _*_, _/_, _%_, _<_}
+-- not asked: no list that was read of the plain request does, and so it follows. Assumes nothing.
+use Prim.Native.Nat.{ℕ, _+_, _*_, _/_, _%_, _<_}
 use native.Mathlib.Omega.{arith}
 use native.Mathlib.Decide.{ℕ-discrete}
-use mathlib.Core.Path.{_≡_, refl, sym, _∙_, ap, ap₂, subst, fun-ext}
+use mathlib.Core.Path.{_≡_, refl, sym, _∙_, ap, subst, fun-ext}
 use mathlib.Core.Bool.{Bool, true, false}
 use mathlib.Core.List.{List, []}
 use mathlib.Core.Logic.{_⊎_, inl, inr, ⊎-elim}
@@ -15,22 +15,19 @@ use Rattle.meaning.specs.declared.Form.the-variants.{Flags, Valued}
 use Rattle.meaning.specs.Tests.{fails, pick}
 use Rattle.meaning.specs.Limits
 use Rattle.meaning.specs.Limits.{Limits}
-use Rattle.meaning.specs.Literals.{says-true, says-false, fluent-of, positive}
+use Rattle.meaning.specs.Literals.{fluent-of, positive}
 use Rattle.meaning.specs.Requests.{Effect, Request}
 use Rattle.meaning.specs.Reading.{Got, got, fault, next, values-in, literals-in, read-request}
-use Rattle.meaning.specs.Refusals
-use Rattle.meaning.specs.Refusals.{Found, nowhere, at, refuse, first-against, contradiction-in, mixed-in, overlap-in, failing-in, past-refusals, settled}
-use Rattle.meaning.specs.States
+use Rattle.meaning.specs.Refusals.{Found, nowhere, at, refuse, first-against, contradiction-in, mixed-in, overlap-in, failing-in, settled}
 use Rattle.meaning.specs.States.{State}
-use Rattle.meaning.specs.Walk
-use Rattle.meaning.specs.Walk.{Concerned, in-state, no-state, End, fine, missed, stopped, Walked}
+use Rattle.meaning.specs.Walk.{End, fine, missed, stopped, Walked}
 use Rattle.meaning.specs.Judging
-use Rattle.meaning.specs.Judging.{Judgement, reported, ended, within, judge-got, judge-by, judge}
+use Rattle.meaning.specs.Judging.{Judgement, reported, ended, within, judge-got, judge}
 use Rattle.meaning.specs.Values
 use Rattle.meaning.specs.Values.{Literals, flags}
 use Rattle.meaning.specs.ValueStates
-use Rattle.meaning.specs.Valued.{past-value-refusals, settled-values, walk-of, judge-values}
-use Rattle.demands.specs.Matching.{is-value, is-not-value, Same-literal, Same-setting, Same-table, Matches, placeless}
+use Rattle.meaning.specs.Valued.{settled-values, walk-of, judge-values}
+use Rattle.demands.specs.Matching.{is-value, is-not-value, Same-literal, Same-setting, Matches, placeless}
 use Rattle.meaning.proofs.TestLaws.{pick-true, pick-false, pick-map}
 use Rattle.meaning.proofs.LiteralLaws.{positive-true, positive-false, fluent-true, fluent-false}
 use Rattle.meaning.proofs.RefusalLaws.{at≢nowhere, unplaced-found}

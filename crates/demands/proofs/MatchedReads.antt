@@ -10,12 +10,11 @@ use mathlib.Core.Logic.{_⊎_, inl, inr, ⊎-elim}
 use borrow.Author.Tests.{eqb-true, eq-eqb, ne-eqb}
 use Rattle.meaning.specs.declared.Form.the-variants.{Valued}
 use Rattle.meaning.specs.Tests.{either, Has}
-use Rattle.meaning.specs.Limits
 use Rattle.meaning.specs.Limits.{Limits}
 use Rattle.meaning.specs.Literals.{says-true, says-false, positive}
-use Rattle.meaning.specs.Requests.{Effect, Executability, Knowledge, Table, Sequence, Item, Branches, Entry, values, Request}
-use Rattle.meaning.specs.Reading.{Got, got, count-at, below-at, fluents, list-at, values-in, value-at, value-entry-at, value-entries-at, value-list-at, set-value-at, value-counts-at, section-at, body-at, effect-at, executability-at, knowledge-at, plan-at, table-at, placed-twos, request-at, read-request}
-use Rattle.demands.specs.Matching.{is-value, is-not-value, Same-literal, Same-setting, Pairwise, Same-knowledge-line, Same-effect-line, Same-run-line, Same-table, Same-items, Same-item, Same-branches, Matches, plain-literal, plain-effect, plain-line, plain-items, plain-item, plain-branches, plain-goal, plain-request}
+use Rattle.meaning.specs.Requests.{Effect, Executability, Knowledge, Table, Entry, values, Request}
+use Rattle.meaning.specs.Reading.{got, count-at, below-at, fluents, list-at, values-in, value-at, value-entry-at, value-entries-at, value-list-at, set-value-at, value-counts-at, section-at, body-at, effect-at, executability-at, knowledge-at, plan-at, table-at, placed-twos, request-at, read-request}
+use Rattle.demands.specs.Matching.{Same-literal, Same-setting, Pairwise, Same-knowledge-line, Same-effect-line, Same-run-line, Same-table, Same-items, Same-item, Same-branches, Matches, plain-literal, plain-effect, plain-line, plain-items, plain-item, plain-branches, plain-goal, plain-request}
 use Rattle.meaning.proofs.TestLaws.{either-left, either-right, pick-true, pick-false, pick-cases}
 use Rattle.meaning.proofs.SettledLaws.{fault≢got, got-same}
 use Rattle.meaning.proofs.RangeLaws.{not-refused, after-got, below-bound, section-read}

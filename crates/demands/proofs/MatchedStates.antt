@@ -3,7 +3,7 @@
 use Prim.Native.Nat.{ℕ, _+_, _<_}
 use native.Mathlib.Omega.{arith}
 use native.Mathlib.Decide.{ℕ-discrete}
-use mathlib.Core.Path.{_≡_, refl, sym, _∙_, ap, ap₂, subst, fun-ext}
+use mathlib.Core.Path.{_≡_, refl, sym, _∙_, ap, ap₂, fun-ext}
 use mathlib.Core.Bool.{Bool, true, false}
 use mathlib.Core.List.{List, [], _∷_, map}
 use mathlib.Core.Logic.{inl, inr}
@@ -13,7 +13,7 @@ use borrow.Author.Tests.{ne-eqb}
 use Rattle.meaning.specs.Tests.{both, either, fails, pick, some-of, each-of, those-of, Has}
 use Rattle.meaning.specs.Limits
 use Rattle.meaning.specs.Limits.{Limits}
-use Rattle.meaning.specs.Requests.{Effect-over, Executability-over, Knowledge, Table-over}
+use Rattle.meaning.specs.Requests.{Effect-over, Table-over}
 use Rattle.meaning.specs.Lines.{effects-of, executability-of, knowledge-of, allowed, sensing, senses}
 use Rattle.meaning.specs.States.{State, Outcome}
 use Rattle.meaning.specs.Values.{Literals, numbers, first-such, values-of, set-by, fits, disagree, exclusive, clashing, runs-with, contradictory, all-exclusive}

@@ -6,12 +6,12 @@ use mathlib.Core.Bool.{Bool, true, false}
 use mathlib.Core.List.{List, [], _∷_}
 use lib.Dec.{eqb}
 use Rattle.meaning.specs.Tests.{both, fails, pick, some-of, each-of}
-use Rattle.meaning.specs.Requests.{Effect, Knowledge, Table, Sequence, done, item, Item, act, branching, Branches, none, branch, Entry-over, Request-over, values, Request}
+use Rattle.meaning.specs.Requests.{Effect, Knowledge, Table, Sequence, done, item, Item, act, branching, Branches, none, branch, Entry-over, Request-over, values}
 use Rattle.meaning.specs.Refusals.{Found, nowhere, at, or-else, first-against, mixed-in, conditions-of, failing-in, failing-at, failing-below}
 use Rattle.meaning.specs.States.{State}
-use Rattle.meaning.specs.Walk.{Walked, Steps, meet, run-action, walk, walk-item, walk-branch, first-missed, end-of}
+use Rattle.meaning.specs.Walk.{Walked, Steps, run-action, walk, walk-item, walk-branch, first-missed, end-of}
 use Rattle.meaning.specs.Values.{Literals, contradictory, all-exclusive}
-use Rattle.meaning.specs.ValueStates.{known, known-whether, table-does, table-step, missed-in, judged, walked}
+use Rattle.meaning.specs.ValueStates.{known, known-whether, table-step, missed-in, judged, walked}
 use Rattle.demands.specs.Matching.{Pairwise, Same-knowledge-line, Same-effect-line, Same-table, Same-items, Same-item, Same-branches, Same-request}
 use Rattle.meaning.proofs.TestLaws.{pick-map}
 use Rattle.meaning.proofs.RefusalLaws.{unplaced-found, found-if, unplaced-or-else, unplaced-17}

@@ -15,12 +15,12 @@ use Rattle.meaning.specs.Requests.{Table, Entry, Request}
 use Rattle.meaning.specs.declared.Form.the-variants.{Valued}
 use Rattle.meaning.specs.Reading.{Got, got, fault, count-at, below-at, values-in, literals-in, value-at, value-entry-at, value-entries-at, value-list-at, set-value-at, value-counts-at, table-at, placed-twos, request-at, read-request}
 use Rattle.meaning.specs.Values.{contradictory, all-exclusive}
-use Rattle.meaning.specs.Valued.{past-value-refusals, settled-values}
+use Rattle.meaning.specs.Valued.{settled-values}
 use Rattle.meaning.specs.Answers.{refusals, values-refusals}
 use Rattle.meaning.specs.AnswerParts.{of-neither, at-start}
 use Rattle.meaning.proofs.PickLaws.{pick-has}
 use Rattle.meaning.proofs.GotLaws.{held-then}
-use Rattle.meaning.proofs.PlaceLaws.{entry-faults, item-faults, byte-faults, entry-byte, item-byte, Each-below, Table-below, Request-below, against-below, mixed-below, failing-in-below, Inside, Held, by-next, by-refuse, count-held, below-held, Form-held, table-held-as, request-held-as, Fault-in, too-long-fault, ends-fault, byte-fault, reading-fault}
+use Rattle.meaning.proofs.PlaceLaws.{entry-faults, byte-faults, entry-byte, item-byte, Each-below, Table-below, Request-below, against-below, mixed-below, failing-in-below, Inside, Held, by-next, by-refuse, count-held, below-held, Form-held, table-held-as, request-held-as, Fault-in, too-long-fault, ends-fault, byte-fault, reading-fault}
 use Rattle.meaning.proofs.AnswerLaws.{Numbered-in}
 
 -- The entries of a list with two bytes each stand at bytes.

@@ -3,7 +3,7 @@
 use Prim.Native.Nat.{ℕ, zero, suc, _+_, _≤_, _<_}
 use native.Mathlib.Omega.{arith}
 use native.Mathlib.Decide.{ℕ-discrete}
-use mathlib.Core.Path.{_≡_, refl, sym, _∙_, ap, subst}
+use mathlib.Core.Path.{_≡_, refl, sym, _∙_, subst}
 use mathlib.Core.Bool.{true}
 use mathlib.Core.List.{List, [], _∷_}
 use mathlib.Core.Logic.{_⊎_, inl, inr, ⊎-elim}
@@ -11,17 +11,19 @@ use lib.ListN.{getD}
 use lib.Dec.{ltb, eqb}
 use borrow.Author.Tests.{ltb-true, eq-eqb, ne-eqb}
 use Rattle.meaning.specs.declared.Form.the-variants.{Valued}
-use Rattle.meaning.specs.Tests.{both, either, fails, each-of, Has}
+use Rattle.meaning.specs.Tests.{either, fails, each-of, Has}
 use Rattle.meaning.specs.Limits
 use Rattle.meaning.specs.Limits.{Limits}
 use Rattle.meaning.specs.Requests.{Table, Request}
-use Rattle.meaning.specs.Reading.{Got, got, byte-at, count-at, fluents, list-at, values-in, literals-in, value-at, leaves-one, value-entry-at, value-entries-at, value-list-at, value-counts-at, section-at, effect-at, executability-at, knowledge-at, plan-at, table-at, request-at, read-request}
+use Rattle.meaning.specs.Reading.{got, byte-at, count-at, fluents, list-at, values-in, literals-in, value-at, leaves-one, value-entry-at, value-entries-at, value-list-at, value-counts-at, section-at, effect-at, executability-at, knowledge-at, plan-at, table-at, request-at, read-request}
 use Rattle.meaning.specs.Values.{values-of, fits}
 use Rattle.meaning.specs.ValueWorlds.{World, Within, holds, Facts}
+use Rattle.meaning.specs.Valued.{settled-values}
 use Rattle.meaning.proofs.TestLaws.{by-test, clash, both-true, either-left, either-split, fails-true, fails-false, pick-true, pick-false, pick-cases, some-has, each-has, has-each}
 use Rattle.meaning.proofs.SettledLaws.{fault≢got, got-same}
 use Rattle.meaning.proofs.RangeLaws.{not-refused, after-got, got-place, byte-got, count-least}
 use Rattle.meaning.proofs.ValueLaws.{has-numbers, numbers-has}
+use Rattle.demands.proofs.ValuesSound.{values-settled-is}
 
 -- COUNTS. A count is the byte at its place.
 count-there : (least most : ℕ) (s : List ℕ) (p c q : ℕ) → count-at least most s p ≡ got c q → (getD s p 0 ≡ c) × (p + 1 ≡ q)
@@ -144,3 +146,7 @@ module _ (lim : Limits) (b : List ℕ) (r : Request) (e : ℕ) (reads : read-req
       λ f. from-table (λ facts. Left-by b facts f) (λ n m v q u t cs facts _ _ ef. list-leaves b (λ g. let least = values-least g in omega (arith, least)) n (lim .listed) u facts t ef f) in
       let w = a-world b (r .table .facts) left in
       (w .0, (w .1, w .2))
+
+-- So it is of a settled one.
+pub settled-some-world : (lim : Limits) (b : List ℕ) (r : Request) (e : ℕ) → settled-values lim b ≡ got r e → (w : World) × Facts (literals-in b) (r .table) w
+settled-some-world lim b r e past = some-world lim b r e (values-settled-is lim b r e past .reads)

@@ -25,7 +25,7 @@ use Rattle.meaning.proofs.TestLaws.{pick-true}
 use Rattle.meaning.proofs.KeptEnds.{Stuck}
 use Rattle.meaning.proofs.WithinLaws.{answered, Never, answered-fine, answered-missed, answered-stopped, answered-else, enough-within, spent-within}
 use Rattle.meaning.proofs.PathLaws.{walk-along}
-use Rattle.meaning.proofs.EndLaws.{first-has, Stops, arrives≢stops, has-ends, all-arrive, Says, end-says, fine-each}
+use Rattle.meaning.proofs.EndLaws.{first-has, Stops, has-ends, all-arrive, Says, end-says, fine-each}
 use Rattle.meaning.proofs.GuardedExact.{says-fine, says-missed}
 use Rattle.demands.proofs.ValueAnswers.{walked-values-stuck, walked-values-never}
 
