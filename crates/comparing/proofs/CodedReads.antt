@@ -66,7 +66,7 @@ module _ (n m : ℕ) (s : List ℕ) (bytes : Bytes s) (few : m ≤ format .actio
     branches = λ deep left p met x e. Tellable-branches (x .value);
   }
 
-  told-passed : Passed-on format Flags n m s plan-told
+  told-passed : Passed-on format n m s plan-told
   unfolding Tellable own-items
   told-passed = record {
     an-action = λ deep p met x q _ _ _ within. let below = leb-false m x within in omega (arith, below, few);
@@ -108,6 +108,6 @@ plan-coded n m s small few p x e read =
       count = omega arith;
       there = st .2 .0;
       inside = sizes .through .inside;
-      tellable = plan-on format Flags n m s (plan-told n m s small few) (told-passed n m s small few) p .holds x e read .1;
+      tellable = plan-on format n m s (plan-told n m s small few) (told-passed n m s small few) p .holds x e read .1;
       few = omega arith;
     }

@@ -75,7 +75,7 @@ module _ (lim : Limits) (n m : ℕ) (s : List ℕ) where
     branches = λ deep left p met x e. met ≤ lim .items → Few met (most-below (x .value)) (x .items);
   }
 
-  few-passed : Passed-on lim Flags n m s few-items
+  few-passed : Passed-on lim n m s few-items
   unfolding most-items
   few-passed = record {
     an-action = λ deep p met x q read few other below. let h = leb-false (lim .items) met few in record { own-met = omega arith; most = omega arith };
@@ -99,7 +99,7 @@ module _ (lim : Limits) (n m : ℕ) (s : List ℕ) where
   }
 
   plan-few : (p : ℕ) (x : Met (Sequence ℕ)) (e : ℕ) → plan-at lim Flags n m s p ≡ got x e → most-items (x .value) ≤ lim .items
-  plan-few p x e reads = let w = plan-on lim Flags n m s few-items few-passed p .holds x e reads (omega arith) in let f = w .own-met in let g = w .most in omega arith
+  plan-few p x e reads = let w = plan-on lim n m s few-items few-passed p .holds x e reads (omega arith) in let f = w .own-met in let g = w .most in omega arith
 
 -- The plan of a request that was read.
 pub read-few : (lim : Limits) (b : List ℕ) (r : Request) (e : ℕ) → read-request lim Flags b ≡ got r e → most-items (r .plan) ≤ lim .items

@@ -308,7 +308,7 @@ module _ (lim : Limits) (n m : ℕ) (s : List ℕ) where
     branches = λ deep left p met x e. met ≤ lim .items → Branches-fit lim n m deep (x .value) × Met-in met (all-below (x .value)) (x .items) × (branches-in (x .value) ≡ left);
   }
 
-  fitting-passed : Passed-on lim Flags n m s plan-fitting
+  fitting-passed : Passed-on lim n m s plan-fitting
   unfolding branches-in body-at
   fitting-passed = record {
     an-action = λ deep p met x q read few other below. let h = leb-false (lim .items) met few in (leb-false m x below, record { counted = refl; most = omega arith });
@@ -339,7 +339,7 @@ module _ (lim : Limits) (n m : ℕ) (s : List ℕ) where
 
   pub plan-fits : (p : ℕ) (x : Met (Sequence ℕ)) (e : ℕ) → plan-at lim Flags n m s p ≡ got x e → Plan-fits lim n m (x .value)
   plan-fits p x e reads =
-      let w = plan-on lim Flags n m s plan-fitting fitting-passed p .holds x e reads (omega arith) in
+      let w = plan-on lim n m s plan-fitting fitting-passed p .holds x e reads (omega arith) in
       let f = w .1 .counted in let g = w .1 .most in
       record { items = w .0; few = omega arith }
 

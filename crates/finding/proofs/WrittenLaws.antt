@@ -71,7 +71,7 @@ module _ (n m : ℕ) (s : List ℕ) where
           count = subst (λ (x : ℕ). getD s x 0 * 256 + getD s (x + 1) 0 ≡ own-items b) place (one .count);
         }
 
-    written-passed : Passed-on format Flags n m s plan-there
+    written-passed : Passed-on format n m s plan-there
     unfolding Written Item-written Branches-written own-items branches-in
     written-passed = record {
       an-action = λ deep p met x q read _ _ within.
@@ -113,7 +113,7 @@ module _ (n m : ℕ) (s : List ℕ) where
           let small : items-of (x .value) ≤ (format .items) = omega arith in
           record {
             few = small;
-            written = plan-on format Flags n m s plan-there written-passed p .holds x e read .written;
+            written = plan-on format n m s plan-there written-passed p .holds x e read .written;
             kept = plan-kept p t (x .value) small room;
           }
 

@@ -37,7 +37,7 @@ module _ (lim : Limits) (n m : ℕ) (s : List ℕ) where
     branches = λ deep left p met x e. Each-there (Item-under (x .value));
   }
 
-  there-passed : Passed-on lim Flags n m s bytes-there
+  there-passed : Passed-on lim n m s bytes-there
   unfolding item-place
   there-passed = record {
     an-action = λ deep p met x q read _ other within i is.
@@ -55,7 +55,7 @@ module _ (lim : Limits) (n m : ℕ) (s : List ℕ) where
 
   -- A PLAN that was read.
   pub plan-there : (p : ℕ) (x : Met (Sequence ℕ)) (e : ℕ) → plan-at lim Flags n m s p ≡ got x e → Each-there (Item-in (x .value))
-  plan-there p x e = plan-on lim Flags n m s bytes-there there-passed p .holds x e
+  plan-there p x e = plan-on lim n m s bytes-there there-passed p .holds x e
 
 -- A REQUEST that was read.
 pub items-there : (lim : Limits) (b : List ℕ) (r : Request) (e : ℕ) → read-request lim Flags b ≡ got r e → (i : Item ℕ) → Item-in (r .plan) i → Stands-there b (r .table .actions) i

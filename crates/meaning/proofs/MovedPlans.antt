@@ -40,7 +40,7 @@ module _ (lim : Limits) (n m : ℕ) (s : List ℕ) (bytes : Bytes s) where
     branches = λ deep left p met x e. Part-copied (λ u q. branches-at lim Flags n m u (one-sequence deep u) left q met) branches-written unplaced-branches s p x e × (branches-in (x .value) ≡ left);
   }
 
-  moved-passed : Passed-on lim Flags n m s plan-moved
+  moved-passed : Passed-on lim n m s plan-moved
   unfolding item-at items-at sequence-at branches-at branching-at body-at items-in branches-in items-written item-written branches-written plan-written
   moved-passed = record {
     an-action = λ deep p met x q read few other within.
@@ -127,4 +127,4 @@ module _ (lim : Limits) (n m : ℕ) (s : List ℕ) (bytes : Bytes s) where
   -- THE PLAN.
   pub plan-copied : (p : ℕ) → On (plan-at lim Flags n m s p) (Part-copied (λ u q. plan-at lim Flags n m u q) plan-written unplaced s p)
   unfolding plan-at
-  plan-copied p = plan-on lim Flags n m s plan-moved moved-passed p
+  plan-copied p = plan-on lim n m s plan-moved moved-passed p

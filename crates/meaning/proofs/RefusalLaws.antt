@@ -100,7 +100,7 @@ at≢nowhere e = subst told e tt
 
 module _ (against : Effect → Effect → Bool) where
   -- Where no effect is against one before it, no two are against each other.
-  none-against : ((e : Effect) → against e e ≡ false) → ((e g : Effect) → against e g ≡ against g e)
+  pub none-against : ((e : Effect) → against e e ≡ false) → ((e g : Effect) → against e g ≡ against g e)
       → (before es : List Effect) → first-against against before es ≡ nowhere → (e g : Effect) → Has es e → Has es g ⊎ Has before g → against e g ≡ false
   unfolding first-against
   none-against itself turned before [] q e g he hg = absurd he

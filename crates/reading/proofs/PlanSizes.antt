@@ -14,7 +14,7 @@ use Rattle.meaning.specs.declared.Form.the-variants.{Flags, Valued}
 use Rattle.meaning.specs.Reading.{Got, byte-at, two-bytes-at, count-at, list-at, literals-at, body-at, item-at, sequence-at, branching-at}
 use Rattle.meaning.proofs.GotLaws.{On, Held, held-got}
 use Rattle.meaning.proofs.PlaceLaws.{byte-held, two-bytes-held, count-held, list-held}
-use Rattle.meaning.proofs.PlanReads.{Said, Passed-on, item-on, sequence-on}
+use Rattle.meaning.proofs.PlanReads.{Said, Passed-as, item-on-as, sequence-on-as}
 use Rattle.reading.specs.Listed.{span}
 use Rattle.reading.specs.Planned.{items-of, items-in, items-under, bytes-of, bytes-in, bytes-under, place-of}
 use Rattle.reading.proofs.ValueSizes.{value-list-far}
@@ -86,7 +86,7 @@ module _ (form : Form) (n m : ℕ) (s : List ℕ) where
       let c = one .counted in let d = more .counted in
       record { through = record { after = omega arith; inside = more .through .inside }; counted = omega arith; most = more .most }
 
-  sizes-passed : Passed-on format form n m s plan-sized
+  sizes-passed : Passed-as format form n m s plan-sized
   unfolding items-of items-in items-under bytes-of bytes-in bytes-under place-of
   sizes-passed = record {
     an-action = λ deep p met x q read few _ _.
@@ -116,8 +116,8 @@ module _ (form : Form) (n m : ℕ) (s : List ℕ) where
 
   -- With a given number of branchings one inside another.
   pub item-read : (deep p met : ℕ) → On (item-at format form n m s (branching-at format form n m s deep) p met) (λ x q. ItemRead form s p met (x .value) (x .items) q)
-  item-read = item-on format form n m s plan-sized sizes-passed
+  item-read = item-on-as format form n m s plan-sized sizes-passed
 
   pub sequence-read : (deep p met : ℕ) → met ≤ format .items
       → On (sequence-at format form n m s (branching-at format form n m s deep) p met) (λ x q. Counted s p met (items-of (x .value)) (2 + bytes-of form (x .value)) (x .items) q)
-  sequence-read deep p met few = record { holds = λ x q e. sequence-on format form n m s plan-sized sizes-passed deep p met .holds x q e few }
+  sequence-read deep p met few = record { holds = λ x q e. sequence-on-as format form n m s plan-sized sizes-passed deep p met .holds x q e few }

@@ -318,7 +318,7 @@ module _ (n m : ℕ) (s : List ℕ) where
     branches = λ deep left p met x e. Unit {0};
   }
 
-  begun-passed : Passed-on format Flags n m s plan-begun
+  begun-passed : Passed-on format n m s plan-begun
   unfolding place-of
   begun-passed = record {
     an-action = λ deep p met x q _ _ _ _. refl;
@@ -331,7 +331,7 @@ module _ (n m : ℕ) (s : List ℕ) where
   }
 
   plan-first : (p : ℕ) (x : Met (Sequence ℕ)) (e : ℕ) → plan-at format Flags n m s p ≡ got x e → First-at (p + 2) (x .value)
-  plan-first p = plan-on format Flags n m s plan-begun begun-passed p .holds
+  plan-first p = plan-on format n m s plan-begun begun-passed p .holds
 
 -- A LINE whose plan begins with a branching at `first`, and a given number of items after it up to y.
 record Begins (d u : List ℕ) (first y more : ℕ) (l : Line) : Type 0 where

@@ -21,7 +21,7 @@ module _ (n m : ℕ) (s : List ℕ) (few : m ≤ format .actions) where
     branches = λ deep left p met x e. Small-under (x .value);
   }
 
-  few-passed : Passed-on format Flags n m s plan-few
+  few-passed : Passed-on format n m s plan-few
   unfolding Small
   few-passed = record {
     an-action = λ deep p met x q _ _ _ within. let below = leb-false m x within in omega (arith, below, few);
@@ -34,4 +34,4 @@ module _ (n m : ℕ) (s : List ℕ) (few : m ≤ format .actions) where
   }
 
   pub plan-small : (p : ℕ) (x : Met (Sequence ℕ)) (e : ℕ) → plan-at format Flags n m s p ≡ got x e → Small (x .value)
-  plan-small p = plan-on format Flags n m s plan-few few-passed p .holds
+  plan-small p = plan-on format n m s plan-few few-passed p .holds

@@ -69,7 +69,7 @@ module _ (n m : ℕ) (s : List ℕ) (bytes : Bytes s) where
     branches = λ deep left p met x e. Stands s p (branches-written (x .value)) e × (Layouts.branches-in (x .value) ≡ left) × Each-stands (Item-under (x .value));
   }
 
-  stands-passed : Passed-on format Flags n m s plan-stands
+  stands-passed : Passed-on format n m s plan-stands
   unfolding body-at items-written plan-written Layouts.items-in Layouts.branches-in place-of
   stands-passed = record {
     an-action = λ deep p met x q read _ _ _.
@@ -102,7 +102,7 @@ module _ (n m : ℕ) (s : List ℕ) (bytes : Bytes s) where
   }
 
   pub each-stands : (p : ℕ) (x : Met (Sequence ℕ)) (e : ℕ) → plan-at format Flags n m s p ≡ got x e → (i : Item ℕ) → Item-in (x .value) i → Item-stands s i
-  each-stands p x e read = plan-on format Flags n m s plan-stands stands-passed p .holds x e read .1
+  each-stands p x e read = plan-on format n m s plan-stands stands-passed p .holds x e read .1
 
 -- WHAT IS LEFT. What is so of each item of a plan and of what is behind it is so of each item that is left.
 module _ (P : Item ℕ → Type 0) where
