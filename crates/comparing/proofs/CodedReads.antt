@@ -96,7 +96,7 @@ unfolding plan-at plan-written number-written
 plan-coded n m s small few p x e read =
     let st = plan-copied format n m s small p .holds x e read .there in
     let high = st .1 in let low = st .2 .1 in let same = items-same (x .value) in
-    let sizes = sequence-read n m s 8 p 0 (omega arith) .holds x e read in
+    let sizes = sequence-read Flags n m s 8 p 0 (omega arith) .holds x e read in
     let counted = sizes .counted in let most = sizes .most in let own = own-most (x .value) in
     let end = sizes .through .after in
     let next : p + 1 + 1 ≡ p + 2 = omega arith in

@@ -165,7 +165,7 @@ module _ (layout : Layout) (n m : ℕ) (s : List ℕ) (p : ℕ) (t u : List ℕ)
 -- A plan ends as far on as it has bytes, within the input.
 pub plan-ends : (n m : ℕ) (s : List ℕ) (q : ℕ) (x : Met (Sequence ℕ)) (e : ℕ) → plan-at format Flags n m s q ≡ got x e → (e ≡ q + (2 + bytes-of Flags (x .value))) × (e ≤ length s)
 unfolding plan-at
-plan-ends n m s q x e reads = let w = sequence-read n m s 8 q 0 (omega arith) .holds x e reads .through in (w .after, w .inside)
+plan-ends n m s q x e reads = let w = sequence-read Flags n m s 8 q 0 (omega arith) .holds x e reads .through in (w .after, w .inside)
 
 -- What follows the plan is not looked at.
 module _ {A : Type 0} (q : ℕ) where

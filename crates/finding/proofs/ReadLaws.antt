@@ -85,7 +85,7 @@ request-parts s t p y q e =
     after-got (plan-at format Flags (t .fluents) (t .actions) s p) _ e λ plan q₁ eplan v₁.
     after-got (list-at literals (t .fluents) (format .listed) s q₁) _ v₁ λ goals q₂ egoals v₂.
     after-got (list-at Reading.fluents (t .fluents) (format .listed) s q₂) _ v₂ λ whether q₃ _ v₃.
-    let sized = sequence-read (t .fluents) (t .actions) s 8 p 0 (omega arith) .holds plan q₁ eplan in
+    let sized = sequence-read Flags (t .fluents) (t .actions) s 8 p 0 (omega arith) .holds plan q₁ eplan in
     let through = list-through s literals (t .fluents) (format .listed) q₁ .holds goals q₂ egoals in
     let after = sized .through .after in
     let ends = through .after in
@@ -352,7 +352,7 @@ module _ (s : List ℕ) (x : Table) (few : x .fluents ≤ format .fluents) (less
   items-most : (of-request .items ≡ items-of (y .plan)) × (items-of (y .plan) ≤ format .items)
   unfolding plan-at
   items-most =
-      let sized = sequence-read (x .fluents) (x .actions) s 8 p 0 (omega arith) .holds (record { value = y .plan; items = of-request .items }) (of-request .plan-end) (of-request .plan-read) in
+      let sized = sequence-read Flags (x .fluents) (x .actions) s 8 p 0 (omega arith) .holds (record { value = y .plan; items = of-request .items }) (of-request .plan-end) (of-request .plan-read) in
       let a = sized .counted in let b = sized .most in
       (omega arith, omega arith)
 
@@ -529,8 +529,8 @@ module _ (s : List ℕ) (bytes : (i : ℕ) → getD s i 0 < 256) (short : length
 
 -- A REQUEST that was read: its table, noted into notes that held nothing, is there, and the rest was read behind it.
 module _ (s : List ℕ) (bytes : (i : ℕ) → getD s i 0 < 256) (t : List ℕ) (here : Read-here s t) where
-  pub read-parts : Parts s (here .request) (here .end)
-  read-parts = parts s (here .request) (here .end) (here .reads)
+  pub read-parts : Parts Flags s (here .request) (here .end)
+  read-parts = parts Flags s (here .request) (here .end) (here .reads)
 
   pub read-comes : Table-here s (table-noted (here .request .table) blank)
   read-comes = table-comes s bytes (here .short) (here .request .table) (read-parts .place) (read-parts .table-read)
@@ -549,7 +549,7 @@ module _ (s : List ℕ) (bytes : (i : ℕ) → getD s i 0 < 256) (t : List ℕ) 
 -- It is there when it was read whole, without guards or with them.
 module _ (s t : List ℕ) where
   abbrev pub plain-here : (x : Request) (e : ℕ) → read-request format Flags s ≡ got x e → t ≡ request-with Flags 0 x blank → Read-here s t
-  plain-here x e is noted = record { request = x; end = e; guards = 0; short = plain-read s x e is .0; reads = plain-read s x e is .1; noted = noted }
+  plain-here x e is noted = record { request = x; end = e; guards = 0; short = plain-read s Flags x e is .0; reads = plain-read s Flags x e is .1; noted = noted }
 
   pub with-guards : (g : Guarded-request) → t ≡ guarded-noted g blank → t ≡ request-with Flags (guards-place (g .request)) (g .request) blank
   unfolding guarded-noted

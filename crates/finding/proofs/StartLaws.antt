@@ -19,7 +19,7 @@ use Rattle.finding.proofs.HereLaws.{list-here}
 use Rattle.finding.proofs.ReadLaws.{request-parts}
 
 pub record Starts (s : List ℕ) (t : Table) : Type 0 where
-  pub front : Front s 0 t
+  pub front : Front Flags s 0 t
   pub here : List-here all-literals s 2
   pub facts : listed s 2 ≡ t .facts
 
@@ -37,7 +37,7 @@ table-starts s t p e =
     let two : p₂ ≡ 2 = omega (arith, first, second) in
     let list = list-here literals n s (format .listed) p₂ facts p₃ ef in
     record {
-      front = front s 0 t p e;
+      front = front Flags s 0 t p e;
       here = subst (List-here all-literals s) two (list .1 all-literals (omega (arith, few)));
       facts = ap (listed s) (sym two) ∙ list .0 ∙ ap (λ (x : Table). x .facts) (got-same u₆);
     }
@@ -52,11 +52,11 @@ request-starts s x e read =
 
 -- A table that the notes hold starts so too, with its two counts.
 module _ (s t : List ℕ) (here : Table-here s t) where
-  pub front-here : Front s 0 (table-in s)
+  pub front-here : Front Flags s 0 (table-in s)
   front-here = table-starts s (table-in s) (here .table-end) (here .table) .front
 
   pub first-byte : 0 < length s
-  first-byte = let second = front-here .second in omega arith
+  first-byte = front-here .first
 
   pub second-byte : 1 < length s
   second-byte = front-here .second

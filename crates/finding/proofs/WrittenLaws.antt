@@ -60,7 +60,7 @@ module _ (n m : ℕ) (s : List ℕ) where
     unfolding body-at bound-of sequence-place
     branch-written p c q b read one =
         let list = list-here literals n s 16 p c q read in
-        let after = body-through s n p .holds c q read .after in
+        let after = body-through s Flags n p .holds c q read .after in
         let size : getD s p 0 ≡ length c = sym (listed-length s p) ∙ ap length (list .0) in
         let place : q ≡ p + 1 + getD s p 0 = omega arith in
         record {
@@ -92,8 +92,8 @@ module _ (n m : ℕ) (s : List ℕ) where
       a-sequence = λ deep p met c q b e read all. let two = two-is s p .holds c q read in record { written = all .0; there = two .there; count = two .is ∙ sym (all .1) };
       no-branch = λ deep p met _. (tt, refl);
       a-branch = λ deep left p met c q b r rest e read body one more met-few.
-          let sizes = sequence-read n m s deep q met met-few .holds b r body in
-          let a = body-through s n p .holds c q read .after in let d = sizes .through .after in
+          let sizes = sequence-read Flags n m s deep q met met-few .holds b r body in
+          let a = body-through s Flags n p .holds c q read .after in let d = sizes .through .after in
           let end : r ≡ p + (1 + length c) + (2 + bytes-of Flags (b .value)) = omega arith in
           let others = more (sizes .most) in
           ((branch-written p c q (b .value) read one, one .written, subst (λ (o : ℕ). Branches-written s o (rest .value)) end (others .0)), ap suc (others .1));
@@ -103,12 +103,12 @@ module _ (n m : ℕ) (s : List ℕ) where
     module _ (p : ℕ) (t : List ℕ) (x : Met (Sequence ℕ)) (e : ℕ) (room : effect-lines ≤ length t) (read : plan-at format Flags n m s p ≡ got x e) where
       pub plan-items : items-of (x .value) ≡ x .items
       unfolding plan-at
-      plan-items = let counted = sequence-read n m s 8 p 0 (omega arith) .holds x e read .counted in omega arith
+      plan-items = let counted = sequence-read Flags n m s 8 p 0 (omega arith) .holds x e read .counted in omega arith
 
       pub plan-held : Plan-held s (plan-noted Flags p t (x .value)) (x .value)
       unfolding plan-at
       plan-held =
-          let all = sequence-read n m s 8 p 0 (omega arith) .holds x e read in
+          let all = sequence-read Flags n m s 8 p 0 (omega arith) .holds x e read in
           let counted = all .counted in let most = all .most in
           let small : items-of (x .value) ≤ (format .items) = omega arith in
           record {

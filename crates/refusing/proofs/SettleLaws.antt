@@ -132,7 +132,7 @@ module _ (s : List ℕ) (bytes : (i : ℕ) → Fits w8 (getD s i 0)) (t : List �
   abbrev u : List ℕ
   u = table-noted (x .table) blank
 
-  abbrev there : Parts s x (here .end)
+  abbrev there : Parts Flags s x (here .end)
   there = read-parts s small t here
 
   comes : Table-here s u
@@ -243,7 +243,7 @@ module _ (s t u : List ℕ) (empty : t ≡ blank) (all : Passed) (read : outcome
 
     pub settle-there : (r : Passed) → r ≡ passed (past-all s e) → outcome r u ≡ noting (request-noted Flags) (settled format s) t
     unfolding settled
-    settle-there = went request-noted Flags t u (λ x. x) (read-request format Flags s) s (read-got .0) e e (read-got .1) (read-got .2) (plain-read s (read-got .0) e (read-got .1) .1)
+    settle-there = went (request-noted Flags) t u (λ x. x) (read-request format Flags s) s (read-got .0) e e (read-got .1) (read-got .2) (plain-read s (read-got .0) e (read-got .1) .1)
 
 -- With guards.
 module _ (s t u : List ℕ) (empty : t ≡ blank) (all : Passed) (read : outcome all u ≡ noting guarded-noted (read-guarded format s) t) where

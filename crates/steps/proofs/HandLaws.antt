@@ -35,7 +35,7 @@ module _ (s t : List ℕ) (here : At-hand s t) where
   pub items-are : getD t items-slot 0 ≡ items-of (plan-in s t)
   unfolding plan-at
   items-are =
-      let counted = sequence-read (table-in s .fluents) (table-in s .actions) s 8 (getD t plan-slot 0) 0 (omega arith) .holds (record { value = plan-in s t; items = getD t items-slot 0 }) (goals-in t) (here .plan) .counted in
+      let counted = sequence-read Flags (table-in s .fluents) (table-in s .actions) s 8 (getD t plan-slot 0) 0 (omega arith) .holds (record { value = plan-in s t; items = getD t items-slot 0 }) (goals-in t) (here .plan) .counted in
       omega arith
 
   -- The goals, and the whether entries behind them.

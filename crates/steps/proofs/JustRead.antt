@@ -156,7 +156,7 @@ module _ (s t : List ℕ) (here : Table-here s t) (g p : ℕ) (y : Request) (q :
   unfolding plan-at
   items-is =
       let noted = items-noted s (table-in s) (parts-there .few) (parts-there .less) p y q read t g (here .sized) in
-      let counted = sequence-read (y .table .fluents) (y .table .actions) s 8 (plan-place Flags y) 0 (omega arith) .holds (record { value = y .plan; items = each .items }) (goals-place Flags y) (each .plan) .counted in
+      let counted = sequence-read Flags (y .table .fluents) (y .table .actions) s 8 (plan-place Flags y) 0 (omega arith) .holds (record { value = y .plan; items = each .items }) (goals-place Flags y) (each .plan) .counted in
       omega arith
 
   goals-at : goals-in u ≡ goals-place Flags y

@@ -52,7 +52,7 @@ request-sections s t p y q e =
     after-got (plan-at format Flags (t .fluents) (t .actions) s p) _ e λ plan q₁ eplan v₁.
     after-got (list-at literals (t .fluents) (format .listed) s q₁) _ v₁ λ goals q₂ egoals v₂.
     after-got (list-at Reading.fluents (t .fluents) (format .listed) s q₂) _ v₂ λ whether q₃ ewhether v₃.
-    let after = sequence-read (t .fluents) (t .actions) s 8 p 0 (omega arith) .holds plan q₁ eplan .through .after in
+    let after = sequence-read Flags (t .fluents) (t .actions) s 8 p 0 (omega arith) .holds plan q₁ eplan .through .after in
     let ends = list-through s literals (t .fluents) (format .listed) q₁ .holds goals q₂ egoals .after in
     let sized = placed-length (q₁ + 1) goals in
     let at : q₂ - (1 + length (placed (q₁ + 1) goals)) ≡ q₁ = omega arith in

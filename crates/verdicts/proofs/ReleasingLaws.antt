@@ -209,7 +209,7 @@ module _ (s t : List ℕ) (plans start : ℕ) (here : Opened-here s t plans star
 
 -- PAST 16 AND 17.
 module _ (s t : List ℕ) (here : Table-here s t) where
-  front-there : Front s 0 (table-in s)
+  front-there : Front Flags s 0 (table-in s)
   front-there = front-here s t here
 
   pub counts-there : (n m : ℕ) → n ≡ getD s 0 0 → m ≡ getD s 1 0 → Counted s n m
@@ -233,7 +233,7 @@ module _ (s : List ℕ) (lent : List ℕ) (budget plans start : ℕ) (f : Found)
 -- A PLAN THAT IS READ, with whatever is noted before it.
 module _ (s : List ℕ) (n m : ℕ) (counted : Counted s n m) (p : ℕ) (t u : List ℕ) (r : Passed) (read : outcome r u ≡ plan-first Flags n m s p t) where
   read-so : outcome r u ≡ noting (tail-noted Flags) (request-at format Flags s (table-in s) p) t
-  read-so = read ∙ rw (counted .fluents, counted .actions) (tail-whole s (table-in s) p t)
+  read-so = read ∙ rw (counted .fluents, counted .actions) (tail-whole Flags s (table-in s) p t)
 
   plan-got : (e : ℕ) → r ≡ To e → (y : Request) × (request-at format Flags s (table-in s) p ≡ got y e) × (u ≡ tail-noted Flags y t)
   plan-got e is = noting-got tail-noted Flags (request-at format Flags s (table-in s) p) r t u read-so e is
