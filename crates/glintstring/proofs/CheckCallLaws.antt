@@ -102,7 +102,7 @@ module _ (s t : List ℕ) (here : At-hand s t) (layout : Layout) (d : List ℕ) 
 module _ (layout : Layout) (s d t u : List ℕ) (r : Passed) (settles : outcome r u ≡ noting (request-noted Flags) (settled format s) t) where
   pub check-settled-first : (k p : ℕ) → r ≡ Stop k p → record { number = k; input = 1; place = p; count = 0 } ≡ check format layout s d
   unfolding check check-settled answer
-  check-settled-first k p stops = sym (ap (check-settled format layout d) (noting-fault request-noted Flags (settled format s) r t u settles k p stops))
+  check-settled-first k p stops = sym (ap (check-settled format layout d) (noting-fault (request-noted Flags) (settled format s) r t u settles k p stops))
 
   pub check-then : (e : ℕ) → r ≡ To e → ((i : ℕ) → Fits w8 (getD s i 0)) → t ≡ blank → (a : Answer) → a ≡ check-at-hand layout (request-in s u) d → a ≡ check format layout s d
   unfolding check check-at-hand check-settled

@@ -200,7 +200,7 @@ module _ (s room : List ℕ) (budget : ℕ) (a : Answer) (t u : List ℕ) (r : P
   pub derive-refused : (k p : ℕ) → r ≡ Stop k p → a ≡ record { number = k; input = 1; place = p; count = 0 } → record { answer = a; room = room } ≡ derive format s room budget
   unfolding derive derive-got unwritten answer
   derive-refused k p stops is =
-      ap (λ (b : Answer). record { answer = b; room = room }) is ∙ sym (ap (derive-got format room budget) (noting-fault request-noted Flags (settled format s) r t u settles k p stops))
+      ap (λ (b : Answer). record { answer = b; room = room }) is ∙ sym (ap (derive-got format room budget) (noting-fault (request-noted Flags) (settled format s) r t u settles k p stops))
 
   pub derive-so : (e : ℕ) → r ≡ To e → ((j : ℕ) → Fits w8 (getD s j 0)) → t ≡ blank → (left : List ℕ) → record { answer = a; room = left } ≡ derive-got format room budget (got (request-in s u) 0)
       → record { answer = a; room = left } ≡ derive format s room budget

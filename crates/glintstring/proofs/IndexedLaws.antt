@@ -71,7 +71,7 @@ module _ (s i lent : List ℕ) (budget : ℕ) (a : Answer) (v : ℕ) where
     pub indexed-refused : (k p : ℕ) → r ≡ Stop k p → a ≡ record { number = k; input = 1; place = p; count = 0 } → v ≡ 0
         → Gives (judge-indexed format s i lent budget) (line-indexed format s i lent budget) a lent v
     indexed-refused k p stops is none =
-        as-judged lent (refused-alike format s i lent budget k p (noting-fault request-noted Flags (settled format s) r t u settles k p stops)) (judge-refused s lent budget a v sized t u r settles k p stops is none)
+        as-judged lent (refused-alike format s i lent budget k p (noting-fault (request-noted Flags) (settled format s) r t u settles k p stops)) (judge-refused s lent budget a v sized t u r settles k p stops is none)
 
     module _ (e : ℕ) (passes : r ≡ To e) (bytes : (j : ℕ) → Fits w8 (getD s j 0)) (empty : t ≡ blank) where
       held : table-in s ≡ settled-got s t u r settles e passes .0 .table
@@ -132,7 +132,7 @@ module _ (s room : List ℕ) (a : Answer) (t u : List ℕ) (r : Passed) (settles
   pub built-refused : (k p : ℕ) → r ≡ Stop k p → a ≡ record { number = k; input = 1; place = p; count = 0 } → record { answer = a; room = room } ≡ build format s room
   unfolding build build-got
   built-refused k p stops is =
-      ap (λ (b : Answer). record { answer = b; room = room }) is ∙ sym (ap (build-got room) (noting-fault request-noted Flags (settled format s) r t u settles k p stops))
+      ap (λ (b : Answer). record { answer = b; room = room }) is ∙ sym (ap (build-got room) (noting-fault (request-noted Flags) (settled format s) r t u settles k p stops))
 
   pub built-so : (e : ℕ) → r ≡ To e → ((j : ℕ) → Fits w8 (getD s j 0)) → t ≡ blank → (w : List ℕ) → record { answer = a; room = w } ≡ build-got room (got (request-in s u) 0)
       → record { answer = a; room = w } ≡ build format s room

@@ -32,7 +32,7 @@ use Rattle.steps.proofs.JustRead.{plain-at-hand, plain-request, plain-table, pl
 -- WITHOUT GUARDS.
 module _ (s t u : List ℕ) (r : Passed) (settles : outcome r u ≡ noting (request-noted Flags) (settled format s) t) (e : ℕ) (passes : r ≡ To e) where
   pub settled-got : (x : Request) × (settled format s ≡ got x e) × (u ≡ request-noted Flags x t)
-  settled-got = noting-got request-noted Flags (settled format s) r t u settles e passes
+  settled-got = noting-got (request-noted Flags) (settled format s) r t u settles e passes
 
   module _ (bytes : (i : ℕ) → Fits w8 (getD s i 0)) (empty : t ≡ blank) where
     past : Settled format s (settled-got .0) e

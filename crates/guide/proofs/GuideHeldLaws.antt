@@ -147,7 +147,7 @@ module _ (s t u : List ℕ) (r : Passed) (settles : outcome r u ≡ noting (requ
   -- And refused.
   module _ (k p : ℕ) (stops : r ≡ Stop k p) where
     faulty : settled format s ≡ fault k p
-    faulty = noting-fault request-noted Flags (settled format s) r t u settles k p stops
+    faulty = noting-fault (request-noted Flags) (settled format s) r t u settles k p stops
 
     held-fault : (a at : ℕ) (marks : State) → guide-held s a at marks ≡ refusing (of-request k p)
     unfolding guide-held guide-got

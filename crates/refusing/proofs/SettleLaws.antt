@@ -232,18 +232,18 @@ module _ {A : Type 0} (note : A → List ℕ → List ℕ) (t u : List ℕ) wher
 module _ (s t u : List ℕ) (empty : t ≡ blank) (all : Passed) (read : outcome all u ≡ noting (request-noted Flags) (read-request format Flags s) t) where
   pub settle-fault : (k q : ℕ) (v : List ℕ) → all ≡ Stop k q → outcome (Stop k q) v ≡ noting (request-noted Flags) (settled format s) t
   unfolding settled
-  settle-fault k q v is = stopped request-noted Flags t u (λ x. x) (read-request format Flags s) k q v (noting-fault request-noted Flags (read-request format Flags s) all t u read k q is)
+  settle-fault k q v is = stopped (request-noted Flags) t u (λ x. x) (read-request format Flags s) k q v (noting-fault (request-noted Flags) (read-request format Flags s) all t u read k q is)
 
   module _ (e : ℕ) (is : all ≡ To e) where
     read-got : (x : Request) × (read-request format Flags s ≡ got x e) × (u ≡ request-noted Flags x t)
-    read-got = noting-got request-noted Flags (read-request format Flags s) all t u read e is
+    read-got = noting-got (request-noted Flags) (read-request format Flags s) all t u read e is
 
     pub settle-here : Read-here s u
     settle-here = plain-here s u (read-got .0) e (read-got .1) (read-got .2 ∙ ap (request-noted Flags (read-got .0)) empty)
 
     pub settle-there : (r : Passed) → r ≡ passed (past-all s e) → outcome r u ≡ noting (request-noted Flags) (settled format s) t
     unfolding settled
-    settle-there = went (request-noted Flags) t u (λ x. x) (read-request format Flags s) s (read-got .0) e e (read-got .1) (read-got .2) (plain-read s (read-got .0) e (read-got .1) .1)
+    settle-there = went (request-noted Flags) t u (λ x. x) (read-request format Flags s) s (read-got .0) e e (read-got .1) (read-got .2) (plain-read s Flags (read-got .0) e (read-got .1) .1)
 
 -- With guards.
 module _ (s t u : List ℕ) (empty : t ≡ blank) (all : Passed) (read : outcome all u ≡ noting guarded-noted (read-guarded format s) t) where

@@ -5,6 +5,7 @@ use native.Mathlib.Omega.{arith}
 use mathlib.Core.Path.{_≡_}
 use mathlib.Core.List.{List}
 use lib.ListN.{getD}
+use Rattle.meaning.specs.declared.Form.the-variants.{Flags}
 use Rattle.meaning.specs.Limits.{format, all-literals}
 use Rattle.meaning.specs.Reading
 use Rattle.meaning.specs.Reading.{literals, bound-of, plan-at}
