@@ -5,7 +5,7 @@ use native.Mathlib.Omega.{arith}
 use mathlib.Core.Path.{_≡_, refl, sym, _∙_, ap}
 use mathlib.Core.Bool.{Bool, true, false}
 use mathlib.Core.List.{List, []}
-use lib.ListN.{length, getD, take}
+use lib.ListN.{length, getD}
 use mir.Syntax.{w8}
 use mir.Val.{Fits}
 use Rattle.meaning.specs.declared.Answer.{Answer}
@@ -36,7 +36,8 @@ use Rattle.guidance.specs.declared.Told.the-variants.{Do, Done, Refused}
 use Rattle.guidance.specs.Guides.{Guide, refusing, going, of-guide, not-verified, of-request, sensed, next}
 use Rattle.guidance.specs.Guided.{asked-for}
 use Rattle.guide.specs.declared.going.Step.{Step}
-use Rattle.guide.specs.GuideHeld.{asked-by, on-the-way, guide-after, turned, Goes-after, Turns, is-position, is-marked, guide-got, guide-held, guide-called, called, Begins}
+use Rattle.guide.specs.declared.sensed.Fluents.{Fluents}
+use Rattle.guide.specs.GuideHeld.{asked-by, fluents-of, on-the-way, guide-after, turned, Goes-after, Turns, is-position, is-marked, guide-got, guide-held, guide-called, called, Begins}
 use Rattle.guide.proofs.GuideTestLaws.{position-passes, passes-position, marks-pass, pass-marks}
 use Rattle.guide.proofs.TurnLaws.{asked-some, asked-none}
 
@@ -58,14 +59,11 @@ module _ (s t : List ℕ) (at : ℕ) (marks : State) (going : Bool) (says : goin
   going-marked sized = marks-pass marks sized (both-right (is-position (plan-in s t) at) _ (sym says ∙ is))
 
 -- THE FLUENTS that are asked for.
-pub asked-after : (s : List ℕ) (a : ℕ) (fs : List ℕ) → a < format .actions → fs ≡ sensed format (table-in s) a → fs ≡ asked-by (table-in s) a
-asked-after s a fs small is = is ∙ sym (asked-some s a small)
+pub asked-after : (s : List ℕ) (a : ℕ) (x : Fluents) → a < format .actions → x ≡ fluents-of (sensed format (table-in s) a) → x ≡ fluents-of (asked-by (table-in s) a)
+asked-after s a x small is = is ∙ ap fluents-of (sym (asked-some s a small))
 
-take-none : (n : ℕ) (row : List ℕ) → n ≡ 0 → take n row ≡ []
-take-none n row none = ap (λ (m : ℕ). take m row) none
-
-pub none-after : (s : List ℕ) (a n : ℕ) (row : List ℕ) → format .actions ≤ a → n ≡ 0 → take n row ≡ asked-by (table-in s) a
-none-after s a n row large none = take-none n row none ∙ sym (asked-none s a large)
+pub none-after : (s : List ℕ) (a : ℕ) (x : Fluents) → format .actions ≤ a → x ≡ fluents-of [] → x ≡ fluents-of (asked-by (table-in s) a)
+none-after s a x large is = is ∙ ap fluents-of (sym (asked-none s a large))
 
 -- A REQUEST that was read again, and settled.
 module _ (s t u : List ℕ) (r : Passed) (settles : outcome r u ≡ noting request-noted (settled format s) t) where
@@ -118,13 +116,13 @@ module _ (s t u : List ℕ) (r : Passed) (settles : outcome r u ≡ noting reque
           ∙ ap (λ (g : Guide). record { guide = g; told = Refused (of-guide not-verified) }) refused
           ∙ ap (λ (g : Guide). next format g bytes) (sym refused)
 
-      pub asked-going : goes ≡ true → (fs : List ℕ) → fs ≡ asked-by (table-in s) a → fs ≡ asked-for (guide-held s a at marks)
+      pub asked-going : goes ≡ true → (x : Fluents) → x ≡ fluents-of (asked-by (table-in s) a) → x ≡ fluents-of (asked-for (guide-held s a at marks))
       unfolding asked-for on-the-way
-      asked-going is fs are = are ∙ ap asked-for (sym (held-going a at marks (sym says ∙ is)))
+      asked-going is x are = are ∙ ap (λ (g : Guide). fluents-of (asked-for g)) (sym (held-going a at marks (sym says ∙ is)))
 
-      pub asked-refused : goes ≡ false → (n : ℕ) (row : List ℕ) → n ≡ 0 → take n row ≡ asked-for (guide-held s a at marks)
+      pub asked-refused : goes ≡ false → (x : Fluents) → x ≡ fluents-of [] → x ≡ fluents-of (asked-for (guide-held s a at marks))
       unfolding asked-for
-      asked-refused not n row none = take-none n row none ∙ ap asked-for (sym (held-refused a at marks (sym says ∙ not)))
+      asked-refused not x none = none ∙ ap (λ (g : Guide). fluents-of (asked-for g)) (sym (held-refused a at marks (sym says ∙ not)))
 
     -- Its start.
     module _ (items at : ℕ) (counted : items ≡ getD u items-slot 0) (starts : at ≡ start items) (marks : State) (is : marks ≡ state-of format (listed s 2)) where
@@ -160,9 +158,9 @@ module _ (s t u : List ℕ) (r : Passed) (settles : outcome r u ≡ noting reque
         ∙ ap (λ (g : Guide). record { guide = g; told = Refused (of-request k p) }) (held-fault a at marks)
         ∙ ap (λ (g : Guide). next format g bytes) (sym (held-fault a at marks))
 
-    pub asked-fault : (a at : ℕ) (marks : State) (n : ℕ) (row : List ℕ) → n ≡ 0 → take n row ≡ asked-for (guide-held s a at marks)
+    pub asked-fault : (a at : ℕ) (marks : State) (x : Fluents) → x ≡ fluents-of [] → x ≡ fluents-of (asked-for (guide-held s a at marks))
     unfolding asked-for
-    asked-fault a at marks n row none = take-none n row none ∙ ap asked-for (sym (held-fault a at marks))
+    asked-fault a at marks x none = none ∙ ap (λ (g : Guide). fluents-of (asked-for g)) (sym (held-fault a at marks))
 
     pub begins-not : (g : Guide) → Begins s g
     begins-not g = record { held = λ q e so. absurd (fault≢got (sym faulty ∙ so)) }

@@ -24,7 +24,9 @@ use Rattle.guidance.specs.Guides.{Guide, going, Turn, an-action, of-guide, not-
 use Rattle.guide.specs.declared.going.Ahead as Code
 use Rattle.guide.specs.declared.going.Ahead.the-variants.{End, Action, NoBranch}
 use Rattle.guide.specs.declared.going.Step.{Step}
-use Rattle.guide.specs.GuideHeld.{came, Item-there, Action-there, asked-by, on-the-way, guide-after, turned, Goes-after, Turns}
+use Rattle.guide.specs.declared.sensed.Fluents.{Fluents}
+use Rattle.guide.specs.GuideHeld.{came, Item-there, Action-there, asked-by, fluents-of, on-the-way, guide-after, turned, Goes-after, Turns}
+use Rattle.guide.proofs.SensedReadLaws.{told-count}
 
 -- THE FLUENTS whose readings come after an action, and none where there is no action.
 pub asked-some : (s : List ℕ) (a : ℕ) → a < format .actions → asked-by (table-in s) a ≡ sensed format (table-in s) a
@@ -137,15 +139,16 @@ module _ (s t : List ℕ) (a at : ℕ) (marks : State) (bytes : List ℕ) where
 
   -- After an action.
   module _ (small : a < format .actions) where
-    pub number-other : (due : ℕ) → due ≡ length (sensed format (table-in s) a) → (length bytes ≡ due → ⊥) → (r : Step) → r .told ≡ Refused (of-guide wrong-number) → Turns s t on-it r answers
-    number-other due is other = other-number (sensed format (table-in s) a) (asked-some s a small) (λ same. other (same ∙ sym is))
+    pub number-other : (due : Fluents) → due ≡ fluents-of (sensed format (table-in s) a) → (length bytes ≡ due .count → ⊥) → (r : Step) → r .told ≡ Refused (of-guide wrong-number) → Turns s t on-it r answers
+    unfolding fluents-of
+    number-other due is other = other-number (sensed format (table-in s) a) (asked-some s a small) (λ same. other (same ∙ sym (ap (λ (x : Fluents). x .count) is)))
 
-    module _ (due : ℕ) (are : due ≡ length (sensed format (table-in s) a)) (as-many : length bytes ≡ due) (wrong : Bool) (says : wrong ≡ against marks (literals-read (sensed format (table-in s) a) bytes)) where
+    module _ (due : Fluents) (are : due ≡ fluents-of (sensed format (table-in s) a)) (as-many : length bytes ≡ due .count) (wrong : Bool) (says : wrong ≡ against marks (literals-read (sensed format (table-in s) a) bytes)) where
       takes-all : pick (against marks (literals-read (sensed format (table-in s) a) bytes)) (λ _. stays on-it against-known)
           (λ _. met format (table-in s) on-it (told-all (literals-read (sensed format (table-in s) a) bytes) marks) (ahead (told-all (literals-read (sensed format (table-in s) a) bytes) marks) (rest-at (plan-in s t) at)))
           ≡ answers
       unfolding take-over
-      takes-all = sym (pick-true _ _ _ (eq-eqb (length bytes) (length (sensed format (table-in s) a)) (as-many ∙ are))) ∙ takes-them (sensed format (table-in s) a) (asked-some s a small)
+      takes-all = sym (pick-true _ _ _ (eq-eqb (length bytes) (length (sensed format (table-in s) a)) (told-count due (sensed format (table-in s) a) are (length bytes) as-many))) ∙ takes-them (sensed format (table-in s) a) (asked-some s a small)
 
       -- 42, where a reading is against what is known.
       pub reads-against : wrong ≡ true → (r : Step) → r .told ≡ Refused (of-guide against-known) → Turns s t on-it r answers

@@ -1,9 +1,9 @@
 -- The guide that the code's values stand for.
-use Prim.Native.Nat.{ℕ, _<_}
+use Prim.Native.Nat.{ℕ, _-_, _<_}
 use mathlib.Core.Path.{_≡_}
 use mathlib.Core.Bool.{Bool}
-use mathlib.Core.List.{List, []}
-use lib.ListN.{take}
+use mathlib.Core.List.{List, [], _++_}
+use lib.ListN.{length, take, replicate}
 use lib.Dec.{eqb, ltb, leb}
 use Rattle.meaning.specs.declared.Answer.{Answer}
 use Rattle.meaning.specs.Tests.{pick, both, either, each-of}
@@ -23,6 +23,7 @@ use Rattle.guidance.specs.Guides.{Guide, refusing, going, ended, Started, Turn,
 use Rattle.guide.specs.declared.going.Ahead as Code
 use Rattle.guide.specs.declared.going.Ahead.the-variants.{End, Action, NoBranch}
 use Rattle.guide.specs.declared.going.Step.{Step}
+use Rattle.guide.specs.declared.sensed.Fluents.{Fluents}
 use Rattle.guide.specs.declared.guides.Stage.{Stage}
 use Rattle.guide.specs.declared.guides.Stage.the-variants.{Refusing, Going, Ended}
 use Rattle.guide.specs.declared.guides.Guide as Held
@@ -44,6 +45,10 @@ Action-there s t r = elim r [ End ↦ Unit {0} | Action i ↦ Item-there s t i |
 -- The fluents whose readings come after an action; the limit of actions stands for none.
 unfoldable pub asked-by : Table → (action : ℕ) → List ℕ
 asked-by t a = pick (ltb a (format .actions)) (λ _. sensed format t a) (λ _. [])
+
+-- Fluents as the code tells them (FORMAT 25.51): so many, at the start of the row, and 0 behind them.
+unfoldable pub fluents-of : List ℕ → Fluents
+fluents-of fs = record { count = length fs; row = fs ++ replicate (format .fluents - length fs) 0 }
 
 -- A GUIDE ON ITS WAY, of a request at hand.
 unfoldable pub on-the-way : (s t : List ℕ) → (action position : ℕ) → State → Guide

@@ -26,10 +26,11 @@ use Rattle.guidance.specs.declared.Told.the-variants.{Do, Done, Refused}
 use Rattle.guidance.specs.Guides
 use Rattle.guidance.specs.Guides.{number-told, next}
 use Rattle.guidance.specs.Guided.{asked-for, Truthful, Guided, Told-reached, Runs-exactly}
+use Rattle.guide.specs.declared.sensed.Fluents.{Fluents}
 use Rattle.guide.specs.declared.guides.Guide.{Guide}
 use Rattle.guide.specs.declared.guides.Started.{Started}
 use Rattle.guide.specs.declared.guides.Turn.{Turn}
-use Rattle.guide.specs.GuideHeld.{request-of, guide-of, started-of, turn-of, Kept-guide}
+use Rattle.guide.specs.GuideHeld.{fluents-of, request-of, guide-of, started-of, turn-of, Kept-guide}
 use Rattle.guide.specs.GuideCalled.{Answers, Guided-by, Called}
 use Rattle.demands.specs.GuideSaid.{start-answers, call-answers, Start-input, Start-placed, Start-count, of-judged, after-calls}
 use Rattle.demands.proofs.GuideAnswers
@@ -39,6 +40,8 @@ use Rattle.guide.proofs.guides.Guide.start.Kinds as start-kinds
 use Rattle.guide.proofs.guides.Guide.start.Reads as start-reads
 use Rattle.guide.proofs.guides.Guide.next.Kinds as next-kinds
 use Rattle.guide.proofs.guides.Guide.next.Reads as next-reads
+use Rattle.guide.proofs.guides.Guide.asks.Kinds as asks-kinds
+use Rattle.guide.proofs.guides.Guide.asks.Reads as asks-reads
 
 -- A CALL, by the values of its two parameters.
 module _ (κs : Lfts 1) (given : Dens κs next-kinds.ps) where
@@ -70,6 +73,23 @@ module _ (κs : Lfts 1) (given : Dens κs next-kinds.ps) where
 
   pub request-kept : (turn : Turn) (exit : AtExit (endedOf 1 next-kinds.ps next-kinds.r) κs) → next-reads.Post κs given turn exit → request-of (turn .guide) ≡ request-of guide
   request-kept turn exit meets = meets .1 .request
+
+-- WHICH READINGS ARE DUE, by the value of its one parameter.
+module _ (κs : Lfts 0) (given : Dens κs asks-kinds.ps) where
+  abbrev pub asked : Guide
+  asked = given .0
+
+  -- The contract, as the source has it (FORMAT 25.51): so many, at the start of the row, and 0 behind them.
+  pub asks-as-written : (fluents : Fluents) (exit : AtExit (endedOf 0 asks-kinds.ps asks-kinds.r) κs) → asks-reads.Post κs given fluents exit → fluents ≡ fluents-of (asked-for (guide-of asked))
+  asks-as-written fluents exit meets = meets
+
+  -- Two results that meet the contract are the same, count and row.
+  pub asks-determined : (fluents fluents′ : Fluents) (exit exit′ : AtExit (endedOf 0 asks-kinds.ps asks-kinds.r) κs) → asks-reads.Post κs given fluents exit → asks-reads.Post κs given fluents′ exit′ → fluents ≡ fluents′
+  asks-determined fluents fluents′ exit exit′ meets meets′ = meets ∙ sym meets′
+
+  -- It may be asked of any guide.
+  pub asks-asks-nothing : asks-reads.Pre κs given
+  asks-asks-nothing = tt
 
 -- WHAT A CALL REFUSES, of a guide that is on its way: 41 exactly where the number of readings is not the one asked for, and 42 exactly where it is and some reading is against what is known
 -- (FORMAT 25.13, 25.14).
