@@ -19,9 +19,8 @@ use Rattle.meaning.specs.Walk.{Walked, Verified, each-reading, run-action, walk
 use Rattle.meaning.specs.Worlds.{Worlds, World}
 use Rattle.meaning.specs.Values.{flags}
 use Rattle.meaning.specs.ValueStates.{is-known}
-use Rattle.demands.specs.GuideSaid.{after-calls}
 use Rattle.guidance.specs.declared.Told.the-variants.{Refused}
-use Rattle.guidance.specs.Guides.{wrong-number, against-known, of-guide, Guide, refusing, going, ended, Turn, Ahead, the-end, an-action, no-branch, ahead, sensed, literals-read, against, state-done, stays, met, take-over, next, start}
+use Rattle.guidance.specs.Guides.{wrong-number, against-known, of-guide, Guide, refusing, going, ended, Turn, Ahead, the-end, an-action, no-branch, ahead, sensed, literals-read, against, state-done, stays, met, take-over, next, start, after-calls}
 use Rattle.meaning.proofs.TestLaws.{by-test, pick-true, pick-false}
 use Rattle.meaning.proofs.PickLaws.{pick-has}
 use Rattle.meaning.proofs.StateLaws.{known-true}

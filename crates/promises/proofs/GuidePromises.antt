@@ -24,7 +24,7 @@ use Rattle.meaning.specs.Worlds.{Worlds, World, table-domain, Facts}
 use Rattle.guidance.specs.declared.Told.{Told}
 use Rattle.guidance.specs.declared.Told.the-variants.{Do, Done, Refused}
 use Rattle.guidance.specs.Guides
-use Rattle.guidance.specs.Guides.{number-told, next}
+use Rattle.guidance.specs.Guides.{number-told, next, after-calls}
 use Rattle.guidance.specs.Guided.{asked-for, Truthful, Guided, Told-reached, Runs-exactly}
 use Rattle.guide.specs.declared.sensed.Fluents.{Fluents}
 use Rattle.guide.specs.declared.guides.Guide.{Guide}
@@ -32,7 +32,7 @@ use Rattle.guide.specs.declared.guides.Started.{Started}
 use Rattle.guide.specs.declared.guides.Turn.{Turn}
 use Rattle.guide.specs.GuideHeld.{fluents-of, request-of, guide-of, started-of, turn-of, Kept-guide}
 use Rattle.guide.specs.GuideCalled.{Answers, Guided-by, Called}
-use Rattle.demands.specs.GuideSaid.{start-answers, call-answers, Start-input, Start-placed, Start-count, of-judged, after-calls}
+use Rattle.demands.specs.GuideSaid.{start-answers, call-answers, Start-input, Start-placed, Start-count, of-judged}
 use Rattle.demands.proofs.GuideAnswers
 use Rattle.demands.proofs.GuideCalls
 use Rattle.demands.proofs.GuideSound
