@@ -48,6 +48,10 @@ of-judged x = pick (either (eqb (x .number) Limits.verified) (among (x .number) 
 unfoldable pub call-answers : List ℕ
 call-answers = Limits.verified ∷ wrong-number ∷ against-known ∷ []
 
+-- Those that a guide alone gives.
+unfoldable pub own-answers : List ℕ
+own-answers = not-verified ∷ wrong-number ∷ against-known ∷ []
+
 -- Readings say the same where each byte is 0 in both or in neither (FORMAT 25.6).
 unfoldable pub said : (readings : List ℕ) → List Bool
 said = map (λ (b : ℕ). eqb b 0)
