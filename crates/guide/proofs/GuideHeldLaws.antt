@@ -37,7 +37,7 @@ use Rattle.guidance.specs.Guides.{Guide, refusing, going, of-guide, not-verifie
 use Rattle.guidance.specs.Guided.{asked-for}
 use Rattle.guide.specs.declared.going.Step.{Step}
 use Rattle.guide.specs.declared.sensed.Fluents.{Fluents}
-use Rattle.guide.specs.GuideHeld.{asked-by, fluents-of, on-the-way, guide-after, turned, Goes-after, Turns, is-position, is-marked, guide-got, guide-held, guide-called, called, Begins}
+use Rattle.guide.specs.GuideHeld.{asked-by, fluents-of, on-the-way, guide-after, turned, takes, Goes-after, Turns, is-position, is-marked, guide-got, guide-held, Begins}
 use Rattle.guide.proofs.GuideTestLaws.{position-passes, passes-position, marks-pass, pass-marks}
 use Rattle.guide.proofs.TurnLaws.{asked-some, asked-none}
 
@@ -91,28 +91,29 @@ module _ (s t u : List ℕ) (r : Passed) (settles : outcome r u ≡ noting reque
       held-there position marked = held-going (both-true _ _ (passes-position (plan-in s u) at position) (pass-marks marks marked))
 
     -- What a call makes of it.
-    called-after : (g : Guide) (x : Step) (told : Told) → Goes-after s u x told → guide-called s g x told ≡ guide-after s u g x told
-    unfolding guide-called guide-after Goes-after
+    called-after : (g : Guide) (x : Step) (told : Told) → Goes-after s u x told → guide-after (guide-held s) g x told ≡ guide-after (on-the-way s u) g x told
+    unfolding guide-after Goes-after
     called-after g x (Do a) goes = held-there (x .action) (x .at) (x .marks) (goes .at) (goes .marked)
     called-after g x Done goes = refl
     called-after g x (Refused y) goes = refl
 
-    called-turned : (g : Guide) (x : Step) → Goes-after s u x (x .told) → called s g x ≡ turned s u g x
-    unfolding called turned
+    called-turned : (g : Guide) (x : Step) → Goes-after s u x (x .told) → turned (guide-held s) g x ≡ turned (on-the-way s u) g x
+    unfolding turned
     called-turned g x goes = ap (λ (h : Guide). record { guide = h; told = x .told }) (called-after g x (x .told) goes)
 
     module _ (a at : ℕ) (marks : State) (goes : Bool) (says : goes ≡ both (is-position (plan-in s u) at) (is-marked marks)) where
-      pub called-going : goes ≡ true → (bytes : List ℕ) (x : Step) → Turns s u (on-the-way s u a at marks) x (next format (on-the-way s u a at marks) bytes)
-          → called s (guide-held s a at marks) x ≡ next format (guide-held s a at marks) bytes
+      pub called-going : goes ≡ true → (bytes : List ℕ) (x : Step) → Turns s u x (takes s u a at marks bytes)
+          → turned (guide-held s) (guide-held s a at marks) x ≡ next format (guide-held s a at marks) bytes
+      unfolding next on-the-way takes
       called-going is bytes x turns =
           let on = held-going a at marks (sym says ∙ is) in
-          ap (λ (g : Guide). called s g x) on ∙ called-turned (on-the-way s u a at marks) x (turns .goes) ∙ turns .is ∙ ap (λ (g : Guide). next format g bytes) (sym on)
+          ap (λ (g : Guide). turned (guide-held s) g x) on ∙ called-turned (on-the-way s u a at marks) x (turns .goes) ∙ turns .is (on-the-way s u a at marks) ∙ ap (λ (g : Guide). next format g bytes) (sym on)
 
-      pub called-refused : goes ≡ false → (bytes : List ℕ) (x : Step) → x .told ≡ Refused (of-guide not-verified) → called s (guide-held s a at marks) x ≡ next format (guide-held s a at marks) bytes
-      unfolding called guide-called next
+      pub called-refused : goes ≡ false → (bytes : List ℕ) (x : Step) → x .told ≡ Refused (of-guide not-verified) → turned (guide-held s) (guide-held s a at marks) x ≡ next format (guide-held s a at marks) bytes
+      unfolding turned guide-after next
       called-refused not bytes x is =
           let refused = held-refused a at marks (sym says ∙ not) in
-          ap (λ (y : Told). record { guide = guide-called s (guide-held s a at marks) x y; told = y }) is
+          ap (λ (y : Told). record { guide = guide-after (guide-held s) (guide-held s a at marks) x y; told = y }) is
           ∙ ap (λ (g : Guide). record { guide = g; told = Refused (of-guide not-verified) }) refused
           ∙ ap (λ (g : Guide). next format g bytes) (sym refused)
 
@@ -150,11 +151,11 @@ module _ (s t u : List ℕ) (r : Passed) (settles : outcome r u ≡ noting reque
     unfolding guide-held guide-got
     held-fault a at marks = ap (guide-got a at marks) faulty
 
-    pub called-fault : (a at : ℕ) (marks : State) (bytes : List ℕ) (x : Answer) → x ≡ record { number = k; input = 1; place = p; count = 0 }
-        → called s (guide-held s a at marks) (record { told = Refused x; action = a; at = at; marks = marks }) ≡ next format (guide-held s a at marks) bytes
-    unfolding called guide-called next
-    called-fault a at marks bytes x is =
-        ap (λ (y : Answer). record { guide = guide-held s a at marks; told = Refused y }) is
+    pub called-fault : (a at : ℕ) (marks : State) (bytes : List ℕ) (y : Answer) → y ≡ record { number = k; input = 1; place = p; count = 0 } → (x : Step) → x .told ≡ Refused y
+        → turned (guide-held s) (guide-held s a at marks) x ≡ next format (guide-held s a at marks) bytes
+    unfolding turned guide-after next
+    called-fault a at marks bytes y is x told =
+        ap (λ (z : Told). record { guide = guide-after (guide-held s) (guide-held s a at marks) x z; told = z }) (told ∙ ap Refused is)
         ∙ ap (λ (g : Guide). record { guide = g; told = Refused (of-request k p) }) (held-fault a at marks)
         ∙ ap (λ (g : Guide). next format g bytes) (sym (held-fault a at marks))
 

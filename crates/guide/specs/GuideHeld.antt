@@ -19,7 +19,7 @@ use Rattle.steps.specs.AtHand.{Marked}
 use Rattle.steps.specs.Rests.{rest-at, after-first, Position}
 use Rattle.guidance.specs.declared.Told.{Told}
 use Rattle.guidance.specs.declared.Told.the-variants.{Do, Done, Refused}
-use Rattle.guidance.specs.Guides.{Guide, refusing, going, ended, Started, Turn, Ahead, the-end, an-action, no-branch, not-verified, of-guide, of-request, sensed}
+use Rattle.guidance.specs.Guides.{Guide, refusing, going, ended, Started, Turn, Ahead, the-end, an-action, no-branch, not-verified, of-guide, of-request, sensed, met, take-over}
 use Rattle.guide.specs.declared.going.Ahead as Code
 use Rattle.guide.specs.declared.going.Ahead.the-variants.{End, Action, NoBranch}
 use Rattle.guide.specs.declared.going.Step.{Step}
@@ -54,12 +54,19 @@ fluents-of fs = record { count = length fs; row = fs ++ replicate (format .fluen
 unfoldable pub on-the-way : (s t : List ℕ) → (action position : ℕ) → State → Guide
 on-the-way s t a i marks = going (table-in s) (asked-by (table-in s) a) (rest-at (plan-in s t) i) marks
 
--- What a call makes of the guide g.
-unfoldable pub guide-after : (s t : List ℕ) → Guide → Step → Told → Guide
-guide-after s t g r told = elim told [ Do a ↦ on-the-way s t (r .action) (r .at) (r .marks) | Done ↦ ended (r .marks) | Refused x ↦ g ]
+-- What a call makes of the guide g: `on` is the guide that goes on, by its action, position and marks.
+unfoldable pub guide-after : (on : (action position : ℕ) → State → Guide) → Guide → Step → Told → Guide
+guide-after on g r told = elim told [ Do a ↦ on (r .action) (r .at) (r .marks) | Done ↦ ended (r .marks) | Refused x ↦ g ]
 
-unfoldable pub turned : (s t : List ℕ) → Guide → Step → Turn
-turned s t g r = record { guide = guide-after s t g r (r .told); told = r .told }
+unfoldable pub turned : (on : (action position : ℕ) → State → Guide) → Guide → Step → Turn
+turned on g r = record { guide = guide-after on g r (r .told); told = r .told }
+
+-- What is made of any guide of a request at hand: in a state, by what comes next; and by a call.
+unfoldable pub meets : (s : List ℕ) → State → Ahead → Guide → Turn
+meets s state x g = met format (table-in s) g state x
+
+unfoldable pub takes : (s t : List ℕ) → (action position : ℕ) → State → (readings : List ℕ) → Guide → Turn
+takes s t a i marks bytes g = take-over format (table-in s) g (asked-by (table-in s) a) (rest-at (plan-in s t) i) marks bytes
 
 -- Where an action is answered, the guide goes on from a position of the plan, with marks.
 pub record Goes-on (s t : List ℕ) (r : Step) : Type 0 where
@@ -69,9 +76,9 @@ pub record Goes-on (s t : List ℕ) (r : Step) : Type 0 where
 unfoldable pub Goes-after : (s t : List ℕ) → Step → Told → Type 0
 Goes-after s t r told = elim told [ Do a ↦ Goes-on s t r | Done ↦ Unit {0} | Refused x ↦ Unit {0} ]
 
--- What the code answers is this turn.
-pub record Turns (s t : List ℕ) (g : Guide) (r : Step) (turn : Turn) : Type 0 where
-  pub is : turned s t g r ≡ turn
+-- What the code answers is this turn, whichever guide it is that a refusal leaves as it was.
+pub record Turns (s t : List ℕ) (r : Step) (turn : Guide → Turn) : Type 0 where
+  pub is : (g : Guide) → turned (on-the-way s t) g r ≡ turn g
   pub goes : Goes-after s t r (r .told)
 
 -- ANY VALUES stand for a guide: those that no start gave for one that was refused.
@@ -88,13 +95,6 @@ guide-got a i marks (fault n p) = refusing (of-request n p)
 
 unfoldable pub guide-held : (request : List ℕ) → (action position : ℕ) → State → Guide
 guide-held request a i marks = guide-got a i marks (settled format request)
-
--- What a call makes of the guide g, with the request read again.
-unfoldable pub guide-called : (request : List ℕ) → Guide → Step → Told → Guide
-guide-called request g r told = elim told [ Do a ↦ guide-held request (r .action) (r .at) (r .marks) | Done ↦ ended (r .marks) | Refused x ↦ g ]
-
-unfoldable pub called : (request : List ℕ) → Guide → Step → Turn
-called request g r = record { guide = guide-called request g r (r .told); told = r .told }
 
 -- A guide of a settled request, at its start.
 pub record Begins (request : List ℕ) (g : Guide) : Type 0 where

@@ -8,16 +8,16 @@ ghost use Rattle.guidance.specs.Guided.{asked-for};
 ghost use Rattle.meaning.specs.Tests.{both};
 ghost use Rattle.steps.specs.Held.{table-in, plan-in};
 ghost use Rattle.steps.specs.AtHand.{At-hand};
-ghost use Rattle.guide.specs.GuideHeld.{asked-by, fluents-of, is-position, is-marked, guide-held, called, Begins};
+ghost use Rattle.guide.specs.GuideHeld.{asked-by, fluents-of, is-position, is-marked, guide-held, turned, Begins};
 use super::going::NOT_VERIFIED;
 use super::going::Step;
 use super::going::answer_call;
+use super::going::refused;
 use super::going::refused_step;
 use super::sensed::Fluents;
 use super::sensed::sensed_by;
 use bytes::limits;
 use bytes::lists::Passed;
-use guidance::Told;
 use reading::marks::Marks;
 use reading::marks::state_of;
 use reading::notes;
@@ -72,7 +72,7 @@ fn is_going(s: &[u8], t: &Notes, at: usize, marks: &Marks) -> bool
 
 // A call of a guide with this request, whose plan is at `at` with `marks` and which waits for the readings of `action`. The request is read again.
 pub(crate) fn call(request: &[u8], action: usize, at: usize, marks: &Marks, readings: &[u8]) -> Step
-    ensures { λ r. ⌜ called (now (request .entry)) (guide-held (now (request .entry)) action at (now (marks .entry))) r ≡ next format (guide-held (now (request .entry)) action at (now (marks .entry))) (now (readings .entry)) ⌝ }
+    ensures { λ r. ⌜ turned (guide-held (now (request .entry))) (guide-held (now (request .entry)) action at (now (marks .entry))) r ≡ next format (guide-held (now (request .entry)) action at (now (marks .entry))) (now (readings .entry)) ⌝ }
 {
     let mut t: Notes = [0u16; notes::SLOTS];
     match settle(request, &mut t) {
@@ -81,14 +81,9 @@ pub(crate) fn call(request: &[u8], action: usize, at: usize, marks: &Marks, read
             if going {
                 return answer_call(request, &t, action, at, marks, readings);
             }
-            refused_step(NOT_VERIFIED, action, at, marks)
+            refused_step(NOT_VERIFIED)
         }
-        Passed::Fault(k, p) => Step {
-            told: Told::Refused(uncounted(k, answers::THE_REQUEST, p)),
-            action: action,
-            at: at,
-            marks: *marks,
-        },
+        Passed::Fault(k, p) => refused(uncounted(k, answers::THE_REQUEST, p)),
     }
 }
 

@@ -9,6 +9,7 @@ use Rattle.guide.proofs.calls.call.Reads as reads
 use Rattle.guide.proofs.calls.call.Lts as lts
 use Rattle.guide.proofs.calls.is_going.Reads as is-going-reads
 use Rattle.guide.proofs.going.answer_call.Reads as answer-call-reads
+use Rattle.guide.proofs.going.refused.Reads as refused-reads
 use Rattle.guide.proofs.going.refused_step.Reads as refused-step-reads
 use Rattle.refusing.proofs.settled.settle.Reads as settle-reads
 use Rattle.verdicts.proofs.answers.uncounted.Reads as uncounted-reads
@@ -46,9 +47,13 @@ refused-step-requires c κs = search needs
 enum-known-k : tie.Need-enum-known-k
 enum-known-k c = search needs
 
--- src/calls.rt:87:33
+-- src/calls.rt:86:40
 uncounted-requires : tie.Need-uncounted-requires
 uncounted-requires c κs = search needs
+
+-- src/calls.rt:86:32
+refused-requires : tie.Need-refused-requires
+refused-requires c κs = search needs
 
 -- src/calls.rt:74:1
 returns-2 : tie.Need-returns-2
@@ -70,5 +75,6 @@ call-spec =
     refused-step-requires
     enum-known-k
     uncounted-requires
+    refused-requires
     returns-2
     returns-3)
