@@ -25,8 +25,8 @@ use Rattle.meaning.specs.Answers.{refusals}
 use Rattle.meaning.specs.AnswerParts.{at-start, of-neither}
 use Rattle.guidance.specs.declared.Told.{Told}
 use Rattle.guidance.specs.declared.Told.the-variants.{Do, Done, Refused}
-use Rattle.guidance.specs.Guides.{not-verified, wrong-number, against-known, of-guide, of-request, Guide, refusing, going, ended, Started, Turn, refused-start, start-walked, start-got, start, Ahead, the-end, an-action, no-branch, ahead, literal-read, literals-read, against, stays, met, take-over, next}
-use Rattle.demands.specs.GuideSaid.{start-answers, of-starts, Start-input, Start-placed, Start-count, of-judged, after-calls, told-by, said}
+use Rattle.guidance.specs.Guides.{not-verified, wrong-number, against-known, of-guide, of-request, Guide, refusing, going, ended, Started, Turn, refused-start, start-walked, start-got, start, Ahead, the-end, an-action, no-branch, ahead, literal-read, literals-read, against, stays, met, take-over, next, after-calls, told-by}
+use Rattle.demands.specs.GuideSaid.{start-answers, of-starts, Start-input, Start-placed, Start-count, of-judged, said}
 use Rattle.meaning.proofs.TestLaws.{by-test, clash, either-left, either-right, fails-true, pick-true, pick-false, pick-cases}
 use Rattle.meaning.proofs.PickLaws.{pick-has}
 use Rattle.meaning.proofs.LiteralLaws.{among-each}

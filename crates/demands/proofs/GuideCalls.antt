@@ -19,9 +19,8 @@ use Rattle.meaning.specs.Walk.{Walked, Verified, each-reading, run-action, walk
 use Rattle.meaning.specs.Worlds.{Worlds, World}
 use Rattle.meaning.specs.Values.{flags}
 use Rattle.meaning.specs.ValueStates.{is-known}
-use Rattle.demands.specs.GuideSaid.{after-calls}
 use Rattle.guidance.specs.declared.Told.the-variants.{Refused}
-use Rattle.guidance.specs.Guides.{wrong-number, against-known, of-guide, Guide, refusing, going, ended, Turn, Ahead, the-end, an-action, no-branch, ahead, sensed, literals-read, against, state-done, stays, met, take-over, next, start}
+use Rattle.guidance.specs.Guides.{wrong-number, against-known, of-guide, Guide, refusing, going, ended, Turn, Ahead, the-end, an-action, no-branch, ahead, sensed, literals-read, against, state-done, stays, met, take-over, next, start, after-calls}
 use Rattle.meaning.proofs.TestLaws.{by-test, pick-true, pick-false}
 use Rattle.meaning.proofs.PickLaws.{pick-has}
 use Rattle.meaning.proofs.StateLaws.{known-true}
@@ -110,7 +109,7 @@ module _ (lim : Limits) (k : State → Walked State) where
       }))
 
   -- WHATEVER COMES NEXT.
-  met-kept : (t : Table) (g : Guide) (s : State) → Marked lim s → (v : World) (P : Worlds World) (possible : Possible v P s) (x : Ahead) (m : ℕ) (R : List ℕ → Type 0)
+  met-kept : (t : Table) (g : Guide) (s : State) → Marked lim s → (v : World) (P : Worlds World) (possible : Possible t v P s) (x : Ahead) (m : ℕ) (R : List ℕ → Type 0)
       → Led-to t k s v P possible x m R → Keeps (met lim t g s x)
   unfolding met
   met-kept t g s marked v P possible the-end m R led = record { guide = tt; refused = λ x q. absurd (done-not-refused x q) }
@@ -128,7 +127,7 @@ module _ (lim : Limits) (k : State → Walked State) where
       (λ q. pick-has Keeps _ _ _ (λ _. stays-42 (going t fs b s) kept) (λ free.
       let u = told-all (literals-read fs bytes) s in
       let marked = told-all-marked lim (literals-read fs bytes) s (kept .marked) in
-      let possible : Possible (true-known u) (λ w. w ≡ true-known u) u = record { agree = λ w is. subst (λ (x : World). Right x u) (sym is) (true-known-right lim u marked); actual = refl } in
+      let possible : Possible t (true-known u) (λ w. w ≡ true-known u) u = record { agree = λ w is. subst (λ (x : World). Right x u) (sym is) (true-known-right lim u marked); actual = refl } in
       met-kept t (going t fs b s) u marked (true-known u) (λ w. w ≡ true-known u) possible (ahead u b) _ _
       (ahead-led t k u (true-known u) (λ w. w ≡ true-known u) possible b (kept .apart) (kept .onward bytes (eqb-true _ _ q) free))))
       (λ _. stays-41 (going t fs b s) kept)

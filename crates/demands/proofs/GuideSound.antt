@@ -55,7 +55,7 @@ known-same t s w u g h f k =
     (λ down. fails-true _ (sym (holds-false w f) ∙ known-right t w s g _ down) ∙ sym (fails-true _ (sym (holds-false u f) ∙ known-right t u s h _ down)))
     (either-split _ _ k)
 
-end-reached : (r : Request) (s : State) (v : World) (P : Worlds World) → Possible v P s → Verified (judged r s) → Told-reached r s v P
+end-reached : (r : Request) (s : State) (v : World) (P : Worlds World) → Possible (r .table) v P s → Verified (judged r s) → Told-reached r s v P
 unfolding judged missed-in
 end-reached r s v P g is-fine =
     let none = fine-nowhere (missed-in r s) s is-fine in
@@ -101,13 +101,13 @@ module _ (lim : Limits) (r : Request) where
 
   abbrev Onward : ℕ → Type 1
   Onward n =
-      (b : Sequence ℕ) → most-items b ≤ n → On-conditions (Exclusive flags) b → (s : State) → length s ≡ lim .state → (v : World) (P : Worlds World) → Possible v P s
+      (b : Sequence ℕ) → most-items b ≤ n → On-conditions (Exclusive flags) b → (s : State) → length s ≡ lim .state → (v : World) (P : Worlds World) → Possible (r .table) v P s
       → Verified (walk (table-step (r .table)) b (judged r) s)
       → Goes n v P (λ g. met lim (r .table) g s (ahead s b)) (λ acts. Runs-exactly (table-domain (r .table)) b acts v P)
 
   -- AN ACTION, and what is left behind it.
   module _ (n : ℕ) (onward-n : Onward n) (p a : ℕ) (rest : Sequence ℕ) (few : most-items rest ≤ n) (on : On-conditions (Exclusive flags) rest) (s : State) (sized : length s ≡ lim .state)
-      (v : World) (P : Worlds World) (g : Possible v P s) (runs : Verified (run-action (table-step (r .table)) p a (walk (table-step (r .table)) rest (judged r)) s)) where
+      (v : World) (P : Worlds World) (g : Possible (r .table) v P s) (runs : Verified (run-action (table-step (r .table)) p a (walk (table-step (r .table)) rest (judged r)) s)) where
     can-run : can-be-run (r .table) a s ≡ true
     can-run = ran (r .table) p a (walk (table-step (r .table)) rest (judged r)) s runs .0
 
@@ -158,7 +158,7 @@ module _ (lim : Limits) (r : Request) where
         let moves : (w : World) → Right w s → Right (d .moved a w) u =
         subst (λ (o : Outcome State). Some-state o (λ x. (w : World) → Right w s → Right (d .moved a w) x)) is-single (table-sound (r .table) .moves a s (outcome (r .table) a s) (does-lead (r .table) a s can-run) off) in
         let h = going (r .table) [] rest u in
-        let possible : Possible (d .moved a v) (Moved d a P) u =
+        let possible : Possible (r .table) (d .moved a v) (Moved d a P) u =
         record {
           agree = λ w m. subst (λ (x : World). Right x u) (sym (m .3)) (moves (m .0) (g .agree (m .0) (m .1)));
           actual = (v, g .actual, may v (g .actual), refl);
@@ -186,7 +186,7 @@ module _ (lim : Limits) (r : Request) where
     act-on = by-test (sensing (r .table) a) read-on done-on
 
   -- WHATEVER COMES NEXT.
-  by-next : (n m : ℕ) → m ≤ n → ((i : ℕ) → n ≡ suc i → Onward i) → (s : State) → length s ≡ lim .state → (v : World) (P : Worlds World) (g : Possible v P s) (x : Ahead) (R : List ℕ → Type 0)
+  by-next : (n m : ℕ) → m ≤ n → ((i : ℕ) → n ≡ suc i → Onward i) → (s : State) → length s ≡ lim .state → (v : World) (P : Worlds World) (g : Possible (r .table) v P s) (x : Ahead) (R : List ℕ → Type 0)
       → Led-to (r .table) (judged r) s v P g x m R → Goes n v P (λ h. met lim (r .table) h s x) R
   unfolding met
   by-next n m few later s sized v P g the-end R led = ([], omega arith, λ h. (s, refl, end-reached r s v P g (led .0)), led .1)
@@ -218,7 +218,7 @@ guided lim request budget starts =
       b .end,
       b .settles,
       λ v facts.
-          let g : Possible v (Facts (r .table)) first = record { agree = λ w h. first-right lim (r .table) w h; actual = facts } in
+          let g : Possible (r .table) v (Facts (r .table)) first = record { agree = λ w h. first-right lim (r .table) w h; actual = facts } in
           let w = onward lim r (lim .items) (r .plan) (read-few lim request r (b .end) (passed .reads))
           (subst (λ (p : List (List ℕ) → Bool). On-conditions (λ cs. p cs ≡ true) (r .plan)) (fun-ext same-all-exclusive) (fit (r .plan) (passed .no-overlap)))
           first (first-length lim (r .table)) v (Facts (r .table)) g (b .fine) in (

@@ -9,18 +9,18 @@ use mathlib.Core.List.{List, [], _∷_}
 use mathlib.Core.Logic.{inl, inr}
 use Rattle.meaning.specs.Tests.{each-of, Has}
 use Rattle.meaning.specs.Requests.{Table, Sequence, done, item, Item, act, branching, Branches, none, branch}
-use Rattle.meaning.specs.Refusals.{conditions-of}
+use Rattle.meaning.specs.Refusals.{nowhere, conditions-of}
 use Rattle.meaning.specs.States.{State, known}
-use Rattle.meaning.specs.Walk.{Walked, Verified, stopped-at, run-action, walk, walk-item, walk-branch, table-step}
+use Rattle.meaning.specs.Walk.{Walked, Verified, run-action, walk, walk-item, walk-branch, table-step}
 use Rattle.meaning.specs.Worlds.{Domain, Worlds, Sure, Acted, World, table-domain}
 use Rattle.meaning.specs.Derivations.{join}
 use Rattle.meaning.specs.Values.{flags}
 use Rattle.demands.specs.Depth.{most-items, most-in, most-below}
 use Rattle.guidance.specs.Guides.{Ahead, the-end, an-action, no-branch, ahead-in, ahead-item, ahead-branch, ahead}
 use Rattle.guidance.specs.Guided.{Runs, Runs-item, Runs-chosen, Runs-exactly}
-use Rattle.meaning.proofs.TestLaws.{by-test, each-mono, pick-true, pick-false}
+use Rattle.meaning.proofs.TestLaws.{by-test, pick-true, pick-false}
 use Rattle.meaning.proofs.WalkLaws.{On-conditions, On-conditions-item, On-conditions-below}
-use Rattle.meaning.proofs.Sound.{stopped≢fine}
+use Rattle.meaning.proofs.Sound.{Known, sure, none-followed}
 use Rattle.meaning.proofs.ValueSound.{Exclusive}
 use Rattle.demands.proofs.JoinedWalk.{walk-joined}
 use Rattle.demands.proofs.GuideReadings.{Right, table-sound}
@@ -45,33 +45,31 @@ module _ {W L R : Type 0} (d : Domain W L R) where
       fun-ext λ (acts : List ℕ). fun-ext λ (u : W). fun-ext λ (Q : Worlds W).
       ap (λ (J : List ℕ → W → Worlds W → Type 0). Runs-item d i J acts u Q) (runs-joined p q K)
 
--- THE POSSIBLE WORLDS. The state is right in each of them, and the true one is among them.
-pub record Possible (v : World) (P : Worlds World) (s : State) : Type 0 where
-  pub agree : (w : World) → P w → Right w s
-  pub actual : P v
+-- THE POSSIBLE WORLDS. The state is right in each of them, and the true one is among them: what demand 3's induction keeps, without guards.
+pub no-guards : (t : Table) (s : State) → table-step t .lacks s ≡ nowhere → each-of (table-step t .knows s) [] ≡ true
+unfolding each-of
+no-guards t s lacks = refl
+
+abbrev pub Possible : Table → World → Worlds World → State → Type 0
+Possible t = Known (table-step t) (table-domain t) (Exclusive flags) Right (table-sound t) [] (no-guards t)
 
 -- No action is left.
 abbrev pub None-left : List ℕ → World → Worlds World → Type 0
 None-left left u Q = left ≡ []
 
 -- In a state, where k judges the plan's end.
-module _ (t : Table) (k : State → Walked State) (s : State) (v : World) (P : Worlds World) (g : Possible v P s) where
+module _ (t : Table) (k : State → Walked State) (s : State) (v : World) (P : Worlds World) (g : Possible t v P s) where
   abbrev Apart : List (List ℕ) → Type 0
   Apart = Exclusive flags
 
-  sure : (c : List ℕ) → each-of (known s) c ≡ true → Sure (table-domain t) c P
+  known-sure : (c : List ℕ) → each-of (known s) c ≡ true → Sure (table-domain t) c P
   unfolding table-step
-  sure c e w h = each-mono (known s) (table-domain t .holds w) (λ l. table-sound t .knows l w s (g .agree w h)) c e
+  known-sure c = sure (table-step t) (table-domain t) Apart Right (table-sound t) [] (no-guards t) c g
 
   -- A branch was followed, so some condition holds in the true world.
   some-followed : (j : State → Walked State) (bs : Branches ℕ) (p : ℕ) → Verified (walk-branch (table-step t) bs p j s)
       → ((e : List ℕ) → Has (conditions-of bs) e → each-of (table-domain t .holds v) e ≡ true → ⊥) → ⊥
-  unfolding walk table-step conditions-of stopped-at
-  some-followed j none p fine no-one = stopped≢fine fine
-  some-followed j (branch c b bs) p fine no-one =
-      by-test (each-of (known s) c)
-      (λ q. no-one c (inl refl) (sure c q v (g .actual)))
-      (λ q. some-followed j bs p (subst Verified (pick-false _ _ _ q) fine) (λ e m. no-one e (inr m)))
+  some-followed j bs p = none-followed (table-step t) (table-domain t) Apart Right (table-sound t) [] (no-guards t) j bs p g
 
   -- WHAT COMES NEXT: the walk comes to the plan's end, and nothing more is run; or it runs the action and walks what is left behind it, and running the action
   -- and then what is left runs all.
@@ -126,7 +124,7 @@ module _ (t : Table) (k : State → Walked State) (s : State) (v : World) (P : W
         by-test (each-of (known s) c)
         (λ q.
         subst (λ (x : Ahead). Led-to x (most-below (branch c b bs) + most-items after) (λ acts. Runs-chosen (table-domain t) (branch c b bs) (Runs (table-domain t) after None-left) acts v P)) (sym (pick-true _ _ _ q))
-        (led-map (ahead-in s b after next) _ _ _ _ (omega arith) (λ acts h. inl (sure c q, h))
+        (led-map (ahead-in s b after next) _ _ _ _ (omega arith) (λ acts h. inl (known-sure c q, h))
         (in-led b (on .0) after on-after next then (subst Verified (pick-true _ _ _ q) fine))))
         (λ q.
         let later : Verified (walk-branch (table-step t) bs p (walk (table-step t) after k) s) = subst Verified (pick-false _ _ _ q) fine in

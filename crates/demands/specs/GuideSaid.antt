@@ -1,4 +1,4 @@
--- What a guide's start and its calls say, by the number (FORMAT 25.3 to 25.9, 25.13, 25.14), and a guide after some calls.
+-- What a guide's start and its calls say, by the number (FORMAT 25.3 to 25.9, 25.13, 25.14).
 use Prim.Native.Nat.{ℕ, _≤_}
 use mathlib.Core.Path.{_≡_}
 use mathlib.Core.Bool.{Bool, true, false}
@@ -16,8 +16,7 @@ use Rattle.meaning.specs.Refusals.{settled}
 use Rattle.meaning.specs.Judging.{walk-of}
 use Rattle.meaning.specs.Answers.{refusals}
 use Rattle.meaning.specs.AnswerParts.{Placed}
-use Rattle.guidance.specs.declared.Told.{Told}
-use Rattle.guidance.specs.Guides.{Guide, not-verified, wrong-number, against-known, of-guide, next}
+use Rattle.guidance.specs.Guides.{not-verified, wrong-number, against-known, of-guide}
 
 -- THE START. Its numbers, and those that name neither input.
 unfoldable pub start-answers : List ℕ
@@ -49,14 +48,9 @@ of-judged x = pick (either (eqb (x .number) Limits.verified) (among (x .number) 
 unfoldable pub call-answers : List ℕ
 call-answers = Limits.verified ∷ wrong-number ∷ against-known ∷ []
 
--- The guide after some calls, and what they are told.
-unfoldable pub after-calls : Limits → Guide → (calls : List (List ℕ)) → Guide
-after-calls lim g [] = g
-after-calls lim g (c ∷ cs) = after-calls lim (next lim g c .guide) cs
-
-unfoldable pub told-by : Limits → Guide → (calls : List (List ℕ)) → List Told
-told-by lim g [] = []
-told-by lim g (c ∷ cs) = next lim g c .told ∷ told-by lim (next lim g c .guide) cs
+-- Those that a guide alone gives.
+unfoldable pub own-answers : List ℕ
+own-answers = not-verified ∷ wrong-number ∷ against-known ∷ []
 
 -- Readings say the same where each byte is 0 in both or in neither (FORMAT 25.6).
 unfoldable pub said : (readings : List ℕ) → List Bool

@@ -8,7 +8,7 @@ use Rattle.meaning.specs.Limits.{format}
 use Rattle.meaning.proofs.Cases.{usual, table-A, file-A}
 use Rattle.guidance.specs.declared.Told.{Told}
 use Rattle.guidance.specs.declared.Told.the-variants.{Do, Done, Refused}
-use Rattle.guidance.specs.Guides.{Guide, start, next}
+use Rattle.guidance.specs.Guides.{start, told-by}
 use Rattle.guidance.proofs.GuideCompute.{guide-open}
 
 -- What a start answers, and what the calls are told.
@@ -23,13 +23,9 @@ pub record GuideCase : Type 0 where
   pub calls : List (List ℕ)
   pub hears : Heard
 
--- What the calls are told from a guide on.
-unfoldable pub told-in : Guide → (calls : List (List ℕ)) → List Told
-told-in g [] = []
-told-in g (c ∷ cs) = let turn = next format g c in turn .told ∷ told-in (turn .guide) cs
-
+-- What is heard of a request, a budget and some calls.
 unfoldable pub heard-in : (request : List ℕ) → (budget : ℕ) → (calls : List (List ℕ)) → Heard
-heard-in request budget calls = let started = start format request budget in record { answer = started .answer; told = told-in (started .guide) calls }
+heard-in request budget calls = let started = start format request budget in record { answer = started .answer; told = told-by format (started .guide) calls }
 
 -- ROWS. A call is the readings that it brings and what it is told.
 pub record Call : Type 0 where
@@ -123,5 +119,5 @@ guide-cases =
     []
 
 pub guide-cases-hold : map (λ (c : GuideCase). heard-in (c .request) (c .budget) (c .calls)) guide-cases ≡ map (λ (c : GuideCase). c .hears) guide-cases
-unfolding guide-open table-A file-A senses-both senses-twice airport look-twice look-behind nested told-in heard-in guide-cases
+unfolding guide-open table-A file-A senses-both senses-twice airport look-twice look-behind nested told-by heard-in guide-cases
 guide-cases-hold = refl

@@ -151,3 +151,12 @@ unfoldable pub next : Limits → Guide → (readings : List ℕ) → Turn
 next lim (refusing x) bytes = record { guide = refusing x; told = Refused x }
 next lim (going t fs b s) bytes = take-over lim t (going t fs b s) fs b s bytes
 next lim (ended s) bytes = record { guide = ended s; told = Done }
+
+-- SOME CALLS, each given the guide that was handed back last (FORMAT 25.1): the guide after them, and what they are told.
+unfoldable pub after-calls : Limits → Guide → (calls : List (List ℕ)) → Guide
+after-calls lim g [] = g
+after-calls lim g (c ∷ cs) = after-calls lim (next lim g c .guide) cs
+
+unfoldable pub told-by : Limits → Guide → (calls : List (List ℕ)) → List Told
+told-by lim g [] = []
+told-by lim g (c ∷ cs) = let turn = next lim g c in turn .told ∷ told-by lim (turn .guide) cs

@@ -5,7 +5,7 @@ use native.Mathlib.Omega.{arith}
 use mathlib.Core.Path.{_≡_, refl, sym, _∙_, ap}
 use mathlib.Core.Bool.{Bool, true, false}
 use mathlib.Core.List.{List, []}
-use lib.ListN.{length, getD, take}
+use lib.ListN.{length, getD}
 use mir.Syntax.{w8}
 use mir.Val.{Fits}
 use Rattle.meaning.specs.declared.Answer.{Answer}
@@ -37,7 +37,8 @@ use Rattle.guidance.specs.declared.Told.the-variants.{Do, Done, Refused}
 use Rattle.guidance.specs.Guides.{Guide, refusing, going, of-guide, not-verified, of-request, sensed, next}
 use Rattle.guidance.specs.Guided.{asked-for}
 use Rattle.guide.specs.declared.going.Step.{Step}
-use Rattle.guide.specs.GuideHeld.{asked-by, on-the-way, guide-after, turned, Goes-after, Turns, is-position, is-marked, guide-got, guide-held, guide-called, called, Begins}
+use Rattle.guide.specs.declared.sensed.Fluents.{Fluents}
+use Rattle.guide.specs.GuideHeld.{asked-by, fluents-of, on-the-way, guide-after, turned, takes, Goes-after, Turns, is-position, is-marked, guide-got, guide-held, Begins}
 use Rattle.guide.proofs.GuideTestLaws.{position-passes, passes-position, marks-pass, pass-marks}
 use Rattle.guide.proofs.TurnLaws.{asked-some, asked-none}
 
@@ -59,14 +60,11 @@ module _ (s t : List ℕ) (at : ℕ) (marks : State) (going : Bool) (says : goin
   going-marked sized = marks-pass marks sized (both-right (is-position (plan-in s t) at) _ (sym says ∙ is))
 
 -- THE FLUENTS that are asked for.
-pub asked-after : (s : List ℕ) (a : ℕ) (fs : List ℕ) → a < format .actions → fs ≡ sensed format (table-in s) a → fs ≡ asked-by (table-in s) a
-asked-after s a fs small is = is ∙ sym (asked-some s a small)
+pub asked-after : (s : List ℕ) (a : ℕ) (x : Fluents) → a < format .actions → x ≡ fluents-of (sensed format (table-in s) a) → x ≡ fluents-of (asked-by (table-in s) a)
+asked-after s a x small is = is ∙ ap fluents-of (sym (asked-some s a small))
 
-take-none : (n : ℕ) (row : List ℕ) → n ≡ 0 → take n row ≡ []
-take-none n row none = ap (λ (m : ℕ). take m row) none
-
-pub none-after : (s : List ℕ) (a n : ℕ) (row : List ℕ) → format .actions ≤ a → n ≡ 0 → take n row ≡ asked-by (table-in s) a
-none-after s a n row large none = take-none n row none ∙ sym (asked-none s a large)
+pub none-after : (s : List ℕ) (a : ℕ) (x : Fluents) → format .actions ≤ a → x ≡ fluents-of [] → x ≡ fluents-of (asked-by (table-in s) a)
+none-after s a x large is = is ∙ ap fluents-of (sym (asked-none s a large))
 
 -- A REQUEST that was read again, and settled.
 module _ (s t u : List ℕ) (r : Passed) (settles : outcome r u ≡ noting (request-noted Flags) (settled format s) t) where
@@ -94,38 +92,39 @@ module _ (s t u : List ℕ) (r : Passed) (settles : outcome r u ≡ noting (requ
       held-there position marked = held-going (both-true _ _ (passes-position (plan-in s u) at position) (pass-marks marks marked))
 
     -- What a call makes of it.
-    called-after : (g : Guide) (x : Step) (told : Told) → Goes-after s u x told → guide-called s g x told ≡ guide-after s u g x told
-    unfolding guide-called guide-after Goes-after
+    called-after : (g : Guide) (x : Step) (told : Told) → Goes-after s u x told → guide-after (guide-held s) g x told ≡ guide-after (on-the-way s u) g x told
+    unfolding guide-after Goes-after
     called-after g x (Do a) goes = held-there (x .action) (x .at) (x .marks) (goes .at) (goes .marked)
     called-after g x Done goes = refl
     called-after g x (Refused y) goes = refl
 
-    called-turned : (g : Guide) (x : Step) → Goes-after s u x (x .told) → called s g x ≡ turned s u g x
-    unfolding called turned
+    called-turned : (g : Guide) (x : Step) → Goes-after s u x (x .told) → turned (guide-held s) g x ≡ turned (on-the-way s u) g x
+    unfolding turned
     called-turned g x goes = ap (λ (h : Guide). record { guide = h; told = x .told }) (called-after g x (x .told) goes)
 
     module _ (a at : ℕ) (marks : State) (goes : Bool) (says : goes ≡ both (is-position (plan-in s u) at) (is-marked marks)) where
-      pub called-going : goes ≡ true → (bytes : List ℕ) (x : Step) → Turns s u (on-the-way s u a at marks) x (next format (on-the-way s u a at marks) bytes)
-          → called s (guide-held s a at marks) x ≡ next format (guide-held s a at marks) bytes
+      pub called-going : goes ≡ true → (bytes : List ℕ) (x : Step) → Turns s u x (takes s u a at marks bytes)
+          → turned (guide-held s) (guide-held s a at marks) x ≡ next format (guide-held s a at marks) bytes
+      unfolding next on-the-way takes
       called-going is bytes x turns =
           let on = held-going a at marks (sym says ∙ is) in
-          ap (λ (g : Guide). called s g x) on ∙ called-turned (on-the-way s u a at marks) x (turns .goes) ∙ turns .is ∙ ap (λ (g : Guide). next format g bytes) (sym on)
+          ap (λ (g : Guide). turned (guide-held s) g x) on ∙ called-turned (on-the-way s u a at marks) x (turns .goes) ∙ turns .is (on-the-way s u a at marks) ∙ ap (λ (g : Guide). next format g bytes) (sym on)
 
-      pub called-refused : goes ≡ false → (bytes : List ℕ) (x : Step) → x .told ≡ Refused (of-guide not-verified) → called s (guide-held s a at marks) x ≡ next format (guide-held s a at marks) bytes
-      unfolding called guide-called next
+      pub called-refused : goes ≡ false → (bytes : List ℕ) (x : Step) → x .told ≡ Refused (of-guide not-verified) → turned (guide-held s) (guide-held s a at marks) x ≡ next format (guide-held s a at marks) bytes
+      unfolding turned guide-after next
       called-refused not bytes x is =
           let refused = held-refused a at marks (sym says ∙ not) in
-          ap (λ (y : Told). record { guide = guide-called s (guide-held s a at marks) x y; told = y }) is
+          ap (λ (y : Told). record { guide = guide-after (guide-held s) (guide-held s a at marks) x y; told = y }) is
           ∙ ap (λ (g : Guide). record { guide = g; told = Refused (of-guide not-verified) }) refused
           ∙ ap (λ (g : Guide). next format g bytes) (sym refused)
 
-      pub asked-going : goes ≡ true → (fs : List ℕ) → fs ≡ asked-by (table-in s) a → fs ≡ asked-for (guide-held s a at marks)
+      pub asked-going : goes ≡ true → (x : Fluents) → x ≡ fluents-of (asked-by (table-in s) a) → x ≡ fluents-of (asked-for (guide-held s a at marks))
       unfolding asked-for on-the-way
-      asked-going is fs are = are ∙ ap asked-for (sym (held-going a at marks (sym says ∙ is)))
+      asked-going is x are = are ∙ ap (λ (g : Guide). fluents-of (asked-for g)) (sym (held-going a at marks (sym says ∙ is)))
 
-      pub asked-refused : goes ≡ false → (n : ℕ) (row : List ℕ) → n ≡ 0 → take n row ≡ asked-for (guide-held s a at marks)
+      pub asked-refused : goes ≡ false → (x : Fluents) → x ≡ fluents-of [] → x ≡ fluents-of (asked-for (guide-held s a at marks))
       unfolding asked-for
-      asked-refused not n row none = take-none n row none ∙ ap asked-for (sym (held-refused a at marks (sym says ∙ not)))
+      asked-refused not x none = none ∙ ap (λ (g : Guide). fluents-of (asked-for g)) (sym (held-refused a at marks (sym says ∙ not)))
 
     -- Its start.
     module _ (items at : ℕ) (counted : items ≡ getD u items-slot 0) (starts : at ≡ start items) (marks : State) (is : marks ≡ state-of format (listed s 2)) where
@@ -153,17 +152,17 @@ module _ (s t u : List ℕ) (r : Passed) (settles : outcome r u ≡ noting (requ
     unfolding guide-held guide-got
     held-fault a at marks = ap (guide-got a at marks) faulty
 
-    pub called-fault : (a at : ℕ) (marks : State) (bytes : List ℕ) (x : Answer) → x ≡ record { number = k; input = 1; place = p; count = 0 }
-        → called s (guide-held s a at marks) (record { told = Refused x; action = a; at = at; marks = marks }) ≡ next format (guide-held s a at marks) bytes
-    unfolding called guide-called next
-    called-fault a at marks bytes x is =
-        ap (λ (y : Answer). record { guide = guide-held s a at marks; told = Refused y }) is
+    pub called-fault : (a at : ℕ) (marks : State) (bytes : List ℕ) (y : Answer) → y ≡ record { number = k; input = 1; place = p; count = 0 } → (x : Step) → x .told ≡ Refused y
+        → turned (guide-held s) (guide-held s a at marks) x ≡ next format (guide-held s a at marks) bytes
+    unfolding turned guide-after next
+    called-fault a at marks bytes y is x told =
+        ap (λ (z : Told). record { guide = guide-after (guide-held s) (guide-held s a at marks) x z; told = z }) (told ∙ ap Refused is)
         ∙ ap (λ (g : Guide). record { guide = g; told = Refused (of-request k p) }) (held-fault a at marks)
         ∙ ap (λ (g : Guide). next format g bytes) (sym (held-fault a at marks))
 
-    pub asked-fault : (a at : ℕ) (marks : State) (n : ℕ) (row : List ℕ) → n ≡ 0 → take n row ≡ asked-for (guide-held s a at marks)
+    pub asked-fault : (a at : ℕ) (marks : State) (x : Fluents) → x ≡ fluents-of [] → x ≡ fluents-of (asked-for (guide-held s a at marks))
     unfolding asked-for
-    asked-fault a at marks n row none = take-none n row none ∙ ap asked-for (sym (held-fault a at marks))
+    asked-fault a at marks x none = none ∙ ap (λ (g : Guide). fluents-of (asked-for g)) (sym (held-fault a at marks))
 
     pub begins-not : (g : Guide) → Begins s g
     begins-not g = record { held = λ q e so. absurd (fault≢got (sym faulty ∙ so)) }

@@ -17,9 +17,10 @@ use Rattle.guidance.specs.declared.Told.the-variants.{Do, Done, Refused}
 use Rattle.guidance.specs.Guides.{Guide, refusing, ended, next}
 use Rattle.guidance.specs.Guided.{asked-for}
 use Rattle.guide.specs.declared.going.Step.{Step}
+use Rattle.guide.specs.declared.sensed.Fluents.{Fluents}
 use Rattle.guide.specs.declared.guides.Stage.the-variants.{Refusing, Going, Ended}
 use Rattle.guide.specs.declared.guides.Guide as Held
-use Rattle.guide.specs.GuideHeld.{guide-held, guide-called, called, row-end, request-of, guide-at, guide-of, turn-of, Kept-guide}
+use Rattle.guide.specs.GuideHeld.{fluents-of, guide-held, guide-after, turned, row-end, request-of, guide-at, guide-of, turn-of, Kept-guide}
 
 -- A PART of the row ends with the row.
 pub row-short : (n : ℕ) → n < format .request → n ≡ row-end n
@@ -50,20 +51,20 @@ module _ (n e : ℕ) (row : List ℕ) (sized : length row ≡ format .request) (
       take-all e row (omega (arith, sized, last)) ∙ sym (take-all n row (omega (arith, sized, most))))
 
   module _ (a at : ℕ) (marks : State) where
-    pub part-called : (bytes : List ℕ) (x : Step) → called (take e row) (guide-held (take e row) a at marks) x ≡ next format (guide-held (take e row) a at marks) bytes
-        → called (take n row) (guide-held (take n row) a at marks) x ≡ next format (guide-held (take n row) a at marks) bytes
-    part-called bytes x is = subst (λ (l : List ℕ). called l (guide-held l a at marks) x ≡ next format (guide-held l a at marks) bytes) same-part is
+    pub part-called : (bytes : List ℕ) (x : Step) → turned (guide-held (take e row)) (guide-held (take e row) a at marks) x ≡ next format (guide-held (take e row) a at marks) bytes
+        → turned (guide-held (take n row)) (guide-held (take n row) a at marks) x ≡ next format (guide-held (take n row) a at marks) bytes
+    part-called bytes x is = subst (λ (l : List ℕ). turned (guide-held l) (guide-held l a at marks) x ≡ next format (guide-held l a at marks) bytes) same-part is
 
-    pub part-asked : (fs : List ℕ) → fs ≡ asked-for (guide-held (take e row) a at marks) → fs ≡ asked-for (guide-held (take n row) a at marks)
-    part-asked fs is = is ∙ ap (λ (l : List ℕ). asked-for (guide-held l a at marks)) same-part
+    pub part-asked : (x : Fluents) → x ≡ fluents-of (asked-for (guide-held (take e row) a at marks)) → x ≡ fluents-of (asked-for (guide-held (take n row) a at marks))
+    part-asked x is = is ∙ ap (λ (l : List ℕ). fluents-of (asked-for (guide-held l a at marks))) same-part
 
 -- A GUIDE by its stage.
 module _ (g : Held.Guide) where
   pub kept-same : (told : Told) → Kept-guide g (record { guide = g; told = told })
   kept-same told = record { refused = λ x is. refl; request = refl }
 
-  none-of : (h : Guide) → guide-of g ≡ h → asked-for h ≡ [] → (n : ℕ) (row : List ℕ) → n ≡ 0 → take n row ≡ asked-for (guide-of g)
-  none-of h is none n row zero-is = ap (λ (m : ℕ). take m row) zero-is ∙ sym (ap asked-for is ∙ none)
+  none-of : (h : Guide) → guide-of g ≡ h → asked-for h ≡ [] → (x : Fluents) → x ≡ fluents-of [] → x ≡ fluents-of (asked-for (guide-of g))
+  none-of h is none x are = are ∙ ap fluents-of (sym (ap asked-for is ∙ none))
 
   -- It was refused.
   module _ (stage : g .stage ≡ Refusing) where
@@ -75,7 +76,7 @@ module _ (g : Held.Guide) where
     unfolding turn-of next
     next-refused bytes = ap (λ (h : Guide). record { guide = h; told = Refused (g .answer) }) is-refusing ∙ ap (λ (h : Guide). next format h bytes) (sym is-refusing)
 
-    pub asks-refused : (n : ℕ) (row : List ℕ) → n ≡ 0 → take n row ≡ asked-for (guide-of g)
+    pub asks-refused : (x : Fluents) → x ≡ fluents-of [] → x ≡ fluents-of (asked-for (guide-of g))
     unfolding asked-for
     asks-refused = none-of (refusing (g .answer)) is-refusing refl
 
@@ -89,7 +90,7 @@ module _ (g : Held.Guide) where
     unfolding turn-of next
     next-ended bytes = ap (λ (h : Guide). record { guide = h; told = Done }) is-ended ∙ ap (λ (h : Guide). next format h bytes) (sym is-ended)
 
-    pub asks-ended : (n : ℕ) (row : List ℕ) → n ≡ 0 → take n row ≡ asked-for (guide-of g)
+    pub asks-ended : (x : Fluents) → x ≡ fluents-of [] → x ≡ fluents-of (asked-for (guide-of g))
     unfolding asked-for
     asks-ended = none-of (ended (g .marks)) is-ended refl
 
@@ -102,29 +103,29 @@ module _ (g : Held.Guide) where
     unfolding guide-of guide-at request-of
     is-going = ap (guide-at g) stage
 
-    pub asks-going : (fs : List ℕ) → fs ≡ asked-for held → fs ≡ asked-for (guide-of g)
-    asks-going fs is = is ∙ ap asked-for (sym is-going)
+    pub asks-going : (x : Fluents) → x ≡ fluents-of (asked-for held) → x ≡ fluents-of (asked-for (guide-of g))
+    asks-going x is = is ∙ ap (λ (h : Guide). fluents-of (asked-for h)) (sym is-going)
 
-    module _ (bytes : List ℕ) (x : Step) (calls : called (take (g .length) (g .request)) held x ≡ next format held bytes) where
-      moves-to : (h : Held.Guide) → guide-of h ≡ guide-called (take (g .length) (g .request)) held x (x .told) → turn-of (record { guide = h; told = x .told }) ≡ next format (guide-of g) bytes
-      unfolding turn-of called
+    module _ (bytes : List ℕ) (x : Step) (calls : turned (guide-held (take (g .length) (g .request))) held x ≡ next format held bytes) where
+      moves-to : (h : Held.Guide) → guide-of h ≡ guide-after (guide-held (take (g .length) (g .request))) held x (x .told) → turn-of (record { guide = h; told = x .told }) ≡ next format (guide-of g) bytes
+      unfolding turn-of turned
       moves-to h is = ap (λ (k : Guide). record { guide = k; told = x .told }) is ∙ calls ∙ ap (λ (k : Guide). next format k bytes) (sym is-going)
 
-      told-as : (told : Told) → x .told ≡ told → guide-called (take (g .length) (g .request)) held x (x .told) ≡ guide-called (take (g .length) (g .request)) held x told
-      told-as told is = ap (guide-called (take (g .length) (g .request)) held x) is
+      told-as : (told : Told) → x .told ≡ told → guide-after (guide-held (take (g .length) (g .request))) held x (x .told) ≡ guide-after (guide-held (take (g .length) (g .request))) held x told
+      told-as told is = ap (guide-after (guide-held (take (g .length) (g .request))) held x) is
 
       pub moves-on : (a : ℕ) → x .told ≡ Do a
           → turn-of (record { guide = record { request = g .request; length = g .length; stage = Going; answer = g .answer; action = x .action; at = x .at; marks = x .marks }; told = x .told }) ≡ next format (guide-of g) bytes
-      unfolding guide-of guide-at request-of guide-called
+      unfolding guide-of guide-at request-of guide-after
       moves-on a is = moves-to _ (sym (told-as (Do a) is))
 
       pub moves-last : x .told ≡ Done
           → turn-of (record { guide = record { request = g .request; length = g .length; stage = Ended; answer = g .answer; action = x .action; at = x .at; marks = x .marks }; told = x .told }) ≡ next format (guide-of g) bytes
-      unfolding guide-of guide-at guide-called
+      unfolding guide-of guide-at guide-after
       moves-last is = moves-to _ (sym (told-as Done is))
 
       pub moves-not : (y : Answer) → x .told ≡ Refused y → turn-of (record { guide = g; told = x .told }) ≡ next format (guide-of g) bytes
-      unfolding guide-called
+      unfolding guide-after
       moves-not y is = moves-to g (is-going ∙ sym (told-as (Refused y) is))
 
 -- WHAT A CALL KEEPS: the request, and where it refuses all of it.

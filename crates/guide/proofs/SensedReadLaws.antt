@@ -4,8 +4,8 @@ use native.Mathlib.Omega.{arith}
 use mathlib.Core.Path.{_≡_, refl, sym, _∙_, ap}
 use mathlib.Core.Bool.{Bool, true, false}
 use mathlib.Core.List.{List, [], _∷_, _++_, append-nil}
-use lib.ListN.{length, getD, set, take, drop, replicate, length-set, length-replicate}
-use lib.Seq.{length-take-le, append-snoc, take-suc-set, drop-cons}
+use lib.ListN.{length, getD, set, take, drop, replicate, take-append-drop, length-set, length-replicate}
+use lib.Seq.{length-take-le, append-snoc, take-suc-set, drop-cons, drop-set-lt}
 use lib.Dec.{eqb}
 use borrow.Author.Tests.{eq-eqb, ne-eqb}
 use Rattle.meaning.specs.Tests.{either, pick, some-of}
@@ -21,6 +21,8 @@ use Rattle.reading.proofs.MarkLaws.{mark-most, mark-other}
 use Rattle.steps.specs.AtHand.{Marked}
 use Rattle.steps.proofs.LookLaws.{marked-set}
 use Rattle.guidance.specs.Guides.{sensed-from, sensed, literal-read, literals-read, against}
+use Rattle.guide.specs.declared.sensed.Fluents.{Fluents}
+use Rattle.guide.specs.GuideHeld.{fluents-of}
 
 -- ONE READING.
 pub read-no : (byte : ℕ) → byte ≡ 0 → 2 ≡ mark-of (literal-read 0 byte)
@@ -76,15 +78,16 @@ module _ (t : Table) (a : ℕ) where
     unfolding sensed-left sensed-from
     sensed-none far = let none : format .fluents - f ≡ 0 = omega arith in rw none
 
--- GATHERED. The first so many of the row are those below f.
+-- GATHERED. The first so many of the row are those below f, and behind them the row is as it was.
 pub record Sensed-row (t : Table) (a : ℕ) (row : List ℕ) (count f : ℕ) : Type 0 where
   pub sized : length row ≡ format .fluents
   pub most : f ≤ format .fluents
   pub few : count ≤ f
   pub same : sensed format t a ≡ take count row ++ sensed-left t a f
+  pub blank : drop count row ≡ replicate (format .fluents - count) 0
 
 pub row-starts : (t : Table) (a : ℕ) → Sensed-row t a (replicate (format .fluents) 0) 0 0
-row-starts t a = record { sized = length-replicate {A = ℕ} (format .fluents) 0; most = omega arith; few = omega arith; same = sensed-all t a }
+row-starts t a = record { sized = length-replicate {A = ℕ} (format .fluents) 0; most = omega arith; few = omega arith; same = sensed-all t a; blank = refl }
 
 module _ (t : Table) (a : ℕ) (row : List ℕ) (count f : ℕ) (holds : Sensed-row t a row count f) where
   module _ (near : f < format .fluents) (there : Bool) (is : there ≡ senses (knowledge-of t a) f) where
@@ -94,7 +97,19 @@ module _ (t : Table) (a : ℕ) (row : List ℕ) (count f : ℕ) (holds : Sensed-
       most = omega arith;
       few = let few = holds .few in omega arith;
       same = holds .same ∙ ap (λ (fs : List ℕ). take count row ++ fs) (sensed-not t a f near (sym is ∙ none));
+      blank = holds .blank;
     }
+
+    -- Behind the place that is written.
+    one-behind : drop (count + 1) (set row count f) ≡ replicate (format .fluents - (count + 1)) 0
+    one-behind =
+        let few = holds .few in
+        let sized = holds .sized in
+        let up : count + 1 ≡ suc count = omega arith in
+        let left : format .fluents - count ≡ suc (format .fluents - (count + 1)) = omega arith in
+        drop-set-lt (count + 1) row count f (omega arith)
+        ∙ ap (λ (n : ℕ). drop n row) up
+        ∙ ap (drop 1) (sym (drop-cons row count 0 (omega arith)) ∙ holds .blank ∙ ap (λ (n : ℕ). replicate n 0) left)
 
     pub row-more : there ≡ true → Sensed-row t a (set row count f) (count + 1) (f + 1)
     row-more some =
@@ -110,18 +125,34 @@ module _ (t : Table) (a : ℕ) (row : List ℕ) (count f : ℕ) (holds : Sensed-
               ∙ ap (λ (fs : List ℕ). take count row ++ fs) (sensed-here t a f near (sym is ∙ some))
               ∙ sym (append-snoc (take count row) f (sensed-left t a (f + 1)))
               ∙ ap (λ (fs : List ℕ). fs ++ sensed-left t a (f + 1)) (sym held);
+          blank = one-behind;
         }
 
   module _ (far : format .fluents ≤ f) where
-    pub row-is : take count row ≡ sensed format t a
+    row-is : take count row ≡ sensed format t a
     row-is = sym (holds .same ∙ ap (λ (fs : List ℕ). take count row ++ fs) (sensed-none t a f far) ∙ append-nil (take count row))
 
-    pub row-counts : count ≡ length (sensed format t a)
+    row-counts : count ≡ length (sensed format t a)
     row-counts =
         let few = holds .few in
         let sized = holds .sized in
         let most = holds .most in
         sym (length-take-le count row (omega arith)) ∙ ap length row-is
+
+    pub row-told : record { count = count; row = row } ≡ fluents-of (sensed format t a)
+    unfolding fluents-of
+    row-told =
+        ap (λ (l : List ℕ). record { count = count; row = l }) (sym (take-append-drop count row) ∙ ap (λ (l : List ℕ). take count row ++ l) (holds .blank) ∙ ap (λ (l : List ℕ). l ++ replicate (format .fluents - count) 0) row-is)
+        ∙ ap (λ (n : ℕ). record { count = n; row = sensed format t a ++ replicate (format .fluents - n) 0 }) row-counts
+
+pub none-told : record { count = 0; row = replicate (format .fluents) 0 } ≡ fluents-of []
+unfolding fluents-of
+none-told = refl
+
+-- As many as are told.
+pub told-count : (r : Fluents) (fs : List ℕ) → r ≡ fluents-of fs → (n : ℕ) → n ≡ r .count → n ≡ length fs
+unfolding fluents-of
+told-count r fs is n same = same ∙ ap (λ (x : Fluents). x .count) is
 
 -- READINGS, one for each sensed fluent. Those that are left are of the fluents from f up.
 pub record Readings-left (t : Table) (a : ℕ) (readings : List ℕ) (i f : ℕ) : Type 0 where

@@ -6,6 +6,7 @@ use mathlib.Core.Bool.{Bool, true, false}
 use mathlib.Core.List.{List, []}
 use lib.ListN.{length, getD}
 use borrow.Author.Tests.{lt-ltb, le-ltb, eq-eqb, ne-eqb}
+use Rattle.meaning.specs.declared.Answer.{Answer}
 use Rattle.meaning.specs.Limits.{format}
 use Rattle.meaning.specs.Tests.{pick, some-of}
 use Rattle.meaning.specs.Requests.{Sequence}
@@ -20,11 +21,13 @@ use Rattle.steps.specs.Steps.{Followed}
 use Rattle.steps.proofs.LookLaws.{marked-after}
 use Rattle.guidance.specs.declared.Told.{Told}
 use Rattle.guidance.specs.declared.Told.the-variants.{Do, Done, Refused}
-use Rattle.guidance.specs.Guides.{Guide, going, Turn, an-action, of-guide, not-verified, wrong-number, against-known, ahead, sensed, literals-read, against, state-done, stays, met, take-over, next}
+use Rattle.guidance.specs.Guides.{Guide, going, Turn, Ahead, an-action, of-guide, not-verified, wrong-number, against-known, ahead, sensed, literals-read, against, state-done, stays, met, take-over}
 use Rattle.guide.specs.declared.going.Ahead as Code
 use Rattle.guide.specs.declared.going.Ahead.the-variants.{End, Action, NoBranch}
 use Rattle.guide.specs.declared.going.Step.{Step}
-use Rattle.guide.specs.GuideHeld.{came, Item-there, Action-there, asked-by, on-the-way, guide-after, turned, Goes-after, Turns}
+use Rattle.guide.specs.declared.sensed.Fluents.{Fluents}
+use Rattle.guide.specs.GuideHeld.{came, Item-there, Action-there, asked-by, fluents-of, on-the-way, guide-after, turned, meets, takes, Goes-after, Turns}
+use Rattle.guide.proofs.SensedReadLaws.{told-count}
 
 -- THE FLUENTS whose readings come after an action, and none where there is no action.
 pub asked-some : (s : List ℕ) (a : ℕ) → a < format .actions → asked-by (table-in s) a ≡ sensed format (table-in s) a
@@ -35,11 +38,15 @@ pub asked-none : (s : List ℕ) (a : ℕ) → format .actions ≤ a → asked-by
 unfolding asked-by
 asked-none s a large = pick-false _ _ _ (le-ltb a (format .actions) large)
 
--- A REFUSAL leaves the guide as it is, and the plan's end ends it.
-module _ (s t : List ℕ) (g : Guide) (r : Step) where
-  pub refused-stays : (n : ℕ) → r .told ≡ Refused (of-guide n) → Turns s t g r (stays g n)
+-- A refusal with an answer of the guide's own.
+pub refused-own : (n : ℕ) (x : Answer) (r : Step) → x ≡ of-guide n → r .told ≡ Refused x → r .told ≡ Refused (of-guide n)
+refused-own n x r is told = told ∙ ap Refused is
+
+-- A REFUSAL leaves the guide as it is, whichever it is.
+module _ (s t : List ℕ) (r : Step) where
+  pub refused-stays : (n : ℕ) → r .told ≡ Refused (of-guide n) → Turns s t r (λ g. stays g n)
   unfolding turned guide-after stays Goes-after
-  refused-stays n is = record { is = ap (λ (x : Told). record { guide = guide-after s t g r x; told = x }) is; goes = subst (Goes-after s t r) (sym is) tt }
+  refused-stays n is = record { is = λ g. ap (λ (x : Told). record { guide = guide-after (on-the-way s t) g r x; told = x }) is; goes = subst (Goes-after s t r) (sym is) tt }
 
 -- AN ACTION that is item i, at p.
 pub can-run : (s : List ℕ) (a : ℕ) (state : State) (runs : Bool) → runs ≡ can-be-run (table-in s) a state → runs ≡ true → can-be-run (table-in s) a state ≡ true
@@ -53,38 +60,40 @@ module _ (s t : List ℕ) (i : ℕ) (there : Item-there s t i) (p : ℕ) (placed
   pub action-low : a < format .actions
   action-low = let low = there .acts in let same = action-is in omega arith
 
-  module _ (g : Guide) (state : State) (runs : Bool) (ran : runs ≡ can-be-run (table-in s) a state) where
-    abbrev meets : Turn
-    meets = met format (table-in s) g state (an-action (action-at s t i) (after-first (rest-at (plan-in s t) i)))
+  module _ (state : State) (runs : Bool) (ran : runs ≡ can-be-run (table-in s) a state) where
+    abbrev meets-item : Guide → Turn
+    meets-item = meets s state (an-action (action-at s t i) (after-first (rest-at (plan-in s t) i)))
 
-    meets-it : meets ≡ met format (table-in s) g state (an-action a (after-first (rest-at (plan-in s t) i)))
-    meets-it = ap (λ (n : ℕ). met format (table-in s) g state (an-action n (after-first (rest-at (plan-in s t) i)))) action-is
+    meets-it : (g : Guide) → meets-item g ≡ met format (table-in s) g state (an-action a (after-first (rest-at (plan-in s t) i)))
+    unfolding meets
+    meets-it g = ap (λ (n : ℕ). met format (table-in s) g state (an-action n (after-first (rest-at (plan-in s t) i)))) action-is
 
     -- It cannot be run.
-    pub item-refused : runs ≡ false → (r : Step) → r .told ≡ Refused (of-guide not-verified) → Turns s t g r meets
+    pub item-refused : runs ≡ false → (r : Step) → r .told ≡ Refused (of-guide not-verified) → Turns s t r meets-item
     unfolding met
     item-refused not r is =
-        let refused = refused-stays s t g r not-verified is in
-        record { is = refused .is ∙ sym (meets-it ∙ pick-false _ _ _ (sym ran ∙ not)); goes = refused .goes }
+        let refused = refused-stays s t r not-verified is in
+        record { is = λ g. refused .is g ∙ sym (meets-it g ∙ pick-false _ _ _ (sym ran ∙ not)); goes = refused .goes }
 
     -- It is answered, and the guide goes on behind it with what is known when it is done.
     module _ (can : runs ≡ true) (at : ℕ) (follows : Followed s t i at) where
-      does-it : (marks : State) → state-done (table-in s) a state ≡ marks → Marked marks → Turns s t g (record { told = Do a; action = a; at = at; marks = marks }) meets
+      does-it : (marks : State) → state-done (table-in s) a state ≡ marks → Marked marks → Turns s t (record { told = Do a; action = a; at = at; marks = marks }) meets-item
       unfolding met turned guide-after on-the-way Goes-after
       does-it marks done marked = record {
-        is = ap (λ (fs : List ℕ). record { guide = going (table-in s) fs (rest-at (plan-in s t) at) marks; told = Do a }) (asked-some s a action-low)
+        is = λ g.
+            ap (λ (fs : List ℕ). record { guide = going (table-in s) fs (rest-at (plan-in s t) at) marks; told = Do a }) (asked-some s a action-low)
             ∙ ap (λ (b : Sequence ℕ). record { guide = going (table-in s) (sensed format (table-in s) a) b marks; told = Do a }) (follows .rest)
             ∙ ap (λ (m : State). record { guide = going (table-in s) (sensed format (table-in s) a) (after-first (rest-at (plan-in s t) i)) m; told = Do a }) (sym done)
-            ∙ sym (meets-it ∙ pick-true _ _ _ (sym ran ∙ can));
+            ∙ sym (meets-it g ∙ pick-true _ _ _ (sym ran ∙ can));
         goes = record { at = follows .at; marked = marked };
       }
 
       module _ (senses : Bool) (says : senses ≡ sensing (table-in s) a) (marked : Marked state) where
-        pub item-sensing : senses ≡ true → Turns s t g (record { told = Do a; action = a; at = at; marks = state }) meets
+        pub item-sensing : senses ≡ true → Turns s t (record { told = Do a; action = a; at = at; marks = state }) meets-item
         unfolding state-done
         item-sensing does = does-it state (pick-true _ _ _ (sym says ∙ does)) marked
 
-        pub item-acting : senses ≡ false → (after : State) → after ≡ state-after (table-in s) a state → Turns s t g (record { told = Do a; action = a; at = at; marks = after }) meets
+        pub item-acting : senses ≡ false → (after : State) → after ≡ state-after (table-in s) a state → Turns s t (record { told = Do a; action = a; at = at; marks = after }) meets-item
         unfolding state-done
         item-acting not after is = does-it after (pick-false _ _ _ (sym says ∙ not) ∙ sym is) (subst Marked (sym is) (marked-after (table-in s) a state marked))
 
@@ -93,77 +102,73 @@ pub item-ahead : (s t : List ℕ) (x : Code.Ahead) → Action-there s t x → (i
 unfolding Action-there
 item-ahead s t x acts i is = subst (Action-there s t) is acts
 
-module _ (s t : List ℕ) (g : Guide) (state : State) (b : Sequence ℕ) (x : Code.Ahead) (comes : came s t x ≡ ahead state b) where
-  abbrev comes-to : Turn
-  comes-to = met format (table-in s) g state (ahead state b)
+module _ (s t : List ℕ) (state : State) (b : Sequence ℕ) (x : Code.Ahead) (comes : came s t x ≡ ahead state b) where
+  abbrev comes-to : Guide → Turn
+  comes-to = meets s state (ahead state b)
 
-  by-came : (y : Code.Ahead) → x ≡ y → met format (table-in s) g state (came s t y) ≡ comes-to
-  by-came y is = ap (λ (z : Code.Ahead). met format (table-in s) g state (came s t z)) (sym is) ∙ ap (met format (table-in s) g state) comes
+  by-came : (y : Code.Ahead) → x ≡ y → (g : Guide) → meets s state (came s t y) g ≡ comes-to g
+  by-came y is g = ap (λ (z : Code.Ahead). meets s state (came s t z) g) (sym is) ∙ ap (λ (z : Ahead). meets s state z g) comes
 
-  pub comes-end : x ≡ End → (a at : ℕ) → Turns s t g (record { told = Done; action = a; at = at; marks = state }) comes-to
-  unfolding came met turned guide-after Goes-after
-  comes-end is a at = record { is = by-came End is; goes = tt }
+  pub comes-end : x ≡ End → (a at : ℕ) → Turns s t (record { told = Done; action = a; at = at; marks = state }) comes-to
+  unfolding came meets met turned guide-after Goes-after
+  comes-end is a at = record { is = λ g. by-came End is g; goes = tt }
 
-  pub comes-action : (i : ℕ) → x ≡ Action i → (r : Step) → Turns s t g r (met format (table-in s) g state (an-action (action-at s t i) (after-first (rest-at (plan-in s t) i)))) → Turns s t g r comes-to
+  pub comes-action : (i : ℕ) → x ≡ Action i → (r : Step) → Turns s t r (meets s state (an-action (action-at s t i) (after-first (rest-at (plan-in s t) i)))) → Turns s t r comes-to
   unfolding came
-  comes-action i is r turns = record { is = turns .is ∙ by-came (Action i) is; goes = turns .goes }
+  comes-action i is r turns = record { is = λ g. turns .is g ∙ by-came (Action i) is g; goes = turns .goes }
 
-  pub comes-nowhere : x ≡ NoBranch → (r : Step) → r .told ≡ Refused (of-guide not-verified) → Turns s t g r comes-to
-  unfolding came met
-  comes-nowhere is r refused = let stay = refused-stays s t g r not-verified refused in record { is = stay .is ∙ by-came NoBranch is; goes = stay .goes }
+  pub comes-nowhere : x ≡ NoBranch → (r : Step) → r .told ≡ Refused (of-guide not-verified) → Turns s t r comes-to
+  unfolding came meets met
+  comes-nowhere is r refused = let stay = refused-stays s t r not-verified refused in record { is = λ g. stay .is g ∙ by-came NoBranch is g; goes = stay .goes }
 
 -- THE READINGS of a call.
 module _ (s t : List ℕ) (a at : ℕ) (marks : State) (bytes : List ℕ) where
-  abbrev pub on-it : Guide
-  on-it = on-the-way s t a at marks
-
-  abbrev pub answers : Turn
-  answers = next format on-it bytes
+  abbrev pub answers : Guide → Turn
+  answers = takes s t a at marks bytes
 
   -- By the fluents that are asked for.
-  abbrev takes : List ℕ → Turn
-  takes fs = take-over format (table-in s) on-it fs (rest-at (plan-in s t) at) marks bytes
-
-  takes-them : (fs : List ℕ) → asked-by (table-in s) a ≡ fs → takes fs ≡ answers
-  unfolding next on-the-way
-  takes-them fs is = ap takes (sym is)
+  takes-them : (fs : List ℕ) → asked-by (table-in s) a ≡ fs → (g : Guide) → take-over format (table-in s) g fs (rest-at (plan-in s t) at) marks bytes ≡ answers g
+  unfolding takes
+  takes-them fs is g = ap (λ (asked : List ℕ). take-over format (table-in s) g asked (rest-at (plan-in s t) at) marks bytes) (sym is)
 
   -- 41, where there are more or fewer of them.
-  other-number : (fs : List ℕ) → asked-by (table-in s) a ≡ fs → (length bytes ≡ length fs → ⊥) → (r : Step) → r .told ≡ Refused (of-guide wrong-number) → Turns s t on-it r answers
+  other-number : (fs : List ℕ) → asked-by (table-in s) a ≡ fs → (length bytes ≡ length fs → ⊥) → (r : Step) → r .told ≡ Refused (of-guide wrong-number) → Turns s t r answers
   unfolding take-over
   other-number fs is other r refused =
-      let stay = refused-stays s t on-it r wrong-number refused in
-      record { is = stay .is ∙ sym (pick-false _ _ _ (ne-eqb (length bytes) (length fs) other)) ∙ takes-them fs is; goes = stay .goes }
+      let stay = refused-stays s t r wrong-number refused in
+      record { is = λ g. stay .is g ∙ sym (pick-false _ _ _ (ne-eqb (length bytes) (length fs) other)) ∙ takes-them fs is g; goes = stay .goes }
 
   -- After an action.
   module _ (small : a < format .actions) where
-    pub number-other : (due : ℕ) → due ≡ length (sensed format (table-in s) a) → (length bytes ≡ due → ⊥) → (r : Step) → r .told ≡ Refused (of-guide wrong-number) → Turns s t on-it r answers
-    number-other due is other = other-number (sensed format (table-in s) a) (asked-some s a small) (λ same. other (same ∙ sym is))
+    pub number-other : (due : Fluents) → due ≡ fluents-of (sensed format (table-in s) a) → (length bytes ≡ due .count → ⊥) → (r : Step) → r .told ≡ Refused (of-guide wrong-number) → Turns s t r answers
+    unfolding fluents-of
+    number-other due is other = other-number (sensed format (table-in s) a) (asked-some s a small) (λ same. other (same ∙ sym (ap (λ (x : Fluents). x .count) is)))
 
-    module _ (due : ℕ) (are : due ≡ length (sensed format (table-in s) a)) (as-many : length bytes ≡ due) (wrong : Bool) (says : wrong ≡ against marks (literals-read (sensed format (table-in s) a) bytes)) where
-      takes-all : pick (against marks (literals-read (sensed format (table-in s) a) bytes)) (λ _. stays on-it against-known)
-          (λ _. met format (table-in s) on-it (told-all (literals-read (sensed format (table-in s) a) bytes) marks) (ahead (told-all (literals-read (sensed format (table-in s) a) bytes) marks) (rest-at (plan-in s t) at)))
-          ≡ answers
+    module _ (due : Fluents) (are : due ≡ fluents-of (sensed format (table-in s) a)) (as-many : length bytes ≡ due .count) (wrong : Bool) (says : wrong ≡ against marks (literals-read (sensed format (table-in s) a) bytes)) where
+      takes-all : (g : Guide) → pick (against marks (literals-read (sensed format (table-in s) a) bytes)) (λ _. stays g against-known)
+          (λ _. met format (table-in s) g (told-all (literals-read (sensed format (table-in s) a) bytes) marks) (ahead (told-all (literals-read (sensed format (table-in s) a) bytes) marks) (rest-at (plan-in s t) at)))
+          ≡ answers g
       unfolding take-over
-      takes-all = sym (pick-true _ _ _ (eq-eqb (length bytes) (length (sensed format (table-in s) a)) (as-many ∙ are))) ∙ takes-them (sensed format (table-in s) a) (asked-some s a small)
+      takes-all g = sym (pick-true _ _ _ (eq-eqb (length bytes) (length (sensed format (table-in s) a)) (told-count due (sensed format (table-in s) a) are (length bytes) as-many))) ∙ takes-them (sensed format (table-in s) a) (asked-some s a small) g
 
       -- 42, where a reading is against what is known.
-      pub reads-against : wrong ≡ true → (r : Step) → r .told ≡ Refused (of-guide against-known) → Turns s t on-it r answers
+      pub reads-against : wrong ≡ true → (r : Step) → r .told ≡ Refused (of-guide against-known) → Turns s t r answers
       reads-against is r refused =
-          let stay = refused-stays s t on-it r against-known refused in
-          record { is = stay .is ∙ sym (pick-true _ _ _ (sym says ∙ is)) ∙ takes-all; goes = stay .goes }
+          let stay = refused-stays s t r against-known refused in
+          record { is = λ g. stay .is g ∙ sym (pick-true _ _ _ (sym says ∙ is)) ∙ takes-all g; goes = stay .goes }
 
       pub reads-on : wrong ≡ false → (state : State) → state ≡ told-all (literals-read (sensed format (table-in s) a) bytes) marks → (r : Step)
-          → Turns s t on-it r (met format (table-in s) on-it state (ahead state (rest-at (plan-in s t) at))) → Turns s t on-it r answers
+          → Turns s t r (meets s state (ahead state (rest-at (plan-in s t) at))) → Turns s t r answers
+      unfolding meets
       reads-on not state taken r turns =
-          record { is = turns .is ∙ ap (λ (m : State). met format (table-in s) on-it m (ahead m (rest-at (plan-in s t) at))) taken ∙ sym (pick-false _ _ _ (sym says ∙ not)) ∙ takes-all; goes = turns .goes }
+          record { is = λ g. turns .is g ∙ ap (λ (m : State). met format (table-in s) g m (ahead m (rest-at (plan-in s t) at))) taken ∙ sym (pick-false _ _ _ (sym says ∙ not)) ∙ takes-all g; goes = turns .goes }
 
   -- Where there was no action.
   module _ (large : format .actions ≤ a) where
-    pub number-some : (length bytes ≡ 0 → ⊥) → (r : Step) → r .told ≡ Refused (of-guide wrong-number) → Turns s t on-it r answers
+    pub number-some : (length bytes ≡ 0 → ⊥) → (r : Step) → r .told ≡ Refused (of-guide wrong-number) → Turns s t r answers
     number-some some = other-number [] (asked-none s a large) some
 
-    pub reads-none : length bytes ≡ 0 → (r : Step) → Turns s t on-it r (met format (table-in s) on-it marks (ahead marks (rest-at (plan-in s t) at))) → Turns s t on-it r answers
-    unfolding take-over against some-of literals-read told-all
+    pub reads-none : length bytes ≡ 0 → (r : Step) → Turns s t r (meets s marks (ahead marks (rest-at (plan-in s t) at))) → Turns s t r answers
+    unfolding meets take-over against some-of literals-read told-all
     reads-none none r turns =
-        record { is = turns .is ∙ sym (pick-true _ _ _ (eq-eqb (length bytes) 0 none) ∙ pick-false _ _ _ refl) ∙ takes-them [] (asked-none s a large); goes = turns .goes }
+        record { is = λ g. turns .is g ∙ sym (pick-true _ _ _ (eq-eqb (length bytes) 0 none) ∙ pick-false _ _ _ refl) ∙ takes-them [] (asked-none s a large) g; goes = turns .goes }

@@ -7,6 +7,7 @@ use Rattle.meaning.specs.Limits.{format}
 use Rattle.meaning.specs.Requests.{Table}
 use Rattle.meaning.specs.States.{State}
 use Rattle.meaning.specs.Worlds.{Worlds, Acted, World, table-domain}
+use Rattle.guidance.specs.declared.Told.{Told}
 use Rattle.guidance.specs.declared.Told.the-variants.{Do, Done}
 use Rattle.guidance.specs.Guides.{ended, next}
 use Rattle.guidance.specs.Guided.{asked-for, Truthful}
@@ -25,7 +26,7 @@ Guided-by t (a ∷ acts) K g bytes v P =
     → (r .told ≡ Do a)
     × Acted (table-domain t) a (λ u Q. (readings : List ℕ) → Truthful u (asked-for (guide-of (r .guide))) readings → Guided-by t acts K (r .guide) readings u Q) v P
 
--- The guide h is what some calls have made of g, each call given the guide that was handed back last.
-abbrev pub Called : Held.Guide → (calls : List (List ℕ)) → Held.Guide → Type 0
-Called g [] h = g ≡ h
-Called g (c ∷ cs) h = (r : Held-turn.Turn) × Answers g c r × Called (r .guide) cs h
+-- The guide h is what some calls have made of g, each call given the guide that was handed back last, and this is what they were told.
+abbrev pub Called : Held.Guide → (calls : List (List ℕ)) → List Told → Held.Guide → Type 0
+Called g [] told h = (told ≡ []) × (g ≡ h)
+Called g (c ∷ cs) told h = (r : Held-turn.Turn) × Answers g c r × ((later : List Told) × (told ≡ r .told ∷ later) × Called (r .guide) cs later h)

@@ -1,9 +1,9 @@
 -- The guide that the code's values stand for.
-use Prim.Native.Nat.{ℕ, _<_}
+use Prim.Native.Nat.{ℕ, _-_, _<_}
 use mathlib.Core.Path.{_≡_}
 use mathlib.Core.Bool.{Bool}
-use mathlib.Core.List.{List, []}
-use lib.ListN.{take}
+use mathlib.Core.List.{List, [], _++_}
+use lib.ListN.{length, take, replicate}
 use lib.Dec.{eqb, ltb, leb}
 use Rattle.meaning.specs.declared.Answer.{Answer}
 use Rattle.meaning.specs.Tests.{pick, both, either, each-of}
@@ -19,10 +19,11 @@ use Rattle.steps.specs.AtHand.{Marked}
 use Rattle.steps.specs.Rests.{rest-at, after-first, Position}
 use Rattle.guidance.specs.declared.Told.{Told}
 use Rattle.guidance.specs.declared.Told.the-variants.{Do, Done, Refused}
-use Rattle.guidance.specs.Guides.{Guide, refusing, going, ended, Started, Turn, Ahead, the-end, an-action, no-branch, not-verified, of-guide, of-request, sensed}
+use Rattle.guidance.specs.Guides.{Guide, refusing, going, ended, Started, Turn, Ahead, the-end, an-action, no-branch, not-verified, of-guide, of-request, sensed, met, take-over}
 use Rattle.guide.specs.declared.going.Ahead as Code
 use Rattle.guide.specs.declared.going.Ahead.the-variants.{End, Action, NoBranch}
 use Rattle.guide.specs.declared.going.Step.{Step}
+use Rattle.guide.specs.declared.sensed.Fluents.{Fluents}
 use Rattle.guide.specs.declared.guides.Stage.{Stage}
 use Rattle.guide.specs.declared.guides.Stage.the-variants.{Refusing, Going, Ended}
 use Rattle.guide.specs.declared.guides.Guide as Held
@@ -45,16 +46,27 @@ Action-there s t r = elim r [ End ↦ Unit {0} | Action i ↦ Item-there s t i |
 unfoldable pub asked-by : Table → (action : ℕ) → List ℕ
 asked-by t a = pick (ltb a (format .actions)) (λ _. sensed format t a) (λ _. [])
 
+-- Fluents as the code tells them (FORMAT 25.51): so many, at the start of the row, and 0 behind them.
+unfoldable pub fluents-of : List ℕ → Fluents
+fluents-of fs = record { count = length fs; row = fs ++ replicate (format .fluents - length fs) 0 }
+
 -- A GUIDE ON ITS WAY, of a request at hand.
 unfoldable pub on-the-way : (s t : List ℕ) → (action position : ℕ) → State → Guide
 on-the-way s t a i marks = going (table-in s) (asked-by (table-in s) a) (rest-at (plan-in s t) i) marks
 
--- What a call makes of the guide g.
-unfoldable pub guide-after : (s t : List ℕ) → Guide → Step → Told → Guide
-guide-after s t g r told = elim told [ Do a ↦ on-the-way s t (r .action) (r .at) (r .marks) | Done ↦ ended (r .marks) | Refused x ↦ g ]
+-- What a call makes of the guide g: `on` is the guide that goes on, by its action, position and marks.
+unfoldable pub guide-after : (on : (action position : ℕ) → State → Guide) → Guide → Step → Told → Guide
+guide-after on g r told = elim told [ Do a ↦ on (r .action) (r .at) (r .marks) | Done ↦ ended (r .marks) | Refused x ↦ g ]
 
-unfoldable pub turned : (s t : List ℕ) → Guide → Step → Turn
-turned s t g r = record { guide = guide-after s t g r (r .told); told = r .told }
+unfoldable pub turned : (on : (action position : ℕ) → State → Guide) → Guide → Step → Turn
+turned on g r = record { guide = guide-after on g r (r .told); told = r .told }
+
+-- What is made of any guide of a request at hand: in a state, by what comes next; and by a call.
+unfoldable pub meets : (s : List ℕ) → State → Ahead → Guide → Turn
+meets s state x g = met format (table-in s) g state x
+
+unfoldable pub takes : (s t : List ℕ) → (action position : ℕ) → State → (readings : List ℕ) → Guide → Turn
+takes s t a i marks bytes g = take-over format (table-in s) g (asked-by (table-in s) a) (rest-at (plan-in s t) i) marks bytes
 
 -- Where an action is answered, the guide goes on from a position of the plan, with marks.
 pub record Goes-on (s t : List ℕ) (r : Step) : Type 0 where
@@ -64,9 +76,9 @@ pub record Goes-on (s t : List ℕ) (r : Step) : Type 0 where
 unfoldable pub Goes-after : (s t : List ℕ) → Step → Told → Type 0
 Goes-after s t r told = elim told [ Do a ↦ Goes-on s t r | Done ↦ Unit {0} | Refused x ↦ Unit {0} ]
 
--- What the code answers is this turn.
-pub record Turns (s t : List ℕ) (g : Guide) (r : Step) (turn : Turn) : Type 0 where
-  pub is : turned s t g r ≡ turn
+-- What the code answers is this turn, whichever guide it is that a refusal leaves as it was.
+pub record Turns (s t : List ℕ) (r : Step) (turn : Guide → Turn) : Type 0 where
+  pub is : (g : Guide) → turned (on-the-way s t) g r ≡ turn g
   pub goes : Goes-after s t r (r .told)
 
 -- ANY VALUES stand for a guide: those that no start gave for one that was refused.
@@ -83,13 +95,6 @@ guide-got a i marks (fault n p) = refusing (of-request n p)
 
 unfoldable pub guide-held : (request : List ℕ) → (action position : ℕ) → State → Guide
 guide-held request a i marks = guide-got a i marks (settled format request)
-
--- What a call makes of the guide g, with the request read again.
-unfoldable pub guide-called : (request : List ℕ) → Guide → Step → Told → Guide
-guide-called request g r told = elim told [ Do a ↦ guide-held request (r .action) (r .at) (r .marks) | Done ↦ ended (r .marks) | Refused x ↦ g ]
-
-unfoldable pub called : (request : List ℕ) → Guide → Step → Turn
-called request g r = record { guide = guide-called request g r (r .told); told = r .told }
 
 -- A guide of a settled request, at its start.
 pub record Begins (request : List ℕ) (g : Guide) : Type 0 where

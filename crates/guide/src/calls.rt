@@ -1,22 +1,23 @@
 ghost use mathlib.Core.Path.{_≡_};
+ghost use mathlib.Core.List.{[]};
 ghost use Prim.Native.Nat.{_<_};
-ghost use lib.ListN.{length, take};
+ghost use lib.ListN.{length};
 ghost use Rattle.meaning.specs.Limits.{format};
 ghost use Rattle.guidance.specs.Guides.{next};
 ghost use Rattle.guidance.specs.Guided.{asked-for};
 ghost use Rattle.meaning.specs.Tests.{both};
 ghost use Rattle.steps.specs.Held.{table-in, plan-in};
 ghost use Rattle.steps.specs.AtHand.{At-hand};
-ghost use Rattle.guide.specs.GuideHeld.{asked-by, is-position, is-marked, guide-held, called, Begins};
+ghost use Rattle.guide.specs.GuideHeld.{asked-by, fluents-of, is-position, is-marked, guide-held, turned, Begins};
 use super::going::NOT_VERIFIED;
 use super::going::Step;
 use super::going::answer_call;
+use super::going::refused;
 use super::going::refused_step;
 use super::sensed::Fluents;
 use super::sensed::sensed_by;
 use bytes::limits;
 use bytes::lists::Passed;
-use guidance::Told;
 use reading::marks::Marks;
 use reading::marks::state_of;
 use reading::notes;
@@ -71,7 +72,7 @@ fn is_going(s: &[u8], t: &Notes, at: usize, marks: &Marks) -> bool
 
 // A call of a guide with this request, whose plan is at `at` with `marks` and which waits for the readings of `action`. The request is read again.
 pub(crate) fn call(request: &[u8], action: usize, at: usize, marks: &Marks, readings: &[u8]) -> Step
-    ensures { λ r. ⌜ called (now (request .entry)) (guide-held (now (request .entry)) action at (now (marks .entry))) r ≡ next format (guide-held (now (request .entry)) action at (now (marks .entry))) (now (readings .entry)) ⌝ }
+    ensures { λ r. ⌜ turned (guide-held (now (request .entry))) (guide-held (now (request .entry)) action at (now (marks .entry))) r ≡ next format (guide-held (now (request .entry)) action at (now (marks .entry))) (now (readings .entry)) ⌝ }
 {
     let mut t: Notes = [0u16; notes::SLOTS];
     match settle(request, &mut t) {
@@ -80,14 +81,9 @@ pub(crate) fn call(request: &[u8], action: usize, at: usize, marks: &Marks, read
             if going {
                 return answer_call(request, &t, action, at, marks, readings);
             }
-            refused_step(NOT_VERIFIED, action, at, marks)
+            refused_step(NOT_VERIFIED)
         }
-        Passed::Fault(k, p) => Step {
-            told: Told::Refused(uncounted(k, answers::THE_REQUEST, p)),
-            action: action,
-            at: at,
-            marks: *marks,
-        },
+        Passed::Fault(k, p) => refused(uncounted(k, answers::THE_REQUEST, p)),
     }
 }
 
@@ -120,7 +116,7 @@ pub(crate) fn at_start(request: &[u8]) -> First
 
 // No readings.
 pub(crate) fn none_asked() -> Fluents
-    ensures { λ r. ⌜ r .count ≡ 0 ⌝ }
+    ensures { λ r. ⌜ r ≡ fluents-of [] ⌝ }
 {
     Fluents {
         count: 0,
@@ -131,7 +127,7 @@ pub(crate) fn none_asked() -> Fluents
 // Those that an action senses, and none where there was no action.
 fn asked_after(s: &[u8], t: &Notes, action: usize) -> Fluents
     requires { ⌜ At-hand (now s) (now t) ⌝ }
-    ensures { λ r. ⌜ take (r .count) (r .row) ≡ asked-by (table-in (now (s .entry))) action ⌝ }
+    ensures { λ r. ⌜ r ≡ fluents-of (asked-by (table-in (now (s .entry))) action) ⌝ }
 {
     if action < limits::ACTIONS {
         return sensed_by(s, t, action);
@@ -141,7 +137,7 @@ fn asked_after(s: &[u8], t: &Notes, action: usize) -> Fluents
 
 // The fluents whose readings the next call brings.
 pub(crate) fn asked(request: &[u8], action: usize, at: usize, marks: &Marks) -> Fluents
-    ensures { λ r. ⌜ take (r .count) (r .row) ≡ asked-for (guide-held (now (request .entry)) action at (now (marks .entry))) ⌝ }
+    ensures { λ r. ⌜ r ≡ fluents-of (asked-for (guide-held (now (request .entry)) action at (now (marks .entry)))) ⌝ }
 {
     let mut t: Notes = [0u16; notes::SLOTS];
     match settle(request, &mut t) {

@@ -2,12 +2,12 @@ ghost use mathlib.Core.Path.{_≡_};
 ghost use Prim.Native.Nat.{_<_};
 ghost use Rattle.meaning.specs.Limits.{format};
 ghost use Rattle.walking.specs.Walks.{action-at};
-ghost use Rattle.steps.specs.Held.{table-in, plan-in};
+ghost use Rattle.steps.specs.Held.{plan-in};
 ghost use Rattle.steps.specs.AtHand.{At-hand, Marked};
 ghost use Rattle.steps.specs.Rests.{rest-at, after-first, Position};
 ghost use Rattle.guidance.specs.declared.Told.the-variants.{Refused};
-ghost use Rattle.guidance.specs.Guides.{of-guide, an-action, ahead, met, next};
-ghost use Rattle.guide.specs.GuideHeld.{came, Item-there, Action-there, on-the-way, Turns};
+ghost use Rattle.guidance.specs.Guides.{of-guide, an-action, ahead};
+ghost use Rattle.guide.specs.GuideHeld.{came, Item-there, Action-there, meets, takes, Turns};
 use super::sensed::is_against;
 use super::sensed::sensed_by;
 use super::sensed::taken_over;
@@ -15,6 +15,7 @@ use bytes::bytes::wide;
 use bytes::limits;
 use finding::places::Found;
 use guidance::Told;
+use meaning::Answer;
 use reading::marks::Marks;
 use reading::notes;
 use reading::notes::Notes;
@@ -71,7 +72,7 @@ pub(crate) fn look_ahead(s: &[u8], t: &Notes, at: usize, marks: &Marks) -> Ahead
     Ahead::End
 }
 
-// What a call makes of a guide that is on its way: its answer, and where it goes on. Where it refuses, the guide stays as it was.
+// What a call makes of a guide that is on its way: its answer, and where it goes on. Where it refuses, the guide stays as it was, and only the answer counts.
 pub(crate) struct Step {
     pub told: Told,
     pub action: usize,
@@ -79,32 +80,31 @@ pub(crate) struct Step {
     pub marks: Marks,
 }
 
-// A refusal with a number of the guide's own: where the guide was is handed back.
-pub(crate) fn refused_step(number: u8, action: usize, at: usize, marks: &Marks) -> Step
-    ensures { λ r. ⌜ r .told ≡ Refused (of-guide number) ⌝ }
+// A refusal with this answer.
+pub(crate) fn refused(answer: Answer) -> Step
+    ensures { λ r. ⌜ r .told ≡ Refused answer ⌝ }
 {
     Step {
-        told: Told::Refused(uncounted(number, answers::NEITHER_INPUT, 0)),
-        action: action,
-        at: at,
-        marks: *marks,
+        told: Told::Refused(answer),
+        action: NO_ACTION,
+        at: limits::ITEMS,
+        marks: [limits::UNKNOWN_MARK; limits::FLUENTS],
     }
 }
 
-// Answers the action that is item i, in the state `state`. Before the call the guide was at `at` with `marks`, and waited for the readings of `action`.
-fn do_item(
-    s: &[u8],
-    t: &Notes,
-    i: usize,
-    state: &Marks,
-    action: usize,
-    at: usize,
-    marks: &Marks,
-) -> Step
+// A refusal with a number of the guide's own.
+pub(crate) fn refused_step(number: u8) -> Step
+    ensures { λ r. ⌜ r .told ≡ Refused (of-guide number) ⌝ }
+{
+    refused(uncounted(number, answers::NEITHER_INPUT, 0))
+}
+
+// Answers the action that is item i, in the state `state`.
+fn do_item(s: &[u8], t: &Notes, i: usize, state: &Marks) -> Step
     requires { ⌜ At-hand (now s) (now t) ⌝ }
     requires { ⌜ Item-there (now s) (now t) i ⌝ }
     requires { ⌜ Marked (now state) ⌝ }
-    ensures { λ r. ⌜ Turns (now (s .entry)) (now (t .entry)) (on-the-way (now (s .entry)) (now (t .entry)) action at (now (marks .entry))) r (met format (table-in (now (s .entry))) (on-the-way (now (s .entry)) (now (t .entry)) action at (now (marks .entry))) (now (state .entry)) (an-action (action-at (now (s .entry)) (now (t .entry)) i) (after-first (rest-at (plan-in (now (s .entry)) (now (t .entry))) i)))) ⌝ }
+    ensures { λ r. ⌜ Turns (now (s .entry)) (now (t .entry)) r (meets (now (s .entry)) (now (state .entry)) (an-action (action-at (now (s .entry)) (now (t .entry)) i) (after-first (rest-at (plan-in (now (s .entry)) (now (t .entry))) i)))) ⌝ }
 {
     let slot = notes::ITEM_PLACE + i;
     let p = get(t, slot);
@@ -129,50 +129,50 @@ fn do_item(
             marks: after,
         };
     }
-    refused_step(NOT_VERIFIED, action, at, marks)
+    refused_step(NOT_VERIFIED)
 }
 
-// From the position `at` on, in the state `state`, which is `marks` with the readings of `action`.
-fn go_on(s: &[u8], t: &Notes, state: &Marks, action: usize, at: usize, marks: &Marks) -> Step
+// From the position `at` on, in the state `state`.
+fn go_on(s: &[u8], t: &Notes, at: usize, state: &Marks) -> Step
     requires { ⌜ At-hand (now s) (now t) ⌝ }
     requires { ⌜ Position (plan-in (now s) (now t)) at ⌝ }
     requires { ⌜ Marked (now state) ⌝ }
-    ensures { λ r. ⌜ Turns (now (s .entry)) (now (t .entry)) (on-the-way (now (s .entry)) (now (t .entry)) action at (now (marks .entry))) r (met format (table-in (now (s .entry))) (on-the-way (now (s .entry)) (now (t .entry)) action at (now (marks .entry))) (now (state .entry)) (ahead (now (state .entry)) (rest-at (plan-in (now (s .entry)) (now (t .entry))) at))) ⌝ }
+    ensures { λ r. ⌜ Turns (now (s .entry)) (now (t .entry)) r (meets (now (s .entry)) (now (state .entry)) (ahead (now (state .entry)) (rest-at (plan-in (now (s .entry)) (now (t .entry))) at))) ⌝ }
 {
     match look_ahead(s, t, at, state) {
         Ahead::End => Step {
             told: Told::Done,
-            action: action,
+            action: NO_ACTION,
             at: at,
             marks: *state,
         },
-        Ahead::Action(i) => do_item(s, t, i, state, action, at, marks),
-        Ahead::NoBranch => refused_step(NOT_VERIFIED, action, at, marks),
+        Ahead::Action(i) => do_item(s, t, i, state),
+        Ahead::NoBranch => refused_step(NOT_VERIFIED),
     }
 }
 
-// A call after an action.
+// A call of a guide that waits at `at`, with `marks`, for the readings of `action`.
 fn step_after(s: &[u8], t: &Notes, action: usize, at: usize, marks: &Marks, readings: &[u8]) -> Step
     requires { ⌜ At-hand (now s) (now t) ⌝ }
     requires { ⌜ action < format .actions ⌝ }
     requires { ⌜ Position (plan-in (now s) (now t)) at ⌝ }
     requires { ⌜ Marked (now marks) ⌝ }
-    ensures { λ r. ⌜ Turns (now (s .entry)) (now (t .entry)) (on-the-way (now (s .entry)) (now (t .entry)) action at (now (marks .entry))) r (next format (on-the-way (now (s .entry)) (now (t .entry)) action at (now (marks .entry))) (now (readings .entry))) ⌝ }
+    ensures { λ r. ⌜ Turns (now (s .entry)) (now (t .entry)) r (takes (now (s .entry)) (now (t .entry)) action at (now (marks .entry)) (now (readings .entry))) ⌝ }
 {
     let asked = sensed_by(s, t, action);
     let due = asked.count;
     if readings.len() != due {
-        return refused_step(WRONG_NUMBER, action, at, marks);
+        return refused_step(WRONG_NUMBER);
     }
     let wrong = is_against(s, t, action, marks, readings);
     if wrong {
-        return refused_step(AGAINST_KNOWN, action, at, marks);
+        return refused_step(AGAINST_KNOWN);
     }
     let state = taken_over(s, t, action, marks, readings);
-    go_on(s, t, &state, action, at, marks)
+    go_on(s, t, at, &state)
 }
 
-// A call of a guide that is on its way.
+// A call of a guide that is on its way, after an action or without one.
 pub(crate) fn answer_call(
     s: &[u8],
     t: &Notes,
@@ -184,13 +184,13 @@ pub(crate) fn answer_call(
     requires { ⌜ At-hand (now s) (now t) ⌝ }
     requires { ⌜ Position (plan-in (now s) (now t)) at ⌝ }
     requires { ⌜ Marked (now marks) ⌝ }
-    ensures { λ r. ⌜ Turns (now (s .entry)) (now (t .entry)) (on-the-way (now (s .entry)) (now (t .entry)) action at (now (marks .entry))) r (next format (on-the-way (now (s .entry)) (now (t .entry)) action at (now (marks .entry))) (now (readings .entry))) ⌝ }
+    ensures { λ r. ⌜ Turns (now (s .entry)) (now (t .entry)) r (takes (now (s .entry)) (now (t .entry)) action at (now (marks .entry)) (now (readings .entry))) ⌝ }
 {
     if action < limits::ACTIONS {
         return step_after(s, t, action, at, marks, readings);
     }
     if readings.len() != 0 {
-        return refused_step(WRONG_NUMBER, action, at, marks);
+        return refused_step(WRONG_NUMBER);
     }
-    go_on(s, t, marks, action, at, marks)
+    go_on(s, t, at, marks)
 }

@@ -5,7 +5,7 @@ ghost use Rattle.meaning.specs.Limits.{format};
 ghost use Rattle.guidance.specs.Guides.{refused-start, start, next};
 ghost use Rattle.guidance.specs.Guided.{asked-for};
 ghost use Rattle.guide.specs.declared.guides.Stage.the-variants.{Going};
-ghost use Rattle.guide.specs.GuideHeld.{guide-held, called, row-end, request-of, guide-of, started-of, turn-of, Begins, Kept-guide, Own-copy};
+ghost use Rattle.guide.specs.GuideHeld.{fluents-of, guide-held, turned, row-end, request-of, guide-of, started-of, turn-of, Begins, Kept-guide, Own-copy};
 use super::calls::asked;
 use super::calls::at_start;
 use super::calls::call;
@@ -71,7 +71,7 @@ fn call_of(
     marks: &Marks,
     readings: &[u8],
 ) -> Step
-    ensures { λ r. ⌜ called (take length (now (row .entry))) (guide-held (take length (now (row .entry))) action at (now (marks .entry))) r ≡ next format (guide-held (take length (now (row .entry))) action at (now (marks .entry))) (now (readings .entry)) ⌝ }
+    ensures { λ r. ⌜ turned (guide-held (take length (now (row .entry)))) (guide-held (take length (now (row .entry))) action at (now (marks .entry))) r ≡ next format (guide-held (take length (now (row .entry))) action at (now (marks .entry))) (now (readings .entry)) ⌝ }
 {
     let whole: &[u8] = row;
     let end = row_end(length);
@@ -86,7 +86,7 @@ fn asked_of(
     at: usize,
     marks: &Marks,
 ) -> Fluents
-    ensures { λ r. ⌜ take (r .count) (r .row) ≡ asked-for (guide-held (take length (now (row .entry))) action at (now (marks .entry))) ⌝ }
+    ensures { λ r. ⌜ r ≡ fluents-of (asked-for (guide-held (take length (now (row .entry))) action at (now (marks .entry)))) ⌝ }
 {
     let whole: &[u8] = row;
     let end = row_end(length);
@@ -237,9 +237,9 @@ impl Guide {
         }
     }
 
-    // The fluents whose readings the next call brings, ascending (FORMAT 25.7).
+    // The fluents whose readings the next call brings, ascending (FORMAT 25.7, 25.51).
     pub fn asks(self) -> Fluents
-        ensures { λ r. ⌜ take (r .count) (r .row) ≡ asked-for (guide-of self) ⌝ }
+        ensures { λ r. ⌜ r ≡ fluents-of (asked-for (guide-of self)) ⌝ }
     {
         let stage = self.stage;
         match stage {

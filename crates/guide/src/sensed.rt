@@ -1,17 +1,18 @@
 ghost use mathlib.Core.Path.{_≡_};
 ghost use Prim.Native.Nat.{_<_};
-ghost use lib.ListN.{length, take};
+ghost use lib.ListN.{length};
 ghost use Rattle.meaning.specs.Limits.{format};
 ghost use Rattle.meaning.specs.States.{mark-of, told-all};
 ghost use Rattle.steps.specs.Held.{table-in};
 ghost use Rattle.steps.specs.AtHand.{At-hand, Marked};
 ghost use Rattle.guidance.specs.Guides.{sensed, literal-read, literals-read, against};
+ghost use Rattle.guide.specs.GuideHeld.{fluents-of};
 use bytes::limits;
 use reading::marks::Marks;
 use reading::notes::Notes;
 use steps::sensing::looks_at;
 
-// The fluents whose readings a call brings: so many, from the start of the row on, ascending.
+// The fluents whose readings a call brings: so many, from the start of the row on, ascending, and 0 behind them.
 pub struct Fluents {
     pub count: usize,
     pub row: [u8; limits::FLUENTS],
@@ -21,8 +22,7 @@ pub struct Fluents {
 pub(crate) fn sensed_by(s: &[u8], t: &Notes, a: usize) -> Fluents
     requires { ⌜ At-hand (now s) (now t) ⌝ }
     requires { ⌜ a < format .actions ⌝ }
-    ensures { λ r. ⌜ take (r .count) (r .row) ≡ sensed format (table-in (now (s .entry))) a ⌝ }
-    ensures { λ r. ⌜ r .count ≡ length (sensed format (table-in (now (s .entry))) a) ⌝ }
+    ensures { λ r. ⌜ r ≡ fluents-of (sensed format (table-in (now (s .entry))) a) ⌝ }
 {
     let mut row = [0u8; limits::FLUENTS];
     let mut count = 0;

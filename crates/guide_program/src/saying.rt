@@ -1,9 +1,9 @@
 // What is said on standard error (FORMAT 25.18, 25.19).
-use bytes::limits;
 use guide::going;
 use guide::sensed::Fluents;
 use libc::STDERR_FILENO;
 use meaning::Answer;
+use programs::put_counted;
 use programs::words::put_words;
 use verdicts::answers;
 
@@ -49,25 +49,10 @@ pub fn say_refused(answer: Answer) -> bool {
         && put(b"\n")
 }
 
-fn put_fluent(fd: i32, fluent: u8) -> bool {
-    io::write_all(fd, b" ") && io::print_decimal(fd, fluent as u64)
-}
-
 // The fluents that are asked for, each behind a space.
 pub fn put_fluents(fd: i32, asked: Fluents) -> bool {
-    let count = asked.count;
     let row = asked.row;
-    let mut i = 0;
-    while i < limits::FLUENTS {
-        if i >= count {
-            break;
-        }
-        if !put_fluent(fd, row[i]) {
-            return false;
-        }
-        i += 1;
-    }
-    true
+    put_counted(fd, &row, asked.count)
 }
 
 // What an operator at a terminal is asked before a line is read.

@@ -1,14 +1,15 @@
 // Answers trials of guides, one after the other from standard input, on standard output (D193): for each a line with the answer of its start, and one for each of its calls.
 // A trial has the budget in four bytes, the length of the request in two, the request, the number of calls in two, and for each call a byte that counts its readings, and these.
 ghost use Rattle.programs.specs.Input.{Within};
-use bytes::limits;
 use guidance::Told;
 use guide::guides::Guide;
 use guide::sensed::Fluents;
 use libc::STDIN_FILENO;
+use libc::STDOUT_FILENO;
 use meaning::Answer;
 use programs::Input;
 use programs::put;
+use programs::put_counted;
 use programs::put_number;
 use programs::read_all;
 use programs::stack_is_enough;
@@ -98,23 +99,10 @@ fn put_answer(answer: Answer) -> bool {
         && put(b"\n")
 }
 
-fn put_fluent(fluent: u8) -> bool {
-    put(b" ") && put_number(fluent as u64)
-}
-
-// The fluents, each behind a space.
+// The fluents that are asked for, each behind a space.
 fn put_asked(asked: Fluents) -> bool {
-    let mut i = 0;
-    while i < limits::FLUENTS {
-        if i >= asked.count {
-            break;
-        }
-        if !put_fluent(asked.row[i]) {
-            return false;
-        }
-        i += 1;
-    }
-    true
+    let row = asked.row;
+    put_counted(STDOUT_FILENO, &row, asked.count)
 }
 
 // What a call answers, with the guide that it hands back.

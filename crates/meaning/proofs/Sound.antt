@@ -144,7 +144,7 @@ module _ {S W L R : Type 0} (step : Steps S L) (d : Domain W L R) (Apart : List 
   abbrev pub Follows : (S → Walked S) → (W → Worlds W → Type 0) → Type 1
   Follows k K = (s : S) (v : W) (P : Worlds W) → Known v P s → Verified (k s) → K v P
 
-  sure : {v : W} {P : Worlds W} {s : S} (c : List L) → Known v P s → each-of (step .knows s) c ≡ true → Sure d c P
+  pub sure : {v : W} {P : Worlds W} {s : S} (c : List L) → Known v P s → each-of (step .knows s) c ≡ true → Sure d c P
   sure {s = s} c g e = λ w h. each-mono (step .knows s) (d .holds w) (λ l. sound .knows l w s (g .agree w h)) c e
 
   -- None of the conditions holds in the true world, so none holds in every possible one.
@@ -154,7 +154,7 @@ module _ {S W L R : Type 0} (step : Steps S L) (d : Domain W L R) (Apart : List 
   none-sure P v (branch e b bs) h no-e = (λ se. no-e e (inl refl) (se v h), none-sure P v bs h (λ g m. no-e g (inr m)))
 
   -- A branch was followed, so some condition holds in the true world.
-  none-followed : (k : S → Walked S) {v : W} {P : Worlds W} {s : S} (bs : Branches L) (p : ℕ) → Known v P s
+  pub none-followed : (k : S → Walked S) {v : W} {P : Worlds W} {s : S} (bs : Branches L) (p : ℕ) → Known v P s
       → Verified (walk-branch step bs p k s) → ((e : List L) → Has (conditions-of bs) e → each-of (d .holds v) e ≡ true → ⊥) → ⊥
   unfolding walk pick conditions-of
   none-followed k {s = s} none p g r no-e = stopped-not-verified _ p _ r

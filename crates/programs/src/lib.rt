@@ -286,3 +286,23 @@ pub fn put_state(state: &[u8; limits::FLUENTS], fluents: u8) -> bool {
     let end = f + 1;
     put(&line[..end])
 }
+
+// A number behind a space.
+fn put_apart(fd: i32, number: u8) -> bool {
+    io::write_all(fd, b" ") && io::print_decimal(fd, number as u64)
+}
+
+// The first so many numbers of a row that has a place for each fluent, each behind a space.
+pub fn put_counted(fd: i32, row: &[u8; limits::FLUENTS], count: usize) -> bool {
+    let mut i = 0;
+    while i < limits::FLUENTS {
+        if i >= count {
+            break;
+        }
+        if !put_apart(fd, row[i]) {
+            return false;
+        }
+        i += 1;
+    }
+    true
+}

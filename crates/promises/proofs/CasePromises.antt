@@ -9,6 +9,7 @@ use Rattle.meaning.specs.declared.Answer.{Answer}
 use Rattle.meaning.specs.Showing.{Part, show}
 use Rattle.meaning.specs.Tests.{Has}
 use Rattle.meaning.proofs.DerivationCases.{Shown, showings, showings-hold}
+use Rattle.guidance.proofs.GuideCases.{Heard, GuideCase, heard-in, guide-cases, guide-cases-hold}
 use Rattle.demands.proofs.ProvedCases.{Call, outcome-of, Row, proved-cases, proved-cases-hold}
 
 module _ {A B : Type 0} (f g : A → B) where
@@ -27,3 +28,9 @@ showing-holds row has a request derivation same-answer same-request same-derivat
     sym (entry-same (λ (c : Shown). show (c .answer) (c .request) (c .derivation)) (λ (c : Shown). c .part) showings showings-hold row has)
     ∙ ap (λ (z : Answer). show z (row .request) (row .derivation)) same-answer
     ∙ ap₂ {C = Part} (show a) same-request same-derivation
+
+-- A row of a guide, whose request and budget are these.
+pub guide-holds : (row : GuideCase) → Has guide-cases row → (request : List ℕ) (budget : ℕ) → row .request ≡ request → row .budget ≡ budget → row .hears ≡ heard-in request budget (row .calls)
+guide-holds row has request budget same-request same-budget =
+    sym (entry-same (λ (c : GuideCase). heard-in (c .request) (c .budget) (c .calls)) (λ (c : GuideCase). c .hears) guide-cases guide-cases-hold row has)
+    ∙ ap₂ {C = Heard} (λ q n. heard-in q n (row .calls)) same-request same-budget

@@ -1,44 +1,55 @@
 -- What the operator's guide promises: each theorem is of a result that meets the contract of its start or of its call, and theorem 7 of all of them one after another.
 -- Assumes nothing.
 use Prim.Native.Nat.{ℕ, _≤_}
-use mathlib.Core.Path.{_≡_, refl, sym, _∙_, ap, subst}
+use native.Mathlib.Omega.{arith}
+use mathlib.Core.Path.{_≡_, refl, sym, _∙_, ap, ap₂, subst}
 use mathlib.Core.Bool.{true}
 use mathlib.Core.List.{List, [], _∷_}
-use mathlib.Core.Logic.{_↔_, _⊎_, ⊎-elim}
+use mathlib.Core.Logic.{_↔_, _⊎_, inl, inr, ⊎-elim}
 use lib.ListN.{length}
+use lib.Dec.{eqb}
 use contract.Lifetimes.{Lfts}
 use borrow.Fn.Kinds.{Dens, endedOf}
 use denote.Ref.{now}
 use denote.Triple.Clauses.{AtExit}
+use borrow.Author.Tests.{eqb-true, eqb-false}
 use Rattle.meaning.specs.declared.Answer.{Answer}
 use Rattle.meaning.specs.Limits
 use Rattle.meaning.specs.Limits.{format}
 use Rattle.meaning.specs.Literals.{among}
-use Rattle.meaning.specs.Tests.{some-of, either}
+use Rattle.meaning.specs.Tests.{Has, some-of, either}
 use Rattle.meaning.specs.Requests.{Table, Sequence, Request}
 use Rattle.meaning.specs.Reading.{got}
 use Rattle.meaning.specs.Refusals.{settled}
 use Rattle.meaning.specs.States.{State}
 use Rattle.meaning.specs.Judging.{judge}
+use Rattle.meaning.specs.Answers.{refusals}
 use Rattle.meaning.specs.Worlds.{Worlds, World, table-domain, Facts}
 use Rattle.guidance.specs.declared.Told.{Told}
 use Rattle.guidance.specs.declared.Told.the-variants.{Do, Done, Refused}
 use Rattle.guidance.specs.Guides
-use Rattle.guidance.specs.Guides.{number-told, next}
+use Rattle.guidance.specs.Guides.{number-told, values-told, next, after-calls, told-by}
 use Rattle.guidance.specs.Guided.{asked-for, Truthful, Guided, Told-reached, Runs-exactly}
+use Rattle.guide.specs.declared.sensed.Fluents.{Fluents}
 use Rattle.guide.specs.declared.guides.Guide.{Guide}
 use Rattle.guide.specs.declared.guides.Started.{Started}
 use Rattle.guide.specs.declared.guides.Turn.{Turn}
-use Rattle.guide.specs.GuideHeld.{request-of, guide-of, started-of, turn-of, Kept-guide}
+use Rattle.guide.specs.GuideHeld.{fluents-of, request-of, guide-of, started-of, turn-of, Kept-guide}
 use Rattle.guide.specs.GuideCalled.{Answers, Guided-by, Called}
-use Rattle.demands.specs.GuideSaid.{start-answers, call-answers, Start-input, Start-placed, Start-count, of-judged, after-calls}
+use Rattle.demands.specs.GuideSaid.{start-answers, of-starts, call-answers, own-answers, Start-input, Start-placed, Start-count, of-judged}
+use Rattle.meaning.proofs.TestLaws.{by-test, clash}
+use Rattle.meaning.proofs.LiteralLaws.{among-has}
+use Rattle.guidance.proofs.GuideCases.{Heard, GuideCase, heard-in, guide-cases}
 use Rattle.demands.proofs.GuideAnswers
 use Rattle.demands.proofs.GuideCalls
 use Rattle.demands.proofs.GuideSound
+use Rattle.promises.proofs.CasePromises.{guide-holds}
 use Rattle.guide.proofs.guides.Guide.start.Kinds as start-kinds
 use Rattle.guide.proofs.guides.Guide.start.Reads as start-reads
 use Rattle.guide.proofs.guides.Guide.next.Kinds as next-kinds
 use Rattle.guide.proofs.guides.Guide.next.Reads as next-reads
+use Rattle.guide.proofs.guides.Guide.asks.Kinds as asks-kinds
+use Rattle.guide.proofs.guides.Guide.asks.Reads as asks-reads
 
 -- A CALL, by the values of its two parameters.
 module _ (κs : Lfts 1) (given : Dens κs next-kinds.ps) where
@@ -71,6 +82,23 @@ module _ (κs : Lfts 1) (given : Dens κs next-kinds.ps) where
   pub request-kept : (turn : Turn) (exit : AtExit (endedOf 1 next-kinds.ps next-kinds.r) κs) → next-reads.Post κs given turn exit → request-of (turn .guide) ≡ request-of guide
   request-kept turn exit meets = meets .1 .request
 
+-- WHICH READINGS ARE DUE, by the value of its one parameter.
+module _ (κs : Lfts 0) (given : Dens κs asks-kinds.ps) where
+  abbrev pub asked : Guide
+  asked = given .0
+
+  -- The contract, as the source has it (FORMAT 25.51): so many, at the start of the row, and 0 behind them.
+  pub asks-as-written : (fluents : Fluents) (exit : AtExit (endedOf 0 asks-kinds.ps asks-kinds.r) κs) → asks-reads.Post κs given fluents exit → fluents ≡ fluents-of (asked-for (guide-of asked))
+  asks-as-written fluents exit meets = meets
+
+  -- Two results that meet the contract are the same, count and row.
+  pub asks-determined : (fluents fluents′ : Fluents) (exit exit′ : AtExit (endedOf 0 asks-kinds.ps asks-kinds.r) κs) → asks-reads.Post κs given fluents exit → asks-reads.Post κs given fluents′ exit′ → fluents ≡ fluents′
+  asks-determined fluents fluents′ exit exit′ meets meets′ = meets ∙ sym meets′
+
+  -- It may be asked of any guide.
+  pub asks-asks-nothing : asks-reads.Pre κs given
+  asks-asks-nothing = tt
+
 -- WHAT A CALL REFUSES, of a guide that is on its way: 41 exactly where the number of readings is not the one asked for, and 42 exactly where it is and some reading is against what is known
 -- (FORMAT 25.13, 25.14).
 module _ (g : Guide) (bytes : List ℕ) (turn : Turn) (answers : Answers g bytes turn) (t : Table) (fs : List ℕ) (b : Sequence ℕ) (s : State) (is : guide-of g ≡ Guides.going t fs b s) where
@@ -86,12 +114,29 @@ module _ (g : Guide) (bytes : List ℕ) (turn : Turn) (answers : Answers g bytes
       subst (λ (x : Told). (x ≡ Refused (Guides.of-guide Guides.against-known)) ↔ ((length bytes ≡ length fs) × (Guides.against s (Guides.literals-read fs bytes) ≡ true)))
       (sym told-is) (GuideAnswers.against-exactly format t fs b s bytes)
 
--- AFTER SOME CALLS a guide stands for what the definition has made of it.
-after : (g h : Guide) (calls : List (List ℕ)) → Called g calls h → guide-of h ≡ after-calls format (guide-of g) calls
+-- AFTER SOME CALLS a guide stands for what the definition has made of it, and they were told what the definition tells.
+after : (g h : Guide) (calls : List (List ℕ)) (told : List Told) → Called g calls told h → guide-of h ≡ after-calls format (guide-of g) calls
 unfolding after-calls turn-of
-after g h [] same = ap guide-of (sym same)
-after g h (c ∷ cs) (r, answers, later) =
-    after (r .guide) h cs later ∙ ap (λ (x : Guides.Guide). after-calls format x cs) (ap (λ (x : Guides.Turn). x .guide) answers)
+after g h [] told (none, same) = ap guide-of (sym same)
+after g h (c ∷ cs) told (r, answers, (later, is, called)) =
+    after (r .guide) h cs later called ∙ ap (λ (x : Guides.Guide). after-calls format x cs) (ap (λ (x : Guides.Turn). x .guide) answers)
+
+told-so : (g h : Guide) (calls : List (List ℕ)) (told : List Told) → Called g calls told h → told ≡ told-by format (guide-of g) calls
+unfolding told-by turn-of
+told-so g h [] told (none, same) = none
+told-so g h (c ∷ cs) told (r, answers, (later, is, called)) =
+    is
+    ∙ ap (λ (xs : List Told). r .told ∷ xs) (told-so (r .guide) h cs later called)
+    ∙ ap (λ (x : Guides.Turn). x .told ∷ told-by format (x .guide) cs) answers
+
+-- Once "done" is answered, every later call answers it (FORMAT 25.8).
+pub done-ever : (g : Guide) (bytes : List ℕ) (turn : Turn) → Answers g bytes turn → turn .told ≡ Done → (calls : List (List ℕ)) (told : List Told) (h : Guide) → Called (turn .guide) calls told h
+    → (more : List ℕ) (later : Turn) → Answers h more later → later .told ≡ Done
+unfolding turn-of
+done-ever g bytes turn answers done calls told h called more later last =
+    ap (λ (x : Guides.Turn). x .told) last
+    ∙ ap (λ (x : Guides.Guide). next format x more .told) (after (turn .guide) h calls told called ∙ ap (λ (x : Guides.Turn). after-calls format (x .guide) calls) answers)
+    ∙ ap (λ (x : Guides.Turn). x .told) (GuideAnswers.done-ever format (guide-of g) bytes (sym (ap (λ (x : Guides.Turn). x .told) answers) ∙ done) calls more)
 
 -- GUIDED BY CALLS: what the definition leads to, any results do that meet the contract.
 pub guided-by : (t : Table) (answered : List ℕ) (K : State → World → Worlds World → Type 0) (g : Guide) (readings : List ℕ) (v : World) (P : Worlds World)
@@ -165,29 +210,92 @@ module _ (κs : Lfts 1) (given : Dens κs start-kinds.ps) where
     pub start-as-judged : (lent : List ℕ) → length lent ≡ format .state → started .answer ≡ of-judged (judge format request lent budget .answer)
     start-as-judged lent sized = answer-is ∙ GuideAnswers.start-as-judged format request budget lent sized
 
-    -- Of a guide that started, a call refuses with 41 or 42 and nothing else, whatever the calls before it brought (FORMAT 25.22).
-    pub refused-with : started .answer .number ≡ Limits.verified → (calls : List (List ℕ)) (h : Guide) → Called (started .guide) calls h
-        → (bytes : List ℕ) (turn : Turn) → Answers h bytes turn → (x : Answer) → turn .told ≡ Refused x → (x ≡ Guides.of-guide Guides.wrong-number) ⊎ (x ≡ Guides.of-guide Guides.against-known)
-    unfolding turn-of
-    refused-with zero-told calls h called bytes turn answers x is =
-        GuideCalls.refused-with format request budget (ap (λ (a : Answer). a .number) (sym answer-is) ∙ zero-told) calls bytes x
-        (ap (λ (g : Guides.Guide). next format g bytes .told) (ap (λ (g : Guides.Guide). after-calls format g calls) (sym guide-is) ∙ sym (after (started .guide) h calls called))
-        ∙ sym (ap (λ (y : Guides.Turn). y .told) answers) ∙ is)
-
-    -- So its number is 0, 41 or 42, by the definition that gives each case of the answer its number (FORMAT 25.9, 25.22).
-    pub call-numbered : started .answer .number ≡ Limits.verified → (calls : List (List ℕ)) (h : Guide) → Called (started .guide) calls h
-        → (bytes : List ℕ) (turn : Turn) → Answers h bytes turn → among (number-told (turn .told)) call-answers ≡ true
-    unfolding number-told call-answers among some-of either
-    call-numbered zero-told calls h called bytes turn answers = by-told (turn .told) refl
+    -- Of its own numbers it answers 40 alone, and then input, place and count are 0.
+    not-verified-only : among (started .answer .number) own-answers ≡ true → started .answer .number ≡ Guides.not-verified
+    unfolding own-answers start-answers refusals among some-of either
+    not-verified-only own = by-own (among-has (started .answer .number) own-answers own)
       where
-        by-told : (told : Told) → turn .told ≡ told → among (number-told told) call-answers ≡ true
-        by-told (Do a) is = refl
-        by-told Done is = refl
-        by-told (Refused x) is =
-            ⊎-elim
-            (λ (e : x ≡ Guides.of-guide Guides.wrong-number). ap (λ (a : Answer). among (a .number) call-answers) e)
-            (λ (e : x ≡ Guides.of-guide Guides.against-known). ap (λ (a : Answer). among (a .number) call-answers) e)
-            (refused-with zero-told calls h called bytes turn answers x is)
+        by-own : Has own-answers (started .answer .number) → started .answer .number ≡ Guides.not-verified
+        by-own (inl is) = is
+        by-own (inr (inl is)) = clash (subst (λ (n : ℕ). among n start-answers ≡ true) is start-numbered) refl
+        by-own (inr (inr (inl is))) = clash (subst (λ (n : ℕ). among n start-answers ≡ true) is start-numbered) refl
+        by-own (inr (inr (inr none))) = absurd none
+
+    not-verified-valued : among (started .answer .number) own-answers ≡ true → started .answer .input ∷ started .answer .place ∷ started .answer .count ∷ [] ≡ 0 ∷ 0 ∷ 0 ∷ []
+    unfolding of-starts among some-of either
+    not-verified-valued own =
+        let is = not-verified-only own in
+        ap₂ {C = List ℕ} (λ i l. i ∷ l) (start-input .neither .1 (subst (λ (n : ℕ). among n of-starts ≡ true) (sym is) refl))
+        (ap₂ {C = List ℕ} (λ p c. p ∷ c ∷ []) (start-place .unverified is) (start-count .other λ zero-told. absurd (omega (arith, is, zero-told))))
+
+    -- The proved cases (FORMAT 25.28 to 25.50): given a row's request and budget, and then its calls, it answers what the row says.
+    pub answers-the-cases : (row : GuideCase) → Has guide-cases row → row .request ≡ request → row .budget ≡ budget
+        → (told : List Told) (h : Guide) → Called (started .guide) (row .calls) told h → row .hears ≡ record { answer = started .answer; told = told }
+    unfolding heard-in
+    answers-the-cases row has same-request same-budget told h called =
+        guide-holds row has request budget same-request same-budget
+        ∙ ap₂ {C = Heard} (λ a ts. record { answer = a; told = ts }) (sym answer-is) (ap (λ (g : Guides.Guide). told-by format g (row .calls)) (sym guide-is) ∙ sym (told-so (started .guide) h (row .calls) told called))
+
+    -- ONE MORE CALL, whatever the calls before it brought and were told.
+    module _ (calls : List (List ℕ)) (told : List Told) (h : Guide) (called : Called (started .guide) calls told h) (bytes : List ℕ) (turn : Turn) (answers : Answers h bytes turn) where
+      told-last : turn .told ≡ next format (after-calls format (Guides.start format request budget .guide) calls) bytes .told
+      unfolding turn-of
+      told-last =
+          ap (λ (x : Guides.Turn). x .told) answers
+          ∙ ap (λ (g : Guides.Guide). next format g bytes .told) (after (started .guide) h calls told called ∙ ap (λ (g : Guides.Guide). after-calls format g calls) guide-is)
+
+      -- A guide whose start answered another number than 0 gives that answer (FORMAT 25.4, 25.5):
+      pub refused-ever : (started .answer .number ≡ Limits.verified → ⊥) → turn .told ≡ Refused (started .answer)
+      refused-ever other =
+          told-last
+          ∙ ap (λ (x : Guides.Turn). x .told) (GuideAnswers.refused-ever format request budget (λ zero-told. other (ap (λ (a : Answer). a .number) answer-is ∙ zero-told)) calls bytes)
+          ∙ ap Refused (sym answer-is)
+
+      -- its number, and its input, place and count (FORMAT 25.9, 25.22).
+      pub refused-numbered : (started .answer .number ≡ Limits.verified → ⊥) → number-told (turn .told) ≡ started .answer .number
+      unfolding number-told
+      refused-numbered other = ap number-told (refused-ever other)
+
+      pub refused-valued : (started .answer .number ≡ Limits.verified → ⊥) → values-told (turn .told) ≡ started .answer .input ∷ started .answer .place ∷ started .answer .count ∷ []
+      unfolding values-told
+      refused-valued other = ap values-told (refused-ever other)
+
+      -- Of a guide that started, a call refuses with 41 or 42 and nothing else (FORMAT 25.22).
+      pub refused-with : started .answer .number ≡ Limits.verified → (x : Answer) → turn .told ≡ Refused x → (x ≡ Guides.of-guide Guides.wrong-number) ⊎ (x ≡ Guides.of-guide Guides.against-known)
+      refused-with zero-told x is = GuideCalls.refused-with format request budget (ap (λ (a : Answer). a .number) (sym answer-is) ∙ zero-told) calls bytes x (sym told-last ∙ is)
+
+      -- So its number is 0, 41 or 42, by the definition that gives each case of the answer its number (FORMAT 25.9, 25.22).
+      pub call-numbered : started .answer .number ≡ Limits.verified → among (number-told (turn .told)) call-answers ≡ true
+      unfolding number-told call-answers among some-of either
+      call-numbered zero-told = by-told (turn .told) refl
+        where
+          by-told : (last : Told) → turn .told ≡ last → among (number-told last) call-answers ≡ true
+          by-told (Do a) is = refl
+          by-told Done is = refl
+          by-told (Refused x) is =
+              ⊎-elim
+              (λ (e : x ≡ Guides.of-guide Guides.wrong-number). ap (λ (a : Answer). among (a .number) call-answers) e)
+              (λ (e : x ≡ Guides.of-guide Guides.against-known). ap (λ (a : Answer). among (a .number) call-answers) e)
+              (refused-with zero-told x is)
+
+      -- Input, place and count of 40, 41 and 42 are 0 (FORMAT 25.15).
+      pub own-valued : among (number-told (turn .told)) own-answers ≡ true → values-told (turn .told) ≡ 0 ∷ 0 ∷ 0 ∷ []
+      unfolding number-told values-told own-answers among some-of either
+      own-valued own =
+          by-test (eqb (started .answer .number) Limits.verified)
+          (λ zero-told. by-told (eqb-true _ _ zero-told) (turn .told) refl own)
+          (λ other.
+          let not-0 = eqb-false _ _ other in
+          refused-valued not-0 ∙ not-verified-valued (subst (λ (n : ℕ). among n own-answers ≡ true) (refused-numbered not-0) own))
+        where
+          by-told : started .answer .number ≡ Limits.verified → (last : Told) → turn .told ≡ last → among (number-told last) own-answers ≡ true → values-told last ≡ 0 ∷ 0 ∷ 0 ∷ []
+          by-told zero-told (Do a) is own = clash own refl
+          by-told zero-told Done is own = clash own refl
+          by-told zero-told (Refused x) is own =
+              ⊎-elim
+              (λ (e : x ≡ Guides.of-guide Guides.wrong-number). ap (λ (a : Answer). values-told (Refused a)) e)
+              (λ (e : x ≡ Guides.of-guide Guides.against-known). ap (λ (a : Answer). values-told (Refused a)) e)
+              (refused-with zero-told x is)
 
     -- THEOREM 7 (FORMAT 25.24, 25.25): after a start that answered 0, in any world that has the initial facts.
     pub guided : started .answer .number ≡ Limits.verified

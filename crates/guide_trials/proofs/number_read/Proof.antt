@@ -15,47 +15,47 @@ Inv-loop buf number₀ i₀ number i = i ≤ length buf
 abbrev μ-loop : tie.MeasureT-loop
 μ-loop buf number₀ i₀ number i = length buf - i
 
--- src/main.rt:44:9
+-- src/main.rt:45:9
 is-read-requires : tie.Need-is-read-requires Inv-loop μ-loop
 is-read-requires c κs = search needs
 
--- src/main.rt:45:9
+-- src/main.rt:46:9
 same-length : tie.Need-same-length Inv-loop μ-loop
 same-length c = search needs
 
--- src/main.rt:45:9
+-- src/main.rt:46:9
 returns : tie.Need-returns Inv-loop μ-loop
 returns c = search needs
 
--- src/main.rt:49:5
+-- src/main.rt:50:5
 loop-holds : tie.Need-loop-holds Inv-loop μ-loop
 loop-holds c = search needs
 
--- src/main.rt:50:36
+-- src/main.rt:51:36
 slice-read-with-byte : tie.Need-slice-read-with-byte Inv-loop μ-loop
 slice-read-with-byte c = search needs
 
--- src/main.rt:50:9
+-- src/main.rt:51:9
 with-byte-requires : tie.Need-with-byte-requires Inv-loop μ-loop
 with-byte-requires c κs = search needs
 
--- src/main.rt:51:9
+-- src/main.rt:52:9
 add-i : tie.Need-add-i Inv-loop μ-loop
 add-i c = search needs
 
--- src/main.rt:49:5
+-- src/main.rt:50:5
 loop-less : tie.Need-loop-less Inv-loop μ-loop
 loop-less c = search needs
 
--- src/main.rt:49:5
+-- src/main.rt:50:5
 loop-again : tie.Need-loop-again Inv-loop μ-loop
 loop-again c = search needs
 
--- src/main.rt:43:1
+-- src/main.rt:44:1
 same-length-2 : tie.Need-same-length-2 Inv-loop μ-loop
 same-length-2 c = search needs
 
--- src/main.rt:43:1
+-- src/main.rt:44:1
 returns-2 : tie.Need-returns-2 Inv-loop μ-loop
 returns-2 c = search needs
 

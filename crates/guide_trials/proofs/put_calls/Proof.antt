@@ -19,67 +19,67 @@ Inv-loop calls guide₀ readings₀ i₀ guide readings i = (i ≤ calls) × (le
 abbrev μ-loop : tie.MeasureT-loop
 μ-loop calls guide₀ readings₀ i₀ guide readings i = calls - i
 
--- src/main.rt:133:5
+-- src/main.rt:124:5
 loop-holds : tie.Need-loop-holds Inv-loop μ-loop
 loop-holds c = search needs
 
--- src/main.rt:134:9
+-- src/main.rt:125:9
 add-i : tie.Need-add-i Inv-loop μ-loop
 add-i c = search needs
 
--- src/main.rt:135:24
+-- src/main.rt:126:24
 one-byte-requires : tie.Need-one-byte-requires Inv-loop μ-loop
 one-byte-requires c κs = search needs
 
--- src/main.rt:135:36
+-- src/main.rt:126:36
 slice-aggregate-row-read : tie.Need-slice-aggregate-row-read Inv-loop μ-loop
 slice-aggregate-row-read c = search needs
 
--- src/main.rt:135:15
+-- src/main.rt:126:15
 row-read-requires : tie.Need-row-read-requires Inv-loop μ-loop
 row-read-requires c κs = search needs
 
--- src/main.rt:136:26
+-- src/main.rt:127:26
 enum-known-n : tie.Need-enum-known-n Inv-loop μ-loop
 enum-known-n c = search needs
 
--- src/main.rt:137:39
+-- src/main.rt:128:39
 array-share-prefix-readings : tie.Need-array-share-prefix-readings Inv-loop μ-loop
 array-share-prefix-readings c = search read-within
 
--- src/main.rt:137:39
+-- src/main.rt:128:39
 slice-aggregate-next : tie.Need-slice-aggregate-next Inv-loop μ-loop
 slice-aggregate-next c = search read-counted
 
--- src/main.rt:137:21
+-- src/main.rt:128:21
 next-requires : tie.Need-next-requires Inv-loop μ-loop
 next-requires c κs = search needs
 
--- src/main.rt:140:21
+-- src/main.rt:131:21
 put-told-requires : tie.Need-put-told-requires Inv-loop μ-loop
 put-told-requires c κs = search needs
 
--- src/main.rt:141:21
+-- src/main.rt:132:21
 returns : tie.Need-returns Inv-loop μ-loop
 returns c = search needs
 
--- src/main.rt:133:5
+-- src/main.rt:124:5
 loop-less : tie.Need-loop-less Inv-loop μ-loop
 loop-less c = search needs
 
--- src/main.rt:133:5
+-- src/main.rt:124:5
 loop-again : tie.Need-loop-again Inv-loop μ-loop
 loop-again c = search needs
 
--- src/main.rt:144:34
+-- src/main.rt:135:34
 enum-told : tie.Need-enum-told Inv-loop μ-loop
 enum-told c = search needs
 
--- src/main.rt:144:34
+-- src/main.rt:135:34
 returns-2 : tie.Need-returns-2 Inv-loop μ-loop
 returns-2 c = search needs
 
--- src/main.rt:129:1
+-- src/main.rt:120:1
 returns-3 : tie.Need-returns-3 Inv-loop μ-loop
 returns-3 c = search needs
 

@@ -15,55 +15,55 @@ Inv-loop i₀ t3 i = i ≤ 18446744073709551615
 abbrev μ-loop : tie.MeasureT-loop
 μ-loop i₀ t3 i = 18446744073709551615 - i
 
--- src/main.rt:180:5
+-- src/main.rt:168:5
 loop-holds : tie.Need-loop-holds Inv-loop μ-loop
 loop-holds c = search needs
 
--- src/main.rt:181:9
+-- src/main.rt:169:9
 add-i : tie.Need-add-i Inv-loop μ-loop
 add-i c = search needs
 
--- src/main.rt:182:15
+-- src/main.rt:170:15
 four-bytes-requires : tie.Need-four-bytes-requires Inv-loop μ-loop
 four-bytes-requires c κs = search needs
 
--- src/main.rt:183:24
+-- src/main.rt:171:24
 enum-known-budget : tie.Need-enum-known-budget Inv-loop μ-loop
 enum-known-budget c = search needs
 
--- src/main.rt:184:21
+-- src/main.rt:172:21
 put-trial-requires : tie.Need-put-trial-requires Inv-loop μ-loop
 put-trial-requires c κs = search needs
 
--- src/main.rt:185:30
+-- src/main.rt:173:30
 slice-aggregate-fail : tie.Need-slice-aggregate-fail Inv-loop μ-loop
 slice-aggregate-fail c = search needs
 
--- src/main.rt:185:21
+-- src/main.rt:173:21
 fail-requires : tie.Need-fail-requires Inv-loop μ-loop
 fail-requires c κs = search needs
 
--- src/main.rt:186:21
+-- src/main.rt:174:21
 returns : tie.Need-returns Inv-loop μ-loop
 returns c = search needs
 
--- src/main.rt:180:5
+-- src/main.rt:168:5
 loop-less : tie.Need-loop-less Inv-loop μ-loop
 loop-less c = search needs
 
--- src/main.rt:180:5
+-- src/main.rt:168:5
 loop-again : tie.Need-loop-again Inv-loop μ-loop
 loop-again c = search needs
 
--- src/main.rt:189:32
+-- src/main.rt:177:32
 enum-told : tie.Need-enum-told Inv-loop μ-loop
 enum-told c = search needs
 
--- src/main.rt:189:32
+-- src/main.rt:177:32
 returns-2 : tie.Need-returns-2 Inv-loop μ-loop
 returns-2 c = search needs
 
--- src/main.rt:178:1
+-- src/main.rt:166:1
 returns-3 : tie.Need-returns-3 Inv-loop μ-loop
 returns-3 c = search needs
 

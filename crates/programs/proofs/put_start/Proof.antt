@@ -9,31 +9,31 @@ use Rattle.programs.proofs.put_start.Lts as lts
 use Rattle.programs.proofs.put_answer.Reads as put-answer-reads
 use Rattle.programs.proofs.put.Reads as put-reads
 
--- src/lib.rt:242:9
+-- src/lib.rt:249:9
 put-answer-requires : tie.Need-put-answer-requires
 put-answer-requires c κs = search needs
 
--- src/lib.rt:242:9
+-- src/lib.rt:249:9
 returns : tie.Need-returns
 returns c = search needs
 
--- src/lib.rt:244:18
+-- src/lib.rt:251:18
 cast-length : tie.Need-cast-length
 cast-length c = search needs
 
--- src/lib.rt:246:9
+-- src/lib.rt:253:9
 returns-2 : tie.Need-returns-2
 returns-2 c = search needs
 
--- src/lib.rt:248:9
+-- src/lib.rt:255:9
 slice-aggregate-put : tie.Need-slice-aggregate-put
 slice-aggregate-put c = sym (length-take-le _ _ (search needs))
 
--- src/lib.rt:248:5
+-- src/lib.rt:255:5
 put-requires : tie.Need-put-requires
 put-requires c κs = search needs
 
--- src/lib.rt:240:1
+-- src/lib.rt:247:1
 returns-3 : tie.Need-returns-3
 returns-3 c = search needs
 

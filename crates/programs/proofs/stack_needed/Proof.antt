@@ -15,11 +15,11 @@ short-needs length h = sym (pick-true _ _ _ (le-leb length 1024 h))
 long-needs : (length : ℕ) → 1024 < length → 16777216 ≡ needed length
 long-needs length h = sym (pick-false _ _ _ (lt-leb length 1024 h))
 
--- src/lib.rt:183:9
+-- src/lib.rt:190:9
 returns : tie.Need-returns
 returns c = search short-needs
 
--- src/lib.rt:179:1
+-- src/lib.rt:186:1
 returns-2 : tie.Need-returns-2
 returns-2 c = search long-needs
 

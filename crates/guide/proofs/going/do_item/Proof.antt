@@ -58,7 +58,7 @@ returns-2 c = search item-acting
 refused-step-requires : tie.Need-refused-step-requires
 refused-step-requires c κs = search needs
 
--- src/going.rt:95:1
+-- src/going.rt:103:1
 returns-3 : tie.Need-returns-3
 returns-3 c = search item-refused
 

@@ -1,4 +1,5 @@
 -- 41 goes before 42, and what is known with the readings goes on.
+use Rattle.guide.proofs.SensedReadLaws.{told-count}
 use Rattle.guide.proofs.TurnLaws.{number-other, reads-against, reads-on}
 use borrow.Author.Needs.{needs}
 use Rattle.guide.proofs.going.step_after.Statement.{statement}
@@ -25,7 +26,7 @@ returns c = search number-other
 
 -- src/going.rt:167:9
 is-against-requires : tie.Need-is-against-requires
-is-against-requires c κs = (search needs, (search needs, (search needs, search needs)))
+is-against-requires c κs = (search needs, (search needs, (search needs, search told-count)))
 
 -- src/going.rt:169:9
 refused-step-requires-2 : tie.Need-refused-step-requires-2
@@ -37,7 +38,7 @@ returns-2 c = search reads-against
 
 -- src/going.rt:171:17
 taken-over-requires : tie.Need-taken-over-requires
-taken-over-requires c κs = (search needs, (search needs, (search needs, search needs)))
+taken-over-requires c κs = (search needs, (search needs, (search needs, search told-count)))
 
 -- src/going.rt:172:5
 go-on-requires : tie.Need-go-on-requires

@@ -1,8 +1,8 @@
--- The sensed fluents below f are in the row, and those from f up are to come; f rises to the limit.
+-- The sensed fluents below f are in the row, with 0 behind them, and those from f up are to come; f rises to the limit.
 use Prim.Native.Nat.{_-_}
 use Rattle.meaning.specs.Limits.{format}
 use Rattle.steps.specs.Held.{table-in}
-use Rattle.guide.proofs.SensedReadLaws.{Sensed-row, row-starts, row-kept, row-more, row-is, row-counts}
+use Rattle.guide.proofs.SensedReadLaws.{Sensed-row, row-starts, row-kept, row-more, row-told}
 use borrow.Author.Needs.{needs}
 use Rattle.guide.proofs.sensed.sensed_by.Statement.{statement}
 use Rattle.guide.proofs.sensed.sensed_by.Tie as tie
@@ -56,9 +56,9 @@ loop-less-2 c = search needs
 loop-again-2 : tie.Need-loop-again-2 Inv-loop μ-loop
 loop-again-2 c = search row-kept
 
--- src/sensed.rt:21:1
+-- src/sensed.rt:22:1
 returns : tie.Need-returns Inv-loop μ-loop
-returns c = (search row-is, search row-counts)
+returns c = search row-told
 
 pub sensed-by-spec : {M : Type 1} → statement M
 sensed-by-spec =
