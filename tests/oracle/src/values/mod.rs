@@ -1,0 +1,15 @@
+//! Fluents with values: the values call, random calls, a run of them, and rows.
+
+pub mod call;
+pub mod literal;
+pub mod walk;
+
+use crate::model::Request;
+use literal::Literal;
+
+/// A values request: how many values each fluent has, and its sections.
+#[derive(Clone, Debug, Default)]
+pub struct Valued {
+    pub values: Vec<u8>,
+    pub request: Request<Literal>,
+}
