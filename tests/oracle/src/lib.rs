@@ -31,6 +31,7 @@ pub mod settle;
 pub mod table;
 pub mod tally;
 pub mod text;
+pub mod translation;
 pub mod values;
 pub mod walk;
 pub mod whether;

@@ -155,11 +155,12 @@ pub fn last_of_request(bytes: &[u8]) -> Part {
     reader.part
 }
 
-/// The part of a values request in which its reading ends.
-pub fn last_of_valued(bytes: &[u8]) -> Part {
+/// The part of a values request in which its reading ends, and the place of the literal of which it
+/// reads no more than the first byte, or refuses one of the two.
+pub fn last_of_valued(bytes: &[u8]) -> (Part, Option<usize>) {
     let mut reader = Reader::new(bytes, 0, 0);
     let _ = reader.request::<Literal>();
-    reader.part
+    (reader.part, reader.within)
 }
 
 /// The part of a guarded request in which its reading ends.
@@ -197,13 +198,15 @@ fn refuse_length(bytes: &[u8], limit: usize) -> Read<()> {
 }
 
 /// The input, the position in it and the part that is there, and how many fluents and actions
-/// there are, in a values request also how many values of each fluent.
+/// there are, in a values request also how many values of each fluent, and the place of the literal that
+/// is being read.
 pub struct Reader<'a> {
     bytes: &'a [u8],
-    at: usize,
+    pub(crate) at: usize,
     pub(crate) part: Part,
     pub(crate) fluents: u8,
     pub(crate) values: Vec<u8>,
+    pub(crate) within: Option<usize>,
     actions: u8,
 }
 
@@ -215,6 +218,7 @@ impl Reader<'_> {
             part: Part::Rest,
             fluents,
             values: Vec::new(),
+            within: None,
             actions,
         }
     }

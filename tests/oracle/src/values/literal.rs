@@ -87,9 +87,11 @@ impl Form for Literal {
 
     /// The first byte is judged before the second one is looked at.
     fn read(reader: &mut Reader) -> Read<Literal> {
+        reader.within = Some(reader.at);
         let fluent = reader.fluent()?;
         let values = reader.values[usize::from(fluent)];
         let says = reader.below(2 * usize::from(values))?;
+        reader.within = None;
         Ok(Literal::new(fluent, says, values))
     }
 

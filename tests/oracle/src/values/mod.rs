@@ -1,8 +1,16 @@
 //! Fluents with values: the values call, random calls, a run of them, and rows.
 
 pub mod call;
+pub mod calls;
+pub mod damage;
+pub mod generate;
 pub mod literal;
+pub mod rows;
+pub mod run;
+pub mod translate;
+pub mod tree;
 pub mod walk;
+pub mod worlds;
 
 use crate::model::Request;
 use literal::Literal;
