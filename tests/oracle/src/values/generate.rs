@@ -8,7 +8,9 @@ use super::translate::spelled;
 use super::walk::{walk_to, State, Table};
 use super::Valued;
 use crate::form::Form;
-use crate::generate::{any_request, Numbers, Shape, MIDDLE, SMALL, TINY};
+use crate::generate::{
+    any_request, filled, request, spread as plain_spread, Numbers, Shape, MIDDLE, SMALL, TINY,
+};
 use crate::model::{Allowance, Branch, Effect, Item, Knowledge, Request};
 use crate::reader::{BODY_LIMIT, BRANCH_LIMIT, LIST_LIMIT, NESTING_LIMIT};
 use crate::rng::Rng;
@@ -27,11 +29,20 @@ pub fn any_valued(rng: &mut Rng) -> Valued {
         0..=44 => drawn(rng, &TINY),
         45..=79 => drawn(rng, &SMALL),
         80..=85 => drawn(rng, &MIDDLE),
+        86 => full(rng),
         _ => {
             let request = any_request(rng);
             spelled(rng, &request)
         }
     }
+}
+
+/// A small plain request that is spread, with a fact for each fluent, said by values.
+pub fn full(rng: &mut Rng) -> Valued {
+    let request = request(rng, &TINY);
+    let request = plain_spread(rng, &request);
+    let request = filled(rng, &request);
+    spelled(rng, &request)
 }
 
 /// A values request of a shape, spread now and then.

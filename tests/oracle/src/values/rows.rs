@@ -7,20 +7,23 @@
 
 use super::call::{judge_values, open_valued};
 use super::calls::{damaged_values_call, sound_values_call};
-use super::generate::{drawn, spread};
+use super::generate::{drawn, full};
 use super::run::{events, made, Event};
 use super::translate::spelled;
 use super::walk::walk;
 use super::Valued;
 use crate::calls::JudgeCall;
-use crate::generate::{self, filled};
+use crate::generate;
 use crate::rng::Rng;
 use crate::rows::Shown::{self, Number};
-use crate::rows::{small_shape, spread_shape, tell_bytes, tell_state, Series, FULL_BYTES};
+use crate::rows::{small_shape, spread_shape, tell_bytes, tell_state, Series};
 use crate::walk::Verdict;
 
 /// Most bytes of a request.
 const BYTES: usize = 150;
+/// Most bytes of a request with 128 fluents, and of one with 128 facts, goals and whether entries.
+const WIDE_BYTES: usize = 400;
+const FULL_BYTES: usize = 1_000;
 /// Largest count of a walk.
 const COUNT: u32 = 500;
 
@@ -119,15 +122,10 @@ fn draw(rng: &mut Rng, wanted: Shown<Event>) -> JudgeCall {
 fn draft(rng: &mut Rng, wanted: Shown<Event>) -> Valued {
     let shape = *small_shape(rng);
     match wanted {
-        Shown::Event(Event::MostFacts) => {
-            let shape = spread_shape(rng);
-            let request = generate::drawn(rng, &shape);
-            let request = filled(rng, &request);
-            spelled(rng, &request)
-        }
+        Shown::Event(Event::MostFacts) => full(rng),
         Shown::Event(Event::MostFluents) => {
-            let draft = drawn(rng, &shape);
-            spread(rng, &draft)
+            let shape = spread_shape(rng);
+            drawn(rng, &shape)
         }
         Shown::Event(Event::TwoValued) if rng.chance(50) => {
             let request = generate::drawn(rng, &shape);
@@ -141,7 +139,8 @@ fn draft(rng: &mut Rng, wanted: Shown<Event>) -> Valued {
 /// counts little.
 fn fits(call: &JudgeCall, wanted: Shown<Event>) -> bool {
     let most = match wanted {
-        Shown::Event(Event::MostFacts | Event::MostFluents) => FULL_BYTES,
+        Shown::Event(Event::MostFacts) => FULL_BYTES,
+        Shown::Event(Event::MostFluents) => WIDE_BYTES,
         _ => BYTES,
     };
     let light = |valued: Valued| walk(&valued, COUNT) != Verdict::Over;

@@ -196,8 +196,21 @@ impl<'a> Walk<'a> {
                     return stuck(*place, state);
                 }
                 self.count()?;
-                let states = self.after(*action, state);
-                let after = self.in_turn(rest, states)?;
+                let lines = request.knowledge.iter();
+                let lines = lines.filter(|line| line.action == *action);
+                let mut sensed: Vec<u8> = lines.map(|line| line.fluent).collect();
+                let after = match sensed.is_empty() {
+                    true => {
+                        let state = self.changed(*action, &state);
+                        self.outcome(rest.to_vec(), state)?
+                    }
+                    false => {
+                        sensed.retain(|&fluent| state[usize::from(fluent)].is_none());
+                        sensed.sort_unstable();
+                        sensed.dedup();
+                        self.in_turn(rest, &sensed, &state)?
+                    }
+                };
                 Some(Outcome {
                     count: 1 + after.count,
                     ..after
@@ -206,61 +219,58 @@ impl<'a> Walk<'a> {
         }
     }
 
-    /// What comes of items in one state after another: the counts together, up to the first state from
-    /// which an item can't be run, and the first miss.
-    fn in_turn(&mut self, items: &[&'a Item<Literal>], states: Vec<Values>) -> Option<Outcome> {
+    /// What comes of items in one reading of unknown fluents after another: the counts together, up to the
+    /// first reading from which an item can't be run, and the first miss.
+    fn in_turn(
+        &mut self,
+        items: &[&'a Item<Literal>],
+        unread: &[u8],
+        state: &Values,
+    ) -> Option<Outcome> {
+        self.seen.fluents_read = self.seen.fluents_read.max(unread.len());
         let mut all = Outcome {
             count: 0,
             stuck: None,
             missed: None,
         };
-        for state in states {
-            let one = self.outcome(items.to_vec(), state)?;
+        let mut reading = Some(vec![0; unread.len()]);
+        while let Some(values) = reading {
+            let read = self.with_reading(unread, &values, state);
+            let one = self.outcome(items.to_vec(), read)?;
             all.count += one.count;
             all.missed = all.missed.or(one.missed);
             if one.stuck.is_some() {
                 all.stuck = one.stuck;
                 break;
             }
+            reading = self.next_reading(unread, values);
         }
         Some(all)
     }
 
-    /// The states after an action that can be run, in their order.
-    fn after(&mut self, action: u8, state: Values) -> Vec<Values> {
-        let lines = self.valued.request.knowledge.iter();
-        let mut lines = lines.filter(|line| line.action == action).peekable();
-        if lines.peek().is_none() {
-            return vec![self.changed(action, &state)];
+    /// A state with the values that are read of unknown fluents.
+    fn with_reading(&mut self, unread: &[u8], values: &[u8], state: &Values) -> Values {
+        let mut read = state.clone();
+        for (&fluent, &value) in unread.iter().zip(values) {
+            let number = self.valued.values[usize::from(fluent)];
+            self.seen.values_read = self.seen.values_read.max(number);
+            self.seen.excluded_read |= excludes(&self.valued.request.facts, fluent, value);
+            read[usize::from(fluent)] = Some(value);
         }
-        let mut unread: Vec<u8> = lines.map(|line| line.fluent).collect();
-        unread.retain(|&fluent| state[usize::from(fluent)].is_none());
-        unread.sort_unstable();
-        unread.dedup();
-        self.seen.fluents_read = self.seen.fluents_read.max(unread.len());
-        self.readings(&unread, state)
+        read
     }
 
-    /// The state with each value of the first of these fluents, and with each reading of the others.
-    fn readings(&mut self, unread: &[u8], state: Values) -> Vec<Values> {
-        let Some((&fluent, others)) = unread.split_first() else {
-            return vec![state];
-        };
-        let values = self.valued.values[usize::from(fluent)];
-        self.seen.values_read = self.seen.values_read.max(values);
-        let mut all = Vec::new();
-        for value in 0..values {
-            // Each reading counts at least an end state, or stops the walk.
-            if all.len() > COUNT_CAP as usize {
-                break;
+    /// The reading after another one: the last fluent that has a larger value gets its next one, and those
+    /// behind it start again.
+    fn next_reading(&self, unread: &[u8], mut values: Vec<u8>) -> Option<Vec<u8>> {
+        for (value, &fluent) in values.iter_mut().zip(unread).rev() {
+            *value += 1;
+            if *value < self.valued.values[usize::from(fluent)] {
+                return Some(values);
             }
-            let excluded = excludes(&self.valued.request.facts, fluent, value);
-            self.seen.excluded_read |= excluded;
-            let mut read = state.clone();
-            read[usize::from(fluent)] = Some(value);
-            all.extend(self.readings(others, read));
+            *value = 0;
         }
-        all
+        None
     }
 
     /// The state after an action that does not sense, fluent by fluent.
