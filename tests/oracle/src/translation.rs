@@ -28,10 +28,7 @@ pub trait Translation<L, M> {
 }
 
 /// The same request by a translation, without places, and with the counts that it had.
-pub fn translated<L: Copy, M>(
-    request: &Request<L>,
-    by: &mut impl Translation<L, M>,
-) -> Request<M> {
+pub fn translated<L: Copy, M>(request: &Request<L>, by: &mut impl Translation<L, M>) -> Request<M> {
     let effects = request.effects.iter();
     let allowances = request.allowances.iter();
     let knowledge = request.knowledge.iter();

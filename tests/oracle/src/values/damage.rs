@@ -41,7 +41,12 @@ fn damage_bytes(rng: &mut Rng, whole: &Encoded, bounds: Bounds) -> Damaged {
         4 => extended(rng, bytes, bounds),
         5 if rng.chance(10) => too_long(rng, bytes, bounds),
         5 | 6 => aimed(rng, whole, is_count, wrong_count),
-        7 => aimed(rng, whole, |mark| mark.kind == Kind::ItemCount, wrong_item_count),
+        7 => aimed(
+            rng,
+            whole,
+            |mark| mark.kind == Kind::ItemCount,
+            wrong_item_count,
+        ),
         8..=10 => aimed(rng, whole, |mark| mark.kind == Kind::Values, wrong_values),
         11 | 12 => too_large(rng, whole, bounds),
         13 | 14 => aimed(rng, whole, is_says, value_too_large),

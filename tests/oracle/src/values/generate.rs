@@ -398,9 +398,7 @@ fn whether(rng: &mut Rng, valued: &Valued, ends: &[State], careless: u64) -> Vec
     let other = rng.chance(3 * careless);
     let other = other.then(|| rng.byte(0, valued.request.fluents - 1));
     (0..valued.request.fluents)
-        .filter(|&fluent| {
-            other == Some(fluent) || seen(ends, fluent).is_some() && rng.chance(60)
-        })
+        .filter(|&fluent| other == Some(fluent) || seen(ends, fluent).is_some() && rng.chance(60))
         .collect()
 }
 
@@ -534,7 +532,10 @@ impl<'a> Grower<'a> {
     /// Conditions that are exclusive, each with the states in which it is known true.
     fn classes(&mut self, states: &[State]) -> Vec<(Vec<Literal>, Vec<State>)> {
         let first = self.branching_fluent(states, None);
-        let second = self.rng.chance(25).then(|| self.branching_fluent(states, Some(first)));
+        let second = self
+            .rng
+            .chance(25)
+            .then(|| self.branching_fluent(states, Some(first)));
         let mut classes = Vec::new();
         for one in self.parts(states, first) {
             classes.push((vec![(first, one)], within(states, first, one)));

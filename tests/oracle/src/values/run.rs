@@ -26,7 +26,24 @@ use crate::{judge_line, STATE_LENGTH};
 pub const SAYS_IS_NOT: u8 = 46;
 /// The answers that a run must meet at least once.
 pub const NUMBERS: [u8; 18] = [
-    0, 1, 2, 3, 9, 10, 11, 12, 13, 14, 15, 16, 17, 18, 19, 20, 21, SAYS_IS_NOT,
+    0,
+    1,
+    2,
+    3,
+    9,
+    10,
+    11,
+    12,
+    13,
+    14,
+    15,
+    16,
+    17,
+    18,
+    19,
+    20,
+    21,
+    SAYS_IS_NOT,
 ];
 
 /// What a call has been through, told from the call and its answer.
@@ -255,7 +272,9 @@ fn of_facts(valued: &Valued, answer: Answer) -> Vec<(bool, Event)> {
     let unknown = |fluent: u8| first.value(fluent).is_none();
     let by_is_not = |fluent: u8| {
         let mut said = request.facts.iter().filter(|fact| fact.fluent == fluent);
-        valued.values[usize::from(fluent)] > 2 && !unknown(fluent) && said.all(|fact| !fact.says_is())
+        valued.values[usize::from(fluent)] > 2
+            && !unknown(fluent)
+            && said.all(|fact| !fact.says_is())
     };
     let mut fluents = (0..request.fluents).filter(named);
     let forgotten = (0..request.fluents).any(|fluent| named(&fluent) && unknown(fluent));

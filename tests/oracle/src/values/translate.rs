@@ -26,8 +26,7 @@ impl Translation<Literal, u8> for AsPlain {
 
 /// A list names a fluent twice.
 pub fn names_twice(list: &[Literal]) -> bool {
-    list.windows(2)
-        .any(|pair| pair[0].fluent == pair[1].fluent)
+    list.windows(2).any(|pair| pair[0].fluent == pair[1].fluent)
 }
 
 /// Some list of literals of a request is so.

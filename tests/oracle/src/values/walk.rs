@@ -50,10 +50,8 @@ impl State {
 
     /// Nothing that a body asks is known to be otherwise.
     fn allows(&self, body: &Demands) -> bool {
-        body.iter().all(|&(fluent, set)| {
-            self.value(fluent)
-                .is_none_or(|value| set >> value & 1 == 1)
-        })
+        body.iter()
+            .all(|&(fluent, set)| self.value(fluent).is_none_or(|value| set >> value & 1 == 1))
     }
 }
 

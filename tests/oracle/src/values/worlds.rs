@@ -167,8 +167,8 @@ pub fn effects_meet(request: &Request<Literal>, worlds: &Party) -> bool {
     actions.sort_unstable();
     actions.dedup();
     actions.iter().any(|&action| {
-        worlds.iter().any(|world| {
-            allowed(request, action, world) && moved(request, action, world).is_err()
-        })
+        worlds
+            .iter()
+            .any(|world| allowed(request, action, world) && moved(request, action, world).is_err())
     })
 }
