@@ -10,7 +10,7 @@ use crate::damage::{
 };
 use crate::encode::{encode_valued, Encoded, Kind, Mark};
 use crate::model::{Allowance, Branch, Effect, Item, Knowledge};
-use crate::reader::{BRANCH_LIMIT, ITEM_LIMIT, NESTING_LIMIT};
+use crate::reader::{BRANCH_LIMIT, ITEM_LIMIT, LIST_LIMIT, NESTING_LIMIT, REQUEST_LIMIT};
 use crate::rng::Rng;
 
 /// Damages a values request that was right before.
@@ -25,6 +25,7 @@ pub fn damage_valued(rng: &mut Rng, valued: &Valued) -> Damaged {
         }
         71 => too_many_items(rng, valued.clone()),
         72..=74 => too_deep(rng, valued.clone()),
+        75..=77 => facts_leave_none(rng, valued.clone()),
         _ => Damaged::unsure(encode_valued(&misshaped(rng, valued.clone())).bytes),
     }
 }
@@ -365,13 +366,33 @@ fn overlap_within(rng: &mut Rng, sequence: &mut [Item<Literal>], other: &[Litera
     false
 }
 
-/// Makes a list of literals leave a fluent no value, by all that it is not, or lack one of these.
-fn leave_none(rng: &mut Rng, valued: &mut Valued) {
+/// All that a fluent may not be, which leaves it no value.
+fn leaving_none(rng: &mut Rng, valued: &Valued) -> (u8, Vec<Literal>) {
     let fluent = rng.byte(0, valued.request.fluents - 1);
     let values = valued.values[usize::from(fluent)];
-    let mut none: Vec<Literal> = (0..values)
-        .map(|value| Literal::is_not(fluent, value, values))
-        .collect();
+    let is_not = |value| Literal::is_not(fluent, value, values);
+    (fluent, (0..values).map(is_not).collect())
+}
+
+/// The facts leave a fluent no value; the last thing that they say of it is refused. The first fact stands
+/// behind the numbers of values, the action count and the count of facts.
+fn facts_leave_none(rng: &mut Rng, mut valued: Valued) -> Damaged {
+    let (fluent, none) = leaving_none(rng, &valued);
+    let facts = &mut valued.request.facts;
+    facts.retain(|literal| literal.fluent != fluent);
+    let before = facts.partition_point(|literal| literal.fluent < fluent);
+    let last = before + none.len() - 1;
+    facts.splice(before..before, none);
+    let whole = encode_valued(&valued);
+    match valued.request.facts.len() <= LIST_LIMIT && whole.bytes.len() <= REQUEST_LIMIT {
+        true => Damaged::sure(whole.bytes, 15, valued.values.len() + 3 + 2 * last),
+        false => Damaged::unsure(whole.bytes),
+    }
+}
+
+/// Makes a list of literals leave a fluent no value, or lack one of those that it may not be.
+fn leave_none(rng: &mut Rng, valued: &mut Valued) {
+    let (fluent, mut none) = leaving_none(rng, valued);
     if rng.chance(20) {
         none.remove(rng.below(none.len()));
     }
@@ -391,5 +412,5 @@ fn leave_none(rng: &mut Rng, valued: &mut Valued) {
     list.retain(|literal| literal.fluent != fluent);
     list.extend(none);
     list.sort_unstable();
-    list.truncate(128);
+    list.truncate(LIST_LIMIT);
 }

@@ -1,5 +1,6 @@
 //! Fluents with values: the values call, random calls, a run of them, and rows.
 
+pub mod again;
 pub mod call;
 pub mod calls;
 pub mod damage;

@@ -6,7 +6,7 @@ use super::calls::values_call;
 use super::literal::{left, Literal};
 use super::translate::{names_twice, plain_of, some_list, spelled};
 use super::walk::{walk, State};
-use super::{tree, worlds, Valued};
+use super::{again, tree, worlds, Valued};
 use crate::answer::Answer;
 use crate::calls::{judge_call, JudgeCall, Left};
 use crate::encode::{encode_request, encode_valued, Encoded, Kind};
@@ -372,6 +372,7 @@ impl Tally {
         let valued = read_valued(&call.request).map_err(|_| format!("answer {answer} unread"))?;
         let written = encode_valued(&valued);
         expect_bytes(&written.bytes, &call.request)?;
+        expect_settled(&valued, answer)?;
         self.compare_meeting(&valued, answer)?;
         self.compare_plain(&valued, &written, call, &left)?;
         if answer.number > 3 {
@@ -453,6 +454,16 @@ impl Tally {
             _ => self.stuck_though_reached += u64::from(reached),
         }
         Ok(())
+    }
+}
+
+/// 16, 17 and 18 are given just where they are found a second time.
+fn expect_settled(valued: &Valued, answer: Answer) -> Result<(), String> {
+    let refused = (answer.number > 3).then_some((answer.number, answer.place as usize));
+    let again = again::refused(valued).map(|fault| (fault.number, fault.place));
+    match refused == again {
+        true => Ok(()),
+        false => Err(format!("answer {answer}, the second time {again:?}")),
     }
 }
 
