@@ -213,6 +213,7 @@ fn misshaped(rng: &mut Rng, mut valued: Valued) -> Valued {
         2 => contradict_in_no_world(rng, &mut valued),
         3 | 4 => mix(rng, &mut valued),
         5 | 6 => make_overlap(rng, &mut valued),
+        7 if rng.chance(50) => part_together(rng, &mut valued),
         7 => {
             contradict(rng, &mut valued);
             mix(rng, &mut valued);
@@ -364,6 +365,38 @@ fn overlap_within(rng: &mut Rng, sequence: &mut [Item<Literal>], other: &[Litera
         return true;
     }
     false
+}
+
+/// Adds two conditions, or two effects with bodies, that are exclusive only by all literals together: all that a
+/// fluent is not but one value, and that value. What is so of the request otherwise stays.
+fn part_together(rng: &mut Rng, valued: &mut Valued) {
+    let (_, mut one) = leaving_none(rng, valued);
+    let other: Vec<Literal> = one.pop().into_iter().collect();
+    let action = rng.byte(0, valued.request.actions - 1);
+    let set = any_is(rng, valued);
+    let values = valued.values[usize::from(set.fluent)];
+    let request = &mut valued.request;
+    if rng.chance(50) {
+        let branches = [one, other].map(|condition| Branch {
+            condition,
+            sequence: Vec::new(),
+        });
+        request.plan.truncate(100);
+        request.plan.push(Item::case(branches.to_vec()));
+        return;
+    }
+    request.knowledge.retain(|line| line.action != action);
+    request.effects.retain(|line| line.action != action);
+    request.effects.truncate(250);
+    for (value, body) in [one, other].into_iter().enumerate() {
+        request.effects.push(Effect {
+            place: 0,
+            action,
+            literal: Literal::is(set.fluent, value as u8, values),
+            body,
+        });
+    }
+    allow(valued, action, Vec::new());
 }
 
 /// All that a fluent may not be, which leaves it no value.
