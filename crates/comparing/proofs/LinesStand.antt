@@ -180,7 +180,7 @@ module _ (n m : ℕ) (d : List ℕ) where
   unfolding plan-end after-list
   line-ends p l w =
       let after = plan-ends n m d (after-list d p) (w .plan) (w .end) (w .reads) .0 in
-      let bytes : bytes-of Flags (w .plan .value) ≡ bytes-of Flags (l .c) = ap bytes-of Flags (w .is) in
+      let bytes : bytes-of Flags (w .plan .value) ≡ bytes-of Flags (l .c) = ap (bytes-of Flags) (w .is) in
       let size = list-size p (l .X) (w .X) in
       let place = w .place in
       omega arith

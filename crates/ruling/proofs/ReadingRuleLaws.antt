@@ -420,7 +420,7 @@ module _ (d : List ℕ) (w : Spot) (q count : ℕ) (after : q ≡ sequence-place
           let first = first-act l v in
           let plan = plan-of d w q after l v in
           let own = first .own in let same = own-count d w q after count read l v in let few = plan .few in
-          let bytes : bytes-of Flags (l .c) ≡ 1 + bytes-of Flags (first .rest) = ap bytes-of Flags (first .is) ∙ act-bytes _ _ _ in
+          let bytes : bytes-of Flags (l .c) ≡ 1 + bytes-of Flags (first .rest) = ap (bytes-of Flags) (first .is) ∙ act-bytes _ _ _ in
           let to = plan .ends in
           let up : q + 2 + 1 ≡ q + 3 = omega arith in
           record {

@@ -236,10 +236,10 @@ module _ (s : List ℕ) (n m : ℕ) (counted : Counted s n m) (p : ℕ) (t u : L
   read-so = read ∙ rw (counted .fluents, counted .actions) (tail-whole Flags s (table-in s) p t)
 
   plan-got : (e : ℕ) → r ≡ To e → (y : Request) × (request-at format Flags s (table-in s) p ≡ got y e) × (u ≡ tail-noted Flags y t)
-  plan-got e is = noting-got tail-noted Flags (request-at format Flags s (table-in s) p) r t u read-so e is
+  plan-got e is = noting-got (tail-noted Flags) (request-at format Flags s (table-in s) p) r t u read-so e is
 
   plan-stop : (k q : ℕ) → r ≡ Stop k q → request-at format Flags s (table-in s) p ≡ fault k q
-  plan-stop k q is = noting-fault tail-noted Flags (request-at format Flags s (table-in s) p) r t u read-so k q is
+  plan-stop k q is = noting-fault (tail-noted Flags) (request-at format Flags s (table-in s) p) r t u read-so k q is
 
 -- THE FIRST PASS: what is left of the plans ends where all do.
 pub record Seeking (s : List ℕ) (plans start left p : ℕ) : Type 0 where
