@@ -30,6 +30,11 @@ pub const OPEN: usize = 12;
 // The unknown fluents that a sensing action may have in a derivation (FORMAT 24.4).
 pub const FORKED: usize = 6;
 
+// The values that a fluent may have (FORMAT 26.1).
+pub const FEWEST_VALUES: usize = 2;
+
+pub const VALUES: usize = 16;
+
 // An index has two counts for each action, and two bytes for each of up to 255 effects and 255 executability lines (FORMAT 23.5).
 pub const INDEX: usize = 2 * ACTIONS + 4 * 255;
 
@@ -63,6 +68,8 @@ pub const NESTED_TOO_DEEP: u8 = 19;
 pub const BYTES_AFTER: u8 = 20;
 
 pub const TOO_MANY_ITEMS: u8 = 21;
+
+pub const SAYS_IS_NOT: u8 = 46;
 
 // Marks of a partial state (FORMAT 4.47, 7.1).
 pub const UNKNOWN_MARK: u8 = 0;

@@ -14,6 +14,7 @@ use Rattle.meaning.specs.Derivations.{same-list, same-plan, same-item, same-bra
 use Rattle.meaning.proofs.TestLaws.{same-test, both-left, both-right, both-true}
 use Rattle.meaning.proofs.SetLaws.{same-list-is}
 use Rattle.finding.specs.PlansHeld.{own-items, branches-in}
+use Rattle.meaning.specs.declared.Form.the-variants.{Flags}
 use Rattle.reading.specs.Planned.{items-of, bytes-of, bytes-in, bytes-under}
 use Rattle.comparing.proofs.SamePartLaws.{same-list-equal}
 use Rattle.comparing.specs.Coded.{coded, coded-item, coded-branches, Tellable, Tellable-item, Tellable-branches}
@@ -157,17 +158,17 @@ same-to-joined d p q t u v = rw (sym (coded-join p q), sym (own-join p q)) (same
 mutual
   unfolding coded bytes-of
 
-  pub coded-length : (b : Sequence ℕ) → length (coded b) ≡ bytes-of b
+  pub coded-length : (b : Sequence ℕ) → length (coded b) ≡ bytes-of Flags b
   coded-length done = refl
   coded-length (item i rest) =
       let one = item-length i in let more = coded-length rest in
       length-append (coded-item i) (coded rest) ∙ omega arith
 
-  pub item-length : (i : Item ℕ) → length (coded-item i) ≡ bytes-in i
+  pub item-length : (i : Item ℕ) → length (coded-item i) ≡ bytes-in Flags i
   item-length (act p a) = refl
   item-length (branching p bs) = let all = branches-length bs in omega arith
 
-  pub branches-length : (bs : Branches ℕ) → length (coded-branches bs) ≡ bytes-under bs
+  pub branches-length : (bs : Branches ℕ) → length (coded-branches bs) ≡ bytes-under Flags bs
   branches-length none = refl
   branches-length (branch c b rest) =
       let left : List ℕ = own-items b / 256 ∷ own-items b % 256 ∷ coded b in

@@ -9,6 +9,7 @@ use Rattle.meaning.specs.Tests.{both}
 use Rattle.meaning.specs.Requests.{Sequence, done, item, act, branching, Branches, branch}
 use Rattle.reading.specs.Listed.{bytes-from, listed}
 use Rattle.finding.specs.Branches.{sequence-place}
+use Rattle.meaning.specs.declared.Form.the-variants.{Flags}
 use Rattle.reading.specs.Planned.{bytes-of, bytes-under}
 use Rattle.finding.specs.PlansHeld.{own-items, branches-in}
 use Rattle.comparing.specs.Coded.{coded, coded-branches, Tellable, Tellable-branches}
@@ -41,25 +42,25 @@ module _ (s : List ℕ) where
 -- After an action.
 pub record Act-coded (s : List ℕ) (p a : ℕ) (rest : Sequence ℕ) : Type 0 where
   pub byte : getD s p 0 ≡ a
-  pub rest-there : bytes-from s (p + 1) (bytes-of rest) ≡ coded rest
+  pub rest-there : bytes-from s (p + 1) (bytes-of Flags rest) ≡ coded rest
 
 -- After a branching's byte and count, its branches; then the rest.
 pub record Branching-coded (s : List ℕ) (p : ℕ) (bs : Branches ℕ) (rest : Sequence ℕ) : Type 0 where
   pub byte : getD s p 0 ≡ 255
   pub count : getD s (p + 1) 0 ≡ branches-in bs
-  pub branches-there : bytes-from s (p + 2) (bytes-under bs) ≡ coded-branches bs
-  pub rest-there : bytes-from s (p + 2 + bytes-under bs) (bytes-of rest) ≡ coded rest
+  pub branches-there : bytes-from s (p + 2) (bytes-under Flags bs) ≡ coded-branches bs
+  pub rest-there : bytes-from s (p + 2 + bytes-under Flags bs) (bytes-of Flags rest) ≡ coded rest
 
 -- A branch, and the branches after it.
 pub record Branch-coded (s : List ℕ) (p : ℕ) (c : List ℕ) (b : Sequence ℕ) (more : Branches ℕ) : Type 0 where
   pub size : getD s p 0 ≡ length c
   pub condition : listed s p ≡ c
   pub count : getD s (sequence-place s p) 0 * 256 + getD s (sequence-place s p + 1) 0 ≡ own-items b
-  pub body : bytes-from s (sequence-place s p + 2) (bytes-of b) ≡ coded b
-  pub more-there : bytes-from s (p + (1 + length c) + (2 + bytes-of b)) (bytes-under more) ≡ coded-branches more
+  pub body : bytes-from s (sequence-place s p + 2) (bytes-of Flags b) ≡ coded b
+  pub more-there : bytes-from s (p + (1 + length c) + (2 + bytes-of Flags b)) (bytes-under Flags more) ≡ coded-branches more
 
 module _ (s : List ℕ) (p : ℕ) where
-  pub act-coded : (o a : ℕ) (rest : Sequence ℕ) → bytes-from s p (bytes-of (item (act o a) rest)) ≡ coded (item (act o a) rest) → Act-coded s p a rest
+  pub act-coded : (o a : ℕ) (rest : Sequence ℕ) → bytes-from s p (bytes-of Flags (item (act o a) rest)) ≡ coded (item (act o a) rest) → Act-coded s p a rest
   unfolding coded
   act-coded o a rest e =
       let all = subst (λ (k : ℕ). bytes-from s p k ≡ coded (item (act o a) rest)) (sym (coded-length (item (act o a) rest))) e in
@@ -68,7 +69,7 @@ module _ (s : List ℕ) (p : ℕ) where
         rest-there = subst (λ (k : ℕ). bytes-from s (p + 1) k ≡ coded rest) (coded-length rest) (other-bytes s p a (coded rest) all);
       }
 
-  pub branching-coded : (o : ℕ) (bs : Branches ℕ) (rest : Sequence ℕ) → bytes-from s p (bytes-of (item (branching o bs) rest)) ≡ coded (item (branching o bs) rest) → Branching-coded s p bs rest
+  pub branching-coded : (o : ℕ) (bs : Branches ℕ) (rest : Sequence ℕ) → bytes-from s p (bytes-of Flags (item (branching o bs) rest)) ≡ coded (item (branching o bs) rest) → Branching-coded s p bs rest
   unfolding coded
   branching-coded o bs rest e =
       let all = subst (λ (k : ℕ). bytes-from s p k ≡ coded (item (branching o bs) rest)) (sym (coded-length (item (branching o bs) rest))) e in
@@ -84,7 +85,7 @@ module _ (s : List ℕ) (p : ℕ) where
         rest-there = rw (sym (branches-length bs), sym (coded-length rest)) (both .then);
       }
 
-  pub branch-coded : (c : List ℕ) (b : Sequence ℕ) (more : Branches ℕ) → bytes-from s p (bytes-under (branch c b more)) ≡ coded-branches (branch c b more) → Branch-coded s p c b more
+  pub branch-coded : (c : List ℕ) (b : Sequence ℕ) (more : Branches ℕ) → bytes-from s p (bytes-under Flags (branch c b more)) ≡ coded-branches (branch c b more) → Branch-coded s p c b more
   unfolding coded-branches listed sequence-place
   branch-coded c b more e =
       let all = subst (λ (k : ℕ). bytes-from s p k ≡ coded-branches (branch c b more)) (sym (branches-length (branch c b more))) e in
@@ -102,7 +103,7 @@ module _ (s : List ℕ) (p : ℕ) where
       let begin : p + 1 + getD s p 0 + 1 + 1 ≡ p + 1 + getD s p 0 + 2 = omega arith in
       let sized = length-append (length c ∷ c) code in
       let bytes = coded-length b in
-      let end : p + length ((length c ∷ c) ++ code) ≡ p + (1 + length c) + (2 + bytes-of b) = omega arith in
+      let end : p + length ((length c ∷ c) ++ code) ≡ p + (1 + length c) + (2 + bytes-of Flags b) = omega arith in
       record {
         size = size;
         condition = rw size (other-bytes s p (length c) c (inner .first));
@@ -119,7 +120,7 @@ pub record Act-there (s : List ℕ) (p : ℕ) (b : Sequence ℕ) : Type 0 where
   pub own : own-items b ≡ suc (own-items rest)
   pub below : getD s p 0 < 255
   pub rest-told : Tellable rest
-  pub rest-there : bytes-from s (p + 1) (bytes-of rest) ≡ coded rest
+  pub rest-there : bytes-from s (p + 1) (bytes-of Flags rest) ≡ coded rest
 
 pub record Branching-there (s : List ℕ) (p : ℕ) (b : Sequence ℕ) : Type 0 where
   pub place : ℕ
@@ -132,7 +133,7 @@ pub record Branching-there (s : List ℕ) (p : ℕ) (b : Sequence ℕ) : Type 0 
   pub there : Branching-coded s p branches rest
 
 module _ (s : List ℕ) (p : ℕ) where
-  pub act-there : (b : Sequence ℕ) → 0 < own-items b → Tellable b → bytes-from s p (bytes-of b) ≡ coded b → (getD s p 0 ≡ 255 → ⊥) → Act-there s p b
+  pub act-there : (b : Sequence ℕ) → 0 < own-items b → Tellable b → bytes-from s p (bytes-of Flags b) ≡ coded b → (getD s p 0 ≡ 255 → ⊥) → Act-there s p b
   unfolding own-items Tellable
   act-there done h t e other = absurd (omega arith)
   act-there (item (act o a) rest) h t e other =
@@ -149,7 +150,7 @@ module _ (s : List ℕ) (p : ℕ) where
       }
   act-there (item (branching o bs) rest) h t e other = absurd (other (branching-coded s p o bs rest e .byte))
 
-  pub branching-there : (b : Sequence ℕ) → 0 < own-items b → Tellable b → bytes-from s p (bytes-of b) ≡ coded b → getD s p 0 ≡ 255 → Branching-there s p b
+  pub branching-there : (b : Sequence ℕ) → 0 < own-items b → Tellable b → bytes-from s p (bytes-of Flags b) ≡ coded b → getD s p 0 ≡ 255 → Branching-there s p b
   unfolding own-items Tellable
   branching-there done h t e is = absurd (omega arith)
   branching-there (item (act o a) rest) h t e is =

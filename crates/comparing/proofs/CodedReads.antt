@@ -8,6 +8,7 @@ use lib.ListN.{length, getD}
 use borrow.Author.Tests.{leb-false}
 use Rattle.meaning.specs.Limits.{format}
 use Rattle.meaning.specs.Requests.{Sequence, done, item, Item, act, branching, Branches, none, branch}
+use Rattle.meaning.specs.declared.Form.the-variants.{Flags}
 use Rattle.meaning.specs.Reading.{got, Met, plan-at}
 use Rattle.meaning.specs.Layouts
 use Rattle.meaning.specs.Layouts.{Bytes, list-written, number-written, items-in, items-written, item-written, branches-written, plan-written}
@@ -81,21 +82,21 @@ module _ (n m : ℕ) (s : List ℕ) (bytes : Bytes s) (few : m ≤ format .actio
 
 -- THE PLAN, its count at p and the place after it.
 pub record Plan-coded (s : List ℕ) (p : ℕ) (b : Sequence ℕ) (e : ℕ) : Type 0 where
-  pub after : e ≡ p + 2 + bytes-of b
-  pub bytes : bytes-from s (p + 2) (bytes-of b) ≡ coded b
-  pub size : length (coded b) ≡ bytes-of b
+  pub after : e ≡ p + 2 + bytes-of Flags b
+  pub bytes : bytes-from s (p + 2) (bytes-of Flags b) ≡ coded b
+  pub size : length (coded b) ≡ bytes-of Flags b
   pub count : getD s p 0 * 256 + getD s (p + 1) 0 ≡ own-items b
   pub there : p + 1 < length s
   pub inside : e ≤ length s
   pub tellable : Tellable b
   pub few : own-items b ≤ format .items
 
-pub plan-coded : (n m : ℕ) (s : List ℕ) → ((i : ℕ) → getD s i 0 < 256) → m ≤ format .actions → (p : ℕ) (x : Met (Sequence ℕ)) (e : ℕ) → plan-at format n m s p ≡ got x e → Plan-coded s p (x .value) e
+pub plan-coded : (n m : ℕ) (s : List ℕ) → ((i : ℕ) → getD s i 0 < 256) → m ≤ format .actions → (p : ℕ) (x : Met (Sequence ℕ)) (e : ℕ) → plan-at format Flags n m s p ≡ got x e → Plan-coded s p (x .value) e
 unfolding plan-at plan-written number-written
 plan-coded n m s small few p x e read =
     let st = plan-copied format n m s small p .holds x e read .there in
     let high = st .1 in let low = st .2 .1 in let same = items-same (x .value) in
-    let sizes = sequence-read n m s 8 p 0 (omega arith) .holds x e read in
+    let sizes = sequence-read Flags n m s 8 p 0 (omega arith) .holds x e read in
     let counted = sizes .counted in let most = sizes .most in let own = own-most (x .value) in
     let end = sizes .through .after in
     let next : p + 1 + 1 ≡ p + 2 = omega arith in

@@ -13,6 +13,7 @@ use Rattle.meaning.specs.declared.Layout.{Layout}
 use Rattle.meaning.specs.declared.Layout.the-variants.{Plain, Closing}
 use Rattle.meaning.specs.Limits.{format, all-literals}
 use Rattle.meaning.specs.Requests.{Sequence}
+use Rattle.meaning.specs.declared.Form.the-variants.{Flags}
 use Rattle.meaning.specs.Reading.{got, next, Met, literals, byte-at, two-bytes-at, count-at, below-at, bound-of, list-at, repeated, section-at, plan-at}
 use Rattle.meaning.specs.Refusals.{nowhere}
 use Rattle.meaning.specs.Derivations.{Conclusion, Line, Derivation, Concluded, concludes-fluent, list-concluded, fluent-concluded, conclusion-at, concluded-at, closing-at, line-at, read-derivation, overlap-in-lines}
@@ -138,7 +139,7 @@ module _ (n m : ℕ) (d : List ℕ) where
     X : List-stands d p (l .X)
     pub plan : Met (Sequence ℕ)
     pub end : ℕ
-    pub reads : plan-at format n m d (after-list d p) ≡ got plan end
+    pub reads : plan-at format Flags n m d (after-list d p) ≡ got plan end
     pub is : plan .value ≡ l .c
 
   -- The rest goes by the layout.
@@ -152,7 +153,7 @@ module _ (n m : ℕ) (d : List ℕ) where
   unfolding line-at
   line-read few layout p l here =
       after-got (list-at literals n (format .listed) d p) _ (here .reads) λ X q first is1.
-      after-got (plan-at format n m d q) _ is1 λ plan r reads is2.
+      after-got (plan-at format Flags n m d q) _ is1 λ plan r reads is2.
       after-got (concluded-at format n d layout r) _ is2 λ end t second is3.
       after-got (count-at 0 (format .citations) d t) _ is3 λ k u count is4.
       after-got (repeated (two-bytes-at d) k u) _ is4 λ cites i numbers is5.
@@ -163,7 +164,7 @@ module _ (n m : ℕ) (d : List ℕ) where
           X = list-stands few p X q first;
           plan = plan;
           end = r;
-          reads = subst (λ (j : ℕ). plan-at format n m d j ≡ got plan r) (list-after few p X q first) reads;
+          reads = subst (λ (j : ℕ). plan-at format Flags n m d j ≡ got plan r) (list-after few p X q first) reads;
           is = refl;
         };
         after = t;
@@ -179,14 +180,14 @@ module _ (n m : ℕ) (d : List ℕ) where
   unfolding plan-end after-list
   line-ends p l w =
       let after = plan-ends n m d (after-list d p) (w .plan) (w .end) (w .reads) .0 in
-      let bytes : bytes-of (w .plan .value) ≡ bytes-of (l .c) = ap bytes-of (w .is) in
+      let bytes : bytes-of Flags (w .plan .value) ≡ bytes-of Flags (l .c) = ap (bytes-of Flags) (w .is) in
       let size = list-size p (l .X) (w .X) in
       let place = w .place in
       omega arith
 
   -- A LINE, where every byte is one.
   module _ (small : (i : ℕ) → getD d i 0 < 256) (few : n ≤ format .fluents) (less : m ≤ format .actions) where
-    pub plan-stands : (q : ℕ) (x : Met (Sequence ℕ)) (e : ℕ) → plan-at format n m d q ≡ got x e → Plan-stands d q e (x .value)
+    pub plan-stands : (q : ℕ) (x : Met (Sequence ℕ)) (e : ℕ) → plan-at format Flags n m d q ≡ got x e → Plan-stands d q e (x .value)
     plan-stands q x e reads =
         let w = plan-coded n m d small less q x e reads in
         record {

@@ -11,6 +11,7 @@ use Rattle.meaning.specs.Requests.{Sequence}
 use Rattle.meaning.specs.Derivations.{same-list, same-plan, join}
 use Rattle.meaning.proofs.TestLaws.{by-test}
 use Rattle.reading.specs.Listed.{bytes-from}
+use Rattle.meaning.specs.declared.Form.the-variants.{Flags}
 use Rattle.reading.specs.Planned.{bytes-of}
 use Rattle.finding.specs.PlansHeld.{own-items}
 use Rattle.comparing.specs.Coded.{coded}
@@ -23,13 +24,13 @@ use Rattle.comparing.proofs.SamePartLaws.{part-bytes}
 pub plan-part : (d : List ℕ) (q e : ℕ) (c : Sequence ℕ) → Plan-stands d q e c → take (e - (q + 2)) (drop (q + 2) d) ≡ coded c
 plan-part d q e c w =
     let ends = w .ends in
-    let size : e - (q + 2) ≡ bytes-of c = omega (arith, ends) in
+    let size : e - (q + 2) ≡ bytes-of Flags c = omega (arith, ends) in
     part-bytes d (q + 2) e (omega (arith, ends)) (w .inside) ∙ ap (bytes-from d (q + 2)) size ∙ w .bytes
 
 pub items-part : (d : List ℕ) (a b count : ℕ) (c : Sequence ℕ) → Items-stand d a b count c → take (b - a) (drop a d) ≡ coded c
 items-part d a b count c w =
     let ends = w .ends in
-    let size : b - a ≡ bytes-of c = omega (arith, ends) in
+    let size : b - a ≡ bytes-of Flags c = omega (arith, ends) in
     part-bytes d a b (omega (arith, ends)) (w .inside) ∙ ap (bytes-from d a) size ∙ w .bytes
 
 -- TWO PLANS, with their counts.

@@ -12,6 +12,7 @@ use Rattle.meaning.specs.Tests.{each-of}
 use Rattle.meaning.specs.Limits.{format}
 use Rattle.meaning.specs.Derivations.{Conclusion, Line, same-plan, join, same-conclusion, cited-by}
 use Rattle.reading.specs.Listed.{bytes-from}
+use Rattle.meaning.specs.declared.Form.the-variants.{Flags}
 use Rattle.reading.specs.Planned.{bytes-of}
 use Rattle.finding.specs.PlansHeld.{own-items}
 use Rattle.deriving.specs.Derived.{Line-here}
@@ -29,10 +30,10 @@ pub record Some-plan (d : List ℕ) (q e : ℕ) : Type 0 where
 pub record Items-stand (d : List ℕ) (a b count : ℕ) (c : Sequence ℕ) : Type 0 where
   pub counted : count ≡ own-items c
   pub few : count ≤ format .lines
-  pub ends : a + bytes-of c ≡ b
+  pub ends : a + bytes-of Flags c ≡ b
   pub inside : b ≤ length d
-  pub sized : length (coded c) ≡ bytes-of c
-  pub bytes : bytes-from d a (bytes-of c) ≡ coded c
+  pub sized : length (coded c) ≡ bytes-of Flags c
+  pub bytes : bytes-from d a (bytes-of Flags c) ≡ coded c
   pub tellable : Tellable c
 
 pub record Some-items (d : List ℕ) (a b count : ℕ) : Type 0 where

@@ -14,6 +14,7 @@ use Rattle.meaning.specs.Reading.{got}
 use Rattle.meaning.specs.Refusals.{nowhere}
 use Rattle.meaning.specs.Derivations.{Conclusion, knows, knows-whether, Line, Derivation, concludes-fluent, read-derivation, overlap-in-lines}
 use Rattle.reading.specs.Listed.{bytes-from, listed, List-here}
+use Rattle.meaning.specs.declared.Form.the-variants.{Flags}
 use Rattle.reading.specs.Planned.{bytes-of}
 use Rattle.finding.specs.PlansHeld.{own-items}
 use Rattle.deriving.specs.DerivationRead.{settled-derivation, plan-ends-slot, lines-end}
@@ -36,10 +37,10 @@ pub record Plan-stands (d : List ℕ) (q e : ℕ) (c : Sequence ℕ) : Type 0 wh
   pub counted : q + 1 < length d
   pub count : getD d q 0 * 256 + getD d (q + 1) 0 ≡ own-items c
   pub few : own-items c ≤ format .items
-  pub ends : q + 2 + bytes-of c ≡ e
+  pub ends : q + 2 + bytes-of Flags c ≡ e
   pub inside : e ≤ length d
-  pub sized : length (coded c) ≡ bytes-of c
-  pub bytes : bytes-from d (q + 2) (bytes-of c) ≡ coded c
+  pub sized : length (coded c) ≡ bytes-of Flags c
+  pub bytes : bytes-from d (q + 2) (bytes-of Flags c) ≡ coded c
   pub tellable : Tellable c
 
 -- Two-byte numbers from p on.

@@ -8,6 +8,7 @@ use lib.ListN.{length, length-append, getD, List·getD-append}
 use borrow.Author.Tests.{ltb-false}
 use Rattle.meaning.specs.Limits.{Limits}
 use Rattle.meaning.specs.Requests.{Table, Request}
+use Rattle.meaning.specs.declared.Form.the-variants.{Flags}
 use Rattle.meaning.specs.Reading.{Got, got, fluents, literals, list-at, plan-at, table-at, placed, request-at, read-request}
 use Rattle.meaning.specs.Layouts.{list-written}
 use Rattle.demands.specs.Reuse.{Parts, before-plan, bytes-of, Cut-so, asking}
@@ -65,7 +66,7 @@ module _ (lim : Limits) (x : Parts) (c : Cut-so lim x) where
 
   pub cut-counts : (c .table .fluents ≡ x .fluents) × (c .table .actions ≡ x .actions)
   cut-counts =
-      let so = table-so lim x (c .table) (length (before-plan x)) (ap (λ (s : List ℕ). table-at lim s 0) (sym (bytes-split x)) ∙ c .table-read) in
+      let so = table-so lim x (c .table) (length (before-plan x)) (ap (λ (s : List ℕ). table-at lim Flags s 0) (sym (bytes-split x)) ∙ c .table-read) in
       let counts = lines-counts lim (x .fluents) (x .actions) _ 0 (so .0) (so .1) (so .2) in
       (ap (λ (t : Table). t .fluents) (so .3) ∙ counts .0, ap (λ (t : Table). t .actions) (so .3) ∙ counts .1)
 
@@ -84,16 +85,16 @@ module _ (lim : Limits) (x : Parts) (c : Cut-so lim x) where
     pub whether-read : list-at fluents (c .table .fluents) (lim .listed) (bytes-of x) whether-start ≡ got (x .whether) (length (bytes-of x))
     pub is : r ≡ the-request
 
-  pub cut-read : (r : Request) (e : ℕ) → read-request lim (bytes-of x) ≡ got r e → Cut-read r e
+  pub cut-read : (r : Request) (e : ℕ) → read-request lim Flags (bytes-of x) ≡ got r e → Cut-read r e
   unfolding read-request request-at bytes-of
   cut-read r e read =
       let s = bytes-of x in
       let counts = cut-counts in
       let short = not-refused _ _ _ _ read in
-      let behind = sym (next-is (table-at lim s 0) _ _ _ (c .table-read)) ∙ short .1 in
-      after-got (request-at lim s (c .table) (length (before-plan x))) _ behind λ q i eq last.
-      let plan-there : plan-at lim (c .table .fluents) (c .table .actions) s (length (before-plan x)) ≡ got (c .plan) goals-start =
-      ap₂ (λ (n m : ℕ). plan-at lim n m s (length (before-plan x))) (counts .0) (counts .1) ∙ c .plan-read in
+      let behind = sym (next-is (table-at lim Flags s 0) _ _ _ (c .table-read)) ∙ short .1 in
+      after-got (request-at lim Flags s (c .table) (length (before-plan x))) _ behind λ q i eq last.
+      let plan-there : plan-at lim Flags (c .table .fluents) (c .table .actions) s (length (before-plan x)) ≡ got (c .plan) goals-start =
+      ap₂ (λ (n m : ℕ). plan-at lim Flags n m s (length (before-plan x))) (counts .0) (counts .1) ∙ c .plan-read in
       let lists = sym (next-is _ _ _ _ plan-there) ∙ eq in
       after-got (list-at literals (c .table .fluents) (lim .listed) s goals-start) _ lists λ gs j eg rest.
       after-got (list-at fluents (c .table .fluents) (lim .listed) s j) _ rest λ ws k ew same.
@@ -131,7 +132,7 @@ module _ (lim : Limits) (x : Parts) (c : Cut-so lim x) (goals whether : List ℕ
       let same : (p : ℕ) → p < far → getD u p 0 ≡ getD s p 0 = first-two (before-plan x) (x .plan) lists former in
       record {
         table = c .table;
-        table-read = kept-of s u far room same 0 (table-at lim s 0) (table-at lim u 0) (table-kept s u far room same lim 0) (c .table) (length (before-plan x)) (c .table-read) .2 (omega arith);
+        table-read = kept-of s u far room same 0 (table-at lim Flags s 0) (table-at lim Flags u 0) (table-kept s u far room same lim 0) (c .table) (length (before-plan x)) (c .table-read) .2 (omega arith);
         plan = c .plan;
         plan-read = kept-of s u far room same (length (before-plan x)) _ _ (plan-kept s u far room same lim (x .fluents) (x .actions) (length (before-plan x))) (c .plan) far (c .plan-read) .2 (omega arith);
       }

@@ -1,4 +1,4 @@
--- The demands (FORMAT section 11, 17.38 to 17.41, 21.22 to 21.25, 22.17 to 22.22, 23.22 to 23.26, 24.24 to 24.28 and 25.21 to 25.25), each by citing where its argument stands. Read this file first. Assumes nothing.
+-- The demands (FORMAT section 11, 17.38 to 17.41, 21.22 to 21.25, 22.17 to 22.22, 23.22 to 23.26, 24.24 to 24.28, 25.21 to 25.25, 26.28 and 26.31 to 26.34), each by citing where its argument stands. Read this file first. Assumes nothing.
 use Prim.Native.Nat.{ℕ, _-_, _≤_, _<_}
 use native.Mathlib.Omega.{arith}
 use mathlib.Core.Path.{_≡_, refl, sym, _∙_, ap}
@@ -157,6 +157,18 @@ pub use Rattle.demands.proofs.GuideAnswers.{wrong-number-exactly, again
 -- it and so in every possible world.
 pub use Rattle.demands.proofs.GuideSound.{guided}
 pub use Rattle.demands.proofs.GuideReadings.{some-truthful}
+-- THE VALUES CALL. Demand 1 (FORMAT 26.32): its number is one of its own; input, place, count and state are what the number says (26.14).
+pub use Rattle.demands.proofs.ValueAnswers.{values-numbered, values-input, values-place, values-place-limited, values-count, values-state}
+-- Demand 2 (FORMAT 26.33): the answer is what the list of paths says; 3 where the count is above the budget, and else 2 where some path stops, 0 where none does and nothing is missed, and
+-- 1 otherwise.
+pub use Rattle.demands.proofs.ValuesExact.{in-values-order, values-spent-exactly, values-stuck-exactly, values-fine-exactly, values-missed-exactly, values-missed-otherwise}
+-- Demand 3 (FORMAT 26.34): where it is verified, it is carried out in every world that gives each fluent one of its values and has the initial facts, of which there are some; and 16 keeps
+-- moves single-valued.
+pub use Rattle.demands.proofs.ValuesSound.{values-sound, values-move-single}
+pub use Rattle.demands.proofs.ValueReads.{values-least, settled-some-world}
+-- Where every fluent has two values, it answers a request as the walk call answers one that matches it (FORMAT 26.28); and each such request that was read has a match (26.27).
+pub use Rattle.demands.proofs.Matched.{matched-alike}
+pub use Rattle.demands.proofs.MatchedReads.{match-there}
 
 -- Demand 1 (FORMAT 11.1): every input gets one of the numbered answers.
 pub numbered : (lim : Limits) (request lent : List ℕ) (budget : ℕ) → among (judge lim request lent budget .answer .number) answers ≡ true

@@ -8,6 +8,7 @@ use mathlib.Core.List.{List}
 use borrow.Author.Tests.{leb-false}
 use Rattle.meaning.specs.Limits.{Limits}
 use Rattle.meaning.specs.Requests.{Sequence, done, item, Item, act, branching, Branches, none, branch, Request}
+use Rattle.meaning.specs.declared.Form.the-variants.{Flags}
 use Rattle.meaning.specs.Reading.{got, Met, plan-at, read-request, request-at, table-at, list-at, literals, fluents}
 use Rattle.meaning.specs.States.{Outcome, single, fork}
 use Rattle.meaning.specs.Walk.{Step, leads-to, refuses, Steps}
@@ -97,16 +98,16 @@ module _ (lim : Limits) (n m : ℕ) (s : List ℕ) where
         record { own-met = omega arith; most = w .most };
   }
 
-  plan-few : (p : ℕ) (x : Met (Sequence ℕ)) (e : ℕ) → plan-at lim n m s p ≡ got x e → most-items (x .value) ≤ lim .items
+  plan-few : (p : ℕ) (x : Met (Sequence ℕ)) (e : ℕ) → plan-at lim Flags n m s p ≡ got x e → most-items (x .value) ≤ lim .items
   plan-few p x e reads = let w = plan-on lim n m s few-items few-passed p .holds x e reads (omega arith) in let f = w .own-met in let g = w .most in omega arith
 
 -- The plan of a request that was read.
-pub read-few : (lim : Limits) (b : List ℕ) (r : Request) (e : ℕ) → read-request lim b ≡ got r e → most-items (r .plan) ≤ lim .items
+pub read-few : (lim : Limits) (b : List ℕ) (r : Request) (e : ℕ) → read-request lim Flags b ≡ got r e → most-items (r .plan) ≤ lim .items
 unfolding read-request request-at
 read-few lim b r e reads =
-    after-got (table-at lim b 0) _ (not-refused _ _ _ _ reads .1) λ t p₁ _ e₁.
-    after-got (request-at lim b t p₁) _ e₁ λ q p₂ eq e₂.
-    after-got (plan-at lim (t .fluents) (t .actions) b p₁) _ eq λ plan p₃ ep e₃.
+    after-got (table-at lim Flags b 0) _ (not-refused _ _ _ _ reads .1) λ t p₁ _ e₁.
+    after-got (request-at lim Flags b t p₁) _ e₁ λ q p₂ eq e₂.
+    after-got (plan-at lim Flags (t .fluents) (t .actions) b p₁) _ eq λ plan p₃ ep e₃.
     after-got (list-at literals (t .fluents) (lim .listed) b p₃) _ e₃ λ goals p₄ _ e₄.
     after-got (list-at fluents (t .fluents) (lim .listed) b p₄) _ e₄ λ whether p₅ _ same.
     subst (λ (x : Request). most-items (x .plan) ≤ lim .items) (got-same same ∙ got-same (not-refused _ _ _ _ e₂ .1)) (plan-few lim (t .fluents) (t .actions) b p₁ plan p₃ ep)
@@ -141,6 +142,6 @@ module _ {S L : Type 0} (step : Steps S L) where
   walks-by-items p s = let h = deep-within 0 1 step items-left walks-kept p 0 (λ _. 0) (λ _. omega arith) s in omega arith
 
 -- Of a request that was read, from whatever state: at most one more than its items may be.
-pub few-walks : {S : Type 0} (step : Steps S ℕ) (lim : Limits) (b : List ℕ) (r : Request) (e : ℕ) → read-request lim b ≡ got r e
+pub few-walks : {S : Type 0} (step : Steps S ℕ) (lim : Limits) (b : List ℕ) (r : Request) (e : ℕ) → read-request lim Flags b ≡ got r e
     → (s : S) → walks-deep step (r .plan) s ≤ lim .items + 1
 few-walks step lim b r e reads s = let f = walks-by-items step (r .plan) s in let g = read-few lim b r e reads in omega arith

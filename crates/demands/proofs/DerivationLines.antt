@@ -12,6 +12,7 @@ use Rattle.meaning.specs.Tests.{pick, some-of}
 use Rattle.meaning.specs.Limits
 use Rattle.meaning.specs.Limits.{Limits}
 use Rattle.meaning.specs.Requests.{Table, Sequence, done, item, Item, act, branching, Branches, none, branch, Entry, Request, values, unplaced, unplaced-item, unplaced-branches}
+use Rattle.meaning.specs.declared.Form.the-variants.{Flags}
 use Rattle.meaning.specs.Reading.{Got, got, fault, next, read-request}
 use Rattle.meaning.specs.Refusals.{Found, nowhere, at, overlap-in, refuse, settled}
 use Rattle.meaning.specs.States.{State, state-after, unknown-sensed}
@@ -194,7 +195,7 @@ module _ (lim : Limits) (layout : Layout) (d : List ℕ) where
         go true false p x y z = clash refl p
         go false true p x y z = clash refl (sym p)
 
-    settled-alike : (b c : List ℕ) → read-request lim b ≡ got r e → read-request lim c ≡ got q f → Alike (settled lim b) (settled lim c)
+    settled-alike : (b c : List ℕ) → read-request lim Flags b ≡ got r e → read-request lim Flags c ≡ got q f → Alike (settled lim b) (settled lim c)
     unfolding settled next
     settled-alike b c rb rc =
         let tables = same .but-lines .tables in
@@ -205,7 +206,7 @@ module _ (lim : Limits) (layout : Layout) (d : List ℕ) where
 
 -- Lines said twice, or elsewhere among their like, change no answer of the two calls but a place in the request (FORMAT 2.36).
 pub lines-are-a-set-for-derivations : (lim : Limits) (layout : Layout) (b c d : List ℕ) (r q : Request) (e f : ℕ)
-    → read-request lim b ≡ got r e → read-request lim c ≡ got q f → Same-for-derivations r q
+    → read-request lim Flags b ≡ got r e → read-request lim Flags c ≡ got q f → Same-for-derivations r q
     → Same-answer (check lim layout b d) (check lim layout c d)
 unfolding check
 lines-are-a-set-for-derivations lim layout b c d r q e f rb rc same = settled-alike lim layout d r q e f same b c rb rc

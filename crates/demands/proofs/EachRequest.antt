@@ -8,6 +8,7 @@ use lib.ListN.{length, getD}
 use borrow.Author.Tests.{ltb-false}
 use Rattle.meaning.specs.Limits.{Limits}
 use Rattle.meaning.specs.Requests.{Table, Sequence, Request}
+use Rattle.meaning.specs.declared.Form.the-variants.{Flags}
 use Rattle.meaning.specs.Reading.{got, literals, fluents, count-at, list-at, Met, plan-at, table-at, request-at, read-request}
 use Rattle.meaning.specs.Layouts.{list-written}
 use Rattle.demands.specs.Reuse.{Parts, before-plan, bytes-of, Cut-so}
@@ -40,7 +41,7 @@ between-stands s p q up inside =
 
 module _ (lim : Limits) (s : List ℕ) where
   -- A reader goes on, and stays within the input.
-  plan-within : (n m p : ℕ) (x : Met (Sequence ℕ)) (e : ℕ) → plan-at lim n m s p ≡ got x e → (p ≤ e) × (p ≤ length s → e ≤ length s)
+  plan-within : (n m p : ℕ) (x : Met (Sequence ℕ)) (e : ℕ) → plan-at lim Flags n m s p ≡ got x e → (p ≤ e) × (p ≤ length s → e ≤ length s)
   plan-within n m p x e read =
       let kept = kept-of s s 0 (omega arith) (λ i less. refl) p _ _ (plan-kept s s 0 (omega arith) (λ i less. refl) lim n m p) x e read in
       (kept .0, kept .1)
@@ -53,7 +54,7 @@ module _ (lim : Limits) (s : List ℕ) where
   -- Parts put together.
   module _ (n m p₁ p₂ p₃ p p₄ p₅ p₆ : ℕ) (facts goals whether : List ℕ) (first : Stands s 0 (n ∷ []) p₁) (second : Stands s p₁ (m ∷ []) p₂) (third : Stands s p₂ (list-written facts) p₃)
       (lines-on : p₃ ≤ p) (plan-on : p ≤ p₄) (inside : p₄ ≤ length s) (asked : Stands s p₄ (list-written goals) p₅) (asked-too : Stands s p₅ (list-written whether) p₆) (last : p₆ ≡ length s)
-      (t : Table) (table : table-at lim s 0 ≡ got t p) (plan : Met (Sequence ℕ)) (plan-there : plan-at lim n m s p ≡ got plan p₄) where
+      (t : Table) (table : table-at lim Flags s 0 ≡ got t p) (plan : Met (Sequence ℕ)) (plan-there : plan-at lim Flags n m s p ≡ got plan p₄) where
     abbrev x : Parts
     x = record { fluents = n; actions = m; facts = facts; lines = between s p₃ p; plan = between s p p₄; goals = goals; whether = whether }
 
@@ -83,22 +84,22 @@ module _ (lim : Limits) (s : List ℕ) where
           whole,
           record {
             table = t;
-            table-read = ap (λ (b : List ℕ). table-at lim b 0) whole ∙ table ∙ ap (λ (k : ℕ). got t k) start;
+            table-read = ap (λ (b : List ℕ). table-at lim Flags b 0) whole ∙ table ∙ ap (λ (k : ℕ). got t k) start;
             plan = plan;
-            plan-read = ap₂ (λ (b : List ℕ) (k : ℕ). plan-at lim n m b k) whole (sym start) ∙ plan-there ∙ ap (λ (k : ℕ). got plan k) end;
+            plan-read = ap₂ (λ (b : List ℕ) (k : ℕ). plan-at lim Flags n m b k) whole (sym start) ∙ plan-there ∙ ap (λ (k : ℕ). got plan k) end;
           },
         )
 
-  pub each-request : (r : Request) (e : ℕ) → read-request lim s ≡ got r e → (x : Parts) × (bytes-of x ≡ s) × Cut-so lim x
+  pub each-request : (r : Request) (e : ℕ) → read-request lim Flags s ≡ got r e → (x : Parts) × (bytes-of x ≡ s) × Cut-so lim x
   unfolding read-request request-at table-at
   each-request r e read =
       let short = not-refused _ _ _ _ read in
-      after-got (table-at lim s 0) _ (short .1) λ t p et e₁.
-      after-got (request-at lim s t p) _ e₁ λ q i eq last.
+      after-got (table-at lim Flags s 0) _ (short .1) λ t p et e₁.
+      after-got (request-at lim Flags s t p) _ e₁ λ q i eq last.
       after-got (count-at 1 (lim .fluents) s 0) _ et λ n p₁ en f₁.
       after-got (count-at 1 (lim .actions) s p₁) _ f₁ λ m p₂ em f₂.
       after-got (list-at literals n (lim .listed) s p₂) _ f₂ λ facts p₃ ef f₃.
-      after-got (plan-at lim (t .fluents) (t .actions) s p) _ eq λ plan p₄ ep g₁.
+      after-got (plan-at lim Flags (t .fluents) (t .actions) s p) _ eq λ plan p₄ ep g₁.
       after-got (list-at literals (t .fluents) (lim .listed) s p₄) _ g₁ λ goals p₅ eg g₂.
       after-got (list-at fluents (t .fluents) (lim .listed) s p₅) _ g₂ λ whether p₆ ew same.
       let first = count-copied s 1 (lim .fluents) 0 .holds n p₁ en .there in
@@ -121,4 +122,4 @@ module _ (lim : Limits) (s : List ℕ) where
       let few : t .fluents ≡ n = ap (λ (u : Table). u .fluents) (behind .2) ∙ counts .0 in
       let many : t .actions ≡ m = ap (λ (u : Table). u .actions) (behind .2) ∙ counts .1 in
       put-together n m p₁ p₂ p₃ p p₄ p₅ p₆ facts goals whether first second third (lines .0) (goes .0) in-four fifth sixth end t et plan
-      (ap₂ (λ (a b : ℕ). plan-at lim a b s p) (sym few) (sym many) ∙ ep)
+      (ap₂ (λ (a b : ℕ). plan-at lim Flags a b s p) (sym few) (sym many) ∙ ep)

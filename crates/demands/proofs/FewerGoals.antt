@@ -10,6 +10,7 @@ use Rattle.meaning.specs.Tests.{those-of, Has}
 use Rattle.meaning.specs.Limits
 use Rattle.meaning.specs.Limits.{Limits}
 use Rattle.meaning.specs.Requests.{Table, Request, values}
+use Rattle.meaning.specs.declared.Form.the-variants.{Flags}
 use Rattle.meaning.specs.Reading.{got, fluents, literals, plan-at, request-at}
 use Rattle.meaning.specs.Refusals.{nowhere, contradiction-in, mixed-in, overlap-in, settled}
 use Rattle.meaning.specs.States.{State, first-state}
@@ -38,7 +39,7 @@ use Rattle.meaning.proofs.ListReads.{In-order, list-in-order, kept-in-order, li
 module _ (lim : Limits) (y : Parts) (d : Cut-so lim y) (short : length (bytes-of y) ≤ lim .request)
     (goals-ascend : In-order literals (d .table .fluents) 0 (y .goals)) (goals-few : length (y .goals) ≤ lim .listed)
     (whether-ascend : In-order fluents (d .table .fluents) 0 (y .whether)) (whether-few : length (y .whether) ≤ lim .listed) where
-  lists-read : request-at lim (bytes-of y) (d .table) (length (before-plan y)) ≡ got (the-request lim y d) (length (bytes-of y))
+  lists-read : request-at lim Flags (bytes-of y) (d .table) (length (before-plan y)) ≡ got (the-request lim y d) (length (bytes-of y))
   unfolding request-at bytes-of
   lists-read =
       let u = bytes-of y in
@@ -48,7 +49,7 @@ module _ (lim : Limits) (y : Parts) (d : Cut-so lim y) (short : length (bytes-of
       (third-stands (before-plan y) (y .plan) (list-written (y .goals)) (list-written (y .whether))) in
       let whether = list-read fluents n (lim .listed) u (y .whether) (whether-start lim y d) (length u) whether-ascend whether-few
       (fourth-stands (before-plan y) (y .plan) (list-written (y .goals)) (list-written (y .whether))) in
-      next-is _ _ _ _ (ap₂ (λ (k m : ℕ). plan-at lim k m u (length (before-plan y))) (counts .0) (counts .1) ∙ d .plan-read) ∙ next-is _ _ _ _ goals ∙ next-is _ _ _ _ whether
+      next-is _ _ _ _ (ap₂ (λ (k m : ℕ). plan-at lim Flags k m u (length (before-plan y))) (counts .0) (counts .1) ∙ d .plan-read) ∙ next-is _ _ _ _ goals ∙ next-is _ _ _ _ whether
 
   cut-settled : contradiction-in (d .table) ≡ nowhere → mixed-in (d .table .effects) (d .table .knowledge) ≡ nowhere → overlap-in (d .plan .value) ≡ nowhere
       → settled lim (bytes-of y) ≡ got (the-request lim y d) (length (bytes-of y))

@@ -11,6 +11,7 @@ use Rattle.meaning.specs.Tests.{pick}
 use Rattle.meaning.specs.Limits
 use Rattle.meaning.specs.Limits.{Limits}
 use Rattle.meaning.specs.Requests.{Table, Request}
+use Rattle.meaning.specs.declared.Form.the-variants.{Flags}
 use Rattle.meaning.specs.Reading.{Got, got, fault, next, literals, list-at, placed, table-at, request-at, read-request}
 use Rattle.meaning.specs.Refusals.{Found, nowhere, at, refuse, past-refusals, contradiction-in, mixed-in, overlap-in, settled}
 use Rattle.meaning.specs.States.{first-state}
@@ -67,31 +68,31 @@ module _ (lim : Limits) (b : List ℕ) (short : length b < lim .request) where
       next-is (list-at literals (t .fluents) Limits.most-guards u q) _ [] (q + 1) (rw there (no-guards (t .fluents)))
       ∙ pick-false _ _ _ (le-ltb (q + 1) (length u) (omega (arith, there, long)))
 
-  request-empty : (t : Table) (p : ℕ) → p ≤ length b → (x : Got Request) → request-at lim b t p ≡ x
-      → Empty (next x λ r e. pick (ltb e (length b)) (λ _. fault Limits.bytes-after e) (λ _. got r e)) (next (request-at lim u t p) λ r q. ninth t r q)
+  request-empty : (t : Table) (p : ℕ) → p ≤ length b → (x : Got Request) → request-at lim Flags b t p ≡ x
+      → Empty (next x λ r e. pick (ltb e (length b)) (λ _. fault Limits.bytes-after e) (λ _. got r e)) (next (request-at lim Flags u t p) λ r q. ninth t r q)
   unfolding next
   request-empty t p inside (got r q) read =
-      let kept = kept-of b u (length b) room same p (request-at lim b t p) (request-at lim u t p) (request-kept b u (length b) room same lim t p) r q read in
+      let kept = kept-of b u (length b) room same p (request-at lim Flags b t p) (request-at lim Flags u t p) (request-kept b u (length b) room same lim t p) r q read in
       rw (kept .2 (kept .1 inside)) (ends-empty t r q (kept .1 inside))
   request-empty t p inside (fault n i) read = λ not-11 not-20.
-      let kept = kept-fault b u (length b) room same p (request-at lim b t p) (request-at lim u t p) (request-kept b u (length b) room same lim t p) n i read in
+      let kept = kept-fault b u (length b) room same p (request-at lim Flags b t p) (request-at lim Flags u t p) (request-kept b u (length b) room same lim t p) n i read in
       rw (kept inside (omega arith) not-11)
 
-  table-empty : (x : Got Table) → table-at lim b 0 ≡ x
-      → Empty (next x λ t p. next (request-at lim b t p) λ r e. pick (ltb e (length b)) (λ _. fault Limits.bytes-after e) (λ _. got r e)) (next (table-at lim u 0) λ t p. next (request-at lim u t p) λ r q. ninth t r q)
+  table-empty : (x : Got Table) → table-at lim Flags b 0 ≡ x
+      → Empty (next x λ t p. next (request-at lim Flags b t p) λ r e. pick (ltb e (length b)) (λ _. fault Limits.bytes-after e) (λ _. got r e)) (next (table-at lim Flags u 0) λ t p. next (request-at lim Flags u t p) λ r q. ninth t r q)
   unfolding next
   table-empty (got t p) read =
-      let kept = kept-of b u (length b) room same 0 (table-at lim b 0) (table-at lim u 0) (table-kept b u (length b) room same lim 0) t p read in
-      rw (kept .2 (kept .1 (omega arith))) (request-empty t p (kept .1 (omega arith)) (request-at lim b t p) refl)
+      let kept = kept-of b u (length b) room same 0 (table-at lim Flags b 0) (table-at lim Flags u 0) (table-kept b u (length b) room same lim 0) t p read in
+      rw (kept .2 (kept .1 (omega arith))) (request-empty t p (kept .1 (omega arith)) (request-at lim Flags b t p) refl)
   table-empty (fault n i) read = λ not-11 not-20.
-      let kept = kept-fault b u (length b) room same 0 (table-at lim b 0) (table-at lim u 0) (table-kept b u (length b) room same lim 0) n i read in
+      let kept = kept-fault b u (length b) room same 0 (table-at lim Flags b 0) (table-at lim Flags u 0) (table-kept b u (length b) room same lim 0) n i read in
       rw (kept (omega arith) (omega arith) not-11)
 
-  read-empty : Empty (read-request lim b) (read-guarded lim u)
+  read-empty : Empty (read-request lim Flags b) (read-guarded lim u)
   unfolding read-request read-guarded ninth pick
   read-empty =
       rw (le-ltb (lim .request) (length b) (omega (arith, short)), le-ltb (lim .request) (length u) (omega (arith, short, long)))
-      (table-empty (table-at lim b 0) refl)
+      (table-empty (table-at lim Flags b 0) refl)
 
   -- SETTLED and judged.
   module _ (lent : List ℕ) (budget : ℕ) where
@@ -129,7 +130,7 @@ module _ (lim : Limits) (b lent : List ℕ) (budget : ℕ) (short : length b < l
       (λ t.
       let plain = pick-true (eqb (length lent) (lim .state)) (λ _. judge-settled lim lent budget (settled lim b)) _ t in
       pick-true _ _ _ t
-      ∙ by-read lim b short lent budget (read-request lim b) (read-guarded lim (b ++ (0 ∷ []))) (read-empty lim b short)
+      ∙ by-read lim b short lent budget (read-request lim Flags b) (read-guarded lim (b ++ (0 ∷ []))) (read-empty lim b short)
       (λ q. not-11 (ap (λ (j : Judgement). j .answer .number) plain ∙ q)) (λ q. not-20 (ap (λ (j : Judgement). j .answer .number) plain ∙ q))
       ∙ sym plain)
       (λ f. pick-false _ _ _ f ∙ sym (pick-false _ _ _ f))

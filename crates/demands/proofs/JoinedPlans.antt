@@ -12,6 +12,7 @@ use Rattle.meaning.specs.Limits
 use Rattle.meaning.specs.Limits.{Limits}
 use Rattle.meaning.specs.Literals.{among}
 use Rattle.meaning.specs.Requests.{Knowledge, Table, Sequence, done, item, Request, values, unplaced}
+use Rattle.meaning.specs.declared.Form.the-variants.{Flags}
 use Rattle.meaning.specs.Reading.{got, Met, plan-at, table-at, request-at, read-request}
 use Rattle.meaning.specs.Refusals.{settled}
 use Rattle.meaning.specs.States.{State, known, first-state}
@@ -67,8 +68,8 @@ module _ (lim : Limits) (x : Parts) (facts plan goals whether : List ℕ) where
     tables-same =
         let n = x .fluents in
         let m = x .actions in
-        let a = table-so lim x (one .table) (length (before-plan x)) (ap (λ (s : List ℕ). table-at lim s 0) (sym (bytes-split x)) ∙ one .table-read) in
-        let b = table-so lim y (two .table) (length (before-plan y)) (ap (λ (s : List ℕ). table-at lim s 0) (sym (bytes-split y)) ∙ two .table-read) in
+        let a = table-so lim x (one .table) (length (before-plan x)) (ap (λ (s : List ℕ). table-at lim Flags s 0) (sym (bytes-split x)) ∙ one .table-read) in
+        let b = table-so lim y (two .table) (length (before-plan y)) (ap (λ (s : List ℕ). table-at lim Flags s 0) (sym (bytes-split y)) ∙ two .table-read) in
         let long = length-append (list-written (x .facts)) (x .lines) in
         let ends : a .1 ≡ length (x .lines) = omega (arith, a .4, long) in
         let far = length (x .lines) in
@@ -86,8 +87,8 @@ module _ (lim : Limits) (x : Parts) (facts plan goals whether : List ℕ) where
         subst (λ (t : Table). Same-tables t (one .table)) (sym second) (subst (Same-tables (knowing (x .facts) (moved-table on-two (a .0)))) (sym first) (tables-alike (x .facts) (a .0) on-two on))
 
     -- THE JOINED REQUEST is read as it is cut, with the first's table, and the second's plan behind the first's.
-    module _ (r : Request) (e : ℕ) (read : read-request lim (bytes-of z) ≡ got r e) where
-      table-there : table-at lim (bytes-of z) 0 ≡ got (one .table) (length (before-plan x))
+    module _ (r : Request) (e : ℕ) (read : read-request lim Flags (bytes-of z) ≡ got r e) where
+      table-there : table-at lim Flags (bytes-of z) 0 ≡ got (one .table) (length (before-plan x))
       unfolding bytes-of before-plan
       table-there =
           let s = bytes-of x in
@@ -97,16 +98,16 @@ module _ (lim : Limits) (x : Parts) (facts plan goals whether : List ℕ) where
           let wide = length-append (before-plan x) lists in
           let room : far ≤ length u = omega (arith, wide) in
           let same : (p : ℕ) → p < far → getD u p 0 ≡ getD s p 0 = λ p less. List·getD-append (before-plan x) lists 0 p less ∙ sym (List·getD-append (before-plan x) rest-one 0 p less) in
-          kept-of s u far room same 0 (table-at lim s 0) (table-at lim u 0) (table-kept s u far room same lim 0) (one .table) far (one .table-read) .2 (omega arith)
+          kept-of s u far room same 0 (table-at lim Flags s 0) (table-at lim Flags u 0) (table-kept s u far room same lim 0) (one .table) far (one .table-read) .2 (omega arith)
 
-      plan-there : (v : Met (Sequence ℕ)) × (k : ℕ) × (plan-at lim (x .fluents) (x .actions) (bytes-of z) (length (before-plan x)) ≡ got v k)
+      plan-there : (v : Met (Sequence ℕ)) × (k : ℕ) × (plan-at lim Flags (x .fluents) (x .actions) (bytes-of z) (length (before-plan x)) ≡ got v k)
       unfolding read-request request-at
       plan-there =
           let counts = cut-counts lim x one in
-          let behind = sym (next-is (table-at lim (bytes-of z) 0) _ _ _ table-there) ∙ not-refused _ _ _ _ read .1 in
-          after-got (request-at lim (bytes-of z) (one .table) (length (before-plan x))) _ behind λ q i eq last.
-          let a = next-got (plan-at lim (one .table .fluents) (one .table .actions) (bytes-of z) (length (before-plan x))) _ eq in
-          (a .0, a .1, ap₂ (λ (n m : ℕ). plan-at lim n m (bytes-of z) (length (before-plan x))) (sym (counts .0)) (sym (counts .1)) ∙ a .2)
+          let behind = sym (next-is (table-at lim Flags (bytes-of z) 0) _ _ _ table-there) ∙ not-refused _ _ _ _ read .1 in
+          after-got (request-at lim Flags (bytes-of z) (one .table) (length (before-plan x))) _ behind λ q i eq last.
+          let a = next-got (plan-at lim Flags (one .table .fluents) (one .table .actions) (bytes-of z) (length (before-plan x))) _ eq in
+          (a .0, a .1, ap₂ (λ (n m : ℕ). plan-at lim Flags n m (bytes-of z) (length (before-plan x))) (sym (counts .0)) (sym (counts .1)) ∙ a .2)
 
       both-plans : (q : Sequence ℕ) × (plan-there .0 .value ≡ join (one .plan .value) q) × (unplaced q ≡ unplaced (two .plan .value)) × (plan-there .1 ≡ length (before-plan x) + length (join-plans (x .plan) plan))
       unfolding bytes-of before-plan
@@ -181,7 +182,7 @@ module _ (lim : Limits) (room : lim .fluents ≤ lim .state) (x : Parts) (facts 
     abbrev r-second : Request
     r-second = the-request lim second two
 
-    reads : read-request lim (bytes-of whole) ≡ got q g
+    reads : read-request lim Flags (bytes-of whole) ≡ got q g
     reads = settled-is lim (bytes-of whole) q g past-whole .reads
 
     abbrev cut : Cut-so lim whole
@@ -237,7 +238,7 @@ module _ (lim : Limits) (room : lim .fluents ≤ lim .state) (x : Parts) (facts 
         let near = effects-near lim room (bytes-of x) r e past in
         let s = first-state lim (two .table) in
         let there = first-known lim room (two .table) (ranged lim room (bytes-of second) r-second f past-too) in
-        let so = table-so lim second (two .table) (length (before-plan second)) (ap (λ (b : List ℕ). table-at lim b 0) (sym (bytes-split second)) ∙ two .table-read) in
+        let so = table-so lim second (two .table) (length (before-plan second)) (ap (λ (b : List ℕ). table-at lim Flags b 0) (sym (bytes-split second)) ∙ two .table-read) in
         let has-facts : two .table .facts ≡ facts = ap (λ (v : Table). v .facts) (so .3) in
         let knows : Knows-more (lim .state) s u = record {
           first = first-length lim (two .table);

@@ -7,6 +7,7 @@ use mathlib.Core.List.{List, [], _∷_, _++_, append-assoc}
 use lib.ListN.{length, length-append, length-drop, getD, drop, List·getD-append}
 use Rattle.meaning.specs.Limits.{Limits}
 use Rattle.meaning.specs.Requests.{Sequence, done, item, unplaced}
+use Rattle.meaning.specs.declared.Form.the-variants.{Flags}
 use Rattle.meaning.specs.Reading.{Got, got, byte-at, two-bytes-at, Met, item-at, items-at, sequence-at, branching-at, plan-at}
 use Rattle.meaning.specs.Layouts.{number-written}
 use Rattle.meaning.specs.Derivations.{join}
@@ -28,7 +29,7 @@ moved-joined on (item i p) q = ap {B = Sequence ℕ} (λ r. item (moved-item on 
 module _ (lim : Limits) (n m : ℕ) where
   -- As many items of a plan, from a place of the input on.
   abbrev items-of : List ℕ → (left p met : ℕ) → Got (Met (Sequence ℕ))
-  items-of s left p met = items-at lim n m s (item-at lim n m s (branching-at lim n m s (lim .nested))) left p met
+  items-of s left p met = items-at lim Flags n m s (item-at lim Flags n m s (branching-at lim Flags n m s (lim .nested))) left p met
 
   -- They are read alike so many bytes further on,
   items-behind : (pre w : List ℕ) (left p q met : ℕ) → p ≡ q + length pre → (x : Met (Sequence ℕ)) (e : ℕ) → items-of (pre ++ w) left p met ≡ got x e
@@ -74,7 +75,7 @@ module _ (lim : Limits) (n m : ℕ) where
   Plan-items a rest start x e =
       (y : Met (Sequence ℕ)) × (f : ℕ) × (items-of (drop 2 a ++ rest) (items-said a) 0 0 ≡ got y f) × (x ≡ moved-part (moved-plan (start + 2)) y) × (e ≡ f + (start + 2))
 
-  plan-items : (pre a rest : List ℕ) → 2 ≤ length a → (x : Met (Sequence ℕ)) (e : ℕ) → plan-at lim n m (pre ++ (a ++ rest)) (length pre) ≡ got x e → Plan-items a rest (length pre) x e
+  plan-items : (pre a rest : List ℕ) → 2 ≤ length a → (x : Met (Sequence ℕ)) (e : ℕ) → plan-at lim Flags n m (pre ++ (a ++ rest)) (length pre) ≡ got x e → Plan-items a rest (length pre) x e
   unfolding plan-at sequence-at items-said
   plan-items pre [] rest long x e read = absurd (omega (arith, long))
   plan-items pre (h ∷ []) rest long x e read = absurd (omega (arith, long))
@@ -96,7 +97,7 @@ module _ (lim : Limits) (n m : ℕ) where
       (base .0, base .1, base .2, base .3 ∙ ap (λ (k : ℕ). moved-part (moved-plan k) (base .0)) sized, base .4 ∙ ap (λ (k : ℕ). base .1 + k) sized)
 
   -- A plan that was read has its two count bytes.
-  pub plan-long : (s : List ℕ) (p : ℕ) (x : Met (Sequence ℕ)) (e : ℕ) → plan-at lim n m s p ≡ got x e → p + 2 ≤ e
+  pub plan-long : (s : List ℕ) (p : ℕ) (x : Met (Sequence ℕ)) (e : ℕ) → plan-at lim Flags n m s p ≡ got x e → p + 2 ≤ e
   unfolding plan-at sequence-at
   plan-long s p x e read =
       let a = next-got (two-bytes-at s p) _ read in
@@ -106,9 +107,9 @@ module _ (lim : Limits) (n m : ℕ) where
 
   -- TWO PLANS JOINED.
   module _ (pre a rest before b behind : List ℕ) (x y z : Met (Sequence ℕ)) (e : ℕ)
-      (first : plan-at lim n m (pre ++ (a ++ rest)) (length pre) ≡ got x (length pre + length a))
-      (second : plan-at lim n m (before ++ (b ++ behind)) (length before) ≡ got y (length before + length b))
-      (both : plan-at lim n m (pre ++ (join-plans a b ++ behind)) (length pre) ≡ got z e) where
+      (first : plan-at lim Flags n m (pre ++ (a ++ rest)) (length pre) ≡ got x (length pre + length a))
+      (second : plan-at lim Flags n m (before ++ (b ++ behind)) (length before) ≡ got y (length before + length b))
+      (both : plan-at lim Flags n m (pre ++ (join-plans a b ++ behind)) (length pre) ≡ got z e) where
     abbrev one-items : List ℕ
     one-items = drop 2 a
 
@@ -140,7 +141,7 @@ module _ (lim : Limits) (n m : ℕ) where
     abbrev after-one : List ℕ
     after-one = two-items ++ behind
 
-    stretches : Two-stretches lim n m (one-items ++ after-one) (item-at lim n m (one-items ++ after-one) (branching-at lim n m (one-items ++ after-one) (lim .nested))) (items-said a) (items-said b) 0 0 (three .0) (three .1)
+    stretches : Two-stretches lim n m (one-items ++ after-one) (item-at lim Flags n m (one-items ++ after-one) (branching-at lim Flags n m (one-items ++ after-one) (lim .nested))) (items-said a) (items-said b) 0 0 (three .0) (three .1)
     stretches =
         two-stretches lim n m (one-items ++ after-one) _ (items-said a) (items-said b) 0 0 (three .0) (three .1)
         (ap₂ (λ (s : List ℕ) (k : ℕ). items-of s k 0 0) (sym (ap (λ (s : List ℕ). s ++ behind) (behind-count a b) ∙ append-assoc one-items two-items behind)) (sym (items-joined a b)) ∙ three .2)

@@ -10,6 +10,7 @@ use borrow.Author.Tests.{leb-false, lt-leb}
 use Rattle.meaning.specs.Tests.{pick}
 use Rattle.meaning.specs.Limits.{Limits}
 use Rattle.meaning.specs.Requests.{Sequence, done, item, Item}
+use Rattle.meaning.specs.declared.Form.the-variants.{Flags}
 use Rattle.meaning.specs.Reading.{Got, got, fault, next, byte-at, two-bytes-at, count-at, body-at, Met, Part, item-at, items-at, sequence-at, branches-at, branching-at}
 use Rattle.meaning.specs.Derivations.{join}
 use Rattle.meaning.proofs.TestLaws.{clash}
@@ -55,7 +56,7 @@ module _ (more : ℕ) where
     Parts-sooner one other = (p met : ℕ) → Sooner (one p met) (other p (met + more))
 
   module _ (lim : Limits) (n m : ℕ) (s : List ℕ) where
-    item-sooner : (deeper : Part (Item ℕ)) → Parts-sooner deeper deeper → Parts-sooner (item-at lim n m s deeper) (item-at lim n m s deeper)
+    item-sooner : (deeper : Part (Item ℕ)) → Parts-sooner deeper deeper → Parts-sooner (item-at lim Flags n m s deeper) (item-at lim Flags n m s deeper)
     unfolding item-at
     item-sooner deeper inner p met =
         same-next (byte-at s p) _ _ λ x q.
@@ -66,47 +67,47 @@ module _ (more : ℕ) where
         again : met + 1 + more ≡ met + more + 1
         again = omega arith
 
-    items-sooner : (one : Part (Item ℕ)) → Parts-sooner one one → (left : ℕ) → Parts-sooner (items-at lim n m s one left) (items-at lim n m s one left)
+    items-sooner : (one : Part (Item ℕ)) → Parts-sooner one one → (left : ℕ) → Parts-sooner (items-at lim Flags n m s one left) (items-at lim Flags n m s one left)
     unfolding items-at
     items-sooner one inner zero p met = (met, refl, refl)
     items-sooner one inner (suc left) p met =
         sooner-next (one p met) (one p (met + more)) _ _ (inner p met) λ i k q.
-        sooner-next (items-at lim n m s one left q k) (items-at lim n m s one left q (k + more)) _ _ (items-sooner one inner left q k) λ rest l r. (l, refl, refl)
+        sooner-next (items-at lim Flags n m s one left q k) (items-at lim Flags n m s one left q (k + more)) _ _ (items-sooner one inner left q k) λ rest l r. (l, refl, refl)
 
-    sequence-sooner : (deeper : Part (Item ℕ)) → Parts-sooner deeper deeper → Parts-sooner (sequence-at lim n m s deeper) (sequence-at lim n m s deeper)
+    sequence-sooner : (deeper : Part (Item ℕ)) → Parts-sooner deeper deeper → Parts-sooner (sequence-at lim Flags n m s deeper) (sequence-at lim Flags n m s deeper)
     unfolding sequence-at
-    sequence-sooner deeper inner p met = same-next (two-bytes-at s p) _ _ λ c q. items-sooner (item-at lim n m s deeper) (item-sooner deeper inner) c q met
+    sequence-sooner deeper inner p met = same-next (two-bytes-at s p) _ _ λ c q. items-sooner (item-at lim Flags n m s deeper) (item-sooner deeper inner) c q met
 
-    branches-sooner : (sequence : Part (Sequence ℕ)) → Parts-sooner sequence sequence → (left : ℕ) → Parts-sooner (branches-at lim n m s sequence left) (branches-at lim n m s sequence left)
+    branches-sooner : (sequence : Part (Sequence ℕ)) → Parts-sooner sequence sequence → (left : ℕ) → Parts-sooner (branches-at lim Flags n m s sequence left) (branches-at lim Flags n m s sequence left)
     unfolding branches-at
     branches-sooner sequence inner zero p met = (met, refl, refl)
     branches-sooner sequence inner (suc left) p met =
-        same-next (body-at lim n s p) _ _ λ c q.
+        same-next (body-at lim Flags n s p) _ _ λ c q.
         sooner-next (sequence q met) (sequence q (met + more)) _ _ (inner q met) λ b k r.
-        sooner-next (branches-at lim n m s sequence left r k) (branches-at lim n m s sequence left r (k + more)) _ _ (branches-sooner sequence inner left r k) λ rest l e. (l, refl, refl)
+        sooner-next (branches-at lim Flags n m s sequence left r k) (branches-at lim Flags n m s sequence left r (k + more)) _ _ (branches-sooner sequence inner left r k) λ rest l e. (l, refl, refl)
 
-    branching-sooner : (left : ℕ) → Parts-sooner (branching-at lim n m s left) (branching-at lim n m s left)
+    branching-sooner : (left : ℕ) → Parts-sooner (branching-at lim Flags n m s left) (branching-at lim Flags n m s left)
     unfolding branching-at
     branching-sooner zero p met = tt
     branching-sooner (suc left) p met =
         same-next (count-at 1 (lim .branches) s (p + 1)) _ _ λ c q.
-        sooner-next (branches-at lim n m s (sequence-at lim n m s (branching-at lim n m s left)) c q met) (branches-at lim n m s (sequence-at lim n m s (branching-at lim n m s left)) c q (met + more)) _ _
+        sooner-next (branches-at lim Flags n m s (sequence-at lim Flags n m s (branching-at lim Flags n m s left)) c q met) (branches-at lim Flags n m s (sequence-at lim Flags n m s (branching-at lim Flags n m s left)) c q (met + more)) _ _
         (branches-sooner _ (sequence-sooner _ (branching-sooner left)) c q met) λ bs k r. (k, refl, refl)
 
-    pub plan-items-sooner : (deep left : ℕ) → Parts-sooner (items-at lim n m s (item-at lim n m s (branching-at lim n m s deep)) left) (items-at lim n m s (item-at lim n m s (branching-at lim n m s deep)) left)
-    plan-items-sooner deep left = items-sooner (item-at lim n m s (branching-at lim n m s deep)) (item-sooner (branching-at lim n m s deep) (branching-sooner deep)) left
+    pub plan-items-sooner : (deep left : ℕ) → Parts-sooner (items-at lim Flags n m s (item-at lim Flags n m s (branching-at lim Flags n m s deep)) left) (items-at lim Flags n m s (item-at lim Flags n m s (branching-at lim Flags n m s deep)) left)
+    plan-items-sooner deep left = items-sooner (item-at lim Flags n m s (branching-at lim Flags n m s deep)) (item-sooner (branching-at lim Flags n m s deep) (branching-sooner deep)) left
 
 -- ITEMS in two stretches.
 pub record Two-stretches (lim : Limits) (n m : ℕ) (s : List ℕ) (one : Part (Item ℕ)) (few rest p met : ℕ) (x : Met (Sequence ℕ)) (e : ℕ) : Type 0 where
   pub first : Met (Sequence ℕ)
   pub middle : ℕ
-  pub first-read : items-at lim n m s one few p met ≡ got first middle
+  pub first-read : items-at lim Flags n m s one few p met ≡ got first middle
   pub second : Met (Sequence ℕ)
-  pub second-read : items-at lim n m s one rest middle (first .items) ≡ got second e
+  pub second-read : items-at lim Flags n m s one rest middle (first .items) ≡ got second e
   pub value : x .value ≡ join (first .value) (second .value)
 
 pub two-stretches : (lim : Limits) (n m : ℕ) (s : List ℕ) (one : Part (Item ℕ)) (few rest p met : ℕ) (x : Met (Sequence ℕ)) (e : ℕ)
-    → items-at lim n m s one (few + rest) p met ≡ got x e → Two-stretches lim n m s one few rest p met x e
+    → items-at lim Flags n m s one (few + rest) p met ≡ got x e → Two-stretches lim n m s one few rest p met x e
 unfolding items-at join
 two-stretches lim n m s one zero rest p met x e read =
     let all : 0 + rest ≡ rest = omega arith in
@@ -115,13 +116,13 @@ two-stretches lim n m s one zero rest p met x e read =
       middle = p;
       first-read = refl;
       second = x;
-      second-read = subst (λ (k : ℕ). items-at lim n m s one k p met ≡ got x e) all read;
+      second-read = subst (λ (k : ℕ). items-at lim Flags n m s one k p met ≡ got x e) all read;
       value = refl;
     }
 two-stretches lim n m s one (suc few) rest p met x e read =
     let all : suc few + rest ≡ suc (few + rest) = omega arith in
-    let a = next-got (one p met) _ (subst (λ (k : ℕ). items-at lim n m s one k p met ≡ got x e) all read) in
-    let b = next-got (items-at lim n m s one (few + rest) (a .1) (a .0 .items)) _ (a .3) in
+    let a = next-got (one p met) _ (subst (λ (k : ℕ). items-at lim Flags n m s one k p met ≡ got x e) all read) in
+    let b = next-got (items-at lim Flags n m s one (few + rest) (a .1) (a .0 .items)) _ (a .3) in
     let more = two-stretches lim n m s one few rest (a .1) (a .0 .items) (b .0) (b .1) (b .2) in
     record {
       first = part (item (a .0 .value) (more .first .value)) (more .first .items);

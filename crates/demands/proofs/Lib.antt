@@ -32,6 +32,7 @@ pub mod DerivationSound
 pub mod MoreDerivations
 pub mod MoreWhethers
 pub mod MoreWritten
+pub mod MoreValues
 pub mod LongCases
 pub mod WideCases
 pub mod ProvedCases
@@ -60,6 +61,16 @@ pub mod ReuseMet
 pub mod Indexed
 pub mod NarrowMet
 pub mod DeriveExact
+pub mod ValuePlaces
+pub mod ValueAnswers
+pub mod ValuesExact
+pub mod ValuesSound
+pub mod ValueReads
+pub mod MatchedStates
+pub mod MatchedWalk
+pub mod Matched
+pub mod MatchedReads
+pub mod MatchedMet
 pub mod Demands
 pub mod GuideReadings
 pub mod GuideSteps

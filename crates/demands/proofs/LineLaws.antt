@@ -9,6 +9,7 @@ use Rattle.meaning.specs.Tests.{both, fails, pick, some-of, each-of}
 use Rattle.meaning.specs.Limits
 use Rattle.meaning.specs.Limits.{Limits}
 use Rattle.meaning.specs.Requests.{Effect, Knowledge, Table, Sequence, Entry, Request, values, unplaced}
+use Rattle.meaning.specs.declared.Form.the-variants.{Flags}
 use Rattle.meaning.specs.Reading.{Got, got, next, read-request}
 use Rattle.meaning.specs.Refusals.{Found, nowhere, at, clashing, runs-with, contradictory, contradiction-in, mixed-in, overlap-in, refuse, settled}
 use Rattle.meaning.specs.Lines.{effects-of, executability-of, knowledge-of, allowed, given, sensing, senses}
@@ -193,7 +194,7 @@ module _ (lim : Limits) (lent : List ℕ) (budget : ℕ) where
       ∙ sym (within-gist lent budget _)
       ∙ ap (λ (s : State). gist (within lent budget (walked q s))) (ap (state-of lim) (same .tables .facts))
 
-  judged-alike : (b c : List ℕ) (r q : Request) (e f : ℕ) → read-request lim b ≡ got r e → read-request lim c ≡ got q f → Same-but-lines r q → after-refusal (settled lim b) ≡ after-refusal (settled lim c)
+  judged-alike : (b c : List ℕ) (r q : Request) (e f : ℕ) → read-request lim Flags b ≡ got r e → read-request lim Flags c ≡ got q f → Same-but-lines r q → after-refusal (settled lim b) ≡ after-refusal (settled lim c)
   unfolding settled next
   judged-alike b c r q e f rb rc same =
       rw (rb, rc)
@@ -203,7 +204,7 @@ module _ (lim : Limits) (lent : List ℕ) (budget : ℕ) where
 
 -- Lines said twice, or elsewhere among their like, change no answer's number, input, count or state (FORMAT 2.36).
 pub lines-are-a-set : (lim : Limits) (b c : List ℕ) (r q : Request) (e f : ℕ)
-    → read-request lim b ≡ got r e → read-request lim c ≡ got q f → Same-but-lines r q
+    → read-request lim Flags b ≡ got r e → read-request lim Flags c ≡ got q f → Same-but-lines r q
     → (lent : List ℕ) (budget : ℕ) → gist (judge lim b lent budget) ≡ gist (judge lim c lent budget)
 unfolding judge after-refusal
 lines-are-a-set lim b c r q e f rb rc same lent budget =

@@ -12,6 +12,7 @@ use Rattle.meaning.specs.Limits.{Limits}
 use Rattle.meaning.specs.Literals.{says-true, says-false, complement, among, exclusive}
 use Rattle.meaning.specs.Requests.{Effect, Executability, Table, Request}
 use Rattle.meaning.specs.Lines.{executability-of, allowed}
+use Rattle.meaning.specs.declared.Form.the-variants.{Flags}
 use Rattle.meaning.specs.Reading.{got, read-request}
 use Rattle.meaning.specs.Refusals.{nowhere, at, clashing, runs-with, contradictory, contradiction-in}
 use Rattle.meaning.specs.Worlds.{World, holds, may-be-run, Meet}
@@ -103,7 +104,7 @@ module _ (t : Table) where
   met e g a l w m = meeting t (holds w) (holds w) (holds-apart w) (λ _ h. h) e g a l (m .runs) (m .one) (m .other)
 
 -- CONTRADICTORY EFFECTS ARE THOSE THAT MEET, in a request that was read.
-module _ (lim : Limits) (b : List ℕ) (r : Request) (end : ℕ) (reads : read-request lim b ≡ got r end) where
+module _ (lim : Limits) (b : List ℕ) (r : Request) (end : ℕ) (reads : read-request lim Flags b ≡ got r end) where
   pub contradictory-exactly : (e g : Effect) → Has (r .table .effects) e → Has (r .table .effects) g → e .action ≡ g .action → g .literal ≡ complement (e .literal)
       → (contradictory (r .table) e g ≡ true → (w : World) × Meet (r .table) e g w) × ((w : World) → Meet (r .table) e g w → contradictory (r .table) e g ≡ true)
   contradictory-exactly e g he hg a l = (meet-somewhere (r .table) lim (read-ranged lim b r end reads) e g he hg, met (r .table) e g a l)

@@ -12,6 +12,7 @@ use Rattle.meaning.specs.Limits
 use Rattle.meaning.specs.Limits.{Limits}
 use Rattle.meaning.specs.Literals.{among}
 use Rattle.meaning.specs.Requests.{Effect, Table, Request, values, unplaced}
+use Rattle.meaning.specs.declared.Form.the-variants.{Flags}
 use Rattle.meaning.specs.Reading.{got, request-at}
 use Rattle.meaning.specs.Refusals.{settled}
 use Rattle.meaning.specs.States.{State, first-state}
@@ -52,7 +53,7 @@ module _ (lim : Limits) (x : Parts) (more : List ℕ) (r q : Request) (e f : ℕ
       let far = length (head-of (with-facts more x)) in
       let lines : got (one .lines) (one .lines-end) ≡ got (two .lines) (two .lines-end) = sym (one .lines-read) ∙ two .lines-read in
       let rest : one .rest ≡ two .rest =
-      got-same (sym (one .rest-read) ∙ ap (request-at lim (tail-of x) (bare (x .fluents) (x .actions))) (got-place lines) ∙ two .rest-read) in
+      got-same (sym (one .rest-read) ∙ ap (request-at lim Flags (tail-of x) (bare (x .fluents) (x .actions))) (got-place lines) ∙ two .rest-read) in
       let first : knowing more (r .table) ≡ knowing more (moved-table on (one .lines)) = ap (knowing more) (one .table) in
       let second : q .table ≡ knowing more (moved-table far (one .lines)) = two .table ∙ ap (λ (l : Table). knowing more (moved-table far l)) (sym (got-same lines)) in
       record {

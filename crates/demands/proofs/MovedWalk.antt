@@ -6,7 +6,7 @@ use mathlib.Core.Bool.{Bool}
 use mathlib.Core.List.{List, [], _∷_, map}
 use Rattle.meaning.specs.Tests.{each-of}
 use Rattle.meaning.specs.Requests.{Sequence, done, item, Item, act, branching, Branches, none, branch, Entry, Request}
-use Rattle.meaning.specs.Refusals.{Found, nowhere, at, or-else, conditions-of, all-exclusive, overlap-in, overlap-at, overlap-below}
+use Rattle.meaning.specs.Refusals.{failing-in, Found, nowhere, at, or-else, conditions-of, all-exclusive, overlap-in, overlap-at, overlap-below}
 use Rattle.meaning.specs.States.{State, Outcome, single, fork, known, known-whether}
 use Rattle.meaning.specs.Walk.{End, fine, missed, stopped, Walked, stopped-at, counted, keep-miss, after-miss, after-end, and-then, each-reading, Step, leads-to, refuses, Steps, after-step, run-action, walk, walk-item, walk-branch, table-step, first-missed, missed-in, end-of, judged, walked}
 use Rattle.meaning.proofs.TestLaws.{pick-map}
@@ -30,7 +30,7 @@ module _ (on : ℕ) where
   conditions-moved (branch c b bs) = ap {B = List (List ℕ)} (λ cs. c ∷ cs) (conditions-moved bs)
 
   mutual
-    unfolding overlap-in
+    unfolding failing-in
 
     pub overlap-moved : (b : Sequence ℕ) → overlap-in (moved-plan on b) ≡ moved-found (overlap-in b)
     overlap-moved done = refl

@@ -10,6 +10,7 @@ use Rattle.meaning.specs.Tests.{some-of}
 use Rattle.meaning.specs.Limits
 use Rattle.meaning.specs.Limits.{Limits}
 use Rattle.meaning.specs.Requests.{Effect, Table, Request}
+use Rattle.meaning.specs.declared.Form.the-variants.{Flags}
 use Rattle.meaning.specs.Reading.{Got, got, fault, next, literals, fluents, byte-at, count-at, below-at, list-at, repeated, section-at, body-at, effect-at, executability-at, knowledge-at, plan-at, table-at, request-at, read-request}
 use Rattle.meaning.specs.Refusals.{Found, nowhere, at, clashing, contradictory, first-against, contradiction-in, mixed-in, overlap-in, refuse, settled}
 use Rattle.demands.specs.Formerly.{clash-in, settled-formerly, Refused-formerly}
@@ -37,48 +38,48 @@ module _ (lim : Limits) (n m : ℕ) (s : List ℕ) where
   unfolding below-at
   below-on bound p = next-on (byte-at s p) _ (byte-on p) (λ x q is. refuse-on _ _ _ _ (λ _. got-on x q is))
 
-  body-on : (p : ℕ) → On (body-at lim n s p) (λ b q. p < q)
+  body-on : (p : ℕ) → On (body-at lim Flags n s p) (λ b q. p < q)
   unfolding body-at
   body-on p =
       record { holds = λ b q e. let long = held-on _ _ (list-at literals n (lim .body) s p) (list-held s (λ _ _. Unit {0}) tt (λ _ _ _ _. tt) literals n (lim .body) p) .holds b q e .1 in omega arith }
 
-  effect-on : (p : ℕ) → On (effect-at lim n m s p) (λ e q. (e .place ≡ p) × (p < q))
+  effect-on : (p : ℕ) → On (effect-at lim Flags n m s p) (λ e q. (e .place ≡ p) × (p < q))
   unfolding effect-at
   effect-on p =
       next-on (below-at m s p) _ (below-on m p) λ a q is.
       next-on (below-at (2 * n) s q) _ (below-on (2 * n) q) λ l r is₂.
-      next-on (body-at lim n s r) _ (body-on r) λ b e far.
+      next-on (body-at lim Flags n s r) _ (body-on r) λ b e far.
       got-on _ e (refl, omega arith)
 
-  effects-on : (left p : ℕ) → On (repeated (effect-at lim n m s) left p) (λ es q. Rising p es)
+  effects-on : (left p : ℕ) → On (repeated (effect-at lim Flags n m s) left p) (λ es q. Rising p es)
   unfolding repeated
   effects-on zero p = got-on _ p tt
   effects-on (suc left) p =
-      next-on (effect-at lim n m s p) _ (effect-on p) λ e q is.
-      next-on (repeated (effect-at lim n m s) left q) _ (effects-on left q) λ es r rest.
+      next-on (effect-at lim Flags n m s p) _ (effect-on p) λ e q is.
+      next-on (repeated (effect-at lim Flags n m s) left q) _ (effects-on left q) λ es r rest.
       let near = is .0 in
       let far = is .1 in
       got-on _ r (omega arith, rising-from q (e .place) es (omega arith) rest)
 
 -- The effects of a table and of a request that were read.
-table-rising : (lim : Limits) (s : List ℕ) (p : ℕ) (t : Table) (q : ℕ) → table-at lim s p ≡ got t q → Rising 0 (t .effects)
+table-rising : (lim : Limits) (s : List ℕ) (p : ℕ) (t : Table) (q : ℕ) → table-at lim Flags s p ≡ got t q → Rising 0 (t .effects)
 unfolding table-at section-at
 table-rising lim s p t q e =
     after-got (count-at 1 (lim .fluents) s p) _ e λ n p₁ _ e₁.
     after-got (count-at 1 (lim .actions) s p₁) _ e₁ λ m p₂ _ e₂.
     after-got (list-at literals n (lim .listed) s p₂) _ e₂ λ facts p₃ _ e₃.
-    after-got (section-at (effect-at lim n m s) s p₃) _ e₃ λ effects p₄ ee e₄.
-    after-got (section-at (executability-at lim n m s) s p₄) _ e₄ λ executability p₅ _ e₅.
+    after-got (section-at (effect-at lim Flags n m s) s p₃) _ e₃ λ effects p₄ ee e₄.
+    after-got (section-at (executability-at lim Flags n m s) s p₄) _ e₄ λ executability p₅ _ e₅.
     after-got (section-at (knowledge-at lim n m s) s p₅) _ e₅ λ knowledge p₆ _ same.
     subst (λ (x : Table). Rising 0 (x .effects)) (got-same same)
     (after-got (byte-at s p₃) _ ee λ c i _ lines. rising-from i 0 effects (omega arith) (effects-on lim n m s c i .holds effects p₄ lines))
 
-read-rising : (lim : Limits) (b : List ℕ) (r : Request) (e : ℕ) → read-request lim b ≡ got r e → Rising 0 (r .table .effects)
+read-rising : (lim : Limits) (b : List ℕ) (r : Request) (e : ℕ) → read-request lim Flags b ≡ got r e → Rising 0 (r .table .effects)
 unfolding read-request request-at
 read-rising lim b r e reads =
-    after-got (table-at lim b 0) _ (not-refused _ _ _ _ reads .1) λ t p₁ et e₁.
-    after-got (request-at lim b t p₁) _ e₁ λ q p₂ eq e₂.
-    after-got (plan-at lim (t .fluents) (t .actions) b p₁) _ eq λ plan p₃ _ e₃.
+    after-got (table-at lim Flags b 0) _ (not-refused _ _ _ _ reads .1) λ t p₁ et e₁.
+    after-got (request-at lim Flags b t p₁) _ e₁ λ q p₂ eq e₂.
+    after-got (plan-at lim Flags (t .fluents) (t .actions) b p₁) _ eq λ plan p₃ _ e₃.
     after-got (list-at literals (t .fluents) (lim .listed) b p₃) _ e₃ λ goals p₄ _ e₄.
     after-got (list-at fluents (t .fluents) (lim .listed) b p₄) _ e₄ λ whether p₅ _ same.
     subst (λ (x : Request). Rising 0 (x .table .effects)) (got-same same ∙ got-same (not-refused _ _ _ _ e₂ .1)) (table-rising lim b 0 t p₁ et)
@@ -172,9 +173,9 @@ module _ (r : Request) (e : ℕ) where
 -- WHAT 16 REFUSES NOW IT REFUSED BEFORE: a request is settled as it was, or it was refused by 16, and no later than it is now.
 pub settled-narrowed : (lim : Limits) (s : List ℕ) → (settled-formerly lim s ≡ settled lim s) ⊎ Refused-formerly lim s
 unfolding settled settled-formerly next refuse
-settled-narrowed lim s = by-reading (read-request lim s) refl
+settled-narrowed lim s = by-reading (read-request lim Flags s) refl
   where
-    by-reading : (x : Got Request) → read-request lim s ≡ x → (settled-formerly lim s ≡ settled lim s) ⊎ Refused-formerly lim s
+    by-reading : (x : Got Request) → read-request lim Flags s ≡ x → (settled-formerly lim s ≡ settled lim s) ⊎ Refused-formerly lim s
     by-reading (fault n p) reads = inl (rw reads)
     by-reading (got r e) reads = by-pass (clash-in (r .table)) refl
       where

@@ -9,6 +9,7 @@ use lib.Seq.{getD-append-add}
 use borrow.Author.Tests.{ltb-false}
 use Rattle.meaning.specs.Limits.{Limits}
 use Rattle.meaning.specs.Requests.{Table, Request}
+use Rattle.meaning.specs.declared.Form.the-variants.{Flags}
 use Rattle.meaning.specs.Reading.{Got, got, fault, next, count-at, Kind, literals, fluents, list-at, section-at, effect-at, executability-at, knowledge-at, plan-at, table-at, request-at, read-request}
 use Rattle.meaning.specs.Layouts.{list-written}
 use Rattle.demands.specs.Reuse.{Parts, before-plan, bytes-of}
@@ -45,8 +46,8 @@ list-is kind n s most xs p q st ys e read =
 -- A TABLE behind its facts, and its lines without them.
 abbrev pub table-behind : Limits → (n m : ℕ) → (facts s : List ℕ) → ℕ → Got Table
 table-behind lim n m facts s p =
-    next (section-at (effect-at lim n m s) s p) λ effects t.
-    next (section-at (executability-at lim n m s) s t) λ executability u.
+    next (section-at (effect-at lim Flags n m s) s p) λ effects t.
+    next (section-at (executability-at lim Flags n m s) s t) λ executability u.
     next (section-at (knowledge-at lim n m s) s u) λ knowledge e.
     got (record { fluents = n; actions = m; facts = facts; effects = effects; executability = executability; knowledge = knowledge }) e
 
@@ -77,10 +78,10 @@ module _ (pre v : List ℕ) (lim : Limits) (n m : ℕ) where
       let s = pre ++ v in
       let long = behind-length pre v in
       let same = behind-byte pre v in
-      shifted-next s v far 0 long same (map (moved-effect far)) (moved-table far) (section-at (effect-at lim n m s) s p) (section-at (effect-at lim n m v) v q) _ _
-      (section-shifted s v far 0 long same (moved-effect far) (effect-at lim n m s) (effect-at lim n m v) (effect-shifted s v far 0 long same lim n m) p q is (omega arith)) λ effects e more.
-      shifted-next s v far 0 long same (map (moved-executability far)) (moved-table far) (section-at (executability-at lim n m s) s (e + far)) (section-at (executability-at lim n m v) v e) _ _
-      (section-shifted s v far 0 long same (moved-executability far) (executability-at lim n m s) (executability-at lim n m v) (executability-shifted s v far 0 long same lim n m) (e + far) e refl more) λ executability f later.
+      shifted-next s v far 0 long same (map (moved-effect far)) (moved-table far) (section-at (effect-at lim Flags n m s) s p) (section-at (effect-at lim Flags n m v) v q) _ _
+      (section-shifted s v far 0 long same (moved-effect far) (effect-at lim Flags n m s) (effect-at lim Flags n m v) (effect-shifted s v far 0 long same lim n m) p q is (omega arith)) λ effects e more.
+      shifted-next s v far 0 long same (map (moved-executability far)) (moved-table far) (section-at (executability-at lim Flags n m s) s (e + far)) (section-at (executability-at lim Flags n m v) v e) _ _
+      (section-shifted s v far 0 long same (moved-executability far) (executability-at lim Flags n m s) (executability-at lim Flags n m v) (executability-shifted s v far 0 long same lim n m) (e + far) e refl more) λ executability f later.
       shifted-next s v far 0 long same (map (moved-knowledge far)) (moved-table far) (section-at (knowledge-at lim n m s) s (f + far)) (section-at (knowledge-at lim n m v) v f) _ _
       (section-shifted s v far 0 long same (moved-knowledge far) (knowledge-at lim n m s) (knowledge-at lim n m v) (knowledge-shifted s v far 0 long same lim n m) (f + far) f refl later) λ knowledge g last.
       (refl, last)
@@ -90,16 +91,16 @@ pub lines-kept : (lim : Limits) (n m : ℕ) (s u : List ℕ) (far : ℕ) (room :
     → Kept s u far room same p (lines-at lim n m s p) (lines-at lim n m u p)
 unfolding lines-at
 lines-kept lim n m s u far room same p =
-    kept-next s u far room same p (section-at (effect-at lim n m s) s p) (section-at (effect-at lim n m u) u p) _ _ (section-kept s u far room same _ _ (effect-kept s u far room same lim n m) p) λ effects i.
-    kept-next s u far room same i (section-at (executability-at lim n m s) s i) (section-at (executability-at lim n m u) u i) _ _ (section-kept s u far room same _ _ (executability-kept s u far room same lim n m) i) λ executability j.
+    kept-next s u far room same p (section-at (effect-at lim Flags n m s) s p) (section-at (effect-at lim Flags n m u) u p) _ _ (section-kept s u far room same _ _ (effect-kept s u far room same lim n m) p) λ effects i.
+    kept-next s u far room same i (section-at (executability-at lim Flags n m s) s i) (section-at (executability-at lim Flags n m u) u i) _ _ (section-kept s u far room same _ _ (executability-kept s u far room same lim n m) i) λ executability j.
     kept-next s u far room same j (section-at (knowledge-at lim n m s) s j) (section-at (knowledge-at lim n m u) u j) _ _ (section-kept s u far room same _ _ (knowledge-kept s u far room same lim n m) j) λ knowledge e.
     kept-got s u far room same _ e
 
 pub lines-counts : (lim : Limits) (n m : ℕ) (s : List ℕ) (p : ℕ) (l : Table) (e : ℕ) → lines-at lim n m s p ≡ got l e → (l .fluents ≡ n) × (l .actions ≡ m)
 unfolding lines-at
 lines-counts lim n m s p l e read =
-    after-got (section-at (effect-at lim n m s) s p) _ read λ _ i _ e₁.
-    after-got (section-at (executability-at lim n m s) s i) _ e₁ λ _ j _ e₂.
+    after-got (section-at (effect-at lim Flags n m s) s p) _ read λ _ i _ e₁.
+    after-got (section-at (executability-at lim Flags n m s) s i) _ e₁ λ _ j _ e₂.
     after-got (section-at (knowledge-at lim n m s) s j) _ e₂ λ _ k _ e₃.
     (ap (λ (t : Table). t .fluents) (sym (got-same e₃)), ap (λ (t : Table). t .actions) (sym (got-same e₃)))
 
@@ -111,13 +112,13 @@ abbrev pub re-tabled : Table → Request → Request
 re-tabled u r = record { table = u; plan = r .plan; goals = r .goals; whether = r .whether; whether-place = r .whether-place }
 
 pub other-table : (lim : Limits) (t u : Table) → t .fluents ≡ u .fluents → t .actions ≡ u .actions → (s : List ℕ) (p : ℕ) (r : Request) (e : ℕ)
-    → request-at lim s t p ≡ got r e → request-at lim s u p ≡ got (re-tabled u r) e
+    → request-at lim Flags s t p ≡ got r e → request-at lim Flags s u p ≡ got (re-tabled u r) e
 unfolding request-at
 other-table lim t u fluents-same actions-same s p r e read =
-    let a = next-got (plan-at lim (t .fluents) (t .actions) s p) _ read in
+    let a = next-got (plan-at lim Flags (t .fluents) (t .actions) s p) _ read in
     let b = next-got (list-at literals (t .fluents) (lim .listed) s (a .1)) _ (a .3) in
     let c = next-got (list-at fluents (t .fluents) (lim .listed) s (b .1)) _ (b .3) in
-    next-is _ _ _ _ (ap₂ (λ (n m : ℕ). plan-at lim n m s p) (sym fluents-same) (sym actions-same) ∙ a .2)
+    next-is _ _ _ _ (ap₂ (λ (n m : ℕ). plan-at lim Flags n m s p) (sym fluents-same) (sym actions-same) ∙ a .2)
     ∙ next-is _ _ _ _ (ap (λ (n : ℕ). list-at literals n (lim .listed) s (a .1)) (sym fluents-same) ∙ b .2)
     ∙ next-is _ _ _ _ (ap (λ (n : ℕ). list-at fluents n (lim .listed) s (b .1)) (sym fluents-same) ∙ c .2)
     ∙ ap change (c .3)
@@ -150,7 +151,7 @@ pub record Read-so (lim : Limits) (x : Parts) (r : Request) (e : ℕ) : Type 0 w
   pub table : r .table ≡ knowing (x .facts) (moved-table (length (head-of x)) lines)
   pub rest : Request
   pub rest-end : ℕ
-  pub rest-read : request-at lim (tail-of x) (bare (x .fluents) (x .actions)) lines-end ≡ got rest rest-end
+  pub rest-read : request-at lim Flags (tail-of x) (bare (x .fluents) (x .actions)) lines-end ≡ got rest rest-end
   pub is : r ≡ re-tabled (r .table) (moved-request (length (head-of x)) rest)
   pub end : e ≡ rest-end + length (head-of x)
   pub short : length (bytes-of x) ≤ lim .request
@@ -160,8 +161,8 @@ pub record Read-so (lim : Limits) (x : Parts) (r : Request) (e : ℕ) : Type 0 w
 pub behind-is : (lim : Limits) (n m : ℕ) (facts s : List ℕ) (p : ℕ) (t : Table) (e : ℕ) → table-behind lim n m facts s p ≡ got t e → (l : Table) × (lines-at lim n m s p ≡ got l e) × (t ≡ knowing facts l)
 unfolding lines-at
 behind-is lim n m facts s p t e read =
-    let a = next-got (section-at (effect-at lim n m s) s p) _ read in
-    let b = next-got (section-at (executability-at lim n m s) s (a .1)) _ (a .3) in
+    let a = next-got (section-at (effect-at lim Flags n m s) s p) _ read in
+    let b = next-got (section-at (executability-at lim Flags n m s) s (a .1)) _ (a .3) in
     let c = next-got (section-at (knowledge-at lim n m s) s (b .1)) _ (b .3) in
     let l : Table = record { fluents = n; actions = m; facts = []; effects = a .0; executability = b .0; knowledge = c .0 } in
     (l, next-is _ _ _ _ (a .2) ∙ next-is _ _ _ _ (b .2) ∙ next-is _ _ _ _ (c .2) ∙ ap (λ (q : ℕ). got l q) (got-place (c .3)), sym (got-same (c .3)))
@@ -177,7 +178,7 @@ module _ (lim : Limits) (x : Parts) where
   abbrev pub Table-so : Table → ℕ → Type 0
   Table-so t p = (l : Table) × (q : ℕ) × (lines-at lim (x .fluents) (x .actions) (tail-of x) 0 ≡ got l q) × (t ≡ knowing (x .facts) (moved-table on l)) × (p ≡ q + on)
 
-  pub table-so : (t : Table) (p : ℕ) → table-at lim s 0 ≡ got t p → Table-so t p
+  pub table-so : (t : Table) (p : ℕ) → table-at lim Flags s 0 ≡ got t p → Table-so t p
   unfolding table-at
   table-so t p read =
       after-got (count-at 1 (lim .fluents) s 0) _ read λ n p₁ en e₁.
@@ -199,13 +200,13 @@ module _ (lim : Limits) (x : Parts) where
       (base .0, base .1, base .2, behind .2 ∙ ap₂ {C = Table} knowing (list .0) (base .3), base .4)
 
   -- The request.
-  pub read-so : (r : Request) (e : ℕ) → read-request lim (bytes-of x) ≡ got r e → Read-so lim x r e
+  pub read-so : (r : Request) (e : ℕ) → read-request lim Flags (bytes-of x) ≡ got r e → Read-so lim x r e
   unfolding read-request
   read-so r e read =
-      let whole : read-request lim s ≡ got r e = ap (read-request lim) (sym (bytes-split x)) ∙ read in
+      let whole : read-request lim Flags s ≡ got r e = ap (read-request lim Flags) (sym (bytes-split x)) ∙ read in
       let short = not-refused _ _ _ _ whole in
-      after-got (table-at lim s 0) _ (short .1) λ t p et e₁.
-      after-got (request-at lim s t p) _ e₁ λ q i eq e₂.
+      after-got (table-at lim Flags s 0) _ (short .1) λ t p et e₁.
+      after-got (request-at lim Flags s t p) _ e₁ λ q i eq e₂.
       let all = not-refused _ _ _ _ e₂ in
       let same : q ≡ r = got-same (all .1) in
       let place : i ≡ e = got-place (all .1) in
@@ -213,7 +214,7 @@ module _ (lim : Limits) (x : Parts) where
       let counts = lines-counts lim (x .fluents) (x .actions) (tail-of x) 0 (table .0) (table .1) (table .2) in
       let its : q .table ≡ t = request-table lim s t p .holds q i eq in
       let far = request-moved s (tail-of x) on 0 (behind-length (head-of x) (tail-of x)) (behind-byte (head-of x) (tail-of x)) lim t p (table .1) (table .4) (omega arith) in
-      let back = moved-back on (request-at lim (tail-of x) t (table .1)) q i (sym far ∙ eq) in
+      let back = moved-back on (request-at lim Flags (tail-of x) t (table .1)) q i (sym far ∙ eq) in
       let is : r ≡ moved-request on (back .0) = sym same ∙ back .3 in
       record {
         lines = table .0;

@@ -1,4 +1,4 @@
--- The proved cases of the walk call, without the line and with it, of the guarded call, of the call by cases, of the index call and the indexed call, of the
+-- The proved cases of the walk call, without the line and with it, of the guarded call, of the call by cases, of the values call, of the index call and the indexed call, of the
 -- derivation call, of the whether call, of the derive call and of the release call, one statement over one list. Its parts were computed where they are. Assumes nothing.
 use Prim.Native.Nat.{ℕ}
 use mathlib.Core.Path.{_≡_, refl, sym, _∙_, ap, ap₂}
@@ -11,6 +11,7 @@ use Rattle.meaning.specs.Judging.{Judgement, judge}
 use Rattle.meaning.specs.Asking.{line}
 use Rattle.meaning.specs.Guards.{judge-guarded, line-guarded}
 use Rattle.meaning.specs.ByCases.{judge-by-cases, line-by-cases}
+use Rattle.meaning.specs.Valued.{judge-values}
 use Rattle.meaning.specs.Indexes.{Built, build, judge-indexed, line-indexed}
 use Rattle.meaning.specs.Derivations.{check}
 use Rattle.meaning.specs.Schemes.{derive}
@@ -21,6 +22,7 @@ use Rattle.meaning.proofs.Cases.{cases, cases-hold}
 use Rattle.meaning.proofs.LineCases.{LineCase, line-cases, line-cases-hold, lines-hold}
 use Rattle.meaning.proofs.GuardedCases.{guarded-cases, guarded-cases-hold, guarded-lines-hold}
 use Rattle.meaning.proofs.CaseRows.{by-cases, by-cases-hold, by-cases-lines-hold}
+use Rattle.meaning.proofs.ValueCases.{value-cases, value-cases-hold}
 use Rattle.meaning.proofs.IndexCases.{BuildCase, building, building-holds, IndexedCase, indexed-cases, indexed-cases-hold, indexed-lines-hold}
 use Rattle.meaning.proofs.SchemeCases.{DeriveCase, derive-cases, derive-cases-hold}
 use Rattle.meaning.proofs.DerivationCases
@@ -31,6 +33,7 @@ use Rattle.meaning.proofs.ReleaseCases.{releases, releases-hold}
 use Rattle.demands.proofs.MoreDerivations.{more-derivations, more-derivations-hold}
 use Rattle.demands.proofs.MoreWhethers.{more-whethers, more-whethers-hold}
 use Rattle.demands.proofs.MoreWritten.{more-written, more-written-hold}
+use Rattle.demands.proofs.MoreValues.{more-values, more-values-hold}
 use Rattle.demands.proofs.LongCases.{long-cases, long-cases-hold, long-derivations, long-derivations-hold, long-releases, long-releases-hold, long-written, long-written-hold}
 use Rattle.demands.proofs.WideCases.{wide-cases, wide-cases-hold, wide-lines-hold}
 use Rattle.demands.proofs.ReuseCases.{reuse-cases, reuse-cases-hold}
@@ -41,6 +44,7 @@ pub data Call : Type 0 where
   judging-line : (request lent : List ℕ) → (budget : ℕ) → Call
   guarding-line : (request lent : List ℕ) → (budget : ℕ) → Call
   by-cases-line : (request lent : List ℕ) → (budget : ℕ) → Call
+  valuing : (request lent : List ℕ) → (budget : ℕ) → Call
   indexing : (request room : List ℕ) → Call
   indexed-line : (request index lent : List ℕ) → (budget : ℕ) → Call
   writing : (request room : List ℕ) → (budget : ℕ) → Call
@@ -59,6 +63,7 @@ outcome-of (judging request lent budget) = judged (judge format request lent bud
 outcome-of (judging-line request lent budget) = judged-line (judge format request lent budget) (line format request lent budget)
 outcome-of (guarding-line request lent budget) = judged-line (judge-guarded format request lent budget) (line-guarded format request lent budget)
 outcome-of (by-cases-line request lent budget) = judged-line (judge-by-cases format request lent budget) (line-by-cases format request lent budget)
+outcome-of (valuing request lent budget) = judged (judge-values format request lent budget)
 outcome-of (indexing request room) = built (build format request room)
 outcome-of (indexed-line request index lent budget) = judged-line (judge-indexed format request index lent budget) (line-indexed format request index lent budget)
 outcome-of (writing request room budget) = built (derive format request room budget)
@@ -80,6 +85,9 @@ guarding-row c = record { call = guarding-line (c .request) (c .lent) (c .budget
 
 abbrev by-cases-row : LineCase → Row
 by-cases-row c = record { call = by-cases-line (c .request) (c .lent) (c .budget); gives = judged-line (c .gives) (c .carries) }
+
+abbrev valuing-row : Cases.Case → Row
+valuing-row c = record { call = valuing (c .request) (c .lent) (c .budget); gives = judged (c .gives) }
 
 abbrev indexing-row : BuildCase → Row
 indexing-row c = record { call = indexing (c .request) (c .room); gives = built (c .gives) }
@@ -122,6 +130,9 @@ module _ {C : Type 0} (row : C → Row) (cs : List C) where
 judgings : (cs : List Cases.Case) → map (λ (c : Cases.Case). judge format (c .request) (c .lent) (c .budget)) cs ≡ map (λ (c : Cases.Case). c .gives) cs → Held
 judgings cs hold = each-row judging-row cs λ c has. ap judged (map-same _ (λ (c : Cases.Case). c .gives) cs c hold has)
 
+valuings : (cs : List Cases.Case) → map (λ (c : Cases.Case). judge-values format (c .request) (c .lent) (c .budget)) cs ≡ map (λ (c : Cases.Case). c .gives) cs → Held
+valuings cs hold = each-row valuing-row cs λ c has. ap judged (map-same _ (λ (c : Cases.Case). c .gives) cs c hold has)
+
 checkings : (cs : List DerivationCases.Case) → map (λ (c : DerivationCases.Case). check format (c .layout) (c .request) (c .derivation)) cs ≡ map (λ (c : DerivationCases.Case). c .gives) cs → Held
 checkings cs hold = each-row checking-row cs λ c has. ap answered (map-same _ (λ (c : DerivationCases.Case). c .gives) cs c hold has)
 
@@ -139,7 +150,7 @@ module _ {C : Type 0} (row : C → Row) (judges gives : C → Judgement) (tells 
       each-row row cs λ c has. says c .0 ∙ ap₂ {C = Given} judged-line (map-same judges gives cs c judged-so has) (map-same tells carries cs c told-so has) ∙ sym (says c .1)
 
 -- Cases 1 to 13 and the rows beside them, those of the line, then case 14 and the rows beside it, then those of the closing layout, then those of
--- releases, those of reused verdicts, those of guarded plans, those by cases, those of indexes, those of derivations that are written, and last the long ones.
+-- releases, those of reused verdicts, those of guarded plans, those by cases, those of fluents with values, those of indexes, those of derivations that are written, and last the long ones.
 all-rows : Held
 all-rows =
     and-then (judgings cases cases-hold)
@@ -153,13 +164,15 @@ all-rows =
     (and-then (lined guarding-row _ _ _ _ guarded-cases (λ _. (refl, refl)) guarded-cases-hold guarded-lines-hold)
     (and-then (lined by-cases-row _ _ _ _ by-cases (λ _. (refl, refl)) by-cases-hold by-cases-lines-hold)
     (and-then (lined by-cases-row _ _ _ _ wide-cases (λ _. (refl, refl)) wide-cases-hold wide-lines-hold)
+    (and-then (valuings value-cases value-cases-hold)
+    (and-then (valuings more-values more-values-hold)
     (and-then (each-row indexing-row building λ c has. ap built (map-same _ (λ (c : BuildCase). c .gives) building c building-holds has))
     (and-then (lined indexed-row _ _ _ _ indexed-cases (λ _. (refl, refl)) indexed-cases-hold indexed-lines-hold)
     (and-then (writings derive-cases derive-cases-hold)
     (and-then (writings more-written more-written-hold)
     (and-then (writings long-written long-written-hold)
     (and-then (judgings long-cases long-cases-hold)
-    (and-then (checkings long-derivations long-derivations-hold) (releasings long-releases long-releases-hold))))))))))))))))))
+    (and-then (checkings long-derivations long-derivations-hold) (releasings long-releases long-releases-hold))))))))))))))))))))
 
 pub proved-cases : List Row
 proved-cases = all-rows .rows

@@ -13,6 +13,7 @@ use Rattle.meaning.specs.Tests.{either, Each}
 use Rattle.meaning.specs.Limits
 use Rattle.meaning.specs.Limits.{Limits, format}
 use Rattle.meaning.specs.Requests.{Sequence, done, item, Item, act, branching, Branches, none, branch, unplaced, unplaced-item, unplaced-branches}
+use Rattle.meaning.specs.declared.Form.the-variants.{Flags}
 use Rattle.meaning.specs.Reading.{Got, got, literals, bound-of, count-at, list-at, body-at, repeated, Met, Part, item-at, items-at, sequence-at, branches-at, branching-at, plan-at}
 use Rattle.meaning.specs.Layouts.{Bytes, list-written, number-written, numbers-written, items-in, branches-in, items-written, item-written, branches-written, plan-written, conclusion-written, concluded-written, line-written, lines-written, closing-written, written}
 use Rattle.meaning.specs.Derivations.{Conclusion, knows, knows-whether, Line, Derivation, join, list-concluded, concluded-at, closing-at, line-at, read-derivation}
@@ -112,13 +113,13 @@ module _ (lim : Limits) (n m : ℕ) where
 
   module _ (within : m ≤ Limits.branching-byte) (u : List ℕ) where
     abbrev one-item : (deep : ℕ) → Part (Item ℕ)
-    one-item deep = item-at lim n m u (branching-at lim n m u deep)
+    one-item deep = item-at lim Flags n m u (branching-at lim Flags n m u deep)
 
     abbrev one-sequence : (deep : ℕ) → Part (Sequence ℕ)
-    one-sequence deep = sequence-at lim n m u (branching-at lim n m u deep)
+    one-sequence deep = sequence-at lim Flags n m u (branching-at lim Flags n m u deep)
 
     abbrev Items-again : (deep : ℕ) (c : Sequence ℕ) (met q f : ℕ) → Type 0
-    Items-again deep c met q f = Moved (items-at lim n m u (one-item deep) (items-in c) q met) unplaced (part c (met + all-items c)) f
+    Items-again deep c met q f = Moved (items-at lim Flags n m u (one-item deep) (items-in c) q met) unplaced (part c (met + all-items c)) f
 
     -- A sequence is its count and its items.
     sequence-again : (deep : ℕ) (c : Sequence ℕ) (met q r f : ℕ) → Stands u q (number-written (items-in c)) r → Items-again deep c met r f
@@ -174,7 +175,7 @@ module _ (lim : Limits) (n m : ℕ) where
           }
 
       branches-again : (deep : ℕ) (bs : Branches ℕ) (met q f : ℕ) → Branches-fit deep bs → met + all-below bs ≤ lim .items → Stands u q (branches-written bs) f
-          → Moved (branches-at lim n m u (one-sequence deep) (branches-in bs) q met) unplaced-branches (part bs (met + all-below bs)) f
+          → Moved (branches-at lim Flags n m u (one-sequence deep) (branches-in bs) q met) unplaced-branches (part bs (met + all-below bs)) f
       branches-again deep none met q f fits few st =
           let same : met ≡ met + 0 = omega arith in
           record { value = none; is = ap₂ {C = Got (Met (Branches ℕ))} (λ k o. got (part none k) o) same st; alike = refl }
@@ -194,7 +195,7 @@ module _ (lim : Limits) (n m : ℕ) where
             alike = ap₂ {C = Branches ℕ} (λ j js. branch c j js) (first .alike) (last .alike);
           }
 
-    pub plan-again : (c : Sequence ℕ) (q f : ℕ) → Plan-fits c → Stands u q (plan-written c) f → Moved (plan-at lim n m u q) unplaced (part c (0 + all-items c)) f
+    pub plan-again : (c : Sequence ℕ) (q f : ℕ) → Plan-fits c → Stands u q (plan-written c) f → Moved (plan-at lim Flags n m u q) unplaced (part c (0 + all-items c)) f
     unfolding plan-at plan-written
     plan-again c q f fits st =
         let parts = stands-parts u q (number-written (items-in c)) (items-written c) f st in
@@ -336,7 +337,7 @@ module _ (lim : Limits) (n m : ℕ) (s : List ℕ) where
         );
   }
 
-  pub plan-fits : (p : ℕ) (x : Met (Sequence ℕ)) (e : ℕ) → plan-at lim n m s p ≡ got x e → Plan-fits lim n m (x .value)
+  pub plan-fits : (p : ℕ) (x : Met (Sequence ℕ)) (e : ℕ) → plan-at lim Flags n m s p ≡ got x e → Plan-fits lim n m (x .value)
   plan-fits p x e reads =
       let w = plan-on lim n m s plan-fitting fitting-passed p .holds x e reads (omega arith) in
       let f = w .1 .counted in let g = w .1 .most in

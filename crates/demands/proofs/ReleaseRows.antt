@@ -15,6 +15,7 @@ use Rattle.meaning.specs.Limits
 use Rattle.meaning.specs.Limits.{Limits}
 use Rattle.meaning.specs.Literals.{among}
 use Rattle.meaning.specs.Requests.{Table, Request}
+use Rattle.meaning.specs.declared.Form.the-variants.{Flags}
 use Rattle.meaning.specs.Reading.{Got, got, fault, next, repeated, table-at, request-at, read-request}
 use Rattle.meaning.specs.Refusals.{Found, nowhere, at, contradiction-in, mixed-in, overlap-in, refuse, settled}
 use Rattle.meaning.specs.States.{State, first-state}
@@ -100,12 +101,12 @@ unfolding refuse
 refuse-none n f k e = ap (λ (g : Found). refuse n g k) e
 
 module _ (lim : Limits) (t : Table) (end : ℕ) (clean : contradiction-in t ≡ nowhere) (unmixed : mixed-in (t .effects) (t .knowledge) ≡ nowhere) where
-  pub settled-behind : (u : List ℕ) → length u ≤ lim .request → table-at lim u 0 ≡ got t end → (h : Got Request) → request-at lim u t end ≡ h
+  pub settled-behind : (u : List ℕ) → length u ≤ lim .request → table-at lim Flags u 0 ≡ got t end → (h : Got Request) → request-at lim Flags u t end ≡ h
       → ((r : Request) (e : ℕ) → h ≡ got r e → length u ≤ e) → settled lim u ≡ past-overlap h
   unfolding settled read-request next
   settled-behind u short table (got r e) read ends =
       let same : r .table ≡ t = request-table lim u t end .holds r e read in
-      let whole : read-request lim u ≡ got r e =
+      let whole : read-request lim Flags u ≡ got r e =
       pick-false _ _ _ (le-ltb (lim .request) (length u) short) ∙ next-is _ _ _ _ table ∙ next-is _ _ _ _ read ∙ pick-false _ _ _ (le-ltb e (length u) (ends r e refl)) in
       next-is _ _ _ _ whole
       ∙ refuse-none _ (contradiction-in (r .table)) _ (ap contradiction-in same ∙ clean)
@@ -114,7 +115,7 @@ module _ (lim : Limits) (t : Table) (end : ℕ) (clean : contradiction-in t ≡ 
       next-fault _ _ n i (pick-false _ _ _ (le-ltb (lim .request) (length u) short) ∙ next-is _ _ _ _ table ∙ next-fault _ _ n i read)
 
   -- OUT OF A FILE that has this table too, with a plan behind it.
-  module _ (s : List ℕ) (short : length s ≤ lim .request) (table : table-at lim s 0 ≡ got t end) (start : ℕ) (behind : end ≤ start) (inside : start ≤ length s) where
+  module _ (s : List ℕ) (short : length s ≤ lim .request) (table : table-at lim Flags s 0 ≡ got t end) (start : ℕ) (behind : end ≤ start) (inside : start ≤ length s) where
     abbrev on : ℕ
     on = start - end
 
@@ -133,38 +134,38 @@ module _ (lim : Limits) (t : Table) (end : ℕ) (clean : contradiction-in t ≡ 
         let place : start + (q - end) ≡ q + (start - end) = omega (arith, more, behind) in
         sym (behind-joint end s (drop start s) fits q more ∙ getD-drop start s (q - end) 0 ∙ ap (λ (k : ℕ). getD s k 0) place)
 
-    uncut-read : request-at lim s t start ≡ moved-got on (request-at lim uncut t end)
+    uncut-read : request-at lim Flags s t start ≡ moved-got on (request-at lim Flags uncut t end)
     uncut-read = request-moved s uncut on end uncut-length uncut-same lim t start end (omega (arith, behind)) (omega arith)
 
     -- The table is read from whatever stands behind its bytes.
-    table-there : (ys : List ℕ) → table-at lim (take end s ++ ys) 0 ≡ got t end
+    table-there : (ys : List ℕ) → table-at lim Flags (take end s ++ ys) 0 ≡ got t end
     table-there ys =
         let long = length-append (take end s) ys in
-        kept-of s (take end s ++ ys) end (omega (arith, long, length-take-le end s fits)) (before-joint end s ys fits) 0 (table-at lim s 0) (table-at lim (take end s ++ ys) 0)
+        kept-of s (take end s ++ ys) end (omega (arith, long, length-take-le end s fits)) (before-joint end s ys fits) 0 (table-at lim Flags s 0) (table-at lim Flags (take end s ++ ys) 0)
         (table-kept s (take end s ++ ys) end (omega (arith, long, length-take-le end s fits)) (before-joint end s ys fits) lim 0) t end table .2 (omega arith)
 
     -- The plan that is read there, and what its own request is settled to.
     abbrev Alone : Got Request → Type 0
     Alone x = (h : Got Request) × (x ≡ moved-got on h) × (settled lim (take end s ++ plan-bytes s start x) ≡ past-overlap h)
 
-    failed-alone : (n i : ℕ) → request-at lim s t start ≡ fault n i → Alone (fault n i)
+    failed-alone : (n i : ℕ) → request-at lim Flags s t start ≡ fault n i → Alone (fault n i)
     unfolding plan-bytes
     failed-alone n i read =
-        let same : fault n i ≡ moved-got on (request-at lim uncut t end) = sym read ∙ uncut-read in (
-          request-at lim uncut t end,
+        let same : fault n i ≡ moved-got on (request-at lim Flags uncut t end) = sym read ∙ uncut-read in (
+          request-at lim Flags uncut t end,
           same,
-          settled-behind uncut (omega (arith, uncut-length, short)) (table-there (drop start s)) (request-at lim uncut t end) refl
+          settled-behind uncut (omega (arith, uncut-length, short)) (table-there (drop start s)) (request-at lim Flags uncut t end) refl
               (λ r e got-there. absurd (fault≢got (same ∙ ap (moved-got on) got-there))),
         )
 
-    module _ (r : Request) (e : ℕ) (read : request-at lim s t start ≡ got r e) where
+    module _ (r : Request) (e : ℕ) (read : request-at lim Flags s t start ≡ got r e) where
       abbrev cut : List ℕ
       cut = take end s ++ take (e - start) (drop start s)
 
       -- It stops behind its start and within the file.
       goes : (start ≤ e) × (e ≤ length s)
       goes =
-          let kept = kept-of s s 0 (omega arith) (λ i less. refl) start (request-at lim s t start) (request-at lim s t start) (request-kept s s 0 (omega arith) (λ i less. refl) lim t start) r e read in
+          let kept = kept-of s s 0 (omega arith) (λ i less. refl) start (request-at lim Flags s t start) (request-at lim Flags s t start) (request-kept s s 0 (omega arith) (λ i less. refl) lim t start) r e read in
           (kept .0, kept .1 inside)
 
       cut-length : length cut ≡ end + (e - start)
@@ -183,12 +184,12 @@ module _ (lim : Limits) (t : Table) (end : ℕ) (clean : contradiction-in t ≡ 
           ∙ getD-take (e - start) (drop start s) (i - end) 0 (omega (arith, less, more))
           ∙ sym (behind-joint end s (drop start s) fits i more))
 
-      by-read : (h : Got Request) → request-at lim uncut t end ≡ h → got r e ≡ moved-got on h → settled lim cut ≡ past-overlap h
+      by-read : (h : Got Request) → request-at lim Flags uncut t end ≡ h → got r e ≡ moved-got on h → settled lim cut ≡ past-overlap h
       by-read (got y f) there same =
           let place : e ≡ f + on = got-place same in
           let far : f ≡ end + (e - start) = omega (arith, place, behind, goes .0) in
-          let again : request-at lim cut t end ≡ got y f =
-          kept-of uncut cut (end + (e - start)) (omega (arith, cut-length)) cut-same end (request-at lim uncut t end) (request-at lim cut t end)
+          let again : request-at lim Flags cut t end ≡ got y f =
+          kept-of uncut cut (end + (e - start)) (omega (arith, cut-length)) cut-same end (request-at lim Flags uncut t end) (request-at lim Flags cut t end)
           (request-kept uncut cut (end + (e - start)) (omega (arith, cut-length)) cut-same lim t end) y f there .2 (omega (arith, far)) in
           settled-behind cut (omega (arith, cut-length, goes .0, goes .1, behind, short)) (table-there (take (e - start) (drop start s))) (got y f) again
           (λ z g is. let last : f ≡ g = got-place is in omega (arith, last, far, cut-length))
@@ -197,31 +198,31 @@ module _ (lim : Limits) (t : Table) (end : ℕ) (clean : contradiction-in t ≡ 
       read-alone : Alone (got r e)
       unfolding plan-bytes
       read-alone =
-          let same : got r e ≡ moved-got on (request-at lim uncut t end) = sym read ∙ uncut-read in
-          (request-at lim uncut t end, same, by-read (request-at lim uncut t end) refl same)
+          let same : got r e ≡ moved-got on (request-at lim Flags uncut t end) = sym read ∙ uncut-read in
+          (request-at lim Flags uncut t end, same, by-read (request-at lim Flags uncut t end) refl same)
 
-    alone : (x : Got Request) → request-at lim s t start ≡ x → Alone x
+    alone : (x : Got Request) → request-at lim Flags s t start ≡ x → Alone x
     alone (got r e) read = read-alone r e read
     alone (fault n i) read = failed-alone n i read
 
     plan-alone : (budget : ℕ) (lent : List ℕ) → length lent ≡ lim .state
-        → plan-answer lim budget (request-at lim s t start) ≡ moved on (judge lim (take end s ++ plan-bytes s start (request-at lim s t start)) lent budget .answer)
+        → plan-answer lim budget (request-at lim Flags s t start) ≡ moved on (judge lim (take end s ++ plan-bytes s start (request-at lim Flags s t start)) lent budget .answer)
     unfolding judge
     plan-alone budget lent sized =
-        let a = alone (request-at lim s t start) refl in
+        let a = alone (request-at lim Flags s t start) refl in
         ap (plan-answer lim budget) (a .1) ∙ plan-answer-moved on lim lent budget (a .0)
         ∙ ap (λ (j : Judgement). moved on (j .answer)) (sym (pick-true _ _ _ (eq-eqb _ _ sized) ∙ ap (judge-settled lim lent budget) (a .2)))
 
 -- THE PLANS IN ORDER. Each is judged where those before it end, and none behind one that fails.
 module _ (lim : Limits) (s : List ℕ) (t : Table) (budget : ℕ) where
   answer-there : (i left p : ℕ) (rs : List Request) (start : ℕ) → i < left → plans-at lim s t i p ≡ got rs start
-      → getD (answers-at lim s t budget left p) i unreached ≡ plan-answer lim budget (request-at lim s t start)
+      → getD (answers-at lim s t budget left p) i unreached ≡ plan-answer lim budget (request-at lim Flags s t start)
   unfolding answers-at plans-at repeated after-plan
   answer-there i zero p rs start less before = absurd (omega (arith, less))
-  answer-there zero (suc left) p rs start less before = ap (λ (q : ℕ). plan-answer lim budget (request-at lim s t q)) (got-place before)
+  answer-there zero (suc left) p rs start less before = ap (λ (q : ℕ). plan-answer lim budget (request-at lim Flags s t q)) (got-place before)
   answer-there (suc i) (suc left) p rs start less before =
-      let a = next-got (request-at lim s t p) _ before in
-      let b = next-got (repeated (request-at lim s t) i (a .1)) _ (a .3) in
+      let a = next-got (request-at lim Flags s t p) _ before in
+      let b = next-got (repeated (request-at lim Flags s t) i (a .1)) _ (a .3) in
       ap (λ (x : Got Request). getD (after-plan left x (λ e. answers-at lim s t budget left e)) i unreached) (a .2)
       ∙ answer-there i left (a .1) (b .0) start (omega (arith, less)) (b .2 ∙ ap (λ (q : ℕ). got (b .0) q) (got-place (b .3)))
 
@@ -230,16 +231,16 @@ module _ (lim : Limits) (s : List ℕ) (t : Table) (budget : ℕ) where
   unreached-there i zero p n k less before = absurd (omega (arith, less))
   unreached-there zero (suc left) p n k less before = absurd (fault≢got (sym before))
   unreached-there (suc i) (suc left) p n k less before =
-      by-plan (request-at lim s t p) before (unreached-there i left)
+      by-plan (request-at lim Flags s t p) before (unreached-there i left)
     where
       by-rest : (q : ℕ) (y : Request) (x : Got (List Request)) → next x (λ rest r. got (y ∷ rest) r) ≡ fault n k → x ≡ fault n k
       by-rest q y (got rest r) e = absurd (fault≢got (sym e))
       by-rest q y (fault m j) e = e
 
-      by-plan : (x : Got Request) → next x (λ y q. next (repeated (request-at lim s t) i q) (λ rest r. got (y ∷ rest) r)) ≡ fault n k
-          → ((q m j : ℕ) → i < left → repeated (request-at lim s t) i q ≡ fault m j → getD (answers-at lim s t budget left q) i unreached ≡ unreached)
+      by-plan : (x : Got Request) → next x (λ y q. next (repeated (request-at lim Flags s t) i q) (λ rest r. got (y ∷ rest) r)) ≡ fault n k
+          → ((q m j : ℕ) → i < left → repeated (request-at lim Flags s t) i q ≡ fault m j → getD (answers-at lim s t budget left q) i unreached ≡ unreached)
           → getD (after-plan left x (λ e. answers-at lim s t budget left e)) i unreached ≡ unreached
-      by-plan (got y q) e more = more q n k (omega (arith, less)) (by-rest q y (repeated (request-at lim s t) i q) e)
+      by-plan (got y q) e more = more q n k (omega (arith, less)) (by-rest q y (repeated (request-at lim Flags s t) i q) e)
       by-plan (fault m j) e more = getD-replicate left i unreached unreached (omega (arith, less))
 
 -- OF THE CALL, where its own answer is 0.
@@ -258,7 +259,7 @@ module _ (lim : Limits) (s lent : List ℕ) (budget : ℕ) (zero : release lim s
   each-row rs start before room sized =
       let j = judged lim s lent budget zero o p is in
       let read = opened lim s o p is in
-      let line = request-at lim s (o .table) in
+      let line = request-at lim Flags s (o .table) in
       let kept =
       kept-of s s 0 (omega arith) (λ k _. refl) p (repeated line i p) (repeated line i p)
       (repeated-kept s s 0 (omega arith) (λ k _. refl) line line (request-kept s s 0 (omega arith) (λ k _. refl) lim (o .table)) i p) rs start before in

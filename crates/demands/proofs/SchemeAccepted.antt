@@ -15,6 +15,7 @@ use Rattle.meaning.specs.Limits
 use Rattle.meaning.specs.Limits.{Limits, format}
 use Rattle.meaning.specs.Literals.{among}
 use Rattle.meaning.specs.Requests.{Table, Request, values}
+use Rattle.meaning.specs.declared.Form.the-variants.{Flags}
 use Rattle.meaning.specs.Reading.{got, fluents, literals, list-at, plan-at, table-at, request-at, read-request}
 use Rattle.meaning.specs.Refusals.{nowhere, settled, overlap-in}
 use Rattle.meaning.specs.Derivations.{Line, overlap-in-lines, citations-taken, citations-of, a-rule, check}
@@ -45,12 +46,12 @@ use Rattle.demands.proofs.SchemeReadable.{Sayable, nowhere-both, deriva
 abbrev Asked-fits : Limits → Request → Type 0
 Asked-fits lim r = Plan-fits lim (r .table .fluents) (r .table .actions) (r .plan) × List-fits (r .table .fluents) (lim .listed) (values (r .goals))
 
-request-fits : (lim : Limits) (b : List ℕ) (r : Request) (e : ℕ) → read-request lim b ≡ got r e → Asked-fits lim r
+request-fits : (lim : Limits) (b : List ℕ) (r : Request) (e : ℕ) → read-request lim Flags b ≡ got r e → Asked-fits lim r
 unfolding read-request request-at
 request-fits lim b r e reads =
-    after-got (table-at lim b 0) _ (not-refused _ _ _ _ reads .1) λ t p₁ _ e₁.
-    after-got (request-at lim b t p₁) _ e₁ λ q p₂ eq e₂.
-    after-got (plan-at lim (t .fluents) (t .actions) b p₁) _ eq λ plan p₃ ep e₃.
+    after-got (table-at lim Flags b 0) _ (not-refused _ _ _ _ reads .1) λ t p₁ _ e₁.
+    after-got (request-at lim Flags b t p₁) _ e₁ λ q p₂ eq e₂.
+    after-got (plan-at lim Flags (t .fluents) (t .actions) b p₁) _ eq λ plan p₃ ep e₃.
     after-got (list-at literals (t .fluents) (lim .listed) b p₃) _ e₃ λ goals p₄ eg e₄.
     after-got (list-at fluents (t .fluents) (lim .listed) b p₄) _ e₄ λ whether p₅ _ same.
     subst (Asked-fits lim) (got-same same ∙ got-same (not-refused _ _ _ _ e₂ .1)) (

@@ -16,7 +16,7 @@ use Rattle.meaning.specs.Literals.{says-true, says-false, fluent-of, complement
 use Rattle.meaning.specs.Requests.{Table, Sequence, done, item, Item, act, branching, Branches, none, branch, Request, values}
 use Rattle.meaning.specs.Lines.{sensing, effects-of}
 use Rattle.meaning.specs.Reading.{literals, bound-of, have-complements}
-use Rattle.meaning.specs.Refusals.{Found, nowhere, at, or-else, overlap-in, overlap-at, overlap-below}
+use Rattle.meaning.specs.Refusals.{failing-in, Found, nowhere, at, or-else, overlap-in, overlap-at, overlap-below}
 use Rattle.meaning.specs.States.{State, known, told, known-after, state-after, unknown-sensed, Outcome, single, fork, readings, first-state}
 use Rattle.meaning.specs.Derivations.{Conclusion, knows, Line, join, known-from, literals-of, goals-of}
 use Rattle.meaning.specs.Schemes.{Writes, line-of, empty-lines, and-cites, one-read, both-read, then-read, read-lines, sensing-lines, acting-lines, action-lines, branching-lines, lines, item-lines, branch-lines, lines-from, derivation-of}
@@ -134,7 +134,7 @@ nowhere-both nowhere k e h = h
 nowhere-both (at p) k e h = e
 
 pub overlap-joined : (p q : Sequence ℕ) → overlap-in p ≡ nowhere → overlap-in q ≡ nowhere → overlap-in (join p q) ≡ nowhere
-unfolding join overlap-in
+unfolding join failing-in
 overlap-joined done q one more = more
 overlap-joined (item i p) q one more = let w = or-else-nowhere (overlap-at i) _ one in nowhere-both (overlap-at i) _ (w .0) (overlap-joined p q (w .1) more)
 
@@ -144,17 +144,17 @@ module _ (lim : Limits) (n m : ℕ) where
     pub apart : overlap-in c ≡ nowhere
 
   left-none : Left done
-  unfolding overlap-in
+  unfolding failing-in
   left-none = record { fits = record { items = tt; few = omega arith }; apart = refl }
 
   left-behind : (i : Item ℕ) (c : Sequence ℕ) → Left (item i c) → Left c
-  unfolding overlap-in
+  unfolding failing-in
   left-behind i c left =
       let few = left .fits .few in
       record { fits = record { items = left .fits .items .1; few = omega arith }; apart = or-else-nowhere (overlap-at i) _ (left .apart) .1 }
 
   left-one : (p a : ℕ) (c : Sequence ℕ) → Left (item (act p a) c) → Left (item (act p a) done)
-  unfolding overlap-in or-else
+  unfolding failing-in or-else
   left-one p a c left =
       let few = left .fits .few in
       record { fits = record { items = (left .fits .items .0, tt); few = omega arith }; apart = refl }
@@ -168,7 +168,7 @@ module _ (lim : Limits) (n m : ℕ) where
     apart : overlap-in rest ≡ nowhere
 
   left-branching : (p : ℕ) (bs : Branches ℕ) (rest : Sequence ℕ) → Left (item (branching p bs) rest) → Left-at bs rest
-  unfolding overlap-in
+  unfolding failing-in
   left-branching p bs rest left =
       let few = left .fits .few in
       let w = or-else-nowhere (overlap-at (branching p bs)) _ (left .apart) in
@@ -181,7 +181,7 @@ module _ (lim : Limits) (n m : ℕ) where
       }
 
   left-branch : (φ : List ℕ) (b : Sequence ℕ) (bs : Branches ℕ) (rest : Sequence ℕ) → Left-at (branch φ b bs) rest → Left (join b rest)
-  unfolding overlap-in
+  unfolding failing-in
   left-branch φ b bs rest left =
       let few = left .few in
       let size = all-joined b rest in
@@ -191,7 +191,7 @@ module _ (lim : Limits) (n m : ℕ) where
       }
 
   left-others : (φ : List ℕ) (b : Sequence ℕ) (bs : Branches ℕ) (rest : Sequence ℕ) → Left-at (branch φ b bs) rest → Left-at bs rest
-  unfolding overlap-in
+  unfolding failing-in
   left-others φ b bs rest left =
       let few = left .few in
       record {

@@ -12,6 +12,7 @@ use Rattle.meaning.specs.Tests.{pick}
 use Rattle.meaning.specs.Limits
 use Rattle.meaning.specs.Limits.{Limits}
 use Rattle.meaning.specs.Requests.{Effect, Executability, Knowledge, Table, Sequence, done, item, Item, act, branching, Branches, none, branch, Entry, Request}
+use Rattle.meaning.specs.declared.Form.the-variants.{Flags}
 use Rattle.meaning.specs.Reading.{Got, got, fault, next, byte-at, two-bytes-at, count-at, below-at, Kind, literals, fluents, bound-of, entry-at, entries-at, list-at, repeated, section-at, body-at, effect-at, executability-at, knowledge-at, Met, Part, item-at, items-at, sequence-at, branches-at, branching-at, plan-at, placed, request-at}
 use Rattle.meaning.proofs.TestLaws.{same-test}
 use Rattle.meaning.proofs.SettledLaws.{fault≢got, got-same}
@@ -161,23 +162,23 @@ module _ (s u : List ℕ) (on low : ℕ) (longer : length s ≡ length u + on) (
         repeated-shifted c (e + on) e refl more
 
   module _ (lim : Limits) (n m : ℕ) where
-    line-body-shifted : (p q : ℕ) → p ≡ q + on → low ≤ q → Shifted as-is (body-at lim n s p) (body-at lim n u q)
+    line-body-shifted : (p q : ℕ) → p ≡ q + on → low ≤ q → Shifted as-is (body-at lim Flags n s p) (body-at lim Flags n u q)
     unfolding body-at
     line-body-shifted p q far above = list-shifted literals n (lim .body) p q far above
 
-    pub effect-shifted : (p q : ℕ) → p ≡ q + on → low ≤ q → Shifted (moved-effect on) (effect-at lim n m s p) (effect-at lim n m u q)
+    pub effect-shifted : (p q : ℕ) → p ≡ q + on → low ≤ q → Shifted (moved-effect on) (effect-at lim Flags n m s p) (effect-at lim Flags n m u q)
     unfolding effect-at
     effect-shifted p q far above =
         shifted-next as-is (moved-effect on) (below-at m s p) (below-at m u q) _ _ (below-shifted m p q far above) λ a e more.
         shifted-next as-is (moved-effect on) (below-at (2 * n) s (e + on)) (below-at (2 * n) u e) _ _ (below-shifted (2 * n) (e + on) e refl more) λ l f later.
-        shifted-next as-is (moved-effect on) (body-at lim n s (f + on)) (body-at lim n u f) _ _ (line-body-shifted (f + on) f refl later) λ b g last.
+        shifted-next as-is (moved-effect on) (body-at lim Flags n s (f + on)) (body-at lim Flags n u f) _ _ (line-body-shifted (f + on) f refl later) λ b g last.
         (ap (λ (k : ℕ). got (record { place = k; action = a; literal = l; body = b }) (g + on)) far, last)
 
-    pub executability-shifted : (p q : ℕ) → p ≡ q + on → low ≤ q → Shifted (moved-executability on) (executability-at lim n m s p) (executability-at lim n m u q)
+    pub executability-shifted : (p q : ℕ) → p ≡ q + on → low ≤ q → Shifted (moved-executability on) (executability-at lim Flags n m s p) (executability-at lim Flags n m u q)
     unfolding executability-at
     executability-shifted p q far above =
         shifted-next as-is (moved-executability on) (below-at m s p) (below-at m u q) _ _ (below-shifted m p q far above) λ a e more.
-        shifted-next as-is (moved-executability on) (body-at lim n s (e + on)) (body-at lim n u e) _ _ (line-body-shifted (e + on) e refl more) λ b g last.
+        shifted-next as-is (moved-executability on) (body-at lim Flags n s (e + on)) (body-at lim Flags n u e) _ _ (line-body-shifted (e + on) e refl more) λ b g last.
         (ap (λ (k : ℕ). got (record { place = k; action = a; body = b }) (g + on)) far, last)
 
     pub knowledge-shifted : (p q : ℕ) → p ≡ q + on → low ≤ q → Shifted (moved-knowledge on) (knowledge-at lim n m s p) (knowledge-at lim n m u q)
@@ -193,11 +194,11 @@ module _ (s u : List ℕ) (on low : ℕ) (longer : length s ≡ length u + on) (
     Parts-shifted one other = (p q met : ℕ) → p ≡ q + on → low ≤ q → Shifted (moved-part move) (one p met) (other q met)
 
   module _ (lim : Limits) (n m : ℕ) where
-    body-shifted : (p q : ℕ) → p ≡ q + on → low ≤ q → Shifted as-is (body-at lim n s p) (body-at lim n u q)
+    body-shifted : (p q : ℕ) → p ≡ q + on → low ≤ q → Shifted as-is (body-at lim Flags n s p) (body-at lim Flags n u q)
     unfolding body-at
     body-shifted p q far above = list-shifted literals n (lim .body) p q far above
 
-    pub item-shifted : (deeper other : Part (Item ℕ)) → Parts-shifted (moved-item on) deeper other → Parts-shifted (moved-item on) (item-at lim n m s deeper) (item-at lim n m u other)
+    pub item-shifted : (deeper other : Part (Item ℕ)) → Parts-shifted (moved-item on) deeper other → Parts-shifted (moved-item on) (item-at lim Flags n m s deeper) (item-at lim Flags n m u other)
     unfolding item-at
     item-shifted deeper other alike p q met far above =
         shifted-next as-is (moved-part (moved-item on)) (byte-at s p) (byte-at u q) _ _ (byte-shifted p q far above) λ x e more.
@@ -206,50 +207,50 @@ module _ (s u : List ℕ) (on low : ℕ) (longer : length s ≡ length u + on) (
         (shifted-pick (moved-part (moved-item on)) _ _ refl _ _ _ _ (refused-there _ p q far)
         (ap (λ (k : ℕ). got (record { value = act k x; items = met + 1 }) (e + on)) far, more)))
 
-    pub items-shifted : (one other : Part (Item ℕ)) → Parts-shifted (moved-item on) one other → (left : ℕ) → Parts-shifted (moved-plan on) (items-at lim n m s one left) (items-at lim n m u other left)
+    pub items-shifted : (one other : Part (Item ℕ)) → Parts-shifted (moved-item on) one other → (left : ℕ) → Parts-shifted (moved-plan on) (items-at lim Flags n m s one left) (items-at lim Flags n m u other left)
     unfolding items-at
     items-shifted one other alike zero p q met far above = (ap (λ (k : ℕ). got (record { value = done; items = met }) k) far, above)
     items-shifted one other alike (suc left) p q met far above =
         shifted-next (moved-part (moved-item on)) (moved-part (moved-plan on)) (one p met) (other q met) _ _ (alike p q met far above) λ i e more.
-        shifted-next (moved-part (moved-plan on)) (moved-part (moved-plan on)) (items-at lim n m s one left (e + on) (i .items)) (items-at lim n m u other left e (i .items)) _ _
+        shifted-next (moved-part (moved-plan on)) (moved-part (moved-plan on)) (items-at lim Flags n m s one left (e + on) (i .items)) (items-at lim Flags n m u other left e (i .items)) _ _
         (items-shifted one other alike left (e + on) e (i .items) refl more) λ rest f last. (refl, last)
 
-    sequence-shifted : (deeper other : Part (Item ℕ)) → Parts-shifted (moved-item on) deeper other → Parts-shifted (moved-plan on) (sequence-at lim n m s deeper) (sequence-at lim n m u other)
+    sequence-shifted : (deeper other : Part (Item ℕ)) → Parts-shifted (moved-item on) deeper other → Parts-shifted (moved-plan on) (sequence-at lim Flags n m s deeper) (sequence-at lim Flags n m u other)
     unfolding sequence-at
     sequence-shifted deeper other alike p q met far above =
         shifted-next as-is (moved-part (moved-plan on)) (two-bytes-at s p) (two-bytes-at u q) _ _ (two-bytes-shifted p q far above) λ c e more.
-        items-shifted (item-at lim n m s deeper) (item-at lim n m u other) (item-shifted deeper other alike) c (e + on) e met refl more
+        items-shifted (item-at lim Flags n m s deeper) (item-at lim Flags n m u other) (item-shifted deeper other alike) c (e + on) e met refl more
 
     branches-shifted : (sequence other : Part (Sequence ℕ)) → Parts-shifted (moved-plan on) sequence other → (left : ℕ)
-        → Parts-shifted (moved-branches on) (branches-at lim n m s sequence left) (branches-at lim n m u other left)
+        → Parts-shifted (moved-branches on) (branches-at lim Flags n m s sequence left) (branches-at lim Flags n m u other left)
     unfolding branches-at
     branches-shifted sequence other alike zero p q met far above = (ap (λ (k : ℕ). got (record { value = none; items = met }) k) far, above)
     branches-shifted sequence other alike (suc left) p q met far above =
-        shifted-next as-is (moved-part (moved-branches on)) (body-at lim n s p) (body-at lim n u q) _ _ (body-shifted p q far above) λ c e more.
+        shifted-next as-is (moved-part (moved-branches on)) (body-at lim Flags n s p) (body-at lim Flags n u q) _ _ (body-shifted p q far above) λ c e more.
         shifted-next (moved-part (moved-plan on)) (moved-part (moved-branches on)) (sequence (e + on) met) (other e met) _ _ (alike (e + on) e met refl more) λ b f later.
-        shifted-next (moved-part (moved-branches on)) (moved-part (moved-branches on)) (branches-at lim n m s sequence left (f + on) (b .items)) (branches-at lim n m u other left f (b .items)) _ _
+        shifted-next (moved-part (moved-branches on)) (moved-part (moved-branches on)) (branches-at lim Flags n m s sequence left (f + on) (b .items)) (branches-at lim Flags n m u other left f (b .items)) _ _
         (branches-shifted sequence other alike left (f + on) f (b .items) refl later) λ rest g last. (refl, last)
 
-    pub branching-shifted : (left : ℕ) → Parts-shifted (moved-item on) (branching-at lim n m s left) (branching-at lim n m u left)
+    pub branching-shifted : (left : ℕ) → Parts-shifted (moved-item on) (branching-at lim Flags n m s left) (branching-at lim Flags n m u left)
     unfolding branching-at
     branching-shifted zero p q met far above = refused-there _ p q far
     branching-shifted (suc left) p q met far above =
         shifted-next as-is (moved-part (moved-item on)) (count-at 1 (lim .branches) s (p + 1)) (count-at 1 (lim .branches) u (q + 1)) _ _
         (count-shifted 1 (lim .branches) (p + 1) (q + 1) (omega (arith, far)) (omega (arith, above))) λ c e more.
         shifted-next (moved-part (moved-branches on)) (moved-part (moved-item on))
-        (branches-at lim n m s (sequence-at lim n m s (branching-at lim n m s left)) c (e + on) met) (branches-at lim n m u (sequence-at lim n m u (branching-at lim n m u left)) c e met) _ _
+        (branches-at lim Flags n m s (sequence-at lim Flags n m s (branching-at lim Flags n m s left)) c (e + on) met) (branches-at lim Flags n m u (sequence-at lim Flags n m u (branching-at lim Flags n m u left)) c e met) _ _
         (branches-shifted _ _ (sequence-shifted _ _ (branching-shifted left)) c (e + on) e met refl more) λ bs f last.
         (ap (λ (k : ℕ). got (record { value = branching k (moved-branches on (bs .value)); items = bs .items }) (f + on)) far, last)
 
-    pub plan-shifted : (p q : ℕ) → p ≡ q + on → low ≤ q → Shifted (moved-part (moved-plan on)) (plan-at lim n m s p) (plan-at lim n m u q)
+    pub plan-shifted : (p q : ℕ) → p ≡ q + on → low ≤ q → Shifted (moved-part (moved-plan on)) (plan-at lim Flags n m s p) (plan-at lim Flags n m u q)
     unfolding plan-at
     plan-shifted p q far above = sequence-shifted _ _ (branching-shifted (lim .nested)) p q 0 far above
 
   -- SECTIONS 6 TO 8.
-  request-shifted : (lim : Limits) (t : Table) (p q : ℕ) → p ≡ q + on → low ≤ q → Shifted (moved-request on) (request-at lim s t p) (request-at lim u t q)
+  request-shifted : (lim : Limits) (t : Table) (p q : ℕ) → p ≡ q + on → low ≤ q → Shifted (moved-request on) (request-at lim Flags s t p) (request-at lim Flags u t q)
   unfolding request-at
   request-shifted lim t p q far above =
-      shifted-next (moved-part (moved-plan on)) (moved-request on) (plan-at lim (t .fluents) (t .actions) s p) (plan-at lim (t .fluents) (t .actions) u q) _ _
+      shifted-next (moved-part (moved-plan on)) (moved-request on) (plan-at lim Flags (t .fluents) (t .actions) s p) (plan-at lim Flags (t .fluents) (t .actions) u q) _ _
       (plan-shifted lim (t .fluents) (t .actions) p q far above) λ plan e more.
       shifted-next as-is (moved-request on) (list-at literals (t .fluents) (lim .listed) s (e + on)) (list-at literals (t .fluents) (lim .listed) u e) _ _
       (list-shifted literals (t .fluents) (lim .listed) (e + on) e refl more) λ goals f later.
@@ -261,8 +262,8 @@ module _ (s u : List ℕ) (on low : ℕ) (longer : length s ≡ length u + on) (
         last,
       )
 
-  pub request-moved : (lim : Limits) (t : Table) (p q : ℕ) → p ≡ q + on → low ≤ q → request-at lim s t p ≡ moved-got on (request-at lim u t q)
-  request-moved lim t p q far above = by-read (request-at lim s t p) (request-at lim u t q) (request-shifted lim t p q far above)
+  pub request-moved : (lim : Limits) (t : Table) (p q : ℕ) → p ≡ q + on → low ≤ q → request-at lim Flags s t p ≡ moved-got on (request-at lim Flags u t q)
+  request-moved lim t p q far above = by-read (request-at lim Flags s t p) (request-at lim Flags u t q) (request-shifted lim t p q far above)
     where
       by-read : (g h : Got Request) → Shifted (moved-request on) g h → g ≡ moved-got on h
       by-read g (got y e) so = so .0

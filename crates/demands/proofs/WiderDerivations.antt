@@ -15,6 +15,7 @@ use Rattle.meaning.specs.Tests.{either, pick, Has}
 use Rattle.meaning.specs.Limits
 use Rattle.meaning.specs.Limits.{Limits}
 use Rattle.meaning.specs.Requests.{Table, Sequence, done, item, act, branching, Request}
+use Rattle.meaning.specs.declared.Form.the-variants.{Flags}
 use Rattle.meaning.specs.Reading.{Got, got, fault, next, byte-at, two-bytes-at, count-at, literals, list-at, repeated, plan-at}
 use Rattle.meaning.specs.Refusals.{refuse, settled}
 use Rattle.meaning.specs.States.{State, state-of, state-after, unknown-sensed, Outcome, single, fork, readings}
@@ -69,7 +70,7 @@ module _ (lim big : Limits) (wider : Wider lim big) where
     unfolding line-at
     line-alike p =
         alike-next (list-at literals n (lim .listed) s p) (list-at literals n (big .listed) s p) _ _ (list-alike literals n (lim .listed) (big .listed) (wider .listed) s p) λ X q.
-        alike-next (plan-at lim n m s q) (plan-at big n m s q) _ _ (plan-alike lim big wider n m s q) λ plan r.
+        alike-next (plan-at lim Flags n m s q) (plan-at big Flags n m s q) _ _ (plan-alike lim big wider n m s q) λ plan r.
         alike-next (concluded-at lim n s layout r) (concluded-at big n s layout r) _ _ (concluded-alike n s layout r) λ end t.
         alike-next (count-at 0 (lim .citations) s t) (count-at 0 (big .citations) s t) _ _ (inr (ap (λ (most : ℕ). count-at 0 most s t) (wider .citations))) λ k u. inr refl
 

@@ -6,6 +6,7 @@ use mathlib.Core.List.{List, []}
 use Rattle.meaning.specs.Limits
 use Rattle.meaning.specs.Limits.{Limits}
 use Rattle.meaning.specs.Requests.{Table, Request}
+use Rattle.meaning.specs.declared.Form.the-variants.{Flags}
 use Rattle.meaning.specs.Reading.{Got, got, fault, next, read-request}
 use Rattle.meaning.specs.Refusals.{Found, clashing, first-against, mixed-in, overlap-in, refuse, settled}
 
@@ -16,7 +17,7 @@ clash-in t = first-against clashing [] (t .effects)
 -- A request settled with that pass in the place of 16.
 unfoldable pub settled-formerly : Limits → List ℕ → Got Request
 settled-formerly lim s =
-    next (read-request lim s) λ r e.
+    next (read-request lim Flags s) λ r e.
     refuse Limits.contradictory-effects (clash-in (r .table)) λ _.
     refuse Limits.effect-and-knowledge (mixed-in (r .table .effects) (r .table .knowledge)) λ _.
     refuse Limits.not-exclusive (overlap-in (r .plan)) λ _.

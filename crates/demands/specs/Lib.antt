@@ -4,3 +4,5 @@ pub mod Reuse
 pub mod Wider
 pub mod Completeness
 pub mod GuideSaid
+pub mod ValuesReported
+pub mod Matching

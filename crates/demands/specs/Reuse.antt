@@ -10,6 +10,7 @@ use Rattle.meaning.specs.Limits
 use Rattle.meaning.specs.Limits.{Limits}
 use Rattle.meaning.specs.Literals.{among}
 use Rattle.meaning.specs.Requests.{Table, Sequence, Request}
+use Rattle.meaning.specs.declared.Form.the-variants.{Flags}
 use Rattle.meaning.specs.Reading.{Got, got, fault, Met, plan-at, table-at}
 use Rattle.meaning.specs.Refusals.{settled}
 use Rattle.meaning.specs.Judging.{judge}
@@ -40,9 +41,9 @@ bytes-of x = before-plan x ++ (x .plan ++ (list-written (x .goals) ++ list-writt
 -- and the goals end their counts say, so nothing has to be said of these.
 pub record Cut-so (lim : Limits) (x : Parts) : Type 0 where
   pub table : Table
-  pub table-read : table-at lim (bytes-of x) 0 ≡ got table (length (before-plan x))
+  pub table-read : table-at lim Flags (bytes-of x) 0 ≡ got table (length (before-plan x))
   pub plan : Met (Sequence ℕ)
-  pub plan-read : plan-at lim (x .fluents) (x .actions) (bytes-of x) (length (before-plan x)) ≡ got plan (length (before-plan x) + length (x .plan))
+  pub plan-read : plan-at lim Flags (x .fluents) (x .actions) (bytes-of x) (length (before-plan x)) ≡ got plan (length (before-plan x) + length (x .plan))
 
 -- ALIKE BUT FOR ONE PART. The request with other facts, with another plan, and with other goals and whether entries.
 abbrev pub with-facts : List ℕ → Parts → Parts

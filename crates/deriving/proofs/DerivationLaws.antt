@@ -14,6 +14,7 @@ use Rattle.meaning.specs.Tests.{either, pick, some-of}
 use Rattle.meaning.specs.Limits.{format}
 use Rattle.meaning.specs.Literals.{among}
 use Rattle.meaning.specs.Requests.{Sequence}
+use Rattle.meaning.specs.declared.Form.the-variants.{Flags}
 use Rattle.meaning.specs.Reading.{Got, got, fault, next, Met, literals, byte-at, two-bytes-at, count-at, below-at, list-at, repeated, section-at, plan-at}
 use Rattle.meaning.specs.Derivations.{Conclusion, knows, Line, Derivation, concludes-fluent, list-concluded, fluent-concluded, conclusion-at, concluded-at, closing-at, line-at, read-derivation}
 use Rattle.meaning.proofs.TestLaws.{pick-true, pick-false, either-left, either-right}
@@ -144,27 +145,27 @@ module _ (layout : Layout) (n : ℕ) (s : List ℕ) (p : ℕ) (concluded : Passe
   unfolding ending next
   end-whole q r is e = rw (passed-to (concluded-at format n s layout p) q (sym read ∙ is) .1) e
 
-module _ (layout : Layout) (n m : ℕ) (s : List ℕ) (p : ℕ) (t u : List ℕ) (plan : Read) (read : outcome-met plan u ≡ noting-met (plan-noted p t) (plan-at format n m s p)) where
+module _ (layout : Layout) (n m : ℕ) (s : List ℕ) (p : ℕ) (t u : List ℕ) (plan : Read) (read : outcome-met plan u ≡ noting-met (plan-noted Flags p t) (plan-at format Flags n m s p)) where
   pub plan-fault : (k q : ℕ) → plan ≡ Fault k q → Break k q ≡ planned layout n m s p
   unfolding planned
   plan-fault k q is =
-      rw (fault-met (plan-noted p t) (plan-at format n m s p) k q (met-fault (plan-noted p t) (plan-at format n m s p) plan u k q read is))
+      rw (fault-met (plan-noted Flags p t) (plan-at format Flags n m s p) k q (met-fault (plan-noted Flags p t) (plan-at format Flags n m s p) plan u k q read is))
 
   module _ (items q : ℕ) (end : Passed) (is : plan ≡ Value items q) (read-too : end ≡ passed (ending layout n s q)) where
     pub plan-then-fault : (k e : ℕ) → end ≡ Stop k e → Break k e ≡ planned layout n m s p
     unfolding planned ended-at
     plan-then-fault k e f =
-        rw (met-value (plan-noted p t) (plan-at format n m s p) plan u items q read is .1, passed-stop (ending layout n s q) k e (sym read-too ∙ f))
+        rw (met-value (plan-noted Flags p t) (plan-at format Flags n m s p) plan u items q read is .1, passed-stop (ending layout n s q) k e (sym read-too ∙ f))
 
     pub plan-whole : (e : ℕ) → end ≡ To e → Through q e ≡ planned layout n m s p
     unfolding planned ended-at
     plan-whole e v =
-        rw (met-value (plan-noted p t) (plan-at format n m s p) plan u items q read is .1, passed-to (ending layout n s q) e (sym read-too ∙ v) .1)
+        rw (met-value (plan-noted Flags p t) (plan-at format Flags n m s p) plan u items q read is .1, passed-to (ending layout n s q) e (sym read-too ∙ v) .1)
 
 -- A plan ends as far on as it has bytes, within the input.
-pub plan-ends : (n m : ℕ) (s : List ℕ) (q : ℕ) (x : Met (Sequence ℕ)) (e : ℕ) → plan-at format n m s q ≡ got x e → (e ≡ q + (2 + bytes-of (x .value))) × (e ≤ length s)
+pub plan-ends : (n m : ℕ) (s : List ℕ) (q : ℕ) (x : Met (Sequence ℕ)) (e : ℕ) → plan-at format Flags n m s q ≡ got x e → (e ≡ q + (2 + bytes-of Flags (x .value))) × (e ≤ length s)
 unfolding plan-at
-plan-ends n m s q x e reads = let w = sequence-read n m s 8 q 0 (omega arith) .holds x e reads .through in (w .after, w .inside)
+plan-ends n m s q x e reads = let w = sequence-read Flags n m s 8 q 0 (omega arith) .holds x e reads .through in (w .after, w .inside)
 
 -- What follows the plan is not looked at.
 module _ {A : Type 0} (q : ℕ) where
@@ -186,7 +187,7 @@ module _ (layout : Layout) (n m : ℕ) (s : List ℕ) (p : ℕ) where
   line-parts : (X : List ℕ) (q : ℕ) → list-at literals n (format .listed) s p ≡ got X q → lined (line-at format n m s layout p) ≡ planned layout n m s q
   unfolding line-at lined planned ending citing next plan-end
   line-parts X q list =
-      by-got (plan-at format n m s q)
+      by-got (plan-at format Flags n m s q)
       (λ plan r is.
       let starts = list-through s literals n (format .listed) p .holds X q list .after in
       let ends = plan-ends n m s q plan r is .0 in
@@ -228,7 +229,7 @@ module _ (layout : Layout) (n m : ℕ) (s : List ℕ) where
   line-within p l e is =
       after-got (list-at literals n (format .listed) s p) _ is λ X q list is1.
       after-got (count-at 0 (format .listed) s p) _ list λ c i count _.
-      after-got (plan-at format n m s q) _ is1 λ plan r reads is2.
+      after-got (plan-at format Flags n m s q) _ is1 λ plan r reads is2.
       after-got (concluded-at format n s layout r) _ is2 λ end t _ is3.
       after-got (count-at 0 (format .citations) s t) _ is3 λ k u counts is4.
       after-got (repeated (two-bytes-at s) k u) _ is4 λ cites v numbers is5.

@@ -10,6 +10,7 @@ use borrow.Author.Tests.{ltb-false}
 use Rattle.meaning.specs.declared.Layout.{Layout}
 use Rattle.meaning.specs.Limits.{format, all-literals}
 use Rattle.meaning.specs.Requests.{Sequence, Request}
+use Rattle.meaning.specs.declared.Form.the-variants.{Flags}
 use Rattle.meaning.specs.Reading.{Got, got, fault, next, Met, literals, two-bytes-at, count-at, bound-of, list-at, repeated, plan-at}
 use Rattle.meaning.specs.Refusals
 use Rattle.meaning.specs.Refusals.{nowhere, at, or-else, overlap-in, refuse}
@@ -50,14 +51,14 @@ module _ (n m : ℕ) (s : List ℕ) where
     first : List-here all-literals s p
     plan : Met (Sequence ℕ)
     end : ℕ
-    reads : plan-at format n m s (sequence-place s p) ≡ got plan end
+    reads : plan-at format Flags n m s (sequence-place s p) ≡ got plan end
     is : plan .value ≡ l .c
 
   line-plan : n ≤ format .fluents → (layout : Layout) (p : ℕ) (l : Line) → Line-here n m s layout p l → Line-plan p l
   unfolding line-at sequence-place bound-of
   line-plan few layout p l here =
       after-got (list-at literals n (format .listed) s p) _ (here .reads) λ X q first is1.
-      after-got (plan-at format n m s q) _ is1 λ plan r reads is2.
+      after-got (plan-at format Flags n m s q) _ is1 λ plan r reads is2.
       after-got (concluded-at format n s layout r) _ is2 λ end t _ is3.
       after-got (count-at 0 (format .citations) s t) _ is3 λ k u _ is4.
       after-got (repeated (two-bytes-at s) k u) _ is4 λ cites i _ is5.
@@ -69,17 +70,17 @@ module _ (n m : ℕ) (s : List ℕ) where
         first = list .1 all-literals (omega arith);
         plan = plan;
         end = r;
-        reads = subst (λ (j : ℕ). plan-at format n m s j ≡ got plan r) place reads;
+        reads = subst (λ (j : ℕ). plan-at format Flags n m s j ≡ got plan r) place reads;
         is = ap (λ (x : Line). x .c) (got-same is5);
       }
 
-  module _ (few : n ≤ format .fluents) (less : m ≤ format .actions) (plan : ℕ) (t u : List ℕ) (r : Read) (read : outcome-met r u ≡ noting-met (plan-noted plan t) (plan-at format n m s plan)) where
+  module _ (few : n ≤ format .fluents) (less : m ≤ format .actions) (plan : ℕ) (t u : List ℕ) (r : Read) (read : outcome-met r u ≡ noting-met (plan-noted Flags plan t) (plan-at format Flags n m s plan)) where
     pub line-held : (count e : ℕ) → length t ≡ slots → r ≡ Value count e → Some-plan s u count
     line-held count e room is = plan-left n m s few less plan t u r count e (omega arith) read is
 
     module _ (p : ℕ) (after : plan ≡ sequence-place s p) where
-      there : (l : Line) → (w : Line-plan p l) → plan-at format n m s plan ≡ got (w .plan) (w .end)
-      there l w = ap (plan-at format n m s) after ∙ w .reads
+      there : (l : Line) → (w : Line-plan p l) → plan-at format Flags n m s plan ≡ got (w .plan) (w .end)
+      there l w = ap (plan-at format Flags n m s) after ∙ w .reads
 
       pub line-sought : (count e : ℕ) (f : Found) → length t ≡ slots → r ≡ Value count e → Overlap-found s u count f → Line-found n m s p f
       line-sought count e f room is all =
@@ -95,7 +96,7 @@ module _ (n m : ℕ) (s : List ℕ) where
       line-read k e is =
           record {
             holds = λ layout l here.
-                let no : plan-at format n m s plan ≡ fault k e = fault-met (plan-noted plan t) (plan-at format n m s plan) k e (met-fault (plan-noted plan t) (plan-at format n m s plan) r u k e read is) in
+                let no : plan-at format Flags n m s plan ≡ fault k e = fault-met (plan-noted Flags plan t) (plan-at format Flags n m s plan) k e (met-fault (plan-noted Flags plan t) (plan-at format Flags n m s plan) r u k e read is) in
                 absurd (fault≢got (sym no ∙ there l (line-plan few layout p l here)));
           }
 

@@ -5,6 +5,7 @@ use lib.ListN.{length, set}
 use Rattle.meaning.specs.declared.Layout.{Layout}
 use Rattle.meaning.specs.Limits
 use Rattle.meaning.specs.Limits.{Limits, format}
+use Rattle.meaning.specs.declared.Form.the-variants.{Flags}
 use Rattle.meaning.specs.Reading.{Got, got, fault, next, Met, two-bytes-at, count-at, repeated, plan-at}
 use Rattle.meaning.specs.Requests.{Sequence}
 use Rattle.meaning.specs.Refusals.{refuse}
@@ -15,7 +16,7 @@ use Rattle.deriving.specs.declared.derivations.Lined.the-variants.{To, F
 
 -- Where the plan of a line ends: after its list X and its two-byte item count.
 unfoldable pub plan-end : Line → ℕ
-plan-end l = l .place + 1 + length (l .X) + 2 + bytes-of (l .c)
+plan-end l = l .place + 1 + length (l .X) + 2 + bytes-of Flags (l .c)
 
 -- THE SLOTS. Slot k has the place of line k, slot `plan-ends-slot` + k the end of its plan, and slot `lines-end` the place where the lines end.
 abbrev pub plan-ends-slot : ℕ
@@ -54,7 +55,7 @@ ended-at q (got cites e) = To q e
 ended-at q (fault n p) = Fault n p
 
 unfoldable pub planned : Layout → (n m : ℕ) → List ℕ → ℕ → Lined
-planned layout n m s p = from-plan (plan-at format n m s p)
+planned layout n m s p = from-plan (plan-at format Flags n m s p)
   where
     from-plan : Got (Met (Sequence ℕ)) → Lined
     from-plan (got plan q) = ended-at q (ending layout n s q)

@@ -17,6 +17,7 @@ use bytes::limits;
 use bytes::lists::Kind;
 use bytes::lists::Passed;
 use bytes::lists::list_at;
+use meaning::Form;
 use meaning::Layout;
 use reader::Reader;
 use reader::moved;
@@ -151,7 +152,7 @@ fn plan_first(layout: Layout, n: usize, m: usize, s: &[u8], p: usize, t: &mut No
     requires { ⌜ length (now s) ≤ format .derivation ⌝ }
     ensures { λ r. ⌜ r ≡ planned layout n m (now (s .entry)) p ⌝ }
 {
-    match plan_at(n, m, s, p, t) {
+    match plan_at(Form::Flags, n, m, s, p, t) {
         Read::Value(_, q) => match end_at(layout, n, s, q) {
             Passed::To(e) => Lined::To(q, e),
             Passed::Fault(k, e) => Lined::Fault(k, e),

@@ -16,6 +16,7 @@ use bytes::limits;
 use bytes::lists::Passed;
 use finding::branches::sequence_of;
 use finding::places::Found;
+use meaning::Form;
 use meaning::Layout;
 use reading::notes;
 use reading::notes::Notes;
@@ -50,7 +51,7 @@ fn overlap_in_line(n: usize, m: usize, s: &[u8], p: usize, t: &mut Notes) -> Fou
 {
     let plan = sequence_of(s, p);
     notes::sized(t);
-    match plan_at(n, m, s, plan, t) {
+    match plan_at(Form::Flags, n, m, s, plan, t) {
         Read::Value(count, e) => overlap(s, t, count),
         Read::Fault(k, e) => Found::Nowhere,
     }

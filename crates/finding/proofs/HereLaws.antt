@@ -12,6 +12,7 @@ use Rattle.meaning.specs.Limits.{format, all-literals}
 use Rattle.meaning.specs.Literals.{complement, among, exclusive}
 use Rattle.meaning.specs.Requests.{Effect}
 use Rattle.meaning.specs.Reading
+use Rattle.meaning.specs.declared.Form.the-variants.{Flags}
 use Rattle.meaning.specs.Reading.{got, count-at, below-at, bound-of, literals, entry-at, entries-at, list-at, body-at, effect-at}
 use Rattle.meaning.proofs.TestLaws.{by-test, some-has}
 use Rattle.meaning.proofs.SettledLaws.{got-same}
@@ -86,12 +87,12 @@ list-apart n most s p xs q e =
 
 -- LINES.
 module _ (n m : ℕ) (s : List ℕ) (few : n ≤ format .fluents) (less : m ≤ format .actions) where
-  pub effect-here : (p : ℕ) (x : Effect) (q : ℕ) → effect-at format n m s p ≡ got x q → (effect-from s (x .place) ≡ x) × Effect-here s (x .place)
+  pub effect-here : (p : ℕ) (x : Effect) (q : ℕ) → effect-at format Flags n m s p ≡ got x q → (effect-from s (x .place) ≡ x) × Effect-here s (x .place)
   unfolding effect-at effect-from body-at bound-of
   effect-here p x q e =
       after-got (below-at m s p) _ e λ a i ea e₁.
       after-got (below-at (2 * n) s i) _ e₁ λ l j el e₂.
-      after-got (body-at format n s j) _ e₂ λ b k eb e₃.
+      after-got (body-at format Flags n s j) _ e₂ λ b k eb e₃.
       let first = number-got m s p a i ea in
       let then = number-got (2 * n) s i l j el in
       let body = list-here literals n s 16 j b k eb in

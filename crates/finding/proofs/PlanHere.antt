@@ -16,6 +16,7 @@ use Rattle.meaning.specs.Refusals.{conditions-of}
 use Rattle.meaning.proofs.TestLaws.{by-test, clash, both-left, both-right, pick-true, pick-false, has-some}
 use Rattle.meaning.proofs.ToldLaws.{Clear}
 use Rattle.reading.specs.Listed.{bytes-from, listed, List-here}
+use Rattle.meaning.specs.declared.Form.the-variants.{Flags}
 use Rattle.reading.specs.Planned.{items-of, items-in, items-under, bytes-of}
 use Rattle.finding.specs.Branches.{sequence-place, no-item, place-after, item-after, conditions-from, Branches-here, Item-here, Items-here}
 use Rattle.finding.specs.PlansHeld.{own-items, branches-in, Act-written, Opened, Branch-written, Written, Item-written, Branches-written, Branch-kept, Kept, Item-kept, Branches-kept, Plan-held, Some-plan}
@@ -77,12 +78,12 @@ module _ (s t : List ℕ) (met p : ℕ) (c : List ℕ) where
       let size : getD s p 0 ≡ length c = sym (listed-length s p) ∙ ap length (w .condition) in
       omega arith
 
-  pub place-is : (b : Sequence ℕ) → Branch-written s p c b → Branch-kept t met (p + (1 + length c) + (2 + bytes-of b)) b → place-after s t p met ≡ p + (1 + length c) + (2 + bytes-of b)
+  pub place-is : (b : Sequence ℕ) → Branch-written s p c b → Branch-kept t met (p + (1 + length c) + (2 + bytes-of Flags b)) b → place-after s t p met ≡ p + (1 + length c) + (2 + bytes-of Flags b)
   unfolding place-after own-items bytes-of items-of
   place-is done w k = pick-true _ _ _ (count-zero s (sequence-place s p) (w .count)) ∙ rw (sequence-is done w)
   place-is (item i rest) w k = pick-false _ _ _ (count-some s (sequence-place s p) (own-items rest) (w .count)) ∙ k .place (let some = some-item i in omega arith)
 
-  pub item-is : (b : Sequence ℕ) → Branch-written s p c b → Branch-kept t met (p + (1 + length c) + (2 + bytes-of b)) b → item-after s t p met ≡ met + items-of b
+  pub item-is : (b : Sequence ℕ) → Branch-written s p c b → Branch-kept t met (p + (1 + length c) + (2 + bytes-of Flags b)) b → item-after s t p met ≡ met + items-of b
   unfolding item-after own-items items-of
   item-is done w k = pick-true _ _ _ (count-zero s (sequence-place s p) (w .count)) ∙ omega arith
   item-is (item i rest) w k = pick-false _ _ _ (count-some s (sequence-place s p) (own-items rest) (w .count)) ∙ k .count (let some = some-item i in omega arith)
@@ -93,7 +94,7 @@ module _ (s t : List ℕ) where
   conditions-are met p none w k = refl
   conditions-are met p (branch c b rest) w k =
       rw (place-is s t met p c b (w .0) (k .0), item-is s t met p c b (w .0) (k .0), w .0 .condition)
-      (ap (λ (cs : List (List ℕ)). c ∷ cs) (conditions-are (met + items-of b) (p + (1 + length c) + (2 + bytes-of b)) rest (w .2) (k .2)))
+      (ap (λ (cs : List (List ℕ)). c ∷ cs) (conditions-are (met + items-of b) (p + (1 + length c) + (2 + bytes-of Flags b)) rest (w .2) (k .2)))
 
   branches-here : (met p : ℕ) (bs : Branches ℕ) → met + items-under bs ≤ format .items → Branches-written s p bs → Branches-kept t met p bs → Branches-here s t (branches-in bs) p met
   unfolding Branches-written Branches-kept Branches-here branches-in items-under
@@ -101,7 +102,7 @@ module _ (s t : List ℕ) where
   branches-here met p (branch c b rest) few w k = (
     record { condition = w .0 .here; counted = w .0 .there; few = omega (arith, few) },
     rw (place-is s t met p c b (w .0) (k .0), item-is s t met p c b (w .0) (k .0))
-        (branches-here (met + items-of b) (p + (1 + length c) + (2 + bytes-of b)) rest (omega (arith, few)) (w .2) (k .2)),
+        (branches-here (met + items-of b) (p + (1 + length c) + (2 + bytes-of Flags b)) rest (omega (arith, few)) (w .2) (k .2)),
   )
 
   -- EACH ITEM stands there.
@@ -145,7 +146,7 @@ module _ (s t : List ℕ) where
     branches-hold (branch c b rest) met p few w k j from to =
         by-test (ltb j (met + items-of b))
         (λ u. sequence-here b met (omega (arith, few)) (w .1) (k .1) j from (ltb-true j (met + items-of b) u))
-        (λ u. branches-hold rest (met + items-of b) (p + (1 + length c) + (2 + bytes-of b)) (omega (arith, few)) (w .2) (k .2) j (ltb-false j (met + items-of b) u) (omega (arith, to)))
+        (λ u. branches-hold rest (met + items-of b) (p + (1 + length c) + (2 + bytes-of Flags b)) (omega (arith, few)) (w .2) (k .2) j (ltb-false j (met + items-of b) u) (omega (arith, to)))
 
   -- A PLAN that is held.
   pub plan-here : (b : Sequence ℕ) (count : ℕ) → Plan-held s t b → items-of b ≡ count → Items-here s t count

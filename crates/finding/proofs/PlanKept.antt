@@ -11,6 +11,7 @@ use borrow.Author.Tests.{ltb-true, ltb-false}
 use Rattle.meaning.specs.Limits.{format}
 use Rattle.meaning.specs.Requests.{Sequence, done, item, Item, act, branching, Branches, none, branch}
 use Rattle.meaning.proofs.TestLaws.{by-test}
+use Rattle.meaning.specs.declared.Form.the-variants.{Flags}
 use Rattle.reading.specs.Planned.{items-of, items-in, items-under, bytes-of, bytes-in, place-of, following, branch-noted, rest-noted, inside-noted, branches-noted, sequence-noted, plan-noted}
 use Rattle.finding.specs.PlansHeld.{Kept, Item-kept, Branches-kept}
 use Rattle.reading.proofs.NotingLaws.{branch-empty, branch-ended}
@@ -25,7 +26,7 @@ branch-not first met p t h = sym (branch-empty first met p t h)
 
 -- The notes after an item, before the rest of its sequence.
 abbrev after-item : (up met : ℕ) → List ℕ → Item ℕ → Sequence ℕ → List ℕ
-after-item up met t i rest = set (inside-noted met (set t (0 + met) (place-of i)) i) (format .items + met) (following up (met + items-in i) rest)
+after-item up met t i rest = set (inside-noted Flags met (set t (0 + met) (place-of i)) i) (format .items + met) (following up (met + items-in i) rest)
 
 -- LENGTHS.
 branch-length : (first met p : ℕ) (t : List ℕ) → length (branch-noted first met p t) ≡ length t
@@ -37,22 +38,22 @@ branch-length first met p t =
 mutual
   unfolding rest-noted inside-noted branches-noted
 
-  pub rest-length : (b : Sequence ℕ) (up first met p : ℕ) (t : List ℕ) → length (rest-noted up first met p t b) ≡ length t
+  pub rest-length : (b : Sequence ℕ) (up first met p : ℕ) (t : List ℕ) → length (rest-noted Flags up first met p t b) ≡ length t
   rest-length done up first met p t = branch-length first met p t
   rest-length (item i rest) up first met p t =
-      rest-length rest up first (met + items-in i) (p + bytes-in i) (after-item up met t i rest)
-      ∙ length-set (inside-noted met (set t (0 + met) (place-of i)) i) (format .items + met) (following up (met + items-in i) rest)
+      rest-length rest up first (met + items-in i) (p + bytes-in Flags i) (after-item up met t i rest)
+      ∙ length-set (inside-noted Flags met (set t (0 + met) (place-of i)) i) (format .items + met) (following up (met + items-in i) rest)
       ∙ inside-length i met (set t (0 + met) (place-of i))
       ∙ length-set t (0 + met) (place-of i)
 
-  pub inside-length : (i : Item ℕ) (met : ℕ) (t : List ℕ) → length (inside-noted met t i) ≡ length t
+  pub inside-length : (i : Item ℕ) (met : ℕ) (t : List ℕ) → length (inside-noted Flags met t i) ≡ length t
   inside-length (act p a) met t = refl
   inside-length (branching p bs) met t = branches-length bs (around-from + met) (met + 1) (p + 2) t
 
-  branches-length : (bs : Branches ℕ) (up met p : ℕ) (t : List ℕ) → length (branches-noted up met p t bs) ≡ length t
+  branches-length : (bs : Branches ℕ) (up met p : ℕ) (t : List ℕ) → length (branches-noted Flags up met p t bs) ≡ length t
   branches-length none up met p t = refl
   branches-length (branch c b rest) up met p t =
-      branches-length rest up (met + items-of b) (p + (1 + length c) + (2 + bytes-of b)) (rest-noted up met met (p + (1 + length c) + 2) t b)
+      branches-length rest up (met + items-of b) (p + (1 + length c) + (2 + bytes-of Flags b)) (rest-noted Flags up met met (p + (1 + length c) + 2) t b)
       ∙ rest-length b up met met (p + (1 + length c) + 2) t
 
 -- OTHER SLOTS than those of the items from lo up to hi.
@@ -69,7 +70,7 @@ mutual
 
   pub rest-other : (b : Sequence ℕ) (up first met p : ℕ) (t : List ℕ) (x : ℕ) → met + items-of b ≤ format .items
       → (first < met + items-of b → (x ≡ branch-place + first → ⊥) × (x ≡ branch-item + first → ⊥)) → Off met (met + items-of b) x
-      → getD (rest-noted up first met p t b) x 0 ≡ getD t x 0
+      → getD (rest-noted Flags up first met p t b) x 0 ≡ getD t x 0
   rest-other done up first met p t x few ends apart =
       by-test (ltb first met)
       (λ e.
@@ -79,20 +80,20 @@ mutual
       (λ e. rw (branch-not first met p t (ltb-false first met e)))
   rest-other (item i rest) up first met p t x few ends apart =
       let some = some-item i in
-      rest-other rest up first (met + items-in i) (p + bytes-in i) (after-item up met t i rest) x (omega (arith, few)) (λ h. ends (omega (arith, h))) (λ a d e. apart a (omega (arith, d)) (omega (arith, e)))
-      ∙ getD-set-other (inside-noted met (set t (0 + met) (place-of i)) i) (format .items + met) x (following up (met + items-in i) rest) 0
+      rest-other rest up first (met + items-in i) (p + bytes-in Flags i) (after-item up met t i rest) x (omega (arith, few)) (λ h. ends (omega (arith, h))) (λ a d e. apart a (omega (arith, d)) (omega (arith, e)))
+      ∙ getD-set-other (inside-noted Flags met (set t (0 + met) (place-of i)) i) (format .items + met) x (following up (met + items-in i) rest) 0
       (off 1 met (met + (items-in i + items-of rest)) met x (omega arith) few (omega arith) (omega (arith, some)) apart)
       ∙ inside-other i met (set t (0 + met) (place-of i)) x (omega (arith, few)) (λ a d e. apart a (omega (arith, d)) (omega (arith, e)))
       ∙ getD-set-other t (0 + met) x (place-of i) 0 (off 0 met (met + (items-in i + items-of rest)) met x (omega arith) few (omega arith) (omega (arith, some)) apart)
 
-  inside-other : (i : Item ℕ) (met : ℕ) (t : List ℕ) (x : ℕ) → met + items-in i ≤ format .items → Off met (met + items-in i) x → getD (inside-noted met t i) x 0 ≡ getD t x 0
+  inside-other : (i : Item ℕ) (met : ℕ) (t : List ℕ) (x : ℕ) → met + items-in i ≤ format .items → Off met (met + items-in i) x → getD (inside-noted Flags met t i) x 0 ≡ getD t x 0
   inside-other (act p a) met t x few apart = refl
   inside-other (branching p bs) met t x few apart = branches-other bs (around-from + met) (met + 1) (p + 2) t x (omega (arith, few)) (λ a d e. apart a (omega (arith, d)) (omega (arith, e)))
 
-  pub branches-other : (bs : Branches ℕ) (up met p : ℕ) (t : List ℕ) (x : ℕ) → met + items-under bs ≤ format .items → Off met (met + items-under bs) x → getD (branches-noted up met p t bs) x 0 ≡ getD t x 0
+  pub branches-other : (bs : Branches ℕ) (up met p : ℕ) (t : List ℕ) (x : ℕ) → met + items-under bs ≤ format .items → Off met (met + items-under bs) x → getD (branches-noted Flags up met p t bs) x 0 ≡ getD t x 0
   branches-other none up met p t x few apart = refl
   branches-other (branch c b rest) up met p t x few apart =
-      branches-other rest up (met + items-of b) (p + (1 + length c) + (2 + bytes-of b)) (rest-noted up met met (p + (1 + length c) + 2) t b) x (omega (arith, few)) (λ a d e. apart a (omega (arith, d)) (omega (arith, e)))
+      branches-other rest up (met + items-of b) (p + (1 + length c) + (2 + bytes-of Flags b)) (rest-noted Flags up met met (p + (1 + length c) + 2) t b) x (omega (arith, few)) (λ a d e. apart a (omega (arith, d)) (omega (arith, e)))
       ∙ rest-other b up met met (p + (1 + length c) + 2) t x (omega (arith, few))
       (λ h. (
         off 2 met (met + (items-of b + items-under rest)) met x (omega arith) few (omega arith) (omega (arith, h)) apart,
@@ -144,14 +145,14 @@ mutual
       count = λ some. same .counts met (omega arith) (omega (arith, some)) ∙ k .0 .count some;
     },
     kept-agree b met t u (agree-part met met (met + (items-of b + items-under rest)) met (met + 1) (met + items-of b) t u (omega arith) (omega arith) (omega arith) same) (k .1),
-    branches-agree rest (met + items-of b) (p + (1 + length c) + (2 + bytes-of b)) t u
+    branches-agree rest (met + items-of b) (p + (1 + length c) + (2 + bytes-of Flags b)) t u
         (agree-part met met (met + (items-of b + items-under rest)) (met + items-of b) (met + items-of b) (met + items-of b + items-under rest) t u (omega arith) (omega arith) (omega arith) same)
         (k .2),
   )
 
 -- THE END OF A SEQUENCE.
 sequence-end : (b : Sequence ℕ) (up first met p : ℕ) (t : List ℕ) → first < met + items-of b → met + items-of b ≤ format .items → first < format .items → effect-lines ≤ length t
-    → (getD (rest-noted up first met p t b) (branch-place + first) 0 ≡ p + bytes-of b) × (getD (rest-noted up first met p t b) (branch-item + first) 0 ≡ met + items-of b)
+    → (getD (rest-noted Flags up first met p t b) (branch-place + first) 0 ≡ p + bytes-of Flags b) × (getD (rest-noted Flags up first met p t b) (branch-item + first) 0 ≡ met + items-of b)
 unfolding rest-noted items-of bytes-of
 sequence-end done up first met p t h few low room =
     let same : p + 0 ≡ p = omega arith in
@@ -164,16 +165,16 @@ sequence-end done up first met p t h few low room =
     )
 sequence-end (item i rest) up first met p t h few low room =
     let size : length (after-item up met t i rest) ≡ length t =
-    length-set (inside-noted met (set t (0 + met) (place-of i)) i) (format .items + met) (following up (met + items-in i) rest)
+    length-set (inside-noted Flags met (set t (0 + met) (place-of i)) i) (format .items + met) (following up (met + items-in i) rest)
     ∙ inside-length i met (set t (0 + met) (place-of i))
     ∙ length-set t (0 + met) (place-of i)
     in
-    let on = sequence-end rest up first (met + items-in i) (p + bytes-in i) (after-item up met t i rest) (omega (arith, h)) (omega (arith, few)) low (rw size room) in
+    let on = sequence-end rest up first (met + items-in i) (p + bytes-in Flags i) (after-item up met t i rest) (omega (arith, h)) (omega (arith, few)) low (rw size room) in
     (on .0 ∙ omega arith, on .1 ∙ omega arith)
 
 -- WHAT IS NOTED is kept. An item's slots are not those of the rest.
 rest-agrees : (i : Item ℕ) (rest : Sequence ℕ) (up first met p : ℕ) (t : List ℕ) → first ≤ met → met + (items-in i + items-of rest) ≤ format .items
-    → Agree met (met + 1) (met + items-in i) (inside-noted met (set t (0 + met) (place-of i)) i) (rest-noted up first (met + items-in i) (p + bytes-in i) (after-item up met t i rest) rest)
+    → Agree met (met + 1) (met + items-in i) (inside-noted Flags met (set t (0 + met) (place-of i)) i) (rest-noted Flags up first (met + items-in i) (p + bytes-in Flags i) (after-item up met t i rest) rest)
 rest-agrees i rest up first met p t start few =
     record {
       places = λ j h k. keeps (0 + j) (λ (q : 0 + j ≡ branch-place + first). omega (arith, q, k, few)) (λ (q : 0 + j ≡ branch-item + first). omega (arith, q, k, few)) (λ (q : 0 + j ≡ format .items + met). omega (arith, q, k, few)) (λ a d e. omega (arith, d, k, few));
@@ -182,64 +183,64 @@ rest-agrees i rest up first met p t start few =
     }
   where
     keeps : (x : ℕ) → (x ≡ branch-place + first → ⊥) → (x ≡ branch-item + first → ⊥) → (x ≡ format .items + met → ⊥) → Off (met + items-in i) (met + items-in i + items-of rest) x
-        → getD (rest-noted up first (met + items-in i) (p + bytes-in i) (after-item up met t i rest) rest) x 0 ≡ getD (inside-noted met (set t (0 + met) (place-of i)) i) x 0
+        → getD (rest-noted Flags up first (met + items-in i) (p + bytes-in Flags i) (after-item up met t i rest) rest) x 0 ≡ getD (inside-noted Flags met (set t (0 + met) (place-of i)) i) x 0
     keeps x a d e apart =
-        rest-other rest up first (met + items-in i) (p + bytes-in i) (after-item up met t i rest) x (omega (arith, few)) (λ _. (a, d)) apart
-        ∙ getD-set-other (inside-noted met (set t (0 + met) (place-of i)) i) (format .items + met) x (following up (met + items-in i) rest) 0 e
+        rest-other rest up first (met + items-in i) (p + bytes-in Flags i) (after-item up met t i rest) x (omega (arith, few)) (λ _. (a, d)) apart
+        ∙ getD-set-other (inside-noted Flags met (set t (0 + met) (place-of i)) i) (format .items + met) x (following up (met + items-in i) rest) 0 e
 
 mutual
   unfolding rest-noted inside-noted branches-noted Kept Item-kept Branches-kept items-of items-in items-under place-of
 
-  rest-kept : (b : Sequence ℕ) (up first met p : ℕ) (t : List ℕ) → first ≤ met → met + items-of b ≤ format .items → effect-lines ≤ length t → Kept (rest-noted up first met p t b) met b
+  rest-kept : (b : Sequence ℕ) (up first met p : ℕ) (t : List ℕ) → first ≤ met → met + items-of b ≤ format .items → effect-lines ≤ length t → Kept (rest-noted Flags up first met p t b) met b
   rest-kept done up first met p t start few room = tt
   rest-kept (item i rest) up first met p t start few room =
       let some = some-item i in
       let placed : length (set t (0 + met) (place-of i)) ≡ length t = length-set t (0 + met) (place-of i) in
       let size : length (after-item up met t i rest) ≡ length t =
-      length-set (inside-noted met (set t (0 + met) (place-of i)) i) (format .items + met) (following up (met + items-in i) rest)
+      length-set (inside-noted Flags met (set t (0 + met) (place-of i)) i) (format .items + met) (following up (met + items-in i) rest)
       ∙ inside-length i met (set t (0 + met) (place-of i))
       ∙ placed
       in (
-        item-agree i met (inside-noted met (set t (0 + met) (place-of i)) i) (rest-noted up first (met + items-in i) (p + bytes-in i) (after-item up met t i rest) rest)
+        item-agree i met (inside-noted Flags met (set t (0 + met) (place-of i)) i) (rest-noted Flags up first (met + items-in i) (p + bytes-in Flags i) (after-item up met t i rest) rest)
             (rest-agrees i rest up first met p t start few)
             (inside-kept i met (set t (0 + met) (place-of i)) (getD-set-same t (0 + met) (place-of i) 0 (omega (arith, some, few, room))) (omega (arith, few)) (rw placed room)),
-        rest-kept rest up first (met + items-in i) (p + bytes-in i) (after-item up met t i rest) (omega (arith, start)) (omega (arith, few)) (rw size room),
+        rest-kept rest up first (met + items-in i) (p + bytes-in Flags i) (after-item up met t i rest) (omega (arith, start)) (omega (arith, few)) (rw size room),
       )
 
-  inside-kept : (i : Item ℕ) (met : ℕ) (t : List ℕ) → getD t (0 + met) 0 ≡ place-of i → met + items-in i ≤ format .items → effect-lines ≤ length t → Item-kept (inside-noted met t i) met i
+  inside-kept : (i : Item ℕ) (met : ℕ) (t : List ℕ) → getD t (0 + met) 0 ≡ place-of i → met + items-in i ≤ format .items → effect-lines ≤ length t → Item-kept (inside-noted Flags met t i) met i
   inside-kept (act p a) met t here few room = here
   inside-kept (branching p bs) met t here few room = (
     branches-other bs (around-from + met) (met + 1) (p + 2) t (0 + met) (omega (arith, few)) (λ a d e. omega (arith, d, few)) ∙ here,
     branches-keep bs (around-from + met) (met + 1) (p + 2) t (omega (arith, few)) room,
   )
 
-  branches-keep : (bs : Branches ℕ) (up met p : ℕ) (t : List ℕ) → met + items-under bs ≤ format .items → effect-lines ≤ length t → Branches-kept (branches-noted up met p t bs) met p bs
+  branches-keep : (bs : Branches ℕ) (up met p : ℕ) (t : List ℕ) → met + items-under bs ≤ format .items → effect-lines ≤ length t → Branches-kept (branches-noted Flags up met p t bs) met p bs
   branches-keep none up met p t few room = tt
   branches-keep (branch c b rest) up met p t few room = (
     record {
       place = λ some. branches-other rest up (met + items-of b) end after (branch-place + met) (omega (arith, few)) (λ a d e. omega (arith, d, some, few)) ∙ closed some .0 ∙ omega arith;
       count = λ some. branches-other rest up (met + items-of b) end after (branch-item + met) (omega (arith, few)) (λ a d e. omega (arith, d, some, few)) ∙ closed some .1;
     },
-    kept-agree b met after (branches-noted up (met + items-of b) end after rest) agrees (rest-kept b up met met (p + (1 + length c) + 2) t (omega arith) (omega (arith, few)) room),
+    kept-agree b met after (branches-noted Flags up (met + items-of b) end after rest) agrees (rest-kept b up met met (p + (1 + length c) + 2) t (omega arith) (omega (arith, few)) room),
     branches-keep rest up (met + items-of b) end after (omega (arith, few)) (rw (rest-length b up met met (p + (1 + length c) + 2) t) room),
   )
     where
       end : ℕ
-      end = p + (1 + length c) + (2 + bytes-of b)
+      end = p + (1 + length c) + (2 + bytes-of Flags b)
 
       after : List ℕ
-      after = rest-noted up met met (p + (1 + length c) + 2) t b
+      after = rest-noted Flags up met met (p + (1 + length c) + 2) t b
 
-      closed : 0 < items-of b → (getD after (branch-place + met) 0 ≡ p + (1 + length c) + 2 + bytes-of b) × (getD after (branch-item + met) 0 ≡ met + items-of b)
+      closed : 0 < items-of b → (getD after (branch-place + met) 0 ≡ p + (1 + length c) + 2 + bytes-of Flags b) × (getD after (branch-item + met) 0 ≡ met + items-of b)
       closed some = sequence-end b up met met (p + (1 + length c) + 2) t (omega (arith, some)) (omega (arith, few)) (omega (arith, some, few)) room
 
-      agrees : Agree met (met + 1) (met + items-of b) after (branches-noted up (met + items-of b) end after rest)
+      agrees : Agree met (met + 1) (met + items-of b) after (branches-noted Flags up (met + items-of b) end after rest)
       agrees = record {
         places = λ j h k. branches-other rest up (met + items-of b) end after (0 + j) (omega (arith, few)) (λ a d e. omega (arith, d, k, few));
         ends = λ j h k. branches-other rest up (met + items-of b) end after (branch-place + j) (omega (arith, few)) (λ a d e. omega (arith, d, k, few));
         counts = λ j h k. branches-other rest up (met + items-of b) end after (branch-item + j) (omega (arith, few)) (λ a d e. omega (arith, d, k, few));
       }
 
-pub plan-kept : (p : ℕ) (t : List ℕ) (b : Sequence ℕ) → items-of b ≤ format .items → effect-lines ≤ length t → Kept (plan-noted p t b) 0 b
+pub plan-kept : (p : ℕ) (t : List ℕ) (b : Sequence ℕ) → items-of b ≤ format .items → effect-lines ≤ length t → Kept (plan-noted Flags p t b) 0 b
 unfolding plan-noted sequence-noted
 plan-kept p t b few room = rest-kept b (format .items) 0 0 (p + 2) t (omega arith) (omega (arith, few)) room

@@ -11,6 +11,7 @@ use Rattle.meaning.specs.Limits.{format, all-literals}
 use Rattle.meaning.specs.Requests.{Effect, Executability, Knowledge, Table, Request}
 use Rattle.meaning.specs.Lines.{effects-of, executability-of}
 use Rattle.meaning.specs.Reading
+use Rattle.meaning.specs.declared.Form.the-variants.{Flags}
 use Rattle.meaning.specs.Reading.{Got, got, fault, literals, bound-of, byte-at, count-at, below-at, list-at, body-at, effect-at, executability-at, knowledge-at, repeated, section-at, plan-at, table-at, request-at, read-request}
 use Rattle.meaning.specs.Guards.{Guarded-request, read-guarded}
 use Rattle.meaning.proofs.SettledLaws.{got-same}
@@ -42,19 +43,19 @@ pub record Table-parts (s : List ℕ) (t : Table) (p : ℕ) : Type 0 where
   pub less : t .actions ≤ format .actions
   pub effects-at : ℕ
   pub effects-end : ℕ
-  pub effects-read : section-at (effect-at format (t .fluents) (t .actions) s) s effects-at ≡ got (t .effects) effects-end
+  pub effects-read : section-at (effect-at format Flags (t .fluents) (t .actions) s) s effects-at ≡ got (t .effects) effects-end
   pub runs-end : ℕ
-  pub runs-read : section-at (executability-at format (t .fluents) (t .actions) s) s effects-end ≡ got (t .executability) runs-end
+  pub runs-read : section-at (executability-at format Flags (t .fluents) (t .actions) s) s effects-end ≡ got (t .executability) runs-end
   pub knowledge-read : section-at (knowledge-at format (t .fluents) (t .actions) s) s runs-end ≡ got (t .knowledge) p
 
-pub table-parts : (s : List ℕ) (t : Table) (p : ℕ) → table-at format s 0 ≡ got t p → Table-parts s t p
+pub table-parts : (s : List ℕ) (t : Table) (p : ℕ) → table-at format Flags s 0 ≡ got t p → Table-parts s t p
 unfolding table-at
 table-parts s t p e =
     after-got (count-at 1 (format .fluents) s 0) _ e λ n p₁ en u₁.
     after-got (count-at 1 (format .actions) s p₁) _ u₁ λ m p₂ em u₂.
     after-got (list-at literals n (format .listed) s p₂) _ u₂ λ facts p₃ _ u₃.
-    after-got (section-at (effect-at format n m s) s p₃) _ u₃ λ es p₄ ees u₄.
-    after-got (section-at (executability-at format n m s) s p₄) _ u₄ λ xs p₅ exs u₅.
+    after-got (section-at (effect-at format Flags n m s) s p₃) _ u₃ λ es p₄ ees u₄.
+    after-got (section-at (executability-at format Flags n m s) s p₄) _ u₄ λ xs p₅ exs u₅.
     after-got (section-at (knowledge-at format n m s) s p₅) _ u₅ λ ks p₆ eks u₆.
     subst on u₆ (record {
       few = count-within 1 (format .fluents) s 0 n p₁ en;
@@ -75,21 +76,21 @@ pub record Request-parts (s : List ℕ) (t : Table) (p : ℕ) (y : Request) : Ty
   pub table : y .table ≡ t
   pub items : ℕ
   pub plan-end : ℕ
-  pub plan-read : plan-at format (t .fluents) (t .actions) s p ≡ got (record { value = y .plan; items = items }) plan-end
-  pub placed : plan-place y ≡ p
+  pub plan-read : plan-at format Flags (t .fluents) (t .actions) s p ≡ got (record { value = y .plan; items = items }) plan-end
+  pub placed : plan-place Flags y ≡ p
 
-pub request-parts : (s : List ℕ) (t : Table) (p : ℕ) (y : Request) (q : ℕ) → request-at format s t p ≡ got y q → Request-parts s t p y
+pub request-parts : (s : List ℕ) (t : Table) (p : ℕ) (y : Request) (q : ℕ) → request-at format Flags s t p ≡ got y q → Request-parts s t p y
 unfolding request-at plan-place goals-place plan-at
 request-parts s t p y q e =
-    after-got (plan-at format (t .fluents) (t .actions) s p) _ e λ plan q₁ eplan v₁.
+    after-got (plan-at format Flags (t .fluents) (t .actions) s p) _ e λ plan q₁ eplan v₁.
     after-got (list-at literals (t .fluents) (format .listed) s q₁) _ v₁ λ goals q₂ egoals v₂.
     after-got (list-at Reading.fluents (t .fluents) (format .listed) s q₂) _ v₂ λ whether q₃ _ v₃.
-    let sized = sequence-read (t .fluents) (t .actions) s 8 p 0 (omega arith) .holds plan q₁ eplan in
+    let sized = sequence-read Flags (t .fluents) (t .actions) s 8 p 0 (omega arith) .holds plan q₁ eplan in
     let through = list-through s literals (t .fluents) (format .listed) q₁ .holds goals q₂ egoals in
     let after = sized .through .after in
     let ends = through .after in
     let goals-at : q₂ - (1 + length goals) ≡ q₁ = omega arith in
-    let plan-stands : q₁ - (2 + bytes-of (plan .value)) ≡ p = omega arith in
+    let plan-stands : q₁ - (2 + bytes-of Flags (plan .value)) ≡ p = omega arith in
     subst on v₃ (record {
       table = refl;
       items = plan .items;
@@ -117,7 +118,7 @@ acts s e is = ap (λ (y : Effect). y .action) is
 module _ (s : List ℕ) (t : Table) (p : ℕ) (whole : Table-parts s t p) where
   pub effect-good : (e : Effect) → Has (t .effects) e → (effect-from s (e .place) ≡ e) × Effect-here s (e .place)
   effect-good e has =
-      let w = section-read (effect-at format (t .fluents) (t .actions) s) s (whole .effects-at) (t .effects) (whole .effects-end) (whole .effects-read) e has in
+      let w = section-read (effect-at format Flags (t .fluents) (t .actions) s) s (whole .effects-at) (t .effects) (whole .effects-end) (whole .effects-read) e has in
       effect-here (t .fluents) (t .actions) s (whole .few) (whole .less) (w .0) e (w .1) (w .2)
 
   pub effect-acts : (e : Effect) → Has (t .effects) e → e .action < format .actions
@@ -130,9 +131,9 @@ module _ (s : List ℕ) (t : Table) (p : ℕ) (whole : Table-parts s t p) where
   pub run-good : (r : Executability) → Has (t .executability) r → r .action < format .actions
   unfolding executability-at
   run-good r has =
-      let w = section-read (executability-at format (t .fluents) (t .actions) s) s (whole .effects-end) (t .executability) (whole .runs-end) (whole .runs-read) r has in
+      let w = section-read (executability-at format Flags (t .fluents) (t .actions) s) s (whole .effects-end) (t .executability) (whole .runs-end) (whole .runs-read) r has in
       after-got (below-at (t .actions) s (w .0)) _ (w .2) λ a i ea e₁.
-      after-got (body-at format (t .fluents) s i) _ e₁ λ b j _ e₂.
+      after-got (body-at format Flags (t .fluents) s i) _ e₁ λ b j _ e₂.
       let small = number-got (t .actions) s (w .0) a i ea .3 in
       let most = whole .less in
       let is : a ≡ r .action = ap (λ (y : Executability). y .action) (got-same e₂) in
@@ -141,9 +142,9 @@ module _ (s : List ℕ) (t : Table) (p : ℕ) (whole : Table-parts s t p) where
   pub run-stands : (r : Executability) → Has (t .executability) r → (listed s (r .place + 1) ≡ r .body) × List-here all-literals s (r .place + 1)
   unfolding executability-at body-at bound-of
   run-stands r has =
-      let w = section-read (executability-at format (t .fluents) (t .actions) s) s (whole .effects-end) (t .executability) (whole .runs-end) (whole .runs-read) r has in
+      let w = section-read (executability-at format Flags (t .fluents) (t .actions) s) s (whole .effects-end) (t .executability) (whole .runs-end) (whole .runs-read) r has in
       after-got (below-at (t .actions) s (w .0)) _ (w .2) λ a i ea e₁.
-      after-got (body-at format (t .fluents) s i) _ e₁ λ b j eb e₂.
+      after-got (body-at format Flags (t .fluents) s i) _ e₁ λ b j eb e₂.
       let after : w .0 + 1 ≡ i = number-got (t .actions) s (w .0) a i ea .2 in
       let body = list-here literals (t .fluents) s 16 i b j eb in
       let few = whole .few in
@@ -188,10 +189,10 @@ counts-apart j far near = record {
 
 module _ (s : List ℕ) (bytes : (i : ℕ) → getD s i 0 < 256) (x : Table) (p : ℕ) (whole : Table-parts s x p) where
   pub effects-few : length (x .effects) < line-numbers
-  effects-few = rw (section-length (effect-at format (x .fluents) (x .actions) s) s (whole .effects-at) (x .effects) (whole .effects-end) (whole .effects-read)) (bytes (whole .effects-at))
+  effects-few = rw (section-length (effect-at format Flags (x .fluents) (x .actions) s) s (whole .effects-at) (x .effects) (whole .effects-end) (whole .effects-read)) (bytes (whole .effects-at))
 
   pub runs-few : length (x .executability) < line-numbers
-  runs-few = rw (section-length (executability-at format (x .fluents) (x .actions) s) s (whole .effects-end) (x .executability) (whole .runs-end) (whole .runs-read)) (bytes (whole .effects-end))
+  runs-few = rw (section-length (executability-at format Flags (x .fluents) (x .actions) s) s (whole .effects-end) (x .executability) (whole .runs-end) (whole .runs-read)) (bytes (whole .effects-end))
 
   pub knowledge-few : length (x .knowledge) < line-numbers
   knowledge-few = rw (section-length (knowledge-at format (x .fluents) (x .actions) s) s (whole .runs-end) (x .knowledge) p (whole .knowledge-read)) (bytes (whole .runs-end))
@@ -344,100 +345,100 @@ module _ (s : List ℕ) (bytes : (i : ℕ) → getD s i 0 < 256) (x : Table) (p 
     }
 
 -- SECTIONS 6 TO 8, over any table and any notes, with guards at a place.
-module _ (s : List ℕ) (x : Table) (few : x .fluents ≤ format .fluents) (less : x .actions ≤ format .actions) (p : ℕ) (y : Request) (q : ℕ) (read : request-at format s x p ≡ got y q) (t : List ℕ) (g : ℕ) where
+module _ (s : List ℕ) (x : Table) (few : x .fluents ≤ format .fluents) (less : x .actions ≤ format .actions) (p : ℕ) (y : Request) (q : ℕ) (read : request-at format Flags s x p ≡ got y q) (t : List ℕ) (g : ℕ) where
   of-request : Request-parts s x p y
   of-request = request-parts s x p y q read
 
   items-most : (of-request .items ≡ items-of (y .plan)) × (items-of (y .plan) ≤ format .items)
   unfolding plan-at
   items-most =
-      let sized = sequence-read (x .fluents) (x .actions) s 8 p 0 (omega arith) .holds (record { value = y .plan; items = of-request .items }) (of-request .plan-end) (of-request .plan-read) in
+      let sized = sequence-read Flags (x .fluents) (x .actions) s 8 p 0 (omega arith) .holds (record { value = y .plan; items = of-request .items }) (of-request .plan-end) (of-request .plan-read) in
       let a = sized .counted in let b = sized .most in
       (omega arith, omega arith)
 
   planned : List ℕ
-  planned = plan-noted (plan-place y) t (y .plan)
+  planned = plan-noted Flags (plan-place Flags y) t (y .plan)
 
   abbrev placed-plan : List ℕ
-  placed-plan = set planned plan-slot (plan-place y)
+  placed-plan = set planned plan-slot (plan-place Flags y)
 
   abbrev placed-items : List ℕ
   placed-items = set placed-plan items-slot (items-of (y .plan))
 
   abbrev placed-goals : List ℕ
-  placed-goals = set placed-items goals-slot (goals-place y)
+  placed-goals = set placed-items goals-slot (goals-place Flags y)
 
-  tail-is : tail-with g y t ≡ set placed-goals guards-slot g
+  tail-is : tail-with Flags g y t ≡ set placed-goals guards-slot g
   unfolding tail-with places-noted planned
   tail-is = refl
 
-  slot-in : (j v : ℕ) → (j ≡ guards-slot → ⊥) → getD placed-goals j 0 ≡ v → getD (tail-with g y t) j 0 ≡ v
+  slot-in : (j v : ℕ) → (j ≡ guards-slot → ⊥) → getD placed-goals j 0 ≡ v → getD (tail-with Flags g y t) j 0 ≡ v
   slot-in j v other is = ap (λ (u : List ℕ). getD u j 0) tail-is ∙ kept placed-goals guards-slot j g other ∙ is
 
-  before-places : (j : ℕ) → (j ≡ plan-slot → ⊥) × (j ≡ items-slot → ⊥) × (j ≡ goals-slot → ⊥) × (j ≡ guards-slot → ⊥) → getD (tail-with g y t) j 0 ≡ getD planned j 0
+  before-places : (j : ℕ) → (j ≡ plan-slot → ⊥) × (j ≡ items-slot → ⊥) × (j ≡ goals-slot → ⊥) × (j ≡ guards-slot → ⊥) → getD (tail-with Flags g y t) j 0 ≡ getD planned j 0
   before-places j other =
       slot-in j _ (other .3)
-      (kept placed-items goals-slot j (goals-place y) (other .2) ∙ kept placed-plan items-slot j (items-of (y .plan)) (other .1) ∙ kept planned plan-slot j (plan-place y) (other .0))
+      (kept placed-items goals-slot j (goals-place Flags y) (other .2) ∙ kept placed-plan items-slot j (items-of (y .plan)) (other .1) ∙ kept planned plan-slot j (plan-place Flags y) (other .0))
 
   -- They leave the table as it was.
-  pub tail-kept : (j : ℕ) → Of-table j → getD (tail-with g y t) j 0 ≡ getD t j 0
+  pub tail-kept : (j : ℕ) → Of-table j → getD (tail-with Flags g y t) j 0 ≡ getD t j 0
   unfolding planned
   tail-kept j of =
       before-places j (of .other)
-      ∙ plan-kept j (of .far) (plan-place y) t (y .plan) (items-most .1)
+      ∙ plan-kept j (of .far) (plan-place Flags y) t (y .plan) (items-most .1)
 
   module _ (sized : length t ≡ slots) where
     planned-long : length planned ≡ slots
     unfolding planned
-    planned-long = plan-long (plan-place y) t (y .plan) ∙ sized
+    planned-long = plan-long (plan-place Flags y) t (y .plan) ∙ sized
 
     plan-long-too : length placed-plan ≡ slots
-    plan-long-too = length-set planned plan-slot (plan-place y) ∙ planned-long
+    plan-long-too = length-set planned plan-slot (plan-place Flags y) ∙ planned-long
 
     items-long : length placed-items ≡ slots
     items-long = length-set placed-plan items-slot (items-of (y .plan)) ∙ plan-long-too
 
     goals-long : length placed-goals ≡ slots
-    goals-long = length-set placed-items goals-slot (goals-place y) ∙ items-long
+    goals-long = length-set placed-items goals-slot (goals-place Flags y) ∙ items-long
 
-    pub tail-long : length (tail-with g y t) ≡ slots
+    pub tail-long : length (tail-with Flags g y t) ≡ slots
     tail-long = ap length tail-is ∙ length-set placed-goals guards-slot g ∙ goals-long
 
-    pub items-noted : getD (tail-with g y t) items-slot 0 ≡ items-of (y .plan)
+    pub items-noted : getD (tail-with Flags g y t) items-slot 0 ≡ items-of (y .plan)
     items-noted =
-        slot-in items-slot _ (λ e. omega arith) (kept placed-items goals-slot items-slot (goals-place y) (λ e. omega arith)
+        slot-in items-slot _ (λ e. omega arith) (kept placed-items goals-slot items-slot (goals-place Flags y) (λ e. omega arith)
         ∙ getD-set-same placed-plan items-slot (items-of (y .plan)) 0 (omega (arith, plan-long-too)))
 
-    pub plan-noted-at : getD (tail-with g y t) plan-slot 0 ≡ plan-place y
+    pub plan-noted-at : getD (tail-with Flags g y t) plan-slot 0 ≡ plan-place Flags y
     plan-noted-at =
-        slot-in plan-slot _ (λ e. omega arith) (kept placed-items goals-slot plan-slot (goals-place y) (λ e. omega arith)
+        slot-in plan-slot _ (λ e. omega arith) (kept placed-items goals-slot plan-slot (goals-place Flags y) (λ e. omega arith)
         ∙ kept placed-plan items-slot plan-slot (items-of (y .plan)) (λ e. omega arith)
-        ∙ getD-set-same planned plan-slot (plan-place y) 0 (omega (arith, planned-long)))
+        ∙ getD-set-same planned plan-slot (plan-place Flags y) 0 (omega (arith, planned-long)))
 
-    pub goals-noted : getD (tail-with g y t) goals-slot 0 ≡ goals-place y
-    goals-noted = slot-in goals-slot _ (λ e. omega arith) (getD-set-same placed-items goals-slot (goals-place y) 0 (omega (arith, items-long)))
+    pub goals-noted : getD (tail-with Flags g y t) goals-slot 0 ≡ goals-place Flags y
+    goals-noted = slot-in goals-slot _ (λ e. omega arith) (getD-set-same placed-items goals-slot (goals-place Flags y) 0 (omega (arith, items-long)))
 
-    pub guards-noted : getD (tail-with g y t) guards-slot 0 ≡ g
+    pub guards-noted : getD (tail-with Flags g y t) guards-slot 0 ≡ g
     guards-noted = ap (λ (u : List ℕ). getD u guards-slot 0) tail-is ∙ getD-set-same placed-goals guards-slot g 0 (omega (arith, goals-long))
 
     -- 18 finds the plan.
-    pub tail-held : Plan-held s (tail-with g y t) (y .plan)
+    pub tail-held : Plan-held s (tail-with Flags g y t) (y .plan)
     unfolding planned
     tail-held =
         let held = plan-held (x .fluents) (x .actions) s few less p t (record { value = y .plan; items = of-request .items }) (of-request .plan-end) (omega (arith, sized)) (of-request .plan-read) in
-        let same : (j : ℕ) → j < effect-lines → getD (tail-with g y t) j 0 ≡ getD (plan-noted (plan-place y) t (y .plan)) j 0 = λ j near.
+        let same : (j : ℕ) → j < effect-lines → getD (tail-with Flags g y t) j 0 ≡ getD (plan-noted Flags (plan-place Flags y) t (y .plan)) j 0 = λ j near.
         before-places j (λ e. omega arith, λ e. omega arith, λ e. omega arith, λ e. omega arith) in
         let small = held .few in
         record {
           few = small;
           written = held .written;
-          kept = kept-agree (y .plan) 0 (plan-noted (plan-place y) t (y .plan)) (tail-with g y t)
+          kept = kept-agree (y .plan) 0 (plan-noted Flags (plan-place Flags y) t (y .plan)) (tail-with Flags g y t)
               (record {
                 places = λ j _ less. same (0 + j) (omega arith);
                 ends = λ j _ less. same (branch-place + j) (omega arith);
                 counts = λ j _ less. same (branch-item + j) (omega arith);
               })
-              (subst (λ (i : ℕ). Kept (plan-noted i t (y .plan)) 0 (y .plan)) (sym (of-request .placed)) (held .kept));
+              (subst (λ (i : ℕ). Kept (plan-noted Flags i t (y .plan)) 0 (y .plan)) (sym (of-request .placed)) (held .kept));
         }
 
 -- KNOWLEDGE LINES stand one after another, two bytes each.
@@ -484,7 +485,7 @@ module _ (n m : ℕ) (s : List ℕ) (less : m ≤ format .actions) where
       rw (start, counted) (lines .0, record { ends = omega (arith, lines .2); acts = lines .3 }, omega arith)
 
 -- THE TABLE AT THE START of an input, and its executability lines.
-pub table-is : (s : List ℕ) (x : Table) (p : ℕ) → table-at format s 0 ≡ got x p → table-in s ≡ x
+pub table-is : (s : List ℕ) (x : Table) (p : ℕ) → table-at format Flags s 0 ≡ got x p → table-in s ≡ x
 unfolding table-in table-of
 table-is s x p read = ap table-of read
 
@@ -499,7 +500,7 @@ module _ (s t : List ℕ) (here : Table-here s t) where
   }
 
   -- A plan that is noted leaves the table there.
-  pub table-stays : (g p : ℕ) (y : Request) (q : ℕ) → request-at format s (table-in s) p ≡ got y q → Table-here s (tail-with g y t)
+  pub table-stays : (g p : ℕ) (y : Request) (q : ℕ) → request-at format Flags s (table-in s) p ≡ got y q → Table-here s (tail-with Flags g y t)
   table-stays g p y q read = record {
     bytes = here .bytes;
     short = here .short;
@@ -510,7 +511,7 @@ module _ (s t : List ℕ) (here : Table-here s t) where
   }
 
 -- A table that was noted into notes that held nothing is there.
-module _ (s : List ℕ) (bytes : (i : ℕ) → getD s i 0 < 256) (short : length s ≤ format .request) (x : Table) (p : ℕ) (read : table-at format s 0 ≡ got x p) where
+module _ (s : List ℕ) (bytes : (i : ℕ) → getD s i 0 < 256) (short : length s ≤ format .request) (x : Table) (p : ℕ) (read : table-at format Flags s 0 ≡ got x p) where
   pub table-comes : Table-here s (table-noted x blank)
   unfolding table-noted
   table-comes = record {
@@ -528,8 +529,8 @@ module _ (s : List ℕ) (bytes : (i : ℕ) → getD s i 0 < 256) (short : length
 
 -- A REQUEST that was read: its table, noted into notes that held nothing, is there, and the rest was read behind it.
 module _ (s : List ℕ) (bytes : (i : ℕ) → getD s i 0 < 256) (t : List ℕ) (here : Read-here s t) where
-  pub read-parts : Parts s (here .request) (here .end)
-  read-parts = parts s (here .request) (here .end) (here .reads)
+  pub read-parts : Parts Flags s (here .request) (here .end)
+  read-parts = parts Flags s (here .request) (here .end) (here .reads)
 
   pub read-comes : Table-here s (table-noted (here .request .table) blank)
   read-comes = table-comes s bytes (here .short) (here .request .table) (read-parts .place) (read-parts .table-read)
@@ -537,20 +538,20 @@ module _ (s : List ℕ) (bytes : (i : ℕ) → getD s i 0 < 256) (t : List ℕ) 
   pub read-same : table-in s ≡ here .request .table
   read-same = table-is s (here .request .table) (read-parts .place) (read-parts .table-read)
 
-  pub read-tail : request-at format s (table-in s) (read-parts .place) ≡ got (here .request) (here .end)
-  read-tail = ap (λ (z : Table). request-at format s z (read-parts .place)) read-same ∙ read-parts .tail-read
+  pub read-tail : request-at format Flags s (table-in s) (read-parts .place) ≡ got (here .request) (here .end)
+  read-tail = ap (λ (z : Table). request-at format Flags s z (read-parts .place)) read-same ∙ read-parts .tail-read
 
   -- The notes are what its table leaves, and then the rest.
-  pub read-noted : t ≡ tail-with (here .guards) (here .request) (table-noted (here .request .table) blank)
+  pub read-noted : t ≡ tail-with Flags (here .guards) (here .request) (table-noted (here .request .table) blank)
   unfolding request-with
   read-noted = here .noted
 
 -- It is there when it was read whole, without guards or with them.
 module _ (s t : List ℕ) where
-  abbrev pub plain-here : (x : Request) (e : ℕ) → read-request format s ≡ got x e → t ≡ request-with 0 x blank → Read-here s t
-  plain-here x e is noted = record { request = x; end = e; guards = 0; short = plain-read s x e is .0; reads = plain-read s x e is .1; noted = noted }
+  abbrev pub plain-here : (x : Request) (e : ℕ) → read-request format Flags s ≡ got x e → t ≡ request-with Flags 0 x blank → Read-here s t
+  plain-here x e is noted = record { request = x; end = e; guards = 0; short = plain-read s Flags x e is .0; reads = plain-read s Flags x e is .1; noted = noted }
 
-  pub with-guards : (g : Guarded-request) → t ≡ guarded-noted g blank → t ≡ request-with (guards-place (g .request)) (g .request) blank
+  pub with-guards : (g : Guarded-request) → t ≡ guarded-noted g blank → t ≡ request-with Flags (guards-place (g .request)) (g .request) blank
   unfolding guarded-noted
   with-guards g noted = noted
 

@@ -7,6 +7,7 @@ use lib.ListN.{length, getD}
 use borrow.Author.Tests.{leb-false, eqb-true}
 use Rattle.meaning.specs.Limits.{format, all-literals}
 use Rattle.meaning.specs.Requests.{Sequence}
+use Rattle.meaning.specs.declared.Form.the-variants.{Flags}
 use Rattle.meaning.specs.Reading.{got, Met, byte-at, two-bytes-at, literals, bound-of, body-at, plan-at}
 use Rattle.meaning.proofs.GotLaws.{On, got-on, next-on}
 use Rattle.meaning.proofs.PlanReads.{Said, Passed-on, plan-on}
@@ -55,11 +56,11 @@ module _ (n m : ℕ) (s : List ℕ) where
   }
 
   module _ (small : n ≤ format .fluents) (few : m ≤ format .actions) where
-    branch-written : (p : ℕ) (c : List ℕ) (q : ℕ) (b : Sequence ℕ) → body-at format n s p ≡ got c q → Sequence-got s q b → Branch-written s p c b
+    branch-written : (p : ℕ) (c : List ℕ) (q : ℕ) (b : Sequence ℕ) → body-at format Flags n s p ≡ got c q → Sequence-got s q b → Branch-written s p c b
     unfolding body-at bound-of sequence-place
     branch-written p c q b read one =
         let list = list-here literals n s 16 p c q read in
-        let after = body-through s n p .holds c q read .after in
+        let after = body-through s Flags n p .holds c q read .after in
         let size : getD s p 0 ≡ length c = sym (listed-length s p) ∙ ap length (list .0) in
         let place : q ≡ p + 1 + getD s p 0 = omega arith in
         record {
@@ -91,23 +92,23 @@ module _ (n m : ℕ) (s : List ℕ) where
       a-sequence = λ deep p met c q b e read all. let two = two-is s p .holds c q read in record { written = all .0; there = two .there; count = two .is ∙ sym (all .1) };
       no-branch = λ deep p met _. (tt, refl);
       a-branch = λ deep left p met c q b r rest e read body one more met-few.
-          let sizes = sequence-read n m s deep q met met-few .holds b r body in
-          let a = body-through s n p .holds c q read .after in let d = sizes .through .after in
-          let end : r ≡ p + (1 + length c) + (2 + bytes-of (b .value)) = omega arith in
+          let sizes = sequence-read Flags n m s deep q met met-few .holds b r body in
+          let a = body-through s Flags n p .holds c q read .after in let d = sizes .through .after in
+          let end : r ≡ p + (1 + length c) + (2 + bytes-of Flags (b .value)) = omega arith in
           let others = more (sizes .most) in
           ((branch-written p c q (b .value) read one, one .written, subst (λ (o : ℕ). Branches-written s o (rest .value)) end (others .0)), ap suc (others .1));
     }
 
     -- THE PLAN.
-    module _ (p : ℕ) (t : List ℕ) (x : Met (Sequence ℕ)) (e : ℕ) (room : effect-lines ≤ length t) (read : plan-at format n m s p ≡ got x e) where
+    module _ (p : ℕ) (t : List ℕ) (x : Met (Sequence ℕ)) (e : ℕ) (room : effect-lines ≤ length t) (read : plan-at format Flags n m s p ≡ got x e) where
       pub plan-items : items-of (x .value) ≡ x .items
       unfolding plan-at
-      plan-items = let counted = sequence-read n m s 8 p 0 (omega arith) .holds x e read .counted in omega arith
+      plan-items = let counted = sequence-read Flags n m s 8 p 0 (omega arith) .holds x e read .counted in omega arith
 
-      pub plan-held : Plan-held s (plan-noted p t (x .value)) (x .value)
+      pub plan-held : Plan-held s (plan-noted Flags p t (x .value)) (x .value)
       unfolding plan-at
       plan-held =
-          let all = sequence-read n m s 8 p 0 (omega arith) .holds x e read in
+          let all = sequence-read Flags n m s 8 p 0 (omega arith) .holds x e read in
           let counted = all .counted in let most = all .most in
           let small : items-of (x .value) ≤ (format .items) = omega arith in
           record {
@@ -117,12 +118,12 @@ module _ (n m : ℕ) (s : List ℕ) where
           }
 
       -- The notes that reading left.
-      pub plan-read : (u : List ℕ) → u ≡ plan-noted p t (x .value) → Some-plan s u (x .items)
+      pub plan-read : (u : List ℕ) → u ≡ plan-noted Flags p t (x .value) → Some-plan s u (x .items)
       plan-read u is = record { plan = x .value; held = rw is plan-held; items = plan-items }
 
     -- What the code that reads a plan answers, and what is then found.
-    module _ (p : ℕ) (t u : List ℕ) (r : Read) (count e : ℕ) (room : effect-lines ≤ length t) (left : outcome-met r u ≡ noting-met (plan-noted p t) (plan-at format n m s p)) (is : r ≡ Value count e) where
+    module _ (p : ℕ) (t u : List ℕ) (r : Read) (count e : ℕ) (room : effect-lines ≤ length t) (left : outcome-met r u ≡ noting-met (plan-noted Flags p t) (plan-at format Flags n m s p)) (is : r ≡ Value count e) where
       pub plan-left : Some-plan s u count
       plan-left =
-          let w = met-value (plan-noted p t) (plan-at format n m s p) r u count e left is in
+          let w = met-value (plan-noted Flags p t) (plan-at format Flags n m s p) r u count e left is in
           plan-read p t (with-items (w .0) count) e room (w .1) u (w .2)

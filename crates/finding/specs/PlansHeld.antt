@@ -7,6 +7,7 @@ use lib.ListN.{length, getD}
 use Rattle.meaning.specs.Limits.{format, all-literals}
 use Rattle.meaning.specs.Literals.{exclusive}
 use Rattle.meaning.specs.Requests.{Sequence, done, item, Item, act, branching, Branches, none, branch}
+use Rattle.meaning.specs.declared.Form.the-variants.{Flags}
 use Rattle.reading.specs.Noted.{item-place, branch-place, branch-item}
 use Rattle.reading.specs.Listed.{listed, List-here}
 use Rattle.reading.specs.Planned.{items-of, items-in, bytes-of}
@@ -52,7 +53,7 @@ unfoldable mutual
 
   pub Branches-written : List ℕ → (p : ℕ) → Branches ℕ → Type 0
   Branches-written s p none = Unit {0}
-  Branches-written s p (branch c b rest) = Branch-written s p c b × Written s b × Branches-written s (p + (1 + length c) + (2 + bytes-of b)) rest
+  Branches-written s p (branch c b rest) = Branch-written s p c b × Written s b × Branches-written s (p + (1 + length c) + (2 + bytes-of Flags b)) rest
 
 -- IN THE TABLE, with `met` items before the part. A branch with an item, which ends at p.
 pub record Branch-kept (t : List ℕ) (met p : ℕ) (b : Sequence ℕ) : Type 0 where
@@ -71,7 +72,7 @@ unfoldable mutual
   pub Branches-kept : List ℕ → (met p : ℕ) → Branches ℕ → Type 0
   Branches-kept t met p none = Unit {0}
   Branches-kept t met p (branch c b rest) =
-      Branch-kept t met (p + (1 + length c) + (2 + bytes-of b)) b × Kept t met b × Branches-kept t (met + items-of b) (p + (1 + length c) + (2 + bytes-of b)) rest
+      Branch-kept t met (p + (1 + length c) + (2 + bytes-of Flags b)) b × Kept t met b × Branches-kept t (met + items-of b) (p + (1 + length c) + (2 + bytes-of Flags b)) rest
 
 -- A plan, from its first item on.
 pub record Plan-held (s t : List ℕ) (b : Sequence ℕ) : Type 0 where

@@ -6,6 +6,7 @@ use lib.ListN.{length}
 use Rattle.meaning.specs.Limits.{format}
 use Rattle.meaning.specs.Requests.{Request}
 use Rattle.meaning.specs.Reading.{got}
+use Rattle.meaning.specs.declared.Form.the-variants.{Flags}
 use Rattle.reading.specs.Requested.{request-with}
 use Rattle.reader.specs.Sections.{sections-read}
 use Rattle.finding.specs.TablesHere.{blank}
@@ -17,4 +18,4 @@ pub record Read-here (s t : List ℕ) : Type 0 where
   pub guards : ℕ
   pub short : length s ≤ format .request
   pub reads : sections-read s 0 ≡ got request end
-  pub noted : t ≡ request-with guards request blank
+  pub noted : t ≡ request-with Flags guards request blank

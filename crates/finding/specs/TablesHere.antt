@@ -7,6 +7,7 @@ use Rattle.meaning.specs.Tests.{Has}
 use Rattle.meaning.specs.Limits.{format, all-literals}
 use Rattle.meaning.specs.Requests.{Executability, Table}
 use Rattle.meaning.specs.Lines.{executability-of}
+use Rattle.meaning.specs.declared.Form.the-variants.{Flags}
 use Rattle.meaning.specs.Reading.{Got, got, fault, table-at}
 use Rattle.reading.specs.Noted.{effect-lines, run-lines, plan-slot, items-slot, goals-slot, guards-slot, slots, table-noted}
 use Rattle.reading.specs.Ordered.{In-order}
@@ -19,7 +20,7 @@ table-of (fault n p) = record { fluents = 0; actions = 0; facts = []; effects = 
 
 -- THE TABLE (FORMAT 2.12 to 2.16).
 unfoldable pub table-in : List ℕ → Table
-table-in s = table-of (table-at format s 0)
+table-in s = table-of (table-at format Flags s 0)
 
 -- Notes that hold nothing.
 unfoldable pub blank : List ℕ
@@ -35,7 +36,7 @@ pub record Table-here (s t : List ℕ) : Type 0 where
   pub bytes : (i : ℕ) → getD s i 0 < 256
   pub short : length s ≤ format .request
   pub table-end : ℕ
-  pub table : table-at format s 0 ≡ got (table-in s) table-end
+  pub table : table-at format Flags s 0 ≡ got (table-in s) table-end
   pub sized : length t ≡ slots
   pub noted : (j : ℕ) → Of-table j → getD t j 0 ≡ getD (table-noted (table-in s) blank) j 0
 

@@ -24,6 +24,7 @@ use Rattle.bytes.specs.declared.lists.Passed.{Passed}
 use Rattle.bytes.specs.declared.lists.Passed.the-variants.{To, Fault as Stop}
 use Rattle.bytes.specs.Read.{passed}
 use Rattle.bytes.proofs.ListLaws.{passed-to, passed-stop}
+use Rattle.meaning.specs.declared.Form.the-variants.{Flags}
 use Rattle.reading.specs.Noted.{noting, outcome, goals-slot}
 use Rattle.reading.specs.Listed.{listed}
 use Rattle.reading.specs.Requested.{request-noted}
@@ -98,10 +99,10 @@ module _ (s t : List ℕ) (here : At-hand s t) (layout : Layout) (d : List ℕ) 
       check-refuses k p stops = sym (check-goes ∙ ap accepted-if (passed-stop (check-derivation format layout (request-in s t) d) k p (sym is ∙ stops)))
 
 -- THE CALLS.
-module _ (layout : Layout) (s d t u : List ℕ) (r : Passed) (settles : outcome r u ≡ noting request-noted (settled format s) t) where
+module _ (layout : Layout) (s d t u : List ℕ) (r : Passed) (settles : outcome r u ≡ noting (request-noted Flags) (settled format s) t) where
   pub check-settled-first : (k p : ℕ) → r ≡ Stop k p → record { number = k; input = 1; place = p; count = 0 } ≡ check format layout s d
   unfolding check check-settled answer
-  check-settled-first k p stops = sym (ap (check-settled format layout d) (noting-fault request-noted (settled format s) r t u settles k p stops))
+  check-settled-first k p stops = sym (ap (check-settled format layout d) (noting-fault (request-noted Flags) (settled format s) r t u settles k p stops))
 
   pub check-then : (e : ℕ) → r ≡ To e → ((i : ℕ) → Fits w8 (getD s i 0)) → t ≡ blank → (a : Answer) → a ≡ check-at-hand layout (request-in s u) d → a ≡ check format layout s d
   unfolding check check-at-hand check-settled

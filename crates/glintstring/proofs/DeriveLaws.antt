@@ -28,6 +28,7 @@ use Rattle.meaning.proofs.WithinLaws.{fine-within}
 use Rattle.meaning.proofs.NarrowWalks.{narrow-never}
 use Rattle.bytes.specs.declared.lists.Passed.{Passed}
 use Rattle.bytes.specs.declared.lists.Passed.the-variants.{To, Fault as Stop}
+use Rattle.meaning.specs.declared.Form.the-variants.{Flags}
 use Rattle.reading.specs.Noted.{goals-slot, mode-slot, slots, noting, outcome}
 use Rattle.reading.specs.Requested.{request-noted}
 use Rattle.reading.proofs.SectionLaws.{noting-fault}
@@ -195,11 +196,11 @@ module _ (s t : List ℕ) (here : At-hand s t) (goals : ℕ) (slot : goals ≡ g
   none-asked none = by-count ∙ le-ltb 0 asked none
 
 -- THE CALL.
-module _ (s room : List ℕ) (budget : ℕ) (a : Answer) (t u : List ℕ) (r : Passed) (settles : outcome r u ≡ noting request-noted (settled format s) t) where
+module _ (s room : List ℕ) (budget : ℕ) (a : Answer) (t u : List ℕ) (r : Passed) (settles : outcome r u ≡ noting (request-noted Flags) (settled format s) t) where
   pub derive-refused : (k p : ℕ) → r ≡ Stop k p → a ≡ record { number = k; input = 1; place = p; count = 0 } → record { answer = a; room = room } ≡ derive format s room budget
   unfolding derive derive-got unwritten answer
   derive-refused k p stops is =
-      ap (λ (b : Answer). record { answer = b; room = room }) is ∙ sym (ap (derive-got format room budget) (noting-fault request-noted (settled format s) r t u settles k p stops))
+      ap (λ (b : Answer). record { answer = b; room = room }) is ∙ sym (ap (derive-got format room budget) (noting-fault (request-noted Flags) (settled format s) r t u settles k p stops))
 
   pub derive-so : (e : ℕ) → r ≡ To e → ((j : ℕ) → Fits w8 (getD s j 0)) → t ≡ blank → (left : List ℕ) → record { answer = a; room = left } ≡ derive-got format room budget (got (request-in s u) 0)
       → record { answer = a; room = left } ≡ derive format s room budget

@@ -27,6 +27,7 @@ use Rattle.meaning.proofs.DifferenceLaws.{same-difference}
 use Rattle.meaning.proofs.IndexAnswers.{right-index, refused-alike, nine-alike, other-judges, other-tells}
 use Rattle.bytes.specs.declared.lists.Passed.{Passed}
 use Rattle.bytes.specs.declared.lists.Passed.the-variants.{To, Fault as Stop}
+use Rattle.meaning.specs.declared.Form.the-variants.{Flags}
 use Rattle.reading.specs.Noted.{noting, outcome}
 use Rattle.reading.specs.Requested.{request-noted}
 use Rattle.reading.proofs.SectionLaws.{noting-fault}
@@ -66,11 +67,11 @@ module _ (s i lent : List ℕ) (budget : ℕ) (a : Answer) (v : ℕ) where
   pub indexed-9 : (length lent ≡ format .state → ⊥) → a ≡ record { number = 9; input = 0; place = 0; count = 0 } → v ≡ 0 → Gives (judge-indexed format s i lent budget) (line-indexed format s i lent budget) a lent v
   indexed-9 other is none = as-judged lent (nine-alike format s i lent budget (ne-eqb _ _ other)) (judge-9 s lent budget a v other is none)
 
-  module _ (sized : length lent ≡ format .state) (t u : List ℕ) (r : Passed) (settles : outcome r u ≡ noting request-noted (settled format s) t) where
+  module _ (sized : length lent ≡ format .state) (t u : List ℕ) (r : Passed) (settles : outcome r u ≡ noting (request-noted Flags) (settled format s) t) where
     pub indexed-refused : (k p : ℕ) → r ≡ Stop k p → a ≡ record { number = k; input = 1; place = p; count = 0 } → v ≡ 0
         → Gives (judge-indexed format s i lent budget) (line-indexed format s i lent budget) a lent v
     indexed-refused k p stops is none =
-        as-judged lent (refused-alike format s i lent budget k p (noting-fault request-noted (settled format s) r t u settles k p stops)) (judge-refused s lent budget a v sized t u r settles k p stops is none)
+        as-judged lent (refused-alike format s i lent budget k p (noting-fault (request-noted Flags) (settled format s) r t u settles k p stops)) (judge-refused s lent budget a v sized t u r settles k p stops is none)
 
     module _ (e : ℕ) (passes : r ≡ To e) (bytes : (j : ℕ) → Fits w8 (getD s j 0)) (empty : t ≡ blank) where
       held : table-in s ≡ settled-got s t u r settles e passes .0 .table
@@ -102,7 +103,7 @@ module _ (s i lent : List ℕ) (budget : ℕ) (a : Answer) (v : ℕ) where
 pub right-one : (s i : List ℕ) (f : Code.Found) → f ≡ found (first-difference (index-of (table-in s)) i) → f ≡ Nowhere → i ≡ index-of (table-in s)
 right-one s i f finds none = sym (same-difference (index-of (table-in s)) i .0 (found-none _ _ finds none))
 
-module _ (s t u : List ℕ) (r : Passed) (settles : outcome r u ≡ noting request-noted (settled format s) t) (e : ℕ) (passes : r ≡ To e) (bytes : (j : ℕ) → Fits w8 (getD s j 0)) (empty : t ≡ blank)
+module _ (s t u : List ℕ) (r : Passed) (settles : outcome r u ≡ noting (request-noted Flags) (settled format s) t) (e : ℕ) (passes : r ≡ To e) (bytes : (j : ℕ) → Fits w8 (getD s j 0)) (empty : t ≡ blank)
     (i : List ℕ) (right : i ≡ index-of (table-in s)) (w : List ℕ) (taken : w ≡ index-taken i 0 (table-in s .actions) 0 0 0 u) where
   pub indexed-hand : At-hand s w
   indexed-hand = rw taken (taken-hand s u (settled-table s t u r settles e passes bytes empty) i right (settled-at-hand s t u r settles e passes bytes empty))
@@ -127,11 +128,11 @@ module _ (s t room : List ℕ) (a : Answer) (l : ℕ) (long : l ≡ length (inde
       let fits : leb (length (index-of table)) (length room) ≡ true = le-leb (length (index-of table)) (length room) (omega (arith, enough, long)) in
       rw (is, long, to, fits) refl
 
-module _ (s room : List ℕ) (a : Answer) (t u : List ℕ) (r : Passed) (settles : outcome r u ≡ noting request-noted (settled format s) t) where
+module _ (s room : List ℕ) (a : Answer) (t u : List ℕ) (r : Passed) (settles : outcome r u ≡ noting (request-noted Flags) (settled format s) t) where
   pub built-refused : (k p : ℕ) → r ≡ Stop k p → a ≡ record { number = k; input = 1; place = p; count = 0 } → record { answer = a; room = room } ≡ build format s room
   unfolding build build-got
   built-refused k p stops is =
-      ap (λ (b : Answer). record { answer = b; room = room }) is ∙ sym (ap (build-got room) (noting-fault request-noted (settled format s) r t u settles k p stops))
+      ap (λ (b : Answer). record { answer = b; room = room }) is ∙ sym (ap (build-got room) (noting-fault (request-noted Flags) (settled format s) r t u settles k p stops))
 
   pub built-so : (e : ℕ) → r ≡ To e → ((j : ℕ) → Fits w8 (getD s j 0)) → t ≡ blank → (w : List ℕ) → record { answer = a; room = w } ≡ build-got room (got (request-in s u) 0)
       → record { answer = a; room = w } ≡ build format s room

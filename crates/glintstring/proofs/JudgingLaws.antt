@@ -28,6 +28,7 @@ use Rattle.meaning.proofs.KeptEnds.{walked-unguarded}
 use Rattle.meaning.proofs.ReportedLine.{line-not}
 use Rattle.bytes.specs.declared.lists.Passed.{Passed}
 use Rattle.bytes.specs.declared.lists.Passed.the-variants.{To, Fault as Stop}
+use Rattle.meaning.specs.declared.Form.the-variants.{Flags}
 use Rattle.reading.specs.Noted.{mode-slot, noting, outcome}
 use Rattle.reading.specs.Requested.{request-noted, guarded-noted}
 use Rattle.finding.specs.TablesHere.{blank}
@@ -93,12 +94,12 @@ module _ {A : Type 0} (note : A → List ℕ → List ℕ) (table : A → Table)
 module _ (s lent : List ℕ) (budget : ℕ) (a : Answer) (v : ℕ) where
   pub judge-9 : (length lent ≡ format .state → ⊥) → a ≡ record { number = 9; input = 0; place = 0; count = 0 } → v ≡ 0 → Gives (judge format s lent budget) (line format s lent budget) a lent v
   unfolding judge line
-  judge-9 = call-9 request-noted (λ (x : Request). x .table) (settled format s) s lent (judge-got (walk-of format) lent budget) a v
+  judge-9 = call-9 (request-noted Flags) (λ (x : Request). x .table) (settled format s) s lent (judge-got (walk-of format) lent budget) a v
 
-  module _ (sized : length lent ≡ format .state) (t u : List ℕ) (r : Passed) (settles : outcome r u ≡ noting request-noted (settled format s) t) where
+  module _ (sized : length lent ≡ format .state) (t u : List ℕ) (r : Passed) (settles : outcome r u ≡ noting (request-noted Flags) (settled format s) t) where
     pub judge-refused : (k p : ℕ) → r ≡ Stop k p → a ≡ record { number = k; input = 1; place = p; count = 0 } → v ≡ 0 → Gives (judge format s lent budget) (line format s lent budget) a lent v
     unfolding judge line judge-got
-    judge-refused k p stops = call-refused request-noted (λ (x : Request). x .table) (settled format s) s lent (judge-got (walk-of format) lent budget) a v sized t u r settles k p stops refl
+    judge-refused k p stops = call-refused (request-noted Flags) (λ (x : Request). x .table) (settled format s) s lent (judge-got (walk-of format) lent budget) a v sized t u r settles k p stops refl
 
     pub judge-walked : (e : ℕ) → r ≡ To e → ((i : ℕ) → Fits w8 (getD s i 0)) → t ≡ blank → (left : List ℕ) → record { answer = a; state = left } ≡ within lent budget (walk-held s u)
         → v ≡ line-told (table-in s) s (record { answer = a; state = left }) → Gives (judge format s lent budget) (line format s lent budget) a left v
@@ -106,7 +107,7 @@ module _ (s lent : List ℕ) (budget : ℕ) (a : Answer) (v : ℕ) where
     judge-walked e passes bytes empty left walks told =
         let past = settled-got s t u r settles e passes in
         let held = settled-held s t u r settles e passes bytes empty in
-        call-judged request-noted (λ (x : Request). x .table) (settled format s) s lent (judge-got (walk-of format) lent budget) a v sized left (past .0) e (past .1)
+        call-judged (request-noted Flags) (λ (x : Request). x .table) (settled format s) s lent (judge-got (walk-of format) lent budget) a v sized left (past .0) e (past .1)
         (walks
         ∙ ap (within lent budget)
         (known-walk s u (past .0) [] (settled-known s t u r settles e passes bytes empty) held (settled-unguarded s t u r settles e passes bytes empty)
@@ -117,14 +118,14 @@ module _ (s lent : List ℕ) (budget : ℕ) (a : Answer) (v : ℕ) where
 module _ (s lent : List ℕ) (budget : ℕ) (a : Answer) (v : ℕ) where
   pub cases-9 : (length lent ≡ format .state → ⊥) → a ≡ record { number = 9; input = 0; place = 0; count = 0 } → v ≡ 0 → Gives (judge-by-cases format s lent budget) (line-by-cases format s lent budget) a lent v
   unfolding judge-by-cases line-by-cases
-  cases-9 = call-9 request-noted (λ (x : Request). x .table) (settled format s) s lent (judge-got (ByCases.walk-of format) lent budget) a v
+  cases-9 = call-9 (request-noted Flags) (λ (x : Request). x .table) (settled format s) s lent (judge-got (ByCases.walk-of format) lent budget) a v
 
-  module _ (sized : length lent ≡ format .state) (t u : List ℕ) (r : Passed) (settles : outcome r u ≡ noting request-noted (settled format s) t) where
+  module _ (sized : length lent ≡ format .state) (t u : List ℕ) (r : Passed) (settles : outcome r u ≡ noting (request-noted Flags) (settled format s) t) where
     pub cases-refused : (k p : ℕ) → r ≡ Stop k p → a ≡ record { number = k; input = 1; place = p; count = 0 } → v ≡ 0
         → Gives (judge-by-cases format s lent budget) (line-by-cases format s lent budget) a lent v
     unfolding judge-by-cases line-by-cases judge-got
     cases-refused k p stops =
-        call-refused request-noted (λ (x : Request). x .table) (settled format s) s lent (judge-got (ByCases.walk-of format) lent budget) a v sized t u r settles k p stops refl
+        call-refused (request-noted Flags) (λ (x : Request). x .table) (settled format s) s lent (judge-got (ByCases.walk-of format) lent budget) a v sized t u r settles k p stops refl
 
     pub cases-walked : (e : ℕ) → r ≡ To e → ((i : ℕ) → Fits w8 (getD s i 0)) → t ≡ blank → (w : List ℕ) → w ≡ set u mode-slot 1 → (left : List ℕ)
         → record { answer = a; state = left } ≡ within lent budget (walk-held s w) → v ≡ line-told (table-in s) s (record { answer = a; state = left })
@@ -132,7 +133,7 @@ module _ (s lent : List ℕ) (budget : ℕ) (a : Answer) (v : ℕ) where
     unfolding judge-by-cases line-by-cases judge-got
     cases-walked e passes bytes empty w put left walks told =
         let past = settled-got s t u r settles e passes in
-        call-judged request-noted (λ (x : Request). x .table) (settled format s) s lent (judge-got (ByCases.walk-of format) lent budget) a v sized left (past .0) e (past .1)
+        call-judged (request-noted Flags) (λ (x : Request). x .table) (settled format s) s lent (judge-got (ByCases.walk-of format) lent budget) a v sized left (past .0) e (past .1)
         (walks ∙ ap (within lent budget) (cases-walk s t u r settles e passes bytes empty w put))
         (told ∙ ap (λ (w : Table). line-told w s (record { answer = a; state = left })) (held-table s u (past .0) (settled-held s t u r settles e passes bytes empty)))
 

@@ -17,6 +17,7 @@ use Rattle.meaning.proofs.SettledLaws.{Settled, settled-is}
 use Rattle.meaning.proofs.GuardedReads.{guarded-past}
 use Rattle.bytes.specs.declared.lists.Passed.{Passed}
 use Rattle.bytes.specs.declared.lists.Passed.the-variants.{To}
+use Rattle.meaning.specs.declared.Form.the-variants.{Flags}
 use Rattle.reading.specs.Noted.{mode-slot, slots, noting, outcome}
 use Rattle.reading.specs.Requested.{request-noted, guarded-noted}
 use Rattle.reading.proofs.SectionLaws.{noting-got}
@@ -29,16 +30,16 @@ use Rattle.steps.proofs.ModeHand.{table-mode, new-mode, same-request, same-guar
 use Rattle.steps.proofs.JustRead.{plain-at-hand, plain-request, plain-table, plain-guards, guarded-at-hand, guarded-request, guarded-table, guarded-guards}
 
 -- WITHOUT GUARDS.
-module _ (s t u : List ℕ) (r : Passed) (settles : outcome r u ≡ noting request-noted (settled format s) t) (e : ℕ) (passes : r ≡ To e) where
-  pub settled-got : (x : Request) × (settled format s ≡ got x e) × (u ≡ request-noted x t)
-  settled-got = noting-got request-noted (settled format s) r t u settles e passes
+module _ (s t u : List ℕ) (r : Passed) (settles : outcome r u ≡ noting (request-noted Flags) (settled format s) t) (e : ℕ) (passes : r ≡ To e) where
+  pub settled-got : (x : Request) × (settled format s ≡ got x e) × (u ≡ request-noted Flags x t)
+  settled-got = noting-got (request-noted Flags) (settled format s) r t u settles e passes
 
   module _ (bytes : (i : ℕ) → Fits w8 (getD s i 0)) (empty : t ≡ blank) where
     past : Settled format s (settled-got .0) e
     past = settled-is format s (settled-got .0) e (settled-got .1)
 
-    noted : u ≡ request-noted (settled-got .0) blank
-    noted = settled-got .2 ∙ ap (request-noted (settled-got .0)) empty
+    noted : u ≡ request-noted Flags (settled-got .0) blank
+    noted = settled-got .2 ∙ ap (request-noted Flags (settled-got .0)) empty
 
     pub settled-at-hand : At-hand s u
     settled-at-hand = plain-at-hand s (λ i. bytes i .fits) u (settled-got .0) e (past .reads) noted (past .no-contradiction)
@@ -82,7 +83,7 @@ module _ (s t u : List ℕ) (r : Passed) (settles : outcome r u ≡ noting guard
     guards-held = guarded-guards s (λ i. bytes i .fits) u (guarded-got .0) e (guarded-past format s (guarded-got .0) e (guarded-got .1) .0) noted-guarded
 
 -- BY CASES it is the same request, with the mode put into the notes.
-module _ (s t u : List ℕ) (r : Passed) (settles : outcome r u ≡ noting request-noted (settled format s) t) (e : ℕ) (passes : r ≡ To e) (bytes : (i : ℕ) → Fits w8 (getD s i 0)) (empty : t ≡ blank)
+module _ (s t u : List ℕ) (r : Passed) (settles : outcome r u ≡ noting (request-noted Flags) (settled format s) t) (e : ℕ) (passes : r ≡ To e) (bytes : (i : ℕ) → Fits w8 (getD s i 0)) (empty : t ≡ blank)
     (v : List ℕ) (put : v ≡ set u mode-slot 1) where
   pub cases-hand : At-hand s v
   cases-hand = rw put (hand-stays s u 1 (settled-at-hand s t u r settles e passes bytes empty))

@@ -20,6 +20,7 @@ use Rattle.meaning.proofs.SettledLaws.{fault≢got, got-same}
 use Rattle.bytes.specs.declared.lists.Passed.{Passed}
 use Rattle.bytes.specs.declared.lists.Passed.the-variants.{To, Fault as Stop}
 use Rattle.reading.specs.Listed.{listed, List-here}
+use Rattle.meaning.specs.declared.Form.the-variants.{Flags}
 use Rattle.reading.specs.Noted.{items-slot, noting, outcome}
 use Rattle.reading.specs.Requested.{request-noted}
 use Rattle.reading.proofs.SectionLaws.{noting-fault}
@@ -66,7 +67,7 @@ pub none-after : (s : List ℕ) (a : ℕ) (x : Fluents) → format .actions ≤ 
 none-after s a x large is = is ∙ ap fluents-of (sym (asked-none s a large))
 
 -- A REQUEST that was read again, and settled.
-module _ (s t u : List ℕ) (r : Passed) (settles : outcome r u ≡ noting request-noted (settled format s) t) where
+module _ (s t u : List ℕ) (r : Passed) (settles : outcome r u ≡ noting (request-noted Flags) (settled format s) t) where
   module _ (e : ℕ) (passes : r ≡ To e) (bytes : (i : ℕ) → Fits w8 (getD s i 0)) (empty : t ≡ blank) where
     reads : settled format s ≡ got (request-in s u) e
     reads = settled-got s t u r settles e passes .1 ∙ ap (λ (x : Request). got x e) (sym (settled-held s t u r settles e passes bytes empty))
@@ -145,7 +146,7 @@ module _ (s t u : List ℕ) (r : Passed) (settles : outcome r u ≡ noting reque
   -- And refused.
   module _ (k p : ℕ) (stops : r ≡ Stop k p) where
     faulty : settled format s ≡ fault k p
-    faulty = noting-fault request-noted (settled format s) r t u settles k p stops
+    faulty = noting-fault (request-noted Flags) (settled format s) r t u settles k p stops
 
     held-fault : (a at : ℕ) (marks : State) → guide-held s a at marks ≡ refusing (of-request k p)
     unfolding guide-held guide-got

@@ -24,23 +24,23 @@ use Rattle.meaning.proofs.PlaceLaws.{Found-below, Request-below, missed
 use Rattle.meaning.proofs.JudgedParts.{Tells, Stop-told, Stops-told, Walks-within, Parts, judged-parts}
 use Rattle.meaning.proofs.CaseWalks.{Stuck-by-cases, cases-stuck}
 
-cases-tells : Tells cases-answers of-walks stated
-unfolding among cases-answers answers refusals of-walks stated some-of either each-of both fails
-cases-tells = record { fine = (refl, refl, refl); missed = (refl, refl, refl); spent = (refl, refl, refl); length = (refl, refl, refl); refused = refl }
+cases-tells : Tells refusals cases-answers of-walks stated
+unfolding among cases-answers answers refusals of-neither of-walks stated some-of either each-of both fails
+cases-tells = record { fine = (refl, refl, refl); missed = (refl, refl, refl); spent = (refl, refl, refl); length = (refl, refl, refl); refusing = refl }
 
 -- Its stops are told so.
-stuck-told : (end : End State) → Stuck-by-cases end → Stops-told cases-answers of-walks stated end
+stuck-told : (end : End State) → Stuck-by-cases end → Stops-told refusals cases-answers of-walks stated end
 unfolding among cases-answers answers of-neither at-start of-walks stated some-of either
 stuck-told fine stuck = tt
 stuck-told (missed p s) stuck = tt
 stuck-told (stopped n p u) stuck =
     ⊎-elim
-    (λ is. subst Concerning (sym (is .1 .1)) (subst (λ (m : ℕ). Stop-told cases-answers of-walks stated m p (in-state (is .1 .0))) (sym (is .0)) (refl, refl, (refl, refl, refl))))
-    (λ is. subst Concerning (sym (is .1)) (subst (λ (m : ℕ). Stop-told cases-answers of-walks stated m p no-state) (sym (is .0)) (refl, refl, (refl, refl, refl))))
+    (λ is. subst Concerning (sym (is .1 .1)) (subst (λ (m : ℕ). Stop-told refusals cases-answers of-walks stated m p (in-state (is .1 .0))) (sym (is .0)) (refl, refl, (refl, refl, refl))))
+    (λ is. subst Concerning (sym (is .1)) (subst (λ (m : ℕ). Stop-told refusals cases-answers of-walks stated m p no-state) (sym (is .0)) (refl, refl, (refl, refl, refl))))
     stuck
   where
     Concerning : Concerned State → Type 0
-    Concerning v = Stop-told cases-answers of-walks stated n p v
+    Concerning v = Stop-told refusals cases-answers of-walks stated n p v
 
 -- It misses at an entry, and stops at an item.
 pub walked-cases-below : (size : ℕ) (r : Request) → Request-below size r → (s : State) → End-below size (walked-by-cases r s .end)
@@ -58,7 +58,7 @@ walked-cases-below size r h s =
         pick-has So _ _ _ (λ _. any-outcome (outcome-to (r .table) a u (after-cases (r .table) a u))) (λ _ p here. here)
 
 module _ (lim : Limits) (request lent : List ℕ) (budget : ℕ) where
-  walks-within : (x : Got Request) → Request-held lim request x → Walks-within cases-answers of-walks stated (walk-of lim) lim request x
+  walks-within : (x : Got Request) → Request-held lim request x → Walks-within refusals cases-answers of-walks stated (walk-of lim) lim request x
   walks-within (got r e) h = (
     h .1 .1,
     walked-cases-below (length request) r (h .1 .0) (first-state lim (r .table)),
@@ -66,9 +66,9 @@ module _ (lim : Limits) (request lent : List ℕ) (budget : ℕ) where
   )
   walks-within (fault n p) h = h
 
-  parts : Parts cases-answers of-walks stated (walk-of lim) lim request lent budget (settled lim request) (judge-by-cases lim request lent budget)
+  parts : Parts refusals cases-answers of-walks stated (walk-of lim) lim request lent budget (settled lim request) (judge-by-cases lim request lent budget)
   unfolding judge-by-cases
-  parts = judged-parts cases-answers of-walks stated (walk-of lim) lim request lent budget (settled lim request) cases-tells (walks-within (settled lim request) (settled-held lim request))
+  parts = judged-parts refusals cases-answers of-walks stated (walk-of lim) lim request lent budget (settled lim request) cases-tells (walks-within (settled lim request) (settled-held lim request))
 
   -- DEMAND 1: the number is one of 0 to 3, 9 to 21 and 44 (FORMAT 22.17).
   pub cases-numbered : among (judge-by-cases lim request lent budget .answer .number) cases-answers ≡ true

@@ -29,24 +29,24 @@ guarded-numbered-in lim s = by-fault (settled-guarded lim s) (guarded-held lim s
     by-fault (got g e) h = tt
     by-fault (fault n p) h = h .number
 
-guarded-tells : Tells guarded-answers of-guarded-walks with-state
-unfolding among guarded-answers answers refusals of-guarded-walks of-walks with-state some-of either each-of both fails
-guarded-tells = record { fine = (refl, refl, refl); missed = (refl, refl, refl); spent = (refl, refl, refl); length = (refl, refl, refl); refused = refl }
+guarded-tells : Tells refusals guarded-answers of-guarded-walks with-state
+unfolding among guarded-answers answers refusals of-neither of-guarded-walks of-walks with-state some-of either each-of both fails
+guarded-tells = record { fine = (refl, refl, refl); missed = (refl, refl, refl); spent = (refl, refl, refl); length = (refl, refl, refl); refusing = refl }
 
 -- Its stops are told so: they have the number 2 or 43, and a state.
-stuck-told : (gs : List Entry) (end : End State) → Stuck-guarded gs end → Stops-told guarded-answers of-guarded-walks with-state end
+stuck-told : (gs : List Entry) (end : End State) → Stuck-guarded gs end → Stops-told refusals guarded-answers of-guarded-walks with-state end
 unfolding among guarded-answers answers of-neither at-start of-guarded-walks of-walks with-state some-of either
 stuck-told gs fine stuck = tt
 stuck-told gs (missed p s) stuck = tt
 stuck-told gs (stopped n p u) stuck =
-    subst (λ (v : Concerned State). Stop-told guarded-answers of-guarded-walks with-state n p v) (sym (stuck .1))
+    subst (λ (v : Concerned State). Stop-told refusals guarded-answers of-guarded-walks with-state n p v) (sym (stuck .1))
     (⊎-elim (λ q. subst In-the-state (sym q) (refl, refl, (refl, refl, refl))) (λ q. subst In-the-state (sym (q .0)) (refl, refl, (refl, refl, refl))) (stuck .2))
   where
     In-the-state : ℕ → Type 0
-    In-the-state m = Stop-told guarded-answers of-guarded-walks with-state m p (in-state (stuck .0))
+    In-the-state m = Stop-told refusals guarded-answers of-guarded-walks with-state m p (in-state (stuck .0))
 
 module _ (lim : Limits) (request lent : List ℕ) (budget : ℕ) where
-  walks-within : (x : Got Guarded-request) → Guarded-held lim request x → Walks-within guarded-answers of-guarded-walks with-state (walk-of lim) lim request x
+  walks-within : (x : Got Guarded-request) → Guarded-held lim request x → Walks-within refusals guarded-answers of-guarded-walks with-state (walk-of lim) lim request x
   unfolding walk-of
   walks-within (got g e) h = (
     h .1 .short,
@@ -55,9 +55,9 @@ module _ (lim : Limits) (request lent : List ℕ) (budget : ℕ) where
   )
   walks-within (fault n p) h = h
 
-  parts : Parts guarded-answers of-guarded-walks with-state (walk-of lim) lim request lent budget (settled-guarded lim request) (judge-guarded lim request lent budget)
+  parts : Parts refusals guarded-answers of-guarded-walks with-state (walk-of lim) lim request lent budget (settled-guarded lim request) (judge-guarded lim request lent budget)
   unfolding judge-guarded
-  parts = judged-parts guarded-answers of-guarded-walks with-state (walk-of lim) lim request lent budget (settled-guarded lim request) guarded-tells (walks-within (settled-guarded lim request) (guarded-held lim request))
+  parts = judged-parts refusals guarded-answers of-guarded-walks with-state (walk-of lim) lim request lent budget (settled-guarded lim request) guarded-tells (walks-within (settled-guarded lim request) (guarded-held lim request))
 
   -- DEMAND 1: the number is one of 0 to 3, 9 to 21 and 43 (FORMAT 21.22).
   pub guarded-numbered : among (judge-guarded lim request lent budget .answer .number) guarded-answers ≡ true

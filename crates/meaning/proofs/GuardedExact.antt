@@ -32,12 +32,12 @@ use Rattle.meaning.proofs.PairLaws.{true-in-pair}
 
 -- WHAT MAKES AN END. By what its walk says of the list of paths.
 module _ (miss : State → Found) (xs : List (Path State)) where
-  says-fine : (e : End State) → Says miss xs e → (Stops xs → ⊥) → ((u : State) → Ends xs (arrives u) → miss u ≡ nowhere) → answered e ≡ Limits.verified
+  pub says-fine : (e : End State) → Says miss xs e → (Stops xs → ⊥) → ((u : State) → Ends xs (arrives u) → miss u ≡ nowhere) → answered e ≡ Limits.verified
   says-fine fine says none all = refl
   says-fine (missed p u) says none all = absurd (at≢nowhere (sym (says .1 .so .1) ∙ all u (miss-ends miss xs p u (says .1))))
   says-fine (stopped m p u) says none all = absurd (none (m, p, u, stop-ends xs m p u says))
 
-  says-missed : (e : End State) → Says miss xs e → ((x : Path State) → Has xs x → Arrives x) → (x : Path State) (u : State) (p : ℕ) → Has xs x → x .ending ≡ arrives u → miss u ≡ at p
+  pub says-missed : (e : End State) → Says miss xs e → ((x : Path State) → Has xs x → Arrives x) → (x : Path State) (u : State) (p : ℕ) → Has xs x → x .ending ≡ arrives u → miss u ≡ at p
       → answered e ≡ Limits.goal-missed
   says-missed fine says all x u p has is q = absurd (at≢nowhere (sym q ∙ says .1 u (has-ends xs x (arrives u) has is)))
   says-missed (missed i v) says all x u p has is q = refl

@@ -10,7 +10,7 @@ use borrow.Author.Tests.{ltb-false, le-ltb}
 use Rattle.meaning.specs.Limits
 use Rattle.meaning.specs.Limits.{Limits}
 use Rattle.meaning.specs.Requests.{Table, Request}
-use Rattle.meaning.specs.Reading.{Got, got, literals, list-at, placed, table-at, request-at, read-request}
+use Rattle.meaning.specs.Reading.{Flags, Got, got, literals, list-at, placed, table-at, request-at, read-request}
 use Rattle.meaning.specs.Refusals.{nowhere, refuse, contradiction-in, mixed-in, overlap-in, past-refusals, settled}
 use Rattle.meaning.specs.Guards.{Guarded-request, read-guarded, settled-guarded}
 use Rattle.meaning.proofs.TestLaws.{pick-false}
@@ -24,9 +24,9 @@ pub record Guarded-parts (lim : Limits) (b : List ℕ) (g : Guarded-request) : T
   pub short : length b ≤ lim .request
   pub table : Table
   pub table-end : ℕ
-  pub table-read : table-at lim b 0 ≡ got table table-end
+  pub table-read : table-at lim Flags b 0 ≡ got table table-end
   pub request-end : ℕ
-  pub request-read : request-at lim b table table-end ≡ got (g .request) request-end
+  pub request-read : request-at lim Flags b table table-end ≡ got (g .request) request-end
   pub listed : List ℕ
   pub end : ℕ
   pub guards-read : list-at literals (table .fluents) Limits.most-guards b request-end ≡ got listed end
@@ -37,8 +37,8 @@ pub guarded-parts : (lim : Limits) (b : List ℕ) (g : Guarded-request) (e : ℕ
 unfolding read-guarded
 guarded-parts lim b g e read =
     let fits = not-refused _ _ _ _ read in
-    let one = next-got (table-at lim b 0) _ (fits .1) in
-    let two = next-got (request-at lim b (one .0) (one .1)) _ (one .3) in
+    let one = next-got (table-at lim Flags b 0) _ (fits .1) in
+    let two = next-got (request-at lim Flags b (one .0) (one .1)) _ (one .3) in
     let three = next-got (list-at literals (one .0 .fluents) Limits.most-guards b (two .1)) _ (two .3) in
     let last = not-refused _ _ _ _ (three .3) in
     let same : record { request = two .0; guards = placed (two .1 + 1) (three .0) } ≡ g = got-same (last .1) in
@@ -94,7 +94,7 @@ module _ (lim : Limits) (b : List ℕ) (g : Guarded-request) (e : ℕ) (settles 
   pub own-within : (parts .table-end ≤ parts .request-end) × (parts .request-end ≤ length b)
   own-within =
       let here : (i : ℕ) → i < 0 → getD b i 0 ≡ getD b i 0 = λ i _. refl in
-      let table = kept-of b b 0 (omega arith) here 0 (table-at lim b 0) (table-at lim b 0) (table-kept b b 0 (omega arith) here lim 0) (parts .table) (parts .table-end) (parts .table-read) in
+      let table = kept-of b b 0 (omega arith) here 0 (table-at lim Flags b 0) (table-at lim Flags b 0) (table-kept b b 0 (omega arith) here lim 0) (parts .table) (parts .table-end) (parts .table-read) in
       let request = kept-of b b 0 (omega arith) here (parts .table-end) _ _ (request-kept b b 0 (omega arith) here lim (parts .table) (parts .table-end)) (g .request) (parts .request-end) (parts .request-read) in
       (request .0, request .1 (table .1 (omega arith)))
 
@@ -107,21 +107,21 @@ module _ (lim : Limits) (b : List ℕ) (g : Guarded-request) (e : ℕ) (settles 
   own-room : parts .request-end ≤ length own
   own-room = omega (arith, own-length)
 
-  own-read : read-request lim own ≡ got (g .request) (parts .request-end)
+  own-read : read-request lim Flags own ≡ got (g .request) (parts .request-end)
   unfolding read-request
   own-read =
-      let table : table-at lim own 0 ≡ got (parts .table) (parts .table-end) =
-      kept-of b own (parts .request-end) own-room own-same 0 (table-at lim b 0) (table-at lim own 0) (table-kept b own (parts .request-end) own-room own-same lim 0)
+      let table : table-at lim Flags own 0 ≡ got (parts .table) (parts .table-end) =
+      kept-of b own (parts .request-end) own-room own-same 0 (table-at lim Flags b 0) (table-at lim Flags own 0) (table-kept b own (parts .request-end) own-room own-same lim 0)
       (parts .table) (parts .table-end) (parts .table-read) .2 (own-within .0) in
-      let request : request-at lim own (parts .table) (parts .table-end) ≡ got (g .request) (parts .request-end) =
+      let request : request-at lim Flags own (parts .table) (parts .table-end) ≡ got (g .request) (parts .request-end) =
       kept-of b own (parts .request-end) own-room own-same (parts .table-end) _ _ (request-kept b own (parts .request-end) own-room own-same lim (parts .table) (parts .table-end))
       (g .request) (parts .request-end) (parts .request-read) .2 (omega arith) in
       pick-false _ _ _ (le-ltb (lim .request) (length own) (let short = parts .short in omega (arith, short, own-length, own-within .1)))
-      ∙ next-is (table-at lim own 0) _ (parts .table) (parts .table-end) table
-      ∙ next-is (request-at lim own (parts .table) (parts .table-end)) _ (g .request) (parts .request-end) request
+      ∙ next-is (table-at lim Flags own 0) _ (parts .table) (parts .table-end) table
+      ∙ next-is (request-at lim Flags own (parts .table) (parts .table-end)) _ (g .request) (parts .request-end) request
       ∙ pick-false _ _ _ (le-ltb (parts .request-end) (length own) (omega (arith, own-length)))
 
   -- They are a settled request.
   pub own-settled : settled lim own ≡ got (g .request) (parts .request-end)
   unfolding settled
-  own-settled = next-is (read-request lim own) _ (g .request) (parts .request-end) own-read ∙ past-is (g .request) (guarded-past .1) _
+  own-settled = next-is (read-request lim Flags own) _ (g .request) (parts .request-end) own-read ∙ past-is (g .request) (guarded-past .1) _

@@ -11,7 +11,7 @@ use Rattle.meaning.specs.Tests.{those-of, Has}
 use Rattle.meaning.specs.Limits.{Limits}
 use Rattle.meaning.specs.Requests.{Effect, Executability, Table, Request}
 use Rattle.meaning.specs.Lines.{effects-of, executability-of, knowledge-of}
-use Rattle.meaning.specs.Reading.{Got, got, effect-at, executability-at}
+use Rattle.meaning.specs.Reading.{Flags, Got, got, effect-at, executability-at}
 use Rattle.meaning.specs.Refusals.{settled}
 use Rattle.meaning.specs.States.{State, first-state}
 use Rattle.meaning.specs.Walk.{judged, walked}
@@ -38,21 +38,21 @@ lines-back {A} line place (x ∷ xs) there =
 
 module _ (lim : Limits) (s : List ℕ) (t : Table) (lines : Lines-there lim s t) where
   -- The lines of an action at its offsets are its lines.
-  pub effects-reached : (a : ℕ) → lines-at (effect-at lim (t .fluents) (t .actions) s) (effect-places t a) ≡ effects-of t a
+  pub effects-reached : (a : ℕ) → lines-at (effect-at lim Flags (t .fluents) (t .actions) s) (effect-places t a) ≡ effects-of t a
   unfolding effect-places effects-of
   effects-reached a = lines-back _ _ (effects-of t a) (λ x h. let w = lines .effects x (those-has _ (t .effects) x h .0) in (w .end, w .reads))
 
-  pub runs-reached : (a : ℕ) → lines-at (executability-at lim (t .fluents) (t .actions) s) (run-places t a) ≡ executability-of t a
+  pub runs-reached : (a : ℕ) → lines-at (executability-at lim Flags (t .fluents) (t .actions) s) (run-places t a) ≡ executability-of t a
   unfolding run-places executability-of
   runs-reached a = lines-back _ _ (executability-of t a) (λ x h. let w = lines .runs x (those-has _ (t .executability) x h .0) in (w .end, w .reads))
 
   effects-put : by-index lim s (index-of t) t .effects ≡ each-action (effects-of t) 0 (t .actions)
   unfolding by-index
-  effects-put = each-same _ (effects-of t) 0 (t .actions) (λ a _ less. ap (lines-at (effect-at lim (t .fluents) (t .actions) s)) (effects-there t a (omega (arith, less))) ∙ effects-reached a)
+  effects-put = each-same _ (effects-of t) 0 (t .actions) (λ a _ less. ap (lines-at (effect-at lim Flags (t .fluents) (t .actions) s)) (effects-there t a (omega (arith, less))) ∙ effects-reached a)
 
   runs-put : by-index lim s (index-of t) t .executability ≡ each-action (executability-of t) 0 (t .actions)
   unfolding by-index
-  runs-put = each-same _ (executability-of t) 0 (t .actions) (λ a _ less. ap (lines-at (executability-at lim (t .fluents) (t .actions) s)) (runs-there t a (omega (arith, less))) ∙ runs-reached a)
+  runs-put = each-same _ (executability-of t) 0 (t .actions) (λ a _ less. ap (lines-at (executability-at lim Flags (t .fluents) (t .actions) s)) (runs-there t a (omega (arith, less))) ∙ runs-reached a)
 
   pub indexed-lines : (a : ℕ) → Same-lines-of (by-index lim s (index-of t) t) t a
   unfolding by-index effects-of executability-of knowledge-of

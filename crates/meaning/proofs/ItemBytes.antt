@@ -9,7 +9,7 @@ use borrow.Author.Tests.{leb-false, eqb-true, eqb-false}
 use Rattle.meaning.specs.Limits
 use Rattle.meaning.specs.Limits.{Limits}
 use Rattle.meaning.specs.Requests.{Sequence, done, item, Item, act, branching, Branches, none, branch, Request}
-use Rattle.meaning.specs.Reading.{got, Met, literals, fluents, list-at, plan-at, table-at, request-at, read-request}
+use Rattle.meaning.specs.Reading.{Flags, got, Met, literals, fluents, list-at, plan-at, table-at, request-at, read-request}
 use Rattle.meaning.specs.Reported.{Item-in, Item-of, Item-under, item-place}
 use Rattle.meaning.proofs.SettledLaws.{got-same}
 use Rattle.meaning.proofs.RangeLaws.{not-refused, after-got, byte-got}
@@ -54,16 +54,16 @@ module _ (lim : Limits) (n m : ℕ) (s : List ℕ) where
   }
 
   -- A PLAN that was read.
-  pub plan-there : (p : ℕ) (x : Met (Sequence ℕ)) (e : ℕ) → plan-at lim n m s p ≡ got x e → Each-there (Item-in (x .value))
+  pub plan-there : (p : ℕ) (x : Met (Sequence ℕ)) (e : ℕ) → plan-at lim Flags n m s p ≡ got x e → Each-there (Item-in (x .value))
   plan-there p x e = plan-on lim n m s bytes-there there-passed p .holds x e
 
 -- A REQUEST that was read.
-pub items-there : (lim : Limits) (b : List ℕ) (r : Request) (e : ℕ) → read-request lim b ≡ got r e → (i : Item ℕ) → Item-in (r .plan) i → Stands-there b (r .table .actions) i
+pub items-there : (lim : Limits) (b : List ℕ) (r : Request) (e : ℕ) → read-request lim Flags b ≡ got r e → (i : Item ℕ) → Item-in (r .plan) i → Stands-there b (r .table .actions) i
 unfolding read-request request-at
 items-there lim b r e reads =
-    after-got (table-at lim b 0) _ (not-refused _ _ _ _ reads .1) λ t p₁ _ e₁.
-    after-got (request-at lim b t p₁) _ e₁ λ q p₂ eq e₂.
-    after-got (plan-at lim (t .fluents) (t .actions) b p₁) _ eq λ plan p₃ read e₃.
+    after-got (table-at lim Flags b 0) _ (not-refused _ _ _ _ reads .1) λ t p₁ _ e₁.
+    after-got (request-at lim Flags b t p₁) _ e₁ λ q p₂ eq e₂.
+    after-got (plan-at lim Flags (t .fluents) (t .actions) b p₁) _ eq λ plan p₃ read e₃.
     after-got (list-at literals (t .fluents) (lim .listed) b p₃) _ e₃ λ goals p₄ _ e₄.
     after-got (list-at fluents (t .fluents) (lim .listed) b p₄) _ e₄ λ whether p₅ _ same.
     subst (λ (x : Request). (i : Item ℕ) → Item-in (x .plan) i → Stands-there b (x .table .actions) i) (got-same same ∙ got-same (not-refused _ _ _ _ e₂ .1))

@@ -1,5 +1,5 @@
 -- Every answer of a call that judges by a walk what it read is one of its numbers, and its input, place, count and state are what the number says: each answer is
--- written with them in one place, its place is one that was read or walked to, and no refusal has a number of a walk. What the calls differ in are the numbers
+-- written with them in one place, its place is one that was read or walked to, and no refusal has a number of a walk. What the calls differ in are their refusals and the numbers
 -- with which a walk stops, with a state or without one. Assumes nothing.
 use Prim.Native.Nat.{ℕ, _≤_, _<_}
 use native.Mathlib.Omega.{arith}
@@ -15,7 +15,6 @@ use Rattle.meaning.specs.Reading.{Got, got, fault}
 use Rattle.meaning.specs.States.{State}
 use Rattle.meaning.specs.Walk.{Concerned, no-state, in-state, End, fine, missed, stopped, Walked}
 use Rattle.meaning.specs.Judging.{Judgement, written-over, reported, count-told, ended, within, refused-at, wrong-length, judge-got, judge-by}
-use Rattle.meaning.specs.Answers.{refusals}
 use Rattle.meaning.specs.AnswerParts.{of-neither, Walk-input, at-start, Placed, Counted, concerned, Written}
 use Rattle.meaning.proofs.TestLaws.{clash, both-left, both-right, either-false, fails-true}
 use Rattle.meaning.proofs.LiteralLaws.{among-each}
@@ -30,13 +29,8 @@ names-neither n c is = record { neither = (λ _. is, λ _. refl); request = λ f
 names-request : (n p c : ℕ) → among n of-neither ≡ false → Walk-input (record { number = n; input = Limits.the-request; place = p; count = c })
 names-request n p c not = record { neither = (λ q. absurd (omega (arith, q)), λ t. clash t not); request = λ _. refl }
 
--- A refusal is none of 0, 3 and 9.
-refusal-names : (n : ℕ) → among n refusals ≡ true → among n of-neither ≡ false
-unfolding among refusals of-neither some-of either each-of both fails
-refusal-names n is = fails-true _ (among-each (λ (m : ℕ). fails (among m of-neither)) refusals refl n is)
-
--- THE NUMBERS of a call: all of them, those with which the count is the walk's, and those that come with a state.
-module _ (numbers told stated : List ℕ) where
+-- THE NUMBERS of a call: its refusals past 9, all its numbers, those with which the count is the walk's, and those that come with a state.
+module _ (refused numbers told stated : List ℕ) where
   -- A number of these, and whether it is told with a count and with a state.
   abbrev pub Told : ℕ → (counted written : Bool) → Type 0
   Told n c w = (among n numbers ≡ true) × (among n told ≡ c) × (among n stated ≡ w)
@@ -47,7 +41,7 @@ module _ (numbers told stated : List ℕ) where
     pub missed : Told Limits.goal-missed true true
     pub spent : Told Limits.budget-spent false false
     pub length : Told Limits.state-length false false
-    pub refused : each-of (λ (m : ℕ). both (among m numbers) (both (fails (among m told)) (fails (among m stated)))) refusals ≡ true
+    pub refusing : each-of (λ (m : ℕ). both (fails (among m of-neither)) (both (among m numbers) (both (fails (among m told)) (fails (among m stated))))) refused ≡ true
 
   -- A stop has the number of a byte, and is told with a count and a state where a state is concerned.
   abbrev stateful : Concerned State → Bool
@@ -63,7 +57,7 @@ module _ (numbers told stated : List ℕ) where
   -- WHAT WAS READ is within the limit, and its walk ends at a place of the request; a fault is one of the refusals.
   abbrev pub Walks-within : {A : Type 0} → (A → Walked State) → Limits → (request : List ℕ) → Got A → Type 0
   Walks-within walks lim request (got x e) = (length request ≤ lim .request) × End-below (length request) (walks x .end) × Stops-told (walks x .end)
-  Walks-within walks lim request (fault n p) = Fault-in refusals (lim .request) (length request) n p
+  Walks-within walks lim request (fault n p) = Fault-in refused (lim .request) (length request) n p
 
   -- THE CALL, on what it read.
   module _ {A : Type 0} (walks : A → Walked State) (lim : Limits) (request lent : List ℕ) (budget : ℕ) (read : Got A) where
@@ -160,10 +154,11 @@ module _ (numbers told stated : List ℕ) where
         }
         ended-parts (stopped n p u) is less stops = stopped-parts n p u (ap concerned is) less stops
 
-      fault-parts : (n p : ℕ) → Fault-in refusals (lim .request) (length request) n p → Parts (refused-at lent n p)
+      fault-parts : (n p : ℕ) → Fault-in refused (lim .request) (length request) n p → Parts (refused-at lent n p)
       fault-parts n p h =
-          let none = refusal-names n (h .number) in
-          let is = among-each (λ (m : ℕ). both (among m numbers) (both (fails (among m told)) (fails (among m stated)))) refusals (tells .refused) n (h .number) in
+          let each = among-each (λ (m : ℕ). both (fails (among m of-neither)) (both (among m numbers) (both (fails (among m told)) (fails (among m stated))))) refused (tells .refusing) n (h .number) in
+          let none = fails-true _ (both-left _ _ each) in
+          let is = both-right _ _ each in
           let others = both-right _ _ is in
           record {
             number = both-left _ _ is;

@@ -13,7 +13,7 @@ use Rattle.meaning.specs.Tests.{pick}
 use Rattle.meaning.specs.Limits
 use Rattle.meaning.specs.Limits.{Limits}
 use Rattle.meaning.specs.Requests.{Table, Sequence, Item}
-use Rattle.meaning.specs.Reading.{Got, got, fault, next, byte-at, two-bytes-at, count-at, below-at, Kind, literals, fluents, bound-of, entry-at, entries-at, list-at, repeated, section-at, body-at, effect-at, executability-at, knowledge-at, Part, item-at, items-at, sequence-at, branches-at, branching-at, plan-at, table-at, request-at}
+use Rattle.meaning.specs.Reading.{Flags, Got, got, fault, next, byte-at, two-bytes-at, count-at, below-at, Kind, literals, fluents, bound-of, entry-at, entries-at, list-at, repeated, section-at, body-at, effect-at, executability-at, knowledge-at, Part, item-at, items-at, sequence-at, branches-at, branching-at, plan-at, table-at, request-at}
 use Rattle.meaning.proofs.TestLaws.{pick-false}
 use Rattle.meaning.proofs.PickLaws.{pick-has}
 use Rattle.meaning.proofs.MovedReads.{next-is}
@@ -118,22 +118,22 @@ module _ (s u : List ℕ) (far : ℕ) (room : far ≤ length u) (same : (p : ℕ
   Behind-kept one other = (p met : ℕ) → Kept (p + 1) (one p met) (other p met)
 
   module _ (lim : Limits) (n m : ℕ) where
-    body-kept : (p : ℕ) → Kept p (body-at lim n s p) (body-at lim n u p)
+    body-kept : (p : ℕ) → Kept p (body-at lim Flags n s p) (body-at lim Flags n u p)
     unfolding body-at
     body-kept p = list-kept literals n (lim .body) p
 
-    pub effect-kept : (p : ℕ) → Kept p (effect-at lim n m s p) (effect-at lim n m u p)
+    pub effect-kept : (p : ℕ) → Kept p (effect-at lim Flags n m s p) (effect-at lim Flags n m u p)
     unfolding effect-at
     effect-kept p =
         kept-next p (below-at m s p) (below-at m u p) _ _ (below-kept m p) λ a q.
         kept-next q (below-at (2 * n) s q) (below-at (2 * n) u q) _ _ (below-kept (2 * n) q) λ l r.
-        kept-next r (body-at lim n s r) (body-at lim n u r) _ _ (body-kept r) λ b e. kept-got _ e
+        kept-next r (body-at lim Flags n s r) (body-at lim Flags n u r) _ _ (body-kept r) λ b e. kept-got _ e
 
-    pub executability-kept : (p : ℕ) → Kept p (executability-at lim n m s p) (executability-at lim n m u p)
+    pub executability-kept : (p : ℕ) → Kept p (executability-at lim Flags n m s p) (executability-at lim Flags n m u p)
     unfolding executability-at
     executability-kept p =
         kept-next p (below-at m s p) (below-at m u p) _ _ (below-kept m p) λ a q.
-        kept-next q (body-at lim n s q) (body-at lim n u q) _ _ (body-kept q) λ b e. kept-got _ e
+        kept-next q (body-at lim Flags n s q) (body-at lim Flags n u q) _ _ (body-kept q) λ b e. kept-got _ e
 
     pub knowledge-kept : (p : ℕ) → Kept p (knowledge-at lim n m s p) (knowledge-at lim n m u p)
     unfolding knowledge-at
@@ -142,60 +142,60 @@ module _ (s u : List ℕ) (far : ℕ) (room : far ≤ length u) (same : (p : ℕ
         kept-next q (below-at n s q) (below-at n u q) _ _ (below-kept n q) λ f e. kept-got _ e
 
     -- PLANS.
-    pub item-kept : (deeper other : Part (Item ℕ)) → Behind-kept deeper other → Parts-kept (item-at lim n m s deeper) (item-at lim n m u other)
+    pub item-kept : (deeper other : Part (Item ℕ)) → Behind-kept deeper other → Parts-kept (item-at lim Flags n m s deeper) (item-at lim Flags n m u other)
     unfolding item-at
     item-kept deeper other kept p met =
         byte-next p _ _ λ x.
         kept-pick _ (p + 1) _ _ _ _ (kept-same (p + 1) _ _) (kept-pick _ (p + 1) _ _ _ _ (kept p (met + 1)) (kept-pick _ (p + 1) _ _ _ _ (kept-same (p + 1) _ _) (kept-got _ (p + 1))))
 
-    pub items-kept : (one other : Part (Item ℕ)) → Parts-kept one other → (left : ℕ) → Parts-kept (items-at lim n m s one left) (items-at lim n m u other left)
+    pub items-kept : (one other : Part (Item ℕ)) → Parts-kept one other → (left : ℕ) → Parts-kept (items-at lim Flags n m s one left) (items-at lim Flags n m u other left)
     unfolding items-at
     items-kept one other kept zero p met = kept-got _ p
     items-kept one other kept (suc left) p met =
         kept-next p (one p met) (other p met) _ _ (kept p met) λ i q.
-        kept-next q (items-at lim n m s one left q (i .items)) (items-at lim n m u other left q (i .items)) _ _ (items-kept one other kept left q (i .items)) λ rest r. kept-got _ r
+        kept-next q (items-at lim Flags n m s one left q (i .items)) (items-at lim Flags n m u other left q (i .items)) _ _ (items-kept one other kept left q (i .items)) λ rest r. kept-got _ r
 
-    sequence-kept : (deeper other : Part (Item ℕ)) → Behind-kept deeper other → Parts-kept (sequence-at lim n m s deeper) (sequence-at lim n m u other)
+    sequence-kept : (deeper other : Part (Item ℕ)) → Behind-kept deeper other → Parts-kept (sequence-at lim Flags n m s deeper) (sequence-at lim Flags n m u other)
     unfolding sequence-at
     sequence-kept deeper other kept p met =
         kept-next p (two-bytes-at s p) (two-bytes-at u p) _ _ (two-bytes-kept p) λ c q.
-        items-kept (item-at lim n m s deeper) (item-at lim n m u other) (item-kept deeper other kept) c q met
+        items-kept (item-at lim Flags n m s deeper) (item-at lim Flags n m u other) (item-kept deeper other kept) c q met
 
-    branches-kept : (sequence other : Part (Sequence ℕ)) → Parts-kept sequence other → (left : ℕ) → Parts-kept (branches-at lim n m s sequence left) (branches-at lim n m u other left)
+    branches-kept : (sequence other : Part (Sequence ℕ)) → Parts-kept sequence other → (left : ℕ) → Parts-kept (branches-at lim Flags n m s sequence left) (branches-at lim Flags n m u other left)
     unfolding branches-at
     branches-kept sequence other kept zero p met = kept-got _ p
     branches-kept sequence other kept (suc left) p met =
-        kept-next p (body-at lim n s p) (body-at lim n u p) _ _ (body-kept p) λ c q.
+        kept-next p (body-at lim Flags n s p) (body-at lim Flags n u p) _ _ (body-kept p) λ c q.
         kept-next q (sequence q met) (other q met) _ _ (kept q met) λ b r.
-        kept-next r (branches-at lim n m s sequence left r (b .items)) (branches-at lim n m u other left r (b .items)) _ _ (branches-kept sequence other kept left r (b .items)) λ rest e. kept-got _ e
+        kept-next r (branches-at lim Flags n m s sequence left r (b .items)) (branches-at lim Flags n m u other left r (b .items)) _ _ (branches-kept sequence other kept left r (b .items)) λ rest e. kept-got _ e
 
-    pub branching-kept : (left : ℕ) → Behind-kept (branching-at lim n m s left) (branching-at lim n m u left)
+    pub branching-kept : (left : ℕ) → Behind-kept (branching-at lim Flags n m s left) (branching-at lim Flags n m u left)
     unfolding branching-at
     branching-kept zero p met = kept-same (p + 1) _ p
     branching-kept (suc left) p met =
         kept-next (p + 1) (count-at 1 (lim .branches) s (p + 1)) (count-at 1 (lim .branches) u (p + 1)) _ _ (count-kept 1 (lim .branches) (p + 1)) λ c q.
-        kept-next q (branches-at lim n m s (sequence-at lim n m s (branching-at lim n m s left)) c q met) (branches-at lim n m u (sequence-at lim n m u (branching-at lim n m u left)) c q met) _ _
+        kept-next q (branches-at lim Flags n m s (sequence-at lim Flags n m s (branching-at lim Flags n m s left)) c q met) (branches-at lim Flags n m u (sequence-at lim Flags n m u (branching-at lim Flags n m u left)) c q met) _ _
         (branches-kept _ _ (sequence-kept _ _ (branching-kept left)) c q met) λ bs r. kept-got _ r
 
-    pub plan-kept : (p : ℕ) → Kept p (plan-at lim n m s p) (plan-at lim n m u p)
+    pub plan-kept : (p : ℕ) → Kept p (plan-at lim Flags n m s p) (plan-at lim Flags n m u p)
     unfolding plan-at
     plan-kept p = sequence-kept _ _ (branching-kept (lim .nested)) p 0
 
   -- SECTIONS 1 TO 5, AND 6 TO 8.
   module _ (lim : Limits) where
-    pub table-kept : (start : ℕ) → Kept start (table-at lim s start) (table-at lim u start)
+    pub table-kept : (start : ℕ) → Kept start (table-at lim Flags s start) (table-at lim Flags u start)
     unfolding table-at
     table-kept start =
         kept-next start (count-at 1 (lim .fluents) s start) (count-at 1 (lim .fluents) u start) _ _ (count-kept 1 (lim .fluents) start) λ n p.
         kept-next p (count-at 1 (lim .actions) s p) (count-at 1 (lim .actions) u p) _ _ (count-kept 1 (lim .actions) p) λ m q.
         kept-next q (list-at literals n (lim .listed) s q) (list-at literals n (lim .listed) u q) _ _ (list-kept literals n (lim .listed) q) λ facts r.
-        kept-next r (section-at (effect-at lim n m s) s r) (section-at (effect-at lim n m u) u r) _ _ (section-kept _ _ (effect-kept lim n m) r) λ effects t.
-        kept-next t (section-at (executability-at lim n m s) s t) (section-at (executability-at lim n m u) u t) _ _ (section-kept _ _ (executability-kept lim n m) t) λ executability v.
+        kept-next r (section-at (effect-at lim Flags n m s) s r) (section-at (effect-at lim Flags n m u) u r) _ _ (section-kept _ _ (effect-kept lim n m) r) λ effects t.
+        kept-next t (section-at (executability-at lim Flags n m s) s t) (section-at (executability-at lim Flags n m u) u t) _ _ (section-kept _ _ (executability-kept lim n m) t) λ executability v.
         kept-next v (section-at (knowledge-at lim n m s) s v) (section-at (knowledge-at lim n m u) u v) _ _ (section-kept _ _ (knowledge-kept lim n m) v) λ knowledge e. kept-got _ e
 
-    pub request-kept : (t : Table) (start : ℕ) → Kept start (request-at lim s t start) (request-at lim u t start)
+    pub request-kept : (t : Table) (start : ℕ) → Kept start (request-at lim Flags s t start) (request-at lim Flags u t start)
     unfolding request-at
     request-kept t start =
-        kept-next start (plan-at lim (t .fluents) (t .actions) s start) (plan-at lim (t .fluents) (t .actions) u start) _ _ (plan-kept lim (t .fluents) (t .actions) start) λ plan p.
+        kept-next start (plan-at lim Flags (t .fluents) (t .actions) s start) (plan-at lim Flags (t .fluents) (t .actions) u start) _ _ (plan-kept lim (t .fluents) (t .actions) start) λ plan p.
         kept-next p (list-at literals (t .fluents) (lim .listed) s p) (list-at literals (t .fluents) (lim .listed) u p) _ _ (list-kept literals (t .fluents) (lim .listed) p) λ goals q.
         kept-next q (list-at fluents (t .fluents) (lim .listed) s q) (list-at fluents (t .fluents) (lim .listed) u q) _ _ (list-kept fluents (t .fluents) (lim .listed) q) λ whether e. kept-got _ e

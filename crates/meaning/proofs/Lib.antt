@@ -3,6 +3,7 @@ pub mod Cases
 pub mod LineCases
 pub mod GuardedCases
 pub mod CaseRows
+pub mod ValueCases
 pub mod IndexCases
 pub mod SchemeLaws
 pub mod SchemeCases

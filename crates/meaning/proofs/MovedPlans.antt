@@ -7,7 +7,7 @@ use borrow.Author.Tests.{eqb-true}
 use Rattle.meaning.specs.Limits
 use Rattle.meaning.specs.Limits.{Limits}
 use Rattle.meaning.specs.Requests.{Sequence, done, item, Item, act, branching, Branches, none, branch, unplaced, unplaced-item, unplaced-branches}
-use Rattle.meaning.specs.Reading.{Got, got, literals, body-at, Met, Part, item-at, items-at, sequence-at, branches-at, branching-at, plan-at}
+use Rattle.meaning.specs.Reading.{Flags, Got, got, literals, body-at, Met, Part, item-at, items-at, sequence-at, branches-at, branching-at, plan-at}
 use Rattle.meaning.specs.Layouts.{Bytes, list-written, number-written, items-in, branches-in, items-written, item-written, branches-written, plan-written}
 use Rattle.meaning.proofs.TestLaws.{pick-true, pick-false}
 use Rattle.meaning.proofs.GotLaws.{On}
@@ -26,18 +26,18 @@ pub record Part-copied {X : Type 0} (read : List ℕ → ℕ → Got (Met X)) (c
 
 module _ (lim : Limits) (n m : ℕ) (s : List ℕ) (bytes : Bytes s) where
   abbrev one-item : (deep : ℕ) → List ℕ → Part (Item ℕ)
-  one-item deep u = item-at lim n m u (branching-at lim n m u deep)
+  one-item deep u = item-at lim Flags n m u (branching-at lim Flags n m u deep)
 
   abbrev one-sequence : (deep : ℕ) → List ℕ → Part (Sequence ℕ)
-  one-sequence deep u = sequence-at lim n m u (branching-at lim n m u deep)
+  one-sequence deep u = sequence-at lim Flags n m u (branching-at lim Flags n m u deep)
 
   -- As many items or branches as were to be read.
   abbrev plan-moved : Said
   plan-moved = record {
     item = λ deep p met. Part-copied (λ u q. one-item deep u q met) item-written unplaced-item s p;
-    items = λ deep left p met x e. Part-copied (λ u q. items-at lim n m u (one-item deep u) left q met) items-written unplaced s p x e × (items-in (x .value) ≡ left);
+    items = λ deep left p met x e. Part-copied (λ u q. items-at lim Flags n m u (one-item deep u) left q met) items-written unplaced s p x e × (items-in (x .value) ≡ left);
     sequence = λ deep p met. Part-copied (λ u q. one-sequence deep u q met) plan-written unplaced s p;
-    branches = λ deep left p met x e. Part-copied (λ u q. branches-at lim n m u (one-sequence deep u) left q met) branches-written unplaced-branches s p x e × (branches-in (x .value) ≡ left);
+    branches = λ deep left p met x e. Part-copied (λ u q. branches-at lim Flags n m u (one-sequence deep u) left q met) branches-written unplaced-branches s p x e × (branches-in (x .value) ≡ left);
   }
 
   moved-passed : Passed-on lim n m s plan-moved
@@ -125,6 +125,6 @@ module _ (lim : Limits) (n m : ℕ) (s : List ℕ) (bytes : Bytes s) where
   }
 
   -- THE PLAN.
-  pub plan-copied : (p : ℕ) → On (plan-at lim n m s p) (Part-copied (λ u q. plan-at lim n m u q) plan-written unplaced s p)
+  pub plan-copied : (p : ℕ) → On (plan-at lim Flags n m s p) (Part-copied (λ u q. plan-at lim Flags n m u q) plan-written unplaced s p)
   unfolding plan-at
   plan-copied p = plan-on lim n m s plan-moved moved-passed p

@@ -31,28 +31,28 @@ use Rattle.meaning.proofs.PlaceLaws.{walked-below, placed-start, placed
 use Rattle.meaning.proofs.JudgedParts.{Tells, Stop-told, Stops-told, Walks-within, Parts, judged-parts}
 
 -- THE WALK CALL.
-walk-tells : Tells answers of-walks stated
-unfolding among answers refusals of-walks stated some-of either each-of both fails
-walk-tells = record { fine = (refl, refl, refl); missed = (refl, refl, refl); spent = (refl, refl, refl); length = (refl, refl, refl); refused = refl }
+walk-tells : Tells refusals answers of-walks stated
+unfolding among answers refusals of-neither of-walks stated some-of either each-of both fails
+walk-tells = record { fine = (refl, refl, refl); missed = (refl, refl, refl); spent = (refl, refl, refl); length = (refl, refl, refl); refusing = refl }
 
 -- Its stops are told so: they have the number 2, and a state.
-stuck-told : (end : End State) → Stuck end → Stops-told answers of-walks stated end
+stuck-told : (end : End State) → Stuck end → Stops-told refusals answers of-walks stated end
 unfolding among answers of-neither at-start of-walks stated some-of either
 stuck-told fine stuck = tt
 stuck-told (missed p s) stuck = tt
 stuck-told (stopped n p u) stuck =
-    subst (λ (v : Concerned State). Stop-told answers of-walks stated n p v) (sym (stuck .1 .1))
-    (subst (λ (m : ℕ). Stop-told answers of-walks stated m p (in-state (stuck .1 .0))) (sym (stuck .0)) (refl, refl, (refl, refl, refl)))
+    subst (λ (v : Concerned State). Stop-told refusals answers of-walks stated n p v) (sym (stuck .1 .1))
+    (subst (λ (m : ℕ). Stop-told refusals answers of-walks stated m p (in-state (stuck .1 .0))) (sym (stuck .0)) (refl, refl, (refl, refl, refl)))
 
 module _ (lim : Limits) (request lent : List ℕ) (budget : ℕ) where
-  walks-within : (x : Got Request) → Request-held lim request x → Walks-within answers of-walks stated (walk-of lim) lim request x
+  walks-within : (x : Got Request) → Request-held lim request x → Walks-within refusals answers of-walks stated (walk-of lim) lim request x
   walks-within (got r e) h = (h .1 .1, walked-below (length request) r (h .1 .0) (first-state lim (r .table)), stuck-told (walk-of lim r .end) (walked-stuck r (first-state lim (r .table))))
   walks-within (fault n p) h = h
 
   -- All that the number says.
-  pub walk-parts : Parts answers of-walks stated (walk-of lim) lim request lent budget (settled lim request) (judge lim request lent budget)
+  pub walk-parts : Parts refusals answers of-walks stated (walk-of lim) lim request lent budget (settled lim request) (judge lim request lent budget)
   unfolding judge
-  walk-parts = judged-parts answers of-walks stated (walk-of lim) lim request lent budget (settled lim request) walk-tells (walks-within (settled lim request) (settled-held lim request))
+  walk-parts = judged-parts refusals answers of-walks stated (walk-of lim) lim request lent budget (settled lim request) walk-tells (walks-within (settled lim request) (settled-held lim request))
 
   -- Neither input is named exactly with 0, 3 and 9, and the request with every other number (FORMAT 4.26, 4.27).
   pub input-exactly : Walk-input (judge lim request lent budget .answer)

@@ -15,8 +15,8 @@ use Rattle.meaning.specs.Limits
 use Rattle.meaning.specs.Limits.{Limits}
 use Rattle.meaning.specs.Literals.{among}
 use Rattle.meaning.specs.Requests.{Effect, Executability, Knowledge, Table, Sequence, done, item, Item, act, branching, Branches, none, branch, Entry, Request}
-use Rattle.meaning.specs.Reading.{Got, got, next, byte-at, two-bytes-at, count-at, below-at, Kind, literals, fluents, bound-of, entry-at, entries-at, list-at, repeated, section-at, body-at, effect-at, executability-at, knowledge-at, Met, plan-at, table-at, placed, request-at, read-request}
-use Rattle.meaning.specs.Refusals.{Found, nowhere, at, or-else, contradictory, first-against, contradiction-in, mixed-in, overlap-in, overlap-at, overlap-below, refuse, past-refusals, settled}
+use Rattle.meaning.specs.Reading.{Form, Flags, Got, got, next, byte-at, two-bytes-at, count-at, below-at, Kind, literals, fluents, bound-of, entry-at, entries-at, list-at, repeated, section-at, literals-at, literal-at, past-values, body-at, effect-at, executability-at, knowledge-at, Met, plan-at, table-at, placed, placed-as, request-at, read-request}
+use Rattle.meaning.specs.Refusals.{failing-at, failing-below, failing-in, Found, nowhere, at, or-else, contradictory, first-against, contradiction-in, mixed-in, all-exclusive, overlap-in, refuse, past-refusals, settled}
 use Rattle.meaning.specs.States.{State, known, outcome}
 use Rattle.meaning.specs.Walk.{End, Walked, first-missed, missed-in, walked, walked-guarded}
 use Rattle.meaning.specs.Guards.{Guarded-request, read-guarded, settled-guarded}
@@ -29,7 +29,7 @@ use Rattle.meaning.proofs.PickLaws.{pick-has}
 use Rattle.meaning.proofs.GotLaws
 use Rattle.meaning.proofs.GotLaws.{held-got, held-then, held-faulty, next-held}
 use Rattle.meaning.proofs.PlanReads
-use Rattle.meaning.proofs.PlanReads.{About, Said, Passed-on, Faults}
+use Rattle.meaning.proofs.PlanReads.{About, Said, Passed-as, Faults-as}
 use Rattle.meaning.proofs.KeptEnds.{On-places, On-places-item, On-places-below, any-outcome, End-so, walked-unguarded, walked-guarded-so}
 
 -- The faults of counts and entries, which sections 1 to 5 have alone; those of items; and all the faults of reading that are placed at a byte.
@@ -44,11 +44,11 @@ byte-faults =
     Limits.count-outside ∷ Limits.too-large ∷ Limits.not-above ∷ Limits.complement-beside ∷ Limits.nested-too-deep ∷ Limits.bytes-after ∷
     Limits.too-many-items ∷ []
 
-entry-byte : (n : ℕ) → among n entry-faults ≡ true → among n byte-faults ≡ true
+pub entry-byte : (n : ℕ) → among n entry-faults ≡ true → among n byte-faults ≡ true
 unfolding among entry-faults byte-faults some-of either each-of both
 entry-byte n is = among-each (λ (m : ℕ). among m byte-faults) entry-faults refl n is
 
-item-byte : (n : ℕ) → among n item-faults ≡ true → among n byte-faults ≡ true
+pub item-byte : (n : ℕ) → among n item-faults ≡ true → among n byte-faults ≡ true
 unfolding among item-faults byte-faults some-of either each-of both
 item-byte n is = among-each (λ (m : ℕ). among m byte-faults) item-faults refl n is
 
@@ -76,10 +76,10 @@ module _ (size : ℕ) where
     pub knowledge : Each-below (λ (k : Knowledge). k .place) (t .knowledge)
 
   pub record Request-below (r : Request) : Type 0 where
-    table : Table-below (r .table)
+    pub table : Table-below (r .table)
     pub plan : Plan-below (r .plan)
-    goals : Each-below (λ (e : Entry). e .place) (r .goals)
-    whether : Each-below (λ (e : Entry). e .place) (r .whether)
+    pub goals : Each-below (λ (e : Entry). e .place) (r .goals)
+    pub whether : Each-below (λ (e : Entry). e .place) (r .whether)
     pub whether-place : r .whether-place < size
 
   record Line-below (l : Line) : Type 0 where
@@ -101,7 +101,7 @@ module _ (size : ℕ) where
   or-below nowhere k first then = then
   or-below (at p) k first then = first
 
-  against-below : (against : Effect → Effect → Bool) (before es : List Effect) → Each-below (λ (e : Effect). e .place) es → Found-below (first-against against before es)
+  pub against-below : (against : Effect → Effect → Bool) (before es : List Effect) → Each-below (λ (e : Effect). e .place) es → Found-below (first-against against before es)
   unfolding first-against
   against-below against before [] h = tt
   against-below against before (e ∷ es) h = pick-has Found-below _ _ _ (λ _. h .0) (λ _. against-below against (e ∷ before) es (h .1))
@@ -115,20 +115,24 @@ module _ (size : ℕ) where
   mixed-below es [] h = tt
   mixed-below es (k ∷ ks) h = pick-has Found-below _ _ _ (λ _. h .0) (λ _. mixed-below es ks (h .1))
 
-  mutual
-    unfolding overlap-in overlap-at overlap-below
+  module _ (test : List (List ℕ) → Bool) where
+    mutual
+      unfolding failing-in failing-at failing-below
 
-    pub overlap-in-below : (b : Sequence ℕ) → Plan-below b → Found-below (overlap-in b)
-    overlap-in-below done h = tt
-    overlap-in-below (item i rest) h = or-below (overlap-at i) _ (overlap-at-below i (h .0)) (overlap-in-below rest (h .1))
+      pub failing-in-below : (b : Sequence ℕ) → Plan-below b → Found-below (failing-in test b)
+      failing-in-below done h = tt
+      failing-in-below (item i rest) h = or-below (failing-at test i) _ (failing-at-below i (h .0)) (failing-in-below rest (h .1))
 
-    overlap-at-below : (i : Item ℕ) → Item-below i → Found-below (overlap-at i)
-    overlap-at-below (act p a) h = tt
-    overlap-at-below (branching p bs) h = pick-has Found-below _ _ _ (λ _. overlap-below-below bs (h .1)) (λ _. h .0)
+      failing-at-below : (i : Item ℕ) → Item-below i → Found-below (failing-at test i)
+      failing-at-below (act p a) h = tt
+      failing-at-below (branching p bs) h = pick-has Found-below _ _ _ (λ _. failing-below-below bs (h .1)) (λ _. h .0)
 
-    overlap-below-below : (bs : Branches ℕ) → Branches-below bs → Found-below (overlap-below bs)
-    overlap-below-below none h = tt
-    overlap-below-below (branch c b bs) h = or-below (overlap-in b) _ (overlap-in-below b (h .0)) (overlap-below-below bs (h .1))
+      failing-below-below : (bs : Branches ℕ) → Branches-below bs → Found-below (failing-below test bs)
+      failing-below-below none h = tt
+      failing-below-below (branch c b bs) h = or-below (failing-in test b) _ (failing-in-below b (h .0)) (failing-below-below bs (h .1))
+
+  pub overlap-in-below : (b : Sequence ℕ) → Plan-below b → Found-below (overlap-in b)
+  overlap-in-below = failing-in-below all-exclusive
 
   overlap-lines-below : (ls : List Line) → Each Line-below ls → Found-below (overlap-in-lines ls)
   unfolding overlap-in-lines
@@ -166,18 +170,18 @@ module _ (size : ℕ) where
 module _ (s : List ℕ) (Bad : ℕ → ℕ → Type 0) where
   -- What a reader gives stops within the input, and `so` holds of it and of where it stops; of a fault `Bad` holds.
   module _ {A : Type 0} (so : A → ℕ → Type 0) where
-    abbrev Inside : A → ℕ → Type 0
+    abbrev pub Inside : A → ℕ → Type 0
     Inside x p = (p ≤ length s) × so x p
 
-    abbrev Held : Got A → Type 0
+    abbrev pub Held : Got A → Type 0
     Held = GotLaws.Held Bad Inside
 
   module _ {A B : Type 0} (so : A → ℕ → Type 0) (then : B → ℕ → Type 0) where
-    by-next : (m : Got A) (k : A → ℕ → Got B) → Held so m → ((x : A) (p : ℕ) → p ≤ length s → so x p → Held then (k x p)) → Held then (next m k)
+    pub by-next : (m : Got A) (k : A → ℕ → Got B) → Held so m → ((x : A) (p : ℕ) → p ≤ length s → so x p → Held then (k x p)) → Held then (next m k)
     by-next m k h g = next-held Bad (Inside so) (Inside then) m k h λ x p _ w. g x p (w .0) (w .1)
 
   module _ {A : Type 0} (so : A → ℕ → Type 0) where
-    by-refuse : (n : ℕ) (f : Found) (k : Unit {0} → Got A) → ((p : ℕ) → p < length s → Bad n p) → Found-below (length s) f → Held so (k tt) → Held so (refuse n f k)
+    pub by-refuse : (n : ℕ) (f : Found) (k : Unit {0} → Got A) → ((p : ℕ) → p < length s → Bad n p) → Found-below (length s) f → Held so (k tt) → Held so (refuse n f k)
     unfolding refuse
     by-refuse n nowhere k bad found then = then
     by-refuse n (at p) k bad found then = bad p found
@@ -207,7 +211,7 @@ module _ (s : List ℕ) (Bad : ℕ → ℕ → Type 0) where
         by-next (One p) _ (byte-at s p) _ (byte-held p) λ c q fits is.
         pick-has (Held (One p)) _ _ _ (λ _. byte _ p refl (omega (arith, fits, is))) (λ _. (fits, is))
 
-    below-held : (bound p : ℕ) → Held (One p) (below-at bound s p)
+    pub below-held : (bound p : ℕ) → Held (One p) (below-at bound s p)
     unfolding below-at among entry-faults some-of either
     below-held bound p =
         by-next (One p) _ (byte-at s p) _ (byte-held p) λ x q fits is.
@@ -260,23 +264,45 @@ module _ (s : List ℕ) (Bad : ℕ → ℕ → Type 0) where
         by-next (λ (ks : List ℕ) (r : ℕ). r ≡ q + 2 * length ks) _ (repeated (two-bytes-at s) left q) _ (numbers-held left q fits₁) λ ks r fits₂ long.
         (fits₂, omega (arith, is, long))
 
+    -- A FORM of requests: the entries of its lists stand at bytes, and its literals and what stands behind its values are within the input.
+    pub record Form-held (form : Form) : Type 0 where
+      pub listed : (n most p : ℕ) → Held (λ (xs : List ℕ) (q : ℕ). Each-below (length s) (λ (e : Entry). e .place) (placed-as form (p + 1) xs)) (literals-at form n most s p)
+      pub literal : (n p : ℕ) → Held (λ (l q : ℕ). Unit {0}) (literal-at form n s p)
+      pub past : (n p : ℕ) (k : ℕ → Got Table) → p ≤ length s → ((q : ℕ) → q ≤ length s → Held (λ (t : Table) (e : ℕ). Table-below (length s) t) (k q))
+          → Held (λ (t : Table) (e : ℕ). Table-below (length s) t) (past-values form n s p k)
+
+    -- That with one byte for a literal.
+    flags-held : Form-held Flags
+    flags-held = record {
+      listed = λ n most p.
+          held-then Bad (Inside (Long (p + 1))) (Inside (λ xs q. Each-below (length s) (λ (e : Entry). e .place) (placed (p + 1) xs))) (list-at literals n most s p) (list-held literals n most p) λ xs q h.
+          (h .0, placed-below (length s) (p + 1) xs (omega (arith, h .0, h .1)));
+      literal = λ n p. held-then Bad (Inside (One p)) (Inside (λ _ _. Unit {0})) (below-at (2 * n) s p) (below-held (2 * n) p) λ x q h. (h .0, tt);
+      past = λ n p k here then. then p here;
+    }
+
     module _ (lim : Limits) (n m : ℕ) where
-      body-held : (p : ℕ) → Held (Long (p + 1)) (body-at lim n s p)
-      unfolding body-at
-      body-held p = list-held literals n (lim .body) p
+      module _ (form : Form) (held : Form-held form) where
+        -- A body.
+        abbrev Stands : ℕ → List ℕ → ℕ → Type 0
+        Stands p xs q = Each-below (length s) (λ (e : Entry). e .place) (placed-as form (p + 1) xs)
 
-      effect-held : (p : ℕ) → Held (λ (x : Effect) (q : ℕ). x .place < length s) (effect-at lim n m s p)
-      unfolding effect-at
-      effect-held p =
-          by-next (One p) _ (below-at m s p) _ (below-held m p) λ a q fits is.
-          by-next (One q) _ (below-at (2 * n) s q) _ (below-held (2 * n) q) λ l r _ _.
-          by-next (Long (r + 1)) _ (body-at lim n s r) _ (body-held r) λ b e fits₂ _. (fits₂, omega (arith, fits, is))
+        body-held : (p : ℕ) → Held (Stands p) (body-at lim form n s p)
+        unfolding body-at
+        body-held p = held .listed n (lim .body) p
 
-      executability-held : (p : ℕ) → Held (λ (x : Executability) (q : ℕ). Unit {0}) (executability-at lim n m s p)
-      unfolding executability-at
-      executability-held p =
-          by-next (One p) _ (below-at m s p) _ (below-held m p) λ a q _ _.
-          by-next (Long (q + 1)) _ (body-at lim n s q) _ (body-held q) λ b e fits _. (fits, tt)
+        effect-held : (p : ℕ) → Held (λ (x : Effect) (q : ℕ). x .place < length s) (effect-at lim form n m s p)
+        unfolding effect-at
+        effect-held p =
+            by-next (One p) _ (below-at m s p) _ (below-held m p) λ a q fits is.
+            by-next _ _ (literal-at form n s q) _ (held .literal n q) λ l r _ _.
+            by-next (Stands r) _ (body-at lim form n s r) _ (body-held r) λ b e fits₂ _. (fits₂, omega (arith, fits, is))
+
+        executability-held : (p : ℕ) → Held (λ (x : Executability) (q : ℕ). Unit {0}) (executability-at lim form n m s p)
+        unfolding executability-at
+        executability-held p =
+            by-next (One p) _ (below-at m s p) _ (below-held m p) λ a q _ _.
+            by-next (Stands q) _ (body-at lim form n s q) _ (body-held q) λ b e fits _. (fits, tt)
 
       knowledge-held : (p : ℕ) → Held (λ (x : Knowledge) (q : ℕ). x .place < length s) (knowledge-at lim n m s p)
       unfolding knowledge-at
@@ -299,42 +325,43 @@ module _ (s : List ℕ) (Bad : ℕ → ℕ → Type 0) where
       byte-there : (p x q : ℕ) → byte-at s p ≡ got x q → (q ≤ length s) × (p < length s)
       byte-there p x q read = let h = held-got Bad (Inside (One p)) (byte-at s p) (byte-held p) x q read in let fits = h .0 in let is = h .1 in (fits, omega (arith, fits, is))
 
-      below-passed : Passed-on lim n m s plan-below
-      below-passed = record {
-        an-action = λ deep p met x q read _ _ _ _. byte-there p x q read;
-        a-branching = λ deep p met x q c r bs e read _ _ count all _.
-            let inside = all (held-got Bad (Inside (One (p + 1))) (count-at 1 (lim .branches) s (p + 1)) (count-held 1 (lim .branches) (p + 1)) c r count .0) in
-            (inside .0, (byte-there p x q read .1, inside .1));
-        no-item = λ deep p met here. (here, tt);
-        an-item = λ deep left p met i q rest e one more here. let first = one here in let others = more (first .0) in (others .0, (first .1, others .1));
-        a-sequence = λ deep p met c q b e read all _. all (held-got Bad (Inside (Two p)) (two-bytes-at s p) (two-bytes-held p) c q read .0);
-        no-branch = λ deep p met here. (here, tt);
-        a-branch = λ deep left p met c q b r rest e read _ one more _.
-            let first = one (held-got Bad (Inside (Long (p + 1))) (body-at lim n s p) (body-held p) c q read .0) in
-            let others = more (first .0) in
-            (others .0, (first .1, others .1));
-      }
-
       -- Where it holds of the faults of items too.
       abbrev Of-items : Type 0
       Of-items = (n p : ℕ) → among n item-faults ≡ true → p < length s → Bad n p
 
-      plan-faults : Of-items → Faults lim n m s Bad
-      unfolding among entry-faults item-faults some-of either
-      plan-faults items = record {
-        byte = λ p. held-faulty Bad (Inside (One p)) (byte-at s p) (byte-held p);
-        number = λ p. held-faulty Bad (Inside (Two p)) (two-bytes-at s p) (two-bytes-held p);
-        count = λ p. held-faulty Bad (Inside (One p)) (count-at 1 (lim .branches) s p) (count-held 1 (lim .branches) p);
-        condition = λ p. held-faulty Bad (Inside (Long (p + 1))) (body-at lim n s p) (body-held p);
-        too-many = λ p x q read. items _ p refl (byte-there p x q read .1);
-        too-large = λ p x q read. byte _ p refl (byte-there p x q read .1);
-        too-deep = λ p x q read. items _ p refl (byte-there p x q read .1);
-      }
+      module _ (form : Form) (held : Form-held form) where
+        below-passed : Passed-as lim form n m s plan-below
+        below-passed = record {
+          an-action = λ deep p met x q read _ _ _ _. byte-there p x q read;
+          a-branching = λ deep p met x q c r bs e read _ _ count all _.
+              let inside = all (held-got Bad (Inside (One (p + 1))) (count-at 1 (lim .branches) s (p + 1)) (count-held 1 (lim .branches) (p + 1)) c r count .0) in
+              (inside .0, (byte-there p x q read .1, inside .1));
+          no-item = λ deep p met here. (here, tt);
+          an-item = λ deep left p met i q rest e one more here. let first = one here in let others = more (first .0) in (others .0, (first .1, others .1));
+          a-sequence = λ deep p met c q b e read all _. all (held-got Bad (Inside (Two p)) (two-bytes-at s p) (two-bytes-held p) c q read .0);
+          no-branch = λ deep p met here. (here, tt);
+          a-branch = λ deep left p met c q b r rest e read _ one more _.
+              let first = one (held-got Bad (Inside (Stands form held p)) (body-at lim form n s p) (body-held form held p) c q read .0) in
+              let others = more (first .0) in
+              (others .0, (first .1, others .1));
+        }
 
-      plan-held : Of-items → (p : ℕ) → p ≤ length s → Held (λ (x : Met (Sequence ℕ)) (q : ℕ). Plan-below (length s) (x .value)) (plan-at lim n m s p)
-      plan-held items p here =
-          held-then Bad (Part-below (Plan-below (length s)) p 0) (Inside (λ x q. Plan-below (length s) (x .value))) (plan-at lim n m s p)
-          (PlanReads.plan-held lim n m s plan-below below-passed Bad (plan-faults items) p) λ x e below. below here
+        plan-faults : Of-items → Faults-as lim form n m s Bad
+        unfolding among entry-faults item-faults some-of either
+        plan-faults items = record {
+          byte = λ p. held-faulty Bad (Inside (One p)) (byte-at s p) (byte-held p);
+          number = λ p. held-faulty Bad (Inside (Two p)) (two-bytes-at s p) (two-bytes-held p);
+          count = λ p. held-faulty Bad (Inside (One p)) (count-at 1 (lim .branches) s p) (count-held 1 (lim .branches) p);
+          condition = λ p. held-faulty Bad (Inside (Stands form held p)) (body-at lim form n s p) (body-held form held p);
+          too-many = λ p x q read. items _ p refl (byte-there p x q read .1);
+          too-large = λ p x q read. byte _ p refl (byte-there p x q read .1);
+          too-deep = λ p x q read. items _ p refl (byte-there p x q read .1);
+        }
+
+        plan-held : Of-items → (p : ℕ) → p ≤ length s → Held (λ (x : Met (Sequence ℕ)) (q : ℕ). Plan-below (length s) (x .value)) (plan-at lim form n m s p)
+        plan-held items p here =
+            held-then Bad (Part-below (Plan-below (length s)) p 0) (Inside (λ x q. Plan-below (length s) (x .value))) (plan-at lim form n m s p)
+            (PlanReads.plan-held-as lim form n m s plan-below below-passed Bad (plan-faults items) p) λ x e below. below here
 
       -- A line of a derivation.
       listed-held : (p : ℕ) → Held (λ (Y : Conclusion) (q : ℕ). Unit {0}) (list-concluded lim n s p)
@@ -358,7 +385,7 @@ module _ (s : List ℕ) (Bad : ℕ → ℕ → Type 0) where
       unfolding line-at
       line-held items layout p =
           by-next (Long (p + 1)) _ (list-at literals n (lim .listed) s p) _ (list-held literals n (lim .listed) p) λ X q fits long.
-          by-next _ _ (plan-at lim n m s q) _ (plan-held items q fits) λ plan r _ inside.
+          by-next _ _ (plan-at lim Flags n m s q) _ (plan-held Flags flags-held items q fits) λ plan r _ inside.
           by-next _ _ (concluded-at lim n s layout r) _ (concluded-held layout r) λ x t _ _.
           by-next (One t) _ (count-at 0 (lim .citations) s t) _ (count-held 0 (lim .citations) t) λ k v fits₂ _.
           by-next _ _ (repeated (two-bytes-at s) k v) _ (numbers-held k v fits₂) λ cites e fits₃ _.
@@ -374,32 +401,41 @@ module _ (s : List ℕ) (Bad : ℕ → ℕ → Type 0) where
 
     -- The table, and the rest after it.
     module _ (lim : Limits) where
-      pub table-held : (p : ℕ) → Held (λ (t : Table) (q : ℕ). Table-below (length s) t) (table-at lim s p)
-      unfolding table-at
-      table-held start =
-          by-next _ _ (count-at 1 (lim .fluents) s start) _ (count-held 1 (lim .fluents) start) λ n p _ _.
-          by-next _ _ (count-at 1 (lim .actions) s p) _ (count-held 1 (lim .actions) p) λ m q _ _.
-          by-next _ _ (list-at literals n (lim .listed) s q) _ (list-held literals n (lim .listed) q) λ facts r _ _.
-          by-next _ _ (section-at (effect-at lim n m s) s r) _ (section-held (λ (e : Effect). e .place < length s) _ (effect-held lim n m) r) λ es t _ effects.
-          by-next _ _ (section-at (executability-at lim n m s) s t) _ (section-held (λ (e : Executability). Unit {0}) _ (executability-held lim n m) t) λ xs u _ _.
-          by-next _ _ (section-at (knowledge-at lim n m s) s u) _ (section-held (λ (k : Knowledge). k .place < length s) _ (knowledge-held lim n m) u) λ ks e fits knowledge.
-          (fits, record { effects = effects; knowledge = knowledge })
+      module _ (form : Form) (held : Form-held form) where
+        pub table-held-as : (p : ℕ) → Held (λ (t : Table) (q : ℕ). Table-below (length s) t) (table-at lim form s p)
+        unfolding table-at
+        table-held-as start =
+            by-next _ _ (count-at 1 (lim .fluents) s start) _ (count-held 1 (lim .fluents) start) λ n v here _.
+            held .past n v _ here λ p _.
+            by-next _ _ (count-at 1 (lim .actions) s p) _ (count-held 1 (lim .actions) p) λ m q _ _.
+            by-next _ _ (literals-at form n (lim .listed) s q) _ (held .listed n (lim .listed) q) λ facts r _ _.
+            by-next _ _ (section-at (effect-at lim form n m s) s r) _ (section-held (λ (e : Effect). e .place < length s) _ (effect-held lim n m form held) r) λ es t _ effects.
+            by-next _ _ (section-at (executability-at lim form n m s) s t) _ (section-held (λ (e : Executability). Unit {0}) _ (executability-held lim n m form held) t) λ xs u _ _.
+            by-next _ _ (section-at (knowledge-at lim n m s) s u) _ (section-held (λ (k : Knowledge). k .place < length s) _ (knowledge-held lim n m) u) λ ks e fits knowledge.
+            (fits, record { effects = effects; knowledge = knowledge })
 
-      pub request-held : ((n p : ℕ) → among n item-faults ≡ true → p < length s → Bad n p) → (t : Table) (p : ℕ) → Table-below (length s) t → p ≤ length s → Held (λ (r : Request) (q : ℕ). Request-below (length s) r) (request-at lim s t p)
-      unfolding request-at
-      request-held items t start table here =
-          by-next _ _ (plan-at lim (t .fluents) (t .actions) s start) _ (plan-held lim (t .fluents) (t .actions) items start here) λ b p _ plan.
-          by-next _ _ (list-at literals (t .fluents) (lim .listed) s p) _ (list-held literals (t .fluents) (lim .listed) p) λ gs q fits goals.
-          by-next _ _ (list-at fluents (t .fluents) (lim .listed) s q) _ (list-held fluents (t .fluents) (lim .listed) q) λ ws e fits₂ whether. (
-            fits₂,
-            record {
-              table = table;
-              plan = plan;
-              goals = placed-below (length s) (p + 1) gs (omega (arith, fits, goals));
-              whether = placed-below (length s) (q + 1) ws (omega (arith, fits₂, whether));
-              whether-place = omega (arith, fits₂, whether);
-            },
-          )
+        pub request-held-as : ((n p : ℕ) → among n item-faults ≡ true → p < length s → Bad n p) → (t : Table) (p : ℕ) → Table-below (length s) t → p ≤ length s
+            → Held (λ (r : Request) (q : ℕ). Request-below (length s) r) (request-at lim form s t p)
+        unfolding request-at
+        request-held-as items t start table here =
+            by-next _ _ (plan-at lim form (t .fluents) (t .actions) s start) _ (plan-held lim (t .fluents) (t .actions) form held items start here) λ b p _ plan.
+            by-next _ _ (literals-at form (t .fluents) (lim .listed) s p) _ (held .listed (t .fluents) (lim .listed) p) λ gs q _ goals.
+            by-next _ _ (list-at fluents (t .fluents) (lim .listed) s q) _ (list-held fluents (t .fluents) (lim .listed) q) λ ws e fits₂ whether. (
+              fits₂,
+              record {
+                table = table;
+                plan = plan;
+                goals = goals;
+                whether = placed-below (length s) (q + 1) ws (omega (arith, fits₂, whether));
+                whether-place = omega (arith, fits₂, whether);
+              },
+            )
+
+      pub table-held : (p : ℕ) → Held (λ (t : Table) (q : ℕ). Table-below (length s) t) (table-at lim Flags s p)
+      table-held = table-held-as Flags flags-held
+
+      pub request-held : ((n p : ℕ) → among n item-faults ≡ true → p < length s → Bad n p) → (t : Table) (p : ℕ) → Table-below (length s) t → p ≤ length s → Held (λ (r : Request) (q : ℕ). Request-below (length s) r) (request-at lim Flags s t p)
+      request-held = request-held-as Flags flags-held
 
 -- PLACED, by the number.
 start-or-end : (n : ℕ) → among n at-start ≡ true → among n (Limits.ends-too-soon ∷ at-start) ≡ true
@@ -450,7 +486,7 @@ module _ (ns : List ℕ) (limit size : ℕ) where
     listed-fault faults each bytes n p is less =
         byte-fault n p (among-each (λ (m : ℕ). among m ns) faults each n is) (fails-true _ (among-each (λ (m : ℕ). fails (among m (Limits.ends-too-soon ∷ at-start))) faults bytes n is)) less
 
-    reading-fault : each-of (λ (n : ℕ). among n ns) byte-faults ≡ true → (n p : ℕ) → among n byte-faults ≡ true → p < size → Fault-in ns limit size n p
+    pub reading-fault : each-of (λ (n : ℕ). among n ns) byte-faults ≡ true → (n p : ℕ) → among n byte-faults ≡ true → p < size → Fault-in ns limit size n p
     unfolding among byte-faults at-start of-neither some-of either fails each-of both
     reading-fault each = listed-fault byte-faults each refl
 
@@ -466,7 +502,7 @@ module _ (lim : Limits) (s : List ℕ) where
   abbrev pub Request-held : Got Request → Type 0
   Request-held = Held s Request-fault Request-read
 
-  pub read-held : Request-held (read-request lim s)
+  pub read-held : Request-held (read-request lim Flags s)
   unfolding read-request among refusals byte-faults some-of either each-of both
   read-held =
       pick-has Request-held _ _ _ (λ _. too-long-fault refusals (lim .request) (length s) refl) λ f.
@@ -474,8 +510,8 @@ module _ (lim : Limits) (s : List ℕ) where
       let ends = ends-fault refusals (lim .request) (length s) short refl in
       let byte = reading-fault refusals (lim .request) (length s) short refl in
       let entry : (n p : ℕ) → among n entry-faults ≡ true → p < length s → Request-fault n p = λ n p is. byte n p (entry-byte n is) in
-      by-next s Request-fault (λ (t : Table) (q : ℕ). Table-below (length s) t) Request-read (table-at lim s 0) _ (table-held s Request-fault ends entry lim 0) λ t p fits table.
-      by-next s Request-fault (λ (r : Request) (q : ℕ). Request-below (length s) r) Request-read (request-at lim s t p) _ (request-held s Request-fault ends entry lim (λ n p is. byte n p (item-byte n is)) t p table fits) λ r e fits₂ so.
+      by-next s Request-fault (λ (t : Table) (q : ℕ). Table-below (length s) t) Request-read (table-at lim Flags s 0) _ (table-held s Request-fault ends entry lim 0) λ t p fits table.
+      by-next s Request-fault (λ (r : Request) (q : ℕ). Request-below (length s) r) Request-read (request-at lim Flags s t p) _ (request-held s Request-fault ends entry lim (λ n p is. byte n p (item-byte n is)) t p table fits) λ r e fits₂ so.
       pick-has Request-held _ _ _ (λ more. byte _ e refl (ltb-true _ _ more)) (λ _. (fits₂, (so, short)))
 
   -- What was read of it, past 16, 17 and 18.
@@ -490,7 +526,7 @@ module _ (lim : Limits) (s : List ℕ) where
 
   pub settled-held : Request-held (settled lim s)
   unfolding settled
-  settled-held = by-next s Request-fault Request-read Request-read (read-request lim s) _ read-held λ r e fits so. past-held Request-read r (so .0) (so .1) (got r e) (fits, so)
+  settled-held = by-next s Request-fault Request-read Request-read (read-request lim Flags s) _ read-held λ r e fits so. past-held Request-read r (so .0) (so .1) (got r e) (fits, so)
 
   -- A guarded request: so are its guards.
   pub record Guarded-below (g : Guarded-request) (e : ℕ) : Type 0 where
@@ -509,8 +545,8 @@ module _ (lim : Limits) (s : List ℕ) where
       let ends = ends-fault refusals (lim .request) (length s) short refl in
       let byte = reading-fault refusals (lim .request) (length s) short refl in
       let entry : (n p : ℕ) → among n entry-faults ≡ true → p < length s → Request-fault n p = λ n p is. byte n p (entry-byte n is) in
-      by-next s Request-fault (λ (t : Table) (q : ℕ). Table-below (length s) t) Guarded-below (table-at lim s 0) _ (table-held s Request-fault ends entry lim 0) λ t p fits table.
-      by-next s Request-fault (λ (r : Request) (q : ℕ). Request-below (length s) r) Guarded-below (request-at lim s t p) _ (request-held s Request-fault ends entry lim (λ n p is. byte n p (item-byte n is)) t p table fits) λ r q _ so.
+      by-next s Request-fault (λ (t : Table) (q : ℕ). Table-below (length s) t) Guarded-below (table-at lim Flags s 0) _ (table-held s Request-fault ends entry lim 0) λ t p fits table.
+      by-next s Request-fault (λ (r : Request) (q : ℕ). Request-below (length s) r) Guarded-below (request-at lim Flags s t p) _ (request-held s Request-fault ends entry lim (λ n p is. byte n p (item-byte n is)) t p table fits) λ r q _ so.
       by-next s Request-fault (λ (gs : List ℕ) (e : ℕ). e ≡ q + 1 + length gs) Guarded-below (list-at literals (t .fluents) Limits.most-guards s q) _
       (list-held s Request-fault ends entry literals (t .fluents) Limits.most-guards q) λ gs e fits₂ long.
       pick-has Guarded-held _ _ _ (λ more. byte _ e refl (ltb-true _ _ more))

@@ -14,7 +14,7 @@ use Rattle.meaning.specs.Tests.{both, pick, Has}
 use Rattle.meaning.specs.Limits.{Limits}
 use Rattle.meaning.specs.Literals.{complement}
 use Rattle.meaning.specs.Requests.{Effect, Executability, Knowledge, Table, Request}
-use Rattle.meaning.specs.Reading.{Got, got, fault, next, byte-at, count-at, below-at, literals, fluents, bound-of, have-complements, entry-at, entries-at, list-at, repeated, section-at, body-at, effect-at, executability-at, knowledge-at, plan-at, table-at, request-at, read-request}
+use Rattle.meaning.specs.Reading.{Flags, Got, got, fault, next, byte-at, count-at, below-at, literals, fluents, bound-of, have-complements, entry-at, entries-at, list-at, repeated, section-at, body-at, effect-at, executability-at, knowledge-at, plan-at, table-at, request-at, read-request}
 use Rattle.meaning.proofs.TestLaws.{by-test, clash, both-true, either-left, either-right, pick-cases}
 use Rattle.meaning.proofs.SettledLaws.{fault≢got, got-same, next-got}
 use Rattle.meaning.proofs.LiteralLaws.{complement-even, complement-odd, complement-twice, complement-other}
@@ -158,20 +158,20 @@ module _ {A : Type 0} (line : ℕ → Got A) where
   section-read s p xs q e = after-got (byte-at s p) _ e λ c i _ e′. line-read c i xs q e′
 
 module _ (lim : Limits) (n m : ℕ) (s : List ℕ) where
-  effect-within : (p : ℕ) (x : Effect) (q : ℕ) → effect-at lim n m s p ≡ got x q → (x .literal < 2 * n) × ((l : ℕ) → Has (x .body) l → l < 2 * n) × Consistent (x .body)
+  effect-within : (p : ℕ) (x : Effect) (q : ℕ) → effect-at lim Flags n m s p ≡ got x q → (x .literal < 2 * n) × ((l : ℕ) → Has (x .body) l → l < 2 * n) × Consistent (x .body)
   unfolding effect-at body-at
   effect-within p x q e =
       after-got (below-at m s p) _ e λ a i _ e′.
       after-got (below-at (2 * n) s i) _ e′ λ l j below e″.
-      after-got (body-at lim n s j) _ e″ λ b k eb same.
+      after-got (body-at lim Flags n s j) _ e″ λ b k eb same.
       subst (λ (y : Effect). (y .literal < 2 * n) × ((l : ℕ) → Has (y .body) l → l < 2 * n) × Consistent (y .body)) (got-same same)
       (below-bound (2 * n) s i l j below, list-within n (lim .body) s j b k eb, list-consistent n (lim .body) s j b k eb)
 
-  executability-within : (p : ℕ) (x : Executability) (q : ℕ) → executability-at lim n m s p ≡ got x q → ((l : ℕ) → Has (x .body) l → l < 2 * n) × Consistent (x .body)
+  executability-within : (p : ℕ) (x : Executability) (q : ℕ) → executability-at lim Flags n m s p ≡ got x q → ((l : ℕ) → Has (x .body) l → l < 2 * n) × Consistent (x .body)
   unfolding executability-at body-at
   executability-within p x q e =
       after-got (below-at m s p) _ e λ a i _ e′.
-      after-got (body-at lim n s i) _ e′ λ b k eb same.
+      after-got (body-at lim Flags n s i) _ e′ λ b k eb same.
       subst (λ (y : Executability). ((l : ℕ) → Has (y .body) l → l < 2 * n) × Consistent (y .body)) (got-same same)
       (list-within n (lim .body) s i b k eb, list-consistent n (lim .body) s i b k eb)
 
@@ -194,35 +194,35 @@ pub record Ranged (lim : Limits) (t : Table) : Type 0 where
   pub lines-consistent : (x : Executability) → Has (t .executability) x → Consistent (x .body)
   pub knowledge : (k : Knowledge) → Has (t .knowledge) k → k .fluent < t .fluents
 
-pub table-ranged : (lim : Limits) (s : List ℕ) (p : ℕ) (t : Table) (q : ℕ) → table-at lim s p ≡ got t q → Ranged lim t
+pub table-ranged : (lim : Limits) (s : List ℕ) (p : ℕ) (t : Table) (q : ℕ) → table-at lim Flags s p ≡ got t q → Ranged lim t
 unfolding table-at
 table-ranged lim s p t q e =
     after-got (count-at 1 (lim .fluents) s p) _ e λ n p₁ en e₁.
     after-got (count-at 1 (lim .actions) s p₁) _ e₁ λ m p₂ _ e₂.
     after-got (list-at literals n (lim .listed) s p₂) _ e₂ λ facts p₃ ef e₃.
-    after-got (section-at (effect-at lim n m s) s p₃) _ e₃ λ effects p₄ ee e₄.
-    after-got (section-at (executability-at lim n m s) s p₄) _ e₄ λ executability p₅ ex e₅.
+    after-got (section-at (effect-at lim Flags n m s) s p₃) _ e₃ λ effects p₄ ee e₄.
+    after-got (section-at (executability-at lim Flags n m s) s p₄) _ e₄ λ executability p₅ ex e₅.
     after-got (section-at (knowledge-at lim n m s) s p₅) _ e₅ λ knowledge p₆ ek same.
     subst (Ranged lim) (got-same same)
     (record {
       fluents = count-within 1 (lim .fluents) s p n p₁ en;
       facts = list-within n (lim .listed) s p₂ facts p₃ ef;
       consistent = list-consistent n (lim .listed) s p₂ facts p₃ ef;
-      effects = λ g h. let w = section-read (effect-at lim n m s) s p₃ effects p₄ ee g h in effect-within lim n m s (w .0) g (w .1) (w .2) .0;
-      bodies = λ g h. let w = section-read (effect-at lim n m s) s p₃ effects p₄ ee g h in effect-within lim n m s (w .0) g (w .1) (w .2) .1;
-      effects-consistent = λ g h. let w = section-read (effect-at lim n m s) s p₃ effects p₄ ee g h in effect-within lim n m s (w .0) g (w .1) (w .2) .2;
-      lines = λ x h. let w = section-read (executability-at lim n m s) s p₄ executability p₅ ex x h in executability-within lim n m s (w .0) x (w .1) (w .2) .0;
-      lines-consistent = λ x h. let w = section-read (executability-at lim n m s) s p₄ executability p₅ ex x h in executability-within lim n m s (w .0) x (w .1) (w .2) .1;
+      effects = λ g h. let w = section-read (effect-at lim Flags n m s) s p₃ effects p₄ ee g h in effect-within lim n m s (w .0) g (w .1) (w .2) .0;
+      bodies = λ g h. let w = section-read (effect-at lim Flags n m s) s p₃ effects p₄ ee g h in effect-within lim n m s (w .0) g (w .1) (w .2) .1;
+      effects-consistent = λ g h. let w = section-read (effect-at lim Flags n m s) s p₃ effects p₄ ee g h in effect-within lim n m s (w .0) g (w .1) (w .2) .2;
+      lines = λ x h. let w = section-read (executability-at lim Flags n m s) s p₄ executability p₅ ex x h in executability-within lim n m s (w .0) x (w .1) (w .2) .0;
+      lines-consistent = λ x h. let w = section-read (executability-at lim Flags n m s) s p₄ executability p₅ ex x h in executability-within lim n m s (w .0) x (w .1) (w .2) .1;
       knowledge = λ k h. let w = section-read (knowledge-at lim n m s) s p₅ knowledge p₆ ek k h in knowledge-within lim n m s (w .0) k (w .1) (w .2);
     })
 
 -- A request that was read has such a table.
-pub read-ranged : (lim : Limits) (b : List ℕ) (r : Request) (e : ℕ) → read-request lim b ≡ got r e → Ranged lim (r .table)
+pub read-ranged : (lim : Limits) (b : List ℕ) (r : Request) (e : ℕ) → read-request lim Flags b ≡ got r e → Ranged lim (r .table)
 unfolding read-request request-at
 read-ranged lim b r e reads =
-    after-got (table-at lim b 0) _ (not-refused _ _ _ _ reads .1) λ t p₁ et e₁.
-    after-got (request-at lim b t p₁) _ e₁ λ q p₂ eq e₂.
-    after-got (plan-at lim (t .fluents) (t .actions) b p₁) _ eq λ plan p₃ _ e₃.
+    after-got (table-at lim Flags b 0) _ (not-refused _ _ _ _ reads .1) λ t p₁ et e₁.
+    after-got (request-at lim Flags b t p₁) _ e₁ λ q p₂ eq e₂.
+    after-got (plan-at lim Flags (t .fluents) (t .actions) b p₁) _ eq λ plan p₃ _ e₃.
     after-got (list-at literals (t .fluents) (lim .listed) b p₃) _ e₃ λ goals p₄ _ e₄.
     after-got (list-at fluents (t .fluents) (lim .listed) b p₄) _ e₄ λ whether p₅ _ same.
     subst (λ (x : Request). Ranged lim (x .table)) (got-same same ∙ got-same (not-refused _ _ _ _ e₂ .1)) (table-ranged lim b 0 t p₁ et)

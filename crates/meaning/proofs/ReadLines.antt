@@ -13,7 +13,7 @@ use Rattle.meaning.specs.declared.Layout.{Layout}
 use Rattle.meaning.specs.declared.Layout.the-variants.{Plain, Closing}
 use Rattle.meaning.specs.Limits.{Limits}
 use Rattle.meaning.specs.Requests.{Table, Request, values}
-use Rattle.meaning.specs.Reading.{got, byte-at, two-bytes-at, count-at, below-at, literals, fluents, entry-at, entries-at, list-at, repeated, section-at, effect-at, executability-at, knowledge-at, plan-at, table-at, placed, request-at, read-request}
+use Rattle.meaning.specs.Reading.{Flags, got, byte-at, two-bytes-at, count-at, below-at, literals, fluents, entry-at, entries-at, list-at, repeated, section-at, effect-at, executability-at, knowledge-at, plan-at, table-at, placed, request-at, read-request}
 use Rattle.meaning.specs.Derivations.{Conclusion, knows, knows-whether, Line, Derivation, Concluded, concludes-fluent, list-concluded, fluent-concluded, conclusion-at, concluded-at, line-at, closing-at, read-derivation}
 use Rattle.meaning.proofs.TestLaws.{pick-cases}
 use Rattle.meaning.proofs.SettledLaws.{got-same}
@@ -85,7 +85,7 @@ line-is : (lim : Limits) (n m : ℕ) → n ≤ lim .state → (s : List ℕ) (la
 unfolding line-at
 line-is lim n m room s layout p l q e =
     after-got (list-at literals n (lim .listed) s p) _ e λ X i x e₁.
-    after-got (plan-at lim n m s i) _ e₁ λ _ j _ e₂.
+    after-got (plan-at lim Flags n m s i) _ e₁ λ _ j _ e₂.
     after-got (concluded-at lim n s layout j) _ e₂ λ end k y e₃.
     after-got (count-at 0 (lim .citations) s k) _ e₃ λ c g counts e₄.
     after-got (repeated (two-bytes-at s) c g) _ e₄ λ cites f reads same.
@@ -116,20 +116,20 @@ unfolding placed values
 placed-values p [] = refl
 placed-values p (x ∷ xs) = ap (λ (ys : List ℕ). x ∷ ys) (placed-values (p + 1) xs)
 
-pub question-ascends : (lim : Limits) (b : List ℕ) (r : Request) (e : ℕ) → read-request lim b ≡ got r e → Ascending 0 (r .table .facts) × Ascending 0 (values (r .goals))
+pub question-ascends : (lim : Limits) (b : List ℕ) (r : Request) (e : ℕ) → read-request lim Flags b ≡ got r e → Ascending 0 (r .table .facts) × Ascending 0 (values (r .goals))
 unfolding read-request table-at request-at
 question-ascends lim b r e reads =
-    after-got (table-at lim b 0) _ (not-refused _ _ _ _ reads .1) λ t p₁ et e₁.
-    after-got (request-at lim b t p₁) _ e₁ λ q p₂ eq e₂.
-    after-got (plan-at lim (t .fluents) (t .actions) b p₁) _ eq λ _ p₃ _ e₃.
+    after-got (table-at lim Flags b 0) _ (not-refused _ _ _ _ reads .1) λ t p₁ et e₁.
+    after-got (request-at lim Flags b t p₁) _ e₁ λ q p₂ eq e₂.
+    after-got (plan-at lim Flags (t .fluents) (t .actions) b p₁) _ eq λ _ p₃ _ e₃.
     after-got (list-at literals (t .fluents) (lim .listed) b p₃) _ e₃ λ goals p₄ eg e₄.
     after-got (list-at fluents (t .fluents) (lim .listed) b p₄) _ e₄ λ _ _ _ same.
     subst (λ (x : Request). Ascending 0 (x .table .facts) × Ascending 0 (values (x .goals))) (got-same same ∙ got-same (not-refused _ _ _ _ e₂ .1)) (
       (after-got (count-at 1 (lim .fluents) b 0) _ et λ n i₁ _ t₁.
           after-got (count-at 1 (lim .actions) b i₁) _ t₁ λ m i₂ _ t₂.
           after-got (list-at literals n (lim .listed) b i₂) _ t₂ λ facts i₃ ef t₃.
-          after-got (section-at (effect-at lim n m b) b i₃) _ t₃ λ _ i₄ _ t₄.
-          after-got (section-at (executability-at lim n m b) b i₄) _ t₄ λ _ i₅ _ t₅.
+          after-got (section-at (effect-at lim Flags n m b) b i₃) _ t₃ λ _ i₄ _ t₄.
+          after-got (section-at (executability-at lim Flags n m b) b i₄) _ t₄ λ _ i₅ _ t₅.
           after-got (section-at (knowledge-at lim n m b) b i₅) _ t₅ λ _ _ _ last.
           subst (λ (x : Table). Ascending 0 (x .facts)) (got-same last) (list-ascends n (lim .listed) b i₂ facts i₃ ef)),
       subst (Ascending 0) (sym (placed-values (p₃ + 1) goals)) (list-ascends (t .fluents) (lim .listed) b p₃ goals p₄ eg),

@@ -11,7 +11,7 @@ use Rattle.meaning.specs.Tests.{both, either, fails, pick, some-of, each
 use Rattle.meaning.specs.Literals.{complement, among, exclusive}
 use Rattle.meaning.specs.Requests.{Effect, Knowledge, Table, Sequence, done, item, Item, act, branching, Branches, none, branch, unplaced, unplaced-item, unplaced-branches}
 use Rattle.meaning.specs.Lines.{executability-of, allowed}
-use Rattle.meaning.specs.Refusals.{Found, nowhere, at, or-else, clashing, runs-with, contradictory, first-against, contradiction-in, mixed-in, conditions-of, overlap-in, overlap-at, overlap-below}
+use Rattle.meaning.specs.Refusals.{failing-in, Found, nowhere, at, or-else, clashing, runs-with, contradictory, first-against, contradiction-in, mixed-in, conditions-of, overlap-in, overlap-at, overlap-below}
 use Rattle.meaning.proofs.TestLaws.{by-test, clash, same-test, both-left, both-right, both-true, fails-false, pick-cases, pick-map, some-has, has-some, each-has, each-mono, some-mono}
 use Rattle.meaning.proofs.LiteralLaws.{complement-twice, complement-other}
 
@@ -100,7 +100,7 @@ at≢nowhere e = subst told e tt
 
 module _ (against : Effect → Effect → Bool) where
   -- Where no effect is against one before it, no two are against each other.
-  none-against : ((e : Effect) → against e e ≡ false) → ((e g : Effect) → against e g ≡ against g e)
+  pub none-against : ((e : Effect) → against e e ≡ false) → ((e g : Effect) → against e g ≡ against g e)
       → (before es : List Effect) → first-against against before es ≡ nowhere → (e g : Effect) → Has es e → Has es g ⊎ Has before g → against e g ≡ false
   unfolding first-against
   none-against itself turned before [] q e g he hg = absurd he
@@ -165,7 +165,7 @@ conditions-unplaced none = refl
 conditions-unplaced (branch c b bs) = ap {B = List (List ℕ)} (λ cs. c ∷ cs) (conditions-unplaced bs)
 
 mutual
-  unfolding overlap-in
+  unfolding failing-in
 
   pub unplaced-18 : (p : Sequence ℕ) → unplaced-found (overlap-in p) ≡ overlap-in (unplaced p)
   unplaced-18 done = refl

@@ -14,7 +14,7 @@ use Rattle.meaning.specs.Limits
 use Rattle.meaning.specs.Limits.{Limits}
 use Rattle.meaning.specs.Literals.{among}
 use Rattle.meaning.specs.Requests.{Table, Request}
-use Rattle.meaning.specs.Reading.{Got, got, fault, count-at, table-at, request-at}
+use Rattle.meaning.specs.Reading.{Flags, Got, got, fault, count-at, table-at, request-at}
 use Rattle.meaning.specs.Refusals.{Found, nowhere, at, contradiction-in, mixed-in, overlap-in, refuse}
 use Rattle.meaning.specs.Walk.{End, fine, missed, stopped, walked}
 use Rattle.meaning.specs.States.{State, first-state}
@@ -47,7 +47,7 @@ module _ (lim : Limits) (s : List ℕ) where
       let short = ltb-false (lim .request) (length s) f in
       let ends = ends-fault release-refusals (lim .request) (length s) short refl in
       let byte = listed-fault release-refusals (lim .request) (length s) short entry-faults refl refl in
-      next-held Own-fault (λ (t : Table) (q : ℕ). (q ≤ length s) × Table-below (length s) t) Opening-read (table-at lim s 0) _ (table-held s Own-fault ends byte lim 0) λ t p _ below.
+      next-held Own-fault (λ (t : Table) (q : ℕ). (q ≤ length s) × Table-below (length s) t) Opening-read (table-at lim Flags s 0) _ (table-held s Own-fault ends byte lim 0) λ t p _ below.
       next-held Own-fault (λ c q. (q ≤ length s) × (q ≡ p + 1)) Opening-read (count-at 1 Limits.most-plans s p) _ (count-held s Own-fault ends byte 1 Limits.most-plans p) λ k q _ one.
       (short, below .1, one .0, one .1)
 
@@ -201,7 +201,7 @@ module _ (lim : Limits) (s : List ℕ) where
 pub record Opened (lim : Limits) (s : List ℕ) (o : Opening) (p : ℕ) : Type 0 where
   pub short : length s ≤ lim .request
   pub below : Table-below (length s) (o .table)
-  pub table : table-at lim s 0 ≡ got (o .table) (o .table-end)
+  pub table : table-at lim Flags s 0 ≡ got (o .table) (o .table-end)
   pub count : count-at 1 Limits.most-plans s (o .table-end) ≡ got (o .plans) p
   pub inside : p ≤ length s
   pub behind : p ≡ o .table-end + 1
@@ -210,7 +210,7 @@ pub opened : (lim : Limits) (s : List ℕ) (o : Opening) (p : ℕ) → opening l
 unfolding opening
 opened lim s o p e =
     pick-cases _ _ _ e (λ _ f. absurd (fault≢got f)) λ _ more.
-    let a = next-got (table-at lim s 0) _ more in
+    let a = next-got (table-at lim Flags s 0) _ more in
     let b = next-got (count-at 1 Limits.most-plans s (a .1)) _ (a .3) in
     let same : _≡_ {A = Opening} (record { table = a .0; table-end = a .1; plans = b .0 }) o = got-same (b .3) in
     let table-end : a .1 ≡ o .table-end = ap (λ (x : Opening). x .table-end) same in
@@ -227,9 +227,9 @@ opened lim s o p e =
     }
 
 -- The places in a table that was read are in the input.
-pub table-below : (lim : Limits) (s : List ℕ) (t : Table) (e : ℕ) → table-at lim s 0 ≡ got t e → Table-below (length s) t
+pub table-below : (lim : Limits) (s : List ℕ) (t : Table) (e : ℕ) → table-at lim Flags s 0 ≡ got t e → Table-below (length s) t
 table-below lim s t e is =
-    held-got (λ n p. Unit {0}) (λ (x : Table) (q : ℕ). (q ≤ length s) × Table-below (length s) x) (table-at lim s 0) (table-held s (λ n p. Unit {0}) tt (λ n p _ _. tt) lim 0) t e is .1
+    held-got (λ n p. Unit {0}) (λ (x : Table) (q : ℕ). (q ≤ length s) × Table-below (length s) x) (table-at lim Flags s 0) (table-held s (λ n p. Unit {0}) tt (λ n p _ _. tt) lim 0) t e is .1
 
 -- THE PLAN COUNT. A row of four times that many numbers is not refused by 9, and where it is 0 the file is refused before the row's length is asked.
 module _ (lim : Limits) (s : List ℕ) where
@@ -279,7 +279,7 @@ module _ (lim : Limits) (s : List ℕ) (t : Table) (budget : ℕ) where
   pub answers-length : (left p : ℕ) → length (answers-at lim s t budget left p) ≡ left
   unfolding answers-at after-plan
   answers-length zero p = refl
-  answers-length (suc left) p = ap suc (by-plan (request-at lim s t p) (answers-length left))
+  answers-length (suc left) p = ap suc (by-plan (request-at lim Flags s t p) (answers-length left))
     where
       by-plan : (x : Got Request) → ((e : ℕ) → length (answers-at lim s t budget left e) ≡ left) → length (after-plan left x (λ e. answers-at lim s t budget left e)) ≡ left
       by-plan (got r e) more = more e
@@ -327,25 +327,25 @@ module _ (lim : Limits) (s : List ℕ) (t : Table) (budget : ℕ) where
   all-unreached (suc left) = (record { number = refl; place = omega arith; count = omega arith; input = omega arith }, all-unreached left)
 
   module _ (below : Table-below (length s) t) where
-    request-in-row : (p : ℕ) → p ≤ length s → Held Row-fault Plan-read (request-at lim s t p)
+    request-in-row : (p : ℕ) → p ≤ length s → Held Row-fault Plan-read (request-at lim Flags s t p)
     unfolding among row-answers entry-faults item-faults some-of either each-of both
     request-in-row p inside =
         request-held s Row-fault (refl, omega arith) (λ n p is less. (among-each (λ (m : ℕ). among m row-answers) entry-faults refl n is, omega (arith, less))) lim
         (λ n p is less. (among-each (λ (m : ℕ). among m row-answers) item-faults refl n is, omega (arith, less))) t p below inside
 
     -- A plan's place is in the file, and so is the place after it.
-    pub answer-placed : (p : ℕ) → p ≤ length s → plan-answer lim budget (request-at lim s t p) .place ≤ length s
-    answer-placed p inside = plan-in-row (request-at lim s t p) (request-in-row p inside) .place
+    pub answer-placed : (p : ℕ) → p ≤ length s → plan-answer lim budget (request-at lim Flags s t p) .place ≤ length s
+    answer-placed p inside = plan-in-row (request-at lim Flags s t p) (request-in-row p inside) .place
 
-    pub plan-inside : (p : ℕ) → p ≤ length s → (r : Request) (e : ℕ) → request-at lim s t p ≡ got r e → e ≤ length s
-    plan-inside p inside r e is = held-got Row-fault Plan-read (request-at lim s t p) (request-in-row p inside) r e is .0
+    pub plan-inside : (p : ℕ) → p ≤ length s → (r : Request) (e : ℕ) → request-at lim Flags s t p ≡ got r e → e ≤ length s
+    plan-inside p inside r e is = held-got Row-fault Plan-read (request-at lim Flags s t p) (request-in-row p inside) r e is .0
 
     answers-in-row : (left p : ℕ) → p ≤ length s → Each In-row (answers-at lim s t budget left p)
     unfolding answers-at after-plan
     answers-in-row zero p inside = tt
     answers-in-row (suc left) p inside =
         let one = request-in-row p inside in
-        (plan-in-row (request-at lim s t p) one, by-plan (request-at lim s t p) one (answers-in-row left))
+        (plan-in-row (request-at lim Flags s t p) one, by-plan (request-at lim Flags s t p) one (answers-in-row left))
       where
         by-plan : (x : Got Request) → Held Row-fault Plan-read x → ((e : ℕ) → e ≤ length s → Each In-row (answers-at lim s t budget left e))
             → Each In-row (after-plan left x (λ e. answers-at lim s t budget left e))

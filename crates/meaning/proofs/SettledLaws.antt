@@ -2,12 +2,12 @@
 -- exclusive. Each part of a reading or a refusal that gives something has gone on, and the parts are taken one by one. Assumes nothing.
 use Prim.Native.Nat.{ℕ}
 use mathlib.Core.Path.{_≡_, refl, _∙_, ap, subst}
-use mathlib.Core.Bool.{true}
+use mathlib.Core.Bool.{Bool, true}
 use mathlib.Core.List.{List}
 use Rattle.meaning.specs.Limits.{Limits}
 use Rattle.meaning.specs.Requests.{Sequence, done, item, Item, act, branching, Branches, none, branch, Request}
-use Rattle.meaning.specs.Reading.{Got, got, fault, next, read-request}
-use Rattle.meaning.specs.Refusals.{Found, nowhere, at, or-else, contradiction-in, mixed-in, all-exclusive, overlap-in, overlap-at, overlap-below, refuse, settled}
+use Rattle.meaning.specs.Reading.{Flags, Got, got, fault, next, read-request}
+use Rattle.meaning.specs.Refusals.{failing-in, failing-at, failing-below, Found, nowhere, at, or-else, contradiction-in, mixed-in, all-exclusive, overlap-in, refuse, settled}
 use Rattle.meaning.proofs.TestLaws.{pick-cases}
 use Rattle.meaning.proofs.RefusalLaws.{at≢nowhere}
 use Rattle.meaning.proofs.WalkLaws.{On-conditions, On-conditions-item, On-conditions-below}
@@ -42,7 +42,7 @@ module _ {A B : Type 0} where
 
 -- What a settled request has passed.
 pub record Settled (lim : Limits) (b : List ℕ) (r : Request) (e : ℕ) : Type 0 where
-  pub reads : read-request lim b ≡ got r e
+  pub reads : read-request lim Flags b ≡ got r e
   pub no-contradiction : contradiction-in (r .table) ≡ nowhere
   pub not-mixed : mixed-in (r .table .effects) (r .table .knowledge) ≡ nowhere
   pub no-overlap : overlap-in (r .plan) ≡ nowhere
@@ -50,7 +50,7 @@ pub record Settled (lim : Limits) (b : List ℕ) (r : Request) (e : ℕ) : Type 
 pub settled-is : (lim : Limits) (b : List ℕ) (r : Request) (e : ℕ) → settled lim b ≡ got r e → Settled lim b r e
 unfolding settled
 settled-is lim b r e past =
-    let n = next-got (read-request lim b) _ past in
+    let n = next-got (read-request lim Flags b) _ past in
     let u = refuse-got _ _ _ (n .3) in
     let v = refuse-got _ _ _ (u .1) in
     let w = refuse-got _ _ _ (v .1) in
@@ -77,19 +77,24 @@ unfolding or-else
 or-else-nowhere nowhere k e = (refl, e)
 or-else-nowhere (at p) k e = absurd (at≢nowhere e)
 
-mutual
-  unfolding overlap-in
+-- Where no branching fails the test, each passes it.
+module _ {L : Type 0} (test : List (List L) → Bool) where
+  mutual
+    unfolding failing-in
 
-  -- Where 18 has found nothing, it is so.
-  pub fit : (p : Sequence ℕ) → overlap-in p ≡ nowhere → Fit p
-  fit done e = tt
-  fit (item i rest) e = let w = or-else-nowhere (overlap-at i) _ e in (fit-item i (w .0), fit rest (w .1))
+    pub none-failing : (p : Sequence L) → failing-in test p ≡ nowhere → On-conditions (λ cs. test cs ≡ true) p
+    none-failing done e = tt
+    none-failing (item i rest) e = let w = or-else-nowhere (failing-at test i) _ e in (none-failing-item i (w .0), none-failing rest (w .1))
 
-  fit-item : (i : Item ℕ) → overlap-at i ≡ nowhere → Fit-item i
-  fit-item (act p a) e = tt
-  fit-item (branching p bs) e =
-      pick-cases _ _ _ e (λ apart below. (apart, fit-branches bs below)) (λ _ r. absurd (at≢nowhere r))
+    none-failing-item : (i : Item L) → failing-at test i ≡ nowhere → On-conditions-item (λ cs. test cs ≡ true) i
+    none-failing-item (act p a) e = tt
+    none-failing-item (branching p bs) e =
+        pick-cases _ _ _ e (λ apart below. (apart, none-failing-below bs below)) (λ _ r. absurd (at≢nowhere r))
 
-  fit-branches : (bs : Branches ℕ) → overlap-below bs ≡ nowhere → Fit-branches bs
-  fit-branches none e = tt
-  fit-branches (branch c b bs) e = let w = or-else-nowhere (overlap-in b) _ e in (fit b (w .0), fit-branches bs (w .1))
+    none-failing-below : (bs : Branches L) → failing-below test bs ≡ nowhere → On-conditions-below (λ cs. test cs ≡ true) bs
+    none-failing-below none e = tt
+    none-failing-below (branch c b bs) e = let w = or-else-nowhere (failing-in test b) _ e in (none-failing b (w .0), none-failing-below bs (w .1))
+
+-- Where 18 has found nothing, it is so.
+pub fit : (p : Sequence ℕ) → overlap-in p ≡ nowhere → Fit p
+fit = none-failing all-exclusive

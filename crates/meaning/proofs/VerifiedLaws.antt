@@ -38,30 +38,37 @@ module _ {A : Type 0} (walk : A → Walked State) (lim : Limits) (lent : List �
   abbrev Fine-within : Judgement → Walked State → Type 0
   Fine-within j w = Verified w × (w .count ≤ budget) × (j .answer .count ≡ w .count)
 
-  got-fine : ((y : A) → Never Limits.verified (walk y .end)) → (x : Got A) → Numbered-in refusals x → judge-got walk lent budget x .answer .number ≡ Limits.verified
-      → (y : A) × (e : ℕ) × (x ≡ got y e) × Fine-within (judge-got walk lent budget x) (walk y)
-  unfolding judge-got among refusals some-of either
-  got-fine never (got y e) n q = (y, e, refl, fine-within lent budget _ _ refl (never y) q)
-  got-fine never (fault k p) n q = clash n (ap (λ (i : ℕ). among i refusals) q)
+  -- Where its refusals have these numbers, and 0 is none of them.
+  module _ (ns : List ℕ) (not-0 : among Limits.verified ns ≡ false) where
+    got-fine : ((y : A) → Never Limits.verified (walk y .end)) → (x : Got A) → Numbered-in ns x → judge-got walk lent budget x .answer .number ≡ Limits.verified
+        → (y : A) × (e : ℕ) × (x ≡ got y e) × Fine-within (judge-got walk lent budget x) (walk y)
+    unfolding judge-got
+    got-fine never (got y e) n q = (y, e, refl, fine-within lent budget _ _ refl (never y) q)
+    got-fine never (fault k p) n q = clash n (ap (λ (i : ℕ). among i ns) q ∙ not-0)
 
-  -- What a verified answer says.
+    -- What a verified answer says.
+    pub verified-past : ((y : A) → Never Limits.verified (walk y .end)) → (x : Got A) → Numbered-in ns x → judge-by walk lim x lent budget .answer .number ≡ Limits.verified
+        → Verified-by walk lim x lent budget (judge-by walk lim x lent budget)
+    unfolding pick
+    verified-past never x n q =
+        by-test (eqb (length lent) (lim .state))
+        (λ t.
+        let w = got-fine never x n (rw (t, pick) at q) in
+        record {
+          sized = eqb-true _ _ t;
+          says = w .0;
+          end = w .1;
+          settles = w .2;
+          fine = w .3 .0;
+          within = w .3 .1;
+          counts = ap (λ (j : Judgement). j .answer .count) (pick-true _ _ _ t) ∙ w .3 .2;
+        })
+        (λ f. absurd (let nine : _≡_ {A = ℕ} 9 0 = rw (f, pick) at q in omega arith))
+
   pub verified-by : ((y : A) → Never Limits.verified (walk y .end)) → (x : Got A) → Numbered-in refusals x → judge-by walk lim x lent budget .answer .number ≡ Limits.verified
       → Verified-by walk lim x lent budget (judge-by walk lim x lent budget)
-  unfolding pick
-  verified-by never x n q =
-      by-test (eqb (length lent) (lim .state))
-      (λ t.
-      let w = got-fine never x n (rw (t, pick) at q) in
-      record {
-        sized = eqb-true _ _ t;
-        says = w .0;
-        end = w .1;
-        settles = w .2;
-        fine = w .3 .0;
-        within = w .3 .1;
-        counts = ap (λ (j : Judgement). j .answer .count) (pick-true _ _ _ t) ∙ w .3 .2;
-      })
-      (λ f. absurd (let nine : _≡_ {A = ℕ} 9 0 = rw (f, pick) at q in omega arith))
+  unfolding among refusals some-of either
+  verified-by = verified-past refusals refl
 
   -- What makes one.
   pub by-verified : length lent ≡ lim .state → (x : Got A) (y : A) (e : ℕ) → x ≡ got y e → Verified (walk y) → walk y .count ≤ budget

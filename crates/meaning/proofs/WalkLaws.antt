@@ -91,7 +91,7 @@ module _ {S : Type 0} where
   abbrev pub unplaced-walk : Walked S → Walked S
   unplaced-walk w = record { count = w .count; end = unplaced-end (w .end) }
 
-  unplaced-stopped : (n p : ℕ) (u : Concerned S) → unplaced-walk (stopped-at n p u) ≡ stopped-at n 0 u
+  pub unplaced-stopped : (n p : ℕ) (u : Concerned S) → unplaced-walk (stopped-at n p u) ≡ stopped-at n 0 u
   unfolding stopped-at
   unplaced-stopped n p u = refl
 
@@ -122,7 +122,7 @@ module _ {S : Type 0} where
 
 -- Where no state lacks a guard.
 module _ {S L : Type 0} (step : Steps S L) (free : step .lacks ≡ (λ _. nowhere)) where
-  unplaced-run : (p a : ℕ) (k : S → Walked S) (s : S) → unplaced-walk (run-action step p a k s) ≡ run-action step 0 a (λ t. unplaced-walk (k t)) s
+  pub unplaced-run : (p a : ℕ) (k : S → Walked S) (s : S) → unplaced-walk (run-action step p a k s) ≡ run-action step 0 a (λ t. unplaced-walk (k t)) s
   unfolding run-action
   unplaced-run p a k s = rw free (unplaced-step p (step .does a s) k)
 

@@ -22,6 +22,8 @@ use Rattle.meaning.specs.Judging.{Judgement}
 use Rattle.meaning.specs.Guards
 use Rattle.meaning.specs.Guards.{settled-guarded}
 use Rattle.meaning.specs.ByCases
+use Rattle.meaning.specs.Valued
+use Rattle.meaning.specs.Valued.{settled-values}
 use Rattle.meaning.specs.Indexes.{index-of}
 use Rattle.meaning.specs.Schemes.{derivation-of, derivation-bytes}
 use Rattle.meaning.specs.Answers.{row-answers}
@@ -96,6 +98,10 @@ Guarded-count lim request = Counted (Guards.walk-of lim) (settled-guarded lim re
 abbrev pub Cases-count : Limits → (request : List ℕ) → (budget : ℕ) → Answer → Type 0
 Cases-count lim request = Counted (ByCases.walk-of lim) (settled lim request) of-walks
 
+-- The values call counts as the walk call does.
+abbrev pub Values-count : Limits → (request : List ℕ) → (budget : ℕ) → Answer → Type 0
+Values-count lim request = Counted (Valued.walk-of lim request) (settled-values lim request) of-walks
+
 -- STATE. The state that the end of a walk concerns.
 unfoldable pub concerned : End State → Concerned State
 concerned fine = no-state
@@ -119,6 +125,9 @@ Guarded-state lim request = Written (Guards.walk-of lim) (settled-guarded lim re
 
 abbrev pub Cases-state : Limits → (request lent : List ℕ) → Judgement → Type 0
 Cases-state lim request = Written (ByCases.walk-of lim) (settled lim request) stated
+
+abbrev pub Values-state : Limits → (request lent : List ℕ) → Judgement → Type 0
+Values-state lim request = Written (Valued.walk-of lim request) (settled-values lim request) stated
 
 -- THE ROW of a release: what its four numbers are at most, over a file of this size.
 pub record Row-parts (size budget : ℕ) (a : Answer) : Type 0 where

@@ -1,4 +1,4 @@
--- The numbers that each call answers (FORMAT section 4, 11.1, 17.38, 21.22, 22.17, 23.22, 24.24).
+-- The numbers that each call answers (FORMAT section 4, 11.1, 17.38, 21.22, 22.17, 23.22, 24.24, 26.32).
 use Prim.Native.Nat.{ℕ}
 use mathlib.Core.List.{List, [], _∷_}
 use Rattle.meaning.specs.declared.Layout.{Layout}
@@ -21,6 +21,13 @@ guarded-answers = Limits.guard-broken ∷ answers
 -- All that the call by cases answers.
 unfoldable pub cases-answers : List ℕ
 cases-answers = Limits.too-many-cases ∷ answers
+
+-- The refusals of a values request, and all that the values call answers.
+unfoldable pub values-refusals : List ℕ
+values-refusals = Limits.says-is-not ∷ refusals
+
+unfoldable pub values-answers : List ℕ
+values-answers = Limits.says-is-not ∷ answers
 
 -- All that the index call answers, and all that the indexed call answers.
 unfoldable pub index-answers : List ℕ

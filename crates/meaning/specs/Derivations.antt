@@ -13,7 +13,7 @@ use Rattle.meaning.specs.Limits
 use Rattle.meaning.specs.Limits.{Limits}
 use Rattle.meaning.specs.Literals.{says-true, says-false, fluent-of, among}
 use Rattle.meaning.specs.Requests.{Table, Sequence, done, item, Item, act, branching, Branches, none, branch, Entry, Request, values}
-use Rattle.meaning.specs.Reading.{Got, got, fault, next, byte-at, two-bytes-at, count-at, below-at, literals, list-at, repeated, section-at, plan-at}
+use Rattle.meaning.specs.Reading.{Flags, Got, got, fault, next, byte-at, two-bytes-at, count-at, below-at, literals, list-at, repeated, section-at, plan-at}
 use Rattle.meaning.specs.Refusals.{Found, nowhere, or-else, overlap-in, refuse, settled}
 use Rattle.meaning.specs.Lines.{knowledge-of, sensing, senses}
 use Rattle.meaning.specs.States.{State, known, state-of, can-be-run, state-after, unknown-sensed, Outcome, single, fork, readings}
@@ -84,7 +84,7 @@ module _ (lim : Limits) (n m : ℕ) (s : List ℕ) where
   unfoldable pub line-at : Layout → ℕ → Got Line
   line-at layout p =
       next (list-at literals n (lim .listed) s p) λ X q.
-      next (plan-at lim n m s q) λ plan r.
+      next (plan-at lim Flags n m s q) λ plan r.
       next (concluded-at lim n s layout r) λ end t.
       next (count-at 0 (lim .citations) s t) λ k u.
       next (repeated (two-bytes-at s) k u) λ cites e.

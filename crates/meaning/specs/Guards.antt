@@ -7,7 +7,7 @@ use Rattle.meaning.specs.Tests.{pick}
 use Rattle.meaning.specs.Limits
 use Rattle.meaning.specs.Limits.{Limits}
 use Rattle.meaning.specs.Requests.{Entry, Request}
-use Rattle.meaning.specs.Reading.{Got, got, fault, next, literals, list-at, placed, table-at, request-at}
+use Rattle.meaning.specs.Reading.{Flags, Got, got, fault, next, literals, list-at, placed, table-at, request-at}
 use Rattle.meaning.specs.Refusals.{past-refusals}
 use Rattle.meaning.specs.States.{State, first-state}
 use Rattle.meaning.specs.Walk.{Walked, walked-guarded}
@@ -23,8 +23,8 @@ pub record Guarded-request : Type 0 where
 unfoldable pub read-guarded : Limits → List ℕ → Got Guarded-request
 read-guarded lim s =
     pick (ltb (lim .request) (length s)) (λ _. fault Limits.too-long 0) λ _.
-    next (table-at lim s 0) λ t p.
-    next (request-at lim s t p) λ r q.
+    next (table-at lim Flags s 0) λ t p.
+    next (request-at lim Flags s t p) λ r q.
     next (list-at literals (t .fluents) Limits.most-guards s q) λ guards e.
     pick (ltb e (length s)) (λ _. fault Limits.bytes-after e) λ _.
     got (record { request = r; guards = placed (q + 1) guards }) e

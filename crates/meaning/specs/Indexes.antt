@@ -11,7 +11,7 @@ use Rattle.meaning.specs.Limits
 use Rattle.meaning.specs.Limits.{Limits}
 use Rattle.meaning.specs.Requests.{Effect, Executability, Table, Request}
 use Rattle.meaning.specs.Lines.{effects-of, executability-of}
-use Rattle.meaning.specs.Reading.{Got, got, fault, effect-at, executability-at}
+use Rattle.meaning.specs.Reading.{Flags, Got, got, fault, effect-at, executability-at}
 use Rattle.meaning.specs.Refusals.{Found, nowhere, at, settled}
 use Rattle.meaning.specs.States.{State, first-state}
 use Rattle.meaning.specs.Walk.{Walked, walk, table-step, judged}
@@ -90,8 +90,8 @@ by-index lim s i t = record {
   fluents = t .fluents;
   actions = t .actions;
   facts = t .facts;
-  effects = each-action (λ a. lines-at (effect-at lim (t .fluents) (t .actions) s) (counted-at i (effects-start i a))) 0 (t .actions);
-  executability = each-action (λ a. lines-at (executability-at lim (t .fluents) (t .actions) s) (counted-at i (runs-start i a))) 0 (t .actions);
+  effects = each-action (λ a. lines-at (effect-at lim Flags (t .fluents) (t .actions) s) (counted-at i (effects-start i a))) 0 (t .actions);
+  executability = each-action (λ a. lines-at (executability-at lim Flags (t .fluents) (t .actions) s) (counted-at i (runs-start i a))) 0 (t .actions);
   knowledge = t .knowledge;
 }
 

@@ -17,6 +17,7 @@ pub mod Worlds
 pub mod Values
 pub mod ValueStates
 pub mod ValueWorlds
+pub mod Valued
 pub mod Approximation
 pub mod CaseApproximation
 pub mod Paths

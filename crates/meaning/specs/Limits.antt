@@ -71,6 +71,13 @@ most-forked = 6
 abbrev pub most-index : ℕ
 most-index = 2 * format .actions + 4 * 255
 
+-- The values that a fluent may have; only the values call speaks of it (FORMAT 26.2).
+abbrev pub fewest-values : ℕ
+fewest-values = 2
+
+abbrev pub most-values : ℕ
+most-values = 16
+
 -- The format's literals are below twice its fluents (FORMAT 2.2, 2.3).
 abbrev pub all-literals : ℕ
 all-literals = 2 * format .fluents
@@ -172,6 +179,9 @@ too-many-cases = 44
 
 abbrev pub index-differs : ℕ
 index-differs = 45
+
+abbrev pub says-is-not : ℕ
+says-is-not = 46
 
 -- The rules of a derivation (FORMAT 10.12 to 10.17, 17.21 to 17.25).
 abbrev pub empty-rule : ℕ

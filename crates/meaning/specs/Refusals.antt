@@ -9,7 +9,7 @@ use Rattle.meaning.specs.Limits.{Limits}
 use Rattle.meaning.specs.Literals.{complement, exclusive}
 use Rattle.meaning.specs.Requests.{Effect, Executability, Knowledge, Table, Sequence, done, item, Item, act, branching, Branches, none, branch, Request}
 use Rattle.meaning.specs.Lines.{executability-of}
-use Rattle.meaning.specs.Reading.{Got, got, fault, next, read-request}
+use Rattle.meaning.specs.Reading.{Flags, Got, got, fault, next, read-request}
 
 -- The place of the first thing sought, or none.
 pub data Found : Type 0 where
@@ -61,19 +61,30 @@ unfoldable pub all-exclusive : List (List ℕ) → Bool
 all-exclusive [] = true
 all-exclusive (c ∷ cs) = both (each-of (exclusive c) cs) (all-exclusive cs)
 
--- The first branching with two conditions that are not exclusive; an outer one stands before those inside it (FORMAT 4.40, 5.19).
-unfoldable mutual
-  pub overlap-in : Sequence ℕ → Found
-  overlap-in done = nowhere
-  overlap-in (item i rest) = or-else (overlap-at i) (λ _. overlap-in rest)
+-- The first branching whose conditions fail the test; an outer one stands before those inside it (FORMAT 4.40, 5.19).
+module _ {L : Type 0} (test : List (List L) → Bool) where
+  unfoldable mutual
+    pub failing-in : Sequence L → Found
+    failing-in done = nowhere
+    failing-in (item i rest) = or-else (failing-at i) (λ _. failing-in rest)
 
-  pub overlap-at : Item ℕ → Found
-  overlap-at (act p a) = nowhere
-  overlap-at (branching p bs) = pick (all-exclusive (conditions-of bs)) (λ _. overlap-below bs) (λ _. at p)
+    pub failing-at : Item L → Found
+    failing-at (act p a) = nowhere
+    failing-at (branching p bs) = pick (test (conditions-of bs)) (λ _. failing-below bs) (λ _. at p)
 
-  pub overlap-below : Branches ℕ → Found
-  overlap-below none = nowhere
-  overlap-below (branch c b bs) = or-else (overlap-in b) (λ _. overlap-below bs)
+    pub failing-below : Branches L → Found
+    failing-below none = nowhere
+    failing-below (branch c b bs) = or-else (failing-in b) (λ _. failing-below bs)
+
+-- The first branching with two conditions that are not exclusive.
+abbrev pub overlap-in : Sequence ℕ → Found
+overlap-in = failing-in all-exclusive
+
+abbrev pub overlap-at : Item ℕ → Found
+overlap-at = failing-at all-exclusive
+
+abbrev pub overlap-below : Branches ℕ → Found
+overlap-below = failing-below all-exclusive
 
 module _ {A : Type 0} where
   -- Refuses with the number at the place found, or goes on.
@@ -91,4 +102,4 @@ past-refusals r whole =
 
 -- A request settled: read without a fault, and past the three (FORMAT 5.1).
 unfoldable pub settled : Limits → List ℕ → Got Request
-settled lim s = next (read-request lim s) λ r e. past-refusals r (got r e)
+settled lim s = next (read-request lim Flags s) λ r e. past-refusals r (got r e)

@@ -9,7 +9,7 @@ use Rattle.meaning.specs.Tests.{pick}
 use Rattle.meaning.specs.Limits
 use Rattle.meaning.specs.Limits.{Limits}
 use Rattle.meaning.specs.Requests.{Table, Request}
-use Rattle.meaning.specs.Reading.{Got, got, fault, next, count-at, repeated, table-at, request-at}
+use Rattle.meaning.specs.Reading.{Flags, Got, got, fault, next, count-at, repeated, table-at, request-at}
 use Rattle.meaning.specs.Refusals.{Found, nowhere, at, contradiction-in, mixed-in, overlap-in, refuse}
 use Rattle.meaning.specs.Judging.{judge-settled}
 
@@ -23,14 +23,14 @@ pub record Opening : Type 0 where
 unfoldable pub opening : Limits → (file : List ℕ) → Got Opening
 opening lim s =
     pick (ltb (lim .request) (length s)) (λ _. fault Limits.too-long 0) λ _.
-    next (table-at lim s 0) λ t p.
+    next (table-at lim Flags s 0) λ t p.
     next (count-at 1 Limits.most-plans s p) λ k q.
     got (record { table = t; table-end = p; plans = k }) q
 
 -- THE PLANS, each read from where the one before it ended: what stands there where every one is read, and else the first
 -- fault (FORMAT 19.2).
 unfoldable pub plans-at : Limits → List ℕ → Table → (left : ℕ) → ℕ → Got (List Request)
-plans-at lim s t = repeated (request-at lim s t)
+plans-at lim s t = repeated (request-at lim Flags s t)
 
 -- The first byte after the last plan, where every plan was read and there is one (FORMAT 19.12, 19.14).
 unfoldable pub byte-after : List ℕ → Got (List Request) → Found
@@ -55,7 +55,7 @@ after-plan left (fault n p) more = replicate left unreached
 unfoldable pub answers-at : Limits → List ℕ → Table → (budget left : ℕ) → ℕ → List Answer
 answers-at lim s t budget zero p = []
 answers-at lim s t budget (suc left) p =
-    plan-answer lim budget (request-at lim s t p) ∷ after-plan left (request-at lim s t p) (λ e. answers-at lim s t budget left e)
+    plan-answer lim budget (request-at lim Flags s t p) ∷ after-plan left (request-at lim Flags s t p) (λ e. answers-at lim s t budget left e)
 
 -- THE ROW. Four numbers for each plan: number, place, count and input (FORMAT 19.6).
 unfoldable pub in-row : Answer → List ℕ
@@ -115,7 +115,7 @@ plan-bytes s start (fault n p) = drop start s
 
 -- The request of its own: sections 1 to 5, and that plan's sections 6 to 8.
 unfoldable pub own-request : Limits → List ℕ → Opening → (start : ℕ) → List ℕ
-own-request lim s o start = take (o .table-end) s ++ plan-bytes s start (request-at lim s (o .table) start)
+own-request lim s o start = take (o .table-end) s ++ plan-bytes s start (request-at lim Flags s (o .table) start)
 
 -- Its answer, with a place in the request counted so many bytes further on (FORMAT 19.8).
 unfoldable pub moved : (on : ℕ) → Answer → Answer

@@ -1,7 +1,7 @@
 -- Fluents with any number of values: literals as a structure, what lines say over it, and the refusals. The format's requests are the instance
 -- `flags`, two values for every fluent with true as value 0; `proofs/TwoValues` has that what Lines, Refusals, States, Walk and Worlds
 -- define of them is what is defined here, in ValueStates and in ValueWorlds.
-use Prim.Native.Nat.{ℕ, zero, suc, _+_}
+use Prim.Native.Nat.{ℕ, zero, suc, _+_, _/_, _%_}
 use mathlib.Core.Bool.{Bool, true}
 use mathlib.Core.List.{List, [], _∷_}
 use lib.Dec.{eqb}
@@ -25,6 +25,16 @@ flags = record {
   satisfied = λ l v. pick (positive l) (λ _. eqb v 0) (λ _. fails (eqb v 0));
   sets = λ l. pick (positive l) (λ _. 0) (λ _. 1);
   count = λ f. 2;
+}
+
+-- The literals of fluents with as many values as a function says: a literal is the number of two bytes, the fluent, and then 2v for "is v" or 2v + 1 for "is not v", and
+-- sets v (FORMAT 26.5).
+abbrev pub valued : (fluent-values : ℕ → ℕ) → Literals ℕ
+valued fluent-values = record {
+  fluent = λ l. l / 256;
+  satisfied = λ l v. pick (positive l) (λ _. eqb v (l % 256 / 2)) (λ _. fails (eqb v (l % 256 / 2)));
+  sets = λ l. l % 256 / 2;
+  count = fluent-values;
 }
 
 -- Ascending numbers, a given number of them from the first on.

@@ -14,6 +14,12 @@ pub enum Layout {
     Closing,
 }
 
+// How a request writes its literals: those of flags with one byte each, those of fluents with any number of values with two.
+pub enum Form {
+    Flags,
+    Valued,
+}
+
 // What asking whether an action can be run gives, a line by its place: the first line that allows it; or, where none does, the one that is
 // short by the fewest literals; or that it has no line. `Asking.asked` is the definition.
 pub enum Runs {

@@ -8,6 +8,7 @@ use mathlib.Core.Bool.{true}
 use mathlib.Core.List.{List, []}
 use mathlib.Core.Logic.{⊎-elim}
 use lib.ListN.{getD}
+use Rattle.meaning.specs.declared.Form.the-variants.{Flags}
 use Rattle.meaning.specs.Tests.{either, some-of}
 use Rattle.meaning.specs.Limits
 use Rattle.meaning.specs.Limits.{Limits, format}
@@ -132,7 +133,7 @@ module _ (request : List ℕ) (x : Request) (e : ℕ) (past : settled format req
       end-both Marked (Blank-from (x .table .fluents)) (walked-by-cases x from .end)
       (walked-kept Marked x (cases-step (x .table)) (cases-marked (x .table)) from (first-marked (x .table))) (walked-cases-blank x in-range)
 
-  begins : Front request 0 (x .table)
+  begins : Front Flags request 0 (x .table)
   begins = request-starts request x e (settled-is format request x e past .reads) .front
 
 pub judge-written : (request lent : List ℕ) (budget : ℕ) → Writes (judge format request lent budget .answer .number) → Written request (judge format request lent budget .state)

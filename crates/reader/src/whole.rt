@@ -2,12 +2,13 @@ ghost use mathlib.Core.Path.{_≡_};
 ghost use Prim.Native.Nat.{_≤_, _<_};
 ghost use lib.ListN.{length, getD};
 ghost use Rattle.meaning.specs.Limits.{format};
+ghost use Rattle.meaning.specs.declared.Form.the-variants.{Flags, Valued};
 ghost use Rattle.meaning.specs.Reading.{read-request};
 ghost use Rattle.meaning.specs.Guards.{read-guarded};
 ghost use Rattle.bytes.specs.Read.{passed};
 ghost use Rattle.reading.specs.Noted.{noting, outcome};
-ghost use Rattle.reading.specs.Requested.{request-noted, guarded-noted};
-ghost use Rattle.reader.specs.Sections.{sections-read, up-to, guards-first};
+ghost use Rattle.reading.specs.Requested.{Starts, request-noted, guarded-noted};
+ghost use Rattle.reader.specs.Sections.{sections-as, sections-read, actions-place, up-to, guards-first};
 use super::Reader;
 use super::new;
 use bytes::bytes::wide;
@@ -15,32 +16,54 @@ use bytes::limits;
 use bytes::lists::Kind;
 use bytes::lists::Passed;
 use bytes::lists::list_at;
+use meaning::Form;
 use reading::notes;
 use reading::notes::Notes;
 use reading::notes::put;
 use reading::requests::request_at;
 use reading::requests::table_at;
 
-// All eight sections, from a place on.
-fn sections_at(s: &[u8], p: usize, t: &mut Notes) -> Passed
-    requires { ⌜ length (now s) ≤ format .request ⌝ }
-    ensures { λ r. ⌜ outcome r (now (t .exit)) ≡ noting request-noted (sections-read (now (s .entry)) p) (now (t .entry)) ⌝ }
+// Where the actions' count stands.
+fn actions_place(form: Form, p: usize, n: usize) -> usize
+    requires { ⌜ p < 65536 ⌝ }
+    requires { ⌜ n < 65536 ⌝ }
+    ensures { λ r. ⌜ r ≡ actions-place form p n ⌝ }
 {
-    match table_at(s, p, t) {
+    let second = p + 1;
+    match form {
+        Form::Flags => second,
+        Form::Valued => second + n,
+    }
+}
+
+// All eight sections, from a place on.
+fn sections_as(form: Form, s: &[u8], p: usize, t: &mut Notes) -> Passed
+    requires { ⌜ Starts form p ⌝ }
+    requires { ⌜ length (now s) ≤ format .request ⌝ }
+    ensures { λ r. ⌜ outcome r (now (t .exit)) ≡ noting (request-noted form) (sections-as form (now (s .entry)) p) (now (t .entry)) ⌝ }
+{
+    match table_at(form, s, p, t) {
         Passed::To(q) => {
             let n = wide(s[p]);
-            let second = p + 1;
+            let second = actions_place(form, p, n);
             let m = wide(s[second]);
-            request_at(n, m, s, q, t)
+            request_at(form, n, m, s, q, t)
         }
         Passed::Fault(k, q) => Passed::Fault(k, q),
     }
 }
 
+fn sections_at(s: &[u8], p: usize, t: &mut Notes) -> Passed
+    requires { ⌜ length (now s) ≤ format .request ⌝ }
+    ensures { λ r. ⌜ outcome r (now (t .exit)) ≡ noting (request-noted Flags) (sections-read (now (s .entry)) p) (now (t .entry)) ⌝ }
+{
+    sections_as(Form::Flags, s, p, t)
+}
+
 // The same, from where a reader stands.
 fn sections<'a>(r: Reader<'a>, t: &mut Notes) -> Passed
     requires { ⌜ length (now (r .src)) ≤ format .request ⌝ }
-    ensures { λ x. ⌜ outcome x (now (t .exit)) ≡ noting request-noted (sections-read (now (r .entry .src)) (r .entry .at)) (now (t .entry)) ⌝ }
+    ensures { λ x. ⌜ outcome x (now (t .exit)) ≡ noting (request-noted Flags) (sections-read (now (r .entry .src)) (r .entry .at)) (now (t .entry)) ⌝ }
 {
     sections_at(r.src, r.at, t)
 }
@@ -48,7 +71,7 @@ fn sections<'a>(r: Reader<'a>, t: &mut Notes) -> Passed
 // All eight sections of an input, through a reader; whoever calls this needs none.
 fn read_sections(s: &[u8], t: &mut Notes) -> Passed
     requires { ⌜ length (now s) ≤ format .request ⌝ }
-    ensures { λ x. ⌜ outcome x (now (t .exit)) ≡ noting request-noted (sections-read (now (s .entry)) 0) (now (t .entry)) ⌝ }
+    ensures { λ x. ⌜ outcome x (now (t .exit)) ≡ noting (request-noted Flags) (sections-read (now (s .entry)) 0) (now (t .entry)) ⌝ }
 {
     sections(new(s), t)
 }
@@ -96,12 +119,25 @@ pub fn read_guarded(s: &[u8], t: &mut Notes) -> Passed
 
 // A request: at most the limit, all eight sections, and nothing after them.
 pub fn read_request(s: &[u8], t: &mut Notes) -> Passed
-    ensures { λ r. ⌜ outcome r (now (t .exit)) ≡ noting request-noted (read-request format (now (s .entry))) (now (t .entry)) ⌝ }
+    ensures { λ r. ⌜ outcome r (now (t .exit)) ≡ noting (request-noted Flags) (read-request format Flags (now (s .entry))) (now (t .entry)) ⌝ }
 {
     if limits::REQUEST < s.len() {
         return Passed::Fault(limits::TOO_LONG, 0);
     }
     match read_sections(s, t) {
+        Passed::To(e) => nothing_after(s, e),
+        Passed::Fault(k, q) => Passed::Fault(k, q),
+    }
+}
+
+// A request with values: at most the limit, all eight sections, and nothing after them.
+pub fn read_values(s: &[u8], t: &mut Notes) -> Passed
+    ensures { λ r. ⌜ outcome r (now (t .exit)) ≡ noting (request-noted Valued) (read-request format Valued (now (s .entry))) (now (t .entry)) ⌝ }
+{
+    if limits::REQUEST < s.len() {
+        return Passed::Fault(limits::TOO_LONG, 0);
+    }
+    match sections_as(Form::Valued, s, 0, t) {
         Passed::To(e) => nothing_after(s, e),
         Passed::Fault(k, q) => Passed::Fault(k, q),
     }

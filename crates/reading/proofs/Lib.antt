@@ -1,7 +1,7 @@
-pub mod BitLaws
 pub mod NotesLaws
 pub mod SectionLaws
 pub mod MarkLaws
+pub mod ValueSizes
 pub mod PlanSizes
 pub mod NotingLaws
 pub mod ItemLaws

@@ -11,7 +11,7 @@ use mir.Val.{Fits}
 use borrow.Author.Tests.{lt-ltb, le-ltb, eq-eqb, ne-eqb}
 use Rattle.meaning.specs.Limits.{format}
 use Rattle.meaning.proofs.TestLaws.{by-test, pick-true, pick-false}
-use Rattle.reading.specs.Bits.{bit-of, with-bit}
+use Rattle.bytes.specs.Bits.{bit-of, with-bit}
 use Rattle.reading.specs.Noted.{line-place, next-line, first-line, before, appended, raised, word-bits, pair-slot, pair-there, bit-noted, pair-noted, sensed-from, sensed-to, run-lines, slots, line-numbers}
 
 -- A LINE.

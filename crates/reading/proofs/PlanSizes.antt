@@ -9,11 +9,15 @@ use borrow.Author.Tests.{leb-false}
 use Rattle.meaning.specs.Limits.{format}
 use Rattle.meaning.specs.Requests.{Item}
 use Rattle.meaning.specs.Reading
-use Rattle.meaning.specs.Reading.{Got, byte-at, two-bytes-at, count-at, list-at, body-at, item-at, sequence-at, branching-at}
+use Rattle.meaning.specs.declared.Form.{Form}
+use Rattle.meaning.specs.declared.Form.the-variants.{Flags, Valued}
+use Rattle.meaning.specs.Reading.{Got, byte-at, two-bytes-at, count-at, list-at, literals-at, body-at, item-at, sequence-at, branching-at}
 use Rattle.meaning.proofs.GotLaws.{On, Held, held-got}
 use Rattle.meaning.proofs.PlaceLaws.{byte-held, two-bytes-held, count-held, list-held}
-use Rattle.meaning.proofs.PlanReads.{Said, Passed-on, item-on, sequence-on}
+use Rattle.meaning.proofs.PlanReads.{Said, Passed-as, item-on-as, sequence-on-as}
+use Rattle.reading.specs.Listed.{span}
 use Rattle.reading.specs.Planned.{items-of, items-in, items-under, bytes-of, bytes-in, bytes-under, place-of}
+use Rattle.reading.proofs.ValueSizes.{value-list-far}
 
 -- A given number of bytes was read, and they were there.
 pub record Through (s : List ℕ) (p bytes q : ℕ) : Type 0 where
@@ -44,9 +48,14 @@ module _ (s : List ℕ) where
             record { after = omega arith; inside = h .inside };
       }
 
-  pub body-through : (n p : ℕ) → On (body-at format n s p) (λ c q. Through s p (1 + length c) q)
+  -- As the form writes literals.
+  pub literals-through : (form : Form) (n most p : ℕ) → On (literals-at form n most s p) (λ c q. Through s p (1 + span form (length c)) q)
+  literals-through Flags n most p = list-through Reading.Kind.literals n most p
+  literals-through Valued n most p = record { holds = λ c q e. let far = value-list-far n s most p c q e in record { after = far .0; inside = far .1 } }
+
+  pub body-through : (form : Form) (n p : ℕ) → On (body-at format form n s p) (λ c q. Through s p (1 + span form (length c)) q)
   unfolding body-at
-  body-through n p = list-through Reading.Kind.literals n 16 p
+  body-through form n p = literals-through form n 16 p
 
 -- A part with a given number of items and of bytes.
 pub record Counted (s : List ℕ) (p met own bytes items q : ℕ) : Type 0 where
@@ -54,18 +63,18 @@ pub record Counted (s : List ℕ) (p met own bytes items q : ℕ) : Type 0 where
   pub counted : items ≡ met + own
   pub most : items ≤ format .items
 
-pub record ItemRead (s : List ℕ) (p met : ℕ) (i : Item ℕ) (items q : ℕ) : Type 0 where
-  pub sized : Counted s p met (items-in i) (bytes-in i) items q
+pub record ItemRead (form : Form) (s : List ℕ) (p met : ℕ) (i : Item ℕ) (items q : ℕ) : Type 0 where
+  pub sized : Counted s p met (items-in i) (bytes-in form i) items q
   pub below : met < format .items
   pub place : place-of i ≡ p
 
-module _ (n m : ℕ) (s : List ℕ) where
+module _ (form : Form) (n m : ℕ) (s : List ℕ) where
   abbrev plan-sized : Said
   plan-sized = record {
-    item = λ deep p met x e. ItemRead s p met (x .value) (x .items) e;
-    items = λ deep left p met x e. p ≤ length s → met ≤ format .items → Counted s p met (items-of (x .value)) (bytes-of (x .value)) (x .items) e;
-    sequence = λ deep p met x e. met ≤ format .items → Counted s p met (items-of (x .value)) (2 + bytes-of (x .value)) (x .items) e;
-    branches = λ deep left p met x e. p ≤ length s → met ≤ format .items → Counted s p met (items-under (x .value)) (bytes-under (x .value)) (x .items) e;
+    item = λ deep p met x e. ItemRead form s p met (x .value) (x .items) e;
+    items = λ deep left p met x e. p ≤ length s → met ≤ format .items → Counted s p met (items-of (x .value)) (bytes-of form (x .value)) (x .items) e;
+    sequence = λ deep p met x e. met ≤ format .items → Counted s p met (items-of (x .value)) (2 + bytes-of form (x .value)) (x .items) e;
+    branches = λ deep left p met x e. p ≤ length s → met ≤ format .items → Counted s p met (items-under (x .value)) (bytes-under form (x .value)) (x .items) e;
   }
 
   nothing-counted : (p met : ℕ) → p ≤ length s → met ≤ format .items → Counted s p met 0 0 met p
@@ -77,7 +86,7 @@ module _ (n m : ℕ) (s : List ℕ) where
       let c = one .counted in let d = more .counted in
       record { through = record { after = omega arith; inside = more .through .inside }; counted = omega arith; most = more .most }
 
-  sizes-passed : Passed-on format n m s plan-sized
+  sizes-passed : Passed-as format form n m s plan-sized
   unfolding items-of items-in items-under bytes-of bytes-in bytes-under place-of
   sizes-passed = record {
     an-action = λ deep p met x q read few _ _.
@@ -98,7 +107,7 @@ module _ (n m : ℕ) (s : List ℕ) where
         record { through = record { after = omega arith; inside = rest .through .inside }; counted = rest .counted; most = rest .most };
     no-branch = λ deep p met here few. nothing-counted p met here few;
     a-branch = λ deep left p met c q b r rest e read _ one more here few.
-        let condition = body-through s n p .holds c q read in
+        let condition = body-through s form n p .holds c q read in
         let body = one few in
         let all = both-counted _ _ _ _ _ _ _ _ _ _ body (more (body .through .inside) (body .most)) in
         let a = condition .after in let d = all .through .after in
@@ -106,9 +115,9 @@ module _ (n m : ℕ) (s : List ℕ) where
   }
 
   -- With a given number of branchings one inside another.
-  pub item-read : (deep p met : ℕ) → On (item-at format n m s (branching-at format n m s deep) p met) (λ x q. ItemRead s p met (x .value) (x .items) q)
-  item-read = item-on format n m s plan-sized sizes-passed
+  pub item-read : (deep p met : ℕ) → On (item-at format form n m s (branching-at format form n m s deep) p met) (λ x q. ItemRead form s p met (x .value) (x .items) q)
+  item-read = item-on-as format form n m s plan-sized sizes-passed
 
   pub sequence-read : (deep p met : ℕ) → met ≤ format .items
-      → On (sequence-at format n m s (branching-at format n m s deep) p met) (λ x q. Counted s p met (items-of (x .value)) (2 + bytes-of (x .value)) (x .items) q)
-  sequence-read deep p met few = record { holds = λ x q e. sequence-on format n m s plan-sized sizes-passed deep p met .holds x q e few }
+      → On (sequence-at format form n m s (branching-at format form n m s deep) p met) (λ x q. Counted s p met (items-of (x .value)) (2 + bytes-of form (x .value)) (x .items) q)
+  sequence-read deep p met few = record { holds = λ x q e. sequence-on-as format form n m s plan-sized sizes-passed deep p met .holds x q e few }

@@ -10,7 +10,9 @@ use mir.Val.{Fits}
 use borrow.Author.Tests.{leb-false}
 use Rattle.meaning.specs.Limits.{format}
 use Rattle.meaning.specs.Requests.{Effect, Executability, Knowledge}
-use Rattle.meaning.specs.Reading.{Got, got, fault, next, byte-at, count-at, below-at, list-at, body-at, effect-at, executability-at, knowledge-at, repeated, section-at}
+use Rattle.meaning.specs.declared.Form.{Form}
+use Rattle.meaning.specs.declared.Form.the-variants.{Flags, Valued}
+use Rattle.meaning.specs.Reading.{Got, got, fault, next, byte-at, count-at, below-at, list-at, body-at, effect-at, executability-at, knowledge-at, repeated, section-at, literal-at, literals-at, value-list-at, set-value-at, value-at}
 use Rattle.meaning.proofs.SettledLaws.{got-same, next-got, fault≢got}
 use Rattle.meaning.proofs.RangeLaws.{not-refused, after-got, repeated-length}
 pub use Rattle.meaning.proofs.RangeLaws.{got-place, byte-got}
@@ -25,16 +27,16 @@ use Rattle.bytes.proofs.ByteLaws.{byte-none, byte-is}
 use Rattle.reading.specs.Noted.{Section, effects, executability, knowledge, section-of, Line, line-at, line-read, line-noted, action-in, note-line, none-yet, lines-noted, count-slot, section-noted, three-sections, noting, outcome, effect-lines, run-lines, appended, pair-noted, slots, effects-slot, executability-slot, knowledge-slot}
 
 -- ONE OF THE THREE SECTIONS.
-module _ (c : Code.Section) (n m : ℕ) (s : List ℕ) (p : ℕ) (r : Read) where
-  pub line-effect : c ≡ Effects → r ≡ effect-read (effect-at format n m s p) → r ≡ line-read (section-of c) (line-at (section-of c) n m s p)
+module _ (form : Form) (c : Code.Section) (n m : ℕ) (s : List ℕ) (p : ℕ) (r : Read) where
+  pub line-effect : c ≡ Effects → r ≡ effect-read (effect-at format form n m s p) → r ≡ line-read (section-of c) (line-at form (section-of c) n m s p)
   unfolding line-read line-at section-of
   line-effect e h = rw e h
 
-  pub line-executability : c ≡ Runs → r ≡ executability-read (executability-at format n m s p) → r ≡ line-read (section-of c) (line-at (section-of c) n m s p)
+  pub line-executability : c ≡ Runs → r ≡ executability-read (executability-at format form n m s p) → r ≡ line-read (section-of c) (line-at form (section-of c) n m s p)
   unfolding line-read line-at section-of
   line-executability e h = rw e h
 
-  pub line-knowledge : c ≡ Senses → r ≡ knowledge-read (knowledge-at format n m s p) → r ≡ line-read (section-of c) (line-at (section-of c) n m s p)
+  pub line-knowledge : c ≡ Senses → r ≡ knowledge-read (knowledge-at format n m s p) → r ≡ line-read (section-of c) (line-at form (section-of c) n m s p)
   unfolding line-read line-at section-of
   line-knowledge e h = rw e h
 
@@ -113,37 +115,49 @@ senses-not {X = X} h e = ⊎-elim (λ f. absurd (subst Other (sym e ∙ f) tt)) 
     Other executability = ⊥
     Other knowledge = Unit {0}
 
-module _ (n m : ℕ) (s : List ℕ) where
-  effect-stands : (p a q : ℕ) (x : Effect) → effect-at format n m s p ≡ got x q → x .action ≡ a → Stands effects n m s p a x
+-- A byte stands where a literal was read, and where a list was.
+literal-there : (form : Form) (n : ℕ) (s : List ℕ) (p l q : ℕ) → literal-at form n s p ≡ got l q → p < length s
+unfolding set-value-at value-at
+literal-there Flags n s p l q e = number-got (2 * n) s p l q e .0
+literal-there Valued n s p l q e =
+    after-got (value-at n s p) _ e λ x i ex _.
+    after-got (below-at n s p) _ ex λ f j ef _.
+    number-got n s p f j ef .0
+
+literals-there : (form : Form) (n most : ℕ) (s : List ℕ) (p : ℕ) (xs : List ℕ) (q : ℕ) → literals-at form n most s p ≡ got xs q → p < length s
+unfolding list-at value-list-at
+literals-there Flags n most s p xs q e = after-got (count-at 0 most s p) _ e λ c i ec _. count-got 0 most s p c i ec .0
+literals-there Valued n most s p xs q e = after-got (count-at 0 most s p) _ e λ c i ec _. count-got 0 most s p c i ec .0
+
+module _ (form : Form) (n m : ℕ) (s : List ℕ) where
+  effect-stands : (p a q : ℕ) (x : Effect) → effect-at format form n m s p ≡ got x q → x .action ≡ a → Stands effects n m s p a x
   unfolding effect-at action-in note-line line-noted
   effect-stands p a q x e same =
       after-got (below-at m s p) _ e λ b i eb e′.
-      after-got (below-at (2 * n) s i) _ e′ λ l j el e″.
-      after-got (body-at format n s j) _ e″ λ bs r _ e‴.
+      after-got (literal-at form n s i) _ e′ λ l j el e″.
+      after-got (body-at format form n s j) _ e″ λ bs r _ e‴.
       let is : record { place = p; action = b; literal = l; body = bs } ≡ x = got-same e‴ in
       let first = number-got m s p b i eb in
-      let then = number-got (2 * n) s i l j el in
+      let then = literal-there form n s i l j el in
       let acts : b ≡ a = ap (λ (y : Effect). y .action) is ∙ same in
       record {
-        second = subst (λ (y : ℕ). y < length s) (sym (first .2)) (then .0);
+        second = subst (λ (y : ℕ). y < length s) (sym (first .2)) then;
         acts = subst (λ (y : ℕ). y < m) acts (first .3);
         senses = senses-not (inl refl);
         is-of = same;
         notes = λ last k t. rw (sym (ap (λ (y : Effect). y .place) is), same);
       }
 
-  executability-stands : (p a q : ℕ) (x : Executability) → executability-at format n m s p ≡ got x q → x .action ≡ a → Stands executability n m s p a x
-  unfolding executability-at action-in note-line line-noted body-at list-at count-at
+  executability-stands : (p a q : ℕ) (x : Executability) → executability-at format form n m s p ≡ got x q → x .action ≡ a → Stands executability n m s p a x
+  unfolding executability-at action-in note-line line-noted body-at
   executability-stands p a q x e same =
       after-got (below-at m s p) _ e λ b i eb e′.
-      after-got (body-at format n s i) _ e′ λ bs r ebs e″.
-      after-got (count-at 0 (format .body) s i) _ ebs λ d j ed _.
-      after-got (byte-at s i) _ ed λ d′ j′ ed′ _.
+      after-got (body-at format form n s i) _ e′ λ bs r ebs e″.
       let is : record { place = p; action = b; body = bs } ≡ x = got-same e″ in
       let first = number-got m s p b i eb in
       let acts : b ≡ a = ap (λ (y : Executability). y .action) is ∙ same in
       record {
-        second = subst (λ (y : ℕ). y < length s) (sym (first .2)) (byte-got s i d′ j′ ed′ .0);
+        second = subst (λ (y : ℕ). y < length s) (sym (first .2)) (literals-there form n (format .body) s i bs r ebs);
         acts = subst (λ (y : ℕ). y < m) acts (first .3);
         senses = senses-not (inr refl);
         is-of = same;
@@ -168,22 +182,22 @@ module _ (n m : ℕ) (s : List ℕ) where
         notes = λ last k t. rw (sym (ap (λ (y : Knowledge). y .fluent) is), same, senses);
       }
 
-  stands : (c : Section) (p a q : ℕ) → line-read c (line-at c n m s p) ≡ Value a q → (l : Line c) × (line-at c n m s p ≡ got l q) × Stands c n m s p a l
+  stands : (c : Section) (p a q : ℕ) → line-read c (line-at form c n m s p) ≡ Value a q → (l : Line c) × (line-at form c n m s p ≡ got l q) × Stands c n m s p a l
   unfolding line-read line-at effect-read executability-read knowledge-read
   stands effects p a q e =
-      let w = got-by (λ (x : Effect). x .action) effect-read (λ x i. refl) (λ k i. refl) (effect-at format n m s p) a q e in
+      let w = got-by (λ (x : Effect). x .action) effect-read (λ x i. refl) (λ k i. refl) (effect-at format form n m s p) a q e in
       (w .0, w .1, effect-stands p a q (w .0) (w .1) (w .2))
   stands executability p a q e =
-      let w = got-by (λ (x : Executability). x .action) executability-read (λ x i. refl) (λ k i. refl) (executability-at format n m s p) a q e in
+      let w = got-by (λ (x : Executability). x .action) executability-read (λ x i. refl) (λ k i. refl) (executability-at format form n m s p) a q e in
       (w .0, w .1, executability-stands p a q (w .0) (w .1) (w .2))
   stands knowledge p a q e =
       let w = got-by (λ (x : Knowledge). x .action) knowledge-read (λ x i. refl) (λ k i. refl) (knowledge-at format n m s p) a q e in
       (w .0, w .1, knowledge-stands p a q (w .0) (w .1) (w .2))
 
-  stops : (c : Section) (p k q : ℕ) → line-read c (line-at c n m s p) ≡ Fault k q → line-at c n m s p ≡ fault k q
+  stops : (c : Section) (p k q : ℕ) → line-read c (line-at form c n m s p) ≡ Fault k q → line-at form c n m s p ≡ fault k q
   unfolding line-read line-at effect-read executability-read knowledge-read
-  stops effects p k q e = fault-by (λ (x : Effect). x .action) effect-read (λ x i. refl) (λ k i. refl) (effect-at format n m s p) k q e
-  stops executability p k q e = fault-by (λ (x : Executability). x .action) executability-read (λ x i. refl) (λ k i. refl) (executability-at format n m s p) k q e
+  stops effects p k q e = fault-by (λ (x : Effect). x .action) effect-read (λ x i. refl) (λ k i. refl) (effect-at format form n m s p) k q e
+  stops executability p k q e = fault-by (λ (x : Executability). x .action) executability-read (λ x i. refl) (λ k i. refl) (executability-at format form n m s p) k q e
   stops knowledge p k q e = fault-by (λ (x : Knowledge). x .action) knowledge-read (λ x i. refl) (λ k i. refl) (knowledge-at format n m s p) k q e
 
 -- THE LOOP. What is noted of a given number of lines from place p on, the first of which has number k + 1.
@@ -194,10 +208,10 @@ module _ (c : Section) where
   one-more k last x (got xs p) t = refl
   one-more k last x (fault n p) t = refl
 
-module _ (c : Section) (n m : ℕ) (s : List ℕ) where
+module _ (form : Form) (c : Section) (n m : ℕ) (s : List ℕ) where
   -- What is noted of a given number of lines from place p on, when k are noted and `last` has the last of each action.
   abbrev From : (left p k : ℕ) → (last t : List ℕ) → Got (List ℕ)
-  From left p k last t = noting (lines-noted c k last) (repeated (line-at c n m s) left p) t
+  From left p k last t = noting (lines-noted c k last) (repeated (line-at form c n m s) left p) t
 
   pub lines-start : (count end p : ℕ) (t : List ℕ) → end ≡ count → From count p 0 none-yet t ≡ From (end - 0) p 0 (replicate (format .actions) 0) t
   unfolding none-yet
@@ -208,30 +222,30 @@ module _ (c : Section) (n m : ℕ) (s : List ℕ) where
     unfolding outcome noting next repeated lines-noted
     lines-done h = let none : count - k ≡ zero = omega arith in sym (so-far ∙ rw none)
 
-    module _ (r : Read) (k<count : k < count) (read : r ≡ line-read c (line-at c n m s p)) where
+    module _ (r : Read) (k<count : k < count) (read : r ≡ line-read c (line-at form c n m s p)) where
       left-is : count - k ≡ suc (count - (k + 1))
       left-is = omega arith
 
       pub lines-fault : (j q : ℕ) → r ≡ Fault j q → outcome (Stop j q) t ≡ whole
       unfolding outcome noting next repeated
-      lines-fault j q is = sym (so-far ∙ rw (left-is, stops n m s c p j q (sym read ∙ is)))
+      lines-fault j q is = sym (so-far ∙ rw (left-is, stops form n m s c p j q (sym read ∙ is)))
 
       module _ (a e : ℕ) (is : r ≡ Value a e) where
-        stood : (l : Line c) × (line-at c n m s p ≡ got l e) × Stands c n m s p a l
-        stood = stands n m s c p a e (sym read ∙ is)
+        stood : (l : Line c) × (line-at form c n m s p ≡ got l e) × Stands c n m s p a l
+        stood = stands form n m s c p a e (sym read ∙ is)
 
         pub lines-next : (f : ℕ) (u : List ℕ) → f ≡ getD s (p + 1) 0 → u ≡ line-noted c (getD last a 0) (k + 1) p a f t → whole ≡ From (count - (k + 1)) e (k + 1) (set last a (k + 1)) u
         unfolding repeated next
         lines-next f u ef eu =
             so-far ∙ rw (left-is, stood .1) (
-            one-more c k last (stood .0) (repeated (line-at c n m s) (count - (k + 1)) e) t
+            one-more c k last (stood .0) (repeated (line-at form c n m s) (count - (k + 1)) e) t
             ∙ rw (stood .2 .is-of) (ap (From (count - (k + 1)) e (k + 1) (set last a (k + 1))) (stood .2 .notes (getD last a 0) (k + 1) t ∙ ap (λ (g : ℕ). line-noted c (getD last a 0) (k + 1) p a g t) (sym ef) ∙ sym eu))
             )
 
   -- Room for what is noted of a line.
-  module _ (p a e : ℕ) (r : Read) (read : r ≡ line-read c (line-at c n m s p)) (is : r ≡ Value a e) where
-    here : Stands c n m s p a (stands n m s c p a e (sym read ∙ is) .0)
-    here = stands n m s c p a e (sym read ∙ is) .2
+  module _ (p a e : ℕ) (r : Read) (read : r ≡ line-read c (line-at form c n m s p)) (is : r ≡ Value a e) where
+    here : Stands c n m s p a (stands form n m s c p a e (sym read ∙ is) .0)
+    here = stands form n m s c p a e (sym read ∙ is) .2
 
     pub second-there : p + 1 < length s
     second-there = here .second
@@ -249,18 +263,18 @@ module _ (c : Section) (n m : ℕ) (s : List ℕ) where
     fluent-fits f h ef ec = let there = here .senses ec in omega arith
 
   -- THE COUNT BYTE.
-  counted : (left p : ℕ) (t : List ℕ) (slot : ℕ) (g : Got (List (Line c))) → repeated (line-at c n m s) left p ≡ g
+  counted : (left p : ℕ) (t : List ℕ) (slot : ℕ) (g : Got (List (Line c))) → repeated (line-at form c n m s) left p ≡ g
       → noting (lines-noted c 0 none-yet) g (set t slot left) ≡ noting (λ (xs : List (Line c)) (u : List ℕ). lines-noted c 0 none-yet xs (set u slot (length xs))) g t
   unfolding noting next
-  counted left p t slot (got xs q) e = rw (repeated-length (line-at c n m s) left p xs q e)
+  counted left p t slot (got xs q) e = rw (repeated-length (line-at form c n m s) left p xs q e)
   counted left p t slot (fault k q) e = refl
 
-  pub section-none : (p : ℕ) (t u : List ℕ) → length s ≤ p → outcome (Stop 11 (length s)) u ≡ noting (section-noted c) (section-at (line-at c n m s) s p) t
+  pub section-none : (p : ℕ) (t u : List ℕ) → length s ≤ p → outcome (Stop 11 (length s)) u ≡ noting (section-noted c) (section-at (line-at form c n m s) s p) t
   unfolding section-at outcome noting next
   section-none p t u h = rw (byte-none s p h)
 
   pub section-there : (p : ℕ) (t u v : List ℕ) (r : Passed) → p < length s → u ≡ set t (count-slot c) (getD s p 0)
-      → outcome r v ≡ From (getD s p 0) (p + 1) 0 none-yet u → outcome r v ≡ noting (section-noted c) (section-at (line-at c n m s) s p) t
+      → outcome r v ≡ From (getD s p 0) (p + 1) 0 none-yet u → outcome r v ≡ noting (section-noted c) (section-at (line-at form c n m s) s p) t
   unfolding section-at section-noted next
   section-there p t u v r h put e =
       rw (byte-is s p h) (e ∙ ap (From (getD s p 0) (p + 1) 0 none-yet) put ∙ counted (getD s p 0) (p + 1) t (count-slot c) _ refl)
@@ -315,23 +329,23 @@ module _ {A : Type 0} (note : A → List ℕ → List ℕ) (g : Got A) (r : Pass
   noting-fault k q is = fault-first g (λ x. note x t) k q (sym read ∙ rw is)
 
 -- The three sections, one after another.
-module _ (n m : ℕ) (s : List ℕ) (p : ℕ) (t u : List ℕ) (first : Passed) (read : outcome first u ≡ noting (section-noted (section-of Effects)) (section-at (line-at (section-of Effects) n m s) s p) t) where
-  pub three-first : (k q : ℕ) (v : List ℕ) → first ≡ Stop k q → outcome (Stop k q) v ≡ three-sections n m s p t
+module _ (form : Form) (n m : ℕ) (s : List ℕ) (p : ℕ) (t u : List ℕ) (first : Passed) (read : outcome first u ≡ noting (section-noted (section-of Effects)) (section-at (line-at form (section-of Effects) n m s) s p) t) where
+  pub three-first : (k q : ℕ) (v : List ℕ) → first ≡ Stop k q → outcome (Stop k q) v ≡ three-sections form n m s p t
   unfolding three-sections next section-of outcome
-  three-first k q v is = rw (noting-fault (section-noted effects) (section-at (line-at effects n m s) s p) first t u read k q is)
+  three-first k q v is = rw (noting-fault (section-noted effects) (section-at (line-at form effects n m s) s p) first t u read k q is)
 
-  module _ (q : ℕ) (is : first ≡ To q) (then : Passed) (v : List ℕ) (read-too : outcome then v ≡ noting (section-noted (section-of Runs)) (section-at (line-at (section-of Runs) n m s) s q) u) where
-    first-got : (es : List Effect) × (section-at (line-at effects n m s) s p ≡ got es q) × (u ≡ section-noted effects es t)
+  module _ (q : ℕ) (is : first ≡ To q) (then : Passed) (v : List ℕ) (read-too : outcome then v ≡ noting (section-noted (section-of Runs)) (section-at (line-at form (section-of Runs) n m s) s q) u) where
+    first-got : (es : List Effect) × (section-at (line-at form effects n m s) s p ≡ got es q) × (u ≡ section-noted effects es t)
     unfolding section-of
-    first-got = noting-got (section-noted effects) (section-at (line-at effects n m s) s p) first t u read q is
+    first-got = noting-got (section-noted effects) (section-at (line-at form effects n m s) s p) first t u read q is
 
-    pub three-second : (k r : ℕ) (w : List ℕ) → then ≡ Stop k r → outcome (Stop k r) w ≡ three-sections n m s p t
+    pub three-second : (k r : ℕ) (w : List ℕ) → then ≡ Stop k r → outcome (Stop k r) w ≡ three-sections form n m s p t
     unfolding three-sections next section-of outcome
-    three-second k r w e = rw (first-got .1, noting-fault (section-noted executability) (section-at (line-at executability n m s) s q) then u v read-too k r e)
+    three-second k r w e = rw (first-got .1, noting-fault (section-noted executability) (section-at (line-at form executability n m s) s q) then u v read-too k r e)
 
-    pub three-whole : (r : ℕ) (last : Passed) (w : List ℕ) → then ≡ To r → outcome last w ≡ noting (section-noted (section-of Senses)) (section-at (line-at (section-of Senses) n m s) s r) v → outcome last w ≡ three-sections n m s p t
+    pub three-whole : (r : ℕ) (last : Passed) (w : List ℕ) → then ≡ To r → outcome last w ≡ noting (section-noted (section-of Senses)) (section-at (line-at form (section-of Senses) n m s) s r) v → outcome last w ≡ three-sections form n m s p t
     unfolding three-sections next section-of noting
     three-whole r last w e read-last =
         let g = first-got in
-        let h = noting-got (section-noted executability) (section-at (line-at executability n m s) s q) then u v read-too r e in
-        rw (g .1, h .1) (read-last ∙ ap (noting (section-noted knowledge) (section-at (line-at knowledge n m s) s r)) (h .2 ∙ ap (section-noted executability (h .0)) (g .2)))
+        let h = noting-got (section-noted executability) (section-at (line-at form executability n m s) s q) then u v read-too r e in
+        rw (g .1, h .1) (read-last ∙ ap (noting (section-noted knowledge) (section-at (line-at form knowledge n m s) s r)) (h .2 ∙ ap (section-noted executability (h .0)) (g .2)))

@@ -1,4 +1,3 @@
-pub mod Bits
 pub mod Noted
 pub mod Listed
 pub mod Planned

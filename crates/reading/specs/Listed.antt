@@ -1,9 +1,12 @@
 -- What stands at a place of the input once it is read, with nothing left to judge.
-use Prim.Native.Nat.{ℕ, zero, suc, _+_, _<_}
+use Prim.Native.Nat.{ℕ, zero, suc, _+_, _*_, _<_}
 use mathlib.Core.Bool.{Bool}
 use mathlib.Core.List.{List, [], _∷_}
 use lib.ListN.{length, getD}
 use Rattle.meaning.specs.Tests.{pick, each-of}
+use Rattle.meaning.specs.Limits.{format, all-literals}
+use Rattle.meaning.specs.declared.Form.{Form}
+use Rattle.meaning.specs.declared.Form.the-variants.{Flags, Valued}
 use Rattle.meaning.specs.States.{State, known, possible}
 use Rattle.reading.specs.declared.marks.Look.{Look}
 use Rattle.reading.specs.declared.marks.Look.the-variants as look
@@ -23,6 +26,30 @@ listed s p = bytes-from s (p + 1) (getD s p 0)
 pub record List-here (bound : ℕ) (s : List ℕ) (p : ℕ) : Type 0 where
   pub ends : p + getD s p 0 < length s
   pub below : (i : ℕ) → i < getD s p 0 → getD s (p + 1 + i) 0 < bound
+
+-- LITERALS OF VALUES have two bytes each (FORMAT 26.5). A given number of two-byte numbers from place p on.
+unfoldable pub twos-from : List ℕ → ℕ → ℕ → List ℕ
+twos-from s p zero = []
+twos-from s p (suc k) = (getD s p 0 * 256 + getD s (p + 1) 0) ∷ twos-from s (p + 2) k
+
+-- A list of them stands at p, each with a fluent and a value that a request may have.
+pub record Values-here (s : List ℕ) (p : ℕ) : Type 0 where
+  pub ends : p + 2 * getD s p 0 < length s
+  pub fluent : (i : ℕ) → i < getD s p 0 → getD s (p + 1 + 2 * i) 0 < format .fluents
+  pub second : (i : ℕ) → i < getD s p 0 → getD s (p + 2 + 2 * i) 0 < 32
+
+-- AS THE FORM WRITES THEM: the literals of the list whose count byte stands at p, that such a list stands there, and the bytes that so many literals take.
+abbrev pub listed-as : Form → List ℕ → ℕ → List ℕ
+listed-as Flags s p = listed s p
+listed-as Valued s p = twos-from s (p + 1) (getD s p 0)
+
+abbrev pub Literals-here : Form → List ℕ → ℕ → Type 0
+Literals-here Flags = List-here all-literals
+Literals-here Valued = Values-here
+
+abbrev pub span : Form → (many : ℕ) → ℕ
+span Flags k = k
+span Valued k = 2 * k
 
 -- A literal is known true, or is possible.
 unfoldable pub holds-as : Test → State → ℕ → Bool

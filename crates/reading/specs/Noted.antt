@@ -7,10 +7,11 @@ use lib.Dec.{eqb, ltb}
 use Rattle.meaning.specs.Tests.{pick}
 use Rattle.meaning.specs.Limits.{format}
 use Rattle.meaning.specs.Requests.{Effect, Executability, Knowledge, Table}
-use Rattle.meaning.specs.Reading.{Got, got, fault, next, literals, count-at, list-at, effect-at, executability-at, knowledge-at, section-at}
+use Rattle.meaning.specs.declared.Form.{Form}
+use Rattle.meaning.specs.Reading.{Got, got, fault, next, count-at, literals-at, effect-at, executability-at, knowledge-at, section-at}
 use Rattle.bytes.specs.declared.bytes.Read.{Read}
 use Rattle.bytes.specs.Read.{effect-read, executability-read, knowledge-read}
-use Rattle.reading.specs.Bits.{bit-of, with-bit}
+use Rattle.bytes.specs.Bits.{bit-of, with-bit}
 use Rattle.reading.specs.declared.sections.Section as Code
 use Rattle.reading.specs.declared.sections.Section.the-variants.{Effects, Executability as Runs, Knowledge as Senses}
 use Rattle.bytes.specs.declared.lists.Passed.{Passed}
@@ -157,10 +158,10 @@ Line effects = Effect
 Line executability = Executability
 Line knowledge = Knowledge
 
-unfoldable pub line-at : (c : Section) (n m : ℕ) → List ℕ → ℕ → Got (Line c)
-line-at effects n m s = effect-at format n m s
-line-at executability n m s = executability-at format n m s
-line-at knowledge n m s = knowledge-at format n m s
+unfoldable pub line-at : Form → (c : Section) (n m : ℕ) → List ℕ → ℕ → Got (Line c)
+line-at form effects n m s = effect-at format form n m s
+line-at form executability n m s = executability-at format form n m s
+line-at form knowledge n m s = knowledge-at format n m s
 
 unfoldable pub action-in : (c : Section) → Line c → ℕ
 action-in effects e = e .action
@@ -209,20 +210,20 @@ table-noted x t =
     (section-noted effects (x .effects) t))
 
 -- The three sections, read one after another.
-unfoldable pub three-sections : (n m : ℕ) → List ℕ → ℕ → List ℕ → Got (List ℕ)
-three-sections n m s p t =
-    next (section-at (line-at effects n m s) s p) λ es q.
-    next (section-at (line-at executability n m s) s q) λ xs r.
-    next (section-at (line-at knowledge n m s) s r) λ ks e.
+unfoldable pub three-sections : Form → (n m : ℕ) → List ℕ → ℕ → List ℕ → Got (List ℕ)
+three-sections form n m s p t =
+    next (section-at (line-at form effects n m s) s p) λ es q.
+    next (section-at (line-at form executability n m s) s q) λ xs r.
+    next (section-at (line-at form knowledge n m s) s r) λ ks e.
     got (section-noted knowledge ks (section-noted executability xs (section-noted effects es t))) e
 
 -- Sections 2 to 5, and the actions' count before them.
-unfoldable pub facts-first : (n m : ℕ) → List ℕ → ℕ → List ℕ → Got (List ℕ)
-facts-first n m s p t =
-    next (list-at literals n (format .listed) s p) λ facts q.
-    three-sections n m s q t
+unfoldable pub facts-first : Form → (n m : ℕ) → List ℕ → ℕ → List ℕ → Got (List ℕ)
+facts-first form n m s p t =
+    next (literals-at form n (format .listed) s p) λ facts q.
+    three-sections form n m s q t
 
-unfoldable pub actions-first : (n : ℕ) → List ℕ → ℕ → List ℕ → Got (List ℕ)
-actions-first n s p t =
+unfoldable pub actions-first : Form → (n : ℕ) → List ℕ → ℕ → List ℕ → Got (List ℕ)
+actions-first form n s p t =
     next (count-at 1 (format .actions) s p) λ m q.
-    facts-first n m s q t
+    facts-first form n m s q t

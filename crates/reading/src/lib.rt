@@ -1,5 +1,4 @@
 // Reading a request, from the left: the first fault met, or notes of what was read.
-pub mod bits; // the bits of a slot
 pub mod notes; // what reading leaves behind
 pub mod sections; // sections 3 to 5
 pub mod marks; // partial states

@@ -4,8 +4,8 @@ ghost use lib.ListN.{length, getD, set};
 ghost use Rattle.meaning.specs.Limits.{format};
 ghost use Rattle.reading.specs.Noted;
 ghost use Rattle.reading.specs.Noted.{line-place, next-line, first-line, appended, raised, pair-slot, pair-there, pair-noted, run-lines, slots, line-numbers};
-use super::bits::has_bit;
-use super::bits::with_bit;
+use bytes::bits::has_bit;
+use bytes::bits::with_bit;
 use bytes::bytes::wide;
 use bytes::limits;
 

@@ -3,6 +3,7 @@ ghost use Prim.Native.Nat.{_+_, _*_, _≤_, _<_};
 ghost use lib.ListN.{length, set};
 ghost use Rattle.meaning.specs.Limits.{format};
 ghost use Rattle.meaning.specs.Reading.{item-at, sequence-at, branching-at, plan-at};
+ghost use Rattle.bytes.specs.Masks.{Counted};
 ghost use Rattle.reading.specs.Noted.{item-next};
 ghost use Rattle.reading.specs.Planned.{number-after, branch-noted, item-noted, inside-noted, sequence-noted, plan-noted, noting-met, outcome-met, branch-noting};
 use super::notes;
@@ -15,6 +16,7 @@ use bytes::bytes::two_bytes_at;
 use bytes::limits;
 use bytes::lists::Passed;
 use bytes::table_lines::body_at;
+use meaning::Form;
 
 // What follows an item: the item met next, or where it is the last of its sequence what stands around the sequence.
 fn after(left: usize, met: usize, up: usize) -> usize
@@ -51,6 +53,7 @@ fn note_branch(first: usize, met: usize, p: usize, t: &mut Notes)
 
 // A sequence with `before` items before it, in which `deep` branchings may stand one inside another: the items met up to its end.
 fn sequence_at(
+    form: Form,
     n: usize,
     m: usize,
     deep: usize,
@@ -60,11 +63,12 @@ fn sequence_at(
     up: usize,
     t: &mut Notes,
 ) -> Read
+    requires { ⌜ Counted form (now s) ⌝ }
     requires { ⌜ n ≤ format .fluents ⌝ }
     requires { ⌜ before ≤ format .items ⌝ }
     requires { ⌜ up ≤ 2 * format .items ⌝ }
     requires { ⌜ length (now s) ≤ format .derivation ⌝ }
-    ensures { λ r. ⌜ outcome-met r (now (t .exit)) ≡ noting-met (sequence-noted up before start (now (t .entry))) (sequence-at format n m (now (s .entry)) (branching-at format n m (now (s .entry)) deep) start before) ⌝ }
+    ensures { λ r. ⌜ outcome-met r (now (t .exit)) ≡ noting-met (sequence-noted form up before start (now (t .entry))) (sequence-at format form n m (now (s .entry)) (branching-at format form n m (now (s .entry)) deep) start before) ⌝ }
 {
     match two_bytes_at(s, start) {
         Read::Value(c, q) => {
@@ -72,7 +76,7 @@ fn sequence_at(
             let mut p = q;
             let mut met = before;
             while 0 < left {
-                match item_at(n, m, deep, s, p, met, t) {
+                match item_at(form, n, m, deep, s, p, met, t) {
                     Read::Value(more, e) => {
                         note_next(left, met, more, up, t);
                         p = e;
@@ -92,10 +96,20 @@ fn sequence_at(
 }
 
 // One item: the items met up to its end.
-fn item_at(n: usize, m: usize, deep: usize, s: &[u8], p: usize, met: usize, t: &mut Notes) -> Read
+fn item_at(
+    form: Form,
+    n: usize,
+    m: usize,
+    deep: usize,
+    s: &[u8],
+    p: usize,
+    met: usize,
+    t: &mut Notes,
+) -> Read
+    requires { ⌜ Counted form (now s) ⌝ }
     requires { ⌜ n ≤ format .fluents ⌝ }
     requires { ⌜ length (now s) ≤ format .derivation ⌝ }
-    ensures { λ r. ⌜ outcome-met r (now (t .exit)) ≡ noting-met (item-noted met (now (t .entry))) (item-at format n m (now (s .entry)) (branching-at format n m (now (s .entry)) deep) p met) ⌝ }
+    ensures { λ r. ⌜ outcome-met r (now (t .exit)) ≡ noting-met (item-noted form met (now (t .entry))) (item-at format form n m (now (s .entry)) (branching-at format form n m (now (s .entry)) deep) p met) ⌝ }
 {
     match byte_at(s, p) {
         Read::Value(x, q) => {
@@ -104,7 +118,7 @@ fn item_at(n: usize, m: usize, deep: usize, s: &[u8], p: usize, met: usize, t: &
             }
             if x == limits::BRANCHING_BYTE as usize {
                 put(t, notes::ITEM_PLACE + met, p);
-                return branching_at(n, m, deep, s, p, met, t);
+                return branching_at(form, n, m, deep, s, p, met, t);
             }
             if m <= x {
                 return Read::Fault(limits::TOO_LARGE, p);
@@ -119,6 +133,7 @@ fn item_at(n: usize, m: usize, deep: usize, s: &[u8], p: usize, met: usize, t: &
 
 // The branching that is item i and whose byte 255 stands at `start`.
 fn branching_at(
+    form: Form,
     n: usize,
     m: usize,
     deep: usize,
@@ -127,11 +142,12 @@ fn branching_at(
     i: usize,
     t: &mut Notes,
 ) -> Read
+    requires { ⌜ Counted form (now s) ⌝ }
     requires { ⌜ n ≤ format .fluents ⌝ }
     requires { ⌜ length (now s) ≤ format .derivation ⌝ }
     requires { ⌜ start < length (now s) ⌝ }
     requires { ⌜ i < format .items ⌝ }
-    ensures { λ r. ⌜ outcome-met r (now (t .exit)) ≡ noting-met (inside-noted i (now (t .entry))) (branching-at format n m (now (s .entry)) deep start (i + 1)) ⌝ }
+    ensures { λ r. ⌜ outcome-met r (now (t .exit)) ≡ noting-met (inside-noted form i (now (t .entry))) (branching-at format form n m (now (s .entry)) deep start (i + 1)) ⌝ }
 {
     if deep == 0 {
         return Read::Fault(limits::NESTED_TOO_DEEP, start);
@@ -145,7 +161,7 @@ fn branching_at(
             let mut p = q;
             let mut met = i + 1;
             while 0 < left {
-                match branch_at(n, m, inner, s, p, met, up, t) {
+                match branch_at(form, n, m, inner, s, p, met, up, t) {
                     Read::Value(more, e) => {
                         p = e;
                         met = more;
@@ -164,6 +180,7 @@ fn branching_at(
 
 // A branch: its condition and its sequence.
 fn branch_at(
+    form: Form,
     n: usize,
     m: usize,
     deep: usize,
@@ -173,23 +190,25 @@ fn branch_at(
     up: usize,
     t: &mut Notes,
 ) -> Read
+    requires { ⌜ Counted form (now s) ⌝ }
     requires { ⌜ n ≤ format .fluents ⌝ }
     requires { ⌜ met ≤ format .items ⌝ }
     requires { ⌜ up ≤ 2 * format .items ⌝ }
     requires { ⌜ length (now s) ≤ format .derivation ⌝ }
-    ensures { λ r. ⌜ outcome-met r (now (t .exit)) ≡ branch-noting n m deep up (now (s .entry)) p met (now (t .entry)) ⌝ }
+    ensures { λ r. ⌜ outcome-met r (now (t .exit)) ≡ branch-noting form n m deep up (now (s .entry)) p met (now (t .entry)) ⌝ }
 {
-    match body_at(n, s, p) {
-        Passed::To(q) => sequence_at(n, m, deep, s, q, met, up, t),
+    match body_at(form, n, s, p) {
+        Passed::To(q) => sequence_at(form, n, m, deep, s, q, met, up, t),
         Passed::Fault(k, q) => Read::Fault(k, q),
     }
 }
 
 // The plan: how many items it has.
-pub fn plan_at(n: usize, m: usize, s: &[u8], start: usize, t: &mut Notes) -> Read
+pub fn plan_at(form: Form, n: usize, m: usize, s: &[u8], start: usize, t: &mut Notes) -> Read
+    requires { ⌜ Counted form (now s) ⌝ }
     requires { ⌜ n ≤ format .fluents ⌝ }
     requires { ⌜ length (now s) ≤ format .derivation ⌝ }
-    ensures { λ r. ⌜ outcome-met r (now (t .exit)) ≡ noting-met (plan-noted start (now (t .entry))) (plan-at format n m (now (s .entry)) start) ⌝ }
+    ensures { λ r. ⌜ outcome-met r (now (t .exit)) ≡ noting-met (plan-noted form start (now (t .entry))) (plan-at format form n m (now (s .entry)) start) ⌝ }
 {
-    sequence_at(n, m, limits::NESTED, s, start, 0, limits::ITEMS, t)
+    sequence_at(form, n, m, limits::NESTED, s, start, 0, limits::ITEMS, t)
 }

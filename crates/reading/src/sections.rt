@@ -3,6 +3,7 @@ ghost use Prim.Native.Nat.{_≤_, _<_};
 ghost use lib.ListN.{length, set};
 ghost use Rattle.meaning.specs.Limits.{format};
 ghost use Rattle.meaning.specs.Reading.{repeated, section-at};
+ghost use Rattle.bytes.specs.Masks.{Counted};
 ghost use Rattle.reading.specs.Noted;
 ghost use Rattle.reading.specs.Noted.{section-of, line-at, line-read, line-noted, none-yet, lines-noted, count-slot, section-noted, three-sections, noting, outcome, line-numbers};
 use super::notes;
@@ -17,6 +18,7 @@ use bytes::lists::Passed;
 use bytes::table_lines::effect_at;
 use bytes::table_lines::executability_at;
 use bytes::table_lines::knowledge_at;
+use meaning::Form;
 
 // Sections 3, 4 and 5.
 pub enum Section {
@@ -26,13 +28,14 @@ pub enum Section {
 }
 
 // A line: its action.
-fn line_at(c: Section, n: usize, m: usize, s: &[u8], p: usize) -> Read
+fn line_at(form: Form, c: Section, n: usize, m: usize, s: &[u8], p: usize) -> Read
+    requires { ⌜ Counted form (now s) ⌝ }
     requires { ⌜ n ≤ format .fluents ⌝ }
-    ensures { λ r. ⌜ r ≡ line-read (section-of c) (line-at (section-of c) n m (now (s .entry)) p) ⌝ }
+    ensures { λ r. ⌜ r ≡ line-read (section-of c) (line-at form (section-of c) n m (now (s .entry)) p) ⌝ }
 {
     match c {
-        Section::Effects => effect_at(n, m, s, p),
-        Section::Executability => executability_at(n, m, s, p),
+        Section::Effects => effect_at(form, n, m, s, p),
+        Section::Executability => executability_at(form, n, m, s, p),
         Section::Knowledge => knowledge_at(n, m, s, p),
     }
 }
@@ -54,6 +57,7 @@ fn note_line(c: Section, last: u8, k: usize, p: usize, a: usize, f: usize, t: &m
 
 // A given number of lines from a place on. Each action's last line so far is in `last`; once the section is read nobody asks for it.
 fn lines_from(
+    form: Form,
     c: Section,
     n: usize,
     m: usize,
@@ -62,17 +66,18 @@ fn lines_from(
     start: usize,
     t: &mut Notes,
 ) -> Passed
+    requires { ⌜ Counted form (now s) ⌝ }
     requires { ⌜ n ≤ format .fluents ⌝ }
     requires { ⌜ m ≤ format .actions ⌝ }
     requires { ⌜ length (now s) ≤ format .request ⌝ }
-    ensures { λ r. ⌜ outcome r (now (t .exit)) ≡ noting (lines-noted (section-of c) 0 none-yet) (repeated (line-at (section-of c) n m (now (s .entry))) count start) (now (t .entry)) ⌝ }
+    ensures { λ r. ⌜ outcome r (now (t .exit)) ≡ noting (lines-noted (section-of c) 0 none-yet) (repeated (line-at form (section-of c) n m (now (s .entry))) count start) (now (t .entry)) ⌝ }
 {
     let end = wide(count);
     let mut k = 0;
     let mut p = start;
     let mut last = [0u8; limits::ACTIONS];
     while k < end {
-        match line_at(c, n, m, s, p) {
+        match line_at(form, c, n, m, s, p) {
             Read::Value(a, e) => {
                 let q = p + 1;
                 let f = wide(s[q]);
@@ -107,30 +112,40 @@ fn note_count(c: Section, count: u8, t: &mut Notes)
 }
 
 // A section: a count byte, then as many lines.
-pub fn section_at(c: Section, n: usize, m: usize, s: &[u8], p: usize, t: &mut Notes) -> Passed
+pub fn section_at(
+    form: Form,
+    c: Section,
+    n: usize,
+    m: usize,
+    s: &[u8],
+    p: usize,
+    t: &mut Notes,
+) -> Passed
+    requires { ⌜ Counted form (now s) ⌝ }
     requires { ⌜ n ≤ format .fluents ⌝ }
     requires { ⌜ m ≤ format .actions ⌝ }
     requires { ⌜ length (now s) ≤ format .request ⌝ }
-    ensures { λ r. ⌜ outcome r (now (t .exit)) ≡ noting (section-noted (section-of c)) (section-at (line-at (section-of c) n m (now (s .entry))) (now (s .entry)) p) (now (t .entry)) ⌝ }
+    ensures { λ r. ⌜ outcome r (now (t .exit)) ≡ noting (section-noted (section-of c)) (section-at (line-at form (section-of c) n m (now (s .entry))) (now (s .entry)) p) (now (t .entry)) ⌝ }
 {
     if s.len() <= p {
         return Passed::Fault(limits::ENDS_TOO_SOON, s.len());
     }
     let q = p + 1;
     note_count(c, s[p], t);
-    lines_from(c, n, m, s, s[p], q, t)
+    lines_from(form, c, n, m, s, s[p], q, t)
 }
 
 // Sections 3 to 5.
-pub fn three_sections(n: usize, m: usize, s: &[u8], p: usize, t: &mut Notes) -> Passed
+pub fn three_sections(form: Form, n: usize, m: usize, s: &[u8], p: usize, t: &mut Notes) -> Passed
+    requires { ⌜ Counted form (now s) ⌝ }
     requires { ⌜ n ≤ format .fluents ⌝ }
     requires { ⌜ m ≤ format .actions ⌝ }
     requires { ⌜ length (now s) ≤ format .request ⌝ }
-    ensures { λ r. ⌜ outcome r (now (t .exit)) ≡ three-sections n m (now (s .entry)) p (now (t .entry)) ⌝ }
+    ensures { λ r. ⌜ outcome r (now (t .exit)) ≡ three-sections form n m (now (s .entry)) p (now (t .entry)) ⌝ }
 {
-    match section_at(Section::Effects, n, m, s, p, t) {
-        Passed::To(q) => match section_at(Section::Executability, n, m, s, q, t) {
-            Passed::To(r) => section_at(Section::Knowledge, n, m, s, r, t),
+    match section_at(form, Section::Effects, n, m, s, p, t) {
+        Passed::To(q) => match section_at(form, Section::Executability, n, m, s, q, t) {
+            Passed::To(r) => section_at(form, Section::Knowledge, n, m, s, r, t),
             Passed::Fault(k, r) => Passed::Fault(k, r),
         },
         Passed::Fault(k, q) => Passed::Fault(k, q),

@@ -11,7 +11,7 @@ use Rattle.meaning.specs.Tests.{fails, pick, Has}
 use Rattle.meaning.specs.Limits.{format, all-literals}
 use Rattle.meaning.specs.Literals.{exclusive}
 use Rattle.meaning.specs.Requests.{Sequence, done, item, Item, act, branching, Branches, none, branch}
-use Rattle.meaning.specs.Refusals.{Found, nowhere, at, or-else, conditions-of, all-exclusive, overlap-in, overlap-at, overlap-below}
+use Rattle.meaning.specs.Refusals.{failing-at, failing-below, failing-in, Found, nowhere, at, or-else, conditions-of, all-exclusive, overlap-in, overlap-at, overlap-below}
 use Rattle.meaning.specs.States.{state-of}
 use Rattle.meaning.proofs.TestLaws.{pick-true}
 use Rattle.meaning.proofs.RefusalLaws.{exclusive-sym}
@@ -25,6 +25,7 @@ use Rattle.finding.specs.declared.places.Found as Code
 use Rattle.refusing.proofs.Laws18.{overlap-first, item-other}
 use Rattle.refusing.proofs.Laws16.{possible-each}
 use Rattle.finding.proofs.PlanHere.{listed-below, conditions-are, clear-of}
+use Rattle.meaning.specs.declared.Form.the-variants.{Flags}
 use Rattle.meaning.specs.Reading.{got, Met, plan-at}
 use Rattle.meaning.proofs.SettledLaws.{got-same}
 use Rattle.bytes.specs.declared.bytes.Read.{Read}
@@ -57,7 +58,7 @@ conditions-clear : (s : List ℕ) (p : ℕ) (bs : Branches ℕ) → Branches-wri
 unfolding Branches-written conditions-of
 conditions-clear s p none w c h = absurd h
 conditions-clear s p (branch d b rest) w c (inl e) = rw e (written-clear s p d b (w .0))
-conditions-clear s p (branch d b rest) w c (inr h) = conditions-clear s (p + (1 + length d) + (2 + bytes-of b)) rest (w .2) c h
+conditions-clear s p (branch d b rest) w c (inr h) = conditions-clear s (p + (1 + length d) + (2 + bytes-of Flags b)) rest (w .2) c h
 
 module _ (s t : List ℕ) where
   -- THE FIRST OVERLAP of a part, and then of what follows it.
@@ -78,7 +79,7 @@ module _ (s t : List ℕ) where
       ∙ rw (o .count, conditions-are s t (met + 1) (p + 2) bs w k) (apart-is (conditions-of bs) (conditions-clear s (p + 2) bs w))
 
   mutual
-    unfolding items-of Written Kept overlap-in or-else items-in Item-written Item-kept overlap-at items-under Branches-written Branches-kept overlap-below
+    unfolding items-of Written Kept failing-in or-else items-in Item-written Item-kept failing-at items-under Branches-written Branches-kept failing-below
 
     sequence-first : (b : Sequence ℕ) (met k : ℕ) → Written s b → Kept t met b → first-overlap s t (items-of b + k) met ≡ or-else (overlap-in b) (λ _. first-overlap s t k (met + items-of b))
     sequence-first done met k w h = let none : 0 + k ≡ k = omega arith in let here : met + 0 ≡ met = omega arith in rw (none, here)
@@ -112,7 +113,7 @@ module _ (s t : List ℕ) where
         let on : met + (items-of b + items-under rest) ≡ met + items-of b + items-under rest = omega arith in
         ap (λ (n : ℕ). first-overlap s t n met) parts
         ∙ sequence-first b met (items-under rest + k) (w .1) (h .1)
-        ∙ ap (λ (f : Found). or-else (overlap-in b) (λ _. f)) (branches-first rest (met + items-of b) (p + (1 + length c) + (2 + bytes-of b)) k (w .2) (h .2))
+        ∙ ap (λ (f : Found). or-else (overlap-in b) (λ _. f)) (branches-first rest (met + items-of b) (p + (1 + length c) + (2 + bytes-of Flags b)) k (w .2) (h .2))
         ∙ or-else-twice (overlap-in b) (overlap-below rest) (λ _. first-overlap s t k (met + items-of b + items-under rest))
         ∙ ap (λ (n : ℕ). or-else (or-else (overlap-in b) (λ _. overlap-below rest)) (λ _. first-overlap s t k n)) (sym on)
 
@@ -132,9 +133,9 @@ module _ (s t : List ℕ) where
     overlap-found r is = record { holds = λ b held items. is ∙ ap found (plan-overlap b count held items) }
 
 -- What is found in a plan that was read is its own first overlap.
-module _ (n m : ℕ) (s : List ℕ) (small : n ≤ format .fluents) (few : m ≤ format .actions) (p : ℕ) (t u : List ℕ) (r : Read) (count e : ℕ) (room : effect-lines ≤ length t) (left : outcome-met r u ≡ noting-met (plan-noted p t) (plan-at format n m s p)) (is : r ≡ Value count e) where
-  pub overlap-left : (f : Code.Found) → Overlap-found s u count f → (x : Met (Sequence ℕ)) (q : ℕ) → plan-at format n m s p ≡ got x q → f ≡ found (overlap-in (x .value))
+module _ (n m : ℕ) (s : List ℕ) (small : n ≤ format .fluents) (few : m ≤ format .actions) (p : ℕ) (t u : List ℕ) (r : Read) (count e : ℕ) (room : effect-lines ≤ length t) (left : outcome-met r u ≡ noting-met (plan-noted Flags p t) (plan-at format Flags n m s p)) (is : r ≡ Value count e) where
+  pub overlap-left : (f : Code.Found) → Overlap-found s u count f → (x : Met (Sequence ℕ)) (q : ℕ) → plan-at format Flags n m s p ≡ got x q → f ≡ found (overlap-in (x .value))
   overlap-left f all x q read =
-      let w = met-value (plan-noted p t) (plan-at format n m s p) r u count e left is in
+      let w = met-value (plan-noted Flags p t) (plan-at format Flags n m s p) r u count e left is in
       let same : with-items (w .0) count ≡ x = got-same (sym (w .1) ∙ read) in
       subst (λ (y : Met (Sequence ℕ)). f ≡ found (overlap-in (y .value))) same (all .holds (w .0) (subst (λ (v : List ℕ). Plan-held s v (w .0)) (sym (w .2)) (plan-held n m s small few p t (with-items (w .0) count) e room (w .1))) (plan-items n m s small few p t (with-items (w .0) count) e room (w .1)))

@@ -8,6 +8,7 @@ use mir.Syntax.{w8, w64}
 use mir.Val.{Fits}
 use Rattle.meaning.specs.Limits.{format}
 use Rattle.meaning.specs.Requests.{Effect, Knowledge, Table, Request}
+use Rattle.meaning.specs.declared.Form.the-variants.{Flags}
 use Rattle.meaning.specs.Reading.{Got, got, fault, next, table-at, request-at, read-request}
 use Rattle.meaning.specs.Guards.{Guarded-request, read-guarded, settled-guarded}
 use Rattle.meaning.specs.Refusals
@@ -86,7 +87,7 @@ module _ (s t : List ℕ) (here : Table-here s t) where
       past-16 e r g h = h ∙ ap passed (rw (found-none (contradiction-in (table-in s)) f sought-16 g))
 
   -- 17.
-  module _ (e : ℕ) (ends : table-at format s 0 ≡ got (table-in s) e) (count : ℕ) (is : count ≡ getD t knowledge-slot 0) where
+  module _ (e : ℕ) (ends : table-at format Flags s 0 ≡ got (table-in s) e) (count : ℕ) (is : count ≡ getD t knowledge-slot 0) where
     count-17 : count ≡ length (table-in s .knowledge)
     count-17 = is ∙ knowledge-counted s (here .bytes) (table-in s) (here .table-end) whole t (here .noted)
 
@@ -131,7 +132,7 @@ module _ (s : List ℕ) (bytes : (i : ℕ) → Fits w8 (getD s i 0)) (t : List �
   abbrev u : List ℕ
   u = table-noted (x .table) blank
 
-  abbrev there : Parts s x (here .end)
+  abbrev there : Parts Flags s x (here .end)
   there = read-parts s small t here
 
   comes : Table-here s u
@@ -140,10 +141,10 @@ module _ (s : List ℕ) (bytes : (i : ℕ) → Fits w8 (getD s i 0)) (t : List �
   same-table : table-in s ≡ x .table
   same-table = read-same s small t here
 
-  tail : request-at format s (table-in s) (there .place) ≡ got x (here .end)
+  tail : request-at format Flags s (table-in s) (there .place) ≡ got x (here .end)
   tail = read-tail s small t here
 
-  tail-is : t ≡ tail-with (here .guards) x u
+  tail-is : t ≡ tail-with Flags (here .guards) x u
   tail-is = read-noted s small t here
 
   pub table-read-here : Table-here s t
@@ -152,15 +153,15 @@ module _ (s : List ℕ) (bytes : (i : ℕ) → Fits w8 (getD s i 0)) (t : List �
   whole-here : Table-parts s (table-in s) (comes .table-end)
   whole-here = whole-table s u comes
 
-  slot-is : (j count : ℕ) → count ≡ getD t j 0 → count ≡ getD (tail-with (here .guards) x u) j 0
+  slot-is : (j count : ℕ) → count ≡ getD t j 0 → count ≡ getD (tail-with Flags (here .guards) x u) j 0
   slot-is j count is = is ∙ ap (λ (v : List ℕ). getD v j 0) tail-is
 
   -- The table ends where the plan starts.
   module _ (plan : ℕ) (is : plan ≡ getD t plan-slot 0) where
-    pub table-ends : table-at format s 0 ≡ got (table-in s) plan
+    pub table-ends : table-at format Flags s 0 ≡ got (table-in s) plan
     table-ends =
         let place = there .place in
-        let stands : plan-place x ≡ place = request-parts s (table-in s) place x (here .end) tail .placed in
+        let stands : plan-place Flags x ≡ place = request-parts s (table-in s) place x (here .end) tail .placed in
         let at : plan ≡ place = slot-is plan-slot plan is ∙ plan-noted-at s (table-in s) (whole-here .few) (whole-here .less) place x (here .end) tail u (here .guards) (comes .sized) ∙ stands in
         rw (same-table, at) (there .table-read)
 
@@ -228,21 +229,21 @@ module _ {A : Type 0} (note : A → List ℕ → List ℕ) (t u : List ℕ) wher
         ∙ rw (reads, is) (alike (of y) y e noted (contradiction-in (of y .table)) (mixed-in (of y .table .effects) (of y .table .knowledge)) (overlap-in (of y .plan)))
 
 -- Without guards.
-module _ (s t u : List ℕ) (empty : t ≡ blank) (all : Passed) (read : outcome all u ≡ noting request-noted (read-request format s) t) where
-  pub settle-fault : (k q : ℕ) (v : List ℕ) → all ≡ Stop k q → outcome (Stop k q) v ≡ noting request-noted (settled format s) t
+module _ (s t u : List ℕ) (empty : t ≡ blank) (all : Passed) (read : outcome all u ≡ noting (request-noted Flags) (read-request format Flags s) t) where
+  pub settle-fault : (k q : ℕ) (v : List ℕ) → all ≡ Stop k q → outcome (Stop k q) v ≡ noting (request-noted Flags) (settled format s) t
   unfolding settled
-  settle-fault k q v is = stopped request-noted t u (λ x. x) (read-request format s) k q v (noting-fault request-noted (read-request format s) all t u read k q is)
+  settle-fault k q v is = stopped (request-noted Flags) t u (λ x. x) (read-request format Flags s) k q v (noting-fault (request-noted Flags) (read-request format Flags s) all t u read k q is)
 
   module _ (e : ℕ) (is : all ≡ To e) where
-    read-got : (x : Request) × (read-request format s ≡ got x e) × (u ≡ request-noted x t)
-    read-got = noting-got request-noted (read-request format s) all t u read e is
+    read-got : (x : Request) × (read-request format Flags s ≡ got x e) × (u ≡ request-noted Flags x t)
+    read-got = noting-got (request-noted Flags) (read-request format Flags s) all t u read e is
 
     pub settle-here : Read-here s u
-    settle-here = plain-here s u (read-got .0) e (read-got .1) (read-got .2 ∙ ap (request-noted (read-got .0)) empty)
+    settle-here = plain-here s u (read-got .0) e (read-got .1) (read-got .2 ∙ ap (request-noted Flags (read-got .0)) empty)
 
-    pub settle-there : (r : Passed) → r ≡ passed (past-all s e) → outcome r u ≡ noting request-noted (settled format s) t
+    pub settle-there : (r : Passed) → r ≡ passed (past-all s e) → outcome r u ≡ noting (request-noted Flags) (settled format s) t
     unfolding settled
-    settle-there = went request-noted t u (λ x. x) (read-request format s) s (read-got .0) e e (read-got .1) (read-got .2) (plain-read s (read-got .0) e (read-got .1) .1)
+    settle-there = went (request-noted Flags) t u (λ x. x) (read-request format Flags s) s (read-got .0) e e (read-got .1) (read-got .2) (plain-read s Flags (read-got .0) e (read-got .1) .1)
 
 -- With guards.
 module _ (s t u : List ℕ) (empty : t ≡ blank) (all : Passed) (read : outcome all u ≡ noting guarded-noted (read-guarded format s) t) where

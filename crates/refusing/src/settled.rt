@@ -1,5 +1,6 @@
 ghost use mathlib.Core.Path.{_≡_};
 ghost use Rattle.meaning.specs.Limits.{format};
+ghost use Rattle.meaning.specs.declared.Form.the-variants.{Flags};
 ghost use Rattle.meaning.specs.Reading.{got, table-at};
 ghost use Rattle.meaning.specs.Refusals.{settled};
 ghost use Rattle.meaning.specs.Guards.{settled-guarded};
@@ -24,7 +25,7 @@ use reading::notes::get;
 // 17, of a table that ends at e.
 fn mixed_refused(s: &[u8], t: &Notes, e: usize) -> Passed
     requires { ⌜ Table-here (now s) (now t) ⌝ }
-    requires { ⌜ table-at format (now s) 0 ≡ got (table-in (now s)) e ⌝ }
+    requires { ⌜ table-at format Flags (now s) 0 ≡ got (table-in (now s)) e ⌝ }
     ensures { λ r. ⌜ r ≡ passed (table-unmixed (table-in (now (s .entry))) e) ⌝ }
 {
     let count = get(t, notes::COUNT_OF_KNOWLEDGE);
@@ -39,7 +40,7 @@ fn mixed_refused(s: &[u8], t: &Notes, e: usize) -> Passed
 // 16 and 17, of a table that ends at e. Nothing is asked of a plan.
 pub fn table_refused(s: &[u8], t: &Notes, e: usize) -> Passed
     requires { ⌜ Table-here (now s) (now t) ⌝ }
-    requires { ⌜ table-at format (now s) 0 ≡ got (table-in (now s)) e ⌝ }
+    requires { ⌜ table-at format Flags (now s) 0 ≡ got (table-in (now s)) e ⌝ }
     ensures { λ r. ⌜ r ≡ passed (table-settled (table-in (now (s .entry))) e) ⌝ }
 {
     let count = get(t, notes::COUNT_OF_EFFECTS);
@@ -87,7 +88,7 @@ pub fn settle_guarded(s: &[u8], t: &mut Notes) -> Passed
 // A request settled: read without a fault, and past 16, 17 and 18. The notes hold nothing before.
 pub fn settle(s: &[u8], t: &mut Notes) -> Passed
     requires { ⌜ now t ≡ blank ⌝ }
-    ensures { λ r. ⌜ outcome r (now (t .exit)) ≡ noting request-noted (settled format (now (s .entry))) (now (t .entry)) ⌝ }
+    ensures { λ r. ⌜ outcome r (now (t .exit)) ≡ noting (request-noted Flags) (settled format (now (s .entry))) (now (t .entry)) ⌝ }
 {
     match read_request(s, t) {
         Passed::To(e) => refused(s, t, e),

@@ -12,6 +12,7 @@ use Rattle.meaning.specs.Tests.{both, either, each-of}
 use Rattle.meaning.specs.Limits.{format}
 use Rattle.meaning.specs.Literals.{among, exclusive}
 use Rattle.meaning.specs.Requests.{Sequence, done, item, act, branching, Branches, none, branch}
+use Rattle.meaning.specs.declared.Form.the-variants.{Flags}
 use Rattle.meaning.specs.Reading.{got, fault, Met, plan-at}
 use Rattle.meaning.specs.States.{State, known, state-of}
 use Rattle.meaning.specs.declared.Layout.{Layout}
@@ -64,12 +65,12 @@ module _ (d t : List ℕ) where
     end-done over = sym (so-far ∙ end-none left p i over)
 
   -- Branches that are held.
-  end-is : (bs : Branches ℕ) (p i : ℕ) → Branches-written d p bs → Branches-kept t i p bs → branches-end d t (branches-in bs) p i ≡ p + bytes-under bs
+  end-is : (bs : Branches ℕ) (p i : ℕ) → Branches-written d p bs → Branches-kept t i p bs → branches-end d t (branches-in bs) p i ≡ p + bytes-under Flags bs
   unfolding branches-end branches-in Branches-written Branches-kept bytes-under
   end-is none p i w k = omega arith
   end-is (branch c b rest) p i w k =
       ap₂ {C = ℕ} (λ q j. branches-end d t (branches-in rest) q j) (place-is d t i p c b (w .0) (k .0)) (item-is d t i p c b (w .0) (k .0))
-      ∙ end-is rest (p + (1 + length c) + (2 + bytes-of b)) (i + items-of b) (w .2) (k .2)
+      ∙ end-is rest (p + (1 + length c) + (2 + bytes-of Flags b)) (i + items-of b) (w .2) (k .2)
       ∙ omega arith
 
   held-here : (bs : Branches ℕ) (p i : ℕ) → i + items-under bs ≤ format .items → Branches-written d p bs → Branches-kept t i p bs → Branches-here d t (branches-in bs) p i
@@ -78,7 +79,7 @@ module _ (d t : List ℕ) where
   held-here (branch c b rest) p i few w k = (
     record { condition = w .0 .here; counted = w .0 .there; few = omega (arith, few) },
     rw (place-is d t i p c b (w .0) (k .0), item-is d t i p c b (w .0) (k .0))
-        (held-here rest (p + (1 + length c) + (2 + bytes-of b)) (i + items-of b) (omega (arith, few)) (w .2) (k .2)),
+        (held-here rest (p + (1 + length c) + (2 + bytes-of Flags b)) (i + items-of b) (omega (arith, few)) (w .2) (k .2)),
   )
 
   -- THE FIRST of the branches, its items, and those after it.
@@ -100,7 +101,7 @@ module _ (d t : List ℕ) where
       let code = branch-coded d p c b rest (h .bytes) in
       let size = code .size in
       let own = own-most b in
-      let place : place-after d t p i ≡ p + (1 + length c) + (2 + bytes-of b) = place-is d t i p c b (w .0) (k .0) in
+      let place : place-after d t p i ≡ p + (1 + length c) + (2 + bytes-of Flags b) = place-is d t i p c b (w .0) (k .0) in
       let met : item-after d t p i ≡ i + items-of b = item-is d t i p c b (w .0) (k .0) in
       let counted = code .count in
       record {
@@ -149,7 +150,7 @@ module _ (d t : List ℕ) where
           rw (is ∙ b .count) (held-here (some .branches) (first + 2) 1 (b .held .few) (b .held .written) (b .held .kept))
 
       module _ (rest : ℕ) (after : rest ≡ branches-end d t count (first + 2) 1) where
-        rest-place : (bs : Branches ℕ) (last : Sequence ℕ) → Branched d t first y more bs last → rest ≡ first + 2 + bytes-under bs
+        rest-place : (bs : Branches ℕ) (last : Sequence ℕ) → Branched d t first y more bs last → rest ≡ first + 2 + bytes-under Flags bs
         rest-place bs last b = after ∙ ap (λ (k : ℕ). branches-end d t k (first + 2) 1) (is ∙ b .count) ∙ end-is bs (first + 2) 1 (b .held .written) (b .held .kept)
 
         rest-items : (bs : Branches ℕ) (last : Sequence ℕ) → Branched d t first y more bs last → Items-stand d rest y more last
@@ -329,7 +330,7 @@ module _ (n m : ℕ) (s : List ℕ) where
     a-branch = λ deep left p met c q b r rest e _ _ _ _. tt;
   }
 
-  plan-first : (p : ℕ) (x : Met (Sequence ℕ)) (e : ℕ) → plan-at format n m s p ≡ got x e → First-at (p + 2) (x .value)
+  plan-first : (p : ℕ) (x : Met (Sequence ℕ)) (e : ℕ) → plan-at format Flags n m s p ≡ got x e → First-at (p + 2) (x .value)
   plan-first p = plan-on format n m s plan-begun begun-passed p .holds
 
 -- A LINE whose plan begins with a branching at `first`, and a given number of items after it up to y.
@@ -414,17 +415,17 @@ module _ (n m : ℕ) (d : List ℕ) (w : Spot) where
             }
 
         -- THE PLAN READ AGAIN, which leaves it in the notes.
-        module _ (byte : getD d (plan + 2) 0 ≡ 255) (few : n ≤ format .fluents) (less : m ≤ format .actions) (t u : List ℕ) (r : Read) (read : outcome-met r u ≡ noting-met (plan-noted plan t) (plan-at format n m d plan)) where
-          again : (l : Line) (parts : Line-parts n m d (w .line) l) → plan-at format n m d plan ≡ got (parts .plan) (parts .end)
+        module _ (byte : getD d (plan + 2) 0 ≡ 255) (few : n ≤ format .fluents) (less : m ≤ format .actions) (t u : List ℕ) (r : Read) (read : outcome-met r u ≡ noting-met (plan-noted Flags plan t) (plan-at format Flags n m d plan)) where
+          again : (l : Line) (parts : Line-parts n m d (w .line) l) → plan-at format Flags n m d plan ≡ got (parts .plan) (parts .end)
           unfolding sequence-place after-list
-          again l parts = ap (plan-at format n m d) at ∙ parts .reads
+          again l parts = ap (plan-at format Flags n m d) at ∙ parts .reads
 
           module _ (long : length t ≡ slots) (items e : ℕ) (is : r ≡ Value items e) where
             begins : (layout : Layout) (l : Line) → Line-here n m d layout (w .line) l → Stands d w l → Begins d u (plan + 2) (w .end) (count - 1) l
             unfolding place-of
             begins layout l here sl =
                 let parts = line-parts n m d few layout (w .line) l here in
-                let v = met-value (plan-noted plan t) (plan-at format n m d plan) r u items e read is in
+                let v = met-value (plan-noted Flags plan t) (plan-at format Flags n m d plan) r u items e read is in
                 let same : with-items (v .0) items ≡ parts .plan = got-same (sym (v .1) ∙ again l parts) in
                 let tree : v .0 ≡ l .c = ap (λ (x : Met (Sequence ℕ)). x .value) same ∙ parts .is in
                 let there = plan-of d w plan at l sl in
@@ -475,6 +476,6 @@ module _ (n m : ℕ) (d : List ℕ) (w : Spot) where
           read-again v k e is =
               record {
                 holds = λ layout c l sc here sl.
-                    let no : plan-at format n m d plan ≡ fault k e = fault-met (plan-noted plan t) (plan-at format n m d plan) k e (met-fault (plan-noted plan t) (plan-at format n m d plan) r u k e read is) in
+                    let no : plan-at format Flags n m d plan ≡ fault k e = fault-met (plan-noted Flags plan t) (plan-at format Flags n m d plan) k e (met-fault (plan-noted Flags plan t) (plan-at format Flags n m d plan) r u k e read is) in
                     absurd (fault≢got (sym no ∙ again l (line-parts n m d few layout (w .line) l here)));
               }

@@ -23,6 +23,7 @@ use Rattle.meaning.specs.Derivations.{Conclusion, knows, Line, same-list, same-
 use Rattle.meaning.proofs.TestLaws.{by-test, both-left, both-right, pick-true, pick-false}
 use Rattle.meaning.proofs.ReadingsExact.{count-settled}
 use Rattle.reading.specs.Listed.{bytes-from, listed}
+use Rattle.meaning.specs.declared.Form.the-variants.{Flags}
 use Rattle.reading.specs.Planned.{bytes-of}
 use Rattle.deriving.specs.DerivationRead.{plan-ends-slot}
 use Rattle.finding.specs.Branches.{sequence-place}
@@ -380,7 +381,7 @@ sensed-states t a marks marked f first =
     ])
 
 -- THE LINE itself, at the spot w, whose plan's count stands at q.
-act-bytes : (o a : ℕ) (rest : Sequence ℕ) → bytes-of (item (act o a) rest) ≡ 1 + bytes-of rest
+act-bytes : (o a : ℕ) (rest : Sequence ℕ) → bytes-of Flags (item (act o a) rest) ≡ 1 + bytes-of Flags rest
 unfolding bytes-of
 act-bytes o a rest = refl
 
@@ -419,7 +420,7 @@ module _ (d : List ℕ) (w : Spot) (q count : ℕ) (after : q ≡ sequence-place
           let first = first-act l v in
           let plan = plan-of d w q after l v in
           let own = first .own in let same = own-count d w q after count read l v in let few = plan .few in
-          let bytes : bytes-of (l .c) ≡ 1 + bytes-of (first .rest) = ap bytes-of (first .is) ∙ act-bytes _ _ _ in
+          let bytes : bytes-of Flags (l .c) ≡ 1 + bytes-of Flags (first .rest) = ap (bytes-of Flags) (first .is) ∙ act-bytes _ _ _ in
           let to = plan .ends in
           let up : q + 2 + 1 ≡ q + 3 = omega arith in
           record {
@@ -428,7 +429,7 @@ module _ (d : List ℕ) (w : Spot) (q count : ℕ) (after : q ≡ sequence-place
             ends = omega (arith, bytes, to);
             inside = plan .inside;
             sized = coded-length (first .rest);
-            bytes = subst (λ (j : ℕ). bytes-from d j (bytes-of (first .rest)) ≡ coded (first .rest)) up (first .rest-there);
+            bytes = subst (λ (j : ℕ). bytes-from d j (bytes-of Flags (first .rest)) ≡ coded (first .rest)) up (first .rest-there);
             tellable = first .rest-told;
           }
 

@@ -19,6 +19,7 @@ use Rattle.meaning.specs.States.{State, state-of, can-be-run, state-after}
 use Rattle.meaning.specs.Derivations.{Conclusion, knows, knows-whether, Line, same-list, same-plan, join, included, literals-of, same-conclusion, part-of, one-literal, settles, acts, one-action, looks-for, one-look, rule-1, rule-2, rule-5, rule-6, rule-7, rule-8}
 use Rattle.meaning.proofs.TestLaws.{by-test, clash, same-test, both-left, both-right, both-true}
 use Rattle.reading.specs.Listed.{bytes-from, listed, List-here}
+use Rattle.meaning.specs.declared.Form.the-variants.{Flags}
 use Rattle.reading.specs.Planned.{bytes-of}
 use Rattle.reading.specs.Noted.{sensed}
 use Rattle.finding.specs.Branches.{sequence-place, no-item}
@@ -387,7 +388,7 @@ module _ (d : List ℕ) (p : ℕ) (marks : State) (first : marks ≡ state-of fo
   next-marked s a next then = after-marked (table-in s) a marks next (marked-as (listed d p) marks first) then
 
 -- RULES 2 and 7. An item takes a byte.
-pub item-bytes : (c : Sequence ℕ) → 0 < own-items c → 0 < bytes-of c
+pub item-bytes : (c : Sequence ℕ) → 0 < own-items c → 0 < bytes-of Flags c
 unfolding own-items bytes-of
 item-bytes done h = absurd (omega arith)
 item-bytes (item (act o a) rest) h = omega arith

@@ -10,6 +10,7 @@ use Rattle.meaning.specs.Requests.{Sequence, Branches, none, branch}
 use Rattle.meaning.specs.States.{State, known}
 use Rattle.meaning.specs.Derivations.{same-plan, join}
 use Rattle.reading.specs.Listed.{bytes-from}
+use Rattle.meaning.specs.declared.Form.the-variants.{Flags}
 use Rattle.reading.specs.Planned.{items-under, bytes-under}
 use Rattle.finding.specs.Branches.{place-after, item-after}
 use Rattle.finding.specs.PlansHeld.{branches-in, Branches-written, Branches-kept}
@@ -25,10 +26,10 @@ branches-end d t (suc left) p i = branches-end d t left (place-after d t p i) (i
 -- Branches from p on, with i items before them.
 pub record Branches-held (d t : List ℕ) (p i : ℕ) (bs : Branches ℕ) : Type 0 where
   pub few : i + items-under bs ≤ format .items
-  pub inside : p + bytes-under bs ≤ length d
+  pub inside : p + bytes-under Flags bs ≤ length d
   pub written : Branches-written d p bs
   pub kept : Branches-kept t i p bs
-  pub bytes : bytes-from d p (bytes-under bs) ≡ coded-branches bs
+  pub bytes : bytes-from d p (bytes-under Flags bs) ≡ coded-branches bs
   pub tellable : Tellable-branches bs
 
 -- A branching at `first` as the first item, and after it a given number of items up to y.
@@ -36,7 +37,7 @@ pub record Branched (d t : List ℕ) (first y more : ℕ) (bs : Branches ℕ) (r
   pub there : first + 1 < length d
   pub count : getD d (first + 1) 0 ≡ branches-in bs
   pub held : Branches-held d t (first + 2) 1 bs
-  pub rest-stands : Items-stand d (first + 2 + bytes-under bs) y more rest
+  pub rest-stands : Items-stand d (first + 2 + bytes-under Flags bs) y more rest
 
 pub record Some-branched (d t : List ℕ) (first y more : ℕ) : Type 0 where
   pub branches : Branches ℕ

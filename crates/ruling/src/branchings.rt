@@ -16,6 +16,7 @@ use comparing::spots::same_conclusions;
 use finding::branches::next_item;
 use finding::branches::next_place;
 use finding::branches::sequence_of;
+use meaning::Form;
 use reading::marks::Marks;
 use reading::marks::Test;
 use reading::marks::each_holds;
@@ -108,7 +109,7 @@ pub fn rule_4(n: usize, m: usize, d: &[u8], t: &mut Notes, cited: Spot, l: Spot)
             let first = plan + 2;
             if d[first] == limits::BRANCHING_BYTE {
                 notes::sized(t);
-                match plan_at(n, m, d, plan, t) {
+                match plan_at(Form::Flags, n, m, d, plan, t) {
                     Read::Value(_, _) => {
                         let held = state_of(d, p);
                         let given = sequence_of(d, pc);

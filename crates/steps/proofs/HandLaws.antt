@@ -5,6 +5,7 @@ use native.Mathlib.Omega.{arith}
 use mathlib.Core.Path.{_≡_}
 use mathlib.Core.List.{List}
 use lib.ListN.{getD}
+use Rattle.meaning.specs.declared.Form.the-variants.{Flags}
 use Rattle.meaning.specs.Limits.{format, all-literals}
 use Rattle.meaning.specs.Reading
 use Rattle.meaning.specs.Reading.{literals, bound-of, plan-at}
@@ -35,7 +36,7 @@ module _ (s t : List ℕ) (here : At-hand s t) where
   pub items-are : getD t items-slot 0 ≡ items-of (plan-in s t)
   unfolding plan-at
   items-are =
-      let counted = sequence-read (table-in s .fluents) (table-in s .actions) s 8 (getD t plan-slot 0) 0 (omega arith) .holds (record { value = plan-in s t; items = getD t items-slot 0 }) (goals-in t) (here .plan) .counted in
+      let counted = sequence-read Flags (table-in s .fluents) (table-in s .actions) s 8 (getD t plan-slot 0) 0 (omega arith) .holds (record { value = plan-in s t; items = getD t items-slot 0 }) (goals-in t) (here .plan) .counted in
       omega arith
 
   -- The goals, and the whether entries behind them.

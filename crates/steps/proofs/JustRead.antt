@@ -13,17 +13,18 @@ use Rattle.meaning.specs.Tests.{either, pick}
 use Rattle.meaning.specs.Limits.{format, all-literals}
 use Rattle.meaning.specs.Requests.{Knowledge, Table, Request}
 use Rattle.meaning.specs.Reading
+use Rattle.meaning.specs.declared.Form.the-variants.{Flags}
 use Rattle.meaning.specs.Reading.{got, literals, bound-of, plan-at, placed, request-at, read-request}
 use Rattle.meaning.specs.Guards.{Guarded-request, read-guarded}
 use Rattle.meaning.specs.Refusals.{nowhere, contradiction-in}
 use Rattle.meaning.specs.Lines.{knowledge-of, sensing, senses}
 use Rattle.meaning.proofs.TestLaws.{clash, pick-true, pick-false, same-test, some-has, has-some, some-those}
-use Rattle.reading.specs.Bits.{bit-of}
+use Rattle.bytes.specs.Bits.{bit-of}
 use Rattle.reading.specs.Noted.{none-yet, count-slot, section-noted, table-noted, sensed-from, sensed-to, plan-slot, items-slot, goals-slot, guards-slot, word-bits, pair-slot, pair-there, slots, effects-slot, executability-slot, knowledge-slot}
 use Rattle.reading.specs.Planned.{items-of, plan-noted}
 use Rattle.reading.specs.Requested.{goals-place, plan-place, places-noted, tail-with, tail-noted, request-noted, guards-place, guarded-noted}
 use Rattle.reading.specs.Listed.{listed, List-here}
-use Rattle.reading.proofs.BitLaws.{no-bit}
+use Rattle.bytes.proofs.BitLaws.{no-bit}
 use Rattle.reading.proofs.PlanSizes.{sequence-read}
 use Rattle.reader.proofs.WholeLaws.{Guards-read, guarded-read}
 use Rattle.finding.specs.PlansHeld.{Plan-held}
@@ -131,9 +132,9 @@ module _ (s t : List ℕ) (here : Table-here s t) where
       sensed = knowledge-sensed a small
 
 -- A PLAN that was read behind such a table, and noted, with guards at a place.
-module _ (s t : List ℕ) (here : Table-here s t) (g p : ℕ) (y : Request) (q : ℕ) (read : request-at format s (table-in s) p ≡ got y q) where
+module _ (s t : List ℕ) (here : Table-here s t) (g p : ℕ) (y : Request) (q : ℕ) (read : request-at format Flags s (table-in s) p ≡ got y q) where
   abbrev u : List ℕ
-  u = tail-with g y t
+  u = tail-with Flags g y t
 
   parts-there : Table-parts s (table-in s) (here .table-end)
   parts-there = whole-table s t here
@@ -144,7 +145,7 @@ module _ (s t : List ℕ) (here : Table-here s t) (g p : ℕ) (y : Request) (q :
   each : Sections-read s y
   each = request-sections s (table-in s) p y q read
 
-  plan-slot-is : getD u plan-slot 0 ≡ plan-place y
+  plan-slot-is : getD u plan-slot 0 ≡ plan-place Flags y
   plan-slot-is = plan-noted-at s (table-in s) (parts-there .few) (parts-there .less) p y q read t g (here .sized)
 
   plan-is : plan-in s u ≡ y .plan
@@ -155,25 +156,25 @@ module _ (s t : List ℕ) (here : Table-here s t) (g p : ℕ) (y : Request) (q :
   unfolding plan-at
   items-is =
       let noted = items-noted s (table-in s) (parts-there .few) (parts-there .less) p y q read t g (here .sized) in
-      let counted = sequence-read (y .table .fluents) (y .table .actions) s 8 (plan-place y) 0 (omega arith) .holds (record { value = y .plan; items = each .items }) (goals-place y) (each .plan) .counted in
+      let counted = sequence-read Flags (y .table .fluents) (y .table .actions) s 8 (plan-place Flags y) 0 (omega arith) .holds (record { value = y .plan; items = each .items }) (goals-place Flags y) (each .plan) .counted in
       omega arith
 
-  goals-at : goals-in u ≡ goals-place y
+  goals-at : goals-in u ≡ goals-place Flags y
   unfolding goals-in
   goals-at = goals-noted s (table-in s) (parts-there .few) (parts-there .less) p y q read t g (here .sized)
 
   whether-at : whether-in s u ≡ y .whether-place
   unfolding whether-in
-  whether-at = rw goals-at (sym (list-after literals (y .table .fluents) (format .listed) s (goals-place y) (each .goals-list) (y .whether-place) (each .goals)))
+  whether-at = rw goals-at (sym (list-after literals (y .table .fluents) (format .listed) s (goals-place Flags y) (each .goals-list) (y .whether-place) (each .goals)))
 
-  goals-listed : listed s (goals-place y) ≡ each .goals-list
-  goals-listed = list-here literals (y .table .fluents) s (format .listed) (goals-place y) (each .goals-list) (y .whether-place) (each .goals) .0
+  goals-listed : listed s (goals-place Flags y) ≡ each .goals-list
+  goals-listed = list-here literals (y .table .fluents) s (format .listed) (goals-place Flags y) (each .goals-list) (y .whether-place) (each .goals) .0
 
   whether-listed : listed s (y .whether-place) ≡ each .whether-list
   whether-listed = list-here Reading.fluents (y .table .fluents) s (format .listed) (y .whether-place) (each .whether-list) (each .whether-end) (each .whether) .0
 
   -- THE REQUEST that is held has that table and what was read.
-  pub plan-request : request-in s (tail-with g y t) ≡ y
+  pub plan-request : request-in s (tail-with Flags g y t) ≡ y
   unfolding request-in
   plan-request = rw (table-is, plan-is, whether-at, goals-at, goals-listed, whether-listed, sym (each .goals-are), sym (each .whether-are)) refl
 
@@ -183,17 +184,17 @@ module _ (s t : List ℕ) (here : Table-here s t) (g p : ℕ) (y : Request) (q :
   request-nexts : Nexts u (format .items) 0 (y .plan)
   unfolding tail-with places-noted
   request-nexts =
-      let planned : List ℕ = plan-noted (plan-place y) t (y .plan) in
+      let planned : List ℕ = plan-noted Flags (plan-place Flags y) t (y .plan) in
       let few = plan-held-there .few in
-      nexts-agree (y .plan) (format .items) 0 planned (tail-with g y t)
+      nexts-agree (y .plan) (format .items) 0 planned (tail-with Flags g y t)
       (record {
         slot = λ j _ less.
-            kept (set (set (set planned plan-slot (plan-place y)) items-slot (items-of (y .plan))) goals-slot (goals-place y)) guards-slot (format .items + j) g (λ e. omega (arith, e, less, few))
-            ∙ kept (set (set planned plan-slot (plan-place y)) items-slot (items-of (y .plan))) goals-slot (format .items + j) (goals-place y) (λ e. omega (arith, e, less, few))
-            ∙ kept (set planned plan-slot (plan-place y)) items-slot (format .items + j) (items-of (y .plan)) (λ e. omega (arith, e, less, few))
-            ∙ kept planned plan-slot (format .items + j) (plan-place y) (λ e. omega (arith, e, less, few));
+            kept (set (set (set planned plan-slot (plan-place Flags y)) items-slot (items-of (y .plan))) goals-slot (goals-place Flags y)) guards-slot (format .items + j) g (λ e. omega (arith, e, less, few))
+            ∙ kept (set (set planned plan-slot (plan-place Flags y)) items-slot (items-of (y .plan))) goals-slot (format .items + j) (goals-place Flags y) (λ e. omega (arith, e, less, few))
+            ∙ kept (set planned plan-slot (plan-place Flags y)) items-slot (format .items + j) (items-of (y .plan)) (λ e. omega (arith, e, less, few))
+            ∙ kept planned plan-slot (format .items + j) (plan-place Flags y) (λ e. omega (arith, e, less, few));
       })
-      (plan-nexts (plan-place y) t (y .plan) few (omega (arith, here .sized)))
+      (plan-nexts (plan-place Flags y) t (y .plan) few (omega (arith, here .sized)))
 
   stays : Table-here s u
   stays = table-stays s t here g p y q read
@@ -203,11 +204,11 @@ module _ (s t : List ℕ) (here : Table-here s t) (g p : ℕ) (y : Request) (q :
   guards-slot-is = guards-noted s (table-in s) (parts-there .few) (parts-there .less) p y q read t g (here .sized)
 
   -- THE GUARDS that it holds.
-  plan-guards : guards-in s (tail-with g y t) ≡ pick (eqb g 0) (λ _. []) (λ _. placed (g + 1) (listed s g))
+  plan-guards : guards-in s (tail-with Flags g y t) ≡ pick (eqb g 0) (λ _. []) (λ _. placed (g + 1) (listed s g))
   unfolding guards-in
   plan-guards = rw guards-slot-is refl
 
-  pub plan-at-hand : contradiction-in (table-in s) ≡ nowhere → (eqb g 0 ≡ false → List-here all-literals s g) → At-hand s (tail-with g y t)
+  pub plan-at-hand : contradiction-in (table-in s) ≡ nowhere → (eqb g 0 ≡ false → List-here all-literals s g) → At-hand s (tail-with Flags g y t)
   unfolding run-places effect-places
   plan-at-hand passed guards =
       record {
@@ -229,7 +230,7 @@ module _ (s t : List ℕ) (here : Table-here s t) (g p : ℕ) (y : Request) (q :
       }
 
 -- Without guards there are none.
-pub plan-unguarded : (s t : List ℕ) (here : Table-here s t) (p : ℕ) (y : Request) (q : ℕ) → request-at format s (table-in s) p ≡ got y q → guards-in s (tail-noted y t) ≡ []
+pub plan-unguarded : (s t : List ℕ) (here : Table-here s t) (p : ℕ) (y : Request) (q : ℕ) → request-at format Flags s (table-in s) p ≡ got y q → guards-in s (tail-noted Flags y t) ≡ []
 plan-unguarded s t here p y q read = plan-guards s t here 0 p y q read ∙ pick-true (eqb 0 0) _ _ (eq-eqb 0 0 refl)
 
 -- A REQUEST that was read from the start, into notes that held nothing.
@@ -259,7 +260,7 @@ module _ (s : List ℕ) (bytes : (i : ℕ) → getD s i 0 < 256) (t : List ℕ) 
       ∙ plan-guards s before (read-comes s bytes t read) (read .guards) (read-parts s bytes t read .place) (read .request) (read .end) (read-tail s bytes t read)
 
 -- Read WHOLE it has no guards,
-module _ (s : List ℕ) (bytes : (i : ℕ) → getD s i 0 < 256) (t : List ℕ) (x : Request) (e : ℕ) (reads : read-request format s ≡ got x e) (noted : t ≡ request-noted x blank) where
+module _ (s : List ℕ) (bytes : (i : ℕ) → getD s i 0 < 256) (t : List ℕ) (x : Request) (e : ℕ) (reads : read-request format Flags s ≡ got x e) (noted : t ≡ request-noted Flags x blank) where
   pub plain-at-hand : contradiction-in (x .table) ≡ nowhere → At-hand s t
   plain-at-hand passed = read-at-hand s bytes t (plain-here s t x e reads noted) passed (λ some. clash (eq-eqb 0 0 refl) some)
 

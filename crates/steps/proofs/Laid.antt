@@ -11,6 +11,7 @@ use Rattle.meaning.specs.Limits.{format}
 use Rattle.meaning.specs.Requests.{Sequence, done, item, Item, act, branching, Branches, none, branch}
 use Rattle.meaning.specs.Derivations.{join}
 use Rattle.meaning.proofs.TestLaws.{by-test, pick-true, pick-false}
+use Rattle.meaning.specs.declared.Form.the-variants.{Flags}
 use Rattle.reading.specs.Planned.{items-of, items-in, items-under, bytes-of, place-of, following}
 use Rattle.reading.specs.Noted.{item-next, plan-slot, items-slot, around-from}
 use Rattle.finding.specs.PlansHeld.{Written, Item-written, Branches-written, Kept, Item-kept, Branches-kept}
@@ -102,7 +103,7 @@ module _ (s t : List ℕ) (plan : Sequence ℕ) (most : items-of plan ≤ format
       there = λ some. omega (arith, some, room);
       rest = λ some. left met (omega arith) (omega (arith, some)) ∙ under-here c b bs met after met (omega (arith, some)) ∙ rest-start b met after some;
     },
-    branches-laid bs (met + items-of b) (p + (1 + length c) + (2 + bytes-of b)) after (omega (arith, room)) (k .2)
+    branches-laid bs (met + items-of b) (p + (1 + length c) + (2 + bytes-of Flags b)) after (omega (arith, room)) (k .2)
         (λ i from to. left i (omega (arith, from)) (omega (arith, to)) ∙ under-later c b bs met after i from),
   )
 
@@ -183,7 +184,7 @@ module _ (s t : List ℕ) (plan : Sequence ℕ) (most : items-of plan ≤ format
         (around-part up met (met + (items-of b + items-under bs)) met (met + items-of b) after (omega arith) (omega arith) r)
         (λ j lo hi. left j lo (omega (arith, hi)) ∙ under-here c b bs met after j hi)
         i from (ltb-true i (met + items-of b) e))
-        (λ e. laid-under bs up (met + items-of b) (p + (1 + length c) + (2 + bytes-of b)) after (omega (arith, room)) (w .2) (k .2) (n .1) (small .1)
+        (λ e. laid-under bs up (met + items-of b) (p + (1 + length c) + (2 + bytes-of Flags b)) after (omega (arith, room)) (w .2) (k .2) (n .1) (small .1)
         (around-part up met (met + (items-of b + items-under bs)) (met + items-of b) (met + items-of b + items-under bs) after (omega arith) (omega arith) r)
         (λ j lo hi. left j (omega (arith, lo)) (omega (arith, hi)) ∙ under-later c b bs met after j lo)
         i (ltb-false i (met + items-of b) e) (omega (arith, to)))

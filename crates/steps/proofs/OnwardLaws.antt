@@ -22,6 +22,7 @@ use Rattle.reading.specs.Listed.{listed, holds-as}
 use Rattle.reading.specs.declared.marks.Test.the-variants.{Known}
 use Rattle.finding.specs.declared.places.Found as Code
 use Rattle.finding.specs.declared.places.Found.the-variants.{Nowhere, At}
+use Rattle.meaning.specs.declared.Form.the-variants.{Flags}
 use Rattle.reading.specs.Planned.{items-of, bytes-of, place-of}
 use Rattle.reading.specs.Noted.{item-next, slots, around-from}
 use Rattle.finding.specs.PlansHeld.{own-items, branches-in, Item-written, Branches-written}
@@ -257,7 +258,7 @@ module _ (s t : List ℕ) (i : ℕ) (marks : State) where
           step none count w l goes leaves stays = absurd (omega (arith, more, count))
           step (branch c d bs) count w l goes leaves stays =
               let no : each-of (known marks) c ≡ false = condition-is c (w .0 .condition) ∙ fails in
-              let there : q ≡ p + (1 + length c) + (2 + bytes-of d) = placed ∙ place-is s t met p c d (w .0) (l .0 .kept) in
+              let there : q ≡ p + (1 + length c) + (2 + bytes-of Flags d) = placed ∙ place-is s t met p c d (w .0) (l .0 .kept) in
               let items : j ≡ met + items-of d = counted ∙ item-is s t met p c d (w .0) (l .0 .kept) in
               let beyond = choosing .beyond in
               record {

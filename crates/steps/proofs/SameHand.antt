@@ -6,7 +6,7 @@ use mathlib.Core.Path.{_≡_, _∙_, ap}
 use mathlib.Core.List.{List}
 use lib.ListN.{getD}
 use Rattle.meaning.specs.Limits.{format}
-use Rattle.reading.specs.Bits.{bit-of}
+use Rattle.bytes.specs.Bits.{bit-of}
 use Rattle.reading.specs.Noted.{effect-lines, run-lines, sensed-from, sensed-to, plan-slot, items-slot, goals-slot, guards-slot, mode-slot, pair-slot, pair-there, word-bits}
 use Rattle.reading.specs.Ordered.{In-order}
 use Rattle.finding.proofs.PlanKept.{kept-agree}

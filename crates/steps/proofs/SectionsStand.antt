@@ -9,6 +9,7 @@ use Rattle.meaning.specs.Tests.{Has}
 use Rattle.meaning.specs.Limits.{format}
 use Rattle.meaning.specs.Requests.{Knowledge, Table, Request}
 use Rattle.meaning.specs.Reading
+use Rattle.meaning.specs.declared.Form.the-variants.{Flags}
 use Rattle.meaning.specs.Reading.{Got, got, fault, literals, below-at, list-at, knowledge-at, placed, plan-at, request-at}
 use Rattle.meaning.proofs.SettledLaws.{got-same}
 use Rattle.meaning.proofs.RangeLaws.{after-got, section-read}
@@ -36,26 +37,26 @@ module _ (s : List ℕ) (t : Table) (p : ℕ) (whole : Table-parts s t p) where
 -- SECTIONS 6 TO 8 of a request, each from where it stands.
 pub record Sections-read (s : List ℕ) (x : Request) : Type 0 where
   pub items : ℕ
-  pub plan : plan-at format (x .table .fluents) (x .table .actions) s (plan-place x) ≡ got (record { value = x .plan; items = items }) (goals-place x)
+  pub plan : plan-at format Flags (x .table .fluents) (x .table .actions) s (plan-place Flags x) ≡ got (record { value = x .plan; items = items }) (goals-place Flags x)
   pub goals-list : List ℕ
-  pub goals : list-at literals (x .table .fluents) (format .listed) s (goals-place x) ≡ got goals-list (x .whether-place)
-  pub goals-are : x .goals ≡ placed (goals-place x + 1) goals-list
+  pub goals : list-at literals (x .table .fluents) (format .listed) s (goals-place Flags x) ≡ got goals-list (x .whether-place)
+  pub goals-are : x .goals ≡ placed (goals-place Flags x + 1) goals-list
   pub whether-list : List ℕ
   pub whether-end : ℕ
   pub whether : list-at Reading.fluents (x .table .fluents) (format .listed) s (x .whether-place) ≡ got whether-list whether-end
   pub whether-are : x .whether ≡ placed (x .whether-place + 1) whether-list
 
-pub request-sections : (s : List ℕ) (t : Table) (p : ℕ) (y : Request) (q : ℕ) → request-at format s t p ≡ got y q → Sections-read s y
+pub request-sections : (s : List ℕ) (t : Table) (p : ℕ) (y : Request) (q : ℕ) → request-at format Flags s t p ≡ got y q → Sections-read s y
 unfolding request-at plan-place goals-place plan-at
 request-sections s t p y q e =
-    after-got (plan-at format (t .fluents) (t .actions) s p) _ e λ plan q₁ eplan v₁.
+    after-got (plan-at format Flags (t .fluents) (t .actions) s p) _ e λ plan q₁ eplan v₁.
     after-got (list-at literals (t .fluents) (format .listed) s q₁) _ v₁ λ goals q₂ egoals v₂.
     after-got (list-at Reading.fluents (t .fluents) (format .listed) s q₂) _ v₂ λ whether q₃ ewhether v₃.
-    let after = sequence-read (t .fluents) (t .actions) s 8 p 0 (omega arith) .holds plan q₁ eplan .through .after in
+    let after = sequence-read Flags (t .fluents) (t .actions) s 8 p 0 (omega arith) .holds plan q₁ eplan .through .after in
     let ends = list-through s literals (t .fluents) (format .listed) q₁ .holds goals q₂ egoals .after in
     let sized = placed-length (q₁ + 1) goals in
     let at : q₂ - (1 + length (placed (q₁ + 1) goals)) ≡ q₁ = omega arith in
-    let plan-stands : q₁ - (2 + bytes-of (plan .value)) ≡ p = omega arith in
+    let plan-stands : q₁ - (2 + bytes-of Flags (plan .value)) ≡ p = omega arith in
     subst on v₃ (record {
       items = plan .items;
       plan = rw (at, plan-stands) eplan;

@@ -15,9 +15,9 @@ use Rattle.meaning.specs.Tests.{both, either, some-of, Has}
 use Rattle.meaning.specs.Limits.{format}
 use Rattle.meaning.specs.Requests.{Knowledge}
 use Rattle.meaning.proofs.TestLaws.{by-test, clash, same-test, both-left, both-right, both-true, either-left, either-right, either-split, pick-true, pick-false}
-use Rattle.reading.specs.Bits.{bit-of, with-bit}
+use Rattle.bytes.specs.Bits.{bit-of, with-bit}
 use Rattle.reading.specs.Noted.{knowledge, raised, word-bits, pair-slot, pair-there, bit-noted, pair-noted, action-in, note-line, lines-noted, sensed-from, sensed-to, sensed, slots}
-use Rattle.reading.proofs.BitLaws.{bit-set, bit-kept}
+use Rattle.bytes.proofs.BitLaws.{bit-set, bit-kept}
 use Rattle.finding.proofs.KeptLaws.{raised-kept, raised-long, bit-noted-kept, bit-noted-long, note-long}
 
 raised-same : (slot v : ℕ) (t : List ℕ) → slot < length t → getD (raised slot v t) slot 0 ≡ max (getD t slot 0) v

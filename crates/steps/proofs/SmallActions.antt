@@ -7,6 +7,7 @@ use mathlib.Core.List.{List}
 use borrow.Author.Tests.{leb-false}
 use Rattle.meaning.specs.Limits.{format}
 use Rattle.meaning.specs.Requests.{Sequence}
+use Rattle.meaning.specs.declared.Form.the-variants.{Flags}
 use Rattle.meaning.specs.Reading.{got, Met, plan-at}
 use Rattle.meaning.proofs.PlanReads.{Said, Passed-on, plan-on}
 use Rattle.steps.specs.Small.{Small, Small-item, Small-under}
@@ -32,5 +33,5 @@ module _ (n m : ℕ) (s : List ℕ) (few : m ≤ format .actions) where
     a-branch = λ deep left p met c q b r rest e _ _ one more. (one, more);
   }
 
-  pub plan-small : (p : ℕ) (x : Met (Sequence ℕ)) (e : ℕ) → plan-at format n m s p ≡ got x e → Small (x .value)
+  pub plan-small : (p : ℕ) (x : Met (Sequence ℕ)) (e : ℕ) → plan-at format Flags n m s p ≡ got x e → Small (x .value)
   plan-small p = plan-on format n m s plan-few few-passed p .holds

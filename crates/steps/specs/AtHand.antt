@@ -8,6 +8,7 @@ use lib.ListN.{length, getD}
 use lib.Dec.{eqb}
 use Rattle.meaning.specs.Limits.{format, all-literals}
 use Rattle.meaning.specs.Refusals.{nowhere, contradiction-in}
+use Rattle.meaning.specs.declared.Form.the-variants.{Flags}
 use Rattle.meaning.specs.Reading.{got, literals, fluents, list-at, plan-at, table-at}
 use Rattle.reading.specs.Noted.{effect-lines, run-lines, plan-slot, items-slot}
 use Rattle.reading.specs.Ordered.{In-order}
@@ -23,14 +24,14 @@ pub record At-hand (s t : List ℕ) : Type 0 where
   pub short : length s ≤ format .request
   -- Sections 1 to 5 stand at the start, and the notes lead to each action's lines in file order and to what it senses.
   pub table-end : ℕ
-  pub table : table-at format s 0 ≡ got (table-in s) table-end
+  pub table : table-at format Flags s 0 ≡ got (table-in s) table-end
   pub effects : (a : ℕ) → a < format .actions → In-order t effect-lines a (effect-places s a)
   pub runs : (a : ℕ) → a < format .actions → In-order t run-lines a (run-places s a)
   pub senses : (a : ℕ) → a < format .actions → Senses s t a
   -- 16 has passed.
   pub no-contradiction : contradiction-in (table-in s) ≡ nowhere
   -- The plan stands from its slot up to the goals, and the notes lead from item to item.
-  pub plan : plan-at format (table-in s .fluents) (table-in s .actions) s (getD t plan-slot 0) ≡ got (record { value = plan-in s t; items = getD t items-slot 0 }) (goals-in t)
+  pub plan : plan-at format Flags (table-in s .fluents) (table-in s .actions) s (getD t plan-slot 0) ≡ got (record { value = plan-in s t; items = getD t items-slot 0 }) (goals-in t)
   pub held : Plan-held s t (plan-in s t)
   pub nexts : Nexts t (format .items) 0 (plan-in s t)
   -- The goals stand where their slot says, and the whether entries behind them.

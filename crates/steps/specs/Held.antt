@@ -7,6 +7,7 @@ use lib.Dec.{eqb}
 use Rattle.meaning.specs.Limits.{format}
 use Rattle.meaning.specs.Tests.{pick}
 use Rattle.meaning.specs.Requests.{Sequence, Entry, Request}
+use Rattle.meaning.specs.declared.Form.the-variants.{Flags}
 use Rattle.meaning.specs.Reading.{Got, got, fault, Met, plan-at, placed}
 use Rattle.reading.specs.Noted.{plan-slot, goals-slot, guards-slot}
 use Rattle.reading.specs.Listed.{listed}
@@ -20,7 +21,7 @@ plan-of (fault n p) = Sequence.done
 
 -- THE PLAN (FORMAT 2.17).
 unfoldable pub plan-in : (s t : List ℕ) → Sequence ℕ
-plan-in s t = plan-of (plan-at format (table-in s .fluents) (table-in s .actions) s (getD t plan-slot 0))
+plan-in s t = plan-of (plan-at format Flags (table-in s .fluents) (table-in s .actions) s (getD t plan-slot 0))
 
 -- THE GOALS, and the whether entries after them (FORMAT 2.18, 2.19).
 unfoldable pub goals-in : List ℕ → ℕ

@@ -8,6 +8,7 @@ use Rattle.meaning.specs.Tests.{pick}
 use Rattle.meaning.specs.Limits.{format}
 use Rattle.meaning.specs.Requests.{Sequence, done, item, Item, act, branching, Branches, none, branch}
 use Rattle.meaning.specs.Derivations.{join}
+use Rattle.meaning.specs.declared.Form.the-variants.{Flags}
 use Rattle.reading.specs.Noted.{item-place, item-next, around-from}
 use Rattle.reading.specs.Planned.{items-of, items-in, bytes-of, place-of, following}
 use Rattle.finding.specs.PlansHeld.{Item-written, Branch-kept}
@@ -87,7 +88,7 @@ pub record Branch-laid (t : List ℕ) (b : Sequence ℕ) (met p : ℕ) (d after 
 unfoldable pub Branches-laid : (t : List ℕ) (b : Sequence ℕ) (met p : ℕ) (after : Sequence ℕ) → Branches ℕ → Type 0
 Branches-laid t b met p after none = Unit {0}
 Branches-laid t b met p after (branch c d bs) =
-    Branch-laid t b met (p + (1 + length c) + (2 + bytes-of d)) d after × Branches-laid t b (met + items-of d) (p + (1 + length c) + (2 + bytes-of d)) after bs
+    Branch-laid t b met (p + (1 + length c) + (2 + bytes-of Flags d)) d after × Branches-laid t b (met + items-of d) (p + (1 + length c) + (2 + bytes-of Flags d)) after bs
 
 unfoldable pub Inside-laid : (t : List ℕ) (b : Sequence ℕ) (i : ℕ) (after : Sequence ℕ) → Item ℕ → Type 0
 Inside-laid t b i after (act p a) = a < format .actions

@@ -14,6 +14,7 @@ use Rattle.meaning.specs.declared.Answer.{Answer}
 use Rattle.meaning.specs.Limits
 use Rattle.meaning.specs.Limits.{format}
 use Rattle.meaning.specs.Requests.{Table, Request}
+use Rattle.meaning.specs.declared.Form.the-variants.{Flags}
 use Rattle.meaning.specs.Reading.{Got, got, fault, next, Met, repeated, count-at, table-at, request-at}
 use Rattle.meaning.specs.Refusals
 use Rattle.meaning.specs.Refusals.{nowhere, at, contradiction-in, overlap-in, refuse}
@@ -69,14 +70,14 @@ pub open-long : (s t : List ℕ) → format .request < length s → outcome-met 
 unfolding opening-noted opening outcome-met next
 open-long s t long = sym (ap (λ (g : Got Opening). next g (λ o p. got (record { value = table-noted (o .table) t; items = o .plans }) p)) (pick-true _ _ _ (lt-ltb _ _ long)))
 
-module _ (s t u : List ℕ) (first : Passed) (read : outcome first u ≡ noting table-noted (table-at format s 0) t) (short : length s ≤ format .request) where
-  opening-is : opening format s ≡ next (table-at format s 0) λ x p. next (count-at 1 Limits.most-plans s p) λ k q. got (record { table = x; table-end = p; plans = k }) q
+module _ (s t u : List ℕ) (first : Passed) (read : outcome first u ≡ noting table-noted (table-at format Flags s 0) t) (short : length s ≤ format .request) where
+  opening-is : opening format s ≡ next (table-at format Flags s 0) λ x p. next (count-at 1 Limits.most-plans s p) λ k q. got (record { table = x; table-end = p; plans = k }) q
   unfolding opening
   opening-is = pick-false _ _ _ (le-ltb _ _ short)
 
   pub open-fault : (k p : ℕ) (v : List ℕ) → first ≡ Stop k p → outcome-met (Fault k p) v ≡ opening-noted s t
   unfolding opening-noted outcome-met next
-  open-fault k p v stops = rw (opening-is, noting-fault table-noted (table-at format s 0) first t u read k p stops)
+  open-fault k p v stops = rw (opening-is, noting-fault table-noted (table-at format Flags s 0) first t u read k p stops)
 
   by-count : (x : Table) (p : ℕ) (g : Got ℕ) → outcome-met (number-read g) (table-noted x t)
       ≡ next {A = Opening} (next g λ k q. got (record { table = x; table-end = p; plans = k }) q) (λ o q. got (record { value = table-noted (o .table) t; items = o .plans }) q)
@@ -87,7 +88,7 @@ module _ (s t u : List ℕ) (first : Passed) (read : outcome first u ≡ noting 
   pub open-counted : (p : ℕ) (r : Read) → first ≡ To p → r ≡ number-read (count-at 1 Limits.most-plans s p) → outcome-met r u ≡ opening-noted s t
   unfolding opening-noted next
   open-counted p r goes is =
-      let x = noting-got table-noted (table-at format s 0) first t u read p goes in
+      let x = noting-got table-noted (table-at format Flags s 0) first t u read p goes in
       let opens : opening format s ≡ next (count-at 1 Limits.most-plans s p) (λ k q. got (record { table = x .0; table-end = p; plans = k }) q) =
       opening-is ∙ ap (λ (g : Got Table). next g λ y e. next (count-at 1 Limits.most-plans s e) λ k q. got (record { table = y; table-end = e; plans = k }) q) (x .1) in
       ap (λ (y : Read). outcome-met y u) is
@@ -169,7 +170,7 @@ module _ (s t : List ℕ) (plans start : ℕ) (here : Opened-here s t plans star
   same-table : table-in s ≡ here .opens .table
   same-table = table-is s (here .opens .table) (here .opens .table-end) (passed-by .table)
 
-  pub ends-there : table-at format s 0 ≡ got (table-in s) (start - 1)
+  pub ends-there : table-at format Flags s 0 ≡ got (table-in s) (start - 1)
   ends-there =
       let after = passed-by .behind in
       let before : start - 1 ≡ here .opens .table-end = omega arith in
@@ -208,7 +209,7 @@ module _ (s t : List ℕ) (plans start : ℕ) (here : Opened-here s t plans star
 
 -- PAST 16 AND 17.
 module _ (s t : List ℕ) (here : Table-here s t) where
-  front-there : Front s 0 (table-in s)
+  front-there : Front Flags s 0 (table-in s)
   front-there = front-here s t here
 
   pub counts-there : (n m : ℕ) → n ≡ getD s 0 0 → m ≡ getD s 1 0 → Counted s n m
@@ -230,15 +231,15 @@ module _ (s : List ℕ) (lent : List ℕ) (budget plans start : ℕ) (f : Found)
   file-answered row is written a said = rw (said, found-none (byte-after s (plans-at format s (table-in s) plans start)) f answer is, written)
 
 -- A PLAN THAT IS READ, with whatever is noted before it.
-module _ (s : List ℕ) (n m : ℕ) (counted : Counted s n m) (p : ℕ) (t u : List ℕ) (r : Passed) (read : outcome r u ≡ plan-first n m s p t) where
-  read-so : outcome r u ≡ noting tail-noted (request-at format s (table-in s) p) t
-  read-so = read ∙ rw (counted .fluents, counted .actions) (tail-whole s (table-in s) p t)
+module _ (s : List ℕ) (n m : ℕ) (counted : Counted s n m) (p : ℕ) (t u : List ℕ) (r : Passed) (read : outcome r u ≡ plan-first Flags n m s p t) where
+  read-so : outcome r u ≡ noting (tail-noted Flags) (request-at format Flags s (table-in s) p) t
+  read-so = read ∙ rw (counted .fluents, counted .actions) (tail-whole Flags s (table-in s) p t)
 
-  plan-got : (e : ℕ) → r ≡ To e → (y : Request) × (request-at format s (table-in s) p ≡ got y e) × (u ≡ tail-noted y t)
-  plan-got e is = noting-got tail-noted (request-at format s (table-in s) p) r t u read-so e is
+  plan-got : (e : ℕ) → r ≡ To e → (y : Request) × (request-at format Flags s (table-in s) p ≡ got y e) × (u ≡ tail-noted Flags y t)
+  plan-got e is = noting-got (tail-noted Flags) (request-at format Flags s (table-in s) p) r t u read-so e is
 
-  plan-stop : (k q : ℕ) → r ≡ Stop k q → request-at format s (table-in s) p ≡ fault k q
-  plan-stop k q is = noting-fault tail-noted (request-at format s (table-in s) p) r t u read-so k q is
+  plan-stop : (k q : ℕ) → r ≡ Stop k q → request-at format Flags s (table-in s) p ≡ fault k q
+  plan-stop k q is = noting-fault (tail-noted Flags) (request-at format Flags s (table-in s) p) r t u read-so k q is
 
 -- THE FIRST PASS: what is left of the plans ends where all do.
 pub record Seeking (s : List ℕ) (plans start left p : ℕ) : Type 0 where
@@ -253,7 +254,7 @@ behind-plan s y (got rest r) = refl
 behind-plan s y (fault k q) = refl
 
 module _ (s : List ℕ) (n m : ℕ) (counted : Counted s n m) (plans start left p : ℕ) (seeks : Seeking s plans start left p) where
-  module _ (t u : List ℕ) (r : Passed) (read : outcome r u ≡ plan-first n m s p t) (some : 0 < left) where
+  module _ (t u : List ℕ) (r : Passed) (read : outcome r u ≡ plan-first Flags n m s p t) (some : 0 < left) where
     one-less : left ≡ suc (left - 1)
     one-less = omega arith
 
@@ -265,8 +266,8 @@ module _ (s : List ℕ) (n m : ℕ) (counted : Counted s n m) (plans start left 
           same =
               seeks .same
               ∙ ap (λ (k : ℕ). byte-after s (plans-at format s (table-in s) k p)) one-less
-              ∙ ap (λ (g : Got Request). byte-after s (next g λ x q. next (repeated (request-at format s (table-in s)) (left - 1) q) λ rest i. got (x ∷ rest) i)) (y .1)
-              ∙ behind-plan s (y .0) (repeated (request-at format s (table-in s)) (left - 1) e);
+              ∙ ap (λ (g : Got Request). byte-after s (next g λ x q. next (repeated (request-at format Flags s (table-in s)) (left - 1) q) λ rest i. got (x ∷ rest) i)) (y .1)
+              ∙ behind-plan s (y .0) (repeated (request-at format Flags s (table-in s)) (left - 1) e);
         }
 
     pub seeking-stops : (k q : ℕ) → r ≡ Stop k q → Nowhere ≡ found (byte-after s (plans-at format s (table-in s) plans start))
@@ -274,7 +275,7 @@ module _ (s : List ℕ) (n m : ℕ) (counted : Counted s n m) (plans start left 
     seeking-stops k q is =
         sym (ap found (seeks .same
         ∙ ap (λ (i : ℕ). byte-after s (plans-at format s (table-in s) i p)) one-less
-        ∙ ap (λ (g : Got Request). byte-after s (next g λ x i. next (repeated (request-at format s (table-in s)) (left - 1) i) λ rest j. got (x ∷ rest) j)) (plan-stop s n m counted p t u r read k q is)))
+        ∙ ap (λ (g : Got Request). byte-after s (next g λ x i. next (repeated (request-at format Flags s (table-in s)) (left - 1) i) λ rest j. got (x ∷ rest) j)) (plan-stop s n m counted p t u r read k q is)))
 
   module _ (none : left ≤ 0) where
     all-read : byte-after s (plans-at format s (table-in s) plans start) ≡ pick (ltb p (length s)) (λ _. at p) (λ _. nowhere)
@@ -412,7 +413,7 @@ unfolding plan-answer next
 answer-anywhere y budget e = past-answer y budget e (overlap-in (y .plan))
 
 module _ (s t row : List ℕ) (budget plans start k p : ℕ) (answers : Answering s t row budget plans start k p) (n m : ℕ) (counted : Counted s n m) (more : k < plans)
-    (u : List ℕ) (r : Passed) (read : outcome r u ≡ plan-first n m s p t) where
+    (u : List ℕ) (r : Passed) (read : outcome r u ≡ plan-first Flags n m s p t) where
   pub answering-room : 4 * k + 4 ≤ length row
   answering-room = let sized = answers .sized in omega arith
 
@@ -421,15 +422,15 @@ module _ (s t row : List ℕ) (budget plans start k p : ℕ) (answers : Answerin
 
   -- What is left begins with this plan.
   this-first : rows (answers-at format s (table-in s) budget plans start)
-      ≡ take (4 * k) row ++ rows (plan-answer format budget (request-at format s (table-in s) p) ∷ after-plan (plans - (k + 1)) (request-at format s (table-in s) p) (λ e. answers-at format s (table-in s) budget (plans - (k + 1)) e))
+      ≡ take (4 * k) row ++ rows (plan-answer format budget (request-at format Flags s (table-in s) p) ∷ after-plan (plans - (k + 1)) (request-at format Flags s (table-in s) p) (λ e. answers-at format s (table-in s) budget (plans - (k + 1)) e))
   unfolding answers-at
   this-first = answers .so-far ∙ ap (λ (i : ℕ). take (4 * k) row ++ rows (answers-at format s (table-in s) budget i p)) one-more
 
-  answer-inside : plan-answer format budget (request-at format s (table-in s) p) .place ≤ length s
+  answer-inside : plan-answer format budget (request-at format Flags s (table-in s) p) .place ≤ length s
   answer-inside = answer-placed format s (table-in s) budget (table-below format s (table-in s) (answers .here .table-end) (answers .here .table)) p (answers .inside)
 
   module _ (e : ℕ) (is : r ≡ To e) where
-    y : (y : Request) × (request-at format s (table-in s) p ≡ got y e) × (u ≡ tail-noted y t)
+    y : (y : Request) × (request-at format Flags s (table-in s) p ≡ got y e) × (u ≡ tail-noted Flags y t)
     y = plan-got s n m counted p t u r read e is
 
     pub answering-hand : contradiction-in (table-in s) ≡ nowhere → At-hand s u
@@ -440,19 +441,19 @@ module _ (s t row : List ℕ) (budget plans start k p : ℕ) (answers : Answerin
 
     -- And no mode.
     pub answering-known : mode-in u ≡ 0
-    answering-known = ap mode-in (y .2) ∙ table-mode s (tail-noted (y .0) t) (table-stays s t (answers .here) 0 p (y .0) e (y .1))
+    answering-known = ap mode-in (y .2) ∙ table-mode s (tail-noted Flags (y .0) t) (table-stays s t (answers .here) 0 p (y .0) e (y .1))
 
     held-is : request-in s u ≡ y .0
     held-is = ap (request-in s) (y .2) ∙ plan-request s t (answers .here) 0 p (y .0) e (y .1)
 
     module _ (a : Answer) (given : a ≡ plan-answer format budget (got (request-in s u) 0)) where
-      answer-is : a ≡ plan-answer format budget (request-at format s (table-in s) p)
+      answer-is : a ≡ plan-answer format budget (request-at format Flags s (table-in s) p)
       answer-is = given ∙ ap (λ (x : Request). plan-answer format budget (got x 0)) held-is ∙ sym (ap (plan-answer format budget) (y .1) ∙ answer-anywhere (y .0) budget e)
 
       pub answering-small : a .place < 65536
       answering-small =
           let inside = answer-inside in
-          let same : a .place ≡ plan-answer format budget (request-at format s (table-in s) p) .place = ap (λ (x : Answer). x .place) answer-is in
+          let same : a .place ≡ plan-answer format budget (request-at format Flags s (table-in s) p) .place = ap (λ (x : Answer). x .place) answer-is in
           let short = answers .here .short in
           omega arith
 
@@ -465,14 +466,14 @@ module _ (s t row : List ℕ) (budget plans start k p : ℕ) (answers : Answerin
         sized = rw written (put-long row k a ∙ answers .sized);
         so-far =
             this-first
-            ∙ ap (λ (x : Answer). take (4 * k) row ++ rows (x ∷ after-plan (plans - (k + 1)) (request-at format s (table-in s) p) (λ e. answers-at format s (table-in s) budget (plans - (k + 1)) e))) (sym answer-is)
+            ∙ ap (λ (x : Answer). take (4 * k) row ++ rows (x ∷ after-plan (plans - (k + 1)) (request-at format Flags s (table-in s) p) (λ e. answers-at format s (table-in s) budget (plans - (k + 1)) e))) (sym answer-is)
             ∙ ap (λ (g : Got Request). take (4 * k) row ++ rows (a ∷ after-plan (plans - (k + 1)) g (λ e. answers-at format s (table-in s) budget (plans - (k + 1)) e))) (y .1)
             ∙ put-next row k a (answers-at format s (table-in s) budget (plans - (k + 1)) e) answering-room
             ∙ ap (λ (xs : List ℕ). take (4 * (k + 1)) xs ++ rows (answers-at format s (table-in s) budget (plans - (k + 1)) e)) (sym written);
       }
 
   module _ (number q : ℕ) (is : r ≡ Stop number q) where
-    fails-there : request-at format s (table-in s) p ≡ fault number q
+    fails-there : request-at format Flags s (table-in s) p ≡ fault number q
     fails-there = plan-stop s n m counted p t u r read number q is
 
     pub answering-fault : (a : Answer) → a ≡ record { number = number; input = 1; place = q; count = 0 } → a .place < 65536
@@ -480,7 +481,7 @@ module _ (s t row : List ℕ) (budget plans start k p : ℕ) (answers : Answerin
     answering-fault a said =
         let at : a .place ≡ q = ap (λ (x : Answer). x .place) said in
         let inside = answer-inside in
-        let same : plan-answer format budget (request-at format s (table-in s) p) .place ≡ q = ap (λ (g : Got Request). plan-answer format budget g .place) fails-there in
+        let same : plan-answer format budget (request-at format Flags s (table-in s) p) .place ≡ q = ap (λ (g : Got Request). plan-answer format budget g .place) fails-there in
         let short = answers .here .short in
         omega arith
 

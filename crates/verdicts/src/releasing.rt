@@ -25,6 +25,7 @@ use bytes::limits;
 use bytes::lists::Passed;
 use finding::places::Found;
 use meaning::Answer;
+use meaning::Form;
 use reading::notes;
 use reading::notes::Notes;
 use reading::notes::get;
@@ -43,7 +44,7 @@ fn open_file(file: &[u8], t: &mut Notes) -> Read
     if limits::REQUEST < file.len() {
         return Read::Fault(limits::TOO_LONG, 0);
     }
-    match table_at(file, 0, t) {
+    match table_at(Form::Flags, file, 0, t) {
         Passed::To(p) => count_at(1, limits::PLANS, file, p),
         Passed::Fault(k, p) => Read::Fault(k, p),
     }
@@ -58,7 +59,7 @@ fn byte_after(n: usize, m: usize, file: &[u8], plans: usize, start: usize) -> Fo
     let mut left = plans;
     let mut p = start;
     while 0 < left {
-        match request_at(n, m, file, p, &mut t) {
+        match request_at(Form::Flags, n, m, file, p, &mut t) {
             Passed::To(e) => {
                 p = e;
                 left -= 1;
@@ -142,7 +143,7 @@ fn answer_plans(
     let mut k = 0;
     let mut p = start;
     while k < plans {
-        match request_at(n, m, file, p, t) {
+        match request_at(Form::Flags, n, m, file, p, t) {
             Passed::To(e) => {
                 let answer = answer_plan(file, t, budget);
                 put_answer(row, k, answer);

@@ -9,6 +9,7 @@ use mir.Val.{Fits}
 use Rattle.meaning.specs.Requests.{Sequence, Item, act, branching, Branches, none, branch}
 use Rattle.meaning.specs.Layouts.{item-written}
 use Rattle.meaning.proofs.MovedReads.{stands-length, stands-inside}
+use Rattle.meaning.specs.declared.Form.the-variants.{Flags}
 use Rattle.reading.specs.Noted.{item-place, items-slot, plan-slot}
 use Rattle.reading.specs.Planned.{items-of, bytes-of, bytes-in, bytes-under, place-of}
 use Rattle.finding.specs.PlansHeld.{branches-in, Item-written, Branches-written}
@@ -38,7 +39,7 @@ module _ (s t : List ℕ) (here : At-hand s t) (i : ℕ) (less : i < items-of (p
   start-there = item-there s t here i less .there
 
   -- It ends so many bytes behind its place.
-  pub ends-behind : (end : ℕ) → end ≡ getD t (item-place + i) 0 + bytes-in (laid .this) → Item-ends s t i end
+  pub ends-behind : (end : ℕ) → end ≡ getD t (item-place + i) 0 + bytes-in Flags (laid .this) → Item-ends s t i end
   ends-behind end is =
       let at = laid .place in
       let stands = this-stands in
@@ -63,7 +64,7 @@ pub record Ending (s t : List ℕ) (i left p met : ℕ) : Type 0 where
   pub count : left ≡ branches-in branches
   pub written : Branches-written s p branches
   pub laid : Branches-laid t (plan-in s t) met p after branches
-  pub ends : (end : ℕ) → end ≡ p + bytes-under branches → Item-ends s t i end
+  pub ends : (end : ℕ) → end ≡ p + bytes-under Flags branches → Item-ends s t i end
 
 module _ (s t : List ℕ) (here : At-hand s t) (i : ℕ) (less : i < items-of (plan-in s t)) (start : ℕ) (starts : start ≡ getD t (0 + i) 0) where
   pub first-there : start < length s
@@ -77,7 +78,7 @@ module _ (s t : List ℕ) (here : At-hand s t) (i : ℕ) (less : i < items-of (p
   unfolding place-of bytes-in Item-written
   action-ends other = let l = laid s t here i less in ends-behind s t here i less (start + 1) (by-item (l .this) (l .place) (l .written))
     where
-      by-item : (this : Item ℕ) → getD t (0 + i) 0 ≡ place-of this → Item-written s this → start + 1 ≡ getD t (0 + i) 0 + bytes-in this
+      by-item : (this : Item ℕ) → getD t (0 + i) 0 ≡ place-of this → Item-written s this → start + 1 ≡ getD t (0 + i) 0 + bytes-in Flags this
       by-item (act p a) place w = omega (arith, starts)
       by-item (branching p bs) place w = absurd (other (ap (λ (n : ℕ). getD s n 0) (starts ∙ place) ∙ w .0 .byte))
 
@@ -98,7 +99,7 @@ module _ (s t : List ℕ) (here : At-hand s t) (i : ℕ) (less : i < items-of (p
         rw (counted, starts) (by-item (l .this) (l .after) (l .place) (l .written) (l .inside) (ends-behind s t here i less))
       where
         by-item : (this : Item ℕ) (after : Sequence ℕ) → getD t (0 + i) 0 ≡ place-of this → Item-written s this → Inside-laid t (plan-in s t) i after this
-            → ((end : ℕ) → end ≡ getD t (0 + i) 0 + bytes-in this → Item-ends s t i end)
+            → ((end : ℕ) → end ≡ getD t (0 + i) 0 + bytes-in Flags this → Item-ends s t i end)
             → Ending s t i (getD s (getD t (0 + i) 0 + 1) 0) (getD t (0 + i) 0 + 2) (i + 1)
         by-item (act p a) after place w inside ends =
             let byte = w .byte in let below = w .below in
@@ -119,7 +120,7 @@ module _ (s t : List ℕ) (i left p met : ℕ) (ending : Ending s t i left p met
   unfolding branches-in bytes-under
   ended over = by-branch (ending .branches) (ending .count) (ending .ends)
     where
-      by-branch : (bs : Branches ℕ) → left ≡ branches-in bs → ((end : ℕ) → end ≡ p + bytes-under bs → Item-ends s t i end) → Item-ends s t i p
+      by-branch : (bs : Branches ℕ) → left ≡ branches-in bs → ((end : ℕ) → end ≡ p + bytes-under Flags bs → Item-ends s t i end) → Item-ends s t i p
       by-branch none count ends = ends p (omega arith)
       by-branch (branch c d bs) count ends = absurd (omega (arith, over, count))
 
@@ -132,10 +133,10 @@ module _ (s t : List ℕ) (i left p met : ℕ) (ending : Ending s t i left p met
     ending-next q j placed counted = by-branch (ending .branches) (ending .count) (ending .written) (ending .laid) (ending .ends)
       where
         by-branch : (bs : Branches ℕ) → left ≡ branches-in bs → Branches-written s p bs → Branches-laid t (plan-in s t) met p (ending .after) bs
-            → ((end : ℕ) → end ≡ p + bytes-under bs → Item-ends s t i end) → Ending s t i (left - 1) q j
+            → ((end : ℕ) → end ≡ p + bytes-under Flags bs → Item-ends s t i end) → Ending s t i (left - 1) q j
         by-branch none count w l ends = absurd (omega (arith, more, count))
         by-branch (branch c d bs) count w l ends =
-            let there : q ≡ p + (1 + length c) + (2 + bytes-of d) = placed ∙ place-is s t met p c d (w .0) (l .0 .kept) in
+            let there : q ≡ p + (1 + length c) + (2 + bytes-of Flags d) = placed ∙ place-is s t met p c d (w .0) (l .0 .kept) in
             let items : j ≡ met + items-of d = counted ∙ item-is s t met p c d (w .0) (l .0 .kept) in
             record {
               branches = bs;

@@ -10,6 +10,7 @@ use borrow.Author.Tests.{eqb-true}
 use Rattle.meaning.specs.Limits
 use Rattle.meaning.specs.Limits.{format}
 use Rattle.meaning.specs.Requests.{Sequence, done, item, Item, act, branching, Branches, none, branch}
+use Rattle.meaning.specs.declared.Form.the-variants.{Flags}
 use Rattle.meaning.specs.Reading.{got, Met, literals, body-at, plan-at}
 use Rattle.meaning.specs.Derivations.{join}
 use Rattle.meaning.specs.Reported.{Item-in, Item-of, Item-under}
@@ -25,15 +26,15 @@ use Rattle.steps.specs.Rests.{rest-in, rest-within, rest-under, rest-at}
 mutual
   unfolding items-written bytes-of list-written number-written
 
-  pub items-length : (b : Sequence ℕ) → length (items-written b) ≡ bytes-of b
+  pub items-length : (b : Sequence ℕ) → length (items-written b) ≡ bytes-of Flags b
   items-length done = refl
   items-length (item i rest) = let one = item-length i in let more = items-length rest in length-append (item-written i) (items-written rest) ∙ omega (arith, one, more)
 
-  pub item-length : (i : Item ℕ) → length (item-written i) ≡ bytes-in i
+  pub item-length : (i : Item ℕ) → length (item-written i) ≡ bytes-in Flags i
   item-length (act p a) = refl
   item-length (branching p bs) = let all = branches-length bs in omega (arith, all)
 
-  branches-length : (bs : Branches ℕ) → length (branches-written bs) ≡ bytes-under bs
+  branches-length : (bs : Branches ℕ) → length (branches-written bs) ≡ bytes-under Flags bs
   branches-length none = refl
   branches-length (branch c b bs) =
       let own : List ℕ = number-written (Layouts.items-in b) ++ items-written b in
@@ -100,7 +101,7 @@ module _ (n m : ℕ) (s : List ℕ) (bytes : Bytes s) where
         );
   }
 
-  pub each-stands : (p : ℕ) (x : Met (Sequence ℕ)) (e : ℕ) → plan-at format n m s p ≡ got x e → (i : Item ℕ) → Item-in (x .value) i → Item-stands s i
+  pub each-stands : (p : ℕ) (x : Met (Sequence ℕ)) (e : ℕ) → plan-at format Flags n m s p ≡ got x e → (i : Item ℕ) → Item-in (x .value) i → Item-stands s i
   each-stands p x e read = plan-on format n m s plan-stands stands-passed p .holds x e read .1
 
 -- WHAT IS LEFT. What is so of each item of a plan and of what is behind it is so of each item that is left.

@@ -47,7 +47,7 @@ pub(crate) struct Bounds {
 
 impl Bounds {
     /// Those of a derivation for a request.
-    pub fn of_derivation(request: &Request) -> Bounds {
+    pub fn of_derivation<L>(request: &Request<L>) -> Bounds {
         Bounds {
             fluents: request.fluents,
             actions: request.actions,
@@ -56,7 +56,7 @@ impl Bounds {
     }
 
     /// Those of a request, or of a release file with this table.
-    pub fn of_request(request: &Request) -> Bounds {
+    pub fn of_request<L>(request: &Request<L>) -> Bounds {
         Bounds {
             longest: REQUEST_LIMIT,
             ..Bounds::of_derivation(request)
@@ -225,7 +225,7 @@ const WRONG_COUNTS: [usize; 6] = [
 ];
 
 /// A count off by one, or far out.
-fn wrong_count(rng: &mut Rng, mut bytes: Vec<u8>, place: usize) -> Damaged {
+pub(crate) fn wrong_count(rng: &mut Rng, mut bytes: Vec<u8>, place: usize) -> Damaged {
     bytes[place] = match rng.below(4) {
         0 | 1 => bytes[place].wrapping_add(1),
         2 => bytes[place].wrapping_sub(1),
@@ -235,7 +235,7 @@ fn wrong_count(rng: &mut Rng, mut bytes: Vec<u8>, place: usize) -> Damaged {
 }
 
 /// An item count off by one, or any other up to 65,535.
-fn wrong_item_count(rng: &mut Rng, mut bytes: Vec<u8>, place: usize) -> Damaged {
+pub(crate) fn wrong_item_count(rng: &mut Rng, mut bytes: Vec<u8>, place: usize) -> Damaged {
     let count = u16::from_be_bytes([bytes[place], bytes[place + 1]]);
     let wrong = match rng.below(4) {
         0 => count.wrapping_add(1),
@@ -268,12 +268,12 @@ fn turned(_: &mut Rng, mut bytes: Vec<u8>, place: usize) -> Damaged {
 
 /// A fluent, literal or action that is too large. With 128 fluents no literal is, and item 255 is
 /// a branching.
-fn too_large(rng: &mut Rng, whole: &Encoded, bounds: Bounds) -> Damaged {
+pub(crate) fn too_large(rng: &mut Rng, whole: &Encoded, bounds: Bounds) -> Damaged {
     let wrong = |kind| match kind {
         Kind::Action => Some((usize::from(bounds.actions), 255)),
         Kind::Item => Some((usize::from(bounds.actions), BRANCHING - 1)),
         Kind::Literal => Some((2 * usize::from(bounds.fluents), 255)),
-        Kind::Fluent => Some((usize::from(bounds.fluents), 255)),
+        Kind::Fluent | Kind::NamedFluent => Some((usize::from(bounds.fluents), 255)),
         _ => None,
     };
     let targets: Vec<(usize, u8, u8)> = whole
@@ -344,7 +344,7 @@ fn beyond_limits(rng: &mut Rng, whole: &Encoded, bounds: Bounds) -> Damaged {
 }
 
 /// One byte changed, which is then refused by this number.
-fn with_byte(mut bytes: Vec<u8>, place: usize, byte: u8, number: u8) -> Damaged {
+pub(crate) fn with_byte(mut bytes: Vec<u8>, place: usize, byte: u8, number: u8) -> Damaged {
     bytes[place] = byte;
     Damaged::sure(bytes, number, place)
 }

@@ -1,7 +1,9 @@
-//! Writing requests, guarded requests, release files and derivations as bytes, with a mark on each byte that damage may aim at.
+//! Writing requests, guarded requests, values requests, release files and derivations as bytes, with a mark on each byte that damage may aim at.
 
+use crate::form::Form;
 use crate::model::{Conclusion, Guarded, Item, Line, Proof, ProofLine, Request};
 use crate::reader::BRANCHING;
+use crate::values::Valued;
 
 /// What a byte, or the first byte of two, stands for.
 #[derive(Clone, Copy, Debug, PartialEq, Eq)]
@@ -17,6 +19,10 @@ pub enum Kind {
     Item,
     Literal,
     Fluent,
+    /// A number of values, and the two bytes of a literal of a values request.
+    Values,
+    NamedFluent,
+    Says,
     Branching,
     Rule,
     Citation,
@@ -43,7 +49,7 @@ pub struct Encoded {
 /// or wrong, is written.
 pub fn encode_request(request: &Request) -> Encoded {
     let mut out = Encoded::default();
-    out.table(request);
+    out.table(request, &[]);
     out.asked(request);
     out
 }
@@ -51,7 +57,15 @@ pub fn encode_request(request: &Request) -> Encoded {
 /// Writes a guarded request: a request, and then its guards.
 pub fn encode_guarded(guarded: &Guarded) -> Encoded {
     let mut out = encode_request(&guarded.request);
-    out.list(Kind::Literal, &guarded.guards);
+    out.literals(&guarded.guards);
+    out
+}
+
+/// Writes a values request.
+pub fn encode_valued(valued: &Valued) -> Encoded {
+    let mut out = Encoded::default();
+    out.table(&valued.request, &valued.values);
+    out.asked(&valued.request);
     out
 }
 
@@ -66,7 +80,7 @@ pub struct EncodedRelease {
 /// Writes a release file: the table, the count of these plans, and each plan's sections 6 to 8.
 pub fn encode_release(table: &Request, plans: &[Request]) -> EncodedRelease {
     let mut whole = Encoded::default();
-    whole.table(table);
+    whole.table(table, &[]);
     let mut places = vec![whole.bytes.len()];
     whole.count(Kind::Count, plans.len());
     for plan in plans {
@@ -82,9 +96,9 @@ pub fn encode_derivation(lines: &[Line]) -> Encoded {
     let mut out = Encoded::default();
     out.wide(Kind::LineCount, lines.len());
     for line in lines {
-        out.list(Kind::Literal, &line.before);
+        out.literals(&line.before);
         out.sequence(&line.sequence);
-        out.list(Kind::Literal, &line.after);
+        out.literals(&line.after);
         out.byte(Kind::Rule, line.rule);
         out.cites(&line.cites);
     }
@@ -111,7 +125,7 @@ pub fn proof_place(lines: &[ProofLine], index: usize) -> usize {
 }
 
 impl Encoded {
-    fn entry(&mut self, kind: Kind, byte: u8, follows: bool) {
+    pub(crate) fn entry(&mut self, kind: Kind, byte: u8, follows: bool) {
         self.marks.push(Mark {
             place: self.bytes.len(),
             kind,
@@ -146,32 +160,35 @@ impl Encoded {
     fn proof_lines(&mut self, lines: &[ProofLine]) {
         self.wide(Kind::LineCount, lines.len());
         for line in lines {
-            self.list(Kind::Literal, &line.before);
+            self.literals(&line.before);
             self.sequence(&line.sequence);
             self.byte(Kind::Rule, line.rule);
             match &line.gives {
-                Conclusion::List(after) => self.list(Kind::Literal, after),
+                Conclusion::List(after) => self.literals(after),
                 Conclusion::Fluent(fluent) => self.byte(Kind::Fluent, *fluent),
             }
             self.cites(&line.cites);
         }
     }
 
-    /// Sections 1 to 5.
-    fn table(&mut self, request: &Request) {
+    /// Sections 1 to 5, of a values request with the numbers of values.
+    fn table<L: Form>(&mut self, request: &Request<L>, values: &[u8]) {
         self.byte(Kind::Count, request.fluents);
+        for &number in values {
+            self.byte(Kind::Values, number);
+        }
         self.byte(Kind::Count, request.actions);
-        self.list(Kind::Literal, &request.facts);
+        self.literals(&request.facts);
         self.count(Kind::LinesCount, request.effects.len());
         for line in &request.effects {
             self.byte(Kind::Action, line.action);
-            self.byte(Kind::Literal, line.literal);
-            self.list(Kind::Literal, &line.body);
+            line.literal.write(self, false);
+            self.literals(&line.body);
         }
         self.count(Kind::LinesCount, request.allowances.len());
         for line in &request.allowances {
             self.byte(Kind::Action, line.action);
-            self.list(Kind::Literal, &line.body);
+            self.literals(&line.body);
         }
         self.count(Kind::LinesCount, request.knowledge.len());
         for line in &request.knowledge {
@@ -181,20 +198,23 @@ impl Encoded {
     }
 
     /// Sections 6 to 8.
-    fn asked(&mut self, request: &Request) {
+    fn asked<L: Form>(&mut self, request: &Request<L>) {
         self.sequence(&request.plan);
-        self.list(Kind::Literal, &request.goals);
-        self.list(Kind::Fluent, &request.whether);
-    }
-
-    fn list(&mut self, kind: Kind, entries: &[u8]) {
-        self.count(Kind::Count, entries.len());
-        for (index, &byte) in entries.iter().enumerate() {
-            self.entry(kind, byte, index > 0);
+        self.literals(&request.goals);
+        self.count(Kind::Count, request.whether.len());
+        for (index, &fluent) in request.whether.iter().enumerate() {
+            self.entry(Kind::Fluent, fluent, index > 0);
         }
     }
 
-    fn sequence(&mut self, items: &[Item]) {
+    fn literals<L: Form>(&mut self, list: &[L]) {
+        self.count(Kind::Count, list.len());
+        for (index, literal) in list.iter().enumerate() {
+            literal.write(self, index > 0);
+        }
+    }
+
+    fn sequence<L: Form>(&mut self, items: &[Item<L>]) {
         self.wide(Kind::ItemCount, items.len());
         for item in items {
             match item {
@@ -203,7 +223,7 @@ impl Encoded {
                     self.byte(Kind::Branching, BRANCHING);
                     self.count(Kind::Count, branches.len());
                     for branch in branches {
-                        self.list(Kind::Literal, &branch.condition);
+                        self.literals(&branch.condition);
                         self.sequence(&branch.sequence);
                     }
                 }

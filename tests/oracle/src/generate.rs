@@ -10,6 +10,7 @@ use crate::reader::{ACTION_LIMIT, BRANCH_LIMIT, FLUENT_LIMIT, ITEM_LIMIT, NESTIN
 use crate::rng::Rng;
 use crate::settle::{clashing, contradictory};
 use crate::table::{bit, readings, Known, Mask, Table};
+use crate::translation::{translated, Translation};
 
 /// Most states that a plan is grown along.
 const STATES: usize = 12;
@@ -697,41 +698,8 @@ pub fn long_plan(rng: &mut Rng, items: usize) -> Request {
 /// The same request with larger numbers for its fluents and actions, in the same order, so that
 /// nothing else changes: its answer has the same number, place and count.
 pub fn spread(rng: &mut Rng, request: &Request) -> Request {
-    let (fluents, actions) = (larger(rng, FLUENT_LIMIT), larger(rng, ACTION_LIMIT));
-    let new = Numbers {
-        fluents: ascending(rng, request.fluents, fluents),
-        actions: ascending(rng, request.actions, actions),
-    };
-    Request {
-        fluents,
-        actions,
-        facts: new.literals(&request.facts),
-        effects: (request.effects.iter())
-            .map(|line| Effect {
-                place: 0,
-                action: new.action(line.action),
-                literal: new.literal(line.literal),
-                body: new.literals(&line.body),
-            })
-            .collect(),
-        allowances: (request.allowances.iter())
-            .map(|line| Allowance {
-                action: new.action(line.action),
-                body: new.literals(&line.body),
-            })
-            .collect(),
-        knowledge: (request.knowledge.iter())
-            .map(|line| Knowledge {
-                place: 0,
-                action: new.action(line.action),
-                fluent: new.fluent(line.fluent),
-            })
-            .collect(),
-        plan: new.sequence(&request.plan),
-        goals: new.literals(&request.goals),
-        whether: request.whether.iter().map(|&f| new.fluent(f)).collect(),
-        ..Request::default()
-    }
+    let mut new = Numbers::draw(rng, request);
+    new.given(request)
 }
 
 /// The same request with a fact for each fluent, and all of these as goals and as whether entries.
@@ -770,38 +738,55 @@ fn ascending(rng: &mut Rng, count: u8, bound: u8) -> Vec<u8> {
     numbers
 }
 
-/// The numbers that fluents and actions get.
-struct Numbers {
+/// The numbers that fluents and actions get, and how many there are of both then.
+pub(crate) struct Numbers {
     fluents: Vec<u8>,
     actions: Vec<u8>,
+    counts: (u8, u8),
 }
 
 impl Numbers {
-    fn fluent(&self, fluent: u8) -> u8 {
+    /// Larger numbers for those of a request, in the same order.
+    pub(crate) fn draw<L>(rng: &mut Rng, request: &Request<L>) -> Numbers {
+        let counts = (larger(rng, FLUENT_LIMIT), larger(rng, ACTION_LIMIT));
+        Numbers {
+            fluents: ascending(rng, request.fluents, counts.0),
+            actions: ascending(rng, request.actions, counts.1),
+            counts,
+        }
+    }
+
+    /// The request with these numbers.
+    pub(crate) fn given<L: Copy>(&mut self, request: &Request<L>) -> Request<L>
+    where
+        Numbers: Translation<L, L>,
+    {
+        Request {
+            fluents: self.counts.0,
+            actions: self.counts.1,
+            ..translated(request, self)
+        }
+    }
+
+    pub(crate) fn of_fluent(&self, fluent: u8) -> u8 {
         self.fluents[usize::from(fluent)]
     }
 
-    fn action(&self, action: u8) -> u8 {
+    pub(crate) fn of_action(&self, action: u8) -> u8 {
         self.actions[usize::from(action)]
     }
+}
 
-    fn literal(&self, literal: u8) -> u8 {
-        2 * self.fluent(literal / 2) + literal % 2
+impl Translation<u8, u8> for Numbers {
+    fn literal(&mut self, literal: u8) -> u8 {
+        2 * self.of_fluent(literal / 2) + literal % 2
     }
 
-    fn literals(&self, list: &[u8]) -> Vec<u8> {
-        list.iter().map(|&literal| self.literal(literal)).collect()
+    fn fluent(&self, fluent: u8) -> u8 {
+        self.of_fluent(fluent)
     }
 
-    fn sequence(&self, items: &[Item]) -> Vec<Item> {
-        let branch = |branch: &Branch| Branch {
-            condition: self.literals(&branch.condition),
-            sequence: self.sequence(&branch.sequence),
-        };
-        let item = |item: &Item| match item {
-            Item::Action { action, .. } => Item::act(self.action(*action)),
-            Item::Branching { branches, .. } => Item::case(branches.iter().map(branch).collect()),
-        };
-        items.iter().map(item).collect()
+    fn action(&self, action: u8) -> u8 {
+        self.of_action(action)
     }
 }

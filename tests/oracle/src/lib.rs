@@ -13,6 +13,7 @@ pub mod edges;
 pub mod encode;
 pub mod examples;
 pub mod forge;
+pub mod form;
 pub mod generate;
 pub mod guards;
 pub mod guides;
@@ -30,6 +31,8 @@ pub mod settle;
 pub mod table;
 pub mod tally;
 pub mod text;
+pub mod translation;
+pub mod values;
 pub mod walk;
 pub mod whether;
 pub mod worlds;
@@ -40,6 +43,7 @@ pub use derives::call::derive;
 pub use guards::call::{judge_guarded, judge_guarded_line};
 pub use indexes::call::{index, judge_indexed, judge_indexed_line};
 pub use releases::call::{plans, release};
+pub use values::call::judge_values;
 
 use answer::{Fault, DERIVATION, NEITHER, REQUEST};
 use model::Request;
@@ -67,11 +71,11 @@ pub fn judge_line(request: &[u8], lent: &mut [u8], budget: u32) -> (Answer, u32)
 
 /// Any call that walks: 9, then what opening its input refuses, then how the walk ends, or an answer
 /// that only this call gives. The line that the answer carries comes along.
-fn judge_opened<Opened>(
+fn judge_opened<Opened, State: Marked>(
     lent: &mut [u8],
     budget: u32,
     opened: impl FnOnce() -> Result<Opened, Fault>,
-    walked: impl FnOnce(Opened, &mut [u8]) -> Result<Verdict, Answer>,
+    walked: impl FnOnce(Opened, &mut [u8]) -> Result<Verdict<State>, Answer>,
 ) -> (Answer, u32) {
     if lent.len() != STATE_LENGTH {
         return (Answer::neither(9, 0), 0);
@@ -80,13 +84,15 @@ fn judge_opened<Opened>(
         Ok(opened) => opened,
         Err(fault) => return (Answer::refusal(REQUEST, fault), 0),
     };
-    match walked(opened, lent) {
-        Ok(verdict @ Verdict::Stuck { line, .. }) => {
-            (tell(verdict, lent, budget), answer::narrow(line))
-        }
-        Ok(verdict) => (tell(verdict, lent, budget), 0),
-        Err(answer) => (answer, 0),
-    }
+    let verdict = match walked(opened, lent) {
+        Ok(verdict) => verdict,
+        Err(answer) => return (answer, 0),
+    };
+    let line = match verdict {
+        Verdict::Stuck { line, .. } => answer::narrow(line),
+        _ => 0,
+    };
+    (tell(verdict, lent, budget), line)
 }
 
 /// The derivation call: the request first, then 30, then the derivation.
@@ -151,7 +157,7 @@ pub fn open(request: &[u8]) -> Result<Request, Fault> {
 }
 
 /// Turns the end of a walk into the answer and writes the lent state for 1 and 2.
-fn tell(verdict: Verdict, lent: &mut [u8], budget: u32) -> Answer {
+fn tell(verdict: Verdict<impl Marked>, lent: &mut [u8], budget: u32) -> Answer {
     match verdict {
         Verdict::Verified { count } => Answer::neither(0, answer::narrow_count(count)),
         Verdict::Missed {
@@ -175,8 +181,22 @@ fn tell(verdict: Verdict, lent: &mut [u8], budget: u32) -> Answer {
     }
 }
 
-/// Byte f is 0 unknown, 1 true, 2 false, and 0 from the number of fluents up.
-fn write(state: Known, lent: &mut [u8]) {
+/// A partial state that can be written to a lent one.
+trait Marked {
+    /// What byte f of a lent state shows of fluent f: 0 where it is unknown, and from the number of
+    /// fluents up.
+    fn mark(&self, fluent: u8) -> u8;
+}
+
+/// 1 true, 2 false.
+impl Marked for Known {
+    fn mark(&self, fluent: u8) -> u8 {
+        Known::mark(*self, fluent)
+    }
+}
+
+/// Writes all bytes of a lent state.
+fn write(state: impl Marked, lent: &mut [u8]) {
     for (fluent, byte) in (0..).zip(lent) {
         *byte = state.mark(fluent);
     }

@@ -14,10 +14,11 @@ use oracle::guides::{self, trials::Trial};
 use oracle::indexes;
 use oracle::releases::{self, call::ROW_NUMBERS};
 use oracle::tally::Checked;
-use oracle::text::{comma_separated, parse_bytes, state_line};
+use oracle::text::{comma_separated, parse_bytes, state_line, values_line};
 use oracle::{
     check, check_whether, derive, index, judge_by_cases_line, judge_guarded_line,
-    judge_indexed_line, judge_line, plans, release, rows, run, whether, Answer, STATE_LENGTH,
+    judge_indexed_line, judge_line, judge_values, plans, release, rows, run, values, whether,
+    Answer, STATE_LENGTH,
 };
 
 const HELP: &str = "\
@@ -25,12 +26,14 @@ oracle: an independent reference program for Glintstring's verifier of condition
 
 usage:
   oracle judge FILE [--budget N] [--guarded | --by-cases | --indexed INDEX] [--line] [--text]
+  oracle judge FILE [--budget N] --values [--text]
       Judges a request and prints number, input, place and count; for answers 1, 2 and 43 a
       second line has one of ?+- for each fluent. The budget is 100,000 unless told otherwise.
       With --guarded the request has guards. With --by-cases actions are tried in every filling
       of what is unknown. With --indexed the lines of an action are those at the offsets of the
       file INDEX. With --line a last line has the place of the executability line that answer 2
-      carries, or 0.
+      carries, or 0. With --values the fluents have values, and the second line has for each the
+      value that is known, or ?, with blanks between.
   oracle index FILE [--room N] [--to INDEX] [--text]
       Makes the index call with a room of N bytes, or with room enough, and prints number, input,
       place and count; for answer 0 the index is written to the file INDEX, or else a second line
@@ -55,11 +58,11 @@ usage:
       told otherwise), and prints what a program that has a guide is to print of them, in the
       same lines.
   oracle run [--seed S] [--requests N] [--derivations M] [--whether K] [--releases L]
-             [--guarded G] [--by-cases C] [--indexed I] [--derived P] [--guided O]
+             [--guarded G] [--by-cases C] [--indexed I] [--derived P] [--guided O] [--values V]
       Makes random calls (seed 1, 100,000 requests, 20,000 derivations in each layout, 20,000
       release files, 20,000 guarded requests, 20,000 requests by cases, 20,000 with an index,
-      20,000 to be derived and 20,000 to be guided unless told otherwise), checks every answer,
-      and prints how often each occurred. The last line is `oracle: ok`, or `oracle: FAILED` and why, with exit status 1.
+      20,000 to be derived, 20,000 to be guided and 20,000 with values unless told otherwise),
+      checks every answer, and prints how often each occurred. The last line is `oracle: ok`, or `oracle: FAILED` and why, with exit status 1.
   oracle run-whether [--seed S] [--whether K]
       Makes the random calls with derivations in the second layout only.
   oracle run-releases [--seed S] [--releases L]
@@ -74,11 +77,13 @@ usage:
       Makes the random derive calls only.
   oracle run-guided [--seed S] [--guided O]
       Starts random guides only, and follows them.
+  oracle run-values [--seed S] [--values V]
+      Makes the random values calls only.
   oracle rows [--seed S] [--count N] [--derivations M] [--whether K] [--releases L]
-              [--guarded G] [--by-cases C] [--indexed I] [--derived P] [--guided O]
+              [--guarded G] [--by-cases C] [--indexed I] [--derived P] [--guided O] [--values V]
       Prints N judging calls, M derivation calls, K in the second layout, L release calls, G
-      guarded calls, C calls by cases, I index calls or indexed calls, P derive calls and O guides
-      with their answers, one per line:
+      guarded calls, C calls by cases, I index calls or indexed calls, P derive calls, O guides
+      and V values calls with their answers, one per line:
         J REQUEST LENT BUDGET NUMBER INPUT PLACE COUNT STATE LINE
         D REQUEST DERIVATION NUMBER INPUT PLACE COUNT
         W REQUEST DERIVATION NUMBER INPUT PLACE COUNT
@@ -89,6 +94,7 @@ usage:
         I REQUEST INDEX LENT BUDGET NUMBER INPUT PLACE COUNT STATE LINE
         P REQUEST ROOM BUDGET NUMBER INPUT PLACE COUNT AFTERWARDS
         O REQUEST BUDGET NUMBER INPUT PLACE COUNT CALLS TOLD
+        V REQUEST LENT BUDGET NUMBER INPUT PLACE COUNT STATE
       Bytes are decimal with commas between; `-` is no byte; the three words REP BYTE N are N
       times one byte. LENT is the length of the lent state; STATE is all its bytes after answers
       1, 2 and 43, and `-` where it stays as lent; LINE is what --line prints. In rows R, LENT is
@@ -126,7 +132,7 @@ struct Kind {
     rows: fn(u64, u64) -> Box<dyn Iterator<Item = String>>,
 }
 
-const KINDS: [Kind; 7] = [
+const KINDS: [Kind; 8] = [
     Kind {
         option: "--whether",
         command: "run-whether",
@@ -169,6 +175,12 @@ const KINDS: [Kind; 7] = [
         run: |seed, count| Box::new(guides::run::run(seed, count)),
         rows: |seed, count| Box::new(guides::rows::guided_rows(seed, count)),
     },
+    Kind {
+        option: "--values",
+        command: "run-values",
+        run: |seed, count| Box::new(values::run::run(seed, count)),
+        rows: |seed, count| Box::new(values::rows::values_rows(seed, count)),
+    },
 ];
 
 /// So many calls of a kind in a run unless told otherwise.
@@ -186,6 +198,10 @@ fn command(words: &[String]) -> Result<ExitCode, String> {
     };
     let calls = ["--guarded", "--by-cases", "--line", "--text"];
     match name.as_str() {
+        "judge" if rest.iter().any(|word| word == "--values") => {
+            let flags = ["--values", "--text"];
+            judge_values_file(&Options::parse(rest, &["--budget"], &flags, 1)?)
+        }
         "judge" => {
             let (rest, index) = named_file("--indexed", rest)?;
             judge_file(&Options::parse(&rest, &["--budget"], &calls, 1)?, index)
@@ -362,6 +378,17 @@ fn judge_file(options: &Options, index: Option<String>) -> Result<ExitCode, Stri
     }
     if options.has("--line") {
         println!("{line}");
+    }
+    Ok(ExitCode::SUCCESS)
+}
+
+fn judge_values_file(options: &Options) -> Result<ExitCode, String> {
+    let request = options.bytes(0)?;
+    let mut lent = [0; STATE_LENGTH];
+    let answer = judge_values(&request, &mut lent, budget_of(options)?);
+    println!("{answer}");
+    if writes_state(answer.number) {
+        println!("{}", values_line(&lent, request[0]));
     }
     Ok(ExitCode::SUCCESS)
 }

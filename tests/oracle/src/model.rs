@@ -14,20 +14,21 @@ pub fn exclusive(one: &[u8], other: &[u8]) -> bool {
     one.iter().any(|literal| other.contains(&(literal ^ 1)))
 }
 
-/// An effect line of section 3.
+/// An effect line of section 3. Here and below a literal is a byte, or in a values request a
+/// [`Literal`](crate::values::literal::Literal).
 #[derive(Clone, Debug)]
-pub struct Effect {
+pub struct Effect<L = u8> {
     pub place: usize,
     pub action: u8,
-    pub literal: u8,
-    pub body: Vec<u8>,
+    pub literal: L,
+    pub body: Vec<L>,
 }
 
 /// An executability line of section 4.
 #[derive(Clone, Debug)]
-pub struct Allowance {
+pub struct Allowance<L = u8> {
     pub action: u8,
-    pub body: Vec<u8>,
+    pub body: Vec<L>,
 }
 
 /// A knowledge line of section 5.
@@ -40,21 +41,27 @@ pub struct Knowledge {
 
 /// An item of a sequence.
 #[derive(Clone, Debug)]
-pub enum Item {
-    Action { place: usize, action: u8 },
-    Branching { place: usize, branches: Vec<Branch> },
+pub enum Item<L = u8> {
+    Action {
+        place: usize,
+        action: u8,
+    },
+    Branching {
+        place: usize,
+        branches: Vec<Branch<L>>,
+    },
 }
 
 /// A branch: its condition and the sequence that it guards.
 #[derive(Clone, Debug, PartialEq)]
-pub struct Branch {
-    pub condition: Vec<u8>,
-    pub sequence: Vec<Item>,
+pub struct Branch<L = u8> {
+    pub condition: Vec<L>,
+    pub sequence: Vec<Item<L>>,
 }
 
 /// Two items are equal when their bytes are; where they stand doesn't matter.
-impl PartialEq for Item {
-    fn eq(&self, other: &Item) -> bool {
+impl<L: PartialEq> PartialEq for Item<L> {
+    fn eq(&self, other: &Item<L>) -> bool {
         match (self, other) {
             (Item::Action { action: one, .. }, Item::Action { action: two, .. }) => one == two,
             (Item::Branching { branches: one, .. }, Item::Branching { branches: two, .. }) => {
@@ -65,24 +72,24 @@ impl PartialEq for Item {
     }
 }
 
-impl Item {
+impl<L> Item<L> {
     /// An action item that stands nowhere yet.
-    pub fn act(action: u8) -> Item {
+    pub fn act(action: u8) -> Item<L> {
         Item::Action { place: 0, action }
     }
 
     /// A branching that stands nowhere yet.
-    pub fn case(branches: Vec<Branch>) -> Item {
+    pub fn case(branches: Vec<Branch<L>>) -> Item<L> {
         Item::Branching { place: 0, branches }
     }
 }
 
 /// The number of items of a sequence, nested ones counted.
-pub fn item_count(sequence: &[Item]) -> usize {
+pub fn item_count<L>(sequence: &[Item<L>]) -> usize {
     sequence.iter().map(items_of).sum()
 }
 
-fn items_of(item: &Item) -> usize {
+fn items_of<L>(item: &Item<L>) -> usize {
     match item {
         Item::Action { .. } => 1,
         Item::Branching { branches, .. } => {
@@ -95,7 +102,7 @@ fn items_of(item: &Item) -> usize {
 }
 
 /// How many branchings of a sequence stand one inside another at most.
-pub fn nesting(sequence: &[Item]) -> usize {
+pub fn nesting<L>(sequence: &[Item<L>]) -> usize {
     sequence
         .iter()
         .map(|item| match item {
@@ -114,19 +121,20 @@ pub fn nesting(sequence: &[Item]) -> usize {
 
 /// A request, section by section.
 #[derive(Clone, Debug, Default)]
-pub struct Request {
+pub struct Request<L = u8> {
     pub fluents: u8,
     pub actions: u8,
-    pub facts: Vec<u8>,
-    pub effects: Vec<Effect>,
+    pub facts: Vec<L>,
+    pub effects: Vec<Effect<L>>,
     /// Where section 4's count stands; its lines follow one after another.
     pub allowances_place: usize,
-    pub allowances: Vec<Allowance>,
+    pub allowances: Vec<Allowance<L>>,
     pub knowledge: Vec<Knowledge>,
-    pub plan: Vec<Item>,
-    /// Where the goals' count stands; goal `i` stands `i + 1` bytes later.
+    pub plan: Vec<Item<L>>,
+    /// Where the goals' count stands; goal `i` stands `i + 1` bytes later, or `2 * i + 1` where a
+    /// literal has two bytes.
     pub goals_place: usize,
-    pub goals: Vec<u8>,
+    pub goals: Vec<L>,
     /// Where the whether list's count stands.
     pub whether_place: usize,
     pub whether: Vec<u8>,

@@ -1,13 +1,16 @@
-//! Reading of requests, guarded requests, release files and derivations from the left; the first fault met is the
-//! answer.
+//! Reading of requests, guarded requests, values requests, release files and derivations from the left; the first
+//! fault met is the answer.
 //!
-//! At one byte the order is 11, 21, 19, 12, 13, 14, 15; 20 is looked for when all is read.
+//! At one byte the order is 11, 21, 19, 12, 13, 14, 15; 20 is looked for when all is read. How a literal is read is
+//! told in `form.rs`.
 
 use crate::answer::Fault;
+use crate::form::Form;
 use crate::model::{
     Allowance, Branch, Conclusion, Effect, Guarded, Item, Knowledge, Line, Plan, Proof, ProofLine,
     Release, Request,
 };
+use crate::values::{literal::Literal, Valued};
 
 /// Longest request in bytes.
 pub const REQUEST_LIMIT: usize = 16_384;
@@ -38,12 +41,14 @@ pub const CITATION_LIMIT: usize = 64;
 /// The first byte of a branching.
 pub const BRANCHING: u8 = 255;
 
-type Read<T> = Result<T, Fault>;
+pub(crate) type Read<T> = Result<T, Fault>;
 
 /// What a reader is at: a part of a request, or of a derivation's line.
 #[derive(Clone, Copy, Debug, PartialEq, Eq, PartialOrd, Ord)]
 pub enum Part {
     Fluents,
+    /// The numbers of values of a values request.
+    Values,
     Actions,
     Facts,
     /// Sections 3 to 5.
@@ -80,6 +85,18 @@ pub fn read_guarded(bytes: &[u8]) -> Read<Guarded> {
     let guarded = reader.guarded()?;
     reader.end()?;
     Ok(guarded)
+}
+
+/// Reads a values request in the same way.
+pub fn read_valued(bytes: &[u8]) -> Read<Valued> {
+    refuse_length(bytes, REQUEST_LIMIT)?;
+    let mut reader = Reader::new(bytes, 0, 0);
+    let request = reader.request()?;
+    reader.end()?;
+    Ok(Valued {
+        values: reader.values,
+        request,
+    })
 }
 
 /// Reads a release file: 10, then from the left sections 1 to 5 and the plan count, in which the
@@ -134,8 +151,16 @@ pub fn read_proof(bytes: &[u8], request: &Request) -> Read<Proof> {
 /// The part of a request in which its reading ends.
 pub fn last_of_request(bytes: &[u8]) -> Part {
     let mut reader = Reader::new(bytes, 0, 0);
-    let _ = reader.request();
+    let _ = reader.request::<u8>();
     reader.part
+}
+
+/// The part of a values request in which its reading ends, and the place of the literal of which it
+/// reads no more than the first byte, or refuses one of the two.
+pub fn last_of_valued(bytes: &[u8]) -> (Part, Option<usize>) {
+    let mut reader = Reader::new(bytes, 0, 0);
+    let _ = reader.request::<Literal>();
+    (reader.part, reader.within)
 }
 
 /// The part of a guarded request in which its reading ends.
@@ -173,12 +198,15 @@ fn refuse_length(bytes: &[u8], limit: usize) -> Read<()> {
 }
 
 /// The input, the position in it and the part that is there, and how many fluents and actions
-/// there are.
-struct Reader<'a> {
+/// there are, in a values request also how many values of each fluent, and the place of the literal that
+/// is being read.
+pub struct Reader<'a> {
     bytes: &'a [u8],
-    at: usize,
-    part: Part,
-    fluents: u8,
+    pub(crate) at: usize,
+    pub(crate) part: Part,
+    pub(crate) fluents: u8,
+    pub(crate) values: Vec<u8>,
+    pub(crate) within: Option<usize>,
     actions: u8,
 }
 
@@ -189,6 +217,8 @@ impl Reader<'_> {
             at: 0,
             part: Part::Rest,
             fluents,
+            values: Vec::new(),
+            within: None,
             actions,
         }
     }
@@ -217,7 +247,7 @@ impl Reader<'_> {
     }
 
     /// A one-byte count between limits, 12 otherwise.
-    fn count(&mut self, least: usize, most: usize) -> Read<usize> {
+    pub(crate) fn count(&mut self, least: usize, most: usize) -> Read<usize> {
         let place = self.at;
         let count = usize::from(self.byte()?);
         if count < least || count > most {
@@ -234,7 +264,7 @@ impl Reader<'_> {
     }
 
     /// A byte below a bound, 13 otherwise. With 128 fluents every byte is a literal.
-    fn below(&mut self, bound: usize) -> Read<u8> {
+    pub(crate) fn below(&mut self, bound: usize) -> Read<u8> {
         let place = self.at;
         let byte = self.byte()?;
         if usize::from(byte) >= bound {
@@ -243,31 +273,22 @@ impl Reader<'_> {
         Ok(byte)
     }
 
-    fn fluent(&mut self) -> Read<u8> {
+    pub(crate) fn fluent(&mut self) -> Read<u8> {
         self.below(usize::from(self.fluents))
-    }
-
-    fn literal(&mut self) -> Read<u8> {
-        self.below(2 * usize::from(self.fluents))
     }
 
     fn action(&mut self) -> Read<u8> {
         self.below(usize::from(self.actions))
     }
 
-    /// A list of literals: strictly ascending (14), and no complement after a literal (15).
-    fn literals(&mut self, most: usize) -> Read<Vec<u8>> {
+    /// A list of literals: strictly ascending (14), and none that contradicts those before it (15).
+    fn literals<L: Form>(&mut self, most: usize) -> Read<Vec<L>> {
         let count = self.count(0, most)?;
-        let mut list: Vec<u8> = Vec::new();
+        let mut list = Vec::new();
         for _ in 0..count {
             let place = self.at;
-            let literal = self.literal()?;
-            if let Some(&before) = list.last() {
-                ascending(before, literal, place)?;
-                if literal == before ^ 1 {
-                    return Err(Fault::new(15, place));
-                }
-            }
+            let literal = L::read(self)?;
+            literal.refuse_after(&list, place)?;
             list.push(literal);
         }
         Ok(list)
@@ -288,17 +309,17 @@ impl Reader<'_> {
         Ok(list)
     }
 
-    fn body(&mut self) -> Read<Vec<u8>> {
+    fn body<L: Form>(&mut self) -> Read<Vec<L>> {
         self.literals(BODY_LIMIT)
     }
 
     /// A list of literals that is no body.
-    fn list(&mut self, part: Part) -> Read<Vec<u8>> {
+    fn list<L: Form>(&mut self, part: Part) -> Read<Vec<L>> {
         self.part = part;
         self.literals(LIST_LIMIT)
     }
 
-    fn request(&mut self) -> Read<Request> {
+    fn request<L: Form>(&mut self) -> Read<Request<L>> {
         let table = self.table()?;
         self.asked(table)
     }
@@ -316,9 +337,10 @@ impl Reader<'_> {
     }
 
     /// Sections 1 to 5.
-    fn table(&mut self) -> Read<Request> {
+    fn table<L: Form>(&mut self) -> Read<Request<L>> {
         self.part = Part::Fluents;
         self.fluents = self.count(1, FLUENT_LIMIT)? as u8;
+        L::read_values(self)?;
         self.part = Part::Actions;
         self.actions = self.count(1, ACTION_LIMIT)? as u8;
         let facts = self.list(Part::Facts)?;
@@ -335,12 +357,16 @@ impl Reader<'_> {
             allowances_place,
             allowances,
             knowledge,
-            ..Request::default()
+            plan: Vec::new(),
+            goals_place: 0,
+            goals: Vec::new(),
+            whether_place: 0,
+            whether: Vec::new(),
         })
     }
 
     /// Sections 6 to 8, over a table that was read.
-    fn asked(&mut self, table: Request) -> Read<Request> {
+    fn asked<L: Form>(&mut self, table: Request<L>) -> Read<Request<L>> {
         let plan = self.plan()?;
         let goals_place = self.at;
         let goals = self.list(Part::Goals)?;
@@ -363,10 +389,12 @@ impl Reader<'_> {
         (0..count).map(|_| line(self)).collect()
     }
 
-    fn effect(&mut self) -> Read<Effect> {
+    fn effect<L: Form>(&mut self) -> Read<Effect<L>> {
         let place = self.at;
         let action = self.action()?;
-        let literal = self.literal()?;
+        let literal_place = self.at;
+        let literal = L::read(self)?;
+        literal.refuse_effect(literal_place)?;
         let body = self.body()?;
         Ok(Effect {
             place,
@@ -376,7 +404,7 @@ impl Reader<'_> {
         })
     }
 
-    fn allowance(&mut self) -> Read<Allowance> {
+    fn allowance<L: Form>(&mut self) -> Read<Allowance<L>> {
         let action = self.action()?;
         let body = self.body()?;
         Ok(Allowance { action, body })
@@ -394,19 +422,19 @@ impl Reader<'_> {
     }
 
     /// A plan of its own: items and nesting are counted anew.
-    fn plan(&mut self) -> Read<Vec<Item>> {
+    fn plan<L: Form>(&mut self) -> Read<Vec<Item<L>>> {
         let mut items = 0;
         self.sequence(&mut items, 0)
     }
 
     /// A two-byte item count, which is never refused itself, then the items.
-    fn sequence(&mut self, items: &mut usize, nesting: usize) -> Read<Vec<Item>> {
+    fn sequence<L: Form>(&mut self, items: &mut usize, nesting: usize) -> Read<Vec<Item<L>>> {
         let count = self.wide()?;
         (0..count).map(|_| self.item(items, nesting)).collect()
     }
 
     /// An item. At its first byte: 11, then 21, then 19, then 13.
-    fn item(&mut self, items: &mut usize, nesting: usize) -> Read<Item> {
+    fn item<L: Form>(&mut self, items: &mut usize, nesting: usize) -> Read<Item<L>> {
         let place = self.at;
         self.part = Part::Item;
         let first = self.peek()?;
@@ -429,7 +457,7 @@ impl Reader<'_> {
         Ok(Item::Branching { place, branches })
     }
 
-    fn branch(&mut self, items: &mut usize, nesting: usize) -> Read<Branch> {
+    fn branch<L: Form>(&mut self, items: &mut usize, nesting: usize) -> Read<Branch<L>> {
         self.part = Part::Condition;
         let condition = self.body()?;
         let sequence = self.sequence(items, nesting)?;
@@ -516,7 +544,7 @@ impl Reader<'_> {
 }
 
 /// 14: an entry is not above the one before.
-fn ascending(before: u8, entry: u8, place: usize) -> Read<()> {
+pub(crate) fn ascending<T: Ord>(before: T, entry: T, place: usize) -> Read<()> {
     if entry <= before {
         return Err(Fault::new(14, place));
     }

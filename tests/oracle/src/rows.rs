@@ -369,13 +369,18 @@ pub(crate) fn too_long(rng: &mut Rng, request: &mut Vec<u8>) {
 
 /// A row that begins with these words, of a call and what it leaves.
 pub(crate) fn tell_judging(words: &str, call: &JudgeCall, left: &Left) -> String {
-    let Left { answer, line, lent } = left;
+    format!("{} {}", tell_state(words, call, left), left.line)
+}
+
+/// The same without the line that the answer carries.
+pub(crate) fn tell_state(words: &str, call: &JudgeCall, left: &Left) -> String {
+    let Left { answer, lent, .. } = left;
     let state = match writes_state(answer.number) {
         true => comma_separated(lent),
         false => "-".to_string(),
     };
     let (length, budget) = (call.lent.len(), call.budget);
-    format!("{words} {length} {budget} {answer} {state} {line}")
+    format!("{words} {length} {budget} {answer} {state}")
 }
 
 /// A row that begins with this letter and the request.

@@ -7,6 +7,7 @@ use crate::answer::{writes_state, Answer, DERIVATION, NEITHER, REQUEST};
 use crate::calls::{check_call, judge_call, CheckCall, JudgeCall, Left, Outlook};
 use crate::edges::{self, Met};
 use crate::encode::{encode_derivation, encode_request};
+use crate::form::Form;
 use crate::model::{Effect, Line, Request};
 use crate::reader::{read_derivation, read_request};
 use crate::rng::Rng;
@@ -378,7 +379,7 @@ impl Checked for Tally {
 }
 
 /// Two of the effects clash, wherever their action can be run.
-fn some_clash(effects: &[Effect]) -> bool {
+pub(crate) fn some_clash<L: Form>(effects: &[Effect<L>]) -> bool {
     effects
         .iter()
         .enumerate()

@@ -81,19 +81,28 @@ pub(crate) struct SecondWalks {
 impl SecondWalks {
     /// Compares what a call leaves with what the second walk tells, if it does.
     pub(crate) fn compare(&mut self, other: Option<Told>, left: &Left) -> Result<(), String> {
-        let Some(other) = other else {
+        let other = other.map(|told| (told.answer, told.line, told.marks.map(state_of)));
+        self.compare_left(other, left)
+    }
+
+    /// The same by the answer, the line and the lent state that the second walk comes to.
+    pub(crate) fn compare_left(
+        &mut self,
+        other: Option<(Answer, usize, Option<[u8; STATE_LENGTH]>)>,
+        left: &Left,
+    ) -> Result<(), String> {
+        let Some((by, its, state)) = other else {
             self.left += 1;
             return Ok(());
         };
         self.compared += 1;
         let (answer, line) = (left.answer, left.line);
-        if (other.answer, other.line) != (answer, line as usize) {
-            let (by, its) = (other.answer, other.line);
+        if (by, its) != (answer, line as usize) {
             return Err(format!(
                 "answer {answer}, line {line}, by the second walk {by}, line {its}"
             ));
         }
-        match other.marks.map(state_of) {
+        match state {
             Some(state) if left.lent != state => Err(format!(
                 "answer {answer}: the second walk's state is another"
             )),
@@ -142,7 +151,17 @@ impl CarriedOut {
         answer: Answer,
         carry_out: impl FnOnce() -> Result<u64, Failure>,
     ) -> Result<bool, String> {
-        if request.fluents > WORLD_FLUENTS {
+        self.note_where(request.fluents <= WORLD_FLUENTS, answer, carry_out)
+    }
+
+    /// The same by whether the worlds can be enumerated.
+    pub(crate) fn note_where(
+        &mut self,
+        enumerated: bool,
+        answer: Answer,
+        carry_out: impl FnOnce() -> Result<u64, Failure>,
+    ) -> Result<bool, String> {
+        if !enumerated {
             self.not_enumerated += u64::from(answer.number == 0);
             return Ok(false);
         }

@@ -30,6 +30,16 @@ pub fn state_line(state: &[u8], fluents: u8) -> String {
         .collect()
 }
 
+/// The same of a lent state with values: the value that is known of each fluent, or `?`, with blanks between.
+pub fn values_line(state: &[u8], fluents: u8) -> String {
+    let told = state.iter().take(usize::from(fluents));
+    let told = told.map(|byte| match byte {
+        0 => "?".to_string(),
+        known => (known - 1).to_string(),
+    });
+    told.collect::<Vec<_>>().join(" ")
+}
+
 /// Bytes in decimal with commas between, or `-` where there are none.
 pub fn comma_separated(bytes: &[u8]) -> String {
     if bytes.is_empty() {

@@ -9,28 +9,28 @@ use crate::table::{bit, Known, Mask, Table};
 
 /// How a whole walk ends.
 #[derive(Clone, Copy, Debug, PartialEq, Eq)]
-pub enum Verdict {
+pub enum Verdict<State = Known> {
     /// Answer 0.
     Verified { count: u64 },
     /// Answer 1: the first entry missed in the first end state that misses one.
     Missed {
         place: usize,
         count: u64,
-        state: Known,
+        state: State,
     },
     /// Answer 2: the item that can't be run, the state in which it was met, and of an action
     /// the place of the executability line that came nearest; 0 where there is none.
     Stuck {
         place: usize,
         count: u64,
-        state: Known,
+        state: State,
         line: usize,
     },
     /// Answer 3.
     Over,
 }
 
-impl Verdict {
+impl<State> Verdict<State> {
     /// The count, but for a walk that is over its budget.
     pub fn count(self) -> Option<u64> {
         match self {

@@ -25,11 +25,13 @@ use oracle::rows::rows;
 use oracle::run::run;
 use oracle::tally::Checked;
 use oracle::text::parse_bytes;
+use oracle::values;
+use oracle::values::rows::values_rows;
 use oracle::whether;
 use oracle::whether::rows::whether_rows;
 use oracle::{
     check, check_whether, derive, index, judge, judge_by_cases_line, judge_guarded_line,
-    judge_indexed_line, judge_line, plans, release, Answer, STATE_LENGTH,
+    judge_indexed_line, judge_line, judge_values, plans, release, Answer, STATE_LENGTH,
 };
 
 /// Small runs of some seeds show no difference, and all that has to occur in them.
@@ -85,8 +87,13 @@ fn small_runs_of_guides_show_no_difference() {
 }
 
 #[test]
+fn small_runs_with_values_show_no_difference() {
+    shows_no_difference(6_000, values::run::run);
+}
+
+#[test]
 fn runs_too_small_fail() {
-    let runs: [Box<dyn Checked>; 7] = [
+    let runs: [Box<dyn Checked>; 8] = [
         Box::new(run(1, 10, 10)),
         Box::new(releases::run::run(1, 10)),
         Box::new(guards::run::run(1, 10)),
@@ -94,6 +101,7 @@ fn runs_too_small_fail() {
         Box::new(indexes::run::run(1, 10)),
         Box::new(derives::run::run(1, 10)),
         Box::new(guides::run::run(1, 10)),
+        Box::new(values::run::run(1, 10)),
     ];
     for tally in runs {
         let verdict = tally.verdict();
@@ -156,14 +164,29 @@ fn left_again<'a>(
     words: &mut impl Iterator<Item = &'a str>,
     judge: impl FnOnce(&mut [u8], u32) -> (Answer, u32),
 ) -> (u32, Answer, usize) {
+    let mut line = 0;
+    let left = state_again(row, words, |lent, budget| {
+        let told = judge(lent, budget);
+        line = told.1;
+        told.0
+    });
+    assert_eq!(number(words), line, "{row}");
+    left
+}
+
+/// The same of a call whose answer carries no line.
+fn state_again<'a>(
+    row: &str,
+    words: &mut impl Iterator<Item = &'a str>,
+    judge: impl FnOnce(&mut [u8], u32) -> Answer,
+) -> (u32, Answer, usize) {
     let length = number(words) as usize;
     let mut lent = vec![77; length];
     let budget = number(words);
-    let (answer, line) = judge(&mut lent, budget);
+    let answer = judge(&mut lent, budget);
     expect_answer(row, words, answer);
     let written = writes_state(answer.number).then_some(lent);
     assert_eq!(take(words), written.unwrap_or_default(), "{row}");
-    assert_eq!(number(words), line, "{row}");
     (budget, answer, length)
 }
 
@@ -400,6 +423,25 @@ fn rows_of_guides_can_be_computed_again() {
     assert_eq!(met, BTreeSet::from(CALLS));
     assert_eq!(shown, BTreeSet::from(Event::ALL));
     come_from_the_seed(|seed| guided_rows(seed, 40));
+}
+
+#[test]
+fn rows_with_values_can_be_computed_again() {
+    use oracle::values::run::{events, Event, NUMBERS};
+    let (mut met, mut shown) = (BTreeSet::new(), BTreeSet::new());
+    for row in values_rows(5, 150) {
+        let mut words = row.split(' ');
+        assert_eq!(words.next(), Some("V"));
+        let request = take(&mut words);
+        let judge = |lent: &mut [u8], budget| judge_values(&request, lent, budget);
+        let (budget, answer, _) = state_again(&row, &mut words, judge);
+        assert_eq!(words.next(), None);
+        met.insert(answer.number);
+        shown.extend(events(&request, budget, answer));
+    }
+    assert_eq!(met, BTreeSet::from(NUMBERS));
+    assert_eq!(shown, BTreeSet::from(Event::ALL));
+    come_from_the_seed(|seed| values_rows(seed, 40));
 }
 
 #[test]

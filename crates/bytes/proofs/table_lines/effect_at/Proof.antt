@@ -6,6 +6,7 @@ use Rattle.bytes.proofs.table_lines.effect_at.Tie as tie
 use Rattle.bytes.proofs.table_lines.effect_at.Reads as reads
 use Rattle.bytes.proofs.table_lines.effect_at.Lts as lts
 use Rattle.bytes.proofs.bytes.below_at.Reads as below-at-reads
+use Rattle.bytes.proofs.forms.literal_at.Reads as literal-at-reads
 use Rattle.bytes.proofs.table_lines.action_with_body.Reads as action-with-body-reads
 
 -- src/table_lines.rt:37:11
@@ -16,13 +17,9 @@ below-at-requires c κs = search needs
 enum-known-a : tie.Need-enum-known-a
 enum-known-a c = search needs
 
--- src/table_lines.rt:38:45
-mul-below-at : tie.Need-mul-below-at
-mul-below-at c = search needs
-
 -- src/table_lines.rt:38:36
-below-at-requires-2 : tie.Need-below-at-requires-2
-below-at-requires-2 c κs = search needs
+literal-at-requires : tie.Need-literal-at-requires
+literal-at-requires c κs = search needs
 
 -- src/table_lines.rt:39:28
 enum-known-r : tie.Need-enum-known-r
@@ -58,8 +55,7 @@ effect-at-spec =
     (tie.spec
     below-at-requires
     enum-known-a
-    mul-below-at
-    below-at-requires-2
+    literal-at-requires
     enum-known-r
     action-with-body-requires
     enum-known-k

@@ -1,6 +1,7 @@
 -- The plan, then the rest of the line: the first fault is the line's.
 use Rattle.deriving.proofs.DerivationLaws.{plan-whole, plan-then-fault, plan-fault}
 use borrow.Author.Needs.{needs}
+use Rattle.bytes.proofs.LineReaderLaws.{counted-flags}
 use Rattle.deriving.proofs.derivations.plan_first.Statement.{statement}
 use Rattle.deriving.proofs.derivations.plan_first.Tie as tie
 use Rattle.deriving.proofs.derivations.plan_first.Reads as reads
@@ -10,7 +11,7 @@ use Rattle.reading.proofs.plan.plan_at.Reads as plan-at-reads
 
 -- src/derivations.rt:154:11
 plan-at-requires : tie.Need-plan-at-requires
-plan-at-requires c κs = search needs
+plan-at-requires c κs = (search counted-flags, search needs)
 
 -- src/derivations.rt:155:24
 enum-known-q : tie.Need-enum-known-q

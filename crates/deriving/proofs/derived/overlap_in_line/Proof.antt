@@ -2,6 +2,7 @@
 -- finds the first overlap of just that plan. A plan that was read before is read again without a fault.
 use Rattle.deriving.proofs.DerivedLaws.{line-held, line-sought, line-read}
 use borrow.Author.Needs.{needs}
+use Rattle.bytes.proofs.LineReaderLaws.{counted-flags}
 use Rattle.deriving.proofs.derived.overlap_in_line.Statement.{statement}
 use Rattle.deriving.proofs.derived.overlap_in_line.Tie as tie
 use Rattle.deriving.proofs.derived.overlap_in_line.Reads as reads
@@ -21,7 +22,7 @@ sized-requires c κs = search needs
 
 -- src/derived.rt:53:11
 plan-at-requires : tie.Need-plan-at-requires
-plan-at-requires c κs = search needs
+plan-at-requires c κs = (search counted-flags, search needs)
 
 -- src/derived.rt:54:21
 enum-known-count : tie.Need-enum-known-count

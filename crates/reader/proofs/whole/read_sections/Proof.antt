@@ -41,6 +41,7 @@ use denote.Triple.Clauses.{ensured, lasts}
 use Rattle.bytes.specs.declared.lists.Passed.{Passed}
 use Rattle.bytes.proofs.lists.Passed as P
 use Rattle.bytes.proofs.lists.Passed.Laws as P′
+use Rattle.meaning.specs.declared.Form.the-variants.{Flags}
 use Rattle.reading.specs.Noted.{noting, outcome}
 use Rattle.reading.specs.Requested.{request-noted}
 use Rattle.reader.specs.Sections.{sections-read}
@@ -101,7 +102,7 @@ module _ {M : Type 1} (𝓤 : URA M) (H : Heap 𝓤) (A : Atoms 𝓤) (W : Given
 
   -- what is said of the answer and the last notes, of a slice and a place
   abbrev Told : RefT (List ℕ) → ℕ → Passed → List ℕ → Type 0
-  Told y p r zs = outcome r zs ≡ noting request-noted (sections-read (now y) p) ys
+  Told y p r zs = outcome r zs ≡ noting (request-noted Flags) (sections-read (now y) p) ys
 
   abbrev Post : Val → SProp 𝓤
   Post = walkOf 𝓤 H A read-sections.ended stayed (read-sections.clauses 𝓤 H A mem run) .post ((κs, (q, (q′, tt)), tt, a, at), tt)
@@ -169,7 +170,7 @@ module _ {M : Type 1} (𝓤 : URA M) (H : Heap 𝓤) (A : Atoms 𝓤) (W : Given
         land ! (from ! (stop !)) (init ! 12 refl (EL.lawful P.the-type P′.the-laws 𝓤 H A W tt .typed p _ is′ .0)) $
         returns ! (look ! 12 refl) $ forget ! 4 refl $ forget ! 6 refl $ forget ! 8 refl $ forget ! 10 refl $ forget ! 12 refl $
         move ! (12 ∷ 13 ∷ []) $ free1 ! $ move ! (10 ∷ 11 ∷ []) $ free1 ! $ move ! (8 ∷ 9 ∷ []) $ free1 ! $ move ! (6 ∷ 7 ∷ []) $ free1 ! $ move ! (4 ∷ 5 ∷ []) $ free1 ! $ free0 ! $
-        by ! (exits p u′ (zs .1 .0) (e′ ∙ (ap (λ (y : RefT (List ℕ)). noting request-noted (sections-read (now y) (r .at)) ys) (e .0) ∙ ap (λ (n : ℕ). noting request-noted (sections-read (now s) n) ys) (e .1))))))))))))))))))
+        by ! (exits p u′ (zs .1 .0) (e′ ∙ (ap (λ (y : RefT (List ℕ)). noting (request-noted Flags) (sections-read (now y) (r .at)) ys) (e .0) ∙ ap (λ (n : ℕ). noting (request-noted Flags) (sections-read (now s) n) ys) (e .1))))))))))))))))))
 
 module _ {M : Type 1} (𝓤 : URA M) (H : Heap 𝓤) (A : Atoms 𝓤) (W : Given 𝓤 H A) (mem : Memory → SProp 𝓤) (run : Routine → Fun 𝓤) where
   read-sections-walks : (C : Calls 𝓤 H) (Λ : Loops 𝓤 H) → FmC 𝓤 H (W .laws) C → Triple 𝓤 (C #reader·new) (New 𝓤 H A mem run) → Triple 𝓤 (C #reader·requests·sections) (Sections 𝓤 H A mem run)

@@ -47,6 +47,7 @@ use denote.Triple.Clauses.{ensured, lasts}
 use Rattle.bytes.specs.declared.lists.Passed.{Passed}
 use Rattle.bytes.proofs.lists.Passed as P
 use Rattle.bytes.proofs.lists.Passed.Laws as P′
+use Rattle.meaning.specs.declared.Form.the-variants.{Flags}
 use Rattle.reading.specs.Noted.{noting, outcome}
 use Rattle.reading.specs.Requested.{request-noted}
 use Rattle.reader.specs.Sections.{sections-read}
@@ -100,7 +101,7 @@ module _ {M : Type 1} (𝓤 : URA M) (H : Heap 𝓤) (A : Atoms 𝓤) (W : Given
 
   -- what is said of the answer and the last notes
   abbrev Told : Passed → List ℕ → Type 0
-  Told r zs = outcome r zs ≡ noting request-noted (sections-read (now (d .src)) (d .at)) ys
+  Told r zs = outcome r zs ≡ noting (request-noted Flags) (sections-read (now (d .src)) (d .at)) ys
 
   abbrev Post : Val → SProp 𝓤
   Post = walkOf 𝓤 H A sections.ended stayed (sections.clauses 𝓤 H A mem run) .post ((κs, (q, (q′, tt)), tt, a, at), tt)

@@ -31,16 +31,16 @@ use Rattle.reading.proofs.plan.+branch_at+branching_at+item_at+sequence
 use Rattle.reading.proofs.plan.+branch_at+branching_at+item_at+sequence_at.Tie.{close}
 
 abbrev μ-branch-at : Measures 2 branch-at-kinds.ps ℕ
-μ-branch-at κs a = a .1 .1 .0 * 4 + 3
+μ-branch-at κs a = a .1 .1 .1 .0 * 4 + 3
 
 abbrev μ-branching-at : Measures 2 branching-at-kinds.ps ℕ
-μ-branching-at κs a = a .1 .1 .0 * 4 + 0
+μ-branching-at κs a = a .1 .1 .1 .0 * 4 + 0
 
 abbrev μ-item-at : Measures 2 item-at-kinds.ps ℕ
-μ-item-at κs a = a .1 .1 .0 * 4 + 1
+μ-item-at κs a = a .1 .1 .1 .0 * 4 + 1
 
 abbrev μ-sequence-at : Measures 2 sequence-at-kinds.ps ℕ
-μ-sequence-at κs a = a .1 .1 .0 * 4 + 2
+μ-sequence-at κs a = a .1 .1 .1 .0 * 4 + 2
 
 abbrev branch-at-at : ℕ → In 2 branch-at-kinds.ps
 branch-at-at t = and 2 branch-at-kinds.ps (is 2 branch-at-kinds.ps μ-branch-at t) branch-at.Pre
@@ -76,10 +76,10 @@ sequence-at-below t =
     and 2 sequence-at-kinds.ps (falls 2 sequence-at-kinds.ps _<_ μ-sequence-at t) sequence-at.Pre
 
 abbrev branching-at-Inv-loop : branching-at-lts.InvT-loop
-branching-at-Inv-loop n m deep s start i t₀ inner count up c q left₀ p₀ met₀ t left p met = Going s (branching-whole n m deep s start i t₀) (branching-rest n m deep s start i t₀ left p met t) p met
+branching-at-Inv-loop form n m deep s start i t₀ inner count up c q left₀ p₀ met₀ t left p met = Going s (branching-whole form n m deep s start i t₀) (branching-rest form n m deep s start i t₀ left p met t) p met
 
 abbrev branching-at-μ-loop : branching-at-lts.MeasureT-loop
-branching-at-μ-loop n m deep s start i t₀ inner count up c q left₀ p₀ met₀ t left p met = left
+branching-at-μ-loop form n m deep s start i t₀ inner count up c q left₀ p₀ met₀ t left p met = left
 
 -- src/plan.rt:95:1
 item-at-returns-4 : (t : ℕ) → item-at-lts.Need-returns-4 (
@@ -93,10 +93,10 @@ item-at-returns-4 : (t : ℕ) → item-at-lts.Need-returns-4 (
 item-at-returns-4 t c = search item-act
 
 abbrev sequence-at-Inv-loop : sequence-at-lts.InvT-loop
-sequence-at-Inv-loop n m deep s start before up t₀ c q left₀ p₀ met₀ t left p met = Going s (sequence-whole n m deep up s start before t₀) (sequence-rest n m deep up s before p met t left) p met
+sequence-at-Inv-loop form n m deep s start before up t₀ c q left₀ p₀ met₀ t left p met = Going s (sequence-whole form n m deep up s start before t₀) (sequence-rest form n m deep up s before p met t left) p met
 
 abbrev sequence-at-μ-loop : sequence-at-lts.MeasureT-loop
-sequence-at-μ-loop n m deep s start before up t₀ c q left₀ p₀ met₀ t left p met = left
+sequence-at-μ-loop form n m deep s start before up t₀ c q left₀ p₀ met₀ t left p met = left
 
 pub +branch-at+branching-at+item-at+sequence-at-spec : {M : Type 1} → statement M
 +branch-at+branching-at+item-at+sequence-at-spec =
@@ -132,7 +132,7 @@ pub +branch-at+branching-at+item-at+sequence-at-spec : {M : Type 1} → statemen
     (λ c. search needs)
     (λ c. search needs)
     (λ c. search branching-starts)
-    (λ c κs. search needs)
+    (λ c κs. (search needs, (search needs, search needs)))
     (λ c. search needs)
     (λ c. search needs)
     (λ c. search needs)
@@ -158,7 +158,7 @@ pub +branch-at+branching-at+item-at+sequence-at-spec : {M : Type 1} → statemen
     (λ c. search needs)
     (λ c. search needs)
     (λ c κs. (search needs, search item-fits))
-    (λ c κs. (search needs, (search needs, (search needs, (search item-inside, search needs)))))
+    (λ c κs. (search needs, (search needs, (search needs, (search needs, (search item-inside, search needs))))))
     (λ c. search item-branching)
     (λ c. search item-large)
     (λ c. search needs)

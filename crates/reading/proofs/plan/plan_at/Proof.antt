@@ -9,7 +9,7 @@ use Rattle.reading.proofs.plan.sequence_at.Reads as sequence-at-reads
 
 -- src/plan.rt:194:5
 sequence-at-requires : tie.Need-sequence-at-requires
-sequence-at-requires c κs = search needs
+sequence-at-requires c κs = (search needs, search needs)
 
 -- src/plan.rt:189:1
 returns : tie.Need-returns

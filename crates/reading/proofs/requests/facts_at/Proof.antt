@@ -5,12 +5,12 @@ use Rattle.reading.proofs.requests.facts_at.Statement.{statement}
 use Rattle.reading.proofs.requests.facts_at.Tie as tie
 use Rattle.reading.proofs.requests.facts_at.Reads as reads
 use Rattle.reading.proofs.requests.facts_at.Lts as lts
-use Rattle.bytes.proofs.lists.list_at.Reads as list-at-reads
+use Rattle.bytes.proofs.forms.literals_at.Reads as literals-at-reads
 use Rattle.reading.proofs.sections.three_sections.Reads as three-sections-reads
 
 -- src/requests.rt:27:11
-list-at-requires : tie.Need-list-at-requires
-list-at-requires c κs = search needs
+literals-at-requires : tie.Need-literals-at-requires
+literals-at-requires c κs = search needs
 
 -- src/requests.rt:28:20
 enum-known-q : tie.Need-enum-known-q
@@ -35,4 +35,4 @@ returns-2 c = search facts-fault
 pub facts-at-spec : {M : Type 1} → statement M
 facts-at-spec =
     tie.close
-    (tie.spec list-at-requires enum-known-q three-sections-requires enum-known-k returns returns-2)
+    (tie.spec literals-at-requires enum-known-q three-sections-requires enum-known-k returns returns-2)

@@ -6,11 +6,12 @@ use Rattle.reading.proofs.requests.goals_at.Tie as tie
 use Rattle.reading.proofs.requests.goals_at.Reads as reads
 use Rattle.reading.proofs.requests.goals_at.Lts as lts
 use Rattle.bytes.proofs.lists.list_at.Reads as list-at-reads
+use Rattle.bytes.proofs.forms.literals_at.Reads as literals-at-reads
 use Rattle.reading.proofs.requests.put_places.Reads as put-places-reads
 
 -- src/requests.rt:77:11
-list-at-requires : tie.Need-list-at-requires
-list-at-requires c κs = search needs
+literals-at-requires : tie.Need-literals-at-requires
+literals-at-requires c κs = search needs
 
 -- src/requests.rt:78:20
 enum-known-q : tie.Need-enum-known-q
@@ -21,8 +22,8 @@ put-places-requires : tie.Need-put-places-requires
 put-places-requires c κs = search needs
 
 -- src/requests.rt:80:13
-list-at-requires-2 : tie.Need-list-at-requires-2
-list-at-requires-2 c κs = search needs
+list-at-requires : tie.Need-list-at-requires
+list-at-requires c κs = search needs
 
 -- src/requests.rt:82:23
 enum-known-k : tie.Need-enum-known-k
@@ -40,10 +41,10 @@ pub goals-at-spec : {M : Type 1} → statement M
 goals-at-spec =
     tie.close
     (tie.spec
-    list-at-requires
+    literals-at-requires
     enum-known-q
     put-places-requires
-    list-at-requires-2
+    list-at-requires
     enum-known-k
     returns
     returns-2)

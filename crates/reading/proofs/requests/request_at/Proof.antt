@@ -18,7 +18,7 @@ enum-known-items c = search needs
 
 -- src/requests.rt:82:34
 goals-at-requires : tie.Need-goals-at-requires
-goals-at-requires c κs = (search needs, (search plan-place-fits, (search plan-items-fit, search plan-end-fits)))
+goals-at-requires c κs = (search needs, (search needs, (search plan-place-fits, (search plan-items-fit, search plan-end-fits))))
 
 -- src/requests.rt:83:21
 enum-known-k : tie.Need-enum-known-k

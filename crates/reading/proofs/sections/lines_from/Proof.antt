@@ -14,11 +14,11 @@ use Rattle.reading.proofs.sections.line_at.Reads as line-at-reads
 use Rattle.reading.proofs.sections.note_line.Reads as note-line-reads
 
 abbrev Inv-loop : tie.InvT-loop
-Inv-loop c n m s count start t₀ end k₀ p₀ last₀ t k p last =
-    noting (lines-noted (section-of c) 0 none-yet) (repeated (line-at (section-of c) n m s) count start) t₀ ≡ noting (lines-noted (section-of c) k last) (repeated (line-at (section-of c) n m s) (end - k) p) t
+Inv-loop form c n m s count start t₀ end k₀ p₀ last₀ t k p last =
+    noting (lines-noted (section-of c) 0 none-yet) (repeated (line-at form (section-of c) n m s) count start) t₀ ≡ noting (lines-noted (section-of c) k last) (repeated (line-at form (section-of c) n m s) (end - k) p) t
 
 abbrev μ-loop : tie.MeasureT-loop
-μ-loop c n m s count start t₀ end k₀ p₀ last₀ t k p last = end - k
+μ-loop form c n m s count start t₀ end k₀ p₀ last₀ t k p last = end - k
 
 -- src/sections.rt:70:9
 wide-requires : tie.Need-wide-requires Inv-loop μ-loop

@@ -3,6 +3,7 @@
 use Rattle.ruling.proofs.RuleLaws.{some-plan}
 use Rattle.ruling.proofs.BranchRuleLaws.{starts-other, ends-other, plan-counted, first-fits, count-none, first-there, other-first, branching-first, rule-by-branch, read-again}
 use borrow.Author.Needs.{needs}
+use Rattle.bytes.proofs.LineReaderLaws.{counted-flags}
 use Rattle.ruling.proofs.branchings.rule_4.Statement.{statement}
 use Rattle.ruling.proofs.branchings.rule_4.Tie as tie
 use Rattle.ruling.proofs.branchings.rule_4.Reads as reads
@@ -50,7 +51,7 @@ sized-requires c κs = search needs
 
 -- src/branchings.rt:111:23
 plan-at-requires : tie.Need-plan-at-requires
-plan-at-requires c κs = search needs
+plan-at-requires c κs = (search counted-flags, search needs)
 
 -- src/branchings.rt:113:36
 enum-told : tie.Need-enum-told

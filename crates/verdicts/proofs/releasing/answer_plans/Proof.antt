@@ -1,5 +1,6 @@
 -- What was answered so far and what is left are all the answers; at a plan that fails, its fault and the plans behind it are all that is left.
 use borrow.Author.Needs.{needs}
+use Rattle.bytes.proofs.LineReaderLaws.{counted-flags}
 use Prim.Native.Nat.{_-_}
 use Rattle.verdicts.proofs.ReleasingLaws.{Answering, answering-starts, answering-hand, answering-unguarded, answering-known, answering-room, answering-small, answering-next, answering-fault, answering-few, answering-sized, answering-stops, answering-done}
 use Rattle.verdicts.proofs.releasing.answer_plans.Statement.{statement}
@@ -24,7 +25,7 @@ loop-holds c = search answering-starts
 
 -- src/releasing.rt:145:15
 request-at-requires : tie.Need-request-at-requires Inv-loop μ-loop
-request-at-requires c κs = search needs
+request-at-requires c κs = (search counted-flags, search needs)
 
 -- src/releasing.rt:146:24
 enum-known-e : tie.Need-enum-known-e Inv-loop μ-loop

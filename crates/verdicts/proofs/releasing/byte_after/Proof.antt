@@ -1,5 +1,6 @@
 -- What is left of the plans ends where all do; at a plan that fails nothing is sought.
 use borrow.Author.Needs.{needs}
+use Rattle.bytes.proofs.LineReaderLaws.{counted-flags}
 use Rattle.verdicts.proofs.ReleasingLaws.{Seeking, seeking-starts, seeking-next, seeking-stops, seeking-more, seeking-none}
 use Rattle.verdicts.proofs.releasing.byte_after.Statement.{statement}
 use Rattle.verdicts.proofs.releasing.byte_after.Tie as tie
@@ -19,7 +20,7 @@ loop-holds c = search seeking-starts
 
 -- src/releasing.rt:61:15
 request-at-requires : tie.Need-request-at-requires Inv-loop μ-loop
-request-at-requires c κs = search needs
+request-at-requires c κs = (search counted-flags, search needs)
 
 -- src/releasing.rt:62:24
 enum-known-e : tie.Need-enum-known-e Inv-loop μ-loop

@@ -1,5 +1,6 @@
 -- Too long; the table and then the count; or the first fault of the table.
 use borrow.Author.Needs.{needs}
+use Rattle.reader.proofs.WholeLaws.{flags-start}
 use Rattle.verdicts.proofs.ReleasingLaws.{open-long, open-counted, open-fault}
 use Rattle.verdicts.proofs.releasing.open_file.Statement.{statement}
 use Rattle.verdicts.proofs.releasing.open_file.Tie as tie
@@ -14,7 +15,7 @@ returns c = search open-long
 
 -- src/releasing.rt:46:11
 table-at-requires : tie.Need-table-at-requires
-table-at-requires c κs = search needs
+table-at-requires c κs = (search flags-start, search needs)
 
 -- src/releasing.rt:47:20
 enum-known-p : tie.Need-enum-known-p

@@ -1,10 +1,10 @@
 -- The shift is the power that the bit stands for, and `|` adds it where it is not there.
-use Rattle.reading.proofs.BitLaws.{with-is}
+use Rattle.bytes.proofs.BitLaws.{with-is}
 use borrow.Author.Needs.{needs}
-use Rattle.reading.proofs.bits.with_bit.Statement.{statement}
-use Rattle.reading.proofs.bits.with_bit.Tie as tie
-use Rattle.reading.proofs.bits.with_bit.Reads as reads
-use Rattle.reading.proofs.bits.with_bit.Lts as lts
+use Rattle.bytes.proofs.bits.with_bit.Statement.{statement}
+use Rattle.bytes.proofs.bits.with_bit.Tie as tie
+use Rattle.bytes.proofs.bits.with_bit.Reads as reads
+use Rattle.bytes.proofs.bits.with_bit.Lts as lts
 
 -- src/bits.rt:19:25
 cast-bit : tie.Need-cast-bit

@@ -9,14 +9,14 @@ use lib.Bits.{bitOr, or-step, or-zero-r}
 use lib.Pow.{shl-exact}
 use borrow.Author.Tests.{eqb-true, eqb-false, eq-eqb}
 use Rattle.meaning.proofs.TestLaws.{by-test, pick-true, pick-false}
-use Rattle.reading.specs.Bits.{bit-of, with-bit}
+use Rattle.bytes.specs.Bits.{bit-of, with-bit}
 
 -- BIT 0 says whether the number is odd, and the other bits are those of its half.
-bit-zero : (w : ℕ) → bit-of w 0 ≡ eqb (w % 2) 1
+pub bit-zero : (w : ℕ) → bit-of w 0 ≡ eqb (w % 2) 1
 unfolding bit-of
 bit-zero w = let whole : w / 2 ^ 0 ≡ w = omega arith in ap (λ (x : ℕ). eqb (x % 2) 1) whole
 
-bit-suc : (w i : ℕ) → bit-of w (suc i) ≡ bit-of (w / 2) i
+pub bit-suc : (w i : ℕ) → bit-of w (suc i) ≡ bit-of (w / 2) i
 unfolding bit-of
 bit-suc w i = ap (λ (x : ℕ). eqb (x % 2) 1) (ap (λ (x : ℕ). w / x) (pow-succ' 2 i) ∙ sym (div-div-eq-div-mul w 2 (2 ^ i)))
 

@@ -1,10 +1,10 @@
 -- The shift is the quotient that the definition has.
-use Rattle.reading.proofs.BitLaws.{has-is}
+use Rattle.bytes.proofs.BitLaws.{has-is}
 use borrow.Author.Needs.{needs}
-use Rattle.reading.proofs.bits.has_bit.Statement.{statement}
-use Rattle.reading.proofs.bits.has_bit.Tie as tie
-use Rattle.reading.proofs.bits.has_bit.Reads as reads
-use Rattle.reading.proofs.bits.has_bit.Lts as lts
+use Rattle.bytes.proofs.bits.has_bit.Statement.{statement}
+use Rattle.bytes.proofs.bits.has_bit.Tie as tie
+use Rattle.bytes.proofs.bits.has_bit.Reads as reads
+use Rattle.bytes.proofs.bits.has_bit.Lts as lts
 
 -- src/bits.rt:10:17
 shr-above : tie.Need-shr-above

@@ -1,6 +1,6 @@
 ghost use mathlib.Core.Path.{_≡_};
 ghost use Prim.Native.Nat.{_<_};
-ghost use Rattle.reading.specs.Bits.{bit-of, with-bit};
+ghost use Rattle.bytes.specs.Bits.{bit-of, with-bit};
 
 // Bit i of the number is there.
 pub fn has_bit(w: u16, i: usize) -> bool
