@@ -29,6 +29,7 @@ use Rattle.checking.specs.Asked.{conclusion-asked, begins}
 use Rattle.comparing.proofs.SpotLaws.{concluded-there, concluded-list}
 use Rattle.comparing.proofs.LinesStand.{plan-stands}
 use Rattle.ruling.proofs.RuleLaws.{no-left, yes-left, plan-of}
+use Rattle.meaning.specs.declared.Form.the-variants.{Flags}
 
 placed-asked : (p : ℕ) (xs : List ℕ) → map (λ (w : Entry). knows-whether (w .value)) (placed p xs) ≡ map knows-whether xs
 unfolding placed
@@ -44,14 +45,14 @@ module _ (s t : List ℕ) (here : At-hand s t) where
   second-there = starts s t here .front .second
 
   module _ (n : ℕ) (is : n ≡ getD s 0 0) where
-    pub fluents-are : n ≡ table-in s .fluents
+    pub fluents-are : n ≡ table-in Flags s .fluents
     fluents-are = is ∙ starts s t here .front .fluents-are
 
     pub fluents-few : n ≤ format .fluents
     fluents-few = let few = starts s t here .front .most in let same = fluents-are in omega (arith, few, same)
 
   module _ (m : ℕ) (is : m ≡ getD s 1 0) where
-    pub actions-are : m ≡ table-in s .actions
+    pub actions-are : m ≡ table-in Flags s .actions
     actions-are = is ∙ starts s t here .front .actions-are
 
     pub actions-few : m ≤ format .actions
@@ -68,7 +69,7 @@ module _ (s t : List ℕ) (here : At-hand s t) where
       asked-stands =
           let whole = sections s t here in
           rw (at-plan, at-goals)
-          (plan-stands (table-in s .fluents) (table-in s .actions) s (here .bytes) (whole .few) (whole .less) (getD t plan-slot 0) (record { value = plan-in s t; items = getD t items-slot 0 }) (goals-in t) (here .plan))
+          (plan-stands (table-in Flags s .fluents) (table-in Flags s .actions) s (here .bytes) (whole .few) (whole .less) (getD t plan-slot 0) (record { value = plan-in s t; items = getD t items-slot 0 }) (goals-in t) (here .plan))
 
       pub asked-some : Some-plan s asked goals
       asked-some = record { plan = plan-in s t; stands = asked-stands }
@@ -83,12 +84,12 @@ module _ (s t : List ℕ) (here : At-hand s t) where
 
   -- THE START of a line at a spot: the facts, then the plan.
   module _ (d : List ℕ) (w : Spot) (facts : Bool) (first : facts ≡ same-list (listed d (w .line)) (listed s 2)) where
-    facts-are : (l : Line) → Stands d w l → facts ≡ same-list (l .X) (table-in s .facts)
+    facts-are : (l : Line) → Stands d w l → facts ≡ same-list (l .X) (table-in Flags s .facts)
     facts-are l stands = first ∙ ap₂ {C = Bool} same-list (stands .X .same) (starts s t here .facts)
 
     pub other-facts : facts ≡ false → Ruled d w (begins (request-in s t)) false
     unfolding begins request-in
-    other-facts f = record { holds = λ l stands. no-left (same-list (l .X) (table-in s .facts)) _ (sym (facts-are l stands) ∙ f) }
+    other-facts f = record { holds = λ l stands. no-left (same-list (l .X) (table-in Flags s .facts)) _ (sym (facts-are l stands) ∙ f) }
 
     pub same-facts : facts ≡ true → (q : ℕ) → q ≡ sequence-place d (w .line) → (asked : ℕ) → asked ≡ getD t plan-slot 0 → (goals : ℕ) → goals ≡ getD t goals-slot 0 → (r : Bool) → Same-plans d q (w .end) s asked goals r
         → Ruled d w (begins (request-in s t)) r
@@ -97,7 +98,7 @@ module _ (s t : List ℕ) (here : At-hand s t) where
         record {
           holds = λ l stands.
               same .holds (l .c) (plan-in s t) (plan-of d w q after l stands) (asked-stands goals at-goals asked at-plan)
-              ∙ sym (yes-left (same-list (l .X) (table-in s .facts)) _ (sym (facts-are l stands) ∙ e));
+              ∙ sym (yes-left (same-list (l .X) (table-in Flags s .facts)) _ (sym (facts-are l stands) ∙ e));
         }
 
 -- A LINE at a spot.

@@ -485,29 +485,29 @@ module _ (n m : ℕ) (s : List ℕ) (less : m ≤ format .actions) where
       rw (start, counted) (lines .0, record { ends = omega (arith, lines .2); acts = lines .3 }, omega arith)
 
 -- THE TABLE AT THE START of an input, and its executability lines.
-pub table-is : (s : List ℕ) (x : Table) (p : ℕ) → table-at format Flags s 0 ≡ got x p → table-in s ≡ x
+pub table-is : (s : List ℕ) (x : Table) (p : ℕ) → table-at format Flags s 0 ≡ got x p → table-in Flags s ≡ x
 unfolding table-in table-of
 table-is s x p read = ap table-of read
 
 module _ (s t : List ℕ) (here : Table-here s t) where
-  pub whole-table : Table-parts s (table-in s) (here .table-end)
-  whole-table = table-parts s (table-in s) (here .table-end) (here .table)
+  pub whole-table : Table-parts s (table-in Flags s) (here .table-end)
+  whole-table = table-parts s (table-in Flags s) (here .table-end) (here .table)
 
   pub runs-here : Runs-here s t
   runs-here = record {
-    order = runs-ordered s (here .bytes) (table-in s) (here .table-end) whole-table t (here .noted);
-    line = run-stands s (table-in s) (here .table-end) whole-table;
+    order = runs-ordered s (here .bytes) (table-in Flags s) (here .table-end) whole-table t (here .noted);
+    line = run-stands s (table-in Flags s) (here .table-end) whole-table;
   }
 
   -- A plan that is noted leaves the table there.
-  pub table-stays : (g p : ℕ) (y : Request) (q : ℕ) → request-at format Flags s (table-in s) p ≡ got y q → Table-here s (tail-with Flags g y t)
+  pub table-stays : (g p : ℕ) (y : Request) (q : ℕ) → request-at format Flags s (table-in Flags s) p ≡ got y q → Table-here s (tail-with Flags g y t)
   table-stays g p y q read = record {
     bytes = here .bytes;
     short = here .short;
     table-end = here .table-end;
     table = here .table;
-    sized = tail-long s (table-in s) (whole-table .few) (whole-table .less) p y q read t g (here .sized);
-    noted = λ j of. tail-kept s (table-in s) (whole-table .few) (whole-table .less) p y q read t g j of ∙ here .noted j of;
+    sized = tail-long s (table-in Flags s) (whole-table .few) (whole-table .less) p y q read t g (here .sized);
+    noted = λ j of. tail-kept s (table-in Flags s) (whole-table .few) (whole-table .less) p y q read t g j of ∙ here .noted j of;
   }
 
 -- A table that was noted into notes that held nothing is there.
@@ -535,10 +535,10 @@ module _ (s : List ℕ) (bytes : (i : ℕ) → getD s i 0 < 256) (t : List ℕ) 
   pub read-comes : Table-here s (table-noted (here .request .table) blank)
   read-comes = table-comes s bytes (here .short) (here .request .table) (read-parts .place) (read-parts .table-read)
 
-  pub read-same : table-in s ≡ here .request .table
+  pub read-same : table-in Flags s ≡ here .request .table
   read-same = table-is s (here .request .table) (read-parts .place) (read-parts .table-read)
 
-  pub read-tail : request-at format Flags s (table-in s) (read-parts .place) ≡ got (here .request) (here .end)
+  pub read-tail : request-at format Flags s (table-in Flags s) (read-parts .place) ≡ got (here .request) (here .end)
   read-tail = ap (λ (z : Table). request-at format Flags s z (read-parts .place)) read-same ∙ read-parts .tail-read
 
   -- The notes are what its table leaves, and then the rest.

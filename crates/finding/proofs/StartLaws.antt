@@ -52,8 +52,8 @@ request-starts s x e read =
 
 -- A table that the notes hold starts so too, with its two counts.
 module _ (s t : List ℕ) (here : Table-here s t) where
-  pub front-here : Front Flags s 0 (table-in s)
-  front-here = table-starts s (table-in s) (here .table-end) (here .table) .front
+  pub front-here : Front Flags s 0 (table-in Flags s)
+  front-here = table-starts s (table-in Flags s) (here .table-end) (here .table) .front
 
   pub first-byte : 0 < length s
   first-byte = front-here .first

@@ -46,7 +46,7 @@ known-walk s u x gs known is are =
     ∙ ap (λ (y : Request). walked-guarded y (guards-in s u) (first-state format (y .table))) is
     ∙ ap (λ (hs : List Entry). walked-guarded x hs (first-state format (x .table))) are
 
-pub held-table : (s u : List ℕ) (x : Request) → request-in s u ≡ x → table-in s ≡ x .table
+pub held-table : (s u : List ℕ) (x : Request) → request-in s u ≡ x → table-in Flags s ≡ x .table
 unfolding request-in
 held-table s u x is = ap (λ (y : Request). y .table) is
 
@@ -102,7 +102,7 @@ module _ (s lent : List ℕ) (budget : ℕ) (a : Answer) (v : ℕ) where
     judge-refused k p stops = call-refused (request-noted Flags) (λ (x : Request). x .table) (settled format s) s lent (judge-got (walk-of format) lent budget) a v sized t u r settles k p stops refl
 
     pub judge-walked : (e : ℕ) → r ≡ To e → ((i : ℕ) → Fits w8 (getD s i 0)) → t ≡ blank → (left : List ℕ) → record { answer = a; state = left } ≡ within lent budget (walk-held s u)
-        → v ≡ line-told (table-in s) s (record { answer = a; state = left }) → Gives (judge format s lent budget) (line format s lent budget) a left v
+        → v ≡ line-told (table-in Flags s) s (record { answer = a; state = left }) → Gives (judge format s lent budget) (line format s lent budget) a left v
     unfolding judge line judge-got
     judge-walked e passes bytes empty left walks told =
         let past = settled-got s t u r settles e passes in
@@ -128,7 +128,7 @@ module _ (s lent : List ℕ) (budget : ℕ) (a : Answer) (v : ℕ) where
         call-refused (request-noted Flags) (λ (x : Request). x .table) (settled format s) s lent (judge-got (ByCases.walk-of format) lent budget) a v sized t u r settles k p stops refl
 
     pub cases-walked : (e : ℕ) → r ≡ To e → ((i : ℕ) → Fits w8 (getD s i 0)) → t ≡ blank → (w : List ℕ) → w ≡ set u mode-slot 1 → (left : List ℕ)
-        → record { answer = a; state = left } ≡ within lent budget (walk-held s w) → v ≡ line-told (table-in s) s (record { answer = a; state = left })
+        → record { answer = a; state = left } ≡ within lent budget (walk-held s w) → v ≡ line-told (table-in Flags s) s (record { answer = a; state = left })
         → Gives (judge-by-cases format s lent budget) (line-by-cases format s lent budget) a left v
     unfolding judge-by-cases line-by-cases judge-got
     cases-walked e passes bytes empty w put left walks told =
@@ -151,7 +151,7 @@ module _ (s lent : List ℕ) (budget : ℕ) (a : Answer) (v : ℕ) where
         call-refused guarded-noted (λ (g : Guarded-request). g .request .table) (settled-guarded format s) s lent (judge-got (Guards.walk-of format) lent budget) a v sized t u r settles k p stops refl
 
     pub guarded-walked : (e : ℕ) → r ≡ To e → ((i : ℕ) → Fits w8 (getD s i 0)) → t ≡ blank → (left : List ℕ) → record { answer = a; state = left } ≡ within lent budget (walk-held s u)
-        → v ≡ line-told (table-in s) s (record { answer = a; state = left }) → Gives (judge-guarded format s lent budget) (line-guarded format s lent budget) a left v
+        → v ≡ line-told (table-in Flags s) s (record { answer = a; state = left }) → Gives (judge-guarded format s lent budget) (line-guarded format s lent budget) a left v
     unfolding judge-guarded line-guarded judge-got Guards.walk-of
     guarded-walked e passes bytes empty left walks told =
         let past = guarded-got s t u r settles e passes in

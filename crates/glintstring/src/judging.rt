@@ -9,6 +9,7 @@ ghost use Rattle.meaning.specs.Indexes.{judge-indexed, line-indexed};
 ghost use Rattle.steps.specs.Held.{table-in};
 ghost use Rattle.steps.specs.AtHand.{At-hand};
 ghost use Rattle.steps.specs.Steps.{walk-held};
+ghost use Rattle.meaning.specs.declared.Form.the-variants.{Flags};
 use super::missing::line_at;
 use bytes::limits;
 use bytes::lists::Passed;
@@ -36,7 +37,7 @@ fn walk_with_line(request: &[u8], t: &Notes, state: &mut [u8], budget: u32) -> J
     requires { ⌜ At-hand (now request) (now t) ⌝ }
     requires { ⌜ length (now state) ≡ format .state ⌝ }
     ensures given { λ r. ⌜ record { answer = r .answer; state = now (state .exit) } ≡ within (now (state .entry)) budget (walk-held (now (request .entry)) (now (t .entry))) ⌝ }
-    ensures line { λ r. ⌜ r .line ≡ line-told (table-in (now (request .entry))) (now (request .entry)) (record { answer = r .answer; state = now (state .exit) }) ⌝ }
+    ensures line { λ r. ⌜ r .line ≡ line-told (table-in Flags (now (request .entry))) (now (request .entry)) (record { answer = r .answer; state = now (state .exit) }) ⌝ }
 {
     let answer = walk_plan(request, t, state, budget);
     if answer.number == answers::NOT_EXECUTABLE {

@@ -60,10 +60,10 @@ module _ (s t : List ℕ) (at : ℕ) (marks : State) (going : Bool) (says : goin
   going-marked sized = marks-pass marks sized (both-right (is-position (plan-in s t) at) _ (sym says ∙ is))
 
 -- THE FLUENTS that are asked for.
-pub asked-after : (s : List ℕ) (a : ℕ) (x : Fluents) → a < format .actions → x ≡ fluents-of (sensed format (table-in s) a) → x ≡ fluents-of (asked-by (table-in s) a)
+pub asked-after : (s : List ℕ) (a : ℕ) (x : Fluents) → a < format .actions → x ≡ fluents-of (sensed format (table-in Flags s) a) → x ≡ fluents-of (asked-by (table-in Flags s) a)
 asked-after s a x small is = is ∙ ap fluents-of (sym (asked-some s a small))
 
-pub none-after : (s : List ℕ) (a : ℕ) (x : Fluents) → format .actions ≤ a → x ≡ fluents-of [] → x ≡ fluents-of (asked-by (table-in s) a)
+pub none-after : (s : List ℕ) (a : ℕ) (x : Fluents) → format .actions ≤ a → x ≡ fluents-of [] → x ≡ fluents-of (asked-by (table-in Flags s) a)
 none-after s a x large is = is ∙ ap fluents-of (sym (asked-none s a large))
 
 -- A REQUEST that was read again, and settled.
@@ -118,7 +118,7 @@ module _ (s t u : List ℕ) (r : Passed) (settles : outcome r u ≡ noting (requ
           ∙ ap (λ (g : Guide). record { guide = g; told = Refused (of-guide not-verified) }) refused
           ∙ ap (λ (g : Guide). next format g bytes) (sym refused)
 
-      pub asked-going : goes ≡ true → (x : Fluents) → x ≡ fluents-of (asked-by (table-in s) a) → x ≡ fluents-of (asked-for (guide-held s a at marks))
+      pub asked-going : goes ≡ true → (x : Fluents) → x ≡ fluents-of (asked-by (table-in Flags s) a) → x ≡ fluents-of (asked-for (guide-held s a at marks))
       unfolding asked-for on-the-way
       asked-going is x are = are ∙ ap (λ (g : Guide). fluents-of (asked-for g)) (sym (held-going a at marks (sym says ∙ is)))
 
@@ -128,14 +128,14 @@ module _ (s t u : List ℕ) (r : Passed) (settles : outcome r u ≡ noting (requ
 
     -- Its start.
     module _ (items at : ℕ) (counted : items ≡ getD u items-slot 0) (starts : at ≡ start items) (marks : State) (is : marks ≡ state-of format (listed s 2)) where
-      starts-going : guide-held s (format .actions) at marks ≡ going (table-in s) [] (plan-in s u) (first-state format (table-in s))
+      starts-going : guide-held s (format .actions) at marks ≡ going (table-in Flags s) [] (plan-in s u) (first-state format (table-in Flags s))
       unfolding on-the-way
       starts-going =
           let here = settled-at-hand s t u r settles e passes bytes empty in
           held-there (format .actions) at marks (starts-there s u here items at counted starts) (marked-as (listed s 2) marks is)
-          ∙ ap (λ (fs : List ℕ). going (table-in s) fs (rest-at (plan-in s u) at) marks) (asked-none s (format .actions) (omega arith))
-          ∙ ap (λ (b : Sequence ℕ). going (table-in s) [] b marks) (ap (rest-at (plan-in s u)) (at-is s u here items at counted starts) ∙ rest-first (plan-in s u))
-          ∙ ap (going (table-in s) [] (plan-in s u)) (first-is s u here marks is)
+          ∙ ap (λ (fs : List ℕ). going (table-in Flags s) fs (rest-at (plan-in s u) at) marks) (asked-none s (format .actions) (omega arith))
+          ∙ ap (λ (b : Sequence ℕ). going (table-in Flags s) [] b marks) (ap (rest-at (plan-in s u)) (at-is s u here items at counted starts) ∙ rest-first (plan-in s u))
+          ∙ ap (going (table-in Flags s) [] (plan-in s u)) (first-is s u here marks is)
 
       pub begins : Begins s (guide-held s (format .actions) at marks)
       unfolding request-in

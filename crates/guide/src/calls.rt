@@ -9,6 +9,7 @@ ghost use Rattle.meaning.specs.Tests.{both};
 ghost use Rattle.steps.specs.Held.{table-in, plan-in};
 ghost use Rattle.steps.specs.AtHand.{At-hand};
 ghost use Rattle.guide.specs.GuideHeld.{asked-by, fluents-of, is-position, is-marked, guide-held, turned, Begins};
+ghost use Rattle.meaning.specs.declared.Form.the-variants.{Flags};
 use super::going::NOT_VERIFIED;
 use super::going::Step;
 use super::going::answer_call;
@@ -127,7 +128,7 @@ pub(crate) fn none_asked() -> Fluents
 // Those that an action senses, and none where there was no action.
 fn asked_after(s: &[u8], t: &Notes, action: usize) -> Fluents
     requires { ⌜ At-hand (now s) (now t) ⌝ }
-    ensures { λ r. ⌜ r ≡ fluents-of (asked-by (table-in (now (s .entry))) action) ⌝ }
+    ensures { λ r. ⌜ r ≡ fluents-of (asked-by (table-in Flags (now (s .entry))) action) ⌝ }
 {
     if action < limits::ACTIONS {
         return sensed_by(s, t, action);

@@ -20,6 +20,7 @@ use Rattle.reading.specs.declared.marks.Test.the-variants.{Possible}
 use Rattle.finding.specs.TablesHere.{table-in, Runs-here}
 use Rattle.finding.proofs.AheadLaws.{Runs-ahead, ahead-starts, ahead-none, ahead-first, line-others, line-rest, line-fit}
 use Rattle.refusing.specs.Refusal16.{agreeing, agreeing-lines}
+use Rattle.meaning.specs.declared.Form.the-variants.{Flags}
 
 -- ONE BODY.
 pub agreed : (one other : State) (b : List ℕ) (first r : Bool) → first ≡ each-of (holds-as Possible one) b → first ≡ true → r ≡ each-of (holds-as Possible other) b → r ≡ agreeing one other b
@@ -38,18 +39,18 @@ pub record Agreeing (s t : List ℕ) (one other : State) (whole : Bool) (k : ℕ
   pub ahead : Runs-ahead s t k
   pub same : whole ≡ some-of (agreeing-at s one other) (ahead .rest)
 
-pub agreeing-starts : (s t : List ℕ) (a : ℕ) (one other : State) (k : ℕ) → Runs-here s t → a < format .actions → k ≡ first-line t run-lines a → Agreeing s t one other (agreeing-lines (table-in s) a one other) k
+pub agreeing-starts : (s t : List ℕ) (a : ℕ) (one other : State) (k : ℕ) → Runs-here s t → a < format .actions → k ≡ first-line t run-lines a → Agreeing s t one other (agreeing-lines (table-in Flags s) a one other) k
 unfolding agreeing-lines ahead-starts executability-of
 agreeing-starts s t a one other k here small at =
     record {
-      ahead = ahead-starts (λ (p : ℕ). List-here all-literals s (p + 1)) t run-lines a (map (λ (x : Executability). x .place) (executability-of (table-in s) a)) (here .order a small)
-          (λ p has. let w = map-has (λ (x : Executability). x .place) (executability-of (table-in s) a) p has in rw (w .2) (line (w .0) (w .1) .1)) k at;
-      same = sym (some-mapped (λ (x : Executability). x .place) (agreeing-at s one other) (λ (x : Executability). agreeing one other (x .body)) (executability-of (table-in s) a)
+      ahead = ahead-starts (λ (p : ℕ). List-here all-literals s (p + 1)) t run-lines a (map (λ (x : Executability). x .place) (executability-of (table-in Flags s) a)) (here .order a small)
+          (λ p has. let w = map-has (λ (x : Executability). x .place) (executability-of (table-in Flags s) a) p has in rw (w .2) (line (w .0) (w .1) .1)) k at;
+      same = sym (some-mapped (λ (x : Executability). x .place) (agreeing-at s one other) (λ (x : Executability). agreeing one other (x .body)) (executability-of (table-in Flags s) a)
           (λ x has. ap (agreeing one other) (line x has .0)));
     }
   where
-    line : (x : Executability) → Has (executability-of (table-in s) a) x → (listed s (x .place + 1) ≡ x .body) × List-here all-literals s (x .place + 1)
-    line x has = here .line x (those-has _ (table-in s .executability) x has .0)
+    line : (x : Executability) → Has (executability-of (table-in Flags s) a) x → (listed s (x .place + 1) ≡ x .body) × List-here all-literals s (x .place + 1)
+    line x has = here .line x (those-has _ (table-in Flags s .executability) x has .0)
 
 module _ (s t : List ℕ) (one other : State) (whole : Bool) (k : ℕ) (run : Agreeing s t one other whole k) where
   pub agreeing-done : k ≤ 0 → false ≡ whole

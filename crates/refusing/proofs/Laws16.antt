@@ -34,6 +34,7 @@ use Rattle.finding.specs.TablesHere.{table-in}
 use Rattle.refusing.specs.Refusal16.{effects-before, agreeing, agreeing-lines, buckets, bucket-at, Last, Linked, bucket-linked, linked-slots}
 use Rattle.reading.specs.Noted.{line-numbers}
 use Rattle.finding.proofs.PlanHere.{listed-clear}
+use Rattle.meaning.specs.declared.Form.the-variants.{Flags}
 
 pub bucket-got : (s : List ℕ) (p x y : ℕ) → x ≡ getD s p 0 → y ≡ getD s (p + 1) 0 → (format .fluents * x + y / 2) % buckets ≡ bucket-at s p
 unfolding bucket-at
@@ -87,7 +88,7 @@ module _ (s : List ℕ) (p q : ℕ) where
   Other = effect-from s q
 
   -- Effects that clash share their bucket.
-  bucket-same : contradictory (table-in s) One Other ≡ true → bucket-at s q ≡ bucket-at s p
+  bucket-same : contradictory (table-in Flags s) One Other ≡ true → bucket-at s q ≡ bucket-at s p
   unfolding contradictory clashing effect-from bucket-at fluent-of
   bucket-same h =
       let clashes = both-left _ _ h in
@@ -97,15 +98,15 @@ module _ (s : List ℕ) (p q : ℕ) where
       ap (λ (x : ℕ). x % buckets) (ap₂ (λ (x y : ℕ). format .fluents * x + y) (sym a) f)
 
   -- Where two don't clash, they aren't contradictory.
-  apart : clashing One Other ≡ false → false ≡ contradictory (table-in s) One Other
+  apart : clashing One Other ≡ false → false ≡ contradictory (table-in Flags s) One Other
   unfolding contradictory both
   apart e = sym (rw e)
 
-  pub action-other : (getD s p 0 ≡ getD s q 0 → ⊥) → false ≡ contradictory (table-in s) One Other
+  pub action-other : (getD s p 0 ≡ getD s q 0 → ⊥) → false ≡ contradictory (table-in Flags s) One Other
   unfolding clashing effect-from both
   action-other h = apart (rw (ne-eqb (getD s p 0) (getD s q 0) h))
 
-  pub fluent-other : (getD s (p + 1) 0 / 2 ≡ getD s (q + 1) 0 / 2 → ⊥) → false ≡ contradictory (table-in s) One Other
+  pub fluent-other : (getD s (p + 1) 0 / 2 ≡ getD s (q + 1) 0 / 2 → ⊥) → false ≡ contradictory (table-in Flags s) One Other
   unfolding clashing effect-from fluent-of
   fluent-other h =
       apart (by-test _ (λ e. absurd (h (sym (ap fluent-of (eqb-true _ _ (both-left _ _ (both-right _ _ e))) ∙ fluent-complement (getD s (p + 1) 0))))) (λ e. e))
@@ -118,7 +119,7 @@ module _ (s : List ℕ) (p q : ℕ) where
         rw (eq-eqb _ _ action-same, possible-exclusive (listed s (p + 2)) (listed s (q + 2)) (body-clear s p here))
         (by-literals (getD s (p + 1) 0) (getD s (q + 1) 0) (fails (exclusive (listed s (p + 2)) (listed s (q + 2)))) (sym fluent-same))
 
-    pub literal-same : getD s (p + 1) 0 ≡ getD s (q + 1) 0 → false ≡ contradictory (table-in s) One Other
+    pub literal-same : getD s (p + 1) 0 ≡ getD s (q + 1) 0 → false ≡ contradictory (table-in Flags s) One Other
     unfolding both fails
     literal-same e = apart (clashing-is (ap (λ (x : ℕ). x / 2) e) ∙ rw (eq-eqb (getD s (q + 1) 0) (getD s (p + 1) 0) (sym e)))
 
@@ -128,28 +129,28 @@ module _ (s : List ℕ) (p q : ℕ) where
       unfolding both fails holds-as
       clashes = clashing-is fluent-same ∙ rw (ne-eqb (getD s (q + 1) 0) (getD s (p + 1) 0) (λ z. other (sym z)), tested, holds)
 
-      pub bodies-apart : together ≡ false → false ≡ contradictory (table-in s) One Other
+      pub bodies-apart : together ≡ false → false ≡ contradictory (table-in Flags s) One Other
       bodies-apart e = apart (clashes ∙ e)
 
       pub bodies-together : together ≡ true → (a : ℕ) → a ≡ getD s p 0 → (other-held : State) → other-held ≡ state-of format (listed s (q + 2))
-          → (r : Bool) → r ≡ agreeing-lines (table-in s) a held other-held → r ≡ contradictory (table-in s) One Other
+          → (r : Bool) → r ≡ agreeing-lines (table-in Flags s) a held other-held → r ≡ contradictory (table-in Flags s) One Other
       unfolding contradictory effect-from both
       bodies-together e a acts other-held other-holds r is =
-          let agree : agreeing-lines (table-in s) a held other-held ≡ runs-with (table-in s) (getD s p 0) (listed s (p + 2)) (listed s (q + 2)) =
-          rw (acts, holds, other-holds) (lines-agree (table-in s) (getD s p 0) (listed s (p + 2)) (listed s (q + 2)) (body-clear s p here) (body-clear s q there)) in
-          is ∙ agree ∙ sym (ap (λ (x : Bool). both x (runs-with (table-in s) (getD s p 0) (listed s (p + 2)) (listed s (q + 2)))) (clashes ∙ e))
+          let agree : agreeing-lines (table-in Flags s) a held other-held ≡ runs-with (table-in Flags s) (getD s p 0) (listed s (p + 2)) (listed s (q + 2)) =
+          rw (acts, holds, other-holds) (lines-agree (table-in Flags s) (getD s p 0) (listed s (p + 2)) (listed s (q + 2)) (body-clear s p here) (body-clear s q there)) in
+          is ∙ agree ∙ sym (ap (λ (x : Bool). both x (runs-with (table-in Flags s) (getD s p 0) (listed s (p + 2)) (listed s (q + 2)))) (clashes ∙ e))
 
 -- THE CHAIN. Effects between two numbers are skipped where none of them is in the bucket.
 module _ (s t : List ℕ) (p : ℕ) where
   effects-skip : (k j : ℕ) → j ≤ k → ((m : ℕ) → j < m → m ≤ k → bucket-at s (place-in t m) ≡ bucket-at s p → ⊥)
-      → some-of (contradictory (table-in s) (effect-from s p)) (effects-before s t k) ≡ some-of (contradictory (table-in s) (effect-from s p)) (effects-before s t j)
+      → some-of (contradictory (table-in Flags s) (effect-from s p)) (effects-before s t k) ≡ some-of (contradictory (table-in Flags s) (effect-from s p)) (effects-before s t j)
   unfolding effects-before some-of either
   effects-skip zero j h none = let e : j ≡ zero = omega arith in rw e
   effects-skip (suc k) j h none =
       elim (ℕ-discrete j (suc k)) [
         | yes e ↦ rw e
         | no d ↦
-            let apart : contradictory (table-in s) (effect-from s p) (effect-from s (place-in t (k + 1))) ≡ false = by-test _ (λ e. absurd (none (k + 1) (omega arith) (omega arith) (bucket-same s p (place-in t (k + 1)) e))) (λ e. e) in
+            let apart : contradictory (table-in Flags s) (effect-from s p) (effect-from s (place-in t (k + 1))) ≡ false = by-test _ (λ e. absurd (none (k + 1) (omega arith) (omega arith) (bucket-same s p (place-in t (k + 1)) e))) (λ e. e) in
             rw apart (effects-skip k j (omega arith) (λ m lo hi. none m lo (omega arith)))
       ]
 
@@ -158,16 +159,16 @@ module _ (s t : List ℕ) (k : ℕ) where
   New = place-in t (k + 1)
 
   abbrev Among : ℕ → Bool
-  Among j = some-of (contradictory (table-in s) (effect-from s New)) (effects-before s t j)
+  Among j = some-of (contradictory (table-in Flags s) (effect-from s New)) (effects-before s t j)
 
-  among-first : (j : ℕ) → 0 < j → Among j ≡ either (contradictory (table-in s) (effect-from s New) (effect-from s (place-in t j))) (Among (j - 1))
+  among-first : (j : ℕ) → 0 < j → Among j ≡ either (contradictory (table-in Flags s) (effect-from s New) (effect-from s (place-in t j))) (Among (j - 1))
   unfolding effects-before some-of
   among-first zero h = absurd (omega arith)
   among-first (suc j) h =
       let up : j + 1 ≡ suc j = omega arith in
       let down : j ≡ suc j - 1 = omega arith in
-      ap (λ (i : ℕ). either (contradictory (table-in s) (effect-from s New) (effect-from s (place-in t i))) (Among j)) up
-      ∙ ap (λ (i : ℕ). either (contradictory (table-in s) (effect-from s New) (effect-from s (place-in t (suc j)))) (Among i)) down
+      ap (λ (i : ℕ). either (contradictory (table-in Flags s) (effect-from s New) (effect-from s (place-in t i))) (Among j)) up
+      ∙ ap (λ (i : ℕ). either (contradictory (table-in Flags s) (effect-from s New) (effect-from s (place-in t (suc j)))) (Among i)) down
 
   among-none : (j : ℕ) → j ≤ 0 → Among j ≡ false
   unfolding effects-before some-of
@@ -211,7 +212,7 @@ module _ (s t same : List ℕ) (k : ℕ) (here : Effects-here s t (k + 1)) (link
         pub sought-starts : Sought s t k j
         sought-starts = record { most = last-is .most; has = last-is .has; rest = effects-skip s t (New s t k) k j (last-is .most) (last-is .none) }
 
-        pub none-sought : j ≡ 0 → false ≡ some-of (contradictory (table-in s) (effect-from s (place-in t (k + 1)))) (effects-before s t k)
+        pub none-sought : j ≡ 0 → false ≡ some-of (contradictory (table-in Flags s) (effect-from s (place-in t (k + 1)))) (effects-before s t k)
         none-sought e = sym (sought-starts .rest ∙ among-none s t k j (omega arith))
 
   module _ (j : ℕ) (sought : Sought s t k j) where
@@ -221,7 +222,7 @@ module _ (s t same : List ℕ) (k : ℕ) (here : Effects-here s t (k + 1)) (link
     pub sought-there : k < 255 → j < linked-slots
     sought-there h = let most = sought .most in omega arith
 
-    pub sought-done : j ≤ 0 → false ≡ some-of (contradictory (table-in s) (effect-from s (place-in t (k + 1)))) (effects-before s t k)
+    pub sought-done : j ≤ 0 → false ≡ some-of (contradictory (table-in Flags s) (effect-from s (place-in t (k + 1)))) (effects-before s t k)
     sought-done h = sym (sought .rest ∙ among-none s t k j h)
 
     module _ (more : 0 < j) where
@@ -241,14 +242,14 @@ module _ (s t same : List ℕ) (k : ℕ) (here : Effects-here s t (k + 1)) (link
         pub sought-fit : Effect-here s q
         sought-fit = subst (Effect-here s) (ap (place-in t) up ∙ sym at) (here .line (j - 1) (let less = below in omega arith))
 
-        module _ (p : ℕ) (met : Bool) (new : p ≡ place-in t (k + 1)) (tested : met ≡ contradictory (table-in s) (effect-from s p) (effect-from s q)) where
-          met-is : contradictory (table-in s) (effect-from s (New s t k)) (effect-from s (place-in t j)) ≡ met
+        module _ (p : ℕ) (met : Bool) (new : p ≡ place-in t (k + 1)) (tested : met ≡ contradictory (table-in Flags s) (effect-from s p) (effect-from s q)) where
+          met-is : contradictory (table-in Flags s) (effect-from s (New s t k)) (effect-from s (place-in t j)) ≡ met
           met-is = rw (sym new, sym at) (sym tested)
 
           rest-is : Among s t k k ≡ either met (Among s t k (j - 1))
           rest-is = sought .rest ∙ among-first s t k j more ∙ ap (λ (b : Bool). either b (Among s t k (j - 1))) met-is
 
-          pub sought-met : met ≡ true → true ≡ some-of (contradictory (table-in s) (effect-from s (place-in t (k + 1)))) (effects-before s t k)
+          pub sought-met : met ≡ true → true ≡ some-of (contradictory (table-in Flags s) (effect-from s (place-in t (k + 1)))) (effects-before s t k)
           unfolding either
           sought-met e = sym (rest-is ∙ ap (λ (b : Bool). either b (Among s t k (j - 1))) e)
 
@@ -322,7 +323,7 @@ module _ (s t same : List ℕ) (k bucket : ℕ) (room : k < 255) (below : bucket
   linked-after = record { sized = after-sized; line = after-line; last = after-bucket }
 
 -- THE LOOP over the effects.
-pub effects-start : (s t : List ℕ) (count : ℕ) → first-against (contradictory (table-in s)) [] (effects-in s t 0 count) ≡ first-against (contradictory (table-in s)) (effects-before s t 0) (effects-in s t 0 (count - 0))
+pub effects-start : (s t : List ℕ) (count : ℕ) → first-against (contradictory (table-in Flags s)) [] (effects-in s t 0 count) ≡ first-against (contradictory (table-in Flags s)) (effects-before s t 0) (effects-in s t 0 (count - 0))
 unfolding effects-before
 effects-start s t count = let same : count - 0 ≡ count = omega arith in rw same
 
@@ -345,9 +346,9 @@ module _ (s t : List ℕ) (count k : ℕ) (most : count ≤ 255) (here : Effects
       pub linked-next : (same same′ : List ℕ) → Linked s t same k → same′ ≡ bucket-linked bucket (k + 1) same → Linked s t same′ (k + 1)
       linked-next same same′ linked e = subst (λ (x : List ℕ). Linked s t x (k + 1)) (sym e) (linked-after s t same k bucket (omega arith) line-bucket linked (placed ∙ ap (bucket-at s) at))
 
-  module _ (whole : Refusals.Found) (so-far : whole ≡ first-against (contradictory (table-in s)) (effects-before s t k) (effects-in s t k (count - k))) (met : Bool)
-      (tested : met ≡ some-of (contradictory (table-in s) (effect-from s (place-in t (k + 1)))) (effects-before s t k)) where
-    first-is : whole ≡ pick met (λ _. Refusals.Found.at (place-in t (k + 1))) (λ _. first-against (contradictory (table-in s)) (effects-before s t (k + 1)) (effects-in s t (k + 1) (count - (k + 1))))
+  module _ (whole : Refusals.Found) (so-far : whole ≡ first-against (contradictory (table-in Flags s)) (effects-before s t k) (effects-in s t k (count - k))) (met : Bool)
+      (tested : met ≡ some-of (contradictory (table-in Flags s) (effect-from s (place-in t (k + 1)))) (effects-before s t k)) where
+    first-is : whole ≡ pick met (λ _. Refusals.Found.at (place-in t (k + 1))) (λ _. first-against (contradictory (table-in Flags s)) (effects-before s t (k + 1)) (effects-in s t (k + 1) (count - (k + 1))))
     unfolding first-against effects-in effect-from
     first-is =
         let left : count - k ≡ suc (count - (k + 1)) = omega arith in
@@ -357,9 +358,9 @@ module _ (s t : List ℕ) (count k : ℕ) (most : count ≤ 255) (here : Effects
     unfolding found
     effects-met p at e = sym (ap found (first-is ∙ pick-true _ _ _ e) ∙ ap At (sym at))
 
-    pub effects-next : met ≡ false → whole ≡ first-against (contradictory (table-in s)) (effects-before s t (k + 1)) (effects-in s t (k + 1) (count - (k + 1)))
+    pub effects-next : met ≡ false → whole ≡ first-against (contradictory (table-in Flags s)) (effects-before s t (k + 1)) (effects-in s t (k + 1) (count - (k + 1)))
     effects-next e = first-is ∙ pick-false _ _ _ e
 
-pub effects-done : (s t : List ℕ) (count k : ℕ) (whole : Refusals.Found) → count ≤ k → whole ≡ first-against (contradictory (table-in s)) (effects-before s t k) (effects-in s t k (count - k)) → Nowhere ≡ found whole
+pub effects-done : (s t : List ℕ) (count k : ℕ) (whole : Refusals.Found) → count ≤ k → whole ≡ first-against (contradictory (table-in Flags s)) (effects-before s t k) (effects-in s t k (count - k)) → Nowhere ≡ found whole
 unfolding first-against effects-in found
 effects-done s t count k whole h so-far = let none : count - k ≡ zero = omega arith in let is : whole ≡ Refusals.Found.nowhere = so-far ∙ rw none in sym (ap found is)

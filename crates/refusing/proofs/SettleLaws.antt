@@ -50,75 +50,75 @@ module _ {B : Type 0} (x : Table) (e : ℕ) (k : Got B) where
 
 -- THE TABLE, whatever plan the notes hold.
 module _ (s t : List ℕ) (here : Table-here s t) where
-  whole : Table-parts s (table-in s) (here .table-end)
+  whole : Table-parts s (table-in Flags s) (here .table-end)
   whole = whole-table s t here
 
   -- 16.
   module _ (count : ℕ) (is : count ≡ getD t effects-slot 0) where
-    count-16 : count ≡ length (table-in s .effects)
-    count-16 = is ∙ effects-counted s (here .bytes) (table-in s) (here .table-end) whole t (here .noted)
+    count-16 : count ≡ length (table-in Flags s .effects)
+    count-16 = is ∙ effects-counted s (here .bytes) (table-in Flags s) (here .table-end) whole t (here .noted)
 
     pub few-16 : count ≤ 255
-    few-16 = let few = effects-few s (here .bytes) (table-in s) (here .table-end) whole in let c = count-16 in omega arith
+    few-16 = let few = effects-few s (here .bytes) (table-in Flags s) (here .table-end) whole in let c = count-16 in omega arith
 
     pub stand-16 : Effects-here s t count
-    stand-16 = rw count-16 (effects-stand s (here .bytes) (table-in s) (here .table-end) whole t (here .noted))
+    stand-16 = rw count-16 (effects-stand s (here .bytes) (table-in Flags s) (here .table-end) whole t (here .noted))
 
     pub runs-16 : Runs-here s t
     runs-16 = runs-here s t here
 
-    module _ (f : Found) (answer : f ≡ found (first-against (contradictory (table-in s)) [] (effects-in s t 0 count))) where
+    module _ (f : Found) (answer : f ≡ found (first-against (contradictory (table-in Flags s)) [] (effects-in s t 0 count))) where
       abbrev sought : List Effect → Found
-      sought es = found (first-against (contradictory (table-in s)) [] es)
+      sought es = found (first-against (contradictory (table-in Flags s)) [] es)
 
-      sought-16 : f ≡ found (contradiction-in (table-in s))
+      sought-16 : f ≡ found (contradiction-in (table-in Flags s))
       unfolding contradiction-in
       sought-16 =
           answer
           ∙ ap (λ (n : ℕ). sought (effects-in s t 0 n)) count-16
-          ∙ ap sought (effects-are s (here .bytes) (table-in s) (here .table-end) whole t (here .noted))
+          ∙ ap sought (effects-are s (here .bytes) (table-in Flags s) (here .table-end) whole t (here .noted))
 
-      pub at-16 : (e p : ℕ) → f ≡ At p → Stop 16 p ≡ passed (table-settled (table-in s) e)
+      pub at-16 : (e p : ℕ) → f ≡ At p → Stop 16 p ≡ passed (table-settled (table-in Flags s) e)
       unfolding table-settled refuse passed
-      at-16 e p g = rw (found-at (contradiction-in (table-in s)) f sought-16 p g)
+      at-16 e p g = rw (found-at (contradiction-in (table-in Flags s)) f sought-16 p g)
 
-      pub past-16 : (e : ℕ) (r : Passed) → f ≡ Nowhere → r ≡ passed (table-unmixed (table-in s) e) → r ≡ passed (table-settled (table-in s) e)
+      pub past-16 : (e : ℕ) (r : Passed) → f ≡ Nowhere → r ≡ passed (table-unmixed (table-in Flags s) e) → r ≡ passed (table-settled (table-in Flags s) e)
       unfolding table-settled refuse
-      past-16 e r g h = h ∙ ap passed (rw (found-none (contradiction-in (table-in s)) f sought-16 g))
+      past-16 e r g h = h ∙ ap passed (rw (found-none (contradiction-in (table-in Flags s)) f sought-16 g))
 
   -- 17.
-  module _ (e : ℕ) (ends : table-at format Flags s 0 ≡ got (table-in s) e) (count : ℕ) (is : count ≡ getD t knowledge-slot 0) where
-    count-17 : count ≡ length (table-in s .knowledge)
-    count-17 = is ∙ knowledge-counted s (here .bytes) (table-in s) (here .table-end) whole t (here .noted)
+  module _ (e : ℕ) (ends : table-at format Flags s 0 ≡ got (table-in Flags s) e) (count : ℕ) (is : count ≡ getD t knowledge-slot 0) where
+    count-17 : count ≡ length (table-in Flags s .knowledge)
+    count-17 = is ∙ knowledge-counted s (here .bytes) (table-in Flags s) (here .table-end) whole t (here .noted)
 
-    lines-17 : (knowledge-in s (e - 2 * count) 0 count ≡ table-in s .knowledge) × Knowledge-here s (e - 2 * count) count × (2 * count ≤ e)
+    lines-17 : (knowledge-in s (e - 2 * count) 0 count ≡ table-in Flags s .knowledge) × Knowledge-here s (e - 2 * count) count × (2 * count ≤ e)
     lines-17 =
-        let at-end = table-parts s (table-in s) e ends in
-        rw count-17 (knowledge-stands (table-in s .fluents) (table-in s .actions) s (at-end .less) (at-end .runs-end) (table-in s .knowledge) e (at-end .knowledge-read))
+        let at-end = table-parts s (table-in Flags s) e ends in
+        rw count-17 (knowledge-stands (table-in Flags s .fluents) (table-in Flags s .actions) s (at-end .less) (at-end .runs-end) (table-in Flags s .knowledge) e (at-end .knowledge-read))
 
     pub bytes-17 : 2 * count ≤ e
     bytes-17 = lines-17 .2
 
     pub fits-17 : Fits w64 (2 * count)
-    fits-17 = let few = knowledge-few s (here .bytes) (table-in s) (here .table-end) whole in let c = count-17 in record { fits = omega arith }
+    fits-17 = let few = knowledge-few s (here .bytes) (table-in Flags s) (here .table-end) whole in let c = count-17 in record { fits = omega arith }
 
     pub stand-17 : (start : ℕ) → start ≡ e - 2 * count → Knowledge-here s start count
     stand-17 start e₁ = rw e₁ (lines-17 .1)
 
     module _ (start : ℕ) (starts : start ≡ e - 2 * count) (f : Found) (answer : Mixed-found s t start count f) where
-      sought-17 : f ≡ found (mixed-in (table-in s .effects) (table-in s .knowledge))
+      sought-17 : f ≡ found (mixed-in (table-in Flags s .effects) (table-in Flags s .knowledge))
       sought-17 =
-          answer .holds (table-in s .effects) (acting s (here .bytes) (table-in s) (here .table-end) whole t (here .noted))
-          ∙ ap (λ (p : ℕ). found (mixed-in (table-in s .effects) (knowledge-in s p 0 count))) starts
-          ∙ ap (λ (ks : List Knowledge). found (mixed-in (table-in s .effects) ks)) (lines-17 .0)
+          answer .holds (table-in Flags s .effects) (acting s (here .bytes) (table-in Flags s) (here .table-end) whole t (here .noted))
+          ∙ ap (λ (p : ℕ). found (mixed-in (table-in Flags s .effects) (knowledge-in s p 0 count))) starts
+          ∙ ap (λ (ks : List Knowledge). found (mixed-in (table-in Flags s .effects) ks)) (lines-17 .0)
 
-      pub at-17 : (p : ℕ) → f ≡ At p → Stop 17 p ≡ passed (table-unmixed (table-in s) e)
+      pub at-17 : (p : ℕ) → f ≡ At p → Stop 17 p ≡ passed (table-unmixed (table-in Flags s) e)
       unfolding table-unmixed refuse passed
-      at-17 p g = rw (found-at (mixed-in (table-in s .effects) (table-in s .knowledge)) f sought-17 p g)
+      at-17 p g = rw (found-at (mixed-in (table-in Flags s .effects) (table-in Flags s .knowledge)) f sought-17 p g)
 
-      pub none-17 : f ≡ Nowhere → To e ≡ passed (table-unmixed (table-in s) e)
+      pub none-17 : f ≡ Nowhere → To e ≡ passed (table-unmixed (table-in Flags s) e)
       unfolding table-unmixed refuse passed
-      none-17 g = rw (found-none (mixed-in (table-in s .effects) (table-in s .knowledge)) f sought-17 g)
+      none-17 g = rw (found-none (mixed-in (table-in Flags s .effects) (table-in Flags s .knowledge)) f sought-17 g)
 
 -- A REQUEST that was read: its table is there, and its plan behind it.
 module _ (s : List ℕ) (bytes : (i : ℕ) → Fits w8 (getD s i 0)) (t : List ℕ) (here : Read-here s t) where
@@ -138,10 +138,10 @@ module _ (s : List ℕ) (bytes : (i : ℕ) → Fits w8 (getD s i 0)) (t : List �
   comes : Table-here s u
   comes = read-comes s small t here
 
-  same-table : table-in s ≡ x .table
+  same-table : table-in Flags s ≡ x .table
   same-table = read-same s small t here
 
-  tail : request-at format Flags s (table-in s) (there .place) ≡ got x (here .end)
+  tail : request-at format Flags s (table-in Flags s) (there .place) ≡ got x (here .end)
   tail = read-tail s small t here
 
   tail-is : t ≡ tail-with Flags (here .guards) x u
@@ -150,7 +150,7 @@ module _ (s : List ℕ) (bytes : (i : ℕ) → Fits w8 (getD s i 0)) (t : List �
   pub table-read-here : Table-here s t
   table-read-here = subst (Table-here s) (sym tail-is) (table-stays s u comes (here .guards) (there .place) x (here .end) tail)
 
-  whole-here : Table-parts s (table-in s) (comes .table-end)
+  whole-here : Table-parts s (table-in Flags s) (comes .table-end)
   whole-here = whole-table s u comes
 
   slot-is : (j count : ℕ) → count ≡ getD t j 0 → count ≡ getD (tail-with Flags (here .guards) x u) j 0
@@ -158,36 +158,36 @@ module _ (s : List ℕ) (bytes : (i : ℕ) → Fits w8 (getD s i 0)) (t : List �
 
   -- The table ends where the plan starts.
   module _ (plan : ℕ) (is : plan ≡ getD t plan-slot 0) where
-    pub table-ends : table-at format Flags s 0 ≡ got (table-in s) plan
+    pub table-ends : table-at format Flags s 0 ≡ got (table-in Flags s) plan
     table-ends =
         let place = there .place in
-        let stands : plan-place Flags x ≡ place = request-parts s (table-in s) place x (here .end) tail .placed in
-        let at : plan ≡ place = slot-is plan-slot plan is ∙ plan-noted-at s (table-in s) (whole-here .few) (whole-here .less) place x (here .end) tail u (here .guards) (comes .sized) ∙ stands in
+        let stands : plan-place Flags x ≡ place = request-parts s (table-in Flags s) place x (here .end) tail .placed in
+        let at : plan ≡ place = slot-is plan-slot plan is ∙ plan-noted-at s (table-in Flags s) (whole-here .few) (whole-here .less) place x (here .end) tail u (here .guards) (comes .sized) ∙ stands in
         rw (same-table, at) (there .table-read)
 
     module _ (e : ℕ) where
-      settled-behind : past-all s e ≡ next (table-settled (table-in s) plan) (λ _ _. past-18 s e)
+      settled-behind : past-all s e ≡ next (table-settled (table-in Flags s) plan) (λ _ _. past-18 s e)
       unfolding past-all past-18 next
       settled-behind = rw (here .reads, same-table) (behind-table (x .table) plan (refuse 18 (overlap-in (x .plan)) (λ _. got x e)))
 
-      module _ (first : Passed) (asked : first ≡ passed (table-settled (table-in s) plan)) where
+      module _ (first : Passed) (asked : first ≡ passed (table-settled (table-in Flags s) plan)) where
         pub refused-first : (k p : ℕ) → first ≡ Stop k p → Stop k p ≡ passed (past-all s e)
         unfolding next passed
-        refused-first k p stops = rw (settled-behind, passed-stop (table-settled (table-in s) plan) k p (sym asked ∙ stops))
+        refused-first k p stops = rw (settled-behind, passed-stop (table-settled (table-in Flags s) plan) k p (sym asked ∙ stops))
 
         pub refused-then : (q : ℕ) (r : Passed) → first ≡ To q → r ≡ passed (past-18 s e) → r ≡ passed (past-all s e)
         unfolding next
-        refused-then q r goes h = h ∙ ap passed (rw (settled-behind, passed-to (table-settled (table-in s) plan) q (sym asked ∙ goes) .1))
+        refused-then q r goes h = h ∙ ap passed (rw (settled-behind, passed-to (table-settled (table-in Flags s) plan) q (sym asked ∙ goes) .1))
 
   -- 18.
   module _ (count : ℕ) (is : count ≡ getD t items-slot 0) where
     count-18 : items-of (x .plan) ≡ count
-    count-18 = sym (slot-is items-slot count is ∙ items-noted s (table-in s) (whole-here .few) (whole-here .less) (there .place) x (here .end) tail u (here .guards) (comes .sized))
+    count-18 = sym (slot-is items-slot count is ∙ items-noted s (table-in Flags s) (whole-here .few) (whole-here .less) (there .place) x (here .end) tail u (here .guards) (comes .sized))
 
     held-18 : Plan-held s t (x .plan)
     held-18 =
         subst (λ (v : List ℕ). Plan-held s v (x .plan)) (sym tail-is)
-        (tail-held s (table-in s) (whole-here .few) (whole-here .less) (there .place) x (here .end) tail u (here .guards) (comes .sized))
+        (tail-held s (table-in Flags s) (whole-here .few) (whole-here .less) (there .place) x (here .end) tail u (here .guards) (comes .sized))
 
     pub stand-18 : Some-plan s t count
     stand-18 = record { plan = x .plan; held = held-18; items = count-18 }

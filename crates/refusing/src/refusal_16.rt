@@ -11,6 +11,7 @@ ghost use Rattle.finding.specs.Places.{found};
 ghost use Rattle.finding.specs.LinesHere.{effect-from, Effect-here, place-in, effects-in, Effects-here};
 ghost use Rattle.finding.specs.TablesHere.{table-in, Runs-here};
 ghost use Rattle.refusing.specs.Refusal16.{effects-before, agreeing, agreeing-lines, buckets, bucket-at, Linked, bucket-linked};
+ghost use Rattle.meaning.specs.declared.Form.the-variants.{Flags};
 use bytes::bytes::wide;
 use bytes::limits;
 use finding::places::Found;
@@ -69,7 +70,7 @@ fn agrees(s: &[u8], one: &Marks, other: &Marks, p: usize) -> bool
 fn runs_with(s: &[u8], t: &Notes, a: usize, one: &Marks, other: &Marks) -> bool
     requires { ⌜ Runs-here (now s) (now t) ⌝ }
     requires { ⌜ a < format .actions ⌝ }
-    ensures { λ r. ⌜ r ≡ agreeing-lines (table-in (now (s .entry))) a (now (one .entry)) (now (other .entry)) ⌝ }
+    ensures { λ r. ⌜ r ≡ agreeing-lines (table-in Flags (now (s .entry))) a (now (one .entry)) (now (other .entry)) ⌝ }
 {
     let mut k = first_line(t, notes::EXECUTABILITY, a);
     while 0 < k {
@@ -90,7 +91,7 @@ fn contradicts(s: &[u8], t: &Notes, held: &Marks, p: usize, q: usize) -> bool
     requires { ⌜ Effect-here (now s) p ⌝ }
     requires { ⌜ Effect-here (now s) q ⌝ }
     requires { ⌜ now held ≡ state-of format (listed (now s) (p + 2)) ⌝ }
-    ensures { λ r. ⌜ r ≡ contradictory (table-in (now (s .entry))) (effect-from (now (s .entry)) p) (effect-from (now (s .entry)) q) ⌝ }
+    ensures { λ r. ⌜ r ≡ contradictory (table-in Flags (now (s .entry))) (effect-from (now (s .entry)) p) (effect-from (now (s .entry)) q) ⌝ }
 {
     if s[p] != s[q] {
         return false;
@@ -119,7 +120,7 @@ fn contradicted(s: &[u8], t: &Notes, same: &Links, k: usize) -> bool
     requires { ⌜ Runs-here (now s) (now t) ⌝ }
     requires { ⌜ Effects-here (now s) (now t) (k + 1) ⌝ }
     requires { ⌜ Linked (now s) (now t) (now same) k ⌝ }
-    ensures { λ r. ⌜ r ≡ some-of (contradictory (table-in (now (s .entry))) (effect-from (now (s .entry)) (place-in (now (t .entry)) (k + 1)))) (effects-before (now (s .entry)) (now (t .entry)) k) ⌝ }
+    ensures { λ r. ⌜ r ≡ some-of (contradictory (table-in Flags (now (s .entry))) (effect-from (now (s .entry)) (place-in (now (t .entry)) (k + 1)))) (effects-before (now (s .entry)) (now (t .entry)) k) ⌝ }
 {
     let number = k + 1;
     let p = line_place(t, notes::EFFECTS, number);
@@ -147,7 +148,7 @@ pub fn contradiction(s: &[u8], t: &Notes, count: usize) -> Found
     requires { ⌜ count ≤ 255 ⌝ }
     requires { ⌜ Runs-here (now s) (now t) ⌝ }
     requires { ⌜ Effects-here (now s) (now t) count ⌝ }
-    ensures { λ r. ⌜ r ≡ found (first-against (contradictory (table-in (now (s .entry)))) [] (effects-in (now (s .entry)) (now (t .entry)) 0 count)) ⌝ }
+    ensures { λ r. ⌜ r ≡ found (first-against (contradictory (table-in Flags (now (s .entry)))) [] (effects-in (now (s .entry)) (now (t .entry)) 0 count)) ⌝ }
 {
     let mut same = [0u8; LINKED_SLOTS];
     let mut k = 0;

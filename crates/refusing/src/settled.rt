@@ -25,8 +25,8 @@ use reading::notes::get;
 // 17, of a table that ends at e.
 fn mixed_refused(s: &[u8], t: &Notes, e: usize) -> Passed
     requires { ⌜ Table-here (now s) (now t) ⌝ }
-    requires { ⌜ table-at format Flags (now s) 0 ≡ got (table-in (now s)) e ⌝ }
-    ensures { λ r. ⌜ r ≡ passed (table-unmixed (table-in (now (s .entry))) e) ⌝ }
+    requires { ⌜ table-at format Flags (now s) 0 ≡ got (table-in Flags (now s)) e ⌝ }
+    ensures { λ r. ⌜ r ≡ passed (table-unmixed (table-in Flags (now (s .entry))) e) ⌝ }
 {
     let count = get(t, notes::COUNT_OF_KNOWLEDGE);
     let bytes = 2 * count;
@@ -40,8 +40,8 @@ fn mixed_refused(s: &[u8], t: &Notes, e: usize) -> Passed
 // 16 and 17, of a table that ends at e. Nothing is asked of a plan.
 pub fn table_refused(s: &[u8], t: &Notes, e: usize) -> Passed
     requires { ⌜ Table-here (now s) (now t) ⌝ }
-    requires { ⌜ table-at format Flags (now s) 0 ≡ got (table-in (now s)) e ⌝ }
-    ensures { λ r. ⌜ r ≡ passed (table-settled (table-in (now (s .entry))) e) ⌝ }
+    requires { ⌜ table-at format Flags (now s) 0 ≡ got (table-in Flags (now s)) e ⌝ }
+    ensures { λ r. ⌜ r ≡ passed (table-settled (table-in Flags (now (s .entry))) e) ⌝ }
 {
     let count = get(t, notes::COUNT_OF_EFFECTS);
     match contradiction(s, t, count) {

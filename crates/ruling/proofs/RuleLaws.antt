@@ -384,8 +384,8 @@ module _ (d : List ℕ) (u v w : Spot) where
 
 -- STATES.
 module _ (d : List ℕ) (p : ℕ) (marks : State) (first : marks ≡ state-of format (listed d p)) where
-  pub next-marked : (s : List ℕ) (a : ℕ) (next : State) → next ≡ state-after (table-in s) a marks → Marked next
-  next-marked s a next then = after-marked (table-in s) a marks next (marked-as (listed d p) marks first) then
+  pub next-marked : (s : List ℕ) (a : ℕ) (next : State) → next ≡ state-after (table-in Flags s) a marks → Marked next
+  next-marked s a next then = after-marked (table-in Flags s) a marks next (marked-as (listed d p) marks first) then
 
 -- RULES 2 and 7. An item takes a byte.
 pub item-bytes : (c : Sequence ℕ) → 0 < own-items c → 0 < bytes-of Flags c
@@ -447,23 +447,23 @@ record One-act (c : Sequence ℕ) (a : ℕ) : Type 0 where
 
 -- The conclusion is of the other kind.
 module _ (d : List ℕ) (w : Spot) (s : List ℕ) where
-  pub action-whether : w .fluent ≡ true → Ruled d w (rule-2 format (table-in s)) false
+  pub action-whether : w .fluent ≡ true → Ruled d w (rule-2 format (table-in Flags s)) false
   unfolding rule-2 acts
   action-whether whether =
       record {
         holds = λ l sl.
-            acts-never (table-in s) l
-            (λ a. no-right (fails (sensing (table-in s) a)) _ (sym (no-right (can-be-run (table-in s) a (state-of format (l .X))) _ (Y-other d w whether l sl _))))
+            acts-never (table-in Flags s) l
+            (λ a. no-right (fails (sensing (table-in Flags s) a)) _ (sym (no-right (can-be-run (table-in Flags s) a (state-of format (l .X))) _ (Y-other d w whether l sl _))))
             (l .c);
       }
 
-  pub look-lists : w .fluent ≡ false → Ruled d w (rule-7 format (table-in s)) false
+  pub look-lists : w .fluent ≡ false → Ruled d w (rule-7 format (table-in Flags s)) false
   unfolding rule-7 looks-for
   look-lists list =
       record {
         holds = λ l sl.
-            looks-never (table-in s) l
-            (λ a. sym (ap (λ (Y : Conclusion). looks-for format (table-in s) Y a (state-of format (l .X))) (Y-lists d w list l sl .is)))
+            looks-never (table-in Flags s) l
+            (λ a. sym (ap (λ (Y : Conclusion). looks-for format (table-in Flags s) Y a (state-of format (l .X))) (Y-lists d w list l sl .is)))
             (l .c);
       }
 
@@ -479,13 +479,13 @@ module _ (d : List ℕ) (w : Spot) (q : ℕ) (after : q ≡ sequence-place d (w 
       let ends = there .ends in let inside = there .inside in
       omega (arith, size, ends, inside)
 
-  pub not-one-item : (s : List ℕ) → (count ≡ 1 → ⊥) → Ruled d w (rule-2 format (table-in s)) false
+  pub not-one-item : (s : List ℕ) → (count ≡ 1 → ⊥) → Ruled d w (rule-2 format (table-in Flags s)) false
   unfolding rule-2
-  not-one-item s other = record { holds = λ l sl. not-one (table-in s) l (l .c) (λ e. other (own-count l sl ∙ e)) }
+  not-one-item s other = record { holds = λ l sl. not-one (table-in Flags s) l (l .c) (λ e. other (own-count l sl ∙ e)) }
 
-  pub not-one-looked : (s : List ℕ) → (count ≡ 1 → ⊥) → Ruled d w (rule-7 format (table-in s)) false
+  pub not-one-looked : (s : List ℕ) → (count ≡ 1 → ⊥) → Ruled d w (rule-7 format (table-in Flags s)) false
   unfolding rule-7
-  not-one-looked s other = record { holds = λ l sl. not-one-look (table-in s) l (l .c) (λ e. other (own-count l sl ∙ e)) }
+  not-one-looked s other = record { holds = λ l sl. not-one-look (table-in Flags s) l (l .c) (λ e. other (own-count l sl ∙ e)) }
 
   module _ (one : count ≡ 1) where
     own-one : (l : Line) → Stands d w l → own-items (l .c) ≡ 1
@@ -502,22 +502,22 @@ module _ (d : List ℕ) (w : Spot) (q : ℕ) (after : q ≡ sequence-place d (w 
           let there = plan-of d w q after l sl in
           branching-there d (q + 2) (l .c) (omega (arith, own)) (there .tellable) (there .bytes) is
 
-      pub item-branches : (s : List ℕ) → Ruled d w (rule-2 format (table-in s)) false
+      pub item-branches : (s : List ℕ) → Ruled d w (rule-2 format (table-in Flags s)) false
       unfolding rule-2
       item-branches s =
           record {
             holds = λ l sl.
                 let b = one-branches l sl in
-                one-branching (table-in s) l (b .place) (b .branches) (b .rest) ∙ ap (one-action format (table-in s) l) (sym (b .is));
+                one-branching (table-in Flags s) l (b .place) (b .branches) (b .rest) ∙ ap (one-action format (table-in Flags s) l) (sym (b .is));
           }
 
-      pub look-branches : (s : List ℕ) → Ruled d w (rule-7 format (table-in s)) false
+      pub look-branches : (s : List ℕ) → Ruled d w (rule-7 format (table-in Flags s)) false
       unfolding rule-7
       look-branches s =
           record {
             holds = λ l sl.
                 let b = one-branches l sl in
-                look-branching (table-in s) l (b .place) (b .branches) (b .rest) ∙ ap (one-look format (table-in s) l) (sym (b .is));
+                look-branching (table-in Flags s) l (b .place) (b .branches) (b .rest) ∙ ap (one-look format (table-in Flags s) l) (sym (b .is));
           }
 
     -- An action a.
@@ -535,26 +535,26 @@ module _ (d : List ℕ) (w : Spot) (q : ℕ) (after : q ≡ sequence-place d (w 
       unfolding Small
       action-small some = subst Small (one-act (some .line) (some .stands) .is) (some .small) .0
 
-      module _ (s : List ℕ) (sensed : Bool) (tested : sensed ≡ sensing (table-in s) a) where
+      module _ (s : List ℕ) (sensed : Bool) (tested : sensed ≡ sensing (table-in Flags s) a) where
         abbrev table : Table
-        table = table-in s
+        table = table-in Flags s
 
         acts-is : (l : Line) → Stands d w l → rule-2 format table l ≡ acts format table l a (state-of format (l .X))
         unfolding rule-2
         acts-is l sl = let b = one-act l sl in ap (one-action format table l) (b .is) ∙ one-acts table l (b .place) a
 
-        pub action-senses : sensed ≡ true → Ruled d w (rule-2 format (table-in s)) false
+        pub action-senses : sensed ≡ true → Ruled d w (rule-2 format (table-in Flags s)) false
         unfolding acts fails
         action-senses t = record { holds = λ l sl. no-left (fails (sensing table a)) _ (ap fails (sym tested ∙ t)) ∙ sym (acts-is l sl) }
 
-        module _ (f : sensed ≡ false) (marks : State) (first : marks ≡ state-of format (listed d (w .line))) (runs : Bool) (run : runs ≡ can-be-run (table-in s) a marks) where
+        module _ (f : sensed ≡ false) (marks : State) (first : marks ≡ state-of format (listed d (w .line))) (runs : Bool) (run : runs ≡ can-be-run (table-in Flags s) a marks) where
           marks-are : (l : Line) → Stands d w l → marks ≡ state-of format (l .X)
           marks-are l sl = first ∙ ap (state-of format) (sl .X .same)
 
           runs-is : (l : Line) → Stands d w l → runs ≡ can-be-run table a (state-of format (l .X))
           runs-is l sl = run ∙ ap (can-be-run table a) (marks-are l sl)
 
-          pub action-stuck : runs ≡ false → Ruled d w (rule-2 format (table-in s)) false
+          pub action-stuck : runs ≡ false → Ruled d w (rule-2 format (table-in Flags s)) false
           unfolding acts
           action-stuck e =
               record {
@@ -563,8 +563,8 @@ module _ (d : List ℕ) (w : Spot) (q : ℕ) (after : q ≡ sequence-place d (w 
                     ∙ sym (acts-is l sl);
               }
 
-          pub action-leads : w .fluent ≡ false → runs ≡ true → (next : State) → next ≡ state-after (table-in s) a marks
-              → (r : Bool) → r ≡ same-list (listed d (w .conclusion)) (literals-of next) → Ruled d w (rule-2 format (table-in s)) r
+          pub action-leads : w .fluent ≡ false → runs ≡ true → (next : State) → next ≡ state-after (table-in Flags s) a marks
+              → (r : Bool) → r ≡ same-list (listed d (w .conclusion)) (literals-of next) → Ruled d w (rule-2 format (table-in Flags s)) r
           unfolding acts fails
           action-leads list t next then r is =
               record {
@@ -578,25 +578,25 @@ module _ (d : List ℕ) (w : Spot) (q : ℕ) (after : q ≡ sequence-place d (w 
               }
 
       -- It looks at the fluent f.
-      module _ (whether : w .fluent ≡ true) (s : List ℕ) (f : ℕ) (told : f ≡ getD d (w .conclusion) 0) (looks : Bool) (looked : looks ≡ senses (knowledge-of (table-in s) a) f) where
-        looks-is : (l : Line) → Stands d w l → rule-7 format (table-in s) l ≡ both looks (can-be-run (table-in s) a (state-of format (l .X)))
+      module _ (whether : w .fluent ≡ true) (s : List ℕ) (f : ℕ) (told : f ≡ getD d (w .conclusion) 0) (looks : Bool) (looked : looks ≡ senses (knowledge-of (table-in Flags s) a) f) where
+        looks-is : (l : Line) → Stands d w l → rule-7 format (table-in Flags s) l ≡ both looks (can-be-run (table-in Flags s) a (state-of format (l .X)))
         unfolding rule-7 looks-for
         looks-is l sl =
             let b = one-act l sl in
-            ap (one-look format (table-in s) l) (b .is)
-            ∙ one-looks (table-in s) l (b .place) a
-            ∙ ap (λ (Y : Conclusion). looks-for format (table-in s) Y a (state-of format (l .X))) (Y-tells d w whether l sl .is)
-            ∙ ap (λ (x : Bool). both x (can-be-run (table-in s) a (state-of format (l .X)))) (ap (senses (knowledge-of (table-in s) a)) (sym told) ∙ sym looked)
+            ap (one-look format (table-in Flags s) l) (b .is)
+            ∙ one-looks (table-in Flags s) l (b .place) a
+            ∙ ap (λ (Y : Conclusion). looks-for format (table-in Flags s) Y a (state-of format (l .X))) (Y-tells d w whether l sl .is)
+            ∙ ap (λ (x : Bool). both x (can-be-run (table-in Flags s) a (state-of format (l .X)))) (ap (senses (knowledge-of (table-in Flags s) a)) (sym told) ∙ sym looked)
 
-        pub looks-elsewhere : looks ≡ false → Ruled d w (rule-7 format (table-in s)) false
+        pub looks-elsewhere : looks ≡ false → Ruled d w (rule-7 format (table-in Flags s)) false
         looks-elsewhere e = record { holds = λ l sl. no-left looks _ e ∙ sym (looks-is l sl) }
 
-        pub looks-there : looks ≡ true → (marks : State) → marks ≡ state-of format (listed d (w .line)) → (r : Bool) → r ≡ can-be-run (table-in s) a marks → Ruled d w (rule-7 format (table-in s)) r
+        pub looks-there : looks ≡ true → (marks : State) → marks ≡ state-of format (listed d (w .line)) → (r : Bool) → r ≡ can-be-run (table-in Flags s) a marks → Ruled d w (rule-7 format (table-in Flags s)) r
         looks-there t marks first r run =
             record {
               holds = λ l sl.
                   run
-                  ∙ ap (can-be-run (table-in s) a) (first ∙ ap (state-of format) (sl .X .same))
+                  ∙ ap (can-be-run (table-in Flags s) a) (first ∙ ap (state-of format) (sl .X .same))
                   ∙ sym (yes-left looks _ t)
                   ∙ sym (looks-is l sl);
             }

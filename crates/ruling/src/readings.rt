@@ -10,6 +10,7 @@ ghost use Rattle.steps.specs.AtHand.{At-hand, Marked};
 ghost use Rattle.comparing.specs.Stands.{spot-at};
 ghost use Rattle.comparing.specs.RuleAnswers.{Some-line, Some-lines, Cited-below, Ruled-by-all};
 ghost use Rattle.ruling.specs.Readings.{states-from, Stands-some, Some-follows, Says-reading, Some-rest, Uses};
+ghost use Rattle.meaning.specs.declared.Form.the-variants.{Flags};
 use bytes::bytes::two;
 use bytes::bytes::wide;
 use bytes::limits;
@@ -134,7 +135,7 @@ fn each_reading(
     requires { ⌜ Marked marks ⌝ }
     requires { ⌜ i < lines ⌝ }
     requires { ⌜ Some-rest layout (now d) (now places) lines (spot-at layout (now d) (getD (now places) i 0) (getD (now places) (plan-ends-slot + i) 0)) ⌝ }
-    ensures { λ r. ⌜ Uses layout (now (d .entry)) (now (places .entry)) (spot-at layout (now (d .entry)) (getD (now (places .entry)) i 0) (getD (now (places .entry)) (plan-ends-slot + i) 0)) (states-from (table-in (now (s .entry))) a marks f) k r ⌝ }
+    ensures { λ r. ⌜ Uses layout (now (d .entry)) (now (places .entry)) (spot-at layout (now (d .entry)) (getD (now (places .entry)) i 0) (getD (now (places .entry)) (plan-ends-slot + i) 0)) (states-from (table-in Flags (now (s .entry))) a marks f) k r ⌝ }
 {
     if f < limits::FLUENTS {
         let above = f + 1;
@@ -170,7 +171,7 @@ pub fn rule_3(
     requires { ⌜ i < lines ⌝ }
     requires { ⌜ l ≡ spot-at layout (now d) (getD (now places) i 0) (getD (now places) (plan-ends-slot + i) 0) ⌝ }
     requires { ⌜ Cited-below (now d) l lines ⌝ }
-    ensures { λ r. ⌜ Ruled-by-all layout (now (d .entry)) (now (places .entry)) l (rule-3 format (table-in (now (s .entry)))) r ⌝ }
+    ensures { λ r. ⌜ Ruled-by-all layout (now (d .entry)) (now (places .entry)) l (rule-3 format (table-in Flags (now (s .entry)))) r ⌝ }
 {
     let p = l.line;
     let plan = sequence_of(d, p);

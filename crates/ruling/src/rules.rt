@@ -3,6 +3,7 @@ ghost use Rattle.meaning.specs.Limits.{format};
 ghost use Rattle.steps.specs.Held.{table-in};
 ghost use Rattle.steps.specs.AtHand.{At-hand};
 ghost use Rattle.comparing.specs.RuleAnswers.{Some-line, Ruled, Ruled-by, Ruled-by-two};
+ghost use Rattle.meaning.specs.declared.Form.the-variants.{Flags};
 use bytes::bytes::wide;
 use bytes::limits;
 use comparing::known::lists_known;
@@ -44,7 +45,7 @@ pub fn rule_1(d: &[u8], l: Spot) -> bool
 pub fn rule_2(s: &[u8], t: &Notes, d: &[u8], l: Spot) -> bool
     requires { ⌜ At-hand (now s) (now t) ⌝ }
     requires { ⌜ Some-line (now d) l ⌝ }
-    ensures { λ r. ⌜ Ruled (now (d .entry)) l (rule-2 format (table-in (now (s .entry)))) r ⌝ }
+    ensures { λ r. ⌜ Ruled (now (d .entry)) l (rule-2 format (table-in Flags (now (s .entry)))) r ⌝ }
 {
     if l.fluent {
         return false;
@@ -148,7 +149,7 @@ pub fn rule_6(d: &[u8], cited: Spot, l: Spot) -> bool
 pub fn rule_7(s: &[u8], t: &Notes, d: &[u8], l: Spot) -> bool
     requires { ⌜ At-hand (now s) (now t) ⌝ }
     requires { ⌜ Some-line (now d) l ⌝ }
-    ensures { λ r. ⌜ Ruled (now (d .entry)) l (rule-7 format (table-in (now (s .entry)))) r ⌝ }
+    ensures { λ r. ⌜ Ruled (now (d .entry)) l (rule-7 format (table-in Flags (now (s .entry)))) r ⌝ }
 {
     if l.fluent {
         let p = l.line;

@@ -33,6 +33,7 @@ use Rattle.schemes.specs.Put.{Cites-more, Put, Readings-put}
 use Rattle.schemes.proofs.AddLaws.{over-adds, count-grows, some-added, behind, adds-behind}
 use Rattle.schemes.proofs.CitedLaws.{none-cited}
 use Rattle.schemes.proofs.NarrowLaws.{left-after, fluents-none, fluents-sensed, readings-double, readings-fork, some-chosen}
+use Rattle.meaning.specs.declared.Form.the-variants.{Flags}
 
 -- PUT, where they are added.
 pub lines-put : (ls : List Line) (progress room progress′ room′ : List ℕ) → 0 < length ls → standing progress′ room′ ≡ add (standing progress room) ls → Underway progress′ → Put ls progress room progress′ room′
@@ -95,15 +96,15 @@ module _ (t : Table) (Y : Conclusion) (marks : State) (c rest : Sequence ℕ) (k
       (λ later. pick-false _ _ _ (later .0) ∙ takes-lines bs b (later .1)) takes
 
 module _ (s t : List ℕ) (i at : ℕ) (marks : State) (taken : Taken marks (rest-at (plan-in s t) i) (rest-at (plan-in s t) at)) where
-  branch-left : (n : ℕ) → lines-at s t i marks n ≡ branching-lines (table-in s) (goals-of (request-in s t)) marks (rest-at (plan-in s t) i) n (lines-at s t at marks n)
+  branch-left : (n : ℕ) → lines-at s t i marks n ≡ branching-lines (table-in Flags s) (goals-of (request-in s t)) marks (rest-at (plan-in s t) i) n (lines-at s t at marks n)
   unfolding lines-at item-lines request-in
   branch-left n =
       let r = request-in s t in
       let Y = goals-of r in
       ap (λ (c : Sequence ℕ). lines-from r c marks n) (taken .is)
       ∙ lines-item r (branching (taken .place) (taken .branches)) (taken .after) marks n
-      ∙ takes-lines (table-in s) Y marks (item (branching (taken .place) (taken .branches)) (taken .after)) (taken .after) (lines-from r (taken .after)) n (taken .branches) (taken .chosen) (taken .takes)
-      ∙ ap₂ (λ (c : Sequence ℕ) (ls : List Line). branching-lines (table-in s) Y marks c n ls) (sym (taken .is))
+      ∙ takes-lines (table-in Flags s) Y marks (item (branching (taken .place) (taken .branches)) (taken .after)) (taken .after) (lines-from r (taken .after)) n (taken .branches) (taken .chosen) (taken .takes)
+      ∙ ap₂ (λ (c : Sequence ℕ) (ls : List Line). branching-lines (table-in Flags s) Y marks c n ls) (sym (taken .is))
       (lines-branch r (taken .chosen) (taken .after) marks n ∙ ap (λ (c : Sequence ℕ). lines-from r c marks n) (sym (taken .rest)))
 
   taken-put : (progress room progress₁ room₁ progress₂ room₂ : List ℕ) → Put (lines-at s t at marks (line-count progress)) progress room progress₁ room₁
@@ -133,23 +134,23 @@ unplaced marks a p Y (so-far n b room) = refl
 
 -- AN ACTION that is item i.
 module _ (s t : List ℕ) (i a : ℕ) (acts : Acts s t i a) (at : ℕ) (follows : Followed s t i at) (marks : State) where
-  item-left : (n : ℕ) → lines-at s t i marks n ≡ action-lines (table-in s) (goals-of (request-in s t)) (acts .place) a (acts .after) (lines-at s t at) marks n
+  item-left : (n : ℕ) → lines-at s t i marks n ≡ action-lines (table-in Flags s) (goals-of (request-in s t)) (acts .place) a (acts .after) (lines-at s t at) marks n
   unfolding lines-at item-lines request-in
   item-left n =
       let r = request-in s t in
       ap (λ (c : Sequence ℕ). lines-from r c marks n) (acts .is)
       ∙ lines-item r (act (acts .place) a) (acts .after) marks n
-      ∙ ap (λ (c : Sequence ℕ). action-lines (table-in s) (goals-of r) (acts .place) a (acts .after) (lines-from r c) marks n) (sym (left-after s t i a acts at follows))
+      ∙ ap (λ (c : Sequence ℕ). action-lines (table-in Flags s) (goals-of r) (acts .place) a (acts .after) (lines-from r c) marks n) (sym (left-after s t i a acts at follows))
 
   -- It does not sense: rule 2, what follows, and then rule 5.
-  module _ (unsensed : sensing (table-in s) a ≡ false) (n : ℕ) (same : n ≡ a) (after : State) (is : after ≡ state-after (table-in s) n marks) where
+  module _ (unsensed : sensing (table-in Flags s) a ≡ false) (n : ℕ) (same : n ≡ a) (after : State) (is : after ≡ state-after (table-in Flags s) n marks) where
     acting-left : (k : ℕ) → lines-at s t i marks k
-        ≡ acting-lines (table-in s) (goals-of (request-in s t)) marks (item (act (acts .place) a) done) (rest-at (plan-in s t) i) after (lines-at s t at) k
+        ≡ acting-lines (table-in Flags s) (goals-of (request-in s t)) marks (item (act (acts .place) a) done) (rest-at (plan-in s t) i) after (lines-at s t at) k
     unfolding action-lines
     acting-left k =
         item-left k ∙ pick-false _ _ _ unsensed
-        ∙ ap₂ (λ (c : Sequence ℕ) (m : State). acting-lines (table-in s) (goals-of (request-in s t)) marks (item (act (acts .place) a) done) c m (lines-at s t at) k) (sym (acts .is))
-        (sym (is ∙ ap (λ (b : ℕ). state-after (table-in s) b marks) same))
+        ∙ ap₂ (λ (c : Sequence ℕ) (m : State). acting-lines (table-in Flags s) (goals-of (request-in s t)) marks (item (act (acts .place) a) done) c m (lines-at s t at) k) (sym (acts .is))
+        (sym (is ∙ ap (λ (b : ℕ). state-after (table-in Flags s) b marks) same))
 
     pub acting-put : (progress room progress₁ room₁ progress₂ room₂ progress₃ room₃ : List ℕ)
         → standing progress₁ room₁ ≡ add (standing progress room) (line-of marks (item (act 0 a) done) (knows (literals-of after)) Limits.action-rule [] ∷ [])
@@ -168,12 +169,12 @@ module _ (s t : List ℕ) (i a : ℕ) (acts : Acts s t i a) (at : ℕ) (follows 
         (λ m. line-of marks (rest-at (plan-in s t) i) (goals-of (request-in s t)) 5 (k ∷ (m - 1) ∷ []) ∷ []) last _ (rw ends (sym (acting-left k)))
 
   -- It senses: each reading, and then rule 3.
-  module _ (sensed : sensing (table-in s) a ≡ true) (marked : Marked marks) (f : ℕ) (first : f ≡ first-of (unknown-sensed (table-in s) a marks)) where
-    sensing-left : (n : ℕ) → lines-at s t i marks n ≡ sensing-lines (table-in s) (goals-of (request-in s t)) marks (rest-at (plan-in s t) i) (readings-at s t a at f marks n)
+  module _ (sensed : sensing (table-in Flags s) a ≡ true) (marked : Marked marks) (f : ℕ) (first : f ≡ first-of (unknown-sensed (table-in Flags s) a marks)) where
+    sensing-left : (n : ℕ) → lines-at s t i marks n ≡ sensing-lines (table-in Flags s) (goals-of (request-in s t)) marks (rest-at (plan-in s t) i) (readings-at s t a at f marks n)
     unfolding action-lines readings-at
     sensing-left n =
         item-left n ∙ pick-true _ _ _ sensed
-        ∙ ap₂ (λ (c : Sequence ℕ) (fs : List ℕ). sensing-lines (table-in s) (goals-of (request-in s t)) marks c (read-lines (readings fs marks) (lines-at s t at) n)) (sym (acts .is)) (sym (fluents-sensed s a marks f marked first))
+        ∙ ap₂ (λ (c : Sequence ℕ) (fs : List ℕ). sensing-lines (table-in Flags s) (goals-of (request-in s t)) marks c (read-lines (readings fs marks) (lines-at s t at) n)) (sym (acts .is)) (sym (fluents-sensed s a marks f marked first))
 
     pub sensing-put : (progress room cites progress₁ room₁ progress₂ room₂ : List ℕ)
         → Readings-put (2 ^ length (fluents-from s a f marks)) (readings-at s t a at f marks (line-count progress)) (replicate cite-slots 0) progress room cites progress₁ room₁
@@ -217,7 +218,7 @@ module _ (s t : List ℕ) (a at f : ℕ) (marks : State) where
         })
 
   -- Of f as true, and then as false.
-  module _ (small : f < format .fluents) (marked : Marked marks) (g : ℕ) (next : g ≡ first-of (unknown-above (table-in s) a (set marks f 1) (f + 1))) where
+  module _ (small : f < format .fluents) (marked : Marked marks) (g : ℕ) (next : g ≡ first-of (unknown-above (table-in Flags s) a (set marks f 1) (f + 1))) where
     both-left : (n : ℕ) → readings-at s t a at f marks n ≡ then-read n (readings-at s t a at g (set marks f 1) n) (λ m. readings-at s t a at g (set (set marks f 1) f 2) m)
     unfolding readings-at read-lines
     both-left n = ap (λ (o : Outcome State). read-lines o (lines-at s t at) n) (readings-fork s a f marks small marked g next)

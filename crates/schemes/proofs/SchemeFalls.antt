@@ -22,6 +22,7 @@ use Rattle.steps.proofs.HandLaws.{few-items}
 use Rattle.steps.proofs.LookLaws.{first-marked, unknown-first-above}
 use Rattle.steps.proofs.OnwardLaws.{action-small, action-left}
 use Rattle.schemes.specs.Narrow.{Acts}
+use Rattle.meaning.specs.declared.Form.the-variants.{Flags}
 
 -- What falls: the items left, and among the readings at one position the fluents left.
 abbrev pub from-measure : (at : ℕ) → ℕ
@@ -55,11 +56,11 @@ chosen-falls s t i marks r at μ is chosen taken = let later = chosen .later at 
 pub reading-falls : (at f μ : ℕ) → readings-measure at f ≡ μ → from-measure at < μ
 reading-falls at f μ is = omega arith
 
-pub readings-fall : (s : List ℕ) (a at f μ : ℕ) (marks : State) → readings-measure at f ≡ μ → f < format .fluents → Marked marks → (g : ℕ) → g ≡ first-of (unknown-above (table-in s) a (set marks f 1) (f + 1)) → readings-measure at g < μ
+pub readings-fall : (s : List ℕ) (a at f μ : ℕ) (marks : State) → readings-measure at f ≡ μ → f < format .fluents → Marked marks → (g : ℕ) → g ≡ first-of (unknown-above (table-in Flags s) a (set marks f 1) (f + 1)) → readings-measure at g < μ
 readings-fall s a at f μ marks is small marked g next =
     let rises : f < g =
     by-test (ltb g (format .fluents))
-    (λ u. let h = unknown-first-above (table-in s) a (set marks f 1) (first-marked f marks small marked) (f + 1) g next (ltb-true _ _ u) in omega arith)
+    (λ u. let h = unknown-first-above (table-in Flags s) a (set marks f 1) (first-marked f marks small marked) (f + 1) g next (ltb-true _ _ u) in omega arith)
     (λ u. let far = ltb-false g (format .fluents) u in omega arith) in
     omega arith
 
@@ -101,9 +102,9 @@ module _ (s t : List ℕ) (i a : ℕ) (acts : Acts s t i a) where
   acts-small n is = let small = acts .small in omega arith
 
 -- Whether it senses, as it was told.
-module _ (s : List ℕ) (a : ℕ) (senses : Bool) (told : senses ≡ sensing (table-in s) a) where
-  pub told-sensing : senses ≡ true → sensing (table-in s) a ≡ true
+module _ (s : List ℕ) (a : ℕ) (senses : Bool) (told : senses ≡ sensing (table-in Flags s) a) where
+  pub told-sensing : senses ≡ true → sensing (table-in Flags s) a ≡ true
   told-sensing given = sym told ∙ given
 
-  pub told-unsensing : (byte : ℕ) → a ≡ byte → senses ≡ false → sensing (table-in s) byte ≡ false
-  told-unsensing byte is given = ap (sensing (table-in s)) (sym is) ∙ sym told ∙ given
+  pub told-unsensing : (byte : ℕ) → a ≡ byte → senses ≡ false → sensing (table-in Flags s) byte ≡ false
+  told-unsensing byte is given = ap (sensing (table-in Flags s)) (sym is) ∙ sym told ∙ given

@@ -19,6 +19,7 @@ ghost use Rattle.writing.specs.Progress.{line-count, Underway, Cited};
 ghost use Rattle.schemes.specs.Narrow.{Narrow-from, lines-at, fluents-from, Narrow-readings, readings-at, Acts};
 ghost use Rattle.schemes.specs.Put.{Cites-more, Put, Readings-put};
 ghost use Rattle.schemes.specs.Sizes.{Lined, Measured};
+ghost use Rattle.meaning.specs.declared.Form.the-variants.{Flags};
 use bytes::bytes::wide;
 use bytes::limits;
 use finding::places::Found;
@@ -206,7 +207,7 @@ fn put_acting(
 )
     requires { ⌜ At-hand (now s) (now t) ⌝ }
     requires { ⌜ Acts (now s) (now t) i a ⌝ }
-    requires { ⌜ sensing (table-in (now s)) a ≡ false ⌝ }
+    requires { ⌜ sensing (table-in Flags (now s)) a ≡ false ⌝ }
     requires { ⌜ Marked (now marks) ⌝ }
     requires { ⌜ Narrow-from (now s) (now t) i (now marks) ⌝ }
     requires { ⌜ Underway (now progress) ⌝ }
@@ -233,7 +234,7 @@ fn put_sensing(
 )
     requires { ⌜ At-hand (now s) (now t) ⌝ }
     requires { ⌜ Acts (now s) (now t) i a ⌝ }
-    requires { ⌜ sensing (table-in (now s)) a ≡ true ⌝ }
+    requires { ⌜ sensing (table-in Flags (now s)) a ≡ true ⌝ }
     requires { ⌜ Marked (now marks) ⌝ }
     requires { ⌜ Narrow-from (now s) (now t) i (now marks) ⌝ }
     requires { ⌜ Underway (now progress) ⌝ }

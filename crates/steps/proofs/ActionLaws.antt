@@ -35,15 +35,16 @@ use Rattle.steps.specs.LinesFound.{run-places, effect-places, short-at, 
 use Rattle.steps.proofs.Served.{runs-at-hand, effects-at-hand}
 use Rattle.steps.proofs.Sweeps.{mark-some, undone, turned, turn-is, swept-one, swept-at}
 use Rattle.steps.proofs.LookLaws.{marked-set}
+use Rattle.meaning.specs.declared.Form.the-variants.{Flags}
 
 -- EXECUTABILITY LINES.
 -- What asking gives where no line allows the action.
 abbrev pub near : (s : List ℕ) (a : ℕ) (marks : State) → Runs
-near s a marks = nearest (known marks) (executability-of (table-in s) a)
+near s a marks = nearest (known marks) (executability-of (table-in Flags s) a)
 
 pub record Running (s t : List ℕ) (a : ℕ) (marks : State) (k : ℕ) : Type 0 where
   pub ahead : Runs-ahead s t k
-  pub same : asked (table-in s) a marks ≡ first-allowing-at s (known marks) (ahead .rest) (λ _. near s a marks)
+  pub same : asked (table-in Flags s) a marks ≡ first-allowing-at s (known marks) (ahead .rest) (λ _. near s a marks)
 
 -- The best line before line k stands at `best` and is short by `fewest`.
 pub record Nearing (s t : List ℕ) (a : ℕ) (marks : State) (best fewest k : ℕ) : Type 0 where
@@ -96,7 +97,7 @@ module _ (s t : List ℕ) (a : ℕ) (k : ℕ) (here : At-hand s t) (small : a < 
           }
 
 module _ (s t : List ℕ) (a : ℕ) (marks : State) (k : ℕ) (run : Running s t a marks k) where
-  pub running-done : k ≤ 0 → (r : Runs) → r ≡ near s a marks → r ≡ asked (table-in s) a marks
+  pub running-done : k ≤ 0 → (r : Runs) → r ≡ near s a marks → r ≡ asked (table-in Flags s) a marks
   unfolding first-allowing-at
   running-done h r is =
       is ∙ sym (run .same ∙ ap (λ (ps : List ℕ). first-allowing-at s (known marks) ps (λ _. near s a marks)) (ahead-none _ t run-lines k (run .ahead) h))
@@ -112,12 +113,12 @@ module _ (s t : List ℕ) (a : ℕ) (marks : State) (k : ℕ) (run : Running s t
     run-body-fits room = let ends = run-body .ends in let most = room .fits in record { fits = omega arith }
 
     module _ (b : Bool) (tested : b ≡ each-of (holds-as Known marks) (listed s (p + 1))) where
-      run-whole : asked (table-in s) a marks ≡ pick b (λ _. By p) (λ _. first-allowing-at s (known marks) others (λ _. near s a marks))
+      run-whole : asked (table-in Flags s) a marks ≡ pick b (λ _. By p) (λ _. first-allowing-at s (known marks) others (λ _. near s a marks))
       unfolding others first-allowing-at holds-as
       run-whole =
           run .same ∙ ap (λ (ps : List ℕ). first-allowing-at s (known marks) ps (λ _. near s a marks)) (line-rest _ t run-lines k (run .ahead) more p at) ∙ rw tested
 
-      pub run-met : b ≡ true → By p ≡ asked (table-in s) a marks
+      pub run-met : b ≡ true → By p ≡ asked (table-in Flags s) a marks
       run-met e = sym (run-whole ∙ pick-true _ _ _ e)
 
       pub run-next : (j : ℕ) → b ≡ false → j ≡ next-line t run-lines k → Running s t a marks j
@@ -156,19 +157,19 @@ module _ (s t : List ℕ) (a : ℕ) (marks : State) (best fewest k : ℕ) (nears
       near-kept not = record { ahead = line-others _ t run-lines k (nears .ahead) more j onward; same = near-whole ∙ ap Short (pick-false _ _ _ (le-ltb _ _ not)) }
 
 -- WHETHER IT CAN BE RUN.
-module _ (s : List ℕ) (a : ℕ) (marks : State) (r : Runs) (is : r ≡ asked (table-in s) a marks) where
-  runs-is : can-be-run (table-in s) a marks ≡ allows r
-  runs-is = can-be-run-asked (table-in s) a marks ∙ ap allows (sym is)
+module _ (s : List ℕ) (a : ℕ) (marks : State) (r : Runs) (is : r ≡ asked (table-in Flags s) a marks) where
+  runs-is : can-be-run (table-in Flags s) a marks ≡ allows r
+  runs-is = can-be-run-asked (table-in Flags s) a marks ∙ ap allows (sym is)
 
-  pub runs-by : (p : ℕ) → r ≡ By p → true ≡ can-be-run (table-in s) a marks
+  pub runs-by : (p : ℕ) → r ≡ By p → true ≡ can-be-run (table-in Flags s) a marks
   unfolding allows
   runs-by p e = sym (runs-is ∙ ap allows e)
 
-  pub runs-short : (p : ℕ) → r ≡ Short p → false ≡ can-be-run (table-in s) a marks
+  pub runs-short : (p : ℕ) → r ≡ Short p → false ≡ can-be-run (table-in Flags s) a marks
   unfolding allows
   runs-short p e = sym (runs-is ∙ ap allows e)
 
-  pub runs-never : r ≡ Never → false ≡ can-be-run (table-in s) a marks
+  pub runs-never : r ≡ Never → false ≡ can-be-run (table-in Flags s) a marks
   unfolding allows
   runs-never e = sym (runs-is ∙ ap allows e)
 

@@ -36,6 +36,7 @@ use Rattle.steps.proofs.Served.{effects-at-hand}
 use Rattle.steps.proofs.Sweeps.{mark-some, undone, swept-one, swept-at}
 use Rattle.steps.proofs.LookLaws.{marked-set}
 use Rattle.steps.proofs.ActionLaws.{Sweeping, sweep-done}
+use Rattle.meaning.specs.declared.Form.the-variants.{Flags}
 
 -- ONE LITERAL.
 -- Told a literal, with the complement of another left alone.
@@ -242,9 +243,9 @@ module _ (s : List ℕ) (marks : State) (marked : Marked marks) (ps : List ℕ) 
 pub runs-there : (t : Table) (a : ℕ) (marks : State) (runs : Bool) → runs ≡ can-be-run t a marks → runs ≡ true → can-be-run t a marks ≡ true
 runs-there t a marks runs asked e = sym asked ∙ e
 
-pub after-swept : (s t : List ℕ) (a : ℕ) (marks next : State) (k : ℕ) → At-hand s t → Marked marks → can-be-run (table-in s) a marks ≡ true
-    → Sweeping s t a marks next k → k ≤ 0 → next ≡ state-after (table-in s) a marks
+pub after-swept : (s t : List ℕ) (a : ℕ) (marks next : State) (k : ℕ) → At-hand s t → Marked marks → can-be-run (table-in Flags s) a marks ≡ true
+    → Sweeping s t a marks next k → k ≤ 0 → next ≡ state-after (table-in Flags s) a marks
 after-swept s t a marks next k here marked runs sweeps h =
     let all = effects-at-hand s t here a in
     sym (sweep-done s t a marks next k sweeps h)
-    ∙ swept-after s marks marked (effect-places s a) (all .lines) (table-in s) a (all .same) (given-apart (table-in s) (here .no-contradiction) a marks runs)
+    ∙ swept-after s marks marked (effect-places s a) (all .lines) (table-in Flags s) a (all .same) (given-apart (table-in Flags s) (here .no-contradiction) a marks runs)

@@ -21,6 +21,7 @@ use Rattle.steps.specs.AtHand.{At-hand}
 use Rattle.steps.specs.Rests.{rest-in, rest-at, start, Position}
 use Rattle.steps.specs.Steps.{walk-from, met-from, walk-held}
 use Rattle.steps.proofs.HandLaws.{starts, few-items, items-are}
+use Rattle.meaning.specs.declared.Form.the-variants.{Flags}
 
 -- THE START.
 pub start-end : (items : ℕ) → items ≡ 0 → format .items ≡ start items
@@ -43,7 +44,7 @@ rest-first (item x b) =
 -- A REQUEST at hand.
 module _ (s t : List ℕ) (here : At-hand s t) where
   module _ (marks : State) (is : marks ≡ state-of format (listed s 2)) where
-    pub first-is : marks ≡ first-state format (table-in s)
+    pub first-is : marks ≡ first-state format (table-in Flags s)
     unfolding first-state
     first-is = is ∙ ap (state-of format) (starts s t here .facts)
 

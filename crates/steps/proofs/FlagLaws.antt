@@ -27,6 +27,7 @@ use Rattle.steps.specs.AtHand.{At-hand, Marked}
 use Rattle.steps.specs.Flags.{flagged, flagged-at, Open-flags}
 use Rattle.steps.proofs.Served.{runs-at-hand, effects-at-hand}
 use Rattle.steps.proofs.LookLaws.{unmarked-unknown, marked-known}
+use Rattle.meaning.specs.declared.Form.the-variants.{Flags}
 
 -- ONE BODY, that stands at p: flagged the entries from the one at i on, the flags are the whole's.
 abbrev pub Flags-ahead : (marks s : List ℕ) (p end : ℕ) (whole flags : List ℕ) (i : ℕ) → Type 0
@@ -197,7 +198,7 @@ module _ (s t : List ℕ) (a : ℕ) (marks one r : State) (here : At-hand s t) (
   long : length one ≡ format .fluents
   long = ap length first ∙ at-length s marks 0 2 (effect-places s a) none ∙ zeros
 
-  flag-is : (f : ℕ) → f < format .fluents → getD r f 0 ≡ pick (both (in-bodies (table-in s) a f) (fails (known-whether marks f))) (λ _. 1) (λ _. 0)
+  flag-is : (f : ℕ) → f < format .fluents → getD r f 0 ≡ pick (both (in-bodies (table-in Flags s) a f) (fails (known-whether marks f))) (λ _. 1) (λ _. 0)
   unfolding in-bodies
   flag-is f near =
       ap (λ (u : List ℕ). getD u f 0) then
@@ -212,5 +213,5 @@ module _ (s t : List ℕ) (a : ℕ) (marks one r : State) (here : At-hand s t) (
         getD-replicate {A = ℕ} (format .fluents) f 0 0 near,
       )
 
-  pub open-flagged : Open-flags (table-in s) a marks r
+  pub open-flagged : Open-flags (table-in Flags s) a marks r
   open-flagged = record { flag = flag-is }

@@ -21,14 +21,14 @@ use Rattle.steps.specs.Held.{table-in, plan-in, goals-in, whether-in}
 use Rattle.steps.specs.AtHand.{At-hand}
 
 module _ (s t : List ℕ) (here : At-hand s t) where
-  pub starts : Starts s (table-in s)
-  starts = table-starts s (table-in s) (here .table-end) (here .table)
+  pub starts : Starts s (table-in Flags s)
+  starts = table-starts s (table-in Flags s) (here .table-end) (here .table)
 
   pub facts-here : List-here all-literals s 2
   facts-here = starts .here
 
-  pub sections : Table-parts s (table-in s) (here .table-end)
-  sections = table-parts s (table-in s) (here .table-end) (here .table)
+  pub sections : Table-parts s (table-in Flags s) (here .table-end)
+  sections = table-parts s (table-in Flags s) (here .table-end) (here .table)
 
   pub few-items : items-of (plan-in s t) ≤ format .items
   few-items = here .held .few
@@ -36,7 +36,7 @@ module _ (s t : List ℕ) (here : At-hand s t) where
   pub items-are : getD t items-slot 0 ≡ items-of (plan-in s t)
   unfolding plan-at
   items-are =
-      let counted = sequence-read Flags (table-in s .fluents) (table-in s .actions) s 8 (getD t plan-slot 0) 0 (omega arith) .holds (record { value = plan-in s t; items = getD t items-slot 0 }) (goals-in t) (here .plan) .counted in
+      let counted = sequence-read Flags (table-in Flags s .fluents) (table-in Flags s .actions) s 8 (getD t plan-slot 0) 0 (omega arith) .holds (record { value = plan-in s t; items = getD t items-slot 0 }) (goals-in t) (here .plan) .counted in
       omega arith
 
   -- The goals, and the whether entries behind them.
@@ -45,7 +45,7 @@ module _ (s t : List ℕ) (here : At-hand s t) where
     unfolding bound-of goals-in
     goals-here =
         let few = sections .few in
-        rw slot (list-here literals (table-in s .fluents) s (format .listed) (goals-in t) (listed s (goals-in t)) (whether-in s t) (here .goals) .1 all-literals (omega (arith, few)))
+        rw slot (list-here literals (table-in Flags s .fluents) s (format .listed) (goals-in t) (listed s (goals-in t)) (whether-in s t) (here .goals) .1 all-literals (omega (arith, few)))
 
     module _ (whether : ℕ) (after : whether ≡ sequence-place s goals) where
       pub is-whether : whether ≡ whether-in s t
@@ -56,4 +56,4 @@ module _ (s t : List ℕ) (here : At-hand s t) where
       unfolding bound-of
       whether-here =
           let few = sections .few in
-          rw is-whether (list-here Reading.fluents (table-in s .fluents) s (format .listed) (whether-in s t) (listed s (whether-in s t)) (here .whether-end) (here .whether) .1 (format .fluents) (omega (arith, few)))
+          rw is-whether (list-here Reading.fluents (table-in Flags s .fluents) s (format .listed) (whether-in s t) (listed s (whether-in s t)) (here .whether-end) (here .whether) .1 (format .fluents) (omega (arith, few)))

@@ -43,9 +43,9 @@ use Rattle.steps.proofs.NextSlots.{nexts-agree, plan-nexts}
 
 module _ (s t : List ℕ) (here : Table-here s t) where
   abbrev x : Table
-  x = table-in s
+  x = table-in Flags s
 
-  whole : Table-parts s (table-in s) (here .table-end)
+  whole : Table-parts s (table-in Flags s) (here .table-end)
   whole = whole-table s t here
 
   -- WHAT AN ACTION SENSES.
@@ -101,7 +101,7 @@ module _ (s t : List ℕ) (here : Table-here s t) where
           (λ l has. (knowledge-good s x (here .table-end) whole l has, knowledge-small s x (here .table-end) whole l has)) nothing
 
   -- It is what its knowledge lines say.
-  senses-is : (a f : ℕ) → seen-after a (λ _. false) (x .knowledge) f ≡ senses (knowledge-of (table-in s) a) f
+  senses-is : (a f : ℕ) → seen-after a (λ _. false) (x .knowledge) f ≡ senses (knowledge-of (table-in Flags s) a) f
   unfolding senses knowledge-of says either
   senses-is a f =
       seen-some a (λ _. false) (x .knowledge) f
@@ -116,14 +116,14 @@ module _ (s t : List ℕ) (here : Table-here s t) where
         from = λ f e. sensed .from f (senses-is a f ∙ e);
         to = λ f e. sensed .to f (senses-is a f ∙ e);
         last = sensed .last;
-        any = same-test (ltb 0 (getD t (sensed-to + a) 0)) (sensing (table-in s) a)
+        any = same-test (ltb 0 (getD t (sensed-to + a) 0)) (sensing (table-in Flags s) a)
             (λ e.
             let w = sensed .some (ltb-true _ _ e) in
-            let u = some-has (λ (k : Knowledge). eqb (k .fluent) (w .0)) (knowledge-of (table-in s) a) (sym (senses-is a (w .0)) ∙ w .1) in
-            has-some (λ (k : Knowledge). true) (knowledge-of (table-in s) a) (u .0) (u .1) refl)
+            let u = some-has (λ (k : Knowledge). eqb (k .fluent) (w .0)) (knowledge-of (table-in Flags s) a) (sym (senses-is a (w .0)) ∙ w .1) in
+            has-some (λ (k : Knowledge). true) (knowledge-of (table-in Flags s) a) (u .0) (u .1) refl)
             (λ e.
-            let u = some-has (λ (k : Knowledge). true) (knowledge-of (table-in s) a) e in
-            let h = has-some (λ (k : Knowledge). eqb (k .fluent) (u .0 .fluent)) (knowledge-of (table-in s) a) (u .0) (u .1) (eq-eqb (u .0 .fluent) (u .0 .fluent) refl) in
+            let u = some-has (λ (k : Knowledge). true) (knowledge-of (table-in Flags s) a) e in
+            let h = has-some (λ (k : Knowledge). eqb (k .fluent) (u .0 .fluent)) (knowledge-of (table-in Flags s) a) (u .0) (u .1) (eq-eqb (u .0 .fluent) (u .0 .fluent) refl) in
             let below = sensed .to (u .0 .fluent) (senses-is a (u .0 .fluent) ∙ h) in
             lt-ltb 0 (getD t (sensed-to + a) 0) (omega arith));
       }
@@ -132,21 +132,21 @@ module _ (s t : List ℕ) (here : Table-here s t) where
       sensed = knowledge-sensed a small
 
 -- A PLAN that was read behind such a table, and noted, with guards at a place.
-module _ (s t : List ℕ) (here : Table-here s t) (g p : ℕ) (y : Request) (q : ℕ) (read : request-at format Flags s (table-in s) p ≡ got y q) where
+module _ (s t : List ℕ) (here : Table-here s t) (g p : ℕ) (y : Request) (q : ℕ) (read : request-at format Flags s (table-in Flags s) p ≡ got y q) where
   abbrev u : List ℕ
   u = tail-with Flags g y t
 
-  parts-there : Table-parts s (table-in s) (here .table-end)
+  parts-there : Table-parts s (table-in Flags s) (here .table-end)
   parts-there = whole-table s t here
 
-  table-is : table-in s ≡ y .table
-  table-is = sym (request-parts s (table-in s) p y q read .table)
+  table-is : table-in Flags s ≡ y .table
+  table-is = sym (request-parts s (table-in Flags s) p y q read .table)
 
   each : Sections-read s y
-  each = request-sections s (table-in s) p y q read
+  each = request-sections s (table-in Flags s) p y q read
 
   plan-slot-is : getD u plan-slot 0 ≡ plan-place Flags y
-  plan-slot-is = plan-noted-at s (table-in s) (parts-there .few) (parts-there .less) p y q read t g (here .sized)
+  plan-slot-is = plan-noted-at s (table-in Flags s) (parts-there .few) (parts-there .less) p y q read t g (here .sized)
 
   plan-is : plan-in s u ≡ y .plan
   unfolding plan-in plan-of
@@ -155,13 +155,13 @@ module _ (s t : List ℕ) (here : Table-here s t) (g p : ℕ) (y : Request) (q :
   items-is : getD u items-slot 0 ≡ each .items
   unfolding plan-at
   items-is =
-      let noted = items-noted s (table-in s) (parts-there .few) (parts-there .less) p y q read t g (here .sized) in
+      let noted = items-noted s (table-in Flags s) (parts-there .few) (parts-there .less) p y q read t g (here .sized) in
       let counted = sequence-read Flags (y .table .fluents) (y .table .actions) s 8 (plan-place Flags y) 0 (omega arith) .holds (record { value = y .plan; items = each .items }) (goals-place Flags y) (each .plan) .counted in
       omega arith
 
   goals-at : goals-in u ≡ goals-place Flags y
   unfolding goals-in
-  goals-at = goals-noted s (table-in s) (parts-there .few) (parts-there .less) p y q read t g (here .sized)
+  goals-at = goals-noted s (table-in Flags s) (parts-there .few) (parts-there .less) p y q read t g (here .sized)
 
   whether-at : whether-in s u ≡ y .whether-place
   unfolding whether-in
@@ -179,7 +179,7 @@ module _ (s t : List ℕ) (here : Table-here s t) (g p : ℕ) (y : Request) (q :
   plan-request = rw (table-is, plan-is, whether-at, goals-at, goals-listed, whether-listed, sym (each .goals-are), sym (each .whether-are)) refl
 
   plan-held-there : Plan-held s u (y .plan)
-  plan-held-there = tail-held s (table-in s) (parts-there .few) (parts-there .less) p y q read t g (here .sized)
+  plan-held-there = tail-held s (table-in Flags s) (parts-there .few) (parts-there .less) p y q read t g (here .sized)
 
   request-nexts : Nexts u (format .items) 0 (y .plan)
   unfolding tail-with places-noted
@@ -201,14 +201,14 @@ module _ (s t : List ℕ) (here : Table-here s t) (g p : ℕ) (y : Request) (q :
 
   guards-slot-is : guards-at u ≡ g
   unfolding guards-at
-  guards-slot-is = guards-noted s (table-in s) (parts-there .few) (parts-there .less) p y q read t g (here .sized)
+  guards-slot-is = guards-noted s (table-in Flags s) (parts-there .few) (parts-there .less) p y q read t g (here .sized)
 
   -- THE GUARDS that it holds.
   plan-guards : guards-in s (tail-with Flags g y t) ≡ pick (eqb g 0) (λ _. []) (λ _. placed (g + 1) (listed s g))
   unfolding guards-in
   plan-guards = rw guards-slot-is refl
 
-  pub plan-at-hand : contradiction-in (table-in s) ≡ nowhere → (eqb g 0 ≡ false → List-here all-literals s g) → At-hand s (tail-with Flags g y t)
+  pub plan-at-hand : contradiction-in (table-in Flags s) ≡ nowhere → (eqb g 0 ≡ false → List-here all-literals s g) → At-hand s (tail-with Flags g y t)
   unfolding run-places effect-places
   plan-at-hand passed guards =
       record {
@@ -216,8 +216,8 @@ module _ (s t : List ℕ) (here : Table-here s t) (g p : ℕ) (y : Request) (q :
         short = here .short;
         table-end = here .table-end;
         table = here .table;
-        effects = effects-ordered s (here .bytes) (table-in s) (here .table-end) parts-there u (stays .noted);
-        runs = runs-ordered s (here .bytes) (table-in s) (here .table-end) parts-there u (stays .noted);
+        effects = effects-ordered s (here .bytes) (table-in Flags s) (here .table-end) parts-there u (stays .noted);
+        runs = runs-ordered s (here .bytes) (table-in Flags s) (here .table-end) parts-there u (stays .noted);
         senses = senses-there s u stays;
         no-contradiction = passed;
         plan = rw (table-is, plan-is, plan-slot-is, goals-at, items-is) (each .plan);
@@ -230,7 +230,7 @@ module _ (s t : List ℕ) (here : Table-here s t) (g p : ℕ) (y : Request) (q :
       }
 
 -- Without guards there are none.
-pub plan-unguarded : (s t : List ℕ) (here : Table-here s t) (p : ℕ) (y : Request) (q : ℕ) → request-at format Flags s (table-in s) p ≡ got y q → guards-in s (tail-noted Flags y t) ≡ []
+pub plan-unguarded : (s t : List ℕ) (here : Table-here s t) (p : ℕ) (y : Request) (q : ℕ) → request-at format Flags s (table-in Flags s) p ≡ got y q → guards-in s (tail-noted Flags y t) ≡ []
 plan-unguarded s t here p y q read = plan-guards s t here 0 p y q read ∙ pick-true (eqb 0 0) _ _ (eq-eqb 0 0 refl)
 
 -- A REQUEST that was read from the start, into notes that held nothing.

@@ -208,4 +208,4 @@ module _ (s t : List ℕ) (here : At-hand s t) where
   pub item-laid : (i : ℕ) → i < items-of (plan-in s t) → Item-laid s t (plan-in s t) i
   item-laid =
       plan-laid s t (plan-in s t) (here .held .few) (here .held .written) (here .held .kept) (here .nexts)
-      (plan-small (table-in s .fluents) (table-in s .actions) s (sections s t here .less) (getD t plan-slot 0) (record { value = plan-in s t; items = getD t items-slot 0 }) (goals-in t) (here .plan))
+      (plan-small (table-in Flags s .fluents) (table-in Flags s .actions) s (sections s t here .less) (getD t plan-slot 0) (record { value = plan-in s t; items = getD t items-slot 0 }) (goals-in t) (here .plan))

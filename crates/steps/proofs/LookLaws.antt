@@ -28,6 +28,7 @@ use Rattle.steps.specs.Held.{table-in}
 use Rattle.steps.specs.AtHand.{At-hand, Marked}
 use Rattle.steps.specs.LinesFound.{Senses}
 use Rattle.steps.specs.Steps.{unknown-above, first-of}
+use Rattle.meaning.specs.declared.Form.the-variants.{Flags}
 
 -- MARKED STATES stay marked.
 pub marked-set : (marks : State) (f m : ℕ) → Marked marks → f < format .fluents → m ≤ 2 → Marked (set marks f m)
@@ -200,10 +201,10 @@ module _ (s t : List ℕ) (a : ℕ) (here : At-hand s t) (small : a < format .ac
   abbrev served : Senses s t a
   served = here .senses a small
 
-  pub sensing-is : (end : ℕ) → end ≡ getD t (sensed-to + a) 0 → ltb 0 end ≡ sensing (table-in s) a
+  pub sensing-is : (end : ℕ) → end ≡ getD t (sensed-to + a) 0 → ltb 0 end ≡ sensing (table-in Flags s) a
   sensing-is end at = ap (ltb 0) at ∙ served .any
 
-  pub looks-is : (f : ℕ) (there : Bool) → f < format .fluents → there ≡ pair-there t a f → there ≡ senses (knowledge-of (table-in s) a) f
+  pub looks-is : (f : ℕ) (there : Bool) → f < format .fluents → there ≡ pair-there t a f → there ≡ senses (knowledge-of (table-in Flags s) a) f
   looks-is f there near at = at ∙ served .pair f near
 
   module _ (end f : ℕ) (at : end ≡ getD t (sensed-to + a) 0) (more : f < end) where
@@ -213,29 +214,29 @@ module _ (s t : List ℕ) (a : ℕ) (here : At-hand s t) (small : a < format .ac
     pub fluent-next-fits : Fits w64 (f + 1)
     fluent-next-fits = let near = fluent-near in record { fits = omega arith }
 
-    module _ (marks : State) (marked : Marked marks) (whole : ℕ) (so-far : whole ≡ first-of (unknown-above (table-in s) a marks f)) where
-      pub look-marked : (getD marks f 0 ≡ 0 → ⊥) → whole ≡ first-of (unknown-above (table-in s) a marks (f + 1))
-      look-marked some = so-far ∙ ap first-of (unknown-marked (table-in s) a marks marked f fluent-near some)
+    module _ (marks : State) (marked : Marked marks) (whole : ℕ) (so-far : whole ≡ first-of (unknown-above (table-in Flags s) a marks f)) where
+      pub look-marked : (getD marks f 0 ≡ 0 → ⊥) → whole ≡ first-of (unknown-above (table-in Flags s) a marks (f + 1))
+      look-marked some = so-far ∙ ap first-of (unknown-marked (table-in Flags s) a marks marked f fluent-near some)
 
       module _ (there : Bool) (read : there ≡ pair-there t a f) where
         pub look-found : getD marks f 0 ≡ 0 → there ≡ true → f ≡ whole
         unfolding first-of
-        look-found none some = sym (so-far ∙ ap first-of (unknown-here (table-in s) a marks marked f fluent-near (sym (looks-is f there fluent-near read) ∙ some) none))
+        look-found none some = sym (so-far ∙ ap first-of (unknown-here (table-in Flags s) a marks marked f fluent-near (sym (looks-is f there fluent-near read) ∙ some) none))
 
-        pub look-unsensed : there ≡ false → whole ≡ first-of (unknown-above (table-in s) a marks (f + 1))
-        look-unsensed none = so-far ∙ ap first-of (unknown-unsensed (table-in s) a marks marked f fluent-near (sym (looks-is f there fluent-near read) ∙ none))
+        pub look-unsensed : there ≡ false → whole ≡ first-of (unknown-above (table-in Flags s) a marks (f + 1))
+        look-unsensed none = so-far ∙ ap first-of (unknown-unsensed (table-in Flags s) a marks marked f fluent-near (sym (looks-is f there fluent-near read) ∙ none))
 
   module _ (end f : ℕ) (at : end ≡ getD t (sensed-to + a) 0) (done : end ≤ f) where
-    pub look-done : (marks : State) (whole : ℕ) → whole ≡ first-of (unknown-above (table-in s) a marks f) → format .fluents ≡ whole
+    pub look-done : (marks : State) (whole : ℕ) → whole ≡ first-of (unknown-above (table-in Flags s) a marks f) → format .fluents ≡ whole
     unfolding first-of unknown-above
     look-done marks whole so-far =
-        sym (so-far ∙ ap first-of (unknown-none-sensed (knowledge-of (table-in s) a) marks f (drop f marks) (λ g h. by-test _ (λ e. let less = served .to g e in absurd (omega arith)) (λ e. e))))
+        sym (so-far ∙ ap first-of (unknown-none-sensed (knowledge-of (table-in Flags s) a) marks f (drop f marks) (λ g h. by-test _ (λ e. let less = served .to g e in absurd (omega arith)) (λ e. e))))
 
   module _ (back : ℕ) (at : back ≡ getD t (sensed-from + a) 0) where
     pub back-within : back ≤ format .fluents
     back-within = let most = served .most in omega arith
 
-    pub first-from : (marks : State) (r : ℕ) → Marked marks → r ≡ first-of (unknown-above (table-in s) a marks (format .fluents - back)) → r ≡ first-of (unknown-sensed (table-in s) a marks)
+    pub first-from : (marks : State) (r : ℕ) → Marked marks → r ≡ first-of (unknown-above (table-in Flags s) a marks (format .fluents - back)) → r ≡ first-of (unknown-sensed (table-in Flags s) a marks)
     first-from marks r marked is =
-        is ∙ ap first-of (sym (unknown-all (table-in s) a marks ∙ unknown-skipped (table-in s) a marks marked (format .fluents - back) (omega arith)
+        is ∙ ap first-of (sym (unknown-all (table-in Flags s) a marks ∙ unknown-skipped (table-in Flags s) a marks marked (format .fluents - back) (omega arith)
         (λ g h. by-test _ (λ e. let from = served .from g e in absurd (omega arith)) (λ e. e))))

@@ -16,11 +16,12 @@ use Rattle.steps.specs.LinesFound.{run-places, effect-places}
 use Rattle.steps.specs.AtHand.{At-hand}
 use Rattle.steps.specs.Steps.{mode-in}
 use Rattle.steps.proofs.SameHand.{Other, request-same, guards-same, hand-same}
+use Rattle.meaning.specs.declared.Form.the-variants.{Flags}
 
 -- NOTES that hold a table.
 pub table-mode : (s t : List ℕ) → Table-here s t → mode-in t ≡ 0
 unfolding mode-in
-table-mode s t here = mode-empty s (here .bytes) (table-in s) (here .table-end) (whole-table s t here) t (here .noted)
+table-mode s t here = mode-empty s (here .bytes) (table-in Flags s) (here .table-end) (whole-table s t here) t (here .noted)
 
 -- ANOTHER MODE.
 module _ (s t : List ℕ) (m : ℕ) where

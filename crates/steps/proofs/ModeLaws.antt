@@ -19,6 +19,7 @@ use Rattle.steps.specs.Held.{table-in, guards-in, request-in}
 use Rattle.steps.specs.AtHand.{Marked}
 use Rattle.steps.specs.Steps.{narrow-mode, mode-in, does-in, after-in, step-in, walk-held}
 use Rattle.steps.proofs.LookLaws
+use Rattle.meaning.specs.declared.Form.the-variants.{Flags}
 
 -- What states share is marked.
 shared-small : (us : List State) (f : ℕ) → shared-mark us f ≤ 2
@@ -49,14 +50,14 @@ does-known : (m : ℕ) (t : Table) → m ≡ 0 → does-in m t ≡ table-does t
 unfolding does-in
 does-known m t zero-is = fun-ext (λ a. fun-ext (λ s. pick-true _ _ _ (eq-eqb m 0 zero-is)))
 
-pub held-known : (s t : List ℕ) → mode-in t ≡ 0 → walk-held s t ≡ walked-guarded (request-in s t) (guards-in s t) (first-state format (table-in s))
+pub held-known : (s t : List ℕ) → mode-in t ≡ 0 → walk-held s t ≡ walked-guarded (request-in s t) (guards-in s t) (first-state format (table-in Flags s))
 unfolding walk-held step-in walked-guarded guarded-step request-in
-held-known s t zero-is = rw (does-known (mode-in t) (table-in s) zero-is) refl
+held-known s t zero-is = rw (does-known (mode-in t) (table-in Flags s) zero-is) refl
 
-pub held-plain : (s t : List ℕ) → mode-in t ≡ 0 → guards-in s t ≡ [] → walk-held s t ≡ walked (request-in s t) (first-state format (table-in s))
+pub held-plain : (s t : List ℕ) → mode-in t ≡ 0 → guards-in s t ≡ [] → walk-held s t ≡ walked (request-in s t) (first-state format (table-in Flags s))
 held-plain s t zero-is none =
-    held-known s t zero-is ∙ ap (λ (gs : List Entry). walked-guarded (request-in s t) gs (first-state format (table-in s))) none
-    ∙ walked-unguarded (request-in s t) (first-state format (table-in s))
+    held-known s t zero-is ∙ ap (λ (gs : List Entry). walked-guarded (request-in s t) gs (first-state format (table-in Flags s))) none
+    ∙ walked-unguarded (request-in s t) (first-state format (table-in Flags s))
 
 -- In mode 2, and without guards, it is refused at the first sensing action that is too wide.
 does-narrow : (m : ℕ) (t : Table) → m ≡ narrow-mode → does-in m t ≡ narrow-does t
@@ -65,13 +66,13 @@ does-narrow m t is = ap (λ (n : ℕ). does-in n t) is ∙ fun-ext (λ a. fun-ex
 
 pub held-narrow : (s t : List ℕ) → mode-in t ≡ narrow-mode → guards-in s t ≡ [] → walk-held s t ≡ narrow-walk-of format (request-in s t)
 unfolding walk-held step-in walked-narrow narrow-step request-in first-missed
-held-narrow s t is none = rw (does-narrow (mode-in t) (table-in s) is, none) refl
+held-narrow s t is none = rw (does-narrow (mode-in t) (table-in Flags s) is, none) refl
 
 -- In every other mode, and without guards, it goes by cases.
 does-cases : (m : ℕ) (t : Table) → (m ≡ 0 → ⊥) → (m ≡ narrow-mode → ⊥) → does-in m t ≡ cases-does t
 unfolding does-in
 does-cases m t other wide = fun-ext (λ a. fun-ext (λ s. pick-false _ _ _ (ne-eqb m 0 other) ∙ pick-false _ _ _ (ne-eqb m narrow-mode wide)))
 
-pub held-cases : (s t : List ℕ) → (mode-in t ≡ 0 → ⊥) → (mode-in t ≡ narrow-mode → ⊥) → guards-in s t ≡ [] → walk-held s t ≡ walked-by-cases (request-in s t) (first-state format (table-in s))
+pub held-cases : (s t : List ℕ) → (mode-in t ≡ 0 → ⊥) → (mode-in t ≡ narrow-mode → ⊥) → guards-in s t ≡ [] → walk-held s t ≡ walked-by-cases (request-in s t) (first-state format (table-in Flags s))
 unfolding walk-held step-in walked-by-cases cases-step request-in first-missed
-held-cases s t other wide none = rw (does-cases (mode-in t) (table-in s) other wide, none) refl
+held-cases s t other wide none = rw (does-cases (mode-in t) (table-in Flags s) other wide, none) refl

@@ -24,20 +24,20 @@ pub record At-hand (s t : List ℕ) : Type 0 where
   pub short : length s ≤ format .request
   -- Sections 1 to 5 stand at the start, and the notes lead to each action's lines in file order and to what it senses.
   pub table-end : ℕ
-  pub table : table-at format Flags s 0 ≡ got (table-in s) table-end
+  pub table : table-at format Flags s 0 ≡ got (table-in Flags s) table-end
   pub effects : (a : ℕ) → a < format .actions → In-order t effect-lines a (effect-places s a)
   pub runs : (a : ℕ) → a < format .actions → In-order t run-lines a (run-places s a)
   pub senses : (a : ℕ) → a < format .actions → Senses s t a
   -- 16 has passed.
-  pub no-contradiction : contradiction-in (table-in s) ≡ nowhere
+  pub no-contradiction : contradiction-in (table-in Flags s) ≡ nowhere
   -- The plan stands from its slot up to the goals, and the notes lead from item to item.
-  pub plan : plan-at format Flags (table-in s .fluents) (table-in s .actions) s (getD t plan-slot 0) ≡ got (record { value = plan-in s t; items = getD t items-slot 0 }) (goals-in t)
+  pub plan : plan-at format Flags (table-in Flags s .fluents) (table-in Flags s .actions) s (getD t plan-slot 0) ≡ got (record { value = plan-in s t; items = getD t items-slot 0 }) (goals-in t)
   pub held : Plan-held s t (plan-in s t)
   pub nexts : Nexts t (format .items) 0 (plan-in s t)
   -- The goals stand where their slot says, and the whether entries behind them.
-  pub goals : list-at literals (table-in s .fluents) (format .listed) s (goals-in t) ≡ got (listed s (goals-in t)) (whether-in s t)
+  pub goals : list-at literals (table-in Flags s .fluents) (format .listed) s (goals-in t) ≡ got (listed s (goals-in t)) (whether-in s t)
   pub whether-end : ℕ
-  pub whether : list-at fluents (table-in s .fluents) (format .listed) s (whether-in s t) ≡ got (listed s (whether-in s t)) whether-end
+  pub whether : list-at fluents (table-in Flags s .fluents) (format .listed) s (whether-in s t) ≡ got (listed s (whether-in s t)) whether-end
   -- The guards stand where their slot says, unless it says that there are none.
   pub guards : eqb (guards-at t) 0 ≡ false → List-here all-literals s (guards-at t)
 

@@ -12,7 +12,7 @@ use Rattle.meaning.specs.Reading.{Got, got, fault, Met, plan-at, placed}
 use Rattle.reading.specs.Noted.{plan-slot, goals-slot, guards-slot}
 use Rattle.reading.specs.Listed.{listed}
 -- THE TABLE (FORMAT 2.12 to 2.16).
-pub use Rattle.finding.specs.TablesHere.{table-in}
+unfoldable pub use Rattle.finding.specs.TablesHere.{table-in}
 
 -- What was read; a plan that says nothing where a fault was met.
 unfoldable pub plan-of : Got (Met (Sequence ℕ)) → Sequence ℕ
@@ -21,7 +21,7 @@ plan-of (fault n p) = Sequence.done
 
 -- THE PLAN (FORMAT 2.17).
 unfoldable pub plan-in : (s t : List ℕ) → Sequence ℕ
-plan-in s t = plan-of (plan-at format Flags (table-in s .fluents) (table-in s .actions) s (getD t plan-slot 0))
+plan-in s t = plan-of (plan-at format Flags (table-in Flags s .fluents) (table-in Flags s .actions) s (getD t plan-slot 0))
 
 -- THE GOALS, and the whether entries after them (FORMAT 2.18, 2.19).
 unfoldable pub goals-in : List ℕ → ℕ
@@ -40,7 +40,7 @@ guards-in s t = pick (eqb (guards-at t) 0) (λ _. []) (λ _. placed (guards-at t
 -- THE REQUEST.
 unfoldable pub request-in : (s t : List ℕ) → Request
 request-in s t = record {
-  table = table-in s;
+  table = table-in Flags s;
   plan = plan-in s t;
   goals = placed (goals-in t + 1) (listed s (goals-in t));
   whether = placed (whether-in s t + 1) (listed s (whether-in s t));

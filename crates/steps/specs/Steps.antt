@@ -26,6 +26,7 @@ use Rattle.steps.specs.declared.cases.Tried.{Tried}
 use Rattle.steps.specs.declared.cases.Tried.the-variants.{Runs, Stuck, Many}
 use Rattle.steps.specs.Held.{table-in, plan-in, guards-in, request-in}
 use Rattle.steps.specs.Rests.{rest-at, after-first, Position}
+use Rattle.meaning.specs.declared.Form.the-variants.{Flags}
 
 -- The sensed fluents from f up that are unknown.
 unfoldable pub unknown-above : Table → ℕ → State → (f : ℕ) → List ℕ
@@ -80,7 +81,7 @@ tried-as mode t a s r =
 
 -- The step: in its mode, and with guards where there are any.
 unfoldable pub step-in : (s t : List ℕ) → Steps State ℕ
-step-in s t = record { does = does-in (mode-in t) (table-in s); knows = known; lacks = λ marks. first-missed (known marks) (guards-in s t) }
+step-in s t = record { does = does-in (mode-in t) (table-in Flags s); knows = known; lacks = λ marks. first-missed (known marks) (guards-in s t) }
 
 -- The walk from a position of the plan on.
 unfoldable pub walk-from : (s t : List ℕ) → (at : ℕ) → State → Walked State
@@ -96,7 +97,7 @@ met-from s t at = meet (step-in s t) (walk-from s t at)
 
 -- The whole walk of the request that is held, from its first state.
 unfoldable pub walk-held : (s t : List ℕ) → Walked State
-walk-held s t = meet (step-in s t) (walk (step-in s t) (plan-in s t) (judged (request-in s t))) (first-state format (table-in s))
+walk-held s t = meet (step-in s t) (walk (step-in s t) (plan-in s t) (judged (request-in s t))) (first-state format (table-in Flags s))
 
 -- The position after item i.
 pub record Followed (s t : List ℕ) (i r : ℕ) : Type 0 where

@@ -13,6 +13,7 @@ ghost use Rattle.steps.specs.Held.{table-in};
 ghost use Rattle.steps.specs.AtHand.{At-hand, Marked};
 ghost use Rattle.steps.specs.Steps.{tried-as};
 ghost use Rattle.steps.specs.Opened.{open-in, Filling};
+ghost use Rattle.meaning.specs.declared.Form.the-variants.{Flags};
 use super::actions::can_be_run;
 use super::actions::state_after;
 use super::opening::Open;
@@ -34,7 +35,7 @@ fn runs_in_each(s: &[u8], t: &Notes, a: usize, held: &Open, i: usize, marks: Mar
     requires { ⌜ At-hand (now s) (now t) ⌝ }
     requires { ⌜ a < format .actions ⌝ }
     requires { ⌜ Filling (now held) i marks ⌝ }
-    ensures { λ r. ⌜ r ≡ each-of (can-be-run (table-in (now (s .entry))) a) (fillings (drop i (open-in (now (held .entry)))) marks) ⌝ }
+    ensures { λ r. ⌜ r ≡ each-of (can-be-run (table-in Flags (now (s .entry))) a) (fillings (drop i (open-in (now (held .entry)))) marks) ⌝ }
 {
     if i < wide(held[0]) {
         let next = i + 1;
@@ -75,8 +76,8 @@ fn after_in_each(s: &[u8], t: &Notes, a: usize, held: &Open, i: usize, marks: Ma
     requires { ⌜ At-hand (now s) (now t) ⌝ }
     requires { ⌜ a < format .actions ⌝ }
     requires { ⌜ Filling (now held) i marks ⌝ }
-    requires { ⌜ each-of (can-be-run (table-in (now s)) a) (fillings (drop i (open-in (now held))) marks) ≡ true ⌝ }
-    ensures { λ r. ⌜ r ≡ after-each (table-in (now (s .entry))) a (fillings (drop i (open-in (now (held .entry)))) marks) marks ⌝ }
+    requires { ⌜ each-of (can-be-run (table-in Flags (now s)) a) (fillings (drop i (open-in (now held))) marks) ≡ true ⌝ }
+    ensures { λ r. ⌜ r ≡ after-each (table-in Flags (now (s .entry))) a (fillings (drop i (open-in (now (held .entry)))) marks) marks ⌝ }
 {
     if i < wide(held[0]) {
         let next = i + 1;
@@ -96,7 +97,7 @@ pub fn try_cases(s: &[u8], t: &Notes, a: usize, marks: &Marks) -> Tried
     requires { ⌜ At-hand (now s) (now t) ⌝ }
     requires { ⌜ a < format .actions ⌝ }
     requires { ⌜ Marked (now marks) ⌝ }
-    ensures { λ r. ⌜ cases-does (table-in (now (s .entry))) a (now (marks .entry)) ≡ tried-as 1 (table-in (now (s .entry))) a (now (marks .entry)) r ⌝ }
+    ensures { λ r. ⌜ cases-does (table-in Flags (now (s .entry))) a (now (marks .entry)) ≡ tried-as 1 (table-in Flags (now (s .entry))) a (now (marks .entry)) r ⌝ }
 {
     let held = opened(s, t, a, marks);
     if limits::OPEN < wide(held[0]) {
@@ -118,9 +119,9 @@ pub fn after_cases(s: &[u8], t: &Notes, a: usize, marks: &Marks) -> Marks
     requires { ⌜ At-hand (now s) (now t) ⌝ }
     requires { ⌜ a < format .actions ⌝ }
     requires { ⌜ Marked (now marks) ⌝ }
-    requires { ⌜ too-many (table-in (now s)) a (now marks) ≡ false ⌝ }
-    requires { ⌜ runs-by-cases (table-in (now s)) a (now marks) ≡ true ⌝ }
-    ensures { λ r. ⌜ r ≡ after-cases (table-in (now (s .entry))) a (now (marks .entry)) ⌝ }
+    requires { ⌜ too-many (table-in Flags (now s)) a (now marks) ≡ false ⌝ }
+    requires { ⌜ runs-by-cases (table-in Flags (now s)) a (now marks) ≡ true ⌝ }
+    ensures { λ r. ⌜ r ≡ after-cases (table-in Flags (now (s .entry))) a (now (marks .entry)) ⌝ }
 {
     let held = opened(s, t, a, marks);
     after_in_each(s, t, a, &held, 0, *marks)

@@ -9,6 +9,7 @@ ghost use Rattle.steps.specs.LinesFound.{effect-places, run-places};
 ghost use Rattle.steps.specs.AtHand.{At-hand, Marked};
 ghost use Rattle.steps.specs.Flags.{flagged, flagged-at, Open-flags, with-flag};
 ghost use Rattle.steps.specs.Opened.{Opened};
+ghost use Rattle.meaning.specs.declared.Form.the-variants.{Flags};
 use bytes::bytes::wide;
 use bytes::limits;
 use reading::marks::Marks;
@@ -76,7 +77,7 @@ fn open_flags(s: &[u8], t: &Notes, a: usize, marks: &Marks) -> Marks
     requires { ⌜ At-hand (now s) (now t) ⌝ }
     requires { ⌜ a < format .actions ⌝ }
     requires { ⌜ Marked (now marks) ⌝ }
-    ensures { λ r. ⌜ Open-flags (table-in (now (s .entry))) a (now (marks .entry)) r ⌝ }
+    ensures { λ r. ⌜ Open-flags (table-in Flags (now (s .entry))) a (now (marks .entry)) r ⌝ }
 {
     let mut flags = [0u8; limits::FLUENTS];
     flag_effects(s, t, a, marks, &mut flags);
@@ -112,7 +113,7 @@ pub fn opened(s: &[u8], t: &Notes, a: usize, marks: &Marks) -> Open
     requires { ⌜ At-hand (now s) (now t) ⌝ }
     requires { ⌜ a < format .actions ⌝ }
     requires { ⌜ Marked (now marks) ⌝ }
-    ensures { λ r. ⌜ Opened (open-fluents (table-in (now (s .entry))) a (now (marks .entry))) r ⌝ }
+    ensures { λ r. ⌜ Opened (open-fluents (table-in Flags (now (s .entry))) a (now (marks .entry))) r ⌝ }
 {
     let flags = open_flags(s, t, a, marks);
     gathered(&flags)

@@ -7,6 +7,7 @@ ghost use Rattle.meaning.specs.Schemes.{too-wide};
 ghost use Rattle.steps.specs.Held.{table-in};
 ghost use Rattle.steps.specs.AtHand.{At-hand, Marked};
 ghost use Rattle.steps.specs.Steps.{unknown-above, first-of};
+ghost use Rattle.meaning.specs.declared.Form.the-variants.{Flags};
 use bytes::limits;
 use reading::marks::Marks;
 use reading::notes;
@@ -18,7 +19,7 @@ use reading::notes::is_noted;
 pub fn is_sensing(s: &[u8], t: &Notes, a: usize) -> bool
     requires { ⌜ At-hand (now s) (now t) ⌝ }
     requires { ⌜ a < format .actions ⌝ }
-    ensures { λ r. ⌜ r ≡ sensing (table-in (now (s .entry))) a ⌝ }
+    ensures { λ r. ⌜ r ≡ sensing (table-in Flags (now (s .entry))) a ⌝ }
 {
     let slot = notes::SENSED_TO + a;
     let end = get(t, slot);
@@ -30,7 +31,7 @@ pub fn looks_at(s: &[u8], t: &Notes, a: usize, f: usize) -> bool
     requires { ⌜ At-hand (now s) (now t) ⌝ }
     requires { ⌜ a < format .actions ⌝ }
     requires { ⌜ f < format .fluents ⌝ }
-    ensures { λ r. ⌜ r ≡ senses (knowledge-of (table-in (now (s .entry))) a) f ⌝ }
+    ensures { λ r. ⌜ r ≡ senses (knowledge-of (table-in Flags (now (s .entry))) a) f ⌝ }
 {
     is_noted(t, a, f)
 }
@@ -40,7 +41,7 @@ pub fn next_unknown(s: &[u8], t: &Notes, a: usize, from: usize, marks: &Marks) -
     requires { ⌜ At-hand (now s) (now t) ⌝ }
     requires { ⌜ a < format .actions ⌝ }
     requires { ⌜ Marked (now marks) ⌝ }
-    ensures { λ r. ⌜ r ≡ first-of (unknown-above (table-in (now (s .entry))) a (now (marks .entry)) from) ⌝ }
+    ensures { λ r. ⌜ r ≡ first-of (unknown-above (table-in Flags (now (s .entry))) a (now (marks .entry)) from) ⌝ }
 {
     let last = notes::SENSED_TO + a;
     let end = get(t, last);
@@ -63,7 +64,7 @@ pub fn first_unknown(s: &[u8], t: &Notes, a: usize, marks: &Marks) -> usize
     requires { ⌜ At-hand (now s) (now t) ⌝ }
     requires { ⌜ a < format .actions ⌝ }
     requires { ⌜ Marked (now marks) ⌝ }
-    ensures { λ r. ⌜ r ≡ first-of (unknown-sensed (table-in (now (s .entry))) a (now (marks .entry))) ⌝ }
+    ensures { λ r. ⌜ r ≡ first-of (unknown-sensed (table-in Flags (now (s .entry))) a (now (marks .entry))) ⌝ }
 {
     let slot = notes::SENSED_FROM + a;
     let back = get(t, slot);
@@ -76,7 +77,7 @@ pub fn is_too_wide(s: &[u8], t: &Notes, a: usize, marks: &Marks) -> bool
     requires { ⌜ At-hand (now s) (now t) ⌝ }
     requires { ⌜ a < format .actions ⌝ }
     requires { ⌜ Marked (now marks) ⌝ }
-    ensures { λ r. ⌜ r ≡ too-wide (table-in (now (s .entry))) a (now (marks .entry)) ⌝ }
+    ensures { λ r. ⌜ r ≡ too-wide (table-in Flags (now (s .entry))) a (now (marks .entry)) ⌝ }
 {
     let mut met = 0;
     let mut f = first_unknown(s, t, a, marks);

@@ -7,6 +7,7 @@ ghost use Rattle.steps.specs.declared.cases.Tried.the-variants.{Runs};
 ghost use Rattle.steps.specs.Held.{table-in};
 ghost use Rattle.steps.specs.AtHand.{At-hand, Marked};
 ghost use Rattle.steps.specs.Steps.{mode-in, does-in, after-in, refused-in, tried-as};
+ghost use Rattle.meaning.specs.declared.Form.the-variants.{Flags};
 use super::actions::can_be_run;
 use super::actions::state_after;
 use super::cases::Tried;
@@ -31,7 +32,7 @@ fn try_narrow(s: &[u8], t: &Notes, a: usize, marks: &Marks) -> Tried
     requires { ⌜ At-hand (now s) (now t) ⌝ }
     requires { ⌜ a < format .actions ⌝ }
     requires { ⌜ Marked (now marks) ⌝ }
-    ensures { λ r. ⌜ narrow-does (table-in (now (s .entry))) a (now (marks .entry)) ≡ tried-as 2 (table-in (now (s .entry))) a (now (marks .entry)) r ⌝ }
+    ensures { λ r. ⌜ narrow-does (table-in Flags (now (s .entry))) a (now (marks .entry)) ≡ tried-as 2 (table-in Flags (now (s .entry))) a (now (marks .entry)) r ⌝ }
 {
     let wide = is_too_wide(s, t, a, marks);
     if wide {
@@ -49,7 +50,7 @@ pub fn tried(s: &[u8], t: &Notes, a: usize, marks: &Marks) -> Tried
     requires { ⌜ At-hand (now s) (now t) ⌝ }
     requires { ⌜ a < format .actions ⌝ }
     requires { ⌜ Marked (now marks) ⌝ }
-    ensures { λ r. ⌜ does-in (mode-in (now (t .entry))) (table-in (now (s .entry))) a (now (marks .entry)) ≡ tried-as (mode-in (now (t .entry))) (table-in (now (s .entry))) a (now (marks .entry)) r ⌝ }
+    ensures { λ r. ⌜ does-in (mode-in (now (t .entry))) (table-in Flags (now (s .entry))) a (now (marks .entry)) ≡ tried-as (mode-in (now (t .entry))) (table-in Flags (now (s .entry))) a (now (marks .entry)) r ⌝ }
 {
     let mode = get(t, notes::MODE);
     if mode == 0 {
@@ -81,8 +82,8 @@ pub fn after(s: &[u8], t: &Notes, a: usize, marks: &Marks) -> Marks
     requires { ⌜ At-hand (now s) (now t) ⌝ }
     requires { ⌜ a < format .actions ⌝ }
     requires { ⌜ Marked (now marks) ⌝ }
-    requires { ⌜ does-in (mode-in (now t)) (table-in (now s)) a (now marks) ≡ tried-as (mode-in (now t)) (table-in (now s)) a (now marks) Runs ⌝ }
-    ensures { λ r. ⌜ r ≡ after-in (mode-in (now (t .entry))) (table-in (now (s .entry))) a (now (marks .entry)) ⌝ }
+    requires { ⌜ does-in (mode-in (now t)) (table-in Flags (now s)) a (now marks) ≡ tried-as (mode-in (now t)) (table-in Flags (now s)) a (now marks) Runs ⌝ }
+    ensures { λ r. ⌜ r ≡ after-in (mode-in (now (t .entry))) (table-in Flags (now (s .entry))) a (now (marks .entry)) ⌝ }
 {
     let mode = get(t, notes::MODE);
     if mode == 0 {

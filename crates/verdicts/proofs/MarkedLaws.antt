@@ -20,6 +20,7 @@ use Rattle.steps.proofs.ModeLaws.{marked-after-cases}
 use Rattle.steps.proofs.HeldEnds.{held-so}
 use Rattle.steps.proofs.ToldMarks.{told-marked, state-marked}
 use Rattle.verdicts.proofs.KeepingLaws.{End-has, Kept-by, Does-keep, table-keeps, narrow-keeps, cases-keep, walked-kept}
+use Rattle.meaning.specs.declared.Form.the-variants.{Flags}
 
 -- THE FIRST STATE.
 pub first-marked : (t : Table) → Marked (first-state format t)
@@ -47,9 +48,9 @@ pub held-marked : (s t : List ℕ) → End-marked (walk-held s t .end)
 unfolding walk-held step-in does-in request-in
 held-marked s t =
     walked-kept Marked (request-in s t) (step-in s t)
-    (λ a u marked. pick-has (Does-keep Marked) _ _ _ (λ _. known-marked (table-in s) a u marked)
-    (λ _. pick-has (Does-keep Marked) _ _ _ (λ _. narrow-marked (table-in s) a u marked) (λ _. cases-marked (table-in s) a u marked)))
-    (first-state format (table-in s)) (first-marked (table-in s))
+    (λ a u marked. pick-has (Does-keep Marked) _ _ _ (λ _. known-marked (table-in Flags s) a u marked)
+    (λ _. pick-has (Does-keep Marked) _ _ _ (λ _. narrow-marked (table-in Flags s) a u marked) (λ _. cases-marked (table-in Flags s) a u marked)))
+    (first-state format (table-in Flags s)) (first-marked (table-in Flags s))
 
 -- Its numbers are bytes.
 abbrev pub End-small : End State → Type 0
@@ -59,5 +60,5 @@ pub held-small : (s t : List ℕ) → End-small (walk-held s t .end)
 held-small s t =
     held-so (λ _ _. Unit {0}) (λ n _ _. n < 256) (λ _. Unit {0}) (λ _. Unit {0})
     (record { misses = λ _ _ _. tt; stuck = λ _ _ _ _. omega arith; wide = λ _ _. omega arith; many = λ _ _. omega arith; breaks = λ _ _ _. omega arith }) s t
-    (λ a u _. any-outcome (outcome-to (table-in s) a u (state-after (table-in s) a u))) (λ a u _. any-outcome (outcome-to (table-in s) a u (after-cases (table-in s) a u)))
+    (λ a u _. any-outcome (outcome-to (table-in Flags s) a u (state-after (table-in Flags s) a u))) (λ a u _. any-outcome (outcome-to (table-in Flags s) a u (after-cases (table-in Flags s) a u)))
     (on-places (λ _. Unit {0}) (λ _. tt) (plan-in s t)) tt

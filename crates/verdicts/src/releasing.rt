@@ -15,6 +15,7 @@ ghost use Rattle.steps.specs.Held.{guards-in, request-in};
 ghost use Rattle.steps.specs.AtHand.{At-hand};
 ghost use Rattle.steps.specs.Steps.{mode-in};
 ghost use Rattle.verdicts.specs.Releasing.{opening-noted, Counted, Opened-here, with-answer, with-unreached, past-table};
+ghost use Rattle.meaning.specs.declared.Form.the-variants.{Flags};
 use super::answers;
 use super::answers::uncounted;
 use super::walked::walk_plan;
@@ -53,7 +54,7 @@ fn open_file(file: &[u8], t: &mut Notes) -> Read
 // The first byte after the last of the plans that start at a place, where every plan is read and there is one. What the plans leave in the notes here nobody asks for.
 fn byte_after(n: usize, m: usize, file: &[u8], plans: usize, start: usize) -> Found
     requires { ⌜ Counted (now file) n m ⌝ }
-    ensures { λ r. ⌜ r ≡ found (byte-after (now (file .entry)) (plans-at format (now (file .entry)) (table-in (now (file .entry))) plans start)) ⌝ }
+    ensures { λ r. ⌜ r ≡ found (byte-after (now (file .entry)) (plans-at format (now (file .entry)) (table-in Flags (now (file .entry))) plans start)) ⌝ }
 {
     let mut t: Notes = [0u16; notes::SLOTS];
     let mut left = plans;
@@ -135,10 +136,10 @@ fn answer_plans(
 )
     requires { ⌜ Counted (now file) n m ⌝ }
     requires { ⌜ Table-here (now file) (now t) ⌝ }
-    requires { ⌜ contradiction-in (table-in (now file)) ≡ nowhere ⌝ }
+    requires { ⌜ contradiction-in (table-in Flags (now file)) ≡ nowhere ⌝ }
     requires { ⌜ start ≤ length (now file) ⌝ }
     requires { ⌜ length (now row) ≡ 4 * plans ⌝ }
-    ensures { λ _. ⌜ now (row .exit) ≡ rows (answers-at format (now (file .entry)) (table-in (now (file .entry))) budget plans start) ⌝ }
+    ensures { λ _. ⌜ now (row .exit) ≡ rows (answers-at format (now (file .entry)) (table-in Flags (now (file .entry))) budget plans start) ⌝ }
 {
     let mut k = 0;
     let mut p = start;
@@ -169,7 +170,7 @@ fn answer_file(
     start: usize,
 ) -> Answer
     requires { ⌜ Table-here (now file) (now t) ⌝ }
-    requires { ⌜ contradiction-in (table-in (now file)) ≡ nowhere ⌝ }
+    requires { ⌜ contradiction-in (table-in Flags (now file)) ≡ nowhere ⌝ }
     requires { ⌜ start ≤ length (now file) ⌝ }
     requires { ⌜ length (now row) ≡ 4 * plans ⌝ }
     ensures { λ r. ⌜ record { answer = r; row = now (row .exit) } ≡ released (now (row .entry)) (past-table (now (file .entry)) budget plans start) ⌝ }

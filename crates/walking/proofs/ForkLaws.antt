@@ -21,14 +21,15 @@ use Rattle.walking.specs.Standing.{Standing, add, standing}
 use Rattle.walking.specs.Walks.{action-at, read-on, fork-from}
 use Rattle.walking.proofs.StandingLaws.{add-then}
 use Rattle.walking.proofs.WalkArms.{over}
+use Rattle.meaning.specs.declared.Form.the-variants.{Flags}
 
 module _ (s t : List ℕ) (i f : ℕ) (marks : State) (small : f < format .fluents) (marked : Marked marks) where
   -- The first reading and then the second.
   fork-splits : (b : Standing) → add b (fork-from s t i f marks)
-      ≡ add (add b (read-on s t i (unknown-above (table-in s) (action-at s t i) (set marks f 1) (f + 1)) (set marks f 1))) (read-on s t i (unknown-above (table-in s) (action-at s t i) (set (set marks f 1) f 2) (f + 1)) (set (set marks f 1) f 2))
+      ≡ add (add b (read-on s t i (unknown-above (table-in Flags s) (action-at s t i) (set marks f 1) (f + 1)) (set marks f 1))) (read-on s t i (unknown-above (table-in Flags s) (action-at s t i) (set (set marks f 1) f 2) (f + 1)) (set (set marks f 1) f 2))
   unfolding fork-from read-on readings each-reading
   fork-splits b =
-      let table = table-in s in
+      let table = table-in Flags s in
       let a = action-at s t i in
       let above : List ℕ = unknown-above table a marks (f + 1) in
       let first : unknown-above table a (set marks f 1) (f + 1) ≡ above = unknown-after-set table a marks f 1 in
@@ -37,47 +38,47 @@ module _ (s t : List ℕ) (i f : ℕ) (marks : State) (small : f < format .fluen
       add-then b (each-reading (readings above (told (says-true f) marks)) (meet (step-in s t) (walk-after s t i))) (λ _. each-reading (readings above (told (says-false f) marks)) (meet (step-in s t) (walk-after s t i)))
       ∙ rw (told-true f marks, told-false f marks, first, second, twice)
 
-  module _ (p a : ℕ) (place : p ≡ getD t (0 + i) 0) (action : a ≡ getD s p 0) (g : ℕ) (next : g ≡ first-of (unknown-above (table-in s) a (set marks f 1) (f + 1))) where
+  module _ (p a : ℕ) (place : p ≡ getD t (0 + i) 0) (action : a ≡ getD s p 0) (g : ℕ) (next : g ≡ first-of (unknown-above (table-in Flags s) a (set marks f 1) (f + 1))) where
     is-action : action-at s t i ≡ a
     unfolding action-at
     is-action = ap (λ (q : ℕ). getD s q 0) (sym place) ∙ sym action
 
     -- The next unknown fluent is the same after either reading.
-    first-next : g ≡ first-of (unknown-above (table-in s) (action-at s t i) (set marks f 1) (f + 1))
-    first-next = next ∙ ap (λ (b : ℕ). first-of (unknown-above (table-in s) b (set marks f 1) (f + 1))) (sym is-action)
+    first-next : g ≡ first-of (unknown-above (table-in Flags s) (action-at s t i) (set marks f 1) (f + 1))
+    first-next = next ∙ ap (λ (b : ℕ). first-of (unknown-above (table-in Flags s) b (set marks f 1) (f + 1))) (sym is-action)
 
-    second-next : g ≡ first-of (unknown-above (table-in s) (action-at s t i) (set (set marks f 1) f 2) (f + 1))
-    second-next = first-next ∙ ap first-of (sym (unknown-after-set (table-in s) (action-at s t i) (set marks f 1) f 2))
+    second-next : g ≡ first-of (unknown-above (table-in Flags s) (action-at s t i) (set (set marks f 1) f 2) (f + 1))
+    second-next = first-next ∙ ap first-of (sym (unknown-after-set (table-in Flags s) (action-at s t i) (set marks f 1) f 2))
 
     pub fork-rises : g < format .fluents → f < g
-    fork-rises near = let h = unknown-first-above (table-in s) a (set marks f 1) (first-marked f marks small marked) (f + 1) g next near in omega arith
+    fork-rises near = let h = unknown-first-above (table-in Flags s) a (set marks f 1) (first-marked f marks small marked) (f + 1) g next near in omega arith
 
     -- There is one.
-    forks : (m : State) → Marked m → g ≡ first-of (unknown-above (table-in s) (action-at s t i) m (f + 1)) → g < format .fluents
-        → fork-from s t i g m ≡ read-on s t i (unknown-above (table-in s) (action-at s t i) m (f + 1)) m
+    forks : (m : State) → Marked m → g ≡ first-of (unknown-above (table-in Flags s) (action-at s t i) m (f + 1)) → g < format .fluents
+        → fork-from s t i g m ≡ read-on s t i (unknown-above (table-in Flags s) (action-at s t i) m (f + 1)) m
     unfolding fork-from
-    forks m good is near = ap (λ (fs : List ℕ). read-on s t i fs m) (sym (unknown-first (table-in s) (action-at s t i) m good (f + 1) g is near))
+    forks m good is near = ap (λ (fs : List ℕ). read-on s t i fs m) (sym (unknown-first (table-in Flags s) (action-at s t i) m good (f + 1) g is near))
 
     -- There is none.
-    walks : (m : State) → Marked m → g ≡ first-of (unknown-above (table-in s) (action-at s t i) m (f + 1)) → format .fluents ≤ g → (r : ℕ) → Followed s t i r
-        → met-from s t r m ≡ read-on s t i (unknown-above (table-in s) (action-at s t i) m (f + 1)) m
+    walks : (m : State) → Marked m → g ≡ first-of (unknown-above (table-in Flags s) (action-at s t i) m (f + 1)) → format .fluents ≤ g → (r : ℕ) → Followed s t i r
+        → met-from s t r m ≡ read-on s t i (unknown-above (table-in Flags s) (action-at s t i) m (f + 1)) m
     unfolding read-on readings each-reading
     walks m good is far r follows =
-        sym (followed-met s t i r follows m) ∙ ap (λ (fs : List ℕ). each-reading (readings fs m) (meet (step-in s t) (walk-after s t i))) (sym (unknown-no-first (table-in s) (action-at s t i) m good (f + 1) g is far))
+        sym (followed-met s t i r follows m) ∙ ap (λ (fs : List ℕ). each-reading (readings fs m) (meet (step-in s t) (walk-after s t i))) (sym (unknown-no-first (table-in Flags s) (action-at s t i) m good (f + 1) g is far))
 
     module _ (tally after : List ℕ) where
       -- The second reading is not tried where the walk has stopped or is spent with the first.
-      stops : standing after ≡ add (standing tally) (read-on s t i (unknown-above (table-in s) (action-at s t i) (set marks f 1) (f + 1)) (set marks f 1)) → (on : Bool) → on ≡ ltb (getD after 0 0) 2 → on ≡ false
+      stops : standing after ≡ add (standing tally) (read-on s t i (unknown-above (table-in Flags s) (action-at s t i) (set marks f 1) (f + 1)) (set marks f 1)) → (on : Bool) → on ≡ ltb (getD after 0 0) 2 → on ≡ false
           → standing after ≡ add (standing tally) (fork-from s t i f marks)
       stops first on says no-more =
-          let rest : Walked State = read-on s t i (unknown-above (table-in s) (action-at s t i) (set (set marks f 1) f 2) (f + 1)) (set (set marks f 1) f 2) in
+          let rest : Walked State = read-on s t i (unknown-above (table-in Flags s) (action-at s t i) (set (set marks f 1) f 2) (f + 1)) (set (set marks f 1) f 2) in
           over after on says no-more rest ∙ ap (λ (b : Standing). add b rest) first ∙ sym (fork-splits (standing tally))
 
-      both-read : standing after ≡ add (standing tally) (read-on s t i (unknown-above (table-in s) (action-at s t i) (set marks f 1) (f + 1)) (set marks f 1)) → (last : List ℕ)
-          → standing last ≡ add (standing after) (read-on s t i (unknown-above (table-in s) (action-at s t i) (set (set marks f 1) f 2) (f + 1)) (set (set marks f 1) f 2))
+      both-read : standing after ≡ add (standing tally) (read-on s t i (unknown-above (table-in Flags s) (action-at s t i) (set marks f 1) (f + 1)) (set marks f 1)) → (last : List ℕ)
+          → standing last ≡ add (standing after) (read-on s t i (unknown-above (table-in Flags s) (action-at s t i) (set (set marks f 1) f 2) (f + 1)) (set (set marks f 1) f 2))
           → standing last ≡ add (standing tally) (fork-from s t i f marks)
       both-read first last second =
-          let rest : Walked State = read-on s t i (unknown-above (table-in s) (action-at s t i) (set (set marks f 1) f 2) (f + 1)) (set (set marks f 1) f 2) in
+          let rest : Walked State = read-on s t i (unknown-above (table-in Flags s) (action-at s t i) (set (set marks f 1) f 2) (f + 1)) (set (set marks f 1) f 2) in
           second ∙ ap (λ (b : Standing). add b rest) first ∙ sym (fork-splits (standing tally))
 
       module _ (near : g < format .fluents) (first : standing after ≡ add (standing tally) (fork-from s t i g (set marks f 1))) where

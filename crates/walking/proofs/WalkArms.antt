@@ -36,6 +36,7 @@ use Rattle.walking.specs.Standing.{Standing, so-far, add, one, stateless
 use Rattle.walking.specs.Walks.{action-at, read-on, fork-from}
 use Rattle.walking.proofs.FallLaws.{action-there}
 use Rattle.walking.proofs.StandingLaws.{add-then, add-counted, add-over, add-stopped, sized-after, stands-fine, add-fine, add-kept}
+use Rattle.meaning.specs.declared.Form.the-variants.{Flags}
 
 -- GOING ON after a part, where the tally says so.
 going-again : (tally after : List ℕ) (w : Walked State) → Going tally → standing after ≡ add (standing tally) w → (on : Bool) → on ≡ ltb (getD after 0 0) 2 → on ≡ true → Going after
@@ -122,19 +123,19 @@ unfolding refused-in stateless either
 refused-stateless mode number says = subst (λ (n : ℕ). stateless n ≡ true) (sym says) (pick-has (λ (n : ℕ). stateless n ≡ true) _ _ _ (λ _. refl) (λ _. refl))
 
 -- What trying an action gave.
-pub ran-there : (s t : List ℕ) (a : ℕ) (state : State) (tried : Tried) → does-in (mode-in t) (table-in s) a state ≡ tried-as (mode-in t) (table-in s) a state tried → tried ≡ Runs
-    → does-in (mode-in t) (table-in s) a state ≡ tried-as (mode-in t) (table-in s) a state Runs
-ran-there s t a state tried asked is = asked ∙ ap (tried-as (mode-in t) (table-in s) a state) is
+pub ran-there : (s t : List ℕ) (a : ℕ) (state : State) (tried : Tried) → does-in (mode-in t) (table-in Flags s) a state ≡ tried-as (mode-in t) (table-in Flags s) a state tried → tried ≡ Runs
+    → does-in (mode-in t) (table-in Flags s) a state ≡ tried-as (mode-in t) (table-in Flags s) a state Runs
+ran-there s t a state tried asked is = asked ∙ ap (tried-as (mode-in t) (table-in Flags s) a state) is
 
 -- AN ACTION that is item i, at p.
 module _ (s t : List ℕ) (here : At-hand s t) (i : ℕ) (less : i < items-of (plan-in s t)) (p : ℕ) (placed-there : p ≡ getD t (0 + i) 0) (other : getD s p 0 ≡ 255 → ⊥) (a : ℕ) (is-action : a ≡ getD s p 0) (state : State) (tally : List ℕ) (going : Going tally)
-    (tried : Tried) (asked : does-in (mode-in t) (table-in s) a state ≡ tried-as (mode-in t) (table-in s) a state tried) where
+    (tried : Tried) (asked : does-in (mode-in t) (table-in Flags s) a state ≡ tried-as (mode-in t) (table-in Flags s) a state tried) where
   -- What it does is what trying it gave.
-  walked-as : (r : Tried) → tried ≡ r → walk-from s t i state ≡ after-step p (tried-as (mode-in t) (table-in s) a state r) (meet (step-in s t) (walk-after s t i))
+  walked-as : (r : Tried) → tried ≡ r → walk-from s t i state ≡ after-step p (tried-as (mode-in t) (table-in Flags s) a state r) (meet (step-in s t) (walk-after s t i))
   unfolding run-action step-in
   walked-as r is =
       action-walked s t here i less p placed-there other a is-action state
-      ∙ ap (λ (x : Step State). after-step p x (meet (step-in s t) (walk-after s t i))) (asked ∙ ap (tried-as (mode-in t) (table-in s) a state) is)
+      ∙ ap (λ (x : Step State). after-step p x (meet (step-in s t) (walk-after s t i))) (asked ∙ ap (tried-as (mode-in t) (table-in Flags s) a state) is)
 
   -- It can't be run.
   pub item-stuck : tried ≡ Stuck → (after : List ℕ) → standing after ≡ so-far (getD tally 2 0) (end-by 2 p state) → standing after ≡ add (standing tally) (walk-from s t i state)
@@ -150,7 +151,7 @@ module _ (s t : List ℕ) (here : At-hand s t) (i : ℕ) (less : i < items-of (p
 
   -- What it leads to.
   abbrev leads : Outcome State
-  leads = outcome-to (table-in s) a state (after-in (mode-in t) (table-in s) a state)
+  leads = outcome-to (table-in Flags s) a state (after-in (mode-in t) (table-in Flags s) a state)
 
   module _ (can : tried ≡ Runs) (counts : List ℕ) (one-more : standing counts ≡ add (standing tally) one) where
     -- It is run and counted; then each reading is followed by what follows the action.
@@ -166,9 +167,9 @@ module _ (s t : List ℕ) (here : At-hand s t) (i : ℕ) (less : i < items-of (p
       pub run-spent : on ≡ false → standing counts ≡ add (standing tally) (walk-from s t i state)
       run-spent no-more = over counts on says no-more (each-reading leads (meet (step-in s t) (walk-after s t i))) ∙ sym run-on
 
-    module _ (senses : Bool) (sensed : senses ≡ sensing (table-in s) a) where
+    module _ (senses : Bool) (sensed : senses ≡ sensing (table-in Flags s) a) where
       -- It moves the state.
-      pub run-moves : senses ≡ false → (next : State) → next ≡ after-in (mode-in t) (table-in s) a state → (r : ℕ) → Followed s t i r
+      pub run-moves : senses ≡ false → (next : State) → next ≡ after-in (mode-in t) (table-in Flags s) a state → (r : ℕ) → Followed s t i r
           → add (standing tally) (walk-from s t i state) ≡ add (standing counts) (met-from s t r next)
       unfolding each-reading
       run-moves none next is r follows =
@@ -177,8 +178,8 @@ module _ (s t : List ℕ) (here : At-hand s t) (i : ℕ) (less : i < items-of (p
           ∙ ap (λ (m : State). add (standing counts) (meet (step-in s t) (walk-after s t i) m)) (sym is)
           ∙ ap (add (standing counts)) (followed-met s t i r follows next)
 
-      module _ (marked : Marked state) (f : ℕ) (first : f ≡ first-of (unknown-sensed (table-in s) a state)) (some : senses ≡ true) where
-        reads-on : add (standing tally) (walk-from s t i state) ≡ add (standing counts) (read-on s t i (unknown-sensed (table-in s) a state) state)
+      module _ (marked : Marked state) (f : ℕ) (first : f ≡ first-of (unknown-sensed (table-in Flags s) a state)) (some : senses ≡ true) where
+        reads-on : add (standing tally) (walk-from s t i state) ≡ add (standing counts) (read-on s t i (unknown-sensed (table-in Flags s) a state) state)
         unfolding read-on
         reads-on = run-on ∙ ap (λ (o : Outcome State). add (standing counts) (each-reading o (meet (step-in s t) (walk-after s t i)))) (pick-true _ _ _ (sym sensed ∙ some))
 
@@ -188,8 +189,8 @@ module _ (s t : List ℕ) (here : At-hand s t) (i : ℕ) (less : i < items-of (p
         run-forks small after forked =
             let same : getD s (getD t (0 + i) 0) 0 ≡ a = ap (λ (q : ℕ). getD s q 0) (sym placed-there) ∙ sym is-action in
             forked
-            ∙ ap (λ (b : ℕ). add (standing counts) (read-on s t i (f ∷ unknown-above (table-in s) b state (f + 1)) state)) same
-            ∙ ap (λ (fs : List ℕ). add (standing counts) (read-on s t i fs state)) (sym (sensed-first (table-in s) a state marked f first small))
+            ∙ ap (λ (b : ℕ). add (standing counts) (read-on s t i (f ∷ unknown-above (table-in Flags s) b state (f + 1)) state)) same
+            ∙ ap (λ (fs : List ℕ). add (standing counts) (read-on s t i fs state)) (sym (sensed-first (table-in Flags s) a state marked f first small))
             ∙ sym reads-on
 
         -- It forks none.
@@ -197,7 +198,7 @@ module _ (s t : List ℕ) (here : At-hand s t) (i : ℕ) (less : i < items-of (p
         unfolding read-on readings each-reading
         run-sees none r follows =
             reads-on
-            ∙ ap (λ (fs : List ℕ). add (standing counts) (read-on s t i fs state)) (sensed-no-first (table-in s) a state marked f first none)
+            ∙ ap (λ (fs : List ℕ). add (standing counts) (read-on s t i fs state)) (sensed-no-first (table-in Flags s) a state marked f first none)
             ∙ ap (add (standing counts)) (followed-met s t i r follows state)
 
 -- Its number is small.

@@ -7,6 +7,7 @@ use Rattle.meaning.specs.Walk.{Walked, each-reading, meet}
 use Rattle.reading.specs.Noted.{item-place}
 use Rattle.steps.specs.Held.{table-in}
 use Rattle.steps.specs.Steps.{unknown-above, step-in, walk-after}
+use Rattle.meaning.specs.declared.Form.the-variants.{Flags}
 
 -- The action that is item i.
 unfoldable pub action-at : (s t : List ℕ) → ℕ → ℕ
@@ -18,4 +19,4 @@ read-on s t i fs marks = each-reading (readings fs marks) (meet (step-in s t) (w
 
 -- The readings of fluent f and of the unknown ones above it that the action senses.
 unfoldable pub fork-from : (s t : List ℕ) → (i f : ℕ) → State → Walked State
-fork-from s t i f marks = read-on s t i (f ∷ unknown-above (table-in s) (action-at s t i) marks (f + 1)) marks
+fork-from s t i f marks = read-on s t i (f ∷ unknown-above (table-in Flags s) (action-at s t i) marks (f + 1)) marks

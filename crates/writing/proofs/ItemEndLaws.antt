@@ -32,7 +32,7 @@ module _ (s t : List ℕ) (here : At-hand s t) (i : ℕ) (less : i < items-of (p
   this-stands : Item-stands s (laid .this)
   this-stands =
       on-first (Item-stands s) (plan-in s t)
-      (each-stands (table-in s .fluents) (table-in s .actions) s (here .bytes) (getD t plan-slot 0) (record { value = plan-in s t; items = getD t items-slot 0 }) (goals-in t) (here .plan))
+      (each-stands (table-in Flags s .fluents) (table-in Flags s .actions) s (here .bytes) (getD t plan-slot 0) (record { value = plan-in s t; items = getD t items-slot 0 }) (goals-in t) (here .plan))
       i (laid .this) (laid .after) (laid .rest)
 
   pub start-there : getD t (item-place + i) 0 < length s

@@ -26,6 +26,7 @@ use Rattle.steps.specs.AtHand.{At-hand}
 use Rattle.steps.proofs.HandLaws.{goals-here, is-whether}
 use Rattle.steps.proofs.StoreLaws.{stores-behind}
 use Rattle.writing.proofs.ItemStands.{stands-taken}
+use Rattle.meaning.specs.declared.Form.the-variants.{Flags}
 
 -- ONE PART behind another.
 module _ (q p : ℕ) (xs ys : List ℕ) (at : p ≡ q + length xs) where
@@ -75,7 +76,7 @@ module _ (s t : List ℕ) (here : At-hand s t) (goals : ℕ) (slot : goals ≡ g
 
     goals-stand : (length (list-written (listed s goals)) ≡ end - goals) × (take (length (list-written (listed s goals))) (drop goals s) ≡ list-written (listed s goals))
     goals-stand =
-        let st = list-copied literals (table-in s .fluents) s (format .listed) (goals-in t) .holds (listed s (goals-in t)) (whether-in s t) (here .goals) .there in
+        let st = list-copied literals (table-in Flags s .fluents) s (format .listed) (goals-in t) .holds (listed s (goals-in t)) (whether-in s t) (here .goals) .there in
         let long = stands-length s (goals-in t) (list-written (listed s (goals-in t))) (whether-in s t) st in
         let last = is-whether s t here goals slot end ends in
         let at = at-slot in

@@ -10,9 +10,10 @@ use Rattle.guide.proofs.sensed.is_against.Reads as reads
 use Rattle.guide.proofs.sensed.is_against.Lts as lts
 use Rattle.guide.proofs.sensed.mark_read.Reads as mark-read-reads
 use Rattle.steps.proofs.sensing.looks_at.Reads as looks-at-reads
+use Rattle.meaning.specs.declared.Form.the-variants.{Flags}
 
 abbrev Inv-loop : tie.InvT-loop
-Inv-loop s t a marks readings i₀ f₀ i f = Against-left (table-in s) a marks readings i f
+Inv-loop s t a marks readings i₀ f₀ i f = Against-left (table-in Flags s) a marks readings i f
 
 abbrev μ-loop : tie.MeasureT-loop
 μ-loop s t a marks readings i₀ f₀ i f = format .fluents - f

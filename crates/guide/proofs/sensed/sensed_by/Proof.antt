@@ -9,9 +9,10 @@ use Rattle.guide.proofs.sensed.sensed_by.Tie as tie
 use Rattle.guide.proofs.sensed.sensed_by.Reads as reads
 use Rattle.guide.proofs.sensed.sensed_by.Lts as lts
 use Rattle.steps.proofs.sensing.looks_at.Reads as looks-at-reads
+use Rattle.meaning.specs.declared.Form.the-variants.{Flags}
 
 abbrev Inv-loop : tie.InvT-loop
-Inv-loop s t a row₀ count₀ f₀ row count f = Sensed-row (table-in s) a row count f
+Inv-loop s t a row₀ count₀ f₀ row count f = Sensed-row (table-in Flags s) a row count f
 
 abbrev μ-loop : tie.MeasureT-loop
 μ-loop s t a row₀ count₀ f₀ row count f = format .fluents - f

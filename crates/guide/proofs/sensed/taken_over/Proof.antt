@@ -10,9 +10,10 @@ use Rattle.guide.proofs.sensed.taken_over.Reads as reads
 use Rattle.guide.proofs.sensed.taken_over.Lts as lts
 use Rattle.guide.proofs.sensed.mark_read.Reads as mark-read-reads
 use Rattle.steps.proofs.sensing.looks_at.Reads as looks-at-reads
+use Rattle.meaning.specs.declared.Form.the-variants.{Flags}
 
 abbrev Inv-loop : tie.InvT-loop
-Inv-loop s t a marks readings state₀ i₀ f₀ state i f = Taken-left (table-in s) a marks readings state i f
+Inv-loop s t a marks readings state₀ i₀ f₀ state i f = Taken-left (table-in Flags s) a marks readings state i f
 
 abbrev μ-loop : tie.MeasureT-loop
 μ-loop s t a marks readings state₀ i₀ f₀ state i f = format .fluents - f

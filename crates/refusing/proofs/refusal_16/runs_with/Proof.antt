@@ -12,9 +12,10 @@ use Rattle.reading.proofs.notes.first_line.Reads as first-line-reads
 use Rattle.reading.proofs.notes.line_place.Reads as line-place-reads
 use Rattle.reading.proofs.notes.next_line.Reads as next-line-reads
 use Rattle.refusing.proofs.refusal_16.agrees.Reads as agrees-reads
+use Rattle.meaning.specs.declared.Form.the-variants.{Flags}
 
 abbrev Inv-loop : tie.InvT-loop
-Inv-loop s t a one other k₀ k = Agreeing s t one other (agreeing-lines (table-in s) a one other) k
+Inv-loop s t a one other k₀ k = Agreeing s t one other (agreeing-lines (table-in Flags s) a one other) k
 
 abbrev μ-loop : tie.MeasureT-loop
 μ-loop s t a one other k₀ k = to-go k

@@ -11,9 +11,10 @@ use Rattle.steps.proofs.sensing.next_unknown.Reads as reads
 use Rattle.steps.proofs.sensing.next_unknown.Lts as lts
 use Rattle.reading.proofs.notes.get.Reads as get-reads
 use Rattle.reading.proofs.notes.is_noted.Reads as is-noted-reads
+use Rattle.meaning.specs.declared.Form.the-variants.{Flags}
 
 abbrev Inv-loop : tie.InvT-loop
-Inv-loop s t a from marks last end f₀ f = first-of (unknown-above (table-in s) a marks from) ≡ first-of (unknown-above (table-in s) a marks f)
+Inv-loop s t a from marks last end f₀ f = first-of (unknown-above (table-in Flags s) a marks from) ≡ first-of (unknown-above (table-in Flags s) a marks f)
 
 abbrev μ-loop : tie.MeasureT-loop
 μ-loop s t a from marks last end f₀ f = end - f
