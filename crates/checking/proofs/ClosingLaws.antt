@@ -37,6 +37,7 @@ use Rattle.checking.specs.Checked.{no-line}
 use Rattle.checking.specs.Asked.{conclusion-asked, Names, Entries-checked, Derivation-stands, Some-derivation, Closing-checked, End-checked}
 use Rattle.checking.proofs.EachLineLaws.{numbers-room}
 use Rattle.checking.proofs.QuestionLaws.{whether-asked}
+use Rattle.meaning.specs.declared.Form.the-variants.{Flags}
 
 -- A LINE BY ITS NUMBER.
 names-there : (r : Request) (Y : Conclusion) (other : Line) (ls : List Line) (k : ℕ) → k < length ls → names r ls k Y ≡ asks-for r Y (getD ls k other)
@@ -289,7 +290,7 @@ module _ (d places : List ℕ) (count closing : ℕ) (at-closing : closing ≡ g
         fluents-numbers x byte = let inside = numbers-inside in omega (arith, inside, due, byte)
 
   -- What is asked of it by a request at hand.
-  module _ (s t : List ℕ) (here : At-hand s t) (goals : ℕ) (at-goals : goals ≡ getD t goals-slot 0) (whether : ℕ) (after : whether ≡ sequence-place s goals) (number : ℕ) (byte : number ≡ getD s whether 0) where
+  module _ (s t : List ℕ) (here : At-hand s t) (goals : ℕ) (at-goals : goals ≡ getD t goals-slot 0) (whether : ℕ) (after : whether ≡ sequence-place Flags s goals) (number : ℕ) (byte : number ≡ getD s whether 0) where
     asked-are : all-asked (request-in s t) ≡ goals-of (request-in s t) ∷ map knows-whether (listed s whether)
     unfolding all-asked
     asked-are = ap (λ (Ys : List Conclusion). goals-of (request-in s t) ∷ Ys) (whether-asked s t here goals at-goals whether after)

@@ -75,7 +75,7 @@ module _ (s t : List ℕ) (here : At-hand s t) where
       asked-some = record { plan = plan-in s t; stands = asked-stands }
 
     -- THE WHETHER ENTRIES.
-    module _ (whether : ℕ) (after : whether ≡ sequence-place s goals) where
+    module _ (whether : ℕ) (after : whether ≡ sequence-place Flags s goals) where
       pub whether-asked : map (λ (w : Entry). knows-whether (w .value)) (request-in s t .whether) ≡ map knows-whether (listed s whether)
       unfolding request-in
       whether-asked =
@@ -91,7 +91,7 @@ module _ (s t : List ℕ) (here : At-hand s t) where
     unfolding begins request-in
     other-facts f = record { holds = λ l stands. no-left (same-list (l .X) (table-in Flags s .facts)) _ (sym (facts-are l stands) ∙ f) }
 
-    pub same-facts : facts ≡ true → (q : ℕ) → q ≡ sequence-place d (w .line) → (asked : ℕ) → asked ≡ getD t plan-slot 0 → (goals : ℕ) → goals ≡ getD t goals-slot 0 → (r : Bool) → Same-plans d q (w .end) s asked goals r
+    pub same-facts : facts ≡ true → (q : ℕ) → q ≡ sequence-place Flags d (w .line) → (asked : ℕ) → asked ≡ getD t plan-slot 0 → (goals : ℕ) → goals ≡ getD t goals-slot 0 → (r : Bool) → Same-plans d q (w .end) s asked goals r
         → Ruled d w (begins (request-in s t)) r
     unfolding begins request-in
     same-facts e q after asked at-plan goals at-goals r same =
@@ -103,7 +103,7 @@ module _ (s t : List ℕ) (here : At-hand s t) where
 
 -- A LINE at a spot.
 module _ (d : List ℕ) (w : Spot) (some : Some-stands d w) where
-  pub own-plan : (q : ℕ) → q ≡ sequence-place d (w .line) → Some-plan d q (w .end)
+  pub own-plan : (q : ℕ) → q ≡ sequence-place Flags d (w .line) → Some-plan d q (w .end)
   own-plan q after = record { plan = some .line .c; stands = plan-of d w q after (some .line) (some .stands) }
 
   concluded : Some-concluded d w

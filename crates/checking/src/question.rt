@@ -9,6 +9,7 @@ ghost use Rattle.steps.specs.Held.{request-in};
 ghost use Rattle.steps.specs.AtHand.{At-hand};
 ghost use Rattle.comparing.specs.RuleAnswers.{Some-stands, Some-lines, Ruled};
 ghost use Rattle.checking.specs.Asked.{conclusion-asked, begins, Names, Some-derivation, Entries-checked, Closing-checked, End-checked};
+use meaning::Form;
 use super::refusal_numbers;
 use bytes::bytes::two;
 use bytes::bytes::wide;
@@ -41,7 +42,7 @@ fn from_the_facts(s: &[u8], t: &Notes, d: &[u8], l: Spot) -> bool
     let p = l.line;
     let starts = same_lists(d, p, s, 2);
     if starts {
-        let plan = sequence_of(d, p);
+        let plan = sequence_of(Form::Flags, d, p);
         let e = l.end;
         let asked = get(t, notes::PLAN);
         let goals = get(t, notes::GOALS);
@@ -140,7 +141,7 @@ fn check_closing(s: &[u8], t: &Notes, d: &[u8], places: &Places, lines: usize) -
     ensures { λ r. ⌜ Closing-checked (request-in (now (s .entry)) (now (t .entry))) (now (d .entry)) (now (places .entry)) lines r ⌝ }
 {
     let goals = get(t, notes::GOALS);
-    let whether = sequence_of(s, goals);
+    let whether = sequence_of(Form::Flags, s, goals);
     let due = 1 + wide(s[whether]);
     let closing = place_of(places, derivations::LINES_END);
     let count = wide(d[closing]);

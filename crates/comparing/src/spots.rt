@@ -4,6 +4,7 @@ ghost use lib.ListN.{getD};
 ghost use Rattle.deriving.specs.DerivationRead.{plan-ends-slot};
 ghost use Rattle.comparing.specs.Stands.{spot-at};
 ghost use Rattle.comparing.specs.RuleAnswers.{Some-at, Some-lines, Some-concluded, Same-conclusions};
+use meaning::Form;
 use super::parts::same_lists;
 use bytes::bytes::wide;
 use deriving::derivations::Places;
@@ -31,7 +32,7 @@ fn spot_at(layout: Layout, d: &[u8], p: usize, e: usize) -> Spot
 {
     match layout {
         Layout::Plain => {
-            let at = sequence_of(d, e);
+            let at = sequence_of(Form::Flags, d, e);
             let rule = wide(d[at]);
             let cites = at + 1;
             Spot {
@@ -58,7 +59,7 @@ fn spot_at(layout: Layout, d: &[u8], p: usize, e: usize) -> Spot
                     fluent: true,
                 };
             }
-            let cites = sequence_of(d, y);
+            let cites = sequence_of(Form::Flags, d, y);
             Spot {
                 line: p,
                 end: e,

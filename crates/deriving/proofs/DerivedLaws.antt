@@ -51,7 +51,7 @@ module _ (n m : ℕ) (s : List ℕ) where
     first : List-here all-literals s p
     plan : Met (Sequence ℕ)
     end : ℕ
-    reads : plan-at format Flags n m s (sequence-place s p) ≡ got plan end
+    reads : plan-at format Flags n m s (sequence-place Flags s p) ≡ got plan end
     is : plan .value ≡ l .c
 
   line-plan : n ≤ format .fluents → (layout : Layout) (p : ℕ) (l : Line) → Line-here n m s layout p l → Line-plan p l
@@ -75,10 +75,10 @@ module _ (n m : ℕ) (s : List ℕ) where
       }
 
   module _ (few : n ≤ format .fluents) (less : m ≤ format .actions) (plan : ℕ) (t u : List ℕ) (r : Read) (read : outcome-met r u ≡ noting-met (plan-noted Flags plan t) (plan-at format Flags n m s plan)) where
-    pub line-held : (count e : ℕ) → length t ≡ slots → r ≡ Value count e → Some-plan s u count
-    line-held count e room is = plan-left n m s few less plan t u r count e (omega arith) read is
+    pub line-held : (count e : ℕ) → length t ≡ slots → r ≡ Value count e → Some-plan Flags s u count
+    line-held count e room is = plan-left Flags n m s few less plan t u r count e (omega arith) read is
 
-    module _ (p : ℕ) (after : plan ≡ sequence-place s p) where
+    module _ (p : ℕ) (after : plan ≡ sequence-place Flags s p) where
       there : (l : Line) → (w : Line-plan p l) → plan-at format Flags n m s plan ≡ got (w .plan) (w .end)
       there l w = ap (plan-at format Flags n m s) after ∙ w .reads
 

@@ -40,7 +40,7 @@ use Rattle.glintstring.specs.CheckCalls.{too-many, check-at-hand}
 use Rattle.glintstring.proofs.SettledAtHand.{settled-got, settled-held}
 
 -- THE WHETHER LIST stands behind the goals.
-pub whether-inside : (s t : List ℕ) → At-hand s t → (goals : ℕ) → goals ≡ getD t goals-slot 0 → (whether : ℕ) → whether ≡ sequence-place s goals → whether < length s
+pub whether-inside : (s t : List ℕ) → At-hand s t → (goals : ℕ) → goals ≡ getD t goals-slot 0 → (whether : ℕ) → whether ≡ sequence-place Flags s goals → whether < length s
 whether-inside s t here goals slot whether after = let ends = whether-here s t here goals slot whether after .ends in omega arith
 
 -- What a layout does not speak of.
@@ -63,7 +63,7 @@ unfolding beyond too-many
 beyond-by-count Plain r = asked-by-count (r .whether)
 beyond-by-count Closing r = refl
 
-module _ (s t : List ℕ) (here : At-hand s t) (layout : Layout) (d : List ℕ) (goals : ℕ) (slot : goals ≡ getD t goals-slot 0) (whether : ℕ) (after : whether ≡ sequence-place s goals) (asked : ℕ) (count : asked ≡ getD s whether 0)
+module _ (s t : List ℕ) (here : At-hand s t) (layout : Layout) (d : List ℕ) (goals : ℕ) (slot : goals ≡ getD t goals-slot 0) (whether : ℕ) (after : whether ≡ sequence-place Flags s goals) (asked : ℕ) (count : asked ≡ getD s whether 0)
     (refused : Bool) (many : refused ≡ too-many layout asked) where
   asked-long : length (request-in s t .whether) ≡ asked
   unfolding request-in

@@ -182,7 +182,7 @@ module _ (s t room : List ℕ) (budget : ℕ) (none : beyond Plain (request-in s
         derived-written (request-in s t) room budget a none w plain good v narrow zero-too after (is ∙ ap (λ (x : Request). write-lines format room (derivation-of format x)) same)
 
 -- 30, by the count of the whether list, which stands behind the goals.
-module _ (s t : List ℕ) (here : At-hand s t) (goals : ℕ) (slot : goals ≡ getD t goals-slot 0) (whether : ℕ) (after : whether ≡ sequence-place s goals) (asked : ℕ) (count : asked ≡ getD s whether 0) where
+module _ (s t : List ℕ) (here : At-hand s t) (goals : ℕ) (slot : goals ≡ getD t goals-slot 0) (whether : ℕ) (after : whether ≡ sequence-place Flags s goals) (asked : ℕ) (count : asked ≡ getD s whether 0) where
   by-count : beyond Plain (request-in s t) ≡ ltb 0 asked
   unfolding too-many
   by-count = beyond-is s t here Plain [] goals slot whether after asked count (ltb 0 asked) refl

@@ -47,7 +47,7 @@ use Rattle.glintstring.proofs.SettledAtHand.{settled-got, settled-at-ha
 use Rattle.glintstring.proofs.JudgingLaws.{Gives, held-table, judge-9, judge-refused, judge-walked}
 
 -- THE WALK of what is held is the same with the index taken into the notes.
-taken-walk : (s u i : List ℕ) → Table-here s u → i ≡ index-of (table-in Flags s) → mode-in u ≡ 0 → walk-held s (index-taken i 0 (table-in Flags s .actions) 0 0 0 u) ≡ walk-held s u
+taken-walk : (s u i : List ℕ) → Table-here Flags s u → i ≡ index-of (table-in Flags s) → mode-in u ≡ 0 → walk-held s (index-taken i 0 (table-in Flags s .actions) 0 0 0 u) ≡ walk-held s u
 taken-walk s u i table is known =
     let w : List ℕ = index-taken i 0 (table-in Flags s .actions) 0 0 0 u in
     held-known s w (taken-mode s u table i is ∙ known)
@@ -109,7 +109,7 @@ module _ (s t u : List ℕ) (r : Passed) (settles : outcome r u ≡ noting (requ
   indexed-hand = rw taken (taken-hand s u (settled-table s t u r settles e passes bytes empty) i right (settled-at-hand s t u r settles e passes bytes empty))
 
 -- THE INDEX CALL, by what was read. The count has room.
-pub length-fits : (s t : List ℕ) → Table-here s t → (l : ℕ) → l ≡ length (index-of (table-in Flags s)) → l < 4294967296
+pub length-fits : (s t : List ℕ) → Table-here Flags s t → (l : ℕ) → l ≡ length (index-of (table-in Flags s)) → l < 4294967296
 length-fits s t here l is = let most = index-short s t here in omega (arith, most, is)
 
 module _ (s t room : List ℕ) (a : Answer) (l : ℕ) (long : l ≡ length (index-of (table-in Flags s))) where

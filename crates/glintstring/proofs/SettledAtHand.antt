@@ -47,7 +47,7 @@ module _ (s t u : List ℕ) (r : Passed) (settles : outcome r u ≡ noting (requ
     pub settled-held : request-in s u ≡ settled-got .0
     settled-held = plain-request s (λ i. bytes i .fits) u (settled-got .0) e (past .reads) noted
 
-    pub settled-table : Table-here s u
+    pub settled-table : Table-here Flags s u
     settled-table = plain-table s (λ i. bytes i .fits) u (settled-got .0) e (past .reads) noted
 
     pub settled-known : mode-in u ≡ 0

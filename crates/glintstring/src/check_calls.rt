@@ -10,6 +10,7 @@ use bytes::lists::Passed;
 use checking::check::check_derivation;
 use finding::branches::sequence_of;
 use meaning::Answer;
+use meaning::Form;
 use meaning::Layout;
 use reading::notes;
 use reading::notes::Notes;
@@ -33,7 +34,7 @@ fn check_at_hand(layout: Layout, request: &[u8], t: &Notes, derivation: &[u8]) -
     ensures { λ r. ⌜ r ≡ check-at-hand layout (request-in (now (request .entry)) (now (t .entry))) (now (derivation .entry)) ⌝ }
 {
     let goals = get(t, notes::GOALS);
-    let whether = sequence_of(request, goals);
+    let whether = sequence_of(Form::Flags, request, goals);
     let asked = wide(request[whether]);
     let refused = is_beyond(layout, asked);
     if refused {

@@ -18,6 +18,7 @@ use bytes::limits;
 use bytes::lists::Passed;
 use finding::branches::sequence_of;
 use meaning::Answer;
+use meaning::Form;
 use reading::notes;
 use reading::notes::Notes;
 use reading::notes::get;
@@ -88,7 +89,7 @@ fn derive_at_hand(request: &[u8], t: &mut Notes, room: &mut [u8], budget: u32) -
     ensures { λ r. ⌜ record { answer = r; room = now (room .exit) } ≡ derive-got format (now (room .entry)) budget (got (request-in (now (request .entry)) (now (t .entry))) 0) ⌝ }
 {
     let goals = get(t, notes::GOALS);
-    let whether = sequence_of(request, goals);
+    let whether = sequence_of(Form::Flags, request, goals);
     let asked = wide(request[whether]);
     if 0 < asked {
         return uncounted(answers::WHETHER_ASKED, answers::THE_REQUEST, whether);

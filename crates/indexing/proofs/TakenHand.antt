@@ -253,7 +253,7 @@ module _ (i : List ℕ) where
         ]
 
 -- THE NOTES with the index of the table that they hold.
-module _ (s t : List ℕ) (table : Table-here s t) (i : List ℕ) (is : i ≡ index-of (table-in Flags s)) where
+module _ (s t : List ℕ) (table : Table-here Flags s t) (i : List ℕ) (is : i ≡ index-of (table-in Flags s)) where
   abbrev u : List ℕ
   u = index-taken i 0 (table-in Flags s .actions) 0 0 0 t
 

@@ -39,7 +39,7 @@ pub record Agreeing (s t : List ℕ) (one other : State) (whole : Bool) (k : ℕ
   pub ahead : Runs-ahead s t k
   pub same : whole ≡ some-of (agreeing-at s one other) (ahead .rest)
 
-pub agreeing-starts : (s t : List ℕ) (a : ℕ) (one other : State) (k : ℕ) → Runs-here s t → a < format .actions → k ≡ first-line t run-lines a → Agreeing s t one other (agreeing-lines (table-in Flags s) a one other) k
+pub agreeing-starts : (s t : List ℕ) (a : ℕ) (one other : State) (k : ℕ) → Runs-here Flags s t → a < format .actions → k ≡ first-line t run-lines a → Agreeing s t one other (agreeing-lines (table-in Flags s) a one other) k
 unfolding agreeing-lines ahead-starts executability-of
 agreeing-starts s t a one other k here small at =
     record {

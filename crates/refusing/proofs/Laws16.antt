@@ -42,7 +42,7 @@ bucket-got s p x y ex ey = rw (ex, ey)
 
 -- ONE AGAINST ONE.
 -- A body is clear.
-body-clear : (s : List ℕ) (p : ℕ) → Effect-here s p → Clear format (listed s (p + 2))
+body-clear : (s : List ℕ) (p : ℕ) → Effect-here Flags s p → Clear format (listed s (p + 2))
 body-clear s p here = listed-clear s (p + 2) (here .body) (here .apart)
 
 -- A body is excluded exactly where its state rules out a literal of the other.
@@ -82,10 +82,10 @@ lines-agree t a b c clear-b clear-c =
 
 module _ (s : List ℕ) (p q : ℕ) where
   abbrev One : Effect
-  One = effect-from s p
+  One = effect-from Flags s p
 
   abbrev Other : Effect
-  Other = effect-from s q
+  Other = effect-from Flags s q
 
   -- Effects that clash share their bucket.
   bucket-same : contradictory (table-in Flags s) One Other ≡ true → bucket-at s q ≡ bucket-at s p
@@ -111,7 +111,7 @@ module _ (s : List ℕ) (p q : ℕ) where
   fluent-other h =
       apart (by-test _ (λ e. absurd (h (sym (ap fluent-of (eqb-true _ _ (both-left _ _ (both-right _ _ e))) ∙ fluent-complement (getD s (p + 1) 0))))) (λ e. e))
 
-  module _ (here : Effect-here s p) (there : Effect-here s q) (action-same : getD s p 0 ≡ getD s q 0) where
+  module _ (here : Effect-here Flags s p) (there : Effect-here Flags s q) (action-same : getD s p 0 ≡ getD s q 0) where
     clashing-is : getD s (p + 1) 0 / 2 ≡ getD s (q + 1) 0 / 2
         → clashing One Other ≡ both (fails (eqb (getD s (q + 1) 0) (getD s (p + 1) 0))) (each-of (possible (state-of format (listed s (p + 2)))) (listed s (q + 2)))
     unfolding clashing effect-from fluent-of both
@@ -143,14 +143,14 @@ module _ (s : List ℕ) (p q : ℕ) where
 -- THE CHAIN. Effects between two numbers are skipped where none of them is in the bucket.
 module _ (s t : List ℕ) (p : ℕ) where
   effects-skip : (k j : ℕ) → j ≤ k → ((m : ℕ) → j < m → m ≤ k → bucket-at s (place-in t m) ≡ bucket-at s p → ⊥)
-      → some-of (contradictory (table-in Flags s) (effect-from s p)) (effects-before s t k) ≡ some-of (contradictory (table-in Flags s) (effect-from s p)) (effects-before s t j)
+      → some-of (contradictory (table-in Flags s) (effect-from Flags s p)) (effects-before s t k) ≡ some-of (contradictory (table-in Flags s) (effect-from Flags s p)) (effects-before s t j)
   unfolding effects-before some-of either
   effects-skip zero j h none = let e : j ≡ zero = omega arith in rw e
   effects-skip (suc k) j h none =
       elim (ℕ-discrete j (suc k)) [
         | yes e ↦ rw e
         | no d ↦
-            let apart : contradictory (table-in Flags s) (effect-from s p) (effect-from s (place-in t (k + 1))) ≡ false = by-test _ (λ e. absurd (none (k + 1) (omega arith) (omega arith) (bucket-same s p (place-in t (k + 1)) e))) (λ e. e) in
+            let apart : contradictory (table-in Flags s) (effect-from Flags s p) (effect-from Flags s (place-in t (k + 1))) ≡ false = by-test _ (λ e. absurd (none (k + 1) (omega arith) (omega arith) (bucket-same s p (place-in t (k + 1)) e))) (λ e. e) in
             rw apart (effects-skip k j (omega arith) (λ m lo hi. none m lo (omega arith)))
       ]
 
@@ -159,16 +159,16 @@ module _ (s t : List ℕ) (k : ℕ) where
   New = place-in t (k + 1)
 
   abbrev Among : ℕ → Bool
-  Among j = some-of (contradictory (table-in Flags s) (effect-from s New)) (effects-before s t j)
+  Among j = some-of (contradictory (table-in Flags s) (effect-from Flags s New)) (effects-before s t j)
 
-  among-first : (j : ℕ) → 0 < j → Among j ≡ either (contradictory (table-in Flags s) (effect-from s New) (effect-from s (place-in t j))) (Among (j - 1))
+  among-first : (j : ℕ) → 0 < j → Among j ≡ either (contradictory (table-in Flags s) (effect-from Flags s New) (effect-from Flags s (place-in t j))) (Among (j - 1))
   unfolding effects-before some-of
   among-first zero h = absurd (omega arith)
   among-first (suc j) h =
       let up : j + 1 ≡ suc j = omega arith in
       let down : j ≡ suc j - 1 = omega arith in
-      ap (λ (i : ℕ). either (contradictory (table-in Flags s) (effect-from s New) (effect-from s (place-in t i))) (Among j)) up
-      ∙ ap (λ (i : ℕ). either (contradictory (table-in Flags s) (effect-from s New) (effect-from s (place-in t (suc j)))) (Among i)) down
+      ap (λ (i : ℕ). either (contradictory (table-in Flags s) (effect-from Flags s New) (effect-from Flags s (place-in t i))) (Among j)) up
+      ∙ ap (λ (i : ℕ). either (contradictory (table-in Flags s) (effect-from Flags s New) (effect-from Flags s (place-in t (suc j)))) (Among i)) down
 
   among-none : (j : ℕ) → j ≤ 0 → Among j ≡ false
   unfolding effects-before some-of
@@ -184,13 +184,13 @@ bucket-most : (s : List ℕ) (p bucket : ℕ) → bucket ≡ bucket-at s p → b
 unfolding bucket-at
 bucket-most s p bucket e = omega (arith, e)
 
-module _ (s t same : List ℕ) (k : ℕ) (here : Effects-here s t (k + 1)) (linked : Linked s t same k) where
-  new-here : Effect-here s (New s t k)
+module _ (s t same : List ℕ) (k : ℕ) (here : Effects-here Flags s t (k + 1)) (linked : Linked s t same k) where
+  new-here : Effect-here Flags s (New s t k)
   new-here = here .line k (omega arith)
 
   module _ (p : ℕ) (at : p ≡ New s t k) where
-    pub new-fit : Effect-here s p
-    new-fit = subst (Effect-here s) (sym at) new-here
+    pub new-fit : Effect-here Flags s p
+    new-fit = subst (Effect-here Flags s) (sym at) new-here
 
     pub body-here : List-here all-literals s (p + 2)
     body-here = new-fit .body
@@ -212,7 +212,7 @@ module _ (s t same : List ℕ) (k : ℕ) (here : Effects-here s t (k + 1)) (link
         pub sought-starts : Sought s t k j
         sought-starts = record { most = last-is .most; has = last-is .has; rest = effects-skip s t (New s t k) k j (last-is .most) (last-is .none) }
 
-        pub none-sought : j ≡ 0 → false ≡ some-of (contradictory (table-in Flags s) (effect-from s (place-in t (k + 1)))) (effects-before s t k)
+        pub none-sought : j ≡ 0 → false ≡ some-of (contradictory (table-in Flags s) (effect-from Flags s (place-in t (k + 1)))) (effects-before s t k)
         none-sought e = sym (sought-starts .rest ∙ among-none s t k j (omega arith))
 
   module _ (j : ℕ) (sought : Sought s t k j) where
@@ -222,7 +222,7 @@ module _ (s t same : List ℕ) (k : ℕ) (here : Effects-here s t (k + 1)) (link
     pub sought-there : k < 255 → j < linked-slots
     sought-there h = let most = sought .most in omega arith
 
-    pub sought-done : j ≤ 0 → false ≡ some-of (contradictory (table-in Flags s) (effect-from s (place-in t (k + 1)))) (effects-before s t k)
+    pub sought-done : j ≤ 0 → false ≡ some-of (contradictory (table-in Flags s) (effect-from Flags s (place-in t (k + 1)))) (effects-before s t k)
     sought-done h = sym (sought .rest ∙ among-none s t k j h)
 
     module _ (more : 0 < j) where
@@ -239,17 +239,17 @@ module _ (s t same : List ℕ) (k : ℕ) (here : Effects-here s t (k + 1)) (link
       sought-less i e = let most = before-is .most in omega arith
 
       module _ (q : ℕ) (at : q ≡ place-in t j) where
-        pub sought-fit : Effect-here s q
-        sought-fit = subst (Effect-here s) (ap (place-in t) up ∙ sym at) (here .line (j - 1) (let less = below in omega arith))
+        pub sought-fit : Effect-here Flags s q
+        sought-fit = subst (Effect-here Flags s) (ap (place-in t) up ∙ sym at) (here .line (j - 1) (let less = below in omega arith))
 
-        module _ (p : ℕ) (met : Bool) (new : p ≡ place-in t (k + 1)) (tested : met ≡ contradictory (table-in Flags s) (effect-from s p) (effect-from s q)) where
-          met-is : contradictory (table-in Flags s) (effect-from s (New s t k)) (effect-from s (place-in t j)) ≡ met
+        module _ (p : ℕ) (met : Bool) (new : p ≡ place-in t (k + 1)) (tested : met ≡ contradictory (table-in Flags s) (effect-from Flags s p) (effect-from Flags s q)) where
+          met-is : contradictory (table-in Flags s) (effect-from Flags s (New s t k)) (effect-from Flags s (place-in t j)) ≡ met
           met-is = rw (sym new, sym at) (sym tested)
 
           rest-is : Among s t k k ≡ either met (Among s t k (j - 1))
           rest-is = sought .rest ∙ among-first s t k j more ∙ ap (λ (b : Bool). either b (Among s t k (j - 1))) met-is
 
-          pub sought-met : met ≡ true → true ≡ some-of (contradictory (table-in Flags s) (effect-from s (place-in t (k + 1)))) (effects-before s t k)
+          pub sought-met : met ≡ true → true ≡ some-of (contradictory (table-in Flags s) (effect-from Flags s (place-in t (k + 1)))) (effects-before s t k)
           unfolding either
           sought-met e = sym (rest-is ∙ ap (λ (b : Bool). either b (Among s t k (j - 1))) e)
 
@@ -323,21 +323,21 @@ module _ (s t same : List ℕ) (k bucket : ℕ) (room : k < 255) (below : bucket
   linked-after = record { sized = after-sized; line = after-line; last = after-bucket }
 
 -- THE LOOP over the effects.
-pub effects-start : (s t : List ℕ) (count : ℕ) → first-against (contradictory (table-in Flags s)) [] (effects-in s t 0 count) ≡ first-against (contradictory (table-in Flags s)) (effects-before s t 0) (effects-in s t 0 (count - 0))
+pub effects-start : (s t : List ℕ) (count : ℕ) → first-against (contradictory (table-in Flags s)) [] (effects-in Flags s t 0 count) ≡ first-against (contradictory (table-in Flags s)) (effects-before s t 0) (effects-in Flags s t 0 (count - 0))
 unfolding effects-before
 effects-start s t count = let same : count - 0 ≡ count = omega arith in rw same
 
-before-next : (s t : List ℕ) (k : ℕ) → effects-before s t (k + 1) ≡ effect-from s (place-in t (k + 1)) ∷ effects-before s t k
+before-next : (s t : List ℕ) (k : ℕ) → effects-before s t (k + 1) ≡ effect-from Flags s (place-in t (k + 1)) ∷ effects-before s t k
 unfolding effects-before
 before-next s t k = ap (effects-before s t) (add-one k)
 
-module _ (s t : List ℕ) (count k : ℕ) (most : count ≤ 255) (here : Effects-here s t count) (more : k < count) where
-  pub here-first : Effects-here s t (k + 1)
+module _ (s t : List ℕ) (count k : ℕ) (most : count ≤ 255) (here : Effects-here Flags s t count) (more : k < count) where
+  pub here-first : Effects-here Flags s t (k + 1)
   here-first = record { line = λ i h. here .line i (omega arith) }
 
   module _ (p : ℕ) (at : p ≡ place-in t (k + 1)) where
-    pub line-here : Effect-here s p
-    line-here = subst (Effect-here s) (sym at) (here .line k more)
+    pub line-here : Effect-here Flags s p
+    line-here = subst (Effect-here Flags s) (sym at) (here .line k more)
 
     module _ (bucket : ℕ) (placed : bucket ≡ bucket-at s p) where
       pub line-bucket : bucket < buckets
@@ -346,9 +346,9 @@ module _ (s t : List ℕ) (count k : ℕ) (most : count ≤ 255) (here : Effects
       pub linked-next : (same same′ : List ℕ) → Linked s t same k → same′ ≡ bucket-linked bucket (k + 1) same → Linked s t same′ (k + 1)
       linked-next same same′ linked e = subst (λ (x : List ℕ). Linked s t x (k + 1)) (sym e) (linked-after s t same k bucket (omega arith) line-bucket linked (placed ∙ ap (bucket-at s) at))
 
-  module _ (whole : Refusals.Found) (so-far : whole ≡ first-against (contradictory (table-in Flags s)) (effects-before s t k) (effects-in s t k (count - k))) (met : Bool)
-      (tested : met ≡ some-of (contradictory (table-in Flags s) (effect-from s (place-in t (k + 1)))) (effects-before s t k)) where
-    first-is : whole ≡ pick met (λ _. Refusals.Found.at (place-in t (k + 1))) (λ _. first-against (contradictory (table-in Flags s)) (effects-before s t (k + 1)) (effects-in s t (k + 1) (count - (k + 1))))
+  module _ (whole : Refusals.Found) (so-far : whole ≡ first-against (contradictory (table-in Flags s)) (effects-before s t k) (effects-in Flags s t k (count - k))) (met : Bool)
+      (tested : met ≡ some-of (contradictory (table-in Flags s) (effect-from Flags s (place-in t (k + 1)))) (effects-before s t k)) where
+    first-is : whole ≡ pick met (λ _. Refusals.Found.at (place-in t (k + 1))) (λ _. first-against (contradictory (table-in Flags s)) (effects-before s t (k + 1)) (effects-in Flags s t (k + 1) (count - (k + 1))))
     unfolding first-against effects-in effect-from
     first-is =
         let left : count - k ≡ suc (count - (k + 1)) = omega arith in
@@ -358,9 +358,9 @@ module _ (s t : List ℕ) (count k : ℕ) (most : count ≤ 255) (here : Effects
     unfolding found
     effects-met p at e = sym (ap found (first-is ∙ pick-true _ _ _ e) ∙ ap At (sym at))
 
-    pub effects-next : met ≡ false → whole ≡ first-against (contradictory (table-in Flags s)) (effects-before s t (k + 1)) (effects-in s t (k + 1) (count - (k + 1)))
+    pub effects-next : met ≡ false → whole ≡ first-against (contradictory (table-in Flags s)) (effects-before s t (k + 1)) (effects-in Flags s t (k + 1) (count - (k + 1)))
     effects-next e = first-is ∙ pick-false _ _ _ e
 
-pub effects-done : (s t : List ℕ) (count k : ℕ) (whole : Refusals.Found) → count ≤ k → whole ≡ first-against (contradictory (table-in Flags s)) (effects-before s t k) (effects-in s t k (count - k)) → Nowhere ≡ found whole
+pub effects-done : (s t : List ℕ) (count k : ℕ) (whole : Refusals.Found) → count ≤ k → whole ≡ first-against (contradictory (table-in Flags s)) (effects-before s t k) (effects-in Flags s t k (count - k)) → Nowhere ≡ found whole
 unfolding first-against effects-in found
 effects-done s t count k whole h so-far = let none : count - k ≡ zero = omega arith in let is : whole ≡ Refusals.Found.nowhere = so-far ∙ rw none in sym (ap found is)

@@ -19,44 +19,45 @@ use Rattle.finding.specs.Places.{found}
 use Rattle.finding.specs.Branches.{place-after, item-after, conditions-from, Branches-here, Item-here}
 use Rattle.refusing.specs.Refusal18.{rules-out, all-apart, item-apart, first-overlap}
 use Rattle.finding.proofs.ByBranch.{conditions-first, conditions-done}
+use Rattle.meaning.specs.declared.Form.the-variants.{Flags}
 
 -- ONE STATE against the conditions.
-module _ (whole : Bool) (s t : List ℕ) (held : State) (left p i : ℕ) (so-far : whole ≡ each-of (rules-out held) (conditions-from s t left p i)) where
+module _ (whole : Bool) (s t : List ℕ) (held : State) (left p i : ℕ) (so-far : whole ≡ each-of (rules-out held) (conditions-from Flags s t left p i)) where
   module _ (more : 0 < left) (b : Bool) (tested : b ≡ each-of (holds-as Possible held) (listed s p)) where
-    out-first : whole ≡ both (fails b) (each-of (rules-out held) (conditions-from s t (left - 1) (place-after s t p i) (item-after s t p i)))
+    out-first : whole ≡ both (fails b) (each-of (rules-out held) (conditions-from Flags s t (left - 1) (place-after Flags s t p i) (item-after Flags s t p i)))
     unfolding each-of rules-out
-    out-first = so-far ∙ rw (conditions-first s t left p i more, tested)
+    out-first = so-far ∙ rw (conditions-first Flags s t left p i more, tested)
 
     pub out-not : b ≡ true → false ≡ whole
     unfolding both fails
     out-not e = sym (out-first ∙ rw e)
 
-    pub out-next : b ≡ false → (q j : ℕ) → q ≡ place-after s t p i → j ≡ item-after s t p i → whole ≡ each-of (rules-out held) (conditions-from s t (left - 1) q j)
+    pub out-next : b ≡ false → (q j : ℕ) → q ≡ place-after Flags s t p i → j ≡ item-after Flags s t p i → whole ≡ each-of (rules-out held) (conditions-from Flags s t (left - 1) q j)
     unfolding both fails
     out-next e q j f g = out-first ∙ rw (e, f, g)
 
   pub out-done : left ≤ 0 → true ≡ whole
   unfolding each-of
-  out-done h = sym (so-far ∙ rw (conditions-done s t left p i h))
+  out-done h = sym (so-far ∙ rw (conditions-done Flags s t left p i h))
 
 -- EVERY TWO conditions.
-module _ (whole : Bool) (s t : List ℕ) (left p i : ℕ) (so-far : whole ≡ all-apart (conditions-from s t left p i)) where
-  module _ (more : 0 < left) (held : State) (q j : ℕ) (b : Bool) (told : held ≡ state-of format (listed s p)) (placed : q ≡ place-after s t p i) (counted : j ≡ item-after s t p i) (tested : b ≡ each-of (rules-out held) (conditions-from s t (left - 1) q j)) where
-    apart-first : whole ≡ both b (all-apart (conditions-from s t (left - 1) q j))
+module _ (whole : Bool) (s t : List ℕ) (left p i : ℕ) (so-far : whole ≡ all-apart (conditions-from Flags s t left p i)) where
+  module _ (more : 0 < left) (held : State) (q j : ℕ) (b : Bool) (told : held ≡ state-of format (listed s p)) (placed : q ≡ place-after Flags s t p i) (counted : j ≡ item-after Flags s t p i) (tested : b ≡ each-of (rules-out held) (conditions-from Flags s t (left - 1) q j)) where
+    apart-first : whole ≡ both b (all-apart (conditions-from Flags s t (left - 1) q j))
     unfolding all-apart
-    apart-first = so-far ∙ rw (conditions-first s t left p i more, tested, told, placed, counted)
+    apart-first = so-far ∙ rw (conditions-first Flags s t left p i more, tested, told, placed, counted)
 
     pub apart-not : b ≡ false → false ≡ whole
     unfolding both
     apart-not e = sym (apart-first ∙ rw e)
 
-    pub apart-next : b ≡ true → whole ≡ all-apart (conditions-from s t (left - 1) q j)
+    pub apart-next : b ≡ true → whole ≡ all-apart (conditions-from Flags s t (left - 1) q j)
     unfolding both
     apart-next e = apart-first ∙ rw e
 
   pub apart-done : left ≤ 0 → true ≡ whole
   unfolding all-apart
-  apart-done h = sym (so-far ∙ rw (conditions-done s t left p i h))
+  apart-done h = sym (so-far ∙ rw (conditions-done Flags s t left p i h))
 
 -- ONE ITEM.
 module _ (s t : List ℕ) (i p : ℕ) where
@@ -65,15 +66,15 @@ module _ (s t : List ℕ) (i p : ℕ) where
   item-other h = sym (pick-false _ _ _ (ne-eqb (getD s p 0) 255 h))
 
   module _ (is : getD s p 0 ≡ 255) where
-    pub item-branching : (r : Bool) (x : ℕ) → x ≡ getD s (p + 1) 0 → r ≡ all-apart (conditions-from s t x (p + 2) (i + 1)) → r ≡ item-apart s t i p
+    pub item-branching : (r : Bool) (x : ℕ) → x ≡ getD s (p + 1) 0 → r ≡ all-apart (conditions-from Flags s t x (p + 2) (i + 1)) → r ≡ item-apart s t i p
     unfolding item-apart
     item-branching r x e f = f ∙ rw e (sym (pick-true _ _ _ (eq-eqb (getD s p 0) 255 is)))
 
-    module _ (here : Item-here s t i p) where
+    module _ (here : Item-here Flags s t i p) where
       pub second-here : p + 1 < length s
       second-here = here .branches is .counted
 
-      pub item-branches : (x : ℕ) → x ≡ getD s (p + 1) 0 → Branches-here s t x (p + 2) (i + 1)
+      pub item-branches : (x : ℕ) → x ≡ getD s (p + 1) 0 → Branches-here Flags s t x (p + 2) (i + 1)
       item-branches x e = rw e (here .branches is .branches)
 
 -- THE ITEMS.

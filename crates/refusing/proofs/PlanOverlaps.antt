@@ -51,10 +51,10 @@ apart-is (c ∷ cs) clear =
     let first : rules-out (state-of format c) ≡ exclusive c = fun-ext (λ (d : List ℕ). out-is c (clear c (inl refl)) d ∙ exclusive-sym d c) in
     rw (first, apart-is cs (λ d h. clear d (inr h)))
 
-written-clear : (s : List ℕ) (p : ℕ) (c : List ℕ) (b : Sequence ℕ) → Branch-written s p c b → Clear format c
+written-clear : (s : List ℕ) (p : ℕ) (c : List ℕ) (b : Sequence ℕ) → Branch-written Flags s p c b → Clear format c
 written-clear s p c b w = clear-of c (λ l h. listed-below s all-literals p (w .here) l (rw (w .condition) h)) (w .clear)
 
-conditions-clear : (s : List ℕ) (p : ℕ) (bs : Branches ℕ) → Branches-written s p bs → (c : List ℕ) → Has (conditions-of bs) c → Clear format c
+conditions-clear : (s : List ℕ) (p : ℕ) (bs : Branches ℕ) → Branches-written Flags s p bs → (c : List ℕ) → Has (conditions-of bs) c → Clear format c
 unfolding Branches-written conditions-of
 conditions-clear s p none w c h = absurd h
 conditions-clear s p (branch d b rest) w c (inl e) = rw e (written-clear s p d b (w .0))
@@ -72,16 +72,16 @@ module _ (s t : List ℕ) where
   or-else-pick true f p k = refl
   or-else-pick false f p k = refl
 
-  branching-apart : (met p : ℕ) (bs : Branches ℕ) → Opened s p bs → Branches-written s (p + 2) bs → Branches-kept t (met + 1) (p + 2) bs → item-apart s t met p ≡ all-exclusive (conditions-of bs)
+  branching-apart : (met p : ℕ) (bs : Branches ℕ) → Opened s p bs → Branches-written Flags s (p + 2) bs → Branches-kept Flags t (met + 1) (p + 2) bs → item-apart s t met p ≡ all-exclusive (conditions-of bs)
   unfolding item-apart
   branching-apart met p bs o w k =
       pick-true _ _ _ (eq-eqb (getD s p 0) 255 (o .byte))
-      ∙ rw (o .count, conditions-are s t (met + 1) (p + 2) bs w k) (apart-is (conditions-of bs) (conditions-clear s (p + 2) bs w))
+      ∙ rw (o .count, conditions-are Flags s t (met + 1) (p + 2) bs w k) (apart-is (conditions-of bs) (conditions-clear s (p + 2) bs w))
 
   mutual
     unfolding items-of Written Kept failing-in or-else items-in Item-written Item-kept failing-at items-under Branches-written Branches-kept failing-below
 
-    sequence-first : (b : Sequence ℕ) (met k : ℕ) → Written s b → Kept t met b → first-overlap s t (items-of b + k) met ≡ or-else (overlap-in b) (λ _. first-overlap s t k (met + items-of b))
+    sequence-first : (b : Sequence ℕ) (met k : ℕ) → Written Flags s b → Kept Flags t met b → first-overlap s t (items-of b + k) met ≡ or-else (overlap-in b) (λ _. first-overlap s t k (met + items-of b))
     sequence-first done met k w h = let none : 0 + k ≡ k = omega arith in let here : met + 0 ≡ met = omega arith in rw (none, here)
     sequence-first (item i rest) met k w h =
         let parts : items-in i + items-of rest + k ≡ items-in i + (items-of rest + k) = omega arith in
@@ -92,7 +92,7 @@ module _ (s t : List ℕ) where
         ∙ or-else-twice (overlap-at i) (overlap-in rest) (λ _. first-overlap s t k (met + items-in i + items-of rest))
         ∙ ap (λ (n : ℕ). or-else (or-else (overlap-at i) (λ _. overlap-in rest)) (λ _. first-overlap s t k n)) (sym on)
 
-    item-first : (i : Item ℕ) (met k : ℕ) → Item-written s i → Item-kept t met i → first-overlap s t (items-in i + k) met ≡ or-else (overlap-at i) (λ _. first-overlap s t k (met + items-in i))
+    item-first : (i : Item ℕ) (met k : ℕ) → Item-written Flags s i → Item-kept Flags t met i → first-overlap s t (items-in i + k) met ≡ or-else (overlap-at i) (λ _. first-overlap s t k (met + items-in i))
     item-first (act p a) met k w h =
         let left : 1 + k - 1 ≡ k = omega arith in
         let byte = w .byte in let below = w .below in
@@ -106,7 +106,7 @@ module _ (s t : List ℕ) where
         ∙ rw (h .0, left, branching-apart met p bs (w .0) (w .1) (h .1), branches-first bs (met + 1) (p + 2) k (w .1) (h .1), on)
         (or-else-pick (all-exclusive (conditions-of bs)) (overlap-below bs) p (λ _. first-overlap s t k (met + (1 + items-under bs))))
 
-    branches-first : (bs : Branches ℕ) (met p k : ℕ) → Branches-written s p bs → Branches-kept t met p bs → first-overlap s t (items-under bs + k) met ≡ or-else (overlap-below bs) (λ _. first-overlap s t k (met + items-under bs))
+    branches-first : (bs : Branches ℕ) (met p k : ℕ) → Branches-written Flags s p bs → Branches-kept Flags t met p bs → first-overlap s t (items-under bs + k) met ≡ or-else (overlap-below bs) (λ _. first-overlap s t k (met + items-under bs))
     branches-first none met p k w h = let none : 0 + k ≡ k = omega arith in let here : met + 0 ≡ met = omega arith in rw (none, here)
     branches-first (branch c b rest) met p k w h =
         let parts : items-of b + items-under rest + k ≡ items-of b + (items-under rest + k) = omega arith in
@@ -122,7 +122,7 @@ module _ (s t : List ℕ) where
   or-else-none nowhere = refl
   or-else-none (at p) = refl
 
-  pub plan-overlap : (b : Sequence ℕ) (count : ℕ) → Plan-held s t b → items-of b ≡ count → first-overlap s t count 0 ≡ overlap-in b
+  pub plan-overlap : (b : Sequence ℕ) (count : ℕ) → Plan-held Flags s t b → items-of b ≡ count → first-overlap s t count 0 ≡ overlap-in b
   unfolding first-overlap
   plan-overlap b count held is =
       let all : count ≡ items-of b + 0 = omega (arith, is) in
@@ -138,4 +138,4 @@ module _ (n m : ℕ) (s : List ℕ) (small : n ≤ format .fluents) (few : m ≤
   overlap-left f all x q read =
       let w = met-value (plan-noted Flags p t) (plan-at format Flags n m s p) r u count e left is in
       let same : with-items (w .0) count ≡ x = got-same (sym (w .1) ∙ read) in
-      subst (λ (y : Met (Sequence ℕ)). f ≡ found (overlap-in (y .value))) same (all .holds (w .0) (subst (λ (v : List ℕ). Plan-held s v (w .0)) (sym (w .2)) (plan-held n m s small few p t (with-items (w .0) count) e room (w .1))) (plan-items n m s small few p t (with-items (w .0) count) e room (w .1)))
+      subst (λ (y : Met (Sequence ℕ)). f ≡ found (overlap-in (y .value))) same (all .holds (w .0) (subst (λ (v : List ℕ). Plan-held Flags s v (w .0)) (sym (w .2)) (plan-held Flags n m s small few p t (with-items (w .0) count) e room (w .1))) (plan-items Flags n m s small few p t (with-items (w .0) count) e room (w .1)))

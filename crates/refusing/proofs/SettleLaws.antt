@@ -49,8 +49,8 @@ module _ {B : Type 0} (x : Table) (e : ℕ) (k : Got B) where
   behind-table = behind (contradiction-in x) (mixed-in (x .effects) (x .knowledge))
 
 -- THE TABLE, whatever plan the notes hold.
-module _ (s t : List ℕ) (here : Table-here s t) where
-  whole : Table-parts s (table-in Flags s) (here .table-end)
+module _ (s t : List ℕ) (here : Table-here Flags s t) where
+  whole : Table-parts Flags s (table-in Flags s) (here .table-end)
   whole = whole-table s t here
 
   -- 16.
@@ -61,13 +61,13 @@ module _ (s t : List ℕ) (here : Table-here s t) where
     pub few-16 : count ≤ 255
     few-16 = let few = effects-few s (here .bytes) (table-in Flags s) (here .table-end) whole in let c = count-16 in omega arith
 
-    pub stand-16 : Effects-here s t count
+    pub stand-16 : Effects-here Flags s t count
     stand-16 = rw count-16 (effects-stand s (here .bytes) (table-in Flags s) (here .table-end) whole t (here .noted))
 
-    pub runs-16 : Runs-here s t
+    pub runs-16 : Runs-here Flags s t
     runs-16 = runs-here s t here
 
-    module _ (f : Found) (answer : f ≡ found (first-against (contradictory (table-in Flags s)) [] (effects-in s t 0 count))) where
+    module _ (f : Found) (answer : f ≡ found (first-against (contradictory (table-in Flags s)) [] (effects-in Flags s t 0 count))) where
       abbrev sought : List Effect → Found
       sought es = found (first-against (contradictory (table-in Flags s)) [] es)
 
@@ -75,7 +75,7 @@ module _ (s t : List ℕ) (here : Table-here s t) where
       unfolding contradiction-in
       sought-16 =
           answer
-          ∙ ap (λ (n : ℕ). sought (effects-in s t 0 n)) count-16
+          ∙ ap (λ (n : ℕ). sought (effects-in Flags s t 0 n)) count-16
           ∙ ap sought (effects-are s (here .bytes) (table-in Flags s) (here .table-end) whole t (here .noted))
 
       pub at-16 : (e p : ℕ) → f ≡ At p → Stop 16 p ≡ passed (table-settled (table-in Flags s) e)
@@ -93,7 +93,7 @@ module _ (s t : List ℕ) (here : Table-here s t) where
 
     lines-17 : (knowledge-in s (e - 2 * count) 0 count ≡ table-in Flags s .knowledge) × Knowledge-here s (e - 2 * count) count × (2 * count ≤ e)
     lines-17 =
-        let at-end = table-parts s (table-in Flags s) e ends in
+        let at-end = table-parts Flags s (table-in Flags s) e ends in
         rw count-17 (knowledge-stands (table-in Flags s .fluents) (table-in Flags s .actions) s (at-end .less) (at-end .runs-end) (table-in Flags s .knowledge) e (at-end .knowledge-read))
 
     pub bytes-17 : 2 * count ≤ e
@@ -121,7 +121,7 @@ module _ (s t : List ℕ) (here : Table-here s t) where
       none-17 g = rw (found-none (mixed-in (table-in Flags s .effects) (table-in Flags s .knowledge)) f sought-17 g)
 
 -- A REQUEST that was read: its table is there, and its plan behind it.
-module _ (s : List ℕ) (bytes : (i : ℕ) → Fits w8 (getD s i 0)) (t : List ℕ) (here : Read-here s t) where
+module _ (s : List ℕ) (bytes : (i : ℕ) → Fits w8 (getD s i 0)) (t : List ℕ) (here : Read-here Flags s t) where
   abbrev small : (i : ℕ) → getD s i 0 < 256
   small i = bytes i .fits
 
@@ -135,7 +135,7 @@ module _ (s : List ℕ) (bytes : (i : ℕ) → Fits w8 (getD s i 0)) (t : List �
   abbrev there : Parts Flags s x (here .end)
   there = read-parts s small t here
 
-  comes : Table-here s u
+  comes : Table-here Flags s u
   comes = read-comes s small t here
 
   same-table : table-in Flags s ≡ x .table
@@ -147,10 +147,10 @@ module _ (s : List ℕ) (bytes : (i : ℕ) → Fits w8 (getD s i 0)) (t : List �
   tail-is : t ≡ tail-with Flags (here .guards) x u
   tail-is = read-noted s small t here
 
-  pub table-read-here : Table-here s t
-  table-read-here = subst (Table-here s) (sym tail-is) (table-stays s u comes (here .guards) (there .place) x (here .end) tail)
+  pub table-read-here : Table-here Flags s t
+  table-read-here = subst (Table-here Flags s) (sym tail-is) (table-stays s u comes (here .guards) (there .place) x (here .end) tail)
 
-  whole-here : Table-parts s (table-in Flags s) (comes .table-end)
+  whole-here : Table-parts Flags s (table-in Flags s) (comes .table-end)
   whole-here = whole-table s u comes
 
   slot-is : (j count : ℕ) → count ≡ getD t j 0 → count ≡ getD (tail-with Flags (here .guards) x u) j 0
@@ -161,7 +161,7 @@ module _ (s : List ℕ) (bytes : (i : ℕ) → Fits w8 (getD s i 0)) (t : List �
     pub table-ends : table-at format Flags s 0 ≡ got (table-in Flags s) plan
     table-ends =
         let place = there .place in
-        let stands : plan-place Flags x ≡ place = request-parts s (table-in Flags s) place x (here .end) tail .placed in
+        let stands : plan-place Flags x ≡ place = request-parts Flags s (table-in Flags s) place x (here .end) tail .placed in
         let at : plan ≡ place = slot-is plan-slot plan is ∙ plan-noted-at s (table-in Flags s) (whole-here .few) (whole-here .less) place x (here .end) tail u (here .guards) (comes .sized) ∙ stands in
         rw (same-table, at) (there .table-read)
 
@@ -184,12 +184,12 @@ module _ (s : List ℕ) (bytes : (i : ℕ) → Fits w8 (getD s i 0)) (t : List �
     count-18 : items-of (x .plan) ≡ count
     count-18 = sym (slot-is items-slot count is ∙ items-noted s (table-in Flags s) (whole-here .few) (whole-here .less) (there .place) x (here .end) tail u (here .guards) (comes .sized))
 
-    held-18 : Plan-held s t (x .plan)
+    held-18 : Plan-held Flags s t (x .plan)
     held-18 =
-        subst (λ (v : List ℕ). Plan-held s v (x .plan)) (sym tail-is)
+        subst (λ (v : List ℕ). Plan-held Flags s v (x .plan)) (sym tail-is)
         (tail-held s (table-in Flags s) (whole-here .few) (whole-here .less) (there .place) x (here .end) tail u (here .guards) (comes .sized))
 
-    pub stand-18 : Some-plan s t count
+    pub stand-18 : Some-plan Flags s t count
     stand-18 = record { plan = x .plan; held = held-18; items = count-18 }
 
     module _ (f : Found) (answer : Overlap-found s t count f) (e : ℕ) where
@@ -238,8 +238,8 @@ module _ (s t u : List ℕ) (empty : t ≡ blank) (all : Passed) (read : outcome
     read-got : (x : Request) × (read-request format Flags s ≡ got x e) × (u ≡ request-noted Flags x t)
     read-got = noting-got (request-noted Flags) (read-request format Flags s) all t u read e is
 
-    pub settle-here : Read-here s u
-    settle-here = plain-here s u (read-got .0) e (read-got .1) (read-got .2 ∙ ap (request-noted Flags (read-got .0)) empty)
+    pub settle-here : Read-here Flags s u
+    settle-here = plain-here Flags s u (read-got .0) e (read-got .1) (read-got .2 ∙ ap (request-noted Flags (read-got .0)) empty)
 
     pub settle-there : (r : Passed) → r ≡ passed (past-all s e) → outcome r u ≡ noting (request-noted Flags) (settled format s) t
     unfolding settled
@@ -255,7 +255,7 @@ module _ (s t u : List ℕ) (empty : t ≡ blank) (all : Passed) (read : outcome
     guarded-got : (g : Guarded-request) × (read-guarded format s ≡ got g e) × (u ≡ guarded-noted g t)
     guarded-got = noting-got guarded-noted (read-guarded format s) all t u read e is
 
-    pub guarded-stands : Read-here s u
+    pub guarded-stands : Read-here Flags s u
     guarded-stands = guarded-here s u (guarded-got .0) e (guarded-got .1) (guarded-got .2 ∙ ap (guarded-noted (guarded-got .0)) empty)
 
     pub guarded-there : (r : Passed) → r ≡ passed (past-all s e) → outcome r u ≡ noting guarded-noted (settled-guarded format s) t

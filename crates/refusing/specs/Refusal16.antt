@@ -11,11 +11,12 @@ use Rattle.meaning.specs.Lines.{executability-of}
 use Rattle.meaning.specs.States.{State, possible}
 use Rattle.reading.specs.Noted.{line-numbers}
 use Rattle.finding.specs.LinesHere.{effect-from, place-in}
+use Rattle.meaning.specs.declared.Form.the-variants.{Flags}
 
 -- The first k effects, the last of them first.
 unfoldable pub effects-before : List ℕ → List ℕ → ℕ → List Effect
 effects-before s t zero = []
-effects-before s t (suc k) = effect-from s (place-in t (k + 1)) ∷ effects-before s t k
+effects-before s t (suc k) = effect-from Flags s (place-in t (k + 1)) ∷ effects-before s t k
 
 -- The body is possible in both states, and some executability line of the action has such a body.
 unfoldable pub agreeing : (one other : State) → (body : List ℕ) → Bool

@@ -18,6 +18,7 @@ use Rattle.finding.specs.Places.{found}
 use Rattle.finding.specs.declared.places.Found as Code
 use Rattle.finding.specs.Branches.{conditions-from}
 use Rattle.finding.specs.PlansHeld.{Plan-held}
+use Rattle.meaning.specs.declared.Form.the-variants.{Flags}
 
 -- The state rules out the condition.
 unfoldable pub rules-out : State → List ℕ → Bool
@@ -30,7 +31,7 @@ all-apart (c ∷ cs) = both (each-of (rules-out (state-of format c)) cs) (all-ap
 
 -- Item i, at p: a branching's conditions are apart.
 unfoldable pub item-apart : (s t : List ℕ) (i p : ℕ) → Bool
-item-apart s t i p = pick (eqb (getD s p 0) 255) (λ _. all-apart (conditions-from s t (getD s (p + 1) 0) (p + 2) (i + 1))) (λ _. true)
+item-apart s t i p = pick (eqb (getD s p 0) 255) (λ _. all-apart (conditions-from Flags s t (getD s (p + 1) 0) (p + 2) (i + 1))) (λ _. true)
 
 -- The first of a given number of items from item i on that is a branching with conditions that are not apart.
 unfoldable pub first-overlap : (s t : List ℕ) (left i : ℕ) → Found
@@ -39,4 +40,4 @@ first-overlap s t (suc left) i = pick (item-apart s t i (getD t (item-place + i)
 
 -- What is found is the first overlap of whatever plan with a given number of items is held (FORMAT 4.40).
 pub record Overlap-found (s t : List ℕ) (count : ℕ) (r : Code.Found) : Type 0 where
-  pub holds : (b : Sequence ℕ) → Plan-held s t b → items-of b ≡ count → r ≡ found (overlap-in b)
+  pub holds : (b : Sequence ℕ) → Plan-held Flags s t b → items-of b ≡ count → r ≡ found (overlap-in b)

@@ -36,7 +36,7 @@ type Links = [u8; LINKED_SLOTS];
 
 // The bucket of the effect at p, by its action and its fluent.
 fn bucket_at(s: &[u8], p: usize) -> usize
-    requires { ⌜ Effect-here (now s) p ⌝ }
+    requires { ⌜ Effect-here Flags (now s) p ⌝ }
     ensures { λ r. ⌜ r ≡ bucket-at (now (s .entry)) p ⌝ }
 {
     let q = p + 1;
@@ -68,7 +68,7 @@ fn agrees(s: &[u8], one: &Marks, other: &Marks, p: usize) -> bool
 
 // Some executability line of the action has a body that is possible in both states.
 fn runs_with(s: &[u8], t: &Notes, a: usize, one: &Marks, other: &Marks) -> bool
-    requires { ⌜ Runs-here (now s) (now t) ⌝ }
+    requires { ⌜ Runs-here Flags (now s) (now t) ⌝ }
     requires { ⌜ a < format .actions ⌝ }
     ensures { λ r. ⌜ r ≡ agreeing-lines (table-in Flags (now (s .entry))) a (now (one .entry)) (now (other .entry)) ⌝ }
 {
@@ -87,11 +87,11 @@ fn runs_with(s: &[u8], t: &Notes, a: usize, one: &Marks, other: &Marks) -> bool
 
 // The effect at p, whose body the state holds, contradicts the one at q. The executability lines are asked only of two that clash.
 fn contradicts(s: &[u8], t: &Notes, held: &Marks, p: usize, q: usize) -> bool
-    requires { ⌜ Runs-here (now s) (now t) ⌝ }
-    requires { ⌜ Effect-here (now s) p ⌝ }
-    requires { ⌜ Effect-here (now s) q ⌝ }
+    requires { ⌜ Runs-here Flags (now s) (now t) ⌝ }
+    requires { ⌜ Effect-here Flags (now s) p ⌝ }
+    requires { ⌜ Effect-here Flags (now s) q ⌝ }
     requires { ⌜ now held ≡ state-of format (listed (now s) (p + 2)) ⌝ }
-    ensures { λ r. ⌜ r ≡ contradictory (table-in Flags (now (s .entry))) (effect-from (now (s .entry)) p) (effect-from (now (s .entry)) q) ⌝ }
+    ensures { λ r. ⌜ r ≡ contradictory (table-in Flags (now (s .entry))) (effect-from Flags (now (s .entry)) p) (effect-from Flags (now (s .entry)) q) ⌝ }
 {
     if s[p] != s[q] {
         return false;
@@ -117,10 +117,10 @@ fn contradicts(s: &[u8], t: &Notes, held: &Marks, p: usize, q: usize) -> bool
 // Effect k + 1 contradicts one of the first k, sought among those in its bucket.
 fn contradicted(s: &[u8], t: &Notes, same: &Links, k: usize) -> bool
     requires { ⌜ k < 255 ⌝ }
-    requires { ⌜ Runs-here (now s) (now t) ⌝ }
-    requires { ⌜ Effects-here (now s) (now t) (k + 1) ⌝ }
+    requires { ⌜ Runs-here Flags (now s) (now t) ⌝ }
+    requires { ⌜ Effects-here Flags (now s) (now t) (k + 1) ⌝ }
     requires { ⌜ Linked (now s) (now t) (now same) k ⌝ }
-    ensures { λ r. ⌜ r ≡ some-of (contradictory (table-in Flags (now (s .entry))) (effect-from (now (s .entry)) (place-in (now (t .entry)) (k + 1)))) (effects-before (now (s .entry)) (now (t .entry)) k) ⌝ }
+    ensures { λ r. ⌜ r ≡ some-of (contradictory (table-in Flags (now (s .entry))) (effect-from Flags (now (s .entry)) (place-in (now (t .entry)) (k + 1)))) (effects-before (now (s .entry)) (now (t .entry)) k) ⌝ }
 {
     let number = k + 1;
     let p = line_place(t, notes::EFFECTS, number);
@@ -146,9 +146,9 @@ fn contradicted(s: &[u8], t: &Notes, same: &Links, k: usize) -> bool
 // 16: the first effect that contradicts one before it.
 pub fn contradiction(s: &[u8], t: &Notes, count: usize) -> Found
     requires { ⌜ count ≤ 255 ⌝ }
-    requires { ⌜ Runs-here (now s) (now t) ⌝ }
-    requires { ⌜ Effects-here (now s) (now t) count ⌝ }
-    ensures { λ r. ⌜ r ≡ found (first-against (contradictory (table-in Flags (now (s .entry)))) [] (effects-in (now (s .entry)) (now (t .entry)) 0 count)) ⌝ }
+    requires { ⌜ Runs-here Flags (now s) (now t) ⌝ }
+    requires { ⌜ Effects-here Flags (now s) (now t) count ⌝ }
+    ensures { λ r. ⌜ r ≡ found (first-against (contradictory (table-in Flags (now (s .entry)))) [] (effects-in Flags (now (s .entry)) (now (t .entry)) 0 count)) ⌝ }
 {
     let mut same = [0u8; LINKED_SLOTS];
     let mut k = 0;

@@ -5,11 +5,13 @@ ghost use Rattle.finding.specs.PlansHeld.{Some-plan};
 ghost use Rattle.refusing.specs.Refusal18.{Overlap-found, rules-out, all-apart, item-apart, first-overlap};
 ghost use Rattle.finding.specs.Places.{found};
 ghost use Rattle.finding.specs.Branches.{conditions-from, Branches-here, Item-here, Items-here};
+ghost use Rattle.meaning.specs.declared.Form.the-variants.{Flags};
 use bytes::bytes::wide;
 use bytes::limits;
 use finding::branches::next_item;
 use finding::branches::next_place;
 use finding::places::Found;
+use meaning::Form;
 use reading::marks::Marks;
 use reading::marks::Test;
 use reading::marks::each_holds;
@@ -20,8 +22,8 @@ use reading::notes::get;
 
 // The state rules out the conditions of a given number of branches.
 fn excludes(s: &[u8], t: &Notes, held: &Marks, count: usize, place: usize, item: usize) -> bool
-    requires { ⌜ Branches-here (now s) (now t) count place item ⌝ }
-    ensures { λ r. ⌜ r ≡ each-of (rules-out (now (held .entry))) (conditions-from (now (s .entry)) (now (t .entry)) count place item) ⌝ }
+    requires { ⌜ Branches-here Flags (now s) (now t) count place item ⌝ }
+    ensures { λ r. ⌜ r ≡ each-of (rules-out (now (held .entry))) (conditions-from Flags (now (s .entry)) (now (t .entry)) count place item) ⌝ }
 {
     let mut left = count;
     let mut p = place;
@@ -31,8 +33,8 @@ fn excludes(s: &[u8], t: &Notes, held: &Marks, count: usize, place: usize, item:
         if meets {
             return false;
         }
-        let q = next_place(s, t, p, i);
-        let j = next_item(s, t, p, i);
+        let q = next_place(Form::Flags, s, t, p, i);
+        let j = next_item(Form::Flags, s, t, p, i);
         p = q;
         i = j;
         left -= 1;
@@ -42,16 +44,16 @@ fn excludes(s: &[u8], t: &Notes, held: &Marks, count: usize, place: usize, item:
 
 // Every two conditions of a given number of branches are exclusive.
 fn all_exclusive(s: &[u8], t: &Notes, count: usize, place: usize, item: usize) -> bool
-    requires { ⌜ Branches-here (now s) (now t) count place item ⌝ }
-    ensures { λ r. ⌜ r ≡ all-apart (conditions-from (now (s .entry)) (now (t .entry)) count place item) ⌝ }
+    requires { ⌜ Branches-here Flags (now s) (now t) count place item ⌝ }
+    ensures { λ r. ⌜ r ≡ all-apart (conditions-from Flags (now (s .entry)) (now (t .entry)) count place item) ⌝ }
 {
     let mut left = count;
     let mut p = place;
     let mut i = item;
     while 0 < left {
         let held = state_of(s, p);
-        let q = next_place(s, t, p, i);
-        let j = next_item(s, t, p, i);
+        let q = next_place(Form::Flags, s, t, p, i);
+        let j = next_item(Form::Flags, s, t, p, i);
         let others = left - 1;
         let apart = excludes(s, t, &held, others, q, j);
         if apart {
@@ -67,7 +69,7 @@ fn all_exclusive(s: &[u8], t: &Notes, count: usize, place: usize, item: usize) -
 
 // Item i, at p, is no branching with two conditions that are not exclusive.
 fn apart(s: &[u8], t: &Notes, i: usize, p: usize) -> bool
-    requires { ⌜ Item-here (now s) (now t) i p ⌝ }
+    requires { ⌜ Item-here Flags (now s) (now t) i p ⌝ }
     ensures { λ r. ⌜ r ≡ item-apart (now (s .entry)) (now (t .entry)) i p ⌝ }
 {
     if s[p] == limits::BRANCHING_BYTE {
@@ -82,7 +84,7 @@ fn apart(s: &[u8], t: &Notes, i: usize, p: usize) -> bool
 
 // The first item that is such a branching.
 fn first_overlap(s: &[u8], t: &Notes, count: usize) -> Found
-    requires { ⌜ Items-here (now s) (now t) count ⌝ }
+    requires { ⌜ Items-here Flags (now s) (now t) count ⌝ }
     ensures { λ r. ⌜ r ≡ found (first-overlap (now (s .entry)) (now (t .entry)) count 0) ⌝ }
 {
     let mut i = 0;
@@ -100,7 +102,7 @@ fn first_overlap(s: &[u8], t: &Notes, count: usize) -> Found
 
 // 18: the first branching with two conditions that are not exclusive, of a plan with a given number of items.
 pub fn overlap(s: &[u8], t: &Notes, count: usize) -> Found
-    requires { ⌜ Some-plan (now s) (now t) count ⌝ }
+    requires { ⌜ Some-plan Flags (now s) (now t) count ⌝ }
     ensures { λ r. ⌜ Overlap-found (now (s .entry)) (now (t .entry)) count r ⌝ }
 {
     first_overlap(s, t, count)

@@ -24,7 +24,7 @@ use reading::notes::get;
 
 // 17, of a table that ends at e.
 fn mixed_refused(s: &[u8], t: &Notes, e: usize) -> Passed
-    requires { ⌜ Table-here (now s) (now t) ⌝ }
+    requires { ⌜ Table-here Flags (now s) (now t) ⌝ }
     requires { ⌜ table-at format Flags (now s) 0 ≡ got (table-in Flags (now s)) e ⌝ }
     ensures { λ r. ⌜ r ≡ passed (table-unmixed (table-in Flags (now (s .entry))) e) ⌝ }
 {
@@ -39,7 +39,7 @@ fn mixed_refused(s: &[u8], t: &Notes, e: usize) -> Passed
 
 // 16 and 17, of a table that ends at e. Nothing is asked of a plan.
 pub fn table_refused(s: &[u8], t: &Notes, e: usize) -> Passed
-    requires { ⌜ Table-here (now s) (now t) ⌝ }
+    requires { ⌜ Table-here Flags (now s) (now t) ⌝ }
     requires { ⌜ table-at format Flags (now s) 0 ≡ got (table-in Flags (now s)) e ⌝ }
     ensures { λ r. ⌜ r ≡ passed (table-settled (table-in Flags (now (s .entry))) e) ⌝ }
 {
@@ -52,7 +52,7 @@ pub fn table_refused(s: &[u8], t: &Notes, e: usize) -> Passed
 
 // 18, of a request that was read up to e.
 fn plan_refused(s: &[u8], t: &Notes, e: usize) -> Passed
-    requires { ⌜ Read-here (now s) (now t) ⌝ }
+    requires { ⌜ Read-here Flags (now s) (now t) ⌝ }
     ensures { λ r. ⌜ r ≡ passed (past-18 (now (s .entry)) e) ⌝ }
 {
     let count = get(t, notes::ITEMS);
@@ -64,7 +64,7 @@ fn plan_refused(s: &[u8], t: &Notes, e: usize) -> Passed
 
 // 16 to 18, of a request that was read up to e. Its table ends where its plan starts.
 fn refused(s: &[u8], t: &Notes, e: usize) -> Passed
-    requires { ⌜ Read-here (now s) (now t) ⌝ }
+    requires { ⌜ Read-here Flags (now s) (now t) ⌝ }
     ensures { λ r. ⌜ r ≡ passed (past-all (now (s .entry)) e) ⌝ }
 {
     let plan = get(t, notes::PLAN);

@@ -22,6 +22,7 @@ use comparing::spots::same_conclusions;
 use comparing::spots::spot_of;
 use deriving::derivations::Places;
 use finding::branches::sequence_of;
+use meaning::Form;
 use meaning::Layout;
 use reading::marks::Marks;
 use reading::marks::state_of;
@@ -59,10 +60,10 @@ fn says_reading(d: &[u8], marks: &Marks, own: Spot, cited: Spot) -> bool
     let starts = lists_known(marks, d, pc);
     if starts {
         let p = own.line;
-        let mine = sequence_of(d, p);
+        let mine = sequence_of(Form::Flags, d, p);
         let all = count_of(d, mine);
         let items = one_less(all);
-        let plan = sequence_of(d, pc);
+        let plan = sequence_of(Form::Flags, d, pc);
         let count = count_of(d, plan);
         if count != items {
             return false;
@@ -174,7 +175,7 @@ pub fn rule_3(
     ensures { λ r. ⌜ Ruled-by-all layout (now (d .entry)) (now (places .entry)) l (rule-3 format (table-in Flags (now (s .entry)))) r ⌝ }
 {
     let p = l.line;
-    let plan = sequence_of(d, p);
+    let plan = sequence_of(Form::Flags, d, p);
     let count = count_of(d, plan);
     if count == 0 {
         return false;

@@ -22,13 +22,13 @@ use Rattle.steps.specs.AtHand.{At-hand}
 
 module _ (s t : List ℕ) (here : At-hand s t) where
   pub starts : Starts s (table-in Flags s)
-  starts = table-starts s (table-in Flags s) (here .table-end) (here .table)
+  starts = table-starts form s (table-in Flags s) (here .table-end) (here .table)
 
   pub facts-here : List-here all-literals s 2
   facts-here = starts .here
 
-  pub sections : Table-parts s (table-in Flags s) (here .table-end)
-  sections = table-parts s (table-in Flags s) (here .table-end) (here .table)
+  pub sections : Table-parts form s (table-in Flags s) (here .table-end)
+  sections = table-parts form s (table-in Flags s) (here .table-end) (here .table)
 
   pub few-items : items-of (plan-in s t) ≤ format .items
   few-items = here .held .few
@@ -47,7 +47,7 @@ module _ (s t : List ℕ) (here : At-hand s t) where
         let few = sections .few in
         rw slot (list-here literals (table-in Flags s .fluents) s (format .listed) (goals-in t) (listed s (goals-in t)) (whether-in s t) (here .goals) .1 all-literals (omega (arith, few)))
 
-    module _ (whether : ℕ) (after : whether ≡ sequence-place s goals) where
+    module _ (whether : ℕ) (after : whether ≡ sequence-place form s goals) where
       pub is-whether : whether ≡ whether-in s t
       unfolding goals-in whether-in sequence-place
       is-whether = rw (after, slot)

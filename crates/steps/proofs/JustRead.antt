@@ -41,11 +41,11 @@ use Rattle.steps.proofs.SectionsStand.{knowledge-small, Sections-read, 
 use Rattle.steps.proofs.SensedLaws.{Sensed, says, seen-after, seen-some, lines-sensed}
 use Rattle.steps.proofs.NextSlots.{nexts-agree, plan-nexts}
 
-module _ (s t : List ℕ) (here : Table-here s t) where
+module _ (s t : List ℕ) (here : Table-here form s t) where
   abbrev x : Table
   x = table-in Flags s
 
-  whole : Table-parts s (table-in Flags s) (here .table-end)
+  whole : Table-parts form s (table-in Flags s) (here .table-end)
   whole = whole-table s t here
 
   -- WHAT AN ACTION SENSES.
@@ -132,15 +132,15 @@ module _ (s t : List ℕ) (here : Table-here s t) where
       sensed = knowledge-sensed a small
 
 -- A PLAN that was read behind such a table, and noted, with guards at a place.
-module _ (s t : List ℕ) (here : Table-here s t) (g p : ℕ) (y : Request) (q : ℕ) (read : request-at format Flags s (table-in Flags s) p ≡ got y q) where
+module _ (s t : List ℕ) (here : Table-here form s t) (g p : ℕ) (y : Request) (q : ℕ) (read : request-at format Flags s (table-in Flags s) p ≡ got y q) where
   abbrev u : List ℕ
   u = tail-with Flags g y t
 
-  parts-there : Table-parts s (table-in Flags s) (here .table-end)
+  parts-there : Table-parts form s (table-in Flags s) (here .table-end)
   parts-there = whole-table s t here
 
   table-is : table-in Flags s ≡ y .table
-  table-is = sym (request-parts s (table-in Flags s) p y q read .table)
+  table-is = sym (request-parts form s (table-in Flags s) p y q read .table)
 
   each : Sections-read s y
   each = request-sections s (table-in Flags s) p y q read
@@ -178,7 +178,7 @@ module _ (s t : List ℕ) (here : Table-here s t) (g p : ℕ) (y : Request) (q :
   unfolding request-in
   plan-request = rw (table-is, plan-is, whether-at, goals-at, goals-listed, whether-listed, sym (each .goals-are), sym (each .whether-are)) refl
 
-  plan-held-there : Plan-held s u (y .plan)
+  plan-held-there : Plan-held form s u (y .plan)
   plan-held-there = tail-held s (table-in Flags s) (parts-there .few) (parts-there .less) p y q read t g (here .sized)
 
   request-nexts : Nexts u (format .items) 0 (y .plan)
@@ -196,7 +196,7 @@ module _ (s t : List ℕ) (here : Table-here s t) (g p : ℕ) (y : Request) (q :
       })
       (plan-nexts (plan-place Flags y) t (y .plan) few (omega (arith, here .sized)))
 
-  stays : Table-here s u
+  stays : Table-here form s u
   stays = table-stays s t here g p y q read
 
   guards-slot-is : guards-at u ≡ g
@@ -230,11 +230,11 @@ module _ (s t : List ℕ) (here : Table-here s t) (g p : ℕ) (y : Request) (q :
       }
 
 -- Without guards there are none.
-pub plan-unguarded : (s t : List ℕ) (here : Table-here s t) (p : ℕ) (y : Request) (q : ℕ) → request-at format Flags s (table-in Flags s) p ≡ got y q → guards-in s (tail-noted Flags y t) ≡ []
+pub plan-unguarded : (s t : List ℕ) (here : Table-here form s t) (p : ℕ) (y : Request) (q : ℕ) → request-at format Flags s (table-in Flags s) p ≡ got y q → guards-in s (tail-noted Flags y t) ≡ []
 plan-unguarded s t here p y q read = plan-guards s t here 0 p y q read ∙ pick-true (eqb 0 0) _ _ (eq-eqb 0 0 refl)
 
 -- A REQUEST that was read from the start, into notes that held nothing.
-module _ (s : List ℕ) (bytes : (i : ℕ) → getD s i 0 < 256) (t : List ℕ) (read : Read-here s t) where
+module _ (s : List ℕ) (bytes : (i : ℕ) → getD s i 0 < 256) (t : List ℕ) (read : Read-here form s t) where
   abbrev before : List ℕ
   before = table-noted (read .request .table) blank
 
@@ -249,9 +249,9 @@ module _ (s : List ℕ) (bytes : (i : ℕ) → getD s i 0 < 256) (t : List ℕ) 
       ∙ plan-request s before (read-comes s bytes t read) (read .guards) (read-parts s bytes t read .place) (read .request) (read .end) (read-tail s bytes t read)
 
   -- The table that it holds.
-  read-table : Table-here s t
+  read-table : Table-here form s t
   read-table =
-      subst (Table-here s) (sym (read-noted s bytes t read))
+      subst (Table-here form s) (sym (read-noted s bytes t read))
       (table-stays s before (read-comes s bytes t read) (read .guards) (read-parts s bytes t read .place) (read .request) (read .end) (read-tail s bytes t read))
 
   guards-read : guards-in s t ≡ pick (eqb (read .guards) 0) (λ _. []) (λ _. placed (read .guards + 1) (listed s (read .guards)))
@@ -262,16 +262,16 @@ module _ (s : List ℕ) (bytes : (i : ℕ) → getD s i 0 < 256) (t : List ℕ) 
 -- Read WHOLE it has no guards,
 module _ (s : List ℕ) (bytes : (i : ℕ) → getD s i 0 < 256) (t : List ℕ) (x : Request) (e : ℕ) (reads : read-request format Flags s ≡ got x e) (noted : t ≡ request-noted Flags x blank) where
   pub plain-at-hand : contradiction-in (x .table) ≡ nowhere → At-hand s t
-  plain-at-hand passed = read-at-hand s bytes t (plain-here s t x e reads noted) passed (λ some. clash (eq-eqb 0 0 refl) some)
+  plain-at-hand passed = read-at-hand s bytes t (plain-here form s t x e reads noted) passed (λ some. clash (eq-eqb 0 0 refl) some)
 
   pub plain-request : request-in s t ≡ x
-  plain-request = request-read s bytes t (plain-here s t x e reads noted)
+  plain-request = request-read s bytes t (plain-here form s t x e reads noted)
 
-  pub plain-table : Table-here s t
-  plain-table = read-table s bytes t (plain-here s t x e reads noted)
+  pub plain-table : Table-here form s t
+  plain-table = read-table s bytes t (plain-here form s t x e reads noted)
 
   pub plain-guards : guards-in s t ≡ []
-  plain-guards = guards-read s bytes t (plain-here s t x e reads noted) ∙ pick-true (eqb 0 0) _ _ (eq-eqb 0 0 refl)
+  plain-guards = guards-read s bytes t (plain-here form s t x e reads noted) ∙ pick-true (eqb 0 0) _ _ (eq-eqb 0 0 refl)
 
 -- or those that were read with it.
 module _ (s : List ℕ) (bytes : (i : ℕ) → getD s i 0 < 256) (t : List ℕ) (g : Guarded-request) (e : ℕ) (reads : read-guarded format s ≡ got g e) (noted : t ≡ guarded-noted g blank) where
@@ -288,7 +288,7 @@ module _ (s : List ℕ) (bytes : (i : ℕ) → getD s i 0 < 256) (t : List ℕ) 
   few : g .request .table .fluents ≤ format .fluents
   few =
       let there = read-parts s bytes t (guarded-here s t g e reads noted) in
-      table-parts s (g .request .table) (there .place) (there .table-read) .few
+      table-parts form s (g .request .table) (there .place) (there .table-read) .few
 
   pub guarded-at-hand : contradiction-in (g .request .table) ≡ nowhere → At-hand s t
   guarded-at-hand passed = read-at-hand s bytes t (guarded-here s t g e reads noted) passed (λ _. guards-here .1 all-literals (omega (arith, few)))
@@ -296,7 +296,7 @@ module _ (s : List ℕ) (bytes : (i : ℕ) → getD s i 0 < 256) (t : List ℕ) 
   pub guarded-request : request-in s t ≡ g .request
   guarded-request = request-read s bytes t (guarded-here s t g e reads noted)
 
-  pub guarded-table : Table-here s t
+  pub guarded-table : Table-here form s t
   guarded-table = read-table s bytes t (guarded-here s t g e reads noted)
 
   pub guarded-guards : guards-in s t ≡ g .guards

@@ -92,7 +92,7 @@ module _ (s t : List ℕ) (plan : Sequence ℕ) (most : items-of plan ≤ format
       }
 
   -- WHAT STANDS INSIDE.
-  branches-laid : (bs : Branches ℕ) (met p : ℕ) (after : Sequence ℕ) → met + items-under bs ≤ items-of plan → Branches-kept t met p bs
+  branches-laid : (bs : Branches ℕ) (met p : ℕ) (after : Sequence ℕ) → met + items-under bs ≤ items-of plan → Branches-kept form t met p bs
       → Left met (met + items-under bs) (λ i. rest-under bs met i after)
       → Branches-laid t plan met p after bs
   unfolding Branches-laid Branches-kept items-under
@@ -107,7 +107,7 @@ module _ (s t : List ℕ) (plan : Sequence ℕ) (most : items-of plan ≤ format
         (λ i from to. left i (omega (arith, from)) (omega (arith, to)) ∙ under-later c b bs met after i from),
   )
 
-  inside-laid : (x : Item ℕ) (met : ℕ) (after : Sequence ℕ) → met + items-in x ≤ items-of plan → Item-kept t met x → Small-item x
+  inside-laid : (x : Item ℕ) (met : ℕ) (after : Sequence ℕ) → met + items-in x ≤ items-of plan → Item-kept form t met x → Small-item x
       → Left (met + 1) (met + items-in x) (λ i. rest-within x (met + 1) i after)
       → Inside-laid t plan met after x
   unfolding Inside-laid Item-kept Small-item items-in rest-within
@@ -115,7 +115,7 @@ module _ (s t : List ℕ) (plan : Sequence ℕ) (most : items-of plan ≤ format
   inside-laid (branching p bs) met after room k small left =
       branches-laid bs (met + 1) (p + 2) after (omega (arith, room)) (k .1) (λ i from to. left i from (omega (arith, to)))
 
-  placed : (x : Item ℕ) (met : ℕ) → Item-kept t met x → getD t (0 + met) 0 ≡ place-of x
+  placed : (x : Item ℕ) (met : ℕ) → Item-kept form t met x → getD t (0 + met) 0 ≡ place-of x
   unfolding Item-kept place-of
   placed (act p a) met k = k
   placed (branching p bs) met k = k .0
@@ -125,7 +125,7 @@ module _ (s t : List ℕ) (plan : Sequence ℕ) (most : items-of plan ≤ format
     unfolding items-of items-in items-under Written Item-written Branches-written Kept Item-kept Branches-kept Nexts Inside-nexts Under-nexts Small Small-item Small-under rest-within
 
     laid-in : (b : Sequence ℕ) (up met : ℕ) (after : Sequence ℕ) → met + items-of b ≤ items-of plan
-        → Written s b → Kept t met b → Nexts t up met b → Small b
+        → Written form s b → Kept form t met b → Nexts t up met b → Small b
         → Around up met (met + items-of b) after
         → Left met (met + items-of b) (λ i. rest-in b met i after)
         → (i : ℕ) → met ≤ i → i < met + items-of b → Item-laid s t plan i
@@ -161,7 +161,7 @@ module _ (s t : List ℕ) (plan : Sequence ℕ) (most : items-of plan ≤ format
         later j lo hi = left j (omega (arith, lo)) (omega (arith, hi)) ∙ rest-later x b met after j lo
 
     laid-within : (x : Item ℕ) (met : ℕ) (after : Sequence ℕ) → met + items-in x ≤ items-of plan
-        → Item-written s x → Item-kept t met x → Inside-nexts t met x → Small-item x
+        → Item-written form s x → Item-kept form t met x → Inside-nexts t met x → Small-item x
         → rest-at plan met ≡ item x after
         → Left (met + 1) (met + items-in x) (λ i. rest-within x (met + 1) i after)
         → (i : ℕ) → met < i → i < met + items-in x → Item-laid s t plan i
@@ -173,7 +173,7 @@ module _ (s t : List ℕ) (plan : Sequence ℕ) (most : items-of plan ≤ format
         i (omega (arith, from)) (omega (arith, to))
 
     laid-under : (bs : Branches ℕ) (up met p : ℕ) (after : Sequence ℕ) → met + items-under bs ≤ items-of plan
-        → Branches-written s p bs → Branches-kept t met p bs → Under-nexts t up met bs → Small-under bs
+        → Branches-written form s p bs → Branches-kept form t met p bs → Under-nexts t up met bs → Small-under bs
         → Around up met (met + items-under bs) after
         → Left met (met + items-under bs) (λ i. rest-under bs met i after)
         → (i : ℕ) → met ≤ i → i < met + items-under bs → Item-laid s t plan i
@@ -190,7 +190,7 @@ module _ (s t : List ℕ) (plan : Sequence ℕ) (most : items-of plan ≤ format
         i (ltb-false i (met + items-of b) e) (omega (arith, to)))
 
   -- The whole plan has nothing behind it.
-  plan-laid : Written s plan → Kept t 0 plan → Nexts t (format .items) 0 plan → Small plan → (i : ℕ) → i < items-of plan → Item-laid s t plan i
+  plan-laid : Written form s plan → Kept form t 0 plan → Nexts t (format .items) 0 plan → Small plan → (i : ℕ) → i < items-of plan → Item-laid s t plan i
   unfolding rest-at onward
   plan-laid w k n small i less =
       laid-in plan (format .items) 0 done (omega arith) w k n small

@@ -19,7 +19,7 @@ use Rattle.steps.proofs.SameHand.{Other, request-same, guards-same, han
 use Rattle.meaning.specs.declared.Form.the-variants.{Flags}
 
 -- NOTES that hold a table.
-pub table-mode : (s t : List ℕ) → Table-here s t → mode-in t ≡ 0
+pub table-mode : (s t : List ℕ) → Table-here form s t → mode-in t ≡ 0
 unfolding mode-in
 table-mode s t here = mode-empty s (here .bytes) (table-in Flags s) (here .table-end) (whole-table s t here) t (here .noted)
 

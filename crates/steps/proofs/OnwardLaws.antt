@@ -48,8 +48,8 @@ module _ {S L : Type 0} (step : Steps S L) where
 module _ (s t : List ℕ) (here : At-hand s t) where
   -- AN ITEM of it.
   module _ (i : ℕ) (less : i < items-of (plan-in s t)) where
-    pub item-there : Item-here s t i (getD t (0 + i) 0)
-    item-there = plan-here s t (plan-in s t) (items-of (plan-in s t)) (here .held) refl .each i less
+    pub item-there : Item-here form s t i (getD t (0 + i) 0)
+    item-there = plan-here form s t (plan-in s t) (items-of (plan-in s t)) (here .held) refl .each i less
 
     laid : Item-laid s t (plan-in s t) i
     laid = item-laid s t here i less
@@ -134,8 +134,8 @@ module _ (s t : List ℕ) (here : At-hand s t) (i : ℕ) where
             })
 
 -- INTO A BRANCH whose sequence has an item, or none.
-module _ (s t : List ℕ) (i p met q : ℕ) (at : q ≡ sequence-place s p) (empty : Bool) (tested : empty ≡ no-item s q) where
-  tested-there : no-item s (sequence-place s p) ≡ empty
+module _ (s t : List ℕ) (i p met q : ℕ) (at : q ≡ sequence-place form s p) (empty : Bool) (tested : empty ≡ no-item s q) where
+  tested-there : no-item s (sequence-place form s p) ≡ empty
   tested-there = sym (tested ∙ ap (no-item s) at)
 
   pub into-empty : empty ≡ true → (r : ℕ) → Followed s t i r → Into s t i p met r
@@ -161,9 +161,9 @@ Stays s t i marks branches = Takes-none marks branches → Untaken marks (rest-a
 pub record Choosing (s t : List ℕ) (i : ℕ) (marks : State) (left p met : ℕ) : Type 0 where
   pub branches : Branches ℕ
   pub after : Sequence ℕ
-  pub here : Branches-here s t left p met
+  pub here : Branches-here form s t left p met
   pub count : left ≡ branches-in branches
-  pub written : Branches-written s p branches
+  pub written : Branches-written form s p branches
   pub laid : Branches-laid t (plan-in s t) met p after branches
   pub beyond : i < met
   pub follows : after-first (rest-at (plan-in s t) i) ≡ after
@@ -196,7 +196,7 @@ module _ (s t : List ℕ) (here : At-hand s t) (i : ℕ) (less : i < items-of (p
       first-fits room = let there = second-there in let most = room .fits in record { fits = omega arith }
 
     module _ (marks : State) where
-      opened : (this : Item ℕ) (after : Sequence ℕ) → rest-at (plan-in s t) i ≡ item this after → getD t (0 + i) 0 ≡ place-of this → Item-written s this → Inside-laid t (plan-in s t) i after this
+      opened : (this : Item ℕ) (after : Sequence ℕ) → rest-at (plan-in s t) i ≡ item this after → getD t (0 + i) 0 ≡ place-of this → Item-written form s this → Inside-laid t (plan-in s t) i after this
           → Choosing s t i marks (getD s (getD t (0 + i) 0 + 1) 0) (getD t (0 + i) 0 + 2) (i + 1)
       unfolding place-of Item-written Inside-laid after-first walk walk-from
       opened (act p a) after rest place w inside =
@@ -248,23 +248,23 @@ module _ (s t : List ℕ) (i : ℕ) (marks : State) where
       unfolding holds-as
       condition-is c e = rw (tested, sym e)
 
-      pub choosing-next : known-here ≡ false → (q j : ℕ) → q ≡ place-after s t p met → j ≡ item-after s t p met → Choosing s t i marks (left - 1) q j
+      pub choosing-next : known-here ≡ false → (q j : ℕ) → q ≡ place-after form s t p met → j ≡ item-after form s t p met → Choosing s t i marks (left - 1) q j
       unfolding branches-in Branches-written Branches-laid walk-branch step-in guarded-step Takes Takes-none
       choosing-next fails q j placed counted = step (choosing .branches) (choosing .count) (choosing .written) (choosing .laid) (choosing .goes) (choosing .leaves) (choosing .stays)
         where
-          step : (bs : Branches ℕ) → left ≡ branches-in bs → Branches-written s p bs → Branches-laid t (plan-in s t) met p (choosing .after) bs
+          step : (bs : Branches ℕ) → left ≡ branches-in bs → Branches-written form s p bs → Branches-laid t (plan-in s t) met p (choosing .after) bs
               → Walks-by s t i marks (choosing .after) bs → Leaves s t i marks (choosing .after) bs → Stays s t i marks bs
               → Choosing s t i marks (left - 1) q j
           step none count w l goes leaves stays = absurd (omega (arith, more, count))
           step (branch c d bs) count w l goes leaves stays =
               let no : each-of (known marks) c ≡ false = condition-is c (w .0 .condition) ∙ fails in
-              let there : q ≡ p + (1 + length c) + (2 + bytes-of Flags d) = placed ∙ place-is s t met p c d (w .0) (l .0 .kept) in
-              let items : j ≡ met + items-of d = counted ∙ item-is s t met p c d (w .0) (l .0 .kept) in
+              let there : q ≡ p + (1 + length c) + (2 + bytes-of Flags d) = placed ∙ place-is form s t met p c d (w .0) (l .0 .kept) in
+              let items : j ≡ met + items-of d = counted ∙ item-is form s t met p c d (w .0) (l .0 .kept) in
               let beyond = choosing .beyond in
               record {
                 branches = bs;
                 after = choosing .after;
-                here = branches-next s t left p met more (choosing .here) q j placed counted;
+                here = branches-next form s t left p met more (choosing .here) q j placed counted;
                 count = omega (arith, count);
                 written = rw there (w .2);
                 laid = rw (there, items) (l .1);
@@ -279,12 +279,12 @@ module _ (s t : List ℕ) (i : ℕ) (marks : State) where
       unfolding branches-in Branches-written Branches-laid walk-branch step-in guarded-step walk-from own-items items-of join Takes
       chosen-at holds r into = by-branch (choosing .branches) (choosing .count) (choosing .written) (choosing .laid) (choosing .goes) (choosing .leaves)
         where
-          by-branch : (bs : Branches ℕ) → left ≡ branches-in bs → Branches-written s p bs → Branches-laid t (plan-in s t) met p (choosing .after) bs
+          by-branch : (bs : Branches ℕ) → left ≡ branches-in bs → Branches-written form s p bs → Branches-laid t (plan-in s t) met p (choosing .after) bs
               → Walks-by s t i marks (choosing .after) bs → Leaves s t i marks (choosing .after) bs
               → Chosen s t i marks (At r)
           by-branch none count w l goes leaves = absurd (omega (arith, more, count))
           by-branch (branch c done bs) count w l goes leaves =
-              let follows = into .empty (count-zero s (sequence-place s p) (w .0 .count)) in
+              let follows = into .empty (count-zero s (sequence-place form s p) (w .0 .count)) in
               let yes-here : each-of (known marks) c ≡ true = condition-is c (w .0 .condition) ∙ holds in
               let same : rest-at (plan-in s t) r ≡ choosing .after = follows .rest ∙ choosing .follows in
               chosen-there r
@@ -293,7 +293,7 @@ module _ (s t : List ℕ) (i : ℕ) (marks : State) where
               (follows .later)
               (follows .at)
           by-branch (branch c (item x d) bs) count w l goes leaves =
-              let first : r ≡ met = into .other (count-some s (sequence-place s p) (own-items d) (w .0 .count)) in
+              let first : r ≡ met = into .other (count-some s (sequence-place form s p) (own-items d) (w .0 .count)) in
               let some : 0 < items-of (item x d) = let one = some-item x in omega (arith, one) in
               let beyond = choosing .beyond in
               let yes-here : each-of (known marks) c ≡ true = condition-is c (w .0 .condition) ∙ holds in
@@ -305,7 +305,7 @@ module _ (s t : List ℕ) (i : ℕ) (marks : State) where
               ∙ rw (l .0 .rest some))
               (subst (Taken marks (rest-at (plan-in s t) i)) (sym (l .0 .rest some)) (leaves (item x d) (inl (yes-here, refl))))
               beyond
-              (record { most = branch-first s t left p met more (choosing .here) .few; there = λ _. l .0 .there some }))
+              (record { most = branch-first form s t left p met more (choosing .here) .few; there = λ _. l .0 .there some }))
 
     pub chosen-none : left ≤ 0 → Chosen s t i marks Nowhere
     unfolding branches-in walk-branch going-on Takes-none
@@ -335,7 +335,7 @@ module _ (s t : List ℕ) (here : At-hand s t) where
       An-act : Type 0
       An-act = (after : Sequence ℕ) × (rest-at (plan-in s t) i ≡ item (act p (getD s p 0)) after) × (getD s p 0 < format .actions)
 
-      an-act : (this : Item ℕ) (after : Sequence ℕ) → rest-at (plan-in s t) i ≡ item this after → getD t (0 + i) 0 ≡ place-of this → Item-written s this → Inside-laid t (plan-in s t) i after this → An-act
+      an-act : (this : Item ℕ) (after : Sequence ℕ) → rest-at (plan-in s t) i ≡ item this after → getD t (0 + i) 0 ≡ place-of this → Item-written form s this → Inside-laid t (plan-in s t) i after this → An-act
       unfolding place-of Item-written Inside-laid An-act
       an-act (act q a) after rest place w inside =
           let at : p ≡ q = is ∙ place in

@@ -77,7 +77,7 @@ module _ (s t u : List ℕ) (same : (j : ℕ) → Other j → getD u j 0 ≡ get
           held = rw same-plan (record {
             few = few;
             written = here .held .written;
-            kept = kept-agree (plan-in s t) 0 t u (record {
+            kept = kept-agree form (plan-in s t) 0 t u (record {
               places = λ j _ h. same (0 + j) (omega arith);
               ends = λ j _ h. same (2 * format .items + j) (omega arith);
               counts = λ j _ h. same (3 * format .items + j) (omega arith);

@@ -22,7 +22,7 @@ use Rattle.reading.proofs.RequestLaws.{placed-length}
 use Rattle.finding.proofs.HereLaws.{bytes-length, list-here}
 use Rattle.finding.proofs.ReadLaws.{Table-parts}
 
-module _ (s : List ℕ) (t : Table) (p : ℕ) (whole : Table-parts s t p) where
+module _ (s : List ℕ) (t : Table) (p : ℕ) (whole : Table-parts form s t p) where
   pub knowledge-small : (k : Knowledge) → Has (t .knowledge) k → k .fluent < format .fluents
   unfolding knowledge-at
   knowledge-small k has =

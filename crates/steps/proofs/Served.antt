@@ -73,7 +73,7 @@ pub record Run-lines (s : List ℕ) (a : ℕ) : Type 0 where
   pub bodies : (test : List ℕ → Bool) → some-of (λ (p : ℕ). test (listed s (p + 1))) (run-places s a) ≡ some-of (λ (x : Executability). test (x .body)) (executability-of (table-in Flags s) a)
 
 pub record Effects (s : List ℕ) (a : ℕ) : Type 0 where
-  pub lines : (p : ℕ) → Has (effect-places s a) p → Effect-here s p
+  pub lines : (p : ℕ) → Has (effect-places s a) p → Effect-here form s p
   pub same : (test : ℕ → Bool) (l : ℕ) → given-at s test (effect-places s a) l ≡ given test (effects-of (table-in Flags s) a) l
   pub bodies : (test : List ℕ → Bool) → some-of (λ (p : ℕ). test (listed s (p + 2))) (effect-places s a) ≡ some-of (λ (e : Effect). test (e .body)) (effects-of (table-in Flags s) a)
 

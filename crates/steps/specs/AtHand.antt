@@ -32,7 +32,7 @@ pub record At-hand (s t : List ℕ) : Type 0 where
   pub no-contradiction : contradiction-in (table-in Flags s) ≡ nowhere
   -- The plan stands from its slot up to the goals, and the notes lead from item to item.
   pub plan : plan-at format Flags (table-in Flags s .fluents) (table-in Flags s .actions) s (getD t plan-slot 0) ≡ got (record { value = plan-in s t; items = getD t items-slot 0 }) (goals-in t)
-  pub held : Plan-held s t (plan-in s t)
+  pub held : Plan-held form s t (plan-in s t)
   pub nexts : Nexts t (format .items) 0 (plan-in s t)
   -- The goals stand where their slot says, and the whether entries behind them.
   pub goals : list-at literals (table-in Flags s .fluents) (format .listed) s (goals-in t) ≡ got (listed s (goals-in t)) (whether-in s t)

@@ -99,6 +99,6 @@ pub record Item-laid (s t : List ℕ) (b : Sequence ℕ) (i : ℕ) : Type 0 wher
   pub after : Sequence ℕ
   pub rest : rest-at b i ≡ item this after
   pub place : getD t (item-place + i) 0 ≡ place-of this
-  pub written : Item-written s this
+  pub written : Item-written form s this
   pub inside : Inside-laid t b i after this
   pub next : Next t b i after

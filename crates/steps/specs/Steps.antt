@@ -107,8 +107,8 @@ pub record Followed (s t : List ℕ) (i r : ℕ) : Type 0 where
 
 -- Where a branch begins, whose condition stands at p, with `item` items before it: there, or with no item of its own after item i.
 pub record Into (s t : List ℕ) (i p item r : ℕ) : Type 0 where
-  pub empty : no-item s (sequence-place s p) ≡ true → Followed s t i r
-  pub other : no-item s (sequence-place s p) ≡ false → r ≡ item
+  pub empty : no-item s (sequence-place form s p) ≡ true → Followed s t i r
+  pub other : no-item s (sequence-place form s p) ≡ false → r ≡ item
 
 -- The position where the walk goes on from the branching that is item i, or none.
 unfoldable pub going-on : (s t : List ℕ) → (place : ℕ) → State → Code.Found → Walked State

@@ -48,7 +48,7 @@ pub fn follow(s: &[u8], t: &Notes, i: usize) -> usize
 fn into(s: &[u8], t: &Notes, i: usize, p: usize, item: usize) -> usize
     requires { ⌜ At-hand (now s) (now t) ⌝ }
     requires { ⌜ i < items-of (plan-in (now s) (now t)) ⌝ }
-    requires { ⌜ Branch-here (now s) p item ⌝ }
+    requires { ⌜ Branch-here form (now s) p item ⌝ }
     ensures { λ r. ⌜ Into (now (s .entry)) (now (t .entry)) i p item r ⌝ }
 {
     let q = sequence_of(s, p);

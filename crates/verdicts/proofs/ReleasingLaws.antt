@@ -132,7 +132,7 @@ module _ (s t u : List ℕ) (r : Read) (read : outcome-met r u ≡ opening-noted
       let g = open-got n q is in
       let o = opened format s (g .0) q (g .1) in
       record {
-        here = subst (Table-here s) (sym (g .3 ∙ ap (table-noted (g .0 .table)) empty)) (table-comes s (λ i. bytes i .fits) (o .short) (g .0 .table) (g .0 .table-end) (o .table));
+        here = subst (Table-here Flags s) (sym (g .3 ∙ ap (table-noted (g .0 .table)) empty)) (table-comes Flags s (λ i. bytes i .fits) (o .short) (g .0 .table) (g .0 .table-end) (o .table));
         opens = g .0;
         opened = g .1;
         counts = g .2;
@@ -158,7 +158,7 @@ module _ (s t : List ℕ) (plans start : ℕ) (here : Opened-here s t plans star
       let same = here .counts in
       record { fits = omega arith }
 
-  pub table-there : Table-here s t
+  pub table-there : Table-here Flags s t
   table-there = here .here
 
   pub start-inside : start ≤ length s
@@ -208,7 +208,7 @@ module _ (s t : List ℕ) (plans start : ℕ) (here : Opened-here s t plans star
         clean-there = refuse-got _ _ _ (passed-to (table-settled (table-in Flags s) (start - 1)) q (sym asked ∙ goes) .1) .0
 
 -- PAST 16 AND 17.
-module _ (s t : List ℕ) (here : Table-here s t) where
+module _ (s t : List ℕ) (here : Table-here Flags s t) where
   front-there : Front Flags s 0 (table-in Flags s)
   front-there = front-here s t here
 
@@ -295,7 +295,7 @@ module _ (s t : List ℕ) (here : At-hand s t) (items : ℕ) (is : items ≡ get
   counts-items : items-of (plan-in s t) ≡ items
   counts-items = sym (is ∙ items-are s t here)
 
-  pub plan-there : Some-plan s t items
+  pub plan-there : Some-plan Flags s t items
   plan-there = record { plan = plan-in s t; held = here .held; items = counts-items }
 
   module _ (f : Found) (answer : Overlap-found s t items f) (budget : ℕ) where
@@ -387,13 +387,13 @@ module _ (all row : List ℕ) (plans i : ℕ) (leaves : Leaving all row plans i)
 
 -- THE SECOND PASS.
 pub record Answering (s t row : List ℕ) (budget plans start k p : ℕ) : Type 0 where
-  pub here : Table-here s t
+  pub here : Table-here Flags s t
   pub few : k ≤ plans
   pub inside : p ≤ length s
   pub sized : length row ≡ 4 * plans
   pub so-far : rows (answers-at format s (table-in Flags s) budget plans start) ≡ take (4 * k) row ++ rows (answers-at format s (table-in Flags s) budget (plans - k) p)
 
-pub answering-starts : (s t row : List ℕ) (budget plans start : ℕ) → Table-here s t → start ≤ length s → length row ≡ 4 * plans → Answering s t row budget plans start 0 start
+pub answering-starts : (s t row : List ℕ) (budget plans start : ℕ) → Table-here Flags s t → start ≤ length s → length row ≡ 4 * plans → Answering s t row budget plans start 0 start
 answering-starts s t row budget plans start here inside sized = record {
   here = here;
   few = omega arith;
@@ -460,7 +460,7 @@ module _ (s t row : List ℕ) (budget plans start k p : ℕ) (answers : Answerin
       pub answering-next : (left : List ℕ) → left ≡ with-answer row k a → Answering s u left budget plans start (k + 1) e
       unfolding after-plan
       answering-next left written = record {
-        here = subst (Table-here s) (sym (y .2)) (table-stays s t (answers .here) 0 p (y .0) e (y .1));
+        here = subst (Table-here Flags s) (sym (y .2)) (table-stays s t (answers .here) 0 p (y .0) e (y .1));
         few = omega arith;
         inside = plan-inside format s (table-in Flags s) budget (table-below format s (table-in Flags s) (answers .here .table-end) (answers .here .table)) p (answers .inside) (y .0) e (y .1);
         sized = rw written (put-long row k a ∙ answers .sized);

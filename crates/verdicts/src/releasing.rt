@@ -135,7 +135,7 @@ fn answer_plans(
     start: usize,
 )
     requires { ⌜ Counted (now file) n m ⌝ }
-    requires { ⌜ Table-here (now file) (now t) ⌝ }
+    requires { ⌜ Table-here Flags (now file) (now t) ⌝ }
     requires { ⌜ contradiction-in (table-in Flags (now file)) ≡ nowhere ⌝ }
     requires { ⌜ start ≤ length (now file) ⌝ }
     requires { ⌜ length (now row) ≡ 4 * plans ⌝ }
@@ -169,7 +169,7 @@ fn answer_file(
     plans: usize,
     start: usize,
 ) -> Answer
-    requires { ⌜ Table-here (now file) (now t) ⌝ }
+    requires { ⌜ Table-here Flags (now file) (now t) ⌝ }
     requires { ⌜ contradiction-in (table-in Flags (now file)) ≡ nowhere ⌝ }
     requires { ⌜ start ≤ length (now file) ⌝ }
     requires { ⌜ length (now row) ≡ 4 * plans ⌝ }

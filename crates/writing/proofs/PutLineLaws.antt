@@ -51,7 +51,7 @@ module _ (s t : List ℕ) (here : At-hand s t) (goals : ℕ) (slot : goals ≡ g
   pub goals-there : List-here all-literals s goals
   goals-there = goals-here s t here goals slot
 
-  module _ (end : ℕ) (ends : end ≡ sequence-place s goals) where
+  module _ (end : ℕ) (ends : end ≡ sequence-place Flags s goals) where
     pub goals-order : goals ≤ end
     unfolding sequence-place
     goals-order = omega (arith, ends)

@@ -14,6 +14,7 @@ ghost use Rattle.steps.specs.Held.{plan-in, request-in};
 ghost use Rattle.steps.specs.AtHand.{At-hand, Marked};
 ghost use Rattle.steps.specs.Rests.{Position, rest-at};
 ghost use Rattle.writing.specs.Progress.{add, standing, Underway, cited, Cited};
+use meaning::Form;
 use super::rests::put_rest;
 use super::room::put;
 use super::room::put_known;
@@ -90,7 +91,7 @@ fn put_asked(s: &[u8], t: &Notes, room: &mut [u8], q: usize) -> usize
     ensures written { λ _. ⌜ now (room .exit) ≡ sets (now (room .entry)) q (conclusion-written (goals-of (request-in (now (s .entry)) (now (t .entry))))) ⌝ }
 {
     let goals = get(t, notes::GOALS);
-    let end = sequence_of(s, goals);
+    let end = sequence_of(Form::Flags, s, goals);
     put_part(s, goals, end, room, q);
     q + (end - goals)
 }

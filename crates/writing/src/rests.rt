@@ -11,6 +11,7 @@ ghost use Rattle.steps.specs.Held.{plan-in};
 ghost use Rattle.steps.specs.AtHand.{At-hand};
 ghost use Rattle.steps.specs.Rests.{Position, rest-at};
 ghost use Rattle.writing.specs.Ends.{Item-ends};
+use meaning::Form;
 use super::room::put_number;
 use super::room::put_part;
 use bytes::bytes::wide;
@@ -38,8 +39,8 @@ fn item_end(s: &[u8], t: &Notes, i: usize) -> usize
     let mut p = start + 2;
     let mut item = i + 1;
     while 0 < left {
-        let q = next_place(s, t, p, item);
-        let j = next_item(s, t, p, item);
+        let q = next_place(Form::Flags, s, t, p, item);
+        let j = next_item(Form::Flags, s, t, p, item);
         p = q;
         item = j;
         left -= 1;

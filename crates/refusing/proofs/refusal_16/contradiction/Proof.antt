@@ -19,7 +19,7 @@ use Rattle.refusing.proofs.refusal_16.bucket_at.Reads as bucket-at-read
 use Rattle.meaning.specs.declared.Form.the-variants.{Flags}
 
 abbrev Inv-loop : tie.InvT-loop
-Inv-loop s t count same₀ k₀ same k = Linked s t same k × (first-against (contradictory (table-in Flags s)) [] (effects-in s t 0 count) ≡ first-against (contradictory (table-in Flags s)) (effects-before s t k) (effects-in s t k (count - k)))
+Inv-loop s t count same₀ k₀ same k = Linked s t same k × (first-against (contradictory (table-in Flags s)) [] (effects-in Flags s t 0 count) ≡ first-against (contradictory (table-in Flags s)) (effects-before s t k) (effects-in Flags s t k (count - k)))
 
 abbrev μ-loop : tie.MeasureT-loop
 μ-loop s t count same₀ k₀ same k = count - k

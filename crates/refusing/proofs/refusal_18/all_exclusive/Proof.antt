@@ -13,9 +13,10 @@ use Rattle.reading.proofs.marks.state_of.Reads as state-of-reads
 use Rattle.refusing.proofs.refusal_18.excludes.Reads as excludes-reads
 use Rattle.finding.proofs.branches.next_item.Reads as next-item-reads
 use Rattle.finding.proofs.branches.next_place.Reads as next-place-reads
+use Rattle.meaning.specs.declared.Form.the-variants.{Flags}
 
 abbrev Inv-loop : tie.InvT-loop
-Inv-loop s t count place item left₀ p₀ i₀ left p i = (Branches-here s t left p i) × (all-apart (conditions-from s t count place item) ≡ all-apart (conditions-from s t left p i))
+Inv-loop s t count place item left₀ p₀ i₀ left p i = (Branches-here Flags s t left p i) × (all-apart (conditions-from Flags s t count place item) ≡ all-apart (conditions-from Flags s t left p i))
 
 abbrev μ-loop : tie.MeasureT-loop
 μ-loop s t count place item left₀ p₀ i₀ left p i = left

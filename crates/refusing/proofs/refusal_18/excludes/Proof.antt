@@ -13,9 +13,10 @@ use Rattle.refusing.proofs.refusal_18.excludes.Lts as lts
 use Rattle.reading.proofs.marks.each_holds.Reads as each-holds-reads
 use Rattle.finding.proofs.branches.next_item.Reads as next-item-reads
 use Rattle.finding.proofs.branches.next_place.Reads as next-place-reads
+use Rattle.meaning.specs.declared.Form.the-variants.{Flags}
 
 abbrev Inv-loop : tie.InvT-loop
-Inv-loop s t held count place item left₀ p₀ i₀ left p i = (Branches-here s t left p i) × (each-of (rules-out held) (conditions-from s t count place item) ≡ each-of (rules-out held) (conditions-from s t left p i))
+Inv-loop s t held count place item left₀ p₀ i₀ left p i = (Branches-here Flags s t left p i) × (each-of (rules-out held) (conditions-from Flags s t count place item) ≡ each-of (rules-out held) (conditions-from Flags s t left p i))
 
 abbrev μ-loop : tie.MeasureT-loop
 μ-loop s t held count place item left₀ p₀ i₀ left p i = left
