@@ -29,7 +29,7 @@ pub const TOO_MANY: u32 = 44;
 
 // The action is tried by what is known, unless it is too wide (FORMAT 24.16).
 fn try_narrow(s: &[u8], t: &Notes, a: usize, marks: &Marks) -> Tried
-    requires { ⌜ At-hand (now s) (now t) ⌝ }
+    requires { ⌜ At-hand Flags (now s) (now t) ⌝ }
     requires { ⌜ a < format .actions ⌝ }
     requires { ⌜ Marked (now marks) ⌝ }
     ensures { λ r. ⌜ narrow-does (table-in Flags (now (s .entry))) a (now (marks .entry)) ≡ tried-as 2 (table-in Flags (now (s .entry))) a (now (marks .entry)) r ⌝ }
@@ -47,7 +47,7 @@ fn try_narrow(s: &[u8], t: &Notes, a: usize, marks: &Marks) -> Tried
 
 // Whether an action can be run.
 pub fn tried(s: &[u8], t: &Notes, a: usize, marks: &Marks) -> Tried
-    requires { ⌜ At-hand (now s) (now t) ⌝ }
+    requires { ⌜ At-hand Flags (now s) (now t) ⌝ }
     requires { ⌜ a < format .actions ⌝ }
     requires { ⌜ Marked (now marks) ⌝ }
     ensures { λ r. ⌜ does-in (mode-in (now (t .entry))) (table-in Flags (now (s .entry))) a (now (marks .entry)) ≡ tried-as (mode-in (now (t .entry))) (table-in Flags (now (s .entry))) a (now (marks .entry)) r ⌝ }
@@ -79,7 +79,7 @@ pub fn refused(t: &Notes) -> u32
 
 // The state after an action that is not a sensing one and can be run.
 pub fn after(s: &[u8], t: &Notes, a: usize, marks: &Marks) -> Marks
-    requires { ⌜ At-hand (now s) (now t) ⌝ }
+    requires { ⌜ At-hand Flags (now s) (now t) ⌝ }
     requires { ⌜ a < format .actions ⌝ }
     requires { ⌜ Marked (now marks) ⌝ }
     requires { ⌜ does-in (mode-in (now t)) (table-in Flags (now s)) a (now marks) ≡ tried-as (mode-in (now t)) (table-in Flags (now s)) a (now marks) Runs ⌝ }
