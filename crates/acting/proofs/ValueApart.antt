@@ -8,7 +8,7 @@ use mathlib.Core.Bool.{Bool, true, false}
 use mathlib.Core.List.{List, [], _∷_}
 use mathlib.Core.Logic.{_⊎_, inl, inr, ⊎-elim}
 use lib.Dec.{eqb}
-use borrow.Author.Tests.{eqb-true, eq-eqb}
+use borrow.Author.Tests.{eqb-true, eqb-false, eq-eqb, ne-eqb}
 use Rattle.meaning.specs.Tests.{both, either, fails, some-of, each-of, Has}
 use Rattle.meaning.specs.Requests.{Effect, Executability, Table}
 use Rattle.meaning.specs.Refusals.{nowhere, first-against}
@@ -114,3 +114,46 @@ module _ (ls : Literals ℕ) (marks : State) where
         (has-some _ (values-of ls (ls .fluent (u .0))) (w .0) (w .1) (both-true _ _ (w .3) (w .2))) in
         clash fit (fails-true _ (both-right _ _ (t .2))))
         (λ f. f)
+
+module _ (ls : Literals ℕ) (t : Table) where
+  contradict : (e g : Effect) → e .action ≡ g .action → ls .fluent (g .literal) ≡ ls .fluent (e .literal) → (ls .sets (e .literal) ≡ ls .sets (g .literal) → ⊥) → exclusive ls (e .body) (g .body) ≡ false
+      → (x : Executability) → Has (executability-of t (e .action)) x → exclusive ls (e .body) (x .body) ≡ false → exclusive ls (g .body) (x .body) ≡ false → contradictory ls t e g ≡ true
+  unfolding contradictory clashing runs-with
+  contradict e g acts same other together x has one two =
+      both-true _ _
+      (both-true _ _ (eq-eqb _ _ acts) (both-true _ _ (both-true _ _ (eq-eqb _ _ same) (fails-false _ (ne-eqb _ _ other))) (fails-false _ together)))
+      (has-some _ (executability-of t (e .action)) x has (both-true _ _ (fails-false _ one) (fails-false _ two)))
+
+  module _ (passed : first-against (contradictory ls t) [] (t .effects) ≡ nowhere) (a : ℕ) (marks : State) (runs : can-be-run ls t a marks ≡ true) where
+    -- Two effects of the action, the first with a body known true and the second with a possible one, set the same value where they set one of the same fluent.
+    same-set : (e g : Effect) → Has (effects-of t a) e → Has (effects-of t a) g → ls .fluent (g .literal) ≡ ls .fluent (e .literal)
+        → each-of (known ls marks) (e .body) ≡ true → each-of (possible ls marks) (g .body) ≡ true → (ls .sets (e .literal) ≡ ls .sets (g .literal) → ⊥) → ⊥
+    unfolding effects-of can-be-run allowed
+    same-set e g he hg same sure may other =
+        let one = those-has _ (t .effects) e he in
+        let two = those-has _ (t .effects) g hg in
+        let ae : e .action ≡ a = eqb-true _ _ (one .1) in
+        let ag : g .action ≡ a = eqb-true _ _ (two .1) in
+        let x = some-has _ (executability-of t a) runs in
+        let there : (b : ℕ) → b ≡ a → Has (executability-of t b) (x .0) = λ b is. subst (λ (c : ℕ). Has (executability-of t c) (x .0)) (sym is) (x .1) in
+        let fine = each-mono _ _ (known-possible ls marks) (x .0 .body) (x .2) in
+        let with-e = sure-may ls marks (e .body) (x .0 .body) sure fine in
+        let with-g = may-sure ls marks (x .0 .body) (g .body) (x .2) may in
+        ⊎-elim
+        (λ is. other (ap (λ (y : Effect). ls .sets (y .literal)) is))
+        (λ no-one. ⊎-elim
+        (clash (contradict e g (ae ∙ sym ag) same other (sure-may ls marks (e .body) (g .body) sure may) (x .0) (there (e .action) ae) with-e with-g))
+        (clash (contradict g e (ag ∙ sym ae) (sym same) (λ q. other (sym q)) (may-sure ls marks (e .body) (g .body) sure may) (x .0) (there (g .action) ag) with-g with-e))
+        no-one)
+        (each-apart (contradictory ls t) [] (t .effects) passed e g (one .0) (inl (two .0)))
+
+    pub set-apart : (f v : ℕ) → set-by ls (known ls marks) (eqb v) (effects-of t a) f ≡ true → set-by ls (possible ls marks) (λ u. fails (eqb v u)) (effects-of t a) f ≡ true → ⊥
+    unfolding set-by
+    set-apart f v sure may =
+        let e = some-has _ (effects-of t a) sure in
+        let g = some-has _ (effects-of t a) may in
+        let fe : ls .fluent (e .0 .literal) ≡ f = eqb-true _ _ (both-left _ _ (both-left _ _ (e .2))) in
+        let fg : ls .fluent (g .0 .literal) ≡ f = eqb-true _ _ (both-left _ _ (both-left _ _ (g .2))) in
+        let ve : v ≡ ls .sets (e .0 .literal) = eqb-true _ _ (both-right _ _ (both-left _ _ (e .2))) in
+        let vg = eqb-false v (ls .sets (g .0 .literal)) (fails-true _ (both-right _ _ (both-left _ _ (g .2)))) in
+        same-set (e .0) (g .0) (e .1) (g .1) (fg ∙ sym fe) (both-right _ _ (e .2)) (both-right _ _ (g .2)) (λ q. vg (ve ∙ q))
